@@ -1,0 +1,17 @@
+pub mod Runs
+pub mod Strings
+pub mod Numbers
+pub mod Prefixes
+pub mod Unique
+pub mod Written
+pub mod Normal
+pub mod Events
+pub mod Accepted
+pub mod Shortest
+pub mod Canonical
+pub mod Lookups
+pub mod Reading
+pub mod ReadBack
+pub mod OneNormal
+pub mod Forced
+pub mod Vectors

@@ -1,0 +1,86 @@
+-- What the normal form of members has at a name.
+use Rattle.std.proofs.Common.{◌≡◌, ℕ, Bool, true, false, List, Option, Some, None, option_map, bytes_eq, cond, refl, sym, ap, ◌∙◌, Ordering, Less, Equal, Greater, true≢false}
+use Rattle.std.specs.Ordering.{ordering_reverse, is_eq}
+use Rattle.std.proofs.lemmas.Cmp.{nat_list_cmp_total, tied_itself}
+use Rattle.std.proofs.lemmas.Map.Lookups.{exact_bytes}
+use Rattle.std.proofs.lemmas.Slice.Eq.{bytes_eq-Decides}
+use Rattle.miniserde_model.specs.Tree.{Tree, Members, no_members, member}
+use Rattle.miniserde_model.specs.Normal.{text_cmp, placed, with_first, norm, norm_members, or_else, last_of, BeginsAbove, Rise}
+
+abbrev if_same : List ℕ → List ℕ → Tree → Option Tree
+if_same name q t = cond (bytes_eq name q) (Some t) None
+
+or_else_assoc : (a b c : Option Tree) → or_else (or_else a b) c ≡ or_else a (or_else b c)
+or_else_assoc None b c = refl
+or_else_assoc (Some t) b c = refl
+
+-- a second tree of a name that stands behind the first
+absorbed : (b : Bool) (a : Option Tree) (u t : Tree) → or_else a (cond b (Some u) None) ≡ or_else (or_else a (cond b (Some u) None)) (cond b (Some t) None)
+absorbed true None u t = refl
+absorbed true (Some v) u t = refl
+absorbed false None u t = refl
+absorbed false (Some v) u t = refl
+
+swapped : (b d : Bool) (a : Option Tree) (u t : Tree) → (b ≡ true → d ≡ true → ⊥) → or_else (or_else a (cond b (Some t) None)) (cond d (Some u) None) ≡ or_else (or_else a (cond d (Some u) None)) (cond b (Some t) None)
+swapped true true a u t h = absurd (h refl refl)
+swapped true false None u t h = refl
+swapped true false (Some v) u t h = refl
+swapped false true None u t h = refl
+swapped false true (Some v) u t h = refl
+swapped false false None u t h = refl
+swapped false false (Some v) u t h = refl
+
+same_name : (a b : List ℕ) → bytes_eq a b ≡ true → a ≡ b
+same_name a b e = (bytes_eq-Decides a b).0 e
+
+apart : (a b q : List ℕ) → text_cmp a b ≡ Greater → bytes_eq a q ≡ true → bytes_eq b q ≡ true → ⊥
+apart a b q g e f =
+    let same : a ≡ b = same_name a q e ∙ sym (same_name b q f) in
+    let tied : text_cmp a b ≡ Equal = ap (text_cmp a) (sym same) ∙ tied_itself nat_list_cmp_total a in
+    true≢false (ap is_eq (sym tied ∙ g))
+
+pub last_with_first : (q name : List ℕ) (t : Tree) (ms : Members) → last_of q (with_first name t ms) ≡ or_else (last_of q ms) (if_same name q t)
+last_with_first q name t no_members = refl
+last_with_first q name t (member other u ms) = go (text_cmp name other) refl (last_with_first q name t ms)
+  where
+    go : (o : Ordering) → text_cmp name other ≡ o → last_of q (with_first name t ms) ≡ or_else (last_of q ms) (if_same name q t) → last_of q (placed o name t other u ms (with_first name t ms)) ≡ or_else (or_else (last_of q ms) (if_same other q u)) (if_same name q t)
+    go Less e more = refl
+    go Equal e more =
+        let same : name ≡ other = exact_bytes name other e in
+        absorbed (bytes_eq other q) (last_of q ms) u t ∙ ap (λ z. or_else (or_else (last_of q ms) (if_same other q u)) (if_same z q t)) (sym same)
+    go Greater e more = ap (λ z. or_else z (if_same other q u)) more ∙ swapped (bytes_eq name q) (bytes_eq other q) (last_of q ms) u t (apart name other q e)
+
+pub mapped : (a : Option Tree) (b : Bool) (t : Tree) → or_else (option_map norm a) (cond b (Some (norm t)) None) ≡ option_map norm (or_else a (cond b (Some t) None))
+mapped None true t = refl
+mapped None false t = refl
+mapped (Some v) true t = refl
+mapped (Some v) false t = refl
+
+pub norm_keeps_last : (q : List ℕ) (ms : Members) → last_of q (norm_members ms) ≡ option_map norm (last_of q ms)
+norm_keeps_last q no_members = refl
+norm_keeps_last q (member name t ms) = last_with_first q name (norm t) (norm_members ms) ∙ ap (λ z. or_else z (if_same name q (norm t))) (norm_keeps_last q ms) ∙ mapped (last_of q ms) (bytes_eq name q) t
+
+greater_less : (a b : List ℕ) → text_cmp a b ≡ Greater → text_cmp b a ≡ Less
+greater_less a b e = nat_list_cmp_total.antisymm b a ∙ ap ordering_reverse e
+
+above_with_first : (first name : List ℕ) (t : Tree) (ms : Members) → text_cmp first name ≡ Less → BeginsAbove first ms → BeginsAbove first (with_first name t ms)
+above_with_first first name t no_members p q = p
+above_with_first first name t (member other u ms) p q = go (text_cmp name other)
+  where
+    go : (o : Ordering) → BeginsAbove first (placed o name t other u ms (with_first name t ms))
+    go Less = p
+    go Equal = q
+    go Greater = q
+
+rise_with_first : (name : List ℕ) (t : Tree) (ms : Members) → Rise ms → Rise (with_first name t ms)
+rise_with_first name t no_members h = (tt, tt)
+rise_with_first name t (member other u ms) h = go (text_cmp name other) refl (rise_with_first name t ms h.1)
+  where
+    go : (o : Ordering) → text_cmp name other ≡ o → Rise (with_first name t ms) → Rise (placed o name t other u ms (with_first name t ms))
+    go Less e m = (e, h)
+    go Equal e m = h
+    go Greater e m = (above_with_first other name t ms (greater_less name other e) h.0, m)
+
+pub norm_rises : (ms : Members) → Rise (norm_members ms)
+norm_rises no_members = tt
+norm_rises (member name t ms) = rise_with_first name (norm t) (norm_members ms) (norm_rises ms)

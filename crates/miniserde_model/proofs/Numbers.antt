@@ -1,0 +1,52 @@
+-- A text has one number at most, where it ends.
+use Rattle.std.proofs.Common.{◌≡◌, ℕ, ◌⊎◌, true, List, [], ◌∷◌, ◌++◌, refl, sym, ap, ◌∙◌, arith, inl, inr}
+use Rattle.std.specs.List.{AllByRecursion}
+use Rattle.std.proofs.lemmas.Bool.Decides.{nat_tests}
+use Rattle.miniserde_model.specs.Tree.{Tree}
+use Rattle.miniserde_model.specs.Number.{IsDigit, IsWhole, IsMinus, IsFraction, IsSign, IsExponent, IsNumberText, IsNumber, leaf}
+use Rattle.miniserde_model.specs.Bytes.{is_number_byte, StopsAt}
+use Rattle.miniserde_model.proofs.Runs.{AllPass, same_run, pass_append}
+
+digit_byte : (c : ℕ) → IsDigit c → is_number_byte c ≡ true
+digit_byte c h = grind (arith, nat_tests)
+
+digits_pass : (ds : List ℕ) → AllByRecursion IsDigit ds → AllPass is_number_byte ds
+digits_pass [] h = tt
+digits_pass (c ∷ cs) h = (digit_byte c h.0, digits_pass cs h.1)
+
+whole_pass : (x : List ℕ) → IsWhole x → AllPass is_number_byte x
+whole_pass [] h = absurd h
+whole_pass (c ∷ cs) (inl h) = rw (h.0, h.1) (refl, tt)
+whole_pass (c ∷ cs) (inr h) = (grind (arith, nat_tests), digits_pass cs h.1)
+
+minus_pass : (x : List ℕ) → IsMinus x → AllPass is_number_byte x
+minus_pass x (inl h) = rw h tt
+minus_pass x (inr h) = rw h (refl, tt)
+
+sign_pass : (x : List ℕ) → IsSign x → AllPass is_number_byte x
+sign_pass x (inl h) = rw h tt
+sign_pass x (inr (inl h)) = rw h (refl, tt)
+sign_pass x (inr (inr h)) = rw h (refl, tt)
+
+fraction_pass : (x : List ℕ) → IsFraction x → AllPass is_number_byte x
+fraction_pass x (inl h) = rw h tt
+fraction_pass x (inr h) = rw h.1 (refl, digits_pass h.0 h.2.1)
+
+e_pass : (c : ℕ) → (c ≡ 101) ⊎ (c ≡ 69) → is_number_byte c ≡ true
+e_pass c (inl h) = rw h refl
+e_pass c (inr h) = rw h refl
+
+exponent_pass : (x : List ℕ) → IsExponent x → AllPass is_number_byte x
+exponent_pass x (inl h) = rw h tt
+exponent_pass x (inr h) = rw h.3 (e_pass h.0 h.4, pass_append is_number_byte h.1 h.2 (sign_pass h.1 h.5) (digits_pass h.2 h.6.1))
+
+pub number_pass : (x : List ℕ) → IsNumberText x → AllPass is_number_byte x
+number_pass x n =
+    let tail = pass_append is_number_byte n.fraction n.exponent (fraction_pass n.fraction n.is_fraction) (exponent_pass n.exponent n.is_exponent) in
+    let more = pass_append is_number_byte n.whole (n.fraction ++ n.exponent) (whole_pass n.whole n.is_whole) tail in
+    rw n.text (pass_append is_number_byte n.minus _ (minus_pass n.minus n.is_minus) more)
+
+pub same_number : (a b x y : List ℕ) (t u : Tree) → IsNumber a t → IsNumber b u → StopsAt is_number_byte x → StopsAt is_number_byte y → a ++ x ≡ b ++ y → (t ≡ u) × (x ≡ y)
+same_number a b x y t u p q sx sy e =
+    let run = same_run is_number_byte a b x y (number_pass a p.0) (number_pass b q.0) sx sy e in
+    (sym p.1 ∙ ap leaf run.0 ∙ q.1, run.1)

@@ -1,0 +1,210 @@
+-- A text has one tree at most.
+use Rattle.std.proofs.Common.{◌≡◌, ℕ, ◌<◌, Bool, true, false, ◌==◌, ◌||◌, ◌&&◌, nat_le, cond, List, [], ◌∷◌, ◌++◌, codes, refl, sym, ap, ap₂, ◌∙◌, append_assoc, append-nil, arith, inl, inr}
+use Rattle.std.proofs.lemmas.Bool.Decides.{nat_tests}
+use Rattle.std.proofs.lemmas.List.{append_cancel_left}
+use Rattle.miniserde_model.specs.Tree.{Tree, null, truth, nonneg, neg, num, str, list, members, Trees, no_trees, tree, Members, no_members, member}
+use Rattle.miniserde_model.specs.Number.{IsWhole, IsMinus, IsNumber}
+use Rattle.miniserde_model.specs.String.{IsString}
+use Rattle.miniserde_model.specs.Whitespace.{IsWhitespace}
+use Rattle.miniserde_model.specs.Value.{Spaced, Named, Then, word, IsValue, AreElements, AreMoreElements, AreMembers, AreMoreMembers, IsJson}
+use Rattle.miniserde_model.specs.Bytes.{StopsAt, is_number_byte}
+use Rattle.miniserde_model.proofs.Runs.{same_run}
+use Rattle.miniserde_model.proofs.Numbers.{same_number}
+use Rattle.miniserde_model.proofs.Strings.{same_string}
+use Rattle.miniserde_model.specs.Bytes.{is_space}
+use Rattle.miniserde_model.proofs.Prefixes.{Prefix, AtEnd, Closes, Heads, BeginsNot, whitespace_passes, same_spaced, same_named, same_then, same_between, space_no_piece}
+
+-- ---- a value is told by its first byte
+
+abbrev pub kind : Tree → ℕ
+kind null = 0
+kind (truth x) = 1
+kind (nonneg n) = 3
+kind (neg n) = 3
+kind (num x) = 3
+kind (str s) = 4
+kind (list ts) = 5
+kind (members ms) = 6
+
+abbrev pub kind_of_byte : ℕ → ℕ
+kind_of_byte c = cond (c == 110) 0 (cond (c == 116) 1 (cond (c == 102) 1 (cond ((c == 45) || (nat_le 48 c && nat_le c 57)) 3 (cond (c == 34) 4 (cond (c == 91) 5 (cond (c == 123) 6 7))))))
+
+pub record Head (b : List ℕ) (k : ℕ) : Type 0 where
+  pub byte : ℕ
+  pub rest : List ℕ
+  pub is : b ≡ byte ∷ rest
+  pub of_kind : kind_of_byte byte ≡ k
+
+whole_head : (x rest : List ℕ) → IsWhole x → Head (x ++ rest) 3
+whole_head [] rest h = absurd h
+whole_head (c ∷ cs) rest (inl h) = record { byte = c; rest = cs ++ rest; is = refl; of_kind = rw (h.0) refl }
+whole_head (c ∷ cs) rest (inr h) = record { byte = c; rest = cs ++ rest; is = refl; of_kind = grind (arith, nat_tests) }
+
+minus_head : (m w rest : List ℕ) → IsMinus m → IsWhole w → Head (m ++ (w ++ rest)) 3
+minus_head m w rest (inl h) p = rw h (whole_head w rest p)
+minus_head m w rest (inr h) p = rw h (record { byte = 45; rest = w ++ rest; is = refl; of_kind = refl })
+
+pub number_head : (b : List ℕ) (t : Tree) → IsNumber b t → Head b 3
+number_head b t p = rw (p.0.text) (minus_head p.0.minus p.0.whole (p.0.fraction ++ p.0.exponent) p.0.is_minus p.0.is_whole)
+
+pub string_head : (b s : List ℕ) → IsString b s → Head b 4
+string_head b s p = record { byte = 34; rest = p.inside ++ 34 ∷ []; is = p.text; of_kind = refl }
+
+pub value_head : (t : Tree) (b : List ℕ) → IsValue t b → Head b (kind t)
+value_head null b p = record { byte = 110; rest = codes "ull"; is = p; of_kind = refl }
+value_head (truth true) b p = record { byte = 116; rest = codes "rue"; is = p; of_kind = refl }
+value_head (truth false) b p = record { byte = 102; rest = codes "alse"; is = p; of_kind = refl }
+value_head (nonneg n) b p = number_head b (nonneg n) p
+value_head (neg n) b p = number_head b (neg n) p
+value_head (num x) b p = number_head b (num x) p
+value_head (str s) b p = string_head b s p
+value_head (list ts) b p = record { byte = 91; rest = p.inside ++ 93 ∷ []; is = p.text; of_kind = refl }
+value_head (members ms) b p = record { byte = 123; rest = p.inside ++ 125 ∷ []; is = p.text; of_kind = refl }
+
+pub kind_below : (t : Tree) → kind t < 7
+kind_below null = omega arith
+kind_below (truth x) = omega arith
+kind_below (nonneg n) = omega arith
+kind_below (neg n) = omega arith
+kind_below (num x) = omega arith
+kind_below (str s) = omega arith
+kind_below (list ts) = omega arith
+kind_below (members ms) = omega arith
+
+pub known_no_space : (c : ℕ) → kind_of_byte c < 7 → is_space c ≡ false
+known_no_space c h = grind (arith, nat_tests)
+
+pub head_no_space : (b rest : List ℕ) (k : ℕ) → k < 7 → Head b k → StopsAt is_space (b ++ rest)
+head_no_space b rest k l h = rw (h.is) (known_no_space h.byte (omega (arith, h.of_kind)))
+
+head_not : (z k : ℕ) (b rest x : List ℕ) → kind_of_byte z ≡ 7 → k < 7 → Head b k → b ++ rest ≡ z ∷ x → ⊥
+head_not z k b rest x hz l h e =
+    let f : ◌≡◌ {A = List ℕ} (h.byte ∷ (h.rest ++ rest)) (z ∷ x) = ap (λ a. a ++ rest) (sym h.is) ∙ e in
+    let same : h.byte ≡ z = cc in
+    omega (arith, h.of_kind, ap kind_of_byte same, hz)
+
+pub value_heads : (t : Tree) → Heads (IsValue t)
+value_heads t = record { no_space = λ b rest p. head_no_space b rest (kind t) (kind_below t) (value_head t b p) }
+
+value_not : (t : Tree) (z : ℕ) → kind_of_byte z ≡ 7 → BeginsNot z (IsValue t)
+value_not t z hz b rest x p e = head_not z (kind t) b rest x hz (kind_below t) (value_head t b p) e
+
+name_heads : (s : List ℕ) → Heads (λ n. IsString n s)
+name_heads s = record { no_space = λ b rest p. head_no_space b rest 4 (omega arith) (string_head b s p) }
+
+name_not : (s : List ℕ) (z : ℕ) → kind_of_byte z ≡ 7 → BeginsNot z (λ n. IsString n s)
+name_not s z hz b rest x p e = head_not z 4 b rest x hz (omega arith) (string_head b s p) e
+
+-- two values that begin alike are of one kind
+same_kind : (t u : Tree) (a b x y : List ℕ) → IsValue t a → IsValue u b → a ++ x ≡ b ++ y → kind t ≡ kind u
+same_kind t u a b x y p q e =
+    let h = value_head t a p in
+    let k = value_head u b q in
+    let f : ◌≡◌ {A = List ℕ} (h.byte ∷ (h.rest ++ x)) (k.byte ∷ (k.rest ++ y)) = ap (λ z. z ++ x) (sym h.is) ∙ e ∙ ap (λ z. z ++ y) k.is in
+    let same : h.byte ≡ k.byte = cc in
+    sym h.of_kind ∙ ap kind_of_byte same ∙ k.of_kind
+
+more_ends : (ts : Trees) (b x : List ℕ) → AreMoreElements ts b → Closes 93 x → AtEnd (b ++ x)
+more_ends no_trees b x p c = rw (p, c.1) refl
+more_ends (tree t ts) b x p c = rw (p.1) refl
+
+more_members_end : (ms : Members) (b x : List ℕ) → AreMoreMembers ms b → Closes 125 x → AtEnd (b ++ x)
+more_members_end no_members b x p c = rw (p, c.1) refl
+more_members_end (member name t ms) b x p c = rw (p.1) refl
+
+-- ---- one tree
+
+clash_at : (c d : ℕ) (a b cs ds x y : List ℕ) → (c ≡ d → ⊥) → a ≡ c ∷ cs → b ≡ d ∷ ds → a ++ x ≡ b ++ y → ⊥
+clash_at c d a b cs ds x y apart p q e =
+    let f : ◌≡◌ {A = List ℕ} (c ∷ (cs ++ x)) (d ∷ (ds ++ y)) = ap (λ z. z ++ x) (sym p) ∙ e ∙ ap (λ z. z ++ y) q in
+    apart (cc)
+
+-- behind a comma is no closing bracket
+no_more : (z : ℕ) (a b c x y : List ℕ) → (z ≡ 44 → ⊥) → a ≡ [] → b ≡ 44 ∷ c → Closes z x → a ++ x ≡ b ++ y → ⊥
+no_more z a b c x y apart p q r e = clash_at z 44 x b r.0 c [] y apart r.1 q (append-nil x ∙ ap (λ w. w ++ x) (sym p) ∙ e)
+
+pub same_word : (w a b x y : List ℕ) → a ≡ w → b ≡ w → a ++ x ≡ b ++ y → x ≡ y
+same_word w a b x y p q e = append_cancel_left w x y (ap (λ z. z ++ x) (sym p) ∙ e ∙ ap (λ z. z ++ y) q)
+
+pub same_truth : (v w : Bool) (a b x y : List ℕ) → a ≡ word v → b ≡ word w → a ++ x ≡ b ++ y → (v ≡ w) × (x ≡ y)
+same_truth true true a b x y p q e = (refl, same_word (codes "true") a b x y p q e)
+same_truth false false a b x y p q e = (refl, same_word (codes "false") a b x y p q e)
+same_truth true false a b x y p q e = absurd (clash_at 116 102 a b _ _ x y (λ n. omega arith) p q e)
+same_truth false true a b x y p q e = absurd (clash_at 102 116 a b _ _ x y (λ n. omega arith) p q e)
+
+same_whitespace : (z : ℕ) → is_space z ≡ false → (a b x y : List ℕ) → IsWhitespace a → IsWhitespace b → Closes z x → Closes z y → a ++ x ≡ b ++ y → x ≡ y
+same_whitespace z hz a b x y p q cx cy e = (same_run is_space a b x y (whitespace_passes a p) (whitespace_passes b q) (rw (cx.1) hz) (rw (cy.1) hz) e).1
+
+spaced_name : (s r : List ℕ) → Prefix (Spaced (λ n. IsString n s)) (Spaced (λ n. IsString n r)) AtEnd (s ≡ r)
+spaced_name s r = same_spaced (name_heads s) (name_heads r) (λ a b x y p q sx sy e. same_string a b x y s r p q e)
+
+-- whitespace and a bracket are no element
+no_element : (t : Tree) (M : List ℕ → Type 0) (a b x y : List ℕ) → IsWhitespace a → Then (Spaced (IsValue t)) M b → Closes 93 x → a ++ x ≡ b ++ y → ⊥
+no_element t M a b x y w p c e = space_no_piece 93 refl (value_heads t) (value_not t 93 refl) a p.first c.0 (p.rest ++ y) w p.is_first (ap (λ z. a ++ z) (sym c.1) ∙ e ∙ ap (λ z. z ++ y) p.text ∙ append_assoc p.first p.rest y)
+
+no_member : (s : List ℕ) (V M : List ℕ → Type 0) (a b x y : List ℕ) → IsWhitespace a → Then (Named (λ n. IsString n s) V) M b → Closes 125 x → a ++ x ≡ b ++ y → ⊥
+no_member s V M a b x y w p c e =
+    let m = p.is_first in
+    space_no_piece 125 refl (name_heads s) (name_not s 125 refl) a m.name c.0 _ w m.is_name (ap (λ z. a ++ z) (sym c.1) ∙ e ∙ ap (λ z. z ++ y) p.text ∙ append_assoc p.first p.rest y ∙ ap (λ z. z ++ (p.rest ++ y)) m.text ∙ append_assoc m.name (58 ∷ m.value) (p.rest ++ y))
+
+mutual
+  pub same_value : (t u : Tree) → Prefix (IsValue t) (IsValue u) (StopsAt is_number_byte) (t ≡ u)
+  same_value null null a b x y p q sx sy e = (refl, same_word (codes "null") a b x y p q e)
+  same_value (truth v) (truth w) a b x y p q sx sy e = let both = same_truth v w a b x y p q e in (ap truth both.0, both.1)
+  same_value (nonneg n) (nonneg m) a b x y p q sx sy e = same_number a b x y _ _ p q sx sy e
+  same_value (nonneg n) (neg m) a b x y p q sx sy e = same_number a b x y _ _ p q sx sy e
+  same_value (nonneg n) (num m) a b x y p q sx sy e = same_number a b x y _ _ p q sx sy e
+  same_value (neg n) (nonneg m) a b x y p q sx sy e = same_number a b x y _ _ p q sx sy e
+  same_value (neg n) (neg m) a b x y p q sx sy e = same_number a b x y _ _ p q sx sy e
+  same_value (neg n) (num m) a b x y p q sx sy e = same_number a b x y _ _ p q sx sy e
+  same_value (num n) (nonneg m) a b x y p q sx sy e = same_number a b x y _ _ p q sx sy e
+  same_value (num n) (neg m) a b x y p q sx sy e = same_number a b x y _ _ p q sx sy e
+  same_value (num n) (num m) a b x y p q sx sy e = same_number a b x y _ _ p q sx sy e
+  same_value (str s) (str r) a b x y p q sx sy e = let both = same_string a b x y s r p q e in (ap str both.0, both.1)
+  same_value (list ts) (list us) a b x y p q sx sy e =
+      let both = same_between 91 93 (same_elements ts us) a b x y p q sx sy e in
+      (ap list both.0, both.1)
+  same_value (members ms) (members ns) a b x y p q sx sy e =
+      let both = same_between 123 125 (same_members ms ns) a b x y p q sx sy e in
+      (ap members both.0, both.1)
+  same_value t u a b x y p q sx sy e = let k : kind t ≡ kind u = same_kind t u a b x y p q e in absurd (omega arith)
+
+  same_elements : (ts us : Trees) → Prefix (AreElements ts) (AreElements us) (Closes 93) (ts ≡ us)
+  same_elements no_trees no_trees a b x y p q sx sy e = (refl, same_whitespace 93 refl a b x y p q sx sy e)
+  same_elements no_trees (tree u us) a b x y p q sx sy e = absurd (no_element u _ a b x y p q sx e)
+  same_elements (tree t ts) no_trees a b x y p q sx sy e = absurd (no_element t _ b a y x q p sy (sym e))
+  same_elements (tree t ts) (tree u us) a b x y p q sx sy e =
+      let both = same_then 93 (more_ends ts) (more_ends us) (same_spaced (value_heads t) (value_heads u) (same_value t u)) (same_more ts us) a b x y p q sx sy e in
+      (ap₂ tree both.0.0 both.0.1, both.1)
+
+  same_more : (ts us : Trees) → Prefix (AreMoreElements ts) (AreMoreElements us) (Closes 93) (ts ≡ us)
+  same_more no_trees no_trees a b x y p q sx sy e = (refl, same_word [] a b x y p q e)
+  same_more no_trees (tree u us) a b x y p q sx sy e = absurd (no_more 93 a b q.0 x y (λ n. omega arith) p q.1 sx e)
+  same_more (tree t ts) no_trees a b x y p q sx sy e = absurd (no_more 93 b a p.0 y x (λ n. omega arith) q p.1 sy (sym e))
+  same_more (tree t ts) (tree u us) a b x y p q sx sy e =
+      let f : ◌≡◌ {A = List ℕ} (44 ∷ (p.0 ++ x)) (44 ∷ (q.0 ++ y)) = ap (λ z. z ++ x) (sym p.1) ∙ e ∙ ap (λ z. z ++ y) q.1 in
+      let g : p.0 ++ x ≡ q.0 ++ y = cc in
+      let both = same_then 93 (more_ends ts) (more_ends us) (same_spaced (value_heads t) (value_heads u) (same_value t u)) (same_more ts us) p.0 q.0 x y p.2 q.2 sx sy g in
+      (ap₂ tree both.0.0 both.0.1, both.1)
+
+  same_members : (ms ns : Members) → Prefix (AreMembers ms) (AreMembers ns) (Closes 125) (ms ≡ ns)
+  same_members no_members no_members a b x y p q sx sy e = (refl, same_whitespace 125 refl a b x y p q sx sy e)
+  same_members no_members (member r u ns) a b x y p q sx sy e = absurd (no_member r _ _ a b x y p q sx e)
+  same_members (member s t ms) no_members a b x y p q sx sy e = absurd (no_member s _ _ b a y x q p sy (sym e))
+  same_members (member s t ms) (member r u ns) a b x y p q sx sy e =
+      let both = same_then 125 (more_members_end ms) (more_members_end ns) (same_named (spaced_name s r) (same_spaced (value_heads t) (value_heads u) (same_value t u))) (same_more_members ms ns) a b x y p q sx sy e in
+      (cc (both.0.0.0, both.0.0.1, both.0.1), both.1)
+
+  same_more_members : (ms ns : Members) → Prefix (AreMoreMembers ms) (AreMoreMembers ns) (Closes 125) (ms ≡ ns)
+  same_more_members no_members no_members a b x y p q sx sy e = (refl, same_word [] a b x y p q e)
+  same_more_members no_members (member r u ns) a b x y p q sx sy e = absurd (no_more 125 a b q.0 x y (λ n. omega arith) p q.1 sx e)
+  same_more_members (member s t ms) no_members a b x y p q sx sy e = absurd (no_more 125 b a p.0 y x (λ n. omega arith) q p.1 sy (sym e))
+  same_more_members (member s t ms) (member r u ns) a b x y p q sx sy e =
+      let f : ◌≡◌ {A = List ℕ} (44 ∷ (p.0 ++ x)) (44 ∷ (q.0 ++ y)) = ap (λ z. z ++ x) (sym p.1) ∙ e ∙ ap (λ z. z ++ y) q.1 in
+      let g : p.0 ++ x ≡ q.0 ++ y = cc in
+      let both = same_then 125 (more_members_end ms) (more_members_end ns) (same_named (spaced_name s r) (same_spaced (value_heads t) (value_heads u) (same_value t u))) (same_more_members ms ns) p.0 q.0 x y p.2 q.2 sx sy g in
+      (cc (both.0.0.0, both.0.0.1, both.0.1), both.1)
+
+-- a text has one tree at most
+pub one_tree : (b : List ℕ) (t u : Tree) → IsJson b t → IsJson b u → t ≡ u
+one_tree b t u p q = (same_spaced (value_heads t) (value_heads u) (same_value t u) b b [] [] p q tt tt refl).0

@@ -1,0 +1,5 @@
+use Rattle.miniserde_model.proofs.Shortest.{shortest}
+use Rattle.miniserde_model.proofs.canonical_is_shortest.Goals as goal
+
+pub returns : goal.returns
+returns c = shortest

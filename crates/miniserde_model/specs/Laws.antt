@@ -1,0 +1,61 @@
+-- Laws over the definitions. Each is the contract of a function of this crate.
+use Rattle.std.specs.Prelude.{◌≡◌, ◌≤◌, ◌↔◌, List, ◌++◌, ℕ, [], length, option_map}
+use Rattle.miniserde_model.specs.Tree.{Tree, Members, no_members}
+use Rattle.miniserde_model.specs.Value.{IsJson}
+use Rattle.miniserde_model.specs.IsTree.{IsTree}
+use Rattle.miniserde_model.specs.Event.{Event, events}
+use Rattle.miniserde_model.specs.Position.{Position, start, Completes}
+use Rattle.miniserde_model.specs.Compact.{compact}
+use Rattle.miniserde_model.specs.Normal.{norm, norm_members, last_of, Rise, put_all}
+
+-- a text spells one tree at most
+abbrev pub TextHasOneTree : Type 0
+TextHasOneTree = (b : List ℕ) (t u : Tree) → IsJson b t → IsJson b u → t ≡ u
+
+-- a spelled tree holds numbers in range and text in UTF-8
+abbrev pub SpelledIsTree : Type 0
+SpelledIsTree = (b : List ℕ) (t : Tree) → IsJson b t → IsTree t
+
+-- the compact text of a tree spells it
+abbrev pub CompactSpells : Type 0
+CompactSpells = (t : Tree) → IsTree t → IsJson (compact t) t
+
+-- the normal form is its own normal form
+abbrev pub NormIsNormal : Type 0
+NormIsNormal = (t : Tree) → norm (norm t) ≡ norm t
+
+-- the normal form of a tree with numbers in range and text in UTF-8 is such a tree
+abbrev pub NormIsTree : Type 0
+NormIsTree = (t : Tree) → IsTree t → IsTree (norm t)
+
+-- the normal form of members has of each name the last tree's normal form
+abbrev pub NormKeepsLast : Type 0
+NormKeepsLast = (q : List ℕ) (ms : Members) → last_of q (norm_members ms) ≡ option_map norm (last_of q ms)
+
+-- and its names strictly rise by their bytes
+abbrev pub NormRises : Type 0
+NormRises = (ms : Members) → Rise (norm_members ms)
+
+-- no other members have both
+abbrev pub NormIsOnly : Type 0
+NormIsOnly = (ms ns : Members) → Rise ns → ((q : List ℕ) → last_of q ns ≡ option_map norm (last_of q ms)) → ns ≡ norm_members ms
+
+-- members that are put in from the left, a later one in the place of an earlier of its name, are the normal form
+abbrev pub PutGivesNorm : Type 0
+PutGivesNorm = (ms : Members) → put_all no_members ms ≡ norm_members ms
+
+-- two accepted texts have equal canonical texts exactly where their trees have one normal form
+abbrev pub CanonicalTells : Type 0
+CanonicalTells = (a b : List ℕ) (t u : Tree) → IsJson a t → IsJson b u → (compact (norm t) ≡ compact (norm u)) ↔ (norm t ≡ norm u)
+
+-- no text whose tree has that normal form is shorter
+abbrev pub CanonicalIsShortest : Type 0
+CanonicalIsShortest = (b : List ℕ) (t u : Tree) → IsJson b u → norm u ≡ norm t → length (compact (norm t)) ≤ length b
+
+-- the events of a tree complete a value
+abbrev pub EventsComplete : Type 0
+EventsComplete = (t : Tree) → Completes start (events t)
+
+-- no list of events that completes a position begins another that does
+abbrev pub NoneBeginsAnother : Type 0
+NoneBeginsAnother = (es rest : List Event) (p : Position) → Completes p es → Completes p (es ++ rest) → rest ≡ []

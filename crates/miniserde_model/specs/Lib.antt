@@ -1,0 +1,15 @@
+pub mod Tree
+pub mod Number
+pub mod String
+pub mod Whitespace
+pub mod Value
+pub mod IsTree
+pub mod Event
+pub mod Position
+pub mod Compact
+pub mod Normal
+pub mod Size
+pub mod Bytes
+pub mod Lexing
+pub mod Reading
+pub mod Laws

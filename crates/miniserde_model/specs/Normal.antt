@@ -1,0 +1,81 @@
+-- The normal form of a tree.
+use Rattle.std.specs.Prelude.{◌≡◌, ℕ, ℤ, pos, negsuc, List, Option, Some, None, bytes_eq, if◌then◌else◌, ⊤}
+use Rattle.std.specs.Ordering.{nat_cmp}
+use Rattle.std.specs.Cmp.Lexicographic.{slice_cmp}
+use Rattle.std.specs.declared.cmp.Ordering.{Ordering}
+use Rattle.std.specs.declared.cmp.Ordering.TheVariants.{Less, Equal, Greater}
+use Rattle.miniserde_model.specs.Tree.{Tree, null, truth, nonneg, neg, num, str, list, members, Trees, no_trees, tree, Members, no_members, member}
+
+-- the order of texts by their bytes
+abbrev pub text_cmp : List ℕ → List ℕ → Ordering
+text_cmp = slice_cmp nat_cmp
+
+abbrev pub placed : Ordering → List ℕ → Tree → List ℕ → Tree → Members → Members → Members
+placed Less name t other u ms more = member name t (member other u ms)
+placed Equal name t other u ms more = member other u ms
+placed Greater name t other u ms more = member other u more
+
+-- members in the order of their names, with one more where its name is not among them
+abbrev pub with_first : List ℕ → Tree → Members → Members
+with_first name t no_members = member name t no_members
+with_first name t (member other u ms) = placed (text_cmp name other) name t other u ms (with_first name t ms)
+
+abbrev pub norm_neg : ℤ → Tree
+norm_neg (pos n) = nonneg n
+norm_neg (negsuc n) = neg (negsuc n)
+
+abbrev mutual
+  pub norm : Tree → Tree
+  norm null = null
+  norm (truth x) = truth x
+  norm (nonneg n) = nonneg n
+  norm (neg z) = norm_neg z
+  norm (num x) = num x
+  norm (str s) = str s
+  norm (list ts) = list (norm_children ts)
+  norm (members ms) = members (norm_members ms)
+
+  pub norm_children : Trees → Trees
+  norm_children no_trees = no_trees
+  norm_children (tree t ts) = tree (norm t) (norm_children ts)
+
+  -- of each name the last tree, in the order of the names
+  pub norm_members : Members → Members
+  norm_members no_members = no_members
+  norm_members (member name t ms) = with_first name (norm t) (norm_members ms)
+
+-- ---- what the normal form of members is told by
+
+abbrev pub or_else : Option Tree → Option Tree → Option Tree
+or_else None o = o
+or_else (Some t) o = Some t
+
+-- the last tree of a name
+abbrev pub last_of : List ℕ → Members → Option Tree
+last_of q no_members = None
+last_of q (member name t ms) = or_else (last_of q ms) (if bytes_eq name q then Some t else None)
+
+-- the names strictly rise by their bytes
+abbrev pub BeginsAbove : List ℕ → Members → Type 0
+BeginsAbove name no_members = ⊤
+BeginsAbove name (member other u ms) = text_cmp name other ≡ Less
+
+abbrev pub Rise : Members → Type 0
+Rise no_members = ⊤
+Rise (member name t ms) = BeginsAbove name ms × Rise ms
+
+-- ---- the normal form as a reader makes it, from the left
+
+abbrev pub put_placed : Ordering → List ℕ → Tree → List ℕ → Tree → Members → Members → Members
+put_placed Less name t other u ms more = member name t (member other u ms)
+put_placed Equal name t other u ms more = member name t ms
+put_placed Greater name t other u ms more = member other u more
+
+-- with the tree in the place of the one of that name
+abbrev pub put : List ℕ → Tree → Members → Members
+put name t no_members = member name t no_members
+put name t (member other u ms) = put_placed (text_cmp name other) name t other u ms (put name t ms)
+
+abbrev pub put_all : Members → Members → Members
+put_all made no_members = made
+put_all made (member name t ms) = put_all (put name (norm t) made) ms

@@ -1,0 +1,68 @@
+-- Numbers (RFC 8259, section 6).
+use Rattle.std.specs.Prelude.{◌≡◌, ℕ, ◌^◌, ◌<◌, ◌⊎◌, pos, neg_ℤ, List, [], ◌∷◌, ◌++◌, length, drop, slice_index, Bool, true, not, ◌&&◌, ◌||◌, ◌==◌, nat_lt, nat_le, if◌then◌else◌}
+use Rattle.std.specs.Int.{IsInRange}
+use Rattle.std.specs.List.{AllByRecursion}
+use Rattle.std.specs.Str.Parse.{digits_value}
+use Rattle.miniserde_model.specs.Tree.{Tree, nonneg, neg, num}
+
+-- ---- the shape
+
+abbrev pub IsDigit : ℕ → Type 0
+IsDigit c = IsInRange 48 57 c
+
+-- one digit or more
+abbrev pub AreDigits : List ℕ → Type 0
+AreDigits ds = (0 < length ds) × AllByRecursion IsDigit ds
+
+-- `0`, or digits that begin with one of 1 to 9
+abbrev pub IsWhole : List ℕ → Type 0
+IsWhole [] = ⊥
+IsWhole (c ∷ cs) = ((c ≡ 48) × (cs ≡ [])) ⊎ (IsInRange 49 57 c × AllByRecursion IsDigit cs)
+
+abbrev pub IsMinus : List ℕ → Type 0
+IsMinus x = (x ≡ []) ⊎ (x ≡ 45 ∷ [])
+
+abbrev pub IsFraction : List ℕ → Type 0
+IsFraction x = (x ≡ []) ⊎ ((ds : List ℕ) × (x ≡ 46 ∷ ds) × AreDigits ds)
+
+abbrev pub IsSign : List ℕ → Type 0
+IsSign x = (x ≡ []) ⊎ ((x ≡ 43 ∷ []) ⊎ (x ≡ 45 ∷ []))
+
+abbrev pub IsExponent : List ℕ → Type 0
+IsExponent x = (x ≡ []) ⊎ ((e : ℕ) × (sign ds : List ℕ) × (x ≡ e ∷ (sign ++ ds)) × ((e ≡ 101) ⊎ (e ≡ 69)) × IsSign sign × AreDigits ds)
+
+pub record IsNumberText (x : List ℕ) : Type 0 where
+  pub minus : List ℕ
+  pub whole : List ℕ
+  pub fraction : List ℕ
+  pub exponent : List ℕ
+  pub text : x ≡ minus ++ (whole ++ (fraction ++ exponent))
+  pub is_minus : IsMinus minus
+  pub is_whole : IsWhole whole
+  pub is_fraction : IsFraction fraction
+  pub is_exponent : IsExponent exponent
+
+-- ---- the leaf
+
+-- with no `.`, `e` or `E`
+abbrev pub is_plain : List ℕ → Bool
+is_plain [] = true
+is_plain (c ∷ cs) = not ((c == 46) || (c == 101) || (c == 69)) && is_plain cs
+
+abbrev pub begins_minus : List ℕ → Bool
+begins_minus x = slice_index x 0 == 45
+
+-- the leaf of digits, or of the digits behind a minus, where the text is x
+abbrev pub leaf_of_digits : List ℕ → List ℕ → Tree
+leaf_of_digits ds x = if nat_lt (digits_value 10 ds) (2 ^ 64) then nonneg (digits_value 10 ds) else num x
+
+abbrev pub leaf_of_negated : List ℕ → List ℕ → Tree
+leaf_of_negated ds x = if nat_le (digits_value 10 ds) (2 ^ 63) then neg (neg_ℤ (pos (digits_value 10 ds))) else num x
+
+-- the one leaf of a number text
+unfoldable pub leaf : List ℕ → Tree
+leaf x = if is_plain x then if begins_minus x then leaf_of_negated (drop 1 x) x else leaf_of_digits x x else num x
+
+-- x is a number text, and this is its leaf
+abbrev pub IsNumber : List ℕ → Tree → Type 0
+IsNumber x t = IsNumberText x × (leaf x ≡ t)

@@ -1,0 +1,80 @@
+-- Values and whole texts (RFC 8259, sections 2 to 5).
+use Rattle.std.specs.Prelude.{◌≡◌, ℕ, Bool, true, false, List, [], ◌∷◌, ◌++◌, codes}
+use Rattle.miniserde_model.specs.Tree.{Tree, null, truth, nonneg, neg, num, str, list, members, Trees, no_trees, tree, Members, no_members, member}
+use Rattle.miniserde_model.specs.Number.{IsNumber}
+use Rattle.miniserde_model.specs.String.{IsString}
+use Rattle.miniserde_model.specs.Whitespace.{IsWhitespace}
+
+-- whitespace, what P says, whitespace
+pub record Spaced (P : List ℕ → Type 0) (b : List ℕ) : Type 0 where
+  pub before : List ℕ
+  pub inner : List ℕ
+  pub after : List ℕ
+  pub text : b ≡ before ++ (inner ++ after)
+  pub is_before : IsWhitespace before
+  pub is_inner : P inner
+  pub is_after : IsWhitespace after
+
+-- a name, `:` and a value
+pub record Named (N V : List ℕ → Type 0) (b : List ℕ) : Type 0 where
+  pub name : List ℕ
+  pub value : List ℕ
+  pub text : b ≡ name ++ 58 ∷ value
+  pub is_name : Spaced N name
+  pub is_value : Spaced V value
+
+-- P's piece, and then R's
+pub record Then (P R : List ℕ → Type 0) (b : List ℕ) : Type 0 where
+  pub first : List ℕ
+  pub rest : List ℕ
+  pub text : b ≡ first ++ rest
+  pub is_first : P first
+  pub is_rest : R rest
+
+-- P's piece between two brackets
+pub record Between (left : ℕ) (P : List ℕ → Type 0) (right : ℕ) (b : List ℕ) : Type 0 where
+  pub inside : List ℕ
+  pub text : b ≡ left ∷ (inside ++ right ∷ [])
+  pub is_inside : P inside
+
+abbrev pub word : Bool → List ℕ
+word true = codes "true"
+word false = codes "false"
+
+abbrev mutual
+  -- the bytes spell the tree
+  pub IsValue : Tree → List ℕ → Type 0
+  IsValue null b = b ≡ codes "null"
+  IsValue (truth x) b = b ≡ word x
+  IsValue (nonneg n) b = IsNumber b (nonneg n)
+  IsValue (neg n) b = IsNumber b (neg n)
+  IsValue (num x) b = IsNumber b (num x)
+  IsValue (str s) b = IsString b s
+  IsValue (list ts) b = Between 91 (AreElements ts) 93 b
+  IsValue (members ms) b = Between 123 (AreMembers ms) 125 b
+
+  -- whitespace alone, or elements joined by commas
+  pub AreElements : Trees → List ℕ → Type 0
+  AreElements no_trees b = IsWhitespace b
+  AreElements (tree t ts) b = Then (Spaced (IsValue t)) (AreMoreElements ts) b
+
+  -- a comma before each
+  pub AreMoreElements : Trees → List ℕ → Type 0
+  AreMoreElements no_trees b = b ≡ []
+  AreMoreElements (tree t ts) b = (c : List ℕ) × (b ≡ 44 ∷ c) × Then (Spaced (IsValue t)) (AreMoreElements ts) c
+
+  pub AreMembers : Members → List ℕ → Type 0
+  AreMembers no_members b = IsWhitespace b
+  AreMembers (member name t ms) b = Then (Named (λ n. IsString n name) (IsValue t)) (AreMoreMembers ms) b
+
+  pub AreMoreMembers : Members → List ℕ → Type 0
+  AreMoreMembers no_members b = b ≡ []
+  AreMoreMembers (member name t ms) b = (c : List ℕ) × (b ≡ 44 ∷ c) × Then (Named (λ n. IsString n name) (IsValue t)) (AreMoreMembers ms) c
+
+-- the whole text spells the tree
+abbrev pub IsJson : List ℕ → Tree → Type 0
+IsJson b t = Spaced (IsValue t) b
+
+-- the text has no tree
+abbrev pub HasNoTree : List ℕ → Type 0
+HasNoTree b = (t : Tree) → IsJson b t → ⊥

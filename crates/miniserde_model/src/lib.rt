@@ -1,0 +1,52 @@
+//! What a JSON text means: the definitions stand in `specs/`, and each function here carries a law over them.
+//!
+//! No function does anything when it runs.
+#![tactic(auto)]
+
+ghost use Rattle.miniserde_model.specs.Laws.{CanonicalIsShortest, CanonicalTells, CompactSpells, EventsComplete, NoneBeginsAnother, NormIsNormal, NormIsOnly, NormIsTree, NormKeepsLast, NormRises, PutGivesNorm, SpelledIsTree, TextHasOneTree};
+
+/// A text has one tree at most.
+pub fn text_has_one_tree()
+    ensures { TextHasOneTree }
+{}
+
+/// A tree that a text spells holds numbers in range and text in UTF-8.
+pub fn spelled_is_tree()
+    ensures { SpelledIsTree }
+{}
+
+/// The compact text of a tree spells it.
+pub fn compact_spells()
+    ensures { CompactSpells }
+{}
+
+/// The normal form of a tree is a tree like it, and its own normal form.
+pub fn norm_is_normal()
+    ensures again { NormIsNormal }
+    ensures tree { NormIsTree }
+{}
+
+/// The normal form of members: of each name the last tree, in rising byte order of the names, which
+/// filling a map from the left gives too.
+pub fn norm_of_members()
+    ensures last { NormKeepsLast }
+    ensures order { NormRises }
+    ensures only { NormIsOnly }
+    ensures put { PutGivesNorm }
+{}
+
+/// Canonical texts are equal exactly where the normal forms are.
+pub fn canonical_tells()
+    ensures { CanonicalTells }
+{}
+
+/// No text with the same normal form is shorter than the canonical one.
+pub fn canonical_is_shortest()
+    ensures { CanonicalIsShortest }
+{}
+
+/// The events of a tree complete a value, and no list of events that completes one begins another.
+pub fn events_complete()
+    ensures one { EventsComplete }
+    ensures only { NoneBeginsAnother }
+{}
