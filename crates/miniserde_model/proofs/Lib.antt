@@ -14,4 +14,4 @@ pub mod Reading
 pub mod ReadBack
 pub mod OneNormal
 pub mod Forced
-pub mod Vectors
+pub mod Examples

@@ -13,3 +13,4 @@ pub mod Bytes
 pub mod Lexing
 pub mod Reading
 pub mod Laws
+pub mod Examples

@@ -3,6 +3,7 @@
 //! No function does anything when it runs.
 #![tactic(auto)]
 
+ghost use Rattle.miniserde_model.specs.Examples.{NormalForms, RefusedTexts, SpelledTexts};
 ghost use Rattle.miniserde_model.specs.Laws.{CanonicalIsShortest, CanonicalTells, CompactSpells, EventsComplete, NoneBeginsAnother, NormIsNormal, NormIsOnly, NormIsTree, NormKeepsLast, NormRises, PutGivesNorm, SpelledIsTree, TextHasOneTree};
 
 /// A text has one tree at most.
@@ -49,4 +50,11 @@ pub fn canonical_is_shortest()
 pub fn events_complete()
     ensures one { EventsComplete }
     ensures only { NoneBeginsAnother }
+{}
+
+/// Worked examples: texts with their trees, normal forms with their compact texts, and texts with no tree.
+pub fn worked_examples()
+    ensures spelled { SpelledTexts }
+    ensures normal { NormalForms }
+    ensures refused { RefusedTexts }
 {}

@@ -1,0 +1,11 @@
+use Rattle.miniserde_model.proofs.Examples.{spelled_texts, normal_forms, refused_texts}
+use Rattle.miniserde_model.proofs.worked_examples.Goals as goal
+
+pub returns-clause-spelled : goal.returns-clause-spelled
+returns-clause-spelled c = spelled_texts
+
+pub returns-clause-normal : goal.returns-clause-normal
+returns-clause-normal c = normal_forms
+
+pub returns-clause-refused : goal.returns-clause-refused
+returns-clause-refused c = refused_texts
