@@ -1,0 +1,35 @@
+-- The value of digits.
+use Rattle.std.proofs.Common.{◌≡◌, ℕ, ◌+◌, ◌-◌, ◌*◌, ◌≤◌, ◌<◌, List, [], ◌∷◌, length, drop, get_or, ap, ◌∙◌, subst, arith}
+use Rattle.std.proofs.lemmas.Bool.Decides.{nat_tests}
+use Rattle.std.proofs.lemmas.List.{drop_more}
+use Rattle.std.specs.List.{AllByRecursion}
+use Rattle.std.specs.Char.{digit_value}
+use Rattle.std.specs.Str.Parse.{digits_value_after}
+use Rattle.miniserde_model.specs.Number.{IsDigit}
+
+le-digits_value_after : (n : ℕ) (ds : List ℕ) → n ≤ digits_value_after 10 n ds
+le-digits_value_after n [] = omega arith
+le-digits_value_after n (c ∷ cs) = omega (arith, le-digits_value_after (n * 10 + digit_value c) cs)
+
+digit_value_is : (c : ℕ) → IsDigit c → digit_value c ≡ c - 48
+digit_value_is c h = grind (arith, nat_tests)
+
+-- the digit at i, and what the turn makes of it
+pub record Turn (n : ℕ) (ds : List ℕ) (i : ℕ) : Type 0 where
+  pub low : 48 ≤ get_or ds i 0
+  pub high : get_or ds i 0 ≤ 57
+  pub rest : AllByRecursion IsDigit (drop (i + 1) ds)
+  pub value : digits_value_after 10 n (drop i ds) ≡ digits_value_after 10 (n * 10 + (get_or ds i 0 - 48)) (drop (i + 1) ds)
+  pub grown : n * 10 + (get_or ds i 0 - 48) ≤ digits_value_after 10 n (drop i ds)
+
+pub turn : (n : ℕ) (ds : List ℕ) (i : ℕ) → i < length ds → AllByRecursion IsDigit (drop i ds) → Turn n ds i
+turn n ds i h e =
+    let both = subst (AllByRecursion IsDigit) (drop_more ds i 0 h) e in
+    let same : digits_value_after 10 n (drop i ds) ≡ digits_value_after 10 (n * 10 + (get_or ds i 0 - 48)) (drop (i + 1) ds) = ap (digits_value_after 10 n) (drop_more ds i 0 h) ∙ ap (λ d. digits_value_after 10 (n * 10 + d) (drop (i + 1) ds)) (digit_value_is (get_or ds i 0) both.0) in
+    record {
+      low = both.0.0;
+      high = both.0.1;
+      rest = both.1;
+      value = same;
+      grown = omega (arith, same, le-digits_value_after (n * 10 + (get_or ds i 0 - 48)) (drop (i + 1) ds));
+    }

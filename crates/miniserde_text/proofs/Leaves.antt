@@ -1,0 +1,101 @@
+-- The event of a number text is that of its leaf.
+use Rattle.std.proofs.Common.{◌≡◌, ℕ, ◌==◌, Bool, true, false, cond, List, [], ◌∷◌, ◌++◌, drop, refl, ap, sym, ◌∙◌, inl, inr, arith}
+use Rattle.std.specs.Prelude.{◌⊎◌, ◌&&◌, ◌||◌, not, nat_le, nat_lt, ◌^◌, slice_index, if◌then◌else◌, ℤ}
+use Rattle.std.specs.List.{AllByRecursion}
+use Rattle.std.specs.Str.Parse.{digits_value}
+use Rattle.std.proofs.lemmas.Bool.Decides.{nat_tests}
+use Rattle.std.proofs.lemmas.List.{append-nil}
+use Rattle.miniserde_model.specs.Tree.{Tree, null, truth, nonneg, neg, num, str, list, members}
+use Rattle.miniserde_model.specs.Event.{Event, nothing, boolean, string, negative, nonnegative, float, seq, map}
+use Rattle.miniserde_model.specs.Number.{IsDigit, IsWhole, IsFraction, IsExponent, IsNumberText, is_plain, begins_minus, leaf_of_digits, leaf_of_negated, leaf}
+use Rattle.miniserde_model.specs.Bytes.{is_number_byte, StopsAt}
+use Rattle.miniserde_model.specs.Lexing.{Piece, Ends}
+use Rattle.miniserde_text.specs.Reading.{event_of_parts}
+use Rattle.miniserde_text.proofs.Options.{if_cases}
+
+-- the first event of a tree
+abbrev pub event_of : Tree → Event
+event_of null = nothing
+event_of (truth x) = boolean x
+event_of (nonneg n) = nonnegative n
+event_of (neg z) = negative z
+event_of (num x) = float x
+event_of (str s) = string s
+event_of (list ts) = seq
+event_of (members ms) = map
+
+leaf_cases : (b : List ℕ) (P : Tree → Type 0) → ((z : ℤ) → P (neg z)) → ((n : ℕ) → P (nonneg n)) → ((x : List ℕ) → P (num x)) → P (leaf b)
+unfolding leaf
+leaf_cases b P p q s =
+    if_cases (is_plain b) P _ _ (if_cases (begins_minus b) P _ _ (if_cases (nat_le (digits_value 10 (drop 1 b)) (2 ^ 63)) P _ _ (p _) (s b)) (if_cases (nat_lt (digits_value 10 b) (2 ^ 64)) P _ _ (q _) (s b))) (s b)
+
+-- a number text is the piece of its event, and ends where such a text ends
+pub number_piece : (b r : List ℕ) → IsNumberText b → StopsAt is_number_byte r → Piece (event_of (leaf b)) b × Ends (event_of (leaf b)) r
+number_piece b r n h =
+    leaf_cases b (λ t. leaf b ≡ t → Piece (event_of t) b × Ends (event_of t) r) (λ z e. ((n, e), h)) (λ m e. ((n, e), h)) (λ x e. ((n, e), h)) refl
+
+-- ---- the leaf of the parts
+
+pub whole_digits : (w : List ℕ) → IsWhole w → AllByRecursion IsDigit w
+whole_digits [] h = absurd h
+whole_digits (c ∷ cs) (inl h) = rw (h.0, h.1) ((omega arith, omega arith), tt)
+whole_digits (c ∷ cs) (inr h) = ((omega arith, h.0.1), h.1)
+
+abbrev pub sign_of : Bool → List ℕ
+sign_of m = if m then 45 ∷ [] else []
+
+digit_no_minus : (c : ℕ) → IsDigit c → (c == 45) ≡ false
+digit_no_minus c h = grind (arith, nat_tests)
+
+pub whole_first : (w r : List ℕ) → IsWhole w → (slice_index (w ++ r) 0 == 45) ≡ false
+whole_first [] r h = absurd h
+whole_first (c ∷ cs) r h = digit_no_minus c (whole_digits (c ∷ cs) h).0
+
+digit_plain : (c : ℕ) → IsDigit c → not ((c == 46) || (c == 101) || (c == 69)) ≡ true
+digit_plain c h = grind (arith, nat_tests)
+
+digits_plain : (w t : List ℕ) → AllByRecursion IsDigit w → is_plain (w ++ t) ≡ is_plain t
+digits_plain [] t h = refl
+digits_plain (c ∷ w) t h = ap (λ b. b && is_plain (w ++ t)) (digit_plain c h.0) ∙ digits_plain w t h.1
+
+parts_plain : (m : Bool) (w t : List ℕ) → IsWhole w → is_plain (sign_of m ++ (w ++ t)) ≡ is_plain t
+parts_plain true w t h = digits_plain w t (whole_digits w h)
+parts_plain false w t h = digits_plain w t (whole_digits w h)
+
+abbrev is_nil : List ℕ → Bool
+is_nil [] = true
+is_nil (c ∷ cs) = false
+
+letter_plain : (c : ℕ) (t : List ℕ) → (c ≡ 101) ⊎ (c ≡ 69) → is_plain (c ∷ t) ≡ false
+letter_plain c t (inl h) = rw h refl
+letter_plain c t (inr h) = rw h refl
+
+tail_plain : (f e : List ℕ) → IsFraction f → IsExponent e → is_plain (f ++ e) ≡ is_nil (f ++ e)
+tail_plain f e (inr h) k = rw (h.1) refl
+tail_plain f e (inl h) (inl k) = rw (h, k) refl
+tail_plain f e (inl h) (inr k) = rw (h, k.3) (letter_plain k.0 (k.1 ++ k.2) k.4)
+
+leaf_plain : (b : List ℕ) → is_plain b ≡ true → leaf b ≡ (if begins_minus b then leaf_of_negated (drop 1 b) b else leaf_of_digits b b)
+unfolding leaf
+leaf_plain b h = ap (λ x. cond x (if begins_minus b then leaf_of_negated (drop 1 b) b else leaf_of_digits b b) (num b)) h
+
+leaf_other : (b : List ℕ) → is_plain b ≡ false → leaf b ≡ num b
+unfolding leaf
+leaf_other b h = ap (λ x. cond x (if begins_minus b then leaf_of_negated (drop 1 b) b else leaf_of_digits b b) (num b)) h
+
+event_if : (v : Bool) (t u : Tree) → event_of (cond v t u) ≡ cond v (event_of t) (event_of u)
+event_if true t u = refl
+event_if false t u = refl
+
+by_tail : (m : Bool) (w t : List ℕ) → IsWhole w → is_plain t ≡ is_nil t → event_of_parts (sign_of m ++ (w ++ t)) m w t ≡ event_of (leaf (sign_of m ++ (w ++ t)))
+by_tail m w (c ∷ cs) h p = sym (ap event_of (leaf_other _ (parts_plain m w (c ∷ cs) h ∙ p)))
+by_tail true w [] h p =
+    let b : List ℕ = 45 ∷ (w ++ []) in
+    sym (ap event_of (leaf_plain b (parts_plain true w [] h) ∙ ap (λ ds. leaf_of_negated ds b) (append-nil w)) ∙ event_if (nat_le (digits_value 10 w) (2 ^ 63)) _ _)
+by_tail false w [] h p =
+    let b : List ℕ = w ++ [] in
+    sym (ap event_of (leaf_plain b (parts_plain false w [] h) ∙ ap (λ v. cond v (leaf_of_negated (drop 1 b) b) (leaf_of_digits b b)) (whole_first w [] h) ∙ ap (λ ds. leaf_of_digits ds b) (append-nil w)) ∙ event_if (nat_lt (digits_value 10 w) (2 ^ 64)) _ _)
+
+pub event_of_text : (m : Bool) (w f e : List ℕ) → IsWhole w → IsFraction f → IsExponent e
+    → event_of_parts (sign_of m ++ (w ++ (f ++ e))) m w (f ++ e) ≡ event_of (leaf (sign_of m ++ (w ++ (f ++ e))))
+event_of_text m w f e h k l = by_tail m w (f ++ e) h (tail_plain f e k l)

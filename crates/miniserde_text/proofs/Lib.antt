@@ -1,0 +1,11 @@
+pub mod Runs
+pub mod Digits
+pub mod Options
+pub mod Leaves
+pub mod Numbers
+pub mod Lanes
+pub mod Escapes
+pub mod Strings
+pub mod Steps
+pub mod Fronts
+pub mod Names

@@ -1,0 +1,260 @@
+-- Reading takes exactly the numbers of the grammar.
+use Rattle.std.proofs.Common.{◌≡◌, ◌≢◌, ℕ, ◌≤◌, ◌==◌, Bool, true, false, cond, List, [], ◌∷◌, ◌++◌, drop, Some, None, refl, ap, sym, subst, ◌∙◌, inl, inr, arith, eqb-true, eq-eqb, append_assoc}
+use Rattle.std.specs.Prelude.{◌⊎◌, slice_index, option_and_then}
+use Rattle.std.specs.List.{AllByRecursion}
+use Rattle.std.proofs.lemmas.Bool.Decides.{nat_tests}
+use Rattle.std.proofs.lemmas.Bool.{true≢false}
+use Rattle.miniserde_model.specs.Event.{Event}
+use Rattle.miniserde_model.specs.Number.{IsDigit, AreDigits, IsWhole, IsMinus, IsFraction, IsSign, IsExponent, IsNumberText, leaf}
+use Rattle.miniserde_model.specs.Bytes.{is_number_byte, StopsAt}
+use Rattle.miniserde_model.proofs.Runs.{AllPass}
+use Rattle.miniserde_text.specs.Reading.{after_run, is_digit, is_sign, is_exponent_letter, after_digits, after_minus, after_whole, after_fraction, after_sign, after_exponent, after_tail, before, event_of_parts, event_at, number_at}
+use Rattle.miniserde_text.specs.Inside.{Leads}
+use Rattle.miniserde_text.proofs.Runs.{run_split, run_only, stops_at, stops_of, or_true}
+use Rattle.miniserde_text.proofs.Options.{chosen, some_if, none_if, bind_some, some_same, first_byte, first_of_test, before_append, before_is}
+use Rattle.miniserde_text.proofs.Leaves.{event_of, sign_of, whole_digits, whole_first, event_of_text}
+
+digit_of : (c : ℕ) → is_digit c ≡ true → IsDigit c
+digit_of c h = (grind (arith, nat_tests), grind (arith, nat_tests))
+
+digits_of : (w : List ℕ) → AllPass is_digit w → AllByRecursion IsDigit w
+digits_of [] h = tt
+digits_of (c ∷ w) h = (digit_of c h.0, digits_of w h.1)
+
+digit_passes : (c : ℕ) → IsDigit c → is_digit c ≡ true
+digit_passes c h = grind (arith, nat_tests)
+
+digits_pass : (w : List ℕ) → AllByRecursion IsDigit w → AllPass is_digit w
+digits_pass [] h = tt
+digits_pass (c ∷ w) h = (digit_passes c h.0, digits_pass w h.1)
+
+-- ---- what is read
+
+digits_takes : (t r : List ℕ) → after_digits t ≡ Some r → Leads AreDigits t r
+digits_takes [] r e = cc
+digits_takes (x ∷ xs) r e =
+    let q = some_if (is_digit x) (after_run is_digit (x ∷ xs)) r e in
+    let w = run_split is_digit xs in
+    let rest : after_run is_digit xs ≡ r = sym (ap (λ b. cond b (after_run is_digit xs) (x ∷ xs)) q.0) ∙ q.1 in
+    (x ∷ w.0, (omega arith, (digit_of x q.0, digits_of w.0 w.1)), ap (λ t. x ∷ t) (w.2 ∙ ap (λ t. w.0 ++ t) rest))
+
+whole_of_digits : (t r w : List ℕ) → t ≡ w ++ r → (slice_index t 0 == 48) ≡ false → AreDigits w → IsWhole w
+whole_of_digits t r [] j e h = absurd (omega arith)
+whole_of_digits t r (c ∷ cs) j e h =
+    let away : c ≢ 48 = λ z. true≢false (sym (eq-eqb _ 48 (ap (λ x. slice_index x 0) j ∙ z)) ∙ e) in
+    inr ((omega arith, h.1.0.1), h.1.1)
+
+pub whole_takes : (t r : List ℕ) → after_whole t ≡ Some r → Leads IsWhole t r
+whole_takes t r e =
+    elim (chosen (slice_index t 0 == 48) _ _ _ e) [
+      | inl p ↦ (48 ∷ [], inl (refl, refl), first_byte t 47 (eqb-true _ 48 p.0) ∙ ap (λ x. 48 ∷ x) (some_same _ _ p.1))
+      | inr p ↦ let d = digits_takes t r p.1 in (d.0, whole_of_digits t r d.0 d.2 p.0 d.1, d.2)
+    ]
+
+fraction_takes : (t r : List ℕ) → after_fraction t ≡ Some r → Leads IsFraction t r
+fraction_takes t r e =
+    elim (chosen (slice_index t 0 == 46) _ _ _ e) [
+      | inl p ↦ let d = digits_takes (drop 1 t) r p.1 in (46 ∷ d.0, inr (d.0, refl, d.1), first_byte t 45 (eqb-true _ 46 p.0) ∙ ap (λ x. 46 ∷ x) d.2)
+      | inr p ↦ ([], inl refl, some_same _ _ p.1)
+    ]
+
+sign_is : (c : ℕ) → is_sign c ≡ true → IsSign (c ∷ [])
+sign_is c h = elim (or_true (c == 43) (c == 45) h) [
+  | inl d ↦ inr (inl (ap (λ x. x ∷ []) (eqb-true c 43 d)))
+  | inr d ↦ inr (inr (ap (λ x. x ∷ []) (eqb-true c 45 d)))
+]
+
+letter_is : (c : ℕ) → is_exponent_letter c ≡ true → (c ≡ 101) ⊎ (c ≡ 69)
+letter_is c h = elim (or_true (c == 101) (c == 69) h) [
+  | inl d ↦ inl (eqb-true c 101 d)
+  | inr d ↦ inr (eqb-true c 69 d)
+]
+
+-- digits with a sign or without
+record Signed (t r : List ℕ) : Type 0 where
+  sign : List ℕ
+  digits : List ℕ
+  is_sign : IsSign sign
+  are_digits : AreDigits digits
+  text : t ≡ sign ++ (digits ++ r)
+
+signed_cases : (t r : List ℕ) (b : Bool) → is_sign (slice_index t 0) ≡ b → after_digits (cond b (drop 1 t) t) ≡ Some r → Signed t r
+signed_cases t r true s e =
+    let d = digits_takes (drop 1 t) r e in
+    record { sign = slice_index t 0 ∷ []; digits = d.0; is_sign = sign_is _ s; are_digits = d.1; text = first_of_test is_sign t refl s ∙ ap (λ x. slice_index t 0 ∷ x) d.2 }
+signed_cases t r false s e = let d = digits_takes t r e in record { sign = []; digits = d.0; is_sign = inl refl; are_digits = d.1; text = d.2 }
+
+exponent_takes : (t r : List ℕ) → after_exponent t ≡ Some r → Leads IsExponent t r
+exponent_takes t r e =
+    elim (chosen (is_exponent_letter (slice_index t 0)) _ _ _ e) [
+      | inl p ↦
+          let d = signed_cases (drop 1 t) r (is_sign (slice_index (drop 1 t) 0)) refl p.1 in
+          let c : ℕ = slice_index t 0 in (
+            c ∷ (d.sign ++ d.digits),
+            inr (c, d.sign, d.digits, refl, letter_is c p.0, d.is_sign, d.are_digits),
+            first_of_test is_exponent_letter t refl p.0 ∙ ap (λ x. c ∷ x) (d.text ∙ sym (append_assoc d.sign d.digits r)),
+          )
+      | inr p ↦ ([], inl refl, some_same _ _ p.1)
+    ]
+
+minus_cases : (t : List ℕ) (m : Bool) → (slice_index t 0 == 45) ≡ m → t ≡ sign_of m ++ cond m (drop 1 t) t
+minus_cases t true e = first_byte t 44 (eqb-true _ 45 e)
+minus_cases t false e = refl
+
+minus_takes : (t : List ℕ) → t ≡ sign_of (slice_index t 0 == 45) ++ after_minus t
+minus_takes t = minus_cases t (slice_index t 0 == 45) refl
+
+minus_is : (m : Bool) → IsMinus (sign_of m)
+minus_is true = inr refl
+minus_is false = inl refl
+
+-- a fraction and an exponent
+abbrev pub IsTail : List ℕ → Type 0
+IsTail b = (f e : List ℕ) × IsFraction f × IsExponent e × (b ≡ f ++ e)
+
+pub tail_takes : (w r : List ℕ) → after_tail w ≡ Some r → Leads IsTail w r
+tail_takes w r h =
+    let v = bind_some after_exponent (after_fraction w) r h in
+    let f = fraction_takes w v.0 v.1 in
+    let e = exponent_takes v.0 r v.2 in
+    (f.0 ++ e.0, (f.0, e.0, f.1, e.1, refl), f.2 ∙ ap (λ x. f.0 ++ x) e.2 ∙ sym (append_assoc f.0 e.0 r))
+
+-- a number text in front, its event, and where it ends
+pub record Numbered (t : List ℕ) (e : Event) (r : List ℕ) : Type 0 where
+  pub number : List ℕ
+  pub is_number : IsNumberText number
+  pub event : event_of (leaf number) ≡ e
+  pub text : t ≡ number ++ r
+  pub ends : is_number_byte (slice_index r 0) ≡ false
+
+number_of : (t w r : List ℕ) → Leads IsWhole (after_minus t) w → Leads IsTail w r → is_number_byte (slice_index r 0) ≡ false
+    → Numbered t (event_of_parts (before t r) (slice_index t 0 == 45) (before (after_minus t) w) (before w r)) r
+number_of t w r (whole, is_whole, jw) (tail, (fraction, exponent, is_fraction, is_exponent, jt), jr) ends =
+    let m : Bool = slice_index t 0 == 45 in
+    let sign : List ℕ = sign_of m in
+    let b : List ℕ = sign ++ (whole ++ (fraction ++ exponent)) in
+    let joined : t ≡ b ++ r =
+    minus_takes t ∙ ap (λ x. sign ++ x) (jw ∙ ap (λ x. whole ++ x) (jr ∙ ap (λ x. x ++ r) jt) ∙ sym (append_assoc whole (fraction ++ exponent) r)) ∙ sym (append_assoc sign (whole ++ (fraction ++ exponent)) r) in
+    let n : IsNumberText b = record { minus = sign; whole = whole; fraction = fraction; exponent = exponent; text = refl; is_minus = minus_is m; is_whole = is_whole; is_fraction = is_fraction; is_exponent = is_exponent } in
+    let e1 : before t r ≡ b = before_is t b r joined in
+    let e2 : before (after_minus t) w ≡ whole = before_is _ whole w jw in
+    let e3 : before w r ≡ fraction ++ exponent = before_is w _ r jr ∙ jt in
+    record { number = b; is_number = n; event = rw (e1, e2, e3) (sym (event_of_text m whole fraction exponent is_whole is_fraction is_exponent)); text = joined; ends = ends }
+
+pub number_takes : (t : List ℕ) (e : Event) (r : List ℕ) → number_at t ≡ Some (e, r) → Numbered t e r
+unfolding number_at
+number_takes t e r h =
+    let w = bind_some _ (after_whole (after_minus t)) (e, r) h in
+    let q = bind_some _ (after_tail w.0) (e, r) w.2 in
+    let one = none_if _ _ _ q.2 in
+    subst (λ x. Numbered t x.0 x.1) (some_same _ _ one.1) (number_of t w.0 q.0 (whole_takes (after_minus t) w.0 w.1) (tail_takes w.0 q.0 q.1) one.0)
+
+pub splits_at : (t w r : List ℕ) → after_whole (after_minus t) ≡ Some w → after_tail w ≡ Some r → (b : List ℕ) × (t ≡ b ++ r)
+splits_at t w r h k =
+    let p = whole_takes (after_minus t) w h in
+    let q = tail_takes w r k in
+    let sign : List ℕ = sign_of (slice_index t 0 == 45) in
+    (sign ++ (p.0 ++ q.0), minus_takes t ∙ ap (λ x. sign ++ x) (p.2 ∙ ap (λ x. p.0 ++ x) q.2 ∙ sym (append_assoc p.0 q.0 r)) ∙ sym (append_assoc sign (p.0 ++ q.0) r))
+
+pub whole_before : (t r w : List ℕ) → after_whole t ≡ Some r → w ≡ before t r → AllByRecursion IsDigit w
+whole_before t r w h e =
+    let p = whole_takes t r h in
+    subst (AllByRecursion IsDigit) (sym (e ∙ before_is t p.0 r p.2)) (whole_digits p.0 p.1)
+
+-- ---- what the grammar has is read
+
+number_byte_parts : (c : ℕ) → is_number_byte c ≡ false → (is_digit c ≡ false) × ((c == 46) ≡ false) × (is_exponent_letter c ≡ false)
+number_byte_parts c h = (grind (arith, nat_tests), grind (arith, nat_tests), grind (arith, nat_tests))
+
+digit_no_sign : (c : ℕ) → IsDigit c → is_sign c ≡ false
+digit_no_sign c h = grind (arith, nat_tests)
+
+digits_only : (d r : List ℕ) → AreDigits d → is_digit (slice_index r 0) ≡ false → after_digits (d ++ r) ≡ Some r
+digits_only [] r h stop = absurd (omega arith)
+digits_only (c ∷ cs) r h stop =
+    ap (λ b. cond b (Some (after_run is_digit (c ∷ (cs ++ r)))) None) (digit_passes c h.1.0) ∙ ap Some (run_only is_digit (c ∷ cs) r (digits_pass (c ∷ cs) h.1) (stops_at is_digit r stop))
+
+large_no_zero : (c : ℕ) → 49 ≤ c → (c == 48) ≡ false
+large_no_zero c h = grind (arith, nat_tests)
+
+whole_only : (d r : List ℕ) → IsWhole d → is_digit (slice_index r 0) ≡ false → after_whole (d ++ r) ≡ Some r
+whole_only [] r h stop = absurd h
+whole_only (c ∷ cs) r (inl h) stop = rw (h.0, h.1) refl
+whole_only (c ∷ cs) r (inr h) stop =
+    ap (λ b. cond b (Some (cs ++ r)) (after_digits (c ∷ (cs ++ r)))) (large_no_zero c h.0.0) ∙ digits_only (c ∷ cs) r (omega arith, ((omega arith, h.0.1), h.1)) stop
+
+fraction_only : (d r : List ℕ) → IsFraction d → is_digit (slice_index r 0) ≡ false → (slice_index r 0 == 46) ≡ false → after_fraction (d ++ r) ≡ Some r
+fraction_only d r (inl h) stop away = rw h (ap (λ b. cond b (after_digits (drop 1 r)) (Some r)) away)
+fraction_only d r (inr h) stop away = rw (h.1) (digits_only h.0 r h.2 stop)
+
+digits_signed : (d r : List ℕ) → AreDigits d → is_digit (slice_index r 0) ≡ false → after_digits (after_sign (d ++ r)) ≡ Some r
+digits_signed [] r h stop = absurd (omega arith)
+digits_signed (c ∷ cs) r h stop = ap (λ b. after_digits (cond b (cs ++ r) (c ∷ (cs ++ r)))) (digit_no_sign c h.1.0) ∙ digits_only (c ∷ cs) r h stop
+
+signed_only : (s d r : List ℕ) → IsSign s → AreDigits d → is_digit (slice_index r 0) ≡ false → after_digits (after_sign (s ++ (d ++ r))) ≡ Some r
+signed_only s d r (inl h) k stop = rw h (digits_signed d r k stop)
+signed_only s d r (inr (inl h)) k stop = rw h (digits_only d r k stop)
+signed_only s d r (inr (inr h)) k stop = rw h (digits_only d r k stop)
+
+letter_passes : (c : ℕ) → (c ≡ 101) ⊎ (c ≡ 69) → (is_exponent_letter c ≡ true) × (is_digit c ≡ false) × ((c == 46) ≡ false)
+letter_passes c (inl h) = rw h (refl, refl, refl)
+letter_passes c (inr h) = rw h (refl, refl, refl)
+
+exponent_only : (d r : List ℕ) → IsExponent d → is_digit (slice_index r 0) ≡ false → is_exponent_letter (slice_index r 0) ≡ false → after_exponent (d ++ r) ≡ Some r
+exponent_only d r (inl h) stop away = rw h (ap (λ b. cond b (after_digits (after_sign (drop 1 r))) (Some r)) away)
+exponent_only d r (inr h) stop away =
+    let t : List ℕ = h.1 ++ h.2 in
+    rw (h.3) (
+    ap (λ b. cond b (after_digits (after_sign (t ++ r))) (Some (h.0 ∷ (t ++ r)))) (letter_passes h.0 h.4).0
+    ∙ ap (λ x. after_digits (after_sign x)) (append_assoc h.1 h.2 r) ∙ signed_only h.1 h.2 r h.5 h.6 stop)
+
+-- no digit and no point stands where an exponent may begin, and no digit where a fraction may
+before_exponent : (e r : List ℕ) → IsExponent e → is_number_byte (slice_index r 0) ≡ false → (is_digit (slice_index (e ++ r) 0) ≡ false) × ((slice_index (e ++ r) 0 == 46) ≡ false)
+before_exponent e r (inl h) ends = let p = number_byte_parts _ ends in rw h (p.0, p.1)
+before_exponent e r (inr h) ends = let p = letter_passes h.0 h.4 in rw (h.3) (p.1, p.2)
+
+before_fraction : (f e r : List ℕ) → IsFraction f → IsExponent e → is_number_byte (slice_index r 0) ≡ false → is_digit (slice_index (f ++ (e ++ r)) 0) ≡ false
+before_fraction f e r (inl h) k ends = rw h (before_exponent e r k ends).0
+before_fraction f e r (inr h) k ends = rw (h.1) refl
+
+sign_only : (m : Bool) (t : List ℕ) → (slice_index t 0 == 45) ≡ false → ((slice_index (sign_of m ++ t) 0 == 45) ≡ m) × (after_minus (sign_of m ++ t) ≡ t)
+sign_only true t h = (refl, refl)
+sign_only false t h = (h, ap (λ b. cond b (drop 1 t) t) h)
+
+read_parts : (m : Bool) (w f e r : List ℕ) → IsWhole w → IsFraction f → IsExponent e → is_number_byte (slice_index r 0) ≡ false
+    → number_at (sign_of m ++ (w ++ (f ++ (e ++ r)))) ≡ Some (event_of_parts (sign_of m ++ (w ++ (f ++ e))) m w (f ++ e), r)
+unfolding number_at
+read_parts m w f e r is_whole is_fraction is_exponent ends =
+    let rest : List ℕ = w ++ (f ++ (e ++ r)) in
+    let t : List ℕ = sign_of m ++ rest in
+    let s = sign_only m rest (whole_first w _ is_whole) in
+    let parts = number_byte_parts (slice_index r 0) ends in
+    let at_e = before_exponent e r is_exponent ends in
+    let first : after_whole (after_minus t) ≡ Some (f ++ (e ++ r)) = ap after_whole s.1 ∙ whole_only w _ is_whole (before_fraction f e r is_fraction is_exponent ends) in
+    let last : after_tail (f ++ (e ++ r)) ≡ Some r = ap (option_and_then after_exponent) (fraction_only f (e ++ r) is_fraction at_e.0 at_e.1) ∙ exponent_only e r is_exponent parts.0 parts.2 in
+    let text : before t r ≡ sign_of m ++ (w ++ (f ++ e)) =
+    before_is t _ r (ap (λ x. sign_of m ++ x) (ap (λ x. w ++ x) (sym (append_assoc f e r)) ∙ sym (append_assoc w (f ++ e) r)) ∙ sym (append_assoc (sign_of m) (w ++ (f ++ e)) r)) in
+    let whole : before (after_minus t) (f ++ (e ++ r)) ≡ w = ap (λ x. before x (f ++ (e ++ r))) s.1 ∙ before_append w _ in
+    let tail : before (f ++ (e ++ r)) r ≡ f ++ e = before_is _ (f ++ e) r (sym (append_assoc f e r)) in
+    let event : event_at t (f ++ (e ++ r)) r ≡ Some (event_of_parts (sign_of m ++ (w ++ (f ++ e))) m w (f ++ e), r) =
+    ap (λ b. cond b None (Some (event_of_parts (before t r) (slice_index t 0 == 45) (before (after_minus t) (f ++ (e ++ r))) (before (f ++ (e ++ r)) r), r))) ends
+    ∙ ap (λ x. Some (event_of_parts x (slice_index t 0 == 45) (before (after_minus t) (f ++ (e ++ r))) (before (f ++ (e ++ r)) r), r)) text
+    ∙ ap (λ x. Some (event_of_parts (sign_of m ++ (w ++ (f ++ e))) x (before (after_minus t) (f ++ (e ++ r))) (before (f ++ (e ++ r)) r), r)) s.0
+    ∙ ap (λ x. Some (event_of_parts (sign_of m ++ (w ++ (f ++ e))) m x (before (f ++ (e ++ r)) r), r)) whole
+    ∙ ap (λ x. Some (event_of_parts (sign_of m ++ (w ++ (f ++ e))) m w x, r)) tail in
+    ap (option_and_then (λ x. option_and_then (λ y. event_at t x y) (after_tail x))) first ∙ ap (option_and_then (λ y. event_at t (f ++ (e ++ r)) y)) last ∙ event
+
+minus_of : (x : List ℕ) → IsMinus x → (m : Bool) × (x ≡ sign_of m)
+minus_of x (inl h) = (false, h)
+minus_of x (inr h) = (true, h)
+
+pub number_only : (b r : List ℕ) → IsNumberText b → StopsAt is_number_byte r → number_at (b ++ r) ≡ Some (event_of (leaf b), r)
+number_only b r n stops =
+    let ends = stops_of is_number_byte refl r stops in
+    let sign = minus_of n.minus n.is_minus in
+    let m : Bool = sign.0 in
+    let text : b ≡ sign_of m ++ (n.whole ++ (n.fraction ++ n.exponent)) = n.text ∙ ap (λ x. x ++ (n.whole ++ (n.fraction ++ n.exponent))) sign.1 in
+    ap (λ x. number_at (x ++ r)) text
+    ∙ ap number_at (append_assoc (sign_of m) _ r ∙ ap (λ x. sign_of m ++ x) (append_assoc n.whole _ r ∙ ap (λ x. n.whole ++ x) (append_assoc n.fraction n.exponent r)))
+    ∙ read_parts m n.whole n.fraction n.exponent r n.is_whole n.is_fraction n.is_exponent ends
+    ∙ ap (λ x. Some (x, r)) (event_of_text m n.whole n.fraction n.exponent n.is_whole n.is_fraction n.is_exponent ∙ ap (λ x. event_of (leaf x)) (sym text))

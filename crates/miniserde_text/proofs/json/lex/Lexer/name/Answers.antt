@@ -1,0 +1,34 @@
+use Rattle.std.proofs.Common.{◌≡◌, Err, ap, arith}
+use Rattle.miniserde_model.specs.Bytes.{is_space}
+use Rattle.miniserde_model.specs.Value.{Between}
+use Rattle.miniserde_model.specs.Lexing.{BeforeColon}
+use Rattle.miniserde_text.specs.declared.error.Error.TheVariants.{Invalid, Memory}
+use Rattle.miniserde_text.specs.Lexer.{StandsFor}
+use Rattle.miniserde_text.specs.Reading.{after_run}
+use Rattle.miniserde_text.proofs.Runs.{stands_of}
+use Rattle.miniserde_text.proofs.Fronts.{backslash_behind}
+use Rattle.miniserde_text.proofs.Names.{names_of, names_only}
+use Rattle.miniserde_text.proofs.json.lex.Lexer.name.Goals as goal
+
+pub returns-in-Ok-clause-ok : goal.returns-in-Ok-clause-ok
+returns-in-Ok-clause-ok c =
+    let from : c.after_space.result.now ≡ after_run is_space c.args.self.now.rest = grind arith in
+    (grind arith, grind arith, names_of _ c.after_space.result.now _ _ from c.in-Ok.ensures.ok)
+
+pub returns-in-Ok-clause-text : goal.returns-in-Ok-clause-text
+returns-in-Ok-clause-text c =
+    let from : c.after_space.result.now ≡ after_run is_space c.args.self.now.rest = grind arith in
+    stands_of (BeforeColon (Between 34 (StandsFor c.in-Ok.text) 34)) _ c.after_space.result.now c.in-Ok.rest.now from c.in-Ok.ensures.text
+
+pub returns-in-Err-clause-invalid : goal.returns-in-Err-clause-invalid
+returns-in-Err-clause-invalid c is fresh n r h =
+    let from : c.after_space.result.now ≡ after_run is_space c.args.self.now.rest = grind arith in
+    let v : c.in-Err.e ≡ Invalid = cc in
+    c.in-Err.ensures.invalid (ap Err v) n r (names_only _ c.after_space.result.now n r from h)
+
+pub returns-in-Err-clause-memory : goal.returns-in-Err-clause-memory
+returns-in-Err-clause-memory c is fresh =
+    let from : c.after_space.result.now ≡ after_run is_space c.args.self.now.rest = grind arith in
+    let v : c.in-Err.e ≡ Memory = cc in
+    let m = c.in-Err.ensures.memory (ap Err v) in
+    backslash_behind _ c.after_space.result.now from m.0 m.1

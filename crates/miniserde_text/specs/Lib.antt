@@ -1,0 +1,4 @@
+pub mod Error
+pub mod Lexer
+pub mod Reading
+pub mod Inside

@@ -1,0 +1,48 @@
+//! The two refusals of the library.
+ghost use Rattle.std.specs.Prelude.{◌≡◌, Some};
+ghost use Rattle.miniserde_text.specs.Error.{message};
+ghost use Rattle.miniserde_text.specs.declared.error.Error.TheVariants.{Memory};
+
+use std::alloc::{AllocError, AllocFailed};
+use std::{error, fmt};
+
+/// Why a call was refused.
+#[derive(Clone, Copy, Debug)]
+pub enum Error {
+    /// The input is not what was asked for. Nothing tells where or why.
+    Invalid,
+    /// Memory could not be had.
+    Memory,
+}
+
+/// What a call that may be refused answers.
+pub type Result<T> = std::result::Result<T, Error>;
+
+impl fmt::Display for Error {
+    ghost output = { λ e. Some (message e) };
+
+    fn fmt<W: fmt::Write>(&self, f: &mut fmt::Formatter<W>) -> fmt::Result {
+        match self {
+            Error::Invalid => f.write_str("miniserde error"),
+            Error::Memory => f.write_str("out of memory"),
+        }
+    }
+}
+
+impl error::Error for Error {}
+
+impl From<AllocError> for Error {
+    ghost from_gives = { λ _ e. e ≡ Memory };
+
+    fn from(_: AllocError) -> Error {
+        Error::Memory
+    }
+}
+
+impl<T: Drop> From<AllocFailed<T>> for Error {
+    ghost from_gives = { λ _ e. e ≡ Memory };
+
+    fn from(_: AllocFailed<T>) -> Error {
+        Error::Memory
+    }
+}

@@ -1,0 +1,3 @@
+//! JSON text.
+
+pub mod lex;

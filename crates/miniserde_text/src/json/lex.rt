@@ -1,0 +1,192 @@
+//! The lexer: it takes one piece of a JSON text a call, in the grammar of RFC 8259.
+ghost use Rattle.std.specs.Prelude.{◌≡◌, List, ℕ, Bool, None, Some, Err, IfOk, IfErr, IfSome};
+ghost use Rattle.std.specs.String.{string_bytes};
+ghost use Rattle.miniserde_model.specs.Whitespace.{IsWhitespace};
+ghost use Rattle.miniserde_model.specs.Event as event;
+ghost use Rattle.miniserde_model.specs.Lexing.{Starts, Names, Follows};
+ghost use Rattle.miniserde_text.specs.Lexer.{front_of, text_of, kind_of, closes, EventStandsFor, NameStandsFor, KeepsScratch, EventKeepsScratch, BeginsEscaped};
+ghost use Rattle.miniserde_text.specs.declared.error.Error.{Error};
+
+mod bytes;
+mod escape;
+mod front;
+mod number;
+mod space;
+mod step;
+mod string;
+
+use self::front::{take_front, take_name};
+use self::space::after_space;
+use self::step::take_step;
+use crate::error::{Error, Result};
+use std::marker::Model;
+
+/// The text of a string: borrowed from the input, or decoded into the scratch text.
+#[derive(Clone, Copy, Debug, Drop)]
+pub enum Text<'a> {
+    /// What stands between the quotes, where that has no backslash.
+    Input(&'a str),
+    /// The whole content of the scratch text.
+    Scratch,
+}
+
+/// The front of a value.
+#[derive(Clone, Copy, Debug, Drop)]
+pub enum Event<'a> {
+    Null,
+    Bool(bool),
+    /// An integer that is written with `-`, from -2^63 to 0.
+    Negative(i64),
+    /// An integer that is written without `-`, below 2^64.
+    Nonnegative(u64),
+    /// Any other number, as its text.
+    Number(&'a str),
+    Str(Text<'a>),
+    /// `[`
+    SeqStart,
+    /// `{`
+    MapStart,
+}
+
+/// The kind of a container.
+#[derive(Clone, Copy, Debug, Drop)]
+pub enum Kind {
+    Seq,
+    Map,
+}
+
+/// What follows in a container.
+#[derive(Clone, Copy, Debug, Drop)]
+pub enum After {
+    /// Its closing bracket, which was taken.
+    Close,
+    /// One more element or member. A comma in front of it was taken.
+    Next,
+}
+
+/// A JSON text that is being read. A contract sees what is left of it, and the refusal that the lexer keeps: it
+/// answers that to every later call.
+#[derive(Drop)]
+pub struct Lexer<'a> {
+    rest: &'a str,
+    refused: Option<Error>,
+}
+
+impl<'a> Model for Lexer<'a> {
+    ghost use Rattle.miniserde_text.specs.Lexer.{Lexing};
+
+    ghost Value = { Lexing };
+
+    ghost view = { λ l. record { rest = l.rest.now; refused = l.refused } };
+}
+
+impl<'a> Lexer<'a> {
+    /// A lexer at the front of a text.
+    pub fn new(j: &'a str) -> Lexer<'a>
+        ensures { result ≡ record { rest = j.now; refused = None } }
+    {
+        Lexer {
+            rest: j,
+            refused: None,
+        }
+    }
+
+    /// Takes whitespace and the front of a value: a word, a number, a string, `[` or `{`.
+    pub fn start(&mut self, scratch: &mut String) -> Result<Event<'a>>
+        ensures ok { IfOk result (λ event. (self.old.refused ≡ None) × (self.new.refused ≡ None)
+            × Starts self.old.rest (front_of event (string_bytes scratch.new)) self.new.rest) }
+        ensures text { IfOk result (λ event. EventStandsFor event self.old.rest self.new.rest) }
+        ensures scratch { IfOk result (λ event.
+            EventKeepsScratch event (string_bytes scratch.old) (string_bytes scratch.new)) }
+        ensures invalid { result ≡ Err Error.Invalid → self.old.refused ≡ None
+            → (e : event.Event) (r : List ℕ) → Starts self.old.rest e r → ⊥ }
+        ensures memory { result ≡ Err Error.Memory → self.old.refused ≡ None → BeginsEscaped self.old.rest }
+        ensures err { IfErr result (λ e. self.new.refused ≡ Some e) }
+        ensures kept { IfSome self.old.refused (λ e. (result ≡ Err e) × (self.new ≡ self.old)) }
+    {
+        if let Some(e) = self.refused {
+            return Err(e);
+        }
+        match take_front(after_space(self.rest), scratch) {
+            Ok((event, rest)) => {
+                self.rest = rest;
+                Ok(event)
+            }
+            Err(e) => self.refuse(e),
+        }
+    }
+
+    /// Takes whitespace and the name of a member: a string, whitespace and `:`.
+    pub fn name(&mut self, scratch: &mut String) -> Result<Text<'a>>
+        ensures ok { IfOk result (λ t. (self.old.refused ≡ None) × (self.new.refused ≡ None)
+            × Names self.old.rest (text_of t (string_bytes scratch.new)) self.new.rest) }
+        ensures text { IfOk result (λ t. NameStandsFor t self.old.rest self.new.rest) }
+        ensures scratch { IfOk result (λ t. KeepsScratch t (string_bytes scratch.old) (string_bytes scratch.new)) }
+        ensures invalid { result ≡ Err Error.Invalid → self.old.refused ≡ None
+            → (n r : List ℕ) → Names self.old.rest n r → ⊥ }
+        ensures memory { result ≡ Err Error.Memory → self.old.refused ≡ None → BeginsEscaped self.old.rest }
+        ensures err { IfErr result (λ e. self.new.refused ≡ Some e) }
+        ensures kept { IfSome self.old.refused (λ e. (result ≡ Err e) × (self.new ≡ self.old)) }
+    {
+        if let Some(e) = self.refused {
+            return Err(e);
+        }
+        match take_name(after_space(self.rest), scratch) {
+            Ok((text, rest)) => {
+                self.rest = rest;
+                Ok(text)
+            }
+            Err(e) => self.refuse(e),
+        }
+    }
+
+    /// Takes whitespace and, of a container of that kind, its closing bracket, or what leads to the next child:
+    /// behind its opening bracket nothing, elsewhere a comma.
+    pub fn after(&mut self, kind: Kind, first: bool) -> Result<After>
+        ensures ok { IfOk result (λ a. (self.old.refused ≡ None) × (self.new.refused ≡ None)
+            × Follows (kind_of kind) first (closes a) self.old.rest self.new.rest) }
+        ensures invalid { result ≡ Err Error.Invalid → self.old.refused ≡ None
+            → (a : Bool) (r : List ℕ) → Follows (kind_of kind) first a self.old.rest r → ⊥ }
+        ensures only { IfErr result (λ e. self.old.refused ≡ None → e ≡ Error.Invalid) }
+        ensures err { IfErr result (λ e. self.new.refused ≡ Some e) }
+        ensures kept { IfSome self.old.refused (λ e. (result ≡ Err e) × (self.new ≡ self.old)) }
+    {
+        if let Some(e) = self.refused {
+            return Err(e);
+        }
+        match take_step(kind, first, after_space(self.rest)) {
+            Some((answer, rest)) => {
+                self.rest = rest;
+                Ok(answer)
+            }
+            None => self.refuse(Error::Invalid),
+        }
+    }
+
+    /// Whether nothing but whitespace is left. Takes nothing.
+    pub fn end(&mut self) -> Result<()>
+        ensures ok { IfOk result (λ _. (self.old.refused ≡ None) × (self.new ≡ self.old)
+            × IsWhitespace self.old.rest) }
+        ensures invalid { result ≡ Err Error.Invalid → self.old.refused ≡ None → IsWhitespace self.old.rest → ⊥ }
+        ensures only { IfErr result (λ e. self.old.refused ≡ None → e ≡ Error.Invalid) }
+        ensures err { IfErr result (λ e. self.new.refused ≡ Some e) }
+        ensures kept { IfSome self.old.refused (λ e. (result ≡ Err e) × (self.new ≡ self.old)) }
+    {
+        if let Some(e) = self.refused {
+            return Err(e);
+        }
+        if after_space(self.rest).is_empty() {
+            return Ok(());
+        }
+        self.refuse(Error::Invalid)
+    }
+
+    // Keeps a refusal, and answers it.
+    fn refuse<T>(&mut self, e: Error) -> Result<T>
+        ensures answer { result ≡ Err e }
+        ensures kept { self.new ≡ record { rest = self.old.rest; refused = Some e } }
+    {
+        self.refused = Some(e);
+        Err(e)
+    }
+}

@@ -1,0 +1,80 @@
+//! Strings.
+ghost use Rattle.std.specs.Prelude.{◌≡◌, ◌++◌, ◌∷◌, ◌≤◌, length, ℕ, List, Err, false, IfOk, slice_index};
+ghost use Rattle.std.specs.Str.{encode_utf8_all, IsUtf8};
+ghost use Rattle.std.specs.String.{string_bytes};
+ghost use Rattle.miniserde_text.specs.Lexer.{text_of, KeepsScratch};
+ghost use Rattle.miniserde_text.specs.Reading.{after_run, is_unescaped};
+ghost use Rattle.miniserde_text.specs.Inside.{Chars, Adds, TakesText, ReachesBackslash};
+
+use super::Text;
+use super::bytes::{before, byte_at, skip};
+use super::escape::take_escape;
+use crate::error::{Error, Result};
+use crate::scan::special;
+
+// What follows the bytes that stand for themselves.
+fn after_unescaped(s: &str) -> &str
+    ensures value { result.now ≡ after_run is_unescaped s.now }
+    ensures text { IsUtf8 s.now }
+{
+    &s[special(s.as_bytes(), 0)..]
+}
+
+// Takes an escape, behind its backslash, and the run behind it.
+fn take_run<'a>(s: &'a str, scratch: &mut String) -> Result<&'a str>
+    ensures ok { IfOk result (λ r.
+        Adds (string_bytes scratch.old) (string_bytes scratch.new) (92 ∷ s.now) r.now) }
+    ensures stops { IfOk result (λ r. is_unescaped (slice_index r.now 0) ≡ false) }
+    ensures shorter { IfOk result (λ r. length r.now ≤ length s.now) }
+    ensures text { IfOk result (λ r. IsUtf8 r.now) }
+    ensures invalid { result ≡ Err Error.Invalid → (cs r : List ℕ) → Chars cs (92 ∷ s.now) r → ⊥ }
+{
+    let Some((c, rest)) = take_escape(s) else {
+        return Err(Error::Invalid);
+    };
+    let next = after_unescaped(rest);
+    scratch.push(c)?;
+    scratch.push_str(before(rest, next))?;
+    Ok(next)
+}
+
+// Takes the rest of a string, from where bytes stop to stand for themselves.
+fn take_escaped<'a>(s: &'a str, scratch: &mut String) -> Result<&'a str>
+    requires { is_unescaped (slice_index s.now 0) ≡ false }
+    ensures ok { IfOk result (λ r. (cs : List ℕ) × Chars cs s.now r.now
+        × (string_bytes scratch.new ≡ string_bytes scratch.old ++ encode_utf8_all cs)) }
+    ensures invalid { result ≡ Err Error.Invalid → (cs r : List ℕ) → Chars cs s.now r → ⊥ }
+{
+    let mut tail = s;
+    while byte_at(tail, 0) == b'\\' {
+        tail = take_run(skip(tail, 1), scratch)?;
+    }
+    if byte_at(tail, 0) == b'"' {
+        Ok(skip(tail, 1))
+    } else {
+        Err(Error::Invalid)
+    }
+}
+
+/// Takes a string, behind its first quote. The scratch text is touched only where a backslash stands.
+pub(super) fn take_string<'a>(s: &'a str, scratch: &mut String) -> Result<(Text<'a>, &'a str)>
+    ensures ok { IfOk result (λ x. (cs : List ℕ) × Chars cs s.now x.1.now
+        × (text_of x.0 (string_bytes scratch.new) ≡ encode_utf8_all cs)) }
+    ensures text { IfOk result (λ x. TakesText x.0 s.now x.1.now) }
+    ensures kept { IfOk result (λ x.
+        KeepsScratch x.0 (string_bytes scratch.old) (string_bytes scratch.new)) }
+    ensures memory { result ≡ Err Error.Memory → ReachesBackslash s.now }
+    ensures invalid { result ≡ Err Error.Invalid → (cs r : List ℕ) → Chars cs s.now r → ⊥ }
+{
+    let tail = after_unescaped(s);
+    match byte_at(tail, 0) {
+        b'"' => Ok((Text::Input(before(s, tail)), skip(tail, 1))),
+        b'\\' => {
+            scratch.clear();
+            scratch.push_str(before(s, tail))?;
+            let rest = take_escaped(tail, scratch)?;
+            Ok((Text::Scratch, rest))
+        }
+        _ => Err(Error::Invalid),
+    }
+}

@@ -1,0 +1,43 @@
+//! The search for the byte where a run inside a string ends.
+ghost use Rattle.std.specs.Prelude.{◌≡◌, ◌+◌, ◌≤◌, length, drop, map};
+ghost use Rattle.std.specs.List.{position_or_len};
+ghost use Rattle.std.specs.Simd.Lanes.{mask_l};
+ghost use Rattle.miniserde_model.specs.Bytes.{is_special};
+
+use std::simd::prelude::*;
+
+fn is_special(c: u8) -> bool
+    ensures { result ≡ is_special c }
+{
+    c < 0x20 || c == b'"' || c == b'\\'
+}
+
+// Bit i is set where lane i is special.
+#[inline(always)]
+fn specials(v: u8x32) -> u64
+    ensures { result ≡ mask_l (map is_special v) }
+{
+    let controls = v.simd_lt(u8x32::splat(0x20));
+    let quotes = v.simd_eq(u8x32::splat(b'"'));
+    let backslashes = v.simd_eq(u8x32::splat(b'\\'));
+    (controls | quotes | backslashes).to_bitmask()
+}
+
+/// The first byte at or after `from` that may not stand for itself in a string, or the length.
+pub fn special(bytes: &[u8], from: usize) -> usize
+    requires { from ≤ length bytes.now }
+    ensures { result ≡ from + position_or_len is_special (drop from bytes.now) }
+{
+    let mut i = from;
+    'lanes: while bytes.len() - i >= 32 {
+        let found = specials(u8x32::from_slice(&bytes[i..]));
+        if found != 0 {
+            return i + found.trailing_zeros() as usize;
+        }
+        i += 32;
+    }
+    'rest: while i < bytes.len() && !is_special(bytes[i]) {
+        i += 1;
+    }
+    i
+}
