@@ -1,0 +1,14 @@
+pub mod Step
+pub mod Place
+pub mod Leaf
+pub mod LeafLaws
+pub mod Integers
+pub mod IntegerLaws
+pub mod Words
+pub mod WordLaws
+pub mod Container
+pub mod ContainerLaws
+pub mod Stage
+pub mod Lists
+pub mod ListLaws
+pub mod Ignore

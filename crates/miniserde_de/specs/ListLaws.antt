@@ -1,0 +1,73 @@
+-- The events of a list's tree give the list of what its children give, and that is what the tree means.
+use Rattle.std.proofs.Common.{◌≡◌, List, [], ◌∷◌, ◌++◌, Option, Some, None, refl, sym, ap, ◌∙◌, append_assoc, append-nil, map}
+use Rattle.std.specs.Prelude.{◌↔◌, option_and_then, false}
+use Rattle.miniserde_model.specs.Tree.{Tree, null, truth, nonneg, neg, num, str, list, members, Trees, no_trees, tree}
+use Rattle.miniserde_model.specs.Event.{Event, element, finish, events, child_events}
+use Rattle.miniserde_model.specs.Position.{start}
+use Rattle.miniserde_model.proofs.Events.{events_complete}
+use Rattle.miniserde_de.specs.Container.{between, inside, opened}
+use Rattle.miniserde_de.specs.Lists.{EachReads, ListReads, each, list_of, added, list_kind}
+use Rattle.miniserde_de.specs.ContainerLaws.{inside-split}
+
+-- the events of the children and of the end begin with some event
+begins : (ts : Trees) → (e : Event) × (es : List Event) × (child_events ts ++ finish ∷ [] ≡ e ∷ es)
+begins no_trees = (finish, [], refl)
+begins (tree t ts) = (element, (events t ++ child_events ts) ++ finish ∷ [], refl)
+
+module _ {C : Type 0} (mean : List Event → Option C) (of : Tree → Option C) (meant : (t : Tree) → mean (events t) ≡ of t) where
+  between-events : (xs : List C) (ts : Trees) → between (list_kind mean) xs (child_events ts ++ finish ∷ []) ≡ option_and_then (λ ys. Some (xs ++ ys)) (each of ts)
+  between-events xs no_trees = ap Some (sym (append-nil xs))
+  between-events xs (tree t ts) =
+      let kind = list_kind mean in
+      let l = begins ts in
+      let split : inside kind (λ es. added mean xs (mean es)) start (events t ++ (child_events ts ++ finish ∷ [])) ≡ option_and_then (λ s. between kind s (child_events ts ++ finish ∷ [])) (added mean xs (mean (events t))) = rw l.2 (inside-split kind start (λ es. added mean xs (mean es)) (events t) l.0 l.1 (events_complete t)) in
+      ap (inside kind (λ es. added mean xs (mean es)) start) (append_assoc (events t) (child_events ts) (finish ∷ []))
+      ∙ split ∙ rw (meant t) (elim (of t) as (λ o. option_and_then (λ s. between kind s (child_events ts ++ finish ∷ [])) (added mean xs o) ≡ option_and_then (λ ys. Some (xs ++ ys)) (option_and_then (λ x. option_and_then (λ ys. Some (x ∷ ys)) (each of ts)) o)) [
+        | None ↦ refl
+        | Some x ↦ between-events (xs ++ x ∷ []) ts ∙ (elim (each of ts) as (λ o. option_and_then (λ ys. Some ((xs ++ x ∷ []) ++ ys)) o ≡ option_and_then (λ ys. Some (xs ++ ys)) (option_and_then (λ ys. Some (x ∷ ys)) o)) [ None ↦ refl | Some ys ↦ ap Some (append_assoc xs (x ∷ []) ys) ])
+      ])
+
+  pub list-meant : (t : Tree) → opened false (between (list_kind mean) []) (events t) ≡ list_of of t
+  list-meant null = refl
+  list-meant (truth b) = refl
+  list-meant (nonneg n) = refl
+  list-meant (neg n) = refl
+  list-meant (num x) = refl
+  list-meant (str s) = refl
+  list-meant (members ms) = refl
+  list-meant (list ts) = between-events [] ts ∙ (elim (each of ts) as (λ o. option_and_then (λ ys. Some ([] ++ ys)) o ≡ o) [ None ↦ refl | Some ys ↦ refl ])
+
+module _ {T C : Type 0} (R : Tree → T → Type 0) (of : Tree → Option C) (content : T → C) (given : (t : Tree) (v : T) → R t v ↔ (of t ≡ Some (content v))) where
+  each-given : (ts : Trees) (xs : List T) → EachReads R ts xs → each of ts ≡ Some (map content xs)
+  each-given no_trees [] h = refl
+  each-given no_trees (x ∷ xs) h = absurd h
+  each-given (tree t ts) [] h = absurd h
+  each-given (tree t ts) (x ∷ xs) h = rw ((given t x).0 h.0, each-given ts xs h.1) refl
+
+  given-each : (ts : Trees) (xs : List T) → each of ts ≡ Some (map content xs) → EachReads R ts xs
+  given-each no_trees [] h = tt
+  given-each no_trees (x ∷ xs) h = absurd (cc)
+  given-each (tree t ts) xs h =
+      elim (of t) as (λ o. of t ≡ o → option_and_then (λ x. option_and_then (λ ys. Some (x ∷ ys)) (each of ts)) o ≡ Some (map content xs) → EachReads R (tree t ts) xs) [
+        | None ↦ λ e k. absurd (cc)
+        | Some c ↦ λ e. elim (each of ts) as (λ o. each of ts ≡ o → option_and_then (λ ys. Some (c ∷ ys)) o ≡ Some (map content xs) → EachReads R (tree t ts) xs) [
+          | None ↦ λ f k. absurd (cc)
+          | Some cs ↦ λ f. elim xs as (λ ys. Some (c ∷ cs) ≡ Some (map content ys) → EachReads R (tree t ts) ys) [
+            | [] ↦ λ k. absurd (cc)
+            | y ∷ ys ↦ λ k.
+                let a : c ≡ content y = cc in
+                let b : cs ≡ map content ys = cc in
+                ((given t y).1 (e ∙ ap Some a), given-each ts ys (f ∙ ap Some b))
+          ]
+        ] refl
+      ] refl h
+
+  pub list-given : (t : Tree) (xs : List T) → ListReads R t xs ↔ (list_of of t ≡ Some (map content xs))
+  list-given null xs = (λ h. absurd h, λ h. absurd (cc))
+  list-given (truth b) xs = (λ h. absurd h, λ h. absurd (cc))
+  list-given (nonneg n) xs = (λ h. absurd h, λ h. absurd (cc))
+  list-given (neg n) xs = (λ h. absurd h, λ h. absurd (cc))
+  list-given (num x) xs = (λ h. absurd h, λ h. absurd (cc))
+  list-given (str s) xs = (λ h. absurd h, λ h. absurd (cc))
+  list-given (members ms) xs = (λ h. absurd h, λ h. absurd (cc))
+  list-given (list ts) xs = (each-given ts xs, given-each ts xs)

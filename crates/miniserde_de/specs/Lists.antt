@@ -1,0 +1,38 @@
+-- Lists, as a kind of container, and what a list's tree means.
+use Rattle.std.specs.Prelude.{List, [], ◌∷◌, ◌++◌, Option, Some, None, option_and_then, ⊤}
+use Rattle.miniserde_model.specs.Tree.{Tree, list, Trees, no_trees, tree}
+use Rattle.miniserde_model.specs.Event.{Event, element}
+use Rattle.miniserde_de.specs.Container.{Kind}
+
+-- each child means the item in its place
+abbrev pub EachReads : {T : Type 0} → (Tree → T → Type 0) → Trees → List T → Type 0
+EachReads R no_trees [] = ⊤
+EachReads R no_trees (x ∷ xs) = ⊥
+EachReads R (tree t ts) [] = ⊥
+EachReads R (tree t ts) (x ∷ xs) = R t x × EachReads R ts xs
+
+-- the tree is a list, and each child means the item in its place
+abbrev pub ListReads : {T : Type 0} → (Tree → T → Type 0) → Tree → List T → Type 0
+ListReads R (list ts) xs = EachReads R ts xs
+ListReads R _ xs = ⊥
+
+-- the list of what each child gives, where each gives something
+abbrev pub each : {C : Type 0} → (Tree → Option C) → Trees → Option (List C)
+each f no_trees = Some []
+each f (tree t ts) = option_and_then (λ x. option_and_then (λ xs. Some (x ∷ xs)) (each f ts)) (f t)
+
+abbrev pub list_of : {C : Type 0} → (Tree → Option C) → Tree → Option (List C)
+list_of f (list ts) = each f ts
+list_of f _ = None
+
+module _ {C : Type 0} (mean : List Event → Option C) where
+  -- one more item at the end
+  abbrev pub added : List C → Option C → Option (List C)
+  added xs o = option_and_then (λ x. Some (xs ++ x ∷ [])) o
+
+  abbrev pub list_child : List C → Event → List Event → Option (List C)
+  list_child xs element es = added xs (mean es)
+  list_child xs _ es = None
+
+  abbrev pub list_kind : Kind (List C) (List C)
+  list_kind = record { child = list_child; end = Some }
