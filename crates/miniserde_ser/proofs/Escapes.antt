@@ -1,0 +1,65 @@
+-- Texts by the escape rule, piece by piece.
+use Rattle.std.proofs.Common.{◌≡◌, ℕ, suc, ◌+◌, ◌-◌, ◌<◌, ◌≤◌, List, [], ◌∷◌, ◌++◌, length, true, false, take, drop, get_or, refl, ap, sym, ◌∙◌, arith, length-append, take-add}
+use Rattle.std.proofs.lemmas.Grind.{flat_map-append}
+use Rattle.std.proofs.lemmas.List.{take_more, append-nil, take-append-drop, length-take, get_or-take, get_or-drop}
+use Rattle.std.proofs.lemmas.Bool.Decides.{nat_tests}
+use Rattle.miniserde_model.specs.Bytes.{is_special}
+use Rattle.miniserde_model.specs.Compact.{quoted}
+use Rattle.miniserde_ser.specs.Escape.{escape, escapes}
+
+-- a byte that may stand for itself does
+pub escape_plain : (b : ℕ) → is_special b ≡ false → escape b ≡ b ∷ []
+unfolding escape
+escape_plain b s = grind (arith, nat_tests)
+
+pub escapes-nil : escapes [] ≡ []
+unfolding escapes
+escapes-nil = refl
+
+pub escapes-cons : (b : ℕ) (bs : List ℕ) → escapes (b ∷ bs) ≡ escape b ++ escapes bs
+unfolding escapes
+escapes-cons b bs = refl
+
+pub escapes-append : (xs ys : List ℕ) → escapes (xs ++ ys) ≡ escapes xs ++ escapes ys
+unfolding escapes
+escapes-append xs ys = flat_map-append escape xs ys
+
+pub escapes-one : (b : ℕ) → escapes (b ∷ []) ≡ escape b
+escapes-one b = escapes-cons b [] ∙ (rw escapes-nil (append-nil (escape b)))
+
+-- a piece with no byte to escape
+pub escapes_plain : (xs : List ℕ) → ((k : ℕ) → k < length xs → is_special (get_or xs k 0) ≡ false) → escapes xs ≡ xs
+escapes_plain [] h = escapes-nil
+escapes_plain (x ∷ xs) h =
+    rw (escapes-cons x xs, escape_plain x (h 0 (omega arith)), escapes_plain xs (λ k l. h (suc k) (omega arith))) refl
+
+-- one more byte, and its length
+pub length_escapes_more : (xs : List ℕ) (i : ℕ) → i < length xs → length (escapes (take (i + 1) xs)) ≡ length (escapes (take i xs)) + length (escape (get_or xs i 0))
+length_escapes_more xs i h = rw (take_more xs i 0 h, escapes-append, escapes-one, length-append) refl
+
+-- a byte that may not is a character of its own
+pub is_special_ascii : (b : ℕ) → is_special b ≡ true → b < 128
+is_special_ascii b s = grind (arith, nat_tests)
+
+pub escapes_more : (xs : List ℕ) (i : ℕ) → i < length xs → escapes (take (i + 1) xs) ≡ escapes (take i xs) ++ escape (get_or xs i 0)
+escapes_more xs i h = rw (take_more xs i 0 h, escapes-append, escapes-one) refl
+
+pub length_escapes_le : (xs : List ℕ) (i : ℕ) → length (escapes (take i xs)) ≤ length (escapes xs)
+length_escapes_le xs i =
+    let whole : escapes xs ≡ escapes (take i xs) ++ escapes (drop i xs) = ap escapes (sym (take-append-drop i xs)) ∙ escapes-append (take i xs) (drop i xs) in
+    rw whole (omega (arith, length-append (escapes (take i xs)) (escapes (drop i xs))))
+
+-- a run of bytes with none to escape
+pub escapes_run : (xs : List ℕ) (i j : ℕ) → i ≤ j → j ≤ length xs → ((k : ℕ) → i ≤ k → k < j → is_special (get_or xs k 0) ≡ false) → escapes (take j xs) ≡ escapes (take i xs) ++ take (j - i) (drop i xs)
+escapes_run xs i j l h plain =
+    let front : take j xs ≡ take i xs ++ take (j - i) (drop i xs) = ap (λ n. take n xs) (omega arith) ∙ take-add i (j - i) xs in
+    let same : escapes (take (j - i) (drop i xs)) ≡ take (j - i) (drop i xs) =
+    escapes_plain (take (j - i) (drop i xs)) (λ k m. let n : k < j - i = omega (arith, length-take (j - i) (drop i xs), m) in
+    let at : get_or (take (j - i) (drop i xs)) k 0 ≡ get_or xs (i + k) 0 = get_or-take (j - i) (drop i xs) k 0 n ∙ get_or-drop i xs k 0 in
+    rw at (plain (i + k) (omega arith) (omega arith))) in
+    rw (front, escapes-append) (ap (λ t. escapes (take i xs) ++ t) same)
+
+-- the words of a string, and the model's
+pub quoted_escapes : (s : List ℕ) → quoted s ≡ 34 ∷ (escapes s ++ 34 ∷ [])
+unfolding quoted escapes escape
+quoted_escapes s = refl

@@ -1,0 +1,34 @@
+-- The text of a list grows by an element at its end.
+use Rattle.std.proofs.Common.{◌≡◌, ℕ, ◌+◌, ◌<◌, List, [], ◌∷◌, ◌++◌, length, Bool, true, false, cond, take, get_or, refl, ap, append_assoc, ◌∙◌, sym, arith}
+use Rattle.std.proofs.lemmas.List.{take_more, append-nil, length-take-le}
+use Rattle.miniserde_model.specs.Tree.{Tree}
+use Rattle.miniserde_model.specs.Compact.{compact, compact_children, compact_more}
+use Rattle.miniserde_model.specs.IsTree.{IsTree, AreTrees}
+use Rattle.miniserde_ser.specs.Trees.{trees_of}
+
+compact_more-snoc : {A : Type 0} (f : A → Tree) (xs : List A) (x : A) → compact_more (trees_of f (xs ++ x ∷ [])) ≡ compact_more (trees_of f xs) ++ (44 ∷ []) ++ compact (f x)
+compact_more-snoc f [] x = grind (arith, append_assoc {A = ℕ}, append-nil {A = ℕ})
+compact_more-snoc f (y ∷ ys) x = grind (arith, append_assoc {A = ℕ}, compact_more-snoc f ys x)
+
+-- the comma stands before each element but the first
+compact_children-snoc : {A : Type 0} (f : A → Tree) (xs : List A) (x : A) (b : Bool) → (length xs ≡ 0 → b ≡ true) → (0 < length xs → b ≡ false) → compact_children (trees_of f (xs ++ x ∷ [])) ≡ compact_children (trees_of f xs) ++ (cond b [] (44 ∷ []) ++ compact (f x))
+compact_children-snoc f [] x b s n = rw (s refl) (grind (arith, append-nil {A = ℕ}))
+compact_children-snoc f (y ∷ ys) x b s n = let e : b ≡ false = n (omega arith) in rw e (grind (arith, append_assoc {A = ℕ}, compact_more-snoc f ys x))
+
+AreTrees-snoc : {A : Type 0} (f : A → Tree) (xs : List A) (x : A) → AreTrees (trees_of f xs) → IsTree (f x) → AreTrees (trees_of f (xs ++ x ∷ []))
+AreTrees-snoc f [] x h r = (r, tt)
+AreTrees-snoc f (y ∷ ys) x h r = (h.0, AreTrees-snoc f ys x h.1 r)
+
+took : {A : Type 0} (xs : List A) (i : ℕ) (x : A) → i < length xs → x ≡ get_or xs i x → take (i + 1) xs ≡ take i xs ++ x ∷ []
+took xs i x h e = take_more xs i x h ∙ ap (λ y. take i xs ++ y ∷ []) (sym e)
+
+-- what a turn of the loop over a list appends
+pub compact_children_step : {A : Type 0} (f : A → Tree) (xs : List A) (i : ℕ) (x : A) (b : Bool) (pre old mid new : List ℕ) → i < length xs → x ≡ get_or xs i x → (i ≡ 0 → b ≡ true) → (0 < i → b ≡ false) → old ≡ pre ++ compact_children (trees_of f (take i xs)) → mid ≡ old ++ cond b [] (44 ∷ []) → new ≡ mid ++ compact (f x) → new ≡ pre ++ compact_children (trees_of f (take (i + 1) xs))
+compact_children_step f xs i x b pre old mid new h e s n o m w =
+    let len : length (take i xs) ≡ i = length-take-le i xs (omega arith) in
+    let grown = compact_children-snoc f (take i xs) x b (λ z. s (sym len ∙ z)) (λ z. n (omega (arith, len))) in
+    rw (w, m, o, took xs i x h e, grown) (simp append_assoc refl)
+
+-- the trees of the elements so far are trees
+pub AreTrees_step : {A : Type 0} (f : A → Tree) (xs : List A) (i : ℕ) (x : A) → i < length xs → x ≡ get_or xs i x → AreTrees (trees_of f (take i xs)) → IsTree (f x) → AreTrees (trees_of f (take (i + 1) xs))
+AreTrees_step f xs i x h e a r = rw (took xs i x h e) (AreTrees-snoc f (take i xs) x a r)

@@ -1,0 +1,4 @@
+pub mod Writer
+pub mod Fragment
+pub mod Escape
+pub mod Trees

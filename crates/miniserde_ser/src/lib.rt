@@ -1,0 +1,6 @@
+//! The compact JSON writer of `miniserde`, and the values that it writes.
+#![tactic(auto)]
+
+pub mod ser;
+#[cfg(test)]
+mod tests;

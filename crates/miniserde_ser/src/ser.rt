@@ -1,0 +1,217 @@
+//! A writer of compact JSON text, and the values that write themselves with it.
+//!
+//! A value asks the writer for one piece of text a call: a leaf, a bracket, or what stands before an element.
+//! The writer keeps a refusal and answers it to every later call, so a text that was cut short is never handed out.
+ghost use Rattle.std.specs.Prelude.{◌≡◌, ◌++◌, true, false, OnOk, OnErr, IsErrOf};
+ghost use Rattle.miniserde_model.specs.Tree.{Tree};
+ghost use Rattle.miniserde_model.specs.Compact.{compact};
+ghost use Rattle.miniserde_model.specs.IsTree.{IsTree};
+ghost use Rattle.miniserde_text.specs.declared.error.Error.TheVariants.{Memory};
+
+mod escape;
+mod impls;
+
+pub use escape::escape_str;
+use itoa::Buffer;
+use miniserde_text::error::{Error, Result};
+use std::alloc::Global;
+use std::marker::Model;
+
+/// A value with no children.
+#[derive(Clone, Copy, Debug, Drop)]
+pub enum Fragment<'a> {
+    Null,
+    Bool(bool),
+    /// A text, before the escape rule.
+    Str(&'a str),
+    U64(u64),
+    /// An integer of either sign. One that is not negative is written as its `U64` is.
+    I64(i64),
+}
+
+/// A JSON text that is being written. A contract sees its bytes, the flag that the next element needs no comma, and
+/// whether a call was refused. That the calls make one whole value is not checked.
+#[derive(Drop)]
+pub struct Writer {
+    text: String,
+    first: bool,
+    refused: bool,
+}
+
+impl Model for Writer {
+    ghost use Rattle.std.specs.Prelude.{string_bytes};
+    ghost use Rattle.miniserde_ser.specs.Writer.{Writing};
+
+    ghost Value = { Writing };
+
+    ghost view = { λ w. record { text = string_bytes w.text; first = w.first; refused = w.refused } };
+}
+
+impl Writer {
+    ghost use Rattle.std.specs.Prelude.{◌≡◌, [], true, false, OnOk, OnErr, IfOk, IsErrOf, string_bytes, if◌then◌else◌, codes};
+    ghost use Rattle.miniserde_model.specs.Compact.{compact, quoted};
+    ghost use Rattle.miniserde_text.specs.declared.error.Error.TheVariants.{Memory};
+    ghost use Rattle.miniserde_ser.specs.Writer.{appended, with_first, with_refused};
+    ghost use Rattle.miniserde_ser.specs.Fragment.{leaf};
+
+    /// A writer of no text yet. It takes no memory.
+    pub fn new(alloc: Global) -> Writer
+        ensures { result ≡ record { text = []; first = true; refused = false } }
+    {
+        Writer {
+            text: String::new(alloc),
+            first: true,
+            refused: false,
+        }
+    }
+
+    /// The allocator that the text grows by. A `Global` has no content that a clause could name.
+    pub fn alloc(&self) -> Global {
+        *self.text.allocator()
+    }
+
+    // Answers the refusal that the writer keeps.
+    fn check(&self) -> Result<()>
+        ensures stays { OnOk result (self.now.refused ≡ false) }
+        ensures memory { OnErr result (IsErrOf result Memory) }
+        ensures err { OnErr result (self.now.refused ≡ true) }
+    {
+        if self.refused {
+            return Err(Error::Memory);
+        }
+        Ok(())
+    }
+
+    // Appends a text as it is.
+    fn append(&mut self, text: &str) -> Result<()>
+        ensures ok { OnOk result (self.new ≡ appended self.old text.now) }
+        ensures stays { OnOk result (self.old.refused ≡ false) }
+        ensures memory { OnErr result (IsErrOf result Memory) }
+        ensures err { OnErr result (self.new ≡ with_refused self.old) }
+    {
+        self.check()?;
+        match self.text.push_str(text) {
+            Ok(()) => Ok(()),
+            Err(_) => Err(self.refuse()),
+        }
+    }
+
+    // Appends a text as a string.
+    fn append_quoted(&mut self, text: &str) -> Result<()>
+        ensures ok { OnOk result (self.new ≡ appended self.old (quoted text.now)) }
+        ensures stays { OnOk result (self.old.refused ≡ false) }
+        ensures memory { OnErr result (IsErrOf result Memory) }
+        ensures err { OnErr result (self.new ≡ with_refused self.old) }
+    {
+        self.check()?;
+        match escape_str(text, &mut self.text) {
+            Ok(()) => Ok(()),
+            Err(_) => Err(self.refuse()),
+        }
+    }
+
+    // Appends a mark of punctuation, and says whether an element after it is the first.
+    fn punctuate(&mut self, mark: &str, first: bool) -> Result<()>
+        ensures ok { OnOk result (self.new ≡ with_first (appended self.old mark.now) first) }
+        ensures stays { OnOk result (self.old.refused ≡ false) }
+        ensures memory { OnErr result (IsErrOf result Memory) }
+        ensures err { OnErr result (self.new ≡ with_refused self.old) }
+    {
+        self.append(mark)?;
+        self.first = first;
+        Ok(())
+    }
+
+    /// Appends a leaf. The text grows once at most, before anything is appended.
+    pub fn fragment(&mut self, f: Fragment<'_>) -> Result<()>
+        ensures ok { OnOk result (self.new ≡ appended self.old (compact (leaf f.entry))) }
+        ensures stays { OnOk result (self.old.refused ≡ false) }
+        ensures memory { OnErr result (IsErrOf result Memory) }
+        ensures err { OnErr result (self.new ≡ with_refused self.old) }
+    {
+        let mut digits = Buffer::new();
+        match f {
+            Fragment::Null => self.append("null"),
+            Fragment::Bool(true) => self.append("true"),
+            Fragment::Bool(false) => self.append("false"),
+            Fragment::Str(s) => self.append_quoted(s),
+            Fragment::U64(n) => self.append(digits.format(n)),
+            Fragment::I64(n) => self.append(digits.format(n)),
+        }
+    }
+
+    /// Opens a list. The text grows once at most, before anything is appended.
+    pub fn seq(&mut self) -> Result<()>
+        ensures ok { OnOk result (self.new ≡ with_first (appended self.old (codes "[")) true) }
+        ensures stays { OnOk result (self.old.refused ≡ false) }
+        ensures memory { OnErr result (IsErrOf result Memory) }
+        ensures err { OnErr result (self.new ≡ with_refused self.old) }
+    {
+        self.punctuate("[", true)
+    }
+
+    /// Goes before each element of a list. The text grows once at most, before anything is appended.
+    pub fn element(&mut self) -> Result<()>
+        ensures ok { OnOk result (self.new
+            ≡ with_first (appended self.old (if self.old.first then [] else codes ",")) false) }
+        ensures stays { OnOk result (self.old.refused ≡ false) }
+        ensures memory { OnErr result (IsErrOf result Memory) }
+        ensures err { OnErr result (self.new ≡ with_refused self.old) }
+    {
+        self.punctuate(if self.first { "" } else { "," }, false)
+    }
+
+    /// Closes a list. The text grows once at most, before anything is appended.
+    pub fn seq_finish(&mut self) -> Result<()>
+        ensures ok { OnOk result (self.new ≡ with_first (appended self.old (codes "]")) false) }
+        ensures stays { OnOk result (self.old.refused ≡ false) }
+        ensures memory { OnErr result (IsErrOf result Memory) }
+        ensures err { OnErr result (self.new ≡ with_refused self.old) }
+    {
+        self.punctuate("]", false)
+    }
+
+    /// Marks the text as cut short, for a value that could not have memory of its own.
+    pub fn refuse(&mut self) -> Error
+        ensures memory { result ≡ Memory }
+        ensures err { self.new ≡ with_refused self.old }
+    {
+        self.refused = true;
+        Error::Memory
+    }
+
+    /// The whole text, where no call was refused. It takes no memory.
+    pub fn into_string(self) -> Result<String>
+        ensures ok { IfOk result (λ s. string_bytes s ≡ self.text) }
+        ensures stays { OnOk result (self.refused ≡ false) }
+        ensures memory { OnErr result (IsErrOf result Memory) }
+        ensures err { OnErr result (self.refused ≡ true) }
+    {
+        let Writer {
+            text,
+            first: _,
+            refused,
+        } = self;
+        if refused {
+            Err(Error::Memory)
+        } else {
+            Ok(text)
+        }
+    }
+}
+
+/// A value that writes itself as a JSON text: the compact text of its tree.
+pub trait Serialize {
+    /// The tree of a value.
+    ghost tree: { Self → Tree };
+
+    /// Appends the text. What was appended before a refusal stays in the writer, which hands out no text any more.
+    fn begin(&self, w: &mut Writer) -> Result<()>
+        ensures ok { OnOk result (w.new.text ≡ w.old.text ++ compact (tree self.now)) }
+        ensures is_tree { OnOk result (IsTree (tree self.now)) }
+        ensures first { OnOk result (w.old.first ≡ false → w.new.first ≡ false) }
+        ensures whole { OnOk result (w.new.refused ≡ false) }
+        ensures stays { OnOk result (w.old.refused ≡ false) }
+        ensures memory { OnErr result (IsErrOf result Memory) }
+        ensures err { OnErr result (w.new.refused ≡ true) };
+}

@@ -1,0 +1,140 @@
+//! Strings by the escape rule.
+ghost use Rattle.std.specs.Prelude.{◌≡◌, ◌≢◌, ℕ, ◌+◌, ◌/◌, ◌%◌, ◌<◌, ◌≤◌, [], ◌∷◌, ◌++◌, length, true, false, slice_index, OnOk, OnErr, IfSome, IsErrOf, string_bytes, string_len, string_capacity};
+ghost use Rattle.std.specs.Char.{digit_char};
+ghost use Rattle.miniserde_model.specs.Bytes as bytes;
+ghost use Rattle.miniserde_model.specs.Compact.{quoted};
+ghost use Rattle.miniserde_text.specs.declared.error.Error.TheVariants.{Memory};
+ghost use Rattle.miniserde_ser.specs.Escape.{escape, escapes};
+
+use miniserde_text::error::{Error, Result};
+use miniserde_text::scan::special;
+
+// The end of the run of bytes from `from` on that stand for themselves.
+fn run_end(text: &[u8], from: usize) -> usize
+    requires { from ≤ length text.now }
+    ensures low { from ≤ result }
+    ensures high { result ≤ length text.now }
+    ensures plain { (k : ℕ) → from ≤ k → k < result → bytes.is_special (slice_index text.now k) ≡ false }
+    ensures found { result < length text.now → bytes.is_special (slice_index text.now result) ≡ true }
+{
+    special(text, from)
+}
+
+// The letter that stands for the byte behind a backslash, or 0.
+#[tactic(auto, unfolding(crate::specs::Escape::escape))]
+fn letter_of(b: u8) -> u8
+    ensures short { result ≢ 0 → escape b ≡ 92 ∷ result ∷ [] }
+    ensures control { result ≡ 0 → b < 32
+        → escape b ≡ 92 ∷ 117 ∷ 48 ∷ 48 ∷ digit_char (b / 16) ∷ digit_char (b % 16) ∷ [] }
+    ensures plain { result ≡ 0 → 32 ≤ b → escape b ≡ b ∷ [] }
+    ensures special { result ≡ 0 → bytes.is_special b ≡ true → b < 32 }
+    ensures ascii { result < 128 }
+{
+    match b {
+        8 => b'b',
+        9 => b't',
+        10 => b'n',
+        12 => b'f',
+        13 => b'r',
+        34 => b'"',
+        92 => b'\\',
+        _ => 0,
+    }
+}
+
+// How many bytes the byte is written as.
+fn byte_len(b: u8) -> usize
+    ensures { result ≡ length (escape b) }
+{
+    if letter_of(b) != 0 {
+        2
+    } else if b < 32 {
+        6
+    } else {
+        1
+    }
+}
+
+// How many bytes the text is written as, without the quotes.
+fn escaped_len(value: &str) -> Option<usize>
+    ensures { IfSome result (λ n. n ≡ length (escapes value.now)) }
+{
+    let mut total = 0usize;
+    for b in value.as_bytes() {
+        total = total.checked_add(byte_len(*b))?;
+    }
+    Some(total)
+}
+
+// The hexadecimal digit, in lower case.
+fn hex_digit(n: u8) -> char
+    requires { n < 16 }
+    ensures value { result ≡ digit_char n }
+    ensures ascii { result < 128 }
+{
+    if n < 10 {
+        (b'0' + n) as char
+    } else {
+        (b'a' + (n - 10)) as char
+    }
+}
+
+// Appends a byte that may not stand for itself, where there is room for it.
+fn put_escape(b: u8, out: &mut String)
+    requires special { bytes.is_special b ≡ true }
+    requires room { string_len out.old + length (escape b) ≤ string_capacity out.old }
+    ensures bytes { string_bytes out.new ≡ string_bytes out.old ++ escape b }
+    ensures len { string_len out.new ≡ string_len out.old + length (escape b) }
+    ensures capacity { string_capacity out.old ≤ string_capacity out.new }
+{
+    let letter = letter_of(b);
+    if letter != 0 {
+        out.push('\\').unwrap();
+        out.push(letter as char).unwrap();
+    } else {
+        out.push_str("\\u00").unwrap();
+        out.push(hex_digit(b / 16)).unwrap();
+        out.push(hex_digit(b % 16)).unwrap();
+    }
+}
+
+// Appends a text by the escape rule, where there is room for it: each run of bytes that stand for themselves in one
+// piece.
+fn put_escapes(value: &str, out: &mut String)
+    requires { string_len out.old + length (escapes value.now) ≤ string_capacity out.old }
+    ensures bytes { string_bytes out.new ≡ string_bytes out.old ++ escapes value.now }
+    ensures len { string_len out.new ≡ string_len out.old + length (escapes value.now) }
+    ensures capacity { string_capacity out.old ≤ string_capacity out.new }
+{
+    let text = value.as_bytes();
+    let mut start = 0;
+    while start < text.len() {
+        let at = run_end(text, start);
+        out.push_str(&value[start..at]).unwrap();
+        if at < text.len() {
+            put_escape(text[at], out);
+            start = at + 1;
+        } else {
+            start = at;
+        }
+    }
+}
+
+/// Appends a text as a string of JSON: between quotes, by the escape rule. `out` grows once at most, before anything
+/// is appended.
+pub fn escape_str(value: &str, out: &mut String) -> Result<()>
+    ensures ok { OnOk result (string_bytes out.new ≡ string_bytes out.old ++ quoted value.now) }
+    ensures memory { OnErr result (IsErrOf result Memory) }
+    ensures err { OnErr result (string_bytes out.new ≡ string_bytes out.old) }
+{
+    let Some(len) = escaped_len(value) else {
+        // No memory holds so long a text.
+        let _ = out.reserve(usize::MAX);
+        return Err(Error::Memory);
+    };
+    out.reserve(len.saturating_add(2))?;
+    out.push('"').unwrap();
+    put_escapes(value, out);
+    out.push('"').unwrap();
+    Ok(())
+}

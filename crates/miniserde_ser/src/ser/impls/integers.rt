@@ -1,0 +1,86 @@
+//! Integers.
+ghost use Rattle.miniserde_model.specs.Tree.{nonneg};
+ghost use Rattle.miniserde_ser.specs.Fragment.{integer};
+
+use crate::ser::{Fragment, Serialize, Writer};
+use miniserde_text::error::Result;
+
+impl Serialize for u8 {
+    ghost tree = { nonneg };
+
+    fn begin(&self, w: &mut Writer) -> Result<()> {
+        w.fragment(Fragment::U64(*self as u64))
+    }
+}
+
+impl Serialize for u16 {
+    ghost tree = { nonneg };
+
+    fn begin(&self, w: &mut Writer) -> Result<()> {
+        w.fragment(Fragment::U64(*self as u64))
+    }
+}
+
+impl Serialize for u32 {
+    ghost tree = { nonneg };
+
+    fn begin(&self, w: &mut Writer) -> Result<()> {
+        w.fragment(Fragment::U64(*self as u64))
+    }
+}
+
+impl Serialize for u64 {
+    ghost tree = { nonneg };
+
+    fn begin(&self, w: &mut Writer) -> Result<()> {
+        w.fragment(Fragment::U64(*self))
+    }
+}
+
+impl Serialize for usize {
+    ghost tree = { nonneg };
+
+    fn begin(&self, w: &mut Writer) -> Result<()> {
+        w.fragment(Fragment::U64(*self as u64))
+    }
+}
+
+impl Serialize for i8 {
+    ghost tree = { integer };
+
+    fn begin(&self, w: &mut Writer) -> Result<()> {
+        w.fragment(Fragment::I64(*self as i64))
+    }
+}
+
+impl Serialize for i16 {
+    ghost tree = { integer };
+
+    fn begin(&self, w: &mut Writer) -> Result<()> {
+        w.fragment(Fragment::I64(*self as i64))
+    }
+}
+
+impl Serialize for i32 {
+    ghost tree = { integer };
+
+    fn begin(&self, w: &mut Writer) -> Result<()> {
+        w.fragment(Fragment::I64(*self as i64))
+    }
+}
+
+impl Serialize for i64 {
+    ghost tree = { integer };
+
+    fn begin(&self, w: &mut Writer) -> Result<()> {
+        w.fragment(Fragment::I64(*self))
+    }
+}
+
+impl Serialize for isize {
+    ghost tree = { integer };
+
+    fn begin(&self, w: &mut Writer) -> Result<()> {
+        w.fragment(Fragment::I64(*self as i64))
+    }
+}

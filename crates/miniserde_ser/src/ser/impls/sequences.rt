@@ -1,0 +1,36 @@
+//! Lists of values.
+ghost use Rattle.std.specs.Prelude.{◌≡◌, ◌++◌, false, true, OnOk, OnErr, IsErrOf};
+ghost use Rattle.miniserde_model.specs.Tree.{list};
+ghost use Rattle.miniserde_model.specs.Compact.{compact};
+ghost use Rattle.miniserde_model.specs.IsTree.{IsTree};
+ghost use Rattle.miniserde_text.specs.declared.error.Error.TheVariants.{Memory};
+ghost use Rattle.miniserde_ser.specs.Trees.{trees_of};
+
+use crate::ser::{Serialize, Writer};
+use miniserde_text::error::Result;
+
+// Writes a list of the values.
+fn begin_all<T: Serialize>(items: &[T], w: &mut Writer) -> Result<()>
+    ensures ok { OnOk result (w.new.text ≡ w.old.text ++ compact (list (trees_of T.tree items.now))) }
+    ensures is_tree { OnOk result (IsTree (list (trees_of T.tree items.now))) }
+    ensures first { OnOk result (w.new.first ≡ false) }
+    ensures whole { OnOk result (w.new.refused ≡ false) }
+    ensures stays { OnOk result (w.old.refused ≡ false) }
+    ensures memory { OnErr result (IsErrOf result Memory) }
+    ensures err { OnErr result (w.new.refused ≡ true) }
+{
+    w.seq()?;
+    for x in items {
+        w.element()?;
+        x.begin(w)?;
+    }
+    w.seq_finish()
+}
+
+impl<T: Serialize> Serialize for Vec<T> {
+    ghost tree = { λ v. list (trees_of T.tree v.items) };
+
+    fn begin(&self, w: &mut Writer) -> Result<()> {
+        begin_all(self.as_slice(), w)
+    }
+}

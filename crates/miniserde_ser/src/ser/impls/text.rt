@@ -1,0 +1,22 @@
+//! Texts.
+ghost use Rattle.std.specs.Prelude.{string_bytes};
+ghost use Rattle.miniserde_model.specs.Tree.{str};
+
+use crate::ser::{Fragment, Serialize, Writer};
+use miniserde_text::error::Result;
+
+impl Serialize for String {
+    ghost tree = { λ s. str (string_bytes s) };
+
+    fn begin(&self, w: &mut Writer) -> Result<()> {
+        w.fragment(Fragment::Str(self.as_str()))
+    }
+}
+
+impl Serialize for &str {
+    ghost tree = { λ s. str s.now };
+
+    fn begin(&self, w: &mut Writer) -> Result<()> {
+        w.fragment(Fragment::Str(*self))
+    }
+}

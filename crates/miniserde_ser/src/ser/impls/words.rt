@@ -1,0 +1,21 @@
+//! `null`, `true` and `false`.
+ghost use Rattle.miniserde_model.specs.Tree.{null, truth};
+
+use crate::ser::{Fragment, Serialize, Writer};
+use miniserde_text::error::Result;
+
+impl Serialize for () {
+    ghost tree = { λ _. null };
+
+    fn begin(&self, w: &mut Writer) -> Result<()> {
+        w.fragment(Fragment::Null)
+    }
+}
+
+impl Serialize for bool {
+    ghost tree = { truth };
+
+    fn begin(&self, w: &mut Writer) -> Result<()> {
+        w.fragment(Fragment::Bool(*self))
+    }
+}
