@@ -1,0 +1,8 @@
+pub mod Fronts
+pub mod Turns
+pub mod Wholes
+pub mod Steps
+pub mod Exits
+mod Walks
+pub mod Written
+pub mod Numbers

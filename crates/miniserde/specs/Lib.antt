@@ -1,0 +1,4 @@
+pub mod Stack
+pub mod Moving
+pub mod Counts
+pub mod Runs

@@ -1,0 +1,32 @@
+//! A number that only proofs read. It takes no memory, and its methods do nothing at run time.
+ghost use Rattle.std.specs.Prelude.{◌≡◌, ℕ, ◌+◌};
+ghost use Rattle.std.specs.Borrow.{ftrue};
+ghost use Rattle.std.specs.Coded.{coded_ℕ};
+
+use std::marker::Model;
+
+/// A number of calls.
+#[derive(Drop)]
+pub struct Count {
+    pub ghost value: { ℕ } by { coded_ℕ },
+}
+
+impl Model for Count {
+    ghost also_owns = { λ _. ftrue };
+}
+
+impl Count {
+    /// No call yet.
+    pub(crate) fn new() -> Count
+        ensures { result.value ≡ 0 }
+    {
+        Count {}
+    }
+
+    /// One call more.
+    pub(crate) fn next(&self) -> Count
+        ensures { result.value ≡ self.now.value + 1 }
+    {
+        Count {}
+    }
+}

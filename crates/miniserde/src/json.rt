@@ -1,0 +1,9 @@
+//! JSON text.
+
+mod de;
+mod ser;
+mod stack;
+
+pub use de::{feed, from_str};
+pub use miniserde_text::json::lex;
+pub use ser::to_string;

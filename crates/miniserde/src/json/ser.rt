@@ -1,0 +1,20 @@
+//! Values into text.
+ghost use Rattle.std.specs.Prelude.{◌≡◌, IfOk, OnErr, IsErrOf, string_bytes};
+ghost use Rattle.miniserde_model.specs.Compact.{compact};
+ghost use Rattle.miniserde_model.specs.Value.{IsJson};
+ghost use Rattle.miniserde_text.specs.declared.error.Error.TheVariants.{Memory};
+
+use miniserde_ser::ser::{Serialize, Writer};
+use miniserde_text::error::Result;
+use std::alloc::Global;
+
+/// Writes a value as compact text.
+pub fn to_string<T: Serialize>(alloc: Global, value: &T) -> Result<String>
+    ensures ok { IfOk result (λ s. string_bytes s ≡ compact (T.tree value.now)) }
+    ensures spells { IfOk result (λ s. IsJson (string_bytes s) (T.tree value.now)) }
+    ensures memory { OnErr result (IsErrOf result Memory) }
+{
+    let mut w = Writer::new(alloc);
+    value.begin(&mut w)?;
+    w.into_string()
+}

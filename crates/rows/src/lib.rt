@@ -1,0 +1,17 @@
+//! Tests that cross the crates, one file a theme. Nothing here is for users.
+#![tactic(auto)]
+
+#[cfg(test)]
+mod accepted;
+#[cfg(test)]
+mod devices;
+#[cfg(test)]
+mod failures;
+#[cfg(test)]
+mod lists;
+#[cfg(test)]
+mod places;
+#[cfg(test)]
+mod program;
+#[cfg(test)]
+mod scalars;

@@ -1,0 +1,76 @@
+//! The program over memory: what it writes, its status and its line.
+
+use miniserde::canon::{Counted, program};
+use std::process::Abort;
+use std::test::Fail;
+
+/// Runs the program with no argument.
+fn expect(
+    rt: &(impl Abort + AllocGlobal),
+    input: &[u8],
+    status: u8,
+    line: &str,
+    output: &[u8],
+) -> Result<(), Fail> {
+    let none: [String; 0] = [];
+    let mut r = Counted::new(input);
+    let mut w = Counted::new(Vec::new(rt.alloc()));
+    let answer = program(rt.alloc(), &none, &mut r, &mut w);
+    assert_eq!(rt; answer, (status, line), "on {input:?}");
+    let got = w.into_inner();
+    assert_eq!(rt; got.as_slice(), output, "on {input:?}");
+    Ok(())
+}
+
+#[test]
+fn lists_are_written_without_spaces(rt: HostRuntime) -> Result<(), Fail> {
+    expect(
+        &rt,
+        b"[1, 2 ,18446744073709551615]",
+        0,
+        "",
+        b"[1,2,18446744073709551615]",
+    )?;
+    expect(&rt, b" [ ] ", 0, "", b"[]")?;
+    expect(&rt, b"\t[0\r\n]\n", 0, "", b"[0]")
+}
+
+#[test]
+fn other_texts_are_refused(rt: HostRuntime) -> Result<(), Fail> {
+    let texts: [&[u8]; 17] = [
+        b"[1,2,]",
+        b"[01]",
+        b"[-0]",
+        b"[-1]",
+        b"[18446744073709551616]",
+        b"[1.5]",
+        b"[[1]]",
+        b"[1 2]",
+        b"[1]]",
+        b"[}",
+        b"7",
+        b"{}",
+        b"",
+        b"\xff",
+        b"[,1]",
+        b"[1",
+        b"[\x0c1]",
+    ];
+    for text in texts {
+        expect(&rt, text, 1, "canon: invalid text", b"")?;
+    }
+    Ok(())
+}
+
+#[test]
+fn an_argument_is_refused_before_anything_is_read(rt: HostRuntime) -> Result<(), Fail> {
+    let one = [String::from_str(rt.alloc(), "x")?];
+    let mut r = Counted::new(b"[1]".as_slice());
+    let mut w = Counted::new(Vec::new(rt.alloc()));
+    let answer = program(rt.alloc(), &one, &mut r, &mut w);
+    assert_eq!(rt; answer, (2, "usage: canon"));
+    assert_eq!(rt; r.into_inner(), b"[1]".as_slice());
+    let got: Vec<u8> = w.into_inner();
+    assert!(rt; got.is_empty());
+    Ok(())
+}
