@@ -1,8 +1,8 @@
 -- The tree of a fragment.
 use Rattle.std.specs.Prelude.{ℤ, pos, negsuc}
-use Rattle.miniserde_model.specs.Tree.{Tree, null, truth, nonneg, neg, str}
+use Rattle.miniserde_model.specs.Tree.{Tree, null, truth, nonneg, neg, num, str}
 use Rattle.miniserde_ser.specs.declared.ser.Fragment.{Fragment}
-use Rattle.miniserde_ser.specs.declared.ser.Fragment.TheVariants.{Null, Bool, Str, U64, I64}
+use Rattle.miniserde_ser.specs.declared.ser.Fragment.TheVariants.{Null, Bool, Str, U64, I64, Text}
 
 -- the tree of an integer: a minus stands before a negative one alone
 abbrev pub integer : ℤ → Tree
@@ -16,3 +16,4 @@ leaf (Bool b) = truth b
 leaf (Str s) = str s.now
 leaf (U64 n) = nonneg n
 leaf (I64 n) = integer n
+leaf (Text n) = num n.now

@@ -14,6 +14,7 @@ mod impls;
 pub use escape::escape_str;
 use itoa::Buffer;
 use miniserde_text::error::{Error, Result};
+use miniserde_text::json::number::NumberText;
 use std::alloc::Global;
 use std::marker::Model;
 
@@ -27,6 +28,8 @@ pub enum Fragment<'a> {
     U64(u64),
     /// An integer of either sign. One that is not negative is written as its `U64` is.
     I64(i64),
+    /// Any other number, which is written as its text.
+    Text(&'a NumberText),
 }
 
 /// A JSON text that is being written. A contract sees its bytes, the flag that the next element needs no comma, and
@@ -137,6 +140,7 @@ impl Writer {
             Fragment::Str(s) => self.append_quoted(s),
             Fragment::U64(n) => self.append(digits.format(n)),
             Fragment::I64(n) => self.append(digits.format(n)),
+            Fragment::Text(n) => self.append(n.as_str()),
         }
     }
 

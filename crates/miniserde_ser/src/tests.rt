@@ -1,5 +1,6 @@
 use crate::ser::{Fragment, Serialize, Writer, escape_str};
 use miniserde_text::error::{Error, Result};
+use miniserde_text::json::number::NumberText;
 use std::alloc::Global;
 use std::test::Fail;
 
@@ -72,6 +73,10 @@ fn fragments(rt: HostRuntime) -> std::result::Result<(), Fail> {
         w.fragment(fragment)?;
         assert_eq!(rt; w.into_string()?.as_str(), want);
     }
+    let number = NumberText::new(rt.alloc(), "1.50")?;
+    let mut w = Writer::new(rt.alloc());
+    w.fragment(Fragment::Text(&number))?;
+    assert_eq!(rt; w.into_string()?.as_str(), "1.50");
     Ok(())
 }
 
@@ -80,6 +85,7 @@ fn texts(rt: HostRuntime) -> std::result::Result<(), Fail> {
     for (text, want) in [
         ("", "\"\""),
         ("\u{1}/", "\"\\u0001/\""),
+        ("\u{8}", "\"\\b\""),
         (
             "\u{8}\u{9}\u{a}\u{c}\u{d}\"\\",
             "\"\\b\\t\\n\\f\\r\\\"\\\\\"",

@@ -24,15 +24,19 @@ event_of (str s) = string s
 event_of (list ts) = seq
 event_of (members ms) = map
 
-leaf_cases : (b : List ℕ) (P : Tree → Type 0) → ((z : ℤ) → P (neg z)) → ((n : ℕ) → P (nonneg n)) → ((x : List ℕ) → P (num x)) → P (leaf b)
+leaf_cases : (b : List ℕ) (P : Tree → Type 0) → ((z : ℤ) → P (neg z)) → ((n : ℕ) → P (nonneg n)) → P (num b) → P (leaf b)
 unfolding leaf
 leaf_cases b P p q s =
-    if_cases (is_plain b) P _ _ (if_cases (begins_minus b) P _ _ (if_cases (nat_le (digits_value 10 (drop 1 b)) (2 ^ 63)) P _ _ (p _) (s b)) (if_cases (nat_lt (digits_value 10 b) (2 ^ 64)) P _ _ (q _) (s b))) (s b)
+    if_cases (is_plain b) P _ _ (if_cases (begins_minus b) P _ _ (if_cases (nat_le (digits_value 10 (drop 1 b)) (2 ^ 63)) P _ _ (p _) s) (if_cases (nat_lt (digits_value 10 b) (2 ^ 64)) P _ _ (q _) s)) s
 
 -- a number text is the piece of its event, and ends where such a text ends
 pub number_piece : (b r : List ℕ) → IsNumberText b → StopsAt is_number_byte r → Piece (event_of (leaf b)) b × Ends (event_of (leaf b)) r
 number_piece b r n h =
-    leaf_cases b (λ t. leaf b ≡ t → Piece (event_of t) b × Ends (event_of t) r) (λ z e. ((n, e), h)) (λ m e. ((n, e), h)) (λ x e. ((n, e), h)) refl
+    leaf_cases b (λ t. leaf b ≡ t → Piece (event_of t) b × Ends (event_of t) r) (λ z e. ((n, e), h)) (λ m e. ((n, e), h)) (λ e. ((n, e), h)) refl
+
+-- the event of a kept text is that of no other leaf
+pub leaf_of_float : (b x : List ℕ) → event_of (leaf b) ≡ float x → leaf b ≡ num b
+leaf_of_float b x = leaf_cases b (λ t. event_of t ≡ float x → t ≡ num b) (λ z e. cc) (λ n e. cc) (λ e. refl)
 
 -- ---- the leaf of the parts
 

@@ -9,3 +9,4 @@ pub mod Strings
 pub mod Steps
 pub mod Fronts
 pub mod Names
+pub mod Kept

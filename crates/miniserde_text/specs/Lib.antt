@@ -2,3 +2,4 @@ pub mod Error
 pub mod Lexer
 pub mod Reading
 pub mod Inside
+pub mod Ranged

@@ -1,3 +1,4 @@
 //! JSON text.
 
 pub mod lex;
+pub mod number;

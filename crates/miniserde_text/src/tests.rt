@@ -1,5 +1,6 @@
 use crate::error::Error;
 use crate::json::lex::{After, Event, Kind, Lexer, Text};
+use crate::json::number::NumberText;
 use crate::scan::special;
 use std::test::Fail;
 
@@ -111,7 +112,51 @@ fn strings(rt: HostRuntime) -> Result<(), Fail> {
     let mut number = Lexer::new("1.50]");
     assert!(rt; matches!(number.start(&mut scratch)?, Event::Number(x) if x == "1.50"));
     assert!(rt; scratch.as_str() == "kept");
+    let mut capital = Lexer::new("1E2");
+    assert!(rt; matches!(capital.start(&mut scratch)?, Event::Number("1E2")));
     Ok(())
+}
+
+#[test]
+fn number_texts(rt: HostRuntime) -> Result<(), Fail> {
+    let alloc = rt.alloc();
+    for text in [
+        "1e400",
+        "-0.0",
+        "1.50",
+        "1E+2",
+        "18446744073709551616",
+        "-9223372036854775809",
+    ] {
+        assert!(rt; NumberText::is_text(text), "at {text}");
+        let number = NumberText::new(alloc, text)?;
+        assert!(rt; number.as_str() == text, "at {text}");
+        let copy = number.try_clone(alloc)?;
+        assert!(rt; copy.as_str() == text, "at {text}");
+    }
+    Ok(())
+}
+
+#[test]
+fn no_number_texts(rt: HostRuntime) {
+    for text in [
+        "",
+        "-0",
+        "7",
+        "18446744073709551615",
+        "-9223372036854775808",
+        "1.",
+        "01.5",
+        "1e",
+        " 1.5",
+        "1.5 ",
+        "1.5]",
+        "\"1.5\"",
+    ] {
+        assert!(rt; !NumberText::is_text(text), "at {text}");
+        let refused = NumberText::new(rt.alloc(), text);
+        assert!(rt; matches!(refused, Err(Error::Invalid)), "at {text}");
+    }
 }
 
 #[test]

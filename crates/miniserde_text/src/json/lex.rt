@@ -10,7 +10,7 @@ ghost use Rattle.miniserde_text.specs.declared.error.Error.{Error};
 mod bytes;
 mod escape;
 mod front;
-mod number;
+pub(super) mod number;
 mod space;
 mod step;
 mod string;

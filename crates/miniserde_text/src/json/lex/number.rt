@@ -117,7 +117,7 @@ fn event<'a>(text: &'a str, minus: bool, whole: &str, tail: &str) -> Event<'a>
 
 /// Takes a number, behind which no byte of number texts may stand.
 #[tactic(auto, unfolding(crate::specs::Reading::number_at))]
-pub(super) fn take_number<'a>(s: &'a str) -> Option<(Event<'a>, &'a str)>
+pub(crate) fn take_number<'a>(s: &'a str) -> Option<(Event<'a>, &'a str)>
     ensures { option_map (λ x. (front_of x.0 [], x.1.now)) result ≡ number_at s.now }
 {
     let digits = after_minus(s);

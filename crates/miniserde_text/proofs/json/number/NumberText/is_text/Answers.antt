@@ -1,0 +1,22 @@
+use Rattle.std.proofs.Common.{◌≡◌, Some, None, [], ap, sym, ◌∙◌, arith}
+use Rattle.miniserde_model.specs.Event.{float}
+use Rattle.miniserde_text.specs.Lexer.{front_of}
+use Rattle.miniserde_text.specs.Reading.{number_at}
+use Rattle.miniserde_text.proofs.Options.{none_is_some, some_same}
+use Rattle.miniserde_text.proofs.Kept.{kept_read, kept_where, no_kept, number_of_float}
+use Rattle.miniserde_text.proofs.json.number.NumberText.is_text.Goals as goal
+
+pub returns-in_default : goal.returns-in_default
+returns-in_default c =
+    let read : number_at c.args.t.now ≡ None = grind arith in
+    no_kept _ (λ n. none_is_some _ _ read (kept_read _ n))
+
+pub returns-in-Number : goal.returns-in-Number
+returns-in-Number c =
+    let read : number_at c.args.t.now ≡ Some (float c.in-Number.field-0.now, c.in-Some.rest.now) = grind arith in
+    rw c.is_empty.ensures (kept_where _ _ _ read)
+
+pub returns-in_default-event : goal.returns-in_default-event
+returns-in_default-event c =
+    let read : number_at c.args.t.now ≡ Some (front_of c.in-Some.event [], c.in-Some.rest.now) = grind arith in
+    no_kept _ (λ n. let y = number_of_float c.in-Some.event _ (ap (λ q. q.0) (some_same _ _ (sym read ∙ kept_read _ n))) in c.in_default-event.not-Number y.0 y.1)

@@ -1,0 +1,3 @@
+//! What reading and writing share of keys.
+
+pub mod keys;

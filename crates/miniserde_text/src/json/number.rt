@@ -1,0 +1,75 @@
+//! Numbers that are kept as their texts.
+ghost use Rattle.std.specs.Prelude.{◌≡◌, ◌↔◌, Err, IsTrue, IfOk, OnOk, OnErr, IsErrOf};
+ghost use Rattle.miniserde_model.specs.Tree.{num};
+ghost use Rattle.miniserde_model.specs.Number.{IsNumber};
+ghost use Rattle.miniserde_text.specs.declared.error.Error.{Error};
+
+use super::lex::Event;
+use super::lex::number::take_number;
+use crate::error::{Error, Result};
+use std::alloc::Global;
+use std::marker::Model;
+
+/// The text of a number that is no plain integer from -2^63 to 2^64-1. A contract sees its bytes.
+#[derive(Debug, Drop)]
+pub struct NumberText {
+    text: String,
+}
+
+impl Model for NumberText {
+    ghost use Rattle.std.specs.Prelude.{List, ℕ, string_bytes};
+    ghost use Rattle.miniserde_model.specs.Tree.{num};
+    ghost use Rattle.miniserde_model.specs.Number.{IsNumber};
+
+    ghost Value = { List ℕ };
+
+    ghost view = { λ n. string_bytes n.text };
+
+    ghost invariant = { λ n. IsNumber (string_bytes n.text) (num (string_bytes n.text)) };
+}
+
+impl NumberText {
+    /// Whether the whole of `t` is such a text.
+    pub fn is_text(t: &str) -> bool
+        ensures { IsTrue result ↔ IsNumber t.now (num t.now) }
+    {
+        let Some((event, rest)) = take_number(t) else {
+            return false;
+        };
+        match event {
+            Event::Number(_) => rest.is_empty(),
+            _ => false,
+        }
+    }
+
+    /// A copy of `t`, where that is such a text. Any other is `Invalid`, and takes no memory.
+    pub fn new(alloc: Global, t: &str) -> Result<NumberText>
+        ensures ok { IfOk result (λ n. n ≡ t.now) }
+        ensures is_text { OnOk result (IsNumber t.now (num t.now)) }
+        ensures invalid { result ≡ Err Error.Invalid → IsNumber t.now (num t.now) → ⊥ }
+        ensures memory { result ≡ Err Error.Memory → IsNumber t.now (num t.now) }
+    {
+        if !NumberText::is_text(t) {
+            return Err(Error::Invalid);
+        }
+        let text = String::from_str(alloc, t)?;
+        Ok(NumberText { text })
+    }
+
+    /// The text. It takes no memory.
+    pub fn as_str(&self) -> &str
+        ensures value { result.now ≡ self.now }
+        ensures is_text { IsNumber result.now (num result.now) }
+    {
+        self.text.as_str()
+    }
+
+    /// A copy.
+    pub fn try_clone(&self, alloc: Global) -> Result<NumberText>
+        ensures ok { IfOk result (λ n. n ≡ self.now) }
+        ensures memory { OnErr result (IsErrOf result Error.Memory) }
+    {
+        let text = String::from_str(alloc, self.text.as_str())?;
+        Ok(NumberText { text })
+    }
+}
