@@ -11,4 +11,13 @@ pub mod ContainerLaws
 pub mod Stage
 pub mod Lists
 pub mod ListLaws
+pub mod Children
+pub mod ChildLaws
+pub mod Parts
+pub mod Pairs
+pub mod PairLaws
+pub mod Arrays
+pub mod ArrayLaws
+pub mod Options
+pub mod OptionLaws
 pub mod Ignore

@@ -1,16 +1,36 @@
 -- The events of a list's tree give the list of what its children give, and that is what the tree means.
 use Rattle.std.proofs.Common.{◌≡◌, List, [], ◌∷◌, ◌++◌, Option, Some, None, refl, sym, ap, ◌∙◌, append_assoc, append-nil, map}
-use Rattle.std.specs.Prelude.{◌↔◌, option_and_then, false}
+use Rattle.std.specs.Prelude.{◌↔◌, option_and_then, option_map, false}
 use Rattle.miniserde_model.specs.Tree.{Tree, null, truth, nonneg, neg, num, str, list, members, Trees, no_trees, tree}
 use Rattle.miniserde_model.specs.Event.{Event, element, finish, events, child_events}
 use Rattle.miniserde_model.specs.Position.{start}
 use Rattle.miniserde_model.proofs.Events.{events_complete}
 use Rattle.miniserde_de.specs.Container.{between, inside, opened}
-use Rattle.miniserde_de.specs.Lists.{EachReads, ListReads, each, list_of, added, list_kind}
+use Rattle.miniserde_de.specs.declared.de.impls.parts.ChildPlace.{ChildPlace}
+use Rattle.miniserde_de.specs.declared.de.impls.parts.ChildPlace.TheVariants.{First, Second}
+use Rattle.miniserde_de.specs.Parts.{Either, first, second, part_outcome}
+use Rattle.miniserde_de.specs.Lists.{EachReads, ListReads, each, list_of, added, list_kind, item_joined}
 use Rattle.miniserde_de.specs.ContainerLaws.{inside-split}
 
+-- ---- what a child gives goes through what its place gives
+
+put_item : {C : Type 0} → List C → Either C C → Option (List C)
+put_item xs (first x) = Some (xs ++ x ∷ [])
+put_item xs (second x) = Some (xs ++ x ∷ [])
+
+module _ {P C : Type 0} (f : P → List Event → Option C) (xs : List C) where
+  joined-put_item : (p : ChildPlace P P) (es : List Event) → item_joined f xs p es ≡ option_and_then (put_item xs) (part_outcome f f p es)
+  unfolding put_item
+  joined-put_item (First p) es = elim (f p es) as (λ o. option_and_then (λ x. Some (xs ++ x ∷ [])) o ≡ option_and_then (put_item xs) (option_map first o)) [ None ↦ refl | Some x ↦ refl ]
+  joined-put_item (Second p) es = elim (f p es) as (λ o. option_and_then (λ x. Some (xs ++ x ∷ [])) o ≡ option_and_then (put_item xs) (option_map second o)) [ None ↦ refl | Some x ↦ refl ]
+
+  pub item-factors : (put : Either C C → Option (List C)) × ((p : ChildPlace P P) (es : List Event) → item_joined f xs p es ≡ option_and_then put (part_outcome f f p es))
+  item-factors = (put_item xs, joined-put_item)
+
+-- ---- what a list gives
+
 -- the events of the children and of the end begin with some event
-begins : (ts : Trees) → (e : Event) × (es : List Event) × (child_events ts ++ finish ∷ [] ≡ e ∷ es)
+pub begins : (ts : Trees) → (e : Event) × (es : List Event) × (child_events ts ++ finish ∷ [] ≡ e ∷ es)
 begins no_trees = (finish, [], refl)
 begins (tree t ts) = (element, (events t ++ child_events ts) ++ finish ∷ [], refl)
 

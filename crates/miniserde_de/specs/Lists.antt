@@ -2,6 +2,8 @@
 use Rattle.std.specs.Prelude.{List, [], ◌∷◌, ◌++◌, Option, Some, None, option_and_then, ⊤}
 use Rattle.miniserde_model.specs.Tree.{Tree, list, Trees, no_trees, tree}
 use Rattle.miniserde_model.specs.Event.{Event, element}
+use Rattle.miniserde_de.specs.declared.de.impls.parts.ChildPlace.{ChildPlace}
+use Rattle.miniserde_de.specs.declared.de.impls.parts.ChildPlace.TheVariants.{First, Second}
 use Rattle.miniserde_de.specs.Container.{Kind}
 
 -- each child means the item in its place
@@ -36,3 +38,8 @@ module _ {C : Type 0} (mean : List Event → Option C) where
 
   abbrev pub list_kind : Kind (List C) (List C)
   list_kind = record { child = list_child; end = Some }
+
+-- the items once the child in a place is one of them, whichever type of place it is
+abbrev pub item_joined : {P C : Type 0} → (P → List Event → Option C) → List C → ChildPlace P P → List Event → Option (List C)
+item_joined f xs (First p) es = option_and_then (λ x. Some (xs ++ x ∷ [])) (f p es)
+item_joined f xs (Second p) es = option_and_then (λ x. Some (xs ++ x ∷ [])) (f p es)

@@ -17,9 +17,10 @@ mod impls;
 pub use crate::ignore::Ignore;
 pub use crate::ignore::fresh::ignore;
 pub use impls::{
-    BoolPlace, Collect, ContainerPlace, IntegerPlace, Leaf, LeafPlace, ListOf, StringPlace,
-    UnitPlace, VecPlace,
+    ArrayOf, ArrayPlace, BoolPlace, BoxPlace, ChildPlace, Collect, ContainerPlace, IntegerPlace,
+    Leaf, LeafPlace, ListOf, OptionPlace, PairOf, PairPlace, StringPlace, UnitPlace, VecPlace,
 };
+pub use miniserde_text::de::keys::Ranged;
 use miniserde_text::error::{Error, Result};
 use std::alloc::Global;
 

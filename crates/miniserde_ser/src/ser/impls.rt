@@ -1,6 +1,9 @@
 //! The types that write themselves, one file a kind of type.
 
 mod integers;
+mod options;
+mod pairs;
+mod references;
 mod sequences;
 mod text;
 mod words;

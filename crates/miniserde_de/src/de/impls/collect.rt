@@ -5,9 +5,12 @@ ghost use Rattle.miniserde_model.specs.Event.{Event, events};
 ghost use Rattle.miniserde_model.specs.Position.{start, complete, Completes};
 ghost use Rattle.miniserde_de.specs.Step.{event_of};
 ghost use Rattle.miniserde_de.specs.Container.{Kind, BeginsChild, opening_event, opened, between};
+ghost use Rattle.miniserde_de.specs.Parts.{Either, part_refused, part_at, part_outcome};
 ghost use Rattle.miniserde_text.specs.declared.error.Error.{Error};
+ghost use Rattle.miniserde_de.specs.declared.de.impls.parts.ChildPlace.{ChildPlace};
 
 use super::super::{Step, Visitor};
+use super::parts::ChildPlace;
 use miniserde_text::error::{Error, Result};
 use std::alloc::Global;
 
@@ -15,7 +18,11 @@ use std::alloc::Global;
 pub trait Collect: Sized + Drop {
     type Out: Drop;
 
+    /// The place of a child.
     type Child: Visitor;
+
+    /// The place of children of another type. Where all are of one type, it is that of `Child`.
+    type Other: Visitor;
 
     // What counts of the whole.
     ghost Content: { Type 0 };
@@ -39,23 +46,27 @@ pub trait Collect: Sized + Drop {
     ghost of: { Tree → Option Content };
 
     // What the events that are still to come to a child's place give.
-    ghost joined: { Self → Self.Child → List Event → Option State };
+    ghost joined: { Self → ChildPlace Self.Child Self.Other → List Event → Option State };
 
     /// Whether the event opens such a container.
     fn opens(event: &Step<'_>) -> bool
         ensures { IsTrue result ↔ (event_of event.now ≡ opening_event opening) };
 
     /// A fresh place for the child that the event begins.
-    fn child(&mut self, alloc: Global, event: Step<'_>) -> Result<Self::Child>
+    fn child(
+        &mut self,
+        alloc: Global,
+        event: Step<'_>,
+    ) -> Result<ChildPlace<Self::Child, Self::Other>>
         requires { BeginsChild (event_of event) }
-        ensures fresh { IfOk result (λ p. (Self.Child.refused p ≡ None) × (Self.Child.at p ≡ start)) }
+        ensures fresh { IfOk result (λ p. (part_refused Self.Child.refused Self.Other.refused p ≡ None) × (part_at Self.Child.at Self.Other.at p ≡ start)) }
         ensures joined { IfOk result (λ p. (es : List Event) → Completes start es → joined self.new p es ≡ kind.child (state self.old) (event_of event.entry) es) }
         ensures invalid { result ≡ Err Error.Invalid → (es : List Event) → kind.child (state self.old) (event_of event.entry) es ≡ None };
 
     /// A complete child joins the children so far.
-    fn join(&mut self, child: Self::Child) -> Result<()>
-        requires free { Self.Child.refused child ≡ None }
-        requires whole { Self.Child.at child ≡ complete }
+    fn join(&mut self, child: ChildPlace<Self::Child, Self::Other>) -> Result<()>
+        requires free { part_refused Self.Child.refused Self.Other.refused child ≡ None }
+        requires whole { part_at Self.Child.at Self.Other.at child ≡ complete }
         ensures joined { IfOk result (λ _. joined self.old child [] ≡ Some (state self.new)) }
         ensures invalid { result ≡ Err Error.Invalid → joined self.old child [] ≡ None };
 
@@ -65,7 +76,7 @@ pub trait Collect: Sized + Drop {
         ensures invalid { result ≡ Err Error.Invalid → kind.end (state self) ≡ None };
 
     // What a child gives goes through what its place gives.
-    ghost factors: { (c : Self) → (put : Self.Child.Content → Option State) × ((p : Self.Child) (es : List Event) → joined c p es ≡ option_and_then put (Self.Child.outcome p es)) };
+    ghost factors: { (c : Self) → (put : Either Self.Child.Content Self.Other.Content → Option State) × ((p : ChildPlace Self.Child Self.Other) (es : List Event) → joined c p es ≡ option_and_then put (part_outcome Self.Child.outcome Self.Other.outcome p es)) };
 
     // The events of a tree give what the tree gives.
     ghost meant: { (t : Tree) → opened opening (between kind empty) (events t) ≡ of t };

@@ -20,7 +20,7 @@ use std::mem;
 pub(crate) enum Stage<C: Collect> {
     Fresh(C),
     Children(C),
-    Child(C, Inner<C::Child>),
+    Child(C, Inner<C::Child, C::Other>),
     Done(C::Out),
     Refused(Error),
 }

@@ -1,11 +1,15 @@
 //! Lists.
-ghost use Rattle.std.specs.Prelude.{◌≡◌, false, Option, Some, None, Ok, Err, List, [], ◌∷◌, ◌++◌, map, refl};
-ghost use Rattle.miniserde_de.specs.Lists.{list_of, ListReads, list_kind, added};
-ghost use Rattle.miniserde_de.specs.ListLaws.{list-meant, list-given};
+ghost use Rattle.std.specs.Prelude.{◌≡◌, false, Option, Some, None, Ok, Err, List, [], map, IfOk};
+ghost use Rattle.miniserde_model.specs.Position.{complete};
+ghost use Rattle.miniserde_text.specs.declared.error.Error.{Error};
+ghost use Rattle.miniserde_de.specs.Parts.{part_refused, part_at};
+ghost use Rattle.miniserde_de.specs.Lists.{list_of, ListReads, list_kind, item_joined};
+ghost use Rattle.miniserde_de.specs.ListLaws.{item-factors, list-meant, list-given};
 
 use super::super::{Deserialize, Step};
 use super::collect::Collect;
 use super::container::ContainerPlace;
+use super::parts::ChildPlace;
 use miniserde_text::error::{Error, Result};
 use std::alloc::Global;
 
@@ -23,6 +27,8 @@ impl<T: Deserialize> Collect for ListOf<T> {
 
     type Child = T::Place;
 
+    type Other = T::Place;
+
     ghost Content = { List T.Place.Content };
 
     ghost content = { λ v. map T.Place.content v.items };
@@ -39,9 +45,9 @@ impl<T: Deserialize> Collect for ListOf<T> {
 
     ghost of = { list_of T.Place.of };
 
-    ghost joined = { λ c p es. added T.Place.mean (map T.Place.content c.items.items) (T.Place.outcome p es) };
+    ghost joined = { λ c. item_joined T.Place.outcome (map T.Place.content c.items.items) };
 
-    ghost factors = { λ c. (λ x. Some (map T.Place.content c.items.items ++ x ∷ []), λ p es. refl) };
+    ghost factors = { λ c. item-factors T.Place.outcome (map T.Place.content c.items.items) };
 
     ghost meant = { list-meant T.Place.mean T.Place.of T.Place.meant };
 
@@ -49,15 +55,23 @@ impl<T: Deserialize> Collect for ListOf<T> {
         matches!(event, Step::Seq)
     }
 
-    fn child(&mut self, alloc: Global, event: Step<'_>) -> Result<T::Place> {
+    fn child(&mut self, alloc: Global, event: Step<'_>) -> Result<ChildPlace<T::Place, T::Place>> {
         match event {
-            Step::Element => T::begin(alloc),
+            Step::Element => Ok(ChildPlace::First(T::begin(alloc)?)),
             _ => Err(Error::Invalid),
         }
     }
 
-    fn join(&mut self, child: T::Place) -> Result<()> {
-        self.items.push(T::take(child)?)?;
+    fn join(&mut self, child: ChildPlace<T::Place, T::Place>) -> Result<()>
+        requires free { part_refused T.Place.refused T.Place.refused child ≡ None }
+        requires whole { part_at T.Place.at T.Place.at child ≡ complete }
+        ensures joined { IfOk result (λ _. item_joined T.Place.outcome (map T.Place.content self.old.items.items) child []
+            ≡ Some (map T.Place.content self.new.items.items)) }
+        ensures invalid { result ≡ Err Error.Invalid
+            → item_joined T.Place.outcome (map T.Place.content self.old.items.items) child [] ≡ None }
+    {
+        let (ChildPlace::First(place) | ChildPlace::Second(place)) = child;
+        self.items.push(T::take(place)?)?;
         Ok(())
     }
 

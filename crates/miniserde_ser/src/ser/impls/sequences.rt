@@ -27,6 +27,22 @@ fn begin_all<T: Serialize>(items: &[T], w: &mut Writer) -> Result<()>
     w.seq_finish()
 }
 
+impl<T: Serialize> Serialize for &[T] {
+    ghost tree = { λ s. list (trees_of T.tree s.now) };
+
+    fn begin(&self, w: &mut Writer) -> Result<()> {
+        begin_all(*self, w)
+    }
+}
+
+impl<T: Serialize, const N: usize> Serialize for [T; N] {
+    ghost tree = { λ xs. list (trees_of T.tree xs) };
+
+    fn begin(&self, w: &mut Writer) -> Result<()> {
+        begin_all(self, w)
+    }
+}
+
 impl<T: Serialize> Serialize for Vec<T> {
     ghost tree = { λ v. list (trees_of T.tree v.items) };
 

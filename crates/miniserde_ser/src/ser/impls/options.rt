@@ -1,0 +1,16 @@
+//! Optional values.
+ghost use Rattle.miniserde_ser.specs.Trees.{option_tree};
+
+use crate::ser::{Fragment, Serialize, Writer};
+use miniserde_text::error::Result;
+
+impl<T: Serialize> Serialize for Option<T> {
+    ghost tree = { option_tree T.tree };
+
+    fn begin(&self, w: &mut Writer) -> Result<()> {
+        match self {
+            Some(value) => value.begin(w),
+            None => w.fragment(Fragment::Null),
+        }
+    }
+}

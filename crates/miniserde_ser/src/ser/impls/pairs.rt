@@ -1,0 +1,19 @@
+//! Pairs.
+ghost use Rattle.miniserde_model.specs.Tree.{list, no_trees, tree};
+
+use crate::ser::{Serialize, Writer};
+use miniserde_text::error::Result;
+
+impl<A: Serialize, B: Serialize> Serialize for (A, B) {
+    ghost tree = { λ v. list (tree (A.tree v.0) (tree (B.tree v.1) no_trees)) };
+
+    fn begin(&self, w: &mut Writer) -> Result<()> {
+        let (first, second) = self;
+        w.seq()?;
+        w.element()?;
+        first.begin(w)?;
+        w.element()?;
+        second.begin(w)?;
+        w.seq_finish()
+    }
+}

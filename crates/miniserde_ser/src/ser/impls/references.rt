@@ -1,0 +1,20 @@
+//! References and boxes: each is written as what it leads to.
+
+use crate::ser::{Serialize, Writer};
+use miniserde_text::error::Result;
+
+impl<T: Serialize> Serialize for &T {
+    ghost tree = { λ r. T.tree r.now };
+
+    fn begin(&self, w: &mut Writer) -> Result<()> {
+        Serialize::begin(*self, w)
+    }
+}
+
+impl<T: Serialize> Serialize for Box<T> {
+    ghost tree = { λ b. T.tree b.value };
+
+    fn begin(&self, w: &mut Writer) -> Result<()> {
+        Serialize::begin(&**self, w)
+    }
+}
