@@ -6,3 +6,4 @@ pub mod Exits
 mod Walks
 pub mod Written
 pub mod Numbers
+pub mod Again

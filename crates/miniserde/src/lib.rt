@@ -7,6 +7,7 @@
 
 pub mod canon;
 pub mod json;
+mod round_trip;
 
 pub use miniserde_de::de;
 pub use miniserde_de::de::Deserialize;
@@ -14,3 +15,4 @@ pub use miniserde_ser::ser;
 pub use miniserde_ser::ser::Serialize;
 pub use miniserde_text::error;
 pub use miniserde_text::error::{Error, Result};
+pub use round_trip::{RoundTrip, read_again};

@@ -5,6 +5,7 @@
 mod accepted;
 #[cfg(test)]
 mod devices;
+pub mod entries;
 #[cfg(test)]
 mod failures;
 #[cfg(test)]
@@ -15,3 +16,5 @@ mod places;
 mod program;
 #[cfg(test)]
 mod scalars;
+#[cfg(test)]
+mod wrappers;
