@@ -3,3 +3,5 @@ pub mod Lexer
 pub mod Reading
 pub mod Inside
 pub mod Ranged
+pub mod Keys
+pub mod KeyLaws

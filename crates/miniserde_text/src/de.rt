@@ -1,3 +1,5 @@
 //! What reading and writing share of keys.
 
 pub mod keys;
+#[cfg(test)]
+mod tests;

@@ -1,175 +1,58 @@
-//! Values that Rust has.
-ghost use Rattle.std.specs.Prelude.{◌<◌, ◌^◌, FitsSigned, ⊤};
-ghost use Rattle.std.specs.Int.{w8, w16, w32, w64};
-ghost use Rattle.std.specs.List.{AllByRecursion};
-ghost use Rattle.std.specs.Char.{IsScalar};
-ghost use Rattle.miniserde_text.specs.Ranged.{OptionReal};
+//! Keys of maps.
+ghost use Rattle.std.specs.Prelude.{◌≡◌, ◌++◌, ℕ, Bool, true, false, List, Option, Some, None, Ok, Err, IfOk, IfErr, OnOk, OnErr, IsErrOf, string_bytes};
+ghost use Rattle.std.specs.Str.{bytes_eq};
+ghost use Rattle.miniserde_text.specs.declared.error.Error.{Error};
+ghost use Rattle.miniserde_text.specs.declared.error.Error.TheVariants.{Memory};
 
-/// A type whose values say that they are ones that Rust has. A clause can name a number past an integer's range;
-/// `ranged` tells a proof that the value in hand is none.
-pub trait Ranged {
-    // The value is one that Rust has.
-    ghost real: { Self → Type 0 };
+mod integers;
+mod ranged;
+mod words;
 
-    /// Does nothing.
-    fn ranged(&self)
-        ensures { real self.now };
+use crate::error::Result;
+pub use ranged::Ranged;
+use std::alloc::Global;
+
+/// A type whose values are written as the names of an object's members.
+pub trait MapKey: Ranged + Sized + Eq + Drop {
+    // What counts of a key, as a list of numbers.
+    ghost code: { Self → List ℕ };
+
+    // The code of the key that a text is read as.
+    ghost read: { List ℕ → Option (List ℕ) };
+
+    // The text that a key is written as.
+    ghost text: { Self → List ℕ };
+
+    // Whether `from_key` takes no memory.
+    ghost reads_free: { Bool } = { false };
+
+    /// The key that a text is read as.
+    fn from_key(alloc: Global, k: &str) -> Result<Self>
+        ensures value { IfOk result (λ v. read k.now ≡ Some (code v)) }
+        ensures invalid { result ≡ Err Error.Invalid → read k.now ≡ None }
+        ensures free { reads_free ≡ true → IfErr result (λ e. e ≡ Error.Invalid) };
+
+    /// Adds the text of the key.
+    fn to_key(&self, out: &mut String) -> Result<()>
+        ensures ok { OnOk result (string_bytes out.new ≡ string_bytes out.old ++ text self.now) }
+        ensures memory { OnErr result (IsErrOf result Memory) }
+        ensures err { OnErr result (string_bytes out.new ≡ string_bytes out.old) };
+
+    // Keys are equal exactly where their codes are.
+    ghost alike: { (a b : Self) → Self.eq a b ≡ bytes_eq (code a) (code b) };
+
+    // A written key reads as an equal key.
+    ghost back: { (k : Self) → Self.real k → read (text k) ≡ Some (code k) };
+
+    // Equal keys have one text.
+    ghost one_text: { (a b : Self) → code a ≡ code b → text a ≡ text b };
 }
 
-impl Ranged for () {
-    ghost real = { λ _. ⊤ };
-
-    fn ranged(&self) {}
-}
-
-impl Ranged for bool {
-    ghost real = { λ _. ⊤ };
-
-    fn ranged(&self) {}
-}
-
-impl Ranged for char {
-    ghost real = { IsScalar };
-
-    fn ranged(&self) {
-        let _value = *self;
-    }
-}
-
-impl Ranged for String {
-    ghost real = { λ _. ⊤ };
-
-    fn ranged(&self) {}
-}
-
-impl Ranged for u8 {
-    ghost real = { λ n. n < 2 ^ 8 };
-
-    fn ranged(&self) {
-        let _value = *self;
-    }
-}
-
-impl Ranged for u16 {
-    ghost real = { λ n. n < 2 ^ 16 };
-
-    fn ranged(&self) {
-        let _value = *self;
-    }
-}
-
-impl Ranged for u32 {
-    ghost real = { λ n. n < 2 ^ 32 };
-
-    fn ranged(&self) {
-        let _value = *self;
-    }
-}
-
-impl Ranged for u64 {
-    ghost real = { λ n. n < 2 ^ 64 };
-
-    fn ranged(&self) {
-        let _value = *self;
-    }
-}
-
-impl Ranged for usize {
-    ghost real = { λ n. n < 2 ^ 64 };
-
-    fn ranged(&self) {
-        let _value = *self;
-    }
-}
-
-impl Ranged for i8 {
-    ghost real = { FitsSigned w8 };
-
-    fn ranged(&self) {
-        let _value = *self;
-    }
-}
-
-impl Ranged for i16 {
-    ghost real = { FitsSigned w16 };
-
-    fn ranged(&self) {
-        let _value = *self;
-    }
-}
-
-impl Ranged for i32 {
-    ghost real = { FitsSigned w32 };
-
-    fn ranged(&self) {
-        let _value = *self;
-    }
-}
-
-impl Ranged for i64 {
-    ghost real = { FitsSigned w64 };
-
-    fn ranged(&self) {
-        let _value = *self;
-    }
-}
-
-impl Ranged for isize {
-    ghost real = { FitsSigned w64 };
-
-    fn ranged(&self) {
-        let _value = *self;
-    }
-}
-
-impl<T: Ranged> Ranged for Box<T> {
-    ghost real = { λ b. T.real b.value };
-
-    fn ranged(&self) {
-        T::ranged(self)
-    }
-}
-
-impl<T: Ranged> Ranged for Option<T> {
-    ghost real = { OptionReal T.real };
-
-    fn ranged(&self) {
-        if let Some(value) = self {
-            value.ranged();
-        }
-    }
-}
-
-impl<A: Ranged, B: Ranged> Ranged for (A, B) {
-    ghost real = { λ p. A.real p.0 × B.real p.1 };
-
-    fn ranged(&self) {
-        self.0.ranged();
-        self.1.ranged();
-    }
-}
-
-// Each of the values is one that Rust has.
-fn ranged_all<T: Ranged>(items: &[T])
-    ensures { AllByRecursion T.real items.now }
+// Adds a text.
+fn append(out: &mut String, text: &str) -> Result<()>
+    ensures ok { OnOk result (string_bytes out.new ≡ string_bytes out.old ++ text.now) }
+    ensures memory { OnErr result (IsErrOf result Memory) }
+    ensures err { OnErr result (string_bytes out.new ≡ string_bytes out.old) }
 {
-    for item in items {
-        item.ranged();
-    }
-}
-
-impl<T: Ranged> Ranged for Vec<T> {
-    ghost real = { λ v. AllByRecursion T.real v.items };
-
-    fn ranged(&self) {
-        ranged_all(self.as_slice())
-    }
-}
-
-impl<T: Ranged, const N: usize> Ranged for [T; N] {
-    ghost real = { AllByRecursion T.real };
-
-    fn ranged(&self) {
-        ranged_all(self)
-    }
+    Ok(out.push_str(text)?)
 }

@@ -1,4 +1,15 @@
 //! The lexer: it takes one piece of a JSON text a call, in the grammar of RFC 8259.
+//!
+//! `start` takes the front of a value, `after` what follows in a container, `name` a member's name with its colon, and
+//! `end` the end of the text:
+//!
+//! | text | calls and answers |
+//! |---|---|
+//! | `[1 , true]` | `start` `SeqStart`, `after(Seq, true)` `Next`, `start` `Nonnegative(1)`, `after(Seq, false)` `Next`, `start` `Bool(true)`, `after(Seq, false)` `Close`, `end` Ok |
+//! | `{"a":null}` | `start` `MapStart`, `after(Map, true)` `Next`, `name` `a`, `start` `Null`, `after(Map, false)` `Close`, `end` Ok |
+//! | `{ }` | `start` `MapStart`, `after(Map, true)` `Close`, `end` Ok |
+//! | `[}` | `start` `SeqStart`, `after(Seq, true)` `Invalid`, as does every later call |
+//! | `[1,]` | `start` `SeqStart`, `after(Seq, true)` `Next`, `start` `Nonnegative(1)`, `after(Seq, false)` `Next`, `start` `Invalid` |
 ghost use Rattle.std.specs.Prelude.{◌≡◌, List, ℕ, Bool, None, Some, Err, IfOk, IfErr, IfSome};
 ghost use Rattle.std.specs.String.{string_bytes};
 ghost use Rattle.miniserde_model.specs.Whitespace.{IsWhitespace};
