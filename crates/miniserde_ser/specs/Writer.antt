@@ -5,7 +5,7 @@ use Rattle.std.specs.Prelude.{ℕ, List, ◌++◌, Bool, true}
 pub record Writing : Type 0 where
   -- the bytes that were appended
   pub text : List ℕ
-  -- the next element of the list is its first
+  -- the next element or member is the first
   pub first : Bool
   -- a call was refused
   pub refused : Bool
@@ -14,7 +14,7 @@ pub record Writing : Type 0 where
 abbrev pub appended : Writing → List ℕ → Writing
 appended w bs = record w { text = w.text ++ bs }
 
--- the writer with this flag for the first element
+-- the writer with this flag for the first element or member
 abbrev pub with_first : Writing → Bool → Writing
 with_first w b = record w { first = b }
 

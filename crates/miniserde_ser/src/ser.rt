@@ -12,6 +12,7 @@ mod escape;
 mod impls;
 
 pub use escape::escape_str;
+use escape::put_between;
 use itoa::Buffer;
 use miniserde_text::error::{Error, Result};
 use miniserde_text::json::number::NumberText;
@@ -32,8 +33,8 @@ pub enum Fragment<'a> {
     Text(&'a NumberText),
 }
 
-/// A JSON text that is being written. A contract sees its bytes, the flag that the next element needs no comma, and
-/// whether a call was refused. That the calls make one whole value is not checked.
+/// A JSON text that is being written. A contract sees its bytes, the flag that the next element or member needs no
+/// comma, and whether a call was refused. That the calls make one whole value is not checked.
 #[derive(Drop)]
 pub struct Writer {
     text: String,
@@ -51,7 +52,7 @@ impl Model for Writer {
 }
 
 impl Writer {
-    ghost use Rattle.std.specs.Prelude.{◌≡◌, [], true, false, OnOk, OnErr, IfOk, IsErrOf, string_bytes, if◌then◌else◌, codes};
+    ghost use Rattle.std.specs.Prelude.{◌≡◌, [], ◌++◌, true, false, OnOk, OnErr, IfOk, IsErrOf, IsUtf8, string_bytes, if◌then◌else◌, codes};
     ghost use Rattle.miniserde_model.specs.Compact.{compact, quoted};
     ghost use Rattle.miniserde_text.specs.declared.error.Error.TheVariants.{Memory};
     ghost use Rattle.miniserde_ser.specs.Writer.{appended, with_first, with_refused};
@@ -173,6 +174,47 @@ impl Writer {
         ensures err { OnErr result (self.new ≡ with_refused self.old) }
     {
         self.punctuate("]", false)
+    }
+
+    /// Opens an object. The text grows once at most, before anything is appended.
+    pub fn map(&mut self) -> Result<()>
+        ensures ok { OnOk result (self.new ≡ with_first (appended self.old (codes "{")) true) }
+        ensures stays { OnOk result (self.old.refused ≡ false) }
+        ensures memory { OnErr result (IsErrOf result Memory) }
+        ensures err { OnErr result (self.new ≡ with_refused self.old) }
+    {
+        self.punctuate("{", true)
+    }
+
+    /// Goes before each member of an object, and gives its name. The text grows once at most, before anything is
+    /// appended.
+    pub fn key(&mut self, k: &str) -> Result<()>
+        ensures ok { OnOk result (self.new
+            ≡ with_first (appended self.old ((if self.old.first then [] else codes ",") ++ quoted k.now ++ codes ":")) false) }
+        ensures utf8 { OnOk result (IsUtf8 k.now) }
+        ensures stays { OnOk result (self.old.refused ≡ false) }
+        ensures memory { OnErr result (IsErrOf result Memory) }
+        ensures err { OnErr result (self.new ≡ with_refused self.old) }
+    {
+        self.check()?;
+        let comma = if self.first { "" } else { "," };
+        match put_between(comma, k, ":", &mut self.text) {
+            Ok(()) => {
+                self.first = false;
+                Ok(())
+            }
+            Err(_) => Err(self.refuse()),
+        }
+    }
+
+    /// Closes an object. The text grows once at most, before anything is appended.
+    pub fn map_finish(&mut self) -> Result<()>
+        ensures ok { OnOk result (self.new ≡ with_first (appended self.old (codes "}")) false) }
+        ensures stays { OnOk result (self.old.refused ≡ false) }
+        ensures memory { OnErr result (IsErrOf result Memory) }
+        ensures err { OnErr result (self.new ≡ with_refused self.old) }
+    {
+        self.punctuate("}", false)
     }
 
     /// Marks the text as cut short, for a value that could not have memory of its own.

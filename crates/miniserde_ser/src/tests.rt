@@ -108,6 +108,22 @@ fn texts(rt: HostRuntime) -> std::result::Result<(), Fail> {
 }
 
 #[test]
+fn an_object_by_hand(rt: HostRuntime) -> std::result::Result<(), Fail> {
+    let mut w = Writer::new(rt.alloc());
+    w.map()?;
+    w.key("code")?;
+    w.fragment(Fragment::U64(200))?;
+    w.key("message")?;
+    w.fragment(Fragment::Str("x"))?;
+    w.map_finish()?;
+    assert_eq!(rt;
+        w.into_string()?.as_str(),
+        "{\"code\":200,\"message\":\"x\"}"
+    );
+    Ok(())
+}
+
+#[test]
 fn a_list_by_hand(rt: HostRuntime) -> std::result::Result<(), Fail> {
     let mut w = Writer::new(rt.alloc());
     w.seq()?;

@@ -120,10 +120,12 @@ fn put_escapes(value: &str, out: &mut String)
     }
 }
 
-/// Appends a text as a string of JSON: between quotes, by the escape rule. `out` grows once at most, before anything
-/// is appended.
-pub fn escape_str(value: &str, out: &mut String) -> Result<()>
-    ensures ok { OnOk result (string_bytes out.new ≡ string_bytes out.old ++ quoted value.now) }
+// Appends a mark or nothing, a text between quotes by the escape rule, and again a mark or nothing. `out` grows once
+// at most, before anything is appended.
+pub(crate) fn put_between(front: &str, value: &str, back: &str, out: &mut String) -> Result<()>
+    requires front { length front.now ≤ 1 }
+    requires back { length back.now ≤ 1 }
+    ensures ok { OnOk result (string_bytes out.new ≡ string_bytes out.old ++ (front.now ++ quoted value.now ++ back.now)) }
     ensures memory { OnErr result (IsErrOf result Memory) }
     ensures err { OnErr result (string_bytes out.new ≡ string_bytes out.old) }
 {
@@ -132,9 +134,21 @@ pub fn escape_str(value: &str, out: &mut String) -> Result<()>
         let _ = out.reserve(usize::MAX);
         return Err(Error::Memory);
     };
-    out.reserve(len.saturating_add(2))?;
+    out.reserve(len.saturating_add(front.len() + back.len() + 2))?;
+    out.push_str(front).unwrap();
     out.push('"').unwrap();
     put_escapes(value, out);
     out.push('"').unwrap();
+    out.push_str(back).unwrap();
     Ok(())
+}
+
+/// Appends a text as a string of JSON: between quotes, by the escape rule. `out` grows once at most, before anything
+/// is appended.
+pub fn escape_str(value: &str, out: &mut String) -> Result<()>
+    ensures ok { OnOk result (string_bytes out.new ≡ string_bytes out.old ++ quoted value.now) }
+    ensures memory { OnErr result (IsErrOf result Memory) }
+    ensures err { OnErr result (string_bytes out.new ≡ string_bytes out.old) }
+{
+    put_between("", value, "", out)
 }
