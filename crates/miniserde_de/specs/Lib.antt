@@ -21,3 +21,7 @@ pub mod ArrayLaws
 pub mod Options
 pub mod OptionLaws
 pub mod Ignore
+pub mod Objects
+pub mod ObjectLaws
+pub mod Maps
+pub mod MapLaws

@@ -20,7 +20,7 @@ pub use impls::{
     ArrayOf, ArrayPlace, BoolPlace, BoxPlace, ChildPlace, Collect, ContainerPlace, IntegerPlace,
     Leaf, LeafPlace, ListOf, OptionPlace, PairOf, PairPlace, StringPlace, UnitPlace, VecPlace,
 };
-pub use miniserde_text::de::keys::Ranged;
+pub use miniserde_text::de::keys::{MapKey, Ranged};
 use miniserde_text::error::{Error, Result};
 use std::alloc::Global;
 

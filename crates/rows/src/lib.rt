@@ -11,6 +11,8 @@ mod failures;
 #[cfg(test)]
 mod lists;
 #[cfg(test)]
+mod maps;
+#[cfg(test)]
 mod places;
 #[cfg(test)]
 mod program;

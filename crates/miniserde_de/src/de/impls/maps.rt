@@ -1,0 +1,123 @@
+//! Maps that are ordered by their keys.
+ghost use Rattle.std.specs.Prelude.{◌≡◌, true, Option, Some, None, Ok, Err, [], IfOk, option_map};
+ghost use Rattle.miniserde_model.specs.Position.{complete};
+ghost use Rattle.miniserde_text.specs.declared.error.Error.{Error};
+ghost use Rattle.miniserde_de.specs.Parts.{part_refused, part_at};
+ghost use Rattle.miniserde_de.specs.Objects.{object_kind};
+ghost use Rattle.miniserde_de.specs.Maps.{Key, MapReads, looked, no_key, map_member, map_of, entry_joined};
+ghost use Rattle.miniserde_de.specs.MapLaws.{entry-factors, map-meant, map-given};
+
+use super::super::{Deserialize, MapKey, Step};
+use super::collect::Collect;
+use super::container::ContainerPlace;
+use super::parts::ChildPlace;
+use miniserde_text::error::{Error, Result};
+use std::alloc::Global;
+use std::collections::BTreeMap;
+
+/// A map that is being read, and the key of its current child.
+#[derive(Drop)]
+pub struct BTreeMapOf<K: MapKey + Ord, V: Deserialize> {
+    pending: Option<K>,
+    entries: BTreeMap<K, V>,
+}
+
+/// The place of a `BTreeMap`.
+pub type BTreeMapPlace<K, V> = ContainerPlace<BTreeMapOf<K, V>>;
+
+impl<K: MapKey + Ord, V: Deserialize> Collect for BTreeMapOf<K, V> {
+    type Out = BTreeMap<K, V>;
+
+    type Child = V::Place;
+
+    type Other = V::Place;
+
+    ghost Content = { Key → Option V.Place.Content };
+
+    ghost content = { λ v. looked K.code V.Place.content v.entries };
+
+    ghost State = { Key → Option V.Place.Content };
+
+    ghost state = { λ c. looked K.code V.Place.content c.entries.entries };
+
+    ghost empty = { no_key };
+
+    ghost opening = { true };
+
+    ghost kind = { object_kind (map_member K.read V.Place.mean) (λ m. Some m) };
+
+    ghost of = { map_of K.read V.Place.of };
+
+    ghost joined = { λ c. entry_joined V.Place.outcome (option_map K.code c.pending) (looked K.code V.Place.content c.entries.entries) };
+
+    ghost factors = { λ c. entry-factors V.Place.outcome (option_map K.code c.pending) (looked K.code V.Place.content c.entries.entries) };
+
+    ghost meant = { map-meant K.read V.Place.mean V.Place.of V.Place.meant };
+
+    fn opens(event: &Step<'_>) -> bool {
+        matches!(event, Step::Map)
+    }
+
+    fn child(&mut self, alloc: Global, event: Step<'_>) -> Result<ChildPlace<V::Place, V::Place>> {
+        match event {
+            Step::Key(name) => {
+                let key = K::from_key(alloc, name)?;
+                let place = V::begin(alloc)?;
+                self.pending = Some(key);
+                Ok(ChildPlace::First(place))
+            }
+            _ => Err(Error::Invalid),
+        }
+    }
+
+    fn join(&mut self, child: ChildPlace<V::Place, V::Place>) -> Result<()>
+        requires free { part_refused V.Place.refused V.Place.refused child ≡ None }
+        requires whole { part_at V.Place.at V.Place.at child ≡ complete }
+        ensures joined { IfOk result (λ _. entry_joined V.Place.outcome (option_map K.code self.old.pending) (looked K.code V.Place.content self.old.entries.entries) child []
+            ≡ Some (looked K.code V.Place.content self.new.entries.entries)) }
+        ensures invalid { result ≡ Err Error.Invalid
+            → entry_joined V.Place.outcome (option_map K.code self.old.pending) (looked K.code V.Place.content self.old.entries.entries) child [] ≡ None }
+    {
+        let (ChildPlace::First(place) | ChildPlace::Second(place)) = child;
+        match self.pending.take() {
+            Some(key) => {
+                self.entries.insert(key, V::take(place)?)?;
+                Ok(())
+            }
+            None => Err(Error::Invalid),
+        }
+    }
+
+    fn end(self) -> Result<BTreeMap<K, V>> {
+        Ok(self.entries)
+    }
+}
+
+impl<K: MapKey + Ord, V: Deserialize> Deserialize for BTreeMap<K, V> {
+    type Place = BTreeMapPlace<K, V>;
+
+    ghost reads = { λ t v. MapReads K.read K.code V.Place.of V.reads t v.entries };
+
+    ghost absent = { None };
+
+    ghost given = { λ t v. map-given K.read K.code V.Place.of V.Place.content V.reads V.given t v.entries };
+
+    fn begin(alloc: Global) -> Result<BTreeMapPlace<K, V>> {
+        let entries = BTreeMap::new(alloc);
+        Ok(ContainerPlace::new(
+            alloc,
+            BTreeMapOf {
+                pending: None,
+                entries,
+            },
+        ))
+    }
+
+    fn default() -> Option<BTreeMap<K, V>> {
+        None
+    }
+
+    fn take(place: BTreeMapPlace<K, V>) -> Result<BTreeMap<K, V>> {
+        place.take()
+    }
+}
