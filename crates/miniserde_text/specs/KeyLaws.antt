@@ -1,6 +1,6 @@
 -- What `parse` reads as a key, and the laws of keys: equal keys have equal codes and one text, and a key's text is read as it.
 use Rattle.std.proofs.Common.{◌≡◌, ◌≢◌, ◌∙◌, ℕ, zero, suc, ◌+◌, ◌-◌, ◌^◌, ◌<◌, ◌≤◌, ℤ, pos, negsuc, neg_ℤ, Bool, true, false, cond, nat_eq, List, [], ◌∷◌, length, drop, get_or, Option, Some, None, refl, sym, ap, subst, inl, inr, arith, append-nil}
-use Rattle.std.specs.Prelude.{decimal, ◌⊎◌}
+use Rattle.std.specs.Prelude.{decimal, option_map, ◌⊎◌}
 use Rattle.std.specs.Bool.{beq, Decides}
 use Rattle.std.specs.Ordering.{int_eq}
 use Rattle.std.specs.Char.{IsScalar, encode_utf8}
@@ -19,7 +19,11 @@ use Rattle.std.proofs.lemmas.Str.Parse.{IsNumeralModel, numerals_by_value, tells
 use lib.Utf8.{scalars}
 use mir.Syntax.{Width, w8, w16, w32, w64, w128}
 use mir.Val.{hbits}
-use Rattle.miniserde_text.specs.Keys.{of_nat, of_int, of_bool, bool_text, read_bool, only, read_char, are_digits_below, read_digits, read_unsigned, read_signed}
+use Rattle.miniserde_text.specs.Keys.{Key, of_nat, of_int, of_bool, bool_text, read_bool, only, read_char, are_digits_below, read_digits, read_unsigned, read_signed}
+
+-- a key of which equality looks at everything
+same_back : (o : Option Key) (k : Key) → o ≡ Some k → option_map (λ c. c) o ≡ Some k
+same_back o k e = ap (option_map (λ c. c)) e
 
 -- ---- equal keys
 
@@ -53,7 +57,7 @@ bool-text true false e = cc
 bool-text false true e = cc
 bool-text false false e = refl
 
-pub bool-back : (b : Bool) → read_bool (bool_text b) ≡ Some (of_bool b)
+pub bool-back : (b : Bool) → option_map (λ c. c) (read_bool (bool_text b)) ≡ Some (of_bool b)
 bool-back true = refl
 bool-back false = refl
 
@@ -101,9 +105,9 @@ pub unsigned_reads : (bits : ℕ) (bs : List ℕ) → Reads (IsNumeral 10 (witho
 unfolding read_unsigned
 unsigned_reads bits bs = digits_read (2 ^ bits) of_nat (without_leading_plus bs) _ (λ h. h) (λ h. h)
 
-pub unsigned-back : (bits : ℕ) → 2 ^ bits ≤ 2 ^ 64 → (n : ℕ) → n < 2 ^ bits → read_unsigned bits (decimal n) ≡ Some (of_nat n)
+pub unsigned-back : (bits : ℕ) → 2 ^ bits ≤ 2 ^ 64 → (n : ℕ) → n < 2 ^ bits → option_map (λ c. c) (read_unsigned bits (decimal n)) ≡ Some (of_nat n)
 unfolding read_unsigned
-unsigned-back bits wide n h = let small : n < 2 ^ 64 = omega arith in rw (no_plus n small) (decimal_some (2 ^ bits) of_nat n small h)
+unsigned-back bits wide n h = let small : n < 2 ^ 64 = omega arith in same_back _ _ (rw (no_plus n small) (decimal_some (2 ^ bits) of_nat n small h))
 
 -- ---- signed integers
 
@@ -150,28 +154,31 @@ signed32 = signed_reads 32 w32 refl
 pub signed64 : (bs : List ℕ) → ReadsSigned 64 w64 bs
 signed64 = signed_reads 64 w64 refl
 
-pub signed-back : (bits : ℕ) (w : Width) → hbits w ≡ bits - 1 → 2 ^ hbits w ≤ 2 ^ 63 → (z : ℤ) → FitsSigned w z → read_signed bits (signed_decimal z) ≡ Some (of_int z)
+pub signed-back : (bits : ℕ) (w : Width) → hbits w ≡ bits - 1 → 2 ^ hbits w ≤ 2 ^ 63 → (z : ℤ) → FitsSigned w z → option_map (λ c. c) (read_signed bits (signed_decimal z)) ≡ Some (of_int z)
 unfolding read_signed
 signed-back bits w e wide (pos n) h =
     let below : n < 2 ^ hbits w = h.sfits in
     let small : n < 2 ^ 64 = omega arith in
-    rw (sym e, no_minus n small, no_plus n small) (decimal_some (2 ^ hbits w) (λ n. of_int (pos n)) n small below)
+    same_back _ _ (rw (sym e, no_minus n small, no_plus n small) (decimal_some (2 ^ hbits w) (λ n. of_int (pos n)) n small below))
 signed-back bits w e wide (negsuc n) h =
     let below : n < 2 ^ hbits w = h.sfits in
-    rw (sym e) (decimal_some (2 ^ hbits w + 1) (λ n. of_int (neg_ℤ (pos n))) (suc n) (omega arith) (omega arith))
+    same_back _ _ (rw (sym e) (decimal_some (2 ^ hbits w + 1) (λ n. of_int (neg_ℤ (pos n))) (suc n) (omega arith) (omega arith)))
 
 -- for `from_key` of integers
 pub ruleset integer_reads = (unsigned_reads, signed8, signed16, signed32, signed64, to_z-of_z)
 
 -- ---- characters
 
-pub char-back : (c : ℕ) → IsScalar c → read_char (encode_utf8 c) ≡ Some (of_nat c)
+pub char_some : (c : ℕ) → IsScalar c → read_char (encode_utf8 c) ≡ Some (of_nat c)
 unfolding read_char
-char-back c s =
+char_some c s =
     let u = IsUtf8-encode c s in
     let t : is_utf8 (encode_utf8 c) ≡ true = is_utf8-from_IsUtf8 _ u in
     let e : chars (encode_utf8 c) ≡ c ∷ [] = chars_past_char (encode_utf8 c) [] c u (sym (append-nil (encode_utf8 c))) ∙ ap (λ cs. c ∷ cs) chars-nil in
     rw (t, e) refl
+
+pub char-back : (c : ℕ) → IsScalar c → option_map (λ c. c) (read_char (encode_utf8 c)) ≡ Some (of_nat c)
+char-back c s = same_back _ _ (char_some c s)
 
 only_none : (bs cs : List ℕ) → scalars cs ≡ true → encode_utf8_all cs ≡ bs → ((c : ℕ) → IsScalar c → bs ≢ encode_utf8 c) → only cs ≡ None
 only_none bs [] s e h = refl
@@ -186,4 +193,4 @@ char_none bs h = elim (is_utf8 bs) as (λ b. is_utf8 bs ≡ b → cond b (only (
 ] refl
 
 -- for `from_key` of `char`
-pub ruleset char_reads = (char-back, char_none)
+pub ruleset char_reads = (char_some, char_none)

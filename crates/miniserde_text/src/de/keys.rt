@@ -1,6 +1,7 @@
 //! Keys of maps.
-ghost use Rattle.std.specs.Prelude.{◌≡◌, ◌++◌, ℕ, Bool, true, false, List, Option, Some, None, Ok, Err, IfOk, IfErr, OnOk, OnErr, IsErrOf, string_bytes};
+ghost use Rattle.std.specs.Prelude.{◌≡◌, ◌++◌, ℕ, Bool, true, false, List, Option, Some, None, Ok, Err, IfOk, IfErr, OnOk, OnErr, IsErrOf, option_map, string_bytes};
 ghost use Rattle.std.specs.Str.{bytes_eq};
+ghost use Rattle.miniserde_text.specs.Keys.{Key};
 ghost use Rattle.miniserde_text.specs.declared.error.Error.{Error};
 ghost use Rattle.miniserde_text.specs.declared.error.Error.TheVariants.{Memory};
 
@@ -15,10 +16,13 @@ use std::alloc::Global;
 /// A type whose values are written as the names of an object's members.
 pub trait MapKey: Ranged + Sized + Eq + Drop {
     // What counts of a key, as a list of numbers.
-    ghost code: { Self → List ℕ };
+    ghost content: { Self → Key };
 
-    // The code of the key that a text is read as.
-    ghost read: { List ℕ → Option (List ℕ) };
+    // What equality looks at of that: all of it, where the type does not say otherwise.
+    ghost code: { Key → Key } = { λ c. c };
+
+    // The content of the key that a text is read as.
+    ghost read: { List ℕ → Option Key };
 
     // The text that a key is written as.
     ghost text: { Self → List ℕ };
@@ -28,7 +32,7 @@ pub trait MapKey: Ranged + Sized + Eq + Drop {
 
     /// The key that a text is read as.
     fn from_key(alloc: Global, k: &str) -> Result<Self>
-        ensures value { IfOk result (λ v. read k.now ≡ Some (code v)) }
+        ensures value { IfOk result (λ v. read k.now ≡ Some (content v)) }
         ensures invalid { result ≡ Err Error.Invalid → read k.now ≡ None }
         ensures free { reads_free ≡ true → IfErr result (λ e. e ≡ Error.Invalid) };
 
@@ -39,13 +43,13 @@ pub trait MapKey: Ranged + Sized + Eq + Drop {
         ensures err { OnErr result (string_bytes out.new ≡ string_bytes out.old) };
 
     // Keys are equal exactly where their codes are.
-    ghost alike: { (a b : Self) → Self.eq a b ≡ bytes_eq (code a) (code b) };
+    ghost alike: { (a b : Self) → Self.eq a b ≡ bytes_eq (code (content a)) (code (content b)) };
 
     // A written key reads as an equal key.
-    ghost back: { (k : Self) → Self.real k → read (text k) ≡ Some (code k) };
+    ghost back: { (k : Self) → Self.real k → option_map code (read (text k)) ≡ Some (code (content k)) };
 
     // Equal keys have one text.
-    ghost one_text: { (a b : Self) → code a ≡ code b → text a ≡ text b };
+    ghost one_text: { (a b : Self) → code (content a) ≡ code (content b) → text a ≡ text b };
 }
 
 // Adds a text.

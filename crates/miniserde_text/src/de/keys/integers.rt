@@ -24,7 +24,7 @@ fn append_integer<I: Integer>(out: &mut String, n: I) -> Result<()>
 }
 
 impl MapKey for u8 {
-    ghost code = { of_nat };
+    ghost content = { of_nat };
 
     ghost read = { read_unsigned 8 };
 
@@ -51,7 +51,7 @@ impl MapKey for u8 {
 }
 
 impl MapKey for u16 {
-    ghost code = { of_nat };
+    ghost content = { of_nat };
 
     ghost read = { read_unsigned 16 };
 
@@ -78,7 +78,7 @@ impl MapKey for u16 {
 }
 
 impl MapKey for u32 {
-    ghost code = { of_nat };
+    ghost content = { of_nat };
 
     ghost read = { read_unsigned 32 };
 
@@ -105,7 +105,7 @@ impl MapKey for u32 {
 }
 
 impl MapKey for u64 {
-    ghost code = { of_nat };
+    ghost content = { of_nat };
 
     ghost read = { read_unsigned 64 };
 
@@ -132,7 +132,7 @@ impl MapKey for u64 {
 }
 
 impl MapKey for usize {
-    ghost code = { of_nat };
+    ghost content = { of_nat };
 
     ghost read = { read_unsigned 64 };
 
@@ -159,7 +159,7 @@ impl MapKey for usize {
 }
 
 impl MapKey for i8 {
-    ghost code = { of_int };
+    ghost content = { of_int };
 
     ghost read = { read_signed 8 };
 
@@ -186,7 +186,7 @@ impl MapKey for i8 {
 }
 
 impl MapKey for i16 {
-    ghost code = { of_int };
+    ghost content = { of_int };
 
     ghost read = { read_signed 16 };
 
@@ -213,7 +213,7 @@ impl MapKey for i16 {
 }
 
 impl MapKey for i32 {
-    ghost code = { of_int };
+    ghost content = { of_int };
 
     ghost read = { read_signed 32 };
 
@@ -240,7 +240,7 @@ impl MapKey for i32 {
 }
 
 impl MapKey for i64 {
-    ghost code = { of_int };
+    ghost content = { of_int };
 
     ghost read = { read_signed 64 };
 
@@ -267,7 +267,7 @@ impl MapKey for i64 {
 }
 
 impl MapKey for isize {
-    ghost code = { of_int };
+    ghost content = { of_int };
 
     ghost read = { read_signed 64 };
 

@@ -9,7 +9,7 @@ use crate::error::{Error, Result};
 use std::alloc::Global;
 
 impl MapKey for String {
-    ghost code = { string_bytes };
+    ghost content = { string_bytes };
 
     ghost read = { λ k. Some k };
 
@@ -31,7 +31,7 @@ impl MapKey for String {
 }
 
 impl MapKey for bool {
-    ghost code = { of_bool };
+    ghost content = { of_bool };
 
     ghost read = { read_bool };
 
@@ -59,7 +59,7 @@ impl MapKey for bool {
 }
 
 impl MapKey for char {
-    ghost code = { of_nat };
+    ghost content = { of_nat };
 
     ghost read = { read_char };
 
