@@ -1,15 +1,19 @@
 -- The events of a list's tree give what its children give one by one.
-use Rattle.std.proofs.Common.{◌≡◌, [], ◌∷◌, ◌++◌, Option, Some, None, refl, ap, ◌∙◌, append_assoc}
+use Rattle.std.proofs.Common.{◌≡◌, List, [], ◌∷◌, ◌++◌, Option, Some, None, refl, ap, ◌∙◌, append_assoc}
 use Rattle.std.specs.Prelude.{option_and_then, false}
 use Rattle.miniserde_model.specs.Tree.{Tree, list, Trees, no_trees, tree}
-use Rattle.miniserde_model.specs.Event.{element, finish, events, child_events}
+use Rattle.miniserde_model.specs.Event.{Event, element, finish, events, child_events}
 use Rattle.miniserde_model.specs.Position.{start}
 use Rattle.miniserde_model.proofs.Events.{events_complete}
 use Rattle.miniserde_de.specs.Leaf.{nothing_more}
 use Rattle.miniserde_de.specs.Container.{Kind, between, inside, opened}
 use Rattle.miniserde_de.specs.ContainerLaws.{inside-split}
-use Rattle.miniserde_de.specs.ListLaws.{begins}
 use Rattle.miniserde_de.specs.Children.{all_children, listed}
+
+-- the events of the children and of the end begin with some event
+begins : (ts : Trees) → (e : Event) × (es : List Event) × (child_events ts ++ finish ∷ [] ≡ e ∷ es)
+begins no_trees = (finish, [], refl)
+begins (tree t ts) = (element, (events t ++ child_events ts) ++ finish ∷ [], refl)
 
 module _ {S R : Type 0} (kind : Kind S R) (f : S → Tree → Option S) (same : (s : S) (t : Tree) → kind.child s element (events t) ≡ f s t) where
   children-give : (s : S) (ts : Trees) → between kind s (child_events ts ++ finish ∷ []) ≡ option_and_then kind.end (all_children f s ts)

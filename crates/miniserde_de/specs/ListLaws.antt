@@ -2,60 +2,50 @@
 use Rattle.std.proofs.Common.{◌≡◌, List, [], ◌∷◌, ◌++◌, Option, Some, None, refl, sym, ap, ◌∙◌, append_assoc, append-nil, map}
 use Rattle.std.specs.Prelude.{◌↔◌, option_and_then, option_map, false}
 use Rattle.miniserde_model.specs.Tree.{Tree, null, truth, nonneg, neg, num, str, list, members, Trees, no_trees, tree}
-use Rattle.miniserde_model.specs.Event.{Event, element, finish, events, child_events}
-use Rattle.miniserde_model.specs.Position.{start}
-use Rattle.miniserde_model.proofs.Events.{events_complete}
-use Rattle.miniserde_de.specs.Container.{between, inside, opened}
+use Rattle.miniserde_model.specs.Event.{Event, events}
+use Rattle.miniserde_de.specs.Container.{between, opened}
 use Rattle.miniserde_de.specs.declared.de.impls.parts.ChildPlace.{ChildPlace}
 use Rattle.miniserde_de.specs.declared.de.impls.parts.ChildPlace.TheVariants.{First, Second}
 use Rattle.miniserde_de.specs.Parts.{Either, first, second, part_outcome}
 use Rattle.miniserde_de.specs.Lists.{EachReads, ListReads, each, list_of, added, list_kind, item_joined}
-use Rattle.miniserde_de.specs.ContainerLaws.{inside-split}
+use Rattle.miniserde_de.specs.Children.{all_children, listed}
+use Rattle.miniserde_de.specs.ChildLaws.{listed-meant}
 
 -- ---- what a child gives goes through what its place gives
 
-put_item : {C : Type 0} → List C → Either C C → Option (List C)
-put_item xs (first x) = Some (xs ++ x ∷ [])
-put_item xs (second x) = Some (xs ++ x ∷ [])
+put_item : {B C : Type 0} → List C → Either C B → Option (List C)
+put_item xs (first c) = Some (xs ++ c ∷ [])
+put_item xs (second b) = None
 
-module _ {P C : Type 0} (f : P → List Event → Option C) (xs : List C) where
-  joined-put_item : (p : ChildPlace P P) (es : List Event) → item_joined f xs p es ≡ option_and_then (put_item xs) (part_outcome f f p es)
+module _ {P Q B C : Type 0} (f : P → List Event → Option C) (g : Q → List Event → Option B) (xs : List C) where
+  joined-put_item : (p : ChildPlace P Q) (es : List Event) → item_joined f xs p es ≡ option_and_then (put_item xs) (part_outcome f g p es)
   unfolding put_item
-  joined-put_item (First p) es = elim (f p es) as (λ o. option_and_then (λ x. Some (xs ++ x ∷ [])) o ≡ option_and_then (put_item xs) (option_map first o)) [ None ↦ refl | Some x ↦ refl ]
-  joined-put_item (Second p) es = elim (f p es) as (λ o. option_and_then (λ x. Some (xs ++ x ∷ [])) o ≡ option_and_then (put_item xs) (option_map second o)) [ None ↦ refl | Some x ↦ refl ]
+  joined-put_item (First p) es = elim (f p es) as (λ o. option_and_then (λ c. Some (xs ++ c ∷ [])) o ≡ option_and_then (put_item {B = B} xs) (option_map first o)) [ None ↦ refl | Some c ↦ refl ]
+  joined-put_item (Second q) es = elim (g q es) as (λ o. None ≡ option_and_then (put_item xs) (option_map second o)) [ None ↦ refl | Some b ↦ refl ]
 
-  pub item-factors : (put : Either C C → Option (List C)) × ((p : ChildPlace P P) (es : List Event) → item_joined f xs p es ≡ option_and_then put (part_outcome f f p es))
+  pub item-factors : (put : Either C B → Option (List C)) × ((p : ChildPlace P Q) (es : List Event) → item_joined f xs p es ≡ option_and_then put (part_outcome f g p es))
   item-factors = (put_item xs, joined-put_item)
 
 -- ---- what a list gives
 
--- the events of the children and of the end begin with some event
-pub begins : (ts : Trees) → (e : Event) × (es : List Event) × (child_events ts ++ finish ∷ [] ≡ e ∷ es)
-begins no_trees = (finish, [], refl)
-begins (tree t ts) = (element, (events t ++ child_events ts) ++ finish ∷ [], refl)
+module _ {C : Type 0} (of : Tree → Option C) where
+  each-added : (xs : List C) (ts : Trees) → all_children (added of) xs ts ≡ option_and_then (λ ys. Some (xs ++ ys)) (each of ts)
+  each-added xs no_trees = ap Some (sym (append-nil xs))
+  each-added xs (tree t ts) = elim (of t) as (λ o. option_and_then (λ r. all_children (added of) r ts) (option_and_then (λ c. Some (xs ++ c ∷ [])) o) ≡ option_and_then (λ ys. Some (xs ++ ys)) (option_and_then (λ x. option_and_then (λ ys. Some (x ∷ ys)) (each of ts)) o)) [
+    | None ↦ refl
+    | Some x ↦ each-added (xs ++ x ∷ []) ts ∙ (elim (each of ts) as (λ o. option_and_then (λ ys. Some ((xs ++ x ∷ []) ++ ys)) o ≡ option_and_then (λ ys. Some (xs ++ ys)) (option_and_then (λ ys. Some (x ∷ ys)) o)) [ None ↦ refl | Some ys ↦ ap Some (append_assoc xs (x ∷ []) ys) ])
+  ]
+
+  list-listed : (t : Tree) → listed (added of) (λ ys. Some ys) [] t ≡ list_of of t
+  list-listed (list ts) = ap (option_and_then (λ ys. Some ys)) (each-added [] ts) ∙ (elim (each of ts) as (λ o. option_and_then (λ ys. Some ys) (option_and_then (λ ys. Some ys) o) ≡ o) [ None ↦ refl | Some ys ↦ refl ])
+  list-listed t = refl
 
 module _ {C : Type 0} (mean : List Event → Option C) (of : Tree → Option C) (meant : (t : Tree) → mean (events t) ≡ of t) where
-  between-events : (xs : List C) (ts : Trees) → between (list_kind mean) xs (child_events ts ++ finish ∷ []) ≡ option_and_then (λ ys. Some (xs ++ ys)) (each of ts)
-  between-events xs no_trees = ap Some (sym (append-nil xs))
-  between-events xs (tree t ts) =
-      let kind = list_kind mean in
-      let l = begins ts in
-      let split : inside kind (λ es. added mean xs (mean es)) start (events t ++ (child_events ts ++ finish ∷ [])) ≡ option_and_then (λ s. between kind s (child_events ts ++ finish ∷ [])) (added mean xs (mean (events t))) = rw l.2 (inside-split kind start (λ es. added mean xs (mean es)) (events t) l.0 l.1 (events_complete t)) in
-      ap (inside kind (λ es. added mean xs (mean es)) start) (append_assoc (events t) (child_events ts) (finish ∷ []))
-      ∙ split ∙ rw (meant t) (elim (of t) as (λ o. option_and_then (λ s. between kind s (child_events ts ++ finish ∷ [])) (added mean xs o) ≡ option_and_then (λ ys. Some (xs ++ ys)) (option_and_then (λ x. option_and_then (λ ys. Some (x ∷ ys)) (each of ts)) o)) [
-        | None ↦ refl
-        | Some x ↦ between-events (xs ++ x ∷ []) ts ∙ (elim (each of ts) as (λ o. option_and_then (λ ys. Some ((xs ++ x ∷ []) ++ ys)) o ≡ option_and_then (λ ys. Some (xs ++ ys)) (option_and_then (λ ys. Some (x ∷ ys)) o)) [ None ↦ refl | Some ys ↦ ap Some (append_assoc xs (x ∷ []) ys) ])
-      ])
+  added-same : (xs : List C) (t : Tree) → added mean xs (events t) ≡ added of xs t
+  added-same xs t = rw (meant t) refl
 
   pub list-meant : (t : Tree) → opened false (between (list_kind mean) []) (events t) ≡ list_of of t
-  list-meant null = refl
-  list-meant (truth b) = refl
-  list-meant (nonneg n) = refl
-  list-meant (neg n) = refl
-  list-meant (num x) = refl
-  list-meant (str s) = refl
-  list-meant (members ms) = refl
-  list-meant (list ts) = between-events [] ts ∙ (elim (each of ts) as (λ o. option_and_then (λ ys. Some ([] ++ ys)) o ≡ o) [ None ↦ refl | Some ys ↦ refl ])
+  list-meant t = listed-meant (list_kind mean) (added of) added-same [] t ∙ list-listed of t
 
 module _ {T C : Type 0} (R : Tree → T → Type 0) (of : Tree → Option C) (content : T → C) (given : (t : Tree) (v : T) → R t v ↔ (of t ≡ Some (content v))) where
   each-given : (ts : Trees) (xs : List T) → EachReads R ts xs → each of ts ≡ Some (map content xs)

@@ -27,19 +27,20 @@ abbrev pub list_of : {C : Type 0} → (Tree → Option C) → Tree → Option (L
 list_of f (list ts) = each f ts
 list_of f _ = None
 
-module _ {C : Type 0} (mean : List Event → Option C) where
-  -- one more item at the end
-  abbrev pub added : List C → Option C → Option (List C)
-  added xs o = option_and_then (λ x. Some (xs ++ x ∷ [])) o
+-- one more item at the end
+abbrev pub added : {C X : Type 0} → (X → Option C) → List C → X → Option (List C)
+added f xs x = option_and_then (λ c. Some (xs ++ c ∷ [])) (f x)
 
+module _ {C : Type 0} (mean : List Event → Option C) where
+  -- a child is an element, and no member
   abbrev pub list_child : List C → Event → List Event → Option (List C)
-  list_child xs element es = added xs (mean es)
+  list_child xs element es = added mean xs es
   list_child xs _ es = None
 
   abbrev pub list_kind : Kind (List C) (List C)
   list_kind = record { child = list_child; end = Some }
 
--- the items once the child in a place is one of them, whichever type of place it is
-abbrev pub item_joined : {P C : Type 0} → (P → List Event → Option C) → List C → ChildPlace P P → List Event → Option (List C)
-item_joined f xs (First p) es = option_and_then (λ x. Some (xs ++ x ∷ [])) (f p es)
-item_joined f xs (Second p) es = option_and_then (λ x. Some (xs ++ x ∷ [])) (f p es)
+-- the items once the child in a place is one of them
+abbrev pub item_joined : {P Q C : Type 0} → (P → List Event → Option C) → List C → ChildPlace P Q → List Event → Option (List C)
+item_joined f xs (First p) es = added (f p) xs es
+item_joined f xs (Second q) es = None

@@ -17,8 +17,9 @@ mod impls;
 pub use crate::ignore::Ignore;
 pub use crate::ignore::fresh::ignore;
 pub use impls::{
-    ArrayOf, ArrayPlace, BoolPlace, BoxPlace, ChildPlace, Collect, ContainerPlace, IntegerPlace,
-    Leaf, LeafPlace, ListOf, OptionPlace, PairOf, PairPlace, StringPlace, UnitPlace, VecPlace,
+    ArrayOf, ArrayPlace, BTreeMapOf, BTreeMapPlace, BoolPlace, BoxPlace, ChildPlace, Collect,
+    ContainerPlace, HashMapOf, HashMapPlace, IntegerPlace, Leaf, LeafPlace, ListOf, NoPlace,
+    OptionPlace, PairOf, PairPlace, StringPlace, UnitPlace, VecPlace,
 };
 pub use miniserde_text::de::keys::{MapKey, Ranged};
 use miniserde_text::error::{Error, Result};

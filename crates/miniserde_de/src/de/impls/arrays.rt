@@ -1,6 +1,6 @@
 //! Arrays.
 ghost use Rattle.std.specs.Prelude.{◌≡◌, true, false, Option, Some, None, Ok, Err, List, [], map, IfOk};
-ghost use Rattle.miniserde_model.specs.Position.{complete};
+ghost use Rattle.miniserde_model.specs.Position.{start, complete};
 ghost use Rattle.miniserde_text.specs.declared.error.Error.{Error};
 ghost use Rattle.miniserde_de.specs.Parts.{part_refused, part_at};
 ghost use Rattle.miniserde_de.specs.Lists.{item_joined};
@@ -8,10 +8,10 @@ ghost use Rattle.miniserde_de.specs.ListLaws.{item-factors};
 ghost use Rattle.miniserde_de.specs.Arrays.{ArrayReads, array_kind, array_of};
 ghost use Rattle.miniserde_de.specs.ArrayLaws.{array-meant, array-given};
 
-use super::super::{Deserialize, Step};
+use super::super::{Deserialize, Step, Visitor};
 use super::collect::Collect;
 use super::container::ContainerPlace;
-use super::parts::ChildPlace;
+use super::parts::{ChildPlace, NoPlace};
 use miniserde_text::error::{Error, Result};
 use std::alloc::Global;
 
@@ -22,14 +22,17 @@ pub struct ArrayOf<T: Deserialize, const N: usize> {
 }
 
 /// The place of an array: a list of exactly `N`.
-pub type ArrayPlace<T, const N: usize> = ContainerPlace<ArrayOf<T, N>>;
+#[derive(Drop)]
+pub struct ArrayPlace<T: Deserialize, const N: usize> {
+    list: ContainerPlace<ArrayOf<T, N>>,
+}
 
 impl<T: Deserialize, const N: usize> Collect for ArrayOf<T, N> {
     type Out = [T; N];
 
     type Child = T::Place;
 
-    type Other = T::Place;
+    type Other = NoPlace;
 
     ghost Content = { List T.Place.Content };
 
@@ -49,7 +52,7 @@ impl<T: Deserialize, const N: usize> Collect for ArrayOf<T, N> {
 
     ghost joined = { λ c. item_joined T.Place.outcome (map T.Place.content c.items.items) };
 
-    ghost factors = { λ c. item-factors T.Place.outcome (map T.Place.content c.items.items) };
+    ghost factors = { λ c. item-factors T.Place.outcome (λ _ _. None) (map T.Place.content c.items.items) };
 
     ghost meant = { array-meant N T.Place.mean T.Place.of T.Place.meant };
 
@@ -57,7 +60,7 @@ impl<T: Deserialize, const N: usize> Collect for ArrayOf<T, N> {
         matches!(event, Step::Seq)
     }
 
-    fn child(&mut self, alloc: Global, event: Step<'_>) -> Result<ChildPlace<T::Place, T::Place>> {
+    fn child(&mut self, alloc: Global, event: Step<'_>) -> Result<ChildPlace<T::Place, NoPlace>> {
         match event {
             Step::Element => {
                 if self.items.len() < N {
@@ -70,15 +73,15 @@ impl<T: Deserialize, const N: usize> Collect for ArrayOf<T, N> {
         }
     }
 
-    fn join(&mut self, child: ChildPlace<T::Place, T::Place>) -> Result<()>
-        requires free { part_refused T.Place.refused T.Place.refused child ≡ None }
-        requires whole { part_at T.Place.at T.Place.at child ≡ complete }
+    fn join(&mut self, child: ChildPlace<T::Place, NoPlace>) -> Result<()>
+        requires free { part_refused T.Place.refused (λ _. None) child ≡ None }
+        requires whole { part_at T.Place.at (λ _. start) child ≡ complete }
         ensures joined { IfOk result (λ _. item_joined T.Place.outcome (map T.Place.content self.old.items.items) child []
             ≡ Some (map T.Place.content self.new.items.items)) }
         ensures invalid { result ≡ Err Error.Invalid
             → item_joined T.Place.outcome (map T.Place.content self.old.items.items) child [] ≡ None }
     {
-        let (ChildPlace::First(place) | ChildPlace::Second(place)) = child;
+        let ChildPlace::First(place) = child;
         self.items.push(T::take(place)?)?;
         Ok(())
     }
@@ -88,6 +91,34 @@ impl<T: Deserialize, const N: usize> Collect for ArrayOf<T, N> {
             Ok(items) => Ok(items),
             Err(_) => Err(Error::Invalid),
         }
+    }
+}
+
+impl<T: Deserialize, const N: usize> Visitor for ArrayPlace<T, N> {
+    type Out = [T; N];
+
+    ghost Content = { List T.Place.Content };
+
+    ghost content = { map T.Place.content };
+
+    ghost mean = { ⟦<ContainerPlace<ArrayOf<T, N>> as Visitor>⟧.mean };
+
+    ghost of = { array_of N T.Place.of };
+
+    ghost refused = { λ p. ⟦<ContainerPlace<ArrayOf<T, N>> as Visitor>⟧.refused p.list };
+
+    ghost at = { λ p. ⟦<ContainerPlace<ArrayOf<T, N>> as Visitor>⟧.at p.list };
+
+    ghost outcome = { λ p. ⟦<ContainerPlace<ArrayOf<T, N>> as Visitor>⟧.outcome p.list };
+
+    ghost meant = { array-meant N T.Place.mean T.Place.of T.Place.meant };
+
+    fn step(&mut self, event: Step<'_>) -> Result<()> {
+        self.list.step(event)
+    }
+
+    fn refuse(&mut self, error: Error) -> Error {
+        self.list.refuse(error)
     }
 }
 
@@ -104,7 +135,8 @@ impl<T: Deserialize, const N: usize> Deserialize for [T; N] {
 
     fn begin(alloc: Global) -> Result<ArrayPlace<T, N>> {
         let items = Vec::new(alloc);
-        Ok(ContainerPlace::new(alloc, ArrayOf { items }))
+        let list = ContainerPlace::new(alloc, ArrayOf { items });
+        Ok(ArrayPlace { list })
     }
 
     fn default() -> Option<[T; N]> {
@@ -112,6 +144,6 @@ impl<T: Deserialize, const N: usize> Deserialize for [T; N] {
     }
 
     fn take(place: ArrayPlace<T, N>) -> Result<[T; N]> {
-        place.take()
+        place.list.take()
     }
 }

@@ -1,16 +1,16 @@
 //! Maps that are ordered by their keys.
 ghost use Rattle.std.specs.Prelude.{◌≡◌, true, Option, Some, None, Ok, Err, [], IfOk, option_map};
-ghost use Rattle.miniserde_model.specs.Position.{complete};
+ghost use Rattle.miniserde_model.specs.Position.{start, complete};
 ghost use Rattle.miniserde_text.specs.declared.error.Error.{Error};
 ghost use Rattle.miniserde_de.specs.Parts.{part_refused, part_at};
 ghost use Rattle.miniserde_de.specs.Objects.{object_kind};
-ghost use Rattle.miniserde_de.specs.Maps.{Key, MapReads, looked, no_key, map_member, map_of, entry_joined};
+ghost use Rattle.miniserde_de.specs.Maps.{Entries, MapReads, looked, no_key, map_member, map_of, entry_joined};
 ghost use Rattle.miniserde_de.specs.MapLaws.{entry-factors, map-meant, map-given};
 
-use super::super::{Deserialize, MapKey, Step};
+use super::super::{Deserialize, MapKey, Step, Visitor};
 use super::collect::Collect;
 use super::container::ContainerPlace;
-use super::parts::ChildPlace;
+use super::parts::{ChildPlace, NoPlace};
 use miniserde_text::error::{Error, Result};
 use std::alloc::Global;
 use std::collections::BTreeMap;
@@ -23,42 +23,45 @@ pub struct BTreeMapOf<K: MapKey + Ord, V: Deserialize> {
 }
 
 /// The place of a `BTreeMap`.
-pub type BTreeMapPlace<K, V> = ContainerPlace<BTreeMapOf<K, V>>;
+#[derive(Drop)]
+pub struct BTreeMapPlace<K: MapKey + Ord, V: Deserialize> {
+    object: ContainerPlace<BTreeMapOf<K, V>>,
+}
 
 impl<K: MapKey + Ord, V: Deserialize> Collect for BTreeMapOf<K, V> {
     type Out = BTreeMap<K, V>;
 
     type Child = V::Place;
 
-    type Other = V::Place;
+    type Other = NoPlace;
 
-    ghost Content = { Key → Option V.Place.Content };
+    ghost Content = { Entries V.Place.Content };
 
-    ghost content = { λ v. looked K.code V.Place.content v.entries };
+    ghost content = { λ v. looked K.code K.content V.Place.content v.entries };
 
-    ghost State = { Key → Option V.Place.Content };
+    ghost State = { Entries V.Place.Content };
 
-    ghost state = { λ c. looked K.code V.Place.content c.entries.entries };
+    ghost state = { λ c. looked K.code K.content V.Place.content c.entries.entries };
 
     ghost empty = { no_key };
 
     ghost opening = { true };
 
-    ghost kind = { object_kind (map_member K.read V.Place.mean) (λ m. Some m) };
+    ghost kind = { object_kind (map_member K.read K.code V.Place.mean) (λ m. Some m) };
 
-    ghost of = { map_of K.read V.Place.of };
+    ghost of = { map_of K.read K.code V.Place.of };
 
-    ghost joined = { λ c. entry_joined V.Place.outcome (option_map K.code c.pending) (looked K.code V.Place.content c.entries.entries) };
+    ghost joined = { λ c. entry_joined K.code V.Place.outcome (option_map K.content c.pending) (looked K.code K.content V.Place.content c.entries.entries) };
 
-    ghost factors = { λ c. entry-factors V.Place.outcome (option_map K.code c.pending) (looked K.code V.Place.content c.entries.entries) };
+    ghost factors = { λ c. entry-factors K.code V.Place.outcome (λ _ _. None) (option_map K.content c.pending) (looked K.code K.content V.Place.content c.entries.entries) };
 
-    ghost meant = { map-meant K.read V.Place.mean V.Place.of V.Place.meant };
+    ghost meant = { map-meant K.read K.code V.Place.mean V.Place.of V.Place.meant };
 
     fn opens(event: &Step<'_>) -> bool {
         matches!(event, Step::Map)
     }
 
-    fn child(&mut self, alloc: Global, event: Step<'_>) -> Result<ChildPlace<V::Place, V::Place>> {
+    fn child(&mut self, alloc: Global, event: Step<'_>) -> Result<ChildPlace<V::Place, NoPlace>> {
         match event {
             Step::Key(name) => {
                 let key = K::from_key(alloc, name)?;
@@ -70,15 +73,15 @@ impl<K: MapKey + Ord, V: Deserialize> Collect for BTreeMapOf<K, V> {
         }
     }
 
-    fn join(&mut self, child: ChildPlace<V::Place, V::Place>) -> Result<()>
-        requires free { part_refused V.Place.refused V.Place.refused child ≡ None }
-        requires whole { part_at V.Place.at V.Place.at child ≡ complete }
-        ensures joined { IfOk result (λ _. entry_joined V.Place.outcome (option_map K.code self.old.pending) (looked K.code V.Place.content self.old.entries.entries) child []
-            ≡ Some (looked K.code V.Place.content self.new.entries.entries)) }
+    fn join(&mut self, child: ChildPlace<V::Place, NoPlace>) -> Result<()>
+        requires free { part_refused V.Place.refused (λ _. None) child ≡ None }
+        requires whole { part_at V.Place.at (λ _. start) child ≡ complete }
+        ensures joined { IfOk result (λ _. entry_joined K.code V.Place.outcome (option_map K.content self.old.pending) (looked K.code K.content V.Place.content self.old.entries.entries) child []
+            ≡ Some (looked K.code K.content V.Place.content self.new.entries.entries)) }
         ensures invalid { result ≡ Err Error.Invalid
-            → entry_joined V.Place.outcome (option_map K.code self.old.pending) (looked K.code V.Place.content self.old.entries.entries) child [] ≡ None }
+            → entry_joined K.code V.Place.outcome (option_map K.content self.old.pending) (looked K.code K.content V.Place.content self.old.entries.entries) child [] ≡ None }
     {
-        let (ChildPlace::First(place) | ChildPlace::Second(place)) = child;
+        let ChildPlace::First(place) = child;
         match self.pending.take() {
             Some(key) => {
                 self.entries.insert(key, V::take(place)?)?;
@@ -93,24 +96,50 @@ impl<K: MapKey + Ord, V: Deserialize> Collect for BTreeMapOf<K, V> {
     }
 }
 
+impl<K: MapKey + Ord, V: Deserialize> Visitor for BTreeMapPlace<K, V> {
+    type Out = BTreeMap<K, V>;
+
+    ghost Content = { Entries V.Place.Content };
+
+    ghost content = { λ v. looked K.code K.content V.Place.content v.entries };
+
+    ghost mean = { ⟦<ContainerPlace<BTreeMapOf<K, V>> as Visitor>⟧.mean };
+
+    ghost of = { map_of K.read K.code V.Place.of };
+
+    ghost refused = { λ p. ⟦<ContainerPlace<BTreeMapOf<K, V>> as Visitor>⟧.refused p.object };
+
+    ghost at = { λ p. ⟦<ContainerPlace<BTreeMapOf<K, V>> as Visitor>⟧.at p.object };
+
+    ghost outcome = { λ p. ⟦<ContainerPlace<BTreeMapOf<K, V>> as Visitor>⟧.outcome p.object };
+
+    ghost meant = { map-meant K.read K.code V.Place.mean V.Place.of V.Place.meant };
+
+    fn step(&mut self, event: Step<'_>) -> Result<()> {
+        self.object.step(event)
+    }
+
+    fn refuse(&mut self, error: Error) -> Error {
+        self.object.refuse(error)
+    }
+}
+
 impl<K: MapKey + Ord, V: Deserialize> Deserialize for BTreeMap<K, V> {
     type Place = BTreeMapPlace<K, V>;
 
-    ghost reads = { λ t v. MapReads K.read K.code V.Place.of V.reads t v.entries };
+    ghost reads = { λ t v. MapReads K.read K.code K.content V.Place.of V.reads t v.entries };
 
     ghost absent = { None };
 
-    ghost given = { λ t v. map-given K.read K.code V.Place.of V.Place.content V.reads V.given t v.entries };
+    ghost given = { λ t v. map-given K.read K.code K.content V.Place.of V.Place.content V.reads V.given t v.entries };
 
     fn begin(alloc: Global) -> Result<BTreeMapPlace<K, V>> {
-        let entries = BTreeMap::new(alloc);
-        Ok(ContainerPlace::new(
-            alloc,
-            BTreeMapOf {
-                pending: None,
-                entries,
-            },
-        ))
+        let collector = BTreeMapOf {
+            pending: None,
+            entries: BTreeMap::new(alloc),
+        };
+        let object = ContainerPlace::new(alloc, collector);
+        Ok(BTreeMapPlace { object })
     }
 
     fn default() -> Option<BTreeMap<K, V>> {
@@ -118,6 +147,6 @@ impl<K: MapKey + Ord, V: Deserialize> Deserialize for BTreeMap<K, V> {
     }
 
     fn take(place: BTreeMapPlace<K, V>) -> Result<BTreeMap<K, V>> {
-        place.take()
+        place.object.take()
     }
 }

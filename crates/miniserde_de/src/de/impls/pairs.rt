@@ -6,7 +6,7 @@ ghost use Rattle.miniserde_de.specs.Parts.{part_refused, part_at};
 ghost use Rattle.miniserde_de.specs.Pairs.{PairReads, pair_kind, pair_of, pair_joined};
 ghost use Rattle.miniserde_de.specs.PairLaws.{pair-factors, pair-meant, pair-given};
 
-use super::super::{Deserialize, Step};
+use super::super::{Deserialize, Step, Visitor};
 use super::collect::Collect;
 use super::container::ContainerPlace;
 use super::parts::ChildPlace;
@@ -21,7 +21,10 @@ pub struct PairOf<A: Deserialize, B: Deserialize> {
 }
 
 /// The place of a pair: a list of exactly two.
-pub type PairPlace<A, B> = ContainerPlace<PairOf<A, B>>;
+#[derive(Drop)]
+pub struct PairPlace<A: Deserialize, B: Deserialize> {
+    list: ContainerPlace<PairOf<A, B>>,
+}
 
 impl<A: Deserialize, B: Deserialize> Collect for PairOf<A, B> {
     type Out = (A, B);
@@ -94,6 +97,34 @@ impl<A: Deserialize, B: Deserialize> Collect for PairOf<A, B> {
     }
 }
 
+impl<A: Deserialize, B: Deserialize> Visitor for PairPlace<A, B> {
+    type Out = (A, B);
+
+    ghost Content = { A.Place.Content × B.Place.Content };
+
+    ghost content = { λ v. (A.Place.content v.0, B.Place.content v.1) };
+
+    ghost mean = { ⟦<ContainerPlace<PairOf<A, B>> as Visitor>⟧.mean };
+
+    ghost of = { pair_of A.Place.of B.Place.of };
+
+    ghost refused = { λ p. ⟦<ContainerPlace<PairOf<A, B>> as Visitor>⟧.refused p.list };
+
+    ghost at = { λ p. ⟦<ContainerPlace<PairOf<A, B>> as Visitor>⟧.at p.list };
+
+    ghost outcome = { λ p. ⟦<ContainerPlace<PairOf<A, B>> as Visitor>⟧.outcome p.list };
+
+    ghost meant = { pair-meant A.Place.mean B.Place.mean A.Place.of B.Place.of A.Place.meant B.Place.meant };
+
+    fn step(&mut self, event: Step<'_>) -> Result<()> {
+        self.list.step(event)
+    }
+
+    fn refuse(&mut self, error: Error) -> Error {
+        self.list.refuse(error)
+    }
+}
+
 impl<A: Deserialize, B: Deserialize> Deserialize for (A, B) {
     type Place = PairPlace<A, B>;
 
@@ -106,13 +137,14 @@ impl<A: Deserialize, B: Deserialize> Deserialize for (A, B) {
     ghost given = { pair-given A.reads B.reads A.Place.of B.Place.of A.Place.content B.Place.content A.given B.given };
 
     fn begin(alloc: Global) -> Result<PairPlace<A, B>> {
-        Ok(ContainerPlace::new(
+        let list = ContainerPlace::new(
             alloc,
             PairOf {
                 first: None,
                 second: None,
             },
-        ))
+        );
+        Ok(PairPlace { list })
     }
 
     fn default() -> Option<(A, B)> {
@@ -120,6 +152,6 @@ impl<A: Deserialize, B: Deserialize> Deserialize for (A, B) {
     }
 
     fn take(place: PairPlace<A, B>) -> Result<(A, B)> {
-        place.take()
+        place.list.take()
     }
 }

@@ -1,15 +1,15 @@
 //! Lists.
 ghost use Rattle.std.specs.Prelude.{◌≡◌, false, Option, Some, None, Ok, Err, List, [], map, IfOk};
-ghost use Rattle.miniserde_model.specs.Position.{complete};
+ghost use Rattle.miniserde_model.specs.Position.{start, complete};
 ghost use Rattle.miniserde_text.specs.declared.error.Error.{Error};
 ghost use Rattle.miniserde_de.specs.Parts.{part_refused, part_at};
 ghost use Rattle.miniserde_de.specs.Lists.{list_of, ListReads, list_kind, item_joined};
 ghost use Rattle.miniserde_de.specs.ListLaws.{item-factors, list-meant, list-given};
 
-use super::super::{Deserialize, Step};
+use super::super::{Deserialize, Step, Visitor};
 use super::collect::Collect;
 use super::container::ContainerPlace;
-use super::parts::ChildPlace;
+use super::parts::{ChildPlace, NoPlace};
 use miniserde_text::error::{Error, Result};
 use std::alloc::Global;
 
@@ -20,14 +20,17 @@ pub struct ListOf<T: Deserialize> {
 }
 
 /// The place of a `Vec`.
-pub type VecPlace<T> = ContainerPlace<ListOf<T>>;
+#[derive(Drop)]
+pub struct VecPlace<T: Deserialize> {
+    list: ContainerPlace<ListOf<T>>,
+}
 
 impl<T: Deserialize> Collect for ListOf<T> {
     type Out = Vec<T>;
 
     type Child = T::Place;
 
-    type Other = T::Place;
+    type Other = NoPlace;
 
     ghost Content = { List T.Place.Content };
 
@@ -47,7 +50,7 @@ impl<T: Deserialize> Collect for ListOf<T> {
 
     ghost joined = { λ c. item_joined T.Place.outcome (map T.Place.content c.items.items) };
 
-    ghost factors = { λ c. item-factors T.Place.outcome (map T.Place.content c.items.items) };
+    ghost factors = { λ c. item-factors T.Place.outcome (λ _ _. None) (map T.Place.content c.items.items) };
 
     ghost meant = { list-meant T.Place.mean T.Place.of T.Place.meant };
 
@@ -55,28 +58,56 @@ impl<T: Deserialize> Collect for ListOf<T> {
         matches!(event, Step::Seq)
     }
 
-    fn child(&mut self, alloc: Global, event: Step<'_>) -> Result<ChildPlace<T::Place, T::Place>> {
+    fn child(&mut self, alloc: Global, event: Step<'_>) -> Result<ChildPlace<T::Place, NoPlace>> {
         match event {
             Step::Element => Ok(ChildPlace::First(T::begin(alloc)?)),
             _ => Err(Error::Invalid),
         }
     }
 
-    fn join(&mut self, child: ChildPlace<T::Place, T::Place>) -> Result<()>
-        requires free { part_refused T.Place.refused T.Place.refused child ≡ None }
-        requires whole { part_at T.Place.at T.Place.at child ≡ complete }
+    fn join(&mut self, child: ChildPlace<T::Place, NoPlace>) -> Result<()>
+        requires free { part_refused T.Place.refused (λ _. None) child ≡ None }
+        requires whole { part_at T.Place.at (λ _. start) child ≡ complete }
         ensures joined { IfOk result (λ _. item_joined T.Place.outcome (map T.Place.content self.old.items.items) child []
             ≡ Some (map T.Place.content self.new.items.items)) }
         ensures invalid { result ≡ Err Error.Invalid
             → item_joined T.Place.outcome (map T.Place.content self.old.items.items) child [] ≡ None }
     {
-        let (ChildPlace::First(place) | ChildPlace::Second(place)) = child;
+        let ChildPlace::First(place) = child;
         self.items.push(T::take(place)?)?;
         Ok(())
     }
 
     fn end(self) -> Result<Vec<T>> {
         Ok(self.items)
+    }
+}
+
+impl<T: Deserialize> Visitor for VecPlace<T> {
+    type Out = Vec<T>;
+
+    ghost Content = { List T.Place.Content };
+
+    ghost content = { λ v. map T.Place.content v.items };
+
+    ghost mean = { ⟦<ContainerPlace<ListOf<T>> as Visitor>⟧.mean };
+
+    ghost of = { list_of T.Place.of };
+
+    ghost refused = { λ p. ⟦<ContainerPlace<ListOf<T>> as Visitor>⟧.refused p.list };
+
+    ghost at = { λ p. ⟦<ContainerPlace<ListOf<T>> as Visitor>⟧.at p.list };
+
+    ghost outcome = { λ p. ⟦<ContainerPlace<ListOf<T>> as Visitor>⟧.outcome p.list };
+
+    ghost meant = { list-meant T.Place.mean T.Place.of T.Place.meant };
+
+    fn step(&mut self, event: Step<'_>) -> Result<()> {
+        self.list.step(event)
+    }
+
+    fn refuse(&mut self, error: Error) -> Error {
+        self.list.refuse(error)
     }
 }
 
@@ -91,7 +122,8 @@ impl<T: Deserialize> Deserialize for Vec<T> {
 
     fn begin(alloc: Global) -> Result<VecPlace<T>> {
         let items = Vec::new(alloc);
-        Ok(ContainerPlace::new(alloc, ListOf { items }))
+        let list = ContainerPlace::new(alloc, ListOf { items });
+        Ok(VecPlace { list })
     }
 
     fn default() -> Option<Vec<T>> {
@@ -99,6 +131,6 @@ impl<T: Deserialize> Deserialize for Vec<T> {
     }
 
     fn take(place: VecPlace<T>) -> Result<Vec<T>> {
-        place.take()
+        place.list.take()
     }
 }
