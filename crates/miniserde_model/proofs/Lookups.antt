@@ -72,7 +72,7 @@ above_with_first first name t (member other u ms) p q = go (text_cmp name other)
     go Equal = q
     go Greater = q
 
-rise_with_first : (name : List ℕ) (t : Tree) (ms : Members) → Rise ms → Rise (with_first name t ms)
+pub rise_with_first : (name : List ℕ) (t : Tree) (ms : Members) → Rise ms → Rise (with_first name t ms)
 rise_with_first name t no_members h = (tt, tt)
 rise_with_first name t (member other u ms) h = go (text_cmp name other) refl (rise_with_first name t ms h.1)
   where

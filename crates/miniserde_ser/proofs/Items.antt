@@ -19,7 +19,7 @@ AreTrees-snoc : {A : Type 0} (f : A → Tree) (xs : List A) (x : A) → AreTrees
 AreTrees-snoc f [] x h r = (r, tt)
 AreTrees-snoc f (y ∷ ys) x h r = (h.0, AreTrees-snoc f ys x h.1 r)
 
-took : {A : Type 0} (xs : List A) (i : ℕ) (x : A) → i < length xs → x ≡ get_or xs i x → take (i + 1) xs ≡ take i xs ++ x ∷ []
+pub took : {A : Type 0} (xs : List A) (i : ℕ) (x : A) → i < length xs → x ≡ get_or xs i x → take (i + 1) xs ≡ take i xs ++ x ∷ []
 took xs i x h e = take_more xs i x h ∙ ap (λ y. take i xs ++ y ∷ []) (sym e)
 
 -- what a turn of the loop over a list appends

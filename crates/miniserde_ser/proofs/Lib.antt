@@ -1,2 +1,5 @@
 pub mod Items
 pub mod Escapes
+pub mod Members
+pub mod Ordered
+pub mod Names

@@ -2,6 +2,8 @@ use crate::ser::{Fragment, Serialize, Writer, escape_str};
 use miniserde_text::error::{Error, Result};
 use miniserde_text::json::number::NumberText;
 use std::alloc::Global;
+use std::collections::{BTreeMap, HashMap};
+use std::hash::{BuildHasher, BuildHasherDefault, DefaultHasher, Hasher};
 use std::test::Fail;
 
 fn written<T: Serialize>(alloc: Global, value: &T) -> Result<String> {
@@ -153,5 +155,86 @@ fn a_refusal_is_kept(rt: HostRuntime) -> std::result::Result<(), Fail> {
     assert!(rt; matches!(1u64.begin(&mut w), Err(Error::Memory)));
     assert!(rt; matches!(w.refuse(), Error::Memory));
     assert!(rt; matches!(w.into_string(), Err(Error::Memory)));
+    Ok(())
+}
+
+#[test]
+fn ordered_maps(rt: HostRuntime) -> std::result::Result<(), Fail> {
+    let alloc = rt.alloc();
+    let mut flags: BTreeMap<u32, bool> = BTreeMap::new(alloc);
+    assert_eq!(rt; written(alloc, &flags)?.as_str(), "{}");
+    flags.insert(100, true)?;
+    flags.insert(10, false)?;
+    flags.insert(9, true)?;
+    assert_eq!(rt;
+        written(alloc, &flags)?.as_str(),
+        "{\"9\":true,\"10\":false,\"100\":true}"
+    );
+    let mut letters: BTreeMap<char, u8> = BTreeMap::new(alloc);
+    letters.insert('\u{e9}', 1)?;
+    letters.insert('z', 2)?;
+    assert_eq!(rt;
+        written(alloc, &letters)?.as_str(),
+        "{\"z\":2,\"\u{e9}\":1}"
+    );
+    Ok(())
+}
+
+// Each key has the same hash.
+#[derive(Clone, Copy)]
+struct Collides;
+
+impl Hasher for Collides {
+    ghost write = { λ h _. h };
+
+    ghost finish = { λ _. 7 };
+
+    fn finish(&self) -> u64 {
+        7
+    }
+
+    fn write(&mut self, _bytes: &[u8]) {}
+}
+
+impl BuildHasher for Collides {
+    type Hasher = Collides;
+
+    ghost build_hasher = { λ s. s };
+
+    fn build_hasher(&self) -> Collides {
+        *self
+    }
+}
+
+#[test]
+fn hashed_maps(rt: HostRuntime) -> std::result::Result<(), Fail> {
+    let alloc = rt.alloc();
+    let mut flags: HashMap<u32, bool> = HashMap::new(alloc);
+    assert_eq!(rt; written(alloc, &flags)?.as_str(), "{}");
+    let mut collided = HashMap::with_hasher(alloc, Collides);
+    for (key, value) in [(9u32, true), (10, false), (100, true)] {
+        flags.insert(key, value)?;
+        collided.insert(key, value)?;
+    }
+    let want = "{\"10\":false,\"100\":true,\"9\":true}";
+    assert_eq!(rt; written(alloc, &flags)?.as_str(), want);
+    assert_eq!(rt; written(alloc, &collided)?.as_str(), want);
+    Ok(())
+}
+
+// The bytes decide, and not the units of UTF-16, by which the second name would be the first.
+#[test]
+fn names_stand_in_byte_order(rt: HostRuntime) -> std::result::Result<(), Fail> {
+    let alloc = rt.alloc();
+    let hasher: BuildHasherDefault<DefaultHasher> = BuildHasherDefault::new();
+    let mut map: HashMap<String, u8, BuildHasherDefault<DefaultHasher>> = HashMap::with_hasher(
+        alloc, hasher,
+    );
+    map.insert(String::from_str(alloc, "\u{10000}")?, 2)?;
+    map.insert(String::from_str(alloc, "\u{ff61}")?, 1)?;
+    assert_eq!(rt;
+        written(alloc, &map)?.as_str(),
+        "{\"\u{ff61}\":1,\"\u{10000}\":2}"
+    );
     Ok(())
 }

@@ -1,0 +1,89 @@
+//! Maps with no order: the members stand in rising byte order of their names.
+ghost use Rattle.std.specs.Prelude.{◌≡◌, ◌++◌, false, true, OnOk, OnErr, IfOk, IsErrOf, map, string_bytes, IsPermutation, IsSortedByKey};
+ghost use Rattle.std.specs.List.{IsDistinct};
+ghost use Rattle.std.specs.Str.{bytes_eq};
+ghost use Rattle.miniserde_model.specs.Tree.{members};
+ghost use Rattle.miniserde_model.specs.Compact.{compact};
+ghost use Rattle.miniserde_model.specs.IsTree.{IsTree};
+ghost use Rattle.miniserde_model.specs.Normal.{text_cmp};
+ghost use Rattle.miniserde_text.specs.declared.error.Error.TheVariants.{Memory};
+ghost use Rattle.miniserde_ser.specs.Trees.{members_of, in_order};
+
+use crate::ser::{Serialize, Writer};
+use miniserde_text::de::keys::MapKey;
+use miniserde_text::error::Result;
+use std::alloc::Global;
+use std::collections::HashMap;
+use std::hash::{BuildHasher, Hash};
+
+// The text of a key, and that the key is one that Rust has.
+fn name_of<K: MapKey>(alloc: Global, key: &K) -> Result<String>
+    ensures text { IfOk result (λ name. string_bytes name ≡ K.text key.now) }
+    ensures real { K.real key.now }
+    ensures memory { OnErr result (IsErrOf result Memory) }
+{
+    key.ranged();
+    let mut name = String::new(alloc);
+    key.to_key(&mut name)?;
+    Ok(name)
+}
+
+// The names of a map's members beside its values, in the order of the map's walk. No two names are alike.
+fn rows_of<'a, K: MapKey + Hash, V: Serialize, H: BuildHasher>(
+    alloc: Global,
+    table: &'a HashMap<K, V, H>,
+) -> Result<Vec<(String, &'a V)>>
+    ensures ok { IfOk result (λ rows. members_of string_bytes (λ v. V.tree v.now) rows.items
+        ≡ members_of K.text V.tree table.entry.now.entries) }
+    ensures distinct { IfOk result (λ rows. IsDistinct bytes_eq (map (λ r. string_bytes r.0) rows.items)) }
+    ensures memory { OnErr result (IsErrOf result Memory) }
+{
+    let mut rows: Vec<(String, &'a V)> = Vec::new(alloc);
+    for (key, value) in table {
+        let name = name_of(alloc, key)?;
+        rows.push((name, value))?;
+    }
+    Ok(rows)
+}
+
+// Sorts by the bytes of the names.
+fn sort_rows<V>(rows: &mut Vec<(String, &V)>) -> Result<()>
+    ensures sorted { OnOk result (IsSortedByKey (λ r. string_bytes r.0) text_cmp rows.new.items) }
+    ensures permutation { IsPermutation rows.old.items rows.new.items }
+    ensures memory { OnErr result (IsErrOf result Memory) }
+{
+    Ok(rows.sort_by(|a, b| a.0.cmp(&b.0))?)
+}
+
+// Writes an object whose members are the rows.
+fn put_rows<V: Serialize>(rows: &[(String, &V)], w: &mut Writer) -> Result<()>
+    ensures ok { OnOk result (w.new.text ≡ w.old.text
+        ++ compact (members (members_of string_bytes (λ v. V.tree v.now) rows.entry.now))) }
+    ensures is_tree { OnOk result (IsTree (members (members_of string_bytes (λ v. V.tree v.now) rows.entry.now))) }
+    ensures first { OnOk result (w.new.first ≡ false) }
+    ensures whole { OnOk result (w.new.refused ≡ false) }
+    ensures stays { OnOk result (w.old.refused ≡ false) }
+    ensures memory { OnErr result (IsErrOf result Memory) }
+    ensures err { OnErr result (w.new.refused ≡ true) }
+{
+    w.map()?;
+    for row in rows {
+        w.key(row.0.as_str())?;
+        row.1.begin(w)?;
+    }
+    w.map_finish()
+}
+
+impl<K: MapKey + Hash, V: Serialize, H: BuildHasher> Serialize for HashMap<K, V, H> {
+    ghost tree = { λ m. members (in_order (members_of K.text V.tree m.entries)) };
+
+    fn begin(&self, w: &mut Writer) -> Result<()> {
+        let Ok(mut rows) = rows_of(w.alloc(), self) else {
+            return Err(w.refuse());
+        };
+        if sort_rows(&mut rows).is_err() {
+            return Err(w.refuse());
+        }
+        put_rows(rows.as_slice(), w)
+    }
+}
