@@ -28,14 +28,14 @@ bytes_eq-flips a b = elim (bytes_eq b a) as (λ c. bytes_eq b a ≡ c → bytes_
 ] refl
 
 -- an element of a list is its first or one of the others
-contains-cases : {X : Type 0} (y x : X) (xs : List X) → Contains (y ∷ xs) x → (y ≡ x) ⊎ Contains xs x
+pub contains-cases : {X : Type 0} (y x : X) (xs : List X) → Contains (y ∷ xs) x → (y ≡ x) ⊎ Contains xs x
 contains-cases y x xs (zero, h, e) = inl e
 contains-cases y x xs (suc k, h, e) = inr (k, omega arith, e)
 
-contains-first : {X : Type 0} (x : X) (xs : List X) → Contains (x ∷ xs) x
+pub contains-first : {X : Type 0} (x : X) (xs : List X) → Contains (x ∷ xs) x
 contains-first x xs = (0, omega arith, refl)
 
-contains-later : {X : Type 0} (y x : X) (xs : List X) → Contains xs x → Contains (y ∷ xs) x
+pub contains-later : {X : Type 0} (y x : X) (xs : List X) → Contains xs x → Contains (y ∷ xs) x
 contains-later y x xs (k, h, e) = (suc k, omega arith, e)
 
 -- two keys have one code

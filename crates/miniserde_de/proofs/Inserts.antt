@@ -46,7 +46,7 @@ module _ {K V C : Type 0} (code : Key → Key) (content : K → Key) (value : V 
   -- ---- entries in the order of their keys
 
   module _ (cmp : K → K → Ordering) (total : IsTotalOrder cmp) (agrees : (a b : K) → is_eq (cmp a b) ≡ bytes_eq (code_of a) (code_of b)) where
-    absent-below : (k : K) (e : K × V) (es : List (K × V)) → IsStrictlySortedBy cmp (keys_of (e ∷ es)) → cmp k e.0 ≡ Less → entry_at code_of (code_of k) (e ∷ es) ≡ None
+    pub absent-below : (k : K) (e : K × V) (es : List (K × V)) → IsStrictlySortedBy cmp (keys_of (e ∷ es)) → cmp k e.0 ≡ Less → entry_at code_of (code_of k) (e ∷ es) ≡ None
     absent-below k e es s l = none-at code_of (is_at (cmp k)) (code_of k) (λ x. agrees k x ∙ bytes_eq-flips (code_of k) (code_of x)) (e ∷ es) (none_below_head total k e es s l)
 
     inserted-at : (es : List (K × V)) (k : K) (v : V) (q : Key) → IsStrictlySortedBy cmp (keys_of es) → looked code content value (insert_entry cmp es k v) q ≡ put code (looked code content value es) (content k) (value v) q

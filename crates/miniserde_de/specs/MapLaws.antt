@@ -47,7 +47,7 @@ module _ {C : Type 0} (read : Name → Option Key) (code : Key → Key) (mean : 
 -- ---- what the tree means
 
 -- what the members at a code give, or what is there without them
-abbrev given_at : {C : Type 0} → (Tree → Option C) → Option (Key × C) → Option (Key × Tree) → Option (Key × C)
+abbrev pub given_at : {C : Type 0} → (Tree → Option C) → Option (Key × C) → Option (Key × Tree) → Option (Key × C)
 given_at of o None = o
 given_at of o (Some p) = option_map (λ d. (standing o p.0, d)) (of p.1)
 

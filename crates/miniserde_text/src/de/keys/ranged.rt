@@ -3,7 +3,12 @@ ghost use Rattle.std.specs.Prelude.{◌<◌, ◌^◌, FitsSigned, ⊤};
 ghost use Rattle.std.specs.Int.{w8, w16, w32, w64};
 ghost use Rattle.std.specs.List.{AllByRecursion};
 ghost use Rattle.std.specs.Char.{IsScalar};
+ghost use Rattle.std.specs.BTreeMap.{IsOrdered};
+ghost use Rattle.std.specs.HashMap.{IsUnique};
 ghost use Rattle.miniserde_text.specs.Ranged.{OptionReal};
+
+use std::collections::{BTreeMap, HashMap};
+use std::hash::{BuildHasher, Hash};
 
 /// A type whose values say that they are ones that Rust has. A clause can name a number past an integer's range;
 /// `ranged` tells a proof that the value in hand is none.
@@ -171,5 +176,27 @@ impl<T: Ranged, const N: usize> Ranged for [T; N] {
 
     fn ranged(&self) {
         ranged_all(self)
+    }
+}
+
+impl<K: Ranged + Ord, V: Ranged> Ranged for BTreeMap<K, V> {
+    ghost real = { λ m. IsOrdered K.cmp m × AllByRecursion (λ e. K.real e.0 × V.real e.1) m.entries };
+
+    fn ranged(&self) {
+        for (key, value) in self {
+            key.ranged();
+            value.ranged();
+        }
+    }
+}
+
+impl<K: Ranged + Eq + Hash, V: Ranged, H: BuildHasher> Ranged for HashMap<K, V, H> {
+    ghost real = { λ m. IsUnique K.eq m × AllByRecursion (λ e. K.real e.0 × V.real e.1) m.entries };
+
+    fn ranged(&self) {
+        for (key, value) in self {
+            key.ranged();
+            value.ranged();
+        }
     }
 }
