@@ -7,3 +7,6 @@ mod Walks
 pub mod Written
 pub mod Numbers
 pub mod Again
+pub mod Maps
+pub mod Sorted
+pub mod Hashed

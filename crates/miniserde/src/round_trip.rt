@@ -7,26 +7,30 @@ ghost use Rattle.miniserde_text.specs.declared.error.Error.{Error};
 use crate::json::{from_str, to_string};
 use miniserde_de::de::Deserialize;
 use miniserde_ser::ser::Serialize;
-use miniserde_text::de::keys::Ranged;
+use miniserde_text::de::keys::{MapKey, Ranged};
 use miniserde_text::error::{Error, Result};
 use std::alloc::Global;
+use std::collections::{BTreeMap, HashMap};
+use std::hash::{BuildHasher, Hash};
 
 /// A type whose values read back as they were written.
 pub trait RoundTrip: Ranged + Serialize + Deserialize {
-    /// Does nothing. It promises that the value's tree gives a value, and that each value that it gives has the tree.
+    /// Does nothing. It promises that the value's tree gives a value, and that each value that it gives has that tree.
     fn again(&self)
-        ensures { ReadsAgain Self.tree Self.Place.of Self.Place.content (Self.tree self.now) };
+        ensures { ReadsAgain Self.real Self.tree Self.Place.of Self.Place.content (Self.tree self.now) };
 }
 
 /// Writes a value and reads it again.
 pub fn read_again<T: RoundTrip>(alloc: Global, value: &T) -> Result<T>
     ensures same { IfOk result (λ v. T.tree v ≡ T.tree value.now) }
-    ensures itself { ((v : T) → T.tree v ≡ T.tree value.now → T.Place.content v ≡ T.Place.content value.now) → IfOk result (λ v. T.Place.content v ≡ T.Place.content value.now) }
+    ensures itself { ((v : T) → T.real v → T.tree v ≡ T.tree value.now → T.Place.content v ≡ T.Place.content value.now) → IfOk result (λ v. T.Place.content v ≡ T.Place.content value.now) }
     ensures memory { result ≡ Err Error.Invalid → ⊥ }
 {
     value.again();
     let text = to_string(alloc, value)?;
-    from_str(alloc, text.as_str())
+    let again: T = from_str(alloc, text.as_str())?;
+    again.ranged();
+    Ok(again)
 }
 
 impl RoundTrip for () {
@@ -107,7 +111,7 @@ impl RoundTrip for String {
 
 // Each of the values reads back.
 fn again_all<T: RoundTrip>(items: &[T])
-    ensures { AllByRecursion (λ x. ReadsAgain T.tree T.Place.of T.Place.content (T.tree x)) items.now }
+    ensures { AllByRecursion (λ x. ReadsAgain T.real T.tree T.Place.of T.Place.content (T.tree x)) items.now }
 {
     for item in items {
         item.again();
@@ -145,5 +149,24 @@ impl<A: RoundTrip, B: RoundTrip> RoundTrip for (A, B) {
     fn again(&self) {
         self.0.again();
         self.1.again();
+    }
+}
+
+impl<K: MapKey + Ord, V: RoundTrip> RoundTrip for BTreeMap<K, V> {
+    fn again(&self) {
+        for (key, value) in self {
+            key.ranged();
+            value.again();
+        }
+    }
+}
+
+impl<K: MapKey + Hash, V: RoundTrip, H: BuildHasher + Default + Drop> RoundTrip
+    for HashMap<K, V, H> {
+    fn again(&self) {
+        for (key, value) in self {
+            key.ranged();
+            value.again();
+        }
     }
 }

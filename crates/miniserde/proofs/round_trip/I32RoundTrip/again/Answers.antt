@@ -3,4 +3,4 @@ use Rattle.miniserde.proofs.Again.{again-signed, signed-fits}
 use Rattle.miniserde.proofs.round_trip.I32RoundTrip.again.Goals as goal
 
 pub returns : goal.returns
-returns c = again-signed 32 c.args.self.now (signed-fits 32 c.args.self.now (search rules) (search rules))
+returns c = again-signed 32 _ c.args.self.now (signed-fits 32 c.args.self.now (search rules) (search rules))
