@@ -4,6 +4,8 @@
 #[cfg(test)]
 mod accepted;
 #[cfg(test)]
+mod again;
+#[cfg(test)]
 mod devices;
 pub mod entries;
 #[cfg(test)]

@@ -1,37 +1,8 @@
 //! Scalars: read, refused, and written again.
 
-use miniserde::error::{Error, Result};
-use miniserde::json::{from_str, to_string};
-use miniserde::{Deserialize, Serialize};
-use std::alloc::Global;
-use std::process::Abort;
+use super::again::{again, refused, stay};
+use miniserde::json::from_str;
 use std::test::Fail;
-
-/// The text of the value that a text means for a type.
-fn again<T: Deserialize + Serialize>(alloc: Global, text: &str) -> Result<String> {
-    let value: T = from_str(alloc, text)?;
-    to_string(alloc, &value)
-}
-
-/// Each text means a value of the type, which is written alike.
-fn stay<T: Deserialize + Serialize>(
-    rt: &(impl Abort + AllocGlobal),
-    texts: &[&str],
-) -> std::result::Result<(), Fail> {
-    for text in texts {
-        let got = again::<T>(rt.alloc(), text)?;
-        assert_eq!(rt; got.as_str(), *text);
-    }
-    Ok(())
-}
-
-/// None of the texts means a value of the type.
-fn refused<T: Deserialize + Serialize>(rt: &(impl Abort + AllocGlobal), texts: &[&str]) {
-    for text in texts {
-        let got = again::<T>(rt.alloc(), text);
-        assert!(rt; matches!(got, Err(Error::Invalid)), "on {text}");
-    }
-}
 
 #[test]
 fn unsigned_integers(rt: HostRuntime) -> std::result::Result<(), Fail> {

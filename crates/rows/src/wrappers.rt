@@ -1,38 +1,10 @@
 //! Optional and boxed values, pairs, arrays, references and borrowed texts: read, refused, written, and read again.
 
-use miniserde::error::{Error, Result};
+use super::again::{again, refused, stay};
+use miniserde::Deserialize;
 use miniserde::json::{from_str, to_string};
-use miniserde::{Deserialize, RoundTrip, read_again};
-use std::alloc::Global;
 use std::borrow::CowStr;
-use std::process::Abort;
 use std::test::Fail;
-
-/// The text of the value that a text means for a type, once it was written and read again.
-fn again<T: RoundTrip>(alloc: Global, text: &str) -> Result<String> {
-    let value: T = from_str(alloc, text)?;
-    to_string(alloc, &read_again(alloc, &value)?)
-}
-
-/// Each text means a value of the type, which is written alike.
-fn stay<T: RoundTrip>(
-    rt: &(impl Abort + AllocGlobal),
-    texts: &[&str],
-) -> std::result::Result<(), Fail> {
-    for text in texts {
-        let got = again::<T>(rt.alloc(), text)?;
-        assert_eq!(rt; got.as_str(), *text);
-    }
-    Ok(())
-}
-
-/// None of the texts means a value of the type.
-fn refused<T: RoundTrip>(rt: &(impl Abort + AllocGlobal), texts: &[&str]) {
-    for text in texts {
-        let got = again::<T>(rt.alloc(), text);
-        assert!(rt; matches!(got, Err(Error::Invalid)), "on {text}");
-    }
-}
 
 #[test]
 fn scalars_are_read_again(rt: HostRuntime) -> std::result::Result<(), Fail> {
@@ -130,6 +102,11 @@ fn arrays(rt: HostRuntime) -> std::result::Result<(), Fail> {
     assert_eq!(rt; again::<[u8; 0]>(alloc, "[ ]")?.as_str(), "[]");
     refused::<[u8; 0]>(&rt, &["[1]", "null", "{}"]);
     Ok(())
+}
+
+#[test]
+fn lists_four_deep(rt: HostRuntime) -> std::result::Result<(), Fail> {
+    stay::<Vec<Vec<Vec<Vec<u64>>>>>(&rt, &["[]", "[[[[1,2],[]]],[]]"])
 }
 
 #[test]

@@ -10,8 +10,8 @@ ghost use Rattle.miniserde_text.specs.Ranged.{OptionReal};
 use std::collections::{BTreeMap, HashMap};
 use std::hash::{BuildHasher, Hash};
 
-/// A type whose values say that they are ones that Rust has. A clause can name a number past an integer's range;
-/// `ranged` tells a proof that the value in hand is none.
+/// A type whose values say that they are ones that Rust has. A clause can name a number past an integer's range, or
+/// an ordered map whose keys are out of order; `ranged` tells a proof that the value in hand is none.
 pub trait Ranged {
     // The value is one that Rust has.
     ghost real: { Self → Type 0 };

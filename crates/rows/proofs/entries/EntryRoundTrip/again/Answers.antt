@@ -6,4 +6,4 @@ pub returns : goal.returns
 returns c =
     let p = c.again.ensures in
     let q = c.again-2.ensures in
-    ((p.0, q.0), rw (p.1) (cc (q.1)), λ w e. rw (p.2 w.code (ap (λ z. z.0) e), q.2 w.message (ap (λ z. z.1) e)) refl)
+    ((p.0, q.0), rw (p.1) (cc (q.1)), λ w r e. rw (p.2 w.code r (ap (λ z. z.0) e), q.2 w.message tt (ap (λ z. z.1) e)) refl)
