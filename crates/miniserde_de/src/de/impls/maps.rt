@@ -74,20 +74,19 @@ impl<K: MapKey + Ord, V: Deserialize> Collect for BTreeMapOf<K, V> {
     }
 
     fn join(&mut self, child: ChildPlace<V::Place, NoPlace>) -> Result<()>
-        requires free { part_refused V.Place.refused (λ _. None) child ≡ None }
+        requires free { part_refused V.Place.refused (λ _. Some Error.Invalid) child ≡ None }
         requires whole { part_at V.Place.at (λ _. start) child ≡ complete }
         ensures joined { IfOk result (λ _. entry_joined K.code V.Place.outcome (option_map K.content self.old.pending) (looked K.code K.content V.Place.content self.old.entries.entries) child []
             ≡ Some (looked K.code K.content V.Place.content self.new.entries.entries)) }
         ensures invalid { result ≡ Err Error.Invalid
             → entry_joined K.code V.Place.outcome (option_map K.content self.old.pending) (looked K.code K.content V.Place.content self.old.entries.entries) child [] ≡ None }
     {
-        let ChildPlace::First(place) = child;
-        match self.pending.take() {
-            Some(key) => {
+        match (self.pending.take(), child) {
+            (Some(key), ChildPlace::First(place)) => {
                 self.entries.insert(key, V::take(place)?)?;
                 Ok(())
             }
-            None => Err(Error::Invalid),
+            _ => Err(Error::Invalid),
         }
     }
 

@@ -1,6 +1,7 @@
 //! The place of a container's child.
-ghost use Rattle.std.specs.Prelude.{None, ⊤, refl};
+ghost use Rattle.std.specs.Prelude.{Some, None, ⊤, refl};
 ghost use Rattle.miniserde_model.specs.Position.{start};
+ghost use Rattle.miniserde_text.specs.declared.error.Error.{Error};
 
 use super::super::{Step, Visitor};
 use miniserde_text::error::{Error, Result};
@@ -12,9 +13,9 @@ pub enum ChildPlace<P, Q> {
     Second(Q),
 }
 
-/// The place of children of a type that a container does not have: there is none.
+/// The second kind of place where a container has children of one type alone: it has refused from the start.
 #[derive(Drop)]
-pub enum NoPlace {}
+pub struct NoPlace {}
 
 impl Visitor for NoPlace {
     type Out = ();
@@ -27,7 +28,7 @@ impl Visitor for NoPlace {
 
     ghost of = { λ _. None };
 
-    ghost refused = { λ _. None };
+    ghost refused = { λ _. Some Error.Invalid };
 
     ghost at = { λ _. start };
 
@@ -36,10 +37,10 @@ impl Visitor for NoPlace {
     ghost meant = { λ _. refl };
 
     fn step(&mut self, _event: Step<'_>) -> Result<()> {
-        match *self {}
+        Err(Error::Invalid)
     }
 
     fn refuse(&mut self, _error: Error) -> Error {
-        match *self {}
+        Error::Invalid
     }
 }

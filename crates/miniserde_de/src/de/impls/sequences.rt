@@ -66,16 +66,20 @@ impl<T: Deserialize> Collect for ListOf<T> {
     }
 
     fn join(&mut self, child: ChildPlace<T::Place, NoPlace>) -> Result<()>
-        requires free { part_refused T.Place.refused (λ _. None) child ≡ None }
+        requires free { part_refused T.Place.refused (λ _. Some Error.Invalid) child ≡ None }
         requires whole { part_at T.Place.at (λ _. start) child ≡ complete }
         ensures joined { IfOk result (λ _. item_joined T.Place.outcome (map T.Place.content self.old.items.items) child []
             ≡ Some (map T.Place.content self.new.items.items)) }
         ensures invalid { result ≡ Err Error.Invalid
             → item_joined T.Place.outcome (map T.Place.content self.old.items.items) child [] ≡ None }
     {
-        let ChildPlace::First(place) = child;
-        self.items.push(T::take(place)?)?;
-        Ok(())
+        match child {
+            ChildPlace::First(place) => {
+                self.items.push(T::take(place)?)?;
+                Ok(())
+            }
+            ChildPlace::Second(_) => Err(Error::Invalid),
+        }
     }
 
     fn end(self) -> Result<Vec<T>> {

@@ -1,15 +1,17 @@
 use Rattle.std.proofs.Common.{rules, ◌≡◌, Some, ap, sym, ◌∙◌}
 use Rattle.std.specs.Prelude.{option_map}
+use Rattle.miniserde_de.specs.declared.de.impls.parts.ChildPlace.TheVariants.{First}
 use Rattle.miniserde_de.specs.Maps.{looked}
 use Rattle.miniserde_de.proofs.Inserts.{looked-inserted, joined-put}
 use Rattle.miniserde_de.proofs.de.impls.maps.BTreeMapOfCollect.join.Goals as goal
 
-pub returns-in_ok-insert-in-Some-clause-joined : goal.returns-in_ok-insert-in-Some-clause-joined
-returns-in_ok-insert-in-Some-clause-joined g c =
+pub returns-in_ok-insert-in-Some-First-clause-joined : goal.returns-in_ok-insert-in-Some-First-clause-joined
+returns-in_ok-insert-in-Some-First-clause-joined g c =
     let code = g.K.MapKey.code in
     let content = g.K.MapKey.content in
     let value = g.V.Place.Visitor.content in
     let old = c.args.self.now.entries.entries in
-    let p : c.args.self.now.pending ≡ Some c.in-Some.key = search rules in
-    let n = looked-inserted code content value g.K.Ord.cmp g.met.K.Ord.total (λ a b. sym (g.met.K.Ord.matches_eq a b) ∙ g.met.K.MapKey.alike a b) old c.insert.new.self.entries c.in-Some.key c.in_ok-take-in-Some.field-0 c.insert.ensures.was_ordered c.in_ok-insert-in-Some.ensures.entries in
-    rw c.in-First.is (joined-put code _ (looked code content value old) _ _ _ _ (ap (option_map content) p) c.in_ok-take-in-Some.ensures.value.1 n)
+    let p : c.args.self.now.pending ≡ Some c.in-Some-First.key = search rules in
+    let n = looked-inserted code content value g.K.Ord.cmp g.met.K.Ord.total (λ a b. sym (g.met.K.Ord.matches_eq a b) ∙ g.met.K.MapKey.alike a b) old c.insert.new.self.entries c.in-Some-First.key c.in_ok-take-in-Some-First.field-0 c.insert.ensures.was_ordered c.in_ok-insert-in-Some-First.ensures.entries in
+    let is : c.args.child ≡ First c.in-Some-First.place = search rules in
+    rw is (joined-put code _ (looked code content value old) _ _ _ _ (ap (option_map content) p) c.in_ok-take-in-Some-First.ensures.value.1 n)
