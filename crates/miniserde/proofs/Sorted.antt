@@ -14,7 +14,8 @@ use Rattle.miniserde_model.specs.Tree.{Tree, members}
 use Rattle.miniserde_text.specs.Keys.{Key}
 use Rattle.miniserde_de.specs.Objects.{Name}
 use Rattle.miniserde_de.specs.Maps.{entry_at, looked, map_of}
-use Rattle.miniserde_de.proofs.Entries.{same, same_code, code_same, bytes_eq-flips}
+use Rattle.miniserde_de.proofs.Entries.{same, same_code, code_same}
+use Rattle.miniserde_text.proofs.Equal.{bytes_eq-flips}
 use Rattle.miniserde_de.proofs.Inserts.{absent-below}
 use Rattle.miniserde_ser.specs.Trees.{members_of}
 use Rattle.miniserde.specs.RoundTrip.{ReadsAgain}

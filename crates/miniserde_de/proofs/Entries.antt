@@ -10,6 +10,7 @@ use Rattle.std.proofs.lemmas.Map.{NonePasses}
 use Rattle.std.proofs.lemmas.Map.Keys.{IsDistinct-IsPermutation}
 use Rattle.std.proofs.lemmas.Slice.Eq.{bytes_eq-Decides}
 use Rattle.miniserde_text.specs.Keys.{Key}
+use Rattle.miniserde_text.proofs.Equal.{bytes_eq-flips}
 use Rattle.miniserde_de.specs.Maps.{entry_at}
 
 pub same_code : (a b : Key) → bytes_eq a b ≡ true → a ≡ b
@@ -17,15 +18,6 @@ same_code a b h = (bytes_eq-Decides a b).0 h
 
 pub code_same : (a b : Key) → a ≡ b → bytes_eq a b ≡ true
 code_same a b h = (bytes_eq-Decides a b).1 h
-
-pub bytes_eq-flips : (a b : Key) → bytes_eq a b ≡ bytes_eq b a
-bytes_eq-flips a b = elim (bytes_eq b a) as (λ c. bytes_eq b a ≡ c → bytes_eq a b ≡ c) [
-  | true ↦ λ e. code_same a b (sym (same_code b a e))
-  | false ↦ λ e. elim (bytes_eq a b) as (λ c. bytes_eq a b ≡ c → c ≡ false) [
-    | true ↦ λ f. sym (code_same b a (sym (same_code a b f))) ∙ e
-    | false ↦ λ f. refl
-  ] refl
-] refl
 
 -- an element of a list is its first or one of the others
 pub contains-cases : {X : Type 0} (y x : X) (xs : List X) → Contains (y ∷ xs) x → (y ≡ x) ⊎ Contains xs x

@@ -16,7 +16,8 @@ use Rattle.std.proofs.lemmas.Map.{none_passes_from_lookup}
 use Rattle.std.proofs.lemmas.Map.Keys.{IsDistinct-IsPermutation, sorted_tail}
 use Rattle.miniserde_text.specs.Keys.{Key}
 use Rattle.miniserde_de.specs.Maps.{Entries, entry_at, standing, put, looked, map_joined}
-use Rattle.miniserde_de.proofs.Entries.{same_code, bytes_eq-flips, same, none-at, at-permuted}
+use Rattle.miniserde_de.proofs.Entries.{same_code, same, none-at, at-permuted}
+use Rattle.miniserde_text.proofs.Equal.{bytes_eq-flips}
 
 module _ {K V C : Type 0} (code : Key → Key) (content : K → Key) (value : V → C) where
   abbrev pub code_of : K → Key

@@ -7,8 +7,8 @@ use Rattle.std.proofs.lemmas.Map.Lookups.{exact_bytes}
 use Rattle.std.proofs.lemmas.Map.Keys.{IsDistinct-head, IsDistinct-tail, IsDistinct-IsPermutation}
 use Rattle.std.proofs.lemmas.List.Sorted.{All-permutation, IsPermutation-map, IsPermutation-sym}
 use Rattle.std.proofs.lemmas.List.Elements.{All-from_recursion, recursion_from_All}
-use Rattle.std.proofs.lemmas.Bool.Decides.{same_from_decides, Decides-like}
 use Rattle.std.proofs.lemmas.Slice.Eq.{bytes_eq-Decides}
+use Rattle.miniserde_text.proofs.Equal.{bytes_eq-flips}
 use Rattle.miniserde_model.specs.Tree.{Tree, Members, no_members, member}
 use Rattle.miniserde_model.specs.Normal.{text_cmp, or_else, last_of, Rise}
 use Rattle.miniserde_model.proofs.Lookups.{last_with_first, rise_with_first}
@@ -27,9 +27,6 @@ last_in_order q (member name t ms) = last_with_first q name t (in_order ms) ∙ 
 
 -- ---- what members have at a name, by their entries
 
-flipped : (a b : List ℕ) → bytes_eq a b ≡ bytes_eq b a
-flipped a b = same_from_decides _ _ (bytes_eq-Decides a b) (Decides-like _ (λ e. sym e) (λ e. sym e) (bytes_eq-Decides b a))
-
 module _ {K V : Type 0} (text : K → List ℕ) (f : V → Tree) where
   abbrev pub names : List (K × V) → List (List ℕ)
   names es = map (λ e. text e.0) es
@@ -40,7 +37,7 @@ module _ {K V : Type 0} (text : K → List ℕ) (f : V → Tree) where
 
   none_of : (q : List ℕ) (es : List (K × V)) → AllByRecursion (λ n. bytes_eq q n ≡ false) (names es) → last_of q (members_of text f es) ≡ None
   none_of q [] h = refl
-  none_of q (e ∷ es) h = rw (none_of q es h.1, flipped (text e.0) q, h.0) refl
+  none_of q (e ∷ es) h = rw (none_of q es h.1, bytes_eq-flips (text e.0) q, h.0) refl
 
   kept : (ms : Members) (d : K × V) (es : List (K × V)) → AllByRecursion (Stands ms) es → AllByRecursion (Stands (member (text d.0) (f d.1) ms)) es
   kept ms d [] h = tt
@@ -101,5 +98,5 @@ module _ {K V : Type 0} (text : K → List ℕ) (f : V → Tree) where
 
   pub in_order_sorted : (xs ys : List (K × V)) → IsDistinct bytes_eq (names xs) → IsSortedByKey (λ e. text e.0) text_cmp ys → IsPermutation xs ys → members_of text f ys ≡ in_order (members_of text f xs)
   in_order_sorted xs ys d s p =
-      let dy = IsDistinct-IsPermutation bytes_eq flipped (names xs) (names ys) (IsPermutation-map (λ e. text e.0) xs ys p) d in
+      let dy = IsDistinct-IsPermutation bytes_eq bytes_eq-flips (names xs) (names ys) (IsPermutation-map (λ e. text e.0) xs ys p) d in
       one_rising _ _ (rise_sorted ys dy s) (rise_in_order (members_of text f xs)) (λ q. sym (alike xs ys d dy p q) ∙ sym (last_in_order q (members_of text f xs)))

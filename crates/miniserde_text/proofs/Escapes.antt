@@ -8,7 +8,8 @@ use lib.Utf8.{scalar_cases}
 use Rattle.miniserde_model.specs.String.{IsRaw, IsShort, quote, backslash, slash, backspace, form_feed, line_feed, carriage_return, tab, IsUnit, IsPair, IsPiece, raw, short, unit, pair}
 use Rattle.miniserde_text.specs.Reading.{is_hex, is_high, is_low, begins_unit, unit_at, begins_escape, pair_of, low_at, unicode_at, short_at, escape_at}
 use Rattle.miniserde_text.proofs.Runs.{or_true}
-use Rattle.miniserde_text.proofs.Options.{chosen, some_if, none_if, then_if, map_some, bind_some, some_same, first_byte, and_parts}
+use Rattle.std.proofs.lemmas.Option.{cond_some, same_Some}
+use Rattle.miniserde_text.proofs.Options.{chosen, none_if, then_if, map_some, bind_some, first_byte, and_parts}
 
 -- ---- what is read
 
@@ -37,7 +38,7 @@ record TakesUnit (s : List ℕ) (u : ℕ) (r : List ℕ) : Type 0 where
 
 unit_takes : (s : List ℕ) (u : ℕ) (r : List ℕ) → unit_at s ≡ Some (u, r) → TakesUnit s u r
 unit_takes s u r e =
-    let q = some_if (begins_unit s) (value_of s, drop 4 s) (u, r) e in
+    let q = cond_some (begins_unit s) (value_of s, drop 4 s) (u, r) e in
     let c = and_parts _ (is_hex (slice_index s 3)) q.0 in
     let b = and_parts _ (is_hex (slice_index s 2)) c.0 in
     let a = and_parts (is_hex (slice_index s 0)) (is_hex (slice_index s 1)) b.0 in
@@ -77,7 +78,7 @@ low_takes u s c r e =
     let q = then_if (begins_escape s) _ (c, r) e in
     let b = and_parts (slice_index s 0 == 92) _ q.0 in
     let f = bind_some _ (unit_at (drop 2 s)) (c, r) q.1 in
-    let g = some_if (is_low f.0.0) (pair_of u f.0.0, f.0.1) (c, r) f.2 in
+    let g = cond_some (is_low f.0.0) (pair_of u f.0.0, f.0.1) (c, r) f.2 in
     let l = unit_takes (drop 2 s) f.0.0 f.0.1 f.1 in
     record {
       low = f.0.0;
@@ -118,7 +119,7 @@ unicode_takes s c r e =
           )
       | inr p ↦
           let n = none_if (is_low f.0.0) _ _ p.1 in
-          let same : f.0 ≡ (c, r) = some_same _ _ n.1 in
+          let same : f.0 ≡ (c, r) = same_Some _ _ n.1 in
           let at : f.0.0 ≡ c = ap (λ x. x.0) same in
           let one = subst (IsUnit (92 ∷ 117 ∷ h.digits)) at h.is_unit in
           (h.digits, unit (unit_scalar c (unit_small _ c one) (ap is_high (sym at) ∙ p.0) (ap is_low (sym at) ∙ n.0)) one, h.text ∙ ap (λ x. h.digits ++ x.1) same)
@@ -139,17 +140,17 @@ self_short x h = elim (or_true (x == 34) _ h) [
 short_is : (x c : ℕ) → short_at x ≡ Some c → IsShort x c
 short_is x c e =
     elim (chosen ((x == 34) || ((x == 92) || (x == 47))) _ _ _ e) [
-      | inl p ↦ subst (IsShort x) (some_same _ _ p.1) (self_short x p.0)
+      | inl p ↦ subst (IsShort x) (same_Some _ _ p.1) (self_short x p.0)
       | inr p ↦ elim (chosen (x == 98) _ _ _ p.1) [
-        | inl p ↦ short_same 98 8 backspace x c (sym (eqb-true x 98 p.0)) (some_same _ _ p.1)
+        | inl p ↦ short_same 98 8 backspace x c (sym (eqb-true x 98 p.0)) (same_Some _ _ p.1)
         | inr p ↦ elim (chosen (x == 102) _ _ _ p.1) [
-          | inl p ↦ short_same 102 12 form_feed x c (sym (eqb-true x 102 p.0)) (some_same _ _ p.1)
+          | inl p ↦ short_same 102 12 form_feed x c (sym (eqb-true x 102 p.0)) (same_Some _ _ p.1)
           | inr p ↦ elim (chosen (x == 110) _ _ _ p.1) [
-            | inl p ↦ short_same 110 10 line_feed x c (sym (eqb-true x 110 p.0)) (some_same _ _ p.1)
+            | inl p ↦ short_same 110 10 line_feed x c (sym (eqb-true x 110 p.0)) (same_Some _ _ p.1)
             | inr p ↦ elim (chosen (x == 114) _ _ _ p.1) [
-              | inl p ↦ short_same 114 13 carriage_return x c (sym (eqb-true x 114 p.0)) (some_same _ _ p.1)
+              | inl p ↦ short_same 114 13 carriage_return x c (sym (eqb-true x 114 p.0)) (same_Some _ _ p.1)
               | inr p ↦ elim (chosen (x == 116) (Some 9) None _ p.1) [
-                | inl p ↦ short_same 116 9 tab x c (sym (eqb-true x 116 p.0)) (some_same _ _ p.1)
+                | inl p ↦ short_same 116 9 tab x c (sym (eqb-true x 116 p.0)) (same_Some _ _ p.1)
                 | inr p ↦ let never : None ≡ Some c = p.1 in cc
               ]
             ]

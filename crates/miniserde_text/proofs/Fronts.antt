@@ -24,7 +24,8 @@ use Rattle.miniserde_text.specs.Lexer.{front_of, StandsFor, EventStandsFor, Even
 use Rattle.miniserde_text.specs.Reading.{after_run, number_at, word_at, front_by, front_at}
 use Rattle.miniserde_text.specs.Inside.{Chars, Leads, Taken, EventTakesText, TakesText, ReachesBackslash}
 use Rattle.miniserde_text.proofs.Runs.{stops_at, stands_of, stands_only}
-use Rattle.miniserde_text.proofs.Options.{chosen, some_if, some_same, first_byte, none_is_some}
+use Rattle.std.proofs.lemmas.Option.{cond_some, same_Some}
+use Rattle.miniserde_text.proofs.Options.{chosen, first_byte, none_is_some}
 use Rattle.miniserde_text.proofs.Leaves.{event_of, number_piece}
 use Rattle.miniserde_text.proofs.Numbers.{Numbered, number_takes, number_only}
 use Rattle.miniserde_text.proofs.Strings.{string_leads, string_chars}
@@ -34,7 +35,7 @@ use Rattle.miniserde_text.proofs.Strings.{string_leads, string_chars}
 word_takes : (w : List ℕ) (e g : Event) (t r : List ℕ) → word_at w e t ≡ Some (g, r) → (e ≡ g) × (t ≡ w ++ r)
 unfolding word_at
 word_takes w e g t r h =
-    let p = some_if (starts_with nat_eq t w) (e, drop (length w) t) (g, r) h in
+    let p = cond_some (starts_with nat_eq t w) (e, drop (length w) t) (g, r) h in
     let j : t ≡ w ++ drop (length w) t = (starts_is Decides-eqb t w _ refl).0 p.0 in
     (ap (λ q. q.0) p.1, j ∙ ap (λ q. w ++ q.1) p.1)
 
@@ -50,7 +51,7 @@ as_word w e g t r h k f = let q = word_takes w e g t r f in subst (λ x. Taken t
 
 as_byte : (c : ℕ) (e g : Event) (t u r : List ℕ) → Piece e (c ∷ []) → Ends e r → t ≡ c ∷ u → ◌≡◌ {A = Option (Event × List ℕ)} (Some (e, u)) (Some (g, r)) → Taken t g r
 as_byte c e g t u r h k j f =
-    let q = some_same _ _ f in
+    let q = same_Some _ _ f in
     subst (λ x. Taken t x r) (ap (λ x. x.0) q) ((c ∷ [], h, j ∙ ap (λ x. c ∷ x.1) q), k)
 
 as_number : (t r : List ℕ) (e : Event) → Numbered t e r → Taken t e r

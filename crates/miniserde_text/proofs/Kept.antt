@@ -10,7 +10,7 @@ use Rattle.miniserde_text.specs.declared.json.lex.Event.{Event}
 use Rattle.miniserde_text.specs.declared.json.lex.Event.TheVariants.{Null, Bool as Truth, Negative, Nonnegative, Number, Str, SeqStart, MapStart}
 use Rattle.miniserde_text.specs.Lexer.{front_of}
 use Rattle.miniserde_text.specs.Reading.{number_at}
-use Rattle.miniserde_text.proofs.Options.{some_same}
+use Rattle.std.proofs.lemmas.Option.{same_Some}
 use Rattle.miniserde_text.proofs.Leaves.{event_of, leaf_of_float}
 use Rattle.miniserde_text.proofs.Numbers.{number_takes, number_only}
 
@@ -26,7 +26,7 @@ kept_read t n = ap number_at (sym (append-nil t)) ∙ number_only t [] n.0 tt �
 -- what reading keeps is a kept text exactly where nothing is left
 pub kept_where : (t x r : List ℕ) → number_at t ≡ Some (float x, r) → IsTrue (length r == 0) ↔ IsNumber t (num t)
 kept_where t x [] h = (λ _. kept_of t x h, λ _. refl)
-kept_where t x (c ∷ r) h = (λ e. grind arith, λ n. ap (λ w. length w == 0) (ap (λ q. q.1) (some_same _ _ (sym h ∙ kept_read t n))))
+kept_where t x (c ∷ r) h = (λ e. grind arith, λ n. ap (λ w. length w == 0) (ap (λ q. q.1) (same_Some _ _ (sym h ∙ kept_read t n))))
 
 -- where reading does not keep a text, it is none
 pub no_kept : (t : List ℕ) → (IsNumber t (num t) → ⊥) → IsTrue false ↔ IsNumber t (num t)

@@ -10,3 +10,4 @@ pub mod Steps
 pub mod Fronts
 pub mod Names
 pub mod Kept
+pub mod Equal

@@ -11,7 +11,8 @@ use Rattle.miniserde_model.proofs.Runs.{AllPass}
 use Rattle.miniserde_text.specs.Reading.{after_run, is_digit, is_sign, is_exponent_letter, after_digits, after_minus, after_whole, after_fraction, after_sign, after_exponent, after_tail, before, event_of_parts, event_at, number_at}
 use Rattle.miniserde_text.specs.Inside.{Leads}
 use Rattle.miniserde_text.proofs.Runs.{run_split, run_only, stops_at, stops_of, or_true}
-use Rattle.miniserde_text.proofs.Options.{chosen, some_if, none_if, bind_some, some_same, first_byte, first_of_test, before_append, before_is}
+use Rattle.std.proofs.lemmas.Option.{cond_some, same_Some}
+use Rattle.miniserde_text.proofs.Options.{chosen, none_if, bind_some, first_byte, first_of_test, before_append, before_is}
 use Rattle.miniserde_text.proofs.Leaves.{event_of, sign_of, whole_digits, whole_first, event_of_text}
 
 digit_of : (c : ℕ) → is_digit c ≡ true → IsDigit c
@@ -33,7 +34,7 @@ digits_pass (c ∷ w) h = (digit_passes c h.0, digits_pass w h.1)
 digits_takes : (t r : List ℕ) → after_digits t ≡ Some r → Leads AreDigits t r
 digits_takes [] r e = cc
 digits_takes (x ∷ xs) r e =
-    let q = some_if (is_digit x) (after_run is_digit (x ∷ xs)) r e in
+    let q = cond_some (is_digit x) (after_run is_digit (x ∷ xs)) r e in
     let w = run_split is_digit xs in
     let rest : after_run is_digit xs ≡ r = sym (ap (λ b. cond b (after_run is_digit xs) (x ∷ xs)) q.0) ∙ q.1 in
     (x ∷ w.0, (omega arith, (digit_of x q.0, digits_of w.0 w.1)), ap (λ t. x ∷ t) (w.2 ∙ ap (λ t. w.0 ++ t) rest))
@@ -47,7 +48,7 @@ whole_of_digits t r (c ∷ cs) j e h =
 pub whole_takes : (t r : List ℕ) → after_whole t ≡ Some r → Leads IsWhole t r
 whole_takes t r e =
     elim (chosen (slice_index t 0 == 48) _ _ _ e) [
-      | inl p ↦ (48 ∷ [], inl (refl, refl), first_byte t 47 (eqb-true _ 48 p.0) ∙ ap (λ x. 48 ∷ x) (some_same _ _ p.1))
+      | inl p ↦ (48 ∷ [], inl (refl, refl), first_byte t 47 (eqb-true _ 48 p.0) ∙ ap (λ x. 48 ∷ x) (same_Some _ _ p.1))
       | inr p ↦ let d = digits_takes t r p.1 in (d.0, whole_of_digits t r d.0 d.2 p.0 d.1, d.2)
     ]
 
@@ -55,7 +56,7 @@ fraction_takes : (t r : List ℕ) → after_fraction t ≡ Some r → Leads IsFr
 fraction_takes t r e =
     elim (chosen (slice_index t 0 == 46) _ _ _ e) [
       | inl p ↦ let d = digits_takes (drop 1 t) r p.1 in (46 ∷ d.0, inr (d.0, refl, d.1), first_byte t 45 (eqb-true _ 46 p.0) ∙ ap (λ x. 46 ∷ x) d.2)
-      | inr p ↦ ([], inl refl, some_same _ _ p.1)
+      | inr p ↦ ([], inl refl, same_Some _ _ p.1)
     ]
 
 sign_is : (c : ℕ) → is_sign c ≡ true → IsSign (c ∷ [])
@@ -94,7 +95,7 @@ exponent_takes t r e =
             inr (c, d.sign, d.digits, refl, letter_is c p.0, d.is_sign, d.are_digits),
             first_of_test is_exponent_letter t refl p.0 ∙ ap (λ x. c ∷ x) (d.text ∙ sym (append_assoc d.sign d.digits r)),
           )
-      | inr p ↦ ([], inl refl, some_same _ _ p.1)
+      | inr p ↦ ([], inl refl, same_Some _ _ p.1)
     ]
 
 minus_cases : (t : List ℕ) (m : Bool) → (slice_index t 0 == 45) ≡ m → t ≡ sign_of m ++ cond m (drop 1 t) t
@@ -147,7 +148,7 @@ number_takes t e r h =
     let w = bind_some _ (after_whole (after_minus t)) (e, r) h in
     let q = bind_some _ (after_tail w.0) (e, r) w.2 in
     let one = none_if _ _ _ q.2 in
-    subst (λ x. Numbered t x.0 x.1) (some_same _ _ one.1) (number_of t w.0 q.0 (whole_takes (after_minus t) w.0 w.1) (tail_takes w.0 q.0 q.1) one.0)
+    subst (λ x. Numbered t x.0 x.1) (same_Some _ _ one.1) (number_of t w.0 q.0 (whole_takes (after_minus t) w.0 w.1) (tail_takes w.0 q.0 q.1) one.0)
 
 pub splits_at : (t w r : List ℕ) → after_whole (after_minus t) ≡ Some w → after_tail w ≡ Some r → (b : List ℕ) × (t ≡ b ++ r)
 splits_at t w r h k =

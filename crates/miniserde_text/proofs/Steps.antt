@@ -9,7 +9,8 @@ use Rattle.miniserde_model.specs.Lexing.{Kind, in_list, in_members, IsByte, clos
 use Rattle.miniserde_text.specs.Reading.{after_run, is_closing, begins, step_at}
 use Rattle.miniserde_text.specs.Inside.{Leads}
 use Rattle.miniserde_text.proofs.Runs.{run_split, run_only_space, run_stops, Stops, whitespace_of, stands_of, stands_only}
-use Rattle.miniserde_text.proofs.Options.{chosen, some_if, some_same, first_byte}
+use Rattle.std.proofs.lemmas.Option.{cond_some, same_Some}
+use Rattle.miniserde_text.proofs.Options.{chosen, first_byte}
 
 -- what follows, behind whitespace
 abbrev Goes : Kind → Bool → Bool → List ℕ → List ℕ → Type 0
@@ -33,14 +34,14 @@ closing_first in_list t e = first_byte t 92 e
 
 other : (k : Kind) (first : Bool) (t : List ℕ) (a : Bool) (r : List ℕ) → Stops is_space t
     → cond {A = Option (Bool × List ℕ)} first (cond (begins t) (Some (false, t)) None) (cond (slice_index t 0 == 44) (Some (false, drop 1 t)) None) ≡ Some (a, r) → Goes k first a t r
-other k true t a r s e = let q = some_if (begins t) (false, t) (a, r) e in subst (λ x. Goes k true x.0 t x.1) q.1 (([], refl, refl), begins_is t s q.0)
+other k true t a r s e = let q = cond_some (begins t) (false, t) (a, r) e in subst (λ x. Goes k true x.0 t x.1) q.1 (([], refl, refl), begins_is t s q.0)
 other k false t a r s e =
-    let q = some_if (slice_index t 0 == 44) (false, drop 1 t) (a, r) e in subst (λ x. Goes k false x.0 t x.1) q.1 (44 ∷ [], refl, first_byte t 43 (eqb-true _ 44 q.0))
+    let q = cond_some (slice_index t 0 == 44) (false, drop 1 t) (a, r) e in subst (λ x. Goes k false x.0 t x.1) q.1 (44 ∷ [], refl, first_byte t 43 (eqb-true _ 44 q.0))
 
 step_goes : (k : Kind) (first : Bool) (t : List ℕ) (a : Bool) (r : List ℕ) → Stops is_space t → step_at k first t ≡ Some (a, r) → Goes k first a t r
 unfolding step_at
 step_goes k first t a r s e = elim (chosen (slice_index t 0 == closing k) _ _ _ e) [
-  | inl p ↦ let q = some_same _ _ p.1 in subst (λ x. Goes k first x.0 t x.1) q (closing k ∷ [], refl, closing_first k t (eqb-true _ (closing k) p.0))
+  | inl p ↦ let q = same_Some _ _ p.1 in subst (λ x. Goes k first x.0 t x.1) q (closing k ∷ [], refl, closing_first k t (eqb-true _ (closing k) p.0))
   | inr p ↦ other k first t a r s p.1
 ]
 
