@@ -57,6 +57,15 @@ pub trait Visitor: Drop {
     // What a tree gives.
     ghost of: { Tree → Option Content };
 
+    // The events of a tree give what the tree gives.
+    ghost meant: { (t : Tree) → mean (events t) ≡ of t };
+
+    // The tree means the value.
+    ghost reads: { Tree → Self.Out → Type 0 };
+
+    // A tree means a value exactly where it gives what counts of the value.
+    ghost given: { (t : Tree) (v : Self.Out) → reads t v ↔ (of t ≡ Some (content v)) };
+
     // The refusal that the place keeps.
     ghost refused: { Self → Option Error };
 
@@ -190,17 +199,11 @@ pub trait Visitor: Drop {
     {
         self.step(Step::Finish)
     }
-
-    // The events of a tree give what the tree gives.
-    ghost meant: { (t : Tree) → mean (events t) ≡ of t };
 }
 
 /// A type that can be read.
 pub trait Deserialize: Sized + Drop {
     type Place: Visitor<Out = Self>;
-
-    // The tree means the value.
-    ghost reads: { Tree → Self → Type 0 };
 
     // The value of a struct's field that is not met.
     ghost absent: { Option Self };
@@ -226,7 +229,4 @@ pub trait Deserialize: Sized + Drop {
         ensures invalid { result ≡ Err Error.Invalid → Self.Place.refused place ≡ None → Self.Place.at place ≡ complete → Self.Place.outcome place [] ≡ None }
         ensures memory { result ≡ Err Error.Memory → Self.Place.refused place ≡ None → (Self.Place.at place ≡ complete) × (Self.Place.outcome place [] ≢ None) }
         ensures keeps { (r : Error) → Self.Place.refused place ≡ Some r → result ≡ Err r };
-
-    // A tree means a value exactly where it gives what counts of the value.
-    ghost given: { (t : Tree) (v : Self) → reads t v ↔ (Self.Place.of t ≡ Some (Self.Place.content v)) };
 }

@@ -1,5 +1,5 @@
 //! A place that takes one value of any shape and collects nothing.
-ghost use Rattle.std.specs.Prelude.{◌≡◌, ◌⊎◌, ◌^◌, ◌≤◌, Some, None, Err, IfOk, refl};
+ghost use Rattle.std.specs.Prelude.{◌≡◌, ◌⊎◌, ◌^◌, ◌≤◌, Some, None, Err, IfOk, ⊤, refl};
 ghost use Rattle.miniserde_model.specs.Position.{start, next};
 ghost use Rattle.miniserde_text.specs.declared.error.Error.{Error};
 ghost use Rattle.miniserde_de.specs.Step.{event_of};
@@ -53,6 +53,10 @@ impl Visitor for Ignore {
     ghost outcome = { λ _ _. Some tt };
 
     ghost meant = { λ _. refl };
+
+    ghost reads = { λ _ _. ⊤ };
+
+    ghost given = { λ t v. (λ _. refl, λ _. tt) };
 
     /// Takes any event: it refuses where it was refused before, and where 2^64 containers would be open.
     fn step(&mut self, event: Step<'_>) -> Result<()>

@@ -2,11 +2,6 @@
 ghost use Rattle.std.specs.Prelude.{◌≡◌, ◌<◌, ◌^◌, List, Option, None, Some, Ok, Err, IfOk, ℕ};
 ghost use Rattle.std.specs.String.{string_bytes};
 ghost use Rattle.miniserde_model.specs.Tree.{list, tree, no_trees, nonneg, str};
-ghost use Rattle.miniserde_de.specs.Leaf.{lone, of_leaf};
-ghost use Rattle.miniserde_de.specs.LeafLaws.{lone-events};
-ghost use Rattle.miniserde_de.specs.Integers.{unsigned_of};
-ghost use Rattle.miniserde_de.specs.Words.{text_of};
-ghost use Rattle.miniserde_de.specs.PairLaws.{pair-meant};
 
 use miniserde::de::{Deserialize, PairPlace, Ranged, Step, Visitor};
 use miniserde::ser::{Serialize, Writer};
@@ -43,7 +38,11 @@ impl Visitor for EntryPlace {
 
     ghost outcome = { λ p. ⟦<PairPlace<u32, String> as Visitor>⟧.outcome p.pair };
 
-    ghost meant = { pair-meant (lone (unsigned_of 32)) (lone text_of) (of_leaf (unsigned_of 32)) (of_leaf text_of) (lone-events (unsigned_of 32)) (lone-events text_of) };
+    ghost meant = { ⟦<PairPlace<u32, String> as Visitor>⟧.meant };
+
+    ghost reads = { λ t v. ⟦<PairPlace<u32, String> as Visitor>⟧.reads t (v.code, v.message) };
+
+    ghost given = { λ t v. ⟦<PairPlace<u32, String> as Visitor>⟧.given t (v.code, v.message) };
 
     fn step(&mut self, event: Step<'_>) -> Result<()> {
         self.pair.step(event)
@@ -57,11 +56,7 @@ impl Visitor for EntryPlace {
 impl Deserialize for Entry {
     type Place = EntryPlace;
 
-    ghost reads = { λ t v. ⟦<EntryPlace as Visitor>⟧.of t ≡ Some (⟦<EntryPlace as Visitor>⟧.content v) };
-
     ghost absent = { None };
-
-    ghost given = { λ t v. (λ e. e, λ e. e) };
 
     fn begin(alloc: Global) -> Result<EntryPlace> {
         Ok(EntryPlace {

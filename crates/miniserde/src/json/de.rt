@@ -22,11 +22,11 @@ use std::alloc::Global;
 /// Reads one value, from a text that holds nothing else.
 pub fn from_str<T: Deserialize>(alloc: Global, j: &str) -> Result<T>
     // The text means the value.
-    ensures ok { IfOk result (λ v. (t : Tree) × IsJson j.now t × T.reads t v) }
+    ensures ok { IfOk result (λ v. (t : Tree) × IsJson j.now t × T.Place.reads t v) }
     ensures content { IfOk result (λ v. (t : Tree) × IsJson j.now t × (T.Place.of t ≡ Some (T.Place.content v))) }
 
     // It has no tree, or one that means no value.
-    ensures invalid { result ≡ Err Error.Invalid → (t : Tree) → IsJson j.now t → (v : T) → T.reads t v → ⊥ }
+    ensures invalid { result ≡ Err Error.Invalid → (t : Tree) → IsJson j.now t → (v : T) → T.Place.reads t v → ⊥ }
     ensures none { result ≡ Err Error.Invalid → (t : Tree) → IsJson j.now t → T.Place.of t ≡ None }
 
     // So it has one tree at most.

@@ -117,6 +117,10 @@ impl<T: Deserialize, const N: usize> Visitor for ArrayPlace<T, N> {
 
     ghost meant = { array-meant N T.Place.mean T.Place.of T.Place.meant };
 
+    ghost reads = { ArrayReads N T.Place.reads };
+
+    ghost given = { array-given N T.Place.reads T.Place.of T.Place.content T.Place.given };
+
     fn step(&mut self, event: Step<'_>) -> Result<()> {
         self.list.step(event)
     }
@@ -129,13 +133,9 @@ impl<T: Deserialize, const N: usize> Visitor for ArrayPlace<T, N> {
 impl<T: Deserialize, const N: usize> Deserialize for [T; N] {
     type Place = ArrayPlace<T, N>;
 
-    ghost reads = { ArrayReads N T.reads };
-
     ghost absent = { None };
 
     ghost begins_free = { true };
-
-    ghost given = { array-given N T.reads T.Place.of T.Place.content T.given };
 
     fn begin(alloc: Global) -> Result<ArrayPlace<T, N>> {
         let items = Vec::new(alloc);

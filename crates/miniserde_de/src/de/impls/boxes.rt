@@ -31,6 +31,10 @@ impl<T: Deserialize> Visitor for BoxPlace<T> {
 
     ghost meant = { T.Place.meant };
 
+    ghost reads = { λ t b. T.Place.reads t b.value };
+
+    ghost given = { λ t b. T.Place.given t b.value };
+
     fn step(&mut self, event: Step<'_>) -> Result<()> {
         self.place.step(event)
     }
@@ -43,13 +47,9 @@ impl<T: Deserialize> Visitor for BoxPlace<T> {
 impl<T: Deserialize> Deserialize for Box<T> {
     type Place = BoxPlace<T>;
 
-    ghost reads = { λ t b. T.reads t b.value };
-
     ghost absent = { None };
 
     ghost begins_free = { T.begins_free };
-
-    ghost given = { λ t b. T.given t b.value };
 
     fn begin(alloc: Global) -> Result<BoxPlace<T>> {
         Ok(BoxPlace {

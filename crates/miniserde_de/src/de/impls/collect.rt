@@ -45,6 +45,9 @@ pub trait Collect: Sized + Drop {
     // What a tree gives.
     ghost of: { Tree → Option Content };
 
+    // The events of a tree give what the tree gives.
+    ghost meant: { (t : Tree) → opened opening (between kind empty) (events t) ≡ of t };
+
     // What the events that are still to come to a child's place give.
     ghost joined: { Self → ChildPlace Self.Child Self.Other → List Event → Option State };
 
@@ -77,7 +80,4 @@ pub trait Collect: Sized + Drop {
 
     // What a child gives goes through what its place gives.
     ghost factors: { (c : Self) → (put : Either Self.Child.Content Self.Other.Content → Option State) × ((p : ChildPlace Self.Child Self.Other) (es : List Event) → joined c p es ≡ option_and_then put (part_outcome Self.Child.outcome Self.Other.outcome p es)) };
-
-    // The events of a tree give what the tree gives.
-    ghost meant: { (t : Tree) → opened opening (between kind empty) (events t) ≡ of t };
 }

@@ -98,6 +98,10 @@ impl<C: Collect> Visitor for ContainerPlace<C> {
 
     ghost meant = { C.meant };
 
+    ghost reads = { λ t v. C.of t ≡ Some (C.content v) };
+
+    ghost given = { λ t v. (λ e. e, λ e. e) };
+
     fn step(&mut self, event: Step<'_>) -> Result<()> {
         let stage = mem::replace(&mut self.stage, Stage::Refused(Error::Invalid));
         match stage {
@@ -130,7 +134,8 @@ impl<C: Collect> Visitor for ContainerPlace<C> {
 }
 
 impl<C: Collect> ContainerPlace<C> {
-    pub(crate) fn new(alloc: Global, collector: C) -> ContainerPlace<C>
+    /// A fresh place, over no children yet.
+    pub fn new(alloc: Global, collector: C) -> ContainerPlace<C>
         requires { C.state collector ≡ C.empty }
         ensures free { refusal result.stage ≡ None }
         ensures fresh { stage_at C.Collect.own result.stage ≡ start }
@@ -142,7 +147,8 @@ impl<C: Collect> ContainerPlace<C> {
         }
     }
 
-    pub(crate) fn take(self) -> Result<C::Out>
+    /// The whole, where it is complete and nothing was refused.
+    pub fn take(self) -> Result<C::Out>
         ensures keeps { (r : Error) → refusal self.stage ≡ Some r → result ≡ Err r }
         ensures value { IfOk result (λ v. (stage_at C.Collect.own self.stage ≡ complete) × (stage_outcome C.Collect.own self.stage [] ≡ Some (C.content v))) }
         ensures invalid { refusal self.stage ≡ None → IfErr result (λ r. (r ≡ Error.Invalid) × (stage_at C.Collect.own self.stage ≢ complete)) }

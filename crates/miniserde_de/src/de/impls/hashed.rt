@@ -117,6 +117,10 @@ impl<K: MapKey + Hash, V: Deserialize, H: BuildHasher + Default + Drop> Visitor
 
     ghost meant = { map-meant K.read K.code V.Place.mean V.Place.of V.Place.meant };
 
+    ghost reads = { λ t v. MapReads K.read K.code K.content V.Place.of V.Place.reads t v.entries };
+
+    ghost given = { λ t v. map-given K.read K.code K.content V.Place.of V.Place.content V.Place.reads V.Place.given t v.entries };
+
     fn step(&mut self, event: Step<'_>) -> Result<()> {
         self.object.step(event)
     }
@@ -130,11 +134,7 @@ impl<K: MapKey + Hash, V: Deserialize, H: BuildHasher + Default + Drop> Deserial
     for HashMap<K, V, H> {
     type Place = HashMapPlace<K, V, H>;
 
-    ghost reads = { λ t v. MapReads K.read K.code K.content V.Place.of V.reads t v.entries };
-
     ghost absent = { None };
-
-    ghost given = { λ t v. map-given K.read K.code K.content V.Place.of V.Place.content V.reads V.given t v.entries };
 
     fn begin(alloc: Global) -> Result<HashMapPlace<K, V, H>> {
         let collector = HashMapOf {

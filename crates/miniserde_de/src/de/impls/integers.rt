@@ -18,6 +18,10 @@ impl Leaf for u8 {
 
     ghost gives = { unsigned_of 8 };
 
+    ghost reads = { ReadsUnsigned 8 };
+
+    ghost given = { unsigned-given 8 };
+
     fn from_step(event: Step<'_>) -> Option<u8> {
         match event {
             Step::Nonnegative(n) => u8::try_from(n).ok(),
@@ -29,13 +33,9 @@ impl Leaf for u8 {
 impl Deserialize for u8 {
     type Place = IntegerPlace<u8>;
 
-    ghost reads = { ReadsUnsigned 8 };
-
     ghost absent = { None };
 
     ghost begins_free = { true };
-
-    ghost given = { unsigned-given 8 };
 
     fn begin(_alloc: Global) -> Result<IntegerPlace<u8>> {
         Ok(LeafPlace::new())
@@ -57,6 +57,10 @@ impl Leaf for u16 {
 
     ghost gives = { unsigned_of 16 };
 
+    ghost reads = { ReadsUnsigned 16 };
+
+    ghost given = { unsigned-given 16 };
+
     fn from_step(event: Step<'_>) -> Option<u16> {
         match event {
             Step::Nonnegative(n) => u16::try_from(n).ok(),
@@ -68,13 +72,9 @@ impl Leaf for u16 {
 impl Deserialize for u16 {
     type Place = IntegerPlace<u16>;
 
-    ghost reads = { ReadsUnsigned 16 };
-
     ghost absent = { None };
 
     ghost begins_free = { true };
-
-    ghost given = { unsigned-given 16 };
 
     fn begin(_alloc: Global) -> Result<IntegerPlace<u16>> {
         Ok(LeafPlace::new())
@@ -96,6 +96,10 @@ impl Leaf for u32 {
 
     ghost gives = { unsigned_of 32 };
 
+    ghost reads = { ReadsUnsigned 32 };
+
+    ghost given = { unsigned-given 32 };
+
     fn from_step(event: Step<'_>) -> Option<u32> {
         match event {
             Step::Nonnegative(n) => u32::try_from(n).ok(),
@@ -107,13 +111,9 @@ impl Leaf for u32 {
 impl Deserialize for u32 {
     type Place = IntegerPlace<u32>;
 
-    ghost reads = { ReadsUnsigned 32 };
-
     ghost absent = { None };
 
     ghost begins_free = { true };
-
-    ghost given = { unsigned-given 32 };
 
     fn begin(_alloc: Global) -> Result<IntegerPlace<u32>> {
         Ok(LeafPlace::new())
@@ -135,6 +135,10 @@ impl Leaf for u64 {
 
     ghost gives = { unsigned_of 64 };
 
+    ghost reads = { ReadsUnsigned 64 };
+
+    ghost given = { unsigned-given 64 };
+
     fn from_step(event: Step<'_>) -> Option<u64> {
         match event {
             Step::Nonnegative(n) => Some(n),
@@ -146,13 +150,9 @@ impl Leaf for u64 {
 impl Deserialize for u64 {
     type Place = IntegerPlace<u64>;
 
-    ghost reads = { ReadsUnsigned 64 };
-
     ghost absent = { None };
 
     ghost begins_free = { true };
-
-    ghost given = { unsigned-given 64 };
 
     fn begin(_alloc: Global) -> Result<IntegerPlace<u64>> {
         Ok(LeafPlace::new())
@@ -174,6 +174,10 @@ impl Leaf for usize {
 
     ghost gives = { unsigned_of 64 };
 
+    ghost reads = { ReadsUnsigned 64 };
+
+    ghost given = { unsigned-given 64 };
+
     fn from_step(event: Step<'_>) -> Option<usize> {
         match event {
             Step::Nonnegative(n) => usize::try_from(n).ok(),
@@ -185,13 +189,9 @@ impl Leaf for usize {
 impl Deserialize for usize {
     type Place = IntegerPlace<usize>;
 
-    ghost reads = { ReadsUnsigned 64 };
-
     ghost absent = { None };
 
     ghost begins_free = { true };
-
-    ghost given = { unsigned-given 64 };
 
     fn begin(_alloc: Global) -> Result<IntegerPlace<usize>> {
         Ok(LeafPlace::new())
@@ -213,6 +213,10 @@ impl Leaf for i8 {
 
     ghost gives = { signed_of 8 };
 
+    ghost reads = { ReadsSigned 8 };
+
+    ghost given = { signed-given 8 };
+
     fn from_step(event: Step<'_>) -> Option<i8> {
         match event {
             Step::Negative(n) => i8::try_from(n).ok(),
@@ -225,13 +229,9 @@ impl Leaf for i8 {
 impl Deserialize for i8 {
     type Place = IntegerPlace<i8>;
 
-    ghost reads = { ReadsSigned 8 };
-
     ghost absent = { None };
 
     ghost begins_free = { true };
-
-    ghost given = { signed-given 8 };
 
     fn begin(_alloc: Global) -> Result<IntegerPlace<i8>> {
         Ok(LeafPlace::new())
@@ -253,6 +253,10 @@ impl Leaf for i16 {
 
     ghost gives = { signed_of 16 };
 
+    ghost reads = { ReadsSigned 16 };
+
+    ghost given = { signed-given 16 };
+
     fn from_step(event: Step<'_>) -> Option<i16> {
         match event {
             Step::Negative(n) => i16::try_from(n).ok(),
@@ -265,13 +269,9 @@ impl Leaf for i16 {
 impl Deserialize for i16 {
     type Place = IntegerPlace<i16>;
 
-    ghost reads = { ReadsSigned 16 };
-
     ghost absent = { None };
 
     ghost begins_free = { true };
-
-    ghost given = { signed-given 16 };
 
     fn begin(_alloc: Global) -> Result<IntegerPlace<i16>> {
         Ok(LeafPlace::new())
@@ -293,6 +293,10 @@ impl Leaf for i32 {
 
     ghost gives = { signed_of 32 };
 
+    ghost reads = { ReadsSigned 32 };
+
+    ghost given = { signed-given 32 };
+
     fn from_step(event: Step<'_>) -> Option<i32> {
         match event {
             Step::Negative(n) => i32::try_from(n).ok(),
@@ -305,13 +309,9 @@ impl Leaf for i32 {
 impl Deserialize for i32 {
     type Place = IntegerPlace<i32>;
 
-    ghost reads = { ReadsSigned 32 };
-
     ghost absent = { None };
 
     ghost begins_free = { true };
-
-    ghost given = { signed-given 32 };
 
     fn begin(_alloc: Global) -> Result<IntegerPlace<i32>> {
         Ok(LeafPlace::new())
@@ -333,6 +333,10 @@ impl Leaf for i64 {
 
     ghost gives = { signed_of 64 };
 
+    ghost reads = { ReadsSigned 64 };
+
+    ghost given = { signed-given 64 };
+
     fn from_step(event: Step<'_>) -> Option<i64> {
         match event {
             Step::Negative(n) => Some(n),
@@ -345,13 +349,9 @@ impl Leaf for i64 {
 impl Deserialize for i64 {
     type Place = IntegerPlace<i64>;
 
-    ghost reads = { ReadsSigned 64 };
-
     ghost absent = { None };
 
     ghost begins_free = { true };
-
-    ghost given = { signed-given 64 };
 
     fn begin(_alloc: Global) -> Result<IntegerPlace<i64>> {
         Ok(LeafPlace::new())
@@ -373,6 +373,10 @@ impl Leaf for isize {
 
     ghost gives = { signed_of 64 };
 
+    ghost reads = { ReadsSigned 64 };
+
+    ghost given = { signed-given 64 };
+
     fn from_step(event: Step<'_>) -> Option<isize> {
         match event {
             Step::Negative(n) => isize::try_from(n).ok(),
@@ -385,13 +389,9 @@ impl Leaf for isize {
 impl Deserialize for isize {
     type Place = IntegerPlace<isize>;
 
-    ghost reads = { ReadsSigned 64 };
-
     ghost absent = { None };
 
     ghost begins_free = { true };
-
-    ghost given = { signed-given 64 };
 
     fn begin(_alloc: Global) -> Result<IntegerPlace<isize>> {
         Ok(LeafPlace::new())

@@ -1,5 +1,6 @@
 //! The one place of all types that are a leaf and take no memory.
-ghost use Rattle.std.specs.Prelude.{◌≡◌, Option, Some, None, Ok, Err, List, [], MatchOption, IfOk, IfErr};
+ghost use Rattle.std.specs.Prelude.{◌≡◌, ◌↔◌, Option, Some, None, Ok, Err, List, [], MatchOption, IfOk, IfErr};
+ghost use Rattle.miniserde_model.specs.Tree.{Tree};
 ghost use Rattle.miniserde_model.specs.Event.{Event};
 ghost use Rattle.miniserde_de.specs.Step.{event_of};
 ghost use Rattle.miniserde_de.specs.Place.{Leads, Bars, Marks};
@@ -19,6 +20,12 @@ pub trait Leaf: Copy {
 
     // What a leaf's event gives.
     ghost gives: { Event → Option Content };
+
+    // The tree means the value.
+    ghost reads: { Tree → Self → Type 0 };
+
+    // A tree means a value exactly where it gives what counts of the value.
+    ghost given: { (t : Tree) (v : Self) → reads t v ↔ (of_leaf gives t ≡ Some (content v)) };
 
     /// The value of an event, where it is one of a value of the type.
     fn from_step(event: Step<'_>) -> Option<Self>
@@ -50,6 +57,10 @@ impl<T: Leaf> Visitor for LeafPlace<T> {
     ghost outcome = { λ p. leaf_outcome T.content T.gives p.value };
 
     ghost meant = { lone-events T.gives };
+
+    ghost reads = { T.reads };
+
+    ghost given = { T.given };
 
     fn step(&mut self, event: Step<'_>) -> Result<()>
         ensures leads { IfOk result (λ _. Leads (leaf_at self.old.value) (leaf_outcome T.content T.gives self.old.value) (event_of event.entry)
@@ -87,7 +98,7 @@ impl<T: Leaf> Visitor for LeafPlace<T> {
 
 impl<T: Leaf> LeafPlace<T> {
     /// A fresh place.
-    pub(crate) fn new() -> LeafPlace<T>
+    pub fn new() -> LeafPlace<T>
         ensures { (result.value ≡ None) × (result.refused ≡ None) }
     {
         LeafPlace {
@@ -97,7 +108,7 @@ impl<T: Leaf> LeafPlace<T> {
     }
 
     /// The value, where it is there and nothing was refused.
-    pub(crate) fn take(self) -> Result<T>
+    pub fn take(self) -> Result<T>
         ensures value { IfOk result (λ v. self.value ≡ Some v) }
         ensures invalid { self.refused ≡ None → IfErr result (λ r. (self.value ≡ None) × (r ≡ Error.Invalid)) }
         ensures keeps { (r : Error) → self.refused ≡ Some r → result ≡ Err r }

@@ -114,6 +114,10 @@ impl<K: MapKey + Ord, V: Deserialize> Visitor for BTreeMapPlace<K, V> {
 
     ghost meant = { map-meant K.read K.code V.Place.mean V.Place.of V.Place.meant };
 
+    ghost reads = { λ t v. MapReads K.read K.code K.content V.Place.of V.Place.reads t v.entries };
+
+    ghost given = { λ t v. map-given K.read K.code K.content V.Place.of V.Place.content V.Place.reads V.Place.given t v.entries };
+
     fn step(&mut self, event: Step<'_>) -> Result<()> {
         self.object.step(event)
     }
@@ -126,11 +130,7 @@ impl<K: MapKey + Ord, V: Deserialize> Visitor for BTreeMapPlace<K, V> {
 impl<K: MapKey + Ord, V: Deserialize> Deserialize for BTreeMap<K, V> {
     type Place = BTreeMapPlace<K, V>;
 
-    ghost reads = { λ t v. MapReads K.read K.code K.content V.Place.of V.reads t v.entries };
-
     ghost absent = { None };
-
-    ghost given = { λ t v. map-given K.read K.code K.content V.Place.of V.Place.content V.reads V.given t v.entries };
 
     fn begin(alloc: Global) -> Result<BTreeMapPlace<K, V>> {
         let collector = BTreeMapOf {

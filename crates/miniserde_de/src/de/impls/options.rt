@@ -42,6 +42,10 @@ impl<T: Deserialize> Visitor for OptionPlace<T> {
 
     ghost meant = { option-meant T.Place.mean T.Place.of T.Place.meant };
 
+    ghost reads = { OptionReads T.Place.reads };
+
+    ghost given = { option-given T.Place.reads T.Place.of T.Place.content T.Place.given };
+
     fn step(&mut self, event: Step<'_>) -> Result<()> {
         match &mut self.stage {
             Stage::Refused(error) => Err(*error),
@@ -85,13 +89,9 @@ impl<T: Deserialize> Visitor for OptionPlace<T> {
 impl<T: Deserialize> Deserialize for Option<T> {
     type Place = OptionPlace<T>;
 
-    ghost reads = { OptionReads T.reads };
-
     ghost absent = { Some None };
 
     ghost begins_free = { true };
-
-    ghost given = { option-given T.reads T.Place.of T.Place.content T.given };
 
     fn begin(alloc: Global) -> Result<OptionPlace<T>> {
         Ok(OptionPlace {

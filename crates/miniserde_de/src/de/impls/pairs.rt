@@ -116,6 +116,10 @@ impl<A: Deserialize, B: Deserialize> Visitor for PairPlace<A, B> {
 
     ghost meant = { pair-meant A.Place.mean B.Place.mean A.Place.of B.Place.of A.Place.meant B.Place.meant };
 
+    ghost reads = { PairReads A.Place.reads B.Place.reads };
+
+    ghost given = { pair-given A.Place.reads B.Place.reads A.Place.of B.Place.of A.Place.content B.Place.content A.Place.given B.Place.given };
+
     fn step(&mut self, event: Step<'_>) -> Result<()> {
         self.list.step(event)
     }
@@ -128,13 +132,9 @@ impl<A: Deserialize, B: Deserialize> Visitor for PairPlace<A, B> {
 impl<A: Deserialize, B: Deserialize> Deserialize for (A, B) {
     type Place = PairPlace<A, B>;
 
-    ghost reads = { PairReads A.reads B.reads };
-
     ghost absent = { None };
 
     ghost begins_free = { true };
-
-    ghost given = { pair-given A.reads B.reads A.Place.of B.Place.of A.Place.content B.Place.content A.given B.given };
 
     fn begin(alloc: Global) -> Result<PairPlace<A, B>> {
         let list = ContainerPlace::new(

@@ -1,5 +1,6 @@
 //! The place of a container's child.
 ghost use Rattle.std.specs.Prelude.{Some, None, ⊤, refl};
+ghost use Rattle.std.proofs.lemmas.Option.{none-some};
 ghost use Rattle.miniserde_model.specs.Position.{start};
 ghost use Rattle.miniserde_text.specs.declared.error.Error.{Error};
 
@@ -35,6 +36,10 @@ impl Visitor for NoPlace {
     ghost outcome = { λ _ _. None };
 
     ghost meant = { λ _. refl };
+
+    ghost reads = { λ _ _. ⊥ };
+
+    ghost given = { λ t v. (λ h. absurd h, λ e. none-some _ e) };
 
     fn step(&mut self, _event: Step<'_>) -> Result<()> {
         Err(Error::Invalid)

@@ -106,6 +106,10 @@ impl<T: Deserialize> Visitor for VecPlace<T> {
 
     ghost meant = { list-meant T.Place.mean T.Place.of T.Place.meant };
 
+    ghost reads = { λ t v. ListReads T.Place.reads t v.items };
+
+    ghost given = { λ t v. list-given T.Place.reads T.Place.of T.Place.content T.Place.given t v.items };
+
     fn step(&mut self, event: Step<'_>) -> Result<()> {
         self.list.step(event)
     }
@@ -118,11 +122,7 @@ impl<T: Deserialize> Visitor for VecPlace<T> {
 impl<T: Deserialize> Deserialize for Vec<T> {
     type Place = VecPlace<T>;
 
-    ghost reads = { λ t v. ListReads T.reads t v.items };
-
     ghost absent = { None };
-
-    ghost given = { λ t v. list-given T.reads T.Place.of T.Place.content T.given t v.items };
 
     fn begin(alloc: Global) -> Result<VecPlace<T>> {
         let items = Vec::new(alloc);

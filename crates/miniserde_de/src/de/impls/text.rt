@@ -51,6 +51,10 @@ impl Visitor for StringPlace {
 
     ghost meant = { lone-events text_of };
 
+    ghost reads = { λ t s. t ≡ str (string_bytes s) };
+
+    ghost given = { λ t s. text-given t (string_bytes s) };
+
     fn step(&mut self, event: Step<'_>) -> Result<()> {
         if let Some(error) = self.refused {
             return Err(error);
@@ -81,11 +85,7 @@ impl Visitor for StringPlace {
 impl Deserialize for String {
     type Place = StringPlace;
 
-    ghost reads = { λ t s. t ≡ str (string_bytes s) };
-
     ghost absent = { None };
-
-    ghost given = { λ t s. text-given t (string_bytes s) };
 
     fn begin(alloc: Global) -> Result<StringPlace> {
         Ok(StringPlace {

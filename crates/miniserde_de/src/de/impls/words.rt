@@ -22,6 +22,10 @@ impl Leaf for () {
 
     ghost gives = { unit_of };
 
+    ghost reads = { λ t _. t ≡ null };
+
+    ghost given = { λ t _. unit-given t };
+
     fn from_step(event: Step<'_>) -> Option<()> {
         match event {
             Step::Null => Some(()),
@@ -37,6 +41,10 @@ impl Leaf for bool {
 
     ghost gives = { truth_of };
 
+    ghost reads = { λ t b. t ≡ truth b };
+
+    ghost given = { truth-given };
+
     fn from_step(event: Step<'_>) -> Option<bool> {
         match event {
             Step::Bool(b) => Some(b),
@@ -48,13 +56,9 @@ impl Leaf for bool {
 impl Deserialize for () {
     type Place = UnitPlace;
 
-    ghost reads = { λ t _. t ≡ null };
-
     ghost absent = { None };
 
     ghost begins_free = { true };
-
-    ghost given = { λ t _. unit-given t };
 
     fn begin(_alloc: Global) -> Result<UnitPlace> {
         Ok(LeafPlace::new())
@@ -72,13 +76,9 @@ impl Deserialize for () {
 impl Deserialize for bool {
     type Place = BoolPlace;
 
-    ghost reads = { λ t b. t ≡ truth b };
-
     ghost absent = { None };
 
     ghost begins_free = { true };
-
-    ghost given = { truth-given };
 
     fn begin(_alloc: Global) -> Result<BoolPlace> {
         Ok(LeafPlace::new())

@@ -10,8 +10,8 @@ use Rattle.miniserde.proofs.json.de.from_str.Given.{Over}
 use Rattle.miniserde.proofs.json.de.from_str.Goals as goal
 
 -- a tree that gives nothing means no value
-nothing_meant : (g : Over) (t : Tree) → g.T.Place.Visitor.of t ≡ None → (v : g.row.T.Denot) → g.T.Deserialize.reads t v → ⊥
-nothing_meant g t n v h = let e : Some (g.T.Place.Visitor.content v) ≡ None = sym ((g.met.T.Deserialize.given t v).0 h) ∙ n in cc
+nothing_meant : (g : Over) (t : Tree) → g.T.Place.Visitor.of t ≡ None → (v : g.row.T.Denot) → g.T.Place.Visitor.reads t v → ⊥
+nothing_meant g t n v h = let e : Some (g.T.Place.Visitor.content v) ≡ None = sym ((g.T.Place.Visitor.given t v).0 h) ∙ n in cc
 
 pub returns-in_err-place-clause-one : goal.returns-in_err-place-clause-one
 returns-in_err-place-clause-one g c = one_tree c.args.j.now
@@ -20,7 +20,7 @@ pub returns-in_err-feed-clause-none : goal.returns-in_err-feed-clause-none
 returns-in_err-feed-clause-none g c = λ e t h.
     let w = err_from_is_err_and c.from_residual-in_err-feed.result c.from_residual-in_err-feed.ensures.1 in
     let f = c.in_ok-place.ensures in
-    sym (g.met.T.Place.Visitor.meant t) ∙ sym (f.outcome (events t) (events_complete t)) ∙ c.in_err-feed.ensures.invalid (cc (w.1, w.2, e)) t h
+    sym (g.T.Place.Visitor.meant t) ∙ sym (f.outcome (events t) (events_complete t)) ∙ c.in_err-feed.ensures.invalid (cc (w.1, w.2, e)) t h
 
 pub returns-in_err-feed-clause-invalid : goal.returns-in_err-feed-clause-invalid
 returns-in_err-feed-clause-invalid g c = λ e t h. nothing_meant g t (returns-in_err-feed-clause-none g c e t h)
@@ -32,13 +32,13 @@ returns-clause-content g c =
     let r = c.in_ok-feed.ensures.ok in
     let l = mean_leads v.mean (v.at c.in_ok-place.place) (v.outcome c.in_ok-place.place) (v.at c.feed.new.place) (v.outcome c.feed.new.place) r.0 f.fresh.1 f.outcome r.2 in
     IfOk-weaker c.take.result (λ x. (v.at c.feed.new.place ≡ _) × (v.outcome c.feed.new.place [] ≡ Some (v.content x))) (λ x. (t : Tree) × IsJson c.args.j.now t × (v.of t ≡ Some (v.content x)))
-    (λ x h. (r.0, r.1, sym (g.met.T.Place.Visitor.meant r.0) ∙ sym l.1 ∙ h.1)) c.take.ensures.value
+    (λ x h. (r.0, r.1, sym (g.T.Place.Visitor.meant r.0) ∙ sym l.1 ∙ h.1)) c.take.ensures.value
 
 pub returns-clause-ok : goal.returns-clause-ok
 returns-clause-ok g c =
     let v = g.T.Place.Visitor in
-    IfOk-weaker c.take.result (λ x. (t : Tree) × IsJson c.args.j.now t × (v.of t ≡ Some (v.content x))) (λ x. (t : Tree) × IsJson c.args.j.now t × g.T.Deserialize.reads t x)
-    (λ x h. (h.0, h.1, (g.met.T.Deserialize.given h.0 x).1 h.2)) (returns-clause-content g c)
+    IfOk-weaker c.take.result (λ x. (t : Tree) × IsJson c.args.j.now t × (v.of t ≡ Some (v.content x))) (λ x. (t : Tree) × IsJson c.args.j.now t × g.T.Place.Visitor.reads t x)
+    (λ x h. (h.0, h.1, (g.T.Place.Visitor.given h.0 x).1 h.2)) (returns-clause-content g c)
 
 pub returns-clause-none : goal.returns-clause-none
 returns-clause-none g c = λ e t h.
@@ -47,7 +47,7 @@ returns-clause-none g c = λ e t h.
     let r = c.in_ok-feed.ensures.ok in
     let l = mean_leads v.mean (v.at c.in_ok-place.place) (v.outcome c.in_ok-place.place) (v.at c.feed.new.place) (v.outcome c.feed.new.place) r.0 f.fresh.1 f.outcome r.2 in
     let o : v.outcome c.feed.new.place [] ≡ None = c.take.ensures.invalid e c.in_ok-feed.ensures.free l.0 in
-    ap v.of (one_tree c.args.j.now t r.0 h r.1) ∙ sym (g.met.T.Place.Visitor.meant r.0) ∙ sym l.1 ∙ o
+    ap v.of (one_tree c.args.j.now t r.0 h r.1) ∙ sym (g.T.Place.Visitor.meant r.0) ∙ sym l.1 ∙ o
 
 pub returns-clause-invalid : goal.returns-clause-invalid
 returns-clause-invalid g c = λ e t h. nothing_meant g t (returns-clause-none g c e t h)
