@@ -9,10 +9,12 @@ ghost use Rattle.miniserde_model.specs.IsTree.{IsTree};
 ghost use Rattle.miniserde_text.specs.declared.error.Error.TheVariants.{Memory};
 
 mod escape;
+mod fields;
 mod impls;
 
 pub use escape::escape_str;
 use escape::put_between;
+pub use fields::write_field;
 use itoa::Buffer;
 use miniserde_text::error::{Error, Result};
 use miniserde_text::json::number::NumberText;
