@@ -6,11 +6,13 @@
 #![tactic(auto)]
 
 pub mod canon;
+pub mod demo;
 pub mod json;
 mod round_trip;
 
 pub use miniserde_de::de;
 pub use miniserde_de::de::Deserialize;
+pub use miniserde_record::{fields, fours, names, parts, structs};
 pub use miniserde_ser::ser;
 pub use miniserde_ser::ser::Serialize;
 pub use miniserde_text::error;

@@ -6,6 +6,8 @@ mod accepted;
 #[cfg(test)]
 mod again;
 #[cfg(test)]
+mod demo;
+#[cfg(test)]
 mod devices;
 pub mod entries;
 #[cfg(test)]

@@ -105,11 +105,6 @@ fn arrays(rt: HostRuntime) -> std::result::Result<(), Fail> {
 }
 
 #[test]
-fn lists_four_deep(rt: HostRuntime) -> std::result::Result<(), Fail> {
-    stay::<Vec<Vec<Vec<Vec<u64>>>>>(&rt, &["[]", "[[[[1,2],[]]],[]]"])
-}
-
-#[test]
 fn arrays_of_pairs(rt: HostRuntime) -> std::result::Result<(), Fail> {
     stay::<[(u8, String); 2]>(&rt, &["[[1,\"a\"],[2,\"b\"]]"])?;
     refused::<[(u8, u8); 2]>(&rt, &["[[1,\"a\"],[2,\"b\"]]"]);
