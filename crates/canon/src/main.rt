@@ -1,7 +1,7 @@
 //! Reads a list of numbers on standard input, and writes its compact text on standard output.
 #![tactic(auto)]
 
-use miniserde::canon::{Counted, program};
+use miniserde_canon::canon::{Counted, program};
 use std::process::ExitCode;
 use std::{env, io};
 

@@ -1,10 +1,5 @@
 //! JSON text.
 
-mod de;
-mod ser;
-mod stack;
-
-pub use de::{feed, from_str};
+pub use miniserde_json::json::{feed, from_str, to_string};
 pub use miniserde_text::json::lex;
 pub use miniserde_text::json::number::NumberText;
-pub use ser::to_string;

@@ -2,9 +2,7 @@
 use Rattle.std.specs.Prelude.{cond, List, [], ◌∷◌, Option, Some, None, option_and_then, option_map, IsSome, bytes_eq, ◌≡◌, ⊤}
 use Rattle.miniserde_model.specs.Tree.{Tree, members, Members, no_members, member}
 use Rattle.miniserde_model.specs.Event.{Event}
-use Rattle.miniserde_text.specs.Keys.{Key}
-use Rattle.miniserde_de.specs.declared.de.impls.parts.ChildPlace.{ChildPlace}
-use Rattle.miniserde_de.specs.declared.de.impls.parts.ChildPlace.TheVariants.{First, Second}
+use Rattle.miniserde_keys.specs.Keys.{Key}
 use Rattle.miniserde_de.specs.Objects.{Name, object_of, all_members}
 
 -- ---- what a map's tree means
@@ -62,8 +60,8 @@ standing None c = c
 standing (Some e) c = e.0
 
 -- the map with one more key, or with another value at a key that is there
-abbrev pub put : {C : Type 0} → (Key → Key) → Entries C → Key → C → Entries C
-put code m c d q = cond (bytes_eq (code c) q) (Some (standing (m q) c, d)) (m q)
+abbrev pub with_entry : {C : Type 0} → (Key → Key) → Entries C → Key → C → Entries C
+with_entry code m c d q = cond (bytes_eq (code c) q) (Some (standing (m q) c, d)) (m q)
 
 -- what counts of the entry at each code
 abbrev pub looked : {K V C : Type 0} → (Key → Key) → (K → Key) → (V → C) → List (K × V) → Entries C
@@ -71,17 +69,8 @@ looked code content value es q = option_map (λ e. (content e.0, value e.1)) (en
 
 -- one more member: its name is read as a key, and f says what the value is
 abbrev pub map_member : {C X : Type 0} → (Name → Option Key) → (Key → Key) → (X → Option C) → Entries C → Name → X → Option (Entries C)
-map_member read code f m k x = option_and_then (λ c. option_map (put code m c) (f x)) (read k)
+map_member read code f m k x = option_and_then (λ c. option_map (with_entry code m c) (f x)) (read k)
 
 -- what a map's tree gives
 abbrev pub map_of : {C : Type 0} → (Name → Option Key) → (Key → Key) → (Tree → Option C) → Tree → Option (Entries C)
 map_of read code of = object_of (all_members (map_member read code of) no_key)
-
--- the map with a child's value at the key that waits
-abbrev pub map_joined : {C : Type 0} → (Key → Key) → Option Key → Entries C → Option C → Option (Entries C)
-map_joined code pending m o = option_and_then (λ c. option_map (put code m c) o) pending
-
--- the same, by the place of the child
-abbrev pub entry_joined : {P Q C : Type 0} → (Key → Key) → (P → List Event → Option C) → Option Key → Entries C → ChildPlace P Q → List Event → Option (Entries C)
-entry_joined code f pending m (First p) es = map_joined code pending m (f p es)
-entry_joined code f pending m (Second q) es = None

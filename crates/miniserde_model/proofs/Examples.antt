@@ -16,7 +16,7 @@ use Rattle.miniserde_model.specs.Compact.{compact, quoted}
 use Rattle.miniserde_model.specs.Bytes.{is_space, is_number_byte, StopsAt}
 use Rattle.miniserde_model.specs.Event.{Event, element, finish, child_events}
 use Rattle.miniserde_model.specs.Lexing.{Kind, in_list, IsByte}
-use Rattle.miniserde_model.specs.Reading.{due, first, after, Front, Spells}
+use Rattle.miniserde_model.specs.private.Reading.{due, first, after, Front, Spells}
 use Rattle.miniserde_model.specs.Examples.{SpelledTexts, NormalForms, RefusedTexts}
 use Rattle.miniserde_model.proofs.Runs.{AllPass, same_run}
 use Rattle.miniserde_model.proofs.Prefixes.{whitespace_passes, space_ends_number}

@@ -6,7 +6,7 @@ use Rattle.miniserde_model.specs.Value.{IsValue}
 use Rattle.miniserde_model.specs.Event.{Event, element, key, finish, events}
 use Rattle.miniserde_model.specs.Bytes.{StopsAt, is_number_byte}
 use Rattle.miniserde_model.specs.Lexing.{Kind, in_list, in_members, IsByte}
-use Rattle.miniserde_model.specs.Reading.{due, after, Front, Spells}
+use Rattle.miniserde_model.specs.private.Reading.{due, after, Front, Spells}
 use Rattle.miniserde_model.proofs.Runs.{same_run}
 use Rattle.miniserde_model.specs.Bytes.{is_space}
 use Rattle.miniserde_model.proofs.ReadBack.{find_value}

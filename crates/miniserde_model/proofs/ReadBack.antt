@@ -6,7 +6,7 @@ use Rattle.miniserde_model.specs.Whitespace.{IsWhitespace}
 use Rattle.miniserde_model.specs.Value.{Spaced, Named, IsValue, AreElements, AreMoreElements, AreMembers, AreMoreMembers, IsJson}
 use Rattle.miniserde_model.specs.Event.{Event, nothing, boolean, string, negative, nonnegative, float, seq, element, map, key, finish, events, child_events, member_events}
 use Rattle.miniserde_model.specs.Lexing.{Kind, in_list, in_members, IsName}
-use Rattle.miniserde_model.specs.Reading.{due, first, after, Spells}
+use Rattle.miniserde_model.specs.private.Reading.{due, first, after, Spells}
 
 pub record FoundValue (es : List Event) (st : List Kind) (b : List ℕ) : Type 0 where
   pub found : Tree

@@ -6,7 +6,7 @@ use Rattle.miniserde_model.specs.Whitespace.{IsWhitespace}
 use Rattle.miniserde_model.specs.Value.{Spaced, Named, Then, Between, IsValue, AreElements, AreMoreElements, AreMembers, AreMoreMembers, IsJson}
 use Rattle.miniserde_model.specs.Event.{Event, nothing, boolean, string, negative, nonnegative, float, seq, element, map, key, finish, events, child_events, member_events}
 use Rattle.miniserde_model.specs.Lexing.{Kind, in_list, in_members, IsName}
-use Rattle.miniserde_model.specs.Reading.{Moment, due, first, after, Front, Spells}
+use Rattle.miniserde_model.specs.private.Reading.{Moment, due, first, after, Front, Spells}
 
 pub space_append : (v w : List ℕ) → IsWhitespace v → IsWhitespace w → IsWhitespace (v ++ w)
 space_append [] w h k = k

@@ -1,5 +1,6 @@
 -- The fields of a struct, one after another, and what a struct's tree gives of each.
 use Rattle.std.specs.Prelude.{◌≡◌, true, cond, List, [], ◌∷◌, Option, Some, None, option_map, option_and_then, bytes_eq, IsSome, ⊤}
+use Rattle.std.specs.Option.{option_or}
 use Rattle.miniserde_model.specs.Tree.{Tree, members, Members, no_members, member}
 use Rattle.miniserde_model.specs.Normal.{last_of}
 use Rattle.miniserde_de.specs.Objects.{Name}
@@ -11,18 +12,13 @@ abbrev pub field_member : {C S X : Type 0} → (X → Option C) → (List Name �
 field_member f g [] s k x = option_map (λ r. (s.0, r)) (g [] s.1 k x)
 field_member f g (n ∷ ns) s k x = cond (bytes_eq k n) (option_map (λ c. (Some c, s.1)) (f x)) (option_map (λ r. (s.0, r)) (g ns s.1 k x))
 
--- what is there, or else the default
-abbrev pub or_absent : {C : Type 0} → Option C → Option C → Option C
-or_absent None absent = absent
-or_absent (Some c) absent = Some c
-
 -- a value beside those of the later fields
 abbrev pub beside : {C D : Type 0} → Option D → C → Option (C × D)
 beside d c = option_map (λ d. (c, d)) d
 
 -- each field has a value: its last one, or where it is not met its type's default
 abbrev pub field_closed : {C S D : Type 0} → Option C → (S → Option D) → Option C × S → Option (C × D)
-field_closed absent closed s = option_and_then (beside (closed s.1)) (or_absent s.0 absent)
+field_closed absent closed s = option_and_then (beside (closed s.1)) (option_or s.0 absent)
 
 -- ---- field by field
 
@@ -39,8 +35,8 @@ last_given of n d (member k t ms) = cond (bytes_eq k n) (option_and_then (λ c. 
 -- The first field has the value of the last member of its name, or its type's default where none is met. The later
 -- fields have the other members.
 abbrev pub field_given : {C S D : Type 0} → (Tree → Option C) → Option C → (List Name → S → Members → Option D) → List Name → Option C × S → Members → Option (C × D)
-field_given of absent rest [] s ms = option_and_then (beside (rest [] s.1 ms)) (or_absent s.0 absent)
-field_given of absent rest (n ∷ ns) s ms = option_and_then (λ o. option_and_then (beside (rest ns s.1 (others n ms))) (or_absent o absent)) (last_given of n s.0 ms)
+field_given of absent rest [] s ms = option_and_then (beside (rest [] s.1 ms)) (option_or s.0 absent)
+field_given of absent rest (n ∷ ns) s ms = option_and_then (λ o. option_and_then (beside (rest ns s.1 (others n ms))) (option_or o absent)) (last_given of n s.0 ms)
 
 -- ---- what a struct's tree means
 

@@ -5,7 +5,7 @@ use Rattle.std.proofs.lemmas.List.{take_more, append-nil, take-append-drop, leng
 use Rattle.std.proofs.lemmas.Bool.Decides.{nat_tests}
 use Rattle.miniserde_model.specs.Bytes.{is_special}
 use Rattle.miniserde_model.specs.Compact.{quoted}
-use Rattle.miniserde_ser.specs.Escape.{escape, escapes}
+use Rattle.miniserde_ser.specs.private.Escape.{escape, escapes}
 
 -- a byte that may stand for itself does
 pub escape_plain : (b : ℕ) → is_special b ≡ false → escape b ≡ b ∷ []

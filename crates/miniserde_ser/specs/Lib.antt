@@ -1,5 +1,5 @@
-pub mod Writer
-pub mod Fragment
-pub mod Escape
-pub mod Trees
 pub mod Closed
+pub mod Fragment
+pub mod Trees
+pub mod Writer
+pub mod private

@@ -1,5 +1,5 @@
 -- Writers, as contracts see them.
-use Rattle.std.specs.Prelude.{ℕ, List, ◌++◌, Bool, true}
+use Rattle.std.specs.Prelude.{◌≡◌, ℕ, ◌+◌, ◌<◌, List, ◌++◌, length, Bool, true, false}
 
 -- what is written so far
 pub record Writing : Type 0 where
@@ -9,10 +9,12 @@ pub record Writing : Type 0 where
   pub first : Bool
   -- a call was refused
   pub refused : Bool
+  -- how many bytes the text has room for
+  pub capacity : ℕ
 
--- the writer after these bytes were appended
-abbrev pub appended : Writing → List ℕ → Writing
-appended w bs = record w { text = w.text ++ bs }
+-- the writer after these bytes were appended, with room for n bytes
+abbrev pub appended : Writing → List ℕ → ℕ → Writing
+appended w bs n = record w { text = w.text ++ bs; capacity = n }
 
 -- the writer with this flag for the first element or member
 abbrev pub with_first : Writing → Bool → Writing
@@ -21,3 +23,7 @@ with_first w b = record w { first = b }
 -- the writer after a refusal
 abbrev pub with_refused : Writing → Writing
 with_refused w = record w { refused = true }
+
+-- if no call was refused, then there is no room for these bytes behind the text
+abbrev pub LacksRoom : Writing → List ℕ → Type 0
+LacksRoom w bs = w.refused ≡ false → w.capacity < length w.text + length bs

@@ -36,7 +36,8 @@ pub enum Fragment<'a> {
 }
 
 /// A JSON text that is being written. A contract sees its bytes, the flag that the next element or member needs no
-/// comma, and whether a call was refused. That the calls make one whole value is not checked.
+/// comma, whether a call was refused, and how many bytes there is room for. That the calls make one whole value is not
+/// checked. A call that is refused leaves the text and its room as they were.
 #[derive(Drop)]
 pub struct Writer {
     text: String,
@@ -45,27 +46,33 @@ pub struct Writer {
 }
 
 impl Model for Writer {
-    ghost use Rattle.std.specs.Prelude.{string_bytes};
+    ghost use Rattle.std.specs.Prelude.{string_bytes, string_capacity};
     ghost use Rattle.miniserde_ser.specs.Writer.{Writing};
 
     ghost Value = { Writing };
 
-    ghost view = { λ w. record { text = string_bytes w.text; first = w.first; refused = w.refused } };
+    ghost view = { λ w. record {
+      text = string_bytes w.text;
+      first = w.first;
+      refused = w.refused;
+      capacity = string_capacity w.text;
+    } };
 }
 
 impl Writer {
-    ghost use Rattle.std.specs.Prelude.{◌≡◌, [], ◌++◌, true, false, OnOk, OnErr, IfOk, IsErrOf, IsUtf8, string_bytes, if◌then◌else◌, codes};
+    ghost use Rattle.std.specs.Prelude.{◌≡◌, [], ◌++◌, true, false, OnOk, OnErr, IfOk, IsErrOf, IsUtf8, string_bytes, string_capacity, ◌≤◌, if◌then◌else◌, codes};
     ghost use Rattle.miniserde_model.specs.Compact.{compact, quoted};
     ghost use Rattle.miniserde_text.specs.declared.error.Error.TheVariants.{Memory};
-    ghost use Rattle.miniserde_ser.specs.Writer.{appended, with_first, with_refused};
+    ghost use Rattle.miniserde_ser.specs.Writer.{appended, with_first, with_refused, LacksRoom};
     ghost use Rattle.miniserde_ser.specs.Fragment.{leaf};
 
     /// A writer of no text yet. It takes no memory.
     pub fn new(alloc: Global) -> Writer
-        ensures { result ≡ record { text = []; first = true; refused = false } }
+        ensures { result ≡ record { text = []; first = true; refused = false; capacity = 0 } }
     {
         Writer {
-            text: String::new(alloc),
+            // The contract of `String::new` leaves the capacity open.
+            text: String::with_capacity(alloc, 0).unwrap(),
             first: true,
             refused: false,
         }
@@ -90,24 +97,32 @@ impl Writer {
 
     // Appends a text as it is.
     fn append(&mut self, text: &str) -> Result<()>
-        ensures ok { OnOk result (self.new ≡ appended self.old text.now) }
+        ensures ok { OnOk result (self.new ≡ appended self.old text.now self.new.capacity) }
         ensures stays { OnOk result (self.old.refused ≡ false) }
         ensures memory { OnErr result (IsErrOf result Memory) }
         ensures err { OnErr result (self.new ≡ with_refused self.old) }
+        ensures room { OnErr result (LacksRoom self.old text.now) }
+        ensures capacity { self.old.capacity ≤ self.new.capacity }
     {
         self.check()?;
-        match self.text.push_str(text) {
-            Ok(()) => Ok(()),
+        // A `push_str` that fails leaves the capacity open, and a `reserve` that fails does not.
+        match self.text.reserve(text.len()) {
+            Ok(()) => {
+                self.text.push_str(text).unwrap();
+                Ok(())
+            }
             Err(_) => Err(self.refuse()),
         }
     }
 
     // Appends a text as a string.
     fn append_quoted(&mut self, text: &str) -> Result<()>
-        ensures ok { OnOk result (self.new ≡ appended self.old (quoted text.now)) }
+        ensures ok { OnOk result (self.new ≡ appended self.old (quoted text.now) self.new.capacity) }
         ensures stays { OnOk result (self.old.refused ≡ false) }
         ensures memory { OnErr result (IsErrOf result Memory) }
         ensures err { OnErr result (self.new ≡ with_refused self.old) }
+        ensures room { OnErr result (LacksRoom self.old (quoted text.now)) }
+        ensures capacity { self.old.capacity ≤ self.new.capacity }
     {
         self.check()?;
         match escape_str(text, &mut self.text) {
@@ -118,22 +133,26 @@ impl Writer {
 
     // Appends a mark of punctuation, and says whether an element after it is the first.
     fn punctuate(&mut self, mark: &str, first: bool) -> Result<()>
-        ensures ok { OnOk result (self.new ≡ with_first (appended self.old mark.now) first) }
+        ensures ok { OnOk result (self.new ≡ with_first (appended self.old mark.now self.new.capacity) first) }
         ensures stays { OnOk result (self.old.refused ≡ false) }
         ensures memory { OnErr result (IsErrOf result Memory) }
         ensures err { OnErr result (self.new ≡ with_refused self.old) }
+        ensures room { OnErr result (LacksRoom self.old mark.now) }
+        ensures capacity { self.old.capacity ≤ self.new.capacity }
     {
         self.append(mark)?;
         self.first = first;
         Ok(())
     }
 
-    /// Appends a leaf. The text grows once at most, before anything is appended.
+    /// Appends a leaf.
     pub fn fragment(&mut self, f: Fragment<'_>) -> Result<()>
-        ensures ok { OnOk result (self.new ≡ appended self.old (compact (leaf f.entry))) }
+        ensures ok { OnOk result (self.new ≡ appended self.old (compact (leaf f.entry)) self.new.capacity) }
         ensures stays { OnOk result (self.old.refused ≡ false) }
         ensures memory { OnErr result (IsErrOf result Memory) }
         ensures err { OnErr result (self.new ≡ with_refused self.old) }
+        ensures room { OnErr result (LacksRoom self.old (compact (leaf f.entry))) }
+        ensures capacity { self.old.capacity ≤ self.new.capacity }
     {
         let mut digits = Buffer::new();
         match f {
@@ -147,56 +166,66 @@ impl Writer {
         }
     }
 
-    /// Opens a list. The text grows once at most, before anything is appended.
+    /// Opens a list.
     pub fn seq(&mut self) -> Result<()>
-        ensures ok { OnOk result (self.new ≡ with_first (appended self.old (codes "[")) true) }
+        ensures ok { OnOk result (self.new ≡ with_first (appended self.old (codes "[") self.new.capacity) true) }
         ensures stays { OnOk result (self.old.refused ≡ false) }
         ensures memory { OnErr result (IsErrOf result Memory) }
         ensures err { OnErr result (self.new ≡ with_refused self.old) }
+        ensures room { OnErr result (LacksRoom self.old (codes "[")) }
+        ensures capacity { self.old.capacity ≤ self.new.capacity }
     {
         self.punctuate("[", true)
     }
 
-    /// Goes before each element of a list. The text grows once at most, before anything is appended.
+    /// Goes before each element of a list.
     pub fn element(&mut self) -> Result<()>
         ensures ok { OnOk result (self.new
-            ≡ with_first (appended self.old (if self.old.first then [] else codes ",")) false) }
+            ≡ with_first (appended self.old (if self.old.first then [] else codes ",") self.new.capacity) false) }
         ensures stays { OnOk result (self.old.refused ≡ false) }
         ensures memory { OnErr result (IsErrOf result Memory) }
         ensures err { OnErr result (self.new ≡ with_refused self.old) }
+        ensures room { OnErr result (LacksRoom self.old (if self.old.first then [] else codes ",")) }
+        ensures capacity { self.old.capacity ≤ self.new.capacity }
     {
         self.punctuate(if self.first { "" } else { "," }, false)
     }
 
-    /// Closes a list. The text grows once at most, before anything is appended.
+    /// Closes a list.
     pub fn seq_finish(&mut self) -> Result<()>
-        ensures ok { OnOk result (self.new ≡ with_first (appended self.old (codes "]")) false) }
+        ensures ok { OnOk result (self.new ≡ with_first (appended self.old (codes "]") self.new.capacity) false) }
         ensures stays { OnOk result (self.old.refused ≡ false) }
         ensures memory { OnErr result (IsErrOf result Memory) }
         ensures err { OnErr result (self.new ≡ with_refused self.old) }
+        ensures room { OnErr result (LacksRoom self.old (codes "]")) }
+        ensures capacity { self.old.capacity ≤ self.new.capacity }
     {
         self.punctuate("]", false)
     }
 
-    /// Opens an object. The text grows once at most, before anything is appended.
+    /// Opens an object.
     pub fn map(&mut self) -> Result<()>
-        ensures ok { OnOk result (self.new ≡ with_first (appended self.old (codes "{")) true) }
+        ensures ok { OnOk result (self.new ≡ with_first (appended self.old (codes "{") self.new.capacity) true) }
         ensures stays { OnOk result (self.old.refused ≡ false) }
         ensures memory { OnErr result (IsErrOf result Memory) }
         ensures err { OnErr result (self.new ≡ with_refused self.old) }
+        ensures room { OnErr result (LacksRoom self.old (codes "{")) }
+        ensures capacity { self.old.capacity ≤ self.new.capacity }
     {
         self.punctuate("{", true)
     }
 
-    /// Goes before each member of an object, and gives its name. The text grows once at most, before anything is
-    /// appended.
+    /// Goes before each member of an object, and gives its name.
     pub fn key(&mut self, k: &str) -> Result<()>
-        ensures ok { OnOk result (self.new
-            ≡ with_first (appended self.old ((if self.old.first then [] else codes ",") ++ quoted k.now ++ codes ":")) false) }
+        ensures ok { OnOk result (self.new ≡ with_first (appended self.old
+            ((if self.old.first then [] else codes ",") ++ quoted k.now ++ codes ":") self.new.capacity) false) }
         ensures utf8 { OnOk result (IsUtf8 k.now) }
         ensures stays { OnOk result (self.old.refused ≡ false) }
         ensures memory { OnErr result (IsErrOf result Memory) }
         ensures err { OnErr result (self.new ≡ with_refused self.old) }
+        ensures room { OnErr result (LacksRoom self.old
+            ((if self.old.first then [] else codes ",") ++ quoted k.now ++ codes ":")) }
+        ensures capacity { self.old.capacity ≤ self.new.capacity }
     {
         self.check()?;
         let comma = if self.first { "" } else { "," };
@@ -209,12 +238,14 @@ impl Writer {
         }
     }
 
-    /// Closes an object. The text grows once at most, before anything is appended.
+    /// Closes an object.
     pub fn map_finish(&mut self) -> Result<()>
-        ensures ok { OnOk result (self.new ≡ with_first (appended self.old (codes "}")) false) }
+        ensures ok { OnOk result (self.new ≡ with_first (appended self.old (codes "}") self.new.capacity) false) }
         ensures stays { OnOk result (self.old.refused ≡ false) }
         ensures memory { OnErr result (IsErrOf result Memory) }
         ensures err { OnErr result (self.new ≡ with_refused self.old) }
+        ensures room { OnErr result (LacksRoom self.old (codes "}")) }
+        ensures capacity { self.old.capacity ≤ self.new.capacity }
     {
         self.punctuate("}", false)
     }
@@ -231,6 +262,7 @@ impl Writer {
     /// The whole text, where no call was refused. It takes no memory.
     pub fn into_string(self) -> Result<String>
         ensures ok { IfOk result (λ s. string_bytes s ≡ self.text) }
+        ensures capacity { IfOk result (λ s. string_capacity s ≡ self.capacity) }
         ensures stays { OnOk result (self.refused ≡ false) }
         ensures memory { OnErr result (IsErrOf result Memory) }
         ensures err { OnErr result (self.refused ≡ true) }

@@ -1,4 +1,5 @@
--- Reading takes exactly the escapes of the grammar.
+-- Reading takes exactly the escapes of the grammar: what is read is a piece of it (`X_takes`), and each such piece is
+-- read.
 use Rattle.std.proofs.Common.{◌≡◌, ℕ, ◌+◌, ◌*◌, ◌<◌, ◌≤◌, ◌==◌, true, false, cond, List, [], ◌∷◌, ◌++◌, drop, Some, None, refl, ap, sym, subst, ◌∙◌, inl, inr, arith, append_assoc, eqb-true, ltb-true}
 use Rattle.std.specs.Prelude.{◌⊎◌, ◌||◌, slice_index, option_and_then, option_map}
 use Rattle.std.specs.Char.{digit_value, IsScalar}
@@ -6,7 +7,7 @@ use Rattle.std.proofs.lemmas.Bool.Decides.{nat_tests}
 use Rattle.std.proofs.lemmas.Bool.{true≢false}
 use lib.Utf8.{scalar_cases}
 use Rattle.miniserde_model.specs.String.{IsRaw, IsShort, quote, backslash, slash, backspace, form_feed, line_feed, carriage_return, tab, IsUnit, IsPair, IsPiece, raw, short, unit, pair}
-use Rattle.miniserde_text.specs.Reading.{is_hex, is_high, is_low, begins_unit, unit_at, begins_escape, pair_of, low_at, unicode_at, short_at, escape_at}
+use Rattle.miniserde_text.specs.private.Reading.{is_hex, is_high, is_low, begins_unit, unit_at, begins_escape, pair_of, low_at, unicode_at, short_at, escape_at}
 use Rattle.miniserde_text.proofs.Runs.{or_true}
 use Rattle.std.proofs.lemmas.Option.{cond_some, same_Some}
 use Rattle.miniserde_text.proofs.Options.{chosen, none_if, then_if, map_some, bind_some, first_byte, and_parts}

@@ -1,4 +1,5 @@
--- The front of a value: words, numbers, strings and brackets.
+-- The front of a value: what a function on lists reads is a piece of the grammar, and the piece of each event is read
+-- so. A string goes by its first quote.
 use Rattle.std.proofs.Common.{◌≡◌, ◌≢◌, ℕ, ◌==◌, Bool, true, false, cond, List, [], ◌∷◌, ◌++◌, length, drop, Option, Some, None, refl, ap, sym, subst, ◌∙◌, inl, inr, arith, eqb-true, ne_eqb, append_assoc}
 use Rattle.std.specs.Prelude.{codes, slice_index, nat_eq}
 use Rattle.std.specs.List.{starts_with, AllByRecursion}
@@ -21,8 +22,8 @@ use Rattle.miniserde_text.specs.declared.json.lex.Event.TheVariants as event
 use Rattle.miniserde_text.specs.declared.json.lex.Text.{Text}
 use Rattle.miniserde_text.specs.declared.json.lex.Text.TheVariants as text
 use Rattle.miniserde_text.specs.Lexer.{front_of, StandsFor, EventStandsFor, EventKeepsScratch, BeginsEscaped}
-use Rattle.miniserde_text.specs.Reading.{after_run, number_at, word_at, front_by, front_at}
-use Rattle.miniserde_text.specs.Inside.{Chars, Leads, Taken, EventTakesText, TakesText, ReachesBackslash}
+use Rattle.miniserde_text.specs.private.Reading.{after_run, number_at, word_at, front_by, front_at}
+use Rattle.miniserde_text.specs.private.Inside.{Chars, Leads, Taken, EventTakesText, TakesText, ReachesBackslash}
 use Rattle.miniserde_text.proofs.Runs.{stops_at, stands_of, stands_only}
 use Rattle.std.proofs.lemmas.Option.{cond_some, same_Some}
 use Rattle.miniserde_text.proofs.Options.{chosen, first_byte, none_is_some}
@@ -192,7 +193,7 @@ read_text t u (event.Str x) r away h = absurd (no_string t _ r away h)
 read_text t u event.SeqStart r away h = tt
 read_text t u event.MapStart r away h = tt
 
-pub keeps : (e : answer.Event) (x : List ℕ) → EventKeepsScratch e x x
+pub keeps : {S : Type 0} (e : answer.Event) (x : S) → EventKeepsScratch e x x
 keeps event.Null x = refl
 keeps (event.Bool b) x = refl
 keeps (event.Negative n) x = refl

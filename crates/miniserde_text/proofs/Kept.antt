@@ -9,7 +9,7 @@ use Rattle.miniserde_model.specs.Number.{IsNumber}
 use Rattle.miniserde_text.specs.declared.json.lex.Event.{Event}
 use Rattle.miniserde_text.specs.declared.json.lex.Event.TheVariants.{Null, Bool as Truth, Negative, Nonnegative, Number, Str, SeqStart, MapStart}
 use Rattle.miniserde_text.specs.Lexer.{front_of}
-use Rattle.miniserde_text.specs.Reading.{number_at}
+use Rattle.miniserde_text.specs.private.Reading.{number_at}
 use Rattle.std.proofs.lemmas.Option.{same_Some}
 use Rattle.miniserde_text.proofs.Leaves.{event_of, leaf_of_float}
 use Rattle.miniserde_text.proofs.Numbers.{number_takes, number_only}

@@ -1,4 +1,5 @@
--- A run of bytes that are not special, seen 32 at a time through a mask.
+-- A run of bytes that are not special, seen 32 at a time: where the mask is 0 the run goes on past them, and else the
+-- zeros at its end count up to the first special byte.
 use Rattle.std.proofs.Common.{◌≡◌, ℕ, suc, get_or, ◌+◌, ◌*◌, ◌%◌, ◌^◌, ◌<◌, ◌≤◌, ltb, Bool, true, false, not, cond, eqb, List, [], ◌∷◌, map, length, drop, replicate, refl, sym, ap, ap₂, ◌∙◌, arith}
 use Rattle.std.specs.Prelude.{◌||◌}
 use Rattle.std.specs.List.{position_or_len}
@@ -13,7 +14,7 @@ use lib.Count.{count_trailing_zeros}
 use Rattle.std.specs.Str.{IsCharBoundary}
 use Rattle.std.proofs.lemmas.Bool.Decides.{nat_tests}
 use Rattle.miniserde_model.specs.Bytes.{is_special}
-use Rattle.miniserde_text.specs.Reading.{after_run, is_unescaped}
+use Rattle.miniserde_text.specs.private.Reading.{after_run, is_unescaped}
 
 abbrev pub equal : ℕ → ℕ → ℕ
 equal a b = cond (eqb a b) 255 0

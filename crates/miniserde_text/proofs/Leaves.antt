@@ -1,4 +1,4 @@
--- The event of a number text is that of its leaf.
+-- The event of a number text is that of its leaf: both go by whether something stands behind its whole part.
 use Rattle.std.proofs.Common.{◌≡◌, ℕ, ◌==◌, Bool, true, false, cond, List, [], ◌∷◌, ◌++◌, drop, refl, ap, sym, ◌∙◌, inl, inr, arith}
 use Rattle.std.specs.Prelude.{◌⊎◌, ◌&&◌, ◌||◌, not, nat_le, nat_lt, ◌^◌, slice_index, if◌then◌else◌, ℤ}
 use Rattle.std.specs.List.{AllByRecursion}
@@ -10,7 +10,7 @@ use Rattle.miniserde_model.specs.Event.{Event, nothing, boolean, string, negativ
 use Rattle.miniserde_model.specs.Number.{IsDigit, IsWhole, IsFraction, IsExponent, IsNumberText, is_plain, begins_minus, leaf_of_digits, leaf_of_negated, leaf}
 use Rattle.miniserde_model.specs.Bytes.{is_number_byte, StopsAt}
 use Rattle.miniserde_model.specs.Lexing.{Piece, Ends}
-use Rattle.miniserde_text.specs.Reading.{event_of_parts}
+use Rattle.miniserde_text.specs.private.Reading.{event_of_parts}
 use Rattle.miniserde_text.proofs.Options.{if_cases}
 
 -- the first event of a tree

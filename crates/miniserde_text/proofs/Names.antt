@@ -1,4 +1,5 @@
--- A name: a string, whitespace, a colon.
+-- A name is a string, whitespace and a colon: put together from what was read, and taken apart to show that none
+-- stands there. A string ends at one place, so the colon can stand at no other.
 use Rattle.std.proofs.Common.{◌≡◌, ◌≢◌, ℕ, List, [], ◌∷◌, ◌++◌, drop, refl, ap, sym, ◌∙◌, append_assoc}
 use Rattle.std.specs.Prelude.{slice_index}
 use Rattle.std.specs.Str.{encode_utf8_all}
@@ -6,8 +7,8 @@ use Rattle.miniserde_model.specs.Bytes.{is_space, StopsAt}
 use Rattle.miniserde_model.specs.String.{IsString}
 use Rattle.miniserde_model.specs.Lexing.{BeforeColon, IsName, Names}
 use Rattle.miniserde_model.proofs.Strings.{same_string}
-use Rattle.miniserde_text.specs.Reading.{after_run}
-use Rattle.miniserde_text.specs.Inside.{Chars, Leads, NameTaken}
+use Rattle.miniserde_text.specs.private.Reading.{after_run}
+use Rattle.miniserde_text.specs.private.Inside.{Chars, Leads, NameTaken}
 use Rattle.miniserde_text.proofs.Runs.{run_split, run_only_space, whitespace_of, stands_of, stands_only}
 use Rattle.miniserde_text.proofs.Options.{first_byte}
 use Rattle.miniserde_text.proofs.Strings.{string_leads, string_chars}

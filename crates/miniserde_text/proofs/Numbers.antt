@@ -1,4 +1,4 @@
--- Reading takes exactly the numbers of the grammar.
+-- Reading takes exactly the numbers of the grammar: `X_takes` and `X_only` say it of each part X, either way round.
 use Rattle.std.proofs.Common.{◌≡◌, ◌≢◌, ℕ, ◌≤◌, ◌==◌, Bool, true, false, cond, List, [], ◌∷◌, ◌++◌, drop, Some, None, refl, ap, sym, subst, ◌∙◌, inl, inr, arith, eqb-true, eq-eqb, append_assoc}
 use Rattle.std.specs.Prelude.{◌⊎◌, slice_index, option_and_then}
 use Rattle.std.specs.List.{AllByRecursion}
@@ -8,8 +8,8 @@ use Rattle.miniserde_model.specs.Event.{Event}
 use Rattle.miniserde_model.specs.Number.{IsDigit, AreDigits, IsWhole, IsMinus, IsFraction, IsSign, IsExponent, IsNumberText, leaf}
 use Rattle.miniserde_model.specs.Bytes.{is_number_byte, StopsAt}
 use Rattle.miniserde_model.proofs.Runs.{AllPass}
-use Rattle.miniserde_text.specs.Reading.{after_run, is_digit, is_sign, is_exponent_letter, after_digits, after_minus, after_whole, after_fraction, after_sign, after_exponent, after_tail, before, event_of_parts, event_at, number_at}
-use Rattle.miniserde_text.specs.Inside.{Leads}
+use Rattle.miniserde_text.specs.private.Reading.{after_run, is_digit, is_sign, is_exponent_letter, after_digits, after_minus, after_whole, after_fraction, after_sign, after_exponent, after_tail, before, event_of_parts, event_at, number_at}
+use Rattle.miniserde_text.specs.private.Inside.{Leads}
 use Rattle.miniserde_text.proofs.Runs.{run_split, run_only, stops_at, stops_of, or_true}
 use Rattle.std.proofs.lemmas.Option.{cond_some, same_Some}
 use Rattle.miniserde_text.proofs.Options.{chosen, none_if, bind_some, first_byte, first_of_test, before_append, before_is}

@@ -1,4 +1,5 @@
--- Runs of bytes that pass a test, and what stands behind whitespace.
+-- Runs of bytes that pass a test, by recursion on the list. Whitespace is such a run, so a piece stands behind it
+-- exactly where the rest of the text begins with that piece.
 use Rattle.std.proofs.Common.{◌≡◌, ℕ, ◌+◌, ◌<◌, ◌==◌, ◌||◌, ◌⊎◌, Bool, true, false, cond, List, [], ◌∷◌, ◌++◌, length, drop, get_or, refl, ap, sym, ◌∙◌, inl, inr, arith, lt_of_not-le, eqb-true}
 use Rattle.std.proofs.lemmas.Bool.Decides.{nat_tests}
 use Rattle.std.proofs.lemmas.List.{drop_more, get_or_past}
@@ -7,8 +8,8 @@ use Rattle.miniserde_model.specs.Whitespace.{IsSpace, IsWhitespace}
 use Rattle.miniserde_model.specs.Lexing.{Stands}
 use Rattle.miniserde_model.proofs.Runs.{AllPass}
 use Rattle.miniserde_model.proofs.Prefixes.{whitespace_passes}
-use Rattle.miniserde_text.specs.Reading.{after_run, is_digit}
-use Rattle.miniserde_text.specs.Inside.{Leads}
+use Rattle.miniserde_text.specs.private.Reading.{after_run, is_digit}
+use Rattle.miniserde_text.specs.private.Inside.{Leads}
 
 pub space_ascii : (c : ℕ) → is_space c ≡ true → c < 128
 space_ascii c h = grind (arith, nat_tests)

@@ -1,4 +1,5 @@
--- What follows in a container, and at the end.
+-- What follows in a container, and at the end: each step that is taken is one of the grammar, and each of the grammar
+-- is taken, so where none is taken there is none.
 use Rattle.std.proofs.Common.{◌≡◌, ℕ, ◌==◌, Bool, true, false, cond, not, List, [], ◌∷◌, ◌++◌, length, drop, Option, Some, None, refl, ap, sym, subst, ◌∙◌, inl, inr, arith, eqb-true, append-nil}
 use Rattle.std.specs.Prelude.{slice_index, is_some}
 use Rattle.std.proofs.lemmas.Bool.{true≢false}
@@ -6,8 +7,8 @@ use Rattle.std.proofs.lemmas.Bool.Decides.{nat_tests}
 use Rattle.miniserde_model.specs.Bytes.{is_space, StopsAt}
 use Rattle.miniserde_model.specs.Whitespace.{IsWhitespace}
 use Rattle.miniserde_model.specs.Lexing.{Kind, in_list, in_members, IsByte, closing, Begins, Follows}
-use Rattle.miniserde_text.specs.Reading.{after_run, is_closing, begins, step_at}
-use Rattle.miniserde_text.specs.Inside.{Leads}
+use Rattle.miniserde_text.specs.private.Reading.{after_run, is_closing, begins, step_at}
+use Rattle.miniserde_text.specs.private.Inside.{Leads}
 use Rattle.miniserde_text.proofs.Runs.{run_split, run_only_space, run_stops, Stops, whitespace_of, stands_of, stands_only}
 use Rattle.std.proofs.lemmas.Option.{cond_some, same_Some}
 use Rattle.miniserde_text.proofs.Options.{chosen, first_byte}

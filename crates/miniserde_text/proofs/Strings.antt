@@ -1,4 +1,5 @@
--- Passing over the characters of a string.
+-- Passing over the characters of a string: runs and escapes each pass some characters and no others (`Passes`), which
+-- composes, and where no piece can begin there is no string.
 use Rattle.std.proofs.Common.{◌≡◌, ◌≢◌, ℕ, ◌<◌, ◌≤◌, ◌==◌, nat_lt, Bool, true, false, List, [], ◌∷◌, ◌++◌, length, take, drop, Some, None, refl, ap, sym, subst, ◌∙◌, inl, inr, arith, lt_of_not-le, append_assoc, ltb-true}
 use Rattle.std.specs.Prelude.{◌⊎◌, slice_index}
 use Rattle.std.specs.List.{AllByRecursion}
@@ -15,8 +16,8 @@ use Rattle.miniserde_model.specs.String.{IsRaw, IsPiece, raw, ArePieces, IsStrin
 use Rattle.miniserde_model.proofs.Runs.{AllPass}
 use Rattle.miniserde_model.proofs.Strings.{same_piece}
 use Rattle.miniserde_text.specs.Lexer.{HasBackslash}
-use Rattle.miniserde_text.specs.Reading.{after_run, before, is_unescaped, escape_at}
-use Rattle.miniserde_text.specs.Inside.{Chars, Passes, Adds, Leads}
+use Rattle.miniserde_text.specs.private.Reading.{after_run, before, is_unescaped, escape_at}
+use Rattle.miniserde_text.specs.private.Inside.{Chars, Passes, Adds, Leads}
 use Rattle.miniserde_text.proofs.Runs.{run_split, run_stops}
 use Rattle.miniserde_text.proofs.Options.{first_byte, none_is_some, and_parts, before_is}
 use Rattle.miniserde_text.proofs.Escapes.{piece_cases, escape_takes}

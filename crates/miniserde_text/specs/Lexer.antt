@@ -38,6 +38,7 @@ front_of (event.Str t) scratch = string (text_of t scratch)
 front_of event.SeqStart scratch = seq
 front_of event.MapStart scratch = map
 
+-- the kind of a container in the grammar
 abbrev pub kind_of : Kind → grammar.Kind
 kind_of kind.Seq = in_list
 kind_of kind.Map = in_members
@@ -49,6 +50,7 @@ closes after.Next = false
 
 -- ---- what is borrowed, and what takes memory
 
+-- a backslash stands in the text
 abbrev pub HasBackslash : List ℕ → Type 0
 HasBackslash x = (a b : List ℕ) × (x ≡ a ++ 92 ∷ b)
 
@@ -66,13 +68,13 @@ EventStandsFor _ s r = ⊤
 abbrev pub NameStandsFor : Text → List ℕ → List ℕ → Type 0
 NameStandsFor t s r = Stands (BeforeColon (Between 34 (StandsFor t) 34)) s r
 
--- a borrowed text leaves the scratch text as it was
-abbrev pub KeepsScratch : Text → List ℕ → List ℕ → Type 0
+-- a borrowed text leaves the scratch text as it was, with its capacity
+abbrev pub KeepsScratch : {S : Type 0} → Text → S → S → Type 0
 KeepsScratch (Input x) old new = new ≡ old
 KeepsScratch Scratch old new = ⊤
 
 -- so does each event that is no string
-abbrev pub EventKeepsScratch : Event → List ℕ → List ℕ → Type 0
+abbrev pub EventKeepsScratch : {S : Type 0} → Event → S → S → Type 0
 EventKeepsScratch (event.Str t) old new = KeepsScratch t old new
 EventKeepsScratch _ old new = new ≡ old
 

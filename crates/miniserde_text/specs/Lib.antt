@@ -1,7 +1,3 @@
 pub mod Error
 pub mod Lexer
-pub mod Reading
-pub mod Inside
-pub mod Ranged
-pub mod Keys
-pub mod KeyLaws
+pub mod private

@@ -21,6 +21,9 @@ pub type Result<T> = std::result::Result<T, Error>;
 impl fmt::Display for Error {
     ghost output = { λ e. Some (message e) };
 
+    // Also under options, as `{:>20}`: nothing is padded or cut.
+    ghost styled_output = { λ e _. Some (message e) };
+
     fn fmt<W: fmt::Write>(&self, f: &mut fmt::Formatter<W>) -> fmt::Result {
         match self {
             Error::Invalid => f.write_str("miniserde error"),

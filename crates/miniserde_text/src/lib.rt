@@ -1,7 +1,6 @@
-//! The lower floor of `miniserde`: its refusals, and the lexer of JSON text.
+//! The floor of texts: the two refusals of the library, the lexer of JSON text, and numbers that are kept as text.
 #![tactic(auto)]
 
-pub mod de;
 pub mod error;
 pub mod json;
 pub mod scan;

@@ -88,6 +88,9 @@ fn fronts_of_words_strings_and_brackets(rt: HostRuntime) {
         ("\"\\x\"", Front::Invalid),
         ("\"\\u12\"", Front::Invalid),
         ("\"a\u{1f}\"", Front::Invalid),
+        // Behind an escape these never close, at the end of the text or at a control byte. Memory is there.
+        ("\"\\n", Front::Invalid),
+        ("\"\\n\u{1f}", Front::Invalid),
         ("[", Front::Seq),
         ("{", Front::Map),
         ("]", Front::Invalid),
@@ -214,6 +217,11 @@ fn refusals(rt: HostRuntime) {
     assert!(rt; matches!(comma.start(&mut scratch), Err(Error::Invalid)));
     let mut name = Lexer::new("\"a\" 1");
     assert!(rt; matches!(name.name(&mut scratch), Err(Error::Invalid)));
+    // A decoded name with no colon behind it. Memory is there.
+    let mut decoded = Lexer::new("{\"\\n\" 1}");
+    assert!(rt; matches!(decoded.start(&mut scratch), Ok(Event::MapStart)));
+    assert!(rt; matches!(decoded.after(Kind::Map, true), Ok(After::Next)));
+    assert!(rt; matches!(decoded.name(&mut scratch), Err(Error::Invalid)));
     let mut more = Lexer::new(" 1");
     assert!(rt; matches!(more.end(), Err(Error::Invalid)));
     assert!(rt; matches!(more.start(&mut scratch), Err(Error::Invalid)));

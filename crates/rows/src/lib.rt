@@ -1,26 +1,6 @@
-//! Tests that cross the crates, one file a theme. Nothing here is for users.
+//! What the tests that cross the crates share: a text's value, written and read again, and written once more.
 #![tactic(auto)]
 
-#[cfg(test)]
-mod accepted;
-#[cfg(test)]
-mod again;
-#[cfg(test)]
-mod demo;
-#[cfg(test)]
-mod devices;
-pub mod entries;
-#[cfg(test)]
-mod failures;
-#[cfg(test)]
-mod lists;
-#[cfg(test)]
-mod maps;
-#[cfg(test)]
-mod places;
-#[cfg(test)]
-mod program;
-#[cfg(test)]
-mod scalars;
-#[cfg(test)]
-mod wrappers;
+mod texts;
+
+pub use texts::{again, first_changed, first_taken, first_wrong};

@@ -1,32 +1,16 @@
-//! The places of std's types.
+//! The places of std's types, one file a kind of type.
 
 mod arrays;
 mod boxes;
-mod collect;
-mod container;
-mod hashed;
-mod inner;
-mod integers;
-mod leaf;
+mod leaves;
 mod maps;
 mod options;
 mod pairs;
-mod parts;
 mod sequences;
-mod text;
-mod words;
 
-pub use arrays::{ArrayOf, ArrayPlace};
+pub use arrays::ArrayPlace;
 pub use boxes::BoxPlace;
-pub use collect::Collect;
-pub use container::ContainerPlace;
-pub use hashed::{HashMapOf, HashMapPlace};
-pub use integers::IntegerPlace;
-pub use leaf::{Leaf, LeafPlace};
-pub use maps::{BTreeMapOf, BTreeMapPlace};
+pub use maps::{BTreeMapPlace, HashMapPlace};
 pub use options::OptionPlace;
-pub use pairs::{PairOf, PairPlace};
-pub use parts::{ChildPlace, NoPlace};
-pub use sequences::{ListOf, VecPlace};
-pub use text::StringPlace;
-pub use words::{BoolPlace, UnitPlace};
+pub use pairs::PairPlace;
+pub use sequences::VecPlace;

@@ -1,10 +1,10 @@
 //! Strings by the escape rule.
-ghost use Rattle.std.specs.Prelude.{◌≡◌, ◌≢◌, ℕ, ◌+◌, ◌/◌, ◌%◌, ◌<◌, ◌≤◌, [], ◌∷◌, ◌++◌, length, true, false, slice_index, OnOk, OnErr, IfSome, IsErrOf, string_bytes, string_len, string_capacity};
+ghost use Rattle.std.specs.Prelude.{◌≡◌, ◌≢◌, ℕ, ◌+◌, ◌/◌, ◌%◌, ◌^◌, ◌<◌, ◌≤◌, [], ◌∷◌, ◌++◌, length, true, false, slice_index, OnOk, OnErr, IfSome, IfNone, IsErrOf, string_bytes, string_len, string_capacity};
 ghost use Rattle.std.specs.Char.{digit_char};
 ghost use Rattle.miniserde_model.specs.Bytes as bytes;
 ghost use Rattle.miniserde_model.specs.Compact.{quoted};
 ghost use Rattle.miniserde_text.specs.declared.error.Error.TheVariants.{Memory};
-ghost use Rattle.miniserde_ser.specs.Escape.{escape, escapes};
+ghost use Rattle.miniserde_ser.specs.private.Escape.{escape, escapes};
 
 use miniserde_text::error::{Error, Result};
 use miniserde_text::scan::special;
@@ -21,7 +21,7 @@ fn run_end(text: &[u8], from: usize) -> usize
 }
 
 // The letter that stands for the byte behind a backslash, or 0.
-#[tactic(auto, unfolding(crate::specs::Escape::escape))]
+#[tactic(auto, unfolding(crate::specs::private::Escape::escape))]
 fn letter_of(b: u8) -> u8
     ensures short { result ≢ 0 → escape b ≡ 92 ∷ result ∷ [] }
     ensures control { result ≡ 0 → b < 32
@@ -55,9 +55,10 @@ fn byte_len(b: u8) -> usize
     }
 }
 
-// How many bytes the text is written as, without the quotes.
+// How many bytes the text is written as, without the quotes, unless no `usize` holds that.
 fn escaped_len(value: &str) -> Option<usize>
-    ensures { IfSome result (λ n. n ≡ length (escapes value.now)) }
+    ensures some { IfSome result (λ n. n ≡ length (escapes value.now)) }
+    ensures none { IfNone result (2 ^ 64 ≤ length (escapes value.now)) }
 {
     let mut total = 0usize;
     for b in value.as_bytes() {
@@ -120,18 +121,22 @@ fn put_escapes(value: &str, out: &mut String)
     }
 }
 
-// Appends a mark or nothing, a text between quotes by the escape rule, and again a mark or nothing. `out` grows once
-// at most, before anything is appended.
+// Appends a mark or nothing, a text between quotes by the escape rule, and again a mark or nothing. A call that refuses
+// leaves `out` as it was.
 pub(crate) fn put_between(front: &str, value: &str, back: &str, out: &mut String) -> Result<()>
     requires front { length front.now ≤ 1 }
     requires back { length back.now ≤ 1 }
-    ensures ok { OnOk result (string_bytes out.new ≡ string_bytes out.old ++ (front.now ++ quoted value.now ++ back.now)) }
+    ensures ok { OnOk result (string_bytes out.new
+        ≡ string_bytes out.old ++ (front.now ++ quoted value.now ++ back.now)) }
     ensures memory { OnErr result (IsErrOf result Memory) }
+    ensures room { OnErr result (string_capacity out.old
+        < string_len out.old + length (front.now ++ quoted value.now ++ back.now)) }
     ensures err { OnErr result (string_bytes out.new ≡ string_bytes out.old) }
+    ensures kept { OnErr result (string_capacity out.new ≡ string_capacity out.old) }
+    ensures capacity { string_capacity out.old ≤ string_capacity out.new }
 {
     let Some(len) = escaped_len(value) else {
         // No memory holds so long a text.
-        let _ = out.reserve(usize::MAX);
         return Err(Error::Memory);
     };
     out.reserve(len.saturating_add(front.len() + back.len() + 2))?;
@@ -143,12 +148,14 @@ pub(crate) fn put_between(front: &str, value: &str, back: &str, out: &mut String
     Ok(())
 }
 
-/// Appends a text as a string of JSON: between quotes, by the escape rule. `out` grows once at most, before anything
-/// is appended.
+/// Appends a text as a string of JSON: between quotes, by the escape rule. A call that refuses leaves `out` as it was.
 pub fn escape_str(value: &str, out: &mut String) -> Result<()>
     ensures ok { OnOk result (string_bytes out.new ≡ string_bytes out.old ++ quoted value.now) }
     ensures memory { OnErr result (IsErrOf result Memory) }
+    ensures room { OnErr result (string_capacity out.old < string_len out.old + length (quoted value.now)) }
     ensures err { OnErr result (string_bytes out.new ≡ string_bytes out.old) }
+    ensures kept { OnErr result (string_capacity out.new ≡ string_capacity out.old) }
+    ensures capacity { string_capacity out.old ≤ string_capacity out.new }
 {
     put_between("", value, "", out)
 }

@@ -107,8 +107,7 @@ impl<'a> Lexer<'a> {
         ensures ok { IfOk result (λ event. (self.old.refused ≡ None) × (self.new.refused ≡ None)
             × Starts self.old.rest (front_of event (string_bytes scratch.new)) self.new.rest) }
         ensures text { IfOk result (λ event. EventStandsFor event self.old.rest self.new.rest) }
-        ensures scratch { IfOk result (λ event.
-            EventKeepsScratch event (string_bytes scratch.old) (string_bytes scratch.new)) }
+        ensures scratch { IfOk result (λ event. EventKeepsScratch event scratch.old scratch.new) }
         ensures invalid { result ≡ Err Error.Invalid → self.old.refused ≡ None
             → (e : event.Event) (r : List ℕ) → Starts self.old.rest e r → ⊥ }
         ensures memory { result ≡ Err Error.Memory → self.old.refused ≡ None → BeginsEscaped self.old.rest }
@@ -132,7 +131,7 @@ impl<'a> Lexer<'a> {
         ensures ok { IfOk result (λ t. (self.old.refused ≡ None) × (self.new.refused ≡ None)
             × Names self.old.rest (text_of t (string_bytes scratch.new)) self.new.rest) }
         ensures text { IfOk result (λ t. NameStandsFor t self.old.rest self.new.rest) }
-        ensures scratch { IfOk result (λ t. KeepsScratch t (string_bytes scratch.old) (string_bytes scratch.new)) }
+        ensures scratch { IfOk result (λ t. KeepsScratch t scratch.old scratch.new) }
         ensures invalid { result ≡ Err Error.Invalid → self.old.refused ≡ None
             → (n r : List ℕ) → Names self.old.rest n r → ⊥ }
         ensures memory { result ≡ Err Error.Memory → self.old.refused ≡ None → BeginsEscaped self.old.rest }

@@ -1,5 +1,6 @@
 //! Boxed values.
-ghost use Rattle.std.specs.Prelude.{◌≡◌, true, Option, Some, None, Ok, Err, List, IfOk, IfErr};
+ghost use Rattle.std.specs.Prelude.{◌≡◌, Option, None};
+ghost use Rattle.miniserde_de.specs.Meanings.{box_meaning};
 
 use super::super::{Deserialize, Step, Visitor};
 use miniserde_text::error::{Error, Result};
@@ -7,33 +8,29 @@ use std::alloc::Global;
 
 /// The place of a `Box`: that of the value, which is boxed when it is taken.
 #[derive(Drop)]
-pub struct BoxPlace<T: Deserialize> {
+pub struct BoxPlace<P> {
     alloc: Global,
-    place: T::Place,
+    place: P,
 }
 
-impl<T: Deserialize> Visitor for BoxPlace<T> {
-    type Out = Box<T>;
+impl<P: Visitor> Visitor for BoxPlace<P>
+where
+    P::Out: Drop,
+{
+    type Out = Box<P::Out>;
 
-    ghost Content = { T.Place.Content };
+    ghost meaning = { box_meaning (λ p. p.place) (λ b. b.value) P.meaning };
 
-    ghost content = { λ b. T.Place.content b.value };
+    ghost begins_free = { P.begins_free };
 
-    ghost mean = { T.Place.mean };
+    ghost further = { λ old e answer new. P.further old.place e answer new.place };
 
-    ghost of = { T.Place.of };
-
-    ghost refused = { λ p. T.Place.refused p.place };
-
-    ghost at = { λ p. T.Place.at p.place };
-
-    ghost outcome = { λ p. T.Place.outcome p.place };
-
-    ghost meant = { T.Place.meant };
-
-    ghost reads = { λ t b. T.Place.reads t b.value };
-
-    ghost given = { λ t b. T.Place.given t b.value };
+    fn begin(alloc: Global) -> Result<BoxPlace<P>> {
+        Ok(BoxPlace {
+            alloc,
+            place: P::begin(alloc)?,
+        })
+    }
 
     fn step(&mut self, event: Step<'_>) -> Result<()> {
         self.place.step(event)
@@ -42,27 +39,23 @@ impl<T: Deserialize> Visitor for BoxPlace<T> {
     fn refuse(&mut self, error: Error) -> Error {
         self.place.refuse(error)
     }
+
+    fn is_complete(&self) -> bool {
+        self.place.is_complete()
+    }
+
+    fn take(self) -> Result<Box<P::Out>> {
+        let BoxPlace { alloc, place } = self;
+        Ok(Box::new(alloc, place.take()?)?)
+    }
 }
 
 impl<T: Deserialize> Deserialize for Box<T> {
-    type Place = BoxPlace<T>;
+    type Place = BoxPlace<T::Place>;
 
     ghost absent = { None };
 
-    ghost begins_free = { T.begins_free };
-
-    fn begin(alloc: Global) -> Result<BoxPlace<T>> {
-        Ok(BoxPlace {
-            alloc,
-            place: T::begin(alloc)?,
-        })
-    }
-
     fn default() -> Option<Box<T>> {
         None
-    }
-
-    fn take(place: BoxPlace<T>) -> Result<Box<T>> {
-        Ok(Box::new(place.alloc, T::take(place.place)?)?)
     }
 }

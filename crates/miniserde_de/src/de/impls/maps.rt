@@ -1,129 +1,157 @@
-//! Maps that are ordered by their keys.
-ghost use Rattle.std.specs.Prelude.{◌≡◌, true, Option, Some, None, Ok, Err, [], IfOk, option_map};
-ghost use Rattle.miniserde_model.specs.Position.{start, complete};
-ghost use Rattle.miniserde_text.specs.declared.error.Error.{Error};
-ghost use Rattle.miniserde_de.specs.Parts.{part_refused, part_at};
-ghost use Rattle.miniserde_de.specs.Objects.{object_kind};
-ghost use Rattle.miniserde_de.specs.Maps.{Entries, MapReads, looked, no_key, map_member, map_of, entry_joined};
-ghost use Rattle.miniserde_de.specs.MapLaws.{entry-factors, map-meant, map-given};
+//! Maps, ordered by their keys or hashed.
+ghost use Rattle.std.specs.Prelude.{◌≡◌, [], List, Option, None, Ok, IfOk, OnErr, IsErrOf};
+ghost use Rattle.miniserde_text.specs.declared.error.Error.TheVariants.{Memory};
+ghost use Rattle.miniserde_de.specs.Maps.{looked, with_entry};
+ghost use Rattle.miniserde_de.specs.Meanings.{map_gathering};
 
 use super::super::{Deserialize, MapKey, Step, Visitor};
-use super::collect::Collect;
-use super::container::ContainerPlace;
-use super::parts::{ChildPlace, NoPlace};
+use miniserde_place::de::container::{Collect, ContainerPlace};
 use miniserde_text::error::{Error, Result};
 use std::alloc::Global;
-use std::collections::BTreeMap;
+use std::collections::{BTreeMap, HashMap};
+use std::hash::{BuildHasher, Hash};
 
-/// A map that is being read, and the key of its current child.
+/// A map that takes entries.
+pub trait Table: Drop {
+    type Key: MapKey;
+
+    type Value: Drop;
+
+    // The entries, in the order of its walk.
+    ghost entries: { Self → List (Self.Key × Self.Value) };
+
+    /// No entries yet. It takes no memory.
+    fn new(alloc: Global) -> Self
+        ensures { entries result ≡ [] };
+
+    /// Takes an entry: an equal key that is there stays, and has the value from then on.
+    fn put(&mut self, key: Self::Key, value: Self::Value) -> Result<()>
+        ensures put { IfOk result (λ _.
+            looked Self.Key.code Self.Key.content (λ v. v) (entries self.new) ≡ with_entry Self.Key.code
+            (looked Self.Key.code Self.Key.content (λ v. v) (entries self.old)) (Self.Key.content key) value) }
+        ensures memory { OnErr result (IsErrOf result Memory) };
+}
+
+impl<K: MapKey + Ord, V: Drop> Table for BTreeMap<K, V> {
+    type Key = K;
+
+    type Value = V;
+
+    ghost entries = { λ m. m.entries };
+
+    fn new(alloc: Global) -> BTreeMap<K, V> {
+        BTreeMap::new(alloc)
+    }
+
+    fn put(&mut self, key: K, value: V) -> Result<()> {
+        self.insert(key, value)?;
+        Ok(())
+    }
+}
+
+impl<K: MapKey + Hash, V: Drop, H: BuildHasher + Default + Drop> Table for HashMap<K, V, H> {
+    type Key = K;
+
+    type Value = V;
+
+    ghost entries = { λ m. m.entries };
+
+    fn new(alloc: Global) -> HashMap<K, V, H> {
+        HashMap::with_hasher(alloc, H::default())
+    }
+
+    fn put(&mut self, key: K, value: V) -> Result<()> {
+        HashMap::insert(self, key, value)?;
+        Ok(())
+    }
+}
+
+/// A map that is being read, with the key and the place of its current value.
 #[derive(Drop)]
-pub struct BTreeMapOf<K: MapKey + Ord, V: Deserialize> {
-    pending: Option<K>,
-    entries: BTreeMap<K, V>,
+pub struct MapOf<M, K, P> {
+    table: M,
+    key: Option<K>,
+    child: Option<P>,
 }
 
 /// The place of a `BTreeMap`.
-#[derive(Drop)]
-pub struct BTreeMapPlace<K: MapKey + Ord, V: Deserialize> {
-    object: ContainerPlace<BTreeMapOf<K, V>>,
-}
+pub type BTreeMapPlace<K, V> = ContainerPlace<MapOf<BTreeMap<K, V>, K, <V as Deserialize>::Place>>;
 
-impl<K: MapKey + Ord, V: Deserialize> Collect for BTreeMapOf<K, V> {
-    type Out = BTreeMap<K, V>;
+/// The place of a `HashMap`.
+pub type HashMapPlace<K, V, H> = ContainerPlace<
+    MapOf<HashMap<K, V, H>, K, <V as Deserialize>::Place>,
+>;
 
-    type Child = V::Place;
+impl<P: Visitor, M: Table<Value = P::Out>> Collect for MapOf<M, M::Key, P> {
+    type Out = M;
 
-    type Other = NoPlace;
+    ghost gathering = { map_gathering M.Key.read M.Key.code M.Key.content P.meaning
+        (λ c. M.entries c.table) (λ c. c.key) (λ c. c.child) M.entries };
 
-    ghost Content = { Entries V.Place.Content };
-
-    ghost content = { λ v. looked K.code K.content V.Place.content v.entries };
-
-    ghost State = { Entries V.Place.Content };
-
-    ghost state = { λ c. looked K.code K.content V.Place.content c.entries.entries };
-
-    ghost empty = { no_key };
-
-    ghost opening = { true };
-
-    ghost kind = { object_kind (map_member K.read K.code V.Place.mean) (λ m. Some m) };
-
-    ghost of = { map_of K.read K.code V.Place.of };
-
-    ghost joined = { λ c. entry_joined K.code V.Place.outcome (option_map K.content c.pending) (looked K.code K.content V.Place.content c.entries.entries) };
-
-    ghost factors = { λ c. entry-factors K.code V.Place.outcome (λ _ _. None) (option_map K.content c.pending) (looked K.code K.content V.Place.content c.entries.entries) };
-
-    ghost meant = { map-meant K.read K.code V.Place.mean V.Place.of V.Place.meant };
+    fn new(alloc: Global) -> MapOf<M, M::Key, P> {
+        MapOf {
+            table: M::new(alloc),
+            key: None,
+            child: None,
+        }
+    }
 
     fn opens(event: &Step<'_>) -> bool {
         matches!(event, Step::Map)
     }
 
-    fn child(&mut self, alloc: Global, event: Step<'_>) -> Result<ChildPlace<V::Place, NoPlace>> {
+    #[inline(never)]
+    fn begin_child(&mut self, alloc: Global, event: Step<'_>) -> Result<()> {
         match event {
             Step::Key(name) => {
-                let key = K::from_key(alloc, name)?;
-                let place = V::begin(alloc)?;
-                self.pending = Some(key);
-                Ok(ChildPlace::First(place))
-            }
-            _ => Err(Error::Invalid),
-        }
-    }
-
-    fn join(&mut self, child: ChildPlace<V::Place, NoPlace>) -> Result<()>
-        requires free { part_refused V.Place.refused (λ _. Some Error.Invalid) child ≡ None }
-        requires whole { part_at V.Place.at (λ _. start) child ≡ complete }
-        ensures joined { IfOk result (λ _. entry_joined K.code V.Place.outcome (option_map K.content self.old.pending) (looked K.code K.content V.Place.content self.old.entries.entries) child []
-            ≡ Some (looked K.code K.content V.Place.content self.new.entries.entries)) }
-        ensures invalid { result ≡ Err Error.Invalid
-            → entry_joined K.code V.Place.outcome (option_map K.content self.old.pending) (looked K.code K.content V.Place.content self.old.entries.entries) child [] ≡ None }
-    {
-        match (self.pending.take(), child) {
-            (Some(key), ChildPlace::First(place)) => {
-                self.entries.insert(key, V::take(place)?)?;
+                let key = <M::Key as MapKey>::from_key(alloc, name)?;
+                self.child = Some(P::begin(alloc)?);
+                self.key = Some(key);
                 Ok(())
             }
             _ => Err(Error::Invalid),
         }
     }
 
-    fn end(self) -> Result<BTreeMap<K, V>> {
-        Ok(self.entries)
-    }
-}
-
-impl<K: MapKey + Ord, V: Deserialize> Visitor for BTreeMapPlace<K, V> {
-    type Out = BTreeMap<K, V>;
-
-    ghost Content = { Entries V.Place.Content };
-
-    ghost content = { λ v. looked K.code K.content V.Place.content v.entries };
-
-    ghost mean = { ⟦<ContainerPlace<BTreeMapOf<K, V>> as Visitor>⟧.mean };
-
-    ghost of = { map_of K.read K.code V.Place.of };
-
-    ghost refused = { λ p. ⟦<ContainerPlace<BTreeMapOf<K, V>> as Visitor>⟧.refused p.object };
-
-    ghost at = { λ p. ⟦<ContainerPlace<BTreeMapOf<K, V>> as Visitor>⟧.at p.object };
-
-    ghost outcome = { λ p. ⟦<ContainerPlace<BTreeMapOf<K, V>> as Visitor>⟧.outcome p.object };
-
-    ghost meant = { map-meant K.read K.code V.Place.mean V.Place.of V.Place.meant };
-
-    ghost reads = { λ t v. MapReads K.read K.code K.content V.Place.of V.Place.reads t v.entries };
-
-    ghost given = { λ t v. map-given K.read K.code K.content V.Place.of V.Place.content V.Place.reads V.Place.given t v.entries };
-
     fn step(&mut self, event: Step<'_>) -> Result<()> {
-        self.object.step(event)
+        match &mut self.child {
+            Some(place) => place.step(event),
+            None => Err(Error::Invalid),
+        }
     }
 
     fn refuse(&mut self, error: Error) -> Error {
-        self.object.refuse(error)
+        match &mut self.child {
+            Some(place) => place.refuse(error),
+            None => Error::Invalid,
+        }
+    }
+
+    fn is_child_complete(&self) -> bool {
+        match &self.child {
+            Some(place) => place.is_complete(),
+            None => false,
+        }
+    }
+
+    #[inline(never)]
+    fn join(&mut self) -> Result<()> {
+        match (self.child.take(), self.key.take()) {
+            (Some(place), Some(key)) => self.table.put(key, place.take()?),
+            (Some(place), None) => {
+                place.take()?;
+                Err(Error::Invalid)
+            }
+            _ => Err(Error::Invalid),
+        }
+    }
+
+    fn is_whole(&self) -> bool {
+        true
+    }
+
+    fn end(self) -> Option<M> {
+        Some(self.table)
     }
 }
 
@@ -132,20 +160,18 @@ impl<K: MapKey + Ord, V: Deserialize> Deserialize for BTreeMap<K, V> {
 
     ghost absent = { None };
 
-    fn begin(alloc: Global) -> Result<BTreeMapPlace<K, V>> {
-        let collector = BTreeMapOf {
-            pending: None,
-            entries: BTreeMap::new(alloc),
-        };
-        let object = ContainerPlace::new(alloc, collector);
-        Ok(BTreeMapPlace { object })
-    }
-
     fn default() -> Option<BTreeMap<K, V>> {
         None
     }
+}
 
-    fn take(place: BTreeMapPlace<K, V>) -> Result<BTreeMap<K, V>> {
-        place.object.take()
+impl<K: MapKey + Hash, V: Deserialize, H: BuildHasher + Default + Drop> Deserialize
+    for HashMap<K, V, H> {
+    type Place = HashMapPlace<K, V, H>;
+
+    ghost absent = { None };
+
+    fn default() -> Option<HashMap<K, V, H>> {
+        None
     }
 }

@@ -1,72 +1,58 @@
 //! Optional values.
-ghost use Rattle.std.specs.Prelude.{◌≡◌, true, Option, Some, None, Ok, Err, List, [], IfOk, IfErr, option_map};
-ghost use Rattle.miniserde_de.specs.Options.{OptionReads, option_of, option_mean, option_refused, option_at, option_outcome};
-ghost use Rattle.miniserde_de.specs.OptionLaws.{option-meant, option-given};
+ghost use Rattle.std.specs.Prelude.{◌≡◌, true, Option, Some, None};
 
 use super::super::{Deserialize, Step, Visitor};
 use miniserde_text::error::{Error, Result};
 use std::alloc::Global;
 
-// Where the place stands: `null` came, or the place of the value has the events.
+/// The place of an `Option`. It begins the place of the value at the first event, where that is not `null`.
 #[derive(Drop)]
-enum Stage<P> {
-    Fresh,
+pub enum OptionPlace<P> {
+    /// Nothing came yet.
+    Fresh(Global),
+    /// `null` came.
     Null,
+    /// The place of the value has the events.
     Inner(P),
     Refused(Error),
 }
 
-/// The place of an `Option`. It begins the place of the value at the first event, where that is not `null`.
-#[derive(Drop)]
-pub struct OptionPlace<T: Deserialize> {
-    alloc: Global,
-    stage: Stage<T::Place>,
-}
+impl<P: Visitor> Visitor for OptionPlace<P> {
+    ghost use Rattle.miniserde_de.specs.Meanings.{option_meaning};
 
-impl<T: Deserialize> Visitor for OptionPlace<T> {
-    type Out = Option<T>;
+    type Out = Option<P::Out>;
 
-    ghost Content = { Option T.Place.Content };
+    ghost meaning = { option_meaning P.meaning };
 
-    ghost content = { option_map T.Place.content };
+    ghost begins_free = { true };
 
-    ghost mean = { option_mean T.Place.mean };
+    ghost takes_free = { P.takes_free };
 
-    ghost of = { option_of T.Place.of };
-
-    ghost refused = { λ p. option_refused T.Place.refused p.stage };
-
-    ghost at = { λ p. option_at T.Place.at p.stage };
-
-    ghost outcome = { λ p. option_outcome T.Place.mean T.Place.outcome p.stage };
-
-    ghost meant = { option-meant T.Place.mean T.Place.of T.Place.meant };
-
-    ghost reads = { OptionReads T.Place.reads };
-
-    ghost given = { option-given T.Place.reads T.Place.of T.Place.content T.Place.given };
+    fn begin(alloc: Global) -> Result<OptionPlace<P>> {
+        Ok(OptionPlace::Fresh(alloc))
+    }
 
     fn step(&mut self, event: Step<'_>) -> Result<()> {
-        match &mut self.stage {
-            Stage::Refused(error) => Err(*error),
-            Stage::Inner(place) => place.step(event),
-            Stage::Null => {
-                self.stage = Stage::Refused(Error::Invalid);
+        match self {
+            OptionPlace::Inner(place) => place.step(event),
+            OptionPlace::Refused(error) => Err(*error),
+            OptionPlace::Null => {
+                *self = OptionPlace::Refused(Error::Invalid);
                 Err(Error::Invalid)
             }
-            Stage::Fresh => match event {
+            OptionPlace::Fresh(alloc) => match event {
                 Step::Null => {
-                    self.stage = Stage::Null;
+                    *self = OptionPlace::Null;
                     Ok(())
                 }
-                event => match T::begin(self.alloc) {
+                event => match P::begin(*alloc) {
                     Ok(mut place) => {
                         let answer = place.step(event);
-                        self.stage = Stage::Inner(place);
+                        *self = OptionPlace::Inner(place);
                         answer
                     }
                     Err(error) => {
-                        self.stage = Stage::Refused(error);
+                        *self = OptionPlace::Refused(error);
                         Err(error)
                     }
                 },
@@ -75,41 +61,40 @@ impl<T: Deserialize> Visitor for OptionPlace<T> {
     }
 
     fn refuse(&mut self, error: Error) -> Error {
-        match &mut self.stage {
-            Stage::Refused(first) => *first,
-            Stage::Inner(place) => place.refuse(error),
+        match self {
+            OptionPlace::Refused(first) => *first,
+            OptionPlace::Inner(place) => place.refuse(error),
             _ => {
-                self.stage = Stage::Refused(error);
+                *self = OptionPlace::Refused(error);
                 error
             }
+        }
+    }
+
+    fn is_complete(&self) -> bool {
+        match self {
+            OptionPlace::Null => true,
+            OptionPlace::Inner(place) => place.is_complete(),
+            _ => false,
+        }
+    }
+
+    fn take(self) -> Result<Option<P::Out>> {
+        match self {
+            OptionPlace::Null => Ok(None),
+            OptionPlace::Inner(place) => Ok(Some(place.take()?)),
+            OptionPlace::Fresh(_) => Err(Error::Invalid),
+            OptionPlace::Refused(error) => Err(error),
         }
     }
 }
 
 impl<T: Deserialize> Deserialize for Option<T> {
-    type Place = OptionPlace<T>;
+    type Place = OptionPlace<T::Place>;
 
     ghost absent = { Some None };
 
-    ghost begins_free = { true };
-
-    fn begin(alloc: Global) -> Result<OptionPlace<T>> {
-        Ok(OptionPlace {
-            alloc,
-            stage: Stage::Fresh,
-        })
-    }
-
     fn default() -> Option<Option<T>> {
         Some(None)
-    }
-
-    fn take(place: OptionPlace<T>) -> Result<Option<T>> {
-        match place.stage {
-            Stage::Null => Ok(None),
-            Stage::Inner(place) => Ok(Some(T::take(place)?)),
-            Stage::Fresh => Err(Error::Invalid),
-            Stage::Refused(error) => Err(error),
-        }
     }
 }

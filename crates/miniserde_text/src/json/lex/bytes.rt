@@ -1,7 +1,7 @@
 //! Tests of bytes, and steps over the bytes of a text.
 ghost use Rattle.std.specs.Prelude.{◌≡◌, ◌-◌, ◌<◌, drop, length, slice_index};
 ghost use Rattle.miniserde_model.specs.Bytes.{is_space, is_number_byte};
-ghost use Rattle.miniserde_text.specs.Reading.{is_digit, is_sign, is_exponent_letter, before, EndsWith};
+ghost use Rattle.miniserde_text.specs.private.Reading.{is_digit, is_sign, is_exponent_letter, before, EndsWith};
 
 pub(super) fn is_space(c: u8) -> bool
     ensures { result ≡ is_space c }

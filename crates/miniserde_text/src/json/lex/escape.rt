@@ -1,7 +1,7 @@
 //! Escapes of strings.
 ghost use Rattle.std.specs.Prelude.{◌≡◌, ◌<◌, ◌≤◌, IsTrue, true, IfSome, slice_index};
 ghost use Rattle.std.specs.Char.{digit_value};
-ghost use Rattle.miniserde_text.specs.Reading.{found, is_hex, begins_unit, unit_at, is_high, is_low, begins_escape, pair_of, low_at, unicode_at, short_at, escape_at};
+ghost use Rattle.miniserde_text.specs.private.Reading.{found, is_hex, begins_unit, unit_at, is_high, is_low, begins_escape, pair_of, low_at, unicode_at, short_at, escape_at};
 
 use super::bytes::{byte_at, skip};
 
@@ -90,7 +90,7 @@ fn low(high: u32, s: &str) -> Option<(char, &str)>
 }
 
 // What `\u` goes on with.
-#[tactic(auto, unfolding(crate::specs::Reading::unicode_at))]
+#[tactic(auto, unfolding(crate::specs::private::Reading::unicode_at))]
 fn unicode(s: &str) -> Option<(char, &str)>
     ensures { found result ≡ unicode_at s.now }
 {
@@ -120,7 +120,7 @@ fn short(letter: u8) -> Option<char>
 }
 
 /// Takes an escape, behind its backslash, and tells its character.
-#[tactic(auto, unfolding(crate::specs::Reading::escape_at))]
+#[tactic(auto, unfolding(crate::specs::private::Reading::escape_at))]
 pub(super) fn take_escape(s: &str) -> Option<(char, &str)>
     ensures { found result ≡ escape_at s.now }
 {

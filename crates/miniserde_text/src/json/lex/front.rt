@@ -3,8 +3,8 @@ ghost use Rattle.std.specs.Prelude.{◌≡◌, ◌-◌, ◌<◌, [], drop, lengt
 ghost use Rattle.std.specs.String.{string_bytes};
 ghost use Rattle.miniserde_model.specs.Event as event;
 ghost use Rattle.miniserde_text.specs.Lexer.{front_of, text_of, KeepsScratch, EventKeepsScratch};
-ghost use Rattle.miniserde_text.specs.Reading.{word_at, front_by};
-ghost use Rattle.miniserde_text.specs.Inside.{Taken, NameTaken, EventTakesText, NameTakesText, ReachesBackslash};
+ghost use Rattle.miniserde_text.specs.private.Reading.{word_at, front_by};
+ghost use Rattle.miniserde_text.specs.private.Inside.{Taken, NameTaken, EventTakesText, NameTakesText, ReachesBackslash};
 
 use super::bytes::{byte_at, skip};
 use super::number::take_number;
@@ -14,7 +14,7 @@ use super::{Event, Text};
 use crate::error::{Error, Result};
 
 // Takes a word, which ends with an ASCII byte.
-#[tactic(auto, unfolding(crate::specs::Reading::word_at))]
+#[tactic(auto, unfolding(crate::specs::private::Reading::word_at))]
 fn take_word<'a>(s: &'a str, word: &[u8], event: Event<'a>) -> Option<(Event<'a>, &'a str)>
     requires some { 0 < length word.now }
     requires there { 0 < slice_index word.now (length word.now - 1) }
@@ -30,7 +30,7 @@ fn take_word<'a>(s: &'a str, word: &[u8], event: Event<'a>) -> Option<(Event<'a>
 }
 
 // Takes the front of a value that is no string.
-#[tactic(auto, unfolding(crate::specs::Reading::front_by))]
+#[tactic(auto, unfolding(crate::specs::private::Reading::front_by))]
 fn take_plain<'a>(s: &'a str, first: u8) -> Option<(Event<'a>, &'a str)>
     requires { first ≡ slice_index s.now 0 }
     ensures { option_map (λ x. (front_of x.0 [], x.1.now)) result ≡ front_by first s.now }
@@ -49,8 +49,7 @@ fn take_plain<'a>(s: &'a str, first: u8) -> Option<(Event<'a>, &'a str)>
 pub(super) fn take_front<'a>(s: &'a str, scratch: &mut String) -> Result<(Event<'a>, &'a str)>
     ensures ok { IfOk result (λ x. Taken s.now (front_of x.0 (string_bytes scratch.new)) x.1.now) }
     ensures text { IfOk result (λ x. EventTakesText x.0 s.now x.1.now) }
-    ensures kept { IfOk result (λ x.
-        EventKeepsScratch x.0 (string_bytes scratch.old) (string_bytes scratch.new)) }
+    ensures kept { IfOk result (λ x. EventKeepsScratch x.0 scratch.old scratch.new) }
     ensures memory { result ≡ Err Error.Memory
         → (slice_index s.now 0 ≡ 34) × ReachesBackslash (drop 1 s.now) }
     ensures invalid { result ≡ Err Error.Invalid → (e : event.Event) (r : List ℕ) → Taken s.now e r → ⊥ }
@@ -70,8 +69,7 @@ pub(super) fn take_front<'a>(s: &'a str, scratch: &mut String) -> Result<(Event<
 pub(super) fn take_name<'a>(s: &'a str, scratch: &mut String) -> Result<(Text<'a>, &'a str)>
     ensures ok { IfOk result (λ x. NameTaken s.now (text_of x.0 (string_bytes scratch.new)) x.1.now) }
     ensures text { IfOk result (λ x. NameTakesText x.0 s.now x.1.now) }
-    ensures kept { IfOk result (λ x.
-        KeepsScratch x.0 (string_bytes scratch.old) (string_bytes scratch.new)) }
+    ensures kept { IfOk result (λ x. KeepsScratch x.0 scratch.old scratch.new) }
     ensures memory { result ≡ Err Error.Memory
         → (slice_index s.now 0 ≡ 34) × ReachesBackslash (drop 1 s.now) }
     ensures invalid { result ≡ Err Error.Invalid → (n r : List ℕ) → NameTaken s.now n r → ⊥ }

@@ -5,7 +5,7 @@ ghost use Rattle.std.specs.List.{AllByRecursion};
 ghost use Rattle.std.specs.Str.Parse.{digits_value};
 ghost use Rattle.miniserde_model.specs.Number.{IsDigit};
 ghost use Rattle.miniserde_text.specs.Lexer.{front_of};
-ghost use Rattle.miniserde_text.specs.Reading.{after_run, is_digit, after_digits, after_whole, after_fraction, after_sign, after_exponent, after_minus, after_tail, event_of_parts, number_at};
+ghost use Rattle.miniserde_text.specs.private.Reading.{after_run, is_digit, after_digits, after_whole, after_fraction, after_sign, after_exponent, after_minus, after_tail, event_of_parts, number_at};
 
 use super::Event;
 use super::bytes::{before, byte_at, is_digit, is_exponent_letter, is_number_byte, is_sign, skip};
@@ -116,7 +116,7 @@ fn event<'a>(text: &'a str, minus: bool, whole: &str, tail: &str) -> Event<'a>
 }
 
 /// Takes a number, behind which no byte of number texts may stand.
-#[tactic(auto, unfolding(crate::specs::Reading::number_at))]
+#[tactic(auto, unfolding(crate::specs::private::Reading::number_at))]
 pub(crate) fn take_number<'a>(s: &'a str) -> Option<(Event<'a>, &'a str)>
     ensures { option_map (λ x. (front_of x.0 [], x.1.now)) result ≡ number_at s.now }
 {

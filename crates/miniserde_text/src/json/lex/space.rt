@@ -1,7 +1,7 @@
 //! Whitespace.
 ghost use Rattle.std.specs.Prelude.{◌≡◌};
 ghost use Rattle.miniserde_model.specs.Bytes.{is_space};
-ghost use Rattle.miniserde_text.specs.Reading.{after_run};
+ghost use Rattle.miniserde_text.specs.private.Reading.{after_run};
 
 use super::bytes::is_space;
 

@@ -2,7 +2,7 @@
 ghost use Rattle.std.specs.Prelude.{◌≡◌, ◌<◌, option_map};
 ghost use Rattle.miniserde_model.specs.Lexing.{closing};
 ghost use Rattle.miniserde_text.specs.Lexer.{kind_of, closes};
-ghost use Rattle.miniserde_text.specs.Reading.{is_closing, begins, step_at};
+ghost use Rattle.miniserde_text.specs.private.Reading.{is_closing, begins, step_at};
 
 use super::bytes::{byte_at, skip};
 use super::{After, Kind};
@@ -34,7 +34,7 @@ fn begins(s: &str) -> bool
 }
 
 /// Takes a closing bracket, or what leads to the next child.
-#[tactic(auto, unfolding(crate::specs::Reading::step_at))]
+#[tactic(auto, unfolding(crate::specs::private::Reading::step_at))]
 pub(super) fn take_step<'a>(kind: Kind, first: bool, s: &'a str) -> Option<(After, &'a str)>
     ensures { option_map (λ x. (closes x.0, x.1.now)) result ≡ step_at (kind_of kind) first s.now }
 {

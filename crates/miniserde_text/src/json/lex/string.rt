@@ -3,8 +3,8 @@ ghost use Rattle.std.specs.Prelude.{◌≡◌, ◌++◌, ◌∷◌, ◌≤◌, l
 ghost use Rattle.std.specs.Str.{encode_utf8_all, IsUtf8};
 ghost use Rattle.std.specs.String.{string_bytes};
 ghost use Rattle.miniserde_text.specs.Lexer.{text_of, KeepsScratch};
-ghost use Rattle.miniserde_text.specs.Reading.{after_run, is_unescaped};
-ghost use Rattle.miniserde_text.specs.Inside.{Chars, Adds, TakesText, ReachesBackslash};
+ghost use Rattle.miniserde_text.specs.private.Reading.{after_run, is_unescaped};
+ghost use Rattle.miniserde_text.specs.private.Inside.{Chars, Adds, TakesText, ReachesBackslash};
 
 use super::Text;
 use super::bytes::{before, byte_at, skip};
@@ -61,8 +61,7 @@ pub(super) fn take_string<'a>(s: &'a str, scratch: &mut String) -> Result<(Text<
     ensures ok { IfOk result (λ x. (cs : List ℕ) × Chars cs s.now x.1.now
         × (text_of x.0 (string_bytes scratch.new) ≡ encode_utf8_all cs)) }
     ensures text { IfOk result (λ x. TakesText x.0 s.now x.1.now) }
-    ensures kept { IfOk result (λ x.
-        KeepsScratch x.0 (string_bytes scratch.old) (string_bytes scratch.new)) }
+    ensures kept { IfOk result (λ x. KeepsScratch x.0 scratch.old scratch.new) }
     ensures memory { result ≡ Err Error.Memory → ReachesBackslash s.now }
     ensures invalid { result ≡ Err Error.Invalid → (cs r : List ℕ) → Chars cs s.now r → ⊥ }
 {

@@ -1,6 +1,7 @@
-use Rattle.std.proofs.Common.{◌≡◌, ℕ, List, [], ◌∷◌, ◌++◌, Ok, append_assoc, arith, refl}
+-- The five pieces that are pushed make the answer, and its length is what the call makes room for.
+use Rattle.std.proofs.Common.{◌≡◌, ◌+◌, ◌<◌, ℕ, List, [], ◌∷◌, ◌++◌, Ok, append_assoc, arith, length, length-append, refl, rules, string_capacity, string_len}
 use Rattle.miniserde_model.specs.Compact.{quoted}
-use Rattle.miniserde_ser.specs.Escape.{escapes}
+use Rattle.miniserde_ser.specs.private.Escape.{escapes}
 use Rattle.miniserde_ser.proofs.Escapes.{quoted_escapes}
 use Rattle.miniserde_ser.proofs.ser.escape.put_between.Goals as goal
 
@@ -18,5 +19,22 @@ returns-clause-ok c =
     let opened = rw quote at c.push.ensures in
     let closed = rw close at c.push-2.ensures in
     let last = rw back at c.push_str-2.ensures in
-    let start = rw c.reserve-2.ensures.bytes at first.bytes in
+    let start = rw c.reserve.ensures.bytes at first.bytes in
     between_quotes _ _ _ _ _ _ _ _ _ c.args.value.now (c.push.ensures.ascii (omega arith)) start opened.bytes c.put_escapes.ensures.bytes closed.bytes last.bytes
+
+-- how long that is
+length_between : (front v back : List ℕ) → length (front ++ quoted v ++ back) ≡ length front + length back + 2 + length (escapes v)
+length_between front v back = rw quoted_escapes (simp length-append (omega arith))
+
+pub returns-in_default-clause-room : goal.returns-in_default-clause-room
+returns-in_default-clause-room c =
+    let out = c.args.out.now in
+    let lacks : string_capacity out < string_len out + length (c.args.front.now ++ quoted c.args.value.now ++ c.args.back.now) = rw length_between (omega (arith, c.in_default.ensures)) in
+    lacks
+
+pub returns-in_err-reserve-clause-room : goal.returns-in_err-reserve-clause-room
+returns-in_err-reserve-clause-room c =
+    let out = c.args.out.now in
+    let full = c.in_err-reserve.ensures.full in
+    let lacks : string_capacity out < string_len out + length (c.args.front.now ++ quoted c.args.value.now ++ c.args.back.now) = rw length_between (omega (arith, full, c.saturating_add.ensures, c.in-Some.ensures.some)) in
+    search (rules, lacks)

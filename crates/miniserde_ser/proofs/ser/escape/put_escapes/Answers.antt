@@ -1,7 +1,8 @@
+-- The loop keeps that the text before `start` is written, and each turn adds a run of plain bytes and an escape.
 use Rattle.std.proofs.Common.{◌≡◌, ℕ, ◌+◌, ◌-◌, ◌<◌, ◌≤◌, ◌++◌, ◌∙◌, length, List, take, drop, get_or, false, arith, ap, sym, append-nil, append_assoc, length-append, refl, Ok, string_bytes}
 use Rattle.std.proofs.lemmas.Str.{IsCharBoundary-after_ascii, IsCharBoundary-end, IsCharBoundary-start}
 use Rattle.miniserde_model.specs.Bytes.{is_special}
-use Rattle.miniserde_ser.specs.Escape.{escape, escapes}
+use Rattle.miniserde_ser.specs.private.Escape.{escape, escapes}
 use Rattle.miniserde_ser.proofs.Escapes.{escapes-nil, escapes_run, escapes_more, length_escapes_le, length_escapes_more, is_special_ascii}
 use Rattle.miniserde_ser.proofs.ser.escape.put_escapes.Goals as goal
 

@@ -1,6 +1,6 @@
 use Rattle.std.proofs.Common.{length, ◌-◌, ◌≡◌, ◌+◌, ◌≤◌, ◌++◌, take, string_bytes, string_len, string_capacity}
 use Rattle.std.specs.Str.{IsCharBoundary}
-use Rattle.miniserde_ser.specs.Escape.{escapes}
+use Rattle.miniserde_ser.specs.private.Escape.{escapes}
 use Rattle.miniserde_ser.proofs.ser.escape.put_escapes.Given as goal
 
 abbrev pub invariant-loop-start : goal.invariant-loop-start

@@ -1,7 +1,7 @@
 use Rattle.std.proofs.Common.{◌≡◌, None, Some, arith}
 use Rattle.miniserde_model.specs.Bytes.{is_space}
 use Rattle.miniserde_text.specs.Lexer.{kind_of, closes}
-use Rattle.miniserde_text.specs.Reading.{after_run, step_at}
+use Rattle.miniserde_text.specs.private.Reading.{after_run, step_at}
 use Rattle.miniserde_text.proofs.Steps.{follows, follows_refused}
 use Rattle.miniserde_text.proofs.json.lex.Lexer.after.Goals as goal
 

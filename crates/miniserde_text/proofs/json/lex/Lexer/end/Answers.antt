@@ -1,6 +1,6 @@
 use Rattle.std.proofs.Common.{◌≡◌, refl, sym, ◌∙◌, arith}
 use Rattle.miniserde_model.specs.Bytes.{is_space}
-use Rattle.miniserde_text.specs.Reading.{after_run}
+use Rattle.miniserde_text.specs.private.Reading.{after_run}
 use Rattle.miniserde_text.proofs.Steps.{blank_of, not_blank}
 use Rattle.miniserde_text.proofs.json.lex.Lexer.end.Goals as goal
 

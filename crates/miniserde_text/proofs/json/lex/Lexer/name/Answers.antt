@@ -1,10 +1,11 @@
+-- The facts of `take_name`, about the text behind the whitespace, are carried over to the whole text.
 use Rattle.std.proofs.Common.{◌≡◌, Err, ap, arith}
 use Rattle.miniserde_model.specs.Bytes.{is_space}
 use Rattle.miniserde_model.specs.Value.{Between}
 use Rattle.miniserde_model.specs.Lexing.{BeforeColon}
 use Rattle.miniserde_text.specs.declared.error.Error.TheVariants.{Invalid, Memory}
 use Rattle.miniserde_text.specs.Lexer.{StandsFor}
-use Rattle.miniserde_text.specs.Reading.{after_run}
+use Rattle.miniserde_text.specs.private.Reading.{after_run}
 use Rattle.miniserde_text.proofs.Runs.{stands_of}
 use Rattle.miniserde_text.proofs.Fronts.{backslash_behind}
 use Rattle.miniserde_text.proofs.Names.{names_of, names_only}

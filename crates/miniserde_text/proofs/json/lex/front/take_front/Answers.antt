@@ -1,9 +1,11 @@
+-- Behind a quote each fact is one of `take_string`. Elsewhere the functions on lists tell what is read, and that it is
+-- no string.
 use Rattle.std.proofs.Common.{◌≡◌, ◌≢◌, Err, Some, None, ℕ, List, [], slice_index, ap, subst, arith}
 use Rattle.std.proofs.lemmas.Result.{err_from_is_err_and}
 use Rattle.miniserde_text.specs.declared.error.Error.TheVariants.{Invalid, Memory}
 use Rattle.miniserde_text.specs.Lexer.{front_of}
-use Rattle.miniserde_text.specs.Reading.{front_at}
-use Rattle.miniserde_text.specs.Inside.{Chars, ReachesBackslash}
+use Rattle.miniserde_text.specs.private.Reading.{front_at}
+use Rattle.miniserde_text.specs.private.Inside.{Chars, ReachesBackslash}
 use Rattle.miniserde_text.proofs.Fronts.{string_taken, string_refused, read_taken, front_refused, read_text, keeps, quoted}
 use Rattle.miniserde_text.proofs.json.lex.front.take_front.Goals as goal
 

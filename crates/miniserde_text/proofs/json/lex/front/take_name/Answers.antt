@@ -1,9 +1,11 @@
+-- A name is put together from the string of `take_string`, the whitespace and the colon. Where a part is missing, no
+-- name stands there.
 use Rattle.std.proofs.Common.{◌≡◌, ◌≢◌, Err, ℕ, List, slice_index, ap, subst, arith}
 use Rattle.std.proofs.lemmas.Result.{err_from_is_err_and}
 use Rattle.miniserde_model.specs.Value.{Between}
 use Rattle.miniserde_text.specs.declared.error.Error.TheVariants.{Invalid, Memory}
 use Rattle.miniserde_text.specs.Lexer.{StandsFor}
-use Rattle.miniserde_text.specs.Inside.{Chars, ReachesBackslash}
+use Rattle.miniserde_text.specs.private.Inside.{Chars, ReachesBackslash}
 use Rattle.miniserde_text.proofs.Fronts.{quoted}
 use Rattle.miniserde_text.proofs.Names.{colon_leads, name_taken, name_quote, name_string, name_colon}
 use Rattle.miniserde_text.proofs.json.lex.front.take_name.Goals as goal

@@ -1,6 +1,6 @@
 use Rattle.std.proofs.Common.{arith, refl, ◌≡◌, true, get_or}
 use Rattle.std.proofs.lemmas.Str.{IsCharBoundary-start, IsCharBoundary-after_ascii}
-use Rattle.miniserde_text.specs.Reading.{is_digit}
+use Rattle.miniserde_text.specs.private.Reading.{is_digit}
 use Rattle.miniserde_text.proofs.Runs.{digit_ascii, after_run_more}
 use Rattle.miniserde_text.proofs.json.lex.number.after_run_of_digits.Goals as goal
 

@@ -1,7 +1,7 @@
 use Rattle.std.proofs.Common.{length, ◌-◌, ◌≡◌, drop}
 use Rattle.std.specs.Str.{IsCharBoundary}
-use Rattle.miniserde_text.specs.Reading.{is_digit}
-use Rattle.miniserde_text.specs.Reading.{after_run}
+use Rattle.miniserde_text.specs.private.Reading.{is_digit}
+use Rattle.miniserde_text.specs.private.Reading.{after_run}
 use Rattle.miniserde_text.proofs.json.lex.number.after_run_of_digits.Given as goal
 
 abbrev pub invariant-loop-i : goal.invariant-loop-i

@@ -1,7 +1,7 @@
 use Rattle.std.proofs.Common.{length, ◌-◌, ◌≡◌, drop}
 use Rattle.std.specs.Str.{IsCharBoundary}
 use Rattle.miniserde_model.specs.Bytes.{is_space}
-use Rattle.miniserde_text.specs.Reading.{after_run}
+use Rattle.miniserde_text.specs.private.Reading.{after_run}
 use Rattle.miniserde_text.proofs.json.lex.space.after_space.Given as goal
 
 abbrev pub invariant-loop-i : goal.invariant-loop-i

@@ -1,7 +1,7 @@
 use Rattle.std.proofs.Common.{◌≡◌, false, length, slice_index}
 use Rattle.std.specs.String.{string_bytes}
-use Rattle.miniserde_text.specs.Reading.{is_unescaped}
-use Rattle.miniserde_text.specs.Inside.{Adds}
+use Rattle.miniserde_text.specs.private.Reading.{is_unescaped}
+use Rattle.miniserde_text.specs.private.Inside.{Adds}
 use denote.Shadow.{shadow}
 use denote.Text.{Utf8}
 use Rattle.miniserde_text.proofs.json.lex.string.take_escaped.Given as goal

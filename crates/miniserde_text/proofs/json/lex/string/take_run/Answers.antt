@@ -1,7 +1,8 @@
+-- The escape is one character and the run behind it more: together they are what was passed and added.
 use Rattle.std.proofs.Common.{◌≡◌, ◌++◌, Some, None, arith}
 use Rattle.std.specs.String.{string_bytes}
 use Rattle.std.specs.Char.{encode_utf8}
-use Rattle.miniserde_text.specs.Reading.{escape_at, before}
+use Rattle.miniserde_text.specs.private.Reading.{escape_at, before}
 use Rattle.miniserde_text.proofs.Strings.{no_escape, run_ends, run_special, escape_adds, escape_shorter}
 use Rattle.miniserde_text.proofs.json.lex.string.take_run.Goals as goal
 

@@ -1,11 +1,13 @@
+-- The run at the front passes its characters. A quote ends the string there. Where a backslash stands, the characters
+-- of `take_escaped` are joined to them.
 use Rattle.std.proofs.Common.{◌≡◌, ◌++◌, Err, slice_index, sym, ap, subst, ◌∙◌, arith}
 use Rattle.std.specs.String.{string_bytes}
 use Rattle.std.specs.Str.{encode_utf8_all}
 use Rattle.std.proofs.lemmas.Result.{err_from_is_err_and}
 use Rattle.std.proofs.lemmas.Str.{encodes-append}
 use Rattle.miniserde_text.specs.declared.error.Error.TheVariants.{Invalid}
-use Rattle.miniserde_text.specs.Reading.{before}
-use Rattle.miniserde_text.specs.Inside.{Chars}
+use Rattle.miniserde_text.specs.private.Reading.{before}
+use Rattle.miniserde_text.specs.private.Inside.{Chars}
 use Rattle.miniserde_text.proofs.Strings.{run_ends, run_of, run_special, quote_ends, no_chars, join_chars, run_refused, run_inside, escaped_inside, reaches_backslash}
 use Rattle.miniserde_text.proofs.json.lex.string.take_string.Goals as goal
 

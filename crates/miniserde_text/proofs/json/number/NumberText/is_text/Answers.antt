@@ -1,7 +1,7 @@
 use Rattle.std.proofs.Common.{◌≡◌, Some, None, [], ap, sym, ◌∙◌, arith}
 use Rattle.miniserde_model.specs.Event.{float}
 use Rattle.miniserde_text.specs.Lexer.{front_of}
-use Rattle.miniserde_text.specs.Reading.{number_at}
+use Rattle.miniserde_text.specs.private.Reading.{number_at}
 use Rattle.std.proofs.lemmas.Option.{same_Some}
 use Rattle.miniserde_text.proofs.Options.{none_is_some}
 use Rattle.miniserde_text.proofs.Kept.{kept_read, kept_where, no_kept, number_of_float}

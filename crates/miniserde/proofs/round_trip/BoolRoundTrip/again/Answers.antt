@@ -1,5 +1,0 @@
-use Rattle.miniserde.proofs.Again.{again-truth}
-use Rattle.miniserde.proofs.round_trip.BoolRoundTrip.again.Goals as goal
-
-pub returns : goal.returns
-returns c = again-truth c.args.self.now

@@ -1,5 +1,0 @@
-use Rattle.miniserde.proofs.Again.{again-inner}
-use Rattle.miniserde.proofs.round_trip.BoxRoundTrip.again.Goals as goal
-
-pub returns : goal.returns
-returns g c = again-inner g.T.Ranged.real g.T.Serialize.tree g.T.Place.Visitor.of g.T.Place.Visitor.content (λ b. b.value) c.args.self.now (rw (← c.deref.ensures) c.again.ensures)

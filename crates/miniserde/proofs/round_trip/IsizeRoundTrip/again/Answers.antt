@@ -1,6 +1,0 @@
-use Rattle.std.proofs.Common.{rules}
-use Rattle.miniserde.proofs.Again.{again-signed, signed-fits}
-use Rattle.miniserde.proofs.round_trip.IsizeRoundTrip.again.Goals as goal
-
-pub returns : goal.returns
-returns c = again-signed 64 _ c.args.self.now (signed-fits 64 c.args.self.now (search rules) (search rules))

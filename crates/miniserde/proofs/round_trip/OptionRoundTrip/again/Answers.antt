@@ -1,5 +1,0 @@
-use Rattle.miniserde.proofs.Again.{again-option}
-use Rattle.miniserde.proofs.round_trip.OptionRoundTrip.again.Goals as goal
-
-pub returns-in-Some : goal.returns-in-Some
-returns-in-Some g c = again-option g.T.Ranged.real g.T.Serialize.tree g.T.Place.Visitor.of g.T.Place.Visitor.content c.args.self.now (rw c.in-Some.is c.again.ensures)

@@ -1,6 +1,0 @@
-use Rattle.miniserde.proofs.Again.{again-text}
-use Rattle.std.specs.String.{string_bytes}
-use Rattle.miniserde.proofs.round_trip.StringRoundTrip.again.Goals as goal
-
-pub returns : goal.returns
-returns c = again-text string_bytes c.args.self.now

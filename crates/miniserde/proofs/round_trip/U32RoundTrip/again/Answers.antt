@@ -1,6 +1,0 @@
-use Rattle.std.proofs.Common.{rules}
-use Rattle.miniserde.proofs.Again.{again-unsigned}
-use Rattle.miniserde.proofs.round_trip.U32RoundTrip.again.Goals as goal
-
-pub returns : goal.returns
-returns c = again-unsigned 32 c.args.self.now (search rules)

@@ -1,5 +1,0 @@
-use Rattle.miniserde.proofs.Again.{again-unit}
-use Rattle.miniserde.proofs.round_trip.UnitRoundTrip.again.Goals as goal
-
-pub returns : goal.returns
-returns c = again-unit c.args.self.now

@@ -1,0 +1,3 @@
+mod Walks
+pub mod Written
+pub mod Numbers

@@ -1,0 +1,4 @@
+//! The program `canon`, over any reader and writer.
+#![tactic(auto)]
+
+pub mod canon;

@@ -1,0 +1,231 @@
+//! Types as a user writes them by hand: the pattern to copy.
+ghost use Rattle.miniserde_model.specs.Tree.{members, member, no_members};
+ghost use Rattle.miniserde_place.specs.Place.{inside};
+ghost use Rattle.miniserde_ser.specs.Closed.{closed};
+ghost use Rattle.std.specs.Prelude.{Option, Some, None, List, [], ◌∷◌, codes, refl};
+
+mod example;
+mod tag;
+
+pub use example::{Example, ExamplePlace, Nested, NestedPlace};
+use miniserde_de::de::{Deserialize, Ranged, Step, Visitor};
+use miniserde_record::record::{Field, NoField, Record, RecordPlace};
+use miniserde_round::RoundTrip;
+use miniserde_ser::ser::{Serialize, Writer, write_field};
+use miniserde_text::error::{Error, Result};
+use std::alloc::Global;
+pub use tag::Tag;
+
+/// A struct of two fields.
+#[derive(Drop)]
+pub struct Demo {
+    pub code: u32,
+    pub message: String,
+}
+
+impl Record for Demo {
+    type Fields = Field<u32, Field<String, NoField>>;
+
+    type Values = (u32, (String, ()));
+
+    ghost names = { codes "code" ∷ codes "message" ∷ [] };
+
+    ghost values = { λ v. (v.code, (v.message, tt)) };
+
+    ghost made = { λ x. record { code = x.0; message = x.1.0 } };
+
+    fn names() -> &'static [&'static str] {
+        &["code", "message"]
+    }
+
+    fn build(parts: (u32, (String, ()))) -> Demo {
+        let (code, parts) = parts;
+        let (message, ()) = parts;
+        Demo { code, message }
+    }
+
+    ghost whole = { λ v. refl };
+
+    ghost named = { refl };
+}
+
+/// Its place.
+#[derive(Drop)]
+pub struct DemoPlace {
+    place: RecordPlace<Demo>,
+}
+
+impl Visitor for DemoPlace {
+    type Out = Demo;
+
+    ghost meaning = { inside (λ p. p.place) ⟦<RecordPlace<Demo> as Visitor>⟧.meaning };
+
+    fn begin(alloc: Global) -> Result<DemoPlace> {
+        Ok(DemoPlace {
+            place: <RecordPlace<Demo> as Visitor>::begin(alloc)?,
+        })
+    }
+
+    fn step(&mut self, event: Step<'_>) -> Result<()> {
+        self.place.step(event)
+    }
+
+    fn refuse(&mut self, error: Error) -> Error {
+        self.place.refuse(error)
+    }
+
+    fn is_complete(&self) -> bool {
+        self.place.is_complete()
+    }
+
+    fn take(self) -> Result<Demo> {
+        let DemoPlace { place } = self;
+        place.take()
+    }
+}
+
+impl Deserialize for Demo {
+    type Place = DemoPlace;
+
+    ghost absent = { None };
+
+    fn default() -> Option<Demo> {
+        None
+    }
+}
+
+impl Serialize for Demo {
+    ghost tree = { λ v. members (
+        member (codes "code") (closed (⟦<u32 as Serialize>⟧.tree v.code)) (
+        member (codes "message") (closed (⟦<String as Serialize>⟧.tree v.message)) no_members)) };
+
+    fn begin(&self, w: &mut Writer) -> Result<()> {
+        w.map()?;
+        write_field(w, "code", &self.code)?;
+        write_field(w, "message", &self.message)?;
+        w.map_finish()
+    }
+}
+
+impl Ranged for Demo {
+    ghost real = { λ v. ⟦<u32 as Ranged>⟧.real v.code × ⟦<String as Ranged>⟧.real v.message };
+
+    fn ranged(&self) {
+        self.code.ranged();
+        self.message.ranged();
+    }
+}
+
+impl RoundTrip for Demo {
+    fn again(&self) {
+        self.code.again();
+        self.message.again();
+    }
+}
+
+/// A struct of two fields of one type.
+#[derive(Drop)]
+pub struct Point {
+    pub x: u32,
+    pub y: u32,
+}
+
+impl Record for Point {
+    type Fields = Field<u32, Field<u32, NoField>>;
+
+    type Values = (u32, (u32, ()));
+
+    ghost names = { codes "x" ∷ codes "y" ∷ [] };
+
+    ghost values = { λ v. (v.x, (v.y, tt)) };
+
+    ghost made = { λ x. record { x = x.0; y = x.1.0 } };
+
+    fn names() -> &'static [&'static str] {
+        &["x", "y"]
+    }
+
+    fn build(parts: (u32, (u32, ()))) -> Point {
+        let (x, parts) = parts;
+        let (y, ()) = parts;
+        Point { x, y }
+    }
+
+    ghost whole = { λ v. refl };
+
+    ghost named = { refl };
+}
+
+/// Its place.
+#[derive(Drop)]
+pub struct PointPlace {
+    place: RecordPlace<Point>,
+}
+
+impl Visitor for PointPlace {
+    type Out = Point;
+
+    ghost meaning = { inside (λ p. p.place) ⟦<RecordPlace<Point> as Visitor>⟧.meaning };
+
+    fn begin(alloc: Global) -> Result<PointPlace> {
+        Ok(PointPlace {
+            place: <RecordPlace<Point> as Visitor>::begin(alloc)?,
+        })
+    }
+
+    fn step(&mut self, event: Step<'_>) -> Result<()> {
+        self.place.step(event)
+    }
+
+    fn refuse(&mut self, error: Error) -> Error {
+        self.place.refuse(error)
+    }
+
+    fn is_complete(&self) -> bool {
+        self.place.is_complete()
+    }
+
+    fn take(self) -> Result<Point> {
+        let PointPlace { place } = self;
+        place.take()
+    }
+}
+
+impl Deserialize for Point {
+    type Place = PointPlace;
+
+    ghost absent = { None };
+
+    fn default() -> Option<Point> {
+        None
+    }
+}
+
+impl Serialize for Point {
+    ghost tree = { λ v. members (
+        member (codes "x") (closed (⟦<u32 as Serialize>⟧.tree v.x)) (
+        member (codes "y") (closed (⟦<u32 as Serialize>⟧.tree v.y)) no_members)) };
+
+    fn begin(&self, w: &mut Writer) -> Result<()> {
+        w.map()?;
+        write_field(w, "x", &self.x)?;
+        write_field(w, "y", &self.y)?;
+        w.map_finish()
+    }
+}
+
+impl Ranged for Point {
+    ghost real = { λ v. ⟦<u32 as Ranged>⟧.real v.x × ⟦<u32 as Ranged>⟧.real v.y };
+
+    fn ranged(&self) {
+        self.x.ranged();
+        self.y.ranged();
+    }
+}
+
+impl RoundTrip for Point {
+    fn again(&self) {
+        self.x.again();
+        self.y.again();
+    }
+}

@@ -1,0 +1,73 @@
+//! A unit enum of a user's own.
+ghost use Rattle.std.specs.Prelude.{◌≡◌, ◌∷◌, true, List, [], Option, None, Some, codes, ⊤, refl};
+ghost use Rattle.miniserde_model.specs.Tree.{str};
+
+use miniserde_de::de::{Deserialize, Ranged};
+use miniserde_record::record::{NamePlace, UnitEnum};
+use miniserde_round::RoundTrip;
+use miniserde_ser::ser::{Fragment, Serialize, Writer};
+use miniserde_text::error::Result;
+use std::alloc::Global;
+
+#[derive(Clone, Copy, PartialEq, Eq, Debug, Drop)]
+pub enum Tag {
+    A,
+    B,
+    Enum,
+}
+
+impl UnitEnum for Tag {
+    ghost use Rattle.miniserde_demo.specs.declared.demo.tag.Tag.TheVariants.{A, B, Enum};
+
+    ghost all = { A ∷ B ∷ Enum ∷ [] };
+
+    ghost name_of = { elim [ A ↦ codes "A" | B ↦ codes "renamedB" | Enum ↦ codes "enum" ] };
+
+    ghost found = { elim [ A ↦ refl | B ↦ refl | Enum ↦ refl ] };
+
+    fn values() -> &'static [Tag] {
+        &[Tag::A, Tag::B, Tag::Enum]
+    }
+
+    fn name(&self) -> &'static str {
+        match self {
+            Tag::A => "A",
+            Tag::B => "renamedB",
+            Tag::Enum => "enum",
+        }
+    }
+}
+
+impl Deserialize for Tag {
+    type Place = NamePlace<Tag>;
+
+    ghost absent = { None };
+
+    fn default() -> Option<Tag> {
+        None
+    }
+}
+
+impl Serialize for Tag {
+    ghost tree = { λ v. str (⟦<Tag as UnitEnum>⟧.name_of v) };
+
+    fn begin(&self, w: &mut Writer) -> Result<()> {
+        w.fragment(Fragment::Str(self.name()))
+    }
+}
+
+impl Ranged for Tag {
+    ghost real = { λ _. ⊤ };
+
+    fn ranged(&self) {}
+}
+
+impl RoundTrip for Tag {
+    fn again(&self) {
+        match self {
+            Tag::A => {}
+            Tag::B => {}
+            Tag::Enum => {}
+        }
+    }
+}

@@ -1,0 +1,227 @@
+-- What `parse` reads as a key, and the laws of keys: equal keys have equal codes and one text, and a key's text is read
+-- as it. Each test of a text is first turned into the fact that it decides.
+use Rattle.std.proofs.Common.{◌≡◌, ◌≢◌, ◌∙◌, ℕ, zero, suc, ◌+◌, ◌-◌, ◌^◌, ◌<◌, ◌≤◌, ℤ, pos, negsuc, neg_ℤ, Bool, true, false, cond, nat_eq, List, [], ◌∷◌, length, drop, get_or, Option, Some, None, refl, sym, ap, subst, inl, inr, arith, append-nil}
+use Rattle.std.specs.Prelude.{decimal, option_map, ◌⊎◌}
+use Rattle.std.specs.Bool.{beq, Decides}
+use Rattle.std.specs.Ordering.{int_eq}
+use Rattle.std.specs.Char.{IsScalar, encode_utf8}
+use Rattle.std.specs.Int.{IsInRange}
+use Rattle.std.specs.Int.RustNames.{FitsSigned}
+use Rattle.std.specs.Fmt.{signed_decimal}
+use Rattle.std.specs.Str.{all_ascii_digits, bytes_eq, chars, encode_utf8_all, is_utf8}
+use Rattle.std.specs.Str.Parse.{IsNumeral, digits_value, starts_with_minus, without_leading_plus, without_leading_sign, signed_digits_value}
+use Rattle.std.proofs.lemmas.Bool.Decides.{same_from_decides, Decides-like, Decides-and, Decides-ltb, Decides-eqb, Decides-int_eq, nat_tests}
+use Rattle.std.proofs.lemmas.Bool.{true≢false}
+use Rattle.std.proofs.lemmas.Slice.Eq.{bytes_eq-Decides}
+use Rattle.std.proofs.lemmas.Int.{to_z-of_z}
+use Rattle.std.proofs.lemmas.Fmt.{decimal_is_IsNumeral}
+use Rattle.std.proofs.lemmas.Str.{IsUtf8-from_is_utf8, is_utf8-from_IsUtf8, encodes-chars, scalars-chars, chars_past_char, chars-nil, IsUtf8-encode}
+use Rattle.std.proofs.lemmas.Str.Parse.{IsNumeralModel, numerals_by_value, tells_all_ascii_digits, without_leading_plus_none, not_in_digits}
+use lib.Utf8.{scalars}
+use mir.Syntax.{Width, w8, w16, w32, w64, w128}
+use mir.Val.{hbits}
+use Rattle.miniserde_keys.specs.Keys.{Key, of_nat, of_int, of_bool, bool_text, read_bool, only, read_char, are_digits_below, read_digits, read_unsigned, read_signed}
+
+-- a key of which equality looks at everything
+same_back : (o : Option Key) (k : Key) → o ≡ Some k → option_map (λ c. c) o ≡ Some k
+same_back o k e = ap (option_map (λ c. c)) e
+
+-- ---- equal keys
+
+pub nat-alike : (a b : ℕ) → nat_eq a b ≡ bytes_eq (of_nat a) (of_nat b)
+nat-alike a b =
+    same_from_decides _ _ (Decides-eqb a b)
+    (Decides-like _ (λ e. cc) (λ e. ap of_nat e) (bytes_eq-Decides (of_nat a) (of_nat b)))
+
+pub nat-text : (text : ℕ → List ℕ) (a b : ℕ) → of_nat a ≡ of_nat b → text a ≡ text b
+nat-text text a b e = let same : a ≡ b = cc in ap text same
+
+int_same : (a b : ℤ) → of_int a ≡ of_int b → a ≡ b
+int_same (pos m) (pos n) e = cc
+int_same (pos m) (negsuc n) e = cc
+int_same (negsuc m) (pos n) e = cc
+int_same (negsuc m) (negsuc n) e = cc
+
+pub int-alike : (a b : ℤ) → int_eq a b ≡ bytes_eq (of_int a) (of_int b)
+int-alike a b =
+    same_from_decides _ _ (Decides-int_eq a b)
+    (Decides-like _ (int_same a b) (λ e. ap of_int e) (bytes_eq-Decides (of_int a) (of_int b)))
+
+pub int-text : (text : ℤ → List ℕ) (a b : ℤ) → of_int a ≡ of_int b → text a ≡ text b
+int-text text a b e = ap text (int_same a b e)
+
+pub bool-alike : (a b : Bool) → beq a b ≡ bytes_eq (of_bool a) (of_bool b)
+bool-alike true true = refl
+bool-alike true false = refl
+bool-alike false true = refl
+bool-alike false false = refl
+
+pub bool-text : (a b : Bool) → of_bool a ≡ of_bool b → bool_text a ≡ bool_text b
+bool-text true true e = refl
+bool-text true false e = cc
+bool-text false true e = cc
+bool-text false false e = refl
+
+pub bool-back : (b : Bool) → option_map (λ c. c) (read_bool (bool_text b)) ≡ Some (of_bool b)
+bool-back true = refl
+bool-back false = refl
+
+-- ---- digits
+
+own : IsNumeralModel (λ ds. all_ascii_digits ds ≡ true) (digits_value 10)
+own = numerals_by_value _ tells_all_ascii_digits
+
+digits_decide : (limit : ℕ) (ds : List ℕ)
+    → Decides (are_digits_below limit ds) (IsNumeral 10 ds × (digits_value 10 ds < limit))
+digits_decide limit ds =
+    Decides-like _ (λ h. ((h.0, own.to ds h.1.0), h.1.1)) (λ h. (h.0.0, (own.from ds h.0.1, h.1)))
+    (Decides-and _ _ (Decides-ltb 0 (length ds))
+    (Decides-and _ _ (λ e. e, λ e. e) (Decides-ltb (digits_value 10 ds) limit)))
+
+-- k is the code where P holds, and otherwise nothing
+abbrev Reads : Type 0 → Option (List ℕ) → List ℕ → Type 0
+Reads P k code = (P × (k ≡ Some code)) ⊎ (¬ P × (k ≡ None))
+
+reads_if : {P : Type 0} (b : Bool) (code : List ℕ) → Decides b P → Reads P (cond b (Some code) None) code
+reads_if true code d = inl (d.0 refl, refl)
+reads_if false code d = inr (λ p. true≢false (sym (d.1 p)), refl)
+
+-- the range R of the number is told by the limit
+digits_read : (limit : ℕ) (code : ℕ → List ℕ) (ds : List ℕ) (R : Type 0) → (R → digits_value 10 ds < limit)
+    → (digits_value 10 ds < limit → R)
+    → Reads (IsNumeral 10 ds × R) (read_digits limit code ds) (code (digits_value 10 ds))
+digits_read limit code ds R to from =
+    reads_if (are_digits_below limit ds) _
+    (Decides-like _ (λ d. (d.0, from d.1)) (λ d. (d.0, to d.1)) (digits_decide limit ds))
+
+-- the digits of a number are read as it, and no sign stands before them
+decimal_some : (limit : ℕ) (code : ℕ → List ℕ) (n : ℕ) → n < 2 ^ 64 → n < limit
+    → read_digits limit code (decimal n) ≡ Some (code n)
+decimal_some limit code n h k =
+    let d = decimal_is_IsNumeral n h in
+    let t : are_digits_below limit (decimal n) ≡ true =
+    (digits_decide limit (decimal n)).1 (d.0, subst (λ m. m < limit) (sym d.1) k) in
+    rw t (ap (λ m. Some (code m)) d.1)
+
+first_digit : (n c : ℕ) → n < 2 ^ 64 → ¬ (IsInRange 48 57 c) → get_or (decimal n) 0 0 ≢ c
+first_digit n c h k = let d = decimal_is_IsNumeral n h in not_in_digits own (decimal n) c (own.from _ d.0.1) k 0 d.0.0
+
+no_plus : (n : ℕ) → n < 2 ^ 64 → without_leading_plus (decimal n) ≡ decimal n
+no_plus n h = without_leading_plus_none (decimal n) (first_digit n 43 h (λ r. absurd (omega (arith, r.0))))
+
+no_minus : (n : ℕ) → n < 2 ^ 64 → starts_with_minus (decimal n) ≡ false
+no_minus n h = let other = first_digit n 45 h (λ r. absurd (omega (arith, r.0))) in grind (arith, nat_tests, other)
+
+-- ---- unsigned integers
+
+pub unsigned_reads : (bits : ℕ) (bs : List ℕ)
+    → Reads (IsNumeral 10 (without_leading_plus bs) × (digits_value 10 (without_leading_plus bs) < 2 ^ bits))
+    (read_unsigned bits bs) (of_nat (digits_value 10 (without_leading_plus bs)))
+unfolding read_unsigned
+unsigned_reads bits bs = digits_read (2 ^ bits) of_nat (without_leading_plus bs) _ (λ h. h) (λ h. h)
+
+pub unsigned-back : (bits : ℕ) → 2 ^ bits ≤ 2 ^ 64 → (n : ℕ) → n < 2 ^ bits
+    → option_map (λ c. c) (read_unsigned bits (decimal n)) ≡ Some (of_nat n)
+unfolding read_unsigned
+unsigned-back bits wide n h =
+    let small : n < 2 ^ 64 = omega arith in
+    same_back _ _ (rw (no_plus n small) (decimal_some (2 ^ bits) of_nat n small h))
+
+-- ---- signed integers
+
+negated_fits : (w : Width) (n : ℕ) → n < 2 ^ hbits w + 1 → FitsSigned w (neg_ℤ (pos n))
+negated_fits w8 zero h = record { sfits = omega arith }
+negated_fits w16 zero h = record { sfits = omega arith }
+negated_fits w32 zero h = record { sfits = omega arith }
+negated_fits w64 zero h = record { sfits = omega arith }
+negated_fits w128 zero h = record { sfits = omega arith }
+negated_fits w (suc n) h = record { sfits = omega arith }
+
+fits_negated : (w : Width) (n : ℕ) → FitsSigned w (neg_ℤ (pos n)) → n < 2 ^ hbits w + 1
+fits_negated w zero h = omega arith
+fits_negated w (suc n) h = omega (arith, h.sfits)
+
+-- the number that digits write after a `-`, and after none
+abbrev signed_by : Bool → List ℕ → ℤ
+signed_by minus ds = cond minus (neg_ℤ (pos (digits_value 10 ds))) (pos (digits_value 10 ds))
+
+-- what is read after a `-` from ds, and after none from ps
+abbrev read_by : Width → Bool → List ℕ → List ℕ → Option (List ℕ)
+read_by w minus ds ps =
+    cond minus (read_digits (2 ^ hbits w + 1) (λ n. of_int (neg_ℤ (pos n))) ds)
+    (read_digits (2 ^ hbits w) (λ n. of_int (pos n)) ps)
+
+reads_by : (w : Width) (minus : Bool) (ds ps : List ℕ)
+    → Reads (IsNumeral 10 (cond minus ds ps) × FitsSigned w (signed_by minus (cond minus ds ps)))
+    (read_by w minus ds ps) (of_int (signed_by minus (cond minus ds ps)))
+reads_by w true ds ps =
+    digits_read (2 ^ hbits w + 1) (λ n. of_int (neg_ℤ (pos n))) ds _ (fits_negated w _) (negated_fits w _)
+reads_by w false ds ps =
+    digits_read (2 ^ hbits w) (λ n. of_int (pos n)) ps _ (λ f. f.sfits) (λ h. record { sfits = h })
+
+abbrev ReadsSigned : ℕ → Width → List ℕ → Type 0
+ReadsSigned bits w bs =
+    Reads (IsNumeral 10 (without_leading_sign bs) × FitsSigned w (signed_digits_value 10 bs))
+    (read_signed bits bs) (of_int (signed_digits_value 10 bs))
+
+signed_reads : (bits : ℕ) (w : Width) → hbits w ≡ bits - 1 → (bs : List ℕ) → ReadsSigned bits w bs
+unfolding read_signed
+signed_reads bits w e bs = rw (sym e) (reads_by w (starts_with_minus bs) (drop 1 bs) (without_leading_plus bs))
+
+pub signed8 : (bs : List ℕ) → ReadsSigned 8 w8 bs
+signed8 = signed_reads 8 w8 refl
+
+pub signed16 : (bs : List ℕ) → ReadsSigned 16 w16 bs
+signed16 = signed_reads 16 w16 refl
+
+pub signed32 : (bs : List ℕ) → ReadsSigned 32 w32 bs
+signed32 = signed_reads 32 w32 refl
+
+pub signed64 : (bs : List ℕ) → ReadsSigned 64 w64 bs
+signed64 = signed_reads 64 w64 refl
+
+pub signed-back : (bits : ℕ) (w : Width) → hbits w ≡ bits - 1 → 2 ^ hbits w ≤ 2 ^ 63 → (z : ℤ) → FitsSigned w z
+    → option_map (λ c. c) (read_signed bits (signed_decimal z)) ≡ Some (of_int z)
+unfolding read_signed
+signed-back bits w e wide (pos n) h =
+    let below : n < 2 ^ hbits w = h.sfits in
+    let small : n < 2 ^ 64 = omega arith in
+    same_back _ _ (rw (sym e, no_minus n small, no_plus n small)
+    (decimal_some (2 ^ hbits w) (λ n. of_int (pos n)) n small below))
+signed-back bits w e wide (negsuc n) h =
+    let below : n < 2 ^ hbits w = h.sfits in
+    same_back _ _ (rw (sym e)
+    (decimal_some (2 ^ hbits w + 1) (λ n. of_int (neg_ℤ (pos n))) (suc n) (omega arith) (omega arith)))
+
+-- for `from_key` of integers
+pub ruleset integer_reads = (unsigned_reads, signed8, signed16, signed32, signed64, to_z-of_z)
+
+-- ---- characters
+
+pub char_some : (c : ℕ) → IsScalar c → read_char (encode_utf8 c) ≡ Some (of_nat c)
+unfolding read_char
+char_some c s =
+    let u = IsUtf8-encode c s in
+    let t : is_utf8 (encode_utf8 c) ≡ true = is_utf8-from_IsUtf8 _ u in
+    let e : chars (encode_utf8 c) ≡ c ∷ [] =
+    chars_past_char (encode_utf8 c) [] c u (sym (append-nil (encode_utf8 c))) ∙ ap (λ cs. c ∷ cs) chars-nil in
+    rw (t, e) refl
+
+pub char-back : (c : ℕ) → IsScalar c → option_map (λ c. c) (read_char (encode_utf8 c)) ≡ Some (of_nat c)
+char-back c s = same_back _ _ (char_some c s)
+
+only_none : (bs cs : List ℕ) → scalars cs ≡ true → encode_utf8_all cs ≡ bs
+    → ((c : ℕ) → IsScalar c → bs ≢ encode_utf8 c) → only cs ≡ None
+only_none bs [] s e h = refl
+only_none bs (c ∷ []) s e h = absurd (h c (grind (arith, s)) (sym e ∙ append-nil (encode_utf8 c)))
+only_none bs (c ∷ d ∷ cs) s e h = refl
+
+pub char_none : (bs : List ℕ) → ((c : ℕ) → IsScalar c → bs ≢ encode_utf8 c) → read_char bs ≡ None
+unfolding read_char
+char_none bs h = elim (is_utf8 bs) as (λ b. is_utf8 bs ≡ b → cond b (only (chars bs)) None ≡ None) [
+  | true ↦ λ t. let u = IsUtf8-from_is_utf8 bs t in only_none bs (chars bs) (scalars-chars bs u) (encodes-chars bs u) h
+  | false ↦ λ t. refl
+] refl
+
+-- for `from_key` of `char`
+pub ruleset char_reads = (char_some, char_none)

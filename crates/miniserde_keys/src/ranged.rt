@@ -1,0 +1,203 @@
+//! Values that Rust has.
+ghost use Rattle.std.specs.Prelude.{◌<◌, ◌^◌, FitsSigned, ⊤};
+ghost use Rattle.std.specs.Int.{w8, w16, w32, w64};
+ghost use Rattle.std.specs.List.{AllByRecursion};
+ghost use Rattle.std.specs.Char.{IsScalar};
+ghost use Rattle.std.specs.BTreeMap.{IsOrdered};
+ghost use Rattle.std.specs.HashMap.{IsUnique};
+ghost use Rattle.miniserde_keys.specs.Ranged.{OptionReal};
+
+use std::collections::{BTreeMap, HashMap};
+use std::hash::{BuildHasher, Hash};
+
+/// A type whose values say that they are ones that Rust has. A clause can name a number past an integer's range, or
+/// an ordered map whose keys are out of order; `ranged` tells a proof that the value in hand is none.
+pub trait Ranged {
+    // The value is one that Rust has.
+    ghost real: { Self → Type 0 };
+
+    /// Does nothing.
+    fn ranged(&self)
+        ensures { real self.now };
+}
+
+impl Ranged for () {
+    ghost real = { λ _. ⊤ };
+
+    fn ranged(&self) {}
+}
+
+impl Ranged for bool {
+    ghost real = { λ _. ⊤ };
+
+    fn ranged(&self) {}
+}
+
+impl Ranged for char {
+    ghost real = { IsScalar };
+
+    // Here and below: a value behind a reference is read to tell the proof that it is in its type's range.
+    fn ranged(&self) {
+        let _value = *self;
+    }
+}
+
+impl Ranged for String {
+    ghost real = { λ _. ⊤ };
+
+    fn ranged(&self) {}
+}
+
+impl Ranged for u8 {
+    ghost real = { λ n. n < 2 ^ 8 };
+
+    fn ranged(&self) {
+        let _value = *self;
+    }
+}
+
+impl Ranged for u16 {
+    ghost real = { λ n. n < 2 ^ 16 };
+
+    fn ranged(&self) {
+        let _value = *self;
+    }
+}
+
+impl Ranged for u32 {
+    ghost real = { λ n. n < 2 ^ 32 };
+
+    fn ranged(&self) {
+        let _value = *self;
+    }
+}
+
+impl Ranged for u64 {
+    ghost real = { λ n. n < 2 ^ 64 };
+
+    fn ranged(&self) {
+        let _value = *self;
+    }
+}
+
+impl Ranged for usize {
+    ghost real = { λ n. n < 2 ^ 64 };
+
+    fn ranged(&self) {
+        let _value = *self;
+    }
+}
+
+impl Ranged for i8 {
+    ghost real = { FitsSigned w8 };
+
+    fn ranged(&self) {
+        let _value = *self;
+    }
+}
+
+impl Ranged for i16 {
+    ghost real = { FitsSigned w16 };
+
+    fn ranged(&self) {
+        let _value = *self;
+    }
+}
+
+impl Ranged for i32 {
+    ghost real = { FitsSigned w32 };
+
+    fn ranged(&self) {
+        let _value = *self;
+    }
+}
+
+impl Ranged for i64 {
+    ghost real = { FitsSigned w64 };
+
+    fn ranged(&self) {
+        let _value = *self;
+    }
+}
+
+impl Ranged for isize {
+    ghost real = { FitsSigned w64 };
+
+    fn ranged(&self) {
+        let _value = *self;
+    }
+}
+
+impl<T: Ranged> Ranged for Box<T> {
+    ghost real = { λ b. T.real b.value };
+
+    fn ranged(&self) {
+        T::ranged(self)
+    }
+}
+
+impl<T: Ranged> Ranged for Option<T> {
+    ghost real = { OptionReal T.real };
+
+    fn ranged(&self) {
+        if let Some(value) = self {
+            value.ranged();
+        }
+    }
+}
+
+impl<A: Ranged, B: Ranged> Ranged for (A, B) {
+    ghost real = { λ p. A.real p.0 × B.real p.1 };
+
+    fn ranged(&self) {
+        self.0.ranged();
+        self.1.ranged();
+    }
+}
+
+// Each of the values is one that Rust has.
+fn ranged_all<T: Ranged>(items: &[T])
+    ensures { AllByRecursion T.real items.now }
+{
+    for item in items {
+        item.ranged();
+    }
+}
+
+impl<T: Ranged> Ranged for Vec<T> {
+    ghost real = { λ v. AllByRecursion T.real v.items };
+
+    fn ranged(&self) {
+        ranged_all(self.as_slice())
+    }
+}
+
+impl<T: Ranged, const N: usize> Ranged for [T; N] {
+    ghost real = { AllByRecursion T.real };
+
+    fn ranged(&self) {
+        ranged_all(self)
+    }
+}
+
+impl<K: Ranged + Ord, V: Ranged> Ranged for BTreeMap<K, V> {
+    ghost real = { λ m. IsOrdered K.cmp m × AllByRecursion (λ e. K.real e.0 × V.real e.1) m.entries };
+
+    fn ranged(&self) {
+        for (key, value) in self {
+            key.ranged();
+            value.ranged();
+        }
+    }
+}
+
+impl<K: Ranged + Eq + Hash, V: Ranged, H: BuildHasher> Ranged for HashMap<K, V, H> {
+    ghost real = { λ m. IsUnique K.eq m × AllByRecursion (λ e. K.real e.0 × V.real e.1) m.entries };
+
+    fn ranged(&self) {
+        for (key, value) in self {
+            key.ranged();
+            value.ranged();
+        }
+    }
+}

@@ -1,0 +1,9 @@
+pub mod Step
+pub mod Place
+pub mod Leaf
+pub mod Integers
+pub mod Words
+pub mod Ignore
+pub mod Container
+pub mod Stage
+pub mod laws

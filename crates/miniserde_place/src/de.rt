@@ -1,0 +1,179 @@
+//! Places: each takes the events of one value, one by one, and collects the value.
+//!
+//! The text `{"a":[1,-0],"b":null}` is the events `map`, `key("a")`, `seq`, `element`, `nonnegative(1)`, `element`,
+//! `negative(0)`, `finish`, `key("b")`, `null`, `finish`.
+ghost use Rattle.std.specs.Prelude.{◌≡◌, ◌≢◌, pos, ◌≤ℤ◌, Bool, true, false, IsOk, Option, Some, None, Result, Ok, Err, [], IfOk, IfErr, ⊤};
+ghost use Rattle.miniserde_model.specs.Tree.{num};
+ghost use Rattle.miniserde_model.specs.Number.{IsNumber};
+ghost use Rattle.miniserde_model.specs.Event.{Event};
+ghost use Rattle.miniserde_model.specs.Event as event;
+ghost use Rattle.miniserde_model.specs.Position.{complete};
+ghost use Rattle.miniserde_place.specs.Step.{event_of};
+ghost use Rattle.miniserde_place.specs.Place.{IsTreeEvent, Meaning, Takes, IsFresh, first_refusal};
+ghost use Rattle.miniserde_place.specs.Container.{is_complete};
+ghost use Rattle.miniserde_text.specs.declared.error.Error.{Error};
+
+pub mod container;
+pub mod leaf;
+
+pub use crate::ignore::Ignore;
+pub use crate::ignore::fresh::ignore;
+use miniserde_text::error::{Error, Result};
+use std::alloc::Global;
+
+/// One event of a value.
+#[derive(Clone, Copy, Debug, Drop)]
+pub enum Step<'a> {
+    Null,
+    Bool(bool),
+    Str(&'a str),
+    Negative(i64),
+    Nonnegative(u64),
+    Float(&'a str),
+    Seq,
+    Element,
+    Map,
+    Key(&'a str),
+    Finish,
+}
+
+/// A place: it takes all events of one value, those of nested values too. Events may come in any order; the
+/// laws speak of those that begin one value.
+pub trait Visitor: Drop {
+    type Out;
+
+    // Which trees mean which values, and what the place shows.
+    ghost meaning: { Meaning Self Self.Out };
+
+    // Whether `begin` takes no memory, and whether `take` takes none.
+    ghost begins_free: { Bool } = { false };
+
+    ghost takes_free: { Bool } = { false };
+
+    // What a call that hands on an event promises besides: nothing, where the place does not say otherwise.
+    ghost further: { Self → Event → Result (Unit {0}) Error → Self → Type 0 } = { λ _ _ _ _. ⊤ };
+
+    /// A fresh place. It refuses only for want of memory.
+    fn begin(alloc: Global) -> Result<Self>
+        ensures fresh { IfOk result (λ p. IsFresh meaning.from_events (meaning.shows p)) }
+        ensures memory { IfErr result (λ r. r ≡ Error.Memory) }
+        ensures free { begins_free ≡ true → IsOk result };
+
+    /// Takes one event. An implementation answers `Err(self.refuse(Error::Invalid))` to one that it does not take.
+    fn step(&mut self, event: Step<'_>) -> Result<()>
+        requires { IsTreeEvent (event_of event) }
+        ensures takes { Takes (meaning.shows self.old) (event_of event.entry) result (meaning.shows self.new) }
+        ensures further { further self.old (event_of event.entry) result self.new };
+
+    /// Marks the place as refused, and answers the first refusal that it was marked with.
+    fn refuse(&mut self, error: Error) -> Error
+        ensures answer { result ≡ first_refusal (meaning.shows self.old).refused error }
+        ensures marks { (meaning.shows self.new).refused ≡ Some result };
+
+    /// Whether the value is complete.
+    fn is_complete(&self) -> bool
+        ensures { result ≡ is_complete (meaning.shows self.now).at };
+
+    /// The value, where it is complete and nothing was refused. A refused place answers its refusal, and an
+    /// unfinished one `Invalid`.
+    fn take(self) -> Result<Self::Out>
+        ensures value { IfOk result (λ v. ((meaning.shows self).at ≡ complete)
+            × ((meaning.shows self).outcome [] ≡ Some (meaning.content v))) }
+        ensures invalid { result ≡ Err Error.Invalid → (meaning.shows self).refused ≡ None
+            → (meaning.shows self).at ≡ complete → (meaning.shows self).outcome [] ≡ None }
+        ensures memory { result ≡ Err Error.Memory → (meaning.shows self).refused ≡ None
+            → ((meaning.shows self).at ≡ complete) × ((meaning.shows self).outcome [] ≢ None) }
+        ensures keeps { (r : Error) → (meaning.shows self).refused ≡ Some r → result ≡ Err r }
+        ensures free { takes_free ≡ true → result ≡ Err Error.Memory
+            → (meaning.shows self).refused ≡ Some Error.Memory };
+
+    /// `null`.
+    final fn null(&mut self) -> Result<()>
+        ensures takes { Takes (meaning.shows self.old) event.nothing result (meaning.shows self.new) }
+        ensures further { further self.old event.nothing result self.new }
+    {
+        self.step(Step::Null)
+    }
+
+    /// `true` or `false`.
+    final fn boolean(&mut self, b: bool) -> Result<()>
+        ensures takes { Takes (meaning.shows self.old) (event.boolean b) result (meaning.shows self.new) }
+        ensures further { further self.old (event.boolean b) result self.new }
+    {
+        self.step(Step::Bool(b))
+    }
+
+    /// A string, by its text.
+    final fn string(&mut self, s: &str) -> Result<()>
+        ensures takes { Takes (meaning.shows self.old) (event.string s.now) result (meaning.shows self.new) }
+        ensures further { further self.old (event.string s.now) result self.new }
+    {
+        self.step(Step::Str(s))
+    }
+
+    /// An integer that is written with `-`.
+    final fn negative(&mut self, n: i64) -> Result<()>
+        requires { n ≤ℤ pos 0 }
+        ensures takes { Takes (meaning.shows self.old) (event.negative n) result (meaning.shows self.new) }
+        ensures further { further self.old (event.negative n) result self.new }
+    {
+        self.step(Step::Negative(n))
+    }
+
+    /// An integer that is written without `-`.
+    final fn nonnegative(&mut self, n: u64) -> Result<()>
+        ensures takes { Takes (meaning.shows self.old) (event.nonnegative n) result (meaning.shows self.new) }
+        ensures further { further self.old (event.nonnegative n) result self.new }
+    {
+        self.step(Step::Nonnegative(n))
+    }
+
+    /// Any other number, by its text.
+    final fn float(&mut self, t: &str) -> Result<()>
+        requires { IsNumber t.now (num t.now) }
+        ensures takes { Takes (meaning.shows self.old) (event.float t.now) result (meaning.shows self.new) }
+        ensures further { further self.old (event.float t.now) result self.new }
+    {
+        self.step(Step::Float(t))
+    }
+
+    /// A list begins.
+    final fn seq(&mut self) -> Result<()>
+        ensures takes { Takes (meaning.shows self.old) event.seq result (meaning.shows self.new) }
+        ensures further { further self.old event.seq result self.new }
+    {
+        self.step(Step::Seq)
+    }
+
+    /// An element of the innermost open list begins.
+    final fn element(&mut self) -> Result<()>
+        ensures takes { Takes (meaning.shows self.old) event.element result (meaning.shows self.new) }
+        ensures further { further self.old event.element result self.new }
+    {
+        self.step(Step::Element)
+    }
+
+    /// An object begins.
+    final fn map(&mut self) -> Result<()>
+        ensures takes { Takes (meaning.shows self.old) event.map result (meaning.shows self.new) }
+        ensures further { further self.old event.map result self.new }
+    {
+        self.step(Step::Map)
+    }
+
+    /// A member of the innermost open object begins, by its name.
+    final fn key(&mut self, k: &str) -> Result<()>
+        ensures takes { Takes (meaning.shows self.old) (event.key k.now) result (meaning.shows self.new) }
+        ensures further { further self.old (event.key k.now) result self.new }
+    {
+        self.step(Step::Key(k))
+    }
+
+    /// The innermost open list or object ends.
+    final fn finish(&mut self) -> Result<()>
+        ensures takes { Takes (meaning.shows self.old) event.finish result (meaning.shows self.new) }
+        ensures further { further self.old event.finish result self.new }
+    {
+        self.step(Step::Finish)
+    }
+}

@@ -1,0 +1,157 @@
+//! The place of any container.
+ghost use Rattle.std.specs.Prelude.{◌≡◌, true, Some, None, Ok, Err, IfOk};
+ghost use Rattle.miniserde_model.specs.Position.{complete};
+ghost use Rattle.miniserde_place.specs.Step.{event_of};
+ghost use Rattle.miniserde_place.specs.Place.{IsTreeEvent, LedTo, Barred};
+ghost use Rattle.miniserde_text.specs.declared.error.Error.{Error};
+
+mod collect;
+
+use super::{Step, Visitor};
+pub use collect::Collect;
+use miniserde_text::error::{Error, Result};
+use std::alloc::Global;
+
+/// Where the place stands.
+#[derive(Clone, Copy, Drop)]
+pub(crate) enum Stage {
+    /// Nothing came yet.
+    Fresh,
+    /// No child is open.
+    Between,
+    /// A child is open.
+    Child,
+    /// The end came.
+    Done,
+    Refused(Error),
+}
+
+/// The place of a container. The collector owns the place of the current child, which takes the events of nested
+/// values where it stands.
+#[derive(Drop)]
+pub struct ContainerPlace<C> {
+    alloc: Global,
+    stage: Stage,
+    collector: C,
+}
+
+impl<C: Collect> ContainerPlace<C> {
+    ghost use Rattle.miniserde_place.specs.Stage.{between, shown};
+
+    // An event that no open child takes.
+    #[inline(never)]
+    fn turn(&mut self, event: Step<'_>) -> Result<()>
+        requires tree { IsTreeEvent (event_of event) }
+        requires whole { self.old.stage ≡ Stage.Child → (C.gathering.child self.old.collector).at ≡ complete }
+        ensures leads { IfOk result (λ _.
+            LedTo (shown C.gathering self.old) (event_of event.entry) (shown C.gathering self.new)) }
+        ensures free { IfOk result (λ _. (shown C.gathering self.new).refused ≡ None) }
+        ensures bars { result ≡ Err Error.Invalid → (shown C.gathering self.old).refused ≡ None
+            → Barred (shown C.gathering self.old) (event_of event.entry) }
+        ensures keeps { (r : Error) → (shown C.gathering self.old).refused ≡ Some r → result ≡ Err r }
+    {
+        match self.stage {
+            Stage::Fresh => {
+                if !C::opens(&event) {
+                    return Err(Error::Invalid);
+                }
+                self.stage = Stage::Between;
+                Ok(())
+            }
+            Stage::Between => self.go_on(event),
+            Stage::Child => {
+                self.collector.join()?;
+                self.go_on(event)
+            }
+            Stage::Done => Err(Error::Invalid),
+            Stage::Refused(error) => Err(error),
+        }
+    }
+
+    // An event between two children: the next one begins, or the container ends.
+    fn go_on(&mut self, event: Step<'_>) -> Result<()>
+        ensures leads { IfOk result (λ _.
+            LedTo (between C.gathering self.old.collector) (event_of event.entry) (shown C.gathering self.new)) }
+        ensures free { IfOk result (λ _. (shown C.gathering self.new).refused ≡ None) }
+        ensures bars { result ≡ Err Error.Invalid
+            → Barred (between C.gathering self.old.collector) (event_of event.entry) }
+    {
+        match event {
+            Step::Element | Step::Key(_) => {
+                self.collector.begin_child(self.alloc, event)?;
+                self.stage = Stage::Child;
+                Ok(())
+            }
+            Step::Finish => {
+                if !self.collector.is_whole() {
+                    return Err(Error::Invalid);
+                }
+                self.stage = Stage::Done;
+                Ok(())
+            }
+            _ => Err(Error::Invalid),
+        }
+    }
+}
+
+impl<C: Collect> Visitor for ContainerPlace<C> {
+    ghost use Rattle.miniserde_place.specs.Stage.{place_of};
+
+    type Out = C::Out;
+
+    ghost meaning = { place_of C.gathering };
+
+    ghost begins_free = { true };
+
+    fn begin(alloc: Global) -> Result<ContainerPlace<C>> {
+        Ok(ContainerPlace {
+            alloc,
+            stage: Stage::Fresh,
+            collector: C::new(alloc),
+        })
+    }
+
+    fn step(&mut self, event: Step<'_>) -> Result<()> {
+        if let Stage::Child = self.stage {
+            if !self.collector.is_child_complete() {
+                return self.collector.step(event);
+            }
+        }
+        match self.turn(event) {
+            Ok(()) => Ok(()),
+            Err(error) => {
+                self.stage = Stage::Refused(error);
+                Err(error)
+            }
+        }
+    }
+
+    fn refuse(&mut self, error: Error) -> Error {
+        match self.stage {
+            Stage::Refused(first) => first,
+            Stage::Child => self.collector.refuse(error),
+            _ => {
+                self.stage = Stage::Refused(error);
+                error
+            }
+        }
+    }
+
+    fn is_complete(&self) -> bool {
+        matches!(self.stage, Stage::Done)
+    }
+
+    fn take(self) -> Result<C::Out> {
+        let ContainerPlace {
+            alloc: _,
+            stage,
+            mut collector,
+        } = self;
+        match stage {
+            Stage::Done => collector.end().ok_or(Error::Invalid),
+            Stage::Refused(error) => Err(error),
+            Stage::Child => Err(collector.refuse(Error::Invalid)),
+            _ => Err(Error::Invalid),
+        }
+    }
+}

@@ -1,0 +1,105 @@
+//! A place that takes one value of any shape and collects nothing.
+ghost use Rattle.std.specs.Prelude.{◌≡◌, true, Some, None, ⊤, refl};
+ghost use Rattle.miniserde_model.specs.Position.{start};
+
+pub(crate) mod fresh;
+
+use crate::de::{Step, Visitor};
+use miniserde_text::error::{Error, Result};
+use std::alloc::Global;
+
+/// A place that takes one value of any shape, and collects nothing. It counts the containers that are open.
+#[derive(Drop)]
+pub struct Ignore {
+    depth: u64,
+    due: bool,
+    refused: Option<Error>,
+}
+
+impl Ignore {
+    ghost use Rattle.miniserde_place.specs.Ignore.{position_of, refusal_of};
+
+    pub(crate) fn new() -> Ignore
+        ensures at { position_of result ≡ start }
+        ensures refused { refusal_of result ≡ None }
+    {
+        Ignore {
+            depth: 0,
+            due: true,
+            refused: None,
+        }
+    }
+}
+
+impl Visitor for Ignore {
+    ghost use Rattle.miniserde_place.specs.Ignore.{position_of, refusal_of, IgnoreTakes};
+
+    type Out = ();
+
+    ghost meaning = { record {
+      Content = Unit {0};
+      content = λ _. tt;
+      from_events = λ _. Some tt;
+      from_tree = λ _. Some tt;
+      events_agree = λ _. refl;
+      reads = λ _ _. ⊤;
+      reads_agrees = λ t v. (λ _. refl, λ _. tt);
+      shows = λ p. record { at = position_of p; outcome = λ _. Some tt; refused = refusal_of p };
+    } };
+
+    ghost begins_free = { true };
+
+    ghost takes_free = { true };
+
+    ghost further = { IgnoreTakes };
+
+    fn begin(_alloc: Global) -> Result<Ignore> {
+        Ok(Ignore::new())
+    }
+
+    /// Takes any event: it refuses where it was refused before, and where 2^64 containers would be open.
+    fn step(&mut self, event: Step<'_>) -> Result<()> {
+        if let Some(error) = self.refused {
+            return Err(error);
+        }
+        match event {
+            Step::Seq | Step::Map => {
+                let Some(depth) = self.depth.checked_add(1) else {
+                    return Err(self.refuse(Error::Memory));
+                };
+                self.depth = depth;
+                self.due = false;
+            }
+            Step::Finish => {
+                self.depth = self.depth.saturating_sub(1);
+                self.due = false;
+            }
+            Step::Element | Step::Key(_) => self.due = true,
+            _ => self.due = false,
+        }
+        Ok(())
+    }
+
+    fn refuse(&mut self, error: Error) -> Error {
+        let first = self.refused.unwrap_or(error);
+        self.refused = Some(first);
+        first
+    }
+
+    fn is_complete(&self) -> bool {
+        self.depth == 0 && !self.due
+    }
+
+    fn take(self) -> Result<()> {
+        match self.refused {
+            Some(error) => Err(error),
+            None => {
+                if self.is_complete() {
+                    Ok(())
+                } else {
+                    Err(Error::Invalid)
+                }
+            }
+        }
+    }
+}

@@ -1,0 +1,9 @@
+//! What a struct or a unit enum says of itself, and the place that reads it by that.
+
+mod fields;
+mod names;
+mod structs;
+
+pub use fields::{Field, FieldOf, Fields, NoField};
+pub use names::{NamePlace, UnitEnum};
+pub use structs::{Record, RecordPlace};

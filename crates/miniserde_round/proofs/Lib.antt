@@ -1,0 +1,4 @@
+pub mod Again
+pub mod Maps
+pub mod Sorted
+pub mod Hashed

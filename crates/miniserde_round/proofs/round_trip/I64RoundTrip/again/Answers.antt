@@ -1,0 +1,6 @@
+use Rattle.std.proofs.Common.{rules}
+use Rattle.miniserde_round.proofs.Again.{again-signed, signed-fits}
+use Rattle.miniserde_round.proofs.round_trip.I64RoundTrip.again.Goals as goal
+
+pub returns : goal.returns
+returns c = again-signed 64 _ c.args.self.now (signed-fits 64 c.args.self.now (search rules) (search rules))

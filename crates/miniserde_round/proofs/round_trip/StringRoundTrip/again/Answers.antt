@@ -1,0 +1,6 @@
+use Rattle.miniserde_round.proofs.Again.{again-text}
+use Rattle.std.specs.String.{string_bytes}
+use Rattle.miniserde_round.proofs.round_trip.StringRoundTrip.again.Goals as goal
+
+pub returns : goal.returns
+returns c = again-text string_bytes c.args.self.now

@@ -1,0 +1,177 @@
+//! Values that read back as they were written.
+ghost use Rattle.std.specs.Prelude.{◌≡◌, IfOk, Ok, Err};
+ghost use Rattle.std.specs.List.{AllByRecursion};
+ghost use Rattle.miniserde_round.specs.RoundTrip.{ReadsAgain};
+ghost use Rattle.miniserde_text.specs.declared.error.Error.{Error};
+
+use miniserde_de::de::Deserialize;
+use miniserde_json::json::{from_str, to_string};
+use miniserde_keys::{MapKey, Ranged};
+use miniserde_ser::ser::Serialize;
+use miniserde_text::error::{Error, Result};
+use std::alloc::Global;
+use std::collections::{BTreeMap, HashMap};
+use std::hash::{BuildHasher, Hash};
+
+/// A type whose values read back as they were written.
+pub trait RoundTrip: Ranged + Serialize + Deserialize {
+    /// Does nothing. It promises that the value's tree gives a value, and that each value that it gives has that tree.
+    fn again(&self)
+        ensures { ReadsAgain Self.real Self.tree
+            Self.Place.meaning.from_tree Self.Place.meaning.content (Self.tree self.now) };
+}
+
+/// Writes a value and reads it again.
+pub fn read_again<T: RoundTrip>(alloc: Global, value: &T) -> Result<T>
+    ensures same { IfOk result (λ v. T.tree v ≡ T.tree value.now) }
+    ensures itself { ((v : T) → T.real v → T.tree v ≡ T.tree value.now
+        → T.Place.meaning.content v ≡ T.Place.meaning.content value.now)
+        → IfOk result (λ v. T.Place.meaning.content v ≡ T.Place.meaning.content value.now) }
+    ensures memory { result ≡ Err Error.Invalid → ⊥ }
+{
+    value.again();
+    let text = to_string(alloc, value)?;
+    let again: T = from_str(alloc, text.as_str())?;
+    again.ranged();
+    Ok(again)
+}
+
+impl RoundTrip for () {
+    fn again(&self) {
+        // Read, so that a proof knows that the value is one of the type; so below.
+        let _value = *self;
+    }
+}
+
+impl RoundTrip for bool {
+    fn again(&self) {
+        let _value = *self;
+    }
+}
+
+impl RoundTrip for u8 {
+    fn again(&self) {
+        let _value = *self;
+    }
+}
+
+impl RoundTrip for u16 {
+    fn again(&self) {
+        let _value = *self;
+    }
+}
+
+impl RoundTrip for u32 {
+    fn again(&self) {
+        let _value = *self;
+    }
+}
+
+impl RoundTrip for u64 {
+    fn again(&self) {
+        let _value = *self;
+    }
+}
+
+impl RoundTrip for usize {
+    fn again(&self) {
+        let _value = *self;
+    }
+}
+
+impl RoundTrip for i8 {
+    fn again(&self) {
+        let _value = *self;
+    }
+}
+
+impl RoundTrip for i16 {
+    fn again(&self) {
+        let _value = *self;
+    }
+}
+
+impl RoundTrip for i32 {
+    fn again(&self) {
+        let _value = *self;
+    }
+}
+
+impl RoundTrip for i64 {
+    fn again(&self) {
+        let _value = *self;
+    }
+}
+
+impl RoundTrip for isize {
+    fn again(&self) {
+        let _value = *self;
+    }
+}
+
+impl RoundTrip for String {
+    fn again(&self) {}
+}
+
+// Each of the values reads back.
+fn again_all<T: RoundTrip>(items: &[T])
+    ensures { AllByRecursion (λ x.
+        ReadsAgain T.real T.tree T.Place.meaning.from_tree T.Place.meaning.content (T.tree x)) items.now }
+{
+    for item in items {
+        item.again();
+    }
+}
+
+impl<T: RoundTrip> RoundTrip for Vec<T> {
+    fn again(&self) {
+        again_all(self.as_slice())
+    }
+}
+
+impl<T: RoundTrip, const N: usize> RoundTrip for [T; N] {
+    fn again(&self) {
+        again_all(self)
+    }
+}
+
+impl<T: RoundTrip> RoundTrip for Box<T> {
+    fn again(&self) {
+        T::again(self)
+    }
+}
+
+impl<T: RoundTrip> RoundTrip for Option<T> {
+    fn again(&self) {
+        match self {
+            Some(value) => value.again(),
+            None => {}
+        }
+    }
+}
+
+impl<A: RoundTrip, B: RoundTrip> RoundTrip for (A, B) {
+    fn again(&self) {
+        self.0.again();
+        self.1.again();
+    }
+}
+
+impl<K: MapKey + Ord, V: RoundTrip> RoundTrip for BTreeMap<K, V> {
+    fn again(&self) {
+        for (key, value) in self {
+            key.ranged();
+            value.again();
+        }
+    }
+}
+
+impl<K: MapKey + Hash, V: RoundTrip, H: BuildHasher + Default + Drop> RoundTrip
+    for HashMap<K, V, H> {
+    fn again(&self) {
+        for (key, value) in self {
+            key.ranged();
+            value.again();
+        }
+    }
+}

@@ -1,0 +1,164 @@
+-- Reading as functions on lists, in the order of the code. Only private clauses cite it: lemmas show that each reads
+-- exactly what the grammar has.
+use Rattle.std.specs.Prelude.{◌≡◌, ℕ, ◌-◌, ◌+◌, ◌*◌, ◌^◌, ◌&&◌, ◌||◌, nat_le, nat_lt, pos, neg_ℤ, if◌then◌else◌, option_map, List, [], ◌∷◌, ◌++◌, Bool, true, false, cond, not, ◌==◌, nat_eq, Option, Some, None, option_and_then, length, take, drop, codes, slice_index}
+use Rattle.std.specs.List.{starts_with}
+use Rattle.std.specs.Char.{digit_value}
+use Rattle.std.specs.Str.Parse.{digits_value}
+use Rattle.std.specs.Borrow.{Bor}
+use Rattle.miniserde_model.specs.Bytes.{is_number_byte, is_special}
+use Rattle.miniserde_model.specs.Event.{Event, nothing, boolean, negative, nonnegative, float, seq, map}
+use Rattle.miniserde_model.specs.Lexing.{Kind, closing}
+
+-- ---- tests of bytes
+
+abbrev pub is_digit : ℕ → Bool
+is_digit c = nat_le 48 c && nat_le c 57
+
+abbrev pub is_sign : ℕ → Bool
+is_sign c = (c == 43) || (c == 45)
+
+abbrev pub is_exponent_letter : ℕ → Bool
+is_exponent_letter c = (c == 101) || (c == 69)
+
+-- what may stand for itself in a string
+abbrev pub is_unescaped : ℕ → Bool
+is_unescaped c = not (is_special c)
+
+abbrev pub is_hex : ℕ → Bool
+is_hex c = nat_lt (digit_value c) 16
+
+abbrev pub is_high : ℕ → Bool
+is_high u = nat_le 0xd800 u && nat_lt u 0xdc00
+
+abbrev pub is_low : ℕ → Bool
+is_low u = nat_le 0xdc00 u && nat_lt u 0xe000
+
+abbrev pub is_closing : ℕ → Bool
+is_closing c = (c == 93) || (c == 125)
+
+-- ---- runs
+
+-- what follows the longest run of bytes that pass p
+abbrev pub after_run : (ℕ → Bool) → List ℕ → List ℕ
+after_run p [] = []
+after_run p (c ∷ cs) = cond (p c) (after_run p cs) (c ∷ cs)
+
+abbrev pub EndsWith : List ℕ → List ℕ → Type 0
+EndsWith s r = (b : List ℕ) × (s ≡ b ++ r)
+
+abbrev pub before : List ℕ → List ℕ → List ℕ
+before s r = take (length s - length r) s
+
+-- ---- numbers
+
+abbrev pub after_digits : List ℕ → Option (List ℕ)
+after_digits s = cond (is_digit (slice_index s 0)) (Some (after_run is_digit s)) None
+
+abbrev pub after_minus : List ℕ → List ℕ
+after_minus s = cond (slice_index s 0 == 45) (drop 1 s) s
+
+abbrev pub after_whole : List ℕ → Option (List ℕ)
+after_whole s = cond (slice_index s 0 == 48) (Some (drop 1 s)) (after_digits s)
+
+abbrev pub after_fraction : List ℕ → Option (List ℕ)
+after_fraction s = cond (slice_index s 0 == 46) (after_digits (drop 1 s)) (Some s)
+
+abbrev pub after_sign : List ℕ → List ℕ
+after_sign s = cond (is_sign (slice_index s 0)) (drop 1 s) s
+
+abbrev pub after_exponent : List ℕ → Option (List ℕ)
+after_exponent s = cond (is_exponent_letter (slice_index s 0)) (after_digits (after_sign (drop 1 s))) (Some s)
+
+abbrev pub after_tail : List ℕ → Option (List ℕ)
+after_tail s = option_and_then after_exponent (after_fraction s)
+
+-- of a text: its minus, its whole part, and what stands behind that
+abbrev pub event_of_parts : List ℕ → Bool → List ℕ → List ℕ → Event
+event_of_parts b minus whole [] =
+    if minus then
+    (if nat_le (digits_value 10 whole) (2 ^ 63) then negative (neg_ℤ (pos (digits_value 10 whole))) else float b)
+    else (if nat_lt (digits_value 10 whole) (2 ^ 64) then nonnegative (digits_value 10 whole) else float b)
+event_of_parts b minus whole (c ∷ cs) = float b
+
+abbrev pub event_at : List ℕ → List ℕ → List ℕ → Option (Event × List ℕ)
+event_at s w r =
+    cond (is_number_byte (slice_index r 0)) None
+    (Some (event_of_parts (before s r) (slice_index s 0 == 45) (before (after_minus s) w) (before w r), r))
+
+unfoldable pub number_at : List ℕ → Option (Event × List ℕ)
+number_at s = option_and_then (λ w. option_and_then (λ r. event_at s w r) (after_tail w)) (after_whole (after_minus s))
+
+-- ---- the front of a value that is no string
+
+unfoldable pub word_at : List ℕ → Event → List ℕ → Option (Event × List ℕ)
+word_at w e s = cond (starts_with nat_eq s w) (Some (e, drop (length w) s)) None
+
+unfoldable pub front_by : ℕ → List ℕ → Option (Event × List ℕ)
+front_by c s =
+    cond (c == 110) (word_at (codes "null") nothing s)
+    (cond (c == 116) (word_at (codes "true") (boolean true) s)
+    (cond (c == 102) (word_at (codes "false") (boolean false) s)
+    (cond (c == 91) (Some (seq, drop 1 s)) (cond (c == 123) (Some (map, drop 1 s)) (number_at s)))))
+
+abbrev pub front_at : List ℕ → Option (Event × List ℕ)
+front_at s = front_by (slice_index s 0) s
+
+-- ---- steps
+
+abbrev pub begins : List ℕ → Bool
+begins [] = false
+begins (c ∷ cs) = not (is_closing c)
+
+-- of a text that begins with no whitespace
+unfoldable pub step_at : Kind → Bool → List ℕ → Option (Bool × List ℕ)
+step_at kind first t =
+    cond (slice_index t 0 == closing kind) (Some (true, drop 1 t))
+    (cond first (cond (begins t) (Some (false, t)) None) (cond (slice_index t 0 == 44) (Some (false, drop 1 t)) None))
+
+-- ---- escapes, behind the backslash
+
+abbrev pub found : Option (ℕ × Bor (List ℕ)) → Option (ℕ × List ℕ)
+found r = option_map (λ x. (x.0, x.1.now)) r
+
+abbrev pub begins_unit : List ℕ → Bool
+begins_unit s =
+    is_hex (slice_index s 0) && is_hex (slice_index s 1) && is_hex (slice_index s 2) && is_hex (slice_index s 3)
+
+abbrev pub unit_at : List ℕ → Option (ℕ × List ℕ)
+unit_at s =
+    cond (begins_unit s)
+    (Some (
+      digit_value (slice_index s 0) * 4096 + digit_value (slice_index s 1) * 256
+          + digit_value (slice_index s 2) * 16 + digit_value (slice_index s 3),
+      drop 4 s,
+    ))
+    None
+
+abbrev pub begins_escape : List ℕ → Bool
+begins_escape s = (slice_index s 0 == 92) && (slice_index s 1 == 117)
+
+abbrev pub pair_of : ℕ → ℕ → ℕ
+pair_of high low = 0x10000 + (high - 0xd800) * 1024 + (low - 0xdc00)
+
+abbrev pub low_at : ℕ → List ℕ → Option (ℕ × List ℕ)
+low_at high s =
+    cond (begins_escape s)
+    (option_and_then (λ l. cond (is_low l.0) (Some (pair_of high l.0, l.1)) None) (unit_at (drop 2 s))) None
+
+unfoldable pub unicode_at : List ℕ → Option (ℕ × List ℕ)
+unicode_at s = option_and_then (λ u. cond (is_high u.0) (low_at u.0 u.1) (cond (is_low u.0) None (Some u))) (unit_at s)
+
+abbrev pub short_at : ℕ → Option ℕ
+short_at x =
+    if (x == 34) || ((x == 92) || (x == 47)) then Some x
+    else if x == 98 then Some 8
+    else if x == 102 then Some 12
+    else if x == 110 then Some 10
+    else if x == 114 then Some 13
+    else if x == 116 then Some 9
+    else None
+
+unfoldable pub escape_at : List ℕ → Option (ℕ × List ℕ)
+escape_at s =
+    cond (slice_index s 0 == 117) (unicode_at (drop 1 s))
+    (option_map (λ c. (c, drop 1 s)) (short_at (slice_index s 0)))

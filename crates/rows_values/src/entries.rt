@@ -1,0 +1,113 @@
+//! A type of a crate above: a struct of two fields that is written as a list of two, with its own place and its round
+//! trip.
+ghost use Rattle.std.specs.Prelude.{◌≡◌, ◌<◌, ◌^◌, List, Option, None, Some, Ok, Err, IfOk, ℕ};
+ghost use Rattle.std.specs.String.{string_bytes};
+ghost use Rattle.miniserde.specs.Meanings.{box_meaning};
+ghost use Rattle.miniserde.specs.Tree.{list, tree, no_trees, nonneg, str};
+
+use miniserde::de::{Deserialize, PairPlace, Ranged, Step, Visitor};
+use miniserde::ser::{Serialize, Writer};
+use miniserde::{Error, Result, RoundTrip};
+use std::alloc::Global;
+
+/// A number and a text.
+#[derive(Drop)]
+pub struct Entry {
+    pub code: u32,
+    pub message: String,
+}
+
+/// Its place: that of a pair.
+#[derive(Drop)]
+pub struct EntryPlace {
+    pair: PairPlace<u32, String>,
+}
+
+impl Visitor for EntryPlace {
+    type Out = Entry;
+
+    ghost meaning = { box_meaning (λ p. p.pair) (λ v. (v.code, v.message)) ⟦<PairPlace<u32, String> as Visitor>⟧.meaning };
+
+    fn begin(alloc: Global) -> Result<EntryPlace> {
+        Ok(EntryPlace {
+            pair: <(u32, String) as Deserialize>::begin(alloc)?,
+        })
+    }
+
+    fn step(&mut self, event: Step<'_>) -> Result<()> {
+        self.pair.step(event)
+    }
+
+    fn refuse(&mut self, error: Error) -> Error {
+        self.pair.refuse(error)
+    }
+
+    fn is_complete(&self) -> bool {
+        self.pair.is_complete()
+    }
+
+    fn take(self) -> Result<Entry> {
+        let EntryPlace { pair } = self;
+        let (code, message) = pair.take()?;
+        Ok(Entry { code, message })
+    }
+}
+
+impl Deserialize for Entry {
+    type Place = EntryPlace;
+
+    ghost absent = { None };
+
+    fn default() -> Option<Entry> {
+        None
+    }
+}
+
+impl Serialize for Entry {
+    ghost tree = { λ v. list (tree (nonneg v.code) (tree (str (string_bytes v.message)) no_trees)) };
+
+    fn begin(&self, w: &mut Writer) -> Result<()> {
+        w.seq()?;
+        w.element()?;
+        self.code.begin(w)?;
+        w.element()?;
+        self.message.begin(w)?;
+        w.seq_finish()
+    }
+}
+
+impl Ranged for Entry {
+    ghost real = { λ v. v.code < 2 ^ 32 };
+
+    fn ranged(&self) {
+        self.code.ranged();
+    }
+}
+
+impl RoundTrip for Entry {
+    fn again(&self) {
+        self.code.again();
+        self.message.again();
+    }
+}
+
+#[cfg(test)]
+mod tests {
+    use super::Entry;
+    use miniserde::json::{from_str, to_string};
+    use miniserde::{Error, Result, read_again};
+    use std::test::Fail;
+
+    #[test]
+    fn an_entry_is_read_again(rt: HostRuntime) -> std::result::Result<(), Fail> {
+        let alloc = rt.alloc();
+        let entry: Entry = from_str(alloc, " [ 7, \"a\\/\" ] ")?;
+        assert_eq!(rt; to_string(alloc, &entry)?.as_str(), "[7,\"a/\"]");
+        let again = read_again(alloc, &entry)?;
+        assert_eq!(rt; again.code, 7);
+        assert_eq!(rt; again.message.as_str(), "a/");
+        let refused: Result<Entry> = from_str(alloc, "[7]");
+        assert!(rt; matches!(refused, Err(Error::Invalid)));
+        Ok(())
+    }
+}
