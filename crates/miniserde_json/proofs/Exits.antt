@@ -10,17 +10,17 @@ use Rattle.miniserde_model.specs.Lexing.{Kind}
 use Rattle.miniserde_model.specs.private.Reading.{Moment, due, after}
 use Rattle.miniserde_place.specs.Place.{Shown, LeadsBy, Begun}
 use Rattle.miniserde_json.specs.private.Stack.{innermost}
-use Rattle.miniserde_json.specs.private.Moving.{between, Moves, Barred}
+use Rattle.miniserde_json.specs.private.Moving.{between, Moves, TextBarred}
 use Rattle.miniserde_text.specs.declared.error.Error.{Error}
 use Rattle.miniserde_json.proofs.Wholes.{leads_completes, whole, not_whole, barred_more, barred_json}
 
 pub moves_from : {C : Type 0} (st su : List Kind) (s u : List ℕ) (at : Position) (k : List Event → Option C) (m' : Moment) (st' : List Kind) (s' : List ℕ) (at' : Position) (k' : List Event → Option C) → st ≡ su → s ≡ u → Moves due st s at k m' st' s' at' k' → Moves due su u at k m' st' s' at' k'
 moves_from st su s u at k m' st' s' at' k' e f p = subst (λ z. Moves due su z at k m' st' s' at' k') f (subst (λ z. Moves due z s at k m' st' s' at' k') e p)
 
-pub barred_from : {C : Type 0} (st su : List Kind) (s u : List ℕ) (at : Position) (k : List Event → Option C) → st ≡ su → s ≡ u → Barred due st s k at → Barred due su u k at
-barred_from st su s u at k e f p = subst (λ z. Barred due su z k at) f (subst (λ z. Barred due z s k at) e p)
+pub barred_from : {C : Type 0} (st su : List Kind) (s u : List ℕ) (at : Position) (k : List Event → Option C) → st ≡ su → s ≡ u → TextBarred due st s k at → TextBarred due su u k at
+barred_from st su s u at k e f p = subst (λ z. TextBarred due su z k at) f (subst (λ z. TextBarred due z s k at) e p)
 
-pub invalid_exit : {C : Type 0} (s : List ℕ) (at : Position) (k : List Event → Option C) (m' : Moment) (st' : List Kind) (s' : List ℕ) (at' : Position) (k' : List Event → Option C) → at ≡ start → Moves due [] s at k m' st' s' at' k' → Barred m' st' s' k' at' → (t : Tree) → IsJson s t → k (events t) ≡ None
+pub invalid_exit : {C : Type 0} (s : List ℕ) (at : Position) (k : List Event → Option C) (m' : Moment) (st' : List Kind) (s' : List ℕ) (at' : Position) (k' : List Event → Option C) → at ≡ start → Moves due [] s at k m' st' s' at' k' → TextBarred m' st' s' k' at' → (t : Tree) → IsJson s t → k (events t) ≡ None
 invalid_exit s at k m' st' s' at' k' e p b = barred_json s at k e (barred_more due [] s at k m' st' s' at' k' p b)
 
 -- a call that refused left the place with that refusal, or as it was

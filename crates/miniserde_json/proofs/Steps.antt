@@ -5,7 +5,7 @@ use Rattle.miniserde_model.specs.Position.{Position}
 use Rattle.miniserde_model.specs.Lexing.{Kind, in_list, in_members, Starts, Names, Follows}
 use Rattle.miniserde_model.specs.private.Reading.{due, after, Spells}
 use Rattle.miniserde_json.specs.private.Stack.{stack_on, stack_of, pushed, innermost, outer}
-use Rattle.miniserde_json.specs.private.Moving.{opens, between, Passes, Barred}
+use Rattle.miniserde_json.specs.private.Moving.{opens, between, Passes, TextBarred}
 use Rattle.miniserde_text.specs.Lexer.{front_of, kind_of}
 use Rattle.miniserde_text.specs.declared.json.lex.Event as lexed
 use Rattle.miniserde_text.specs.declared.json.lex.Kind as rust
@@ -30,7 +30,7 @@ value_passes st s r e d o st' i p q h =
     let two : Passes due st s (d ∷ []) (between (is_some o)) st' r = subst (λ z. Passes due st s (d ∷ []) (between (is_some o)) z r) (sym stack) one in
     subst (λ z. Passes due st s (z ∷ []) (between (is_some o)) st' r) (sym i) two
 
-pub start_barred : {C : Type 0} (st : List Kind) (s : List ℕ) (k : List Event → Option C) (at : Position) → ((e : Event) (r : List ℕ) → Starts s e r → ⊥) → Barred due st s k at
+pub start_barred : {C : Type 0} (st : List Kind) (s : List ℕ) (k : List Event → Option C) (at : Position) → ((e : Event) (r : List ℕ) → Starts s e r → ⊥) → TextBarred due st s k at
 start_barred st s k at n es h c = let f = spells_start es st s h in absurd (n f.event f.rest f.starts)
 
 split_top : (st : List Kind) (k : Kind) → innermost st ≡ Some k → st ≡ k ∷ outer st
@@ -49,12 +49,12 @@ pub key_passes : (st : List Kind) (s r n x : List ℕ) (k : Kind) (f : Bool) →
 key_passes st s r n x k f h e p q =
     subst (λ z. Passes (between f) z s (key n ∷ []) due z x) (sym (split_top st in_members (h ∙ ap Some e))) (passes_key f (outer st) s r n x (subst (λ z. Follows z f false s r) e p) q)
 
-pub after_barred : {C : Type 0} (st : List Kind) (s : List ℕ) (k : Kind) (f : Bool) (out : List Event → Option C) (at : Position) → innermost st ≡ Some k → ((a : Bool) (r : List ℕ) → Follows k f a s r → ⊥) → Barred (between f) st s out at
+pub after_barred : {C : Type 0} (st : List Kind) (s : List ℕ) (k : Kind) (f : Bool) (out : List Event → Option C) (at : Position) → innermost st ≡ Some k → ((a : Bool) (r : List ℕ) → Follows k f a s r → ⊥) → TextBarred (between f) st s out at
 after_barred st s k f out at h n es g c =
     let t = follows_there k f es (outer st) s (subst (λ z. Spells (between f) es z s) (split_top st k h) g) in
     absurd (n t.0 t.1 t.2)
 
-pub name_barred : {C : Type 0} (st : List Kind) (s r : List ℕ) (k : Kind) (f : Bool) (out : List Event → Option C) (at : Position) → innermost st ≡ Some k → k ≡ in_members → Follows k f false s r → ((n x : List ℕ) → Names r n x → ⊥) → Barred (between f) st s out at
+pub name_barred : {C : Type 0} (st : List Kind) (s r : List ℕ) (k : Kind) (f : Bool) (out : List Event → Option C) (at : Position) → innermost st ≡ Some k → k ≡ in_members → Follows k f false s r → ((n x : List ℕ) → Names r n x → ⊥) → TextBarred (between f) st s out at
 name_barred st s r k f out at h e p n es g c =
     let t = key_back f es (outer st) s r (subst (λ z. Follows z f false s r) e p) (subst (λ z. Spells (between f) es z s) (split_top st in_members (h ∙ ap Some e)) g) in
     absurd (n t.name t.rest t.names)

@@ -13,7 +13,7 @@ use Rattle.miniserde_model.proofs.Accepted.{value_tree}
 use Rattle.miniserde_model.proofs.ReadBack.{spells_json, nothing_left}
 use Rattle.miniserde_place.specs.Place.{Leads, Bars, LeadsBy, Begun, IsTreeEvent}
 use Rattle.miniserde_json.specs.private.Stack.{stack_on}
-use Rattle.miniserde_json.specs.private.Moving.{Live, Passes, Moves, Barred}
+use Rattle.miniserde_json.specs.private.Moving.{Live, Passes, Moves, TextBarred}
 use Rattle.miniserde_text.specs.Lexer.{kind_of}
 use Rattle.miniserde_text.specs.declared.json.lex.Kind as rust
 use Rattle.miniserde_json.proofs.Fronts.{front}
@@ -80,11 +80,11 @@ pub moves_one : {C : Type 0} (m : Moment) (st : List Kind) (s : List ℕ) (at : 
 moves_one m st s at k e m' st' s' at' k' p l = record { done = e ∷ []; passes = p; leads = l }
 
 -- an event that the text forces, and that the place refuses
-pub barred_one : {C : Type 0} (m : Moment) (st : List Kind) (s : List ℕ) (at : Position) (k : List Event → Option C) (e : Event) (m' : Moment) (st' : List Kind) (s' : List ℕ) → Passes m st s (e ∷ []) m' st' s' → Bars at k e → Barred m st s k at
+pub barred_one : {C : Type 0} (m : Moment) (st : List Kind) (s : List ℕ) (at : Position) (k : List Event → Option C) (e : Event) (m' : Moment) (st' : List Kind) (s' : List ℕ) → Passes m st s (e ∷ []) m' st' s' → Bars at k e → TextBarred m st s k at
 barred_one m st s at k e m' st' s' p b es h c = let a = p.back es h in ap k a.1 ∙ b a.0 (subst (λ z. Completes at z) a.1 c)
 
 -- what bars the rest bars the whole
-pub barred_more : {C : Type 0} (m : Moment) (st : List Kind) (s : List ℕ) (at : Position) (k : List Event → Option C) (m' : Moment) (st' : List Kind) (s' : List ℕ) (at' : Position) (k' : List Event → Option C) → Moves m st s at k m' st' s' at' k' → Barred m' st' s' k' at' → Barred m st s k at
+pub barred_more : {C : Type 0} (m : Moment) (st : List Kind) (s : List ℕ) (at : Position) (k : List Event → Option C) (m' : Moment) (st' : List Kind) (s' : List ℕ) (at' : Position) (k' : List Event → Option C) → Moves m st s at k m' st' s' at' k' → TextBarred m' st' s' k' at' → TextBarred m st s k at
 barred_more m st s at k m' st' s' at' k' p b es h c =
     let a = p.passes.back es h in
     let d : Completes at (p.done ++ a.0) = subst (λ z. Completes at z) a.1 c in
@@ -117,10 +117,10 @@ whole s at k s' at' k' p w =
     let t = spells_json (p.done ++ []) (p.passes.taken ++ s') (p.passes.on [] s' w) in
     (t.0, subst (λ z. IsJson z t.0) (sym p.passes.text) t.2, subst (λ z. LeadsBy at k z at' k') (sym (append-nil p.done) ∙ t.1) p.leads)
 
-pub not_whole : {C : Type 0} (s : List ℕ) (at : Position) (k : List Event → Option C) → (IsWhitespace s → ⊥) → Barred after [] s k at
+pub not_whole : {C : Type 0} (s : List ℕ) (at : Position) (k : List Event → Option C) → (IsWhitespace s → ⊥) → TextBarred after [] s k at
 not_whole s at k n es h c = absurd (n (nothing_left es s h).1)
 
-pub barred_json : {C : Type 0} (s : List ℕ) (at : Position) (k : List Event → Option C) → at ≡ start → Barred due [] s k at → (t : Tree) → IsJson s t → k (events t) ≡ None
+pub barred_json : {C : Type 0} (s : List ℕ) (at : Position) (k : List Event → Option C) → at ≡ start → TextBarred due [] s k at → (t : Tree) → IsJson s t → k (events t) ≡ None
 barred_json s at k e b t h = b (events t) (json_spells s t h) (subst (λ z. Completes z (events t)) (sym e) (events_complete t))
 
 -- ---- the stack

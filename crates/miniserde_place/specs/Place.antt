@@ -106,6 +106,6 @@ pub record Takes {C : Type 0} (old : Shown C) (e : Event) (answer : Result (Unit
 
 -- a place that has no event yet
 pub record IsFresh {C : Type 0} (from_events : List Event → Option C) (p : Shown C) : Type 0 where
-  pub free : p.refused ≡ None
+  pub unrefused : p.refused ≡ None
   pub fresh : p.at ≡ start
   pub outcome : (es : List Event) → Completes start es → p.outcome es ≡ from_events es

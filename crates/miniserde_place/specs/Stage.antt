@@ -9,13 +9,13 @@ use Rattle.miniserde_place.specs.Container.{Gathering, lifted, inside_child, bet
 
 module _ {C V : Type 0} (g : Gathering C V) where
   -- between two children
-  abbrev pub between : C → Shown g.Content
-  between c = record { at = (1, false); outcome = between_children g.rules (g.state c); refused = None }
+  abbrev pub shown_between : C → Shown g.Content
+  shown_between c = record { at = (1, false); outcome = between_children g.rules (g.state c); refused = None }
 
   -- by the stage, and the container so far
   abbrev pub stage_shows : Stage → C → Shown g.Content
   stage_shows Fresh c = record { at = start; outcome = opened g.is_object (between_children g.rules (g.state c)); refused = None }
-  stage_shows Between c = between c
+  stage_shows Between c = shown_between c
   stage_shows Child c = record { at = lifted (g.child c).at; outcome = inside_child g.rules (g.child c).outcome (g.child c).at; refused = (g.child c).refused }
   stage_shows Done c = record { at = complete; outcome = ended g.rules (g.state c); refused = None }
   stage_shows (Refused r) c = record { at = start; outcome = λ _. None; refused = Some r }

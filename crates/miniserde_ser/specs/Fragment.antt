@@ -10,10 +10,10 @@ integer (pos n) = nonneg n
 integer (negsuc n) = neg (negsuc n)
 
 -- the tree of a fragment
-abbrev pub leaf : Fragment → Tree
-leaf Null = null
-leaf (Bool b) = truth b
-leaf (Str s) = str s.now
-leaf (U64 n) = nonneg n
-leaf (I64 n) = integer n
-leaf (Text n) = num n.now
+abbrev pub fragment_tree : Fragment → Tree
+fragment_tree Null = null
+fragment_tree (Bool b) = truth b
+fragment_tree (Str s) = str s.now
+fragment_tree (U64 n) = nonneg n
+fragment_tree (I64 n) = integer n
+fragment_tree (Text n) = num n.now

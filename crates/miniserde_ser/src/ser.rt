@@ -64,7 +64,7 @@ impl Writer {
     ghost use Rattle.miniserde_model.specs.Compact.{compact, quoted};
     ghost use Rattle.miniserde_text.specs.declared.error.Error.TheVariants.{Memory};
     ghost use Rattle.miniserde_ser.specs.Writer.{appended, with_first, with_refused, LacksRoom};
-    ghost use Rattle.miniserde_ser.specs.Fragment.{leaf};
+    ghost use Rattle.miniserde_ser.specs.Fragment.{fragment_tree};
 
     /// A writer of no text yet. It takes no memory.
     pub fn new(alloc: Global) -> Writer
@@ -147,11 +147,11 @@ impl Writer {
 
     /// Appends a leaf.
     pub fn fragment(&mut self, f: Fragment<'_>) -> Result<()>
-        ensures ok { OnOk result (self.new ≡ appended self.old (compact (leaf f.entry)) self.new.capacity) }
+        ensures ok { OnOk result (self.new ≡ appended self.old (compact (fragment_tree f.entry)) self.new.capacity) }
         ensures stays { OnOk result (self.old.refused ≡ false) }
         ensures memory { OnErr result (IsErrOf result Memory) }
         ensures err { OnErr result (self.new ≡ with_refused self.old) }
-        ensures room { OnErr result (LacksRoom self.old (compact (leaf f.entry))) }
+        ensures room { OnErr result (LacksRoom self.old (compact (fragment_tree f.entry))) }
         ensures capacity { self.old.capacity ≤ self.new.capacity }
     {
         let mut digits = Buffer::new();

@@ -44,5 +44,5 @@ pub record Moves {C : Type 0} (m : Moment) (st : List Kind) (s : List ℕ) (at :
   pub leads : LeadsBy at k done at' k'
 
 -- No events that the text spells give a value.
-abbrev pub Barred : {C : Type 0} → Moment → List Kind → List ℕ → (List Event → Option C) → Position → Type 0
-Barred m st s k at = (es : List Event) → Spells m es st s → Completes at es → k es ≡ None
+abbrev pub TextBarred : {C : Type 0} → Moment → List Kind → List ℕ → (List Event → Option C) → Position → Type 0
+TextBarred m st s k at = (es : List Event) → Spells m es st s → Completes at es → k es ≡ None

@@ -11,7 +11,7 @@ ghost use Rattle.miniserde_text.specs.declared.error.Error.{Error};
 ghost use Rattle.miniserde_place.specs.Step.{event_of};
 ghost use Rattle.miniserde_place.specs.Place.{LedBy, HasBegun};
 ghost use Rattle.miniserde_json.specs.private.Stack.{innermost};
-ghost use Rattle.miniserde_json.specs.private.Moving.{Moves, Barred, between, onward, opens};
+ghost use Rattle.miniserde_json.specs.private.Moving.{Moves, TextBarred, between, onward, opens};
 
 use crate::json::stack::Stack;
 use miniserde_de::de::Deserialize;
@@ -42,11 +42,11 @@ pub fn from_str<T: Deserialize>(alloc: Global, j: &str) -> Result<T>
 
 /// Gives a fresh place the events of a text, in order, while it takes them.
 pub fn feed<V: Visitor>(alloc: Global, j: &str, place: &mut V) -> Result<()>
-    requires free { (V.meaning.shows place.old).refused ≡ None }
+    requires unrefused { (V.meaning.shows place.old).refused ≡ None }
     requires fresh { (V.meaning.shows place.old).at ≡ start }
     ensures ok { IfOk result (λ _. (t : Tree) × IsJson j.now t ×
         LedBy (V.meaning.shows place.old) (events t) (V.meaning.shows place.new)) }
-    ensures free { IfOk result (λ _. (V.meaning.shows place.new).refused ≡ None) }
+    ensures unrefused { IfOk result (λ _. (V.meaning.shows place.new).refused ≡ None) }
     ensures one { (t u : Tree) → IsJson j.now t → IsJson j.now u → t ≡ u }
     ensures invalid { result ≡ Err Error.Invalid
         → (t : Tree) → IsJson j.now t → (V.meaning.shows place.old).outcome (events t) ≡ None }
@@ -76,14 +76,14 @@ fn value<V: Visitor>(
     place: &mut V,
 ) -> Result<bool>
     requires going { lexer.old.refused ≡ None }
-    requires free { (V.meaning.shows place.old).refused ≡ None }
+    requires unrefused { (V.meaning.shows place.old).refused ≡ None }
     ensures moves { IfOk result (λ opened.
         Moves due stack.old lexer.old.rest (V.meaning.shows place.old).at (V.meaning.shows place.old).outcome
         (between opened) stack.new lexer.new.rest (V.meaning.shows place.new).at (V.meaning.shows place.new).outcome) }
     ensures less { IfOk result (λ _. length lexer.new.rest < length lexer.old.rest) }
-    ensures free { IfOk result (λ _. (lexer.new.refused ≡ None) × ((V.meaning.shows place.new).refused ≡ None)) }
+    ensures unrefused { IfOk result (λ _. (lexer.new.refused ≡ None) × ((V.meaning.shows place.new).refused ≡ None)) }
     ensures invalid { result ≡ Err Error.Invalid →
-        Barred due stack.old lexer.old.rest (V.meaning.shows place.old).outcome (V.meaning.shows place.old).at }
+        TextBarred due stack.old lexer.old.rest (V.meaning.shows place.old).outcome (V.meaning.shows place.old).at }
     ensures keeps { IfErr result (λ e. ((V.meaning.shows place.new).refused ≡ Some e) ⊎ (place.new ≡ place.old)) }
 {
     let event = lexer.start(scratch)?;
@@ -104,16 +104,16 @@ fn turn<V: Visitor>(
 ) -> Result<bool>
     requires inside { innermost stack.old ≡ Some (kind_of kind) }
     requires going { lexer.old.refused ≡ None }
-    requires free { (V.meaning.shows place.old).refused ≡ None }
+    requires unrefused { (V.meaning.shows place.old).refused ≡ None }
     ensures moves { IfOk result (λ is_due.
         Moves (between first) stack.old lexer.old.rest
         (V.meaning.shows place.old).at (V.meaning.shows place.old).outcome
         (onward is_due) stack.new lexer.new.rest (V.meaning.shows place.new).at (V.meaning.shows place.new).outcome) }
     ensures less { IfOk result (λ is_due. (length lexer.new.rest ≤ length lexer.old.rest)
         × (is_due ≡ false → length lexer.new.rest < length lexer.old.rest)) }
-    ensures free { IfOk result (λ _. (lexer.new.refused ≡ None) × ((V.meaning.shows place.new).refused ≡ None)) }
+    ensures unrefused { IfOk result (λ _. (lexer.new.refused ≡ None) × ((V.meaning.shows place.new).refused ≡ None)) }
     ensures invalid { result ≡ Err Error.Invalid →
-        Barred (between first) stack.old lexer.old.rest
+        TextBarred (between first) stack.old lexer.old.rest
         (V.meaning.shows place.old).outcome (V.meaning.shows place.old).at }
     ensures keeps { IfErr result (λ e. ((V.meaning.shows place.new).refused ≡ Some e) ⊎ (place.new ≡ place.old)) }
 {

@@ -36,7 +36,7 @@ pub struct ContainerPlace<C> {
 }
 
 impl<C: Collect> ContainerPlace<C> {
-    ghost use Rattle.miniserde_place.specs.Stage.{between, shown};
+    ghost use Rattle.miniserde_place.specs.Stage.{shown, shown_between};
 
     // An event that no open child takes.
     #[inline(never)]
@@ -45,7 +45,7 @@ impl<C: Collect> ContainerPlace<C> {
         requires whole { self.old.stage ≡ Stage.Child → (C.gathering.child self.old.collector).at ≡ complete }
         ensures leads { IfOk result (λ _.
             LedTo (shown C.gathering self.old) (event_of event.entry) (shown C.gathering self.new)) }
-        ensures free { IfOk result (λ _. (shown C.gathering self.new).refused ≡ None) }
+        ensures unrefused { IfOk result (λ _. (shown C.gathering self.new).refused ≡ None) }
         ensures bars { result ≡ Err Error.Invalid → (shown C.gathering self.old).refused ≡ None
             → Barred (shown C.gathering self.old) (event_of event.entry) }
         ensures keeps { (r : Error) → (shown C.gathering self.old).refused ≡ Some r → result ≡ Err r }
@@ -71,10 +71,10 @@ impl<C: Collect> ContainerPlace<C> {
     // An event between two children: the next one begins, or the container ends.
     fn go_on(&mut self, event: Step<'_>) -> Result<()>
         ensures leads { IfOk result (λ _.
-            LedTo (between C.gathering self.old.collector) (event_of event.entry) (shown C.gathering self.new)) }
-        ensures free { IfOk result (λ _. (shown C.gathering self.new).refused ≡ None) }
+            LedTo (shown_between C.gathering self.old.collector) (event_of event.entry) (shown C.gathering self.new)) }
+        ensures unrefused { IfOk result (λ _. (shown C.gathering self.new).refused ≡ None) }
         ensures bars { result ≡ Err Error.Invalid
-            → Barred (between C.gathering self.old.collector) (event_of event.entry) }
+            → Barred (shown_between C.gathering self.old.collector) (event_of event.entry) }
     {
         match event {
             Step::Element | Step::Key(_) => {

@@ -29,8 +29,9 @@ pub trait Collect: Drop {
     /// Begins the child that the event begins.
     fn begin_child(&mut self, alloc: Global, event: Step<'_>) -> Result<()>
         requires { BeginsChild (event_of event) }
-        ensures fresh { IfOk result (λ _.
-            IsFresh (gathering.rules.child (gathering.state self.old) (event_of event.entry)) (gathering.child self.new)) }
+        ensures fresh { IfOk result (λ _. IsFresh
+            (gathering.rules.child (gathering.state self.old) (event_of event.entry))
+            (gathering.child self.new)) }
         ensures invalid { result ≡ Err Error.Invalid
             → (es : List Event) → gathering.rules.child (gathering.state self.old) (event_of event.entry) es ≡ None };
 

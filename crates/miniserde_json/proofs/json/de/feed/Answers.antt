@@ -18,7 +18,7 @@ use Rattle.miniserde_json.proofs.json.de.feed.Goals as goal
 pub loop-kind-init : goal.loop-kind-init
 loop-kind-init g c =
     let m = moves_from _ [] _ c.args.j.now (g.V.Visitor.meaning.shows c.args.place.now).at (g.V.Visitor.meaning.shows c.args.place.now).outcome _ _ _ (g.V.Visitor.meaning.shows c.value.new.place).at (g.V.Visitor.meaning.shows c.value.new.place).outcome (c.new-stack.ensures) (ap (λ l. l.rest) c.new-lexer.ensures) c.in_ok-first.ensures.moves in
-    record { free = c.in_ok-first.ensures.free.1; going = c.in_ok-first.ensures.free.0; moves = m }
+    record { unrefused = c.in_ok-first.ensures.unrefused.1; going = c.in_ok-first.ensures.unrefused.0; moves = m }
 
 pub loop-kind-preserved-then-branch : goal.loop-kind-preserved-then-branch
 loop-kind-preserved-then-branch g c =
@@ -26,13 +26,13 @@ loop-kind-preserved-then-branch g c =
     let n = subst (λ z. Moves (between c.loop-kind.first) c.loop-kind.stack c.loop-kind.lexer.rest (v.shows c.loop-kind.place).at (v.shows c.loop-kind.place).outcome (onward z) c.turn.new.stack c.turn.new.lexer.rest (v.shows c.turn.new.place).at (v.shows c.turn.new.place).outcome) c.if-branch.true c.in_ok-turn.ensures.moves in
     let two = Moves-append due [] c.args.j.now (v.shows c.args.place.now).at (v.shows c.args.place.now).outcome _ _ _ (v.shows c.loop-kind.place).at (v.shows c.loop-kind.place).outcome due _ _ (v.shows c.turn.new.place).at (v.shows c.turn.new.place).outcome c.loop-kind.invariant.moves n in
     let all = Moves-append due [] c.args.j.now (v.shows c.args.place.now).at (v.shows c.args.place.now).outcome due _ _ (v.shows c.turn.new.place).at (v.shows c.turn.new.place).outcome _ _ _ (v.shows c.value-then-branch.new.place).at (v.shows c.value-then-branch.new.place).outcome two c.in_ok-first-2.ensures.moves in
-    record { free = c.in_ok-first-2.ensures.free.1; going = c.in_ok-first-2.ensures.free.0; moves = all }
+    record { unrefused = c.in_ok-first-2.ensures.unrefused.1; going = c.in_ok-first-2.ensures.unrefused.0; moves = all }
 
 pub loop-kind-preserved : goal.loop-kind-preserved
 loop-kind-preserved g c =
     let v = g.V.Visitor.meaning in
     let n = subst (λ z. Moves (between c.loop-kind.first) c.loop-kind.stack c.loop-kind.lexer.rest (v.shows c.loop-kind.place).at (v.shows c.loop-kind.place).outcome (onward z) c.turn.new.stack c.turn.new.lexer.rest (v.shows c.turn.new.place).at (v.shows c.turn.new.place).outcome) c.if-branch.false c.in_ok-turn.ensures.moves in
-    record { free = c.in_ok-turn.ensures.free.1; going = c.in_ok-turn.ensures.free.0; moves = Moves-append due [] c.args.j.now (v.shows c.args.place.now).at (v.shows c.args.place.now).outcome _ _ _ (v.shows c.loop-kind.place).at (v.shows c.loop-kind.place).outcome after _ _ (v.shows c.turn.new.place).at (v.shows c.turn.new.place).outcome c.loop-kind.invariant.moves n }
+    record { unrefused = c.in_ok-turn.ensures.unrefused.1; going = c.in_ok-turn.ensures.unrefused.0; moves = Moves-append due [] c.args.j.now (v.shows c.args.place.now).at (v.shows c.args.place.now).outcome _ _ _ (v.shows c.loop-kind.place).at (v.shows c.loop-kind.place).outcome after _ _ (v.shows c.turn.new.place).at (v.shows c.turn.new.place).outcome c.loop-kind.invariant.moves n }
 
 pub returns-in_err-first-clause-one : goal.returns-in_err-first-clause-one
 returns-in_err-first-clause-one g c = one_tree c.args.j.now
@@ -59,7 +59,7 @@ pub returns-in_err-first-clause-keeps : goal.returns-in_err-first-clause-keeps
 returns-in_err-first-clause-keeps g c =
     let v = g.V.Visitor.meaning in
     let w = err_from_is_err_and c.from_residual.result c.from_residual.ensures.1 in
-    keeps_exit v.shows (v.shows c.args.place.now).at (v.shows c.args.place.now).outcome c.args.place.now c.value.new.place c.from_residual.result c.in_err-first.field-0.0 (cc (w.1, w.2)) c.requires.free (begun_none (v.shows c.args.place.now).at (v.shows c.args.place.now).outcome) c.in_err-first.ensures.keeps
+    keeps_exit v.shows (v.shows c.args.place.now).at (v.shows c.args.place.now).outcome c.args.place.now c.value.new.place c.from_residual.result c.in_err-first.field-0.0 (cc (w.1, w.2)) c.requires.unrefused (begun_none (v.shows c.args.place.now).at (v.shows c.args.place.now).outcome) c.in_err-first.ensures.keeps
 
 -- ---- a turn refused
 
@@ -73,7 +73,7 @@ pub returns-in_err-turn-clause-keeps : goal.returns-in_err-turn-clause-keeps
 returns-in_err-turn-clause-keeps g c =
     let v = g.V.Visitor.meaning in
     let w = err_from_is_err_and c.from_residual-in_err-turn.result c.from_residual-in_err-turn.ensures.1 in
-    keeps_exit v.shows (v.shows c.args.place.now).at (v.shows c.args.place.now).outcome c.loop-kind.place c.turn.new.place c.from_residual-in_err-turn.result c.in_err-turn.field-0.0 (cc (w.1, w.2)) c.loop-kind.invariant.free
+    keeps_exit v.shows (v.shows c.args.place.now).at (v.shows c.args.place.now).outcome c.loop-kind.place c.turn.new.place c.from_residual-in_err-turn.result c.in_err-turn.field-0.0 (cc (w.1, w.2)) c.loop-kind.invariant.unrefused
     (begun c.args.j.now (v.shows c.args.place.now).at (v.shows c.args.place.now).outcome _ _ _ (v.shows c.loop-kind.place).at (v.shows c.loop-kind.place).outcome c.loop-kind.invariant.moves) c.in_err-turn.ensures.keeps
 
 -- ---- a later value refused
@@ -92,7 +92,7 @@ returns-in_err-first-2-clause-keeps g c =
     let w = err_from_is_err_and c.from_residual-in_err-first-2.result c.from_residual-in_err-first-2.ensures.1 in
     let n = subst (λ z. Moves (between c.loop-kind.first) c.loop-kind.stack c.loop-kind.lexer.rest (v.shows c.loop-kind.place).at (v.shows c.loop-kind.place).outcome (onward z) c.turn.new.stack c.turn.new.lexer.rest (v.shows c.turn.new.place).at (v.shows c.turn.new.place).outcome) c.if-branch.true c.in_ok-turn.ensures.moves in
     let two = Moves-append due [] c.args.j.now (v.shows c.args.place.now).at (v.shows c.args.place.now).outcome _ _ _ (v.shows c.loop-kind.place).at (v.shows c.loop-kind.place).outcome due _ _ (v.shows c.turn.new.place).at (v.shows c.turn.new.place).outcome c.loop-kind.invariant.moves n in
-    keeps_exit v.shows (v.shows c.args.place.now).at (v.shows c.args.place.now).outcome c.turn.new.place c.value-then-branch.new.place c.from_residual-in_err-first-2.result c.in_err-first-2.field-0.0 (cc (w.1, w.2)) c.in_ok-turn.ensures.free.1
+    keeps_exit v.shows (v.shows c.args.place.now).at (v.shows c.args.place.now).outcome c.turn.new.place c.value-then-branch.new.place c.from_residual-in_err-first-2.result c.in_err-first-2.field-0.0 (cc (w.1, w.2)) c.in_ok-turn.ensures.unrefused.1
     (begun c.args.j.now (v.shows c.args.place.now).at (v.shows c.args.place.now).outcome due _ _ (v.shows c.turn.new.place).at (v.shows c.turn.new.place).outcome two) c.in_err-first-2.ensures.keeps
 
 -- ---- the end
@@ -114,4 +114,4 @@ pub returns-clause-keeps : goal.returns-clause-keeps
 returns-clause-keeps g c =
     let v = g.V.Visitor.meaning in
     if_err c.end.result (λ e. ((v.shows c.loop-kind.place).refused ≡ Some e) ⊎ (((v.shows c.loop-kind.place).refused ≡ None) × Begun (v.shows c.args.place.now).at (v.shows c.args.place.now).outcome (v.shows c.loop-kind.place).at (v.shows c.loop-kind.place).outcome))
-    (λ e. inr (c.loop-kind.invariant.free, begun c.args.j.now (v.shows c.args.place.now).at (v.shows c.args.place.now).outcome _ _ _ (v.shows c.loop-kind.place).at (v.shows c.loop-kind.place).outcome c.loop-kind.invariant.moves))
+    (λ e. inr (c.loop-kind.invariant.unrefused, begun c.args.j.now (v.shows c.args.place.now).at (v.shows c.args.place.now).outcome _ _ _ (v.shows c.loop-kind.place).at (v.shows c.loop-kind.place).outcome c.loop-kind.invariant.moves))

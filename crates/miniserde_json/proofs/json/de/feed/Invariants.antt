@@ -5,7 +5,7 @@ use Rattle.miniserde_json.proofs.json.de.feed.Given as goal
 
 abbrev pub invariant-loop-kind : goal.invariant-loop-kind
 invariant-loop-kind g l = record {
-  free : (g.V.Visitor.meaning.shows l.place).refused ≡ None;
+  unrefused : (g.V.Visitor.meaning.shows l.place).refused ≡ None;
   going : l.lexer.refused ≡ None;
   moves : Moves due [] l.j (g.V.Visitor.meaning.shows l.fn.place).at (g.V.Visitor.meaning.shows l.fn.place).outcome (between l.first) l.stack l.lexer.rest (g.V.Visitor.meaning.shows l.place).at (g.V.Visitor.meaning.shows l.place).outcome;
 }

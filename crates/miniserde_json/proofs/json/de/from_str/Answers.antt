@@ -47,7 +47,7 @@ returns-clause-none g c = λ e t h.
     let v = g.T.Place.Visitor.meaning in
     let r = c.in_ok-feed.ensures.ok in
     let l = mean_leads v.from_events (v.shows c.in_ok-place.place).at (v.shows c.in_ok-place.place).outcome (v.shows c.feed.new.place).at (v.shows c.feed.new.place).outcome r.0 f.fresh f.outcome r.2 in
-    let o : (v.shows c.feed.new.place).outcome [] ≡ None = c.take.ensures.invalid e c.in_ok-feed.ensures.free l.0 in
+    let o : (v.shows c.feed.new.place).outcome [] ≡ None = c.take.ensures.invalid e c.in_ok-feed.ensures.unrefused l.0 in
     ap v.from_tree (one_tree c.args.j.now t r.0 h r.1) ∙ sym (g.T.Place.Visitor.meaning.events_agree r.0) ∙ sym l.1 ∙ o
 
 pub returns-clause-invalid : goal.returns-clause-invalid

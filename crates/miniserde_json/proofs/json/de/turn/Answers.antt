@@ -21,7 +21,7 @@ returns-in_err-step-in-Close-clause-invalid g c = λ e.
     let p : Follows (kind_of c.args.kind) c.args.first true c.args.lexer.now.rest c.after.new.self.rest = subst (λ z. Follows (kind_of c.args.kind) c.args.first (closes z) c.args.lexer.now.rest c.after.new.self.rest) c.in-Close.is c.in_ok-after.ensures.ok.2 in
     barred_one (between c.args.first) _ _ (g.V.Visitor.meaning.shows c.args.place.now).at (g.V.Visitor.meaning.shows c.args.place.now).outcome finish _ _ _
     (close_passes _ _ _ _ (kind_of c.args.kind) c.args.first c.requires.inside p c.pop.ensures)
-    (c.in_err-step-in-Close.ensures.takes.bars (cc (w.1, w.2, e)) c.requires.free)
+    (c.in_err-step-in-Close.ensures.takes.bars (cc (w.1, w.2, e)) c.requires.unrefused)
 
 pub returns-in_err-step-in-Seq-clause-invalid : goal.returns-in_err-step-in-Seq-clause-invalid
 returns-in_err-step-in-Seq-clause-invalid g c = λ e.
@@ -29,7 +29,7 @@ returns-in_err-step-in-Seq-clause-invalid g c = λ e.
     let p : Follows (kind_of c.args.kind) c.args.first false c.args.lexer.now.rest c.after.new.self.rest = subst (λ z. Follows (kind_of c.args.kind) c.args.first (closes z) c.args.lexer.now.rest c.after.new.self.rest) c.in-Next.is c.in_ok-after.ensures.ok.2 in
     barred_one (between c.args.first) _ _ (g.V.Visitor.meaning.shows c.args.place.now).at (g.V.Visitor.meaning.shows c.args.place.now).outcome element _ _ _
     (element_passes _ _ _ (kind_of c.args.kind) c.args.first c.requires.inside (ap kind_of c.in-Seq.is) p)
-    (c.in_err-step-in-Seq.ensures.takes.bars (cc (w.1, w.2, e)) c.requires.free)
+    (c.in_err-step-in-Seq.ensures.takes.bars (cc (w.1, w.2, e)) c.requires.unrefused)
 
 pub returns-in_err-name-in-Map-clause-invalid : goal.returns-in_err-name-in-Map-clause-invalid
 returns-in_err-name-in-Map-clause-invalid g c = λ e.
@@ -45,7 +45,7 @@ returns-in_err-step-in-Map-clause-invalid g c = λ e.
     let n : Names c.after.new.self.rest c.text_of.result.now c.name.new.self.rest = subst (λ z. Names c.after.new.self.rest z c.name.new.self.rest) (sym t) c.in_ok-name-in-Map.ensures.ok.2 in
     barred_one (between c.args.first) _ _ (g.V.Visitor.meaning.shows c.args.place.now).at (g.V.Visitor.meaning.shows c.args.place.now).outcome (key c.text_of.result.now) _ _ _
     (key_passes _ _ _ _ _ (kind_of c.args.kind) c.args.first c.requires.inside (ap kind_of c.in-Map.is) p n)
-    (c.in_err-step-in-Map.ensures.takes.bars (cc (w.1, w.2, e)) c.requires.free)
+    (c.in_err-step-in-Map.ensures.takes.bars (cc (w.1, w.2, e)) c.requires.unrefused)
 
 pub returns-in_ok-step-in-Close-clause-moves : goal.returns-in_ok-step-in-Close-clause-moves
 returns-in_ok-step-in-Close-clause-moves g c =

@@ -26,7 +26,7 @@ returns-in_err-step-clause-invalid g c = λ e.
     let ev : event_of c.step_of.result ≡ front_of c.in_ok-event.event (string_bytes c.start.new.scratch) = event_through _ _ _ _ c.step_of.ensures c.deref.ensures in
     barred_one due _ _ (g.V.Visitor.meaning.shows c.args.place.now).at (g.V.Visitor.meaning.shows c.args.place.now).outcome (event_of c.step_of.result) _ _ _
     (value_passes _ _ _ _ _ c.opened-kind.result _ ev c.in_ok-event.ensures.ok.2 (c.opened-kind.ensures _) c.in_ok-push.ensures.ok)
-    (c.in_err-step.ensures.takes.bars (cc (w.1, w.2, e)) c.requires.free)
+    (c.in_err-step.ensures.takes.bars (cc (w.1, w.2, e)) c.requires.unrefused)
 
 pub returns-clause-moves : goal.returns-clause-moves
 returns-clause-moves g c =
