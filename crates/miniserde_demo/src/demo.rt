@@ -9,7 +9,7 @@ mod tag;
 
 pub use example::{Example, ExamplePlace, Nested, NestedPlace};
 use miniserde_de::de::{Deserialize, Ranged, Step, Visitor};
-use miniserde_record::record::{Field, NoField, Record, RecordPlace};
+use miniserde_record::record::{Field, Fields, NoField, Parts, Record, RecordPlace};
 use miniserde_round::RoundTrip;
 use miniserde_ser::ser::{Serialize, Writer, write_field};
 use miniserde_text::error::{Error, Result};
@@ -26,7 +26,7 @@ pub struct Demo {
 impl Record for Demo {
     type Fields = Field<u32, Field<String, NoField>>;
 
-    type Values = (u32, (String, ()));
+    type Values = <Self::Fields as Fields>::Values;
 
     ghost names = { codes "code" ∷ codes "message" ∷ [] };
 
@@ -38,9 +38,9 @@ impl Record for Demo {
         &["code", "message"]
     }
 
-    fn build(parts: (u32, (String, ()))) -> Demo {
-        let (code, parts) = parts;
-        let (message, ()) = parts;
+    fn build(parts: Self::Values) -> Demo {
+        let Parts(code, parts) = parts;
+        let Parts(message, ()) = parts;
         Demo { code, message }
     }
 
@@ -133,7 +133,7 @@ pub struct Point {
 impl Record for Point {
     type Fields = Field<u32, Field<u32, NoField>>;
 
-    type Values = (u32, (u32, ()));
+    type Values = <Self::Fields as Fields>::Values;
 
     ghost names = { codes "x" ∷ codes "y" ∷ [] };
 
@@ -145,9 +145,9 @@ impl Record for Point {
         &["x", "y"]
     }
 
-    fn build(parts: (u32, (u32, ()))) -> Point {
-        let (x, parts) = parts;
-        let (y, ()) = parts;
+    fn build(parts: Self::Values) -> Point {
+        let Parts(x, parts) = parts;
+        let Parts(y, ()) = parts;
         Point { x, y }
     }
 

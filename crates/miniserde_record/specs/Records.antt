@@ -81,6 +81,26 @@ field_and m absent value child rest n = record {
   child = λ f. field_shows m.shows (option_map m.content (value f)) (n.state (rest f)) (n.child (rest f)) (child f);
 }
 
+-- the meaning of fields that stand in others
+abbrev pub fields_inside : {F G V : Type 0} → (G → F) → FieldsMeaning F V → FieldsMeaning G V
+fields_inside inner n = record {
+  Content = n.Content;
+  content = n.content;
+  State = n.State;
+  state = λ g. n.state (inner g);
+  empty = n.empty;
+  count = n.count;
+  by_events = n.by_events;
+  by_tree = n.by_tree;
+  events_agree = n.events_agree;
+  end = n.end;
+  from_members = n.from_members;
+  members_agree = n.members_agree;
+  reads = n.reads;
+  reads_agrees = n.reads_agrees;
+  child = λ g. n.child (inner g);
+}
+
 -- a struct, by the names and the values of its fields
 abbrev pub struct_gathering : {F V C W : Type 0} → FieldsMeaning F V → List Name → (W → V) → (C → F) → Gathering C W
 struct_gathering n names values fields = record {

@@ -1,9 +1,11 @@
 //! What a struct or a unit enum says of itself, and the place that reads it by that.
 
 mod fields;
+mod fours;
 mod names;
 mod structs;
 
-pub use fields::{Field, FieldOf, Fields, NoField};
+pub use fields::{Field, FieldOf, Fields, NoField, Parts};
+pub use fours::{Four, FourOf};
 pub use names::{NamePlace, UnitEnum};
 pub use structs::{Record, RecordPlace};

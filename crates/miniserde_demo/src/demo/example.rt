@@ -6,7 +6,7 @@ ghost use Rattle.std.specs.Prelude.{Option, Some, None, List, [], ◌∷◌, cod
 
 use super::tag::Tag;
 use miniserde_de::de::{Deserialize, Ranged, Step, Visitor};
-use miniserde_record::record::{Field, NoField, Record, RecordPlace};
+use miniserde_record::record::{Field, Fields, Four, NoField, Parts, Record, RecordPlace};
 use miniserde_round::RoundTrip;
 use miniserde_ser::ser::{Serialize, Writer, write_field};
 use miniserde_text::error::{Error, Result};
@@ -22,7 +22,7 @@ pub struct Nested {
 impl Record for Nested {
     type Fields = Field<Option<Vec<String>>, Field<Option<String>, NoField>>;
 
-    type Values = (Option<Vec<String>>, (Option<String>, ()));
+    type Values = <Self::Fields as Fields>::Values;
 
     ghost names = { codes "y" ∷ codes "z" ∷ [] };
 
@@ -34,9 +34,9 @@ impl Record for Nested {
         &["y", "z"]
     }
 
-    fn build(parts: (Option<Vec<String>>, (Option<String>, ()))) -> Nested {
-        let (y, parts) = parts;
-        let (z, ()) = parts;
+    fn build(parts: Self::Values) -> Nested {
+        let Parts(y, parts) = parts;
+        let Parts(z, ()) = parts;
         Nested { y, z }
     }
 
@@ -130,12 +130,9 @@ pub struct Example {
 }
 
 impl Record for Example {
-    type Fields = Field<
-        String,
-        Field<Tag, Field<Box<Tag>, Field<[Tag; 1], Field<Box<Nested>, NoField>>>>,
-    >;
+    type Fields = Four<String, Tag, Box<Tag>, [Tag; 1], Field<Box<Nested>, NoField>>;
 
-    type Values = (String, (Tag, (Box<Tag>, ([Tag; 1], (Box<Nested>, ())))));
+    type Values = <Self::Fields as Fields>::Values;
 
     ghost names = { codes "x" ∷ codes "t1" ∷ codes "t2" ∷ codes "t3" ∷ codes "struct" ∷ [] };
 
@@ -147,12 +144,12 @@ impl Record for Example {
         &["x", "t1", "t2", "t3", "struct"]
     }
 
-    fn build(parts: (String, (Tag, (Box<Tag>, ([Tag; 1], (Box<Nested>, ())))))) -> Example {
-        let (x, parts) = parts;
-        let (t1, parts) = parts;
-        let (t2, parts) = parts;
-        let (t3, parts) = parts;
-        let (nested, ()) = parts;
+    fn build(parts: Self::Values) -> Example {
+        let Parts(x, parts) = parts;
+        let Parts(t1, parts) = parts;
+        let Parts(t2, parts) = parts;
+        let Parts(t3, parts) = parts;
+        let Parts(nested, ()) = parts;
         Example {
             x,
             t1,

@@ -1,5 +1,5 @@
 //! The fields of a struct, one after another.
-ghost use Rattle.std.specs.Prelude.{◌≡◌, Option, None, Ok, Err, [], IfOk, IfErr, MatchOption, option_map, is_some, map};
+ghost use Rattle.std.specs.Prelude.{◌≡◌, true, Option, None, Some, Ok, Err, [], IfOk, IfErr, option_map, is_some, map};
 ghost use Rattle.std.specs.Option.{option_or};
 ghost use Rattle.miniserde_model.specs.Position.{complete};
 ghost use Rattle.miniserde_text.specs.declared.error.Error.{Error};
@@ -12,10 +12,11 @@ use miniserde_de::de::Deserialize;
 use miniserde_place::de::{Ignore, Step, Visitor, ignore};
 use miniserde_text::error::{Error, Result};
 use std::alloc::Global;
+use std::marker::Model;
 use std::mem;
 
 /// The values so far of a struct's fields, and the place of the current one.
-pub trait Fields: Drop {
+pub trait Fields {
     /// The fields' values, in their order.
     type Values;
 
@@ -29,7 +30,8 @@ pub trait Fields: Drop {
     /// Begins the value of a member of the name.
     fn begin_child(&mut self, alloc: Global, names: &[&str], name: &str) -> Result<()>
         ensures fresh { IfOk result (λ _. IsFresh
-            (meaning.by_events (map (λ n. n.now) names.now) (meaning.state self.old) name.now) (meaning.child self.new)) }
+            (meaning.by_events (map (λ n. n.now) names.now) (meaning.state self.old) name.now)
+            (meaning.child self.new)) }
         ensures memory { IfErr result (λ r. r ≡ Error.Memory) };
 
     /// The current value takes an event.
@@ -57,10 +59,10 @@ pub trait Fields: Drop {
     fn are_whole(&self) -> bool
         ensures { result ≡ is_some (meaning.end (meaning.state self.now)) };
 
-    /// The values, where each field has one or a default.
-    fn values(self) -> Option<Self::Values>
-        ensures { MatchOption result (meaning.end (meaning.state self) ≡ None)
-            (λ v. meaning.end (meaning.state self) ≡ Some (meaning.content v)) };
+    /// The values, of fields that are whole.
+    fn values(self) -> Self::Values
+        requires whole { is_some (meaning.end (meaning.state self)) ≡ true }
+        ensures { meaning.end (meaning.state self) ≡ Some (meaning.content result) };
 }
 
 /// No more fields: a member of any other name is skipped.
@@ -103,9 +105,17 @@ impl Fields for NoField {
         true
     }
 
-    fn values(self) -> Option<()> {
-        Some(())
-    }
+    fn values(self) {}
+}
+
+/// The value of a field, and those of the fields after it. Contracts see a pair.
+#[derive(Drop)]
+pub struct Parts<T, R>(pub T, pub R);
+
+impl<T, R> Model for Parts<T, R> {
+    ghost Value = { T × R };
+
+    ghost view = { λ p. (p.0, p.1) };
 }
 
 /// A field, and the ones after it, by the place of its value.
@@ -129,11 +139,8 @@ fn or_default<T: Deserialize>(value: Option<T>) -> Option<T>
     }
 }
 
-impl<T: Deserialize, R: Fields> Fields for FieldOf<T::Place, T, R>
-where
-    R::Values: Drop,
-{
-    type Values = (T, R::Values);
+impl<T: Deserialize, R: Fields> Fields for FieldOf<T::Place, T, R> {
+    type Values = Parts<T, R::Values>;
 
     ghost meaning = { field_and T.Place.meaning T.absent (λ f. f.value) (λ f. f.child) (λ f. f.rest) R.meaning };
 
@@ -200,14 +207,12 @@ where
         (self.value.is_some() || T::default().is_some()) && self.rest.are_whole()
     }
 
-    fn values(self) -> Option<(T, R::Values)> {
+    fn values(self) -> Parts<T, R::Values> {
         let FieldOf {
             value,
             child: _,
             rest,
         } = self;
-        let value = or_default(value)?;
-        let rest = rest.values()?;
-        Some((value, rest))
+        Parts(or_default(value).unwrap(), rest.values())
     }
 }

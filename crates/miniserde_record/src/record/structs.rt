@@ -12,9 +12,9 @@ use std::marker::PhantomData;
 
 /// A struct, whose fields are read by their names.
 pub trait Record: Sized + Drop {
-    type Fields: Fields<Values = Self::Values>;
+    type Fields: Fields<Values = Self::Values> + Drop;
 
-    type Values: Drop;
+    type Values;
 
     // The fields' names, in their order.
     ghost names: { List Name };
@@ -49,14 +49,14 @@ pub struct RecordOf<S, F> {
 /// The place of a struct, for the place of its own that each struct has.
 pub type RecordPlace<S> = ContainerPlace<RecordOf<S, <S as Record>::Fields>>;
 
-impl<S: Record + 'static, F: Fields<Values = S::Values>> Collect for RecordOf<S, F> {
+impl<S: Record + 'static> Collect for RecordOf<S, S::Fields> {
     type Out = S;
 
-    ghost gathering = { struct_gathering F.meaning S.names S.values (λ c. c.fields) };
+    ghost gathering = { struct_gathering S.Fields.meaning S.names S.values (λ c. c.fields) };
 
-    fn new(_alloc: Global) -> RecordOf<S, F> {
+    fn new(_alloc: Global) -> RecordOf<S, S::Fields> {
         RecordOf {
-            fields: F::new(),
+            fields: <S::Fields as Fields>::new(),
             record: PhantomData,
         }
     }
@@ -95,6 +95,9 @@ impl<S: Record + 'static, F: Fields<Values = S::Values>> Collect for RecordOf<S,
 
     fn end(self) -> Option<S> {
         let RecordOf { fields, record: _ } = self;
-        Some(S::build(fields.values()?))
+        if !fields.are_whole() {
+            return None;
+        }
+        Some(S::build(fields.values()))
     }
 }
