@@ -3,4 +3,4 @@
 
 mod texts;
 
-pub use texts::{again, first_changed, first_taken, first_wrong};
+pub use texts::{again, first_changed, first_other, first_taken, first_wrong};

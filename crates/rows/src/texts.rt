@@ -46,3 +46,17 @@ pub fn first_wrong<'a, T: RoundTrip>(
         None => Ok(first_taken::<T>(alloc, refused)),
     }
 }
+
+/// The same, where each of the first texts is written as the one beside it.
+pub fn first_other<'a, T: RoundTrip>(
+    alloc: Global,
+    written: &[(&'a str, &str)],
+    refused: &[&'a str],
+) -> Result<Option<&'a str>> {
+    for (text, expected) in written {
+        if again::<T>(alloc, text)?.as_str() != *expected {
+            return Ok(Some(*text));
+        }
+    }
+    Ok(first_taken::<T>(alloc, refused))
+}

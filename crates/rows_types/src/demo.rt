@@ -83,8 +83,8 @@ fn missing_options_are_none(rt: HostRuntime) -> std::result::Result<(), Fail> {
 
 #[test]
 fn a_struct_of_structs(rt: HostRuntime) -> std::result::Result<(), Fail> {
-    let text =
-        " {\"x\": \"X\", \"t1\": \"A\", \"t2\": \"renamedB\", \"t3\": [\"enum\"], \"struct\": {\"y\": [\"Y\", \"Y\"]}} ";
+    let text = " {\"x\": \"X\", \"t1\": \"A\", \"t2\": \"renamedB\", \"t3\": [\"enum\"], \
+        \"struct\": {\"y\": [\"Y\", \"Y\"]}} ";
     let example: Example = from_str(rt.alloc(), text)?;
     assert!(rt; example.nested.z.is_none());
     assert_eq!(rt;

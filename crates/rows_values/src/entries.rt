@@ -26,7 +26,8 @@ pub struct EntryPlace {
 impl Visitor for EntryPlace {
     type Out = Entry;
 
-    ghost meaning = { box_meaning (λ p. p.pair) (λ v. (v.code, v.message)) ⟦<PairPlace<u32, String> as Visitor>⟧.meaning };
+    ghost meaning = { box_meaning (λ p. p.pair) (λ v. (v.code, v.message))
+        ⟦<PairPlace<u32, String> as Visitor>⟧.meaning };
 
     fn begin(alloc: Global) -> Result<EntryPlace> {
         Ok(EntryPlace {

@@ -1,7 +1,7 @@
 //! Maps, ordered and hashed: read, refused, and written again.
 
 use miniserde::json::from_str;
-use rows::{again, first_changed, first_taken};
+use rows::{again, first_other, first_taken, first_wrong};
 use std::collections::{BTreeMap, HashMap};
 use std::hash::{BuildHasherDefault, DefaultHasher};
 use std::test::Fail;
@@ -31,27 +31,15 @@ fn equal_keys_are_one(rt: HostRuntime) -> std::result::Result<(), Fail> {
 
 #[test]
 fn each_repeat_is_read(rt: HostRuntime) -> std::result::Result<(), Fail> {
+    let written = [("{\"1\":[2],\"01\":[]}", "{\"1\":[]}")];
+    let refused = ["{\"1\":true,\"1\":[]}", "{\"1\":[],\"1\":true}"];
     assert_eq!(rt;
-        first_taken::<BTreeMap<u8, Vec<u8>>>(
-            rt.alloc(),
-            &["{\"1\":true,\"1\":[]}", "{\"1\":[],\"1\":true}"]
-        ),
+        first_other::<BTreeMap<u8, Vec<u8>>>(rt.alloc(), &written, &refused)?,
         None
     );
     assert_eq!(rt;
-        first_taken::<Hashed<u8, Vec<u8>>>(
-            rt.alloc(),
-            &["{\"1\":true,\"1\":[]}", "{\"1\":[],\"1\":true}"]
-        ),
+        first_other::<Hashed<u8, Vec<u8>>>(rt.alloc(), &written, &refused)?,
         None
-    );
-    assert_eq!(rt;
-        again::<BTreeMap<u8, Vec<u8>>>(rt.alloc(), "{\"1\":[2],\"01\":[]}")?.as_str(),
-        "{\"1\":[]}"
-    );
-    assert_eq!(rt;
-        again::<Hashed<u8, Vec<u8>>>(rt.alloc(), "{\"1\":[2],\"01\":[]}")?.as_str(),
-        "{\"1\":[]}"
     );
     Ok(())
 }
@@ -63,19 +51,13 @@ fn maps_are_written_in_order(rt: HostRuntime) -> std::result::Result<(), Fail> {
         again::<BTreeMap<u32, bool>>(rt.alloc(), text)?.as_str(),
         "{\"9\":true,\"10\":false,\"100\":true}"
     );
+    let written = [
+        (text, "{\"10\":false,\"100\":true,\"9\":true}"),
+        ("{\"10\":false,\"9\":true}", "{\"10\":false,\"9\":true}"),
+        ("{}", "{}"),
+    ];
     assert_eq!(rt;
-        again::<Hashed<u32, bool>>(rt.alloc(), text)?.as_str(),
-        "{\"10\":false,\"100\":true,\"9\":true}"
-    );
-    assert_eq!(rt;
-        first_changed::<Hashed<u32, bool>>(rt.alloc(), &["{\"10\":false,\"9\":true}", "{}"])?,
-        None
-    );
-    assert_eq!(rt;
-        first_changed::<BTreeMap<bool, u8>>(
-            rt.alloc(),
-            &["{\"true\":1}", "{\"false\":2,\"true\":1}", "{}"]
-        )?,
+        first_other::<Hashed<u32, bool>>(rt.alloc(), &written, &[])?,
         None
     );
     Ok(())
@@ -97,8 +79,12 @@ fn names_stand_by_their_bytes(rt: HostRuntime) -> std::result::Result<(), Fail> 
 #[test]
 fn keys_of_each_kind(rt: HostRuntime) -> std::result::Result<(), Fail> {
     assert_eq!(rt;
-        again::<BTreeMap<char, u8>>(rt.alloc(), "{\"\u{e9}\":1,\"z\":2}")?.as_str(),
-        "{\"z\":2,\"\u{e9}\":1}"
+        first_other::<BTreeMap<char, u8>>(
+            rt.alloc(),
+            &[("{\"\u{e9}\":1,\"z\":2}", "{\"z\":2,\"\u{e9}\":1}")],
+            &["{\"\":1}", "{\"ab\":1}"]
+        )?,
+        None
     );
     assert_eq!(rt;
         again::<Hashed<char, u8>>(rt.alloc(), "{\"\u{e9}\":1,\"z\":2}")?.as_str(),
@@ -107,6 +93,14 @@ fn keys_of_each_kind(rt: HostRuntime) -> std::result::Result<(), Fail> {
     assert_eq!(rt;
         again::<BTreeMap<i16, u8>>(rt.alloc(), "{\"+3\":2,\"-5\":1}")?.as_str(),
         "{\"-5\":1,\"3\":2}"
+    );
+    assert_eq!(rt;
+        first_wrong::<BTreeMap<bool, u8>>(
+            rt.alloc(),
+            &["{\"true\":1}", "{\"false\":2,\"true\":1}", "{}"],
+            &["{\"True\":1}"]
+        )?,
+        None
     );
     assert_eq!(rt;
         again::<Hashed<bool, u8>>(rt.alloc(), "{\"true\":1,\"false\":2}")?.as_str(),
@@ -137,14 +131,6 @@ fn texts_that_are_no_keys(rt: HostRuntime) {
             rt.alloc(),
             &["{\"-0\":1}", "{\"256\":1}", "[]", "{\"1\":256}"]
         ),
-        None
-    );
-    assert_eq!(rt;
-        first_taken::<BTreeMap<bool, u8>>(rt.alloc(), &["{\"True\":1}"]),
-        None
-    );
-    assert_eq!(rt;
-        first_taken::<BTreeMap<char, u8>>(rt.alloc(), &["{\"\":1}", "{\"ab\":1}"]),
         None
     );
 }

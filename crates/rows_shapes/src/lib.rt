@@ -1,0 +1,5 @@
+//! Tests of std's types in one another, as users write them. Nothing here is for users.
+#![tactic(auto)]
+
+#[cfg(test)]
+mod shapes;
