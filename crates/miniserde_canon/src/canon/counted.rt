@@ -51,7 +51,8 @@ impl<R: Read> Read for Counted<R> {
 
     fn read(&mut self, buf: &mut [u8]) -> io::Result<usize>
         ensures bound { ReadsAtMost result buf.new }
-        ensures bytes { ReadConsumes (R.remaining (inner_of self.old)) (R.remaining (inner_of self.new)) result buf.new }
+        ensures bytes { ReadConsumes (R.remaining (inner_of self.old)) (R.remaining (inner_of self.new))
+            result buf.new }
         ensures failures { MatchResult result (λ _. failures self.new ≡ failures self.old)
             (λ _. failures self.new ≡ failures self.old + 1) }
         ensures flushes { flushes self.new ≡ flushes self.old }
