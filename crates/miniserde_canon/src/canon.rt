@@ -3,7 +3,9 @@ ghost use Rattle.std.specs.Prelude.{◌≡◌, ◌+◌, ◌<◌, ◌⊎◌, leng
 ghost use Rattle.std.specs.String.{string_bytes};
 ghost use Rattle.std.specs.Io.KnownBytes.{Consumes, IsAtEnd, Keeps, Appends};
 ghost use Rattle.miniserde_canon.specs.Counts.{inner_of, failures, flushes};
-ghost use Rattle.miniserde_canon.specs.Runs.{IsAnswer, HasNoAnswer, fault_of, read_faults, write_faults, IfRead, IfSilent, AppendsPart, AppendsAnswer, BeginsAnswer, status_of, line_of, Ran};
+ghost use Rattle.miniserde_canon.specs.Runs.{IsAnswer, HasNoAnswer, fault_of, read_faults, write_faults, IfRead};
+ghost use Rattle.miniserde_canon.specs.Runs.{IfSilent, AppendsPart, AppendsAnswer, BeginsAnswer, status_of, line_of};
+ghost use Rattle.miniserde_canon.specs.Runs.{Ran};
 ghost use Rattle.miniserde_canon.specs.declared.canon.Fault.{Fault};
 
 mod count;

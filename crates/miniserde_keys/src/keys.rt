@@ -1,5 +1,7 @@
 //! Keys of maps.
-ghost use Rattle.std.specs.Prelude.{◌≡◌, ◌<◌, ◌+◌, ◌++◌, ℕ, Bool, true, false, List, Option, Some, None, Ok, Err, IfOk, IfErr, OnOk, OnErr, IsErrOf, option_map, length, string_bytes, string_len, string_capacity};
+ghost use Rattle.std.specs.Prelude.{◌≡◌, ◌<◌, ◌+◌, ◌++◌, ℕ, Bool, true, false, List, Option, Some, None, Ok, Err};
+ghost use Rattle.std.specs.Prelude.{IfOk, IfErr, OnOk, OnErr, IsErrOf, option_map, length, string_bytes, string_len};
+ghost use Rattle.std.specs.Prelude.{string_capacity};
 ghost use Rattle.std.specs.Str.{bytes_eq};
 ghost use Rattle.miniserde_keys.specs.Keys.{Key};
 ghost use Rattle.miniserde_text.specs.declared.error.Error.{Error};

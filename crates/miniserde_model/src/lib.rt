@@ -4,7 +4,9 @@
 #![tactic(auto)]
 
 ghost use Rattle.miniserde_model.specs.Examples.{NormalForms, RefusedTexts, SpelledTexts};
-ghost use Rattle.miniserde_model.specs.Laws.{CanonicalIsShortest, CanonicalTells, CompactSpells, EventsComplete, NoneBeginsAnother, NormIsNormal, NormIsOnly, NormIsTree, NormKeepsLast, NormRises, PutGivesNorm, SpelledIsTree, TextHasOneTree};
+ghost use Rattle.miniserde_model.specs.Laws.{CanonicalIsShortest, CanonicalTells, CompactSpells, EventsComplete};
+ghost use Rattle.miniserde_model.specs.Laws.{NoneBeginsAnother, NormIsNormal, NormIsOnly, NormIsTree, NormKeepsLast};
+ghost use Rattle.miniserde_model.specs.Laws.{NormRises, PutGivesNorm, SpelledIsTree, TextHasOneTree};
 
 /// A text has one tree at most.
 pub fn text_has_one_tree()

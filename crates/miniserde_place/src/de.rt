@@ -2,7 +2,8 @@
 //!
 //! The text `{"a":[1,-0],"b":null}` is the events `map`, `key("a")`, `seq`, `element`, `nonnegative(1)`, `element`,
 //! `negative(0)`, `finish`, `key("b")`, `null`, `finish`.
-ghost use Rattle.std.specs.Prelude.{◌≡◌, ◌≢◌, pos, ◌≤ℤ◌, Bool, true, false, IsOk, Option, Some, None, Result, Ok, Err, [], IfOk, IfErr, ⊤};
+ghost use Rattle.std.specs.Prelude.{◌≡◌, ◌≢◌, pos, ◌≤ℤ◌, Bool, true, false, IsOk, Option, Some, None, Result, Ok};
+ghost use Rattle.std.specs.Prelude.{Err, [], IfOk, IfErr, ⊤};
 ghost use Rattle.miniserde_model.specs.Tree.{num};
 ghost use Rattle.miniserde_model.specs.Number.{IsNumber};
 ghost use Rattle.miniserde_model.specs.Event.{Event};

@@ -1,5 +1,6 @@
 //! The engine: it takes the events of a text one by one and hands them to a place.
-ghost use Rattle.std.specs.Prelude.{◌≡◌, ◌<◌, ◌≤◌, ℕ, ◌⊎◌, Option, Some, None, Ok, Err, List, length, IfOk, IfErr, false, option_map};
+ghost use Rattle.std.specs.Prelude.{◌≡◌, ◌<◌, ◌≤◌, ℕ, ◌⊎◌, Option, Some, None, Ok, Err, List, length, IfOk, IfErr};
+ghost use Rattle.std.specs.Prelude.{false, option_map};
 ghost use Rattle.std.specs.String.{string_bytes};
 ghost use Rattle.miniserde_model.specs.Tree.{Tree};
 ghost use Rattle.miniserde_model.specs.Value.{IsJson};

@@ -1,7 +1,8 @@
 //! Keys that are integers.
 #![tactic(auto, using(crate::specs::laws::Keys::integer_reads))]
 
-ghost use Rattle.std.specs.Prelude.{◌≡◌, ◌<◌, ◌+◌, ◌++◌, true, OnOk, OnErr, IsErrOf, refl, length, string_bytes, string_len, string_capacity};
+ghost use Rattle.std.specs.Prelude.{◌≡◌, ◌<◌, ◌+◌, ◌++◌, true, OnOk, OnErr, IsErrOf, refl, length, string_bytes};
+ghost use Rattle.std.specs.Prelude.{string_len, string_capacity};
 ghost use Rattle.std.proofs.Common.{arith};
 ghost use Rattle.std.specs.Fmt.{decimal, signed_decimal};
 ghost use Rattle.std.specs.Int.{w8, w16, w32, w64};

@@ -1,5 +1,6 @@
 //! The members of a struct that is written as an object.
-ghost use Rattle.std.specs.Prelude.{◌≡◌, [], ◌∷◌, ◌++◌, true, false, OnOk, OnErr, IsErrOf, IsUtf8, if◌then◌else◌, codes};
+ghost use Rattle.std.specs.Prelude.{◌≡◌, [], ◌∷◌, ◌++◌, true, false, OnOk, OnErr, IsErrOf, IsUtf8, if◌then◌else◌};
+ghost use Rattle.std.specs.Prelude.{codes};
 ghost use Rattle.miniserde_model.specs.Compact.{compact, quoted};
 ghost use Rattle.miniserde_model.specs.IsTree.{IsTree};
 ghost use Rattle.miniserde_text.specs.declared.error.Error.TheVariants.{Memory};

@@ -15,7 +15,8 @@ ghost use Rattle.std.specs.String.{string_bytes};
 ghost use Rattle.miniserde_model.specs.Whitespace.{IsWhitespace};
 ghost use Rattle.miniserde_model.specs.Event as event;
 ghost use Rattle.miniserde_model.specs.Lexing.{Starts, Names, Follows};
-ghost use Rattle.miniserde_text.specs.Lexer.{front_of, text_of, kind_of, closes, EventStandsFor, NameStandsFor, KeepsScratch, EventKeepsScratch, BeginsEscaped};
+ghost use Rattle.miniserde_text.specs.Lexer.{front_of, text_of, kind_of, closes, EventStandsFor, NameStandsFor};
+ghost use Rattle.miniserde_text.specs.Lexer.{KeepsScratch, EventKeepsScratch, BeginsEscaped};
 ghost use Rattle.miniserde_text.specs.declared.error.Error.{Error};
 
 mod bytes;

@@ -1,5 +1,6 @@
 //! What a container says of itself, so that one place serves them all.
-ghost use Rattle.std.specs.Prelude.{◌≡◌, ◌↔◌, Bool, IsTrue, Option, Some, None, Ok, Err, List, [], IfOk, IfErr, MatchOption, is_some};
+ghost use Rattle.std.specs.Prelude.{◌≡◌, ◌↔◌, Bool, IsTrue, Option, Some, None, Ok, Err, List, [], IfOk, IfErr};
+ghost use Rattle.std.specs.Prelude.{MatchOption, is_some};
 ghost use Rattle.miniserde_model.specs.Event.{Event};
 ghost use Rattle.miniserde_model.specs.Position.{complete};
 ghost use Rattle.miniserde_place.specs.Step.{event_of};

@@ -1,5 +1,6 @@
 //! Maps with no order: the members stand in rising byte order of their names.
-ghost use Rattle.std.specs.Prelude.{◌≡◌, ◌++◌, false, true, OnOk, OnErr, IfOk, IsErrOf, map, string_bytes, IsPermutation, IsSortedByKey};
+ghost use Rattle.std.specs.Prelude.{◌≡◌, ◌++◌, false, true, OnOk, OnErr, IfOk, IsErrOf, map, string_bytes};
+ghost use Rattle.std.specs.Prelude.{IsPermutation, IsSortedByKey};
 ghost use Rattle.std.specs.List.{IsDistinct};
 ghost use Rattle.std.specs.Str.{bytes_eq};
 ghost use Rattle.miniserde_model.specs.Tree.{members};

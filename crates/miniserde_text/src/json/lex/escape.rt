@@ -1,7 +1,9 @@
 //! Escapes of strings.
 ghost use Rattle.std.specs.Prelude.{◌≡◌, ◌<◌, ◌≤◌, IsTrue, true, IfSome, slice_index};
 ghost use Rattle.std.specs.Char.{digit_value};
-ghost use Rattle.miniserde_text.specs.private.Reading.{found, is_hex, begins_unit, unit_at, is_high, is_low, begins_escape, pair_of, low_at, unicode_at, short_at, escape_at};
+ghost use Rattle.miniserde_text.specs.private.Reading.{found, is_hex, begins_unit, unit_at, is_high, is_low};
+ghost use Rattle.miniserde_text.specs.private.Reading.{begins_escape, pair_of, low_at, unicode_at, short_at};
+ghost use Rattle.miniserde_text.specs.private.Reading.{escape_at};
 
 use super::bytes::{byte_at, skip};
 

@@ -4,7 +4,8 @@ ghost use Rattle.std.specs.String.{string_bytes};
 ghost use Rattle.miniserde_model.specs.Event as event;
 ghost use Rattle.miniserde_text.specs.Lexer.{front_of, text_of, KeepsScratch, EventKeepsScratch};
 ghost use Rattle.miniserde_text.specs.private.Reading.{word_at, front_by};
-ghost use Rattle.miniserde_text.specs.private.Inside.{Taken, NameTaken, EventTakesText, NameTakesText, ReachesBackslash};
+ghost use Rattle.miniserde_text.specs.private.Inside.{Taken, NameTaken, EventTakesText, NameTakesText};
+ghost use Rattle.miniserde_text.specs.private.Inside.{ReachesBackslash};
 
 use super::bytes::{byte_at, skip};
 use super::number::take_number;

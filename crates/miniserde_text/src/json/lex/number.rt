@@ -5,7 +5,9 @@ ghost use Rattle.std.specs.List.{AllByRecursion};
 ghost use Rattle.std.specs.Str.Parse.{digits_value};
 ghost use Rattle.miniserde_model.specs.Number.{IsDigit};
 ghost use Rattle.miniserde_text.specs.Lexer.{front_of};
-ghost use Rattle.miniserde_text.specs.private.Reading.{after_run, is_digit, after_digits, after_whole, after_fraction, after_sign, after_exponent, after_minus, after_tail, event_of_parts, number_at};
+ghost use Rattle.miniserde_text.specs.private.Reading.{after_run, is_digit, after_digits, after_whole};
+ghost use Rattle.miniserde_text.specs.private.Reading.{after_fraction, after_sign, after_exponent, after_minus};
+ghost use Rattle.miniserde_text.specs.private.Reading.{after_tail, event_of_parts, number_at};
 
 use super::Event;
 use super::bytes::{before, byte_at, is_digit, is_exponent_letter, is_number_byte, is_sign, skip};
