@@ -1,9 +1,8 @@
 -- What the places of std's types mean, by what the places of their parts do. P is the place of a part, V what it
 -- reads, C the container so far, and W the whole.
-use Rattle.std.specs.Prelude.{◌≡◌, ℕ, false, true, List, [], ◌∷◌, ◌++◌, map, Option, Some, None, option_map, option_and_then}
+use Rattle.std.specs.Prelude.{ℕ, false, true, List, [], ◌∷◌, ◌++◌, map, Option, Some, None, option_map}
 use Rattle.miniserde_model.specs.Event.{Event}
 use Rattle.miniserde_model.specs.Position.{start, complete}
-use Rattle.miniserde_text.specs.declared.error.Error.{Error}
 use Rattle.miniserde_keys.specs.Keys.{Key}
 use Rattle.miniserde_place.specs.Leaf.{nothing_more}
 use Rattle.miniserde_place.specs.Place.{Shown, Meaning}

@@ -3,6 +3,7 @@ ghost use Rattle.std.specs.Prelude.{◌≡◌, ◌↔◌, Bool, true, false, Opt
 ghost use Rattle.miniserde_model.specs.Tree.{Tree};
 ghost use Rattle.miniserde_model.specs.Event.{Event};
 ghost use Rattle.miniserde_place.specs.Step.{event_of};
+ghost use Rattle.miniserde_place.specs.Place.{IsTreeEvent};
 ghost use Rattle.miniserde_place.specs.Leaf.{on_leaf, from_one_event, from_leaf, leaf_shows};
 ghost use Rattle.miniserde_place.specs.laws.Leaf.{one-event};
 ghost use Rattle.miniserde_text.specs.declared.error.Error.{Error};
@@ -38,6 +39,7 @@ pub trait Leaf: Drop {
 
     /// The value of an event, where it is one of a value of the type. Any other is `Invalid`.
     fn from_step(alloc: Global, event: Step<'_>) -> Result<Self>
+        requires { IsTreeEvent (event_of event) }
         ensures value { IfOk result (λ v. on_leaf from_event (event_of event.entry) ≡ Some (content v)) }
         ensures invalid { result ≡ Err Error.Invalid → on_leaf from_event (event_of event.entry) ≡ None }
         ensures free { reads_free ≡ true → IfErr result (λ r. r ≡ Error.Invalid) };
@@ -54,6 +56,8 @@ pub struct LeafPlace<T> {
 impl<T: Leaf> Visitor for LeafPlace<T> {
     type Out = T;
 
+    ghost use Rattle.miniserde_place.specs.LeafPlace.{value_of, refusal_of};
+
     ghost meaning = { record {
       Content = T.Content;
       content = T.content;
@@ -62,7 +66,7 @@ impl<T: Leaf> Visitor for LeafPlace<T> {
       events_agree = one-event T.from_event;
       reads = T.reads;
       reads_agrees = T.reads_agrees;
-      shows = λ p. leaf_shows T.content T.from_event p.value p.refused;
+      shows = λ p. leaf_shows T.content T.from_event (value_of p) (refusal_of p);
     } };
 
     ghost begins_free = { true };
@@ -71,7 +75,7 @@ impl<T: Leaf> Visitor for LeafPlace<T> {
 
     // `Memory` comes only where it was refused with before, where reading an event takes none.
     ghost further = { λ old e answer new.
-        T.reads_free ≡ true → answer ≡ Err Error.Memory → old.refused ≡ Some Error.Memory };
+        T.reads_free ≡ true → answer ≡ Err Error.Memory → refusal_of old ≡ Some Error.Memory };
 
     fn begin(alloc: Global) -> Result<LeafPlace<T>> {
         Ok(LeafPlace {

@@ -1,6 +1,7 @@
 -- The text of each member follows the text so far, and a comma stands in front of all but the first.
 use Rattle.std.proofs.Common.{◌≡◌, ap, ◌∙◌, sym, subst, ℕ, List, [], ◌∷◌, ◌++◌, Bool, true, false, append_assoc, append-nil, refl}
-use Rattle.std.specs.Prelude.{if◌then◌else◌, OnOk, Result, Ok, Err}
+use Rattle.std.specs.Prelude.{if◌then◌else◌}
+use Rattle.std.proofs.lemmas.Result.{on_ok_weaker}
 use Rattle.rows_structs.proofs.users.UserSerialize.begin.Goals as goal
 
 -- t' is t, a comma where the member is not the first, and the member p; and q follows
@@ -14,12 +15,8 @@ later t t' p b h e q = ap (λ x. x ++ q) (subst (λ b. t' ≡ t ++ ((if b then [
 closing : (w t m z : List ℕ) → t ++ [] ≡ w ++ m → t ++ z ≡ w ++ (m ++ z)
 closing w t m z e = ap (λ x. x ++ z) (sym (append-nil t) ∙ e) ∙ append_assoc w m z
 
-on_ok : {T E A B : Type 0} (r : Result T E) → (A → B) → OnOk r A → OnOk r B
-on_ok (Ok _) f a = f a
-on_ok (Err _) f a = a
-
 pub returns-clause-ok : goal.returns-clause-ok
-returns-clause-ok c = on_ok c.map_finish.result (λ e. ap (λ w. w.text) e ∙ closing c.args.w.now.text c.write_field-12.new.w.text (123 ∷ _) _ (rw (
+returns-clause-ok c = on_ok_weaker c.map_finish.result (λ e. ap (λ w. w.text) e ∙ closing c.args.w.now.text c.write_field-12.new.w.text (123 ∷ _) _ (rw (
   later _ _ _ _ c.in_ok-write_field-11.ensures.first c.in_ok-write_field-12.ensures.ok,
   later _ _ _ _ c.in_ok-write_field-10.ensures.first c.in_ok-write_field-11.ensures.ok,
   later _ _ _ _ c.in_ok-write_field-9.ensures.first c.in_ok-write_field-10.ensures.ok,
