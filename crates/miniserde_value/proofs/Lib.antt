@@ -1,0 +1,16 @@
+pub mod Kepts
+pub mod Texts
+pub mod Built
+pub mod Ordered
+pub mod Trees
+pub mod Shapes
+pub mod Costs
+pub mod Turns
+pub mod Parked
+pub mod Marks
+pub mod Builders
+pub mod Begun
+pub mod Copies
+pub mod Variants
+pub mod Walks
+pub mod Written

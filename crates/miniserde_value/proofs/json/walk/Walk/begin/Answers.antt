@@ -1,0 +1,64 @@
+use Rattle.std.proofs.Common.{rules, ◌≡◌, ℕ, List, ◌∷◌, [], Option, sym, ap, ◌∙◌}
+use Rattle.std.specs.Prelude.{Vec}
+use Rattle.std.specs.declared.alloc.Global.{Global}
+use Rattle.miniserde_model.specs.Tree.{str}
+use Rattle.std.specs.Borrow.{Bor}
+use Rattle.std.specs.Slice.Iter.{iter_rest}
+use Rattle.miniserde_value.specs.declared.json.value.Value.{Value}
+use Rattle.miniserde_value.specs.Values.{array_items, shape}
+use Rattle.miniserde_value.specs.Fronts.{leaf, fronts, list_begins, members_begin}
+use Rattle.miniserde_value.specs.Walks.{left, frames_left, due_left}
+use Rattle.miniserde_value.proofs.Walks.{begin_null, begin_bool, begin_number, begin_string, begin_array, begin_object, ordered_null, ordered_bool, ordered_number, ordered_string, ordered_array, Opened, ordered_object}
+use Rattle.miniserde_value.proofs.json.walk.Walk.begin.Goals as goal
+
+pub returns-in-Null-clause-left : goal.returns-in-Null-clause-left
+returns-in-Null-clause-left c = begin_null _ _ c.in-Null.is
+
+pub returns-in-Null-clause-ordered : goal.returns-in-Null-clause-ordered
+returns-in-Null-clause-ordered c = λ o. (ordered_null _ c.in-Null.is, o)
+
+pub returns-in-Bool-clause-left : goal.returns-in-Bool-clause-left
+returns-in-Bool-clause-left c = begin_bool _ _ _ c.in-Bool.is
+
+pub returns-in-Bool-clause-ordered : goal.returns-in-Bool-clause-ordered
+returns-in-Bool-clause-ordered c = λ o. (ordered_bool _ _ c.in-Bool.is, o)
+
+pub returns-in-Number-clause-left : goal.returns-in-Number-clause-left
+returns-in-Number-clause-left c = begin_number _ _ _ c.in-Number.is
+
+pub returns-in-Number-clause-ordered : goal.returns-in-Number-clause-ordered
+returns-in-Number-clause-ordered c = λ o. (ordered_number _ _ c.in-Number.is, o)
+
+pub returns-in-String-clause-left : goal.returns-in-String-clause-left
+returns-in-String-clause-left c =
+    begin_string _ _ _ c.in-String.is ∙ ap (λ (t : List ℕ). leaf (str t) ∷ left c.args.self.now) (sym c.as_str.ensures.value)
+
+pub returns-in-String-clause-ordered : goal.returns-in-String-clause-ordered
+returns-in-String-clause-ordered c = λ o. (ordered_string _ _ c.in-String.is, o)
+
+pub returns-in_ok-push-in-Array-clause-left : goal.returns-in_ok-push-in-Array-clause-left
+returns-in_ok-push-in-Array-clause-left c =
+    let items : iter_rest c.iter.result ≡ array_items c.in-Array.array = c.iter.ensures.rest ∙ c.deref.ensures.value ∙ ap (λ (v : Vec Value Global). v.items) c.inner.ensures in
+    ap (λ (d : Option (Bor Value)). fronts (shape c.args.value.now) (due_left d (frames_left c.args.self.now.frames.items []))) c.requires
+    ∙ begin_array c.args.value.now _ _ c.push.new.self.items c.iter.result c.in-Array.is items c.in_ok-push-in-Array.ensures.items
+    ∙ ap (λ (d : Option (Bor Value)). list_begins ∷ due_left d (frames_left c.push.new.self.items [])) (sym c.requires)
+
+pub returns-in_ok-push-in-Array-clause-ordered : goal.returns-in_ok-push-in-Array-clause-ordered
+returns-in_ok-push-in-Array-clause-ordered c =
+    let items : iter_rest c.iter.result ≡ array_items c.in-Array.array = c.iter.ensures.rest ∙ c.deref.ensures.value ∙ ap (λ (v : Vec Value Global). v.items) c.inner.ensures in
+    λ o. let r = ordered_array c.args.value.now _ c.args.self.now.frames.items c.push.new.self.items c.iter.result c.in-Array.is items c.in_ok-push-in-Array.ensures.items o.1 in (r.0, (o.0, r.1))
+
+pub returns-in_ok-push-in-Object-clause-left : goal.returns-in_ok-push-in-Object-clause-left
+returns-in_ok-push-in-Object-clause-left c =
+    ap (λ (d : Option (Bor Value)). fronts (shape c.args.value.now) (due_left d (frames_left c.args.self.now.frames.items []))) c.requires
+    ∙ begin_object c.args.value.now _ _ c.push-in-Object.new.self.items c.iter-in-Object.result c.in-Object.is (search rules) c.in_ok-push-in-Object.ensures.items
+    ∙ ap (λ (d : Option (Bor Value)). members_begin ∷ due_left d (frames_left c.push-in-Object.new.self.items [])) (sym c.requires)
+
+pub returns-in_ok-push-in-Object-clause-ordered : goal.returns-in_ok-push-in-Object-clause-ordered
+returns-in_ok-push-in-Object-clause-ordered c =
+    let opened : Opened c.in-Object.object c.inner-in-Object.result.now c.iter-in-Object.result = record {
+      map = c.inner-in-Object.ensures;
+      entries = c.iter-in-Object.ensures.rest;
+      sorted = c.iter-in-Object.ensures.ordered;
+    } in
+    λ o. let r = ordered_object c.args.value.now _ _ c.args.self.now.frames.items c.push-in-Object.new.self.items c.iter-in-Object.result c.in-Object.is opened c.in_ok-push-in-Object.ensures.items o.1 in (r.0, (o.0, r.1))

@@ -1,0 +1,10 @@
+-- What a builder has.
+use Rattle.std.specs.Prelude.{map, reverse, string_bytes}
+use Rattle.miniserde_value.specs.declared.json.builder.Builder.{Builder}
+use Rattle.miniserde_value.specs.Hole.{Hole}
+use Rattle.miniserde_value.specs.Values.{shape}
+use Rattle.miniserde_value.specs.Marks.{hole_of}
+
+-- the tree with a hole that it has built
+abbrev pub hole_in : Builder → Hole
+hole_in b = hole_of (map shape b.values.items) (map string_bytes b.names.items) (reverse b.marks.items)

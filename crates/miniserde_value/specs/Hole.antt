@@ -1,0 +1,90 @@
+-- A tree with a hole, which the open containers are.
+use Rattle.std.specs.Prelude.{ℕ, ◌+◌, Bool, true, false, List, [], ◌∷◌, ◌++◌, Option, Some, None, option_map, option_and_then}
+use Rattle.miniserde_model.specs.Tree.{Tree, null, truth, nonneg, neg, num, str, list, members, Members, no_members, member}
+use Rattle.miniserde_model.specs.Event.{Event, nothing, boolean, string, negative, nonnegative, float, seq, element, map, key, finish}
+use Rattle.miniserde_ser.specs.Trees.{trees_of, in_order}
+
+-- what is read so far, from the innermost open container outwards
+pub data Hole : Type 0 where
+  -- no container is open, and these values are whole
+  outside : List Tree → Hole
+  -- a list that has these items
+  in_list : List Tree → Hole → Hole
+  -- an object that has these names, and these values for them in order
+  in_members : List (List ℕ) → List Tree → Hole → Hole
+
+-- with one more value in the hole
+abbrev pub put : Tree → Hole → Hole
+put t (outside ts) = outside (ts ++ t ∷ [])
+put t (in_list ts h) = in_list (ts ++ t ∷ []) h
+put t (in_members ns ts h) = in_members ns (ts ++ t ∷ []) h
+
+-- with one more name, where an object is the innermost open container
+abbrev pub named : List ℕ → Hole → Hole
+named n (outside ts) = outside ts
+named n (in_list ts h) = in_list ts h
+named n (in_members ns ts h) = in_members (ns ++ n ∷ []) ts h
+
+-- names beside values, in order
+abbrev pub beside : List (List ℕ) → List Tree → Members
+beside [] ts = no_members
+beside (n ∷ ns) [] = no_members
+beside (n ∷ ns) (t ∷ ts) = member n t (beside ns ts)
+
+-- with the innermost open container closed: of equal names the last stands, and names are in byte order
+abbrev pub closed : Hole → Hole
+closed (outside ts) = outside ts
+closed (in_list ts h) = put (list (trees_of (λ t. t) ts)) h
+closed (in_members ns ts h) = put (members (in_order (beside ns ts))) h
+
+-- how many containers are open
+abbrev pub depth : Hole → ℕ
+depth (outside ts) = 0
+depth (in_list ts h) = depth h + 1
+depth (in_members ns ts h) = depth h + 1
+
+-- the value, where it is whole
+abbrev pub only : List Tree → Option Tree
+only [] = None
+only (t ∷ []) = Some t
+only (t ∷ (u ∷ us)) = None
+
+abbrev pub whole : Hole → Option Tree
+whole (outside ts) = only ts
+whole (in_list ts h) = None
+whole (in_members ns ts h) = None
+
+-- ---- what events make of it
+
+-- a value's first event
+abbrev pub begun : Event → Hole → Option Hole
+begun nothing h = Some (put null h)
+begun (boolean b) h = Some (put (truth b) h)
+begun (string s) h = Some (put (str s) h)
+begun (negative z) h = Some (put (neg z) h)
+begun (nonnegative n) h = Some (put (nonneg n) h)
+begun (float x) h = Some (put (num x) h)
+begun seq h = Some (in_list [] h)
+begun map h = Some (in_members [] [] h)
+begun element h = None
+begun (key k) h = None
+begun finish h = None
+
+-- an event where no value is due: whether one is due then, and the hole
+abbrev pub resumed : Event → Hole → Option (Bool × Hole)
+resumed element (in_list ts h) = Some (true, in_list ts h)
+resumed (key k) (in_members ns ts h) = Some (true, in_members (ns ++ k ∷ []) ts h)
+resumed finish (in_list ts h) = Some (false, closed (in_list ts h))
+resumed finish (in_members ns ts h) = Some (false, closed (in_members ns ts h))
+resumed _ _ = None
+
+-- one event, where a value is due or none is
+abbrev pub took : Bool → Hole → Event → Option (Bool × Hole)
+took true h e = option_map (λ g. (false, g)) (begun e h)
+took false h e = resumed e h
+
+-- what the events that are still to come give
+abbrev pub outcome : Bool → Hole → List Event → Option Tree
+outcome true h [] = None
+outcome false h [] = whole h
+outcome due h (e ∷ es) = option_and_then (λ s. outcome s.0 s.1 es) (took due h e)

@@ -1,0 +1,23 @@
+-- What a `Value` keeps of a tree.
+use Rattle.miniserde_model.specs.Tree.{Tree, null, truth, nonneg, neg, num, str, list, members, Trees, no_trees, tree, Members, no_members, member}
+use Rattle.miniserde_model.specs.Normal.{with_first}
+
+abbrev mutual
+  -- each leaf, the children of each list, and of each name the last tree, in byte order of the names
+  pub kept : Tree → Tree
+  kept null = null
+  kept (truth b) = truth b
+  kept (nonneg n) = nonneg n
+  kept (neg z) = neg z
+  kept (num x) = num x
+  kept (str s) = str s
+  kept (list ts) = list (kept_children ts)
+  kept (members ms) = members (kept_members ms)
+
+  pub kept_children : Trees → Trees
+  kept_children no_trees = no_trees
+  kept_children (tree t ts) = tree (kept t) (kept_children ts)
+
+  pub kept_members : Members → Members
+  kept_members no_members = no_members
+  kept_members (member name t ms) = with_first name (kept t) (kept_members ms)

@@ -1,0 +1,13 @@
+pub mod Numbers
+pub mod Kept
+pub mod Values
+pub mod Rows
+pub mod Looks
+pub mod Hole
+pub mod Fronts
+pub mod Marks
+pub mod Builders
+pub mod Walks
+pub mod Kinds
+pub mod Places
+pub mod laws

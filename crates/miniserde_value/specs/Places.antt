@@ -1,0 +1,92 @@
+-- What the places of values mean.
+use Rattle.std.specs.Prelude.{◌≡◌, Bool, true, [], Option, Some, string_bytes}
+use Rattle.miniserde_model.specs.Tree.{Tree}
+use Rattle.miniserde_text.specs.declared.error.Error.{Error}
+use Rattle.miniserde_place.specs.Place.{Shown, Meaning}
+use Rattle.miniserde_ser.specs.Trees.{trees_of, members_of}
+use Rattle.miniserde_value.specs.declared.json.value.Value.{Value}
+use Rattle.miniserde_value.specs.declared.json.array.Array.{Array}
+use Rattle.miniserde_value.specs.declared.json.object.Object.{Object}
+use Rattle.miniserde_value.specs.declared.json.place.ValuePlace.{ValuePlace}
+use Rattle.miniserde_value.specs.declared.json.place.ArrayPlace.{ArrayPlace}
+use Rattle.miniserde_value.specs.declared.json.place.ObjectPlace.{ObjectPlace}
+use Rattle.miniserde_value.specs.Hole.{Hole, outside, depth, outcome}
+use Rattle.miniserde_value.specs.Builders.{hole_in}
+use Rattle.miniserde_value.specs.Kept.{kept}
+use Rattle.miniserde_value.specs.Values.{shape, Reads, array_items, object_entries, array_shape, object_shape}
+use Rattle.miniserde_place.specs.Leaf.{from_one_event, from_leaf, leaf_shows}
+use Rattle.miniserde_place.specs.LeafPlace.{value_of, refusal_of as leaf_refusal}
+use Rattle.miniserde_place.specs.laws.Leaf.{one-event}
+use Rattle.miniserde_value.specs.declared.json.number.Number.{Number}
+use Rattle.miniserde_value.specs.declared.json.place.NumberPlace.{NumberPlace}
+use Rattle.miniserde_value.specs.Numbers.{number_leaf, from_number, ReadsNumber}
+use Rattle.miniserde_value.specs.laws.Numbers.{number-given}
+use Rattle.miniserde_value.specs.Kinds.{only_list, only_members, list_outcome, members_outcome}
+use Rattle.miniserde_value.specs.laws.Outcomes.{outcome-whole, reads-agree, list-whole, list-agrees, members-whole, members-agree}
+
+-- what is read so far
+abbrev pub hole_at : ValuePlace → Hole
+hole_at p = hole_in p.builder
+
+-- whether a value is due
+abbrev pub due_in : ValuePlace → Bool
+due_in p = p.due
+
+-- the first refusal, where there was one
+abbrev pub refusal_of : ValuePlace → Option Error
+refusal_of p = p.refused
+
+abbrev pub value_shows : ValuePlace → Shown Tree
+value_shows p = record { at = (depth (hole_at p), due_in p); outcome = outcome (due_in p) (hole_at p); refused = refusal_of p }
+
+-- every tree means a value, which keeps of each name the last tree
+abbrev pub value_meaning : Meaning ValuePlace Value
+value_meaning = record {
+  Content = Tree;
+  content = shape;
+  from_events = outcome true (outside []);
+  from_tree = λ t. Some (kept t);
+  events_agree = outcome-whole;
+  reads = Reads;
+  reads_agrees = λ t v. reads-agree t (shape v);
+  shows = value_shows;
+}
+
+-- the tree means the array: it is a list, whose items the array has as values keep them
+abbrev pub array_meaning : Meaning ArrayPlace Array
+array_meaning = record {
+  Content = Tree;
+  content = array_shape;
+  from_events = list_outcome true (outside []);
+  from_tree = λ t. only_list (Some (kept t));
+  events_agree = list-whole;
+  reads = λ t a. array_shape a ≡ kept t;
+  reads_agrees = λ t a. list-agrees t (trees_of shape (array_items a));
+  shows = λ p. record { at = (depth (hole_at p.place), due_in p.place); outcome = list_outcome (due_in p.place) (hole_at p.place); refused = refusal_of p.place };
+}
+
+-- the tree means the object: it has members, which the object has as values keep them
+abbrev pub object_meaning : Meaning ObjectPlace Object
+object_meaning = record {
+  Content = Tree;
+  content = object_shape;
+  from_events = members_outcome true (outside []);
+  from_tree = λ t. only_members (Some (kept t));
+  events_agree = members-whole;
+  reads = λ t o. object_shape o ≡ kept t;
+  reads_agrees = λ t o. members-agree t (members_of string_bytes shape (object_entries o));
+  shows = λ p. record { at = (depth (hole_at p.place), due_in p.place); outcome = members_outcome (due_in p.place) (hole_at p.place); refused = refusal_of p.place };
+}
+
+-- the tree means the number
+abbrev pub number_meaning : Meaning NumberPlace Number
+number_meaning = record {
+  Content = Tree;
+  content = number_leaf;
+  from_events = from_one_event from_number;
+  from_tree = from_leaf from_number;
+  events_agree = one-event from_number;
+  reads = ReadsNumber;
+  reads_agrees = number-given;
+  shows = λ p. leaf_shows number_leaf from_number (value_of p.place) (leaf_refusal p.place);
+}

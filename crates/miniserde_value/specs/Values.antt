@@ -1,0 +1,82 @@
+-- Values, as trees.
+use Rattle.std.specs.Prelude.{◌≡◌, List, [], Vec, String, string_bytes}
+use Rattle.std.specs.BTreeMap.{BTreeMap}
+use Rattle.std.specs.Map.{values_of}
+use Rattle.std.specs.declared.alloc.Global.{Global}
+use Rattle.miniserde_model.specs.Tree.{Tree, null, truth, str, list, members, Trees, Members}
+use Rattle.miniserde_model.specs.Normal.{norm}
+use Rattle.miniserde_ser.specs.Trees.{trees_of, members_of}
+use Rattle.miniserde_value.specs.declared.json.value.Value.{Value, fold-Value, out-Value}
+use Rattle.miniserde_value.specs.declared.json.value.Value.TheOpen.{Value-F, Array-F, Object-F}
+use Rattle.miniserde_value.specs.declared.json.array.Array.{Array}
+use Rattle.miniserde_value.specs.declared.json.object.Object.{Object}
+use Rattle.miniserde_value.specs.Numbers.{number_leaf}
+use Rattle.miniserde_value.specs.Kept.{kept}
+
+-- ---- what stands in a value
+
+-- the items of an array
+abbrev pub array_items : Array → List Value
+array_items a = a.items.items
+
+-- the names and values of an object, in the order of the names
+abbrev pub object_entries : Object → List (String Global × Value)
+object_entries o = o.members.entries
+
+abbrev pub object_values : Object → List Value
+object_values o = values_of (object_entries o)
+
+-- the array of a list, and the object of a map
+abbrev pub with_items : Vec Value Global → Array
+with_items vs = record { items = vs }
+
+abbrev pub with_members : BTreeMap (String Global) Value → Object
+with_members m = record { members = m }
+
+-- what stands right below a value
+abbrev pub below : Value-F Value Array Object → List Value
+below (Value-F.Array a) = array_items a
+below (Value-F.Object o) = object_values o
+below _ = []
+
+abbrev pub children : Value → List Value
+children v = below (out-Value v)
+
+-- a leaf or an empty container
+abbrev pub IsBare : Value → Type 0
+IsBare v = children v ≡ []
+
+-- ---- the tree of a value
+
+-- one level, where what stands below is a tree
+abbrev pub shape_step : Value-F Tree Trees Members → Tree
+shape_step Value-F.Null = null
+shape_step (Value-F.Bool b) = truth b
+shape_step (Value-F.Number n) = number_leaf n
+shape_step (Value-F.String s) = str (string_bytes s)
+shape_step (Value-F.Array ts) = list ts
+shape_step (Value-F.Object ms) = members ms
+
+abbrev pub array_step : Array-F Tree Trees Members → Trees
+array_step a = trees_of (λ t. t) a.items.items
+
+abbrev pub object_step : Object-F Tree Trees Members → Members
+object_step o = members_of string_bytes (λ t. t) o.members.entries
+
+-- All that counts of a value: the leaf of each number, and what each container has, in order.
+unfoldable pub shape : Value → Tree
+shape = fold-Value Tree Trees Members shape_step array_step object_step
+
+abbrev pub array_shape : Array → Tree
+array_shape a = list (trees_of shape (array_items a))
+
+abbrev pub object_shape : Object → Tree
+object_shape o = members (members_of string_bytes shape (object_entries o))
+
+-- the tree that a value is written as
+abbrev pub tree_of : Value → Tree
+tree_of v = norm (shape v)
+
+-- the tree means the value: the value has what a value keeps of the tree
+abbrev pub Reads : Tree → Value → Type 0
+Reads t v = shape v ≡ kept t

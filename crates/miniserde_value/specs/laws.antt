@@ -1,0 +1,4 @@
+pub mod Outcomes
+pub mod Numbers
+pub mod Listed
+pub mod Marks

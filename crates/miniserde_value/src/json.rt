@@ -1,0 +1,12 @@
+//! Values of JSON whose type nobody knows beforehand.
+
+pub mod array;
+mod builder;
+mod copy;
+pub mod drop;
+pub mod number;
+pub mod object;
+mod place;
+pub mod value;
+mod walk;
+mod write;

@@ -1,0 +1,149 @@
+//! Lists of values.
+ghost use Rattle.std.specs.Prelude.{◌≡◌, ◌++◌, ◌∷◌, [], List, MatchOption, IfOk, OnErr, IsErrOf};
+ghost use Rattle.std.specs.Iterator.{IsFinite, Drains};
+ghost use Rattle.miniserde_text.specs.declared.error.Error.TheVariants.{Memory};
+ghost use Rattle.std.specs.Borrow.{Lends, sem};
+ghost use Rattle.std.specs.Global.{Global};
+ghost use Rattle.std.specs.Iterator.Runs.{EveryRun, ItemsAre, ItemsMapTo};
+ghost use Rattle.std.specs.Slice.Iter.{iter_rest, iter_steps, iter_mut_rest, iter_mut_steps};
+ghost use Rattle.std.specs.Vec.Iter.{into_iter_items, into_iter_steps};
+ghost use Rattle.miniserde_value.specs.declared.json.value.Value.{Value as V};
+ghost use Rattle.miniserde_value.specs.Values.{array_items, with_items};
+ghost use Rattle.miniserde_value.specs.Looks.{replaces_first};
+
+use super::drop::safely;
+pub use super::place::ArrayPlace;
+use super::value::Value;
+use miniserde_text::error::Result;
+use std::alloc::Global;
+use std::{fmt, mem, slice, vec};
+
+/// A list of values. It is let go of with no recursion.
+#[cycle(value)]
+pub struct Array {
+    items: Vec<Value>,
+}
+
+impl Array {
+    ghost use Rattle.miniserde_value.specs.Rows.{list_row};
+    ghost use Rattle.miniserde_value.specs.contracts.json.array.Array.{the_row};
+
+    /// An array of no items. It takes no memory.
+    pub fn new(alloc: Global) -> Array
+        ensures { array_items result ≡ [] }
+    {
+        Array {
+            items: Vec::new(alloc),
+        }
+    }
+
+    /// The items in order. It refuses only for want of memory.
+    pub fn from_iter<I: IntoIterator<Item = Value>>(alloc: Global, iter: I) -> Result<Array>
+        requires { (it : I.IntoIter) → I.into_iter_gives iter it → I.IntoIter.can_next it
+            × IsFinite (I.IntoIter.remaining it) }
+        ensures items { IfOk result (λ a. (it : I.IntoIter) × (xs : List V)
+            × I.into_iter_gives iter it × Drains I.IntoIter.next_gives it xs × (array_items a ≡ xs)) }
+        ensures memory { OnErr result (IsErrOf result Memory) }
+    {
+        Ok(Array::from_inner(Vec::from_iter(alloc, iter)?))
+    }
+
+    pub(crate) fn from_inner(items: Vec<Value>) -> Array
+        ensures { result.items ≡ items }
+    {
+        Array { items }
+    }
+
+    /// The list.
+    pub fn inner(&self) -> &Vec<Value>
+        ensures { result.now ≡ self.now.items }
+    {
+        &self.items
+    }
+
+    /// The list, to be changed.
+    pub fn inner_mut(&mut self) -> &mut Vec<Value>
+        ensures* writes_back { sem 𝓛 (Lends the_row list_row self.entry result with_items) }
+        ensures value { result.now ≡ self.old.items }
+    {
+        &mut self.items
+    }
+
+    pub(crate) fn into_inner(self) -> Vec<Value>
+        ensures { result ≡ self.items }
+    {
+        let Array { items } = self;
+        items
+    }
+
+    /// Puts a value in the first place, and answers the one that stood there.
+    pub(crate) fn park(&mut self, value: Value) -> Value
+        requires { array_items self.old ≡ [] → ⊥ }
+        ensures { replaces_first value result (array_items self.old) (array_items self.new) }
+    {
+        mem::replace(&mut self.items[0], value)
+    }
+
+    pub(crate) fn take_last(&mut self) -> Option<Value>
+        ensures { MatchOption result ((array_items self.old ≡ []) × (array_items self.new ≡ []))
+            (λ last. array_items self.old ≡ array_items self.new ++ last ∷ []) }
+    {
+        self.items.pop()
+    }
+}
+
+/// Lets go of all that it holds, with no recursion and no memory taken.
+impl Drop for Array {
+    fn drop(self) {
+        safely(Value::Array(self));
+    }
+}
+
+impl fmt::Debug for Array {
+    #[cycle(shown)]
+    fn fmt<W: fmt::Write>(&self, f: &mut fmt::Formatter<W>) -> fmt::Result {
+        f.write_str("Array ")?;
+        fmt::Debug::fmt(&self.items, f)
+    }
+}
+
+impl IntoIterator for Array {
+    type Item = Value;
+
+    type IntoIter = vec::IntoIter<Value>;
+
+    // Each item once, in order, and then no more.
+    ghost into_iter_gives = { λ a r. (into_iter_items r ≡ array_items a)
+        × EveryRun (into_iter_steps {X = V} {Z = Global}) (λ p. ItemsAre p (into_iter_items p.from)) };
+
+    fn into_iter(self) -> vec::IntoIter<Value> {
+        self.into_inner().into_iter()
+    }
+}
+
+impl<'a> IntoIterator for &'a Array {
+    type Item = &'a Value;
+
+    type IntoIter = slice::Iter<'a, Value>;
+
+    // Each item once, in order, and then no more; so below.
+    ghost into_iter_gives = { λ a r. (iter_rest r ≡ array_items a.now)
+        × EveryRun (iter_steps {A = V}) (λ p. ItemsMapTo p (λ y. y.now) (iter_rest p.from)) };
+
+    fn into_iter(self) -> slice::Iter<'a, Value> {
+        self.inner().iter()
+    }
+}
+
+impl<'a> IntoIterator for &'a mut Array {
+    type Item = &'a mut Value;
+
+    type IntoIter = slice::IterMut<'a, Value>;
+
+    ghost into_iter_gives = { λ a r. (iter_mut_rest r ≡ array_items a.now)
+        × EveryRun (iter_mut_steps {A = V}) (λ p. ItemsMapTo p (λ y. y.now) (iter_mut_rest p.from)) };
+
+    fn into_iter(self) -> slice::IterMut<'a, Value> {
+        self.inner_mut().iter_mut()
+    }
+}

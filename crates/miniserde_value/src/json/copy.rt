@@ -1,0 +1,101 @@
+//! Copies of values, with no recursion.
+ghost use Rattle.std.specs.Prelude.{◌≡◌, ◌∷◌, [], IfOk, OnOk, OnErr, IsErrOf};
+ghost use Rattle.miniserde_text.specs.declared.error.Error.TheVariants.{Memory};
+ghost use Rattle.miniserde_value.specs.Values.{shape, array_shape, object_shape};
+ghost use Rattle.miniserde_value.specs.Builders.{hole_in};
+ghost use Rattle.miniserde_value.specs.Fronts.{built};
+ghost use Rattle.miniserde_value.specs.Walks.{meets, left, LeftOrdered};
+
+use super::array::Array;
+use super::builder::Builder;
+use super::number::Number;
+use super::object::Object;
+use super::value::Value;
+use super::walk::{Front, Walk};
+use miniserde_text::error::Result;
+use std::alloc::Global;
+
+// Builds what a front says.
+fn add(alloc: Global, front: Front<'_>, builder: &mut Builder) -> Result<()>
+    ensures built { OnOk result (hole_in builder.new ≡ built (hole_in builder.old) (meets front.entry ∷ [])) }
+    ensures memory { OnErr result (IsErrOf result Memory) }
+{
+    match front {
+        Front::Null => builder.put(Value::Null),
+        Front::Bool(b) => builder.put(Value::Bool(b)),
+        Front::Number(number) => builder.put(Value::Number(number.try_clone(alloc)?)),
+        Front::String(text) => builder.put(Value::String(String::from_str(alloc, text)?)),
+        Front::Array => builder.open_array(),
+        Front::Object => builder.open_object(),
+        Front::Element => Ok(()),
+        Front::Name(name) => builder.name(name),
+        Front::ArrayEnd | Front::ObjectEnd => builder.close(),
+    }
+}
+
+// Builds all that a walk meets.
+fn add_all(alloc: Global, mut walk: Walk<'_>, builder: &mut Builder) -> Result<()>
+    ensures built { OnOk result (hole_in builder.new ≡ built (hole_in builder.old) (left walk.entry)) }
+    ensures ordered { OnOk result (LeftOrdered walk.entry) }
+    ensures memory { OnErr result (IsErrOf result Memory) }
+{
+    while let Some(front) = walk.next()? {
+        add(alloc, front, builder)?;
+    }
+    Ok(())
+}
+
+impl Array {
+    /// A copy. It refuses only for want of memory.
+    pub fn try_clone(&self, alloc: Global) -> Result<Array>
+        ensures ok { IfOk result (λ copy. array_shape copy ≡ array_shape self.now) }
+        ensures memory { OnErr result (IsErrOf result Memory) }
+    {
+        let mut builder = Builder::new(alloc);
+        builder.open_array()?;
+        add_all(alloc, Walk::array(alloc, self)?, &mut builder)?;
+        match builder.into_value() {
+            Some(value) => match value.into_array() {
+                Some(array) => Ok(array),
+                None => unreachable!(),
+            },
+            None => unreachable!(),
+        }
+    }
+}
+
+impl Object {
+    /// A copy. It refuses only for want of memory.
+    pub fn try_clone(&self, alloc: Global) -> Result<Object>
+        ensures ok { IfOk result (λ copy. object_shape copy ≡ object_shape self.now) }
+        ensures memory { OnErr result (IsErrOf result Memory) }
+    {
+        let mut builder = Builder::new(alloc);
+        builder.open_object()?;
+        add_all(alloc, Walk::object(alloc, self)?, &mut builder)?;
+        match builder.into_value() {
+            Some(value) => match value.into_object() {
+                Some(object) => Ok(object),
+                None => unreachable!(),
+            },
+            None => unreachable!(),
+        }
+    }
+}
+
+impl Value {
+    /// A copy. It refuses only for want of memory.
+    pub fn try_clone(&self, alloc: Global) -> Result<Value>
+        ensures ok { IfOk result (λ copy. shape copy ≡ shape self.now) }
+        ensures memory { OnErr result (IsErrOf result Memory) }
+    {
+        match self {
+            Value::Null => Ok(Value::Null),
+            Value::Bool(b) => Ok(Value::Bool(*b)),
+            Value::Number(number) => Ok(Value::Number(number.try_clone(alloc)?)),
+            Value::String(text) => Ok(Value::String(String::from_str(alloc, text.as_str())?)),
+            Value::Array(array) => Ok(Value::Array(array.try_clone(alloc)?)),
+            Value::Object(object) => Ok(Value::Object(object.try_clone(alloc)?)),
+        }
+    }
+}

@@ -1,0 +1,109 @@
+//! Letting values go with no recursion and no growth.
+ghost use Rattle.std.specs.Prelude.{◌≡◌, ◌+◌, ◌*◌, ◌≤◌, ◌++◌, ◌∷◌, [], ◌↔◌, IsTrue, MatchOption};
+ghost use Rattle.miniserde_value.specs.Values.{children, IsBare};
+ghost use Rattle.miniserde_value.specs.Looks.{value_size, replaces_first};
+
+mod looks;
+
+use super::value::Value;
+pub use looks::Looks;
+
+/// Whether a value is a leaf or an empty container.
+fn is_bare(value: &Value) -> bool
+    ensures { IsTrue result ↔ IsBare value.now }
+{
+    match value {
+        Value::Array(array) => array.inner().is_empty(),
+        Value::Object(object) => object.inner().is_empty(),
+        _ => true,
+    }
+}
+
+/// Takes the last child in hand.
+fn take_last(value: &mut Value, looks: &mut Looks) -> Option<Value>
+    ensures taken { MatchOption result (IsBare value.old × IsBare value.new)
+        (λ last. children value.old ≡ children value.new ++ last ∷ []) }
+    ensures looked { MatchOption result (looks.new.looked ≡ looks.old.looked)
+        (λ _. looks.new.looked ≡ looks.old.looked + 1) }
+    ensures gone { looks.new.gone ≡ looks.old.gone }
+{
+    let last = match value {
+        Value::Array(array) => array.take_last(),
+        Value::Object(object) => object.take_last(),
+        _ => None,
+    }?;
+    looks.look();
+    Some(last)
+}
+
+/// Puts a value in the place of the first child, and takes that child in hand.
+fn park(value: &mut Value, parent: Value, looks: &mut Looks) -> Value
+    requires { children value.old ≡ [] → ⊥ }
+    ensures parked { replaces_first parent result (children value.old) (children value.new) }
+    ensures looked { looks.new.looked ≡ looks.old.looked + 1 }
+    ensures gone { looks.new.gone ≡ looks.old.gone }
+{
+    looks.look();
+    match value {
+        Value::Array(array) => array.park(parent),
+        Value::Object(object) => object.park(parent),
+        _ => unreachable!(),
+    }
+}
+
+/// The one place where a value is let go.
+fn let_go(value: Value, looks: &mut Looks)
+    requires { IsBare value }
+    ensures looked { looks.new.looked ≡ looks.old.looked }
+    ensures gone { looks.new.gone ≡ looks.old.gone + 1 }
+{
+    looks.release();
+    match value {
+        Value::Null => {}
+        Value::Bool(_) => {}
+        Value::Number(_) => {}
+        Value::String(_) => {}
+        Value::Array(array) => array.into_inner().destroy_empty(),
+        Value::Object(object) => object.into_inner().destroy_empty(),
+    }
+}
+
+/// Takes a value apart, and counts how often a value was looked at, and how many were let go. It takes no memory.
+pub fn counted(value: Value, looks: &mut Looks)
+    ensures gone { looks.new.gone ≡ looks.old.gone + value_size value }
+    ensures at_least { looks.old.looked + value_size value ≤ looks.new.looked }
+    ensures at_most { looks.new.looked ≤ looks.old.looked + 2 * value_size value }
+{
+    looks.look();
+    let mut current = value;
+    let mut hand = match take_last(&mut current, looks) {
+        None => return let_go(current, looks),
+        Some(last) => last,
+    };
+    loop {
+        if is_bare(&hand) {
+            let_go(hand, looks);
+            match take_last(&mut current, looks) {
+                None => return let_go(current, looks),
+                Some(last) => hand = last,
+            }
+        } else if is_bare(&current) {
+            let_go(current, looks);
+            current = hand;
+            match take_last(&mut current, looks) {
+                None => unreachable!(),
+                Some(last) => hand = last,
+            }
+        } else {
+            let first = park(&mut hand, current, looks);
+            current = hand;
+            hand = first;
+        }
+    }
+}
+
+/// Takes a value apart. It takes no memory.
+pub fn safely(value: Value) {
+    let mut looks = Looks::new();
+    counted(value, &mut looks);
+}

@@ -1,0 +1,59 @@
+//! Numbers.
+ghost use Rattle.std.specs.Prelude.{◌≡◌, IfOk, OnErr, IsErrOf};
+ghost use Rattle.miniserde_text.specs.declared.error.Error.TheVariants.{Memory};
+
+pub use super::place::NumberPlace;
+use miniserde_text::error::Result;
+use miniserde_text::json::number::NumberText;
+use std::alloc::Global;
+use std::fmt;
+
+/// A number of a JSON text. An `I64` of at least 0 is written as the `U64` of that number is.
+#[derive(Drop)]
+pub enum Number {
+    U64(u64),
+    I64(i64),
+    /// Any number that is no plain integer from -2^63 to 2^64-1, as its text.
+    Text(NumberText),
+}
+
+impl Number {
+    /// A copy.
+    pub fn try_clone(&self, alloc: Global) -> Result<Number>
+        ensures ok { IfOk result (λ n. n ≡ self.now) }
+        ensures memory { OnErr result (IsErrOf result Memory) }
+    {
+        match self {
+            Number::U64(n) => Ok(Number::U64(*n)),
+            Number::I64(n) => Ok(Number::I64(*n)),
+            Number::Text(text) => Ok(Number::Text(text.try_clone(alloc)?)),
+        }
+    }
+}
+
+/// The digits, or the number's text. It takes no memory.
+impl fmt::Display for Number {
+    ghost use Rattle.std.specs.Prelude.{Some};
+    ghost use Rattle.miniserde_model.specs.Compact.{compact};
+    ghost use Rattle.miniserde_model.specs.Normal.{norm};
+    ghost use Rattle.miniserde_value.specs.Numbers.{number_leaf};
+
+    ghost output = { λ n. Some (compact (norm (number_leaf n))) };
+
+    // Also under options, as `{:>20}`: nothing is padded or cut.
+    ghost styled_output = { λ n _. Some (compact (norm (number_leaf n))) };
+
+    fn fmt<W: fmt::Write>(&self, f: &mut fmt::Formatter<W>) -> fmt::Result {
+        match self {
+            Number::U64(n) => f.write_str(itoa::Buffer::new().format(*n)),
+            Number::I64(n) => f.write_str(itoa::Buffer::new().format(*n)),
+            Number::Text(text) => f.write_str(text.as_str()),
+        }
+    }
+}
+
+impl fmt::Debug for Number {
+    fn fmt<W: fmt::Write>(&self, f: &mut fmt::Formatter<W>) -> fmt::Result {
+        write!(f, "Number({self})")
+    }
+}

@@ -1,0 +1,163 @@
+//! Maps of values by name.
+ghost use Rattle.std.specs.Prelude.{◌≡◌, ◌++◌, ◌∷◌, [], List, String, MatchOption, IfOk, OnErr, IsErrOf};
+ghost use Rattle.std.specs.Iterator.{IsFinite, Drains};
+ghost use Rattle.std.specs.declared.alloc.Global.{Global};
+ghost use Rattle.miniserde_text.specs.declared.error.Error.TheVariants.{Memory};
+ghost use Rattle.std.specs.Borrow.{Lends, sem};
+ghost use Rattle.std.specs.BTreeMap.{keys, IsFromIterResult, IsOrdered};
+ghost use Rattle.std.specs.BTreeMap.IterMut.{IterMutCanStep, iter_mut_rest};
+ghost use Rattle.std.specs.Map.Iter.{GivesInOrder, ShowsInOrder, LendsValuesInOrder, deref_pair};
+ghost use Rattle.std.specs.String.{string_cmp};
+ghost use Rattle.miniserde_value.specs.declared.json.value.Value.{Value as V};
+ghost use Rattle.miniserde_value.specs.Values.{object_entries, object_values, with_members};
+ghost use Rattle.miniserde_value.specs.Looks.{replaces_first};
+
+use super::drop::safely;
+pub use super::place::ObjectPlace;
+use super::value::Value;
+use miniserde_text::error::Result;
+use std::alloc::Global;
+use std::collections::{BTreeMap, btree_map};
+use std::{fmt, mem};
+
+/// Values by name, in byte order of the names. It is let go of with no recursion.
+#[cycle(value)]
+pub struct Object {
+    members: BTreeMap<String, Value>,
+}
+
+impl Object {
+    ghost use Rattle.miniserde_value.specs.Rows.{map_row};
+    ghost use Rattle.miniserde_value.specs.contracts.json.object.Object.{the_row};
+
+    /// An object of no members. It takes no memory.
+    pub fn new(alloc: Global) -> Object
+        ensures { object_entries result ≡ [] }
+    {
+        Object {
+            members: BTreeMap::new(alloc),
+        }
+    }
+
+    /// The members by name, where of equal names the last stands. It refuses only for want of memory.
+    pub fn from_iter<I: IntoIterator<Item = (String, Value)>>(
+        alloc: Global,
+        iter: I,
+    ) -> Result<Object>
+        requires { (it : I.IntoIter) → I.into_iter_gives iter it → I.IntoIter.can_next it
+            × IsFinite (I.IntoIter.remaining it) }
+        ensures items { IfOk result (λ a. (it : I.IntoIter) × (xs : List (String Global × V))
+            × I.into_iter_gives iter it × Drains I.IntoIter.next_gives it xs
+            × (IsFromIterResult string_cmp xs a.members)) }
+        ensures memory { OnErr result (IsErrOf result Memory) }
+    {
+        Ok(Object::from_inner(BTreeMap::from_iter(alloc, iter)?))
+    }
+
+    pub(crate) fn from_inner(members: BTreeMap<String, Value>) -> Object
+        ensures { result.members ≡ members }
+    {
+        Object { members }
+    }
+
+    /// The map.
+    pub fn inner(&self) -> &BTreeMap<String, Value>
+        ensures { result.now ≡ self.now.members }
+    {
+        &self.members
+    }
+
+    /// The map, to be changed.
+    pub fn inner_mut(&mut self) -> &mut BTreeMap<String, Value>
+        ensures* writes_back { sem 𝓛 (Lends the_row map_row self.entry result with_members) }
+        ensures value { result.now ≡ self.old.members }
+    {
+        &mut self.members
+    }
+
+    pub(crate) fn into_inner(self) -> BTreeMap<String, Value>
+        ensures { result ≡ self.members }
+    {
+        let Object { members } = self;
+        members
+    }
+
+    /// Puts a value under the first name, and answers the one that stood there.
+    pub(crate) fn park(&mut self, value: Value) -> Value
+        requires { object_values self.old ≡ [] → ⊥ }
+        ensures parked { replaces_first value result (object_values self.old) (object_values self.new) }
+        ensures names { keys self.new.members ≡ keys self.old.members }
+    {
+        match self.members.first_entry() {
+            Some(mut entry) => mem::replace(entry.get_mut(), value),
+            None => unreachable!(),
+        }
+    }
+
+    pub(crate) fn take_last(&mut self) -> Option<Value>
+        ensures { MatchOption result ((object_values self.old ≡ []) × (object_values self.new ≡ []))
+            (λ last. object_values self.old ≡ object_values self.new ++ last ∷ []) }
+    {
+        match self.members.pop_last() {
+            Some((_, value)) => Some(value),
+            None => None,
+        }
+    }
+}
+
+/// Lets go of all that it holds, with no recursion and no memory taken.
+impl Drop for Object {
+    fn drop(self) {
+        safely(Value::Object(self));
+    }
+}
+
+impl fmt::Debug for Object {
+    #[cycle(shown)]
+    fn fmt<W: fmt::Write>(&self, f: &mut fmt::Formatter<W>) -> fmt::Result {
+        f.write_str("Object ")?;
+        fmt::Debug::fmt(&self.members, f)
+    }
+}
+
+impl IntoIterator for Object {
+    type Item = (String, Value);
+
+    type IntoIter = btree_map::IntoIter<String, Value>;
+
+    // Each member once, in byte order of the names, and then no more.
+    ghost into_iter_gives = { λ o r. (r ≡ object_entries o)
+        × GivesInOrder (String Global × V) × IsOrdered string_cmp o.members };
+
+    fn into_iter(self) -> btree_map::IntoIter<String, Value> {
+        self.into_inner().into_iter()
+    }
+}
+
+impl<'a> IntoIterator for &'a Object {
+    type Item = (&'a String, &'a Value);
+
+    type IntoIter = btree_map::Iter<'a, String, Value>;
+
+    // Each member once, in byte order of the names, and then no more; so below.
+    ghost into_iter_gives = { λ o r. (r ≡ object_entries o.now)
+        × ShowsInOrder (deref_pair {K = String Global} {X = V}) × IsOrdered string_cmp o.now.members };
+
+    fn into_iter(self) -> btree_map::Iter<'a, String, Value> {
+        self.inner().iter()
+    }
+}
+
+impl<'a> IntoIterator for &'a mut Object {
+    type Item = (&'a String, &'a mut Value);
+
+    type IntoIter = btree_map::IterMut<'a, String, Value>;
+
+    ghost into_iter_gives = { λ o r. (iter_mut_rest r ≡ object_entries o.now)
+        × IterMutCanStep r × LendsValuesInOrder (iter_mut_rest {K = String Global} {X = V})
+        × IsOrdered string_cmp o.now.members };
+
+    fn into_iter(self) -> btree_map::IterMut<'a, String, Value> {
+        self.inner_mut().iter_mut()
+    }
+}

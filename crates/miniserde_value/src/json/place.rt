@@ -1,0 +1,377 @@
+//! Reading values of any shape, with no recursion.
+ghost use Rattle.std.specs.Prelude.{◌≡◌, true, Option, Some, None, Err, IfOk, OnOk, ⊤};
+ghost use Rattle.miniserde_text.specs.declared.error.Error.TheVariants.{Invalid};
+ghost use Rattle.miniserde_place.specs.Step.{event_of};
+ghost use Rattle.miniserde_place.specs.Place.{IsTreeEvent};
+ghost use Rattle.miniserde_value.specs.Hole.{begun, resumed, took};
+ghost use Rattle.miniserde_value.specs.Kinds.{is_start};
+
+use super::array::Array;
+use super::builder::{Builder, Kind};
+use super::number::Number;
+use super::object::Object;
+use super::value::Value;
+use miniserde_de::de::{Deserialize, Ranged, Step, Visitor};
+use miniserde_place::de::leaf::{Leaf, LeafPlace};
+use miniserde_text::error::{Error, Result};
+use miniserde_text::json::number::NumberText;
+use std::alloc::Global;
+
+/// The place of a `Value`.
+#[derive(Drop)]
+pub struct ValuePlace {
+    alloc: Global,
+    builder: Builder,
+    // A value is due: the next event is its first.
+    due: bool,
+    refused: Option<Error>,
+}
+
+impl ValuePlace {
+    ghost use Rattle.miniserde_value.specs.Places.{hole_at, due_in, refusal_of};
+
+    // Takes the first event of a value.
+    fn begin_value(&mut self, event: Step<'_>) -> Result<()>
+        requires { IsTreeEvent (event_of event) }
+        ensures ok { OnOk result (begun (event_of event.entry) (hole_at self.old) ≡ Some (hole_at self.new)) }
+        ensures invalid { result ≡ Err Invalid → begun (event_of event.entry) (hole_at self.old) ≡ None }
+        ensures due { due_in self.new ≡ due_in self.old }
+        ensures refused { refusal_of self.new ≡ refusal_of self.old }
+    {
+        match event {
+            Step::Null => self.builder.put(Value::Null),
+            Step::Bool(b) => self.builder.put(Value::Bool(b)),
+            Step::Str(s) => {
+                let text = String::from_str(self.alloc, s)?;
+                self.builder.put(Value::String(text))
+            }
+            Step::Negative(n) => self.builder.put(Value::Number(Number::I64(n))),
+            Step::Nonnegative(n) => self.builder.put(Value::Number(Number::U64(n))),
+            Step::Float(t) => {
+                let text = NumberText::new(self.alloc, t)?;
+                self.builder.put(Value::Number(Number::Text(text)))
+            }
+            Step::Seq => self.builder.open_array(),
+            Step::Map => self.builder.open_object(),
+            Step::Element | Step::Key(_) | Step::Finish => Err(Error::Invalid),
+        }
+    }
+
+    // Takes an event inside the innermost open container, and says whether a value is due then.
+    fn resume(&mut self, event: Step<'_>) -> Result<bool>
+        ensures ok { IfOk result (λ due.
+            resumed (event_of event.entry) (hole_at self.old) ≡ Some (due, hole_at self.new)) }
+        ensures invalid { result ≡ Err Invalid → resumed (event_of event.entry) (hole_at self.old) ≡ None }
+        ensures refused { refusal_of self.new ≡ refusal_of self.old }
+    {
+        match (event, self.builder.innermost()) {
+            (Step::Element, Some(Kind::Array)) => Ok(true),
+            (Step::Key(name), Some(Kind::Object)) => {
+                self.builder.name(name)?;
+                Ok(true)
+            }
+            (Step::Finish, Some(_)) => {
+                self.builder.close()?;
+                Ok(false)
+            }
+            _ => Err(Error::Invalid),
+        }
+    }
+
+    // Takes an event.
+    fn accept(&mut self, event: Step<'_>) -> Result<()>
+        requires { IsTreeEvent (event_of event) }
+        ensures ok { OnOk result (took (due_in self.old) (hole_at self.old) (event_of event.entry)
+            ≡ Some (due_in self.new, hole_at self.new)) }
+        ensures invalid { result ≡ Err Invalid
+            → took (due_in self.old) (hole_at self.old) (event_of event.entry) ≡ None }
+        ensures refused { refusal_of self.new ≡ refusal_of self.old }
+    {
+        if self.due {
+            self.begin_value(event)?;
+            self.due = false;
+        } else {
+            self.due = self.resume(event)?;
+        }
+        Ok(())
+    }
+
+    // Whether no event was taken.
+    fn is_fresh(&self) -> bool
+        ensures { result ≡ is_start (due_in self.now) (hole_at self.now) }
+    {
+        self.due && self.builder.innermost().is_none()
+    }
+}
+
+impl Visitor for ValuePlace {
+    type Out = Value;
+
+    ghost use Rattle.miniserde_value.specs.Places.{value_meaning};
+
+    ghost meaning = { value_meaning };
+
+    ghost begins_free = { true };
+
+    ghost takes_free = { true };
+
+    fn begin(alloc: Global) -> Result<ValuePlace> {
+        Ok(ValuePlace {
+            alloc,
+            builder: Builder::new(alloc),
+            due: true,
+            refused: None,
+        })
+    }
+
+    fn step(&mut self, event: Step<'_>) -> Result<()> {
+        if let Some(error) = self.refused {
+            return Err(error);
+        }
+        match self.accept(event) {
+            Ok(()) => Ok(()),
+            Err(error) => Err(self.refuse(error)),
+        }
+    }
+
+    fn refuse(&mut self, error: Error) -> Error {
+        match self.refused {
+            Some(first) => first,
+            None => {
+                self.refused = Some(error);
+                error
+            }
+        }
+    }
+
+    fn is_complete(&self) -> bool {
+        !self.due && self.builder.innermost().is_none()
+    }
+
+    fn take(self) -> Result<Value> {
+        if let Some(error) = self.refused {
+            return Err(error);
+        }
+        if self.due {
+            return Err(Error::Invalid);
+        }
+        self.builder.into_value().ok_or(Error::Invalid)
+    }
+}
+
+/// The place of an `Array`. It refuses a value that begins otherwise at its first event.
+#[derive(Drop)]
+pub struct ArrayPlace {
+    place: ValuePlace,
+}
+
+impl Visitor for ArrayPlace {
+    type Out = Array;
+
+    ghost use Rattle.miniserde_value.specs.Places.{array_meaning};
+
+    ghost meaning = { array_meaning };
+
+    ghost begins_free = { true };
+
+    ghost takes_free = { true };
+
+    fn begin(alloc: Global) -> Result<ArrayPlace> {
+        Ok(ArrayPlace {
+            place: ValuePlace::begin(alloc)?,
+        })
+    }
+
+    fn step(&mut self, event: Step<'_>) -> Result<()> {
+        match event {
+            Step::Seq => self.place.step(event),
+            _ if self.place.is_fresh() => Err(self.place.refuse(Error::Invalid)),
+            _ => self.place.step(event),
+        }
+    }
+
+    fn refuse(&mut self, error: Error) -> Error {
+        self.place.refuse(error)
+    }
+
+    fn is_complete(&self) -> bool {
+        self.place.is_complete()
+    }
+
+    fn take(self) -> Result<Array> {
+        self.place.take()?.into_array().ok_or(Error::Invalid)
+    }
+}
+
+/// The place of an `Object`. It refuses a value that begins otherwise at its first event.
+#[derive(Drop)]
+pub struct ObjectPlace {
+    place: ValuePlace,
+}
+
+impl Visitor for ObjectPlace {
+    type Out = Object;
+
+    ghost use Rattle.miniserde_value.specs.Places.{object_meaning};
+
+    ghost meaning = { object_meaning };
+
+    ghost begins_free = { true };
+
+    ghost takes_free = { true };
+
+    fn begin(alloc: Global) -> Result<ObjectPlace> {
+        Ok(ObjectPlace {
+            place: ValuePlace::begin(alloc)?,
+        })
+    }
+
+    fn step(&mut self, event: Step<'_>) -> Result<()> {
+        match event {
+            Step::Map => self.place.step(event),
+            _ if self.place.is_fresh() => Err(self.place.refuse(Error::Invalid)),
+            _ => self.place.step(event),
+        }
+    }
+
+    fn refuse(&mut self, error: Error) -> Error {
+        self.place.refuse(error)
+    }
+
+    fn is_complete(&self) -> bool {
+        self.place.is_complete()
+    }
+
+    fn take(self) -> Result<Object> {
+        self.place.take()?.into_object().ok_or(Error::Invalid)
+    }
+}
+
+/// The place of a `Number`.
+#[derive(Drop)]
+pub struct NumberPlace {
+    place: LeafPlace<Number>,
+}
+
+impl Visitor for NumberPlace {
+    type Out = Number;
+
+    ghost use Rattle.miniserde_value.specs.Places.{number_meaning};
+
+    ghost meaning = { number_meaning };
+
+    ghost begins_free = { true };
+
+    ghost takes_free = { true };
+
+    fn begin(alloc: Global) -> Result<NumberPlace> {
+        Ok(NumberPlace {
+            place: <LeafPlace<Number> as Visitor>::begin(alloc)?,
+        })
+    }
+
+    fn step(&mut self, event: Step<'_>) -> Result<()> {
+        self.place.step(event)
+    }
+
+    fn refuse(&mut self, error: Error) -> Error {
+        self.place.refuse(error)
+    }
+
+    fn is_complete(&self) -> bool {
+        self.place.is_complete()
+    }
+
+    fn take(self) -> Result<Number> {
+        self.place.take()
+    }
+}
+
+impl Leaf for Number {
+    ghost use Rattle.miniserde_model.specs.Tree.{Tree};
+    ghost use Rattle.miniserde_value.specs.Numbers.{number_leaf, from_number, ReadsNumber};
+    ghost use Rattle.miniserde_value.specs.laws.Numbers.{number-given};
+
+    ghost Content = { Tree };
+
+    ghost content = { number_leaf };
+
+    ghost from_event = { from_number };
+
+    ghost reads = { ReadsNumber };
+
+    ghost reads_agrees = { number-given };
+
+    fn from_step(alloc: Global, event: Step<'_>) -> Result<Number> {
+        match event {
+            Step::Negative(n) => Ok(Number::I64(n)),
+            Step::Nonnegative(n) => Ok(Number::U64(n)),
+            Step::Float(t) => Ok(Number::Text(NumberText::new(alloc, t)?)),
+            _ => Err(Error::Invalid),
+        }
+    }
+}
+
+impl Deserialize for Number {
+    type Place = NumberPlace;
+
+    ghost absent = { None };
+
+    fn default() -> Option<Number> {
+        None
+    }
+}
+
+impl Deserialize for Value {
+    type Place = ValuePlace;
+
+    ghost absent = { None };
+
+    fn default() -> Option<Value> {
+        None
+    }
+}
+
+impl Deserialize for Array {
+    type Place = ArrayPlace;
+
+    ghost absent = { None };
+
+    fn default() -> Option<Array> {
+        None
+    }
+}
+
+impl Deserialize for Object {
+    type Place = ObjectPlace;
+
+    ghost absent = { None };
+
+    fn default() -> Option<Object> {
+        None
+    }
+}
+
+impl Ranged for Number {
+    ghost real = { λ _. ⊤ };
+
+    fn ranged(&self) {}
+}
+
+impl Ranged for Value {
+    ghost real = { λ _. ⊤ };
+
+    fn ranged(&self) {}
+}
+
+impl Ranged for Array {
+    ghost real = { λ _. ⊤ };
+
+    fn ranged(&self) {}
+}
+
+impl Ranged for Object {
+    ghost real = { λ _. ⊤ };
+
+    fn ranged(&self) {}
+}
