@@ -20,6 +20,7 @@ pub use Rattle.miniserde_keys.specs.Ranged
 pub use Rattle.miniserde_place.specs.Step
 pub use Rattle.miniserde_place.specs.Place
 pub use Rattle.miniserde_place.specs.Leaf
+pub use Rattle.miniserde_place.specs.LeafPlace
 pub use Rattle.miniserde_place.specs.Integers
 pub use Rattle.miniserde_place.specs.Words
 pub use Rattle.miniserde_place.specs.Ignore
@@ -37,6 +38,13 @@ pub use Rattle.miniserde_ser.specs.Closed
 pub use Rattle.miniserde_ser.specs.Fragment
 pub use Rattle.miniserde_ser.specs.Trees
 pub use Rattle.miniserde_ser.specs.Writer
+pub use Rattle.miniserde_value.specs.Numbers
+pub use Rattle.miniserde_value.specs.Kept
+pub use Rattle.miniserde_value.specs.Values
+pub use Rattle.miniserde_value.specs.Looks
+pub use Rattle.miniserde_value.specs.Hole
+pub use Rattle.miniserde_value.specs.Kinds
+pub use Rattle.miniserde_value.specs.Places
 pub use Rattle.miniserde_round.specs.RoundTrip
 pub use Rattle.miniserde_record.specs.Fields
 pub use Rattle.miniserde_record.specs.Names

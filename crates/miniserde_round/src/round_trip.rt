@@ -4,6 +4,8 @@ ghost use Rattle.std.specs.List.{AllByRecursion};
 ghost use Rattle.miniserde_round.specs.RoundTrip.{ReadsAgain};
 ghost use Rattle.miniserde_text.specs.declared.error.Error.{Error};
 
+mod documents;
+
 use miniserde_de::de::Deserialize;
 use miniserde_json::json::{from_str, to_string};
 use miniserde_keys::{MapKey, Ranged};
