@@ -1,0 +1,15 @@
+//! Tests of values of any shape. Nothing here is for users.
+#![tactic(auto)]
+
+#[cfg(test)]
+mod arrays;
+#[cfg(test)]
+mod deep;
+#[cfg(test)]
+mod numbers;
+#[cfg(test)]
+mod round_trip;
+#[cfg(test)]
+mod texts;
+#[cfg(test)]
+mod values;
