@@ -1,4 +1,4 @@
-//! Reads a list of numbers on standard input, and writes its compact text on standard output.
+//! Reads a JSON text on standard input, and writes its canonical text on standard output.
 #![tactic(auto)]
 
 use miniserde_canon::canon::{Counted, program};

@@ -1,6 +1,6 @@
 //! JSON text.
 
-pub use miniserde_json::json::{feed, from_str, to_string};
+pub use miniserde_json::json::{canonical, canonical_both, feed, from_str, to_string};
 pub use miniserde_text::json::lex;
 pub use miniserde_text::json::number::NumberText;
 pub use miniserde_value::json::array::Array;

@@ -1,3 +1,3 @@
 mod Walks
 pub mod Written
-pub mod Numbers
+pub mod Faults

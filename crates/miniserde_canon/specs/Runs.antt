@@ -2,30 +2,24 @@
 use Rattle.std.specs.Prelude.{◌≡◌, ◌<◌, ◌+◌, ℕ, List, ◌++◌, codes, Option, Result, Ok, Err, OnOk, IfSome, IsErrOf, ◌⊎◌, ⊤}
 use Rattle.std.specs.Str.{IsUtf8}
 use Rattle.std.specs.Io.KnownBytes.{IsAtEnd, Keeps, Appends}
-use Rattle.miniserde_model.specs.Tree.{Tree, nonneg, list}
+use Rattle.miniserde_model.specs.Tree.{Tree}
 use Rattle.miniserde_model.specs.Value.{IsJson}
 use Rattle.miniserde_model.specs.Compact.{compact}
+use Rattle.miniserde_model.specs.Normal.{norm}
 use Rattle.miniserde_text.specs.declared.error.Error.{Error}
 use Rattle.miniserde_text.specs.declared.error.Error.TheVariants as error
-use Rattle.miniserde_place.specs.Integers.{ReadsUnsigned}
-use Rattle.miniserde_de.specs.Lists.{ListReads}
-use Rattle.miniserde_ser.specs.Trees.{trees_of}
 use Rattle.miniserde_canon.specs.declared.canon.Fault.{Fault}
 use Rattle.miniserde_canon.specs.declared.canon.Fault.TheVariants.{Invalid, Memory, Read, Write}
 
 -- ---- the text
 
--- the bytes spell a tree that means the list of numbers
-abbrev pub MeansNumbers : List ℕ → List ℕ → Type 0
-MeansNumbers xs ns = (t : Tree) × IsJson xs t × ListReads (ReadsUnsigned 64) t ns
-
--- the bytes xs are a text that means a list of numbers, and ys is the compact text of that list
+-- the bytes xs are a text that spells a tree, and ys is the compact text of the tree's normal form
 unfoldable pub IsAnswer : List ℕ → List ℕ → Type 0
-IsAnswer xs ys = IsUtf8 xs × ((ns : List ℕ) × MeansNumbers xs ns × (ys ≡ compact (list (trees_of nonneg ns))))
+IsAnswer xs ys = IsUtf8 xs × ((t : Tree) × IsJson xs t × (ys ≡ compact (norm t)))
 
--- the bytes are no text, or one that means no list of numbers
+-- the bytes are no UTF-8, or spell no tree
 unfoldable pub HasNoAnswer : List ℕ → Type 0
-HasNoAnswer xs = (IsUtf8 xs → ⊥) ⊎ ((ns : List ℕ) → MeansNumbers xs ns → ⊥)
+HasNoAnswer xs = (IsUtf8 xs → ⊥) ⊎ ((t : Tree) → IsJson xs t → ⊥)
 
 -- ---- the calls
 

@@ -1,4 +1,4 @@
-//! The program `canon`: it reads a list of numbers to the end of its input, and writes the compact text of the list.
+//! The program `canon`: it reads a text to the end of its input, and writes its canonical text.
 ghost use Rattle.std.specs.Prelude.{◌≡◌, ◌+◌, ◌<◌, ◌⊎◌, length, codes, Result, OnOk, OnErr, IfOk, IfSome, IsErrOf};
 ghost use Rattle.std.specs.String.{string_bytes};
 ghost use Rattle.std.specs.Io.KnownBytes.{Consumes, IsAtEnd, Keeps, Appends};
@@ -12,7 +12,7 @@ mod count;
 mod counted;
 
 pub use counted::Counted;
-use miniserde_json::json::{from_str, to_string};
+use miniserde_json::json::canonical;
 use miniserde_text::error::Error;
 use std::alloc::Global;
 use std::io::{Read, Write};
@@ -20,7 +20,7 @@ use std::io::{Read, Write};
 /// Why a run was refused.
 #[derive(Clone, Copy, Debug, PartialEq, Eq)]
 pub enum Fault {
-    /// What was read is no text that the program takes.
+    /// What was read is no JSON text in UTF-8.
     Invalid,
     /// Memory could not be had.
     Memory,
@@ -41,7 +41,7 @@ impl From<Error> for Fault {
     }
 }
 
-/// Reads a text to its end, writes the answer to it and flushes once. A call that failed is not made again.
+/// Reads a text to its end, writes its canonical text and flushes once. A call that failed is not made again.
 pub fn run<R: Read, W: Write>(
     alloc: Global,
     r: &mut Counted<R>,
@@ -110,7 +110,7 @@ fn read_all<R: Read>(alloc: Global, r: &mut Counted<R>) -> Result<Vec<u8>, Fault
     ensures only { OnErr result (IsErrOf result Fault.Read ⊎ IsErrOf result Fault.Memory) }
 {
     let mut bytes = Vec::new(alloc);
-    let mut chunk = [0u8; 4096];
+    let mut chunk = [0u8; 65536];
     loop {
         match r.read(&mut chunk) {
             Ok(0) => return Ok(bytes),
@@ -133,8 +133,7 @@ fn answer(alloc: Global, bytes: &[u8]) -> Result<String, Fault>
     let Ok(text) = std::str::from_utf8(bytes) else {
         return Err(Fault::Invalid);
     };
-    let numbers: Vec<u64> = from_str(alloc, text)?;
-    Ok(to_string(alloc, &numbers)?)
+    Ok(canonical(alloc, text)?)
 }
 
 /// Writes all the bytes, and tries no write again that failed.

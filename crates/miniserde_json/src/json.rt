@@ -1,8 +1,8 @@
-//! JSON text into values, and values into text.
+//! JSON text into values, values into text, and any text into its canonical text.
 
 mod de;
 mod ser;
 mod stack;
 
 pub use de::{feed, from_str};
-pub use ser::to_string;
+pub use ser::{canonical, canonical_both, to_string};

@@ -1,19 +1,20 @@
--- The numbers that were read are what the text means; where none were read, no tree of the text means any.
+-- The answer is the text's canonical text; where it was refused, the text spells no tree.
 use Rattle.std.proofs.Common.{◌≡◌, Err, sym, ap, subst, ◌∙◌, inl, inr}
 use Rattle.std.proofs.lemmas.Result.{err_from_is_err_and}
+use Rattle.miniserde_model.specs.Value.{IsJson}
 use Rattle.miniserde_text.specs.declared.error.Error.TheVariants as error
 use Rattle.miniserde_canon.specs.declared.canon.Fault.TheVariants.{Invalid}
-use Rattle.miniserde_canon.specs.Runs.{IsAnswer, HasNoAnswer, MeansNumbers}
-use Rattle.miniserde_canon.proofs.Numbers.{no_numbers, invalid_from}
+use Rattle.miniserde_canon.specs.Runs.{IsAnswer, HasNoAnswer}
+use Rattle.miniserde_canon.proofs.Faults.{invalid_from}
 use Rattle.miniserde_canon.proofs.canon.answer.Goals as goal
 
-pub returns-in_err-numbers-clause-invalid : goal.returns-in_err-numbers-clause-invalid
+pub returns-in_err-canonical-clause-invalid : goal.returns-in_err-canonical-clause-invalid
 unfolding HasNoAnswer
-returns-in_err-numbers-clause-invalid c = λ h.
+returns-in_err-canonical-clause-invalid c = λ h.
     let w = err_from_is_err_and c.from_residual.result c.from_residual.ensures.1 in
     let is : w.0 ≡ Invalid = cc (h, w.1) in
-    let invalid : c.in_err-numbers.field-0.0 ≡ error.Invalid = invalid_from c.in_err-numbers.field-0.0 (sym w.2 ∙ is) in
-    inr (λ ns m. no_numbers c.in-Ok.text.now (c.in_err-numbers.ensures.none (ap Err invalid)) ns (subst (λ z. MeansNumbers z ns) (sym c.in-Ok.ensures.cases.0) m))
+    let invalid : c.in_err-canonical.field-0.0 ≡ error.Invalid = invalid_from c.in_err-canonical.field-0.0 (sym w.2 ∙ is) in
+    inr (λ t m. c.in_err-canonical.ensures.invalid (ap Err invalid) t (subst (λ z. IsJson z t) (sym c.in-Ok.ensures.cases.0) m))
 
 pub returns-in_default-clause-invalid : goal.returns-in_default-clause-invalid
 unfolding HasNoAnswer
@@ -23,6 +24,5 @@ pub returns-clause-ok : goal.returns-clause-ok
 unfolding IsAnswer
 returns-clause-ok c =
     let same = c.in-Ok.ensures.cases.0 in
-    let numbers = c.in_ok-numbers.numbers.items in
-    let means : MeansNumbers c.in-Ok.text.now numbers = c.in_ok-numbers.ensures.ok in
-    (c.in-Ok.ensures.cases.1, (numbers, subst (λ xs. MeansNumbers xs numbers) same means, c.in_ok-to_string.ensures.ok))
+    let r = c.in_ok-canonical.ensures.ok in
+    (c.in-Ok.ensures.cases.1, (r.0, subst (λ xs. IsJson xs r.0) same r.1, r.2))
