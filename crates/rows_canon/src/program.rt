@@ -36,25 +36,32 @@ fn lists_are_written_without_spaces(rt: HostRuntime) -> Result<(), Fail> {
 }
 
 #[test]
+fn documents_of_any_shape(rt: HostRuntime) -> Result<(), Fail> {
+    let texts: [(&[u8], &[u8]); 10] = [
+        (b"{\"\\u0061\":1,\"a\":2} ", b"{\"a\":2}"),
+        (b"[-0]", b"[0]"),
+        (b"[-1]", b"[-1]"),
+        (b"[18446744073709551616]", b"[18446744073709551616]"),
+        (b"[1.5]", b"[1.5]"),
+        (b"[[1]]", b"[[1]]"),
+        (b"7", b"7"),
+        (b"{}", b"{}"),
+        (
+            b"{\"b\" : null,\"a\" : [true]}",
+            b"{\"a\":[true],\"b\":null}",
+        ),
+        (b"\"\xc3\xa9\\u00e9\"", b"\"\xc3\xa9\xc3\xa9\""),
+    ];
+    for (text, answer) in texts {
+        expect(&rt, text, 0, "", answer)?;
+    }
+    Ok(())
+}
+
+#[test]
 fn other_texts_are_refused(rt: HostRuntime) -> Result<(), Fail> {
-    let texts: [&[u8]; 17] = [
-        b"[1,2,]",
-        b"[01]",
-        b"[-0]",
-        b"[-1]",
-        b"[18446744073709551616]",
-        b"[1.5]",
-        b"[[1]]",
-        b"[1 2]",
-        b"[1]]",
-        b"[}",
-        b"7",
-        b"{}",
-        b"",
-        b"\xff",
-        b"[,1]",
-        b"[1",
-        b"[\x0c1]",
+    let texts: [&[u8]; 10] = [
+        b"[1,2,]", b"[01]", b"[1 2]", b"[1]]", b"[}", b"", b"\xff", b"[,1]", b"[1", b"[\x0c1]",
     ];
     for text in texts {
         expect(&rt, text, 1, "canon: invalid text", b"")?;

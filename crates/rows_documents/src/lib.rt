@@ -1,8 +1,10 @@
-//! Tests of values of any shape. Nothing here is for users.
+//! Tests of values of any shape, and of canonical texts. Nothing here is for users.
 #![tactic(auto)]
 
 #[cfg(test)]
 mod arrays;
+#[cfg(test)]
+mod canonical;
 #[cfg(test)]
 mod deep;
 #[cfg(test)]
