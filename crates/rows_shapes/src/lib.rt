@@ -1,4 +1,4 @@
-//! Tests of std's types in one another, as users write them. Nothing here is for users.
+//! Tests of lists, pairs and options in one another, as users write them. Nothing here is for users.
 #![tactic(auto)]
 
 #[cfg(test)]

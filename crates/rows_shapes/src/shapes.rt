@@ -1,9 +1,6 @@
-//! Lists, pairs, maps and options in one another: read, written alike, and refused with one wrong leaf at the innermost
-//! place.
+//! Lists, pairs and options in one another: read, written alike, and refused with one wrong leaf at the innermost place.
 
 use rows::first_wrong;
-use std::collections::{BTreeMap, HashMap};
-use std::hash::{BuildHasherDefault, DefaultHasher};
 use std::test::Fail;
 
 type Six = Vec<Vec<Vec<Vec<Vec<Vec<u64>>>>>>;
@@ -11,12 +8,6 @@ type Six = Vec<Vec<Vec<Vec<Vec<Vec<u64>>>>>>;
 type Two = ((u64, u64), (u64, u64));
 
 type Rows = Vec<(String, (u32, Option<Vec<u64>>))>;
-
-type Index = BTreeMap<String, Vec<(String, Option<u64>)>>;
-
-type Mixed = Option<
-    Box<Vec<BTreeMap<u32, HashMap<String, Vec<u64>, BuildHasherDefault<DefaultHasher>>>>>,
->;
 
 #[test]
 fn lists_six_deep(rt: HostRuntime) -> std::result::Result<(), Fail> {
@@ -65,37 +56,6 @@ fn rows_of_a_table(rt: HostRuntime) -> std::result::Result<(), Fail> {
             alloc,
             &["[]", "[[\"a\",[1,null]],[\"b\",[4294967295,[2,3]]]]"],
             &["[[\"a\",[1,null]],[\"b\",[2,[2,\"3\"]]]]", "[[\"a\",[1]]]"]
-        )?,
-        None
-    );
-    Ok(())
-}
-
-#[test]
-fn an_index_by_name(rt: HostRuntime) -> std::result::Result<(), Fail> {
-    let alloc = rt.alloc();
-    assert_eq!(rt;
-        first_wrong::<Index>(
-            alloc,
-            &["{}", "{\"a\":[],\"b\":[[\"x\",1],[\"y\",null]]}"],
-            &[
-                "{\"a\":[],\"b\":[[\"x\",1],[\"y\",false]]}",
-                "{\"a\":[[\"x\"]]}"
-            ]
-        )?,
-        None
-    );
-    Ok(())
-}
-
-#[test]
-fn maps_in_a_boxed_list(rt: HostRuntime) -> std::result::Result<(), Fail> {
-    let alloc = rt.alloc();
-    assert_eq!(rt;
-        first_wrong::<Mixed>(
-            alloc,
-            &["null", "[]", "[{\"7\":{\"a\":[1,2],\"b\":[]}},{}]"],
-            &["[{\"7\":{\"a\":[1,null]}}]", "[{\"x\":{}}]"]
         )?,
         None
     );

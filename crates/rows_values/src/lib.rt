@@ -7,8 +7,6 @@ pub mod entries;
 #[cfg(test)]
 mod lists;
 #[cfg(test)]
-mod maps;
-#[cfg(test)]
 mod places;
 #[cfg(test)]
 mod scalars;
