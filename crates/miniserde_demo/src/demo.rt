@@ -1,17 +1,18 @@
 //! Types as a user writes them by hand: the pattern to copy.
-ghost use Rattle.miniserde_model.specs.Tree.{members, member, no_members};
 ghost use Rattle.miniserde_place.specs.Place.{inside};
-ghost use Rattle.miniserde_ser.specs.Closed.{closed};
-ghost use Rattle.std.specs.Prelude.{Option, Some, None, List, [], ◌∷◌, codes, refl};
+ghost use Rattle.miniserde_record.specs.Records.{names_of};
+ghost use Rattle.std.specs.Prelude.{Option, Some, None, refl};
 
 mod example;
 mod tag;
 
 pub use example::{Example, ExamplePlace, Nested, NestedPlace};
 use miniserde_de::de::{Deserialize, Ranged, Step, Visitor};
-use miniserde_record::record::{Field, Fields, NoField, Parts, Record, RecordPlace};
+use miniserde_record::record::{
+    Field, Fields, NoField, Parts, Record, RecordPlace, RoundRecord, record_again, write_record,
+};
 use miniserde_round::RoundTrip;
-use miniserde_ser::ser::{Serialize, Writer, write_field};
+use miniserde_ser::ser::{Serialize, Writer};
 use miniserde_text::error::{Error, Result};
 use std::alloc::Global;
 pub use tag::Tag;
@@ -23,19 +24,24 @@ pub struct Demo {
     pub message: String,
 }
 
+// The names of its fields.
+const DEMO_NAMES: &[&str] = &["code", "message"];
+
 impl Record for Demo {
+    ghost use Rattle.miniserde_demo.specs.declared.demo.TheConstants.{DEMO_NAMES};
+
     type Fields = Field<u32, Field<String, NoField>>;
 
     type Values = <Self::Fields as Fields>::Values;
 
-    ghost names = { codes "code" ∷ codes "message" ∷ [] };
+    ghost names = { names_of DEMO_NAMES };
 
     ghost values = { λ v. (v.code, (v.message, tt)) };
 
     ghost made = { λ x. record { code = x.0; message = x.1.0 } };
 
     fn names() -> &'static [&'static str] {
-        &["code", "message"]
+        DEMO_NAMES
     }
 
     fn build(parts: Self::Values) -> Demo {
@@ -95,20 +101,15 @@ impl Deserialize for Demo {
 }
 
 impl Serialize for Demo {
-    ghost tree = { λ v. members (
-        member (codes "code") (closed (⟦<u32 as Serialize>⟧.tree v.code)) (
-        member (codes "message") (closed (⟦<String as Serialize>⟧.tree v.message)) no_members)) };
+    ghost tree = { ⟦<Demo as RoundRecord>⟧.tree };
 
     fn begin(&self, w: &mut Writer) -> Result<()> {
-        w.map()?;
-        write_field(w, "code", &self.code)?;
-        write_field(w, "message", &self.message)?;
-        w.map_finish()
+        write_record::<Demo, _>(w, &Parts(&self.code, Parts(&self.message, ())))
     }
 }
 
 impl Ranged for Demo {
-    ghost real = { λ v. ⟦<u32 as Ranged>⟧.real v.code × ⟦<String as Ranged>⟧.real v.message };
+    ghost real = { ⟦<Demo as RoundRecord>⟧.real };
 
     fn ranged(&self) {
         self.code.ranged();
@@ -117,9 +118,8 @@ impl Ranged for Demo {
 }
 
 impl RoundTrip for Demo {
-    fn again(&self) {
-        self.code.again();
-        self.message.again();
+    fn again() {
+        record_again::<Demo>()
     }
 }
 
@@ -130,19 +130,24 @@ pub struct Point {
     pub y: u32,
 }
 
+// The names of its fields.
+const POINT_NAMES: &[&str] = &["x", "y"];
+
 impl Record for Point {
+    ghost use Rattle.miniserde_demo.specs.declared.demo.TheConstants.{POINT_NAMES};
+
     type Fields = Field<u32, Field<u32, NoField>>;
 
     type Values = <Self::Fields as Fields>::Values;
 
-    ghost names = { codes "x" ∷ codes "y" ∷ [] };
+    ghost names = { names_of POINT_NAMES };
 
     ghost values = { λ v. (v.x, (v.y, tt)) };
 
     ghost made = { λ x. record { x = x.0; y = x.1.0 } };
 
     fn names() -> &'static [&'static str] {
-        &["x", "y"]
+        POINT_NAMES
     }
 
     fn build(parts: Self::Values) -> Point {
@@ -202,20 +207,15 @@ impl Deserialize for Point {
 }
 
 impl Serialize for Point {
-    ghost tree = { λ v. members (
-        member (codes "x") (closed (⟦<u32 as Serialize>⟧.tree v.x)) (
-        member (codes "y") (closed (⟦<u32 as Serialize>⟧.tree v.y)) no_members)) };
+    ghost tree = { ⟦<Point as RoundRecord>⟧.tree };
 
     fn begin(&self, w: &mut Writer) -> Result<()> {
-        w.map()?;
-        write_field(w, "x", &self.x)?;
-        write_field(w, "y", &self.y)?;
-        w.map_finish()
+        write_record::<Point, _>(w, &Parts(&self.x, Parts(&self.y, ())))
     }
 }
 
 impl Ranged for Point {
-    ghost real = { λ v. ⟦<u32 as Ranged>⟧.real v.x × ⟦<u32 as Ranged>⟧.real v.y };
+    ghost real = { ⟦<Point as RoundRecord>⟧.real };
 
     fn ranged(&self) {
         self.x.ranged();
@@ -224,8 +224,7 @@ impl Ranged for Point {
 }
 
 impl RoundTrip for Point {
-    fn again(&self) {
-        self.x.again();
-        self.y.again();
+    fn again() {
+        record_again::<Point>()
     }
 }

@@ -1,5 +1,5 @@
 //! Values that Rust has.
-ghost use Rattle.std.specs.Prelude.{◌<◌, ◌^◌, FitsSigned, ⊤};
+ghost use Rattle.std.specs.Prelude.{◌≡◌, ◌<◌, ◌^◌, FitsSigned, length, ⊤};
 ghost use Rattle.std.specs.Int.{w8, w16, w32, w64};
 ghost use Rattle.std.specs.List.{AllByRecursion};
 ghost use Rattle.std.specs.Char.{IsScalar};
@@ -173,7 +173,7 @@ impl<T: Ranged> Ranged for Vec<T> {
 }
 
 impl<T: Ranged, const N: usize> Ranged for [T; N] {
-    ghost real = { AllByRecursion T.real };
+    ghost real = { λ xs. (length xs ≡ N) × AllByRecursion T.real xs };
 
     fn ranged(&self) {
         ranged_all(self)

@@ -1,5 +1,5 @@
 -- What the fields of a struct mean that is being read, and so the struct.
-use Rattle.std.specs.Prelude.{◌≡◌, ◌↔◌, refl, ℕ, ◌+◌, ◌&&◌, Bool, true, not, nat_eq, List, [], ◌∷◌, length, Option, Some, None, option_map, option_and_then, bytes_eq, ⊤}
+use Rattle.std.specs.Prelude.{◌≡◌, ◌↔◌, refl, ℕ, ◌+◌, ◌&&◌, Bool, true, not, nat_eq, List, [], ◌∷◌, length, map, Option, Some, None, option_map, option_and_then, bytes_eq, ⊤}
 use Rattle.miniserde_model.specs.Tree.{Tree, Members}
 use Rattle.miniserde_model.specs.Event.{Event, events}
 use Rattle.miniserde_place.specs.Place.{Shown, Meaning}
@@ -126,6 +126,10 @@ is_new n (m ∷ ms) = not (bytes_eq n m) && is_new n ms
 abbrev pub are_distinct : List Name → Bool
 are_distinct [] = true
 are_distinct (n ∷ ns) = is_new n ns && are_distinct ns
+
+-- the names that a constant has
+abbrev pub names_of : record { now : List (record { now : Name }) } → List Name
+names_of ns = map (λ n. n.now) ns.now
 
 -- each of so many fields has a name, and no two have one
 abbrev pub are_names : ℕ → List Name → Bool

@@ -3,9 +3,11 @@
 mod fields;
 mod fours;
 mod names;
+mod rounds;
 mod structs;
 
 pub use fields::{Field, FieldOf, Fields, NoField, Parts};
 pub use fours::{Four, FourOf};
-pub use names::{NamePlace, UnitEnum};
+pub use names::{NamePlace, UnitEnum, variant_again};
+pub use rounds::{RoundFields, RoundRecord, WriteFields, record_again, write_record};
 pub use structs::{Record, RecordPlace};

@@ -1,9 +1,10 @@
 -- The tree of a value of each given type reads as a value with that tree.
-use Rattle.std.proofs.Common.{◌≡◌, ◌<◌, ◌^◌, ◌-◌, ℕ, ℤ, pos, negsuc, neg_ℤ, ◌≤ℤ◌, ◌<ℤ◌, Bool, true, nat_lt, List, [], ◌∷◌, length, Option, Some, None, map, refl, ap, ◌∙◌, arith}
-use Rattle.std.specs.Prelude.{IfSome, option_map, option_and_then, nat_eq, ⊤}
+use Rattle.std.proofs.Common.{◌≡◌, ◌<◌, ◌^◌, ◌-◌, ℕ, ℤ, pos, negsuc, Bool, true, nat_lt, List, [], ◌∷◌, length, Option, Some, None, map, refl, ap, subst, ◌∙◌, arith}
+use Rattle.std.specs.Prelude.{FitsSigned, option_map, option_and_then, nat_eq, ⊤}
 use Rattle.std.specs.List.{AllByRecursion}
 use Rattle.std.proofs.lemmas.Bool.Decides.{nat_tests}
-use Rattle.std.proofs.lemmas.Int.{ints}
+use mir.Syntax.{Width}
+use mir.Val.{hbits}
 use Rattle.miniserde_model.specs.Tree.{Tree, null, truth, nonneg, neg, num, str, list, members, no_trees, tree}
 use Rattle.miniserde_keys.specs.Ranged.{OptionReal}
 use Rattle.miniserde_place.specs.Leaf.{from_leaf}
@@ -34,19 +35,13 @@ again-integer : (bits : ℕ) (z : ℤ) → fits_signed bits z ≡ true → from_
 again-integer bits (pos n) h = (signed-given bits (nonneg n) (pos n)).0 (refl, h)
 again-integer bits (negsuc n) h = (signed-given bits (neg (negsuc n)) (negsuc n)).0 (refl, h)
 
-below : (k n : ℕ) → pos n <ℤ pos k → n < k
-below k n h = omega (arith, ints)
-
-above : (k n : ℕ) → neg_ℤ (pos k) ≤ℤ negsuc n → n < k
-above k n h = omega (arith, ints)
-
 passes : (k n : ℕ) → n < k → nat_lt n k ≡ true
 passes k n h = grind (arith, nat_tests)
 
--- a number of a signed type's range passes its test
-pub signed-fits : (bits : ℕ) (z : ℤ) → neg_ℤ (pos (2 ^ (bits - 1))) ≤ℤ z → z <ℤ pos (2 ^ (bits - 1)) → fits_signed bits z ≡ true
-signed-fits bits (pos n) l h = passes (2 ^ (bits - 1)) n (below (2 ^ (bits - 1)) n h)
-signed-fits bits (negsuc n) l h = passes (2 ^ (bits - 1)) n (above (2 ^ (bits - 1)) n l)
+-- a number of a signed type passes its test
+pub signed-real : (bits : ℕ) (w : Width) → hbits w ≡ bits - 1 → (z : ℤ) → FitsSigned w z → fits_signed bits z ≡ true
+signed-real bits w e (pos n) h = passes (2 ^ (bits - 1)) n (subst (λ k. n < 2 ^ k) e h.sfits)
+signed-real bits w e (negsuc n) h = passes (2 ^ (bits - 1)) n (subst (λ k. n < 2 ^ k) e h.sfits)
 
 pub again-signed : (bits : ℕ) (real : ℤ → Type 0) (z : ℤ) → fits_signed bits z ≡ true → ReadsAgain real integer (from_leaf (from_signed bits)) (λ z. z) (integer z)
 again-signed bits real z h = (z, again-integer bits z h, λ w r e. ap integer e)
@@ -56,6 +51,8 @@ module _ {T C : Type 0} (real : T → Type 0) (f : T → Tree) (of : Tree → Op
   pub again-inner : {B : Type 0} (inner : B → T) (b : B) → ReadsAgain real f of content (f (inner b)) → ReadsAgain (λ b. real (inner b)) (λ b. f (inner b)) of (λ b. content (inner b)) (f (inner b))
   again-inner inner b h = (h.0, h.1, λ w r e. h.2 (inner w) r e)
 
+-- containers, by the law of the type of their values
+module _ {T C : Type 0} (real : T → Type 0) (f : T → Tree) (of : Tree → Option C) (content : T → C) (again : (x : T) → real x → ReadsAgain real f of content (f x)) where
   -- ---- optional values
 
   none : ReadsAgain (OptionReal real) (option_tree f) (option_of of) (option_map content) null
@@ -75,9 +72,9 @@ module _ {T C : Type 0} (real : T → Type 0) (f : T → Tree) (of : Tree → Op
   there (list ts) a = some (list ts) refl a
   there (members ms) a = some (members ms) refl a
 
-  pub again-option : (v : Option T) → IfSome v (λ x. ReadsAgain real f of content (f x)) → ReadsAgain (OptionReal real) (option_tree f) (option_of of) (option_map content) (option_tree f v)
-  again-option None h = none
-  again-option (Some x) h = there (f x) h
+  pub again-option : (v : Option T) → OptionReal real v → ReadsAgain (OptionReal real) (option_tree f) (option_of of) (option_map content) (option_tree f v)
+  again-option None r = none
+  again-option (Some x) r = there (f x) (again x r)
 
   -- ---- lists
 
@@ -87,7 +84,7 @@ module _ {T C : Type 0} (real : T → Type 0) (f : T → Tree) (of : Tree → Op
     pub long : length contents ≡ length xs
     pub trees : (ws : List T) → AllByRecursion real ws → map content ws ≡ contents → trees_of f ws ≡ trees_of f xs
 
-  again-each : (xs : List T) → AllByRecursion (λ x. ReadsAgain real f of content (f x)) xs → Each xs
+  again-each : (xs : List T) → AllByRecursion real xs → Each xs
   again-each [] h = record {
     contents = [];
     gives = refl;
@@ -95,7 +92,7 @@ module _ {T C : Type 0} (real : T → Type 0) (f : T → Tree) (of : Tree → Op
     trees = λ ws r. elim ws as (λ ws. map content ws ≡ [] → trees_of f ws ≡ trees_of f []) [ [] ↦ λ e. refl | w ∷ ws ↦ λ e. absurd (cc) ];
   }
   again-each (x ∷ xs) h =
-      let a = h.0 in
+      let a = again x h.0 in
       let b = again-each xs h.1 in
       record {
         contents = a.0 ∷ b.contents;
@@ -110,14 +107,14 @@ module _ {T C : Type 0} (real : T → Type 0) (f : T → Tree) (of : Tree → Op
         ];
       }
 
-  pub again-list : {V : Type 0} (items : V → List T) (v : V) → AllByRecursion (λ x. ReadsAgain real f of content (f x)) (items v) → ReadsAgain (λ v. AllByRecursion real (items v)) (λ v. list (trees_of f (items v))) (list_of of) (λ v. map content (items v)) (list (trees_of f (items v)))
+  pub again-list : {V : Type 0} (items : V → List T) (v : V) → AllByRecursion real (items v) → ReadsAgain (λ v. AllByRecursion real (items v)) (λ v. list (trees_of f (items v))) (list_of of) (λ v. map content (items v)) (list (trees_of f (items v)))
   again-list items v h = let b = again-each (items v) h in (b.contents, b.gives, λ w r e. ap list (b.trees (items w) r e))
 
   exactly-long : (n : ℕ) (cs : List C) → length cs ≡ n → exactly n cs ≡ Some cs
   exactly-long n cs h = let e : nat_eq (length cs) n ≡ true = grind (arith, nat_tests, h) in rw e refl
 
-  pub again-array : (n : ℕ) (xs : List T) → length xs ≡ n → AllByRecursion (λ x. ReadsAgain real f of content (f x)) xs → ReadsAgain (AllByRecursion real) (λ xs. list (trees_of f xs)) (array_of n of) (map content) (list (trees_of f xs))
-  again-array n xs l h = let b = again-each xs h in (b.contents, ap (option_and_then (exactly n)) b.gives ∙ exactly-long n b.contents (b.long ∙ l), λ w r e. ap list (b.trees w r e))
+  pub again-array : (n : ℕ) (xs : List T) → (length xs ≡ n) × AllByRecursion real xs → ReadsAgain (λ xs. (length xs ≡ n) × AllByRecursion real xs) (λ xs. list (trees_of f xs)) (array_of n of) (map content) (list (trees_of f xs))
+  again-array n xs h = let b = again-each xs h.1 in (b.contents, ap (option_and_then (exactly n)) b.gives ∙ exactly-long n b.contents (b.long ∙ h.0), λ w r e. ap list (b.trees w r.1 e))
 
 -- ---- pairs
 

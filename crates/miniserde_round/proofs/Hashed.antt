@@ -35,9 +35,9 @@ all_contained P [] h = tt
 all_contained P (x ∷ xs) h = (h x (contains-first x xs), all_contained P xs (λ y c. h y (contains-later x y xs c)))
 
 -- the first parts
-pub firsts : {X : Type 0} (P Q : X → Type 0) (xs : List X) → AllByRecursion (λ x. P x × Q x) xs → AllByRecursion P xs
+pub firsts : {K V : Type 0} (P : K → Type 0) (Q : V → Type 0) (es : List (K × V)) → AllByRecursion (λ e. P e.0 × Q e.1) es → AllByRecursion (λ e. P e.0) es
 firsts P Q [] h = tt
-firsts P Q (x ∷ xs) h = (h.0.0, firsts P Q xs h.1)
+firsts P Q (e ∷ es) h = (h.0.0, firsts P Q es h.1)
 
 -- ---- members in the order of their names
 
@@ -164,7 +164,7 @@ module _ {K V C : Type 0} (read : Name → Option Key) (code : Key → Key) (con
         | None ↦ λ n s. absurd (cc)
         | Some g ↦ λ n s.
             let m = found code_of (code_of e.0) fs g n in
-            let stands = of_contained (Stands text f (members_of text f fs)) fs g (own fs (firsts (λ e. key_real e.0) (λ e. real e.1) fs p) a) m.0 in
+            let stands = of_contained (Stands text f (members_of text f fs)) fs g (own fs (firsts key_real real fs p) a) m.0 in
             let tree : f g.1 ≡ f e.1 = k.2 g.1 (of_contained (λ e. key_real e.0 × real e.1) fs g p m.0).1 (ap (λ z. z.1) (same_Some _ _ s)) in
             ap (λ n. last_of n (members_of text f fs)) (sym (one_text g.0 e.0 m.1)) ∙ stands ∙ ap Some tree
       ] refl at

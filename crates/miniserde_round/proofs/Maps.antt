@@ -42,9 +42,9 @@ module _ {K V C : Type 0} (read : Name → Option Key) (code : Key → Key) (con
     }
   ] refl back
 
-  pub all_kept : (key_real : K → Type 0) → ((k : K) → key_real k → option_map code (read (text k)) ≡ Some (code (content k))) → (es : List (K × V)) → AllByRecursion (λ e. key_real e.0 × ReadsAgain real f of value (f e.1)) es → AllByRecursion Kept es
-  all_kept key_real back [] h = tt
-  all_kept key_real back (e ∷ es) h = (kept e (back e.0 h.0.0) h.0.1, all_kept key_real back es h.1)
+  pub all_kept : (key_real : K → Type 0) → ((k : K) → key_real k → option_map code (read (text k)) ≡ Some (code (content k))) → ((x : V) → real x → ReadsAgain real f of value (f x)) → (es : List (K × V)) → AllByRecursion (λ e. key_real e.0 × real e.1) es → AllByRecursion Kept es
+  all_kept key_real back again [] h = tt
+  all_kept key_real back again (e ∷ es) h = (kept e (back e.0 h.0.0) (again e.1 h.0.1), all_kept key_real back again es h.1)
 
   -- ---- every member is taken
 

@@ -1,6 +1,5 @@
 //! Values that read back as they were written.
 ghost use Rattle.std.specs.Prelude.{◌≡◌, IfOk, Ok, Err};
-ghost use Rattle.std.specs.List.{AllByRecursion};
 ghost use Rattle.miniserde_round.specs.RoundTrip.{ReadsAgain};
 ghost use Rattle.miniserde_text.specs.declared.error.Error.{Error};
 
@@ -17,10 +16,11 @@ use std::hash::{BuildHasher, Hash};
 
 /// A type whose values read back as they were written.
 pub trait RoundTrip: Ranged + Serialize + Deserialize {
-    /// Does nothing. It promises that the value's tree gives a value, and that each value that it gives has that tree.
-    fn again(&self)
-        ensures { ReadsAgain Self.real Self.tree
-            Self.Place.meaning.from_tree Self.Place.meaning.content (Self.tree self.now) };
+    /// Does nothing. It promises that the tree of each value that Rust has gives a value, and that each value that it
+    /// gives has that tree.
+    fn again()
+        ensures { (v : Self) → Self.real v → ReadsAgain Self.real Self.tree
+            Self.Place.meaning.from_tree Self.Place.meaning.content (Self.tree v) };
 }
 
 /// Writes a value and reads it again.
@@ -31,7 +31,8 @@ pub fn read_again<T: RoundTrip>(alloc: Global, value: &T) -> Result<T>
         → IfOk result (λ v. T.Place.meaning.content v ≡ T.Place.meaning.content value.now) }
     ensures memory { result ≡ Err Error.Invalid → ⊥ }
 {
-    value.again();
+    value.ranged();
+    T::again();
     let text = to_string(alloc, value)?;
     let again: T = from_str(alloc, text.as_str())?;
     again.ranged();
@@ -39,141 +40,97 @@ pub fn read_again<T: RoundTrip>(alloc: Global, value: &T) -> Result<T>
 }
 
 impl RoundTrip for () {
-    fn again(&self) {
-        // Read, so that a proof knows that the value is one of the type; so below.
-        let _value = *self;
-    }
+    fn again() {}
 }
 
 impl RoundTrip for bool {
-    fn again(&self) {
-        let _value = *self;
-    }
+    fn again() {}
 }
 
 impl RoundTrip for u8 {
-    fn again(&self) {
-        let _value = *self;
-    }
+    fn again() {}
 }
 
 impl RoundTrip for u16 {
-    fn again(&self) {
-        let _value = *self;
-    }
+    fn again() {}
 }
 
 impl RoundTrip for u32 {
-    fn again(&self) {
-        let _value = *self;
-    }
+    fn again() {}
 }
 
 impl RoundTrip for u64 {
-    fn again(&self) {
-        let _value = *self;
-    }
+    fn again() {}
 }
 
 impl RoundTrip for usize {
-    fn again(&self) {
-        let _value = *self;
-    }
+    fn again() {}
 }
 
 impl RoundTrip for i8 {
-    fn again(&self) {
-        let _value = *self;
-    }
+    fn again() {}
 }
 
 impl RoundTrip for i16 {
-    fn again(&self) {
-        let _value = *self;
-    }
+    fn again() {}
 }
 
 impl RoundTrip for i32 {
-    fn again(&self) {
-        let _value = *self;
-    }
+    fn again() {}
 }
 
 impl RoundTrip for i64 {
-    fn again(&self) {
-        let _value = *self;
-    }
+    fn again() {}
 }
 
 impl RoundTrip for isize {
-    fn again(&self) {
-        let _value = *self;
-    }
+    fn again() {}
 }
 
 impl RoundTrip for String {
-    fn again(&self) {}
-}
-
-// Each of the values reads back.
-fn again_all<T: RoundTrip>(items: &[T])
-    ensures { AllByRecursion (λ x.
-        ReadsAgain T.real T.tree T.Place.meaning.from_tree T.Place.meaning.content (T.tree x)) items.now }
-{
-    for item in items {
-        item.again();
-    }
+    fn again() {}
 }
 
 impl<T: RoundTrip> RoundTrip for Vec<T> {
-    fn again(&self) {
-        again_all(self.as_slice())
+    fn again() {
+        T::again()
     }
 }
 
 impl<T: RoundTrip, const N: usize> RoundTrip for [T; N] {
-    fn again(&self) {
-        again_all(self)
+    fn again() {
+        T::again()
     }
 }
 
 impl<T: RoundTrip> RoundTrip for Box<T> {
-    fn again(&self) {
-        T::again(self)
+    fn again() {
+        T::again()
     }
 }
 
 impl<T: RoundTrip> RoundTrip for Option<T> {
-    fn again(&self) {
-        match self {
-            Some(value) => value.again(),
-            None => {}
-        }
+    fn again() {
+        T::again()
     }
 }
 
 impl<A: RoundTrip, B: RoundTrip> RoundTrip for (A, B) {
-    fn again(&self) {
-        self.0.again();
-        self.1.again();
+    fn again() {
+        A::again();
+        B::again();
     }
 }
 
 impl<K: MapKey + Ord, V: RoundTrip> RoundTrip for BTreeMap<K, V> {
-    fn again(&self) {
-        for (key, value) in self {
-            key.ranged();
-            value.again();
-        }
+    fn again() {
+        V::again()
     }
 }
 
 impl<K: MapKey + Hash, V: RoundTrip, H: BuildHasher + Default + Drop> RoundTrip
     for HashMap<K, V, H> {
-    fn again(&self) {
-        for (key, value) in self {
-            key.ranged();
-            value.again();
-        }
+    fn again() {
+        V::again()
     }
 }

@@ -1,12 +1,14 @@
 //! Structs in lists in structs.
-ghost use Rattle.miniserde.specs.Tree.{members, member, no_members};
 ghost use Rattle.miniserde.specs.Place.{inside};
-ghost use Rattle.miniserde.specs.Closed.{closed};
-ghost use Rattle.std.specs.Prelude.{Option, Some, None, List, [], ◌∷◌, codes, refl};
+ghost use Rattle.miniserde.specs.Records.{names_of};
+ghost use Rattle.std.specs.Prelude.{Option, Some, None, refl};
 
 use miniserde::de::{Deserialize, Ranged, Step, Visitor};
-use miniserde::record::{Field, Fields, Four, NoField, Parts, Record, RecordPlace};
-use miniserde::ser::{Serialize, Writer, write_field};
+use miniserde::record::{
+    Field, Fields, Four, NoField, Parts, Record, RecordPlace, RoundRecord, record_again,
+    write_record,
+};
+use miniserde::ser::{Serialize, Writer};
 use miniserde::{Error, Result, RoundTrip};
 use std::alloc::Global;
 use std::collections::BTreeMap;
@@ -18,19 +20,24 @@ pub struct Port {
     pub open: bool,
 }
 
+// The names of its fields.
+const PORT_NAMES: &[&str] = &["number", "open"];
+
 impl Record for Port {
+    ghost use Rattle.rows_structs.specs.declared.hosts.TheConstants.{PORT_NAMES};
+
     type Fields = Field<u16, Field<bool, NoField>>;
 
     type Values = <Self::Fields as Fields>::Values;
 
-    ghost names = { codes "number" ∷ codes "open" ∷ [] };
+    ghost names = { names_of PORT_NAMES };
 
     ghost values = { λ v. (v.number, (v.open, tt)) };
 
     ghost made = { λ x. record { number = x.0; «open» = x.1.0 } };
 
     fn names() -> &'static [&'static str] {
-        &["number", "open"]
+        PORT_NAMES
     }
 
     fn build(parts: Self::Values) -> Port {
@@ -90,22 +97,15 @@ impl Deserialize for Port {
 }
 
 impl Serialize for Port {
-    ghost tree = { λ v. members (
-        member (codes "number") (closed (⟦<u16 as Serialize>⟧.tree v.number)) (
-        member (codes "open") (closed (⟦<bool as Serialize>⟧.tree v.open)) no_members)) };
+    ghost tree = { ⟦<Port as RoundRecord>⟧.tree };
 
     fn begin(&self, w: &mut Writer) -> Result<()> {
-        w.map()?;
-        write_field(w, "number", &self.number)?;
-        write_field(w, "open", &self.open)?;
-        w.map_finish()
+        write_record::<Port, _>(w, &Parts(&self.number, Parts(&self.open, ())))
     }
 }
 
 impl Ranged for Port {
-    ghost real = { λ v.
-        ⟦<u16 as Ranged>⟧.real v.number ×
-        ⟦<bool as Ranged>⟧.real v.open };
+    ghost real = { ⟦<Port as RoundRecord>⟧.real };
 
     fn ranged(&self) {
         self.number.ranged();
@@ -114,9 +114,8 @@ impl Ranged for Port {
 }
 
 impl RoundTrip for Port {
-    fn again(&self) {
-        self.number.again();
-        self.open.again();
+    fn again() {
+        record_again::<Port>()
     }
 }
 
@@ -128,19 +127,24 @@ pub struct Host {
     pub weight: Option<u64>,
 }
 
+// The names of its fields.
+const HOST_NAMES: &[&str] = &["name", "ports", "weight"];
+
 impl Record for Host {
+    ghost use Rattle.rows_structs.specs.declared.hosts.TheConstants.{HOST_NAMES};
+
     type Fields = Field<String, Field<Vec<Port>, Field<Option<u64>, NoField>>>;
 
     type Values = <Self::Fields as Fields>::Values;
 
-    ghost names = { codes "name" ∷ codes "ports" ∷ codes "weight" ∷ [] };
+    ghost names = { names_of HOST_NAMES };
 
     ghost values = { λ v. (v.name, (v.ports, (v.weight, tt))) };
 
     ghost made = { λ x. record { name = x.0; ports = x.1.0; weight = x.1.1.0 } };
 
     fn names() -> &'static [&'static str] {
-        &["name", "ports", "weight"]
+        HOST_NAMES
     }
 
     fn build(parts: Self::Values) -> Host {
@@ -205,25 +209,18 @@ impl Deserialize for Host {
 }
 
 impl Serialize for Host {
-    ghost tree = { λ v. members (
-        member (codes "name") (closed (⟦<String as Serialize>⟧.tree v.name)) (
-        member (codes "ports") (closed (⟦<Vec<Port> as Serialize>⟧.tree v.ports)) (
-        member (codes "weight") (closed (⟦<Option<u64> as Serialize>⟧.tree v.weight)) no_members))) };
+    ghost tree = { ⟦<Host as RoundRecord>⟧.tree };
 
     fn begin(&self, w: &mut Writer) -> Result<()> {
-        w.map()?;
-        write_field(w, "name", &self.name)?;
-        write_field(w, "ports", &self.ports)?;
-        write_field(w, "weight", &self.weight)?;
-        w.map_finish()
+        write_record::<Host, _>(
+            w,
+            &Parts(&self.name, Parts(&self.ports, Parts(&self.weight, ()))),
+        )
     }
 }
 
 impl Ranged for Host {
-    ghost real = { λ v.
-        ⟦<String as Ranged>⟧.real v.name ×
-        ⟦<Vec<Port> as Ranged>⟧.real v.ports ×
-        ⟦<Option<u64> as Ranged>⟧.real v.weight };
+    ghost real = { ⟦<Host as RoundRecord>⟧.real };
 
     fn ranged(&self) {
         self.name.ranged();
@@ -233,10 +230,8 @@ impl Ranged for Host {
 }
 
 impl RoundTrip for Host {
-    fn again(&self) {
-        self.name.again();
-        self.ports.again();
-        self.weight.again();
+    fn again() {
+        record_again::<Host>()
     }
 }
 
@@ -249,19 +244,24 @@ pub struct Config {
     pub limits: BTreeMap<String, u64>,
 }
 
+// The names of its fields.
+const CONFIG_NAMES: &[&str] = &["hosts", "main", "backup", "limits"];
+
 impl Record for Config {
+    ghost use Rattle.rows_structs.specs.declared.hosts.TheConstants.{CONFIG_NAMES};
+
     type Fields = Four<Vec<Host>, Host, Option<Box<Host>>, BTreeMap<String, u64>, NoField>;
 
     type Values = <Self::Fields as Fields>::Values;
 
-    ghost names = { codes "hosts" ∷ codes "main" ∷ codes "backup" ∷ codes "limits" ∷ [] };
+    ghost names = { names_of CONFIG_NAMES };
 
     ghost values = { λ v. (v.hosts, (v.main, (v.backup, (v.limits, tt)))) };
 
     ghost made = { λ x. record { hosts = x.0; main = x.1.0; backup = x.1.1.0; limits = x.1.1.1.0 } };
 
     fn names() -> &'static [&'static str] {
-        &["hosts", "main", "backup", "limits"]
+        CONFIG_NAMES
     }
 
     fn build(parts: Self::Values) -> Config {
@@ -328,28 +328,21 @@ impl Deserialize for Config {
 }
 
 impl Serialize for Config {
-    ghost tree = { λ v. members (
-        member (codes "hosts") (closed (⟦<Vec<Host> as Serialize>⟧.tree v.hosts)) (
-        member (codes "main") (closed (⟦<Host as Serialize>⟧.tree v.main)) (
-        member (codes "backup") (closed (⟦<Option<Box<Host>> as Serialize>⟧.tree v.backup)) (
-        member (codes "limits") (closed (⟦<BTreeMap<String, u64> as Serialize>⟧.tree v.limits)) no_members)))) };
+    ghost tree = { ⟦<Config as RoundRecord>⟧.tree };
 
     fn begin(&self, w: &mut Writer) -> Result<()> {
-        w.map()?;
-        write_field(w, "hosts", &self.hosts)?;
-        write_field(w, "main", &self.main)?;
-        write_field(w, "backup", &self.backup)?;
-        write_field(w, "limits", &self.limits)?;
-        w.map_finish()
+        write_record::<Config, _>(
+            w,
+            &Parts(
+                &self.hosts,
+                Parts(&self.main, Parts(&self.backup, Parts(&self.limits, ()))),
+            ),
+        )
     }
 }
 
 impl Ranged for Config {
-    ghost real = { λ v.
-        ⟦<Vec<Host> as Ranged>⟧.real v.hosts ×
-        ⟦<Host as Ranged>⟧.real v.main ×
-        ⟦<Option<Box<Host>> as Ranged>⟧.real v.backup ×
-        ⟦<BTreeMap<String, u64> as Ranged>⟧.real v.limits };
+    ghost real = { ⟦<Config as RoundRecord>⟧.real };
 
     fn ranged(&self) {
         self.hosts.ranged();
@@ -360,10 +353,7 @@ impl Ranged for Config {
 }
 
 impl RoundTrip for Config {
-    fn again(&self) {
-        self.hosts.again();
-        self.main.again();
-        self.backup.again();
-        self.limits.again();
+    fn again() {
+        record_again::<Config>()
     }
 }

@@ -1,12 +1,13 @@
 //! A struct of twelve fields.
-ghost use Rattle.miniserde.specs.Tree.{members, member, no_members};
 ghost use Rattle.miniserde.specs.Place.{inside};
-ghost use Rattle.miniserde.specs.Closed.{closed};
-ghost use Rattle.std.specs.Prelude.{Option, Some, None, List, [], ◌∷◌, codes, refl};
+ghost use Rattle.miniserde.specs.Records.{names_of};
+ghost use Rattle.std.specs.Prelude.{Option, Some, None, refl};
 
 use miniserde::de::{Deserialize, Ranged, Step, Visitor};
-use miniserde::record::{Fields, Four, NoField, Parts, Record, RecordPlace};
-use miniserde::ser::{Serialize, Writer, write_field};
+use miniserde::record::{
+    Fields, Four, NoField, Parts, Record, RecordPlace, RoundRecord, record_again, write_record,
+};
+use miniserde::ser::{Serialize, Writer};
 use miniserde::{Error, Result, RoundTrip};
 use std::alloc::Global;
 
@@ -27,7 +28,15 @@ pub struct User {
     pub live: bool,
 }
 
+// The names of its fields.
+const USER_NAMES: &[&str] = &[
+    "id", "name", "age", "admin", "score", "tags", "email", "shift", "groups", "note", "size",
+    "live",
+];
+
 impl Record for User {
+    ghost use Rattle.rows_structs.specs.declared.users.TheConstants.{USER_NAMES};
+
     type Fields = Four<
         u64,
         String,
@@ -44,8 +53,7 @@ impl Record for User {
 
     type Values = <Self::Fields as Fields>::Values;
 
-    ghost names = { codes "id" ∷ codes "name" ∷ codes "age" ∷ codes "admin" ∷ codes "score" ∷ codes "tags" ∷
-        codes "email" ∷ codes "shift" ∷ codes "groups" ∷ codes "note" ∷ codes "size" ∷ codes "live" ∷ [] };
+    ghost names = { names_of USER_NAMES };
 
     ghost values = { λ v. (
       v.id,
@@ -83,10 +91,7 @@ impl Record for User {
     } };
 
     fn names() -> &'static [&'static str] {
-        &[
-            "id", "name", "age", "admin", "score", "tags", "email", "shift", "groups", "note",
-            "size", "live",
-        ]
+        USER_NAMES
     }
 
     fn build(parts: Self::Values) -> User {
@@ -169,52 +174,48 @@ impl Deserialize for User {
 }
 
 impl Serialize for User {
-    ghost tree = { λ v. members (
-        member (codes "id") (closed (⟦<u64 as Serialize>⟧.tree v.id)) (
-        member (codes "name") (closed (⟦<String as Serialize>⟧.tree v.name)) (
-        member (codes "age") (closed (⟦<u8 as Serialize>⟧.tree v.age)) (
-        member (codes "admin") (closed (⟦<bool as Serialize>⟧.tree v.admin)) (
-        member (codes "score") (closed (⟦<i64 as Serialize>⟧.tree v.score)) (
-        member (codes "tags") (closed (⟦<Vec<String> as Serialize>⟧.tree v.tags)) (
-        member (codes "email") (closed (⟦<Option<String> as Serialize>⟧.tree v.email)) (
-        member (codes "shift") (closed (⟦<i8 as Serialize>⟧.tree v.shift)) (
-        member (codes "groups") (closed (⟦<Vec<u32> as Serialize>⟧.tree v.groups)) (
-        member (codes "note") (closed (⟦<Option<String> as Serialize>⟧.tree v.note)) (
-        member (codes "size") (closed (⟦<u64 as Serialize>⟧.tree v.size)) (
-        member (codes "live") (closed (⟦<bool as Serialize>⟧.tree v.live)) no_members)))))))))))) };
+    ghost tree = { ⟦<User as RoundRecord>⟧.tree };
 
     fn begin(&self, w: &mut Writer) -> Result<()> {
-        w.map()?;
-        write_field(w, "id", &self.id)?;
-        write_field(w, "name", &self.name)?;
-        write_field(w, "age", &self.age)?;
-        write_field(w, "admin", &self.admin)?;
-        write_field(w, "score", &self.score)?;
-        write_field(w, "tags", &self.tags)?;
-        write_field(w, "email", &self.email)?;
-        write_field(w, "shift", &self.shift)?;
-        write_field(w, "groups", &self.groups)?;
-        write_field(w, "note", &self.note)?;
-        write_field(w, "size", &self.size)?;
-        write_field(w, "live", &self.live)?;
-        w.map_finish()
+        write_record::<User, _>(
+            w,
+            &Parts(
+                &self.id,
+                Parts(
+                    &self.name,
+                    Parts(
+                        &self.age,
+                        Parts(
+                            &self.admin,
+                            Parts(
+                                &self.score,
+                                Parts(
+                                    &self.tags,
+                                    Parts(
+                                        &self.email,
+                                        Parts(
+                                            &self.shift,
+                                            Parts(
+                                                &self.groups,
+                                                Parts(
+                                                    &self.note,
+                                                    Parts(&self.size, Parts(&self.live, ())),
+                                                ),
+                                            ),
+                                        ),
+                                    ),
+                                ),
+                            ),
+                        ),
+                    ),
+                ),
+            ),
+        )
     }
 }
 
 impl Ranged for User {
-    ghost real = { λ v.
-        ⟦<u64 as Ranged>⟧.real v.id ×
-        ⟦<String as Ranged>⟧.real v.name ×
-        ⟦<u8 as Ranged>⟧.real v.age ×
-        ⟦<bool as Ranged>⟧.real v.admin ×
-        ⟦<i64 as Ranged>⟧.real v.score ×
-        ⟦<Vec<String> as Ranged>⟧.real v.tags ×
-        ⟦<Option<String> as Ranged>⟧.real v.email ×
-        ⟦<i8 as Ranged>⟧.real v.shift ×
-        ⟦<Vec<u32> as Ranged>⟧.real v.groups ×
-        ⟦<Option<String> as Ranged>⟧.real v.note ×
-        ⟦<u64 as Ranged>⟧.real v.size ×
-        ⟦<bool as Ranged>⟧.real v.live };
+    ghost real = { ⟦<User as RoundRecord>⟧.real };
 
     fn ranged(&self) {
         self.id.ranged();
@@ -233,18 +234,7 @@ impl Ranged for User {
 }
 
 impl RoundTrip for User {
-    fn again(&self) {
-        self.id.again();
-        self.name.again();
-        self.age.again();
-        self.admin.again();
-        self.score.again();
-        self.tags.again();
-        self.email.again();
-        self.shift.again();
-        self.groups.again();
-        self.note.again();
-        self.size.again();
-        self.live.again();
+    fn again() {
+        record_again::<User>()
     }
 }

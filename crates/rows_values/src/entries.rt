@@ -86,9 +86,8 @@ impl Ranged for Entry {
 }
 
 impl RoundTrip for Entry {
-    fn again(&self) {
-        self.code.again();
-        self.message.again();
+    fn again() {
+        <(u32, String) as RoundTrip>::again()
     }
 }
 

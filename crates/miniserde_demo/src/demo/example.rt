@@ -1,14 +1,16 @@
 //! Structs of a user's own.
-ghost use Rattle.miniserde_model.specs.Tree.{members, member, no_members};
 ghost use Rattle.miniserde_place.specs.Place.{inside};
-ghost use Rattle.miniserde_ser.specs.Closed.{closed};
-ghost use Rattle.std.specs.Prelude.{Option, Some, None, List, [], ◌∷◌, codes, refl};
+ghost use Rattle.miniserde_record.specs.Records.{names_of};
+ghost use Rattle.std.specs.Prelude.{Option, Some, None, refl};
 
 use super::tag::Tag;
 use miniserde_de::de::{Deserialize, Ranged, Step, Visitor};
-use miniserde_record::record::{Field, Fields, Four, NoField, Parts, Record, RecordPlace};
+use miniserde_record::record::{
+    Field, Fields, Four, NoField, Parts, Record, RecordPlace, RoundRecord, record_again,
+    write_record,
+};
 use miniserde_round::RoundTrip;
-use miniserde_ser::ser::{Serialize, Writer, write_field};
+use miniserde_ser::ser::{Serialize, Writer};
 use miniserde_text::error::{Error, Result};
 use std::alloc::Global;
 
@@ -19,19 +21,24 @@ pub struct Nested {
     pub z: Option<String>,
 }
 
+// The names of its fields.
+const NESTED_NAMES: &[&str] = &["y", "z"];
+
 impl Record for Nested {
+    ghost use Rattle.miniserde_demo.specs.declared.demo.example.TheConstants.{NESTED_NAMES};
+
     type Fields = Field<Option<Vec<String>>, Field<Option<String>, NoField>>;
 
     type Values = <Self::Fields as Fields>::Values;
 
-    ghost names = { codes "y" ∷ codes "z" ∷ [] };
+    ghost names = { names_of NESTED_NAMES };
 
     ghost values = { λ v. (v.y, (v.z, tt)) };
 
     ghost made = { λ x. record { y = x.0; z = x.1.0 } };
 
     fn names() -> &'static [&'static str] {
-        &["y", "z"]
+        NESTED_NAMES
     }
 
     fn build(parts: Self::Values) -> Nested {
@@ -91,20 +98,15 @@ impl Deserialize for Nested {
 }
 
 impl Serialize for Nested {
-    ghost tree = { λ v. members (
-        member (codes "y") (closed (⟦<Option<Vec<String>> as Serialize>⟧.tree v.y)) (
-        member (codes "z") (closed (⟦<Option<String> as Serialize>⟧.tree v.z)) no_members)) };
+    ghost tree = { ⟦<Nested as RoundRecord>⟧.tree };
 
     fn begin(&self, w: &mut Writer) -> Result<()> {
-        w.map()?;
-        write_field(w, "y", &self.y)?;
-        write_field(w, "z", &self.z)?;
-        w.map_finish()
+        write_record::<Nested, _>(w, &Parts(&self.y, Parts(&self.z, ())))
     }
 }
 
 impl Ranged for Nested {
-    ghost real = { λ v. ⟦<Option<Vec<String>> as Ranged>⟧.real v.y × ⟦<Option<String> as Ranged>⟧.real v.z };
+    ghost real = { ⟦<Nested as RoundRecord>⟧.real };
 
     fn ranged(&self) {
         self.y.ranged();
@@ -113,9 +115,8 @@ impl Ranged for Nested {
 }
 
 impl RoundTrip for Nested {
-    fn again(&self) {
-        self.y.again();
-        self.z.again();
+    fn again() {
+        record_again::<Nested>()
     }
 }
 
@@ -129,19 +130,24 @@ pub struct Example {
     pub nested: Box<Nested>,
 }
 
+// The names of its fields.
+const EXAMPLE_NAMES: &[&str] = &["x", "t1", "t2", "t3", "struct"];
+
 impl Record for Example {
+    ghost use Rattle.miniserde_demo.specs.declared.demo.example.TheConstants.{EXAMPLE_NAMES};
+
     type Fields = Four<String, Tag, Box<Tag>, [Tag; 1], Field<Box<Nested>, NoField>>;
 
     type Values = <Self::Fields as Fields>::Values;
 
-    ghost names = { codes "x" ∷ codes "t1" ∷ codes "t2" ∷ codes "t3" ∷ codes "struct" ∷ [] };
+    ghost names = { names_of EXAMPLE_NAMES };
 
     ghost values = { λ v. (v.x, (v.t1, (v.t2, (v.t3, (v.nested, tt))))) };
 
     ghost made = { λ x. record { x = x.0; t1 = x.1.0; t2 = x.1.1.0; t3 = x.1.1.1.0; nested = x.1.1.1.1.0 } };
 
     fn names() -> &'static [&'static str] {
-        &["x", "t1", "t2", "t3", "struct"]
+        EXAMPLE_NAMES
     }
 
     fn build(parts: Self::Values) -> Example {
@@ -210,31 +216,24 @@ impl Deserialize for Example {
 }
 
 impl Serialize for Example {
-    ghost tree = { λ v. members (
-        member (codes "x") (closed (⟦<String as Serialize>⟧.tree v.x)) (
-        member (codes "t1") (closed (⟦<Tag as Serialize>⟧.tree v.t1)) (
-        member (codes "t2") (closed (⟦<Box<Tag> as Serialize>⟧.tree v.t2)) (
-        member (codes "t3") (closed (⟦<[Tag; 1] as Serialize>⟧.tree v.t3)) (
-        member (codes "struct") (closed (⟦<Box<Nested> as Serialize>⟧.tree v.nested)) no_members))))) };
+    ghost tree = { ⟦<Example as RoundRecord>⟧.tree };
 
     fn begin(&self, w: &mut Writer) -> Result<()> {
-        w.map()?;
-        write_field(w, "x", &self.x)?;
-        write_field(w, "t1", &self.t1)?;
-        write_field(w, "t2", &self.t2)?;
-        write_field(w, "t3", &self.t3)?;
-        write_field(w, "struct", &self.nested)?;
-        w.map_finish()
+        write_record::<Example, _>(
+            w,
+            &Parts(
+                &self.x,
+                Parts(
+                    &self.t1,
+                    Parts(&self.t2, Parts(&self.t3, Parts(&self.nested, ()))),
+                ),
+            ),
+        )
     }
 }
 
 impl Ranged for Example {
-    ghost real = { λ v.
-        ⟦<String as Ranged>⟧.real v.x ×
-        ⟦<Tag as Ranged>⟧.real v.t1 ×
-        ⟦<Box<Tag> as Ranged>⟧.real v.t2 ×
-        ⟦<[Tag; 1] as Ranged>⟧.real v.t3 ×
-        ⟦<Box<Nested> as Ranged>⟧.real v.nested };
+    ghost real = { ⟦<Example as RoundRecord>⟧.real };
 
     fn ranged(&self) {
         self.x.ranged();
@@ -246,11 +245,7 @@ impl Ranged for Example {
 }
 
 impl RoundTrip for Example {
-    fn again(&self) {
-        self.x.again();
-        self.t1.again();
-        self.t2.again();
-        self.t3.again();
-        self.nested.again();
+    fn again() {
+        record_again::<Example>()
     }
 }

@@ -3,7 +3,7 @@ ghost use Rattle.std.specs.Prelude.{◌≡◌, ◌∷◌, true, List, [], Option
 ghost use Rattle.miniserde_model.specs.Tree.{str};
 
 use miniserde_de::de::{Deserialize, Ranged};
-use miniserde_record::record::{NamePlace, UnitEnum};
+use miniserde_record::record::{NamePlace, UnitEnum, variant_again};
 use miniserde_round::RoundTrip;
 use miniserde_ser::ser::{Fragment, Serialize, Writer};
 use miniserde_text::error::Result;
@@ -63,11 +63,7 @@ impl Ranged for Tag {
 }
 
 impl RoundTrip for Tag {
-    fn again(&self) {
-        match self {
-            Tag::A => {}
-            Tag::B => {}
-            Tag::Enum => {}
-        }
+    fn again() {
+        variant_again::<Tag>()
     }
 }

@@ -1,10 +1,11 @@
 //! Unit enums, whose values are strings: their names.
-ghost use Rattle.std.specs.Prelude.{◌≡◌, true, Option, Some, Err, List};
+ghost use Rattle.std.specs.Prelude.{◌≡◌, true, Option, Some, Err, List, ⊤};
 ghost use Rattle.miniserde_model.specs.Tree.{str};
 ghost use Rattle.miniserde_text.specs.declared.error.Error.{Error};
 ghost use Rattle.miniserde_place.specs.Leaf.{from_one_event, from_leaf};
 ghost use Rattle.miniserde_place.specs.laws.Leaf.{one-event};
 ghost use Rattle.miniserde_de.specs.Objects.{Name};
+ghost use Rattle.miniserde_round.specs.RoundTrip.{ReadsAgain};
 ghost use Rattle.miniserde_record.specs.Names.{named, named_of};
 ghost use Rattle.miniserde_record.specs.laws.Names.{named-given};
 
@@ -131,3 +132,10 @@ impl<T: UnitEnum + 'static> Visitor for NamePlace<T> {
         Ok(self.place.take()?.value)
     }
 }
+
+/// Does nothing. It promises a unit enum's round trip, in the form that `RoundTrip` asks: Rust has each of its values.
+pub fn variant_again<T: UnitEnum>()
+    ensures { (v : T) → ⊤
+        → ReadsAgain (λ _. ⊤) (λ v. str (T.name_of v)) (from_leaf (named_of T.name_of T.all)) (λ v. v)
+        (str (T.name_of v)) }
+{}

@@ -8,17 +8,17 @@ use miniserde_value::json::value::Value;
 
 // An `I64` of at least 0 is written as the `U64` of that number, and reads back as one.
 impl RoundTrip for Number {
-    fn again(&self) {}
+    fn again() {}
 }
 
 impl RoundTrip for Value {
-    fn again(&self) {}
+    fn again() {}
 }
 
 impl RoundTrip for Array {
-    fn again(&self) {}
+    fn again() {}
 }
 
 impl RoundTrip for Object {
-    fn again(&self) {}
+    fn again() {}
 }

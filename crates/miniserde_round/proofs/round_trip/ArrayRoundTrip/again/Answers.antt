@@ -2,4 +2,4 @@ use Rattle.miniserde_round.proofs.Again.{again-array}
 use Rattle.miniserde_round.proofs.round_trip.ArrayRoundTrip.again.Goals as goal
 
 pub returns : goal.returns
-returns g c = again-array g.T.Ranged.real g.T.Serialize.tree g.T.Place.Visitor.meaning.from_tree g.T.Place.Visitor.meaning.content g.row.N c.args.self.now c.type_inv.self c.again_all.ensures
+returns g c = λ v r. again-array g.T.Ranged.real g.T.Serialize.tree g.T.Place.Visitor.meaning.from_tree g.T.Place.Visitor.meaning.content c.again.ensures g.row.N v r

@@ -1,21 +1,14 @@
 -- Each key and each value reads again, and so does the map.
-use Rattle.std.proofs.Common.{rules, ◌≡◌, map, sym, subst, ◌∙◌}
-use Rattle.std.specs.List.{AllByRecursion}
-use Rattle.std.specs.Map.Iter.{deref_pair}
-use Rattle.std.proofs.lemmas.Map.Iter.{iter_end}
-use Rattle.miniserde_round.specs.RoundTrip.{ReadsAgain}
+use Rattle.std.proofs.Common.{sym, ◌∙◌}
 use Rattle.miniserde_round.proofs.Maps.{all_kept}
 use Rattle.miniserde_round.proofs.Sorted.{again-sorted}
 use Rattle.miniserde_round.proofs.round_trip.BTreeMapRoundTrip.again.Goals as goal
 
 pub returns : goal.returns
-returns g c =
-    let es = c.args.self.now.entries in
+returns g c = λ m r.
     let v = g.V.Place.Visitor.meaning in
     let tree = g.V.Serialize.tree in
-    let Whole : g.row.K.Denot × g.row.V.Denot → Type 0 = λ e. g.K.Ranged.real e.0 × ReadsAgain g.V.Ranged.real tree v.from_tree v.content (tree e.1) in
-    let whole : map deref_pair c.loop-key.yielded ≡ es = search (rules, iter_end) in
-    let all : AllByRecursion Whole es = subst (AllByRecursion Whole) whole c.loop-key.invariant in
     let k = g.K.MapKey in
-    again-sorted k.read k.code k.content k.text g.V.Ranged.real tree v.from_tree v.content g.K.Ranged.real g.K.Ord.cmp g.met.K.Ord.total (λ a b. sym (g.met.K.Ord.matches_eq a b) ∙ g.met.K.MapKey.alike a b) g.met.K.MapKey.one_text
-    (λ m. m.entries) c.args.self.now (all_kept k.read k.code k.content k.text g.V.Ranged.real tree v.from_tree v.content g.K.Ranged.real g.met.K.MapKey.back es all) c.into_iter-key-iterator.ensures.into_iter_gives.5
+    let laws = g.met.K.MapKey in
+    again-sorted k.read k.code k.content k.text g.V.Ranged.real tree v.from_tree v.content g.K.Ranged.real g.K.Ord.cmp g.met.K.Ord.total (λ a b. sym (g.met.K.Ord.matches_eq a b) ∙ laws.alike a b) laws.one_text
+    (λ m. m.entries) m (all_kept k.read k.code k.content k.text g.V.Ranged.real tree v.from_tree v.content g.K.Ranged.real laws.back c.again.ensures m.entries r.1) r.0

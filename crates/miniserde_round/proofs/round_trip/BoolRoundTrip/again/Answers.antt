@@ -2,4 +2,4 @@ use Rattle.miniserde_round.proofs.Again.{again-truth}
 use Rattle.miniserde_round.proofs.round_trip.BoolRoundTrip.again.Goals as goal
 
 pub returns : goal.returns
-returns c = again-truth c.args.self.now
+returns c = λ v r. again-truth v

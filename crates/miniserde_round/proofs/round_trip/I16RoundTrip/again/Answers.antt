@@ -1,6 +1,7 @@
-use Rattle.std.proofs.Common.{rules}
-use Rattle.miniserde_round.proofs.Again.{again-signed, signed-fits}
+use Rattle.std.proofs.Common.{refl}
+use Rattle.miniserde_round.proofs.Again.{again-signed, signed-real}
+use Rattle.std.specs.Int.{w16}
 use Rattle.miniserde_round.proofs.round_trip.I16RoundTrip.again.Goals as goal
 
 pub returns : goal.returns
-returns c = again-signed 16 _ c.args.self.now (signed-fits 16 c.args.self.now (search rules) (search rules))
+returns c = λ v r. again-signed 16 _ v (signed-real 16 w16 refl v r)

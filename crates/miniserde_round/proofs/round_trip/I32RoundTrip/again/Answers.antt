@@ -1,6 +1,7 @@
-use Rattle.std.proofs.Common.{rules}
-use Rattle.miniserde_round.proofs.Again.{again-signed, signed-fits}
+use Rattle.std.proofs.Common.{refl}
+use Rattle.miniserde_round.proofs.Again.{again-signed, signed-real}
+use Rattle.std.specs.Int.{w32}
 use Rattle.miniserde_round.proofs.round_trip.I32RoundTrip.again.Goals as goal
 
 pub returns : goal.returns
-returns c = again-signed 32 _ c.args.self.now (signed-fits 32 c.args.self.now (search rules) (search rules))
+returns c = λ v r. again-signed 32 _ v (signed-real 32 w32 refl v r)

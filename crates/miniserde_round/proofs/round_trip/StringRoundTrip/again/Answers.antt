@@ -3,4 +3,4 @@ use Rattle.std.specs.String.{string_bytes}
 use Rattle.miniserde_round.proofs.round_trip.StringRoundTrip.again.Goals as goal
 
 pub returns : goal.returns
-returns c = again-text string_bytes c.args.self.now
+returns c = λ v r. again-text string_bytes v

@@ -1,6 +1,5 @@
-use Rattle.std.proofs.Common.{rules}
 use Rattle.miniserde_round.proofs.Again.{again-unsigned}
 use Rattle.miniserde_round.proofs.round_trip.U8RoundTrip.again.Goals as goal
 
 pub returns : goal.returns
-returns c = again-unsigned 8 c.args.self.now (search rules)
+returns c = λ v r. again-unsigned 8 v r

@@ -2,4 +2,4 @@ use Rattle.miniserde_round.proofs.Documents.{again-number}
 use Rattle.miniserde_round.proofs.round_trip.documents.NumberRoundTrip.again.Goals as goal
 
 pub returns : goal.returns
-returns c = again-number c.args.self.now
+returns c = λ v r. again-number v

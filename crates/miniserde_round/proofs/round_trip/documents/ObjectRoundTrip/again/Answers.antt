@@ -2,4 +2,4 @@ use Rattle.miniserde_round.proofs.Documents.{again-object}
 use Rattle.miniserde_round.proofs.round_trip.documents.ObjectRoundTrip.again.Goals as goal
 
 pub returns : goal.returns
-returns c = again-object c.args.self.now
+returns c = λ v r. again-object v
