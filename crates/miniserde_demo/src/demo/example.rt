@@ -144,7 +144,13 @@ impl Record for Example {
 
     ghost values = { λ v. (v.x, (v.t1, (v.t2, (v.t3, (v.nested, tt))))) };
 
-    ghost made = { λ x. record { x = x.0; t1 = x.1.0; t2 = x.1.1.0; t3 = x.1.1.1.0; nested = x.1.1.1.1.0 } };
+    ghost made = { λ x. record {
+      x = x.0;
+      t1 = x.1.0;
+      t2 = x.1.1.0;
+      t3 = x.1.1.1.0;
+      nested = x.1.1.1.1.0;
+    } };
 
     fn names() -> &'static [&'static str] {
         EXAMPLE_NAMES

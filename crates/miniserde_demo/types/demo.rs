@@ -1,0 +1,11 @@
+/// A struct of two fields.
+pub struct Demo {
+    pub code: u32,
+    pub message: String,
+}
+
+/// A struct of two fields of one type.
+pub struct Point {
+    pub x: u32,
+    pub y: u32,
+}

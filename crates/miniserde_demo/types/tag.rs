@@ -1,0 +1,5 @@
+pub enum Tag {
+    A,
+    B,    // rename "renamedB"
+    Enum, // rename "enum"
+}
