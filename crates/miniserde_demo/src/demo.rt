@@ -50,7 +50,7 @@ impl Record for Demo {
         Demo { code, message }
     }
 
-    ghost whole = { λ v. refl };
+    ghost whole = { (λ v. refl, λ x. refl) };
 
     ghost named = { refl };
 }
@@ -156,7 +156,7 @@ impl Record for Point {
         Point { x, y }
     }
 
-    ghost whole = { λ v. refl };
+    ghost whole = { (λ v. refl, λ x. refl) };
 
     ghost named = { refl };
 }

@@ -1,11 +1,11 @@
 /// A struct of two optional fields.
-pub struct Nested {
+pub struct Nested { // lossless
     pub y: Option<Vec<String>>,
     pub z: Option<String>,
 }
 
 /// A struct of five fields, one of which is written under another name.
-pub struct Example {
+pub struct Example { // lossless
     pub x: String,
     pub t1: Tag,
     pub t2: Box<Tag>,

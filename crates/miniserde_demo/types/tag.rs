@@ -1,4 +1,4 @@
-pub enum Tag {
+pub enum Tag { // lossless
     A,
     B,    // rename "renamedB"
     Enum, // rename "enum"

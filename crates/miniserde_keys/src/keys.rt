@@ -8,11 +8,13 @@ ghost use Rattle.miniserde_text.specs.declared.error.Error.{Error};
 ghost use Rattle.miniserde_text.specs.declared.error.Error.TheVariants.{Memory};
 
 mod integers;
+mod whole;
 mod words;
 
 use crate::ranged::Ranged;
 use miniserde_text::error::Result;
 use std::alloc::Global;
+pub use whole::WholeKey;
 
 /// A type whose values are written as the names of an object's members.
 pub trait MapKey: Ranged + Sized + Eq + Drop {
@@ -47,8 +49,9 @@ pub trait MapKey: Ranged + Sized + Eq + Drop {
     // Keys are equal exactly where their codes are.
     ghost alike: { (a b : Self) → Self.eq a b ≡ bytes_eq (code (content a)) (code (content b)) };
 
-    // A written key reads as an equal key.
-    ghost back: { (k : Self) → Self.real k → option_map code (read (text k)) ≡ Some (code (content k)) };
+    // A written key reads as an equal key, which is one that Rust has.
+    ghost back: { (k : Self) → Self.real k
+        → (w : Self) × Self.real w × (read (text k) ≡ Some (content w)) × (code (content w) ≡ code (content k)) };
 
     // Equal keys have one text.
     ghost one_text: { (a b : Self) → code (content a) ≡ code (content b) → text a ≡ text b };

@@ -6,5 +6,5 @@ mod ranged;
 #[cfg(test)]
 mod tests;
 
-pub use keys::MapKey;
+pub use keys::{MapKey, WholeKey};
 pub use ranged::Ranged;

@@ -1,13 +1,14 @@
 -- The fields of a struct read again, one after another, where each has a name of its own.
-use Rattle.std.proofs.Common.{◌≡◌, ℕ, ◌+◌, Bool, true, false, not, ◌&&◌, nat_eq, List, [], ◌∷◌, length, Option, Some, None, refl, ap, ◌∙◌, arith}
-use Rattle.std.specs.Prelude.{bytes_eq}
+use Rattle.std.proofs.Common.{◌≡◌, ℕ, ◌+◌, Bool, true, false, not, ◌&&◌, nat_eq, List, [], ◌∷◌, length, Option, Some, None, refl, sym, ap, subst, ◌∙◌, true≢false, arith}
+use Rattle.std.specs.Prelude.{◌↔◌, IsSome, bytes_eq}
 use Rattle.std.proofs.lemmas.Bool.Decides.{nat_tests}
 use Rattle.std.proofs.lemmas.Slice.Eq.{bytes_eq-Decides}
 use Rattle.miniserde_model.specs.Tree.{Tree, Members, no_members, member}
+use Rattle.miniserde_model.specs.Normal.{last_of}
 use Rattle.miniserde_text.proofs.Equal.{bytes_eq-flips}
 use Rattle.miniserde_de.specs.Objects.{Name}
 use Rattle.miniserde_round.specs.RoundTrip.{ReadsAgain}
-use Rattle.miniserde_record.specs.Fields.{others, last_given, field_given}
+use Rattle.miniserde_record.specs.Fields.{others, AllNamed, MeansOr, FieldsRead}
 use Rattle.miniserde_record.specs.Records.{is_new, are_distinct, are_names}
 use Rattle.miniserde_record.specs.Structs.{with_names, members_text, FieldsAgain}
 
@@ -41,25 +42,52 @@ others_new n [] ts h = refl
 others_new n (k ∷ ks) [] h = refl
 others_new n (k ∷ ks) (t ∷ ts) h = let p = apart n k ks h in rw p.0 (ap (member k t) (others_new n ks ts p.1))
 
-last_new : {C : Type 0} (of : Tree → Option C) (n : Name) (d : Option C) (ns : List Name) (ts : List Tree) → is_new n ns ≡ true → last_given of n d (with_names ns ts) ≡ Some d
-last_new of n d [] ts h = refl
-last_new of n d (k ∷ ks) [] h = refl
-last_new of n d (k ∷ ks) (t ∷ ts) h = let p = apart n k ks h in rw p.0 (last_new of n d ks ts p.1)
+-- so each one that has it means something
+all_new : {C : Type 0} (of : Tree → Option C) (n : Name) (ns : List Name) (ts : List Tree) → is_new n ns ≡ true → AllNamed of n (with_names ns ts)
+all_new of n [] ts h = tt
+all_new of n (k ∷ ks) [] h = tt
+all_new of n (k ∷ ks) (t ∷ ts) h = let p = apart n k ks h in (λ e. absurd (true≢false (sym e ∙ p.0)), all_new of n ks ts p.1)
 
-module _ {A C W S D : Type 0} (real_a : A → Type 0) (tree : A → Tree) (of : Tree → Option C) (content : A → C) (absent : Option C)
-    (real_r : W → Type 0) (trees : W → List Tree) (count : ℕ) (gives : List Name → S → Members → Option D) (content_r : W → D) (empty : S)
-    (first : (v : A) → real_a v → ReadsAgain real_a tree of content (tree v))
-    (later : (names : List Name) (v : W) → are_names count names ≡ true → real_r v → FieldsAgain real_r trees (gives names empty) content_r names (trees v)) where
+-- and there is no last one
+last_new : (n : Name) (ns : List Name) (ts : List Tree) → is_new n ns ≡ true → last_of n (with_names ns ts) ≡ None
+last_new n [] ts h = refl
+last_new n (k ∷ ks) [] h = refl
+last_new n (k ∷ ks) (t ∷ ts) h = let p = apart n k ks h in rw (p.0, last_new n ks ts p.1) refl
+
+-- a new name's own member is its last one
+last_own : (n : Name) (t : Tree) (ns : List Name) (ts : List Tree) → is_new n ns ≡ true → last_of n (member n t (with_names ns ts)) ≡ Some t
+last_own n t ns ts h = rw (last_new n ns ts h, same n) refl
+
+-- and the others are the later ones
+others_own : (n : Name) (t : Tree) (ns : List Name) (ts : List Tree) → is_new n ns ≡ true → others n (member n t (with_names ns ts)) ≡ with_names ns ts
+others_own n t ns ts h = rw (same n) (others_new n ns ts h)
+
+module _ {A C W : Type 0} (real_a : A → Type 0) (tree : A → Tree) (reads : Tree → A → Type 0) (of : Tree → Option C) (content : A → C) (absent : Option A) (given : (t : Tree) (v : A) → reads t v ↔ (of t ≡ Some (content v)))
+    (real_r : W → Type 0) (trees : W → List Tree) (count : ℕ) (reads_r : List Name → Members → W → Type 0)
+    (first : (v : A) → real_a v → ReadsAgain real_a tree reads (tree v))
+    (later : (names : List Name) (v : W) → are_names count names ≡ true → real_r v → FieldsAgain real_r trees reads_r names (trees v)) where
   pub again-field : (names : List Name) (v : A × W) → are_names (count + 1) names ≡ true → real_a v.0 × real_r v.1
-      → FieldsAgain (λ (v : A × W). real_a v.0 × real_r v.1) (λ v. tree v.0 ∷ trees v.1) (field_given of absent gives names (None, empty)) (λ v. (content v.0, content_r v.1)) names (tree v.0 ∷ trees v.1)
+      → FieldsAgain (λ (v : A × W). real_a v.0 × real_r v.1) (λ v. tree v.0 ∷ trees v.1) (FieldsRead reads of content absent reads_r) names (tree v.0 ∷ trees v.1)
   again-field [] v f r = absurd (no_names count f)
   again-field (n ∷ ns) v f r =
       let f = more_names count n ns f in
       let a = first v.0 r.0 in
-      let b = later ns v.1 f.1 r.1 in (
-        (a.0, b.0),
-        rw (same n, a.1, last_new of n (Some a.0) ns (trees v.1) f.0, others_new n ns (trees v.1) f.0, b.1) refl,
-        λ w s e. rw (a.2 w.0 s.0 (ap (λ z. z.0) e), b.2 w.1 s.1 (ap (λ z. z.1) e)) refl,
+      let b = later ns v.1 f.1 r.1 in
+      let last = last_own n (tree v.0) ns (trees v.1) f.0 in
+      let rest = others_own n (tree v.0) ns (trees v.1) f.0 in
+      let some : IsSome (of (tree v.0)) = rw ((given (tree v.0) a.0.0).0 a.0.2) refl in (
+        (
+          (a.0.0, b.0.0),
+          (a.0.1, b.0.1),
+          (
+            ((λ _. some, all_new of n ns (trees v.1) f.0), subst (λ o. MeansOr reads content absent o a.0.0) (sym last) a.0.2),
+            subst (λ ms. reads_r ns ms b.0.0) (sym rest) b.0.2,
+          ),
+        ),
+        λ w s e. rw (
+          a.1 w.0 s.0 (subst (λ o. MeansOr reads content absent o w.0) last e.0.1),
+          b.1 w.1 s.1 (subst (λ ms. reads_r ns ms w.1) rest e.1),
+        ) refl,
       )
 
 -- ---- writing

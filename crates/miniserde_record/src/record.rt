@@ -2,12 +2,14 @@
 
 mod fields;
 mod fours;
+mod lossless;
 mod names;
 mod rounds;
 mod structs;
 
 pub use fields::{Field, FieldOf, Fields, NoField, Parts};
 pub use fours::{Four, FourOf};
-pub use names::{NamePlace, UnitEnum, variant_again};
+pub use lossless::{LosslessFields, record_lossless};
+pub use names::{NamePlace, UnitEnum, variant_again, variant_lossless};
 pub use rounds::{RoundFields, RoundRecord, WriteFields, record_again, write_record};
 pub use structs::{Record, RecordPlace};

@@ -1,5 +1,8 @@
 pub mod Again
+pub mod Agree
 pub mod Maps
 pub mod Sorted
 pub mod Hashed
 pub mod Documents
+pub mod LosslessLists
+pub mod LosslessMaps

@@ -1,6 +1,8 @@
 //! Values that read back as they were written.
 #![tactic(auto)]
 
+mod lossless;
 mod round_trip;
 
+pub use lossless::{Lossless, NeverNull, read_itself};
 pub use round_trip::{RoundTrip, read_again};

@@ -16,11 +16,11 @@ use std::hash::{BuildHasher, Hash};
 
 /// A type whose values read back as they were written.
 pub trait RoundTrip: Ranged + Serialize + Deserialize {
-    /// Does nothing. It promises that the tree of each value that Rust has gives a value, and that each value that it
-    /// gives has that tree.
+    /// Does nothing. It promises that the tree of each value that Rust has means a value that Rust has, and that each
+    /// such value has that tree.
     fn again()
-        ensures { (v : Self) → Self.real v → ReadsAgain Self.real Self.tree
-            Self.Place.meaning.from_tree Self.Place.meaning.content (Self.tree v) };
+        ensures { (v : Self) → Self.real v
+            → ReadsAgain Self.real Self.tree Self.Place.meaning.reads (Self.tree v) };
 }
 
 /// Writes a value and reads it again.

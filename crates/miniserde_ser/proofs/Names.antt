@@ -1,20 +1,24 @@
 -- Keys that differ have names that differ.
-use Rattle.std.proofs.Common.{◌≡◌, ℕ, Bool, false, List, [], ◌∷◌, ◌++◌, map, Option, Some, option_map, bytes_eq, refl, sym, ap, ◌∙◌, true≢false}
+use Rattle.std.proofs.Common.{◌≡◌, ℕ, Bool, false, List, [], ◌∷◌, ◌++◌, map, Option, Some, bytes_eq, refl, sym, ap, ◌∙◌, true≢false}
 use Rattle.std.specs.List.{AllByRecursion, IsDistinct}
 use Rattle.std.proofs.lemmas.List.{map-append}
+use Rattle.std.proofs.lemmas.Option.{same_Some}
 use Rattle.std.proofs.lemmas.Bool.{false_from_ne_true}
 use Rattle.std.proofs.lemmas.Slice.Eq.{bytes_eq-Decides}
 use Rattle.miniserde_model.specs.Tree.{Tree}
 use Rattle.miniserde_keys.specs.Keys.{Key}
+use Rattle.miniserde_keys.specs.laws.Keys.{ReadsBack}
 use Rattle.miniserde_ser.specs.Trees.{members_of}
 
 -- by the laws of a key
-module _ {K : Type 0} (eq : K → K → Bool) (real : K → Type 0) (content : K → Key) (code : Key → Key) (read : List ℕ → Option Key) (text : K → List ℕ) (alike : (a b : K) → eq a b ≡ bytes_eq (code (content a)) (code (content b))) (back : (k : K) → real k → option_map code (read (text k)) ≡ Some (code (content k))) where
+module _ {K : Type 0} (eq : K → K → Bool) (real : K → Type 0) (content : K → Key) (code : Key → Key) (read : List ℕ → Option Key) (text : K → List ℕ) (alike : (a b : K) → eq a b ≡ bytes_eq (code (content a)) (code (content b))) (back : ReadsBack real content code read text) where
   differ : (a b : K) → real a → real b → eq a b ≡ false → bytes_eq (text a) (text b) ≡ false
   differ a b ra rb h = false_from_ne_true _ (λ e.
       let same : text a ≡ text b = (bytes_eq-Decides (text a) (text b)).0 e in
-      let codes : Some (code (content a)) ≡ Some (code (content b)) = sym (back a ra) ∙ ap (λ t. option_map code (read t)) same ∙ back b rb in
-      let one : code (content a) ≡ code (content b) = cc in
+      let c = back a ra in
+      let d = back b rb in
+      let read_same : Some (content c.0) ≡ Some (content d.0) = sym c.2 ∙ ap read same ∙ d.2 in
+      let one : code (content a) ≡ code (content b) = sym c.3 ∙ ap code (same_Some _ _ read_same) ∙ d.3 in
       true≢false (sym ((bytes_eq-Decides _ _).1 one) ∙ sym (alike a b) ∙ h))
 
   all_differ : {V : Type 0} (a : K) (es : List (K × V)) → real a → AllByRecursion (λ e. real e.0) es → AllByRecursion (λ b. eq a b ≡ false) (map (λ e. e.0) es) → AllByRecursion (λ n. bytes_eq (text a) n ≡ false) (map (λ e. text e.0) es)

@@ -286,7 +286,7 @@ pub trait Serialize {
     /// The tree of a value.
     ghost tree: { Self → Tree };
 
-    /// Appends the text. What was appended before a refusal stays in the writer, which hands out no text any more.
+    /// Appends the text. A writer that was refused hands out no text any more.
     fn begin(&self, w: &mut Writer) -> Result<()>
         ensures ok { OnOk result (w.new.text ≡ w.old.text ++ compact (tree self.now)) }
         ensures is_tree { OnOk result (IsTree (tree self.now)) }

@@ -1,6 +1,7 @@
 //! Maps, ordered and hashed: read, refused, and written again.
 
 use miniserde::json::from_str;
+use miniserde::read_itself;
 use rows::{again, first_other, first_taken, first_wrong};
 use std::collections::{BTreeMap, HashMap};
 use std::hash::{BuildHasherDefault, DefaultHasher};
@@ -145,5 +146,24 @@ fn maps_of_maps(rt: HostRuntime) -> std::result::Result<(), Fail> {
         .as_str(),
         "{\"a\":{},\"b\":{\"1\":true,\"10\":false,\"2\":null}}"
     );
+    Ok(())
+}
+
+#[test]
+fn maps_are_read_as_themselves(rt: HostRuntime) -> std::result::Result<(), Fail> {
+    let text = "{\"-7\":[[1,null],[2,\"b\"]],\"0\":[]}";
+    let map: BTreeMap<i64, Vec<(u8, Option<String>)>> = from_str(rt.alloc(), text)?;
+    let itself = read_itself(rt.alloc(), &map)?;
+    assert_eq!(rt; itself.len(), 2);
+    assert_eq!(rt; itself.get(&-7).map(|items| items.len()), Some(2));
+    assert_eq!(rt; itself.get(&0).map(|items| items.len()), Some(0));
+    let hashed: Hashed<char, Option<[bool; 2]>> = from_str(
+        rt.alloc(),
+        "{\"b\":null,\"a\":[true,false]}",
+    )?;
+    let itself = read_itself(rt.alloc(), &hashed)?;
+    assert_eq!(rt; itself.len(), 2);
+    assert!(rt; matches!(itself.get(&'a'), Some(Some([true, false]))));
+    assert!(rt; matches!(itself.get(&'b'), Some(None)));
     Ok(())
 }

@@ -46,7 +46,7 @@ impl Record for Port {
         Port { number, open }
     }
 
-    ghost whole = { λ v. refl };
+    ghost whole = { (λ v. refl, λ x. refl) };
 
     ghost named = { refl };
 }
@@ -158,7 +158,7 @@ impl Record for Host {
         }
     }
 
-    ghost whole = { λ v. refl };
+    ghost whole = { (λ v. refl, λ x. refl) };
 
     ghost named = { refl };
 }
@@ -277,7 +277,7 @@ impl Record for Config {
         }
     }
 
-    ghost whole = { λ v. refl };
+    ghost whole = { (λ v. refl, λ x. refl) };
 
     ghost named = { refl };
 }

@@ -123,7 +123,7 @@ impl Record for User {
         }
     }
 
-    ghost whole = { λ v. refl };
+    ghost whole = { (λ v. refl, λ x. refl) };
 
     ghost named = { refl };
 }

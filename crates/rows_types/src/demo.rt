@@ -1,11 +1,11 @@
 //! The types of `demo`: read, refused, written, and fed event by event.
 
-use miniserde::Deserialize;
 use miniserde::de::Visitor;
 use miniserde::demo::{Demo, Example, Nested, Point, Tag};
 use miniserde::error::Error;
 use miniserde::json::{from_str, to_string};
 use miniserde::ser::{Fragment, Writer};
+use miniserde::{Deserialize, read_itself};
 use rows::{again, first_taken};
 use std::test::Fail;
 
@@ -186,5 +186,18 @@ fn a_struct_and_an_enum_take_nothing_after_their_end(
     let mut tag = <Tag as Deserialize>::begin(rt.alloc())?;
     tag.string("A")?;
     assert!(rt; matches!(tag.string("A"), Err(Error::Invalid)));
+    Ok(())
+}
+
+#[test]
+fn a_struct_of_structs_is_read_as_itself(rt: HostRuntime) -> std::result::Result<(), Fail> {
+    let text =
+        "{\"x\":\"X\",\"t1\":\"A\",\"t2\":\"renamedB\",\"t3\":[\"enum\"],\"struct\":{\"y\":[\"Y\"]}}";
+    let example: Example = from_str(rt.alloc(), text)?;
+    let itself = read_itself(rt.alloc(), &example)?;
+    assert_eq!(rt; itself.x.as_str(), "X");
+    assert!(rt; itself.t1 == Tag::A && *itself.t2 == Tag::B && itself.t3 == [Tag::Enum]);
+    assert!(rt; itself.nested.z.is_none());
+    assert_eq!(rt; itself.nested.y.as_ref().map(|y| y.len()), Some(1));
     Ok(())
 }

@@ -7,9 +7,9 @@ use super::tag::Tag;
 use miniserde_de::de::{Deserialize, Ranged, Step, Visitor};
 use miniserde_record::record::{
     Field, Fields, Four, NoField, Parts, Record, RecordPlace, RoundRecord, record_again,
-    write_record,
+    record_lossless, write_record,
 };
-use miniserde_round::RoundTrip;
+use miniserde_round::{Lossless, NeverNull, RoundTrip};
 use miniserde_ser::ser::{Serialize, Writer};
 use miniserde_text::error::{Error, Result};
 use std::alloc::Global;
@@ -47,7 +47,7 @@ impl Record for Nested {
         Nested { y, z }
     }
 
-    ghost whole = { λ v. refl };
+    ghost whole = { (λ v. refl, λ x. refl) };
 
     ghost named = { refl };
 }
@@ -120,6 +120,16 @@ impl RoundTrip for Nested {
     }
 }
 
+impl Lossless for Nested {
+    fn lossless() {
+        record_lossless::<Nested>()
+    }
+}
+
+impl NeverNull for Nested {
+    fn never_null() {}
+}
+
 /// A struct of five fields, one of which is written under another name.
 #[derive(Drop)]
 pub struct Example {
@@ -171,7 +181,7 @@ impl Record for Example {
         }
     }
 
-    ghost whole = { λ v. refl };
+    ghost whole = { (λ v. refl, λ x. refl) };
 
     ghost named = { refl };
 }
@@ -254,4 +264,14 @@ impl RoundTrip for Example {
     fn again() {
         record_again::<Example>()
     }
+}
+
+impl Lossless for Example {
+    fn lossless() {
+        record_lossless::<Example>()
+    }
+}
+
+impl NeverNull for Example {
+    fn never_null() {}
 }

@@ -3,8 +3,8 @@ ghost use Rattle.std.specs.Prelude.{◌≡◌, ◌∷◌, true, List, [], Option
 ghost use Rattle.miniserde_model.specs.Tree.{str};
 
 use miniserde_de::de::{Deserialize, Ranged};
-use miniserde_record::record::{NamePlace, UnitEnum, variant_again};
-use miniserde_round::RoundTrip;
+use miniserde_record::record::{NamePlace, UnitEnum, variant_again, variant_lossless};
+use miniserde_round::{Lossless, NeverNull, RoundTrip};
 use miniserde_ser::ser::{Fragment, Serialize, Writer};
 use miniserde_text::error::Result;
 use std::alloc::Global;
@@ -66,4 +66,14 @@ impl RoundTrip for Tag {
     fn again() {
         variant_again::<Tag>()
     }
+}
+
+impl Lossless for Tag {
+    fn lossless() {
+        variant_lossless::<Tag>()
+    }
+}
+
+impl NeverNull for Tag {
+    fn never_null() {}
 }

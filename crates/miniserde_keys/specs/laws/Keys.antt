@@ -1,7 +1,7 @@
 -- What `parse` reads as a key, and the laws of keys: equal keys have equal codes and one text, and a key's text is read
 -- as it. Each test of a text is first turned into the fact that it decides.
 use Rattle.std.proofs.Common.{◌≡◌, ◌≢◌, ◌∙◌, ℕ, zero, suc, ◌+◌, ◌-◌, ◌^◌, ◌<◌, ◌≤◌, ℤ, pos, negsuc, neg_ℤ, Bool, true, false, cond, nat_eq, List, [], ◌∷◌, length, drop, get_or, Option, Some, None, refl, sym, ap, subst, inl, inr, arith, append-nil}
-use Rattle.std.specs.Prelude.{decimal, option_map, ◌⊎◌}
+use Rattle.std.specs.Prelude.{decimal, ◌⊎◌, ⊤}
 use Rattle.std.specs.Bool.{beq, Decides}
 use Rattle.std.specs.Ordering.{int_eq}
 use Rattle.std.specs.Char.{IsScalar, encode_utf8}
@@ -22,9 +22,10 @@ use mir.Syntax.{Width, w8, w16, w32, w64, w128}
 use mir.Val.{hbits}
 use Rattle.miniserde_keys.specs.Keys.{Key, of_nat, of_int, of_bool, bool_text, read_bool, only, read_char, are_digits_below, read_digits, read_unsigned, read_signed}
 
--- a key of which equality looks at everything
-same_back : (o : Option Key) (k : Key) → o ≡ Some k → option_map (λ c. c) o ≡ Some k
-same_back o k e = ap (option_map (λ c. c)) e
+-- the law of a type of keys: a text reads as an equal key, which is one that Rust has
+abbrev pub ReadsBack : {K : Type 0} → (K → Type 0) → (K → Key) → (Key → Key) → (List ℕ → Option Key) → (K → List ℕ) → Type 0
+ReadsBack {K} real content code read text =
+    (k : K) → real k → (w : K) × real w × (read (text k) ≡ Some (content w)) × (code (content w) ≡ code (content k))
 
 -- ---- equal keys
 
@@ -62,9 +63,9 @@ bool-text true false e = cc
 bool-text false true e = cc
 bool-text false false e = refl
 
-pub bool-back : (b : Bool) → option_map (λ c. c) (read_bool (bool_text b)) ≡ Some (of_bool b)
-bool-back true = refl
-bool-back false = refl
+pub bool-back : ReadsBack (λ _. ⊤) of_bool (λ c. c) read_bool bool_text
+bool-back true r = (true, r, refl, refl)
+bool-back false r = (false, r, refl, refl)
 
 -- ---- digits
 
@@ -120,12 +121,12 @@ pub unsigned_reads : (bits : ℕ) (bs : List ℕ)
 unfolding read_unsigned
 unsigned_reads bits bs = digits_read (2 ^ bits) of_nat (without_leading_plus bs) _ (λ h. h) (λ h. h)
 
-pub unsigned-back : (bits : ℕ) → 2 ^ bits ≤ 2 ^ 64 → (n : ℕ) → n < 2 ^ bits
-    → option_map (λ c. c) (read_unsigned bits (decimal n)) ≡ Some (of_nat n)
+pub unsigned-back : (bits : ℕ) → 2 ^ bits ≤ 2 ^ 64
+    → ReadsBack (λ n. n < 2 ^ bits) of_nat (λ c. c) (read_unsigned bits) decimal
 unfolding read_unsigned
 unsigned-back bits wide n h =
     let small : n < 2 ^ 64 = omega arith in
-    same_back _ _ (rw (no_plus n small) (decimal_some (2 ^ bits) of_nat n small h))
+    (n, h, rw (no_plus n small) (decimal_some (2 ^ bits) of_nat n small h), refl)
 
 -- ---- signed integers
 
@@ -180,18 +181,18 @@ signed32 = signed_reads 32 w32 refl
 pub signed64 : (bs : List ℕ) → ReadsSigned 64 w64 bs
 signed64 = signed_reads 64 w64 refl
 
-pub signed-back : (bits : ℕ) (w : Width) → hbits w ≡ bits - 1 → 2 ^ hbits w ≤ 2 ^ 63 → (z : ℤ) → FitsSigned w z
-    → option_map (λ c. c) (read_signed bits (signed_decimal z)) ≡ Some (of_int z)
+pub signed-back : (bits : ℕ) (w : Width) → hbits w ≡ bits - 1 → 2 ^ hbits w ≤ 2 ^ 63
+    → ReadsBack (FitsSigned w) of_int (λ c. c) (read_signed bits) signed_decimal
 unfolding read_signed
 signed-back bits w e wide (pos n) h =
     let below : n < 2 ^ hbits w = h.sfits in
     let small : n < 2 ^ 64 = omega arith in
-    same_back _ _ (rw (sym e, no_minus n small, no_plus n small)
-    (decimal_some (2 ^ hbits w) (λ n. of_int (pos n)) n small below))
+    let own = decimal_some (2 ^ hbits w) (λ n. of_int (pos n)) n small below in
+    (pos n, h, rw (sym e, no_minus n small, no_plus n small) own, refl)
 signed-back bits w e wide (negsuc n) h =
     let below : n < 2 ^ hbits w = h.sfits in
-    same_back _ _ (rw (sym e)
-    (decimal_some (2 ^ hbits w + 1) (λ n. of_int (neg_ℤ (pos n))) (suc n) (omega arith) (omega arith)))
+    let own = decimal_some (2 ^ hbits w + 1) (λ n. of_int (neg_ℤ (pos n))) (suc n) (omega arith) (omega arith) in
+    (negsuc n, h, rw (sym e) own, refl)
 
 -- for `from_key` of integers
 pub ruleset integer_reads = (unsigned_reads, signed8, signed16, signed32, signed64, to_z-of_z)
@@ -207,8 +208,8 @@ char_some c s =
     chars_past_char (encode_utf8 c) [] c u (sym (append-nil (encode_utf8 c))) ∙ ap (λ cs. c ∷ cs) chars-nil in
     rw (t, e) refl
 
-pub char-back : (c : ℕ) → IsScalar c → option_map (λ c. c) (read_char (encode_utf8 c)) ≡ Some (of_nat c)
-char-back c s = same_back _ _ (char_some c s)
+pub char-back : ReadsBack IsScalar of_nat (λ c. c) read_char encode_utf8
+char-back c s = (c, s, char_some c s, refl)
 
 only_none : (bs cs : List ℕ) → scalars cs ≡ true → encode_utf8_all cs ≡ bs
     → ((c : ℕ) → IsScalar c → bs ≢ encode_utf8 c) → only cs ≡ None

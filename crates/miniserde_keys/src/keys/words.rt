@@ -17,7 +17,7 @@ impl MapKey for String {
 
     ghost alike = { λ a b. refl };
 
-    ghost back = { λ k r. refl };
+    ghost back = { λ k r. (k, r, refl, refl) };
 
     ghost one_text = { λ a b e. e };
 
@@ -41,7 +41,7 @@ impl MapKey for bool {
 
     ghost alike = { bool-alike };
 
-    ghost back = { λ k r. bool-back k };
+    ghost back = { bool-back };
 
     ghost one_text = { bool-text };
 

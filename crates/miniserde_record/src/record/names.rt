@@ -136,6 +136,10 @@ impl<T: UnitEnum + 'static> Visitor for NamePlace<T> {
 /// Does nothing. It promises a unit enum's round trip, in the form that `RoundTrip` asks: Rust has each of its values.
 pub fn variant_again<T: UnitEnum>()
     ensures { (v : T) → ⊤
-        → ReadsAgain (λ _. ⊤) (λ v. str (T.name_of v)) (from_leaf (named_of T.name_of T.all)) (λ v. v)
-        (str (T.name_of v)) }
+        → ReadsAgain (λ _. ⊤) (λ v. str (T.name_of v)) (λ t v. t ≡ str (T.name_of v)) (str (T.name_of v)) }
+{}
+
+/// Does nothing. It promises that no two values of a unit enum have one tree, in the form that `Lossless` asks.
+pub fn variant_lossless<T: UnitEnum>()
+    ensures { (v w : T) → ⊤ → ⊤ → str (T.name_of v) ≡ str (T.name_of w) → v ≡ w }
 {}

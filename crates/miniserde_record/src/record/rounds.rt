@@ -4,8 +4,9 @@ ghost use Rattle.miniserde_model.specs.Tree.{Tree};
 ghost use Rattle.miniserde_model.specs.Compact.{compact};
 ghost use Rattle.miniserde_model.specs.IsTree.{IsTree, AreNamedTrees};
 ghost use Rattle.miniserde_text.specs.declared.error.Error.TheVariants.{Memory};
-ghost use Rattle.miniserde_de.specs.Objects.{Name, object_of};
+ghost use Rattle.miniserde_de.specs.Objects.{Name};
 ghost use Rattle.miniserde_round.specs.RoundTrip.{ReadsAgain};
+ghost use Rattle.miniserde_record.specs.Fields.{StructReads};
 ghost use Rattle.miniserde_record.specs.Records.{are_names};
 ghost use Rattle.miniserde_record.specs.Structs.{with_names, record_tree, members_text, FieldsAgain};
 
@@ -24,12 +25,11 @@ pub trait RoundFields: Fields {
     // The trees of the values, in their order.
     ghost trees: { Self.Values → List Tree };
 
-    /// Does nothing. It promises that the fields' trees, by names that are the fields', give values again, and that
-    /// each values that they give have those trees.
+    /// Does nothing. It promises that the fields' trees, by names that are the fields', mean values that Rust has, and
+    /// that such values have those trees.
     fn again()
         ensures { (names : List Name) (v : Self.Values) → are_names Self.meaning.count names ≡ true → real v
-            → FieldsAgain real trees (Self.meaning.from_members names Self.meaning.empty) Self.meaning.content
-            names (trees v) };
+            → FieldsAgain real trees Self.meaning.reads names (trees v) };
 }
 
 impl RoundFields for NoField {
@@ -86,8 +86,7 @@ where
     S::Fields: RoundFields,
     ensures { (v : S) → S.Fields.real (S.values v)
         → ReadsAgain (λ v. S.Fields.real (S.values v)) (record_tree S.names S.Fields.trees S.values)
-        (object_of (S.Fields.meaning.from_members S.names S.Fields.meaning.empty))
-        (λ v. S.Fields.meaning.content (S.values v)) (record_tree S.names S.Fields.trees S.values v) }
+        (StructReads (S.Fields.meaning.reads S.names) S.values) (record_tree S.names S.Fields.trees S.values v) }
 {
     <S::Fields as RoundFields>::again()
 }

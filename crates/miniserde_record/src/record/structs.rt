@@ -32,8 +32,8 @@ pub trait Record: Sized + Drop {
     fn build(parts: Self::Values) -> Self
         ensures { values result ≡ parts };
 
-    // A struct has no more than its fields' values.
-    ghost whole: { (v : Self) → made (values v) ≡ v };
+    // A struct is its fields' values, no more and no less.
+    ghost whole: { ((v : Self) → made (values v) ≡ v) × ((x : Self.Values) → values (made x) ≡ x) };
 
     // Each field has a name, and no two have one.
     ghost named: { are_names Self.Fields.meaning.count names ≡ true };

@@ -1,7 +1,7 @@
 use Rattle.std.proofs.Common.{refl}
-use Rattle.miniserde_round.proofs.Again.{again-signed, signed-real}
 use Rattle.std.specs.Int.{w64}
+use Rattle.miniserde_round.proofs.Again.{again-signed}
 use Rattle.miniserde_round.proofs.round_trip.IsizeRoundTrip.again.Goals as goal
 
 pub returns : goal.returns
-returns c = λ v r. again-signed 64 _ v (signed-real 64 w64 refl v r)
+returns c = λ v r. again-signed 64 w64 refl v r

@@ -1,0 +1,210 @@
+//! Types whose values are told apart by what is written.
+ghost use Rattle.std.specs.Prelude.{◌≡◌, IfOk, Err};
+ghost use Rattle.miniserde_model.specs.Tree.{null};
+ghost use Rattle.miniserde_text.specs.declared.error.Error.{Error};
+
+mod documents;
+
+use crate::round_trip::{RoundTrip, read_again};
+use miniserde_keys::{MapKey, WholeKey};
+use miniserde_text::error::Result;
+use std::alloc::Global;
+use std::collections::{BTreeMap, HashMap};
+use std::hash::{BuildHasher, Hash};
+
+/// A type whose values count as the same where they are written alike, so that each is read again as itself.
+pub trait Lossless: RoundTrip {
+    /// Does nothing. It promises that of two values that Rust has and that have one tree, the same counts.
+    fn lossless()
+        ensures { (v w : Self) → Self.real v → Self.real w → Self.tree v ≡ Self.tree w
+            → Self.Place.meaning.content v ≡ Self.Place.meaning.content w };
+}
+
+/// A type of which no value is written as `null`, so that `Some` of each is told from `None`.
+pub trait NeverNull: RoundTrip {
+    /// Does nothing. It promises that no value that Rust has is written as `null`.
+    fn never_null()
+        ensures { (v : Self) → Self.real v → Self.tree v ≡ null → ⊥ };
+}
+
+/// Writes a value and reads it again: what counts of the answer is what counts of the value.
+pub fn read_itself<T: Lossless>(alloc: Global, value: &T) -> Result<T>
+    ensures itself { IfOk result (λ v. T.Place.meaning.content v ≡ T.Place.meaning.content value.now) }
+    ensures memory { result ≡ Err Error.Invalid → ⊥ }
+{
+    T::lossless();
+    value.ranged();
+    read_again(alloc, value)
+}
+
+impl Lossless for () {
+    fn lossless() {}
+}
+
+impl Lossless for bool {
+    fn lossless() {}
+}
+
+impl Lossless for u8 {
+    fn lossless() {}
+}
+
+impl Lossless for u16 {
+    fn lossless() {}
+}
+
+impl Lossless for u32 {
+    fn lossless() {}
+}
+
+impl Lossless for u64 {
+    fn lossless() {}
+}
+
+impl Lossless for usize {
+    fn lossless() {}
+}
+
+impl Lossless for i8 {
+    fn lossless() {}
+}
+
+impl Lossless for i16 {
+    fn lossless() {}
+}
+
+impl Lossless for i32 {
+    fn lossless() {}
+}
+
+impl Lossless for i64 {
+    fn lossless() {}
+}
+
+impl Lossless for isize {
+    fn lossless() {}
+}
+
+impl Lossless for String {
+    fn lossless() {}
+}
+
+impl<T: Lossless> Lossless for Vec<T> {
+    fn lossless() {
+        T::lossless()
+    }
+}
+
+impl<T: Lossless, const N: usize> Lossless for [T; N] {
+    fn lossless() {
+        T::lossless()
+    }
+}
+
+impl<T: Lossless> Lossless for Box<T> {
+    fn lossless() {
+        T::lossless()
+    }
+}
+
+impl<T: Lossless + NeverNull> Lossless for Option<T> {
+    fn lossless() {
+        T::lossless();
+        T::never_null();
+    }
+}
+
+impl<A: Lossless, B: Lossless> Lossless for (A, B) {
+    fn lossless() {
+        A::lossless();
+        B::lossless();
+    }
+}
+
+impl<K: MapKey + Ord + WholeKey, V: Lossless> Lossless for BTreeMap<K, V> {
+    fn lossless() {
+        V::lossless()
+    }
+}
+
+impl<K: MapKey + Hash + WholeKey, V: Lossless, H: BuildHasher + Default + Drop> Lossless
+    for HashMap<K, V, H> {
+    fn lossless() {
+        V::lossless()
+    }
+}
+
+impl NeverNull for bool {
+    fn never_null() {}
+}
+
+impl NeverNull for u8 {
+    fn never_null() {}
+}
+
+impl NeverNull for u16 {
+    fn never_null() {}
+}
+
+impl NeverNull for u32 {
+    fn never_null() {}
+}
+
+impl NeverNull for u64 {
+    fn never_null() {}
+}
+
+impl NeverNull for usize {
+    fn never_null() {}
+}
+
+impl NeverNull for i8 {
+    fn never_null() {}
+}
+
+impl NeverNull for i16 {
+    fn never_null() {}
+}
+
+impl NeverNull for i32 {
+    fn never_null() {}
+}
+
+impl NeverNull for i64 {
+    fn never_null() {}
+}
+
+impl NeverNull for isize {
+    fn never_null() {}
+}
+
+impl NeverNull for String {
+    fn never_null() {}
+}
+
+impl<T: RoundTrip> NeverNull for Vec<T> {
+    fn never_null() {}
+}
+
+impl<T: RoundTrip, const N: usize> NeverNull for [T; N] {
+    fn never_null() {}
+}
+
+impl<T: NeverNull> NeverNull for Box<T> {
+    fn never_null() {
+        T::never_null()
+    }
+}
+
+impl<A: RoundTrip, B: RoundTrip> NeverNull for (A, B) {
+    fn never_null() {}
+}
+
+impl<K: MapKey + Ord, V: RoundTrip> NeverNull for BTreeMap<K, V> {
+    fn never_null() {}
+}
+
+impl<K: MapKey + Hash, V: RoundTrip, H: BuildHasher + Default + Drop> NeverNull
+    for HashMap<K, V, H> {
+    fn never_null() {}
+}
