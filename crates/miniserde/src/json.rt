@@ -12,5 +12,5 @@ pub use miniserde_value::json::{array, drop, object, value};
 /// Numbers, and those that are kept as their texts.
 pub mod number {
     pub use miniserde_text::json::number::NumberText;
-    pub use miniserde_value::json::number::Number;
+    pub use miniserde_value::json::number::{Number, NumberPlace};
 }

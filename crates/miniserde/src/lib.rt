@@ -6,6 +6,7 @@
 #![tactic(auto)]
 
 pub mod json;
+pub mod laws;
 pub mod ser;
 
 pub use miniserde_canon::canon;
@@ -13,7 +14,7 @@ pub use miniserde_de::de;
 pub use miniserde_de::de::Deserialize;
 pub use miniserde_demo::demo;
 pub use miniserde_record::record;
-pub use miniserde_round::{RoundTrip, read_again};
+pub use miniserde_round::{Lossless, NeverNull, RoundTrip, read_again, read_itself};
 pub use miniserde_ser::ser::Serialize;
 pub use miniserde_text::error::{Error, Result};
 pub use miniserde_text::{error, scan};

@@ -33,7 +33,7 @@ pub fn from_str<T: Deserialize>(alloc: Global, j: &str) -> Result<T>
         → (t : Tree) → IsJson j.now t → (v : T) → T.Place.meaning.reads t v → ⊥ }
     ensures none { result ≡ Err Error.Invalid → (t : Tree) → IsJson j.now t → T.Place.meaning.from_tree t ≡ None }
 
-    // So it has one tree at most.
+    // No text has two trees.
     ensures one { (t u : Tree) → IsJson j.now t → IsJson j.now u → t ≡ u }
 {
     let mut place = T::begin(alloc)?;

@@ -174,7 +174,7 @@ impl<'a> Lexer<'a> {
         }
     }
 
-    /// Whether nothing but whitespace is left. Takes nothing.
+    /// Takes nothing, and refuses a text of which more than whitespace is left.
     pub fn end(&mut self) -> Result<()>
         ensures ok { IfOk result (λ _. (self.old.refused ≡ None) × (self.new ≡ self.old)
             × IsWhitespace self.old.rest) }

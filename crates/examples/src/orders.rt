@@ -1,0 +1,75 @@
+//! A caller that reads an order, changes it and writes it.
+ghost use Rattle.std.specs.Prelude.{◌≡◌, IfOk, string_bytes};
+ghost use Rattle.miniserde.specs.Tree.{Tree};
+ghost use Rattle.miniserde.specs.Value.{IsJson};
+ghost use Rattle.miniserde.specs.Compact.{compact};
+ghost use Rattle.examples.specs.Orders.{settled_of};
+
+use crate::order::{Order, OrderPlace};
+use miniserde::de::Visitor;
+use miniserde::json::{from_str, to_string};
+use miniserde::{Error, Result, Serialize};
+use std::alloc::Global;
+
+/// The order of a text, paid, as text again.
+pub fn settled(alloc: Global, text: &str) -> Result<String>
+    // The text spells a tree that means an order, and the answer is the compact text of that order paid, and spells it.
+    ensures ok { let tree = ⟦<Order as Serialize>⟧.tree in IfOk result (λ s.
+        (t : Tree) × (v : Order) × IsJson text.now t × ⟦<OrderPlace as Visitor>⟧.meaning.reads t v
+        × IsJson (string_bytes s) (tree (settled_of v)) × (string_bytes s ≡ compact (tree (settled_of v)))) }
+
+    // No tree that the text spells means an order.
+    ensures invalid { result ≡ Err Error.Invalid
+        → (t : Tree) → IsJson text.now t → (v : Order) → ⟦<OrderPlace as Visitor>⟧.meaning.reads t v → ⊥ }
+{
+    let mut order: Order = from_str(alloc, text)?;
+    order.paid = true;
+    to_string(alloc, &order)
+}
+
+#[cfg(test)]
+mod tests {
+    use super::settled;
+    use miniserde::Error;
+    use std::test::Fail;
+
+    #[test]
+    fn an_order_is_settled(rt: HostRuntime) -> std::result::Result<(), Fail> {
+        let rows = [
+            (
+                "{\"id\":7,\"quantity\":2,\"paid\":false,\"note\":\"by noon\"}",
+                "{\"id\":7,\"quantity\":2,\"paid\":true,\"note\":\"by noon\"}",
+            ),
+            (
+                " {\"paid\": true, \"of\": [1], \"quantity\": 0, \"id\": 18446744073709551615} ",
+                "{\"id\":18446744073709551615,\"quantity\":0,\"paid\":true,\"note\":null}",
+            ),
+            (
+                "{\"id\":1,\"id\":2,\"quantity\":1,\"paid\":false,\"note\":\"a\\/\\u0022\"}",
+                "{\"id\":2,\"quantity\":1,\"paid\":true,\"note\":\"a/\\\"\"}",
+            ),
+        ];
+        for (text, wanted) in rows {
+            let got = settled(rt.alloc(), text)?;
+            assert_eq!(rt; got.as_str(), wanted);
+        }
+        Ok(())
+    }
+
+    #[test]
+    fn what_is_no_order_is_invalid(rt: HostRuntime) {
+        let rows = [
+            "",
+            "[]",
+            "{\"id\":7,\"quantity\":2,\"note\":null}",
+            "{\"id\":-1,\"quantity\":2,\"paid\":false}",
+            "{\"id\":7,\"quantity\":4294967296,\"paid\":false}",
+            "{\"id\":7,\"quantity\":2,\"paid\":0}",
+            "{\"id\":7,\"quantity\":2,\"paid\":false} 1",
+        ];
+        for text in rows {
+            let got = settled(rt.alloc(), text);
+            assert!(rt; matches!(got, Err(Error::Invalid)), "on {text}");
+        }
+    }
+}

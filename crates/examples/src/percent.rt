@@ -1,0 +1,184 @@
+//! A number of its own kind: a check stands between its text and its values.
+ghost use Rattle.std.specs.Prelude.{◌≡◌, ◌≤◌, ◌↔◌, ℕ, true, None, IsSome, IfSome};
+ghost use Rattle.miniserde.specs.Tree.{nonneg};
+ghost use Rattle.miniserde.specs.Place.{inside};
+ghost use Rattle.examples.specs.Percents.{from_percent, ReadsPercent};
+ghost use Rattle.examples.specs.laws.Percents.{percent-given};
+
+use miniserde::de::leaf::{Leaf, LeafPlace};
+use miniserde::de::{Deserialize, Ranged, Step, Visitor};
+use miniserde::ser::{Serialize, Writer};
+use miniserde::{Error, Result, RoundTrip};
+use std::alloc::Global;
+
+/// A part of a hundred: 0 to 100.
+#[derive(Clone, Copy, PartialEq, Eq, Debug, Drop)]
+pub struct Percent {
+    of: u8,
+    pub ghost in_range: { of ≤ 100 },
+}
+
+impl Percent {
+    /// The number, where it is at most 100.
+    pub fn new(n: u8) -> Option<Percent>
+        ensures some { IfSome result (λ p. p.of ≡ n) }
+        ensures which { IsSome result ↔ (n ≤ 100) }
+    {
+        if n <= 100 {
+            Some(Percent { of: n })
+        } else {
+            None
+        }
+    }
+
+    /// The number.
+    pub fn get(self) -> u8
+        ensures is { result ≡ self.of }
+        ensures most { result ≤ 100 }
+    {
+        self.of
+    }
+}
+
+impl Leaf for Percent {
+    ghost Content = { ℕ };
+
+    ghost content = { λ p. p.of };
+
+    ghost from_event = { from_percent };
+
+    ghost reads = { λ t p. ReadsPercent t p.of };
+
+    ghost reads_agrees = { λ t p. percent-given t p.of };
+
+    ghost reads_free = { true };
+
+    fn from_step(_alloc: Global, event: Step<'_>) -> Result<Percent> {
+        match event {
+            Step::Nonnegative(n) if n <= 100 => Ok(Percent { of: n as u8 }),
+            _ => Err(Error::Invalid),
+        }
+    }
+}
+
+/// Its place.
+#[derive(Drop)]
+pub struct PercentPlace {
+    place: LeafPlace<Percent>,
+}
+
+impl Visitor for PercentPlace {
+    type Out = Percent;
+
+    ghost meaning = { inside (λ p. p.place) ⟦<LeafPlace<Percent> as Visitor>⟧.meaning };
+
+    fn begin(alloc: Global) -> Result<PercentPlace> {
+        Ok(PercentPlace {
+            place: <LeafPlace<Percent> as Visitor>::begin(alloc)?,
+        })
+    }
+
+    fn step(&mut self, event: Step<'_>) -> Result<()> {
+        self.place.step(event)
+    }
+
+    fn refuse(&mut self, error: Error) -> Error {
+        self.place.refuse(error)
+    }
+
+    fn is_complete(&self) -> bool {
+        self.place.is_complete()
+    }
+
+    fn take(self) -> Result<Percent> {
+        let PercentPlace { place } = self;
+        place.take()
+    }
+}
+
+impl Deserialize for Percent {
+    type Place = PercentPlace;
+
+    ghost absent = { None };
+
+    fn default() -> Option<Percent> {
+        None
+    }
+}
+
+impl Serialize for Percent {
+    ghost tree = { λ p. nonneg p.of };
+
+    fn begin(&self, w: &mut Writer) -> Result<()> {
+        self.of.begin(w)
+    }
+}
+
+impl Ranged for Percent {
+    ghost real = { λ p. p.of ≤ 100 };
+
+    fn ranged(&self) {
+        let _value = *self;
+    }
+}
+
+impl RoundTrip for Percent {
+    fn again() {}
+}
+
+#[cfg(test)]
+mod tests {
+    use super::Percent;
+    use miniserde::json::{from_str, to_string};
+    use miniserde::{Error, Result, read_again};
+    use std::collections::BTreeMap;
+    use std::test::Fail;
+
+    #[test]
+    fn values_up_to_a_hundred(rt: HostRuntime) -> std::result::Result<(), Fail> {
+        assert_eq!(rt; Percent::new(101), None);
+        for n in [0u8, 7, 100] {
+            let value = Percent::new(n).ok_or("new")?;
+            assert_eq!(rt; value.get(), n);
+            assert_eq!(rt; read_again(rt.alloc(), &value)?, value);
+        }
+        Ok(())
+    }
+
+    #[test]
+    fn texts_up_to_a_hundred(rt: HostRuntime) -> std::result::Result<(), Fail> {
+        for (text, n) in [("0", 0u8), (" 7 ", 7), ("100", 100)] {
+            let value: Percent = from_str(rt.alloc(), text)?;
+            assert_eq!(rt; value.get(), n);
+        }
+        let value: Percent = from_str(rt.alloc(), " 100 ")?;
+        assert_eq!(rt; to_string(rt.alloc(), &value)?.as_str(), "100");
+        for text in [
+            "101", "256", "-1", "-0", "1.0", "1e1", "\"7\"", "null", "[7]", "",
+        ] {
+            let got: Result<Percent> = from_str(rt.alloc(), text);
+            assert!(rt; matches!(got, Err(Error::Invalid)), "on {text}");
+        }
+        Ok(())
+    }
+
+    #[test]
+    fn lists_and_maps(rt: HostRuntime) -> std::result::Result<(), Fail> {
+        let list: Vec<Percent> = from_str(rt.alloc(), "[0, 100, 7]")?;
+        assert_eq!(rt; list.len(), 3);
+        assert_eq!(rt; list[1].get(), 100);
+        assert_eq!(rt; to_string(rt.alloc(), &list)?.as_str(), "[0,100,7]");
+        let bad: Result<Vec<Percent>> = from_str(rt.alloc(), "[0, 101]");
+        assert!(rt; matches!(bad, Err(Error::Invalid)));
+        let map: BTreeMap<String, Percent> = from_str(rt.alloc(), "{\"b\":100,\"a\":1,\"b\":2}")?;
+        assert_eq!(rt; to_string(rt.alloc(), &map)?.as_str(), "{\"a\":1,\"b\":2}");
+        let again = read_again(rt.alloc(), &map)?;
+        assert_eq!(rt;
+            to_string(rt.alloc(), &again)?.as_str(),
+            "{\"a\":1,\"b\":2}"
+        );
+        let bad: Result<BTreeMap<String, Percent>> = from_str(rt.alloc(), "{\"a\":101}");
+        assert!(rt; matches!(bad, Err(Error::Invalid)));
+        Ok(())
+    }
+}
