@@ -2,4 +2,6 @@ pub mod Orders
 pub mod Elements
 pub mod Counter
 pub mod Percents
+pub mod Rates
+pub mod Totals
 pub mod laws

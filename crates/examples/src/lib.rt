@@ -1,8 +1,12 @@
 //! What a user of the library writes, proved: callers with contracts of their own.
 #![tactic(auto)]
 
+pub mod basket;
 pub mod counter;
 pub mod order;
 pub mod orders;
 pub mod percent;
+pub mod rate;
+pub mod rates;
 pub mod readme;
+pub mod totals;

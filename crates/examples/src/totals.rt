@@ -1,0 +1,77 @@
+//! A caller that works something out of what it reads.
+ghost use Rattle.std.specs.Prelude.{◌≡◌, ◌<◌, ◌^◌, IfOk, Err};
+ghost use Rattle.std.specs.Option.{SomeIff};
+ghost use Rattle.miniserde.specs.Tree.{Tree};
+ghost use Rattle.miniserde.specs.Value.{IsJson};
+ghost use Rattle.examples.specs.Totals.{sum_of};
+
+use crate::basket::{Basket, BasketPlace};
+use miniserde::de::Visitor;
+use miniserde::json::from_str;
+use miniserde::{Error, Result};
+use std::alloc::Global;
+
+// The sum of the prices, where it is below 2^64.
+fn sum(prices: &[u64]) -> Option<u64>
+    ensures { SomeIff result (sum_of prices.now < 2 ^ 64) (sum_of prices.now) }
+{
+    let mut total: u64 = 0;
+    for price in prices {
+        total = total.checked_add(*price)?;
+    }
+    Some(total)
+}
+
+/// What the basket of a text costs, or `None` where that passes 2^64-1.
+pub fn total(alloc: Global, text: &str) -> Result<Option<u64>>
+    // The text means a basket, and the answer is the sum of its prices where that is below 2^64.
+    ensures ok { IfOk result (λ answer. (t : Tree) × (v : Basket) × IsJson text.now t
+        × ⟦<BasketPlace as Visitor>⟧.meaning.reads t v
+        × SomeIff answer (sum_of v.prices.items < 2 ^ 64) (sum_of v.prices.items)) }
+
+    // The text means no basket.
+    ensures invalid { result ≡ Err Error.Invalid
+        → (t : Tree) → IsJson text.now t → (v : Basket) → ⟦<BasketPlace as Visitor>⟧.meaning.reads t v → ⊥ }
+{
+    let basket: Basket = from_str(alloc, text)?;
+    Ok(sum(&basket.prices))
+}
+
+#[cfg(test)]
+mod tests {
+    use super::total;
+    use miniserde::Error;
+    use std::test::Fail;
+
+    #[test]
+    fn prices_are_summed(rt: HostRuntime) -> std::result::Result<(), Fail> {
+        assert_eq!(rt;
+            total(rt.alloc(), "{\"owner\":\"a\",\"prices\":[]}")?,
+            Some(0)
+        );
+        assert_eq!(rt;
+            total(rt.alloc(), "{\"prices\":[7,0,5],\"owner\":\"a\"}")?,
+            Some(12)
+        );
+        assert_eq!(rt;
+            total(
+                rt.alloc(),
+                "{\"owner\":\"a\",\"prices\":[18446744073709551615,1]}"
+            )?,
+            None
+        );
+        Ok(())
+    }
+
+    #[test]
+    fn what_is_no_basket_is_invalid(rt: HostRuntime) {
+        for text in [
+            "[]",
+            "{\"owner\":\"a\"}",
+            "{\"owner\":\"a\",\"prices\":[-1]}",
+        ] {
+            let answer = total(rt.alloc(), text);
+            assert!(rt; matches!(answer, Err(Error::Invalid)), "on {text}");
+        }
+    }
+}
