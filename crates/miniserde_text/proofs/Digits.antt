@@ -1,5 +1,6 @@
 -- The value of digits, a turn of the loop each: the whole keeps its value, and what is read so far is never above it.
-use Rattle.std.proofs.Common.{◌≡◌, ℕ, ◌+◌, ◌-◌, ◌*◌, ◌≤◌, ◌<◌, List, [], ◌∷◌, length, drop, get_or, ap, ◌∙◌, subst, arith}
+use Rattle.std.proofs.Common.{◌≡◌, ℕ, suc, ◌+◌, ◌-◌, ◌*◌, ◌^◌, ◌≤◌, ◌<◌, List, [], ◌∷◌, length, drop, get_or, ap, ◌∙◌, subst, arith}
+use Rattle.std.proofs.Math.Nat.{pow-suc, pow-le-pow_right}
 use Rattle.std.proofs.lemmas.Bool.Decides.{nat_tests}
 use Rattle.std.proofs.lemmas.List.{drop_more}
 use Rattle.std.specs.List.{AllByRecursion}
@@ -11,7 +12,7 @@ le-digits_value_after : (n : ℕ) (ds : List ℕ) → n ≤ digits_value_after 1
 le-digits_value_after n [] = omega arith
 le-digits_value_after n (c ∷ cs) = omega (arith, le-digits_value_after (n * 10 + digit_value c) cs)
 
-digit_value_is : (c : ℕ) → IsDigit c → digit_value c ≡ c - 48
+pub digit_value_is : (c : ℕ) → IsDigit c → digit_value c ≡ c - 48
 digit_value_is c h = grind (arith, nat_tests)
 
 -- the digit at i, and what the turn makes of it
@@ -33,3 +34,10 @@ turn n ds i h e =
       value = same;
       grown = omega (arith, same, le-digits_value_after (n * 10 + (get_or ds i 0 - 48)) (drop (i + 1) ds));
     }
+
+-- what fewer than 20 digits write leaves room for each of them
+pub short_fits : (v i n : ℕ) → v < 10 ^ i → i < n → n < 20 → v < 10 ^ 18
+short_fits v i n small within few = omega (arith, pow-le-pow_right {n = 10} (omega arith) {i = i} {j = 18} (omega arith))
+
+pub below_next : (v i d : ℕ) → v < 10 ^ i → d ≤ 9 → v * 10 + d < 10 ^ (i + 1)
+below_next v i d small digit = let next : suc i ≡ i + 1 = omega arith in omega (arith, pow-suc 10 i, ap (λ k. 10 ^ k) next)

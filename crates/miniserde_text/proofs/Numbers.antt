@@ -1,7 +1,10 @@
 -- Reading takes exactly the numbers of the grammar: `X_takes` and `X_only` say it of each part X, either way round.
-use Rattle.std.proofs.Common.{◌≡◌, ◌≢◌, ℕ, ◌≤◌, ◌==◌, Bool, true, false, cond, List, [], ◌∷◌, ◌++◌, drop, Some, None, refl, ap, sym, subst, ◌∙◌, inl, inr, arith, eqb-true, eq-eqb, append_assoc}
+use Rattle.std.proofs.Common.{◌≡◌, ◌≢◌, ℕ, zero, suc, ◌+◌, ◌-◌, ◌<◌, ◌≤◌, ◌==◌, Bool, true, false, cond, List, [], ◌∷◌, ◌++◌, length, take, drop, Some, None, refl, ap, sym, subst, ◌∙◌, inl, inr, arith, eqb-true, eq-eqb, append_assoc}
 use Rattle.std.specs.Prelude.{◌⊎◌, slice_index, option_and_then}
-use Rattle.std.specs.List.{AllByRecursion}
+use Rattle.std.specs.List.{AllByRecursion, prefix_len}
+use Rattle.std.specs.Str.Parse.{digits_value}
+use Rattle.std.proofs.lemmas.List.{take-append-drop, length-take-le, get_or-drop}
+use Rattle.std.proofs.lemmas.List.Sums.{prefix_len-le-length, prefix_len_passes}
 use Rattle.std.proofs.lemmas.Bool.Decides.{nat_tests}
 use Rattle.std.proofs.lemmas.Bool.{true≢false}
 use Rattle.miniserde_model.specs.Event.{Event}
@@ -15,7 +18,7 @@ use Rattle.std.proofs.lemmas.Option.{cond_some, same_Some}
 use Rattle.miniserde_text.proofs.Options.{chosen, none_if, bind_some, first_byte, first_of_test, before_append, before_is}
 use Rattle.miniserde_text.proofs.Leaves.{event_of, sign_of, whole_digits, whole_first, event_of_text}
 
-digit_of : (c : ℕ) → is_digit c ≡ true → IsDigit c
+pub digit_of : (c : ℕ) → is_digit c ≡ true → IsDigit c
 digit_of c h = (grind (arith, nat_tests), grind (arith, nat_tests))
 
 digits_of : (w : List ℕ) → AllPass is_digit w → AllByRecursion IsDigit w
@@ -259,3 +262,41 @@ number_only b r n stops =
     ∙ ap number_at (append_assoc (sign_of m) _ r ∙ ap (λ x. sign_of m ++ x) (append_assoc n.whole _ r ∙ ap (λ x. n.whole ++ x) (append_assoc n.fraction n.exponent r)))
     ∙ read_parts m n.whole n.fraction n.exponent r n.is_whole n.is_fraction n.is_exponent ends
     ∙ ap (λ x. Some (x, r)) (event_of_text m n.whole n.fraction n.exponent n.is_whole n.is_fraction n.is_exponent ∙ ap (λ x. event_of (leaf x)) (sym text))
+
+-- ---- a number of digits alone
+
+front_step : (b : Bool) (c k : ℕ) (cs : List ℕ) → is_digit c ≡ b → suc k ≤ cond b (1 + prefix_len is_digit cs) 0
+    → (k ≤ prefix_len is_digit cs → AllByRecursion IsDigit (take k cs)) → AllByRecursion IsDigit (c ∷ take k cs)
+front_step true c k cs e h rest = (digit_of c e, rest (omega arith))
+front_step false c k cs e h rest = let never : ⊥ = omega arith in absurd never
+
+front_digits : (n : ℕ) (s : List ℕ) → n ≤ prefix_len is_digit s → AllByRecursion IsDigit (take n s)
+front_digits zero s h = tt
+front_digits (suc k) [] h = tt
+front_digits (suc k) (c ∷ cs) h = front_step (is_digit c) c k cs refl h (front_digits k cs)
+
+pub last_digit : (s : List ℕ) (n : ℕ) → 0 < n → n ≤ prefix_len is_digit s → IsDigit (slice_index s (n - 1))
+last_digit s n some h = digit_of (slice_index s (n - 1)) (prefix_len_passes is_digit s (n - 1) 0 (omega arith))
+
+one_digit : (b : Bool) (c : ℕ) → (c == 48) ≡ b → IsDigit c → IsWhole (c ∷ [])
+one_digit true c e h = inl (eqb-true c 48 e, refl)
+one_digit false c e h = whole_of_digits (c ∷ []) [] (c ∷ []) refl e (omega arith, (h, tt))
+
+whole_of : (w r : List ℕ) → AreDigits w → (1 < length w → (slice_index (w ++ r) 0 == 48) ≡ false) → IsWhole w
+whole_of [] r h z = absurd (omega arith)
+whole_of (c ∷ []) r h z = one_digit (c == 48) c refl h.1.0
+whole_of (c ∷ d ∷ cs) r h z = whole_of_digits (c ∷ d ∷ (cs ++ r)) r (c ∷ d ∷ cs) refl (z (omega arith)) h
+
+pub short_read : (s t : List ℕ) (n v : ℕ) (e : Event) → t ≡ after_minus s → 0 < n → n ≤ prefix_len is_digit t → (1 < n → (slice_index t 0 == 48) ≡ false) → is_number_byte (slice_index t n) ≡ false
+    → v ≡ digits_value 10 (take n t) → ((text whole : List ℕ) → digits_value 10 whole ≡ v → event_of_parts text (slice_index s 0 == 45) whole [] ≡ e) → number_at s ≡ Some (e, drop n t)
+short_read s t n v e behind some digits away ends value event =
+    let m : Bool = slice_index s 0 == 45 in
+    let w : List ℕ = take n t in
+    let r : List ℕ = drop n t in
+    let j : w ++ r ≡ t = take-append-drop n t in
+    let long : length w ≡ n = length-take-le n t (omega (arith, digits, prefix_len-le-length is_digit t)) in
+    let whole : IsWhole w = whole_of w r (omega (arith, long), front_digits n t digits) (λ many. ap (λ x. slice_index x 0 == 48) j ∙ away (omega (arith, long))) in
+    let here : n + 0 ≡ n = omega arith in
+    let stop : is_number_byte (slice_index r 0) ≡ false = ap is_number_byte (get_or-drop n t 0 0 ∙ ap (λ k. slice_index t k) here) ∙ ends in
+    let read : number_at (sign_of m ++ (w ++ r)) ≡ Some (event_of_parts (sign_of m ++ (w ++ [])) m w [], r) = read_parts m w [] [] r whole (inl refl) (inl refl) stop in
+    ap number_at (minus_takes s ∙ ap (λ x. sign_of m ++ x) (sym (j ∙ behind))) ∙ read ∙ ap (λ x. Some (x, r)) (event (sign_of m ++ (w ++ [])) w (sym value))

@@ -1,3 +1,5 @@
+ghost use Rattle.std.specs.Prelude.{◌<◌, ◌≤◌, length};
+
 use crate::error::Error;
 use crate::json::lex::{After, Event, Kind, Lexer, Text};
 use crate::json::number::NumberText;
@@ -50,8 +52,17 @@ fn fronts_of_numbers(rt: HostRuntime) {
         ("-0", Front::MinusZero),
         ("-17", Front::Negative),
         ("0", Front::Nonnegative(0)),
+        (
+            "9999999999999999999",
+            Front::Nonnegative(9_999_999_999_999_999_999),
+        ),
+        (
+            "10000000000000000000",
+            Front::Nonnegative(10_000_000_000_000_000_000),
+        ),
         ("18446744073709551615", Front::Nonnegative(u64::MAX)),
         ("18446744073709551616", Front::Number),
+        ("99999999999999999999", Front::Number),
         ("1.50 ", Front::Number),
         ("1e400", Front::Number),
         ("-2E-3,", Front::Number),
@@ -248,6 +259,62 @@ fn special_bytes(rt: HostRuntime) -> Result<(), Fail> {
     assert_eq!(rt; special(&bytes, 64), 64);
     let high = vec![in rt.alloc(); 0x80u8; 40]?;
     assert_eq!(rt; special(&high, 0), 40);
+    let mut control = vec![in rt.alloc(); 0x7fu8; 34]?;
+    assert_eq!(rt; control.len(), 34);
+    control[33] = 0x1f;
+    assert_eq!(rt; special(&control, 1), 33);
     assert_eq!(rt; special(&[], 0), 0);
+    Ok(())
+}
+
+// Where `special` is to stop.
+fn first_special(bytes: &[u8], from: usize) -> usize {
+    for (i, byte) in bytes.iter().enumerate() {
+        if i >= from && (*byte < 0x20 || *byte == 0x22 || *byte == 0x5c) {
+            return i;
+        }
+    }
+    bytes.len()
+}
+
+fn stops_right(bytes: &[u8], from: usize) -> bool
+    requires { from ≤ length bytes.now }
+{
+    special(bytes, from) == first_special(bytes, from)
+}
+
+// The first byte which, standing at `place`, `special` takes wrongly.
+fn wrong_byte(bytes: &mut [u8], place: usize) -> Option<u8>
+    requires { place < length bytes.now }
+{
+    let plain = bytes[place];
+    for byte in 0..=u8::MAX {
+        bytes[place] = byte;
+        if !stops_right(bytes, 0) || !stops_right(bytes, place) {
+            return Some(byte);
+        }
+    }
+    bytes[place] = plain;
+    None
+}
+
+// The first place and byte there which `special` takes wrongly.
+fn wrong_place(bytes: &mut [u8]) -> Option<(usize, u8)> {
+    for place in 0..bytes.len() {
+        if let Some(byte) = wrong_byte(bytes, place) {
+            return Some((place, byte));
+        }
+    }
+    None
+}
+
+#[test]
+fn each_byte_at_each_place(rt: HostRuntime) -> Result<(), Fail> {
+    let plain = [0x20, 0x21, 0x23, 0x5b, 0x5d, 0x7f, 0x80, 0xff, b'a'];
+    let mut bytes = Vec::new(rt.alloc());
+    for len in 0..=70 {
+        assert_eq!(rt; wrong_place(&mut bytes), None, "in {len} bytes");
+        bytes.push(plain[len % 9])?;
+    }
     Ok(())
 }

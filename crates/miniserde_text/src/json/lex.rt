@@ -104,6 +104,7 @@ impl<'a> Lexer<'a> {
     }
 
     /// Takes whitespace and the front of a value: a word, a number, a string, `[` or `{`.
+    #[inline(always)]
     pub fn start(&mut self, scratch: &mut String) -> Result<Event<'a>>
         ensures ok { IfOk result (λ event. (self.old.refused ≡ None) × (self.new.refused ≡ None)
             × Starts self.old.rest (front_of event (string_bytes scratch.new)) self.new.rest) }
@@ -128,6 +129,7 @@ impl<'a> Lexer<'a> {
     }
 
     /// Takes whitespace and the name of a member: a string, whitespace and `:`.
+    #[inline(always)]
     pub fn name(&mut self, scratch: &mut String) -> Result<Text<'a>>
         ensures ok { IfOk result (λ t. (self.old.refused ≡ None) × (self.new.refused ≡ None)
             × Names self.old.rest (text_of t (string_bytes scratch.new)) self.new.rest) }
@@ -153,6 +155,7 @@ impl<'a> Lexer<'a> {
 
     /// Takes whitespace and, of a container of that kind, its closing bracket, or what leads to the next child:
     /// behind its opening bracket nothing, elsewhere a comma.
+    #[inline(always)]
     pub fn after(&mut self, kind: Kind, first: bool) -> Result<After>
         ensures ok { IfOk result (λ a. (self.old.refused ≡ None) × (self.new.refused ≡ None)
             × Follows (kind_of kind) first (closes a) self.old.rest self.new.rest) }

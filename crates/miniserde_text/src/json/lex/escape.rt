@@ -1,7 +1,7 @@
 //! Escapes of strings.
-ghost use Rattle.std.specs.Prelude.{◌≡◌, ◌<◌, ◌≤◌, IsTrue, true, IfSome, slice_index};
+ghost use Rattle.std.specs.Prelude.{◌≡◌, ◌<◌, ◌≤◌, true, IfSome};
 ghost use Rattle.std.specs.Char.{digit_value};
-ghost use Rattle.miniserde_text.specs.private.Reading.{found, is_hex, begins_unit, unit_at, is_high, is_low};
+ghost use Rattle.miniserde_text.specs.private.Reading.{found, unit_at, is_high, is_low};
 ghost use Rattle.miniserde_text.specs.private.Reading.{begins_escape, pair_of, low_at, unicode_at, short_at};
 ghost use Rattle.miniserde_text.specs.private.Reading.{escape_at};
 
@@ -21,33 +21,20 @@ fn hex(c: u8) -> u32
     }
 }
 
-fn is_hex(c: u8) -> bool
-    ensures value { result ≡ is_hex c }
-    ensures ascii { IsTrue result → (0 < c) × (c < 128) }
-{
-    hex(c) < 16
-}
-
-fn begins_unit(s: &str) -> bool
-    ensures value { result ≡ begins_unit s.now }
-    ensures ascii { IsTrue result → (0 < slice_index s.now 3) × (slice_index s.now 3 < 128) }
-{
-    is_hex(byte_at(s, 0)) && is_hex(byte_at(s, 1)) && is_hex(byte_at(s, 2)) && is_hex(byte_at(s, 3))
-}
-
 // Four hexadecimal digits.
 fn unit(s: &str) -> Option<(u32, &str)>
     ensures value { found result ≡ unit_at s.now }
     ensures small { IfSome result (λ x. x.0 < 65536) }
 {
-    if !begins_unit(s) {
-        return None;
-    }
     let a = hex(byte_at(s, 0));
     let b = hex(byte_at(s, 1));
     let c = hex(byte_at(s, 2));
     let d = hex(byte_at(s, 3));
-    Some((a * 4096 + b * 256 + c * 16 + d, skip(s, 4)))
+    if a < 16 && b < 16 && c < 16 && d < 16 {
+        Some((a * 4096 + b * 256 + c * 16 + d, skip(s, 4)))
+    } else {
+        None
+    }
 }
 
 fn is_high(u: u32) -> bool

@@ -31,6 +31,7 @@ fn take_word<'a>(s: &'a str, word: &[u8], event: Event<'a>) -> Option<(Event<'a>
 }
 
 // Takes the front of a value that is no string.
+#[inline(always)]
 #[tactic(auto, unfolding(crate::specs::private::Reading::front_by))]
 fn take_plain<'a>(s: &'a str, first: u8) -> Option<(Event<'a>, &'a str)>
     requires { first ≡ slice_index s.now 0 }
@@ -47,6 +48,7 @@ fn take_plain<'a>(s: &'a str, first: u8) -> Option<(Event<'a>, &'a str)>
 }
 
 /// Takes the front of a value.
+#[inline(always)]
 pub(super) fn take_front<'a>(s: &'a str, scratch: &mut String) -> Result<(Event<'a>, &'a str)>
     ensures ok { IfOk result (λ x. Taken s.now (front_of x.0 (string_bytes scratch.new)) x.1.now) }
     ensures text { IfOk result (λ x. EventTakesText x.0 s.now x.1.now) }

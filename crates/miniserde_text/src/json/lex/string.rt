@@ -33,8 +33,11 @@ fn take_run<'a>(s: &'a str, scratch: &mut String) -> Result<&'a str>
         return Err(Error::Invalid);
     };
     let next = after_unescaped(rest);
+    let run = before(rest, next);
     scratch.push(c)?;
-    scratch.push_str(before(rest, next))?;
+    if !run.is_empty() {
+        scratch.push_str(run)?;
+    }
     Ok(next)
 }
 

@@ -1,7 +1,7 @@
 use Rattle.std.proofs.Common.{◌≡◌, Some, arith}
 use Rattle.miniserde_text.specs.private.Reading.{after_minus, after_whole, after_tail}
 use Rattle.miniserde_text.proofs.Numbers.{whole_takes, tail_takes, splits_at, whole_before}
-use Rattle.miniserde_text.proofs.json.lex.number.take_number.Goals as goal
+use Rattle.miniserde_text.proofs.json.lex.number.take_any_number.Goals as goal
 
 pub before-requires : goal.before-requires
 before-requires c =

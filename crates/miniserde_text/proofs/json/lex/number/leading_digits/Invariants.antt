@@ -1,0 +1,16 @@
+use Rattle.std.proofs.Common.{◌≡◌, ◌+◌, ◌-◌, ◌^◌, ◌<◌, ◌≤◌, length, take, drop}
+use Rattle.std.specs.List.{prefix_len}
+use Rattle.std.specs.Str.Parse.{digits_value}
+use Rattle.miniserde_text.specs.private.Reading.{is_digit}
+use Rattle.miniserde_text.proofs.json.lex.number.leading_digits.Given as goal
+
+abbrev pub invariant-loop-i : goal.invariant-loop-i
+invariant-loop-i l = record {
+  count : l.i + prefix_len is_digit (drop l.i l.s) ≡ prefix_len is_digit l.s;
+  few : l.i ≤ 19;
+  value : l.value ≡ digits_value 10 (take l.i l.s);
+  small : l.value < 10 ^ l.i;
+}
+
+abbrev pub decreases-loop-i : goal.decreases-loop-i
+decreases-loop-i l = length l.bytes - l.i
