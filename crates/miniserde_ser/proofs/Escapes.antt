@@ -1,5 +1,5 @@
 -- Texts by the escape rule, piece by piece.
-use Rattle.std.proofs.Common.{◌≡◌, ℕ, suc, ◌+◌, ◌-◌, ◌<◌, ◌≤◌, List, [], ◌∷◌, ◌++◌, length, true, false, take, drop, get_or, refl, ap, sym, ◌∙◌, arith, length-append, take-add}
+use Rattle.std.proofs.Common.{◌≡◌, ℕ, suc, ◌+◌, ◌-◌, ◌<◌, ◌≤◌, List, [], ◌∷◌, ◌++◌, length, true, false, take, drop, get_or, refl, ap, sym, ◌∙◌, arith, length-append, length-drop, take-add}
 use Rattle.std.proofs.lemmas.Grind.{flat_map-append}
 use Rattle.std.proofs.lemmas.List.{take_more, append-nil, take-append-drop, length-take, get_or-take, get_or-drop}
 use Rattle.std.proofs.lemmas.Bool.Decides.{nat_tests}
@@ -44,10 +44,13 @@ is_special_ascii b s = grind (arith, nat_tests)
 pub escapes_more : (xs : List ℕ) (i : ℕ) → i < length xs → escapes (take (i + 1) xs) ≡ escapes (take i xs) ++ escape (get_or xs i 0)
 escapes_more xs i h = rw (take_more xs i 0 h, escapes-append, escapes-one) refl
 
+-- a text cut in two
+length_escapes_cut : (xs : List ℕ) (i : ℕ) → length (escapes xs) ≡ length (escapes (take i xs)) + length (escapes (drop i xs))
+length_escapes_cut xs i =
+    ap (λ t. length (escapes t)) (sym (take-append-drop i xs)) ∙ rw (escapes-append (take i xs) (drop i xs)) (length-append (escapes (take i xs)) (escapes (drop i xs)))
+
 pub length_escapes_le : (xs : List ℕ) (i : ℕ) → length (escapes (take i xs)) ≤ length (escapes xs)
-length_escapes_le xs i =
-    let whole : escapes xs ≡ escapes (take i xs) ++ escapes (drop i xs) = ap escapes (sym (take-append-drop i xs)) ∙ escapes-append (take i xs) (drop i xs) in
-    rw whole (omega (arith, length-append (escapes (take i xs)) (escapes (drop i xs))))
+length_escapes_le xs i = omega (arith, length_escapes_cut xs i)
 
 -- a run of bytes with none to escape
 pub escapes_run : (xs : List ℕ) (i j : ℕ) → i ≤ j → j ≤ length xs → ((k : ℕ) → i ≤ k → k < j → is_special (get_or xs k 0) ≡ false) → escapes (take j xs) ≡ escapes (take i xs) ++ take (j - i) (drop i xs)
@@ -58,6 +61,37 @@ escapes_run xs i j l h plain =
     let at : get_or (take (j - i) (drop i xs)) k 0 ≡ get_or xs (i + k) 0 = get_or-take (j - i) (drop i xs) k 0 n ∙ get_or-drop i xs k 0 in
     rw at (plain (i + k) (omega arith) (omega arith))) in
     rw (front, escapes-append) (ap (λ t. escapes (take i xs) ++ t) same)
+
+pub length_escapes_run : (xs : List ℕ) (i j : ℕ) → i ≤ j → j ≤ length xs → ((k : ℕ) → i ≤ k → k < j → is_special (get_or xs k 0) ≡ false) → length (escapes (take j xs)) + i ≡ length (escapes (take i xs)) + j
+length_escapes_run xs i j l h plain =
+    omega (arith, ap length (escapes_run xs i j l h plain), length-append (escapes (take i xs)) (take (j - i) (drop i xs)), length-take (j - i) (drop i xs), length-drop i xs)
+
+-- a byte is written as one byte where it stands for itself, and as more otherwise
+length_escape_ge : (b : ℕ) → 1 ≤ length (escape b)
+unfolding escape
+length_escape_ge b = grind (arith, nat_tests)
+
+escape_one : (b : ℕ) → length (escape b) ≡ 1 → escape b ≡ b ∷ []
+unfolding escape
+escape_one b h = grind (arith, nat_tests)
+
+length_escapes_ge : (xs : List ℕ) → length xs ≤ length (escapes xs)
+length_escapes_ge [] = omega arith
+length_escapes_ge (x ∷ xs) =
+    rw escapes-cons (omega (arith, length-append (escape x) (escapes xs), length_escape_ge x, length_escapes_ge xs))
+
+-- the bytes that are left take at least as many
+pub length_escapes_rest : (xs : List ℕ) (i : ℕ) → i ≤ length xs → length (escapes (take i xs)) + length xs ≤ length (escapes xs) + i
+length_escapes_rest xs i h = omega (arith, length_escapes_cut xs i, length_escapes_ge (drop i xs), length-drop i xs)
+
+-- a text that is written at its own length stands for itself
+pub escapes_same : (xs : List ℕ) → length xs ≡ length (escapes xs) → escapes xs ≡ xs
+escapes_same [] h = escapes-nil
+escapes_same (x ∷ xs) h =
+    let sum : length (escapes (x ∷ xs)) ≡ length (escape x) + length (escapes xs) = ap length (escapes-cons x xs) ∙ length-append (escape x) (escapes xs) in
+    let one : length (escape x) ≡ 1 = omega (arith, h, sum, length_escape_ge x, length_escapes_ge xs) in
+    let rest : length xs ≡ length (escapes xs) = omega (arith, h, sum, one) in
+    rw (escapes-cons x xs, escape_one x one, escapes_same xs rest) refl
 
 -- the words of a string, and the model's
 pub quoted_escapes : (s : List ℕ) → quoted s ≡ 34 ∷ (escapes s ++ 34 ∷ [])

@@ -155,14 +155,13 @@ impl Writer {
         ensures room { OnErr result (LacksRoom self.old (compact (fragment_tree f.entry))) }
         ensures capacity { self.old.capacity ≤ self.new.capacity }
     {
-        let mut digits = Buffer::new();
         match f {
             Fragment::Null => self.append("null"),
             Fragment::Bool(true) => self.append("true"),
             Fragment::Bool(false) => self.append("false"),
             Fragment::Str(s) => self.append_quoted(s),
-            Fragment::U64(n) => self.append(digits.format(n)),
-            Fragment::I64(n) => self.append(digits.format(n)),
+            Fragment::U64(n) => self.append(Buffer::new().format(n)),
+            Fragment::I64(n) => self.append(Buffer::new().format(n)),
             Fragment::Text(n) => self.append(n.as_str()),
         }
     }

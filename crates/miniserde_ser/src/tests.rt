@@ -98,6 +98,11 @@ fn texts(rt: HostRuntime) -> std::result::Result<(), Fail> {
             "\"\u{7f}\u{e9}\u{20ac}\u{1f600}\"",
         ),
         ("ab\ncd\n", "\"ab\\ncd\\n\""),
+        (
+            "\u{0}\u{1}\u{7}\u{8}\u{9}\u{a}\u{b}\u{c}\u{d}\u{e}\u{1f}",
+            "\"\\u0000\\u0001\\u0007\\b\\t\\n\\u000b\\f\\r\\u000e\\u001f\"",
+        ),
+        ("\u{e9}\\\u{1f600}", "\"\u{e9}\\\\\u{1f600}\""),
     ] {
         let mut out = String::from_str(rt.alloc(), "x")?;
         escape_str(text, &mut out)?;
@@ -105,6 +110,113 @@ fn texts(rt: HostRuntime) -> std::result::Result<(), Fail> {
         assert_eq!(rt; written(rt.alloc(), &text)?.as_str(), want);
         let owned = String::from_str(rt.alloc(), text)?;
         assert_eq!(rt; written(rt.alloc(), &owned)?.as_str(), want);
+    }
+    Ok(())
+}
+
+// The text as `escape_str` writes it.
+fn escaped(alloc: Global, text: &str) -> Result<String> {
+    let mut out = String::new(alloc);
+    escape_str(text, &mut out)?;
+    Ok(out)
+}
+
+#[test]
+fn long_texts(rt: HostRuntime) -> std::result::Result<(), Fail> {
+    for (text, want) in [
+        (
+            "abcdefghijklmnopqrstuvwxyzabcde",
+            "\"abcdefghijklmnopqrstuvwxyzabcde\"",
+        ),
+        (
+            "abcdefghijklmnopqrstuvwxyzabcdef",
+            "\"abcdefghijklmnopqrstuvwxyzabcdef\"",
+        ),
+        (
+            "abcdefghijklmnopqrstuvwxyzabcdefg",
+            "\"abcdefghijklmnopqrstuvwxyzabcdefg\"",
+        ),
+        (
+            "abcdefghijklmnopqrstuvwxyzabcdefghijklmnopqrstuvwxyzabcdefghijkl",
+            "\"abcdefghijklmnopqrstuvwxyzabcdefghijklmnopqrstuvwxyzabcdefghijkl\"",
+        ),
+    ] {
+        assert_eq!(rt; escaped(rt.alloc(), text)?.as_str(), want);
+    }
+    Ok(())
+}
+
+#[test]
+fn a_quote_before_a_long_text(rt: HostRuntime) -> std::result::Result<(), Fail> {
+    for (text, want) in [
+        (
+            "\"abcdefghijklmnopqrstuvwxyzabcde",
+            "\"\\\"abcdefghijklmnopqrstuvwxyzabcde\"",
+        ),
+        (
+            "\"abcdefghijklmnopqrstuvwxyzabcdef",
+            "\"\\\"abcdefghijklmnopqrstuvwxyzabcdef\"",
+        ),
+        (
+            "\"abcdefghijklmnopqrstuvwxyzabcdefg",
+            "\"\\\"abcdefghijklmnopqrstuvwxyzabcdefg\"",
+        ),
+        (
+            "\"abcdefghijklmnopqrstuvwxyzabcdefghijklmnopqrstuvwxyzabcdefghijkl",
+            "\"\\\"abcdefghijklmnopqrstuvwxyzabcdefghijklmnopqrstuvwxyzabcdefghijkl\"",
+        ),
+    ] {
+        assert_eq!(rt; escaped(rt.alloc(), text)?.as_str(), want);
+    }
+    Ok(())
+}
+
+#[test]
+fn a_quote_after_a_long_text(rt: HostRuntime) -> std::result::Result<(), Fail> {
+    for (text, want) in [
+        (
+            "abcdefghijklmnopqrstuvwxyzabcde\"",
+            "\"abcdefghijklmnopqrstuvwxyzabcde\\\"\"",
+        ),
+        (
+            "abcdefghijklmnopqrstuvwxyzabcdef\"",
+            "\"abcdefghijklmnopqrstuvwxyzabcdef\\\"\"",
+        ),
+        (
+            "abcdefghijklmnopqrstuvwxyzabcdefg\"",
+            "\"abcdefghijklmnopqrstuvwxyzabcdefg\\\"\"",
+        ),
+        (
+            "abcdefghijklmnopqrstuvwxyzabcdefghijklmnopqrstuvwxyzabcdefghijkl\"",
+            "\"abcdefghijklmnopqrstuvwxyzabcdefghijklmnopqrstuvwxyzabcdefghijkl\\\"\"",
+        ),
+    ] {
+        assert_eq!(rt; escaped(rt.alloc(), text)?.as_str(), want);
+    }
+    Ok(())
+}
+
+#[test]
+fn a_quote_within_a_long_text(rt: HostRuntime) -> std::result::Result<(), Fail> {
+    for (text, want) in [
+        (
+            "abcdefghijklmno\"pqrstuvwxyzabcde",
+            "\"abcdefghijklmno\\\"pqrstuvwxyzabcde\"",
+        ),
+        (
+            "abcdefghijklmnop\"qrstuvwxyzabcdef",
+            "\"abcdefghijklmnop\\\"qrstuvwxyzabcdef\"",
+        ),
+        (
+            "abcdefghijklmnop\"qrstuvwxyzabcdefg",
+            "\"abcdefghijklmnop\\\"qrstuvwxyzabcdefg\"",
+        ),
+        (
+            "abcdefghijklmnopqrstuvwxyzabcdef\"ghijklmnopqrstuvwxyzabcdefghijkl",
+            "\"abcdefghijklmnopqrstuvwxyzabcdef\\\"ghijklmnopqrstuvwxyzabcdefghijkl\"",
+        ),
+    ] {
+        assert_eq!(rt; escaped(rt.alloc(), text)?.as_str(), want);
     }
     Ok(())
 }

@@ -46,7 +46,8 @@ fn letter_of(b: u8) -> u8
 
 // How many bytes the byte is written as.
 fn byte_len(b: u8) -> usize
-    ensures { result ≡ length (escape b) }
+    ensures len { result ≡ length (escape b) }
+    ensures low { 1 ≤ result }
 {
     if letter_of(b) != 0 {
         2
@@ -62,9 +63,12 @@ fn escaped_len(value: &str) -> Option<usize>
     ensures some { IfSome result (λ n. n ≡ length (escapes value.now)) }
     ensures none { IfNone result (2 ^ 64 ≤ length (escapes value.now)) }
 {
-    let mut total = 0usize;
-    for b in value.as_bytes() {
-        total = total.checked_add(byte_len(*b))?;
+    let text = value.as_bytes();
+    let mut total = text.len();
+    let mut at = run_end(text, 0);
+    while at < text.len() {
+        total = total.checked_add(byte_len(text[at]) - 1)?;
+        at = run_end(text, at + 1);
     }
     Some(total)
 }
@@ -123,6 +127,21 @@ fn put_escapes(value: &str, out: &mut String)
     }
 }
 
+// Appends a text that is written as `len` bytes by the escape rule: in one piece where no byte is to be escaped.
+fn put_inside(value: &str, len: usize, out: &mut String)
+    requires len { len ≡ length (escapes value.now) }
+    requires room { string_len out.old + length (escapes value.now) ≤ string_capacity out.old }
+    ensures bytes { string_bytes out.new ≡ string_bytes out.old ++ escapes value.now }
+    ensures len { string_len out.new ≡ string_len out.old + length (escapes value.now) }
+    ensures capacity { string_capacity out.old ≤ string_capacity out.new }
+{
+    if len == value.len() {
+        out.push_str(value).unwrap();
+    } else {
+        put_escapes(value, out);
+    }
+}
+
 // Appends a mark or nothing, a text between quotes by the escape rule, and again a mark or nothing. A call that refuses
 // leaves `out` as it was.
 pub(crate) fn put_between(front: &str, value: &str, back: &str, out: &mut String) -> Result<()>
@@ -144,7 +163,7 @@ pub(crate) fn put_between(front: &str, value: &str, back: &str, out: &mut String
     out.reserve(len.saturating_add(front.len() + back.len() + 2))?;
     out.push_str(front).unwrap();
     out.push('"').unwrap();
-    put_escapes(value, out);
+    put_inside(value, len, out);
     out.push('"').unwrap();
     out.push_str(back).unwrap();
     Ok(())

@@ -1,6 +1,12 @@
-use Rattle.std.proofs.Common.{◌≡◌, length, take}
+use Rattle.std.proofs.Common.{◌≡◌, ◌+◌, ◌-◌, ◌≤◌, length, take}
 use Rattle.miniserde_ser.specs.private.Escape.{escapes}
 use Rattle.miniserde_ser.proofs.ser.escape.escaped_len.Given as goal
 
-abbrev pub invariant-loop-b : goal.invariant-loop-b
-invariant-loop-b l = l.total ≡ length (escapes (take l.b-index l.b-items))
+abbrev pub invariant-loop-at : goal.invariant-loop-at
+invariant-loop-at l = record {
+  within : l.at ≤ length l.text;
+  counted : l.total + l.at ≡ length (escapes (take l.at l.text)) + length l.text;
+}
+
+abbrev pub decreases-loop-at : goal.decreases-loop-at
+decreases-loop-at l = length l.text - l.at

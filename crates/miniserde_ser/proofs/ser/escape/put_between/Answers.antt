@@ -20,7 +20,7 @@ returns-clause-ok c =
     let closed = rw close at c.push-2.ensures in
     let last = rw back at c.push_str-2.ensures in
     let start = rw c.reserve.ensures.bytes at first.bytes in
-    between_quotes _ _ _ _ _ _ _ _ _ c.args.value.now (c.push.ensures.ascii (omega arith)) start opened.bytes c.put_escapes.ensures.bytes closed.bytes last.bytes
+    between_quotes _ _ _ _ _ _ _ _ _ c.args.value.now (c.push.ensures.ascii (omega arith)) start opened.bytes c.put_inside.ensures.bytes closed.bytes last.bytes
 
 -- how long that is
 length_between : (front v back : List ℕ) → length (front ++ quoted v ++ back) ≡ length front + length back + 2 + length (escapes v)
