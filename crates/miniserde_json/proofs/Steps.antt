@@ -1,17 +1,16 @@
 -- What one step of the engine does, in plain variables.
-use Rattle.std.proofs.Common.{◌≡◌, ℕ, Bool, true, false, Option, Some, None, option_map, is_some, MatchOption, ◌+◌, length, ◌-◌, slice_get, option_to_list, append-nil, arith, sub-one, List, [], ◌∷◌, ◌++◌, refl, sym, ap, subst, ◌∙◌, true≢false}
+use Rattle.std.proofs.Common.{◌≡◌, ℕ, Bool, true, false, Option, Some, None, option_map, is_some, List, [], ◌∷◌, refl, sym, ap, subst, ◌∙◌, true≢false}
 use Rattle.miniserde_model.specs.Event.{Event, element, key, finish}
 use Rattle.miniserde_model.specs.Position.{Position}
 use Rattle.miniserde_model.specs.Lexing.{Kind, in_list, in_members, Starts, Names, Follows}
 use Rattle.miniserde_model.specs.private.Reading.{due, after, Spells}
-use Rattle.miniserde_json.specs.private.Stack.{stack_on, stack_of, pushed, innermost, outer}
+use Rattle.miniserde_json.specs.private.Stack.{pushed, innermost, outer}
 use Rattle.miniserde_json.specs.private.Moving.{opens, between, Passes, TextBarred}
 use Rattle.miniserde_text.specs.Lexer.{front_of, kind_of}
 use Rattle.miniserde_text.specs.declared.json.lex.Event as lexed
 use Rattle.miniserde_text.specs.declared.json.lex.Kind as rust
 use Rattle.miniserde_json.proofs.Fronts.{passes_start, spells_start}
 use Rattle.miniserde_json.proofs.Turns.{passes_finish, passes_element, passes_key, key_back, follows_there}
-use Rattle.miniserde_json.proofs.Wholes.{stack_push}
 
 is_some_map : (o : Option rust.Kind) → is_some (option_map kind_of o) ≡ is_some o
 is_some_map None = refl
@@ -58,23 +57,3 @@ pub name_barred : {C : Type 0} (st : List Kind) (s r : List ℕ) (k : Kind) (f :
 name_barred st s r k f out at h e p n es g c =
     let t = key_back f es (outer st) s r (subst (λ z. Follows z f false s r) e p) (subst (λ z. Spells (between f) es z s) (split_top st in_members (h ∙ ap Some e)) g) in
     absurd (n t.name t.rest t.names)
-
--- ---- the stack
-
-nil_of : (xs : List rust.Kind) → length xs ≡ 0 → xs ≡ []
-nil_of [] h = refl
-nil_of (x ∷ xs) h = absurd (omega arith)
-
-pub stack_pop : (old new : List rust.Kind) (o : Option rust.Kind) (a b : ℕ) → old ≡ new ++ option_to_list o → MatchOption o ((a ≡ 0) × (b ≡ 0)) (λ _. b + 1 ≡ a) → b ≡ length new → stack_of new ≡ outer (stack_of old)
-stack_pop old new (Some k) a b e m l = sym (ap (λ z. outer (stack_of z)) e ∙ ap outer (stack_push [] new k))
-stack_pop old new None a b e m l =
-    let none : new ≡ [] = nil_of new (sym l ∙ m.1) in
-    ap stack_of none ∙ sym (ap (λ z. outer (stack_of z)) (e ∙ append-nil new ∙ none))
-
-top_on : (st : List Kind) (x : rust.Kind) (xs : List rust.Kind) → option_map kind_of (slice_get (x ∷ xs) (length xs)) ≡ innermost (stack_on st (x ∷ xs))
-top_on st x [] = refl
-top_on st x (y ∷ xs) = top_on (kind_of x ∷ st) y xs
-
-pub stack_top : (xs : List rust.Kind) → option_map kind_of (slice_get xs (length xs - 1)) ≡ innermost (stack_of xs)
-stack_top [] = refl
-stack_top (x ∷ xs) = ap (λ n. option_map kind_of (slice_get (x ∷ xs) n)) (sub-one (length (x ∷ xs))) ∙ top_on [] x xs

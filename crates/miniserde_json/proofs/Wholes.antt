@@ -12,10 +12,7 @@ use Rattle.miniserde_model.proofs.Events.{events_complete}
 use Rattle.miniserde_model.proofs.Accepted.{value_tree}
 use Rattle.miniserde_model.proofs.ReadBack.{spells_json, nothing_left}
 use Rattle.miniserde_place.specs.Place.{Leads, Bars, LeadsBy, Begun, IsTreeEvent}
-use Rattle.miniserde_json.specs.private.Stack.{stack_on}
 use Rattle.miniserde_json.specs.private.Moving.{Live, Passes, Moves, TextBarred}
-use Rattle.miniserde_text.specs.Lexer.{kind_of}
-use Rattle.miniserde_text.specs.declared.json.lex.Kind as rust
 use Rattle.miniserde_json.proofs.Fronts.{front}
 
 -- ---- places
@@ -122,9 +119,3 @@ not_whole s at k n es h c = absurd (n (nothing_left es s h).1)
 
 pub barred_json : {C : Type 0} (s : List ℕ) (at : Position) (k : List Event → Option C) → at ≡ start → TextBarred due [] s k at → (t : Tree) → IsJson s t → k (events t) ≡ None
 barred_json s at k e b t h = b (events t) (json_spells s t h) (subst (λ z. Completes z (events t)) (sym e) (events_complete t))
-
--- ---- the stack
-
-pub stack_push : (st : List Kind) (ks : List rust.Kind) (k : rust.Kind) → stack_on st (ks ++ k ∷ []) ≡ kind_of k ∷ stack_on st ks
-stack_push st [] k = refl
-stack_push st (c ∷ ks) k = stack_push (kind_of c ∷ st) ks k

@@ -2,3 +2,5 @@
 #![tactic(auto)]
 
 pub mod json;
+#[cfg(test)]
+mod tests;

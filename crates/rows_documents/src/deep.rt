@@ -16,6 +16,26 @@ fn deep_objects_are_written(rt: HostRuntime) -> std::result::Result<(), Fail> {
     Ok(())
 }
 
+/// A text of so many pieces `open` and as many `close`, which is its own canonical text.
+fn is_kept(alloc: Global, depth: u32, open: &str, close: &str) -> Result<bool> {
+    let text = nested(alloc, depth, open, close, close)?;
+    Ok(written::<Value>(alloc, text.as_str())?.as_str() == text.as_str())
+}
+
+#[test]
+fn depths_around_64(rt: HostRuntime) -> std::result::Result<(), Fail> {
+    let alloc = rt.alloc();
+    for depth in [63u32, 64, 65, 128] {
+        assert!(rt; is_kept(alloc, depth, "[", "]")?, "{depth}");
+        let wrong = nested(alloc, depth, "[", "]", "}")?;
+        assert!(rt; is_refused::<Value>(alloc, wrong.as_str()), "{depth}");
+    }
+    for depth in [32u32, 33] {
+        assert!(rt; is_kept(alloc, depth, "{\"a\":[", "]}")?, "{depth}");
+    }
+    Ok(())
+}
+
 /// `Null` in an array, in an array, and so on.
 fn deep_array(alloc: Global, depth: u32) -> Result<Value> {
     let mut value = Value::Null;

@@ -70,6 +70,7 @@ pub fn feed<V: Visitor>(alloc: Global, j: &str, place: &mut V) -> Result<()>
 }
 
 /// Takes a value that is due, or the opening bracket of one, and answers whether it was a bracket.
+#[inline(always)]
 fn value<V: Visitor>(
     lexer: &mut Lexer<'_>,
     scratch: &mut String,
