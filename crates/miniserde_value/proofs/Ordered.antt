@@ -1,10 +1,10 @@
--- Members that were put in order, and a map that was collected: both have of each name the last tree.
+-- Members that were put in order, and a map that was extended: both have of each name the last tree.
 use Rattle.std.proofs.Common.{◌≡◌, ◌⊎◌, ℕ, Bool, true, false, cond, List, [], ◌∷◌, Option, Some, None, option_map, bytes_eq, refl, sym, ap, subst, ◌∙◌, inl, inr, String, BTreeMap, Global, string_bytes, string_cmp, Less}
 use Rattle.std.specs.Ordering.{is_eq, eq_by_cmp}
 use Rattle.std.specs.Cmp.Lexicographic.{texts_ties}
 use Rattle.std.specs.String.{string_cmp_total}
-use Rattle.std.specs.Map.{keys_of, update_all}
-use Rattle.std.specs.BTreeMap.{get, IsOrdered, IsFromIterResult}
+use Rattle.std.specs.Map.{keys_of, lookup, update_all}
+use Rattle.std.specs.BTreeMap.{get, is_at, IsOrdered, InsertsAll}
 use Rattle.std.specs.List.{AllByRecursion}
 use Rattle.std.specs.List.Sorted.{IsStrictlySortedBy}
 use Rattle.std.proofs.lemmas.Cmp.{eq_by_cmp_equiv}
@@ -110,8 +110,9 @@ module _ {V : Type 0} (f : V → Tree) where
       go (inr n) (inl k) = subst (λ z. last_of z (shown es) ≡ last_of z (shown xs)) k.1 (h k.0)
       go (inr n) (inr m) = n ∙ sym m
 
-  -- a map that is collected from pairs has their members in order
-  pub collected : (xs : List (String Global × V)) (m : BTreeMap (String Global) V) → IsFromIterResult string_cmp xs m → members_of string_bytes f m.entries ≡ in_order (members_of string_bytes f xs)
-  collected xs m c =
+  -- an empty map that is extended by pairs has their members in order
+  pub extended : (empty m : BTreeMap (String Global) V) (xs : Entries) → empty.entries ≡ [] → InsertsAll string_cmp empty xs m → members_of string_bytes f m.entries ≡ in_order (members_of string_bytes f xs)
+  extended empty m xs e c =
       in_order_only (shown m.entries) (shown xs) (ordered_rises m c.1)
-      (alike_by_keys m.entries xs (λ k. sym (ordered_last k m c.1) ∙ ap (option_map f) (c.0 k) ∙ collected_last k xs))
+      (alike_by_keys m.entries xs (λ k. sym (ordered_last k m c.1) ∙ ap (option_map f) (c.0 k) ∙ inserted_last k (get string_cmp empty) xs
+      ∙ ap (λ es. or_else (last_of (string_bytes k) (shown xs)) (option_map f (lookup (is_at (string_cmp k)) es))) e ∙ or_else_none (last_of (string_bytes k) (shown xs))))

@@ -14,6 +14,7 @@ use super::value::Value;
 use miniserde_text::error::Result;
 use std::alloc::Global;
 use std::collections::BTreeMap;
+use std::mem;
 
 /// A kind of container.
 #[derive(Clone, Copy, Drop)]
@@ -40,6 +41,20 @@ pub(crate) struct Builder {
     // The open containers, the outermost first.
     marks: Vec<Mark>,
     ghost fits: { MarksFit values.items names.items marks.items } by { marks-fit-once values.items names.items marks.items },
+}
+
+// The items from this place on, taken out: the whole list as it lies, where that is asked for.
+fn take_from<T>(alloc: Global, items: &mut Vec<T>, from: usize, as_it_lies: bool) -> Result<Vec<T>>
+    requires { from ≤ length items.old.items }
+    ensures items { OnOk result (items.new.items ≡ take from items.old.items) }
+    ensures tail { IfOk result (λ taken. taken.items ≡ drop from items.old.items) }
+    ensures err { OnErr result (items.new ≡ items.old) }
+    ensures memory { OnErr result (IsErrOf result Memory) }
+{
+    if as_it_lies && from == 0 {
+        return Ok(mem::replace(items, Vec::new(alloc)));
+    }
+    Ok(items.split_off(from)?)
 }
 
 impl Builder {
@@ -122,9 +137,12 @@ impl Builder {
             (map shape (drop values self.old.values.items)))) }
         ensures memory { OnErr result (IsErrOf result Memory) }
     {
-        let names = self.names.split_off(names)?;
-        let values = self.values.split_off(values)?;
-        Ok(BTreeMap::from_iter(self.alloc, names.into_iter().zip(values))?)
+        let is_outermost = self.marks.is_empty();
+        let names = take_from(self.alloc, &mut self.names, names, is_outermost)?;
+        let values = take_from(self.alloc, &mut self.values, values, is_outermost)?;
+        let mut members = BTreeMap::new(self.alloc);
+        members.extend(names.into_iter().zip(values))?;
+        Ok(members)
     }
 
     /// Closes the innermost open container: its values become one, in the hole of what it stands in.
@@ -135,7 +153,8 @@ impl Builder {
         match self.marks.pop() {
             None => Ok(()),
             Some(Mark::Array(values)) => {
-                let items = self.values.split_off(values)?;
+                let is_outermost = self.marks.is_empty();
+                let items = take_from(self.alloc, &mut self.values, values, is_outermost)?;
                 self.put(Value::Array(Array::from_inner(items)))
             }
             Some(Mark::Object(values, names)) => {

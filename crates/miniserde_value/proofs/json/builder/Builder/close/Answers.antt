@@ -14,7 +14,7 @@ pub invariant_of-self-in-Some-Array : goal.invariant_of-self-in-Some-Array
 invariant_of-self-in-Some-Array c =
     let last : c.args.self.now.marks.items ≡ c.pop.new.self.items ++ mark.Array c.in-Some-Array.values ∷ [] = search rules in
     let fits = fits_popped (map shape c.args.self.now.values.items) (map string_bytes c.args.self.now.names.items) _ _ _ last c.args.self.now.fits in
-    record { fits = fits_split c.split_off.result c.args.self.now.values _ _ _ (reverse c.pop.new.self.items) c.split_off.ensures.items c.split_off.ensures.err fits.1 }
+    record { fits = fits_split c.take_from.result c.args.self.now.values _ _ _ (reverse c.pop.new.self.items) c.take_from.ensures.items c.take_from.ensures.err fits.1 }
 
 pub invariant_of-self-in-Object-1 : goal.invariant_of-self-in-Object-1
 invariant_of-self-in-Object-1 c =
@@ -28,7 +28,7 @@ invariant_of-self-in-Object-1 c =
 pub returns-in_ok-items-in-Some-Array-clause-ok : goal.returns-in_ok-items-in-Some-Array-clause-ok
 returns-in_ok-items-in-Some-Array-clause-ok c =
     let last : c.args.self.now.marks.items ≡ c.pop.new.self.items ++ mark.Array c.in-Some-Array.values ∷ [] = search rules in
-    on_ok_weaker c.put.result (λ e. e ∙ closed_array c.args.self.now.values.items c.split_off.new.self.items c.in-Some-Array.values (map string_bytes c.args.self.now.names.items) c.args.self.now.marks.items c.pop.new.self.items c.from_inner.result last
+    on_ok_weaker c.put.result (λ e. e ∙ closed_array c.args.self.now.values.items c.take_from.new.items.items c.in-Some-Array.values (map string_bytes c.args.self.now.names.items) c.args.self.now.marks.items c.pop.new.self.items c.from_inner.result last
     c.in_ok-items-in-Some-Array.ensures.items (ap (λ v. v.items) c.from_inner.ensures ∙ c.in_ok-items-in-Some-Array.ensures.tail)) c.put.ensures.ok
 
 pub returns-in_ok-members-in-Some-Object-clause-ok : goal.returns-in_ok-members-in-Some-Object-clause-ok
