@@ -13,6 +13,10 @@ use Rattle.miniserde_canon.specs.declared.canon.Fault.TheVariants.{Invalid, Memo
 
 -- ---- the text
 
+-- the bytes xs are a text that spells a tree, and u is its normal form
+unfoldable pub IsMeaning : List ℕ → Tree → Type 0
+IsMeaning xs u = IsUtf8 xs × ((t : Tree) × IsJson xs t × (u ≡ norm t))
+
 -- the bytes xs are a text that spells a tree, and ys is the compact text of the tree's normal form
 unfoldable pub IsAnswer : List ℕ → List ℕ → Type 0
 IsAnswer xs ys = IsUtf8 xs × ((t : Tree) × IsJson xs t × (ys ≡ compact (norm t)))

@@ -2,8 +2,9 @@
 ghost use Rattle.std.specs.Prelude.{◌≡◌, ◌+◌, ◌<◌, ◌⊎◌, length, codes, Result, OnOk, OnErr, IfOk, IfSome, IsErrOf};
 ghost use Rattle.std.specs.String.{string_bytes};
 ghost use Rattle.std.specs.Io.KnownBytes.{Consumes, IsAtEnd, Keeps, Appends};
+ghost use Rattle.miniserde_value.specs.Values.{tree_of};
 ghost use Rattle.miniserde_canon.specs.Counts.{inner_of, failures, flushes};
-ghost use Rattle.miniserde_canon.specs.Runs.{IsAnswer, HasNoAnswer, fault_of, read_faults, write_faults, IfRead};
+ghost use Rattle.miniserde_canon.specs.Runs.{IsAnswer, IsMeaning, HasNoAnswer, fault_of, read_faults, write_faults, IfRead};
 ghost use Rattle.miniserde_canon.specs.Runs.{IfSilent, AppendsPart, AppendsAnswer, BeginsAnswer, status_of, line_of};
 ghost use Rattle.miniserde_canon.specs.Runs.{Ran};
 ghost use Rattle.miniserde_canon.specs.declared.canon.Fault.{Fault};
@@ -12,8 +13,9 @@ mod count;
 mod counted;
 
 pub use counted::Counted;
-use miniserde_json::json::canonical;
+use miniserde_json::json::{from_str, to_string};
 use miniserde_text::error::Error;
+use miniserde_value::json::value::Value;
 use std::alloc::Global;
 use std::io::{Read, Write};
 
@@ -66,7 +68,7 @@ pub fn run<R: Read, W: Write>(
         (AppendsAnswer (W.contents (inner_of w.old)) (W.contents (inner_of w.new))) }
 {
     let bytes = read_all(alloc, r)?;
-    let text = answer(alloc, bytes.as_slice())?;
+    let text = answer(alloc, bytes)?;
     put_all(w, text.as_bytes())?;
     match w.flush() {
         Ok(()) => Ok(()),
@@ -124,16 +126,26 @@ fn read_all<R: Read>(alloc: Global, r: &mut Counted<R>) -> Result<Vec<u8>, Fault
     }
 }
 
-/// The text that is written for the bytes.
-fn answer(alloc: Global, bytes: &[u8]) -> Result<String, Fault>
-    ensures ok { IfOk result (λ s. IsAnswer bytes.now (string_bytes s)) }
-    ensures invalid { IsErrOf result Fault.Invalid → HasNoAnswer bytes.now }
+/// The text that is written for the bytes, which are let go of before it is made.
+fn answer(alloc: Global, bytes: Vec<u8>) -> Result<String, Fault>
+    ensures ok { IfOk result (λ s. IsAnswer bytes.items (string_bytes s)) }
+    ensures invalid { IsErrOf result Fault.Invalid → HasNoAnswer bytes.items }
     ensures only { OnErr result (IsErrOf result Fault.Invalid ⊎ IsErrOf result Fault.Memory) }
 {
-    let Ok(text) = std::str::from_utf8(bytes) else {
+    let value = value_of(alloc, bytes)?;
+    Ok(to_string(alloc, &value)?)
+}
+
+/// The value that the bytes mean.
+fn value_of(alloc: Global, bytes: Vec<u8>) -> Result<Value, Fault>
+    ensures ok { IfOk result (λ v. IsMeaning bytes.items (tree_of v)) }
+    ensures invalid { IsErrOf result Fault.Invalid → HasNoAnswer bytes.items }
+    ensures only { OnErr result (IsErrOf result Fault.Invalid ⊎ IsErrOf result Fault.Memory) }
+{
+    let Ok(text) = std::str::from_utf8(bytes.as_slice()) else {
         return Err(Fault::Invalid);
     };
-    Ok(canonical(alloc, text)?)
+    Ok(from_str(alloc, text)?)
 }
 
 /// Writes all the bytes, and tries no write again that failed.
