@@ -1,0 +1,91 @@
+#!/usr/bin/env python3
+"""Makes the measured texts, from a fixed seed: make_texts.py FOLDER"""
+import os
+import random
+import sys
+
+SIZE = 2_000_000
+LETTERS = 'abcdefghijklmnopqrstuvwxyz '
+ESCAPES = ['\\n', '\\"', '\\\\', '\\u00e9', '\\ud83d\\ude00', '\\/', '\\t', '\\u0001', '\\u0041', 'a']
+NOT_ASCII = '日本語éñ漢字カナ'
+
+
+def word(r, low, high):
+    return ''.join(r.choices(LETTERS, k=r.randint(low, high)))
+
+
+def number(r):
+    """1 to 19 digits, each as often, and now and then 2^64-1"""
+    digits = r.randint(1, 20)
+    if digits == 20:
+        return str(2 ** 64 - 1)
+    return str(r.randrange(10 ** (digits - 1) if digits > 1 else 0, 10 ** digits))
+
+
+def listed(items):
+    return '[' + ','.join(items) + ']'
+
+
+def fill(size, item):
+    """A list of as many items as make up the size in bytes."""
+    items, bytes_so_far = [], 2
+    while bytes_so_far < size:
+        items.append(item())
+        bytes_so_far += len(items[-1].encode()) + 1
+    return listed(items)
+
+
+def message(r, number_of_message):
+    """A message as social media have them: nested objects, texts with and without escapes, numbers and words."""
+    text = word(r, 20, 120) + r.choice(['', '\\n', ' \\"quoted\\"', ' 日本語の文', ' \\u00e9t\\u00e9', ' http:\\/\\/t.co\\/' + word(r, 8, 8).replace(' ', 'x')])
+    user = '{"id":%d,"name":"%s","screen_name":"%s","followers_count":%d,"verified":%s,"description":"%s","url":null}' % (
+        r.randrange(10 ** 10), word(r, 5, 20), word(r, 5, 15), r.randrange(10 ** 6), r.choice(['true', 'false']), word(r, 0, 160))
+    tags = listed('{"text":"%s","indices":[%d,%d]}' % (word(r, 3, 12), at, at + 9) for at in r.choices(range(140), k=r.randrange(4)))
+    return '{"id":%d,"created_at":"Sun Nov 22 %02d:00:29 +0000 2026","text":"%s","truncated":false,"user":%s,"geo":null,"coordinates":%s,"entities":{"hashtags":%s,"urls":[]},"retweet_count":%d,"favorited":%s,"lang":"%s"}' % (
+        505874873961308160 + number_of_message, r.randrange(24), text, user,
+        r.choice(['null', '[%.6f,%.6f]' % (r.uniform(-180, 180), r.uniform(-90, 90))]), tags, r.randrange(100),
+        r.choice(['true', 'false']), r.choice(['en', 'ja', 'fr']))
+
+
+def texts():
+    r = random.Random(20261123)
+    row = lambda: listed(number(r) for _ in range(10))
+    yield 'empty', '[]'
+    yield 'empty_map', '{}'
+    yield 'short_numbers', fill(SIZE, lambda: str(r.randrange(1000)))
+    yield 'long_numbers', fill(SIZE, lambda: number(r))
+    yield 'short_strings', fill(SIZE, lambda: '"%s"' % word(r, 3, 15))
+    yield 'long_strings', fill(SIZE, lambda: '"%s"' % word(r, 1024, 1024))
+    yield 'escapes', fill(SIZE, lambda: '"%s"' % ''.join(r.choices(ESCAPES, k=40)))
+    yield 'not_ascii', fill(SIZE, lambda: '"%s"' % ''.join(r.choices(NOT_ASCII, k=30)))
+    yield 'rows', fill(SIZE, row)
+    yield 'cubes', fill(SIZE, lambda: listed(row() for _ in range(10)))
+    yield 'structs', fill(SIZE, lambda: '{"code":%d,"message":"%s"}' % (r.randrange(1000), word(r, 10, 30)))
+    yield 'pairs', fill(SIZE, lambda: '[%s,"%s"]' % (number(r), word(r, 3, 15)))
+    names = list(range(100_000))
+    r.shuffle(names)
+    yield 'map', '{' + ','.join('"name%d":%d' % (k, r.randrange(10 ** 6)) for k in names) + '}'
+    messages = (message(r, n) for n in range(10 ** 6))
+    yield 'messages', fill(SIZE, lambda: next(messages))
+    ids = iter(range(10 ** 6))
+    record = lambda i: '{"id": %d, "name": "user%d", "tags": ["a", "b"], "ok": true, "at": {"x": %d, "y": null}}' % (i, i, i * 7)
+    yield 'records', fill(SIZE, lambda: record(next(ids)))
+    # serde_json refuses what is nested deeper.
+    yield 'nested', fill(SIZE, lambda: '[' * 100 + ']' * 100)
+    yield 'deep', '[' * 100_000 + ']' * 100_000
+    names = list(range(100_000))
+    r.shuffle(names)
+    yield 'names', '{' + ','.join('"name%d":%d' % (k, i) for i, k in enumerate(names)) + '}'
+    yield 'numbers', fill(SIZE, lambda: str(r.randint(-10 ** r.randint(1, 18), 10 ** r.randint(1, 18))))
+
+
+def main():
+    folder = sys.argv[1]
+    os.makedirs(folder, exist_ok=True)
+    for name, text in texts():
+        with open('%s/%s.json' % (folder, name), 'w', encoding='utf-8') as f:
+            f.write(text)
+
+
+if __name__ == '__main__':
+    main()

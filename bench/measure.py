@@ -1,0 +1,150 @@
+#!/usr/bin/env python3
+"""Measures our jobs beside others', and prints the tables.
+
+measure.py TEXTS OURS OTHER.. [--only WORD] [--rounds N] [--no-instructions]
+
+OURS and OTHER are NAME=PROGRAM, programs that take a type and a mode as words and a text on standard input. The
+figures of each are those of a run less those of a run over an empty text.
+"""
+import argparse
+import os
+import subprocess
+import sys
+import tempfile
+import time
+
+# the row, the type, the text, the text of the empty run
+JOBS = [
+    ('`Vec<u64>`, 1 to 3 digits', 'u64s', 'short_numbers', 'empty'),
+    ('`Vec<u64>`, 1 to 20 digits', 'u64s', 'long_numbers', 'empty'),
+    ('`Vec<String>`, 3 to 15 letters', 'strings', 'short_strings', 'empty'),
+    ('`Vec<String>`, 1 KB', 'strings', 'long_strings', 'empty'),
+    ('`Vec<String>`, escapes', 'strings', 'escapes', 'empty'),
+    ('`Vec<String>`, not ASCII', 'strings', 'not_ascii', 'empty'),
+    ('`Vec<Vec<u64>>`', 'rows', 'rows', 'empty'),
+    ('`Vec<Vec<Vec<u64>>>`', 'cubes', 'cubes', 'empty'),
+    ('`BTreeMap<String, u64>`', 'map', 'map', 'empty_map'),
+    ('`Vec<Demo>`, structs', 'demos', 'structs', 'empty'),
+    ('`Vec<(u64, String)>`', 'pairs', 'pairs', 'empty'),
+    ('`canonical`, messages', 'value', 'messages', 'empty'),
+    ('`canonical`, records', 'value', 'records', 'empty'),
+    ('`canonical`, 100 deep', 'value', 'nested', 'empty'),
+    ('`canonical`, 100,000 deep', 'value', 'deep', 'empty'),
+    ('`canonical`, distinct names', 'value', 'names', 'empty_map'),
+    ('`canonical`, escapes', 'value', 'escapes', 'empty'),
+    ('`canonical`, numbers', 'value', 'numbers', 'empty'),
+]
+MODES = ['read', 'both']
+
+
+class Program:
+    def __init__(self, word):
+        self.name, self.path = word.split('=', 1)
+
+    def command(self, kind, mode):
+        return [self.path, kind, mode]
+
+    def answer(self, kind, mode, text):
+        with open(text, 'rb') as i:
+            r = subprocess.run(self.command(kind, mode), stdin=i, stdout=subprocess.PIPE, stderr=subprocess.DEVNULL)
+        return r.stdout if r.returncode == 0 else None
+
+    def instructions(self, kind, mode, text):
+        with open(text, 'rb') as i:
+            r = subprocess.run(
+                ['valgrind', '--tool=callgrind', '--callgrind-out-file=/dev/null', '--main-stacksize=67108864']
+                + self.command(kind, mode), stdin=i, stdout=subprocess.DEVNULL, stderr=subprocess.PIPE)
+        return next(int(line.split(':')[1]) for line in r.stderr.decode().splitlines() if 'Collected' in line)
+
+    def memory(self, kind, mode, text):
+        """peak resident bytes, by a process of its own, since a child is charged with its parent's"""
+        with tempfile.NamedTemporaryFile() as report, open(text, 'rb') as i:
+            subprocess.run(['/usr/bin/time', '-q', '-f', '%M', '-o', report.name] + self.command(kind, mode),
+                           stdin=i, stdout=subprocess.DEVNULL, stderr=subprocess.DEVNULL)
+            return int(report.read().split()[-1]) * 1024
+
+    def seconds(self, kind, mode, text, to):
+        with open(text, 'rb') as i:
+            begun = time.perf_counter()
+            subprocess.run(self.command(kind, mode), stdin=i, stdout=to, stderr=subprocess.DEVNULL)
+            return time.perf_counter() - begun
+
+
+def measure(programs, job, folder, rounds, with_instructions):
+    """figures by program, mode and measure, of the programs that take the text"""
+    _, kind, text, empty = job
+    text, empty = '%s/%s.json' % (folder, text), '%s/%s.json' % (folder, empty)
+    size = os.path.getsize(text) - os.path.getsize(empty)
+    answers = {p.name: p.answer(kind, 'both', text) for p in programs}
+    ours = answers[programs[0].name]
+    if ours is None:
+        sys.exit('%s: ours refused' % job[0])
+    for name, answer in answers.items():
+        if answer is not None and answer != ours:
+            sys.exit('%s: %s wrote another text' % (job[0], name))
+    able = [p for p in programs if answers[p.name] is not None]
+    figures = {}
+    for p in able:
+        for mode in MODES:
+            if with_instructions:
+                more = p.instructions(kind, mode, text) - p.instructions(kind, mode, empty)
+                figures[p.name, mode, 'instructions'] = more / size
+            figures[p.name, mode, 'memory'] = (p.memory(kind, mode, text) - p.memory(kind, mode, empty)) / size
+    least = {}
+    with open('/dev/shm/%d' % os.getpid(), 'wb') as to:
+        for _ in range(rounds):
+            for p in able:
+                for mode in MODES:
+                    for t in (text, empty):
+                        to.seek(0)
+                        key = p.name, mode, t
+                        least[key] = min(least.get(key, 1e9), p.seconds(kind, mode, t, to))
+        os.unlink(to.name)
+    for p in able:
+        for mode in MODES:
+            figures[p.name, mode, 'time'] = (least[p.name, mode, text] - least[p.name, mode, empty]) * 1e9 / size
+        for what in ('instructions', 'time'):
+            if (p.name, 'both', what) in figures:
+                figures[p.name, 'write', what] = figures[p.name, 'both', what] - figures[p.name, 'read', what]
+    return figures
+
+
+def table(programs, rows, mode, whats):
+    ours, others = programs[0], programs[1:]
+    heads = ['job'] + ['%s, %s' % (what, p.name) for what in whats for p in programs]
+    heads += ['%s, to %s' % (what, p.name) for what in whats for p in others]
+    print('| ' + ' | '.join(heads) + ' |\n|' + '---|' * len(heads))
+    for label, figures in rows:
+        def cell(p, what):
+            return '%.1f' % figures[p.name, mode, what] if (p.name, mode, what) in figures else '-'
+
+        def ratio(p, what):
+            there = figures.get((p.name, mode, what), 0)
+            return '%.2f' % (figures[ours.name, mode, what] / there) if there > 0 else '-'
+        print('| ' + ' | '.join([label] + [cell(p, w) for w in whats for p in programs]
+                                + [ratio(p, w) for w in whats for p in others]) + ' |')
+    print()
+
+
+def main():
+    a = argparse.ArgumentParser()
+    a.add_argument('texts')
+    a.add_argument('programs', nargs='+', type=Program)
+    a.add_argument('--only', default='')
+    a.add_argument('--rounds', type=int, default=15)
+    a.add_argument('--no-instructions', action='store_true')
+    a = a.parse_args()
+    rows = []
+    for job in JOBS:
+        if a.only in ' '.join(job):
+            rows.append((job[0], measure(a.programs, job, a.texts, a.rounds, not a.no_instructions)))
+            print('.', end='', file=sys.stderr, flush=True)
+    print(file=sys.stderr)
+    whats = ['time'] if a.no_instructions else ['instructions', 'time']
+    for mode in ('read', 'write', 'both'):
+        print({'read': '### Read and drop', 'write': '### Write (both less read)', 'both': '### Read and write'}[mode] + '\n')
+        table(a.programs, rows, mode, whats + ([] if mode == 'write' else ['memory']))
+
+
+if __name__ == '__main__':
+    main()
