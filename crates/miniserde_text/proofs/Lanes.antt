@@ -1,4 +1,4 @@
--- A run of bytes that are not special, seen 32 at a time: where the mask is 0 the run goes on past them, and else the
+-- A run of bytes that are not special, seen some at a time: where the mask is 0 the run goes on past them, and else the
 -- zeros at its end count up to the first special byte.
 use Rattle.std.proofs.Common.{◌≡◌, ℕ, suc, get_or, ◌+◌, ◌*◌, ◌%◌, ◌^◌, ◌<◌, ◌≤◌, ltb, Bool, true, false, not, cond, eqb, List, [], ◌∷◌, map, length, drop, replicate, refl, sym, ap, ap₂, ◌∙◌, arith}
 use Rattle.std.specs.Prelude.{◌||◌}
@@ -39,23 +39,23 @@ tops : (v : List ℕ) → map (top 7) (map lane v) ≡ map is_special v
 tops [] = refl
 tops (x ∷ xs) = ap₂ (λ a b. a ∷ b) (joined (ltb x 32) (eqb x 34) (eqb x 92)) (tops xs)
 
-pub mask_is : (v : List ℕ) → length v ≡ 32
-    → mask_l (map (top 7) (zip2 bit_or (zip2 bit_or (zip2 below v (replicate 32 32)) (zip2 equal v (replicate 32 34))) (zip2 equal v (replicate 32 92)))) % 2 ^ 64 ≡ mask_l (map is_special v)
-mask_is v long =
-    let lanes : zip2 bit_or (zip2 bit_or (zip2 below v (replicate 32 32)) (zip2 equal v (replicate 32 34))) (zip2 equal v (replicate 32 92)) ≡ map lane v =
+pub mask_is : (n : ℕ) (v : List ℕ) → n ≤ 64 → length v ≡ n
+    → mask_l (map (top 7) (zip2 bit_or (zip2 bit_or (zip2 below v (replicate n 32)) (zip2 equal v (replicate n 34))) (zip2 equal v (replicate n 92)))) % 2 ^ 64 ≡ mask_l (map is_special v)
+mask_is n v few long =
+    let lanes : zip2 bit_or (zip2 bit_or (zip2 below v (replicate n 32)) (zip2 equal v (replicate n 34))) (zip2 equal v (replicate n 92)) ≡ map lane v =
     zip2_of_maps bit_or (λ x. bit_or (below x 32) (equal x 34)) (λ x. equal x 92) v
-    (zip2_of_maps bit_or (λ x. below x 32) (λ x. equal x 34) v (zip2_splat below v 32 32 long) (zip2_splat equal v 32 34 long)) (zip2_splat equal v 32 92 long) in
+    (zip2_of_maps bit_or (λ x. below x 32) (λ x. equal x 34) v (zip2_splat below v n 32 long) (zip2_splat equal v n 34 long)) (zip2_splat equal v n 92 long) in
     ap (λ l. mask_l (map (top 7) l) % 2 ^ 64) lanes ∙ ap (λ l. mask_l l % 2 ^ 64) (tops v) ∙ mask_l-mod (map is_special v) 64 (omega (arith, length-map v is_special))
 
-split : (d : List ℕ) (i : ℕ) → position_or_len is_special (drop i d)
-    ≡ cond (eqb (position_or_len is_special (chunk i 32 d)) (length (chunk i 32 d))) (length (chunk i 32 d) + position_or_len is_special (drop (i + 32) d)) (position_or_len is_special (chunk i 32 d))
-split d i = ap (position_or_len is_special) (chunk-drop i 32 d) ∙ prefix_len-append (λ x. not (is_special x)) (chunk i 32 d) (drop (i + 32) d)
+split : (n : ℕ) (d : List ℕ) (i : ℕ) → position_or_len is_special (drop i d)
+    ≡ cond (eqb (position_or_len is_special (chunk i n d)) (length (chunk i n d))) (length (chunk i n d) + position_or_len is_special (drop (i + n) d)) (position_or_len is_special (chunk i n d))
+split n d i = ap (position_or_len is_special) (chunk-drop i n d) ∙ prefix_len-append (λ x. not (is_special x)) (chunk i n d) (drop (i + n) d)
 
-pub through : (d : List ℕ) (i : ℕ) → i + 32 ≤ length d → mask_l (map is_special (chunk i 32 d)) ≡ 0 → position_or_len is_special (drop i d) ≡ 32 + position_or_len is_special (drop (i + 32) d)
-through d i room none =
-    let c = chunk i 32 d in
-    split d i ∙ ap (λ b. cond b (length c + position_or_len is_special (drop (i + 32) d)) (position_or_len is_special c)) (eq-eqb _ _ (leading_from_mask_l is_special c none))
-    ∙ ap (λ k. k + position_or_len is_special (drop (i + 32) d)) (length-chunk i 32 d room)
+pub through : (n : ℕ) (d : List ℕ) (i : ℕ) → i + n ≤ length d → mask_l (map is_special (chunk i n d)) ≡ 0 → position_or_len is_special (drop i d) ≡ n + position_or_len is_special (drop (i + n) d)
+through n d i room none =
+    let c = chunk i n d in
+    split n d i ∙ ap (λ b. cond b (length c + position_or_len is_special (drop (i + n) d)) (position_or_len is_special c)) (eq-eqb _ _ (leading_from_mask_l is_special c none))
+    ∙ ap (λ k. k + position_or_len is_special (drop (i + n) d)) (length-chunk i n d room)
 
 none_fails : (b : Bool) (n l m : ℕ) → n ≤ l → cond (not b) (1 + n) 0 ≡ 1 + l → (n ≡ l → m ≡ 0) → cond b 1 0 + 2 * m ≡ 0
 none_fails true n l m le e ih = let never : ⊥ = omega arith in absurd never
@@ -65,11 +65,11 @@ all_pass : (xs : List ℕ) → position_or_len is_special xs ≡ length xs → m
 all_pass [] e = refl
 all_pass (x ∷ xs) e = none_fails (is_special x) _ (length xs) _ (prefix_len-le-length (λ y. not (is_special y)) xs) (omega arith) (all_pass xs)
 
-pub stops : (d : List ℕ) (i : ℕ) → i + 32 ≤ length d → 0 < mask_l (map is_special (chunk i 32 d)) → position_or_len is_special (drop i d) ≡ count_trailing_zeros 64 (mask_l (map is_special (chunk i 32 d)))
-stops d i room some =
-    let c = chunk i 32 d in
-    split d i ∙ ap (λ b. cond b (length c + position_or_len is_special (drop (i + 32) d)) (position_or_len is_special c)) (ne_eqb _ _ (λ (e : position_or_len is_special c ≡ length c). omega (arith, all_pass c e)))
-    ∙ sym (trailing_mask_l is_special 64 c (omega (arith, length-chunk i 32 d room)) some)
+pub stops : (n : ℕ) (d : List ℕ) (i : ℕ) → n ≤ 64 → i + n ≤ length d → 0 < mask_l (map is_special (chunk i n d)) → position_or_len is_special (drop i d) ≡ count_trailing_zeros 64 (mask_l (map is_special (chunk i n d)))
+stops n d i few room some =
+    let c = chunk i n d in
+    split n d i ∙ ap (λ b. cond b (length c + position_or_len is_special (drop (i + n) d)) (position_or_len is_special c)) (ne_eqb _ _ (λ (e : position_or_len is_special c ≡ length c). omega (arith, all_pass c e)))
+    ∙ sym (trailing_mask_l is_special 64 c (omega (arith, length-chunk i n d room)) some)
 
 -- ---- what follows the run, as a recursion on the list
 

@@ -23,8 +23,47 @@ fn specials(v: u8x32) -> u64
     (controls | quotes | backslashes).to_bitmask()
 }
 
-/// The first byte at or after `from` that may not stand for itself in a string, or the length.
-pub fn special(bytes: &[u8], from: usize) -> usize
+// As `specials`, eight at a time.
+#[inline(always)]
+fn specials_of_eight(v: u8x8) -> u64
+    ensures { result ≡ mask_l (map is_special v) }
+{
+    let controls = v.simd_lt(u8x8::splat(0x20));
+    let quotes = v.simd_eq(u8x8::splat(b'"'));
+    let backslashes = v.simd_eq(u8x8::splat(b'\\'));
+    (controls | quotes | backslashes).to_bitmask()
+}
+
+// The search byte by byte.
+fn search_bytes(bytes: &[u8], from: usize) -> usize
+    requires { from ≤ length bytes.now }
+    ensures { result ≡ from + position_or_len is_special (drop from bytes.now) }
+{
+    let mut i = from;
+    'rest: while i < bytes.len() && !is_special(bytes[i]) {
+        i += 1;
+    }
+    i
+}
+
+// The search by lanes of eight bytes.
+fn search_eights(bytes: &[u8], from: usize) -> usize
+    requires { from ≤ length bytes.now }
+    ensures { result ≡ from + position_or_len is_special (drop from bytes.now) }
+{
+    let mut i = from;
+    'lanes: while bytes.len() - i >= 8 {
+        let found = specials_of_eight(u8x8::from_slice(&bytes[i..]));
+        if found != 0 {
+            return i + found.trailing_zeros() as usize;
+        }
+        i += 8;
+    }
+    search_bytes(bytes, i)
+}
+
+// The search by lanes of 32 bytes.
+fn search(bytes: &[u8], from: usize) -> usize
     requires { from ≤ length bytes.now }
     ensures { result ≡ from + position_or_len is_special (drop from bytes.now) }
 {
@@ -36,8 +75,18 @@ pub fn special(bytes: &[u8], from: usize) -> usize
         }
         i += 32;
     }
-    'rest: while i < bytes.len() && !is_special(bytes[i]) {
-        i += 1;
+    search_eights(bytes, i)
+}
+
+/// The first byte at or after `from` that may not stand for itself in a string, or the length.
+#[inline(always)]
+pub fn special(bytes: &[u8], from: usize) -> usize
+    requires { from ≤ length bytes.now }
+    ensures { result ≡ from + position_or_len is_special (drop from bytes.now) }
+{
+    // Behind an escape the next byte often is one more.
+    if from < bytes.len() && is_special(bytes[from]) {
+        return from;
     }
-    i
+    search(bytes, from)
 }

@@ -1,7 +1,7 @@
 use Rattle.std.proofs.Common.{◌≡◌, ◌+◌, ◌-◌, ◌≤◌, length, drop}
 use Rattle.std.specs.List.{position_or_len}
 use Rattle.miniserde_model.specs.Bytes.{is_special}
-use Rattle.miniserde_text.proofs.scan.special.Given as goal
+use Rattle.miniserde_text.proofs.scan.search.Given as goal
 
 abbrev pub invariant-lanes : goal.invariant-lanes
 invariant-lanes l = record {
@@ -11,12 +11,3 @@ invariant-lanes l = record {
 
 abbrev pub decreases-lanes : goal.decreases-lanes
 decreases-lanes l = length l.bytes - l.i
-
-abbrev pub invariant-rest : goal.invariant-rest
-invariant-rest l = record {
-  run : l.from + position_or_len is_special (drop l.from l.bytes) ≡ l.i + position_or_len is_special (drop l.i l.bytes);
-  within : l.i ≤ length l.bytes;
-}
-
-abbrev pub decreases-rest : goal.decreases-rest
-decreases-rest l = length l.bytes - l.i
