@@ -1,5 +1,5 @@
 -- Texts by the escape rule, piece by piece.
-use Rattle.std.proofs.Common.{◌≡◌, ℕ, suc, ◌+◌, ◌-◌, ◌<◌, ◌≤◌, List, [], ◌∷◌, ◌++◌, length, true, false, take, drop, get_or, refl, ap, sym, ◌∙◌, arith, length-append, length-drop, take-add}
+use Rattle.std.proofs.Common.{◌≡◌, ℕ, suc, ◌+◌, ◌-◌, ◌*◌, ◌<◌, ◌≤◌, List, [], ◌∷◌, ◌++◌, length, true, false, take, drop, get_or, refl, ap, sym, ◌∙◌, arith, length-append, length-drop, take-add}
 use Rattle.std.proofs.lemmas.Grind.{flat_map-append}
 use Rattle.std.proofs.lemmas.List.{take_more, append-nil, take-append-drop, length-take, get_or-take, get_or-drop}
 use Rattle.std.proofs.lemmas.Bool.Decides.{nat_tests}
@@ -71,10 +71,6 @@ length_escape_ge : (b : ℕ) → 1 ≤ length (escape b)
 unfolding escape
 length_escape_ge b = grind (arith, nat_tests)
 
-escape_one : (b : ℕ) → length (escape b) ≡ 1 → escape b ≡ b ∷ []
-unfolding escape
-escape_one b h = grind (arith, nat_tests)
-
 length_escapes_ge : (xs : List ℕ) → length xs ≤ length (escapes xs)
 length_escapes_ge [] = omega arith
 length_escapes_ge (x ∷ xs) =
@@ -84,14 +80,15 @@ length_escapes_ge (x ∷ xs) =
 pub length_escapes_rest : (xs : List ℕ) (i : ℕ) → i ≤ length xs → length (escapes (take i xs)) + length xs ≤ length (escapes xs) + i
 length_escapes_rest xs i h = omega (arith, length_escapes_cut xs i, length_escapes_ge (drop i xs), length-drop i xs)
 
--- a text that is written at its own length stands for itself
-pub escapes_same : (xs : List ℕ) → length xs ≡ length (escapes xs) → escapes xs ≡ xs
-escapes_same [] h = escapes-nil
-escapes_same (x ∷ xs) h =
-    let sum : length (escapes (x ∷ xs)) ≡ length (escape x) + length (escapes xs) = ap length (escapes-cons x xs) ∙ length-append (escape x) (escapes xs) in
-    let one : length (escape x) ≡ 1 = omega (arith, h, sum, length_escape_ge x, length_escapes_ge xs) in
-    let rest : length xs ≡ length (escapes xs) = omega (arith, h, sum, one) in
-    rw (escapes-cons x xs, escape_one x one, escapes_same xs rest) refl
+-- a byte takes six bytes at most
+length_escape_le : (b : ℕ) → length (escape b) ≤ 6
+unfolding escape
+length_escape_le b = grind (arith, nat_tests)
+
+pub length_escapes_six : (xs : List ℕ) → length (escapes xs) ≤ 6 * length xs
+length_escapes_six [] = omega (arith, ap length escapes-nil)
+length_escapes_six (x ∷ xs) =
+    rw escapes-cons (omega (arith, length-append (escape x) (escapes xs), length_escape_le x, length_escapes_six xs))
 
 -- the words of a string, and the model's
 pub quoted_escapes : (s : List ℕ) → quoted s ≡ 34 ∷ (escapes s ++ 34 ∷ [])

@@ -85,6 +85,7 @@ impl Writer {
     }
 
     // Answers the refusal that the writer keeps.
+    #[inline(always)]
     fn check(&self) -> Result<()>
         ensures stays { OnOk result (self.now.refused ≡ false) }
         ensures memory { OnErr result (IsErrOf result Memory) }
@@ -97,6 +98,7 @@ impl Writer {
     }
 
     // Appends a text as it is.
+    #[inline(always)]
     fn append(&mut self, text: &str) -> Result<()>
         ensures ok { OnOk result (self.new ≡ appended self.old text.now self.new.capacity) }
         ensures stays { OnOk result (self.old.refused ≡ false) }
@@ -117,6 +119,7 @@ impl Writer {
     }
 
     // Appends a text as a string.
+    #[inline(always)]
     fn append_quoted(&mut self, text: &str) -> Result<()>
         ensures ok { OnOk result (self.new ≡ appended self.old (quoted text.now) self.new.capacity) }
         ensures stays { OnOk result (self.old.refused ≡ false) }
@@ -133,6 +136,7 @@ impl Writer {
     }
 
     // Appends a mark of punctuation, and says whether an element after it is the first.
+    #[inline(always)]
     fn punctuate(&mut self, mark: &str, first: bool) -> Result<()>
         ensures ok { OnOk result (self.new ≡ with_first (appended self.old mark.now self.new.capacity) first) }
         ensures stays { OnOk result (self.old.refused ≡ false) }
@@ -147,6 +151,7 @@ impl Writer {
     }
 
     /// Appends a leaf.
+    #[inline(always)]
     pub fn fragment(&mut self, f: Fragment<'_>) -> Result<()>
         ensures ok { OnOk result (self.new ≡ appended self.old (compact (fragment_tree f.entry)) self.new.capacity) }
         ensures stays { OnOk result (self.old.refused ≡ false) }
@@ -179,6 +184,7 @@ impl Writer {
     }
 
     /// Goes before each element of a list.
+    #[inline(always)]
     pub fn element(&mut self) -> Result<()>
         ensures ok { OnOk result (self.new
             ≡ with_first (appended self.old (if self.old.first then [] else codes ",") self.new.capacity) false) }

@@ -1,8 +1,9 @@
 //! Strings by the escape rule.
 ghost use Rattle.std.specs.Prelude.{◌≡◌, ◌≢◌, ℕ, ◌+◌, ◌/◌, ◌%◌, ◌^◌, ◌<◌, ◌≤◌, [], ◌∷◌, ◌++◌, length, true, false};
-ghost use Rattle.std.specs.Prelude.{slice_index, OnOk, OnErr, IfSome, IfNone, IsErrOf, string_bytes, string_len};
+ghost use Rattle.std.specs.Prelude.{◌-◌, take, drop, slice_index, OnOk, OnErr, IfSome, IfNone, IsErrOf, string_bytes, string_len};
 ghost use Rattle.std.specs.Prelude.{string_capacity};
 ghost use Rattle.std.specs.Char.{digit_char};
+ghost use Rattle.std.specs.Str.{IsCharBoundary};
 ghost use Rattle.miniserde_model.specs.Bytes as bytes;
 ghost use Rattle.miniserde_model.specs.Compact.{quoted};
 ghost use Rattle.miniserde_text.specs.declared.error.Error.TheVariants.{Memory};
@@ -105,6 +106,22 @@ fn put_escape(b: u8, out: &mut String)
     }
 }
 
+// Appends the bytes from `start` to `end`, where there is room for them. Between two escapes there are none.
+#[inline(always)]
+fn put_run(value: &str, start: usize, end: usize, out: &mut String)
+    requires start { IsCharBoundary value.now start }
+    requires end { IsCharBoundary value.now end }
+    requires order { start ≤ end }
+    requires room { string_len out.old + (end - start) ≤ string_capacity out.old }
+    ensures bytes { string_bytes out.new ≡ string_bytes out.old ++ take (end - start) (drop start value.now) }
+    ensures len { string_len out.new ≡ string_len out.old + (end - start) }
+    ensures capacity { string_capacity out.old ≤ string_capacity out.new }
+{
+    if start < end {
+        out.push_str(&value[start..end]).unwrap();
+    }
+}
+
 // Appends a text by the escape rule, where there is room for it: each run of bytes that stand for themselves in one
 // piece.
 fn put_escapes(value: &str, out: &mut String)
@@ -117,7 +134,7 @@ fn put_escapes(value: &str, out: &mut String)
     let mut start = 0;
     while start < text.len() {
         let at = run_end(text, start);
-        out.push_str(&value[start..at]).unwrap();
+        put_run(value, start, at, out);
         if at < text.len() {
             put_escape(text[at], out);
             start = at + 1;
@@ -127,18 +144,51 @@ fn put_escapes(value: &str, out: &mut String)
     }
 }
 
-// Appends a text that is written as `len` bytes by the escape rule: in one piece where no byte is to be escaped.
-fn put_inside(value: &str, len: usize, out: &mut String)
-    requires len { len ≡ length (escapes value.now) }
-    requires room { string_len out.old + length (escapes value.now) ≤ string_capacity out.old }
-    ensures bytes { string_bytes out.new ≡ string_bytes out.old ++ escapes value.now }
-    ensures len { string_len out.new ≡ string_len out.old + length (escapes value.now) }
+// Whether there is room for the text however it is written, and for so many marks: a byte takes six bytes at most.
+#[inline(always)]
+fn has_ample_room(value: &str, marks: usize, out: &String) -> bool
+    ensures { result ≡ true
+        → string_len out.now + length (escapes value.now) + marks ≤ string_capacity out.now }
+{
+    let free = out.capacity() - out.len();
+    marks <= free && value.len() <= (free - marks) / 6
+}
+
+// Makes room for the text by the escape rule and so many marks, and no more than `reserve` makes for them.
+fn grow(value: &str, marks: usize, out: &mut String) -> Result<()>
+    ensures ok { OnOk result (string_len out.new + length (escapes value.now) + marks ≤ string_capacity out.new) }
+    ensures bytes { string_bytes out.new ≡ string_bytes out.old }
+    ensures len { string_len out.new ≡ string_len out.old }
+    ensures memory { OnErr result (IsErrOf result Memory) }
+    ensures room { OnErr result (string_capacity out.old
+        < string_len out.old + length (escapes value.now) + marks) }
+    ensures kept { OnErr result (string_capacity out.new ≡ string_capacity out.old) }
     ensures capacity { string_capacity out.old ≤ string_capacity out.new }
 {
-    if len == value.len() {
-        out.push_str(value).unwrap();
+    let Some(len) = escaped_len(value) else {
+        // No memory holds so long a text.
+        return Err(Error::Memory);
+    };
+    out.reserve(len.saturating_add(marks))?;
+    Ok(())
+}
+
+// As `grow`, and counts the text only where room is short.
+#[inline(always)]
+fn make_room(value: &str, marks: usize, out: &mut String) -> Result<()>
+    ensures ok { OnOk result (string_len out.new + length (escapes value.now) + marks ≤ string_capacity out.new) }
+    ensures bytes { string_bytes out.new ≡ string_bytes out.old }
+    ensures len { string_len out.new ≡ string_len out.old }
+    ensures memory { OnErr result (IsErrOf result Memory) }
+    ensures room { OnErr result (string_capacity out.old
+        < string_len out.old + length (escapes value.now) + marks) }
+    ensures kept { OnErr result (string_capacity out.new ≡ string_capacity out.old) }
+    ensures capacity { string_capacity out.old ≤ string_capacity out.new }
+{
+    if has_ample_room(value, marks, out) {
+        Ok(())
     } else {
-        put_escapes(value, out);
+        grow(value, marks, out)
     }
 }
 
@@ -156,14 +206,10 @@ pub(crate) fn put_between(front: &str, value: &str, back: &str, out: &mut String
     ensures kept { OnErr result (string_capacity out.new ≡ string_capacity out.old) }
     ensures capacity { string_capacity out.old ≤ string_capacity out.new }
 {
-    let Some(len) = escaped_len(value) else {
-        // No memory holds so long a text.
-        return Err(Error::Memory);
-    };
-    out.reserve(len.saturating_add(front.len() + back.len() + 2))?;
+    make_room(value, front.len() + back.len() + 2, out)?;
     out.push_str(front).unwrap();
     out.push('"').unwrap();
-    put_inside(value, len, out);
+    put_escapes(value, out);
     out.push('"').unwrap();
     out.push_str(back).unwrap();
     Ok(())

@@ -8,6 +8,7 @@ use miniserde_text::error::Result;
 impl Serialize for u8 {
     ghost tree = { nonneg };
 
+    #[inline(always)]
     fn begin(&self, w: &mut Writer) -> Result<()> {
         w.fragment(Fragment::U64(*self as u64))
     }
@@ -16,6 +17,7 @@ impl Serialize for u8 {
 impl Serialize for u16 {
     ghost tree = { nonneg };
 
+    #[inline(always)]
     fn begin(&self, w: &mut Writer) -> Result<()> {
         w.fragment(Fragment::U64(*self as u64))
     }
@@ -24,6 +26,7 @@ impl Serialize for u16 {
 impl Serialize for u32 {
     ghost tree = { nonneg };
 
+    #[inline(always)]
     fn begin(&self, w: &mut Writer) -> Result<()> {
         w.fragment(Fragment::U64(*self as u64))
     }
@@ -32,6 +35,7 @@ impl Serialize for u32 {
 impl Serialize for u64 {
     ghost tree = { nonneg };
 
+    #[inline(always)]
     fn begin(&self, w: &mut Writer) -> Result<()> {
         w.fragment(Fragment::U64(*self))
     }
@@ -40,6 +44,7 @@ impl Serialize for u64 {
 impl Serialize for usize {
     ghost tree = { nonneg };
 
+    #[inline(always)]
     fn begin(&self, w: &mut Writer) -> Result<()> {
         w.fragment(Fragment::U64(*self as u64))
     }
@@ -48,6 +53,7 @@ impl Serialize for usize {
 impl Serialize for i8 {
     ghost tree = { integer };
 
+    #[inline(always)]
     fn begin(&self, w: &mut Writer) -> Result<()> {
         w.fragment(Fragment::I64(*self as i64))
     }
@@ -56,6 +62,7 @@ impl Serialize for i8 {
 impl Serialize for i16 {
     ghost tree = { integer };
 
+    #[inline(always)]
     fn begin(&self, w: &mut Writer) -> Result<()> {
         w.fragment(Fragment::I64(*self as i64))
     }
@@ -64,6 +71,7 @@ impl Serialize for i16 {
 impl Serialize for i32 {
     ghost tree = { integer };
 
+    #[inline(always)]
     fn begin(&self, w: &mut Writer) -> Result<()> {
         w.fragment(Fragment::I64(*self as i64))
     }
@@ -72,6 +80,7 @@ impl Serialize for i32 {
 impl Serialize for i64 {
     ghost tree = { integer };
 
+    #[inline(always)]
     fn begin(&self, w: &mut Writer) -> Result<()> {
         w.fragment(Fragment::I64(*self))
     }
@@ -80,6 +89,7 @@ impl Serialize for i64 {
 impl Serialize for isize {
     ghost tree = { integer };
 
+    #[inline(always)]
     fn begin(&self, w: &mut Writer) -> Result<()> {
         w.fragment(Fragment::I64(*self as i64))
     }

@@ -10,6 +10,7 @@ use std::borrow::CowStr;
 impl Serialize for String {
     ghost tree = { λ s. str (string_bytes s) };
 
+    #[inline(always)]
     fn begin(&self, w: &mut Writer) -> Result<()> {
         w.fragment(Fragment::Str(self.as_str()))
     }
@@ -18,6 +19,7 @@ impl Serialize for String {
 impl Serialize for &str {
     ghost tree = { λ s. str s.now };
 
+    #[inline(always)]
     fn begin(&self, w: &mut Writer) -> Result<()> {
         w.fragment(Fragment::Str(*self))
     }
@@ -26,6 +28,7 @@ impl Serialize for &str {
 impl Serialize for CowStr<'_> {
     ghost tree = { λ s. str (cow_str_bytes s) };
 
+    #[inline(always)]
     fn begin(&self, w: &mut Writer) -> Result<()> {
         w.fragment(Fragment::Str(self.as_str()))
     }

@@ -19,22 +19,16 @@ returns-clause-ok c =
     let opened = rw quote at c.push.ensures in
     let closed = rw close at c.push-2.ensures in
     let last = rw back at c.push_str-2.ensures in
-    let start = rw c.reserve.ensures.bytes at first.bytes in
-    between_quotes _ _ _ _ _ _ _ _ _ c.args.value.now (c.push.ensures.ascii (omega arith)) start opened.bytes c.put_inside.ensures.bytes closed.bytes last.bytes
+    let start = rw c.in_ok-make_room.ensures.bytes at first.bytes in
+    between_quotes _ _ _ _ _ _ _ _ _ c.args.value.now (c.push.ensures.ascii (omega arith)) start opened.bytes c.put_escapes.ensures.bytes closed.bytes last.bytes
 
 -- how long that is
 length_between : (front v back : List ℕ) → length (front ++ quoted v ++ back) ≡ length front + length back + 2 + length (escapes v)
 length_between front v back = rw quoted_escapes (simp length-append (omega arith))
 
-pub returns-in_default-clause-room : goal.returns-in_default-clause-room
-returns-in_default-clause-room c =
+pub returns-in_err-make_room-clause-room : goal.returns-in_err-make_room-clause-room
+returns-in_err-make_room-clause-room c =
     let out = c.args.out.now in
-    let lacks : string_capacity out < string_len out + length (c.args.front.now ++ quoted c.args.value.now ++ c.args.back.now) = rw length_between (omega (arith, c.in_default.ensures)) in
-    lacks
-
-pub returns-in_err-reserve-clause-room : goal.returns-in_err-reserve-clause-room
-returns-in_err-reserve-clause-room c =
-    let out = c.args.out.now in
-    let full = c.in_err-reserve.ensures.full in
-    let lacks : string_capacity out < string_len out + length (c.args.front.now ++ quoted c.args.value.now ++ c.args.back.now) = rw length_between (omega (arith, full, c.saturating_add.ensures, c.in-Some.ensures.some)) in
+    let full = c.in_err-make_room.ensures.room in
+    let lacks : string_capacity out < string_len out + length (c.args.front.now ++ quoted c.args.value.now ++ c.args.back.now) = rw length_between (omega (arith, full)) in
     search (rules, lacks)
