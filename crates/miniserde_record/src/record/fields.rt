@@ -152,7 +152,7 @@ impl<T: Deserialize, R: Fields> Fields for FieldOf<T::Place, T, R> {
         }
     }
 
-    #[inline(never)]
+    #[inline(always)]
     fn begin_child(&mut self, alloc: Global, names: &[&str], name: &str) -> Result<()> {
         match names.split_first() {
             Some((first, more)) => {
@@ -192,7 +192,7 @@ impl<T: Deserialize, R: Fields> Fields for FieldOf<T::Place, T, R> {
         }
     }
 
-    #[inline(never)]
+    #[inline(always)]
     fn join(&mut self) -> Result<()> {
         match self.child.take() {
             Some(place) => {

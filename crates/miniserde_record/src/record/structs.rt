@@ -65,7 +65,7 @@ impl<S: Record + 'static> Collect for RecordOf<S, S::Fields> {
         matches!(event, Step::Map)
     }
 
-    #[inline(never)]
+    #[inline(always)]
     fn begin_child(&mut self, alloc: Global, event: Step<'_>) -> Result<()> {
         match event {
             Step::Key(name) => self.fields.begin_child(alloc, S::names(), name),

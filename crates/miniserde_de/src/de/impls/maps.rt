@@ -100,7 +100,7 @@ impl<P: Visitor, M: Table<Value = P::Out>> Collect for MapOf<M, M::Key, P> {
         matches!(event, Step::Map)
     }
 
-    #[inline(never)]
+    #[inline(always)]
     fn begin_child(&mut self, alloc: Global, event: Step<'_>) -> Result<()> {
         match event {
             Step::Key(name) => {
@@ -134,7 +134,7 @@ impl<P: Visitor, M: Table<Value = P::Out>> Collect for MapOf<M, M::Key, P> {
         }
     }
 
-    #[inline(never)]
+    #[inline(always)]
     fn join(&mut self) -> Result<()> {
         match (self.child.take(), self.key.take()) {
             (Some(place), Some(key)) => self.table.put(key, place.take()?),

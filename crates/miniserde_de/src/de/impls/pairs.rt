@@ -51,7 +51,7 @@ where
         matches!(event, Step::Seq)
     }
 
-    #[inline(never)]
+    #[inline(always)]
     fn begin_child(&mut self, alloc: Global, event: Step<'_>) -> Result<()> {
         match event {
             Step::Element => {
@@ -93,7 +93,7 @@ where
         }
     }
 
-    #[inline(never)]
+    #[inline(always)]
     fn join(&mut self) -> Result<()> {
         match mem::replace(&mut self.child, Part::Neither) {
             Part::First(place) => {

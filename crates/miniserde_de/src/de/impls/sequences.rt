@@ -45,7 +45,7 @@ where
         matches!(event, Step::Seq)
     }
 
-    #[inline(never)]
+    #[inline(always)]
     fn begin_child(&mut self, alloc: Global, event: Step<'_>) -> Result<()> {
         match event {
             Step::Element => {
@@ -77,7 +77,7 @@ where
         }
     }
 
-    #[inline(never)]
+    #[inline(always)]
     fn join(&mut self) -> Result<()> {
         match self.child.take() {
             Some(place) => {
