@@ -194,6 +194,7 @@ fn make_room(value: &str, marks: usize, out: &mut String) -> Result<()>
 
 // Appends a mark or nothing, a text between quotes by the escape rule, and again a mark or nothing. A call that refuses
 // leaves `out` as it was.
+#[inline(always)]
 pub(crate) fn put_between(front: &str, value: &str, back: &str, out: &mut String) -> Result<()>
     requires front { length front.now ≤ 1 }
     requires back { length back.now ≤ 1 }
