@@ -217,6 +217,7 @@ pub(crate) fn put_between(front: &str, value: &str, back: &str, out: &mut String
 }
 
 /// Appends a text as a string of JSON: between quotes, by the escape rule. A call that refuses leaves `out` as it was.
+#[inline(always)]
 pub fn escape_str(value: &str, out: &mut String) -> Result<()>
     ensures ok { OnOk result (string_bytes out.new ≡ string_bytes out.old ++ quoted value.now) }
     ensures memory { OnErr result (IsErrOf result Memory) }
