@@ -12,5 +12,6 @@ pub mod Builders
 pub mod Begun
 pub mod Copies
 pub mod Variants
+pub mod Frames
 pub mod Walks
 pub mod Written

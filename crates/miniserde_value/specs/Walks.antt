@@ -1,14 +1,17 @@
 -- What a walk has still to meet.
-use Rattle.std.specs.Prelude.{List, [], ◌∷◌, Option, Some, None, string_bytes, ⊤}
+use Rattle.std.specs.Prelude.{List, [], ◌∷◌, reverse, Option, Some, None, String, string_bytes, ⊤}
 use Rattle.std.specs.Borrow.{Bor}
 use Rattle.std.specs.Slice.Iter.{iter_rest}
+use Rattle.std.specs.declared.alloc.Global.{Global}
+use Rattle.std.specs.declared.slice.Iter.{Iter}
 use Rattle.miniserde_model.specs.Tree.{null, truth, str}
 use Rattle.miniserde_ser.specs.Trees.{trees_of, members_of}
+use Rattle.miniserde_value.specs.declared.json.builder.Kind.{Kind}
+use Rattle.miniserde_value.specs.declared.json.builder.Kind.TheVariants as kind
 use Rattle.miniserde_value.specs.declared.json.value.Value.{Value}
 use Rattle.miniserde_value.specs.declared.json.walk.Front.{Front}
 use Rattle.miniserde_value.specs.declared.json.walk.Front.TheVariants as front
-use Rattle.miniserde_value.specs.declared.json.walk.Frame.{Frame}
-use Rattle.miniserde_value.specs.declared.json.walk.Frame.TheVariants as frame
+use Rattle.miniserde_value.specs.declared.json.walk.frames.Frames.{Frames}
 use Rattle.miniserde_value.specs.declared.json.walk.Walk.{Walk}
 use Rattle.miniserde_value.specs.Numbers.{number_leaf}
 use Rattle.miniserde_value.specs.Values.{shape}
@@ -27,43 +30,55 @@ meets front.Object = members_begin
 meets (front.Name n) = name n.now
 meets front.ObjectEnd = members_end
 
--- what an open container has left, and then others
-abbrev pub frame_left : Frame → List Meets → List Meets
-frame_left (frame.Array it) rest = child_fronts (trees_of shape (iter_rest it)) (list_ends ∷ rest)
-frame_left (frame.Object it) rest = member_fronts (members_of string_bytes shape it) (members_end ∷ rest)
+-- what an open array has left, and then others
+abbrev pub items_left : Iter Value → List Meets → List Meets
+items_left it rest = child_fronts (trees_of shape (iter_rest it)) (list_ends ∷ rest)
 
--- of all open containers, the outermost first
-abbrev pub frames_left : List Frame → List Meets → List Meets
-frames_left [] rest = rest
-frames_left (f ∷ fs) rest = frames_left fs (frame_left f rest)
+-- what an open object has left, and then others
+abbrev pub members_left : List (String Global × Value) → List Meets → List Meets
+members_left ms rest = member_fronts (members_of string_bytes shape ms) (members_end ∷ rest)
+
+-- of all open containers, in lists with the innermost first. Each kind takes the first of its own list
+abbrev pub stack_left : List Kind → List (Iter Value) → List (List (String Global × Value)) → List Meets
+stack_left [] arrays objects = []
+stack_left (kind.Array ∷ kinds) [] objects = []
+stack_left (kind.Array ∷ kinds) (a ∷ arrays) objects = items_left a (stack_left kinds arrays objects)
+stack_left (kind.Object ∷ kinds) arrays [] = []
+stack_left (kind.Object ∷ kinds) arrays (o ∷ objects) = members_left o (stack_left kinds arrays objects)
+
+abbrev pub frames_left : Frames → List Meets
+frames_left f = stack_left (reverse f.kinds.items) (reverse f.arrays.items) (reverse f.objects.items)
 
 -- the fronts of a child that is due, and then others
 abbrev pub due_left : Option (Bor Value) → List Meets → List Meets
 due_left None rest = rest
 due_left (Some v) rest = fronts (shape v.now) rest
 
--- a child, and then what its container has left; or what stands behind the container, where there is none
-abbrev pub child_left : Option (Bor Value) → List Meets → List Meets → List Meets
-child_left None more rest = rest
-child_left (Some v) more rest = fronts (shape v.now) more
-
 -- all that a walk has still to meet
 abbrev pub left : Walk → List Meets
-left w = due_left w.due (frames_left w.frames.items [])
+left w = due_left w.due (frames_left w.frames)
 
 -- ---- the order of names in what is left
 
-abbrev pub FrameOrdered : Frame → Type 0
-FrameOrdered (frame.Array it) = AreOrdered (trees_of shape (iter_rest it))
-FrameOrdered (frame.Object it) = AreOrderedMembers (members_of string_bytes shape it)
+abbrev pub ItemsOrdered : Iter Value → Type 0
+ItemsOrdered it = AreOrdered (trees_of shape (iter_rest it))
 
-abbrev pub FramesOrdered : List Frame → Type 0
-FramesOrdered [] = ⊤
-FramesOrdered (f ∷ fs) = FrameOrdered f × FramesOrdered fs
+abbrev pub MembersOrdered : List (String Global × Value) → Type 0
+MembersOrdered ms = AreOrderedMembers (members_of string_bytes shape ms)
+
+abbrev pub StackOrdered : List Kind → List (Iter Value) → List (List (String Global × Value)) → Type 0
+StackOrdered [] arrays objects = ⊤
+StackOrdered (kind.Array ∷ kinds) [] objects = ⊤
+StackOrdered (kind.Array ∷ kinds) (a ∷ arrays) objects = ItemsOrdered a × StackOrdered kinds arrays objects
+StackOrdered (kind.Object ∷ kinds) arrays [] = ⊤
+StackOrdered (kind.Object ∷ kinds) arrays (o ∷ objects) = MembersOrdered o × StackOrdered kinds arrays objects
+
+abbrev pub FramesOrdered : Frames → Type 0
+FramesOrdered f = StackOrdered (reverse f.kinds.items) (reverse f.arrays.items) (reverse f.objects.items)
 
 abbrev pub DueOrdered : Option (Bor Value) → Type 0
 DueOrdered None = ⊤
 DueOrdered (Some v) = IsOrdered (shape v.now)
 
 abbrev pub LeftOrdered : Walk → Type 0
-LeftOrdered w = DueOrdered w.due × FramesOrdered w.frames.items
+LeftOrdered w = DueOrdered w.due × FramesOrdered w.frames

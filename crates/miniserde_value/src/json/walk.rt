@@ -1,20 +1,19 @@
 //! The one walk over a value that stands elsewhere.
-ghost use Rattle.std.specs.Prelude.{◌≡◌, ◌∷◌, [], List, Option, Some, None, IfOk, OnOk, OnErr, IsErrOf, MatchOption};
-ghost use Rattle.miniserde_model.specs.Tree.{members};
+ghost use Rattle.std.specs.Prelude.{◌≡◌, ◌∷◌, [], None, IfOk, OnOk, OnErr, IsErrOf, MatchOption};
 ghost use Rattle.miniserde_text.specs.declared.error.Error.TheVariants.{Memory};
 ghost use Rattle.miniserde_value.specs.Values.{shape, array_shape, object_shape};
-ghost use Rattle.miniserde_value.specs.Fronts.{Meets, fronts, list_begins, members_begin, IsOrdered};
-ghost use Rattle.miniserde_value.specs.Walks.{meets, left, LeftOrdered, frame_left, FrameOrdered};
-ghost use Rattle.miniserde_value.specs.Walks.{child_left, DueOrdered};
+ghost use Rattle.miniserde_value.specs.Fronts.{fronts, list_begins, members_begin, IsOrdered};
+ghost use Rattle.miniserde_value.specs.Walks.{meets, left, LeftOrdered};
 
+mod frames;
+
+use self::frames::Frames;
 use super::array::Array;
 use super::number::Number;
 use super::object::Object;
 use super::value::Value;
 use miniserde_text::error::Result;
 use std::alloc::Global;
-use std::collections::btree_map;
-use std::slice;
 
 /// What a walk meets next.
 #[derive(Clone, Copy, Drop)]
@@ -31,40 +30,13 @@ pub(crate) enum Front<'a> {
     ObjectEnd,
 }
 
-/// What is left of an open container.
-#[derive(Drop)]
-pub(crate) enum Frame<'a> {
-    Array(slice::Iter<'a, Value>),
-    Object(btree_map::Iter<'a, String, Value>),
-}
-
-impl<'a> Frame<'a> {
-    // What comes next: a child, or the end.
-    fn advance(&mut self) -> (Front<'a>, Option<&'a Value>)
-        ensures left { (rest : List Meets) → frame_left self.old rest
-            ≡ meets result.0 ∷ child_left result.1 (frame_left self.new rest) rest }
-        ensures ordered { DueOrdered result.1 → FrameOrdered self.new → FrameOrdered self.old }
-    {
-        match self {
-            Frame::Array(items) => match items.next() {
-                Some(item) => (Front::Element, Some(item)),
-                None => (Front::ArrayEnd, None),
-            },
-            Frame::Object(members) => match members.next() {
-                Some((name, value)) => (Front::Name(name.as_str()), Some(value)),
-                None => (Front::ObjectEnd, None),
-            },
-        }
-    }
-}
-
 /// A walk over an array or an object, from behind its opening on to its end. It goes by a stack of its own.
 #[derive(Drop)]
 pub(crate) struct Walk<'a> {
     // The child that comes next, whose element or name was met.
     due: Option<&'a Value>,
-    // The open containers, the outermost first.
-    frames: Vec<Frame<'a>>,
+    // The open containers.
+    frames: Frames<'a>,
 }
 
 impl<'a> Walk<'a> {
@@ -74,8 +46,8 @@ impl<'a> Walk<'a> {
         ensures ordered { IfOk result (λ w. LeftOrdered w → IsOrdered (array_shape array.entry.now)) }
         ensures memory { OnErr result (IsErrOf result Memory) }
     {
-        let mut frames = Vec::new(alloc);
-        frames.push(Frame::Array(array.inner().iter()))?;
+        let mut frames = Frames::new(alloc);
+        frames.push_array(array.inner().iter())?;
         Ok(Walk { due: None, frames })
     }
 
@@ -85,8 +57,8 @@ impl<'a> Walk<'a> {
         ensures ordered { IfOk result (λ w. LeftOrdered w → IsOrdered (object_shape object.entry.now)) }
         ensures memory { OnErr result (IsErrOf result Memory) }
     {
-        let mut frames = Vec::new(alloc);
-        frames.push(Frame::Object(object.inner().iter()))?;
+        let mut frames = Frames::new(alloc);
+        frames.push_object(object.inner().iter())?;
         Ok(Walk { due: None, frames })
     }
 
@@ -121,11 +93,11 @@ impl<'a> Walk<'a> {
             Value::Number(number) => Ok(Front::Number(number)),
             Value::String(text) => Ok(Front::String(text.as_str())),
             Value::Array(array) => {
-                self.frames.push(Frame::Array(array.inner().iter()))?;
+                self.frames.push_array(array.inner().iter())?;
                 Ok(Front::Array)
             }
             Value::Object(object) => {
-                self.frames.push(Frame::Object(object.inner().iter()))?;
+                self.frames.push_object(object.inner().iter())?;
                 Ok(Front::Object)
             }
         }
@@ -138,16 +110,8 @@ impl<'a> Walk<'a> {
         ensures ordered { MatchOption result (LeftOrdered self.old)
             (λ _. LeftOrdered self.new → LeftOrdered self.old) }
     {
-        let frame = self.frames.last_mut()?;
-        match frame.advance() {
-            (front, Some(child)) => {
-                self.due = Some(child);
-                Some(front)
-            }
-            (front, None) => {
-                self.frames.pop();
-                Some(front)
-            }
-        }
+        let (front, child) = self.frames.next()?;
+        self.due = child;
+        Some(front)
     }
 }

@@ -1,4 +1,4 @@
-use Rattle.std.proofs.Common.{rules, ◌≡◌, ℕ, List, ◌∷◌, [], Option, sym, ap, ◌∙◌}
+use Rattle.std.proofs.Common.{rules, ◌≡◌, ℕ, List, ◌∷◌, Option, sym, ap, ◌∙◌}
 use Rattle.std.specs.Prelude.{Vec}
 use Rattle.std.specs.declared.alloc.Global.{Global}
 use Rattle.miniserde_model.specs.Tree.{str}
@@ -36,29 +36,29 @@ returns-in-String-clause-left c =
 pub returns-in-String-clause-ordered : goal.returns-in-String-clause-ordered
 returns-in-String-clause-ordered c = λ o. (ordered_string _ _ c.in-String.is, o)
 
-pub returns-in_ok-push-in-Array-clause-left : goal.returns-in_ok-push-in-Array-clause-left
-returns-in_ok-push-in-Array-clause-left c =
+pub returns-in_ok-push_array-in-Array-clause-left : goal.returns-in_ok-push_array-in-Array-clause-left
+returns-in_ok-push_array-in-Array-clause-left c =
     let items : iter_rest c.iter.result ≡ array_items c.in-Array.array = c.iter.ensures.rest ∙ c.deref.ensures.value ∙ ap (λ (v : Vec Value Global). v.items) c.inner.ensures in
-    ap (λ (d : Option (Bor Value)). fronts (shape c.args.value.now) (due_left d (frames_left c.args.self.now.frames.items []))) c.requires
-    ∙ begin_array c.args.value.now _ _ c.push.new.self.items c.iter.result c.in-Array.is items c.in_ok-push-in-Array.ensures.items
-    ∙ ap (λ (d : Option (Bor Value)). list_begins ∷ due_left d (frames_left c.push.new.self.items [])) (sym c.requires)
+    ap (λ (d : Option (Bor Value)). fronts (shape c.args.value.now) (due_left d (frames_left c.args.self.now.frames))) c.requires
+    ∙ begin_array c.args.value.now _ c.iter.result _ (frames_left c.push_array.new.self) c.in-Array.is items c.in_ok-push_array-in-Array.ensures.left
+    ∙ ap (λ (d : Option (Bor Value)). list_begins ∷ due_left d (frames_left c.push_array.new.self)) (sym c.requires)
 
-pub returns-in_ok-push-in-Array-clause-ordered : goal.returns-in_ok-push-in-Array-clause-ordered
-returns-in_ok-push-in-Array-clause-ordered c =
+pub returns-in_ok-push_array-in-Array-clause-ordered : goal.returns-in_ok-push_array-in-Array-clause-ordered
+returns-in_ok-push_array-in-Array-clause-ordered c =
     let items : iter_rest c.iter.result ≡ array_items c.in-Array.array = c.iter.ensures.rest ∙ c.deref.ensures.value ∙ ap (λ (v : Vec Value Global). v.items) c.inner.ensures in
-    λ o. let r = ordered_array c.args.value.now _ c.args.self.now.frames.items c.push.new.self.items c.iter.result c.in-Array.is items c.in_ok-push-in-Array.ensures.items o.1 in (r.0, (o.0, r.1))
+    λ o. let r = c.in_ok-push_array-in-Array.ensures.ordered o.1 in (ordered_array c.args.value.now _ c.iter.result c.in-Array.is items r.0, (o.0, r.1))
 
-pub returns-in_ok-push-in-Object-clause-left : goal.returns-in_ok-push-in-Object-clause-left
-returns-in_ok-push-in-Object-clause-left c =
-    ap (λ (d : Option (Bor Value)). fronts (shape c.args.value.now) (due_left d (frames_left c.args.self.now.frames.items []))) c.requires
-    ∙ begin_object c.args.value.now _ _ c.push-in-Object.new.self.items c.iter-in-Object.result c.in-Object.is (search rules) c.in_ok-push-in-Object.ensures.items
-    ∙ ap (λ (d : Option (Bor Value)). members_begin ∷ due_left d (frames_left c.push-in-Object.new.self.items [])) (sym c.requires)
+pub returns-in_ok-push_object-in-Object-clause-left : goal.returns-in_ok-push_object-in-Object-clause-left
+returns-in_ok-push_object-in-Object-clause-left c =
+    ap (λ (d : Option (Bor Value)). fronts (shape c.args.value.now) (due_left d (frames_left c.args.self.now.frames))) c.requires
+    ∙ begin_object c.args.value.now _ c.iter-in-Object.result _ (frames_left c.push_object.new.self) c.in-Object.is (search rules) c.in_ok-push_object-in-Object.ensures.left
+    ∙ ap (λ (d : Option (Bor Value)). members_begin ∷ due_left d (frames_left c.push_object.new.self)) (sym c.requires)
 
-pub returns-in_ok-push-in-Object-clause-ordered : goal.returns-in_ok-push-in-Object-clause-ordered
-returns-in_ok-push-in-Object-clause-ordered c =
+pub returns-in_ok-push_object-in-Object-clause-ordered : goal.returns-in_ok-push_object-in-Object-clause-ordered
+returns-in_ok-push_object-in-Object-clause-ordered c =
     let opened : Opened c.in-Object.object c.inner-in-Object.result.now c.iter-in-Object.result = record {
       map = c.inner-in-Object.ensures;
       entries = c.iter-in-Object.ensures.rest;
       sorted = c.iter-in-Object.ensures.ordered;
     } in
-    λ o. let r = ordered_object c.args.value.now _ _ c.args.self.now.frames.items c.push-in-Object.new.self.items c.iter-in-Object.result c.in-Object.is opened c.in_ok-push-in-Object.ensures.items o.1 in (r.0, (o.0, r.1))
+    λ o. let r = c.in_ok-push_object-in-Object.ensures.ordered o.1 in (ordered_object c.args.value.now _ _ c.iter-in-Object.result c.in-Object.is opened r.0, (o.0, r.1))

@@ -8,4 +8,4 @@ returns-clause-ordered c =
       entries = c.iter.ensures.rest;
       sorted = c.iter.ensures.ordered;
     } in
-    λ o. ordered_opened c.args.object.now _ _ c.push.new.self.items c.iter.result opened c.in_ok-push.ensures.items o.1
+    λ o. ordered_opened c.args.object.now _ _ opened (c.in_ok-push_object.ensures.ordered o.1).0

@@ -1,0 +1,107 @@
+-- What is left of open containers, as one is opened or the innermost is gone on with.
+use Rattle.std.proofs.Common.{◌≡◌, ℕ, zero, suc, ◌-◌, List, [], ◌∷◌, ◌++◌, Some, slice_get, length, take, set, get_or, reverse, refl, sym, ap, ◌∙◌, subst, arith}
+use Rattle.std.proofs.lemmas.List.{reverse-append}
+use Rattle.std.proofs.lemmas.Option.{slice_get_within, get_or_from_slice_get}
+use Rattle.std.specs.Prelude.{String, string_bytes}
+use Rattle.std.specs.Slice.Iter.{iter_rest}
+use Rattle.std.specs.declared.alloc.Global.{Global}
+use Rattle.std.specs.declared.slice.Iter.{Iter}
+use Rattle.miniserde_ser.specs.Trees.{trees_of, members_of}
+use Rattle.miniserde_value.specs.declared.json.builder.Kind.{Kind}
+use Rattle.miniserde_value.specs.declared.json.builder.Kind.TheVariants as kind
+use Rattle.miniserde_value.specs.declared.json.value.Value.{Value}
+use Rattle.miniserde_value.specs.Values.{shape}
+use Rattle.miniserde_value.specs.Fronts.{element, list_ends, name, members_end, fronts, child_fronts, member_fronts, IsOrdered, AreOrdered, AreOrderedMembers}
+use Rattle.miniserde_value.specs.Walks.{stack_left, StackOrdered}
+
+-- ---- the last of a list
+
+split_last : {A : Type 0} → (xs : List A) (k : ℕ) (d : A) → length xs ≡ suc k → xs ≡ take k xs ++ get_or xs k d ∷ []
+split_last [] k d h = absurd (omega arith)
+split_last (x ∷ []) zero d h = refl
+split_last (x ∷ y ∷ xs) zero d h = absurd (omega arith)
+split_last (x ∷ xs) (suc k) d h = ap (λ l. x ∷ l) (split_last xs k d (omega arith))
+
+split_set : {A : Type 0} → (xs : List A) (k : ℕ) (u : A) → length xs ≡ suc k → set xs k u ≡ take k xs ++ u ∷ []
+split_set [] k u h = absurd (omega arith)
+split_set (x ∷ []) zero u h = refl
+split_set (x ∷ y ∷ xs) zero u h = absurd (omega arith)
+split_set (x ∷ xs) (suc k) u h = ap (λ l. x ∷ l) (split_set xs k u (omega arith))
+
+pub reverse_added : {A : Type 0} → (xs ys : List A) (x : A) → ys ≡ xs ++ x ∷ [] → reverse ys ≡ x ∷ reverse xs
+reverse_added xs ys x e = ap reverse e ∙ reverse-append xs (x ∷ [])
+
+pub reverse_last : {A : Type 0} → (xs : List A) (k : ℕ) (d : A) → length xs ≡ suc k → reverse xs ≡ get_or xs k d ∷ reverse (take k xs)
+reverse_last xs k d h = reverse_added (take k xs) xs (get_or xs k d) (split_last xs k d h)
+
+pub reverse_set : {A : Type 0} → (xs : List A) (k : ℕ) (u : A) → length xs ≡ suc k → reverse (set xs k u) ≡ u ∷ reverse (take k xs)
+reverse_set xs k u h = reverse_added (take k xs) (set xs k u) u (split_set xs k u h)
+
+-- the last is known
+pub reverse_ends : {A : Type 0} → (xs : List A) (k : ℕ) (d x : A) → length xs ≡ suc k → x ≡ get_or xs k d → reverse xs ≡ x ∷ reverse (take k xs)
+reverse_ends xs k d x h e = reverse_last xs k d h ∙ ap (λ y. y ∷ reverse (take k xs)) (sym e)
+
+-- the last was got
+pub last_got : {A : Type 0} → (xs ys : List A) (x y : A) → ys ≡ xs → Some x ≡ slice_get ys (length ys - 1) → x ≡ y → reverse xs ≡ y ∷ reverse (take (length xs - 1) xs)
+last_got xs ys x y same got is =
+    let there : slice_get xs (length xs - 1) ≡ Some y = subst (λ l. slice_get l (length l - 1) ≡ Some x) same (sym got) ∙ ap Some is in
+    let within = slice_get_within xs (length xs - 1) y there in
+    reverse_ends xs (length xs - 1) y y (omega arith) (sym (get_or_from_slice_get xs (length xs - 1) y y there))
+
+-- ---- the innermost container gave a child
+
+abbrev pub Entries : Type 0
+Entries = List (String Global × Value)
+
+-- an array, whose iterator gave an item: all arrays before, and then
+pub record GaveItem (kinds : List Kind) (arrays then : List (Iter Value)) (it next : Iter Value) (item : Value) : Type 0 where
+  pub below : List Kind
+  pub others : List (Iter Value)
+  pub is_array : reverse kinds ≡ kind.Array ∷ below
+  pub before : reverse arrays ≡ it ∷ others
+  pub after : reverse then ≡ next ∷ others
+  pub gave : iter_rest it ≡ item ∷ iter_rest next
+
+pub item_left : (kinds : List Kind) (arrays then : List (Iter Value)) (objects : List Entries) (it next : Iter Value) (item : Value) → GaveItem kinds arrays then it next item → stack_left (reverse kinds) (reverse arrays) objects ≡ element ∷ fronts (shape item) (stack_left (reverse kinds) (reverse then) objects)
+item_left kinds arrays then objects it next item g =
+    let rest = stack_left g.below g.others objects in
+    ap (λ (x : List Kind). stack_left x (reverse arrays) objects) g.is_array
+    ∙ ap (λ (x : List (Iter Value)). stack_left (kind.Array ∷ g.below) x objects) g.before
+    ∙ ap (λ (xs : List Value). child_fronts (trees_of shape xs) (list_ends ∷ rest)) g.gave
+    ∙ ap (λ (x : List (Iter Value)). element ∷ fronts (shape item) (stack_left (kind.Array ∷ g.below) x objects)) (sym g.after)
+    ∙ ap (λ (x : List Kind). element ∷ fronts (shape item) (stack_left x (reverse then) objects)) (sym g.is_array)
+
+pub item_ordered : (kinds : List Kind) (arrays then : List (Iter Value)) (objects : List Entries) (it next : Iter Value) (item : Value) → GaveItem kinds arrays then it next item → IsOrdered (shape item) → StackOrdered (reverse kinds) (reverse then) objects → StackOrdered (reverse kinds) (reverse arrays) objects
+item_ordered kinds arrays then objects it next item g o p =
+    let r = subst (λ (x : List (Iter Value)). StackOrdered (kind.Array ∷ g.below) x objects) g.after (subst (λ (x : List Kind). StackOrdered x (reverse then) objects) g.is_array p) in
+    let items = subst (λ (xs : List Value). AreOrdered (trees_of shape xs)) (sym g.gave) (o, r.0) in
+    subst (λ (x : List Kind). StackOrdered x (reverse arrays) objects) (sym g.is_array)
+    (subst (λ (x : List (Iter Value)). StackOrdered (kind.Array ∷ g.below) x objects) (sym g.before) (items, r.1))
+
+-- an object, whose iterator gave a member: all objects before, and then
+pub record GaveMember (kinds : List Kind) (objects then : List Entries) (ms next : Entries) (text : List ℕ) (value : Value) : Type 0 where
+  pub below : List Kind
+  pub others : List Entries
+  pub key : String Global
+  pub is_object : reverse kinds ≡ kind.Object ∷ below
+  pub before : reverse objects ≡ ms ∷ others
+  pub after : reverse then ≡ next ∷ others
+  pub gave : ms ≡ (key, value) ∷ next
+  pub named : text ≡ string_bytes key
+
+pub member_left : (kinds : List Kind) (arrays : List (Iter Value)) (objects then : List Entries) (ms next : Entries) (text : List ℕ) (value : Value) → GaveMember kinds objects then ms next text value → stack_left (reverse kinds) arrays (reverse objects) ≡ name text ∷ fronts (shape value) (stack_left (reverse kinds) arrays (reverse then))
+member_left kinds arrays objects then ms next text value g =
+    let rest = stack_left g.below arrays g.others in
+    ap (λ (x : List Kind). stack_left x arrays (reverse objects)) g.is_object
+    ∙ ap (λ (x : List Entries). stack_left (kind.Object ∷ g.below) arrays x) g.before
+    ∙ ap (λ (xs : Entries). member_fronts (members_of string_bytes shape xs) (members_end ∷ rest)) g.gave
+    ∙ ap (λ (t : List ℕ). name t ∷ fronts (shape value) (stack_left (kind.Object ∷ g.below) arrays (next ∷ g.others))) (sym g.named)
+    ∙ ap (λ (x : List Entries). name text ∷ fronts (shape value) (stack_left (kind.Object ∷ g.below) arrays x)) (sym g.after)
+    ∙ ap (λ (x : List Kind). name text ∷ fronts (shape value) (stack_left x arrays (reverse then))) (sym g.is_object)
+
+pub member_ordered : (kinds : List Kind) (arrays : List (Iter Value)) (objects then : List Entries) (ms next : Entries) (text : List ℕ) (value : Value) → GaveMember kinds objects then ms next text value → IsOrdered (shape value) → StackOrdered (reverse kinds) arrays (reverse then) → StackOrdered (reverse kinds) arrays (reverse objects)
+member_ordered kinds arrays objects then ms next text value g o p =
+    let r = subst (λ (x : List Entries). StackOrdered (kind.Object ∷ g.below) arrays x) g.after (subst (λ (x : List Kind). StackOrdered x arrays (reverse then)) g.is_object p) in
+    let members = subst (λ (xs : Entries). AreOrderedMembers (members_of string_bytes shape xs)) (sym g.gave) (o, r.0) in
+    subst (λ (x : List Kind). StackOrdered x arrays (reverse objects)) (sym g.is_object)
+    (subst (λ (x : List Entries). StackOrdered (kind.Object ∷ g.below) arrays x) (sym g.before) (members, r.1))

@@ -1,0 +1,85 @@
+//! The open containers of a walk, and what is left of each.
+ghost use Rattle.std.specs.Prelude.{◌≡◌, ◌∷◌, [], OnOk, OnErr, IsErrOf, MatchOption};
+ghost use Rattle.std.specs.Slice.Iter.{iter_rest};
+ghost use Rattle.miniserde_text.specs.declared.error.Error.TheVariants.{Memory};
+ghost use Rattle.miniserde_value.specs.Walks.{meets, items_left, members_left, ItemsOrdered, MembersOrdered};
+ghost use Rattle.miniserde_value.specs.Walks.{frames_left, due_left, FramesOrdered, DueOrdered};
+
+use super::super::builder::Kind;
+use super::super::value::Value;
+use super::Front;
+use miniserde_text::error::Result;
+use std::alloc::Global;
+use std::collections::btree_map;
+use std::slice;
+
+/// The open containers, each list with the innermost last. The iterators of arrays and of objects stand apart,
+/// so that an open array takes no more than its own iterator and a kind. After a refusal the lists do not fit.
+#[derive(Drop)]
+pub(crate) struct Frames<'a> {
+    kinds: Vec<Kind>,
+    arrays: Vec<slice::Iter<'a, Value>>,
+    objects: Vec<btree_map::Iter<'a, String, Value>>,
+}
+
+impl<'a> Frames<'a> {
+    /// None are open.
+    pub(crate) fn new(alloc: Global) -> Frames<'a>
+        ensures left { frames_left result ≡ [] }
+    {
+        Frames {
+            kinds: Vec::new(alloc),
+            arrays: Vec::new(alloc),
+            objects: Vec::new(alloc),
+        }
+    }
+
+    /// Opens an array, of which these items are left.
+    pub(crate) fn push_array(&mut self, items: slice::Iter<'a, Value>) -> Result<()>
+        ensures left { OnOk result (frames_left self.new ≡ items_left items.entry (frames_left self.old)) }
+        ensures ordered { OnOk result (FramesOrdered self.new → ItemsOrdered items.entry × FramesOrdered self.old) }
+        ensures memory { OnErr result (IsErrOf result Memory) }
+    {
+        self.arrays.push(items)?;
+        self.kinds.push(Kind::Array)?;
+        Ok(())
+    }
+
+    /// Opens an object, of which these members are left.
+    pub(crate) fn push_object(&mut self, members: btree_map::Iter<'a, String, Value>) -> Result<()>
+        ensures left { OnOk result (frames_left self.new ≡ members_left members.entry (frames_left self.old)) }
+        ensures ordered { OnOk result (FramesOrdered self.new → MembersOrdered members.entry × FramesOrdered self.old) }
+        ensures memory { OnErr result (IsErrOf result Memory) }
+    {
+        self.objects.push(members)?;
+        self.kinds.push(Kind::Object)?;
+        Ok(())
+    }
+
+    /// What comes next in the innermost open container: a child, or its end, and then it is no longer open.
+    pub(crate) fn next(&mut self) -> Option<(Front<'a>, Option<&'a Value>)>
+        ensures left { MatchOption result (frames_left self.old ≡ [])
+            (λ next. frames_left self.old ≡ meets next.0 ∷ due_left next.1 (frames_left self.new)) }
+        ensures ordered { MatchOption result (FramesOrdered self.old)
+            (λ next. DueOrdered next.1 → FramesOrdered self.new → FramesOrdered self.old) }
+    {
+        match self.kinds.last()? {
+            Kind::Array => match self.arrays.last_mut()?.next() {
+                Some(item) => Some((Front::Element, Some(item))),
+                None => {
+                    self.arrays.pop();
+                    self.kinds.pop();
+                    Some((Front::ArrayEnd, None))
+                }
+            },
+            Kind::Object => match self.objects.last_mut()?.next() {
+                Some((name, value)) => Some((Front::Name(name.as_str()), Some(value))),
+                None => {
+                    self.objects.pop();
+                    self.kinds.pop();
+                    Some((Front::ObjectEnd, None))
+                }
+            },
+        }
+    }
+}
