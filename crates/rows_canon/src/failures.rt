@@ -6,6 +6,12 @@ use std::io::{ErrorKind, Read, Write};
 use std::mem::size_of;
 use std::test::Fail;
 
+/// A document of 51 bytes.
+const DOCUMENT: &[u8; 51] = b"{\"b\": -0, \"a\": [1.50, 18446744073709551616, 1e400]}";
+
+/// Its canonical text, of 45.
+const CANONICAL: &[u8; 45] = b"{\"a\":[1.50,18446744073709551616,1e400],\"b\":0}";
+
 #[test]
 fn counts_take_no_bytes(rt: HostRuntime) {
     assert_eq!(rt; size_of::<Counted<Vec<u8>>>(), size_of::<Vec<u8>>());
@@ -13,39 +19,47 @@ fn counts_take_no_bytes(rt: HostRuntime) {
 
 #[test]
 fn a_read_that_fails_writes_nothing(rt: HostRuntime) -> Result<(), Fail> {
-    let text = b"[1,2]";
-    for k in 1..7u64 {
-        let mut r = make_slow(text, k, ErrorKind::Interrupted);
+    // A call for each byte, and one that finds the end.
+    for k in 1..53u64 {
+        let mut r = make_slow(DOCUMENT, k, ErrorKind::Interrupted);
         let mut w = make_narrow(rt.alloc(), 0, false, false);
         assert_eq!(rt; run(rt.alloc(), &mut r, &mut w), Err(Fault::Read), "at {k}");
         assert!(rt; w.into_inner().got.is_empty());
     }
-    let mut r = make_slow(text, 7, ErrorKind::Interrupted);
+    let mut r = make_slow(DOCUMENT, 53, ErrorKind::Interrupted);
     let mut w = make_narrow(rt.alloc(), 0, false, false);
     assert_eq!(rt; run(rt.alloc(), &mut r, &mut w), Ok(()));
-    assert_eq!(rt; w.into_inner().got.as_slice(), text.as_slice());
+    assert_eq!(rt; w.into_inner().got.as_slice(), CANONICAL.as_slice());
     Ok(())
 }
 
 #[test]
 fn a_write_that_fails_leaves_a_beginning(rt: HostRuntime) -> Result<(), Fail> {
-    let text = b"[1,2]";
     for idle in [false, true] {
-        for k in 1..6usize {
-            let mut r = make_slow(text, 0, ErrorKind::Other);
+        for k in 1..46usize {
+            let mut r = make_slow(DOCUMENT, 0, ErrorKind::Other);
             let mut w = make_narrow(rt.alloc(), k as u64, idle, false);
             assert_eq!(rt;
                 run(rt.alloc(), &mut r, &mut w),
                 Err(Fault::Write),
                 "at {k}"
             );
-            assert_eq!(rt; w.into_inner().got.as_slice(), &text[..k - 1], "at {k}");
+            assert_eq!(rt; w.into_inner().got.as_slice(), &CANONICAL[..k - 1], "at {k}");
         }
     }
-    let mut r = make_slow(text, 0, ErrorKind::Other);
+    let mut r = make_slow(DOCUMENT, 0, ErrorKind::Other);
+    let mut w = make_narrow(rt.alloc(), 46, false, false);
+    assert_eq!(rt; run(rt.alloc(), &mut r, &mut w), Ok(()));
+    assert_eq!(rt; w.into_inner().got.as_slice(), CANONICAL.as_slice());
+    Ok(())
+}
+
+#[test]
+fn a_flush_that_fails_is_a_failed_write(rt: HostRuntime) -> Result<(), Fail> {
+    let mut r = make_slow(DOCUMENT, 0, ErrorKind::Other);
     let mut w = make_narrow(rt.alloc(), 0, false, true);
     assert_eq!(rt; run(rt.alloc(), &mut r, &mut w), Err(Fault::Write));
-    assert_eq!(rt; w.into_inner().got.as_slice(), text.as_slice());
+    assert_eq!(rt; w.into_inner().got.as_slice(), CANONICAL.as_slice());
     Ok(())
 }
 
@@ -71,10 +85,16 @@ fn a_reader_of_one_byte_a_call_gives_the_same(rt: HostRuntime) -> Result<(), Fai
 
 #[test]
 fn a_read_that_fails_is_told_before_a_bad_text(rt: HostRuntime) -> Result<(), Fail> {
-    let mut r = make_slow(b"[}]", 3, ErrorKind::Interrupted);
+    // The third call comes behind what is no text's front.
+    for k in [3u64, 4] {
+        let mut r = make_slow(b"[}]", k, ErrorKind::Interrupted);
+        let mut w = make_narrow(rt.alloc(), 0, false, false);
+        assert_eq!(rt; run(rt.alloc(), &mut r, &mut w), Err(Fault::Read), "at {k}");
+        assert!(rt; w.into_inner().got.is_empty());
+    }
+    let mut r = make_slow(b"[}]", 5, ErrorKind::Interrupted);
     let mut w = make_narrow(rt.alloc(), 0, false, false);
-    assert_eq!(rt; run(rt.alloc(), &mut r, &mut w), Err(Fault::Read));
-    assert!(rt; w.into_inner().got.is_empty());
+    assert_eq!(rt; run(rt.alloc(), &mut r, &mut w), Err(Fault::Invalid));
     Ok(())
 }
 
