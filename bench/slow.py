@@ -1,0 +1,90 @@
+#!/usr/bin/env python3
+"""Counts the instructions a byte of inputs that make careless readers slow, at one size and at ten times that.
+
+slow.py PROGRAM [--only WORD]
+
+PROGRAM takes a type and a mode as words and a text on standard input, as `crates/typed_jobs` does. Each input is read as
+a document and written. Where the cost a byte grows by more than 1.3 times, the last line says so and the status is 1; an
+object's names are looked up in a tree, so there the logarithm of their number is taken off first.
+"""
+import argparse
+import math
+import random
+import subprocess
+import sys
+import tempfile
+
+LIMIT = 1.3
+
+
+def names(order, size, name='n%d'):
+    numbers = list(range(size))
+    if order == 'falling':
+        numbers.reverse()
+    if order == 'shuffled':
+        random.Random(18).shuffle(numbers)
+    return '{%s}' % ','.join('"%s":%d' % (name % (10 ** 7 + k), k) for k in numbers)
+
+
+def shared(size):
+    return names('shuffled', size, 'a' * 1000 + '%d')
+
+
+# the row, the text of a size, the larger size, and whether names are looked up
+JOBS = [
+    ('100,000 distinct names, rising', lambda n: names('rising', n), 100000, True),
+    ('100,000 distinct names, falling', lambda n: names('falling', n), 100000, True),
+    ('100,000 distinct names, shuffled', lambda n: names('shuffled', n), 100000, True),
+    ('100,000 equal names', lambda n: '{%s}' % ','.join(['"a":1'] * n), 100000, False),
+    ('10,000 names that share 1,000 bytes', shared, 10000, True),
+    ('a string of 1,000,000 escapes', lambda n: '"%s"' % ('\\n' * n), 1000000, False),
+    ('1,000,000 levels of lists', lambda n: '[' * n + ']' * n, 1000000, False),
+    ('1,000,000 levels of objects', lambda n: '{"":' * n + '0' + '}' * n, 1000000, False),
+    ('1,000,000 empty lists in a list', lambda n: '[%s]' % ','.join(['[]'] * n), 1000000, False),
+]
+
+
+def instructions(program, text):
+    with tempfile.NamedTemporaryFile() as file:
+        file.write(text.encode())
+        file.flush()
+        file.seek(0)
+        run = subprocess.run(
+            ['valgrind', '--tool=callgrind', '--callgrind-out-file=/dev/null', program, 'value', 'both'],
+            stdin=file, stdout=subprocess.DEVNULL, stderr=subprocess.PIPE)
+    if run.returncode:
+        sys.exit('slow.py: the program refused a text')
+    return next(int(line.split(':')[1]) for line in run.stderr.decode().splitlines() if 'Collected' in line)
+
+
+def main():
+    words = argparse.ArgumentParser()
+    words.add_argument('program')
+    words.add_argument('--only', default='')
+    given = words.parse_args()
+    empty = instructions(given.program, '{}')
+    slow = []
+    print('| input | instructions a byte at a tenth | at full size | grows by |')
+    print('|---|---|---|---|')
+    for row, text_of, size, looks_up in JOBS:
+        if given.only not in row:
+            continue
+        costs = []
+        for n in (size // 10, size):
+            text = text_of(n)
+            costs.append((instructions(given.program, text) - empty) / len(text))
+        growth = costs[1] / costs[0]
+        told = '%.2f' % growth
+        if looks_up:
+            growth /= math.log(size) / math.log(size // 10)
+            told += ', the logarithm of names taken off %.2f' % growth
+        if growth > LIMIT:
+            slow.append(row)
+        print('| %s | %.1f | %.1f | %s |' % (row, costs[0], costs[1], told), flush=True)
+    if slow:
+        print('\nGrows by more than %.1f: %s.' % (LIMIT, '; '.join(slow)))
+        sys.exit(1)
+
+
+if __name__ == '__main__':
+    main()
