@@ -43,7 +43,7 @@ def message(r, number_of_message):
     tags = listed('{"text":"%s","indices":[%d,%d]}' % (word(r, 3, 12), at, at + 9) for at in r.choices(range(140), k=r.randrange(4)))
     return '{"id":%d,"created_at":"Sun Nov 22 %02d:00:29 +0000 2026","text":"%s","truncated":false,"user":%s,"geo":null,"coordinates":%s,"entities":{"hashtags":%s,"urls":[]},"retweet_count":%d,"favorited":%s,"lang":"%s"}' % (
         505874873961308160 + number_of_message, r.randrange(24), text, user,
-        r.choice(['null', '[%.6f,%.6f]' % (r.uniform(-180, 180), r.uniform(-90, 90))]), tags, r.randrange(100),
+        r.choice(['null', '[%s,%s]' % (round(r.uniform(-180, 180), 6), round(r.uniform(-90, 90), 6))]), tags, r.randrange(100),
         r.choice(['true', 'false']), r.choice(['en', 'ja', 'fr']))
 
 
