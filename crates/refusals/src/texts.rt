@@ -73,7 +73,9 @@ pub fn writer(alloc: Global) -> Result<String> {
         match call(&mut w, k) {
             Ok(()) => {
                 if refused {
-                    return String::from_str(alloc, "a call after a refusal was done").or(Err(Error::Invalid));
+                    return String::from_str(alloc, "a call after a refusal was done").or(Err(
+                        Error::Invalid,
+                    ));
                 }
             }
             Err(_) => refused = true,

@@ -44,7 +44,11 @@ fn a_write_that_fails_leaves_a_beginning(rt: HostRuntime) -> Result<(), Fail> {
                 Err(Fault::Write),
                 "at {k}"
             );
-            assert_eq!(rt; w.into_inner().got.as_slice(), &CANONICAL[..k - 1], "at {k}");
+            assert_eq!(rt;
+                w.into_inner().got.as_slice(),
+                &CANONICAL[..k - 1],
+                "at {k}"
+            );
         }
     }
     let mut r = make_slow(DOCUMENT, 0, ErrorKind::Other);
