@@ -13,5 +13,6 @@ pub mod Lookups
 pub mod Reading
 pub mod ReadBack
 pub mod OneNormal
+pub mod Distinct
 pub mod Forced
 pub mod Examples

@@ -17,7 +17,7 @@ not_same a b l = false_from_ne_true _ (λ e.
     true≢false (ap is_eq (sym tied ∙ l)))
 
 -- a name below the first is not there
-absent : (q : List ℕ) (ms : Members) → BeginsAbove q ms → Rise ms → last_of q ms ≡ None
+pub absent : (q : List ℕ) (ms : Members) → BeginsAbove q ms → Rise ms → last_of q ms ≡ None
 absent q no_members b r = refl
 absent q (member name t ms) b r =
     ap₂ (λ (x : Option Tree) (y : Bool). or_else x (cond y (Some t) None)) (absent q ms (further ms r.0) r.1) (not_same q name b)
@@ -26,7 +26,7 @@ absent q (member name t ms) b r =
     further no_members h = tt
     further (member other u ns) h = nat_list_cmp_total.trans q name other b h
 
-same_itself : (a : List ℕ) → bytes_eq a a ≡ true
+pub same_itself : (a : List ℕ) → bytes_eq a a ≡ true
 same_itself a = (bytes_eq-Decides a a).1 refl
 
 -- the first name has its tree

@@ -1,12 +1,14 @@
 -- Laws over the definitions. Each is the contract of a function of this crate.
-use Rattle.std.specs.Prelude.{◌≡◌, ◌≤◌, ◌↔◌, List, ◌++◌, ℕ, [], length, option_map}
+use Rattle.std.specs.Prelude.{◌≡◌, ◌≤◌, ◌↔◌, true, List, ◌++◌, ℕ, [], length, option_map}
 use Rattle.miniserde_model.specs.Tree.{Tree, Members, no_members}
 use Rattle.miniserde_model.specs.Value.{IsJson}
 use Rattle.miniserde_model.specs.IsTree.{IsTree}
 use Rattle.miniserde_model.specs.Event.{Event, events}
 use Rattle.miniserde_model.specs.Position.{Position, start, Completes}
 use Rattle.miniserde_model.specs.Compact.{compact}
+use Rattle.miniserde_model.specs.Distinct.{distinct}
 use Rattle.miniserde_model.specs.Normal.{norm, norm_members, last_of, Rise, put_all}
+use Rattle.miniserde_model.specs.Size.{size}
 
 -- a text spells one tree at most
 abbrev pub TextHasOneTree : Type 0
@@ -43,6 +45,14 @@ NormIsOnly = (ms ns : Members) → Rise ns → ((q : List ℕ) → last_of q ns 
 -- members that are put in from the left, a later one in the place of an earlier of its name, are the normal form
 abbrev pub PutGivesNorm : Type 0
 PutGivesNorm = (ms : Members) → put_all no_members ms ≡ norm_members ms
+
+-- in the normal form of a tree no name stands twice
+abbrev pub NormIsDistinct : Type 0
+NormIsDistinct = (t : Tree) → distinct (norm t) ≡ true
+
+-- where no name stands twice, the normal form has as many values
+abbrev pub DistinctKeepsSize : Type 0
+DistinctKeepsSize = (t : Tree) → distinct t ≡ true → size (norm t) ≡ size t
 
 -- two accepted texts have equal canonical texts exactly where their trees have one normal form
 abbrev pub CanonicalTells : Type 0

@@ -1,5 +1,6 @@
 pub mod Bytes
 pub mod Compact
+pub mod Distinct
 pub mod Event
 pub mod Examples
 pub mod IsTree

@@ -4,9 +4,9 @@
 #![tactic(auto)]
 
 ghost use Rattle.miniserde_model.specs.Examples.{NormalForms, RefusedTexts, SpelledTexts};
-ghost use Rattle.miniserde_model.specs.Laws.{CanonicalIsShortest, CanonicalTells, CompactSpells, EventsComplete};
-ghost use Rattle.miniserde_model.specs.Laws.{NoneBeginsAnother, NormIsNormal, NormIsOnly, NormIsTree, NormKeepsLast};
-ghost use Rattle.miniserde_model.specs.Laws.{NormRises, PutGivesNorm, SpelledIsTree, TextHasOneTree};
+ghost use Rattle.miniserde_model.specs.Laws.{CanonicalIsShortest, CanonicalTells, CompactSpells, DistinctKeepsSize, EventsComplete};
+ghost use Rattle.miniserde_model.specs.Laws.{NoneBeginsAnother, NormIsDistinct, NormIsNormal, NormIsOnly, NormIsTree};
+ghost use Rattle.miniserde_model.specs.Laws.{NormKeepsLast, NormRises, PutGivesNorm, SpelledIsTree, TextHasOneTree};
 
 /// A text has one tree at most.
 pub fn text_has_one_tree()
@@ -36,6 +36,13 @@ pub fn norm_of_members()
     ensures order { NormRises }
     ensures only { NormIsOnly }
     ensures put { PutGivesNorm }
+{}
+
+/// In the normal form of a tree no name stands twice; and where none does in the tree, its normal form has as many
+/// values.
+pub fn norm_of_distinct()
+    ensures distinct { NormIsDistinct }
+    ensures size { DistinctKeepsSize }
 {}
 
 /// Canonical texts are equal exactly where the normal forms are.
