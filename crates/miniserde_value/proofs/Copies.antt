@@ -1,6 +1,6 @@
 -- What is built of all that a walk meets.
-use Rattle.std.proofs.Common.{◌≡◌, List, [], ◌∷◌, Option, Some, option_map, refl, ap, ◌∙◌}
-use Rattle.miniserde_model.specs.Tree.{Tree}
+use Rattle.std.proofs.Common.{◌≡◌, List, [], ◌∷◌, Option, Some, None, option_map, refl, ap, ◌∙◌}
+use Rattle.miniserde_model.specs.Tree.{Tree, no_members}
 use Rattle.miniserde_value.specs.declared.json.value.Value.{Value}
 use Rattle.miniserde_value.specs.declared.json.array.Array.{Array}
 use Rattle.miniserde_value.specs.declared.json.object.Object.{Object}
@@ -29,6 +29,6 @@ pub array_copied : (r : Option Value) (a : Array) (empty opened filled : Hole) (
 array_copied r a empty opened filled fs whole_is filled_is opened_is empty_is fs_is o =
     whole_is ∙ ap whole filled_is ∙ ap (λ h. whole (built h fs)) opened_is ∙ ap (λ h. whole (built h (list_begins ∷ fs))) empty_is ∙ ap (λ gs. whole (built (outside []) gs)) fs_is ∙ whole_fronts (array_shape a) o
 
-pub object_copied : (r : Option Value) (m : Object) (empty opened filled : Hole) (fs : List Meets) → option_map shape r ≡ whole filled → filled ≡ built opened fs → opened ≡ in_members [] [] empty → empty ≡ outside [] → members_begin ∷ fs ≡ fronts (object_shape m) [] → IsOrdered (object_shape m) → option_map shape r ≡ Some (object_shape m)
+pub object_copied : (r : Option Value) (m : Object) (empty opened filled : Hole) (fs : List Meets) → option_map shape r ≡ whole filled → filled ≡ built opened fs → opened ≡ in_members no_members None empty → empty ≡ outside [] → members_begin ∷ fs ≡ fronts (object_shape m) [] → IsOrdered (object_shape m) → option_map shape r ≡ Some (object_shape m)
 object_copied r m empty opened filled fs whole_is filled_is opened_is empty_is fs_is o =
     whole_is ∙ ap whole filled_is ∙ ap (λ h. whole (built h fs)) opened_is ∙ ap (λ h. whole (built h (members_begin ∷ fs))) empty_is ∙ ap (λ gs. whole (built (outside []) gs)) fs_is ∙ whole_fronts (object_shape m) o

@@ -1,7 +1,5 @@
 -- What is left of open containers, as one is opened or the innermost is gone on with.
-use Rattle.std.proofs.Common.{◌≡◌, ℕ, zero, suc, ◌-◌, List, [], ◌∷◌, ◌++◌, Some, slice_get, length, take, set, get_or, reverse, refl, sym, ap, ◌∙◌, subst, arith}
-use Rattle.std.proofs.lemmas.List.{reverse-append}
-use Rattle.std.proofs.lemmas.Option.{slice_get_within, get_or_from_slice_get}
+use Rattle.std.proofs.Common.{◌≡◌, ℕ, List, ◌∷◌, reverse, sym, ap, ◌∙◌, subst}
 use Rattle.std.specs.Prelude.{String, string_bytes}
 use Rattle.std.specs.Slice.Iter.{iter_rest}
 use Rattle.std.specs.declared.alloc.Global.{Global}
@@ -13,40 +11,6 @@ use Rattle.miniserde_value.specs.declared.json.value.Value.{Value}
 use Rattle.miniserde_value.specs.Values.{shape}
 use Rattle.miniserde_value.specs.Fronts.{element, list_ends, name, members_end, fronts, child_fronts, member_fronts, IsOrdered, AreOrdered, AreOrderedMembers}
 use Rattle.miniserde_value.specs.Walks.{stack_left, StackOrdered}
-
--- ---- the last of a list
-
-split_last : {A : Type 0} → (xs : List A) (k : ℕ) (d : A) → length xs ≡ suc k → xs ≡ take k xs ++ get_or xs k d ∷ []
-split_last [] k d h = absurd (omega arith)
-split_last (x ∷ []) zero d h = refl
-split_last (x ∷ y ∷ xs) zero d h = absurd (omega arith)
-split_last (x ∷ xs) (suc k) d h = ap (λ l. x ∷ l) (split_last xs k d (omega arith))
-
-split_set : {A : Type 0} → (xs : List A) (k : ℕ) (u : A) → length xs ≡ suc k → set xs k u ≡ take k xs ++ u ∷ []
-split_set [] k u h = absurd (omega arith)
-split_set (x ∷ []) zero u h = refl
-split_set (x ∷ y ∷ xs) zero u h = absurd (omega arith)
-split_set (x ∷ xs) (suc k) u h = ap (λ l. x ∷ l) (split_set xs k u (omega arith))
-
-pub reverse_added : {A : Type 0} → (xs ys : List A) (x : A) → ys ≡ xs ++ x ∷ [] → reverse ys ≡ x ∷ reverse xs
-reverse_added xs ys x e = ap reverse e ∙ reverse-append xs (x ∷ [])
-
-pub reverse_last : {A : Type 0} → (xs : List A) (k : ℕ) (d : A) → length xs ≡ suc k → reverse xs ≡ get_or xs k d ∷ reverse (take k xs)
-reverse_last xs k d h = reverse_added (take k xs) xs (get_or xs k d) (split_last xs k d h)
-
-pub reverse_set : {A : Type 0} → (xs : List A) (k : ℕ) (u : A) → length xs ≡ suc k → reverse (set xs k u) ≡ u ∷ reverse (take k xs)
-reverse_set xs k u h = reverse_added (take k xs) (set xs k u) u (split_set xs k u h)
-
--- the last is known
-pub reverse_ends : {A : Type 0} → (xs : List A) (k : ℕ) (d x : A) → length xs ≡ suc k → x ≡ get_or xs k d → reverse xs ≡ x ∷ reverse (take k xs)
-reverse_ends xs k d x h e = reverse_last xs k d h ∙ ap (λ y. y ∷ reverse (take k xs)) (sym e)
-
--- the last was got
-pub last_got : {A : Type 0} → (xs ys : List A) (x y : A) → ys ≡ xs → Some x ≡ slice_get ys (length ys - 1) → x ≡ y → reverse xs ≡ y ∷ reverse (take (length xs - 1) xs)
-last_got xs ys x y same got is =
-    let there : slice_get xs (length xs - 1) ≡ Some y = subst (λ l. slice_get l (length l - 1) ≡ Some x) same (sym got) ∙ ap Some is in
-    let within = slice_get_within xs (length xs - 1) y there in
-    reverse_ends xs (length xs - 1) y y (omega arith) (sym (get_or_from_slice_get xs (length xs - 1) y y there))
 
 -- ---- the innermost container gave a child
 

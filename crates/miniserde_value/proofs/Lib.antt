@@ -7,6 +7,7 @@ pub mod Shapes
 pub mod Costs
 pub mod Turns
 pub mod Parked
+pub mod Lasts
 pub mod Marks
 pub mod Builders
 pub mod Begun

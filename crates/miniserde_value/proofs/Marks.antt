@@ -1,43 +1,75 @@
--- What a builder's marks make of its values and names.
-use Rattle.std.proofs.Common.{◌≡◌, ◌≤◌, ℕ, List, [], ◌∷◌, ◌++◌, length, take, drop, refl, sym, ap₂, subst, arith}
-use Rattle.std.proofs.lemmas.List.{take-append-le, drop-append-le, take-append-drop, length-append}
+-- What a builder's marks make of its values and open objects.
+use Rattle.std.proofs.Common.{◌≡◌, ◌<◌, ◌≤◌, ℕ, suc, List, [], ◌∷◌, ◌++◌, None, Result, Ok, Err, is_ok, Vec, Global, length, take, set, get_or, reverse, refl, sym, ap, ◌∙◌, subst, arith}
+use Rattle.std.specs.Prelude.{if◌then◌else◌, OnOk, OnErr}
+use Rattle.std.proofs.lemmas.List.{length-reverse, length-take}
 use Rattle.miniserde_model.specs.Tree.{Tree}
+use Rattle.miniserde_value.specs.declared.json.value.Value.{Value}
+use Rattle.miniserde_value.specs.declared.json.builder.OpenObject.{OpenObject}
 use Rattle.miniserde_value.specs.declared.json.builder.Mark.{Mark}
 use Rattle.miniserde_value.specs.declared.json.builder.Mark.TheVariants as mark
-use Rattle.miniserde_value.specs.Hole.{in_list, in_members, put, named}
-use Rattle.miniserde_value.specs.Marks.{hole_of, Fits}
+use Rattle.miniserde_value.specs.Hole.{Hole, whole}
+use Rattle.miniserde_value.specs.Marks.{opened, others, hole_of, Fits}
+use Rattle.miniserde_value.proofs.Lasts.{reverse_added, reverse_last, reverse_set, reverse_ends}
 
-longer : {A : Type 0} (n : ℕ) (xs ys : List A) → n ≤ length xs → n ≤ length (xs ++ ys)
-longer n xs ys h = omega (arith, h, length-append xs ys)
+-- marks that fit still fit where there are more values
+pub fits_longer : (n k : ℕ) (os : List OpenObject) (ms : List Mark) → n ≤ k → Fits n os ms → Fits k os ms
+fits_longer n k os [] h f = tt
+fits_longer n k os (mark.Array v ∷ ms) h f = (omega (arith, h, f.0), f.1)
+fits_longer n k os (mark.Object ∷ ms) h f = (f.0, fits_longer n k (others os) ms h f.1)
 
--- marks that fit still fit where more values stand behind
-pub fits_longer : (vs us : List Tree) (ns : List (List ℕ)) (ms : List Mark) → Fits vs ns ms → Fits (vs ++ us) ns ms
-fits_longer vs us ns [] f = tt
-fits_longer vs us ns (mark.Array v ∷ ms) f = (longer v vs us f.0, subst (λ (ws : List Tree). Fits ws ns ms) (sym (take-append-le v vs us f.0)) f.1)
-fits_longer vs us ns (mark.Object v n ∷ ms) f = (longer v vs us f.0, (f.1.0, subst (λ (ws : List Tree). Fits ws (take n ns) ms) (sym (take-append-le v vs us f.0)) f.1.1))
+-- and where one more object is open
+pub fits_more : (n : ℕ) (o : OpenObject) (os : List OpenObject) (ms : List Mark) → Fits n os ms → Fits n (o ∷ os) ms
+fits_more n o os [] f = tt
+fits_more n o os (mark.Array v ∷ ms) f = (f.0, fits_more v o os ms f.1)
+fits_more n o [] (mark.Object ∷ ms) f = absurd (omega (arith, f.0))
+fits_more n o (p ∷ os) (mark.Object ∷ ms) f = (omega arith, fits_more n p os ms f.1)
 
--- and where more names do
-pub fits_named : (vs : List Tree) (ns ks : List (List ℕ)) (ms : List Mark) → Fits vs ns ms → Fits vs (ns ++ ks) ms
-fits_named vs ns ks [] f = tt
-fits_named vs ns ks (mark.Array v ∷ ms) f = (f.0, fits_named (take v vs) ns ks ms f.1)
-fits_named vs ns ks (mark.Object v n ∷ ms) f = (f.0, (longer n ns ks f.1.0, subst (λ (ls : List (List ℕ)). Fits (take v vs) ls ms) (sym (take-append-le n ns ks f.1.0)) f.1.1))
+-- and where the innermost open object is another
+pub fits_other : (n : ℕ) (o p : OpenObject) (os : List OpenObject) (ms : List Mark) → Fits n (o ∷ os) ms → Fits n (p ∷ os) ms
+fits_other n o p os [] f = tt
+fits_other n o p os (mark.Array v ∷ ms) f = (f.0, fits_other v o p os ms f.1)
+fits_other n o p os (mark.Object ∷ ms) f = (omega arith, f.1)
 
--- a value more stands in the hole
-pub hole_put : (vs : List Tree) (ns : List (List ℕ)) (t : Tree) (ms : List Mark) → Fits vs ns ms → hole_of (vs ++ t ∷ []) ns ms ≡ put t (hole_of vs ns ms)
-hole_put vs ns t [] f = refl
-hole_put vs ns t (mark.Array v ∷ ms) f =
-    ap₂ (λ (us ws : List Tree). in_list us (hole_of ws ns ms)) (drop-append-le v vs (t ∷ []) f.0) (take-append-le v vs (t ∷ []) f.0)
-hole_put vs ns t (mark.Object v n ∷ ms) f =
-    ap₂ (λ (us ws : List Tree). in_members (drop n ns) us (hole_of ws (take n ns) ms)) (drop-append-le v vs (t ∷ []) f.0) (take-append-le v vs (t ∷ []) f.0)
+-- the same, where it stands last
+pub fits_changed : (n : ℕ) (os : List OpenObject) (k : ℕ) (p : OpenObject) (ms : List Mark) → length os ≡ suc k → Fits n (reverse os) ms → Fits n (reverse (set os k p)) ms
+fits_changed n os k p ms h f =
+    subst (λ (qs : List OpenObject). Fits n qs ms) (sym (reverse_set os k p h))
+    (fits_other n (get_or os k p) p (reverse (take k os)) ms (subst (λ (qs : List OpenObject). Fits n qs ms) (reverse_last os k p h) f))
 
--- a name more stands in the innermost object
-pub hole_named : (vs : List Tree) (ns : List (List ℕ)) (k : List ℕ) (v n : ℕ) (ms : List Mark) → n ≤ length ns → hole_of vs (ns ++ k ∷ []) (mark.Object v n ∷ ms) ≡ named k (hole_of vs ns (mark.Object v n ∷ ms))
-hole_named vs ns k v n ms h =
-    ap₂ (λ (ls ks : List (List ℕ)). in_members ls (drop v vs) (hole_of (take v vs) ks ms)) (drop-append-le n ns (k ∷ []) h) (take-append-le n ns (k ∷ []) h)
+-- marks fit after an object was opened, whether or not there was memory for its mark
+pub fits_opened : {A E : Type 0} (r : Result A E) (n : ℕ) (os qs : List OpenObject) (o : OpenObject) (ms ns : List Mark) → qs ≡ os ++ o ∷ [] → ns ≡ (if is_ok r then ms ++ mark.Object ∷ [] else ms) → Fits n (reverse os) (reverse ms) → Fits n (reverse qs) (reverse ns)
+fits_opened (Ok u) n os qs o ms ns e d f =
+    subst (λ (l : List OpenObject). Fits n l (reverse ns)) (sym (reverse_added os qs o e))
+    (subst (λ (l : List Mark). Fits n (o ∷ reverse os) l) (sym (reverse_added ms ns mark.Object d)) (omega arith, f))
+fits_opened (Err u) n os qs o ms ns e d f =
+    subst (λ (l : List OpenObject). Fits n l (reverse ns)) (sym (reverse_added os qs o e))
+    (subst (λ (l : List Mark). Fits n (o ∷ reverse os) (reverse l)) (sym d) (fits_more n o (reverse os) (reverse ms) f))
 
--- marks that fit what stands before a place fit the whole
-pub fits_values : (vs : List Tree) (ns : List (List ℕ)) (v : ℕ) (ms : List Mark) → Fits (take v vs) ns ms → Fits vs ns ms
-fits_values vs ns v ms f = subst (λ (ws : List Tree). Fits ws ns ms) (take-append-drop v vs) (fits_longer (take v vs) (drop v vs) ns ms f)
+-- marks fit after values were taken out, whether or not there was memory for it
+pub fits_split : {A E : Type 0} (r : Result A E) (old new : Vec Value Global) (v : ℕ) (os : List OpenObject) (ms : List Mark) → OnOk r (new.items ≡ take v old.items) → OnErr r (new ≡ old) → (v ≤ length old.items) × Fits v os ms → Fits (length new.items) os ms
+fits_split (Ok u) old new v os ms a b f =
+    let same : length new.items ≡ length (take v old.items) = ap length a in
+    fits_longer v (length new.items) os ms (omega (arith, same, f.0, length-take v old.items)) f.1
+fits_split (Err u) old new v os ms a b f =
+    let same : length new.items ≡ length old.items = ap (λ (w : Vec Value Global). length w.items) b in
+    fits_longer v (length new.items) os ms (omega (arith, same, f.0)) f.1
 
-pub fits_names : (vs : List Tree) (ns : List (List ℕ)) (n : ℕ) (ms : List Mark) → Fits vs (take n ns) ms → Fits vs ns ms
-fits_names vs ns n ms f = subst (λ (ls : List (List ℕ)). Fits vs ls ms) (take-append-drop n ns) (fits_named vs (take n ns) (drop n ns) ms f)
+-- ---- where an object is the innermost container, it alone changes
+
+pub object_changed : (f : Hole → Hole) (vs : List Tree) (os : List OpenObject) (k : ℕ) (o p : OpenObject) (ms below : List Mark) → length os ≡ suc k → o ≡ get_or os k o → reverse ms ≡ mark.Object ∷ below → ((h : Hole) → opened p h ≡ f (opened o h)) → hole_of vs (reverse (set os k p)) (reverse ms) ≡ f (hole_of vs (reverse os) (reverse ms))
+object_changed f vs os k o p ms below len is top h =
+    ap (hole_of vs (reverse (set os k p))) top
+    ∙ ap (λ (qs : List OpenObject). hole_of vs qs (mark.Object ∷ below)) (reverse_set os k p len)
+    ∙ h (hole_of vs (reverse (take k os)) below)
+    ∙ ap (λ (qs : List OpenObject). f (hole_of vs qs (mark.Object ∷ below))) (sym (reverse_ends os k o o len is))
+    ∙ ap (λ (ns : List Mark). f (hole_of vs (reverse os) ns)) (sym top)
+
+-- ---- the value that is whole
+
+open_has_none : (vs : List Tree) (os : List OpenObject) (ms : List Mark) → 0 < length ms → None ≡ whole (hole_of vs os ms)
+open_has_none vs os [] h = absurd (omega (arith, h))
+open_has_none vs os (mark.Array v ∷ ms) h = refl
+open_has_none vs os (mark.Object ∷ ms) h = refl
+
+pub whole_open : (vs : List Tree) (os : List OpenObject) (ms : List Mark) → 0 < length ms → None ≡ whole (hole_of vs os (reverse ms))
+whole_open vs os ms h = open_has_none vs os (reverse ms) (omega (arith, h, length-reverse ms))

@@ -1,5 +1,5 @@
 -- What a builder has.
-use Rattle.std.specs.Prelude.{map, reverse, string_bytes}
+use Rattle.std.specs.Prelude.{map, reverse}
 use Rattle.miniserde_value.specs.declared.json.builder.Builder.{Builder}
 use Rattle.miniserde_value.specs.Hole.{Hole}
 use Rattle.miniserde_value.specs.Values.{shape}
@@ -7,4 +7,4 @@ use Rattle.miniserde_value.specs.Marks.{hole_of}
 
 -- the tree with a hole that it has built
 abbrev pub hole_in : Builder → Hole
-hole_in b = hole_of (map shape b.values.items) (map string_bytes b.names.items) (reverse b.marks.items)
+hole_in b = hole_of (map shape b.values.items) (reverse b.objects.items) (reverse b.marks.items)

@@ -1,5 +1,5 @@
 -- The fronts of a tree: what a walk over it meets, one after another.
-use Rattle.std.specs.Prelude.{ℕ, Bool, true, false, List, [], ◌∷◌, ◌++◌, IsUtf8, ⊤}
+use Rattle.std.specs.Prelude.{ℕ, Bool, true, false, List, [], ◌∷◌, ◌++◌, None, IsUtf8, ⊤}
 use Rattle.miniserde_model.specs.Tree.{Tree, null, truth, nonneg, neg, num, str, list, members, Trees, no_trees, tree, Members, no_members, member}
 use Rattle.miniserde_model.specs.Compact.{compact, quoted}
 use Rattle.miniserde_model.specs.IsTree.{IsTree}
@@ -101,6 +101,6 @@ built h (leaf t ∷ fs) = built (put t h) fs
 built h (list_begins ∷ fs) = built (in_list [] h) fs
 built h (element ∷ fs) = built h fs
 built h (list_ends ∷ fs) = built (closed h) fs
-built h (members_begin ∷ fs) = built (in_members [] [] h) fs
+built h (members_begin ∷ fs) = built (in_members no_members None h) fs
 built h (name n ∷ fs) = built (named n h) fs
 built h (members_end ∷ fs) = built (closed h) fs

@@ -1,8 +1,9 @@
 -- A tree with a hole, which the open containers are.
-use Rattle.std.specs.Prelude.{ℕ, ◌+◌, Bool, true, false, List, [], ◌∷◌, ◌++◌, Option, Some, None, option_map, option_and_then}
-use Rattle.miniserde_model.specs.Tree.{Tree, null, truth, nonneg, neg, num, str, list, members, Members, no_members, member}
+use Rattle.std.specs.Prelude.{ℕ, ◌+◌, Bool, true, false, List, [], ◌∷◌, ◌++◌, Option, Some, None, option_map, option_and_then, is_some}
+use Rattle.miniserde_model.specs.Tree.{Tree, null, truth, nonneg, neg, num, str, list, members, Members, no_members}
 use Rattle.miniserde_model.specs.Event.{Event, nothing, boolean, string, negative, nonnegative, float, seq, element, map, key, finish}
-use Rattle.miniserde_ser.specs.Trees.{trees_of, in_order}
+use Rattle.miniserde_model.specs.Normal.{last_of, put as put_member}
+use Rattle.miniserde_ser.specs.Trees.{trees_of}
 
 -- what is read so far, from the innermost open container outwards
 pub data Hole : Type 0 where
@@ -10,38 +11,39 @@ pub data Hole : Type 0 where
   outside : List Tree → Hole
   -- a list that has these items
   in_list : List Tree → Hole → Hole
-  -- an object that has these names, and these values for them in order
-  in_members : List (List ℕ) → List Tree → Hole → Hole
+  -- an object that has these members in the order of their names, and the name of its next value
+  in_members : Members → Option (List ℕ) → Hole → Hole
 
--- with one more value in the hole
+-- with one more value in the hole: in an object under its name, in the place of the one of that name
 abbrev pub put : Tree → Hole → Hole
 put t (outside ts) = outside (ts ++ t ∷ [])
 put t (in_list ts h) = in_list (ts ++ t ∷ []) h
-put t (in_members ns ts h) = in_members ns (ts ++ t ∷ []) h
+put t (in_members ms None h) = in_members ms None h
+put t (in_members ms (Some n) h) = in_members (put_member n t ms) None h
 
--- with one more name, where an object is the innermost open container
+-- with the name of the next value, where an object is the innermost open container
 abbrev pub named : List ℕ → Hole → Hole
 named n (outside ts) = outside ts
 named n (in_list ts h) = in_list ts h
-named n (in_members ns ts h) = in_members (ns ++ n ∷ []) ts h
+named n (in_members ms k h) = in_members ms (Some n) h
 
--- names beside values, in order
-abbrev pub beside : List (List ℕ) → List Tree → Members
-beside [] ts = no_members
-beside (n ∷ ns) [] = no_members
-beside (n ∷ ns) (t ∷ ts) = member n t (beside ns ts)
+-- whether the innermost open container is an object that has a member of the name
+abbrev pub has_member : List ℕ → Hole → Bool
+has_member n (outside ts) = false
+has_member n (in_list ts h) = false
+has_member n (in_members ms k h) = is_some (last_of n ms)
 
--- with the innermost open container closed: of equal names the last stands, and names are in byte order
+-- with the innermost open container closed
 abbrev pub closed : Hole → Hole
 closed (outside ts) = outside ts
 closed (in_list ts h) = put (list (trees_of (λ t. t) ts)) h
-closed (in_members ns ts h) = put (members (in_order (beside ns ts))) h
+closed (in_members ms n h) = put (members ms) h
 
 -- how many containers are open
 abbrev pub depth : Hole → ℕ
 depth (outside ts) = 0
 depth (in_list ts h) = depth h + 1
-depth (in_members ns ts h) = depth h + 1
+depth (in_members ms n h) = depth h + 1
 
 -- the value, where it is whole
 abbrev pub only : List Tree → Option Tree
@@ -52,7 +54,7 @@ only (t ∷ (u ∷ us)) = None
 abbrev pub whole : Hole → Option Tree
 whole (outside ts) = only ts
 whole (in_list ts h) = None
-whole (in_members ns ts h) = None
+whole (in_members ms n h) = None
 
 -- ---- what events make of it
 
@@ -65,7 +67,7 @@ begun (negative z) h = Some (put (neg z) h)
 begun (nonnegative n) h = Some (put (nonneg n) h)
 begun (float x) h = Some (put (num x) h)
 begun seq h = Some (in_list [] h)
-begun map h = Some (in_members [] [] h)
+begun map h = Some (in_members no_members None h)
 begun element h = None
 begun (key k) h = None
 begun finish h = None
@@ -73,9 +75,9 @@ begun finish h = None
 -- an event where no value is due: whether one is due then, and the hole
 abbrev pub resumed : Event → Hole → Option (Bool × Hole)
 resumed element (in_list ts h) = Some (true, in_list ts h)
-resumed (key k) (in_members ns ts h) = Some (true, in_members (ns ++ k ∷ []) ts h)
+resumed (key k) (in_members ms n h) = Some (true, in_members ms (Some k) h)
 resumed finish (in_list ts h) = Some (false, closed (in_list ts h))
-resumed finish (in_members ns ts h) = Some (false, closed (in_members ns ts h))
+resumed finish (in_members ms n h) = Some (false, closed (in_members ms n h))
 resumed _ _ = None
 
 -- one event, where a value is due or none is

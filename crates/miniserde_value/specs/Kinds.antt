@@ -18,7 +18,7 @@ only_members _ = None
 abbrev pub is_start : Bool → Hole → Bool
 is_start true (outside ts) = true
 is_start true (in_list ts h) = false
-is_start true (in_members ns ts h) = false
+is_start true (in_members ms n h) = false
 is_start false h = false
 
 -- what is given, where the first event begins a list, or an object

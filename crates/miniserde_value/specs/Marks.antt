@@ -1,34 +1,60 @@
 -- What a builder has, as a tree with a hole.
-use Rattle.std.specs.Prelude.{ℕ, ◌≤◌, List, [], ◌∷◌, Option, Some, None, String, string_bytes, map, reverse, take, drop, length, ⊤}
-use Rattle.std.specs.declared.alloc.Global.{Global}
-use Rattle.miniserde_model.specs.Tree.{Tree}
+use Rattle.std.specs.Prelude.{ℕ, ◌≤◌, List, [], ◌∷◌, Option, Some, None, option_map, string_bytes, reverse, take, drop, length, ⊤}
+use Rattle.miniserde_model.specs.Tree.{Tree, Members, no_members}
+use Rattle.miniserde_ser.specs.Trees.{members_of}
 use Rattle.miniserde_value.specs.declared.json.value.Value.{Value}
 use Rattle.miniserde_value.specs.declared.json.builder.Kind.{Kind}
 use Rattle.miniserde_value.specs.declared.json.builder.Kind.TheVariants as kind
+use Rattle.miniserde_value.specs.declared.json.builder.OpenObject.{OpenObject}
 use Rattle.miniserde_value.specs.declared.json.builder.Mark.{Mark}
 use Rattle.miniserde_value.specs.declared.json.builder.Mark.TheVariants as mark
 use Rattle.miniserde_value.specs.Hole.{Hole, outside, in_list, in_members}
 use Rattle.miniserde_value.specs.Values.{shape}
 
--- The hole that the open containers are, by the marks from the innermost on: each has the values and the names from
--- its mark on, and what stands before them belongs to those around it.
-abbrev pub hole_of : List Tree → List (List ℕ) → List Mark → Hole
-hole_of vs ns [] = outside vs
-hole_of vs ns (mark.Array v ∷ ms) = in_list (drop v vs) (hole_of (take v vs) ns ms)
-hole_of vs ns (mark.Object v n ∷ ms) = in_members (drop n ns) (drop v vs) (hole_of (take v vs) (take n ns) ms)
+-- the members of an open object so far
+abbrev pub made_members : OpenObject → Members
+made_members o = members_of string_bytes shape o.members.entries
 
--- each mark stands within what is there
-abbrev pub Fits : List Tree → List (List ℕ) → List Mark → Type 0
-Fits vs ns [] = ⊤
-Fits vs ns (mark.Array v ∷ ms) = (v ≤ length vs) × Fits (take v vs) ns ms
-Fits vs ns (mark.Object v n ∷ ms) = (v ≤ length vs) × ((n ≤ length ns) × Fits (take v vs) (take n ns) ms)
+-- the name of its next value
+abbrev pub next_name : OpenObject → Option (List ℕ)
+next_name o = option_map string_bytes o.name
+
+-- an open object in what stands around it
+abbrev pub opened : OpenObject → Hole → Hole
+opened o h = in_members (made_members o) (next_name o) h
+
+-- the members and the name of the innermost of open objects, which is the first here, and the others
+abbrev pub first_members : List OpenObject → Members
+first_members [] = no_members
+first_members (o ∷ os) = made_members o
+
+abbrev pub first_name : List OpenObject → Option (List ℕ)
+first_name [] = None
+first_name (o ∷ os) = next_name o
+
+abbrev pub others : List OpenObject → List OpenObject
+others [] = []
+others (o ∷ os) = os
+
+-- The hole that the open containers are, by the marks from the innermost on: an array has the values from its mark on,
+-- and what stands before them belongs to those around it; an object is the first of the open objects.
+abbrev pub hole_of : List Tree → List OpenObject → List Mark → Hole
+hole_of vs os [] = outside vs
+hole_of vs os (mark.Array v ∷ ms) = in_list (drop v vs) (hole_of (take v vs) os ms)
+hole_of vs os (mark.Object ∷ ms) = in_members (first_members os) (first_name os) (hole_of vs (others os) ms)
+
+-- each mark of an array stands within so many values, and each of an object has one
+abbrev pub Fits : ℕ → List OpenObject → List Mark → Type 0
+Fits n os [] = ⊤
+Fits n os (mark.Array v ∷ ms) = (v ≤ n) × Fits v os ms
+Fits n os (mark.Object ∷ ms) = (1 ≤ length os) × Fits n (others os) ms
 
 -- the marks of a builder fit what it has
-abbrev pub MarksFit : List Value → List (String Global) → List Mark → Type 0
-MarksFit vs ns ms = Fits (map shape vs) (map string_bytes ns) (reverse ms)
+abbrev pub MarksFit : List Value → List OpenObject → List Mark → Type 0
+MarksFit vs os ms = Fits (length vs) (reverse os) (reverse ms)
 
 -- the kind of the innermost open container
 abbrev pub innermost : Hole → Option Kind
 innermost (outside ts) = None
 innermost (in_list ts h) = Some kind.Array
-innermost (in_members ns ts h) = Some kind.Object
+innermost (in_members ms n h) = Some kind.Object

@@ -1,12 +1,13 @@
 -- What the events of a tree leave, and when a tree means a value.
-use Rattle.std.proofs.Common.{◌≡◌, ℕ, true, false, List, [], ◌∷◌, ◌++◌, Option, Some, refl, sym, ap, ap₂, ◌∙◌, append_assoc, append-nil}
+use Rattle.std.proofs.Common.{◌≡◌, true, false, List, [], ◌∷◌, ◌++◌, Option, Some, None, refl, sym, ap, ◌∙◌, append_assoc, append-nil}
 use Rattle.std.specs.Prelude.{◌↔◌}
 use Rattle.miniserde_model.specs.Tree.{Tree, null, truth, nonneg, neg, num, str, list, members, Trees, no_trees, tree, Members, no_members, member}
+use Rattle.miniserde_model.specs.Normal.{put as put_member}
 use Rattle.miniserde_model.specs.Event.{Event, finish, events, child_events, member_events}
 use Rattle.miniserde_value.specs.Kept.{kept, kept_children}
 use Rattle.miniserde_value.specs.Hole.{Hole, outside, in_list, in_members, put, outcome}
 use Rattle.miniserde_value.specs.Kinds.{only_list, only_members, list_outcome, members_outcome}
-use Rattle.miniserde_value.specs.laws.Listed.{listed, names, kepts, trees_listed, order_beside}
+use Rattle.miniserde_value.specs.laws.Listed.{listed, trees_listed, put_kept, puts_kept}
 
 mutual
   pub outcome_events : (h : Hole) (t : Tree) (rest : List Event) → outcome true h (events t ++ rest) ≡ outcome false (put (kept t) h) rest
@@ -21,9 +22,9 @@ mutual
       ∙ outcome_children ts [] h (finish ∷ rest)
       ∙ ap (λ z. outcome false (put (list z) h) rest) (trees_listed (kept_children ts))
   outcome_events h (members ms) rest =
-      ap (outcome false (in_members [] [] h)) (append_assoc (member_events ms) (finish ∷ []) rest)
-      ∙ outcome_members ms [] [] h (finish ∷ rest)
-      ∙ ap (λ z. outcome false (put (members z) h) rest) (order_beside ms)
+      ap (outcome false (in_members no_members None h)) (append_assoc (member_events ms) (finish ∷ []) rest)
+      ∙ outcome_members ms no_members h (finish ∷ rest)
+      ∙ ap (λ z. outcome false (put (members z) h) rest) (puts_kept ms)
 
   pub outcome_children : (ts : Trees) (us : List Tree) (h : Hole) (rest : List Event) → outcome false (in_list us h) (child_events ts ++ rest) ≡ outcome false (in_list (us ++ listed (kept_children ts)) h) rest
   outcome_children no_trees us h rest = ap (λ z. outcome false (in_list z h) rest) (sym (append-nil us))
@@ -33,13 +34,12 @@ mutual
       ∙ outcome_children ts (us ++ kept t ∷ []) h rest
       ∙ ap (λ z. outcome false (in_list z h) rest) (append_assoc us (kept t ∷ []) (listed (kept_children ts)))
 
-  pub outcome_members : (ms : Members) (ns : List (List ℕ)) (us : List Tree) (h : Hole) (rest : List Event) → outcome false (in_members ns us h) (member_events ms ++ rest) ≡ outcome false (in_members (ns ++ names ms) (us ++ kepts ms) h) rest
-  outcome_members no_members ns us h rest = ap₂ (λ y z. outcome false (in_members y z h) rest) (sym (append-nil ns)) (sym (append-nil us))
-  outcome_members (member n t ms) ns us h rest =
-      ap (outcome true (in_members (ns ++ n ∷ []) us h)) (append_assoc (events t) (member_events ms) rest)
-      ∙ outcome_events (in_members (ns ++ n ∷ []) us h) t (member_events ms ++ rest)
-      ∙ outcome_members ms (ns ++ n ∷ []) (us ++ kept t ∷ []) h rest
-      ∙ ap₂ (λ y z. outcome false (in_members y z h) rest) (append_assoc ns (n ∷ []) (names ms)) (append_assoc us (kept t ∷ []) (kepts ms))
+  pub outcome_members : (ms made : Members) (h : Hole) (rest : List Event) → outcome false (in_members made None h) (member_events ms ++ rest) ≡ outcome false (in_members (put_kept made ms) None h) rest
+  outcome_members no_members made h rest = refl
+  outcome_members (member n t ms) made h rest =
+      ap (outcome true (in_members made (Some n) h)) (append_assoc (events t) (member_events ms) rest)
+      ∙ outcome_events (in_members made (Some n) h) t (member_events ms ++ rest)
+      ∙ outcome_members ms (put_member n (kept t) made) h rest
 
 pub outcome-whole : (t : Tree) → outcome true (outside []) (events t) ≡ Some (kept t)
 outcome-whole t = ap (outcome true (outside [])) (sym (append-nil (events t))) ∙ outcome_events (outside []) t []

@@ -1,11 +1,12 @@
 //! The one way in which values are built.
-ghost use Rattle.std.specs.Prelude.{◌≡◌, ◌≤◌, [], Option, IfOk, OnOk, OnErr, IsErrOf, option_map, string_bytes};
-ghost use Rattle.std.specs.Prelude.{map, drop, take, length, reverse};
+ghost use Rattle.std.specs.Prelude.{◌≡◌, ◌≤◌, [], None, Some, Option, IfOk, OnOk, OnErr, IsErrOf, option_map};
+ghost use Rattle.std.specs.Prelude.{drop, take, length, string_bytes, is_some};
 ghost use Rattle.miniserde_text.specs.declared.error.Error.TheVariants.{Memory};
-ghost use Rattle.miniserde_ser.specs.Trees.{members_of, in_order};
-ghost use Rattle.miniserde_value.specs.Hole.{outside, in_list, in_members, put, named, closed, whole, beside};
+ghost use Rattle.miniserde_model.specs.Tree.{no_members};
+ghost use Rattle.miniserde_model.specs.Normal.{last_of};
+ghost use Rattle.miniserde_value.specs.Hole.{Hole, outside, in_list, in_members, put, named, closed, whole, has_member};
 ghost use Rattle.miniserde_value.specs.Values.{shape};
-ghost use Rattle.miniserde_value.specs.Marks.{Fits, MarksFit, innermost};
+ghost use Rattle.miniserde_value.specs.Marks.{MarksFit, innermost, made_members, next_name, opened};
 ghost use Rattle.miniserde_value.specs.laws.Marks.{marks-fit-once};
 
 use super::array::Array;
@@ -23,38 +24,89 @@ pub(crate) enum Kind {
     Object,
 }
 
-/// Where the values of an open container begin, and the names of an open object.
+/// An open container: where the items of an array begin, or the next of the open objects.
 #[derive(Clone, Copy, Drop)]
 pub(crate) enum Mark {
     Array(usize),
-    Object(usize, usize),
+    Object,
+}
+
+/// An open object: its members so far, and the name of the next value.
+#[derive(Drop)]
+pub(crate) struct OpenObject {
+    members: BTreeMap<String, Value>,
+    name: Option<String>,
+}
+
+impl OpenObject {
+    /// No members yet. It takes no memory.
+    pub(crate) fn new(alloc: Global) -> OpenObject
+        ensures members { made_members result ≡ no_members }
+        ensures name { next_name result ≡ None }
+    {
+        OpenObject {
+            members: BTreeMap::new(alloc),
+            name: None,
+        }
+    }
+
+    /// Names the next value.
+    pub(crate) fn name(&mut self, name: String)
+        ensures members { made_members self.new ≡ made_members self.old }
+        ensures name { next_name self.new ≡ Some (string_bytes name) }
+    {
+        self.name = Some(name);
+    }
+
+    /// Puts a value under its name, in the place of the one of that name. A value with no name is let go.
+    pub(crate) fn put(&mut self, value: Value) -> Result<()>
+        ensures ok { OnOk result ((h : Hole) → opened self.new h ≡ put (shape value) (opened self.old h)) }
+        ensures memory { OnErr result (IsErrOf result Memory) }
+    {
+        if let Some(name) = self.name.take() {
+            self.members.insert(name, value)?;
+        }
+        Ok(())
+    }
+
+    /// Whether there is a member of the name.
+    pub(crate) fn has_name(&self, name: &str) -> bool
+        ensures { result ≡ is_some (last_of name.now (made_members self.now)) }
+    {
+        self.members.contains_key(name)
+    }
 }
 
 /// Values that are being built. A contract sees a tree with a hole, which the open containers are.
 #[derive(Drop)]
 pub(crate) struct Builder {
     alloc: Global,
-    // The finished values of all open containers, those of the outermost first.
+    // The finished values outside of all containers and the items of all open arrays, the outermost first.
     values: Vec<Value>,
-    // The names in all open objects.
-    names: Vec<String>,
+    // The open objects, the outermost first.
+    objects: Vec<OpenObject>,
     // The open containers, the outermost first.
     marks: Vec<Mark>,
-    ghost fits: { MarksFit values.items names.items marks.items } by { marks-fit-once values.items names.items marks.items },
+    ghost fits: { MarksFit values.items objects.items marks.items } by { marks-fit-once values.items objects.items marks.items },
 }
 
-// The items from this place on, taken out: the whole list as it lies, where that is asked for.
-fn take_from<T>(alloc: Global, items: &mut Vec<T>, from: usize, as_it_lies: bool) -> Result<Vec<T>>
-    requires { from ≤ length items.old.items }
-    ensures items { OnOk result (items.new.items ≡ take from items.old.items) }
-    ensures tail { IfOk result (λ taken. taken.items ≡ drop from items.old.items) }
-    ensures err { OnErr result (items.new ≡ items.old) }
+// The values from this place on, taken out: the whole list as it lies, where that is asked for.
+fn take_from(
+    alloc: Global,
+    values: &mut Vec<Value>,
+    from: usize,
+    as_it_lies: bool,
+) -> Result<Vec<Value>>
+    requires { from ≤ length values.old.items }
+    ensures items { OnOk result (values.new.items ≡ take from values.old.items) }
+    ensures tail { IfOk result (λ taken. taken.items ≡ drop from values.old.items) }
+    ensures err { OnErr result (values.new ≡ values.old) }
     ensures memory { OnErr result (IsErrOf result Memory) }
 {
     if as_it_lies && from == 0 {
-        return Ok(mem::replace(items, Vec::new(alloc)));
+        return Ok(mem::replace(values, Vec::new(alloc)));
     }
-    Ok(items.split_off(from)?)
+    Ok(values.split_off(from)?)
 }
 
 impl Builder {
@@ -67,7 +119,7 @@ impl Builder {
         Builder {
             alloc,
             values: Vec::new(alloc),
-            names: Vec::new(alloc),
+            objects: Vec::new(alloc),
             marks: Vec::new(alloc),
         }
     }
@@ -79,8 +131,20 @@ impl Builder {
         match self.marks.last() {
             None => None,
             Some(Mark::Array(_)) => Some(Kind::Array),
-            Some(Mark::Object(_, _)) => Some(Kind::Object),
+            Some(Mark::Object) => Some(Kind::Object),
         }
+    }
+
+    /// Whether the innermost open container is an object that has a member of the name.
+    pub(crate) fn has_name(&self, name: &str) -> bool
+        ensures { result ≡ has_member name.now (hole_in self.now) }
+    {
+        if let Some(Mark::Object) = self.marks.last() {
+            if let Some(object) = self.objects.last() {
+                return object.has_name(name);
+            }
+        }
+        false
     }
 
     /// Puts a whole value in the hole.
@@ -88,6 +152,12 @@ impl Builder {
         ensures ok { OnOk result (hole_in self.new ≡ put (shape value) (hole_in self.old)) }
         ensures memory { OnErr result (IsErrOf result Memory) }
     {
+        if let Some(Mark::Object) = self.marks.last() {
+            return match self.objects.last_mut() {
+                Some(object) => object.put(value),
+                None => unreachable!(),
+            };
+        }
         self.values.push(value)?;
         Ok(())
     }
@@ -103,11 +173,11 @@ impl Builder {
 
     /// Opens an object in the hole.
     pub(crate) fn open_object(&mut self) -> Result<()>
-        ensures ok { OnOk result (hole_in self.new ≡ in_members [] [] (hole_in self.old)) }
+        ensures ok { OnOk result (hole_in self.new ≡ in_members no_members None (hole_in self.old)) }
         ensures memory { OnErr result (IsErrOf result Memory) }
     {
-        self.marks
-            .push(Mark::Object(self.values.len(), self.names.len()))?;
+        self.objects.push(OpenObject::new(self.alloc))?;
+        self.marks.push(Mark::Object)?;
         Ok(())
     }
 
@@ -116,33 +186,14 @@ impl Builder {
         ensures ok { OnOk result (hole_in self.new ≡ named name.now (hole_in self.old)) }
         ensures memory { OnErr result (IsErrOf result Memory) }
     {
-        if let Some(Mark::Object(_, _)) = self.marks.last() {
+        if let Some(Mark::Object) = self.marks.last() {
             let name = String::from_str(self.alloc, name)?;
-            self.names.push(name)?;
+            match self.objects.last_mut() {
+                Some(object) => object.name(name),
+                None => unreachable!(),
+            }
         }
         Ok(())
-    }
-
-    // The members from these places on, taken out; of equal names the last stands.
-    fn take_members(&mut self, values: usize, names: usize) -> Result<BTreeMap<String, Value>>
-        requires values { values ≤ length self.old.values.items }
-        requires names { names ≤ length self.old.names.items }
-        requires fits { Fits (take values (map shape self.old.values.items))
-            (take names (map string_bytes self.old.names.items)) (reverse self.old.marks.items) }
-        ensures values { OnOk result (self.new.values.items ≡ take values self.old.values.items) }
-        ensures names { OnOk result (self.new.names.items ≡ take names self.old.names.items) }
-        ensures marks { self.new.marks ≡ self.old.marks }
-        ensures members { IfOk result (λ m. members_of string_bytes shape m.entries
-            ≡ in_order (beside (map string_bytes (drop names self.old.names.items))
-            (map shape (drop values self.old.values.items)))) }
-        ensures memory { OnErr result (IsErrOf result Memory) }
-    {
-        let is_outermost = self.marks.is_empty();
-        let names = take_from(self.alloc, &mut self.names, names, is_outermost)?;
-        let values = take_from(self.alloc, &mut self.values, values, is_outermost)?;
-        let mut members = BTreeMap::new(self.alloc);
-        members.extend(names.into_iter().zip(values))?;
-        Ok(members)
     }
 
     /// Closes the innermost open container: its values become one, in the hole of what it stands in.
@@ -152,15 +203,17 @@ impl Builder {
     {
         match self.marks.pop() {
             None => Ok(()),
-            Some(Mark::Array(values)) => {
+            Some(Mark::Array(from)) => {
                 let is_outermost = self.marks.is_empty();
-                let items = take_from(self.alloc, &mut self.values, values, is_outermost)?;
+                let items = take_from(self.alloc, &mut self.values, from, is_outermost)?;
                 self.put(Value::Array(Array::from_inner(items)))
             }
-            Some(Mark::Object(values, names)) => {
-                let members = self.take_members(values, names)?;
-                self.put(Value::Object(Object::from_inner(members)))
-            }
+            Some(Mark::Object) => match self.objects.pop() {
+                Some(OpenObject { members, name: _ }) => {
+                    self.put(Value::Object(Object::from_inner(members)))
+                }
+                None => unreachable!(),
+            },
         }
     }
 
@@ -171,7 +224,7 @@ impl Builder {
         let Builder {
             alloc: _,
             mut values,
-            names: _,
+            objects: _,
             marks,
         } = self;
         if !marks.is_empty() {

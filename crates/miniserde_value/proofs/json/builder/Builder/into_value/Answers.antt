@@ -1,6 +1,6 @@
 use Rattle.std.proofs.Common.{arith}
 use Rattle.std.proofs.lemmas.Bool.Decides.{nat_tests}
-use Rattle.miniserde_value.proofs.Builders.{whole_open}
+use Rattle.miniserde_value.proofs.Marks.{whole_open}
 use Rattle.miniserde_value.proofs.json.builder.Builder.into_value.Goals as goal
 
 pub returns-then-not-is_empty : goal.returns-then-not-is_empty

@@ -1,6 +1,7 @@
 use Rattle.std.proofs.Common.{◌-◌, set, refl, arith}
 use Rattle.std.specs.Vec.{vec_len}
-use Rattle.miniserde_value.proofs.Frames.{last_got, reverse_ends, reverse_set, GaveItem, item_left, item_ordered, GaveMember, member_left, member_ordered}
+use Rattle.miniserde_value.proofs.Lasts.{last_got, reverse_ends, reverse_set}
+use Rattle.miniserde_value.proofs.Frames.{GaveItem, item_left, item_ordered, GaveMember, member_left, member_ordered}
 use Rattle.miniserde_value.proofs.json.walk.frames.Frames.next.Goals as goal
 
 gave_item : (c : goal.In-Some) → GaveItem c.args.self.now.kinds.items c.args.self.now.arrays.items (set c.args.self.now.arrays.items (vec_len c.args.self.now.arrays - 1) c.next.new.self) c.in_ok-last_mut-in-Array.field-0.now c.next.new.self c.in-Some.item.now
