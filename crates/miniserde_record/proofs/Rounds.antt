@@ -10,6 +10,7 @@ use Rattle.miniserde_de.specs.Objects.{Name}
 use Rattle.miniserde_round.specs.RoundTrip.{ReadsAgain}
 use Rattle.miniserde_record.specs.Fields.{others, AllNamed, MeansOr, FieldsRead}
 use Rattle.miniserde_record.specs.Records.{is_new, are_distinct, are_names}
+use Rattle.miniserde_record.specs.Once.{once, OnceReads}
 use Rattle.miniserde_record.specs.Structs.{with_names, members_text, FieldsAgain}
 
 same : (n : Name) → bytes_eq n n ≡ true
@@ -89,6 +90,24 @@ module _ {A C W : Type 0} (real_a : A → Type 0) (tree : A → Tree) (reads : T
           b.1 w.1 s.1 (subst (λ ms. reads_r ns ms w.1) rest e.1),
         ) refl,
       )
+
+-- ---- fields of which each takes one member alone
+
+-- names of which no two are alike name members of which no two are
+once_names : (owns : Name → Bool) (ns : List Name) (ts : List Tree) → are_distinct ns ≡ true → once owns (with_names ns ts) ≡ true
+once_names owns [] ts h = refl
+once_names owns (n ∷ ns) [] h = refl
+once_names owns (n ∷ ns) (t ∷ ts) h =
+    let p = both (is_new n ns) (are_distinct ns) h in
+    rw (last_new n ns ts p.0, once_names owns ns ts p.1) (elim (owns n) as (λ b. (not (b && false) && true) ≡ true) [ true ↦ refl | false ↦ refl ])
+
+pub again-once : {W : Type 0} (owns : List Name → Name → Bool) (real : W → Type 0) (trees : W → List Tree) (count : ℕ) (reads : List Name → Members → W → Type 0) (names : List Name) (v : W)
+    → are_names count names ≡ true → FieldsAgain real trees reads names (trees v) → FieldsAgain real trees (OnceReads owns reads) names (trees v)
+again-once owns real trees count reads names v h a =
+    let p = both (nat_eq (length names) count) (are_distinct names) h in (
+      (a.0.0, a.0.1, (once_names (owns names) names (trees v) p.1, a.0.2)),
+      λ w s e. a.1 w s e.1,
+    )
 
 -- ---- writing
 

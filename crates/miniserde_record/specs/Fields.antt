@@ -1,5 +1,5 @@
 -- The fields of a struct, one after another, and what a struct's tree gives of each.
-use Rattle.std.specs.Prelude.{◌≡◌, true, cond, List, [], ◌∷◌, Option, Some, None, option_map, option_and_then, bytes_eq, IsSome, ⊤}
+use Rattle.std.specs.Prelude.{◌≡◌, ◌||◌, Bool, true, false, cond, List, [], ◌∷◌, Option, Some, None, option_map, option_and_then, bytes_eq, is_some, IsSome, ⊤}
 use Rattle.std.specs.Option.{option_or}
 use Rattle.miniserde_model.specs.Tree.{Tree, members, Members, no_members, member}
 use Rattle.miniserde_model.specs.Normal.{last_of}
@@ -11,6 +11,21 @@ use Rattle.miniserde_de.specs.Objects.{Name}
 abbrev pub field_member : {C S X : Type 0} → (X → Option C) → (List Name → S → Name → X → Option S) → List Name → Option C × S → Name → X → Option (Option C × S)
 field_member f g [] s k x = option_map (λ r. (s.0, r)) (g [] s.1 k x)
 field_member f g (n ∷ ns) s k x = cond (bytes_eq k n) (option_map (λ c. (Some c, s.1)) (f x)) (option_map (λ r. (s.0, r)) (g ns s.1 k x))
+
+-- the name is the first field's, or a later one's
+abbrev pub field_owns : (List Name → Name → Bool) → List Name → Name → Bool
+field_owns owns [] k = owns [] k
+field_owns owns (n ∷ ns) k = bytes_eq k n || owns ns k
+
+-- the field of the name has a value
+abbrev pub field_has : {C S : Type 0} → (List Name → S → Name → Bool) → List Name → Option C × S → Name → Bool
+field_has has [] s k = has [] s.1 k
+field_has has (n ∷ ns) s k = cond (bytes_eq k n) (is_some s.0) (has ns s.1 k)
+
+-- a later field refuses a member by its name: the first one refuses none
+abbrev pub field_refuses : {C S : Type 0} → (List Name → S → Name → Bool) → List Name → Option C × S → Name → Bool
+field_refuses refuses [] s k = refuses [] s.1 k
+field_refuses refuses (n ∷ ns) s k = cond (bytes_eq k n) false (refuses ns s.1 k)
 
 -- a value beside those of the later fields
 abbrev pub beside : {C D : Type 0} → Option D → C → Option (C × D)

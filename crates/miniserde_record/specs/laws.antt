@@ -1,3 +1,4 @@
 pub mod Fields
 pub mod Meanings
 pub mod Names
+pub mod Repeats

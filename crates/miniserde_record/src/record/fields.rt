@@ -1,5 +1,5 @@
 //! The fields of a struct, one after another.
-ghost use Rattle.std.specs.Prelude.{◌≡◌, true, Option, None, Some, Ok, Err, [], IfOk, IfErr, option_map, is_some, map};
+ghost use Rattle.std.specs.Prelude.{◌≡◌, true, Option, None, Some, Ok, Err, [], IfOk, option_map, is_some, map};
 ghost use Rattle.std.specs.Option.{option_or};
 ghost use Rattle.miniserde_model.specs.Position.{complete};
 ghost use Rattle.miniserde_text.specs.declared.error.Error.{Error};
@@ -27,12 +27,19 @@ pub trait Fields {
     fn new() -> Self
         ensures { meaning.state result ≡ meaning.empty };
 
+    /// Whether a field of the name has a value already.
+    fn has_value(&self, names: &[&str], name: &str) -> bool
+        ensures { result ≡ meaning.has (map (λ n. n.now) names.now) (meaning.state self.now) name.now };
+
     /// Begins the value of a member of the name.
     fn begin_child(&mut self, alloc: Global, names: &[&str], name: &str) -> Result<()>
         ensures fresh { IfOk result (λ _. IsFresh
             (meaning.by_events (map (λ n. n.now) names.now) (meaning.state self.old) name.now)
             (meaning.child self.new)) }
-        ensures memory { IfErr result (λ r. r ≡ Error.Memory) };
+        ensures invalid { result ≡ Err Error.Invalid
+            → meaning.refuses (map (λ n. n.now) names.now) (meaning.state self.old) name.now ≡ true }
+        ensures repeats { meaning.refuses (map (λ n. n.now) names.now) (meaning.state self.old) name.now ≡ true
+            → result ≡ Err Error.Invalid };
 
     /// The current value takes an event.
     fn step(&mut self, event: Step<'_>) -> Result<()>
@@ -78,6 +85,10 @@ impl Fields for NoField {
 
     fn new() -> NoField {
         NoField { skipped: ignore() }
+    }
+
+    fn has_value(&self, _names: &[&str], _name: &str) -> bool {
+        false
     }
 
     fn begin_child(&mut self, _alloc: Global, _names: &[&str], _name: &str) -> Result<()> {
@@ -149,6 +160,14 @@ impl<T: Deserialize, R: Fields> Fields for FieldOf<T::Place, T, R> {
             value: None,
             child: None,
             rest: R::new(),
+        }
+    }
+
+    fn has_value(&self, names: &[&str], name: &str) -> bool {
+        match names.split_first() {
+            Some((first, _)) if name == *first => self.value.is_some(),
+            Some((_, more)) => self.rest.has_value(more, name),
+            None => self.rest.has_value(names, name),
         }
     }
 

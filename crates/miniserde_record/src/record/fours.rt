@@ -39,6 +39,10 @@ impl<A: Deserialize, B: Deserialize, C: Deserialize, D: Deserialize, R: Fields> 
         }
     }
 
+    fn has_value(&self, names: &[&str], name: &str) -> bool {
+        self.fields.has_value(names, name)
+    }
+
     fn begin_child(&mut self, alloc: Global, names: &[&str], name: &str) -> Result<()> {
         self.fields.begin_child(alloc, names, name)
     }
