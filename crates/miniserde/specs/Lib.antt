@@ -48,6 +48,7 @@ pub use Rattle.miniserde_value.specs.Places
 pub use Rattle.miniserde_round.specs.RoundTrip
 pub use Rattle.miniserde_record.specs.Fields
 pub use Rattle.miniserde_record.specs.Names
+pub use Rattle.miniserde_record.specs.Once
 pub use Rattle.miniserde_record.specs.Records
 pub use Rattle.miniserde_record.specs.Structs
 pub use Rattle.miniserde_canon.specs.Counts

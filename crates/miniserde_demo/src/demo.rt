@@ -4,6 +4,7 @@ ghost use Rattle.miniserde_record.specs.Records.{names_of};
 ghost use Rattle.std.specs.Prelude.{Option, Some, None, refl};
 
 mod example;
+mod strict;
 mod tag;
 
 pub use example::{Example, ExamplePlace, Nested, NestedPlace};
@@ -15,6 +16,7 @@ use miniserde_round::RoundTrip;
 use miniserde_ser::ser::{Serialize, Writer};
 use miniserde_text::error::{Error, Result};
 use std::alloc::Global;
+pub use strict::{StrictDemo, StrictDemoPlace};
 pub use tag::Tag;
 
 /// A struct of two fields.

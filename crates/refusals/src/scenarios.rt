@@ -1,7 +1,7 @@
 //! What is read, written, copied and collected under refused requests.
 
 use crate::{places, texts};
-use miniserde::demo::{Demo, Example};
+use miniserde::demo::{Demo, Example, StrictDemo};
 use miniserde::json::{Array, Object, Value, canonical, from_str, to_string};
 use miniserde::{Deserialize, Error, Result, Serialize};
 use std::alloc::Global;
@@ -17,6 +17,10 @@ pub fn answer(alloc: Global, word: &str) -> Result<String> {
         "demo" => written::<Demo>(
             alloc,
             " {\"code\": 200, \"message\": \"reminiscent of Serde\"} ",
+        ),
+        "strict-demo" => written::<StrictDemo>(
+            alloc,
+            "{\"z\":1,\"z\":{\"q\":0,\"q\":0},\"code\":1,\"message\":\"\"}",
         ),
         "value" => written::<Value>(alloc, DOCUMENT),
         "keys" => written::<BTreeMap<u32, u32>>(alloc, "{\"007\":1,\"+7\":2}"),

@@ -3,5 +3,7 @@
 
 pub mod hosts;
 #[cfg(test)]
+mod repeats;
+#[cfg(test)]
 mod structs;
 pub mod users;
