@@ -28,7 +28,10 @@ fn a_struct_that_refuses_repeats(rt: HostRuntime) -> std::result::Result<(), Fai
         "{\"code\":1,\"message\":\"\",\"message\":\"\"}",
         "{\"code\":1,\"z\":1}",
     ];
-    assert_eq!(rt; first_other::<StrictDemo>(rt.alloc(), &read, &refused)?, None);
+    assert_eq!(rt;
+        first_other::<StrictDemo>(rt.alloc(), &read, &refused)?,
+        None
+    );
     Ok(())
 }
 
@@ -43,6 +46,6 @@ fn second_key(alloc: Global) -> Result<Result<()>> {
 
 #[test]
 fn the_repeated_key_itself_is_refused(rt: HostRuntime) -> std::result::Result<(), Fail> {
-    assert_eq!(rt; second_key(rt.alloc())?, Err(Error::Invalid));
+    assert!(rt; matches!(second_key(rt.alloc())?, Err(Error::Invalid)));
     Ok(())
 }
