@@ -1,0 +1,58 @@
+-- Which trees mean settings, and when two settings are the same: field by field, in the words of a user.
+use Rattle.std.specs.Prelude.{◌≡◌, ◌<◌, ◌^◌, ℕ, Bool, List, map, Option, Some, None, option_map, MatchOption, string_bytes, codes}
+use Rattle.miniserde.specs.Tree.{Tree, nonneg, str, truth, members, Members}
+use Rattle.miniserde.specs.Normal.{last_of}
+use Rattle.miniserde.specs.Leaf.{from_leaf}
+use Rattle.miniserde.specs.Words.{from_boolean, from_string}
+use Rattle.miniserde.specs.Integers.{from_unsigned}
+use Rattle.miniserde.specs.Lists.{ListReads, list_of}
+use Rattle.miniserde.specs.Options.{OptionReads, option_of}
+use Rattle.miniserde.specs.Maps.{MapReads, map_of, looked}
+use Rattle.miniserde.specs.Fields.{AllNamed}
+use Rattle.settings.specs.declared.types.Host.{Host}
+use Rattle.settings.specs.declared.types.Tls.{Tls}
+use Rattle.settings.specs.declared.types.Settings.{Settings}
+
+-- the tree is a number below the limit
+abbrev pub IsBelow : ℕ → Tree → ℕ → Type 0
+IsBelow limit t n = (t ≡ nonneg n) × (n < limit)
+
+-- each member of the name is one of the field's type, and the last one is as `Is` says; missing, where there is none
+abbrev pub Says : {C : Type 0} → Type 0 → (Tree → Type 0) → (Tree → Option C) → List ℕ → Members → Type 0
+Says missing Is accepted name ms = AllNamed accepted name ms × MatchOption (last_of name ms) missing Is
+
+-- the tree has a host's members: a text `host`, and a `weight` of at most 255
+abbrev pub IsHost : Tree → Host → Type 0
+IsHost (members ms) h = Says ⊥ (λ t. t ≡ str (string_bytes h.host)) (from_leaf from_string) (codes "host") ms × Says ⊥ (λ t. IsBelow 256 t h.weight) (from_leaf (from_unsigned 8)) (codes "weight") ms
+IsHost t h = ⊥
+
+-- the tree has a `Tls`'s members: a text `cert`, and `true` or `false` as `verify`
+abbrev pub IsTls : Tree → Tls → Type 0
+IsTls (members ms) s = Says ⊥ (λ t. t ≡ str (string_bytes s.cert)) (from_leaf from_string) (codes "cert") ms × Says ⊥ (λ t. t ≡ truth s.verify) (from_leaf from_boolean) (codes "verify") ms
+IsTls t s = ⊥
+
+-- The tree has the settings' members: a text `name`, a `port` of at most 65535, `tls` that may be null or missing, a list
+-- `hosts`, and `limits` by their names, which are below 2 ^ 64. `host` and `tls` tell what the types of these two accept.
+abbrev pub IsSettings : {C D : Type 0} → (Tree → Option C) → (Tree → Option D) → Tree → Settings → Type 0
+IsSettings host tls (members ms) s = Says ⊥ (λ t. t ≡ str (string_bytes s.name)) (from_leaf from_string) (codes "name") ms
+    × Says ⊥ (λ t. IsBelow 65536 t s.port) (from_leaf (from_unsigned 16)) (codes "port") ms
+    × Says (s.tls ≡ None) (λ t. OptionReads IsTls t s.tls) (option_of tls) (codes "tls") ms
+    × Says ⊥ (λ t. ListReads IsHost t s.hosts.items) (list_of host) (codes "hosts") ms
+    × Says ⊥ (λ t. MapReads Some (λ k. k) string_bytes (from_leaf (from_unsigned 64)) (IsBelow (2 ^ 64)) t s.limits.entries) (map_of Some (λ k. k) (from_leaf (from_unsigned 64))) (codes "limits") ms
+IsSettings host tls t s = ⊥
+
+-- what counts of a host and of a `Tls`
+abbrev pub host_of : Host → List ℕ × ℕ
+host_of h = (string_bytes h.host, h.weight)
+
+abbrev pub tls_of : Tls → List ℕ × Bool
+tls_of s = (string_bytes s.cert, s.verify)
+
+-- the name and the number at a name, where it has a limit
+abbrev pub limit_at : List ℕ → Settings → Option (List ℕ × ℕ)
+limit_at name s = looked (λ k. k) string_bytes (λ n. n) s.limits.entries name
+
+-- the same in each field
+abbrev pub AreSame : Settings → Settings → Type 0
+AreSame v w = (string_bytes v.name ≡ string_bytes w.name) × (v.port ≡ w.port) × (option_map tls_of v.tls ≡ option_map tls_of w.tls)
+    × (map host_of v.hosts.items ≡ map host_of w.hosts.items) × ((name : List ℕ) → limit_at name v ≡ limit_at name w)

@@ -1,0 +1,5 @@
+//! A loader of settings, on the public contracts of `miniserde` alone.
+#![tactic(auto)]
+
+pub mod loader;
+pub mod types;

@@ -1,0 +1,81 @@
+//! Settings, from text and as text.
+ghost use Rattle.std.specs.Prelude.{◌≡◌, ◌↔◌, IfOk, Err, string_bytes};
+ghost use Rattle.miniserde.specs.Tree.{Tree};
+ghost use Rattle.miniserde.specs.Value.{IsJson};
+ghost use Rattle.settings.specs.Meant.{AreSame, IsHost, IsTls, IsSettings};
+
+use crate::types::{Host, HostPlace, Settings, SettingsPlace, Tls, TlsPlace};
+use miniserde::de::{Ranged, Visitor};
+use miniserde::json::{from_str, to_string};
+use miniserde::laws::text_has_one_tree;
+use miniserde::{Error, Lossless, Result, RoundTrip, Serialize};
+use std::alloc::Global;
+
+// Does nothing. It promises which trees mean hosts and certificates.
+fn parts_meant()
+    ensures host { (t : Tree) → (h : Host) → ⟦<HostPlace as Visitor>⟧.meaning.reads t h ↔ IsHost t h }
+    ensures tls { (t : Tree) → (s : Tls) → ⟦<TlsPlace as Visitor>⟧.meaning.reads t s ↔ IsTls t s }
+{}
+
+/// Does nothing. It promises which trees mean settings.
+pub fn settings_meant()
+    ensures { let host = ⟦<HostPlace as Visitor>⟧.meaning.from_tree in let tls = ⟦<TlsPlace as Visitor>⟧.meaning.from_tree in
+        (t : Tree) → (s : Settings) → ⟦<SettingsPlace as Visitor>⟧.meaning.reads t s ↔ IsSettings host tls t s }
+{
+    parts_meant()
+}
+
+/// The settings of a text.
+pub fn load(alloc: Global, j: &str) -> Result<Settings>
+    // The text spells a tree that means the settings, as their types say, and as `IsSettings` does.
+    ensures ok { IfOk result (λ s. (t : Tree) × IsJson j.now t × ⟦<SettingsPlace as Visitor>⟧.meaning.reads t s) }
+    ensures meant { let host = ⟦<HostPlace as Visitor>⟧.meaning.from_tree in let tls = ⟦<TlsPlace as Visitor>⟧.meaning.from_tree in
+        IfOk result (λ s. (t : Tree) × IsJson j.now t × IsSettings host tls t s) }
+
+    // No tree of the text means any settings.
+    ensures invalid { let host = ⟦<HostPlace as Visitor>⟧.meaning.from_tree in let tls = ⟦<TlsPlace as Visitor>⟧.meaning.from_tree in
+        result ≡ Err Error.Invalid → (t : Tree) → IsJson j.now t → (s : Settings) → IsSettings host tls t s → ⊥ }
+{
+    settings_meant();
+    from_str(alloc, j)
+}
+
+// Does nothing. It promises that the tree of a value means that value, and nothing that counts otherwise.
+fn itself<T: Lossless>(value: &T)
+    ensures means { T.Place.meaning.reads (T.tree value.now) value.now }
+    ensures only { (v : T) → T.Place.meaning.reads (T.tree value.now) v
+        → T.Place.meaning.content v ≡ T.Place.meaning.content value.now }
+{
+    value.ranged();
+    T::again();
+    T::lossless();
+}
+
+/// The text of settings.
+pub fn save(alloc: Global, s: &Settings) -> Result<String>
+    // It spells the tree of the settings, which means them, and nothing that counts otherwise.
+    ensures spells { IfOk result (λ j. IsJson (string_bytes j) (⟦<Settings as Serialize>⟧.tree s.now)) }
+    ensures means { ⟦<SettingsPlace as Visitor>⟧.meaning.reads (⟦<Settings as Serialize>⟧.tree s.now) s.now }
+    ensures only { (v : Settings) → ⟦<SettingsPlace as Visitor>⟧.meaning.reads (⟦<Settings as Serialize>⟧.tree s.now) v
+        → ⟦<SettingsPlace as Visitor>⟧.meaning.content v ≡ ⟦<SettingsPlace as Visitor>⟧.meaning.content s.now }
+
+    // It is refused only for memory.
+    ensures memory { result ≡ Err Error.Invalid → ⊥ }
+{
+    itself(s);
+    to_string(alloc, s)
+}
+
+/// The settings, saved and loaded.
+pub fn reloaded(alloc: Global, s: &Settings) -> Result<Settings>
+    ensures same { IfOk result (λ v. AreSame v s.now) }
+    ensures memory { result ≡ Err Error.Invalid → ⊥ }
+{
+    text_has_one_tree();
+    settings_meant();
+    let text = save(alloc, s)?;
+    load(alloc, text.as_str())
+}
+
+#[cfg(test)]
+mod tests;
