@@ -1,3 +1,5 @@
+//! What is loaded and saved again, and what is refused.
+
 use super::{load, reloaded, save};
 use miniserde::Error;
 use std::test::Fail;

@@ -1,0 +1,30 @@
+//! A cache by what a document says: its canonical text is the key, so that each of its spellings finds the answer.
+ghost use Rattle.std.specs.Prelude.{◌≡◌, IfOk, OnOk, Some};
+ghost use Rattle.std.specs.BTreeMap.{get_by_text};
+ghost use Rattle.miniserde.specs.Tree.{Tree};
+ghost use Rattle.miniserde.specs.Value.{IsJson};
+ghost use Rattle.miniserde.specs.Compact.{compact};
+ghost use Rattle.miniserde.specs.Normal.{norm};
+
+use miniserde::Result;
+use miniserde::json::canonical;
+use std::alloc::Global;
+use std::collections::BTreeMap;
+
+/// Keeps the answer for a document.
+pub fn keep(alloc: Global, answers: &mut BTreeMap<String, u64>, text: &str, answer: u64) -> Result<()>
+    // It stands at the text of the document's normal form.
+    ensures ok { OnOk result ((t : Tree) × IsJson text.now t × (get_by_text answers.new (compact (norm t)) ≡ Some answer)) }
+{
+    answers.insert(canonical(alloc, text)?, answer)?;
+    Ok(())
+}
+
+/// The answer that is kept for a document, in whatever spelling.
+pub fn kept(alloc: Global, answers: &BTreeMap<String, u64>, text: &str) -> Result<Option<u64>>
+    // It is what stands at the text of the document's normal form, which all its spellings share.
+    ensures ok { IfOk result (λ answer. (t : Tree) × IsJson text.now t × (answer ≡ get_by_text answers.now (compact (norm t)))) }
+{
+    let key = canonical(alloc, text)?;
+    Ok(answers.get(key.as_str()).copied())
+}

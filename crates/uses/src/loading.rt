@@ -1,0 +1,23 @@
+//! A loader of settings: read, changed and written, on the contracts of the crate `settings`.
+ghost use Rattle.std.specs.Prelude.{◌≡◌, IfOk, Err, string_bytes};
+ghost use Rattle.miniserde.specs.Tree.{Tree};
+ghost use Rattle.miniserde.specs.Value.{IsJson};
+ghost use Rattle.uses.specs.Changes.{at_port};
+
+use miniserde::de::Visitor;
+use miniserde::{Error, Result, Serialize};
+use settings::loader::{load, save};
+use settings::types::{Settings, SettingsPlace};
+use std::alloc::Global;
+
+/// The settings of a text at another port, as text again.
+pub fn moved(alloc: Global, text: &str, port: u16) -> Result<String>
+    // The text means settings, and the answer spells these at that port.
+    ensures ok { IfOk result (λ j. (t : Tree) × (s : Settings) × IsJson text.now t
+        × ⟦<SettingsPlace as Visitor>⟧.meaning.reads t s
+        × IsJson (string_bytes j) (⟦<Settings as Serialize>⟧.tree (at_port port s))) }
+{
+    let mut settings = load(alloc, text)?;
+    settings.port = port;
+    save(alloc, &settings)
+}

@@ -1,0 +1,53 @@
+//! Four uses of the library, one after another: settings, a cache, a store of rows and a request's body.
+#![tactic(auto)]
+
+mod bodies;
+mod cache;
+mod loading;
+mod request;
+mod store;
+
+use miniserde::Result;
+use std::alloc::Global;
+use std::collections::BTreeMap;
+use std::io;
+
+/// Two documents that say the same, the first one cached: what the cache has for the second.
+fn cached(alloc: Global) -> Result<Option<u64>> {
+    let mut answers = BTreeMap::new(alloc);
+    cache::keep(alloc, &mut answers, "{\"b\": 2, \"a\": \"\\u0061\"}", 7)?;
+    cache::kept(alloc, &answers, " {\"a\":\"a\",\"b\":2}")
+}
+
+/// Two rows that say the same, and whether they do.
+fn stored(alloc: Global) -> Result<bool> {
+    let mut rows = BTreeMap::new(alloc);
+    store::put(alloc, &mut rows, 1, "[1, {\"x\": -0}]")?;
+    store::is_row(alloc, &rows, 1, "[1,{\"x\":0}]")
+}
+
+fn main(rt: HostRuntime) -> io::Result<()> {
+    let alloc = rt.alloc();
+    let text =
+        "{\"port\":80,\"name\":\"a\",\"hosts\":[{\"host\":\"h\",\"weight\":1}],\"limits\":{\"x\":5}}";
+    match loading::moved(alloc, text, 8080) {
+        Ok(moved) => println!(rt; "settings: {moved}")?,
+        Err(error) => println!(rt; "settings: {error}")?,
+    }
+    match cached(alloc) {
+        Ok(Some(answer)) => println!(rt; "cache: {answer}")?,
+        Ok(None) => println!(rt; "cache: nothing")?,
+        Err(error) => println!(rt; "cache: {error}")?,
+    }
+    match stored(alloc) {
+        Ok(same) => println!(rt; "store: {same}")?,
+        Err(error) => println!(rt; "store: {error}")?,
+    }
+    let body =
+        "{\"besides\":{\"b\":[1.50],\"a\":null},\"items\":[{\"goods\":\"nails\",\"count\":100}],\"client\":\"c\"}";
+    match bodies::noted(alloc, body, "by noon") {
+        Ok(noted) => println!(rt; "request: {noted}")?,
+        Err(error) => println!(rt; "request: {error}")?,
+    }
+    Ok(())
+}
