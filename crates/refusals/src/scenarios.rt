@@ -4,6 +4,7 @@ use crate::{places, texts};
 use miniserde::demo::{Demo, Example, StrictDemo};
 use miniserde::json::{Array, Object, Value, canonical, from_str, to_string};
 use miniserde::{Deserialize, Error, Result, Serialize};
+use settings::loader::{load, reloaded, save};
 use std::alloc::Global;
 use std::collections::{BTreeMap, HashMap};
 use std::hash::{BuildHasherDefault, DefaultHasher};
@@ -36,6 +37,14 @@ pub fn answer(alloc: Global, word: &str) -> Result<String> {
         "hashed" => hashed(alloc),
         "nested-array" => nested_array(alloc),
         "nested-value" => nested_value(alloc),
+        "settings" => saved(
+            alloc,
+            "{\"port\":8080,\"name\":\"a\",\"hosts\":[{\"host\":\"h\",\"weight\":1}],\"limits\":{\"x\":5},\"extra\":[]}",
+        ),
+        "turned-settings" => saved(
+            alloc,
+            "{\"limits\":{\"b\":1,\"a\":2},\"hosts\":[],\"tls\":{\"verify\":false,\"cert\":\"\"},\"port\":1,\"name\":\"\"}",
+        ),
         "key" => texts::key(alloc),
         "word-key" => texts::word_key(alloc),
         "escaped" => texts::escaped(alloc),
@@ -51,6 +60,12 @@ pub fn answer(alloc: Global, word: &str) -> Result<String> {
 fn written<T: Deserialize + Serialize>(alloc: Global, text: &str) -> Result<String> {
     let value: T = from_str(alloc, text)?;
     to_string(alloc, &value)
+}
+
+/// The settings of a text, saved, loaded again and saved once more.
+fn saved(alloc: Global, text: &str) -> Result<String> {
+    let settings = load(alloc, text)?;
+    save(alloc, &reloaded(alloc, &settings)?)
 }
 
 /// A copy of the document, written. A refused copy leaves its source as it was.

@@ -1,5 +1,6 @@
 -- What becomes of settings and of requests, and what a cache has.
-use Rattle.std.specs.Prelude.{ℕ, List, Option, Some, String, Global, string_bytes}
+use Rattle.std.specs.Prelude.{ℕ, Some, String}
+use Rattle.std.specs.Global.{Global}
 use Rattle.settings.specs.declared.types.Settings.{Settings}
 use Rattle.uses.specs.declared.request.Request.{Request}
 

@@ -1,5 +1,5 @@
 //! The body of a request: a struct with an optional text, a list of structs and a part of any shape.
-ghost use Rattle.std.specs.Prelude.{◌≡◌, IfOk, Err, string_bytes};
+ghost use Rattle.std.specs.Prelude.{◌≡◌, IfOk, Err, String, string_bytes};
 ghost use Rattle.miniserde.specs.Tree.{Tree};
 ghost use Rattle.miniserde.specs.Value.{IsJson};
 ghost use Rattle.uses.specs.Changes.{with_note};
@@ -13,7 +13,7 @@ use std::alloc::Global;
 /// The request of a body with a note, as text again.
 pub fn noted(alloc: Global, body: &str, note: &str) -> Result<String>
     // The body means a request, and the answer spells it with that note, and with all else as it was.
-    ensures ok { IfOk result (λ j. (t : Tree) × (v : Request) × (n : String) × IsJson body.now t
+    ensures ok { IfOk result (λ j. (t : Tree) × (v : Request) × (n : String Global) × IsJson body.now t
         × ⟦<RequestPlace as Visitor>⟧.meaning.reads t v × (string_bytes n ≡ note.now)
         × IsJson (string_bytes j) (⟦<Request as Serialize>⟧.tree (with_note n v))) }
 

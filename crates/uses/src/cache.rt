@@ -12,7 +12,12 @@ use std::alloc::Global;
 use std::collections::BTreeMap;
 
 /// Keeps the answer for a document.
-pub fn keep(alloc: Global, answers: &mut BTreeMap<String, u64>, text: &str, answer: u64) -> Result<()>
+pub fn keep(
+    alloc: Global,
+    answers: &mut BTreeMap<String, u64>,
+    text: &str,
+    answer: u64,
+) -> Result<()>
     // It stands at the text of the document's normal form.
     ensures ok { OnOk result ((t : Tree) × IsJson text.now t × (get_by_text answers.new (compact (norm t)) ≡ Some answer)) }
 {

@@ -1,5 +1,5 @@
 //! A store of rows by their numbers, each in its canonical text, so that bytes alone tell whether rows say the same.
-ghost use Rattle.std.specs.Prelude.{◌≡◌, ◌↔◌, IfOk, OnOk, Some, string_bytes, true};
+ghost use Rattle.std.specs.Prelude.{◌≡◌, ◌↔◌, IfOk, OnOk, Some, String, string_bytes, true};
 ghost use Rattle.std.specs.BTreeMap.{get};
 ghost use Rattle.std.specs.Ordering.{nat_cmp};
 ghost use Rattle.miniserde.specs.IsTree.{IsTree};
@@ -16,7 +16,7 @@ use std::collections::BTreeMap;
 /// Puts the row of a text under its number, in the place of the one that is there.
 pub fn put(alloc: Global, rows: &mut BTreeMap<u64, String>, number: u64, text: &str) -> Result<()>
     // The row of that number is the text of the document's normal form.
-    ensures ok { OnOk result ((t : Tree) × (row : String) × IsJson text.now t × (string_bytes row ≡ compact (norm t))
+    ensures ok { OnOk result ((t : Tree) × (row : String Global) × IsJson text.now t × (string_bytes row ≡ compact (norm t))
         × (get nat_cmp rows.new number ≡ Some row)) }
 {
     rows.insert(number, canonical(alloc, text)?)?;
@@ -26,7 +26,7 @@ pub fn put(alloc: Global, rows: &mut BTreeMap<u64, String>, number: u64, text: &
 /// Whether the row of the number says what the text says.
 pub fn is_row(alloc: Global, rows: &BTreeMap<u64, String>, number: u64, text: &str) -> Result<bool>
     // Where the row is the text of a normal form, it says whether the document has that one.
-    ensures ok { IfOk result (λ same. (row : String) → get nat_cmp rows.now number ≡ Some row
+    ensures ok { IfOk result (λ same. (row : String Global) → get nat_cmp rows.now number ≡ Some row
         → (u : Tree) → IsTree u → string_bytes row ≡ compact (norm u)
         → (t : Tree) → IsJson text.now t → (same ≡ true) ↔ (norm u ≡ norm t)) }
 {
