@@ -36,7 +36,7 @@ at_first name t ms b r = ap₂ (λ (x : Option Tree) (y : Bool). or_else x (cond
 none_some : (o : Option Tree) (t : Tree) → o ≡ None → o ≡ Some t → ⊥
 none_some o t p q = true≢false (ap is_some (sym q ∙ p))
 
-or_else_none : (a : Option Tree) → or_else a None ≡ a
+pub or_else_none : (a : Option Tree) → or_else a None ≡ a
 or_else_none None = refl
 or_else_none (Some t) = refl
 
@@ -86,14 +86,14 @@ hidden true None t h = refl
 hidden true (Some v) t h = absurd (none_some _ v (h refl) refl)
 hidden false a t h = or_else_none a
 
-or_else_assoc : (a b c : Option Tree) → or_else (or_else a b) c ≡ or_else a (or_else b c)
+pub or_else_assoc : (a b c : Option Tree) → or_else (or_else a b) c ≡ or_else a (or_else b c)
 or_else_assoc None b c = refl
 or_else_assoc (Some t) b c = refl
 
 above_itself : (name q : List ℕ) (ms : Members) → BeginsAbove name ms → Rise ms → bytes_eq name q ≡ true → last_of q ms ≡ None
 above_itself name q ms b r e = subst (λ z. last_of z ms ≡ None) ((bytes_eq-Decides name q).0 e) (absent name ms b r)
 
-last_put : (q name : List ℕ) (t : Tree) (ms : Members) → Rise ms → last_of q (put name t ms) ≡ or_else (cond (bytes_eq name q) (Some t) None) (last_of q ms)
+pub last_put : (q name : List ℕ) (t : Tree) (ms : Members) → Rise ms → last_of q (put name t ms) ≡ or_else (cond (bytes_eq name q) (Some t) None) (last_of q ms)
 last_put q name t no_members r = sym (or_else_none _)
 last_put q name t (member other u ms) r = go (text_cmp name other) refl (last_put q name t ms r.1)
   where
@@ -116,7 +116,7 @@ above_put first name t (member other u ms) p q = go (text_cmp name other)
     go Equal = p
     go Greater = q
 
-rise_put : (name : List ℕ) (t : Tree) (ms : Members) → Rise ms → Rise (put name t ms)
+pub rise_put : (name : List ℕ) (t : Tree) (ms : Members) → Rise ms → Rise (put name t ms)
 rise_put name t no_members h = (tt, tt)
 rise_put name t (member other u ms) h = go (text_cmp name other) refl (rise_put name t ms h.1)
   where

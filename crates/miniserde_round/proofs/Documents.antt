@@ -10,6 +10,7 @@ use Rattle.std.proofs.lemmas.List.{with_items_is}
 use Rattle.std_collections.specs.Layout.BTreeMap.{with_entries}
 use Rattle.miniserde_model.specs.Tree.{Tree, null, truth, nonneg, neg, num, str, list, members, Trees, no_trees, tree, Members, no_members, member}
 use Rattle.miniserde_model.specs.Normal.{text_cmp, placed, with_first, norm, norm_children, norm_members}
+use Rattle.miniserde_model.proofs.Distinct.{norm_distinct}
 use Rattle.miniserde_model.proofs.Lookups.{norm_rises}
 use Rattle.miniserde_model.proofs.Normal.{norm_twice}
 use Rattle.miniserde_ser.specs.Trees.{trees_of, members_of}
@@ -20,6 +21,7 @@ use Rattle.miniserde_value.specs.declared.json.value.Value as Value
 use Rattle.miniserde_value.specs.declared.json.value.Value.TheOpen.{Value-F}
 use Rattle.miniserde_value.specs.declared.json.array.Array.{Array}
 use Rattle.miniserde_value.specs.declared.json.object.Object.{Object}
+use Rattle.miniserde_value.specs.declared.json.unique.Unique.{Unique}
 use Rattle.miniserde_value.specs.Fronts.{IsOrdered, AreOrdered, AreOrderedMembers}
 use Rattle.miniserde_value.specs.Kept.{kept}
 use Rattle.miniserde_value.specs.Numbers.{number_leaf, ReadsNumber}
@@ -27,6 +29,7 @@ use Rattle.miniserde_value.specs.Values.{array_items, object_entries, object_val
 use Rattle.miniserde_value.proofs.Kepts.{norm_kept, kept_ordered}
 use Rattle.miniserde_value.proofs.Shapes.{level, shape_out, shape_number, shape_array, shape_object}
 use Rattle.miniserde_value.proofs.Trees.{Each, tree_ind}
+use Rattle.miniserde_value.specs.Places.{ReadsUnique}
 use Rattle.miniserde_round.specs.RoundTrip.{ReadsAgain}
 
 -- what is kept of a normal form has that normal form
@@ -157,3 +160,9 @@ pub again-object : (o : Object) → ReadsAgain (λ _. ⊤) (λ o. norm (object_s
 again-object o =
     let n = normal_object o (all_normal (object_values o)) in
     ((n.0, tt, n.1 ∙ kept_norm (object_shape o)), λ w r e. same (object_shape w) (object_shape o) e)
+
+-- in a normal form no name stands twice
+pub again-unique : (u : Unique) → ReadsAgain (λ _. ⊤) (λ u. norm (shape u.value)) ReadsUnique (norm (shape u.value))
+again-unique u =
+    let n = normal u.value in
+    ((record { value = n.0 }, tt, (norm_distinct (shape u.value), n.1 ∙ kept_norm (shape u.value))), λ w r e. same (shape w.value) (shape u.value) e.1)

@@ -4,6 +4,7 @@ pub mod Values
 pub mod Rows
 pub mod Looks
 pub mod Hole
+pub mod Unique
 pub mod Fronts
 pub mod Marks
 pub mod Builders

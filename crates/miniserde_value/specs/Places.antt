@@ -1,16 +1,22 @@
 -- What the places of values mean.
-use Rattle.std.specs.Prelude.{◌≡◌, Bool, true, [], Option, Some, string_bytes}
+use Rattle.std.specs.Prelude.{◌≡◌, Bool, true, [], Option, Some, None, Result, Err, OnOk, string_bytes}
 use Rattle.miniserde_model.specs.Tree.{Tree}
+use Rattle.miniserde_model.specs.Event.{Event}
+use Rattle.miniserde_model.specs.Distinct.{distinct}
 use Rattle.miniserde_text.specs.declared.error.Error.{Error}
+use Rattle.miniserde_text.specs.declared.error.Error.TheVariants.{Invalid}
 use Rattle.miniserde_place.specs.Place.{Shown, Meaning}
 use Rattle.miniserde_ser.specs.Trees.{trees_of, members_of}
 use Rattle.miniserde_value.specs.declared.json.value.Value.{Value}
 use Rattle.miniserde_value.specs.declared.json.array.Array.{Array}
 use Rattle.miniserde_value.specs.declared.json.object.Object.{Object}
 use Rattle.miniserde_value.specs.declared.json.place.ValuePlace.{ValuePlace}
+use Rattle.miniserde_value.specs.declared.json.unique.Unique.{Unique}
+use Rattle.miniserde_value.specs.declared.json.unique.UniquePlace.{UniquePlace}
 use Rattle.miniserde_value.specs.declared.json.place.ArrayPlace.{ArrayPlace}
 use Rattle.miniserde_value.specs.declared.json.place.ObjectPlace.{ObjectPlace}
-use Rattle.miniserde_value.specs.Hole.{Hole, outside, depth, outcome}
+use Rattle.miniserde_value.specs.Hole.{Hole, outside, depth, took, outcome}
+use Rattle.miniserde_value.specs.Unique.{once_outcome, kept_once}
 use Rattle.miniserde_value.specs.Builders.{hole_in}
 use Rattle.miniserde_value.specs.Kept.{kept}
 use Rattle.miniserde_value.specs.Values.{shape, Reads, array_items, object_entries, array_shape, object_shape}
@@ -22,6 +28,7 @@ use Rattle.miniserde_value.specs.declared.json.place.NumberPlace.{NumberPlace}
 use Rattle.miniserde_value.specs.Numbers.{number_leaf, from_number, ReadsNumber}
 use Rattle.miniserde_value.specs.laws.Numbers.{number-given}
 use Rattle.miniserde_value.specs.Kinds.{only_list, only_members, list_outcome, members_outcome}
+use Rattle.miniserde_value.specs.laws.Unique.{once-whole, once-agrees}
 use Rattle.miniserde_value.specs.laws.Outcomes.{outcome-whole, reads-agree, list-whole, list-agrees, members-whole, members-agree}
 
 -- what is read so far
@@ -50,6 +57,28 @@ value_meaning = record {
   reads = Reads;
   reads_agrees = λ t v. reads-agree t (shape v);
   shows = value_shows;
+}
+
+-- What an event made of the hole, where it was accepted. One that was refused as invalid has no place in it.
+abbrev pub steps : ValuePlace → Event → Result (Unit {0}) Error → ValuePlace → Type 0
+steps old e answer new =
+    OnOk answer (took (due_in old) (hole_at old) e ≡ Some (due_in new, hole_at new))
+    × (answer ≡ Err Invalid → refusal_of old ≡ None → took (due_in old) (hole_at old) e ≡ None)
+
+-- a tree in which no name stands twice means the value, which keeps the tree
+abbrev pub ReadsUnique : Tree → Unique → Type 0
+ReadsUnique t u = (distinct t ≡ true) × Reads t u.value
+
+abbrev pub unique_meaning : Meaning UniquePlace Unique
+unique_meaning = record {
+  Content = Tree;
+  content = λ u. shape u.value;
+  from_events = once_outcome true (outside []);
+  from_tree = kept_once;
+  events_agree = once-whole;
+  reads = ReadsUnique;
+  reads_agrees = λ t u. once-agrees t (shape u.value);
+  shows = λ p. record { at = (depth (hole_at p.place), due_in p.place); outcome = once_outcome (due_in p.place) (hole_at p.place); refused = refusal_of p.place };
 }
 
 -- the tree means the array: it is a list, whose items the array has as values keep them

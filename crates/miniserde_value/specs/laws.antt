@@ -2,3 +2,4 @@ pub mod Outcomes
 pub mod Numbers
 pub mod Listed
 pub mod Marks
+pub mod Unique

@@ -7,6 +7,7 @@ pub mod drop;
 pub mod number;
 pub mod object;
 mod place;
+pub mod unique;
 pub mod value;
 mod walk;
 mod write;

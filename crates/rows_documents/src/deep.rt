@@ -1,9 +1,9 @@
 //! Values of great depth and size, read, written, copied and let go on a small stack.
 
 use crate::texts::{is_refused, nested, written};
-use miniserde::error::Result;
+use miniserde::error::{Error, Result};
 use miniserde::json::drop::safely;
-use miniserde::json::{Array, Object, Value, from_str, to_string};
+use miniserde::json::{Array, Object, Unique, Value, from_str, to_string};
 use std::alloc::Global;
 use std::fmt::Write;
 use std::test::Fail;
@@ -124,6 +124,21 @@ fn many_names_in_each_order(rt: HostRuntime) -> std::result::Result<(), Fail> {
         let object: Object = from_str(alloc, many_members(alloc, factor, start)?.as_str())?;
         assert_eq!(rt; object.inner().len(), 100_000);
         assert!(rt; to_string(alloc, &object)?.as_str() == expected.as_str());
+    }
+    Ok(())
+}
+
+#[test]
+fn many_names_of_which_none_repeats(rt: HostRuntime) -> std::result::Result<(), Fail> {
+    let alloc = rt.alloc();
+    for (factor, start) in [(1, 0), (99_999, 99_999), (7919, 0)] {
+        let mut text = many_members(alloc, factor, start)?;
+        let unique: Unique = from_str(alloc, text.as_str())?;
+        assert_eq!(rt; to_string(alloc, &unique)?.len(), text.len());
+        text.pop();
+        text.push_str(",\"n5000\":0}")?;
+        let repeated: Result<Unique> = from_str(alloc, text.as_str());
+        assert!(rt; matches!(repeated, Err(Error::Invalid)));
     }
     Ok(())
 }

@@ -14,4 +14,6 @@ mod round_trip;
 #[cfg(test)]
 mod texts;
 #[cfg(test)]
+mod unique;
+#[cfg(test)]
 mod values;

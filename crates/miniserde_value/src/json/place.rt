@@ -1,9 +1,10 @@
 //! Reading values of any shape, with no recursion.
-ghost use Rattle.std.specs.Prelude.{◌≡◌, true, Option, Some, None, Err, IfOk, OnOk, ⊤};
+ghost use Rattle.std.specs.Prelude.{◌≡◌, true, [], Option, Some, None, Err, IfOk, OnOk, ⊤};
 ghost use Rattle.miniserde_text.specs.declared.error.Error.TheVariants.{Invalid};
 ghost use Rattle.miniserde_place.specs.Step.{event_of};
 ghost use Rattle.miniserde_place.specs.Place.{IsTreeEvent};
-ghost use Rattle.miniserde_value.specs.Hole.{begun, resumed, took};
+ghost use Rattle.miniserde_value.specs.Hole.{outside, begun, resumed, took};
+ghost use Rattle.miniserde_value.specs.Unique.{repeats};
 ghost use Rattle.miniserde_value.specs.Kinds.{is_start};
 
 use super::array::Array;
@@ -29,6 +30,20 @@ pub struct ValuePlace {
 
 impl ValuePlace {
     ghost use Rattle.miniserde_value.specs.Places.{hole_at, due_in, refusal_of};
+
+    /// A place that has no event yet. It takes no memory.
+    pub(crate) fn new(alloc: Global) -> ValuePlace
+        ensures hole { hole_at result ≡ outside [] }
+        ensures due { due_in result ≡ true }
+        ensures unrefused { refusal_of result ≡ None }
+    {
+        ValuePlace {
+            alloc,
+            builder: Builder::new(alloc),
+            due: true,
+            refused: None,
+        }
+    }
 
     // Takes the first event of a value.
     fn begin_value(&mut self, event: Step<'_>) -> Result<()>
@@ -96,6 +111,16 @@ impl ValuePlace {
         Ok(())
     }
 
+    /// Whether the event is a name that the innermost open object has.
+    pub(crate) fn repeats(&self, event: &Step<'_>) -> bool
+        ensures { result ≡ repeats (event_of event.now) (hole_at self.now) }
+    {
+        match event {
+            Step::Key(name) => self.builder.has_name(name),
+            _ => false,
+        }
+    }
+
     // Whether no event was taken.
     fn is_fresh(&self) -> bool
         ensures { result ≡ is_start (due_in self.now) (hole_at self.now) }
@@ -107,7 +132,7 @@ impl ValuePlace {
 impl Visitor for ValuePlace {
     type Out = Value;
 
-    ghost use Rattle.miniserde_value.specs.Places.{value_meaning};
+    ghost use Rattle.miniserde_value.specs.Places.{value_meaning, steps};
 
     ghost meaning = { value_meaning };
 
@@ -115,13 +140,11 @@ impl Visitor for ValuePlace {
 
     ghost takes_free = { true };
 
+    // What an event makes of the hole.
+    ghost further = { steps };
+
     fn begin(alloc: Global) -> Result<ValuePlace> {
-        Ok(ValuePlace {
-            alloc,
-            builder: Builder::new(alloc),
-            due: true,
-            refused: None,
-        })
+        Ok(ValuePlace::new(alloc))
     }
 
     fn step(&mut self, event: Step<'_>) -> Result<()> {

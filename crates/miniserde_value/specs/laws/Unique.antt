@@ -1,0 +1,144 @@
+-- What the events of a tree leave where no name may be repeated.
+use Rattle.std.proofs.Common.{◌≡◌, ℕ, Bool, true, false, cond, List, [], ◌∷◌, ◌++◌, Option, Some, None, is_some, bytes_eq, refl, sym, ap, ap₂, ◌∙◌, append_assoc, append-nil, Ordering, Less, Equal, Greater}
+use Rattle.std.specs.Prelude.{◌↔◌, ◌&&◌, ◌||◌, not, option_and_then}
+use Rattle.std.proofs.lemmas.Map.Lookups.{exact_bytes}
+use Rattle.miniserde_text.proofs.Equal.{bytes_eq-flips}
+use Rattle.miniserde_model.specs.Tree.{Tree, null, truth, nonneg, neg, num, str, list, members, Trees, no_trees, tree, Members, no_members, member}
+use Rattle.miniserde_model.specs.Event.{Event, finish, events, child_events, member_events}
+use Rattle.miniserde_model.specs.Distinct.{has_name, distinct, distinct_children, distinct_members}
+use Rattle.miniserde_model.specs.Normal.{text_cmp, or_else, last_of, put as put_member, put_placed}
+use Rattle.miniserde_value.specs.Kept.{kept, kept_children, kept_members}
+use Rattle.miniserde_value.specs.Hole.{Hole, outside, in_list, in_members, put}
+use Rattle.miniserde_value.specs.Unique.{once_outcome, kept_once}
+use Rattle.miniserde_value.specs.laws.Listed.{listed, put_kept, trees_listed, puts_kept}
+
+-- ---- which names members have, with one more put in
+
+some_either : (a b : Option Tree) → is_some (or_else a b) ≡ (is_some b || is_some a)
+some_either None None = refl
+some_either None (Some u) = refl
+some_either (Some t) None = refl
+some_either (Some t) (Some u) = refl
+
+some_if : (b : Bool) (t : Tree) → is_some (cond b (Some t) None) ≡ b
+some_if true t = refl
+some_if false t = refl
+
+has_member_first : (q name : List ℕ) (t : Tree) (ms : Members) → has_name q (member name t ms) ≡ (bytes_eq name q || has_name q ms)
+has_member_first q name t ms = some_either (last_of q ms) _ ∙ ap (λ b. b || has_name q ms) (some_if (bytes_eq name q) t)
+
+twice : (a b : Bool) → (a || b) ≡ (a || (a || b))
+twice true b = refl
+twice false b = refl
+
+swapped : (a b c : Bool) → (a || (b || c)) ≡ (b || (a || c))
+swapped true true c = refl
+swapped true false c = refl
+swapped false b c = refl
+
+has_put : (q name : List ℕ) (t : Tree) (ms : Members) → has_name q (put_member name t ms) ≡ (bytes_eq name q || has_name q ms)
+has_put q name t no_members = has_member_first q name t no_members
+has_put q name t (member other u ms) = go (text_cmp name other) refl (has_put q name t ms)
+  where
+    go : (o : Ordering) → text_cmp name other ≡ o → has_name q (put_member name t ms) ≡ (bytes_eq name q || has_name q ms) → has_name q (put_placed o name t other u ms (put_member name t ms)) ≡ (bytes_eq name q || has_name q (member other u ms))
+    go Less e more = has_member_first q name t (member other u ms)
+    go Equal e more = has_member_first q name t ms ∙ twice (bytes_eq name q) (has_name q ms) ∙ ap (λ n. bytes_eq name q || (bytes_eq n q || has_name q ms)) (exact_bytes name other e) ∙ ap (λ b. bytes_eq name q || b) (sym (has_member_first q other u ms))
+    go Greater e more = has_member_first q other u (put_member name t ms) ∙ ap (λ b. bytes_eq other q || b) more ∙ swapped (bytes_eq other q) (bytes_eq name q) (has_name q ms) ∙ ap (λ b. bytes_eq name q || b) (sym (has_member_first q other u ms))
+
+-- none of the members' names is among those that are made
+abbrev all_new : Members → Members → Bool
+all_new made no_members = true
+all_new made (member name t ms) = not (has_name name made) && all_new made ms
+
+apart : (a b c d : Bool) → (not (a || c) && (not b && d)) ≡ (not (b || a) && (not c && d))
+apart true true c d = refl
+apart true false c d = refl
+apart false true true d = refl
+apart false true false d = refl
+apart false false c d = refl
+
+all_new_put : (name : List ℕ) (t : Tree) (made ms : Members) → all_new (put_member name t made) ms ≡ (not (has_name name ms) && all_new made ms)
+all_new_put name t made no_members = refl
+all_new_put name t made (member other u ms) =
+    ap₂ (λ a b. not a && b) (has_put other name t made) (all_new_put name t made ms)
+    ∙ apart (bytes_eq name other) (has_name name ms) (has_name other made) (all_new made ms)
+    ∙ ap (λ b. not b && (not (has_name other made) && all_new made ms)) (hidden ∙ sym (has_member_first name other u ms))
+  where
+    flip : (a b : Bool) → (b || a) ≡ (a || b)
+    flip true true = refl
+    flip true false = refl
+    flip false true = refl
+    flip false false = refl
+
+    hidden : (has_name name ms || bytes_eq name other) ≡ (bytes_eq other name || has_name name ms)
+    hidden = flip (bytes_eq name other) (has_name name ms) ∙ ap (λ b. b || has_name name ms) (bytes_eq-flips name other)
+
+-- ---- the events of a tree
+
+abbrev if_so : Bool → Option Tree → Option Tree
+if_so b o = cond b o None
+
+both_so : (a b : Bool) (o : Option Tree) → if_so a (if_so b o) ≡ if_so (a && b) o
+both_so true b o = refl
+both_so false b o = refl
+
+-- a member whose name is new, whose tree is distinct, and the members behind it
+regrouped : (new d ds unlike rest : Bool) (o : Option Tree) → if_so new (if_so d (if_so (ds && (unlike && rest)) o)) ≡ if_so ((unlike && (d && ds)) && (new && rest)) o
+regrouped true true true unlike rest o = elim unlike as (λ b. if_so (b && rest) o ≡ if_so ((b && true) && rest) o) [ true ↦ refl | false ↦ refl ]
+regrouped true true false unlike rest o = elim unlike as (λ b. None ≡ if_so ((b && false) && rest) o) [ true ↦ refl | false ↦ refl ]
+regrouped true false ds unlike rest o = elim unlike as (λ b. None ≡ if_so ((b && false) && rest) o) [ true ↦ refl | false ↦ refl ]
+regrouped false d ds unlike rest o = elim (unlike && (d && ds)) as (λ b. None ≡ if_so (b && false) o) [ true ↦ refl | false ↦ refl ]
+
+repeated : (b : Bool) (x : Bool × Hole) (f : Bool × Hole → Option Tree) → option_and_then f (cond b None (Some x)) ≡ if_so (not b) (f x)
+repeated true x f = refl
+repeated false x f = refl
+
+mutual
+  pub once_events : (h : Hole) (t : Tree) (rest : List Event) → once_outcome true h (events t ++ rest) ≡ if_so (distinct t) (once_outcome false (put (kept t) h) rest)
+  once_events h null rest = refl
+  once_events h (truth b) rest = refl
+  once_events h (nonneg n) rest = refl
+  once_events h (neg z) rest = refl
+  once_events h (num x) rest = refl
+  once_events h (str s) rest = refl
+  once_events h (list ts) rest =
+      ap (once_outcome false (in_list [] h)) (append_assoc (child_events ts) (finish ∷ []) rest)
+      ∙ once_children ts [] h (finish ∷ rest)
+      ∙ ap (λ z. if_so (distinct_children ts) (once_outcome false (put (list z) h) rest)) (trees_listed (kept_children ts))
+  once_events h (members ms) rest =
+      ap (once_outcome false (in_members no_members None h)) (append_assoc (member_events ms) (finish ∷ []) rest)
+      ∙ once_members ms no_members h (finish ∷ rest)
+      ∙ ap₂ (λ b z. if_so b (once_outcome false (put (members z) h) rest)) (all_fresh (distinct_members ms) ms) (puts_kept ms)
+
+  pub once_children : (ts : Trees) (us : List Tree) (h : Hole) (rest : List Event) → once_outcome false (in_list us h) (child_events ts ++ rest) ≡ if_so (distinct_children ts) (once_outcome false (in_list (us ++ listed (kept_children ts)) h) rest)
+  once_children no_trees us h rest = ap (λ z. once_outcome false (in_list z h) rest) (sym (append-nil us))
+  once_children (tree t ts) us h rest =
+      ap (once_outcome true (in_list us h)) (append_assoc (events t) (child_events ts) rest)
+      ∙ once_events (in_list us h) t (child_events ts ++ rest)
+      ∙ ap (if_so (distinct t)) (once_children ts (us ++ kept t ∷ []) h rest)
+      ∙ both_so (distinct t) (distinct_children ts) _
+      ∙ ap (λ z. if_so (distinct t && distinct_children ts) (once_outcome false (in_list z h) rest)) (append_assoc us (kept t ∷ []) (listed (kept_children ts)))
+
+  pub once_members : (ms made : Members) (h : Hole) (rest : List Event) → once_outcome false (in_members made None h) (member_events ms ++ rest) ≡ if_so (distinct_members ms && all_new made ms) (once_outcome false (in_members (put_kept made ms) None h) rest)
+  once_members no_members made h rest = refl
+  once_members (member n t ms) made h rest =
+      repeated (has_name n made) (true, in_members made (Some n) h) (λ s. once_outcome s.0 s.1 ((events t ++ member_events ms) ++ rest))
+      ∙ ap (if_so (not (has_name n made)))
+      (ap (once_outcome true (in_members made (Some n) h)) (append_assoc (events t) (member_events ms) rest)
+      ∙ once_events (in_members made (Some n) h) t (member_events ms ++ rest)
+      ∙ ap (if_so (distinct t)) (once_members ms (put_member n (kept t) made) h rest ∙ ap (λ b. if_so (distinct_members ms && b) (once_outcome false (in_members (put_kept (put_member n (kept t) made) ms) None h) rest)) (all_new_put n (kept t) made ms)))
+      ∙ regrouped (not (has_name n made)) (distinct t) (distinct_members ms) (not (has_name n ms)) (all_new made ms) _
+
+  all_fresh : (b : Bool) (ms : Members) → (b && all_new no_members ms) ≡ b
+  all_fresh true no_members = refl
+  all_fresh true (member n t ms) = all_fresh true ms
+  all_fresh false ms = refl
+
+pub once-whole : (t : Tree) → once_outcome true (outside []) (events t) ≡ kept_once t
+once-whole t = ap (once_outcome true (outside [])) (sym (append-nil (events t))) ∙ once_events (outside []) t []
+
+pub once-agrees : (t u : Tree) → ((distinct t ≡ true) × (u ≡ kept t)) ↔ (kept_once t ≡ Some u)
+once-agrees t u = elim (distinct t) as (λ b. ((b ≡ true) × (u ≡ kept t)) ↔ (cond b (Some (kept t)) None ≡ Some u)) [
+  | true ↦ (λ e. ap (λ (x : Tree). Some x) (sym e.1), λ e. (refl, cc))
+  | false ↦ (λ e. absurd (cc), λ e. absurd (cc))
+]
