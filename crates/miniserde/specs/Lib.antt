@@ -1,5 +1,6 @@
 pub use Rattle.miniserde_model.specs.Bytes
 pub use Rattle.miniserde_model.specs.Compact
+pub use Rattle.miniserde_model.specs.Distinct
 pub use Rattle.miniserde_model.specs.Event
 pub use Rattle.miniserde_model.specs.Examples
 pub use Rattle.miniserde_model.specs.IsTree
@@ -45,6 +46,7 @@ pub use Rattle.miniserde_value.specs.Looks
 pub use Rattle.miniserde_value.specs.Hole
 pub use Rattle.miniserde_value.specs.Kinds
 pub use Rattle.miniserde_value.specs.Places
+pub use Rattle.miniserde_value.specs.Unique
 pub use Rattle.miniserde_round.specs.RoundTrip
 pub use Rattle.miniserde_record.specs.Fields
 pub use Rattle.miniserde_record.specs.Names

@@ -5,4 +5,4 @@ mod ser;
 mod stack;
 
 pub use de::{feed, from_str};
-pub use ser::{canonical, canonical_both, to_string};
+pub use ser::{canonical, canonical_both, canonical_unique, to_string};

@@ -2,7 +2,7 @@
 
 use crate::{places, texts};
 use miniserde::demo::{Demo, Example, StrictDemo};
-use miniserde::json::{Array, Object, Value, canonical, from_str, to_string};
+use miniserde::json::{Array, Object, Value, canonical, canonical_unique, from_str, to_string};
 use miniserde::{Deserialize, Error, Result, Serialize};
 use settings::loader::{load, reloaded, save};
 use std::alloc::Global;
@@ -33,6 +33,9 @@ pub fn answer(alloc: Global, word: &str) -> Result<String> {
         "unfinished" => written::<Value>(alloc, "[1.50,"),
         "copied" => copied(alloc),
         "canonical" => canonical(alloc, "{ \"\u{e9}\" : \"\\u00e9\\/\" }"),
+        "unique" => canonical_unique(alloc, "{\"b\":2,\"a\":[{\"a\":1}]}"),
+        "repeated" => canonical_unique(alloc, "{\"a\":1,\"\\u0061\":1}"),
+        "repeated-inside" => canonical_unique(alloc, "[{\"x\":{\"k\":0,\"l\":1,\"k\":0}}]"),
         "collected" => to_string(alloc, &collected(alloc)?),
         "hashed" => hashed(alloc),
         "nested-array" => nested_array(alloc),
