@@ -1,11 +1,13 @@
 -- What a run of the program read and wrote, and what it says of that.
-use Rattle.std.specs.Prelude.{◌≡◌, ◌<◌, ◌+◌, ℕ, List, ◌++◌, codes, Option, Result, Ok, Err, OnOk, IfSome, IsErrOf, ◌⊎◌, ⊤}
+use Rattle.std.specs.Prelude.{◌≡◌, true, ◌<◌, ◌+◌, ℕ, List, ◌++◌, codes, Option, Result, Ok, Err, OnOk, IfSome, IsErrOf, ◌⊎◌, ⊤}
 use Rattle.std.specs.Str.{IsUtf8}
 use Rattle.std.specs.Io.KnownBytes.{IsAtEnd, Keeps, Appends}
 use Rattle.miniserde_model.specs.Tree.{Tree}
 use Rattle.miniserde_model.specs.Value.{IsJson}
 use Rattle.miniserde_model.specs.Compact.{compact}
+use Rattle.miniserde_model.specs.Distinct.{distinct}
 use Rattle.miniserde_model.specs.Normal.{norm}
+use Rattle.miniserde_model.specs.Size.{size}
 use Rattle.miniserde_text.specs.declared.error.Error.{Error}
 use Rattle.miniserde_text.specs.declared.error.Error.TheVariants as error
 use Rattle.miniserde_canon.specs.declared.canon.Fault.{Fault}
@@ -13,9 +15,13 @@ use Rattle.miniserde_canon.specs.declared.canon.Fault.TheVariants.{Invalid, Memo
 
 -- ---- the text
 
--- the bytes xs are a text that spells a tree, and u is its normal form
-unfoldable pub IsMeaning : List ℕ → Tree → Type 0
-IsMeaning xs u = IsUtf8 xs × ((t : Tree) × IsJson xs t × (u ≡ norm t))
+-- the bytes xs are a text that spells a tree of which this is so
+unfoldable pub IsRead : List ℕ → (Tree → Type 0) → Type 0
+IsRead xs is = IsUtf8 xs × ((t : Tree) × IsJson xs t × is t)
+
+-- the bytes are no UTF-8, or spell no tree of which this is so
+unfoldable pub IsNotRead : List ℕ → (Tree → Type 0) → Type 0
+IsNotRead xs is = (IsUtf8 xs → ⊥) ⊎ ((t : Tree) → IsJson xs t → is t → ⊥)
 
 -- the bytes xs are a text that spells a tree, and ys is the compact text of the tree's normal form
 unfoldable pub IsAnswer : List ℕ → List ℕ → Type 0
@@ -24,6 +30,14 @@ IsAnswer xs ys = IsUtf8 xs × ((t : Tree) × IsJson xs t × (ys ≡ compact (nor
 -- the bytes are no UTF-8, or spell no tree
 unfoldable pub HasNoAnswer : List ℕ → Type 0
 HasNoAnswer xs = (IsUtf8 xs → ⊥) ⊎ ((t : Tree) → IsJson xs t → ⊥)
+
+-- the same, where no name stands twice in the tree, so that the normal form has as many values
+unfoldable pub IsUniqueAnswer : List ℕ → List ℕ → Type 0
+IsUniqueAnswer xs ys = IsUtf8 xs × ((t : Tree) × IsJson xs t × (distinct t ≡ true) × (size (norm t) ≡ size t) × (ys ≡ compact (norm t)))
+
+-- the bytes are no UTF-8, or spell no tree in which no name stands twice
+unfoldable pub HasNoUniqueAnswer : List ℕ → Type 0
+HasNoUniqueAnswer xs = (IsUtf8 xs → ⊥) ⊎ ((t : Tree) → IsJson xs t → distinct t ≡ true → ⊥)
 
 -- ---- the calls
 
@@ -68,13 +82,26 @@ IfSilent (Err Write) p = ⊤
 abbrev pub AppendsPart : Option (List ℕ) → Option (List ℕ) → List ℕ → Type 0
 AppendsPart old new bs = (front : List ℕ) × (rest : List ℕ) × (bs ≡ front ++ rest) × Appends old new front
 
--- the answer for xs was appended
-abbrev pub AppendsAnswer : Option (List ℕ) → Option (List ℕ) → List ℕ → Type 0
-AppendsAnswer old new xs = (ys : List ℕ) × IsAnswer xs ys × Appends old new ys
+-- the answer for xs was appended, and a beginning of it: what an answer is comes first
+abbrev pub Answered : (List ℕ → List ℕ → Type 0) → Option (List ℕ) → Option (List ℕ) → List ℕ → Type 0
+Answered is old new xs = (ys : List ℕ) × is xs ys × Appends old new ys
 
--- a beginning of the answer for xs was appended
+abbrev pub AnswerBegun : (List ℕ → List ℕ → Type 0) → Option (List ℕ) → Option (List ℕ) → List ℕ → Type 0
+AnswerBegun is old new xs = (ys : List ℕ) × is xs ys × AppendsPart old new ys
+
+-- the answer of `run`
+abbrev pub AppendsAnswer : Option (List ℕ) → Option (List ℕ) → List ℕ → Type 0
+AppendsAnswer = Answered IsAnswer
+
 abbrev pub BeginsAnswer : Option (List ℕ) → Option (List ℕ) → List ℕ → Type 0
-BeginsAnswer old new xs = (ys : List ℕ) × IsAnswer xs ys × AppendsPart old new ys
+BeginsAnswer = AnswerBegun IsAnswer
+
+-- the answer of `run_unique`
+abbrev pub AppendsUnique : Option (List ℕ) → Option (List ℕ) → List ℕ → Type 0
+AppendsUnique = Answered IsUniqueAnswer
+
+abbrev pub BeginsUnique : Option (List ℕ) → Option (List ℕ) → List ℕ → Type 0
+BeginsUnique = AnswerBegun IsUniqueAnswer
 
 -- ---- the program
 
@@ -94,15 +121,15 @@ line_of (Err Memory) = codes "canon: out of memory"
 line_of (Err Read) = codes "canon: read failed"
 line_of (Err Write) = codes "canon: write failed"
 
--- What a run that answered this did. Of the reader: the bytes left before and behind, and the failures; of the
+-- What a run that answered this did: what an answer is, and a text that has none. Of the reader: the bytes left before and behind, and the failures; of the
 -- writer: the bytes written, the failures and the flushes.
-pub record Ran {T : Type 0} (answer : Result T Fault) (left left' : Option (List ℕ)) (read_failures read_failures' : ℕ) (written written' : Option (List ℕ)) (write_failures write_failures' flushes flushes' : ℕ) : Type 0 where
-  pub ok : OnOk answer (IfSome left (AppendsAnswer written written'))
+pub record Ran {T : Type 0} (is : List ℕ → List ℕ → Type 0) (none : List ℕ → Type 0) (answer : Result T Fault) (left left' : Option (List ℕ)) (read_failures read_failures' : ℕ) (written written' : Option (List ℕ)) (write_failures write_failures' flushes flushes' : ℕ) : Type 0 where
+  pub ok : OnOk answer (IfSome left (Answered is written written'))
   pub flushed : OnOk answer (flushes' ≡ flushes + 1)
   pub read : IfRead answer (IsAtEnd left')
   pub read_failed : read_failures' ≡ read_failures + read_faults answer
   pub write_failed : write_failures' ≡ write_failures + write_faults answer
-  pub invalid : IsErrOf answer Invalid → IfSome left HasNoAnswer
+  pub invalid : IsErrOf answer Invalid → IfSome left none
   pub silent : IfSilent answer (Keeps written written')
-  pub part : IsErrOf answer Write → IfSome left (BeginsAnswer written written')
-  pub whole : IsErrOf answer Write → flushes < flushes' → IfSome left (AppendsAnswer written written')
+  pub part : IsErrOf answer Write → IfSome left (AnswerBegun is written written')
+  pub whole : IsErrOf answer Write → flushes < flushes' → IfSome left (Answered is written written')

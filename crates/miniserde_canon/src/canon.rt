@@ -1,10 +1,12 @@
 //! The program `canon`: it reads a text to the end of its input, and writes its canonical text.
-ghost use Rattle.std.specs.Prelude.{◌≡◌, ◌+◌, ◌<◌, ◌⊎◌, length, codes, Result, OnOk, OnErr, IfOk, IfSome, IsErrOf};
+ghost use Rattle.std.specs.Prelude.{◌≡◌, ◌+◌, ◌<◌, ◌⊎◌, [], ◌∷◌, length, map, codes, Result, OnOk, OnErr, IfOk};
+ghost use Rattle.std.specs.Prelude.{IfSome, IsSome, IsErrOf};
 ghost use Rattle.std.specs.String.{string_bytes};
 ghost use Rattle.std.specs.Io.KnownBytes.{Consumes, IsAtEnd, Keeps, Appends};
-ghost use Rattle.miniserde_value.specs.Values.{tree_of};
 ghost use Rattle.miniserde_canon.specs.Counts.{inner_of, failures, flushes};
-ghost use Rattle.miniserde_canon.specs.Runs.{IsAnswer, IsMeaning, HasNoAnswer, fault_of, read_faults, write_faults, IfRead};
+ghost use Rattle.miniserde_canon.specs.Runs.{IsAnswer, HasNoAnswer, IsUniqueAnswer, HasNoUniqueAnswer};
+ghost use Rattle.miniserde_canon.specs.Runs.{IsRead, IsNotRead, fault_of, read_faults, write_faults, IfRead};
+ghost use Rattle.miniserde_canon.specs.Runs.{AppendsUnique, BeginsUnique};
 ghost use Rattle.miniserde_canon.specs.Runs.{IfSilent, AppendsPart, AppendsAnswer, BeginsAnswer, status_of, line_of};
 ghost use Rattle.miniserde_canon.specs.Runs.{Ran};
 ghost use Rattle.miniserde_canon.specs.declared.canon.Fault.{Fault};
@@ -13,8 +15,10 @@ mod count;
 mod counted;
 
 pub use counted::Counted;
+use miniserde_de::de::Deserialize;
 use miniserde_json::json::{from_str, to_string};
 use miniserde_text::error::Error;
+use miniserde_value::json::unique::Unique;
 use miniserde_value::json::value::Value;
 use std::alloc::Global;
 use std::io::{Read, Write};
@@ -69,32 +73,75 @@ pub fn run<R: Read, W: Write>(
 {
     let bytes = read_all(alloc, r)?;
     let text = answer(alloc, bytes)?;
-    put_all(w, text.as_bytes())?;
-    match w.flush() {
-        Ok(()) => Ok(()),
-        Err(_) => Err(Fault::Write),
-    }
+    write_out(text, w)
 }
 
-/// Runs where there are no arguments. Answers the status, and the line on standard error, which is empty for none.
+/// Reads a text to its end, writes its canonical text and flushes once, where no object of it has one name
+/// twice. A call that failed is not made again.
+pub fn run_unique<R: Read, W: Write>(
+    alloc: Global,
+    r: &mut Counted<R>,
+    w: &mut Counted<W>,
+) -> Result<(), Fault>
+    // The answer was written, nothing else, and flushed once.
+    ensures ok { OnOk result (IfSome (R.remaining (inner_of r.old))
+        (AppendsUnique (W.contents (inner_of w.old)) (W.contents (inner_of w.new)))) }
+    ensures flushed { OnOk result (flushes w.new ≡ flushes w.old + 1) }
+
+    // The reader was read to its end, and the failures are counted.
+    ensures read { IfRead result (IsAtEnd (R.remaining (inner_of r.new))) }
+    ensures read_failures { failures r.new ≡ failures r.old + read_faults result }
+    ensures write_failures { failures w.new ≡ failures w.old + write_faults result }
+
+    // What a refusal means, and what went out.
+    ensures invalid { IsErrOf result Fault.Invalid → IfSome (R.remaining (inner_of r.old)) HasNoUniqueAnswer }
+    ensures silent { IfSilent result (Keeps (W.contents (inner_of w.old)) (W.contents (inner_of w.new))) }
+    ensures part { IsErrOf result Fault.Write → IfSome (R.remaining (inner_of r.old))
+        (BeginsUnique (W.contents (inner_of w.old)) (W.contents (inner_of w.new))) }
+    ensures whole { IsErrOf result Fault.Write → flushes w.old < flushes w.new → IfSome (R.remaining (inner_of r.old))
+        (AppendsUnique (W.contents (inner_of w.old)) (W.contents (inner_of w.new))) }
+{
+    let bytes = read_all(alloc, r)?;
+    let text = answer_unique(alloc, bytes)?;
+    write_out(text, w)
+}
+
+/// Runs as the words after the program's name ask: `run` without any, `run_unique` for `--unique`. Answers the status,
+/// and the line on standard error, which is empty for none.
 pub fn program<R: Read, W: Write>(
     alloc: Global,
     args: &[String],
     r: &mut Counted<R>,
     w: &mut Counted<W>,
 ) -> (u8, &'static str)
-    ensures ran { length args.now ≡ 0 → (answer : Result (Unit {0}) Fault)
+    ensures ran { length args.now ≡ 0
+        → (answer : Result (Unit {0}) Fault)
         × (result.0 ≡ status_of answer) × (result.1.now ≡ line_of answer)
-        × Ran answer (R.remaining (inner_of r.old)) (R.remaining (inner_of r.new)) (failures r.old) (failures r.new)
-        (W.contents (inner_of w.old)) (W.contents (inner_of w.new)) (failures w.old) (failures w.new)
-        (flushes w.old) (flushes w.new) }
-    ensures usage { 0 < length args.now → (result.0 ≡ 2) × (result.1.now ≡ codes "usage: canon")
-        × (r.new ≡ r.old) × (w.new ≡ w.old) }
+        × Ran IsAnswer HasNoAnswer answer (R.remaining (inner_of r.old)) (R.remaining (inner_of r.new))
+        (failures r.old) (failures r.new) (W.contents (inner_of w.old)) (W.contents (inner_of w.new))
+        (failures w.old) (failures w.new) (flushes w.old) (flushes w.new) }
+    ensures unique { map string_bytes args.now ≡ codes "--unique" ∷ []
+        → (answer : Result (Unit {0}) Fault)
+        × (result.0 ≡ status_of answer) × (result.1.now ≡ line_of answer)
+        × Ran IsUniqueAnswer HasNoUniqueAnswer answer (R.remaining (inner_of r.old)) (R.remaining (inner_of r.new))
+        (failures r.old) (failures r.new) (W.contents (inner_of w.old)) (W.contents (inner_of w.new))
+        (failures w.old) (failures w.new) (flushes w.old) (flushes w.new) }
+    ensures usage { 0 < length args.now → (map string_bytes args.now ≡ codes "--unique" ∷ [] → ⊥)
+        → (result.0 ≡ 2) × (result.1.now ≡ codes "usage: canon [--unique]") × (r.new ≡ r.old) × (w.new ≡ w.old) }
 {
-    if !args.is_empty() {
-        return (2, "usage: canon");
+    match args {
+        [] => told(run(alloc, r, w)),
+        [word] if word.as_str() == "--unique" => told(run_unique(alloc, r, w)),
+        _ => (2, "usage: canon [--unique]"),
     }
-    match run(alloc, r, w) {
+}
+
+// What is said of a run's end.
+fn told(answer: Result<(), Fault>) -> (u8, &'static str)
+    ensures status { result.0 ≡ status_of answer }
+    ensures line { result.1.now ≡ line_of answer }
+{
+    match answer {
         Ok(()) => (0, ""),
         Err(Fault::Invalid) => (1, "canon: invalid text"),
         Err(Fault::Memory) => (3, "canon: out of memory"),
@@ -132,20 +179,49 @@ fn answer(alloc: Global, bytes: Vec<u8>) -> Result<String, Fault>
     ensures invalid { IsErrOf result Fault.Invalid → HasNoAnswer bytes.items }
     ensures only { OnErr result (IsErrOf result Fault.Invalid ⊎ IsErrOf result Fault.Memory) }
 {
-    let value = value_of(alloc, bytes)?;
+    let value: Value = value_of(alloc, bytes)?;
+    Ok(to_string(alloc, &value)?)
+}
+
+/// The same, where no object has one name twice.
+fn answer_unique(alloc: Global, bytes: Vec<u8>) -> Result<String, Fault>
+    ensures ok { IfOk result (λ s. IsUniqueAnswer bytes.items (string_bytes s)) }
+    ensures invalid { IsErrOf result Fault.Invalid → HasNoUniqueAnswer bytes.items }
+    ensures only { OnErr result (IsErrOf result Fault.Invalid ⊎ IsErrOf result Fault.Memory) }
+{
+    let value: Unique = value_of(alloc, bytes)?;
     Ok(to_string(alloc, &value)?)
 }
 
 /// The value that the bytes mean.
-fn value_of(alloc: Global, bytes: Vec<u8>) -> Result<Value, Fault>
-    ensures ok { IfOk result (λ v. IsMeaning bytes.items (tree_of v)) }
-    ensures invalid { IsErrOf result Fault.Invalid → HasNoAnswer bytes.items }
+fn value_of<T: Deserialize>(alloc: Global, bytes: Vec<u8>) -> Result<T, Fault>
+    ensures ok { IfOk result (λ v. IsRead bytes.items (λ t. T.Place.meaning.reads t v)) }
+    ensures invalid { IsErrOf result Fault.Invalid
+        → IsNotRead bytes.items (λ t. IsSome (T.Place.meaning.from_tree t)) }
     ensures only { OnErr result (IsErrOf result Fault.Invalid ⊎ IsErrOf result Fault.Memory) }
 {
     let Ok(text) = std::str::from_utf8(bytes.as_slice()) else {
         return Err(Fault::Invalid);
     };
     Ok(from_str(alloc, text)?)
+}
+
+/// Writes the text and flushes once.
+fn write_out<W: Write>(text: String, w: &mut Counted<W>) -> Result<(), Fault>
+    ensures ok { OnOk result (Appends (W.contents (inner_of w.old)) (W.contents (inner_of w.new)) (string_bytes text)) }
+    ensures flushed { OnOk result (flushes w.new ≡ flushes w.old + 1) }
+    ensures failures { failures w.new ≡ failures w.old + write_faults result }
+    ensures only { OnErr result (IsErrOf result Fault.Write) }
+    ensures part { OnErr result
+        (AppendsPart (W.contents (inner_of w.old)) (W.contents (inner_of w.new)) (string_bytes text)) }
+    ensures whole { OnErr result (flushes w.old < flushes w.new
+        → Appends (W.contents (inner_of w.old)) (W.contents (inner_of w.new)) (string_bytes text)) }
+{
+    put_all(w, text.as_bytes())?;
+    match w.flush() {
+        Ok(()) => Ok(()),
+        Err(_) => Err(Fault::Write),
+    }
 }
 
 /// Writes all the bytes, and tries no write again that failed.

@@ -69,15 +69,53 @@ fn other_texts_are_refused(rt: HostRuntime) -> Result<(), Fail> {
     Ok(())
 }
 
-#[test]
-fn an_argument_is_refused_before_anything_is_read(rt: HostRuntime) -> Result<(), Fail> {
-    let one = [String::from_str(rt.alloc(), "x")?];
-    let mut r = Counted::new(b"[1]".as_slice());
+/// Runs the program with `--unique`.
+fn expect_unique(
+    rt: &(impl Abort + AllocGlobal),
+    input: &[u8],
+    status: u8,
+    output: &[u8],
+) -> Result<(), Fail> {
+    let words = [String::from_str(rt.alloc(), "--unique")?];
+    let mut r = Counted::new(input);
     let mut w = Counted::new(Vec::new(rt.alloc()));
-    let answer = program(rt.alloc(), &one, &mut r, &mut w);
-    assert_eq!(rt; answer, (2, "usage: canon"));
-    assert_eq!(rt; r.into_inner(), b"[1]".as_slice());
-    let got: Vec<u8> = w.into_inner();
-    assert!(rt; got.is_empty());
+    let (got_status, _) = program(rt.alloc(), &words, &mut r, &mut w);
+    assert_eq!(rt; got_status, status, "on {input:?}");
+    let got = w.into_inner();
+    assert_eq!(rt; got.as_slice(), output, "on {input:?}");
+    Ok(())
+}
+
+#[test]
+fn a_repeated_name_is_refused_where_asked(rt: HostRuntime) -> Result<(), Fail> {
+    expect_unique(&rt, b"{\"b\":2,\"a\":1,\"a\":3}", 1, b"")?;
+    expect_unique(&rt, b"[{\"a\":0,\"\\u0061\":0}]", 1, b"")?;
+    expect_unique(&rt, b"{\"a\":-0}", 0, b"{\"a\":0}")?;
+    expect_unique(&rt, b"[{\"a\":1}, {\"a\":1}]", 0, b"[{\"a\":1},{\"a\":1}]")?;
+    expect_unique(&rt, b"[1", 1, b"")
+}
+
+#[test]
+fn other_words_are_refused_before_anything_is_read(rt: HostRuntime) -> Result<(), Fail> {
+    let words: [&[&str]; 5] = [
+        &["x"],
+        &["--unique", "x"],
+        &["--unique", "--unique"],
+        &["--uniqu"],
+        &[""],
+    ];
+    for said in words {
+        let mut args = Vec::new(rt.alloc());
+        for word in said {
+            args.push(String::from_str(rt.alloc(), word)?)?;
+        }
+        let mut r = Counted::new(b"[1]".as_slice());
+        let mut w = Counted::new(Vec::new(rt.alloc()));
+        let answer = program(rt.alloc(), args.as_slice(), &mut r, &mut w);
+        assert_eq!(rt; answer, (2, "usage: canon [--unique]"));
+        assert_eq!(rt; r.into_inner(), b"[1]".as_slice());
+        let got: Vec<u8> = w.into_inner();
+        assert!(rt; got.is_empty());
+    }
     Ok(())
 }
