@@ -53,5 +53,6 @@ pub use Rattle.miniserde_record.specs.Names
 pub use Rattle.miniserde_record.specs.Once
 pub use Rattle.miniserde_record.specs.Records
 pub use Rattle.miniserde_record.specs.Structs
+pub use Rattle.miniserde_record.specs.laws.Said
 pub use Rattle.miniserde_canon.specs.Counts
 pub use Rattle.miniserde_canon.specs.Runs

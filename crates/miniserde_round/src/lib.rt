@@ -4,5 +4,5 @@
 mod lossless;
 mod round_trip;
 
-pub use lossless::{Lossless, NeverNull, read_itself};
+pub use lossless::{Lossless, NeverNull, means_itself, read_itself};
 pub use round_trip::{RoundTrip, read_again};

@@ -27,6 +27,18 @@ pub trait NeverNull: RoundTrip {
         ensures { (v : Self) → Self.real v → Self.tree v ≡ null → ⊥ };
 }
 
+/// Does nothing. It promises that the tree of a value means that value, and nothing that counts otherwise. So of a text
+/// that spells it, `from_str` answers the value, want of memory aside.
+pub fn means_itself<T: Lossless>(value: &T)
+    ensures means { T.Place.meaning.reads (T.tree value.now) value.now }
+    ensures only { (v : T) → T.Place.meaning.reads (T.tree value.now) v
+        → T.Place.meaning.content v ≡ T.Place.meaning.content value.now }
+{
+    value.ranged();
+    T::again();
+    T::lossless();
+}
+
 /// Writes a value and reads it again: what counts of the answer is what counts of the value.
 pub fn read_itself<T: Lossless>(alloc: Global, value: &T) -> Result<T>
     ensures itself { IfOk result (λ v. T.Place.meaning.content v ≡ T.Place.meaning.content value.now) }

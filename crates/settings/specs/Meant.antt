@@ -1,14 +1,13 @@
 -- Which trees mean settings, and when two settings are the same: field by field, in the words of a user.
 use Rattle.std.specs.Prelude.{◌≡◌, ◌<◌, ◌^◌, ℕ, Bool, List, map, Option, Some, None, option_map, MatchOption, string_bytes, codes}
 use Rattle.miniserde.specs.Tree.{Tree, nonneg, str, truth, members, Members}
-use Rattle.miniserde.specs.Normal.{last_of}
 use Rattle.miniserde.specs.Leaf.{from_leaf}
 use Rattle.miniserde.specs.Words.{from_boolean, from_string}
 use Rattle.miniserde.specs.Integers.{from_unsigned}
 use Rattle.miniserde.specs.Lists.{ListReads, list_of}
 use Rattle.miniserde.specs.Options.{OptionReads, option_of}
 use Rattle.miniserde.specs.Maps.{MapReads, map_of, looked}
-use Rattle.miniserde.specs.Fields.{AllNamed}
+use Rattle.miniserde.specs.Fields.{Says}
 use Rattle.settings.specs.declared.types.Host.{Host}
 use Rattle.settings.specs.declared.types.Tls.{Tls}
 use Rattle.settings.specs.declared.types.Settings.{Settings}
@@ -16,10 +15,6 @@ use Rattle.settings.specs.declared.types.Settings.{Settings}
 -- the tree is a number below the limit
 abbrev pub IsBelow : ℕ → Tree → ℕ → Type 0
 IsBelow limit t n = (t ≡ nonneg n) × (n < limit)
-
--- each member of the name is one of the field's type, and the last one is as `Is` says; missing, where there is none
-abbrev pub Says : {C : Type 0} → Type 0 → (Tree → Type 0) → (Tree → Option C) → List ℕ → Members → Type 0
-Says missing Is accepted name ms = AllNamed accepted name ms × MatchOption (last_of name ms) missing Is
 
 -- the tree has a host's members: a text `host`, and a `weight` of at most 255
 abbrev pub IsHost : Tree → Host → Type 0

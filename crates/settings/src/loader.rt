@@ -5,10 +5,10 @@ ghost use Rattle.miniserde.specs.Value.{IsJson};
 ghost use Rattle.settings.specs.Meant.{AreSame, IsHost, IsTls, IsSettings};
 
 use crate::types::{Host, HostPlace, Settings, SettingsPlace, Tls, TlsPlace};
-use miniserde::de::{Ranged, Visitor};
+use miniserde::de::Visitor;
 use miniserde::json::{from_str, to_string};
 use miniserde::laws::text_has_one_tree;
-use miniserde::{Error, Lossless, Result, RoundTrip, Serialize};
+use miniserde::{Error, Result, Serialize, means_itself};
 use std::alloc::Global;
 
 // Does nothing. It promises which trees mean hosts and certificates.
@@ -40,17 +40,6 @@ pub fn load(alloc: Global, j: &str) -> Result<Settings>
     from_str(alloc, j)
 }
 
-// Does nothing. It promises that the tree of a value means that value, and nothing that counts otherwise.
-fn itself<T: Lossless>(value: &T)
-    ensures means { T.Place.meaning.reads (T.tree value.now) value.now }
-    ensures only { (v : T) → T.Place.meaning.reads (T.tree value.now) v
-        → T.Place.meaning.content v ≡ T.Place.meaning.content value.now }
-{
-    value.ranged();
-    T::again();
-    T::lossless();
-}
-
 /// The text of settings.
 pub fn save(alloc: Global, s: &Settings) -> Result<String>
     // It spells the tree of the settings, which means them, and nothing that counts otherwise.
@@ -62,7 +51,7 @@ pub fn save(alloc: Global, s: &Settings) -> Result<String>
     // It is refused only for memory.
     ensures memory { result ≡ Err Error.Invalid → ⊥ }
 {
-    itself(s);
+    means_itself(s);
     to_string(alloc, s)
 }
 

@@ -4,7 +4,7 @@ use Rattle.miniserde.specs.Tree.{str, truth, members}
 use Rattle.miniserde.specs.Leaf.{from_leaf}
 use Rattle.miniserde.specs.Words.{from_boolean, from_string}
 use Rattle.miniserde.specs.Integers.{from_unsigned, ReadsUnsigned}
-use Rattle.settings.proofs.Fields.{needs}
+use Rattle.miniserde.specs.Said.{needs}
 use Rattle.settings.proofs.loader.parts_meant.Goals as goal
 
 pub returns-clause-host : goal.returns-clause-host

@@ -10,7 +10,7 @@ use Rattle.settings.specs.contracts.types.HostPlaceVisitor.TheImpl as host
 use Rattle.settings.specs.contracts.types.TlsPlaceVisitor.TheImpl as tls
 use Rattle.settings.specs.contracts.types.SettingsPlaceVisitor.TheImpl as settings
 use Rattle.settings.specs.contracts.types.SettingsSerialize.TheImpl as written
-use Rattle.settings.proofs.Fields.{maps, option_maps}
+use Rattle.miniserde.specs.Said.{maps, option_maps}
 use Rattle.settings.proofs.loader.reloaded.Goals as goal
 
 same : (v w : Settings) → settings.ghosts.meaning.content v ≡ settings.ghosts.meaning.content w → AreSame v w

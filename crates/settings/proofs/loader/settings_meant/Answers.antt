@@ -11,7 +11,7 @@ use Rattle.miniserde.specs.Maps.{MapReads, map_of, looked}
 use Rattle.settings.specs.Meant.{IsHost, IsTls}
 use Rattle.settings.specs.contracts.types.HostPlaceVisitor.TheImpl as host
 use Rattle.settings.specs.contracts.types.TlsPlaceVisitor.TheImpl as tls
-use Rattle.settings.proofs.Fields.{needs, says, items, optional, none_counts}
+use Rattle.miniserde.specs.Said.{needs, says, items, optional, none_counts}
 use Rattle.settings.proofs.loader.settings_meant.Goals as goal
 
 pub returns : goal.returns

@@ -1,6 +1,6 @@
 -- The tree means some value, which has the same tree, and so the same content.
 use Rattle.std.proofs.Common.{◌≡◌, Option, Some, sym, ap, ◌∙◌}
-use Rattle.settings.proofs.loader.itself.Goals as goal
+use Rattle.miniserde_round.proofs.lossless.means_itself.Goals as goal
 
 pub returns-clause-means : goal.returns-clause-means
 returns-clause-means g c =
