@@ -19,10 +19,6 @@ pub fn answer(alloc: Global, word: &str) -> Result<String> {
             alloc,
             " {\"code\": 200, \"message\": \"reminiscent of Serde\"} ",
         ),
-        "strict-demo" => written::<StrictDemo>(
-            alloc,
-            "{\"z\":1,\"z\":{\"q\":0,\"q\":0},\"code\":1,\"message\":\"\"}",
-        ),
         "value" => written::<Value>(alloc, DOCUMENT),
         "keys" => written::<BTreeMap<u32, u32>>(alloc, "{\"007\":1,\"+7\":2}"),
         "example" => written::<Example>(
@@ -33,9 +29,6 @@ pub fn answer(alloc: Global, word: &str) -> Result<String> {
         "unfinished" => written::<Value>(alloc, "[1.50,"),
         "copied" => copied(alloc),
         "canonical" => canonical(alloc, "{ \"\u{e9}\" : \"\\u00e9\\/\" }"),
-        "unique" => canonical_unique(alloc, "{\"b\":2,\"a\":[{\"a\":1}]}"),
-        "repeated" => canonical_unique(alloc, "{\"a\":1,\"\\u0061\":1}"),
-        "repeated-inside" => canonical_unique(alloc, "[{\"x\":{\"k\":0,\"l\":1,\"k\":0}}]"),
         "collected" => to_string(alloc, &collected(alloc)?),
         "hashed" => hashed(alloc),
         "nested-array" => nested_array(alloc),
@@ -55,6 +48,20 @@ pub fn answer(alloc: Global, word: &str) -> Result<String> {
         "place" => places::value(alloc),
         "struct-place" => places::demo(alloc),
         "map-place" => places::map(alloc),
+        _ => repeats(alloc, word),
+    }
+}
+
+/// The answer of a scenario in which names may stand once alone.
+fn repeats(alloc: Global, word: &str) -> Result<String> {
+    match word {
+        "strict-demo" => written::<StrictDemo>(
+            alloc,
+            "{\"z\":1,\"z\":{\"q\":0,\"q\":0},\"code\":1,\"message\":\"\"}",
+        ),
+        "unique" => canonical_unique(alloc, "{\"b\":2,\"a\":[{\"a\":1}]}"),
+        "repeated" => canonical_unique(alloc, "{\"a\":1,\"\\u0061\":1}"),
+        "repeated-inside" => canonical_unique(alloc, "[{\"x\":{\"k\":0,\"l\":1,\"k\":0}}]"),
         _ => Err(Error::Invalid),
     }
 }
