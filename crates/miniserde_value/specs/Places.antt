@@ -5,7 +5,7 @@ use Rattle.miniserde_model.specs.Event.{Event}
 use Rattle.miniserde_model.specs.Distinct.{distinct}
 use Rattle.miniserde_text.specs.declared.error.Error.{Error}
 use Rattle.miniserde_text.specs.declared.error.Error.TheVariants.{Invalid}
-use Rattle.miniserde_place.specs.Place.{Shown, Meaning}
+use Rattle.miniserde_place.specs.Place.{Shown, Meaning, first_refusal}
 use Rattle.miniserde_ser.specs.Trees.{trees_of, members_of}
 use Rattle.miniserde_value.specs.declared.json.value.Value.{Value}
 use Rattle.miniserde_value.specs.declared.json.array.Array.{Array}
@@ -16,7 +16,7 @@ use Rattle.miniserde_value.specs.declared.json.unique.UniquePlace.{UniquePlace}
 use Rattle.miniserde_value.specs.declared.json.place.ArrayPlace.{ArrayPlace}
 use Rattle.miniserde_value.specs.declared.json.place.ObjectPlace.{ObjectPlace}
 use Rattle.miniserde_value.specs.Hole.{Hole, outside, depth, took, outcome}
-use Rattle.miniserde_value.specs.Unique.{once_outcome, kept_once}
+use Rattle.miniserde_value.specs.Unique.{repeats, took_once, once_outcome, kept_once}
 use Rattle.miniserde_value.specs.Builders.{hole_in}
 use Rattle.miniserde_value.specs.Kept.{kept}
 use Rattle.miniserde_value.specs.Values.{shape, Reads, array_items, object_entries, array_shape, object_shape}
@@ -64,6 +64,13 @@ abbrev pub steps : ValuePlace → Event → Result (Unit {0}) Error → ValuePla
 steps old e answer new =
     OnOk answer (took (due_in old) (hole_at old) e ≡ Some (due_in new, hole_at new))
     × (answer ≡ Err Invalid → refusal_of old ≡ None → took (due_in old) (hole_at old) e ≡ None)
+
+-- The same where no name may be repeated: a name that the innermost open object has is refused as invalid.
+abbrev pub steps_once : UniquePlace → Event → Result (Unit {0}) Error → UniquePlace → Type 0
+steps_once old e answer new =
+    (repeats e (hole_at old.place) ≡ true → answer ≡ Err (first_refusal (refusal_of old.place) Invalid))
+    × OnOk answer (took_once (due_in old.place) (hole_at old.place) e ≡ Some (due_in new.place, hole_at new.place))
+    × (answer ≡ Err Invalid → refusal_of old.place ≡ None → took_once (due_in old.place) (hole_at old.place) e ≡ None)
 
 -- a tree in which no name stands twice means the value, which keeps the tree
 abbrev pub ReadsUnique : Tree → Unique → Type 0

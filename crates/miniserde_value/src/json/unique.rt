@@ -48,13 +48,16 @@ pub struct UniquePlace {
 impl Visitor for UniquePlace {
     type Out = Unique;
 
-    ghost use Rattle.miniserde_value.specs.Places.{unique_meaning};
+    ghost use Rattle.miniserde_value.specs.Places.{unique_meaning, steps_once};
 
     ghost meaning = { unique_meaning };
 
     ghost begins_free = { true };
 
     ghost takes_free = { true };
+
+    // What an event makes of the hole: one that repeats a name is refused.
+    ghost further = { steps_once };
 
     fn begin(alloc: Global) -> Result<UniquePlace> {
         Ok(UniquePlace {
