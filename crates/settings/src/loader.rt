@@ -32,8 +32,10 @@ pub fn load(alloc: Global, j: &str) -> Result<Settings>
     ensures meant { let host = ⟦<HostPlace as Visitor>⟧.meaning.from_tree in let tls = ⟦<TlsPlace as Visitor>⟧.meaning.from_tree in
         IfOk result (λ s. (t : Tree) × IsJson j.now t × IsSettings host tls t s) }
 
-    // No tree of the text means any settings.
-    ensures invalid { let host = ⟦<HostPlace as Visitor>⟧.meaning.from_tree in let tls = ⟦<TlsPlace as Visitor>⟧.meaning.from_tree in
+    // No tree of the text means any settings, by either word.
+    ensures invalid { result ≡ Err Error.Invalid
+        → (t : Tree) → IsJson j.now t → (s : Settings) → ⟦<SettingsPlace as Visitor>⟧.meaning.reads t s → ⊥ }
+    ensures none { let host = ⟦<HostPlace as Visitor>⟧.meaning.from_tree in let tls = ⟦<TlsPlace as Visitor>⟧.meaning.from_tree in
         result ≡ Err Error.Invalid → (t : Tree) → IsJson j.now t → (s : Settings) → IsSettings host tls t s → ⊥ }
 {
     settings_meant();

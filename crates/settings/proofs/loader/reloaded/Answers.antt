@@ -39,4 +39,4 @@ pub returns-clause-memory : goal.returns-clause-memory
 returns-clause-memory c h =
     let u = written.ghosts.tree c.args.s.now in
     let j = subst (λ b. IsJson b u) (sym c.as_str.ensures.value) c.in_ok-text.ensures.spells in
-    c.load.ensures.invalid h u j c.args.s.now ((c.settings_meant.ensures u c.args.s.now).0 c.in_ok-text.ensures.means)
+    c.load.ensures.invalid h u j c.args.s.now c.in_ok-text.ensures.means
