@@ -1,4 +1,4 @@
--- What becomes of settings and of requests, and what a cache has.
+-- What becomes of settings and of requests.
 use Rattle.std.specs.Prelude.{ℕ, Some, String}
 use Rattle.std.specs.Global.{Global}
 use Rattle.settings.specs.declared.types.Settings.{Settings}

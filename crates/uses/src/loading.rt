@@ -16,6 +16,10 @@ pub fn moved(alloc: Global, text: &str, port: u16) -> Result<String>
     ensures ok { IfOk result (λ j. (t : Tree) × (s : Settings) × IsJson text.now t
         × ⟦<SettingsPlace as Visitor>⟧.meaning.reads t s
         × IsJson (string_bytes j) (⟦<Settings as Serialize>⟧.tree (at_port port s))) }
+
+    // No tree of the text means settings.
+    ensures invalid { result ≡ Err Error.Invalid
+        → (t : Tree) → IsJson text.now t → (s : Settings) → ⟦<SettingsPlace as Visitor>⟧.meaning.reads t s → ⊥ }
 {
     let mut settings = load(alloc, text)?;
     settings.port = port;

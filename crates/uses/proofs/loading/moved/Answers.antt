@@ -2,7 +2,7 @@
 use Rattle.std.proofs.lemmas.Result.{IfOk-weaker}
 use Rattle.uses.proofs.loading.moved.Goals as goal
 
-pub returns : goal.returns
-returns c =
+pub returns-clause-ok : goal.returns-clause-ok
+returns-clause-ok c =
     let r = c.in_ok-settings.ensures.ok in
-    record { ok = IfOk-weaker c.save.result _ _ (λ j h. (r.0, c.in_ok-settings.settings, r.1, r.2, h)) c.save.ensures.spells }
+    IfOk-weaker c.save.result _ _ (λ j h. (r.0, c.in_ok-settings.settings, r.1, r.2, h)) c.save.ensures.spells
