@@ -3,7 +3,7 @@
 
 slow.py PROGRAM [--only WORD]
 
-PROGRAM takes a type and a mode as words and a text on standard input, as `crates/typed_jobs` does. Each input is read as
+PROGRAM takes a type and a mode as words and a text on standard input, as `crates/test_driver` does. Each input is read as
 a document and written. Where the cost a byte grows by more than 1.3 times, the last line says so and the status is 1; an
 object's names are looked up in a tree, so there the logarithm of their number is taken off first.
 """

@@ -1,4 +1,4 @@
-//! The jobs of crates/typed_jobs with serde_json: `serde_json_jobs TYPE MODE`.
+//! The jobs of crates/test_driver with serde_json: `serde_json_jobs TYPE MODE`.
 use serde::de::{DeserializeOwned, IgnoredAny};
 use serde::{Deserialize, Serialize};
 use std::collections::BTreeMap;

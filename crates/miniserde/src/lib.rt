@@ -12,7 +12,6 @@ pub mod ser;
 pub use miniserde_canon::canon;
 pub use miniserde_de::de;
 pub use miniserde_de::de::Deserialize;
-pub use miniserde_demo::demo;
 pub use miniserde_record::record;
 pub use miniserde_round::{Lossless, NeverNull, RoundTrip, means_itself, read_again, read_itself};
 pub use miniserde_ser::ser::Serialize;

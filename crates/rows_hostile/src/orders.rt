@@ -1,7 +1,7 @@
 //! Places handed events in every order of four: each call returns, and the first refusal stands.
 
+use demo::Demo;
 use miniserde::de::{Deserialize, Visitor, ignore};
-use miniserde::demo::Demo;
 use miniserde::json::Value;
 use miniserde::{Error, Result};
 use std::alloc::Global;

@@ -1,7 +1,7 @@
 //! A struct that refuses a repeat of its own names, and of no others.
 
+use demo::StrictDemo;
 use miniserde::de::{Deserialize, Visitor};
-use miniserde::demo::StrictDemo;
 use miniserde::{Error, Result};
 use rows::first_other;
 use std::alloc::Global;

@@ -2,7 +2,7 @@
 
 use crate::hosts::{Config, Host};
 use crate::users::User;
-use miniserde::demo::Example;
+use demo::Example;
 use rows::first_wrong;
 use std::collections::BTreeMap;
 use std::test::Fail;

@@ -1,0 +1,12 @@
+//! The types of miniserde's documentation, as structs and unit enums of a user's own.
+#![tactic(auto)]
+
+mod example;
+mod strict;
+mod structs;
+mod tag;
+
+pub use example::{Example, ExamplePlace, Nested, NestedPlace};
+pub use strict::{StrictDemo, StrictDemoPlace};
+pub use structs::{Demo, DemoPlace, Point, PointPlace};
+pub use tag::Tag;

@@ -1,0 +1,77 @@
+//! A unit enum with renamed variants.
+ghost use Rattle.miniserde.specs.Tree.{str};
+ghost use Rattle.std.specs.Prelude.{Option, Some, None, List, [], ◌∷◌, codes, ⊤, refl};
+
+use miniserde::de::{Deserialize, Ranged};
+use miniserde::record::{NamePlace, UnitEnum, variant_again, variant_lossless};
+use miniserde::ser::{Fragment, Serialize, Writer};
+use miniserde::{Lossless, NeverNull, Result, RoundTrip};
+
+#[derive(Clone, Copy, PartialEq, Eq, Debug, Drop)]
+pub enum Tag {
+    A,
+    B,
+    Enum,
+}
+
+impl UnitEnum for Tag {
+    ghost use Rattle.demo.specs.declared.tag.Tag.TheVariants.{A, B, Enum};
+
+    ghost all = { A ∷ B ∷ Enum ∷ [] };
+
+    ghost name_of = { elim [ A ↦ codes "A" | B ↦ codes "renamedB" | Enum ↦ codes "enum" ] };
+
+    ghost found = { elim [ A ↦ refl | B ↦ refl | Enum ↦ refl ] };
+
+    fn values() -> &'static [Tag] {
+        &[Tag::A, Tag::B, Tag::Enum]
+    }
+
+    fn name(&self) -> &'static str {
+        match self {
+            Tag::A => "A",
+            Tag::B => "renamedB",
+            Tag::Enum => "enum",
+        }
+    }
+}
+
+impl Deserialize for Tag {
+    type Place = NamePlace<Tag>;
+
+    ghost absent = { None };
+
+    fn default() -> Option<Tag> {
+        None
+    }
+}
+
+impl Serialize for Tag {
+    ghost tree = { λ v. str (⟦<Tag as UnitEnum>⟧.name_of v) };
+
+    fn begin(&self, w: &mut Writer) -> Result<()> {
+        w.fragment(Fragment::Str(self.name()))
+    }
+}
+
+impl Ranged for Tag {
+    ghost real = { λ _. ⊤ };
+
+    fn ranged(&self) {}
+}
+
+impl RoundTrip for Tag {
+    fn again() {
+        variant_again::<Tag>()
+    }
+}
+
+impl Lossless for Tag {
+    fn lossless() {
+        variant_lossless::<Tag>()
+    }
+}
+
+impl NeverNull for Tag {
+    fn never_null() {}
+}
