@@ -50,9 +50,12 @@ class Crate:
         words += ["--antt-project", f"{KIT}/rattle/logic/antt-project.json", "--logic-built", f"{KIT}/logic_built"]
         return [*words, "--jobs", "1", "--links", f"{self.name}=", *["--test"] * tests, *flags]
 
-    def newest_source(self):
-        files = [*self.folder.glob("src/**/*"), *self.folder.glob("specs/**/*"), *self.folder.glob("proofs/**/*")]
-        return max(file.stat().st_mtime for file in files)
+    def sources(self):
+        return [file for part in ("src", "specs", "proofs") for file in self.folder.glob(f"{part}/**/*") if file.is_file()]
+
+    def size(self):
+        """Returns the bytes of the crate's sources and proofs."""
+        return sum(file.stat().st_size for file in self.sources())
 
     def is_built(self):
         """Whether the crate's library was built after its sources, and after the libraries below it."""
@@ -60,7 +63,7 @@ class Crate:
             return False
         built = (self.rlib / "format").stat().st_mtime
         below = [(it.rlib / "format").stat().st_mtime for it in self.libraries if (it.rlib / "format").is_file()]
-        return built >= max([self.newest_source(), *below])
+        return built >= max([*(file.stat().st_mtime for file in self.sources()), *below])
 
     def build_below(self):
         """Builds the libraries below the crate that no gate and no check has left behind."""
