@@ -1,0 +1,53 @@
+-- A list that is being read for an array of n: items beyond n make it none.
+use Rattle.std.proofs.Common.{◌≡◌, ℕ, Bool, true, false, List, [], ◌∷◌, ◌++◌, length, nat_eq, nat_lt, Option, Some, None, refl, sym, ap, ◌∙◌, arith}
+use Rattle.std.specs.Prelude.{option_and_then}
+use Rattle.std.proofs.lemmas.Bool.Decides.{nat_tests}
+use Rattle.std.proofs.lemmas.List.{length-append}
+use Rattle.miniserde_model.specs.Tree.{Tree, list, Trees, no_trees, tree}
+use Rattle.miniserde_model.specs.Event.{Event}
+use Rattle.miniserde_model.specs.Lexing.{in_list, Starts, Follows}
+use Rattle.miniserde_read.specs.meaning.Arrays.{exactly, array_of}
+use Rattle.miniserde_read.specs.Children.{all_children}
+use Rattle.miniserde_read.specs.Children.{added}
+use Rattle.miniserde_read.specs.Rest.{ElementsAt}
+use Rattle.miniserde_read.proofs.Lists.{ListGoes, each_all}
+use Rattle.miniserde_read.proofs.Steps.{elements_there}
+
+module _ {C : Type 0} (n : ℕ) (of : Tree → Option C) where
+  pub not_exactly : (xs : List C) → nat_eq (length xs) n ≡ false → exactly n xs ≡ None
+  not_exactly xs e = rw e refl
+
+  longer : (xs : List C) (c : C) → nat_lt n (length xs) ≡ true → nat_lt n (length (xs ++ c ∷ [])) ≡ true
+  longer xs c h = rw (length-append xs (c ∷ [])) (grind (arith, nat_tests))
+
+  one_longer : (xs : List C) (c : C) → length xs ≡ n → nat_lt n (length (xs ++ c ∷ [])) ≡ true
+  one_longer xs c h = rw (length-append xs (c ∷ [])) (grind (arith, nat_tests))
+
+  too_long : (xs : List C) (us : Trees) → nat_lt n (length xs) ≡ true → option_and_then (exactly n) (all_children (added of) xs us) ≡ None
+  too_long xs no_trees h = not_exactly xs (grind (arith, nat_tests))
+  too_long xs (tree t us) h = elim (of t) as (λ o. option_and_then (exactly n) (option_and_then (λ r. all_children (added of) r us) (option_and_then (λ c. Some (xs ++ c ∷ [])) o)) ≡ None) [
+    | None ↦ refl
+    | Some c ↦ too_long (xs ++ c ∷ []) us (longer xs c h)
+  ]
+
+  too_many : (xs : List C) (t : Tree) (us : Trees) → length xs ≡ n → option_and_then (exactly n) (all_children (added of) xs (tree t us)) ≡ None
+  too_many xs t us h = elim (of t) as (λ o. option_and_then (exactly n) (option_and_then (λ r. all_children (added of) r us) (option_and_then (λ c. Some (xs ++ c ∷ [])) o)) ≡ None) [
+    | None ↦ refl
+    | Some c ↦ too_long (xs ++ c ∷ []) us (one_longer xs c h)
+  ]
+
+  -- one more element, where there are n
+  pub array_full : (begin : List ℕ) (f : Bool) (s b c : List ℕ) (e : Event) (m : List C) → ListGoes (added of) [] begin f s m → Follows in_list f false s b → Starts b e c → length m ≡ n → (ts : Trees) (r : List ℕ) → ElementsAt ts true begin r → array_of n of (list ts) ≡ None
+  array_full begin f s b c e m g h k l ts r p =
+      let a = g.back ts r p in
+      let u = elements_there a.0 f s b c r e h k a.1 in
+      ap (option_and_then (exactly n)) (sym (each_all of ts) ∙ a.2 ∙ ap (all_children (added of) m) u.is) ∙ too_many m u.one u.more l
+
+  pub so_many : (xs : List C) → length xs ≡ n → exactly n xs ≡ Some xs
+  so_many xs h = let b : nat_eq (length xs) n ≡ true = grind (arith, nat_tests) in rw b refl
+
+  pub not_so_many : (xs : List C) → (length xs ≡ n → ⊥) → exactly n xs ≡ None
+  not_so_many xs h = elim (nat_eq (length xs) n) as (λ b. nat_eq (length xs) n ≡ b → exactly n xs ≡ None) [
+    | true ↦ λ e. let l : length xs ≡ n = grind (arith, nat_tests) in absurd (h l)
+    | false ↦ λ e. not_exactly xs e
+  ] refl

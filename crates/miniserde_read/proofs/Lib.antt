@@ -1,0 +1,14 @@
+pub mod Arrays
+pub mod Entries
+pub mod Fronts
+pub mod Inserts
+pub mod Json
+pub mod Leaves
+pub mod Length
+pub mod Lists
+pub mod Maps
+pub mod Objects
+pub mod Pairs
+pub mod Same
+pub mod Steps
+pub mod Turns

@@ -1,0 +1,107 @@
+-- The items so far are what the children so far give; the next child joins at the end.
+use Rattle.std.proofs.Common.{rules, false, ◌≡◌, [], ◌∷◌, ◌++◌, map, sym, ap, subst, ◌∙◌, arith}
+use Rattle.std.proofs.lemmas.List.{map-append}
+use Rattle.std.proofs.lemmas.Result.{err_from_is_err_and}
+use Rattle.miniserde_model.specs.Tree.{list}
+use Rattle.miniserde_model.specs.Event.{seq}
+use Rattle.miniserde_model.specs.Lexing.{in_list}
+use Rattle.miniserde_text.specs.Lexer.{front_of}
+use Rattle.miniserde_read.specs.meaning.Lists.{list_of}
+use Rattle.miniserde_read.specs.Children.{added}
+use Rattle.miniserde_read.specs.meaning.Arrays.{exactly, array_of}
+use Rattle.std.specs.Prelude.{option_and_then}
+use Rattle.miniserde_read.proofs.Arrays.{array_full, so_many, not_so_many}
+use Rattle.std.proofs.Common.{ℕ, length, Some, None}
+use Rattle.std.proofs.lemmas.List.{length-map}
+use Rattle.std.proofs.lemmas.Result.{IfOk-weaker}
+use Rattle.miniserde_model.specs.Tree.{Tree}
+use Rattle.miniserde_read.proofs.Fronts.{start_event}
+use Rattle.miniserde_read.proofs.Fronts.{start_less}
+use Rattle.miniserde_read.specs.Rest.{ValueAt}
+use Rattle.miniserde_read.specs.Source.{ElementFollows}
+use Rattle.miniserde_read.proofs.Length.{follows_least, value_least}
+use Rattle.miniserde_read.proofs.Lists.{ListGoes, list_goes, list_none, list_ends, list_ended, opened_list, each_all, added_some, added_none}
+use Rattle.miniserde_read.proofs.from_json.arrays.ArrayFromJson.read.Goals as goal
+
+pub read-requires-clause-event : goal.read-requires-clause-event
+read-requires-clause-event g c =
+    let h = subst (λ z. ElementFollows z c.element.new.self.scratch c.loop-items.first c.loop-items.source.rest c.element.new.self.rest) c.in-Some.is c.in_ok-token.ensures.ok in
+    start_event _ _ _ h.2
+
+pub returns-in_err-read-clause-invalid : goal.returns-in_err-read-clause-invalid
+returns-in_err-read-clause-invalid g c = λ e t r p.
+    let w = err_from_is_err_and c.from_residual-in_err-read.result c.from_residual-in_err-read.ensures.1 in
+    let of = g.T.FromJson.means.from_tree in
+    let s = c.args.source.now.rest in
+    let m = map g.T.FromJson.means.content c.loop-items.items.items in
+    let q : ValueAt t seq s r = subst (λ z. ValueAt t (front_of z c.args.source.now.scratch) s r) c.in-SeqStart.is p in
+    let o = opened_list t s r q in
+    let h = subst (λ z. ElementFollows z c.element.new.self.scratch c.loop-items.first c.loop-items.source.rest c.element.new.self.rest) c.in-Some.is c.in_ok-token.ensures.ok in
+    let n = list_none (added of) [] s c.loop-items.first c.loop-items.source.rest h.0 c.element.new.self.rest (front_of c.in-Some.token c.element.new.self.scratch) m c.loop-items.invariant.goes h.1 h.2 (λ u d v. added_none of m u (c.in_err-read.ensures.invalid (cc (w.1, w.2, e)) u d v)) o.0 r o.2 in
+    ap (array_of g.row.N of) o.1 ∙ ap (option_and_then (exactly g.row.N)) (sym (each_all of o.0) ∙ n)
+
+pub loop-items-smaller : goal.loop-items-smaller
+loop-items-smaller g c =
+    let h = subst (λ z. ElementFollows z c.element.new.self.scratch c.loop-items.first c.loop-items.source.rest c.element.new.self.rest) c.in-Some.is c.in_ok-token.ensures.ok in
+    let v = c.in_ok-read.ensures.ok in
+    let a = follows_least in_list c.loop-items.first false _ h.0 h.1 in
+    let b = start_less h.0 _ c.element.new.self.rest h.2 in
+    let d = value_least v.0 _ c.element.new.self.rest c.read.new.source.rest v.1 in
+    omega (arith, a, b, d)
+
+pub loop-items-preserved : goal.loop-items-preserved
+loop-items-preserved g c =
+    let of = g.T.FromJson.means.from_tree in
+    let content = g.T.FromJson.means.content in
+    let s = c.args.source.now.rest in
+    let items = c.loop-items.items.items in
+    let m = map content items in
+    let h = subst (λ z. ElementFollows z c.element.new.self.scratch c.loop-items.first c.loop-items.source.rest c.element.new.self.rest) c.in-Some.is c.in_ok-token.ensures.ok in
+    let v = c.in_ok-read.ensures.ok in
+    let i : c.push.new.self.items ≡ items ++ c.in_ok-read.field-0 ∷ [] = search rules in
+    let j : m ++ content c.in_ok-read.field-0 ∷ [] ≡ map content c.push.new.self.items = sym (ap (map content) i ∙ map-append content items (c.in_ok-read.field-0 ∷ [])) in
+    record {
+      going = c.in_ok-read.ensures.going;
+      goes = subst (λ z. ListGoes (added of) [] s false c.read.new.source.rest z) j
+          (list_goes (added of) [] s c.loop-items.first c.loop-items.source.rest h.0 c.element.new.self.rest c.read.new.source.rest (front_of c.in-Some.token c.element.new.self.scratch) v.0 m (m ++ content c.in_ok-read.field-0 ∷ []) c.loop-items.invariant.goes h.1 h.2 v.1 (added_some of m v.0 (content c.in_ok-read.field-0) v.2));
+    }
+
+pub returns-then-len-clause-invalid : goal.returns-then-len-clause-invalid
+returns-then-len-clause-invalid g c = λ e t r p.
+    let of = g.T.FromJson.means.from_tree in
+    let s = c.args.source.now.rest in
+    let items = c.loop-items.items.items in
+    let m = map g.T.FromJson.means.content items in
+    let q : ValueAt t seq s r = subst (λ z. ValueAt t (front_of z c.args.source.now.scratch) s r) c.in-SeqStart.is p in
+    let o = opened_list t s r q in
+    let h = subst (λ z. ElementFollows z c.element.new.self.scratch c.loop-items.first c.loop-items.source.rest c.element.new.self.rest) c.in-Some.is c.in_ok-token.ensures.ok in
+    let l : length items ≡ g.row.N = search rules in
+    ap (array_of g.row.N of) o.1 ∙ array_full g.row.N of s c.loop-items.first c.loop-items.source.rest h.0 c.element.new.self.rest (front_of c.in-Some.token c.element.new.self.scratch) m c.loop-items.invariant.goes h.1 h.2 (length-map items g.T.FromJson.means.content ∙ l) o.0 r o.2
+
+pub returns-clause-ok : goal.returns-clause-ok
+returns-clause-ok g c =
+    let of = g.T.FromJson.means.from_tree in
+    let content = g.T.FromJson.means.content in
+    let s = c.args.source.now.rest in
+    let items = c.loop-items.items.items in
+    let m = map content items in
+    let x = c.element.new.self.rest in
+    let h = subst (λ z. ElementFollows z c.element.new.self.scratch c.loop-items.first c.loop-items.source.rest x) c.in_default-2.is c.in_ok-token.ensures.ok in
+    let d = list_ends (added of) [] s c.loop-items.first c.loop-items.source.rest x m c.loop-items.invariant.goes h in
+    let all : list_of of (list d.0) ≡ Some m = sym (each_all of d.0) ∙ d.2 in
+    IfOk-weaker c.array_from.result (λ v. (v ≡ items) × (length items ≡ g.row.N)) (λ v. (t : Tree) × ValueAt t (front_of c.args.token c.args.source.now.scratch) s x × (array_of g.row.N of t ≡ Some (map content v)))
+    (λ v k. (list d.0, (ap (λ z. front_of z c.args.source.now.scratch) c.in-SeqStart.is, d.1), ap (option_and_then (exactly g.row.N)) all ∙ so_many g.row.N of m (length-map items content ∙ k.1) ∙ ap (λ z. Some (map content z)) (sym k.0))) c.array_from.ensures.ok
+
+pub returns-clause-invalid : goal.returns-clause-invalid
+returns-clause-invalid g c = λ e t r p.
+    let of = g.T.FromJson.means.from_tree in
+    let content = g.T.FromJson.means.content in
+    let s = c.args.source.now.rest in
+    let items = c.loop-items.items.items in
+    let m = map content items in
+    let x = c.element.new.self.rest in
+    let q : ValueAt t seq s r = subst (λ z. ValueAt t (front_of z c.args.source.now.scratch) s r) c.in-SeqStart.is p in
+    let o = opened_list t s r q in
+    let h = subst (λ z. ElementFollows z c.element.new.self.scratch c.loop-items.first c.loop-items.source.rest x) c.in_default-2.is c.in_ok-token.ensures.ok in
+    let d = list_ended (added of) [] s c.loop-items.first c.loop-items.source.rest x m c.loop-items.invariant.goes h o.0 r o.2 in
+    ap (array_of g.row.N of) o.1 ∙ ap (option_and_then (exactly g.row.N)) (sym (each_all of o.0) ∙ d) ∙ not_so_many g.row.N of m (λ l. c.array_from.ensures.invalid e (sym (length-map items content) ∙ l))

@@ -1,0 +1,18 @@
+-- The children of a list in their order, each by the state after those before it.
+use Rattle.std.specs.Prelude.{List, [], ◌∷◌, ◌++◌, Option, Some, None, option_and_then, option_map}
+use Rattle.miniserde_model.specs.Tree.{Tree, Trees, no_trees, tree}
+
+-- f gives the state after one more child
+abbrev pub all_children : {S : Type 0} → (S → Tree → Option S) → S → Trees → Option S
+all_children f s no_trees = Some s
+all_children f s (tree t ts) = option_and_then (λ r. all_children f r ts) (f s t)
+
+-- one more item at the end
+abbrev pub added : {C X : Type 0} → (X → Option C) → List C → X → Option (List C)
+added f xs x = option_and_then (λ c. Some (xs ++ c ∷ [])) (f x)
+
+-- one more part of a pair: the first, then the second, and no third
+abbrev pub pair_next : {A B X : Type 0} → (X → Option A) → (X → Option B) → Option A × Option B → X → Option (Option A × Option B)
+pair_next f g (None, b) x = option_map (λ a. (Some a, b)) (f x)
+pair_next f g (Some a, None) x = option_map (λ b. (Some a, Some b)) (g x)
+pair_next f g (Some a, Some b) x = None

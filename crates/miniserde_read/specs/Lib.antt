@@ -1,0 +1,9 @@
+pub mod Children
+pub mod Meanings
+pub mod Meant
+pub mod Rest
+pub mod Source
+pub mod Step
+pub mod laws
+pub mod meaning
+pub mod private

@@ -1,0 +1,52 @@
+-- What a text spells behind the first token of a value, by cases on the tree. Each step is one of a lexer's
+-- (`Starts`, `Names` and `Follows`).
+use Rattle.std.specs.Prelude.{◌≡◌, ℕ, Bool, true, false, List}
+use Rattle.miniserde_model.specs.Tree.{Tree, null, truth, nonneg, neg, num, str, list, members, Trees, no_trees, tree, Members, no_members, member}
+use Rattle.miniserde_model.specs.Event.{Event, nothing, boolean, string, negative, nonnegative, float, seq, map}
+use Rattle.miniserde_model.specs.Lexing.{in_list, in_members, Starts, Names, Follows}
+
+-- What leads to an element, the element's first event, the rest V of the element, and then K.
+pub record OneElement (V : Event → List ℕ → List ℕ → Type 0) (K : List ℕ → List ℕ → Type 0) (first : Bool) (s r : List ℕ) : Type 0 where
+  pub begin : List ℕ
+  pub event : Event
+  pub behind : List ℕ
+  pub rest : List ℕ
+  pub follows : Follows in_list first false s begin
+  pub starts : Starts begin event behind
+  pub is_value : V event behind rest
+  pub is_rest : K rest r
+
+-- What leads to a member, its name, its value's first event, the rest V of the value, and then K.
+pub record OneMember (name : List ℕ) (V : Event → List ℕ → List ℕ → Type 0) (K : List ℕ → List ℕ → Type 0) (first : Bool) (s r : List ℕ) : Type 0 where
+  pub begin : List ℕ
+  pub named : List ℕ
+  pub event : Event
+  pub behind : List ℕ
+  pub rest : List ℕ
+  pub follows : Follows in_members first false s begin
+  pub names : Names begin name named
+  pub starts : Starts named event behind
+  pub is_value : V event behind rest
+  pub is_rest : K rest r
+
+abbrev mutual
+  -- The event and what stands behind it, up to r, spell the tree.
+  pub ValueAt : Tree → Event → List ℕ → List ℕ → Type 0
+  ValueAt null e s r = (e ≡ nothing) × (r ≡ s)
+  ValueAt (truth x) e s r = (e ≡ boolean x) × (r ≡ s)
+  ValueAt (nonneg n) e s r = (e ≡ nonnegative n) × (r ≡ s)
+  ValueAt (neg n) e s r = (e ≡ negative n) × (r ≡ s)
+  ValueAt (num x) e s r = (e ≡ float x) × (r ≡ s)
+  ValueAt (str x) e s r = (e ≡ string x) × (r ≡ s)
+  ValueAt (list ts) e s r = (e ≡ seq) × ElementsAt ts true s r
+  ValueAt (members ms) e s r = (e ≡ map) × MembersAt ms true s r
+
+  -- What stands in a list, behind its opening bracket or not, up to and with its closing bracket, spells the elements.
+  pub ElementsAt : Trees → Bool → List ℕ → List ℕ → Type 0
+  ElementsAt no_trees first s r = Follows in_list first true s r
+  ElementsAt (tree t ts) first s r = OneElement (ValueAt t) (ElementsAt ts false) first s r
+
+  -- The same of an object.
+  pub MembersAt : Members → Bool → List ℕ → List ℕ → Type 0
+  MembersAt no_members first s r = Follows in_members first true s r
+  MembersAt (member name t ms) first s r = OneMember name (ValueAt t) (MembersAt ms false) first s r

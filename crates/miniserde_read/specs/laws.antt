@@ -1,0 +1,7 @@
+pub mod Arrays
+pub mod Integers
+pub mod Lists
+pub mod Maps
+pub mod Options
+pub mod Pairs
+pub mod Words

@@ -1,0 +1,8 @@
+pub mod Arrays
+pub mod Integers
+pub mod Lists
+pub mod Maps
+pub mod Objects
+pub mod Options
+pub mod Pairs
+pub mod Words

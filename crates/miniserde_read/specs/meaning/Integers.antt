@@ -1,0 +1,34 @@
+-- What an integer type of so many bits makes of trees.
+use Rattle.std.specs.Prelude.{◌≡◌, ◌<◌, ◌-◌, ◌^◌, ℕ, ℤ, pos, negsuc, Bool, true, false, Option, Some, None, nat_lt, if◌then◌else◌}
+use Rattle.miniserde_model.specs.Tree.{Tree, nonneg, neg}
+
+-- at least 0, and below 2 ^ bits
+abbrev pub fits_unsigned : ℕ → ℤ → Bool
+fits_unsigned bits (pos n) = nat_lt n (2 ^ bits)
+fits_unsigned bits (negsuc n) = false
+
+-- at least - 2 ^ (bits - 1), and below 2 ^ (bits - 1)
+abbrev pub fits_signed : ℕ → ℤ → Bool
+fits_signed bits (pos n) = nat_lt n (2 ^ (bits - 1))
+fits_signed bits (negsuc n) = nat_lt n (2 ^ (bits - 1))
+
+-- an unsigned type takes no integer that is written with a minus
+abbrev pub unsigned_of : ℕ → Tree → Option ℤ
+unsigned_of bits (nonneg n) = if fits_unsigned bits (pos n) then Some (pos n) else None
+unsigned_of bits _ = None
+
+-- a signed type takes both
+abbrev pub signed_of : ℕ → Tree → Option ℤ
+signed_of bits (nonneg n) = if fits_signed bits (pos n) then Some (pos n) else None
+signed_of bits (neg z) = if fits_signed bits z then Some z else None
+signed_of bits _ = None
+
+-- the tree means the unsigned number: it is that number, written without a minus, and in range
+abbrev pub ReadsUnsigned : ℕ → Tree → ℕ → Type 0
+ReadsUnsigned bits t n = (t ≡ nonneg n) × (n < 2 ^ bits)
+
+-- the tree means the signed number: it is that number, and in range
+abbrev pub ReadsSigned : ℕ → Tree → ℤ → Type 0
+ReadsSigned bits (nonneg n) z = (pos n ≡ z) × (fits_signed bits z ≡ true)
+ReadsSigned bits (neg m) z = (m ≡ z) × (fits_signed bits z ≡ true)
+ReadsSigned bits _ z = ⊥

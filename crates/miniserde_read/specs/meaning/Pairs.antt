@@ -1,0 +1,18 @@
+-- What a pair makes of trees.
+use Rattle.std.specs.Prelude.{Option, Some, None, option_and_then, option_map}
+use Rattle.miniserde_model.specs.Tree.{Tree, list, no_trees, tree}
+
+-- the tree is a list of exactly two, and each child means its part of the pair
+abbrev pub PairReads : {T U : Type 0} → (Tree → T → Type 0) → (Tree → U → Type 0) → Tree → T × U → Type 0
+PairReads R S (list (tree t (tree u no_trees))) v = R t v.0 × S u v.1
+PairReads R S _ v = ⊥
+
+module _ {A B : Type 0} where
+  -- the pair, if both parts are there
+  abbrev pub both : Option A × Option B → Option (A × B)
+  both s = option_and_then (λ a. option_map (λ b. (a, b)) s.1) s.0
+
+  -- what a list of exactly two gives
+  abbrev pub pair_of : (Tree → Option A) → (Tree → Option B) → Tree → Option (A × B)
+  pair_of f g (list (tree t (tree u no_trees))) = both (f t, g u)
+  pair_of f g _ = None

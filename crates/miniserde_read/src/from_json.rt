@@ -1,0 +1,50 @@
+//! Types that read themselves from a JSON text.
+ghost use Rattle.std.specs.Prelude.{◌≡◌, Bool, true, false, List, ℕ, Option, None, Some, Ok, Err, IfOk, IfErr};
+ghost use Rattle.miniserde_model.specs.Tree.{Tree};
+ghost use Rattle.miniserde_text.specs.Lexer.{front_of};
+ghost use Rattle.miniserde_text.specs.declared.error.Error.{Error};
+ghost use Rattle.miniserde_read.specs.Meant.{Meant};
+ghost use Rattle.miniserde_read.specs.Rest.{ValueAt};
+ghost use Rattle.miniserde_read.specs.Step.{IsTreeEvent};
+
+mod arrays;
+mod boxes;
+mod leaves;
+mod maps;
+mod options;
+mod pairs;
+mod sequences;
+
+use crate::source::Source;
+use miniserde_text::error::{Error, Result};
+use miniserde_text::json::lex::Event;
+
+/// A type that reads itself from a JSON text (RFC 8259).
+pub trait FromJson: Sized + Drop {
+    // Which trees mean which values.
+    ghost means: { Meant Self };
+
+    // The value of a struct's field that is missing.
+    ghost absent: { Option Self } = { None };
+
+    // `read` allocates nothing.
+    ghost read_infallible: { Bool } = { false };
+
+    /// Returns the value of a struct's field that is missing, or `None` if such a struct is invalid.
+    fn missing() -> Option<Self>
+        ensures { result ≡ absent };
+
+    /// Reads one value, whose first token is `token`, and no further. Returns `Invalid` if no beginning of the text
+    /// spells a value of the type.
+    fn read<'a>(token: Event<'a>, source: &mut Source<'a>) -> Result<Self>
+        requires going { source.old.refused ≡ None }
+        requires event { IsTreeEvent (front_of token source.old.scratch) }
+        ensures going { IfOk result (λ _. source.new.refused ≡ None) }
+        ensures ok { IfOk result (λ v. (t : Tree)
+            × ValueAt t (front_of token.entry source.old.scratch) source.old.rest source.new.rest
+            × (means.from_tree t ≡ Some (means.content v))) }
+        ensures invalid { result ≡ Err Error.Invalid → (t : Tree) (r : List ℕ)
+            → ValueAt t (front_of token.entry source.old.scratch) source.old.rest r
+            → means.from_tree t ≡ None }
+        ensures infallible { read_infallible ≡ true → IfErr result (λ e. e ≡ Error.Invalid) };
+}

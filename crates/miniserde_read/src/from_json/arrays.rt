@@ -1,0 +1,41 @@
+//! Arrays.
+ghost use Rattle.std.specs.Prelude.{◌≡◌, length, Ok, Err, IfOk};
+ghost use Rattle.miniserde_text.specs.declared.error.Error.{Error};
+ghost use Rattle.miniserde_read.specs.Meanings.{array_meant};
+
+use super::FromJson;
+use crate::source::Source;
+use miniserde_text::error::{Error, Result};
+use miniserde_text::json::lex::Event;
+
+impl<T: FromJson, const N: usize> FromJson for [T; N] {
+    ghost means = { array_meant N T.means (λ v. v) };
+
+    fn missing() -> Option<[T; N]> {
+        None
+    }
+
+    fn read<'a>(token: Event<'a>, source: &mut Source<'a>) -> Result<[T; N]> {
+        let Event::SeqStart = token else {
+            return Err(Error::Invalid);
+        };
+        let mut items = Vec::new(source.alloc());
+        let mut first = true;
+        while let Some(token) = source.element(first)? {
+            if items.len() == N {
+                return Err(Error::Invalid);
+            }
+            items.push(T::read(token, source)?)?;
+            first = false;
+        }
+        array_from(items)
+    }
+}
+
+// Returns the items as an array, or `Invalid` if there are not exactly N.
+fn array_from<T: Drop, const N: usize>(items: Vec<T>) -> Result<[T; N]>
+    ensures ok { IfOk result (λ v. (v ≡ items.items) × (length items.items ≡ N)) }
+    ensures invalid { result ≡ Err Error.Invalid → length items.items ≡ N → ⊥ }
+{
+    <[T; N]>::try_from(items).ok().ok_or(Error::Invalid)
+}

@@ -1,0 +1,19 @@
+//! Boxed values.
+ghost use Rattle.miniserde_read.specs.Meanings.{box_meant};
+
+use super::FromJson;
+use crate::source::Source;
+use miniserde_text::error::Result;
+use miniserde_text::json::lex::Event;
+
+impl<T: FromJson> FromJson for Box<T> {
+    ghost means = { box_meant T.means (λ b. b.value) };
+
+    fn missing() -> Option<Box<T>> {
+        None
+    }
+
+    fn read<'a>(token: Event<'a>, source: &mut Source<'a>) -> Result<Box<T>> {
+        Ok(Box::new(source.alloc(), T::read(token, source)?)?)
+    }
+}

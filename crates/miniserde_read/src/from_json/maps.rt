@@ -1,0 +1,133 @@
+//! Maps, ordered by their keys or hashed.
+ghost use Rattle.std.specs.Prelude.{◌≡◌, [], List, ℕ, None, Some, Ok, Err, IfOk, OnErr, IsErrOf};
+ghost use Rattle.miniserde_model.specs.Tree.{Tree};
+ghost use Rattle.miniserde_text.specs.Lexer.{front_of};
+ghost use Rattle.miniserde_text.specs.declared.error.Error.{Error};
+ghost use Rattle.miniserde_text.specs.declared.error.Error.TheVariants.{Memory};
+ghost use Rattle.miniserde_read.specs.Meanings.{map_meant};
+ghost use Rattle.miniserde_read.specs.Rest.{ValueAt};
+ghost use Rattle.miniserde_read.specs.Step.{IsTreeEvent};
+ghost use Rattle.miniserde_read.specs.meaning.Maps.{looked, with_entry};
+
+use super::FromJson;
+use crate::source::Source;
+use miniserde_keys::MapKey;
+use miniserde_text::error::{Error, Result};
+use miniserde_text::json::lex::Event;
+use std::alloc::Global;
+use std::collections::{BTreeMap, HashMap};
+use std::hash::{BuildHasher, Hash};
+
+/// A map to which entries are added one by one.
+pub trait Table: Drop {
+    type Key: MapKey;
+
+    type Value: Drop;
+
+    // The entries, in the order of iteration.
+    ghost entries: { Self → List (Self.Key × Self.Value) };
+
+    /// Returns an empty map. Allocates nothing.
+    fn new(alloc: Global) -> Self
+        ensures { entries result ≡ [] };
+
+    /// Adds an entry. If an equal key is there, that key stays and its value is replaced. Returns `Memory` if the map
+    /// cannot grow.
+    fn put(&mut self, key: Self::Key, value: Self::Value) -> Result<()>
+        ensures put { IfOk result (λ _.
+            looked Self.Key.code Self.Key.content (λ v. v) (entries self.new) ≡ with_entry Self.Key.code
+            (looked Self.Key.code Self.Key.content (λ v. v) (entries self.old)) (Self.Key.content key) value) }
+        ensures memory { OnErr result (IsErrOf result Memory) };
+}
+
+impl<K: MapKey + Ord, V: Drop> Table for BTreeMap<K, V> {
+    type Key = K;
+
+    type Value = V;
+
+    ghost entries = { λ m. m.entries };
+
+    fn new(alloc: Global) -> BTreeMap<K, V> {
+        BTreeMap::new(alloc)
+    }
+
+    #[inline(always)]
+    fn put(&mut self, key: K, value: V) -> Result<()> {
+        self.insert(key, value)?;
+        Ok(())
+    }
+}
+
+impl<K: MapKey + Hash, V: Drop, H: BuildHasher + Default + Drop> Table for HashMap<K, V, H> {
+    type Key = K;
+
+    type Value = V;
+
+    ghost entries = { λ m. m.entries };
+
+    fn new(alloc: Global) -> HashMap<K, V, H> {
+        HashMap::with_hasher(alloc, H::default())
+    }
+
+    #[inline(always)]
+    fn put(&mut self, key: K, value: V) -> Result<()> {
+        HashMap::insert(self, key, value)?;
+        Ok(())
+    }
+}
+
+/// Reads a map, member by member.
+#[inline(always)]
+fn read_table<'a, V: FromJson, M: Table<Value = V>>(
+    token: Event<'a>,
+    source: &mut Source<'a>,
+) -> Result<M>
+    requires going { source.old.refused ≡ None }
+    requires event { IsTreeEvent (front_of token source.old.scratch) }
+    ensures going { IfOk result (λ _. source.new.refused ≡ None) }
+    ensures ok { IfOk result (λ v. (t : Tree)
+        × ValueAt t (front_of token.entry source.old.scratch) source.old.rest source.new.rest
+        × ((map_meant M.Key.read M.Key.code M.Key.content V.means M.entries).from_tree t
+        ≡ Some ((map_meant M.Key.read M.Key.code M.Key.content V.means M.entries).content v))) }
+    ensures invalid { result ≡ Err Error.Invalid → (t : Tree) (r : List ℕ)
+        → ValueAt t (front_of token.entry source.old.scratch) source.old.rest r
+        → (map_meant M.Key.read M.Key.code M.Key.content V.means M.entries).from_tree t ≡ None }
+{
+    let Event::MapStart = token else {
+        return Err(Error::Invalid);
+    };
+    let mut table = M::new(source.alloc());
+    let mut first = true;
+    while let Some(name) = source.name(first)? {
+        let key = <M::Key as MapKey>::from_key(source.alloc(), source.text(name))?;
+        let token = source.token()?;
+        let value = V::read(token, source)?;
+        table.put(key, value)?;
+        first = false;
+    }
+    Ok(table)
+}
+
+impl<K: MapKey + Ord, V: FromJson> FromJson for BTreeMap<K, V> {
+    ghost means = { map_meant K.read K.code K.content V.means (λ v. v.entries) };
+
+    fn missing() -> Option<BTreeMap<K, V>> {
+        None
+    }
+
+    fn read<'a>(token: Event<'a>, source: &mut Source<'a>) -> Result<BTreeMap<K, V>> {
+        read_table(token, source)
+    }
+}
+
+impl<K: MapKey + Hash, V: FromJson, H: BuildHasher + Default + Drop> FromJson for HashMap<K, V, H> {
+    ghost means = { map_meant K.read K.code K.content V.means (λ v. v.entries) };
+
+    fn missing() -> Option<HashMap<K, V, H>> {
+        None
+    }
+
+    fn read<'a>(token: Event<'a>, source: &mut Source<'a>) -> Result<HashMap<K, V, H>> {
+        read_table(token, source)
+    }
+}

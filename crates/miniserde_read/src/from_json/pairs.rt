@@ -1,0 +1,33 @@
+//! Pairs.
+ghost use Rattle.miniserde_read.specs.Meanings.{pair_meant};
+
+use super::FromJson;
+use crate::source::Source;
+use miniserde_text::error::{Error, Result};
+use miniserde_text::json::lex::Event;
+
+impl<A: FromJson, B: FromJson> FromJson for (A, B) {
+    ghost means = { pair_meant A.means B.means (λ v. v.0) (λ v. v.1) };
+
+    fn missing() -> Option<(A, B)> {
+        None
+    }
+
+    fn read<'a>(token: Event<'a>, source: &mut Source<'a>) -> Result<(A, B)> {
+        let Event::SeqStart = token else {
+            return Err(Error::Invalid);
+        };
+        let Some(token) = source.element(true)? else {
+            return Err(Error::Invalid);
+        };
+        let first = A::read(token, source)?;
+        let Some(token) = source.element(false)? else {
+            return Err(Error::Invalid);
+        };
+        let second = B::read(token, source)?;
+        match source.element(false)? {
+            None => Ok((first, second)),
+            Some(_) => Err(Error::Invalid),
+        }
+    }
+}

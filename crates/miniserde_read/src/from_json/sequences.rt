@@ -1,0 +1,28 @@
+//! Lists.
+ghost use Rattle.miniserde_read.specs.Meanings.{list_meant};
+
+use super::FromJson;
+use crate::source::Source;
+use miniserde_text::error::{Error, Result};
+use miniserde_text::json::lex::Event;
+
+impl<T: FromJson> FromJson for Vec<T> {
+    ghost means = { list_meant T.means (λ v. v.items) };
+
+    fn missing() -> Option<Vec<T>> {
+        None
+    }
+
+    fn read<'a>(token: Event<'a>, source: &mut Source<'a>) -> Result<Vec<T>> {
+        let Event::SeqStart = token else {
+            return Err(Error::Invalid);
+        };
+        let mut items = Vec::new(source.alloc());
+        let mut first = true;
+        while let Some(token) = source.element(first)? {
+            items.push(T::read(token, source)?)?;
+            first = false;
+        }
+        Ok(items)
+    }
+}

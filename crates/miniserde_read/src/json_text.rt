@@ -1,0 +1,32 @@
+//! Whole texts.
+ghost use Rattle.std.specs.Prelude.{◌≡◌, List, ℕ, None, Some, Ok, Err, IfOk};
+ghost use Rattle.miniserde_model.specs.Tree.{Tree};
+ghost use Rattle.miniserde_model.specs.Value.{IsJson};
+ghost use Rattle.miniserde_text.specs.declared.error.Error.{Error};
+
+use crate::from_json::FromJson;
+use crate::source::Source;
+use miniserde_text::error::Result;
+use std::alloc::Global;
+
+/// Parses one JSON value that spans the whole text (RFC 8259, section 2).
+pub fn from_str<T: FromJson>(alloc: Global, j: &str) -> Result<T>
+    // The text means the value.
+    ensures ok { IfOk result (λ v. (t : Tree) × IsJson j.now t × T.means.reads t v) }
+    ensures content { IfOk result (λ v.
+        (t : Tree) × IsJson j.now t × (T.means.from_tree t ≡ Some (T.means.content v))) }
+
+    // It has no tree, or one that means no value.
+    ensures invalid { result ≡ Err Error.Invalid
+        → (t : Tree) → IsJson j.now t → (v : T) → T.means.reads t v → ⊥ }
+    ensures none { result ≡ Err Error.Invalid → (t : Tree) → IsJson j.now t → T.means.from_tree t ≡ None }
+
+    // No text has two trees.
+    ensures one { (t u : Tree) → IsJson j.now t → IsJson j.now u → t ≡ u }
+{
+    let mut source = Source::new(alloc, j);
+    let token = source.token()?;
+    let value = T::read(token, &mut source)?;
+    source.end()?;
+    Ok(value)
+}

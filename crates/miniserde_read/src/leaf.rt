@@ -1,0 +1,52 @@
+//! Types whose values are single tokens.
+ghost use Rattle.std.specs.Prelude.{◌≡◌, Bool, true, false, List, ℕ, None, Some, Ok, Err, IfOk, IfErr};
+ghost use Rattle.miniserde_model.specs.Tree.{Tree};
+ghost use Rattle.miniserde_text.specs.Lexer.{front_of};
+ghost use Rattle.miniserde_text.specs.declared.error.Error.{Error};
+ghost use Rattle.miniserde_read.specs.Meant.{Meant};
+ghost use Rattle.miniserde_read.specs.Rest.{ValueAt};
+ghost use Rattle.miniserde_read.specs.Step.{event_of, IsTreeEvent, on_leaf, OnlyLeaves};
+
+mod integers;
+mod words;
+
+use crate::source::Source;
+use crate::step::Step;
+use miniserde_text::error::{Error, Result};
+use miniserde_text::json::lex::Event;
+use std::alloc::Global;
+
+/// A type whose values are `null`, booleans, numbers or strings: one token each.
+pub trait Leaf: Drop {
+    // Which trees mean which values.
+    ghost means: { Meant Self };
+
+    // No list and no object means a value.
+    ghost only_leaves: { OnlyLeaves means.from_tree };
+
+    // `from_step` allocates nothing.
+    ghost read_infallible: { Bool } = { false };
+
+    /// Returns the value of an event, or `Invalid` if the event is of another kind or out of range.
+    fn from_step(alloc: Global, event: Step<'_>) -> Result<Self>
+        requires { IsTreeEvent (event_of event) }
+        ensures ok { IfOk result (λ v. on_leaf means.from_tree (event_of event.entry) ≡ Some (means.content v)) }
+        ensures invalid { result ≡ Err Error.Invalid → on_leaf means.from_tree (event_of event.entry) ≡ None }
+        ensures infallible { read_infallible ≡ true → IfErr result (λ e. e ≡ Error.Invalid) };
+}
+
+/// Reads a value that is one token. Takes nothing more from the source.
+#[inline(always)]
+pub fn read_leaf<'a, T: Leaf>(token: Event<'a>, source: &mut Source<'a>) -> Result<T>
+    requires { IsTreeEvent (front_of token source.old.scratch) }
+    ensures stays { source.new ≡ source.old }
+    ensures ok { IfOk result (λ v. (t : Tree)
+        × ValueAt t (front_of token.entry source.old.scratch) source.old.rest source.old.rest
+        × (T.means.from_tree t ≡ Some (T.means.content v))) }
+    ensures invalid { result ≡ Err Error.Invalid → (t : Tree) (r : List ℕ)
+        → ValueAt t (front_of token.entry source.old.scratch) source.old.rest r
+        → T.means.from_tree t ≡ None }
+    ensures infallible { T.read_infallible ≡ true → IfErr result (λ e. e ≡ Error.Invalid) }
+{
+    T::from_step(source.alloc(), source.step(token))
+}

@@ -1,0 +1,54 @@
+//! `()`, `bool` and `String`, as single tokens.
+ghost use Rattle.std.specs.Prelude.{◌≡◌, true, refl, string_bytes};
+ghost use Rattle.miniserde_read.specs.Meanings.{unit_meant, boolean_meant, string_meant};
+
+use super::Leaf;
+use crate::step::Step;
+use miniserde_text::error::{Error, Result};
+use std::alloc::Global;
+
+impl Leaf for () {
+    ghost means = { unit_meant };
+
+    ghost only_leaves = { (λ ts. refl, λ ms. refl) };
+
+    ghost read_infallible = { true };
+
+    #[inline(always)]
+    fn from_step(_alloc: Global, event: Step<'_>) -> Result<()> {
+        match event {
+            Step::Null => Ok(()),
+            _ => Err(Error::Invalid),
+        }
+    }
+}
+
+impl Leaf for bool {
+    ghost means = { boolean_meant };
+
+    ghost only_leaves = { (λ ts. refl, λ ms. refl) };
+
+    ghost read_infallible = { true };
+
+    #[inline(always)]
+    fn from_step(_alloc: Global, event: Step<'_>) -> Result<bool> {
+        match event {
+            Step::Bool(b) => Ok(b),
+            _ => Err(Error::Invalid),
+        }
+    }
+}
+
+impl Leaf for String {
+    ghost means = { string_meant string_bytes };
+
+    ghost only_leaves = { (λ ts. refl, λ ms. refl) };
+
+    #[inline(always)]
+    fn from_step(alloc: Global, event: Step<'_>) -> Result<String> {
+        match event {
+            Step::Str(text) => Ok(String::from_str(alloc, text)?),
+            _ => Err(Error::Invalid),
+        }
+    }
+}

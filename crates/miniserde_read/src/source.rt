@@ -1,0 +1,137 @@
+//! The text that a type reads itself from.
+ghost use Rattle.std.specs.Prelude.{◌≡◌, List, ℕ, None, Some, Ok, Err, IfOk, IfErr, IfSome};
+ghost use Rattle.miniserde_model.specs.Tree.{Trees, Members};
+ghost use Rattle.miniserde_model.specs.Event as event;
+ghost use Rattle.miniserde_model.specs.Lexing.{Starts};
+ghost use Rattle.miniserde_model.specs.Whitespace.{IsWhitespace};
+ghost use Rattle.miniserde_text.specs.Lexer.{front_of, text_of};
+ghost use Rattle.miniserde_text.specs.declared.error.Error.{Error};
+ghost use Rattle.miniserde_read.specs.Step.{event_of};
+ghost use Rattle.miniserde_read.specs.Rest.{ElementsAt, MembersAt};
+ghost use Rattle.miniserde_read.specs.Source.{ElementFollows, NameFollows};
+
+use crate::step::Step;
+use miniserde_text::error::{Error, Result};
+use miniserde_text::json::lex::{After, Event, Kind, Lexer, Text};
+use std::alloc::Global;
+use std::marker::Model;
+
+/// The rest of a JSON text, with a scratch text for decoded strings. After its first error it returns that error from
+/// every call that takes a token.
+#[derive(Drop)]
+pub struct Source<'a> {
+    lexer: Lexer<'a>,
+    scratch: String,
+    alloc: Global,
+}
+
+impl<'a> Model for Source<'a> {
+    ghost use Rattle.std.specs.String.{string_bytes};
+    ghost use Rattle.miniserde_read.specs.Source.{Remaining};
+
+    ghost Value = { Remaining };
+
+    ghost view = { λ s. record { rest = s.lexer.rest; refused = s.lexer.refused; scratch = string_bytes s.scratch } };
+}
+
+impl<'a> Source<'a> {
+    /// Starts at the front of a text. Allocates nothing.
+    pub fn new(alloc: Global, text: &'a str) -> Source<'a>
+        ensures rest { result.rest ≡ text.now }
+        ensures going { result.refused ≡ None }
+    {
+        Source {
+            lexer: Lexer::new(text),
+            scratch: String::new(alloc),
+            alloc,
+        }
+    }
+
+    /// Returns the allocator for the values that are read.
+    #[inline(always)]
+    pub fn alloc(&self) -> Global {
+        self.alloc
+    }
+
+    /// Takes whitespace and the first token of a value.
+    #[inline(always)]
+    pub fn token(&mut self) -> Result<Event<'a>>
+        requires { self.old.refused ≡ None }
+        ensures going { IfOk result (λ _. self.new.refused ≡ None) }
+        ensures ok { IfOk result (λ e. Starts self.old.rest (front_of e self.new.scratch) self.new.rest) }
+        ensures invalid { result ≡ Err Error.Invalid
+            → (e : event.Event) (r : List ℕ) → Starts self.old.rest e r → ⊥ }
+    {
+        self.lexer.start(&mut self.scratch)
+    }
+
+    /// Takes the closing bracket of a list, or the comma before an element and the element's first token. `first` says
+    /// that the opening bracket was just taken.
+    #[inline(always)]
+    pub fn element(&mut self, first: bool) -> Result<Option<Event<'a>>>
+        requires { self.old.refused ≡ None }
+        ensures going { IfOk result (λ _. self.new.refused ≡ None) }
+        ensures ok { IfOk result (λ o. ElementFollows o self.new.scratch first self.old.rest self.new.rest) }
+        ensures invalid { result ≡ Err Error.Invalid
+            → (ts : Trees) (r : List ℕ) → ElementsAt ts first self.old.rest r → ⊥ }
+    {
+        match self.lexer.after(Kind::Seq, first)? {
+            After::Close => Ok(None),
+            After::Next => Ok(Some(self.token()?)),
+        }
+    }
+
+    /// Takes the closing bracket of an object, or the comma before a member, the member's name and its colon. `first`
+    /// says that the opening bracket was just taken.
+    #[inline(always)]
+    pub fn name(&mut self, first: bool) -> Result<Option<Text<'a>>>
+        requires { self.old.refused ≡ None }
+        ensures going { IfOk result (λ _. self.new.refused ≡ None) }
+        ensures ok { IfOk result (λ o. NameFollows o self.new.scratch first self.old.rest self.new.rest) }
+        ensures invalid { result ≡ Err Error.Invalid
+            → (ms : Members) (r : List ℕ) → MembersAt ms first self.old.rest r → ⊥ }
+    {
+        match self.lexer.after(Kind::Map, first)? {
+            After::Close => Ok(None),
+            After::Next => Ok(Some(self.lexer.name(&mut self.scratch)?)),
+        }
+    }
+
+    /// Checks that only whitespace is left.
+    pub fn end(&mut self) -> Result<()>
+        requires { self.old.refused ≡ None }
+        ensures ok { IfOk result (λ _. IsWhitespace self.old.rest) }
+        ensures invalid { result ≡ Err Error.Invalid → IsWhitespace self.old.rest → ⊥ }
+        ensures only { IfErr result (λ e. e ≡ Error.Invalid) }
+    {
+        self.lexer.end()
+    }
+
+    /// Returns the text of a name or a string that was taken last.
+    #[inline(always)]
+    pub fn text<'b>(&'b self, text: Text<'b>) -> &'b str
+        ensures { result.now ≡ text_of text.entry self.now.scratch }
+    {
+        match text {
+            Text::Input(s) => s,
+            Text::Scratch => &self.scratch,
+        }
+    }
+
+    /// Returns the event of the token that was taken last.
+    #[inline(always)]
+    pub fn step<'b>(&'b self, token: Event<'b>) -> Step<'b>
+        ensures { event_of result ≡ front_of token.entry self.now.scratch }
+    {
+        match token {
+            Event::Null => Step::Null,
+            Event::Bool(b) => Step::Bool(b),
+            Event::Negative(n) => Step::Negative(n),
+            Event::Nonnegative(n) => Step::Nonnegative(n),
+            Event::Number(x) => Step::Float(x),
+            Event::Str(t) => Step::Str(self.text(t)),
+            Event::SeqStart => Step::Seq,
+            Event::MapStart => Step::Map,
+        }
+    }
+}
