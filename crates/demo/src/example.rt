@@ -1,14 +1,18 @@
 //! Nested structs with optional, boxed and renamed fields.
+ghost use Rattle.miniserde.specs.FieldsMeant.{field_and, no_fields, struct_meant};
 ghost use Rattle.miniserde.specs.Place.{inside};
-ghost use Rattle.miniserde.specs.Records.{names_of};
-ghost use Rattle.std.specs.Prelude.{Option, Some, None, refl};
+ghost use Rattle.miniserde.specs.Structs.{names_of, with_names};
+ghost use Rattle.miniserde.specs.Tree.{members};
+ghost use Rattle.std.specs.Prelude.{[], ◌∷◌, ⊤, refl};
 
 use crate::tag::Tag;
-use miniserde::de::{Deserialize, Ranged, Step, Visitor};
-use miniserde::record::{
-    Field, Fields, Four, NoField, Parts, Record, RecordPlace, RoundRecord, record_again,
-    record_lossless, write_record,
+use miniserde::de::{Deserialize, FromJson, Ranged, Source, Step, Visitor};
+use miniserde::json::lex::Event;
+use miniserde::record::arity::{
+    Values2, Values5, read_record2, read_record5, record_again2, record_again5, record_lossless2,
+    record_lossless5, write_record2, write_record5,
 };
+use miniserde::record::{Field, Four, NoField, Parts, PlacedRecord, Record, RecordPlace};
 use miniserde::ser::{Serialize, Writer};
 use miniserde::{Error, Lossless, NeverNull, Result, RoundTrip};
 use std::alloc::Global;
@@ -26,11 +30,11 @@ const NESTED_NAMES: &[&str] = &["y", "z"];
 impl Record for Nested {
     ghost use Rattle.demo.specs.declared.example.TheConstants.{NESTED_NAMES};
 
-    type Fields = Field<Option<Vec<String>>, Field<Option<String>, NoField>>;
-
-    type Values = <Self::Fields as Fields>::Values;
+    type Values = Values2<Option<Vec<String>>, Option<String>>;
 
     ghost names = { names_of NESTED_NAMES };
+
+    ghost count = { 2 };
 
     ghost values = { λ v. (v.y, (v.z, tt)) };
 
@@ -51,10 +55,61 @@ impl Record for Nested {
     ghost named = { refl };
 }
 
-/// Its place.
+impl FromJson for Nested {
+    ghost means = { struct_meant (field_and ⟦<Option<Vec<String>> as FromJson>⟧.means
+        ⟦<Option<Vec<String>> as FromJson>⟧.absent (field_and ⟦<Option<String> as FromJson>⟧.means
+        ⟦<Option<String> as FromJson>⟧.absent no_fields)) ⟦<Nested as Record>⟧.names ⟦<Nested as Record>⟧.values };
+
+    fn missing() -> Option<Nested> {
+        None
+    }
+
+    fn read<'a>(token: Event<'a>, source: &mut Source<'a>) -> Result<Nested> {
+        read_record2::<Nested, Option<Vec<String>>, Option<String>>(token, source)
+    }
+}
+
+impl Serialize for Nested {
+    ghost tree = { λ v. members (with_names ⟦<Nested as Record>⟧.names (⟦<Option<Vec<String>> as Serialize>⟧.tree v.y ∷ ⟦<Option<String> as Serialize>⟧.tree v.z ∷ [])) };
+
+    fn begin(&self, w: &mut Writer) -> Result<()> {
+        write_record2(w, NESTED_NAMES, &self.y, &self.z)
+    }
+}
+
+impl Ranged for Nested {
+    ghost real = { λ v. ⟦<Option<Vec<String>> as Ranged>⟧.real v.y × (⟦<Option<String> as Ranged>⟧.real v.z × ⊤) };
+
+    fn ranged(&self) {
+        self.y.ranged();
+        self.z.ranged();
+    }
+}
+
+impl RoundTrip for Nested {
+    fn again() {
+        record_again2::<Nested, Option<Vec<String>>, Option<String>>()
+    }
+}
+
+impl Lossless for Nested {
+    fn lossless() {
+        record_lossless2::<Nested, Option<Vec<String>>, Option<String>>()
+    }
+}
+
+impl NeverNull for Nested {
+    fn never_null() {}
+}
+
+/// The place of a `Nested`.
 #[derive(Drop)]
 pub struct NestedPlace {
     place: RecordPlace<Nested>,
+}
+
+impl PlacedRecord for Nested {
+    type Fields = Field<Option<Vec<String>>, Field<Option<String>, NoField>>;
 }
 
 impl Visitor for NestedPlace {
@@ -89,44 +144,7 @@ impl Visitor for NestedPlace {
 impl Deserialize for Nested {
     type Place = NestedPlace;
 
-    ghost absent = { None };
-
-    fn default() -> Option<Nested> {
-        None
-    }
-}
-
-impl Serialize for Nested {
-    ghost tree = { ⟦<Nested as RoundRecord>⟧.tree };
-
-    fn begin(&self, w: &mut Writer) -> Result<()> {
-        write_record::<Nested, _>(w, &Parts(&self.y, Parts(&self.z, ())))
-    }
-}
-
-impl Ranged for Nested {
-    ghost real = { ⟦<Nested as RoundRecord>⟧.real };
-
-    fn ranged(&self) {
-        self.y.ranged();
-        self.z.ranged();
-    }
-}
-
-impl RoundTrip for Nested {
-    fn again() {
-        record_again::<Nested>()
-    }
-}
-
-impl Lossless for Nested {
-    fn lossless() {
-        record_lossless::<Nested>()
-    }
-}
-
-impl NeverNull for Nested {
-    fn never_null() {}
+    fn tied() {}
 }
 
 /// A struct of five fields, one of which is written under another name.
@@ -145,11 +163,11 @@ const EXAMPLE_NAMES: &[&str] = &["x", "t1", "t2", "t3", "struct"];
 impl Record for Example {
     ghost use Rattle.demo.specs.declared.example.TheConstants.{EXAMPLE_NAMES};
 
-    type Fields = Four<String, Tag, Box<Tag>, [Tag; 1], Field<Box<Nested>, NoField>>;
-
-    type Values = <Self::Fields as Fields>::Values;
+    type Values = Values5<String, Tag, Box<Tag>, [Tag; 1], Box<Nested>>;
 
     ghost names = { names_of EXAMPLE_NAMES };
+
+    ghost count = { 5 };
 
     ghost values = { λ v. (v.x, (v.t1, (v.t2, (v.t3, (v.nested, tt))))) };
 
@@ -185,10 +203,73 @@ impl Record for Example {
     ghost named = { refl };
 }
 
-/// Its place.
+impl FromJson for Example {
+    ghost means = { struct_meant (field_and ⟦<String as FromJson>⟧.means ⟦<String as FromJson>⟧.absent (field_and ⟦<Tag as FromJson>⟧.means ⟦<Tag as FromJson>⟧.absent (field_and
+        ⟦<Box<Tag> as FromJson>⟧.means ⟦<Box<Tag> as FromJson>⟧.absent (field_and ⟦<[Tag; 1] as FromJson>⟧.means ⟦<[Tag; 1] as FromJson>⟧.absent (field_and ⟦<Box<Nested> as FromJson>⟧.means ⟦<Box<Nested> as FromJson>⟧.absent no_fields))))) ⟦<Example as Record>⟧.names ⟦<Example as Record>⟧.values };
+
+    fn missing() -> Option<Example> {
+        None
+    }
+
+    fn read<'a>(token: Event<'a>, source: &mut Source<'a>) -> Result<Example> {
+        read_record5::<Example, String, Tag, Box<Tag>, [Tag; 1], Box<Nested>>(token, source)
+    }
+}
+
+impl Serialize for Example {
+    ghost tree = { λ v. members (with_names ⟦<Example as Record>⟧.names (⟦<String as Serialize>⟧.tree v.x ∷ ⟦<Tag as Serialize>⟧.tree v.t1 ∷ ⟦<Box<Tag> as Serialize>⟧.tree v.t2
+        ∷ ⟦<[Tag; 1] as Serialize>⟧.tree v.t3 ∷ ⟦<Box<Nested> as Serialize>⟧.tree v.nested ∷ [])) };
+
+    fn begin(&self, w: &mut Writer) -> Result<()> {
+        write_record5(
+            w,
+            EXAMPLE_NAMES,
+            &self.x,
+            &self.t1,
+            &self.t2,
+            &self.t3,
+            &self.nested,
+        )
+    }
+}
+
+impl Ranged for Example {
+    ghost real = { λ v. ⟦<String as Ranged>⟧.real v.x × (⟦<Tag as Ranged>⟧.real v.t1 × (⟦<Box<Tag> as Ranged>⟧.real v.t2 × (⟦<[Tag; 1] as Ranged>⟧.real v.t3 × (⟦<Box<Nested> as Ranged>⟧.real
+        v.nested × ⊤)))) };
+
+    fn ranged(&self) {
+        self.x.ranged();
+        self.t1.ranged();
+        self.t2.ranged();
+        self.t3.ranged();
+        self.nested.ranged();
+    }
+}
+
+impl RoundTrip for Example {
+    fn again() {
+        record_again5::<Example, String, Tag, Box<Tag>, [Tag; 1], Box<Nested>>()
+    }
+}
+
+impl Lossless for Example {
+    fn lossless() {
+        record_lossless5::<Example, String, Tag, Box<Tag>, [Tag; 1], Box<Nested>>()
+    }
+}
+
+impl NeverNull for Example {
+    fn never_null() {}
+}
+
+/// The place of a `Example`.
 #[derive(Drop)]
 pub struct ExamplePlace {
     place: RecordPlace<Example>,
+}
+
+impl PlacedRecord for Example {
+    type Fields = Four<String, Tag, Box<Tag>, [Tag; 1], Field<Box<Nested>, NoField>>;
 }
 
 impl Visitor for ExamplePlace {
@@ -223,54 +304,5 @@ impl Visitor for ExamplePlace {
 impl Deserialize for Example {
     type Place = ExamplePlace;
 
-    ghost absent = { None };
-
-    fn default() -> Option<Example> {
-        None
-    }
-}
-
-impl Serialize for Example {
-    ghost tree = { ⟦<Example as RoundRecord>⟧.tree };
-
-    fn begin(&self, w: &mut Writer) -> Result<()> {
-        write_record::<Example, _>(
-            w,
-            &Parts(
-                &self.x,
-                Parts(
-                    &self.t1,
-                    Parts(&self.t2, Parts(&self.t3, Parts(&self.nested, ()))),
-                ),
-            ),
-        )
-    }
-}
-
-impl Ranged for Example {
-    ghost real = { ⟦<Example as RoundRecord>⟧.real };
-
-    fn ranged(&self) {
-        self.x.ranged();
-        self.t1.ranged();
-        self.t2.ranged();
-        self.t3.ranged();
-        self.nested.ranged();
-    }
-}
-
-impl RoundTrip for Example {
-    fn again() {
-        record_again::<Example>()
-    }
-}
-
-impl Lossless for Example {
-    fn lossless() {
-        record_lossless::<Example>()
-    }
-}
-
-impl NeverNull for Example {
-    fn never_null() {}
+    fn tied() {}
 }

@@ -1,9 +1,12 @@
 //! A unit enum with renamed variants.
 ghost use Rattle.miniserde.specs.Tree.{str};
-ghost use Rattle.std.specs.Prelude.{Option, Some, None, List, [], ◌∷◌, codes, ⊤, refl};
+ghost use Rattle.std.specs.Prelude.{true, List, codes, [], ◌∷◌, ⊤, refl};
 
-use miniserde::de::{Deserialize, Ranged};
-use miniserde::record::{NamePlace, UnitEnum, variant_again, variant_lossless};
+use miniserde::de::{Deserialize, FromJson, Ranged, Source};
+use miniserde::json::lex::Event;
+use miniserde::record::{
+    NamePlace, UnitEnum, Variants, read_variant, variant_again, variant_lossless,
+};
 use miniserde::ser::{Fragment, Serialize, Writer};
 use miniserde::{Lossless, NeverNull, Result, RoundTrip};
 
@@ -36,14 +39,24 @@ impl UnitEnum for Tag {
     }
 }
 
+impl FromJson for Tag {
+    ghost means = { ⟦<Tag as Variants>⟧.meaning };
+
+    ghost read_infallible = { true };
+
+    fn missing() -> Option<Tag> {
+        None
+    }
+
+    fn read<'a>(token: Event<'a>, source: &mut Source<'a>) -> Result<Tag> {
+        read_variant(token, source)
+    }
+}
+
 impl Deserialize for Tag {
     type Place = NamePlace<Tag>;
 
-    ghost absent = { None };
-
-    fn default() -> Option<Tag> {
-        None
-    }
+    fn tied() {}
 }
 
 impl Serialize for Tag {

@@ -1,12 +1,14 @@
 //! The types of `basket.rs`, with the impls that `./derive` writes.
+ghost use Rattle.miniserde.specs.FieldsMeant.{field_and, no_fields, struct_meant};
 ghost use Rattle.miniserde.specs.Place.{inside};
-ghost use Rattle.miniserde.specs.Records.{names_of};
-ghost use Rattle.std.specs.Prelude.{Option, Some, None, refl};
+ghost use Rattle.miniserde.specs.Structs.{names_of, with_names};
+ghost use Rattle.miniserde.specs.Tree.{members};
+ghost use Rattle.std.specs.Prelude.{[], ◌∷◌, ⊤, refl};
 
-use miniserde::de::{Deserialize, Ranged, Step, Visitor};
-use miniserde::record::{
-    Field, Fields, NoField, Parts, Record, RecordPlace, RoundRecord, record_again, write_record,
-};
+use miniserde::de::{Deserialize, FromJson, Ranged, Source, Step, Visitor};
+use miniserde::json::lex::Event;
+use miniserde::record::arity::{Values2, read_record2, record_again2, write_record2};
+use miniserde::record::{Field, NoField, Parts, PlacedRecord, Record, RecordPlace};
 use miniserde::ser::{Serialize, Writer};
 use miniserde::{Error, Result, RoundTrip};
 use std::alloc::Global;
@@ -24,11 +26,11 @@ const BASKET_NAMES: &[&str] = &["owner", "prices"];
 impl Record for Basket {
     ghost use Rattle.examples.specs.declared.basket.TheConstants.{BASKET_NAMES};
 
-    type Fields = Field<String, Field<Vec<u64>, NoField>>;
-
-    type Values = <Self::Fields as Fields>::Values;
+    type Values = Values2<String, Vec<u64>>;
 
     ghost names = { names_of BASKET_NAMES };
+
+    ghost count = { 2 };
 
     ghost values = { λ v. (v.owner, (v.prices, tt)) };
 
@@ -49,10 +51,52 @@ impl Record for Basket {
     ghost named = { refl };
 }
 
-/// Its place.
+impl FromJson for Basket {
+    ghost means = { struct_meant (field_and ⟦<String as FromJson>⟧.means ⟦<String as FromJson>⟧.absent (field_and ⟦<Vec<u64> as FromJson>⟧.means ⟦<Vec<u64> as FromJson>⟧.absent
+        no_fields)) ⟦<Basket as Record>⟧.names ⟦<Basket as Record>⟧.values };
+
+    fn missing() -> Option<Basket> {
+        None
+    }
+
+    fn read<'a>(token: Event<'a>, source: &mut Source<'a>) -> Result<Basket> {
+        read_record2::<Basket, String, Vec<u64>>(token, source)
+    }
+}
+
+impl Serialize for Basket {
+    ghost tree = { λ v. members (with_names ⟦<Basket as Record>⟧.names (⟦<String as Serialize>⟧.tree
+        v.owner ∷ ⟦<Vec<u64> as Serialize>⟧.tree v.prices ∷ [])) };
+
+    fn begin(&self, w: &mut Writer) -> Result<()> {
+        write_record2(w, BASKET_NAMES, &self.owner, &self.prices)
+    }
+}
+
+impl Ranged for Basket {
+    ghost real = { λ v. ⟦<String as Ranged>⟧.real v.owner × (⟦<Vec<u64> as Ranged>⟧.real v.prices ×
+        ⊤) };
+
+    fn ranged(&self) {
+        self.owner.ranged();
+        self.prices.ranged();
+    }
+}
+
+impl RoundTrip for Basket {
+    fn again() {
+        record_again2::<Basket, String, Vec<u64>>()
+    }
+}
+
+/// The place of a `Basket`.
 #[derive(Drop)]
 pub struct BasketPlace {
     place: RecordPlace<Basket>,
+}
+
+impl PlacedRecord for Basket {
+    type Fields = Field<String, Field<Vec<u64>, NoField>>;
 }
 
 impl Visitor for BasketPlace {
@@ -87,32 +131,5 @@ impl Visitor for BasketPlace {
 impl Deserialize for Basket {
     type Place = BasketPlace;
 
-    ghost absent = { None };
-
-    fn default() -> Option<Basket> {
-        None
-    }
-}
-
-impl Serialize for Basket {
-    ghost tree = { ⟦<Basket as RoundRecord>⟧.tree };
-
-    fn begin(&self, w: &mut Writer) -> Result<()> {
-        write_record::<Basket, _>(w, &Parts(&self.owner, Parts(&self.prices, ())))
-    }
-}
-
-impl Ranged for Basket {
-    ghost real = { ⟦<Basket as RoundRecord>⟧.real };
-
-    fn ranged(&self) {
-        self.owner.ranged();
-        self.prices.ranged();
-    }
-}
-
-impl RoundTrip for Basket {
-    fn again() {
-        record_again::<Basket>()
-    }
+    fn tied() {}
 }

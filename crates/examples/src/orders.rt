@@ -5,8 +5,8 @@ ghost use Rattle.miniserde.specs.Value.{IsJson};
 ghost use Rattle.miniserde.specs.Compact.{compact};
 ghost use Rattle.examples.specs.Orders.{settled_of};
 
-use crate::order::{Order, OrderPlace};
-use miniserde::de::Visitor;
+use crate::order::Order;
+use miniserde::de::FromJson;
 use miniserde::json::{from_str, to_string};
 use miniserde::{Error, Result, Serialize};
 use std::alloc::Global;
@@ -15,12 +15,12 @@ use std::alloc::Global;
 pub fn settled(alloc: Global, text: &str) -> Result<String>
     // The text spells a tree that means an order, and the answer is the compact text of that order paid, and spells it.
     ensures ok { let tree = ⟦<Order as Serialize>⟧.tree in IfOk result (λ s.
-        (t : Tree) × (v : Order) × IsJson text.now t × ⟦<OrderPlace as Visitor>⟧.meaning.reads t v
+        (t : Tree) × (v : Order) × IsJson text.now t × ⟦<Order as FromJson>⟧.means.reads t v
         × IsJson (string_bytes s) (tree (settled_of v)) × (string_bytes s ≡ compact (tree (settled_of v)))) }
 
     // No tree that the text spells means an order.
     ensures invalid { result ≡ Err Error.Invalid
-        → (t : Tree) → IsJson text.now t → (v : Order) → ⟦<OrderPlace as Visitor>⟧.meaning.reads t v → ⊥ }
+        → (t : Tree) → IsJson text.now t → (v : Order) → ⟦<Order as FromJson>⟧.means.reads t v → ⊥ }
 {
     let mut order: Order = from_str(alloc, text)?;
     order.paid = true;

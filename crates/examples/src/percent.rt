@@ -1,12 +1,13 @@
 //! A number of its own kind: a check stands between its text and its values.
-ghost use Rattle.std.specs.Prelude.{◌≡◌, ◌≤◌, ◌↔◌, ℕ, true, None, IsSome, IfSome};
+ghost use Rattle.std.specs.Prelude.{◌≡◌, ◌≤◌, ◌↔◌, ℕ, true, refl, IsSome, IfSome};
 ghost use Rattle.miniserde.specs.Tree.{nonneg};
 ghost use Rattle.miniserde.specs.Place.{inside};
-ghost use Rattle.examples.specs.Percents.{from_percent, ReadsPercent};
+ghost use Rattle.examples.specs.Percents.{percent_of, ReadsPercent};
 ghost use Rattle.examples.specs.laws.Percents.{percent-given};
 
-use miniserde::de::leaf::{Leaf, LeafPlace};
-use miniserde::de::{Deserialize, Ranged, Step, Visitor};
+use miniserde::de::leaf::{Leaf, LeafPlace, read_leaf};
+use miniserde::de::{Deserialize, FromJson, Ranged, Source, Step, Visitor};
+use miniserde::json::lex::Event;
 use miniserde::ser::{Serialize, Writer};
 use miniserde::{Error, Result, RoundTrip};
 use std::alloc::Global;
@@ -41,17 +42,17 @@ impl Percent {
 }
 
 impl Leaf for Percent {
-    ghost Content = { ℕ };
+    ghost means = { record {
+      Content = ℕ;
+      content = λ p. p.of;
+      from_tree = percent_of;
+      reads = λ t p. ReadsPercent t p.of;
+      reads_agrees = λ t p. percent-given t p.of;
+    } };
 
-    ghost content = { λ p. p.of };
+    ghost only_leaves = { (λ ts. refl, λ ms. refl) };
 
-    ghost from_event = { from_percent };
-
-    ghost reads = { λ t p. ReadsPercent t p.of };
-
-    ghost reads_agrees = { λ t p. percent-given t p.of };
-
-    ghost reads_free = { true };
+    ghost read_infallible = { true };
 
     fn from_step(_alloc: Global, event: Step<'_>) -> Result<Percent> {
         match event {
@@ -96,14 +97,24 @@ impl Visitor for PercentPlace {
     }
 }
 
+impl FromJson for Percent {
+    ghost means = { ⟦<Percent as Leaf>⟧.means };
+
+    ghost read_infallible = { true };
+
+    fn missing() -> Option<Percent> {
+        None
+    }
+
+    fn read<'a>(token: Event<'a>, source: &mut Source<'a>) -> Result<Percent> {
+        read_leaf(token, source)
+    }
+}
+
 impl Deserialize for Percent {
     type Place = PercentPlace;
 
-    ghost absent = { None };
-
-    fn default() -> Option<Percent> {
-        None
-    }
+    fn tied() {}
 }
 
 impl Serialize for Percent {

@@ -1,12 +1,14 @@
 //! The types of `rate.rs`, with the impls that `./derive` writes.
+ghost use Rattle.miniserde.specs.FieldsMeant.{field_and, no_fields, struct_meant};
 ghost use Rattle.miniserde.specs.Place.{inside};
-ghost use Rattle.miniserde.specs.Records.{names_of};
-ghost use Rattle.std.specs.Prelude.{Option, Some, None, refl};
+ghost use Rattle.miniserde.specs.Structs.{names_of, with_names};
+ghost use Rattle.miniserde.specs.Tree.{members};
+ghost use Rattle.std.specs.Prelude.{[], ◌∷◌, ⊤, refl};
 
-use miniserde::de::{Deserialize, Ranged, Step, Visitor};
-use miniserde::record::{
-    Field, Fields, NoField, Parts, Record, RecordPlace, RoundRecord, record_again, write_record,
-};
+use miniserde::de::{Deserialize, FromJson, Ranged, Source, Step, Visitor};
+use miniserde::json::lex::Event;
+use miniserde::record::arity::{Values2, read_record2, record_again2, write_record2};
+use miniserde::record::{Field, NoField, Parts, PlacedRecord, Record, RecordPlace};
 use miniserde::ser::{Serialize, Writer};
 use miniserde::{Error, Result, RoundTrip};
 use std::alloc::Global;
@@ -24,11 +26,11 @@ const RATE_NAMES: &[&str] = &["currency", "ratio"];
 impl Record for Rate {
     ghost use Rattle.examples.specs.declared.rate.TheConstants.{RATE_NAMES};
 
-    type Fields = Field<String, Field<miniserde::json::Number, NoField>>;
-
-    type Values = <Self::Fields as Fields>::Values;
+    type Values = Values2<String, miniserde::json::Number>;
 
     ghost names = { names_of RATE_NAMES };
+
+    ghost count = { 2 };
 
     ghost values = { λ v. (v.currency, (v.ratio, tt)) };
 
@@ -49,10 +51,51 @@ impl Record for Rate {
     ghost named = { refl };
 }
 
-/// Its place.
+impl FromJson for Rate {
+    ghost means = { struct_meant (field_and ⟦<String as FromJson>⟧.means ⟦<String as FromJson>⟧.absent (field_and ⟦<miniserde::json::Number as FromJson>⟧.means
+        ⟦<miniserde::json::Number as FromJson>⟧.absent no_fields)) ⟦<Rate as Record>⟧.names ⟦<Rate as Record>⟧.values };
+
+    fn missing() -> Option<Rate> {
+        None
+    }
+
+    fn read<'a>(token: Event<'a>, source: &mut Source<'a>) -> Result<Rate> {
+        read_record2::<Rate, String, miniserde::json::Number>(token, source)
+    }
+}
+
+impl Serialize for Rate {
+    ghost tree = { λ v. members (with_names ⟦<Rate as Record>⟧.names (⟦<String as Serialize>⟧.tree
+        v.currency ∷ ⟦<miniserde::json::Number as Serialize>⟧.tree v.ratio ∷ [])) };
+
+    fn begin(&self, w: &mut Writer) -> Result<()> {
+        write_record2(w, RATE_NAMES, &self.currency, &self.ratio)
+    }
+}
+
+impl Ranged for Rate {
+    ghost real = { λ v. ⟦<String as Ranged>⟧.real v.currency × (⟦<miniserde::json::Number as Ranged>⟧.real v.ratio × ⊤) };
+
+    fn ranged(&self) {
+        self.currency.ranged();
+        self.ratio.ranged();
+    }
+}
+
+impl RoundTrip for Rate {
+    fn again() {
+        record_again2::<Rate, String, miniserde::json::Number>()
+    }
+}
+
+/// The place of a `Rate`.
 #[derive(Drop)]
 pub struct RatePlace {
     place: RecordPlace<Rate>,
+}
+
+impl PlacedRecord for Rate {
+    type Fields = Field<String, Field<miniserde::json::Number, NoField>>;
 }
 
 impl Visitor for RatePlace {
@@ -87,32 +130,5 @@ impl Visitor for RatePlace {
 impl Deserialize for Rate {
     type Place = RatePlace;
 
-    ghost absent = { None };
-
-    fn default() -> Option<Rate> {
-        None
-    }
-}
-
-impl Serialize for Rate {
-    ghost tree = { ⟦<Rate as RoundRecord>⟧.tree };
-
-    fn begin(&self, w: &mut Writer) -> Result<()> {
-        write_record::<Rate, _>(w, &Parts(&self.currency, Parts(&self.ratio, ())))
-    }
-}
-
-impl Ranged for Rate {
-    ghost real = { ⟦<Rate as RoundRecord>⟧.real };
-
-    fn ranged(&self) {
-        self.currency.ranged();
-        self.ratio.ranged();
-    }
-}
-
-impl RoundTrip for Rate {
-    fn again() {
-        record_again::<Rate>()
-    }
+    fn tied() {}
 }

@@ -5,8 +5,8 @@ ghost use Rattle.miniserde.specs.Tree.{Tree};
 ghost use Rattle.miniserde.specs.Value.{IsJson};
 ghost use Rattle.examples.specs.Totals.{sum_of};
 
-use crate::basket::{Basket, BasketPlace};
-use miniserde::de::Visitor;
+use crate::basket::Basket;
+use miniserde::de::FromJson;
 use miniserde::json::from_str;
 use miniserde::{Error, Result};
 use std::alloc::Global;
@@ -26,12 +26,12 @@ fn sum(prices: &[u64]) -> Option<u64>
 pub fn total(alloc: Global, text: &str) -> Result<Option<u64>>
     // The text means a basket, and the answer is the sum of its prices where that is below 2^64.
     ensures ok { IfOk result (λ answer. (t : Tree) × (v : Basket) × IsJson text.now t
-        × ⟦<BasketPlace as Visitor>⟧.meaning.reads t v
+        × ⟦<Basket as FromJson>⟧.means.reads t v
         × SomeIff answer (sum_of v.prices.items < 2 ^ 64) (sum_of v.prices.items)) }
 
     // The text means no basket.
     ensures invalid { result ≡ Err Error.Invalid
-        → (t : Tree) → IsJson text.now t → (v : Basket) → ⟦<BasketPlace as Visitor>⟧.meaning.reads t v → ⊥ }
+        → (t : Tree) → IsJson text.now t → (v : Basket) → ⟦<Basket as FromJson>⟧.means.reads t v → ⊥ }
 {
     let basket: Basket = from_str(alloc, text)?;
     Ok(sum(&basket.prices))

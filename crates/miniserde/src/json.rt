@@ -1,8 +1,8 @@
 //! JSON text.
 
-pub use miniserde_json::json::{
-    canonical, canonical_both, canonical_unique, feed, from_str, to_string,
-};
+pub use miniserde_json::json::{canonical, canonical_both, canonical_unique, feed};
+pub use miniserde_read::from_str;
+pub use miniserde_ser::ser::to_string;
 pub use miniserde_text::json::lex;
 pub use miniserde_text::json::number::NumberText;
 pub use miniserde_value::json::array::Array;

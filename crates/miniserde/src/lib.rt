@@ -1,8 +1,8 @@
 //! JSON text into values of Rust, and values into text: the whole library, each item at its path for users.
 //!
-//! `json::from_str` reads a value of a type that implements `Deserialize`, and `json::feed` gives the events of a text
-//! to a place, one by one. A text is read from front to back, and no call is made for each nested value: memory
-//! alone bounds how deep a text may be.
+//! `json::from_str` parses a value of a type that implements `FromJson`: the type reads itself from the text, and calls
+//! nest as the type does, never as the data. `json::feed` gives the events of a text to a place, one by one. Documents
+//! of any depth are read without recursion; memory alone bounds how deep they may be.
 #![tactic(auto)]
 
 pub mod json;
@@ -12,6 +12,8 @@ pub mod ser;
 pub use miniserde_canon::canon;
 pub use miniserde_de::de;
 pub use miniserde_de::de::Deserialize;
+pub use miniserde_place::engine::read_by_place;
+pub use miniserde_read::FromJson;
 pub use miniserde_record::record;
 pub use miniserde_round::{Lossless, NeverNull, RoundTrip, means_itself, read_again, read_itself};
 pub use miniserde_ser::ser::Serialize;

@@ -15,8 +15,8 @@ mod count;
 mod counted;
 
 pub use counted::Counted;
-use miniserde_de::de::Deserialize;
-use miniserde_json::json::{from_str, to_string};
+use miniserde_read::{FromJson, from_str};
+use miniserde_ser::ser::to_string;
 use miniserde_text::error::Error;
 use miniserde_value::json::unique::Unique;
 use miniserde_value::json::value::Value;
@@ -194,10 +194,10 @@ fn answer_unique(alloc: Global, bytes: Vec<u8>) -> Result<String, Fault>
 }
 
 /// The value that the bytes mean.
-fn value_of<T: Deserialize>(alloc: Global, bytes: Vec<u8>) -> Result<T, Fault>
-    ensures ok { IfOk result (λ v. IsRead bytes.items (λ t. T.Place.meaning.reads t v)) }
+fn value_of<T: FromJson>(alloc: Global, bytes: Vec<u8>) -> Result<T, Fault>
+    ensures ok { IfOk result (λ v. IsRead bytes.items (λ t. T.means.reads t v)) }
     ensures invalid { IsErrOf result Fault.Invalid
-        → IsNotRead bytes.items (λ t. IsSome (T.Place.meaning.from_tree t)) }
+        → IsNotRead bytes.items (λ t. IsSome (T.means.from_tree t)) }
     ensures only { OnErr result (IsErrOf result Fault.Invalid ⊎ IsErrOf result Fault.Memory) }
 {
     let Ok(text) = std::str::from_utf8(bytes.as_slice()) else {

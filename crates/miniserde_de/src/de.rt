@@ -7,6 +7,7 @@ ghost use Rattle.std.specs.Prelude.{◌≡◌, ◌≢◌, true, IsOk, Option, So
 ghost use Rattle.miniserde_model.specs.Position.{complete};
 ghost use Rattle.miniserde_text.specs.declared.error.Error.{Error};
 ghost use Rattle.miniserde_place.specs.Place.{IsFresh};
+ghost use Rattle.miniserde_de.specs.Tied.{Agree, meant_by};
 
 mod impls;
 
@@ -16,19 +17,24 @@ pub use impls::{
 pub use miniserde_keys::{MapKey, Ranged, WholeKey};
 pub use miniserde_place::de::leaf::{BoolPlace, IntegerPlace, StringPlace, UnitPlace};
 pub use miniserde_place::de::{Ignore, Step, Visitor, container, ignore, leaf};
+pub use miniserde_read::{FromJson, Ignored, Source};
 use miniserde_text::error::{Error, Result};
 use std::alloc::Global;
 
-/// A type that can be read.
-pub trait Deserialize: Sized + Drop {
+/// A type with a place, which collects a value from events. The place means what the type does.
+pub trait Deserialize: FromJson {
     type Place: Visitor<Out = Self>;
 
-    // The value of a struct's field that is not met.
-    ghost absent: { Option Self };
+    /// Does nothing. Promises that the place means what the type does: the same trees mean the same values.
+    fn tied()
+        ensures { Agree (meant_by Self.Place.meaning) Self.means };
 
-    /// The value of a struct's field that is not met, where the type has one.
-    fn default() -> Option<Self>
-        ensures { result ≡ absent };
+    /// Returns the value of a struct's field that is missing, or `None` if such a struct is invalid.
+    final fn default() -> Option<Self>
+        ensures { result ≡ Self.absent }
+    {
+        Self::missing()
+    }
 
     /// A fresh place. It refuses only for want of memory.
     final fn begin(alloc: Global) -> Result<Self::Place>

@@ -9,8 +9,9 @@ ghost use Rattle.miniserde_model.specs.Number.{IsNumber};
 ghost use Rattle.miniserde_model.specs.Event.{Event};
 ghost use Rattle.miniserde_model.specs.Event as event;
 ghost use Rattle.miniserde_model.specs.Position.{complete};
-ghost use Rattle.miniserde_place.specs.Step.{event_of};
-ghost use Rattle.miniserde_place.specs.Place.{IsTreeEvent, Meaning, Takes, IsFresh, first_refusal};
+ghost use Rattle.miniserde_read.specs.Step.{event_of};
+ghost use Rattle.miniserde_place.specs.Place.{Meaning, Takes, IsFresh, first_refusal};
+ghost use Rattle.miniserde_read.specs.Step.{IsTreeEvent};
 ghost use Rattle.miniserde_place.specs.Container.{is_complete};
 ghost use Rattle.miniserde_text.specs.declared.error.Error.{Error};
 
@@ -19,24 +20,9 @@ pub mod leaf;
 
 pub use crate::ignore::Ignore;
 pub use crate::ignore::fresh::ignore;
+pub use miniserde_read::Step;
 use miniserde_text::error::{Error, Result};
 use std::alloc::Global;
-
-/// One event of a value.
-#[derive(Clone, Copy, Debug, Drop)]
-pub enum Step<'a> {
-    Null,
-    Bool(bool),
-    Str(&'a str),
-    Negative(i64),
-    Nonnegative(u64),
-    Float(&'a str),
-    Seq,
-    Element,
-    Map,
-    Key(&'a str),
-    Finish,
-}
 
 /// A place: it takes all events of one value, those of nested values too. Events may come in any order; the
 /// laws speak of those that begin one value.

@@ -1,5 +1,5 @@
 -- The front of a value stands in one way at the front of a text.
-use Rattle.std.proofs.Common.{◌≡◌, ℕ, ◌<◌, false, Option, Some, None, is_some, List, [], ◌∷◌, ◌++◌, length, codes, refl, sym, ap, subst, ◌∙◌, append_assoc, arith, length-append}
+use Rattle.std.proofs.Common.{◌≡◌, ℕ, ◌<◌, false, Option, Some, None, is_some, List, [], ◌∷◌, ◌++◌, length, codes, refl, sym, ap, ◌∙◌, append_assoc, arith, length-append}
 use Rattle.miniserde_model.specs.Tree.{Tree, null, truth, nonneg, neg, num, str}
 use Rattle.miniserde_model.specs.Whitespace.{IsWhitespace}
 use Rattle.miniserde_model.specs.Event.{Event, nothing, boolean, string, negative, nonnegative, float, seq, element, map, key, finish}
@@ -11,11 +11,10 @@ use Rattle.miniserde_model.proofs.Numbers.{same_number}
 use Rattle.miniserde_model.proofs.Strings.{same_string}
 use Rattle.miniserde_model.specs.Bytes.{is_space}
 use Rattle.miniserde_model.proofs.Prefixes.{whitespace_passes}
-use Rattle.miniserde_model.proofs.Unique.{kind_of_byte, Head, value_head, head_no_space, string_head, known_no_space, same_word, same_truth}
-use Rattle.miniserde_model.proofs.Forced.{after_stops}
+use Rattle.miniserde_model.proofs.Unique.{kind_of_byte, Head, value_head, head_no_space, string_head, same_word, same_truth}
 use Rattle.miniserde_model.proofs.Accepted.{value_tree}
 use Rattle.miniserde_read.specs.Step.{IsTreeEvent}
-use Rattle.miniserde_read.specs.private.Moving.{pushed}
+use Rattle.miniserde_read.specs.private.Stack.{pushed}
 use Rattle.miniserde_read.specs.private.Moving.{opens, between, Live, Passes}
 
 -- ---- the first byte
@@ -86,26 +85,6 @@ same_first s c d p q =
 
 pub first_byte : (c : ℕ) (s r : List ℕ) → is_space c ≡ false → Stands (IsByte c) s r → First s c
 first_byte c s r h p = record { space = p.space; more = r; text = p.text ∙ ap (λ z. p.space ++ (z ++ r)) p.is_part; is_whitespace = p.is_space; no_space = h }
-
--- a byte of a class that begins values
-pub record Known (s : List ℕ) : Type 0 where
-  pub byte : ℕ
-  pub known : kind_of_byte byte < 7
-  pub is_first : First s byte
-
-known_head : (k : ℕ) (s space part r : List ℕ) → k < 7 → Head part k → s ≡ space ++ (part ++ r) → IsWhitespace space → Known s
-known_head k s space part r l h e w =
-    let small : kind_of_byte h.byte < 7 = omega (arith, h.of_kind) in
-    record { byte = h.byte; known = small; is_first = record { space = space; more = h.rest ++ r; text = e ∙ ap (λ z. space ++ (z ++ r)) h.is; is_whitespace = w; no_space = known_no_space h.byte small } }
-
-pub known_start : (s : List ℕ) (e : Event) (r : List ℕ) → Starts s e r → Known s
-known_start s e r p = known_head (class e) s p.0.space p.0.part r (class_below e p.0.part p.0.is_part) (piece_head e p.0.part p.0.is_part) p.0.text p.0.is_space
-
-pub known_name : (s n r : List ℕ) → Names s n r → Known s
-known_name s n r p = known_head 4 s p.space p.part r (omega arith) (name_head n p.part p.is_part) p.text p.is_space
-
-pub not_known : (s : List ℕ) (z : ℕ) → kind_of_byte z ≡ 7 → Known s → First s z → ⊥
-not_known s z h k f = omega (arith, ap kind_of_byte (same_first s k.byte z k.is_first f), h, k.known)
 
 pub begins_first : (s r : List ℕ) → Stands (λ b. b ≡ []) s r → (b : Begins r) → First s b.byte
 begins_first s r p b = record { space = p.space; more = b.more; text = p.text ∙ ap (λ z. p.space ++ (z ++ r)) p.is_part ∙ ap (λ z. p.space ++ z) b.text; is_whitespace = p.is_space; no_space = b.no_space }
@@ -178,25 +157,6 @@ stands b p = record { space = p.space; part = p.part; text = p.text; is_space = 
 pub front : {P K : List ℕ → Type 0} (space part r : List ℕ) → IsWhitespace space → P part → K r → Front P K ((space ++ part) ++ r)
 front space part r w p k = record { space = space; part = part; rest = r; text = append_assoc space part r; is_space = w; is_part = p; is_rest = k }
 
-pub record Opened (es : List Event) (st : List Kind) (s : List ℕ) : Type 0 where
-  pub event : Event
-  pub left : List Event
-  pub rest : List ℕ
-  pub is : es ≡ event ∷ left
-  pub starts : Starts s event rest
-  pub is_rest : Spells (between (is_some (opens event))) left (pushed (opens event) st) rest
-
-pub spells_start : (es : List Event) (st : List Kind) (s : List ℕ) → Spells due es st s → Opened es st s
-spells_start (nothing ∷ es) st s h = record { event = nothing; left = es; rest = h.rest; is = refl; starts = (stands s h, tt); is_rest = h.is_rest }
-spells_start (boolean x ∷ es) st s h = record { event = boolean x; left = es; rest = h.rest; is = refl; starts = (stands s h, tt); is_rest = h.is_rest }
-spells_start (string x ∷ es) st s h = record { event = string x; left = es; rest = h.rest; is = refl; starts = (stands s h, tt); is_rest = h.is_rest }
-spells_start (negative n ∷ es) st s h = record { event = negative n; left = es; rest = h.rest; is = refl; starts = (stands s h, after_stops es st h.rest h.is_rest); is_rest = h.is_rest }
-spells_start (nonnegative n ∷ es) st s h = record { event = nonnegative n; left = es; rest = h.rest; is = refl; starts = (stands s h, after_stops es st h.rest h.is_rest); is_rest = h.is_rest }
-spells_start (float x ∷ es) st s h = record { event = float x; left = es; rest = h.rest; is = refl; starts = (stands s h, after_stops es st h.rest h.is_rest); is_rest = h.is_rest }
-spells_start (seq ∷ es) st s h = record { event = seq; left = es; rest = h.rest; is = refl; starts = (stands s h, tt); is_rest = h.is_rest }
-spells_start (map ∷ es) st s h = record { event = map; left = es; rest = h.rest; is = refl; starts = (stands s h, tt); is_rest = h.is_rest }
-spells_start _ st s h = absurd h
-
 starts_on : (e : Event) (st : List Kind) (space part : List ℕ) → IsWhitespace space → Piece e part → (rest : List Event) (r : List ℕ) → Spells (between (is_some (opens e))) rest (pushed (opens e) st) r → Spells due (e ∷ rest) st ((space ++ part) ++ r)
 starts_on nothing st space part w p rest r k = front space part r w p k
 starts_on (boolean x) st space part w p rest r k = front space part r w p k
@@ -210,32 +170,16 @@ starts_on element st space part w p rest r k = absurd p
 starts_on (key s) st space part w p rest r k = absurd p
 starts_on finish st space part w p rest r k = absurd p
 
-live_at : (o : Option Kind) (st : List Kind) → Live (between (is_some o)) (pushed o st)
+pub live_at : (o : Option Kind) (st : List Kind) → Live (between (is_some o)) (pushed o st)
 live_at None st = tt
 live_at (Some k) st = tt
-
-start_back : (st : List Kind) (s : List ℕ) (e : Event) (r : List ℕ) → Starts s e r → (es : List Event) → Spells due es st s → (left : List Event) × (es ≡ e ∷ left) × Spells (between (is_some (opens e))) left (pushed (opens e) st) r
-start_back st s e r p es h =
-    let f = spells_start es st s h in
-    let same = same_start s f.event e f.rest r f.starts p in
-    (f.left, f.is ∙ ap (λ z. z ∷ f.left) same.0, subst (λ z. Spells (between (is_some (opens e))) f.left (pushed (opens e) st) z) same.1 (subst (λ z. Spells (between (is_some (opens z))) f.left (pushed (opens z) st) f.rest) same.0 f.is_rest))
 
 pub passes_start : (st : List Kind) (s : List ℕ) (e : Event) (r : List ℕ) → Starts s e r → Passes due st s (e ∷ []) (between (is_some (opens e))) (pushed (opens e) st) r
 passes_start st s e r p = record {
   taken = p.0.space ++ p.0.part;
   text = p.0.text ∙ sym (append_assoc p.0.space p.0.part r);
   on = λ rest x k. starts_on e st p.0.space p.0.part p.0.is_space p.0.is_part rest x k;
-  back = start_back st s e r p;
-  live = live_at (opens e) st;
 }
-
--- a value that is due may be read where the space before it ends
-pub strip_due : (es : List Event) (st : List Kind) (w b : List ℕ) → IsWhitespace w → StopsAt is_space b → Spells due es st (w ++ b) → Spells due es st b
-strip_due es st w b hw hb h =
-    let f = spells_start es st (w ++ b) h in
-    let p = f.starts.0 in
-    let one = same_run is_space w p.space b (p.part ++ f.rest) (whitespace_passes w hw) (whitespace_passes p.space p.is_space) hb (piece_no_space f.event p.part f.rest p.is_part) p.text in
-    subst (λ z. Spells due es st z) (sym one.1) (subst (λ z. Spells due z st (p.part ++ f.rest)) (sym f.is) (starts_on f.event st [] p.part tt p.is_part f.left f.rest f.is_rest))
 
 head_length : (b r : List ℕ) (k : ℕ) → Head b k → length r < length (b ++ r)
 head_length b r k h = let l : length (b ++ r) ≡ length ((h.byte ∷ h.rest) ++ r) = ap (λ z. length (z ++ r)) h.is in omega (arith, l, length-append h.rest r)

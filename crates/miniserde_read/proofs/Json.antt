@@ -10,7 +10,7 @@ use Rattle.miniserde_model.proofs.Reading.{json_spells}
 use Rattle.miniserde_model.proofs.ReadBack.{spells_json}
 use Rattle.miniserde_model.proofs.Forced.{after_stops}
 use Rattle.miniserde_model.proofs.Unique.{kind_of_byte, Head, known_no_space}
-use Rattle.miniserde_read.specs.private.Moving.{pushed}
+use Rattle.miniserde_read.specs.private.Stack.{pushed}
 use Rattle.miniserde_read.specs.private.Moving.{opens, between}
 use Rattle.miniserde_read.proofs.Fronts.{stands, passes_start}
 use Rattle.miniserde_read.proofs.Turns.{passes_finish, passes_element, passes_key}

@@ -9,6 +9,10 @@ pub mod Lists
 pub mod Maps
 pub mod Objects
 pub mod Pairs
+pub mod Passed
 pub mod Same
+pub mod Skips
+pub mod Stacks
 pub mod Steps
 pub mod Turns
+pub mod Values

@@ -1,5 +1,5 @@
 -- The meaning of each of std's types, by the meanings of its parts. V is what a part reads, and W the whole.
-use Rattle.std.specs.Prelude.{ℕ, ℤ, pos, Bool, List, map, Option, option_map, ◌≡◌}
+use Rattle.std.specs.Prelude.{ℕ, ℤ, pos, Bool, List, map, Option, Some, option_map, ◌≡◌, refl, ⊤}
 use Rattle.miniserde_model.specs.Tree.{Tree, null, truth, str}
 use Rattle.miniserde_keys.specs.Keys.{Key}
 use Rattle.miniserde_read.specs.Meant.{Meant}
@@ -27,6 +27,16 @@ unit_meant = record {
   from_tree = unit_of;
   reads = λ t _. t ≡ null;
   reads_agrees = λ t _. unit-given t;
+}
+
+-- every tree means the value, and all values are equal
+abbrev pub ignored_meant : {V : Type 0} → Meant V
+ignored_meant = record {
+  Content = Unit {0};
+  content = λ _. tt;
+  from_tree = λ _. Some tt;
+  reads = λ _ _. ⊤;
+  reads_agrees = λ _ _. (λ _. refl, λ _. tt);
 }
 
 -- the words `true` and `false` mean the two booleans

@@ -16,6 +16,7 @@ mod pairs;
 mod sequences;
 
 use crate::source::Source;
+pub use maps::Table;
 use miniserde_text::error::{Error, Result};
 use miniserde_text::json::lex::Event;
 

@@ -1,10 +1,11 @@
 //! The text that a type reads itself from.
-ghost use Rattle.std.specs.Prelude.{◌≡◌, List, ℕ, None, Some, Ok, Err, IfOk, IfErr, IfSome};
+ghost use Rattle.std.specs.Prelude.{◌≡◌, Bool, List, ℕ, None, Some, Ok, Err, IfOk, IfErr, IfSome};
+ghost use Rattle.std.specs.String.{string_bytes};
 ghost use Rattle.miniserde_model.specs.Tree.{Trees, Members};
 ghost use Rattle.miniserde_model.specs.Event as event;
-ghost use Rattle.miniserde_model.specs.Lexing.{Starts};
+ghost use Rattle.miniserde_model.specs.Lexing.{Starts, Names, Follows};
 ghost use Rattle.miniserde_model.specs.Whitespace.{IsWhitespace};
-ghost use Rattle.miniserde_text.specs.Lexer.{front_of, text_of};
+ghost use Rattle.miniserde_text.specs.Lexer.{front_of, text_of, kind_of, closes};
 ghost use Rattle.miniserde_text.specs.declared.error.Error.{Error};
 ghost use Rattle.miniserde_read.specs.Step.{event_of};
 ghost use Rattle.miniserde_read.specs.Rest.{ElementsAt, MembersAt};
@@ -15,6 +16,7 @@ use miniserde_text::error::{Error, Result};
 use miniserde_text::json::lex::{After, Event, Kind, Lexer, Text};
 use std::alloc::Global;
 use std::marker::Model;
+use std::mem;
 
 /// The rest of a JSON text, with a scratch text for decoded strings. After its first error it returns that error from
 /// every call that takes a token.
@@ -97,6 +99,30 @@ impl<'a> Source<'a> {
         }
     }
 
+    /// Takes the closing bracket of a container, or the comma before its next child. `first` says that the opening
+    /// bracket was just taken; no comma is before the first child.
+    #[inline(always)]
+    pub fn after(&mut self, kind: Kind, first: bool) -> Result<After>
+        requires { self.old.refused ≡ None }
+        ensures going { IfOk result (λ _. self.new.refused ≡ None) }
+        ensures ok { IfOk result (λ a. Follows (kind_of kind) first (closes a) self.old.rest self.new.rest) }
+        ensures invalid { result ≡ Err Error.Invalid
+            → (a : Bool) (r : List ℕ) → Follows (kind_of kind) first a self.old.rest r → ⊥ }
+    {
+        self.lexer.after(kind, first)
+    }
+
+    /// Takes a member's name and its colon.
+    #[inline(always)]
+    pub fn key(&mut self) -> Result<Text<'a>>
+        requires { self.old.refused ≡ None }
+        ensures going { IfOk result (λ _. self.new.refused ≡ None) }
+        ensures ok { IfOk result (λ t. Names self.old.rest (text_of t self.new.scratch) self.new.rest) }
+        ensures invalid { result ≡ Err Error.Invalid → (n r : List ℕ) → Names self.old.rest n r → ⊥ }
+    {
+        self.lexer.name(&mut self.scratch)
+    }
+
     /// Checks that only whitespace is left.
     pub fn end(&mut self) -> Result<()>
         requires { self.old.refused ≡ None }
@@ -116,6 +142,16 @@ impl<'a> Source<'a> {
             Text::Input(s) => s,
             Text::Scratch => &self.scratch,
         }
+    }
+
+    /// Moves the decoded text of a name or a string that was taken last out of the source.
+    #[inline(always)]
+    pub fn take_scratch(&mut self) -> String
+        ensures text { string_bytes result ≡ self.old.scratch }
+        ensures rest { self.new.rest ≡ self.old.rest }
+        ensures refused { self.new.refused ≡ self.old.refused }
+    {
+        mem::replace(&mut self.scratch, String::new(self.alloc))
     }
 
     /// Returns the event of the token that was taken last.

@@ -1,1 +1,3 @@
+pub mod Due
+pub mod Named
 pub mod Rounds

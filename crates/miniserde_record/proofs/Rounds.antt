@@ -6,10 +6,10 @@ use Rattle.std.proofs.lemmas.Slice.Eq.{bytes_eq-Decides}
 use Rattle.miniserde_model.specs.Tree.{Tree, Members, no_members, member}
 use Rattle.miniserde_model.specs.Normal.{last_of}
 use Rattle.miniserde_text.proofs.Equal.{bytes_eq-flips}
-use Rattle.miniserde_de.specs.Objects.{Name}
+use Rattle.miniserde_read.specs.meaning.Objects.{Name}
 use Rattle.miniserde_round.specs.RoundTrip.{ReadsAgain}
 use Rattle.miniserde_record.specs.Fields.{others, AllNamed, MeansOr, FieldsRead}
-use Rattle.miniserde_record.specs.Records.{is_new, are_distinct, are_names}
+use Rattle.miniserde_record.specs.Structs.{is_new, are_distinct, are_names}
 use Rattle.miniserde_record.specs.Once.{once, OnceReads}
 use Rattle.miniserde_record.specs.Structs.{with_names, members_text, FieldsAgain}
 

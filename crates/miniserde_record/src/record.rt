@@ -1,17 +1,28 @@
-//! What a struct or a unit enum says of itself, and the place that reads it by that.
+//! What a struct or a unit enum says of itself, and how it is read, collected from events and written by that.
 
+mod again;
+pub mod arity;
 mod fields;
 mod fours;
 mod lossless;
+mod members;
+mod name_place;
 mod names;
 mod once;
-mod rounds;
+mod once_fields;
+mod places;
+mod slots;
 mod structs;
 
-pub use fields::{Field, FieldOf, Fields, NoField, Parts};
+pub use again::{AgainFields, record_again, record_again_once};
+pub use fields::{Field, FieldOf, Fields, NoField};
 pub use fours::{Four, FourOf};
 pub use lossless::{LosslessFields, record_lossless};
-pub use names::{NamePlace, UnitEnum, variant_again, variant_lossless};
-pub use once::Once;
-pub use rounds::{RoundFields, RoundRecord, WriteFields, record_again, write_record};
-pub use structs::{Record, RecordPlace};
+pub use members::{FourLent, Lent, Members, write_members};
+pub use name_place::NamePlace;
+pub use names::{UnitEnum, Variant, Variants, read_variant, variant_again, variant_lossless};
+pub use once::OnceSlots;
+pub use once_fields::Once;
+pub use places::{PlacedRecord, RecordPlace};
+pub use slots::{FourSlot, NoSlot, Slot, Slots, read_record};
+pub use structs::{Parts, Record};

@@ -7,11 +7,11 @@ use mir.Syntax.{Width}
 use mir.Val.{hbits}
 use Rattle.miniserde_model.specs.Tree.{Tree, null, truth, nonneg, neg, num, str, list, members, no_trees, tree}
 use Rattle.miniserde_keys.specs.Ranged.{OptionReal}
-use Rattle.miniserde_place.specs.Integers.{fits_signed, ReadsUnsigned, ReadsSigned}
-use Rattle.miniserde_de.specs.Lists.{EachReads, ListReads}
-use Rattle.miniserde_de.specs.Options.{OptionReads}
-use Rattle.miniserde_de.specs.Pairs.{PairReads}
-use Rattle.miniserde_de.specs.Arrays.{ArrayReads}
+use Rattle.miniserde_read.specs.meaning.Integers.{fits_signed, ReadsUnsigned, ReadsSigned}
+use Rattle.miniserde_read.specs.meaning.Lists.{EachReads, ListReads}
+use Rattle.miniserde_read.specs.meaning.Options.{OptionReads}
+use Rattle.miniserde_read.specs.meaning.Pairs.{PairReads}
+use Rattle.miniserde_read.specs.meaning.Arrays.{ArrayReads}
 use Rattle.miniserde_ser.specs.Fragment.{integer}
 use Rattle.miniserde_ser.specs.Trees.{trees_of, option_tree}
 use Rattle.miniserde_round.specs.RoundTrip.{ReadsAgain}

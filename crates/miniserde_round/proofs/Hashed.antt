@@ -10,9 +10,9 @@ use Rattle.std.proofs.lemmas.Map.Lookups.{exact_bytes}
 use Rattle.miniserde_model.specs.Tree.{Tree, Members, no_members, member}
 use Rattle.miniserde_model.specs.Normal.{text_cmp, placed, with_first, last_of}
 use Rattle.miniserde_keys.specs.Keys.{Key}
-use Rattle.miniserde_de.specs.Objects.{Name}
-use Rattle.miniserde_de.specs.Maps.{key_at, met, met_at, AllTaken, entry_at}
-use Rattle.miniserde_de.proofs.Entries.{same, contains-first, contains-later, found, at-contained}
+use Rattle.miniserde_read.specs.meaning.Objects.{Name}
+use Rattle.miniserde_read.specs.meaning.Maps.{key_at, met, met_at, AllTaken, entry_at}
+use Rattle.miniserde_read.proofs.Entries.{same, contains-first, contains-later, found, at-contained}
 use Rattle.miniserde_ser.specs.Trees.{members_of, in_order}
 use Rattle.miniserde_ser.proofs.Ordered.{Stands, names, all_stand, in_order_same}
 use Rattle.miniserde_round.proofs.Agree.{written, Agree}

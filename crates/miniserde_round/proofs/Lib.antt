@@ -3,6 +3,5 @@ pub mod Agree
 pub mod Maps
 pub mod Sorted
 pub mod Hashed
-pub mod Documents
 pub mod LosslessLists
 pub mod LosslessMaps

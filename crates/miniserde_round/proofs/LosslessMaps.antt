@@ -14,9 +14,9 @@ use Rattle.miniserde_model.specs.Normal.{or_else, last_of}
 use Rattle.miniserde_model.proofs.Lookups.{last_with_first}
 use Rattle.miniserde_keys.specs.Keys.{Key}
 use Rattle.miniserde_keys.specs.laws.Keys.{ReadsBack}
-use Rattle.miniserde_de.specs.Objects.{Name}
-use Rattle.miniserde_de.specs.Maps.{entry_at, looked}
-use Rattle.miniserde_de.proofs.Entries.{same, same_code, code_same, contains-cases, contains-first, contains-later, found, at-contained}
+use Rattle.miniserde_read.specs.meaning.Objects.{Name}
+use Rattle.miniserde_read.specs.meaning.Maps.{entry_at, looked}
+use Rattle.miniserde_read.proofs.Entries.{same, same_code, code_same, contains-cases, contains-first, contains-later, found, at-contained}
 use Rattle.miniserde_ser.specs.Trees.{members_of, in_order}
 
 -- the order of members doesn't count for what stands at a name

@@ -13,9 +13,9 @@ use Rattle.miniserde_model.specs.Tree.{Tree, members}
 use Rattle.miniserde_model.specs.Normal.{with_first}
 use Rattle.miniserde_keys.specs.Keys.{Key}
 use Rattle.miniserde_keys.specs.laws.Keys.{ReadsBack}
-use Rattle.miniserde_de.specs.Objects.{Name}
-use Rattle.miniserde_de.specs.Maps.{met, met_at, AllTaken, entry_at, MeansAt, MapReads}
-use Rattle.miniserde_de.proofs.Entries.{same, same_code, code_same, found}
+use Rattle.miniserde_read.specs.meaning.Objects.{Name}
+use Rattle.miniserde_read.specs.meaning.Maps.{met, met_at, AllTaken, entry_at, MeansAt, MapReads}
+use Rattle.miniserde_read.proofs.Entries.{same, same_code, code_same, found}
 use Rattle.miniserde_ser.specs.Trees.{members_of, in_order}
 use Rattle.miniserde_ser.proofs.Names.{distinct_names}
 use Rattle.miniserde_ser.proofs.Ordered.{names}

@@ -3,8 +3,6 @@ ghost use Rattle.std.specs.Prelude.{◌≡◌, IfOk, Err};
 ghost use Rattle.miniserde_model.specs.Tree.{null};
 ghost use Rattle.miniserde_text.specs.declared.error.Error.{Error};
 
-mod documents;
-
 use crate::round_trip::{RoundTrip, read_again};
 use miniserde_keys::{MapKey, WholeKey};
 use miniserde_text::error::Result;
@@ -17,7 +15,7 @@ pub trait Lossless: RoundTrip {
     /// Does nothing. It promises that of two values that Rust has and that have one tree, the same counts.
     fn lossless()
         ensures { (v w : Self) → Self.real v → Self.real w → Self.tree v ≡ Self.tree w
-            → Self.Place.meaning.content v ≡ Self.Place.meaning.content w };
+            → Self.means.content v ≡ Self.means.content w };
 }
 
 /// A type of which no value is written as `null`, so that `Some` of each is told from `None`.
@@ -30,9 +28,9 @@ pub trait NeverNull: RoundTrip {
 /// Does nothing. It promises that the tree of a value means that value, and nothing that counts otherwise. So of a text
 /// that spells it, `from_str` answers the value, want of memory aside.
 pub fn means_itself<T: Lossless>(value: &T)
-    ensures means { T.Place.meaning.reads (T.tree value.now) value.now }
-    ensures only { (v : T) → T.Place.meaning.reads (T.tree value.now) v
-        → T.Place.meaning.content v ≡ T.Place.meaning.content value.now }
+    ensures means { T.means.reads (T.tree value.now) value.now }
+    ensures only { (v : T) → T.means.reads (T.tree value.now) v
+        → T.means.content v ≡ T.means.content value.now }
 {
     value.ranged();
     T::again();
@@ -41,7 +39,7 @@ pub fn means_itself<T: Lossless>(value: &T)
 
 /// Writes a value and reads it again: what counts of the answer is what counts of the value.
 pub fn read_itself<T: Lossless>(alloc: Global, value: &T) -> Result<T>
-    ensures itself { IfOk result (λ v. T.Place.meaning.content v ≡ T.Place.meaning.content value.now) }
+    ensures itself { IfOk result (λ v. T.means.content v ≡ T.means.content value.now) }
     ensures memory { result ≡ Err Error.Invalid → ⊥ }
 {
     T::lossless();

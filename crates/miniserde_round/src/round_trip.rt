@@ -3,32 +3,29 @@ ghost use Rattle.std.specs.Prelude.{◌≡◌, IfOk, Ok, Err};
 ghost use Rattle.miniserde_round.specs.RoundTrip.{ReadsAgain};
 ghost use Rattle.miniserde_text.specs.declared.error.Error.{Error};
 
-mod documents;
-
-use miniserde_de::de::Deserialize;
-use miniserde_json::json::{from_str, to_string};
 use miniserde_keys::{MapKey, Ranged};
-use miniserde_ser::ser::Serialize;
+use miniserde_read::{FromJson, from_str};
+use miniserde_ser::ser::{Serialize, to_string};
 use miniserde_text::error::{Error, Result};
 use std::alloc::Global;
 use std::collections::{BTreeMap, HashMap};
 use std::hash::{BuildHasher, Hash};
 
 /// A type whose values read back as they were written.
-pub trait RoundTrip: Ranged + Serialize + Deserialize {
+pub trait RoundTrip: Ranged + Serialize + FromJson {
     /// Does nothing. It promises that the tree of each value that Rust has means a value that Rust has, and that each
     /// such value has that tree.
     fn again()
         ensures { (v : Self) → Self.real v
-            → ReadsAgain Self.real Self.tree Self.Place.meaning.reads (Self.tree v) };
+            → ReadsAgain Self.real Self.tree Self.means.reads (Self.tree v) };
 }
 
 /// Writes a value and reads it again.
 pub fn read_again<T: RoundTrip>(alloc: Global, value: &T) -> Result<T>
     ensures same { IfOk result (λ v. T.tree v ≡ T.tree value.now) }
     ensures itself { ((v : T) → T.real v → T.tree v ≡ T.tree value.now
-        → T.Place.meaning.content v ≡ T.Place.meaning.content value.now)
-        → IfOk result (λ v. T.Place.meaning.content v ≡ T.Place.meaning.content value.now) }
+        → T.means.content v ≡ T.means.content value.now)
+        → IfOk result (λ v. T.means.content v ≡ T.means.content value.now) }
     ensures memory { result ≡ Err Error.Invalid → ⊥ }
 {
     value.ranged();

@@ -8,10 +8,12 @@ ghost use Rattle.miniserde_model.specs.Compact.{compact};
 ghost use Rattle.miniserde_model.specs.IsTree.{IsTree};
 ghost use Rattle.miniserde_text.specs.declared.error.Error.TheVariants.{Memory};
 
+mod compact;
 mod escape;
 mod fields;
 mod impls;
 
+pub use compact::to_string;
 pub use escape::escape_str;
 use escape::put_between;
 pub use fields::write_field;

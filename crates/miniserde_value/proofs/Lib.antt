@@ -16,3 +16,4 @@ pub mod Variants
 pub mod Frames
 pub mod Walks
 pub mod Written
+pub mod Documents

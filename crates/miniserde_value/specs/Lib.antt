@@ -10,5 +10,6 @@ pub mod Marks
 pub mod Builders
 pub mod Walks
 pub mod Kinds
+pub mod Meanings
 pub mod Places
 pub mod laws

@@ -1,7 +1,6 @@
 -- The leaf of a number.
 use Rattle.std.specs.Prelude.{◌≡◌, Option, Some, None}
 use Rattle.miniserde_model.specs.Tree.{Tree, nonneg, neg, num}
-use Rattle.miniserde_model.specs.Event.{Event, negative, nonnegative, float}
 use Rattle.miniserde_value.specs.declared.json.number.Number.{Number}
 use Rattle.miniserde_value.specs.declared.json.number.Number.TheVariants.{U64, I64, Text}
 
@@ -11,12 +10,12 @@ number_leaf (U64 n) = nonneg n
 number_leaf (I64 z) = neg z
 number_leaf (Text x) = num x
 
--- what a leaf's event gives
-abbrev pub from_number : Event → Option Tree
-from_number (nonnegative n) = Some (nonneg n)
-from_number (negative z) = Some (neg z)
-from_number (float x) = Some (num x)
-from_number _ = None
+-- the leaf of a number gives itself, and any other tree nothing
+abbrev pub number_of : Tree → Option Tree
+number_of (nonneg n) = Some (nonneg n)
+number_of (neg z) = Some (neg z)
+number_of (num x) = Some (num x)
+number_of _ = None
 
 -- The tree means the number: an integer with no minus is a `U64`, one with it an `I64`, and any other its text.
 abbrev pub ReadsNumber : Tree → Number → Type 0

@@ -1,8 +1,7 @@
 -- What the places of values mean.
-use Rattle.std.specs.Prelude.{◌≡◌, Bool, true, [], Option, Some, None, Result, Err, OnOk, string_bytes}
+use Rattle.std.specs.Prelude.{◌≡◌, Bool, true, [], Option, Some, None, Result, Err, OnOk, refl, string_bytes}
 use Rattle.miniserde_model.specs.Tree.{Tree}
 use Rattle.miniserde_model.specs.Event.{Event}
-use Rattle.miniserde_model.specs.Distinct.{distinct}
 use Rattle.miniserde_text.specs.declared.error.Error.{Error}
 use Rattle.miniserde_text.specs.declared.error.Error.TheVariants.{Invalid}
 use Rattle.miniserde_place.specs.Place.{Shown, Meaning, first_refusal}
@@ -20,13 +19,14 @@ use Rattle.miniserde_value.specs.Unique.{repeats, took_once, once_outcome, kept_
 use Rattle.miniserde_value.specs.Builders.{hole_in}
 use Rattle.miniserde_value.specs.Kept.{kept}
 use Rattle.miniserde_value.specs.Values.{shape, Reads, array_items, object_entries, array_shape, object_shape}
-use Rattle.miniserde_place.specs.Leaf.{from_one_event, from_leaf, leaf_shows}
+use Rattle.miniserde_place.specs.Leaf.{from_one_event, leaf_shows}
 use Rattle.miniserde_place.specs.LeafPlace.{value_of, refusal_of as leaf_refusal}
 use Rattle.miniserde_place.specs.laws.Leaf.{one-event}
 use Rattle.miniserde_value.specs.declared.json.number.Number.{Number}
 use Rattle.miniserde_value.specs.declared.json.place.NumberPlace.{NumberPlace}
-use Rattle.miniserde_value.specs.Numbers.{number_leaf, from_number, ReadsNumber}
+use Rattle.miniserde_value.specs.Numbers.{number_leaf, number_of, ReadsNumber}
 use Rattle.miniserde_value.specs.laws.Numbers.{number-given}
+use Rattle.miniserde_value.specs.Meanings.{ReadsUnique}
 use Rattle.miniserde_value.specs.Kinds.{only_list, only_members, list_outcome, members_outcome}
 use Rattle.miniserde_value.specs.laws.Unique.{once-whole, once-agrees}
 use Rattle.miniserde_value.specs.laws.Outcomes.{outcome-whole, reads-agree, list-whole, list-agrees, members-whole, members-agree}
@@ -72,10 +72,7 @@ steps_once old e answer new =
     × OnOk answer (took_once (due_in old.place) (hole_at old.place) e ≡ Some (due_in new.place, hole_at new.place))
     × (answer ≡ Err Invalid → refusal_of old.place ≡ None → took_once (due_in old.place) (hole_at old.place) e ≡ None)
 
--- a tree in which no name stands twice means the value, which keeps the tree
-abbrev pub ReadsUnique : Tree → Unique → Type 0
-ReadsUnique t u = (distinct t ≡ true) × Reads t u.value
-
+-- a tree in which no name is duplicated means the value, which keeps the tree
 abbrev pub unique_meaning : Meaning UniquePlace Unique
 unique_meaning = record {
   Content = Tree;
@@ -119,10 +116,10 @@ abbrev pub number_meaning : Meaning NumberPlace Number
 number_meaning = record {
   Content = Tree;
   content = number_leaf;
-  from_events = from_one_event from_number;
-  from_tree = from_leaf from_number;
-  events_agree = one-event from_number;
+  from_events = from_one_event number_of;
+  from_tree = number_of;
+  events_agree = one-event number_of (λ ts. refl, λ ms. refl);
   reads = ReadsNumber;
   reads_agrees = number-given;
-  shows = λ p. leaf_shows number_leaf from_number (value_of p.place) (leaf_refusal p.place);
+  shows = λ p. leaf_shows number_leaf number_of (value_of p.place) (leaf_refusal p.place);
 }

@@ -7,6 +7,8 @@ pub mod drop;
 pub mod number;
 pub mod object;
 mod place;
+mod read;
+mod round_trip;
 pub mod unique;
 pub mod value;
 mod walk;

@@ -2,17 +2,17 @@
 
 use miniserde::error::{Error, Result};
 use miniserde::json::{from_str, to_string};
-use miniserde::{Deserialize, Serialize};
+use miniserde::{FromJson, Serialize};
 use std::alloc::Global;
 
 /// The text of the value that a text means for a type.
-pub fn written<T: Deserialize + Serialize>(alloc: Global, text: &str) -> Result<String> {
+pub fn written<T: FromJson + Serialize>(alloc: Global, text: &str) -> Result<String> {
     let value: T = from_str(alloc, text)?;
     to_string(alloc, &value)
 }
 
 /// The first of the texts that is not written as the one beside it, if any.
-pub fn first_other<'a, T: Deserialize + Serialize>(
+pub fn first_other<'a, T: FromJson + Serialize>(
     alloc: Global,
     texts: &[(&'a str, &str)],
 ) -> Result<Option<&'a str>> {
@@ -25,13 +25,13 @@ pub fn first_other<'a, T: Deserialize + Serialize>(
 }
 
 /// Whether a type refuses a text as `Invalid`.
-pub fn is_refused<T: Deserialize>(alloc: Global, text: &str) -> bool {
+pub fn is_refused<T: FromJson>(alloc: Global, text: &str) -> bool {
     let read: Result<T> = from_str(alloc, text);
     matches!(read, Err(Error::Invalid))
 }
 
 /// The first of the texts that is not refused as `Invalid`, if any.
-pub fn first_taken<'a, T: Deserialize>(alloc: Global, texts: &[&'a str]) -> Option<&'a str> {
+pub fn first_taken<'a, T: FromJson>(alloc: Global, texts: &[&'a str]) -> Option<&'a str> {
     for text in texts {
         if !is_refused::<T>(alloc, text) {
             return Some(*text);

@@ -1,13 +1,17 @@
 //! Structs in lists in structs.
+ghost use Rattle.miniserde.specs.FieldsMeant.{field_and, no_fields, struct_meant};
 ghost use Rattle.miniserde.specs.Place.{inside};
-ghost use Rattle.miniserde.specs.Records.{names_of};
-ghost use Rattle.std.specs.Prelude.{Option, Some, None, refl};
+ghost use Rattle.miniserde.specs.Structs.{names_of, with_names};
+ghost use Rattle.miniserde.specs.Tree.{members};
+ghost use Rattle.std.specs.Prelude.{[], ◌∷◌, ⊤, refl};
 
-use miniserde::de::{Deserialize, Ranged, Step, Visitor};
-use miniserde::record::{
-    Field, Fields, Four, NoField, Parts, Record, RecordPlace, RoundRecord, record_again,
-    write_record,
+use miniserde::de::{Deserialize, FromJson, Ranged, Source, Step, Visitor};
+use miniserde::json::lex::Event;
+use miniserde::record::arity::{
+    Values2, Values3, Values4, read_record2, read_record3, read_record4, record_again2,
+    record_again3, record_again4, write_record2, write_record3, write_record4,
 };
+use miniserde::record::{Field, Four, NoField, Parts, PlacedRecord, Record, RecordPlace};
 use miniserde::ser::{Serialize, Writer};
 use miniserde::{Error, Result, RoundTrip};
 use std::alloc::Global;
@@ -26,11 +30,11 @@ const PORT_NAMES: &[&str] = &["number", "open"];
 impl Record for Port {
     ghost use Rattle.rows_structs.specs.declared.hosts.TheConstants.{PORT_NAMES};
 
-    type Fields = Field<u16, Field<bool, NoField>>;
-
-    type Values = <Self::Fields as Fields>::Values;
+    type Values = Values2<u16, bool>;
 
     ghost names = { names_of PORT_NAMES };
+
+    ghost count = { 2 };
 
     ghost values = { λ v. (v.number, (v.open, tt)) };
 
@@ -51,10 +55,51 @@ impl Record for Port {
     ghost named = { refl };
 }
 
-/// Its place.
+impl FromJson for Port {
+    ghost means = { struct_meant (field_and ⟦<u16 as FromJson>⟧.means ⟦<u16 as FromJson>⟧.absent
+        (field_and ⟦<bool as FromJson>⟧.means ⟦<bool as FromJson>⟧.absent no_fields)) ⟦<Port as Record>⟧.names ⟦<Port as Record>⟧.values };
+
+    fn missing() -> Option<Port> {
+        None
+    }
+
+    fn read<'a>(token: Event<'a>, source: &mut Source<'a>) -> Result<Port> {
+        read_record2::<Port, u16, bool>(token, source)
+    }
+}
+
+impl Serialize for Port {
+    ghost tree = { λ v. members (with_names ⟦<Port as Record>⟧.names (⟦<u16 as Serialize>⟧.tree
+        v.number ∷ ⟦<bool as Serialize>⟧.tree v.open ∷ [])) };
+
+    fn begin(&self, w: &mut Writer) -> Result<()> {
+        write_record2(w, PORT_NAMES, &self.number, &self.open)
+    }
+}
+
+impl Ranged for Port {
+    ghost real = { λ v. ⟦<u16 as Ranged>⟧.real v.number × (⟦<bool as Ranged>⟧.real v.open × ⊤) };
+
+    fn ranged(&self) {
+        self.number.ranged();
+        self.open.ranged();
+    }
+}
+
+impl RoundTrip for Port {
+    fn again() {
+        record_again2::<Port, u16, bool>()
+    }
+}
+
+/// The place of a `Port`.
 #[derive(Drop)]
 pub struct PortPlace {
     place: RecordPlace<Port>,
+}
+
+impl PlacedRecord for Port {
+    type Fields = Field<u16, Field<bool, NoField>>;
 }
 
 impl Visitor for PortPlace {
@@ -89,34 +134,7 @@ impl Visitor for PortPlace {
 impl Deserialize for Port {
     type Place = PortPlace;
 
-    ghost absent = { None };
-
-    fn default() -> Option<Port> {
-        None
-    }
-}
-
-impl Serialize for Port {
-    ghost tree = { ⟦<Port as RoundRecord>⟧.tree };
-
-    fn begin(&self, w: &mut Writer) -> Result<()> {
-        write_record::<Port, _>(w, &Parts(&self.number, Parts(&self.open, ())))
-    }
-}
-
-impl Ranged for Port {
-    ghost real = { ⟦<Port as RoundRecord>⟧.real };
-
-    fn ranged(&self) {
-        self.number.ranged();
-        self.open.ranged();
-    }
-}
-
-impl RoundTrip for Port {
-    fn again() {
-        record_again::<Port>()
-    }
+    fn tied() {}
 }
 
 /// A host, with its ports.
@@ -133,11 +151,11 @@ const HOST_NAMES: &[&str] = &["name", "ports", "weight"];
 impl Record for Host {
     ghost use Rattle.rows_structs.specs.declared.hosts.TheConstants.{HOST_NAMES};
 
-    type Fields = Field<String, Field<Vec<Port>, Field<Option<u64>, NoField>>>;
-
-    type Values = <Self::Fields as Fields>::Values;
+    type Values = Values3<String, Vec<Port>, Option<u64>>;
 
     ghost names = { names_of HOST_NAMES };
+
+    ghost count = { 3 };
 
     ghost values = { λ v. (v.name, (v.ports, (v.weight, tt))) };
 
@@ -163,10 +181,53 @@ impl Record for Host {
     ghost named = { refl };
 }
 
-/// Its place.
+impl FromJson for Host {
+    ghost means = { struct_meant (field_and ⟦<String as FromJson>⟧.means ⟦<String as FromJson>⟧.absent (field_and ⟦<Vec<Port> as FromJson>⟧.means ⟦<Vec<Port> as FromJson>⟧.absent (field_and ⟦<Option<u64> as FromJson>⟧.means ⟦<Option<u64> as FromJson>⟧.absent no_fields))) ⟦<Host as Record>⟧.names ⟦<Host as Record>⟧.values };
+
+    fn missing() -> Option<Host> {
+        None
+    }
+
+    fn read<'a>(token: Event<'a>, source: &mut Source<'a>) -> Result<Host> {
+        read_record3::<Host, String, Vec<Port>, Option<u64>>(token, source)
+    }
+}
+
+impl Serialize for Host {
+    ghost tree = { λ v. members (with_names ⟦<Host as Record>⟧.names (⟦<String as Serialize>⟧.tree
+        v.name ∷ ⟦<Vec<Port> as Serialize>⟧.tree v.ports ∷ ⟦<Option<u64> as Serialize>⟧.tree
+        v.weight ∷ [])) };
+
+    fn begin(&self, w: &mut Writer) -> Result<()> {
+        write_record3(w, HOST_NAMES, &self.name, &self.ports, &self.weight)
+    }
+}
+
+impl Ranged for Host {
+    ghost real = { λ v. ⟦<String as Ranged>⟧.real v.name × (⟦<Vec<Port> as Ranged>⟧.real v.ports ×
+        (⟦<Option<u64> as Ranged>⟧.real v.weight × ⊤)) };
+
+    fn ranged(&self) {
+        self.name.ranged();
+        self.ports.ranged();
+        self.weight.ranged();
+    }
+}
+
+impl RoundTrip for Host {
+    fn again() {
+        record_again3::<Host, String, Vec<Port>, Option<u64>>()
+    }
+}
+
+/// The place of a `Host`.
 #[derive(Drop)]
 pub struct HostPlace {
     place: RecordPlace<Host>,
+}
+
+impl PlacedRecord for Host {
+    type Fields = Field<String, Field<Vec<Port>, Field<Option<u64>, NoField>>>;
 }
 
 impl Visitor for HostPlace {
@@ -201,38 +262,7 @@ impl Visitor for HostPlace {
 impl Deserialize for Host {
     type Place = HostPlace;
 
-    ghost absent = { None };
-
-    fn default() -> Option<Host> {
-        None
-    }
-}
-
-impl Serialize for Host {
-    ghost tree = { ⟦<Host as RoundRecord>⟧.tree };
-
-    fn begin(&self, w: &mut Writer) -> Result<()> {
-        write_record::<Host, _>(
-            w,
-            &Parts(&self.name, Parts(&self.ports, Parts(&self.weight, ()))),
-        )
-    }
-}
-
-impl Ranged for Host {
-    ghost real = { ⟦<Host as RoundRecord>⟧.real };
-
-    fn ranged(&self) {
-        self.name.ranged();
-        self.ports.ranged();
-        self.weight.ranged();
-    }
-}
-
-impl RoundTrip for Host {
-    fn again() {
-        record_again::<Host>()
-    }
+    fn tied() {}
 }
 
 /// Hosts, of which one is the main one, and limits by name.
@@ -250,15 +280,20 @@ const CONFIG_NAMES: &[&str] = &["hosts", "main", "backup", "limits"];
 impl Record for Config {
     ghost use Rattle.rows_structs.specs.declared.hosts.TheConstants.{CONFIG_NAMES};
 
-    type Fields = Four<Vec<Host>, Host, Option<Box<Host>>, BTreeMap<String, u64>, NoField>;
-
-    type Values = <Self::Fields as Fields>::Values;
+    type Values = Values4<Vec<Host>, Host, Option<Box<Host>>, BTreeMap<String, u64>>;
 
     ghost names = { names_of CONFIG_NAMES };
 
+    ghost count = { 4 };
+
     ghost values = { λ v. (v.hosts, (v.main, (v.backup, (v.limits, tt)))) };
 
-    ghost made = { λ x. record { hosts = x.0; main = x.1.0; backup = x.1.1.0; limits = x.1.1.1.0 } };
+    ghost made = { λ x. record {
+      hosts = x.0;
+      main = x.1.0;
+      backup = x.1.1.0;
+      limits = x.1.1.1.0;
+    } };
 
     fn names() -> &'static [&'static str] {
         CONFIG_NAMES
@@ -282,10 +317,64 @@ impl Record for Config {
     ghost named = { refl };
 }
 
-/// Its place.
+impl FromJson for Config {
+    ghost means = { struct_meant (field_and ⟦<Vec<Host> as FromJson>⟧.means ⟦<Vec<Host> as FromJson>⟧.absent (field_and ⟦<Host as FromJson>⟧.means ⟦<Host as FromJson>⟧.absent
+        (field_and ⟦<Option<Box<Host>> as FromJson>⟧.means ⟦<Option<Box<Host>> as FromJson>⟧.absent
+        (field_and ⟦<BTreeMap<String, u64> as FromJson>⟧.means ⟦<BTreeMap<String, u64> as FromJson>⟧.absent no_fields)))) ⟦<Config as Record>⟧.names ⟦<Config as Record>⟧.values };
+
+    fn missing() -> Option<Config> {
+        None
+    }
+
+    fn read<'a>(token: Event<'a>, source: &mut Source<'a>) -> Result<Config> {
+        read_record4::<Config, Vec<Host>, Host, Option<Box<Host>>, BTreeMap<String, u64>>(
+            token, source,
+        )
+    }
+}
+
+impl Serialize for Config {
+    ghost tree = { λ v. members (with_names ⟦<Config as Record>⟧.names (⟦<Vec<Host> as Serialize>⟧.tree v.hosts ∷ ⟦<Host as Serialize>⟧.tree v.main ∷ ⟦<Option<Box<Host>> as Serialize>⟧.tree v.backup ∷ ⟦<BTreeMap<String, u64> as Serialize>⟧.tree v.limits ∷ [])) };
+
+    fn begin(&self, w: &mut Writer) -> Result<()> {
+        write_record4(
+            w,
+            CONFIG_NAMES,
+            &self.hosts,
+            &self.main,
+            &self.backup,
+            &self.limits,
+        )
+    }
+}
+
+impl Ranged for Config {
+    ghost real = { λ v. ⟦<Vec<Host> as Ranged>⟧.real v.hosts × (⟦<Host as Ranged>⟧.real v.main ×
+        (⟦<Option<Box<Host>> as Ranged>⟧.real v.backup × (⟦<BTreeMap<String, u64> as Ranged>⟧.real
+        v.limits × ⊤))) };
+
+    fn ranged(&self) {
+        self.hosts.ranged();
+        self.main.ranged();
+        self.backup.ranged();
+        self.limits.ranged();
+    }
+}
+
+impl RoundTrip for Config {
+    fn again() {
+        record_again4::<Config, Vec<Host>, Host, Option<Box<Host>>, BTreeMap<String, u64>>()
+    }
+}
+
+/// The place of a `Config`.
 #[derive(Drop)]
 pub struct ConfigPlace {
     place: RecordPlace<Config>,
+}
+
+impl PlacedRecord for Config {
+    type Fields = Four<Vec<Host>, Host, Option<Box<Host>>, BTreeMap<String, u64>, NoField>;
 }
 
 impl Visitor for ConfigPlace {
@@ -320,40 +409,5 @@ impl Visitor for ConfigPlace {
 impl Deserialize for Config {
     type Place = ConfigPlace;
 
-    ghost absent = { None };
-
-    fn default() -> Option<Config> {
-        None
-    }
-}
-
-impl Serialize for Config {
-    ghost tree = { ⟦<Config as RoundRecord>⟧.tree };
-
-    fn begin(&self, w: &mut Writer) -> Result<()> {
-        write_record::<Config, _>(
-            w,
-            &Parts(
-                &self.hosts,
-                Parts(&self.main, Parts(&self.backup, Parts(&self.limits, ()))),
-            ),
-        )
-    }
-}
-
-impl Ranged for Config {
-    ghost real = { ⟦<Config as RoundRecord>⟧.real };
-
-    fn ranged(&self) {
-        self.hosts.ranged();
-        self.main.ranged();
-        self.backup.ranged();
-        self.limits.ranged();
-    }
-}
-
-impl RoundTrip for Config {
-    fn again() {
-        record_again::<Config>()
-    }
+    fn tied() {}
 }

@@ -2,10 +2,12 @@
 //! trip.
 ghost use Rattle.std.specs.Prelude.{◌≡◌, ◌<◌, ◌^◌, List, Option, None, Some, Ok, Err, IfOk, ℕ};
 ghost use Rattle.std.specs.String.{string_bytes};
-ghost use Rattle.miniserde.specs.Meanings.{box_meaning};
+ghost use Rattle.miniserde.specs.Meanings.{pair_meant};
+ghost use Rattle.miniserde.specs.PlaceMeanings.{box_meaning};
 ghost use Rattle.miniserde.specs.Tree.{list, tree, no_trees, nonneg, str};
 
-use miniserde::de::{Deserialize, PairPlace, Ranged, Step, Visitor};
+use miniserde::de::{Deserialize, FromJson, PairPlace, Ranged, Source, Step, Visitor};
+use miniserde::json::lex::Event;
 use miniserde::ser::{Serialize, Writer};
 use miniserde::{Error, Result, RoundTrip};
 use std::alloc::Global;
@@ -54,14 +56,23 @@ impl Visitor for EntryPlace {
     }
 }
 
+impl FromJson for Entry {
+    ghost means = { pair_meant ⟦<u32 as FromJson>⟧.means ⟦<String as FromJson>⟧.means (λ v. v.code) (λ v. v.message) };
+
+    fn missing() -> Option<Entry> {
+        None
+    }
+
+    fn read<'a>(token: Event<'a>, source: &mut Source<'a>) -> Result<Entry> {
+        let (code, message) = <(u32, String) as FromJson>::read(token, source)?;
+        Ok(Entry { code, message })
+    }
+}
+
 impl Deserialize for Entry {
     type Place = EntryPlace;
 
-    ghost absent = { None };
-
-    fn default() -> Option<Entry> {
-        None
-    }
+    fn tied() {}
 }
 
 impl Serialize for Entry {

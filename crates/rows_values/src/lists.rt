@@ -2,12 +2,12 @@
 
 use miniserde::error::{Error, Result};
 use miniserde::json::{from_str, to_string};
-use miniserde::{Deserialize, Serialize};
+use miniserde::{FromJson, Serialize};
 use std::alloc::Global;
 use std::test::Fail;
 
 /// The text of the value that a text means for a type.
-fn again<T: Deserialize + Serialize>(alloc: Global, text: &str) -> Result<String> {
+fn again<T: FromJson + Serialize>(alloc: Global, text: &str) -> Result<String> {
     let value: T = from_str(alloc, text)?;
     to_string(alloc, &value)
 }

@@ -1,9 +1,8 @@
 -- Which trees mean settings, and when two settings are the same: field by field, in the words of a user.
 use Rattle.std.specs.Prelude.{◌≡◌, ◌<◌, ◌^◌, ℕ, Bool, List, map, Option, Some, None, option_map, MatchOption, string_bytes, codes}
 use Rattle.miniserde.specs.Tree.{Tree, nonneg, str, truth, members, Members}
-use Rattle.miniserde.specs.Leaf.{from_leaf}
-use Rattle.miniserde.specs.Words.{from_boolean, from_string}
-use Rattle.miniserde.specs.Integers.{from_unsigned}
+use Rattle.miniserde.specs.Words.{boolean_of, string_of}
+use Rattle.miniserde.specs.Integers.{unsigned_of}
 use Rattle.miniserde.specs.Lists.{ListReads, list_of}
 use Rattle.miniserde.specs.Options.{OptionReads, option_of}
 use Rattle.miniserde.specs.Maps.{MapReads, map_of, looked}
@@ -18,22 +17,22 @@ IsBelow limit t n = (t ≡ nonneg n) × (n < limit)
 
 -- the tree has a host's members: a text `host`, and a `weight` of at most 255
 abbrev pub IsHost : Tree → Host → Type 0
-IsHost (members ms) h = Says ⊥ (λ t. t ≡ str (string_bytes h.host)) (from_leaf from_string) (codes "host") ms × Says ⊥ (λ t. IsBelow 256 t h.weight) (from_leaf (from_unsigned 8)) (codes "weight") ms
+IsHost (members ms) h = Says ⊥ (λ t. t ≡ str (string_bytes h.host)) string_of (codes "host") ms × Says ⊥ (λ t. IsBelow 256 t h.weight) (unsigned_of 8) (codes "weight") ms
 IsHost t h = ⊥
 
 -- the tree has a `Tls`'s members: a text `cert`, and `true` or `false` as `verify`
 abbrev pub IsTls : Tree → Tls → Type 0
-IsTls (members ms) s = Says ⊥ (λ t. t ≡ str (string_bytes s.cert)) (from_leaf from_string) (codes "cert") ms × Says ⊥ (λ t. t ≡ truth s.verify) (from_leaf from_boolean) (codes "verify") ms
+IsTls (members ms) s = Says ⊥ (λ t. t ≡ str (string_bytes s.cert)) string_of (codes "cert") ms × Says ⊥ (λ t. t ≡ truth s.verify) boolean_of (codes "verify") ms
 IsTls t s = ⊥
 
 -- The tree has the settings' members: a text `name`, a `port` of at most 65535, `tls` that may be null or missing, a list
 -- `hosts`, and `limits` by their names, which are below 2 ^ 64. `host` and `tls` tell what the types of these two accept.
 abbrev pub IsSettings : {C D : Type 0} → (Tree → Option C) → (Tree → Option D) → Tree → Settings → Type 0
-IsSettings host tls (members ms) s = Says ⊥ (λ t. t ≡ str (string_bytes s.name)) (from_leaf from_string) (codes "name") ms
-    × Says ⊥ (λ t. IsBelow 65536 t s.port) (from_leaf (from_unsigned 16)) (codes "port") ms
+IsSettings host tls (members ms) s = Says ⊥ (λ t. t ≡ str (string_bytes s.name)) string_of (codes "name") ms
+    × Says ⊥ (λ t. IsBelow 65536 t s.port) (unsigned_of 16) (codes "port") ms
     × Says (s.tls ≡ None) (λ t. OptionReads IsTls t s.tls) (option_of tls) (codes "tls") ms
     × Says ⊥ (λ t. ListReads IsHost t s.hosts.items) (list_of host) (codes "hosts") ms
-    × Says ⊥ (λ t. MapReads Some (λ k. k) string_bytes (from_leaf (from_unsigned 64)) (IsBelow (2 ^ 64)) t s.limits.entries) (map_of Some (λ k. k) (from_leaf (from_unsigned 64))) (codes "limits") ms
+    × Says ⊥ (λ t. MapReads Some (λ k. k) string_bytes (unsigned_of 64) (IsBelow (2 ^ 64)) t s.limits.entries) (map_of Some (λ k. k) (unsigned_of 64)) (codes "limits") ms
 IsSettings host tls t s = ⊥
 
 -- what counts of a host and of a `Tls`

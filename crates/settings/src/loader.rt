@@ -4,8 +4,8 @@ ghost use Rattle.miniserde.specs.Tree.{Tree};
 ghost use Rattle.miniserde.specs.Value.{IsJson};
 ghost use Rattle.settings.specs.Meant.{AreSame, IsHost, IsTls, IsSettings};
 
-use crate::types::{Host, HostPlace, Settings, SettingsPlace, Tls, TlsPlace};
-use miniserde::de::Visitor;
+use crate::types::{Host, Settings, Tls};
+use miniserde::de::FromJson;
 use miniserde::json::{from_str, to_string};
 use miniserde::laws::text_has_one_tree;
 use miniserde::{Error, Result, Serialize, means_itself};
@@ -13,14 +13,14 @@ use std::alloc::Global;
 
 // Does nothing. It promises which trees mean hosts and certificates.
 fn parts_meant()
-    ensures host { (t : Tree) → (h : Host) → ⟦<HostPlace as Visitor>⟧.meaning.reads t h ↔ IsHost t h }
-    ensures tls { (t : Tree) → (s : Tls) → ⟦<TlsPlace as Visitor>⟧.meaning.reads t s ↔ IsTls t s }
+    ensures host { (t : Tree) → (h : Host) → ⟦<Host as FromJson>⟧.means.reads t h ↔ IsHost t h }
+    ensures tls { (t : Tree) → (s : Tls) → ⟦<Tls as FromJson>⟧.means.reads t s ↔ IsTls t s }
 {}
 
 /// Does nothing. It promises which trees mean settings.
 pub fn settings_meant()
-    ensures { let host = ⟦<HostPlace as Visitor>⟧.meaning.from_tree in let tls = ⟦<TlsPlace as Visitor>⟧.meaning.from_tree in
-        (t : Tree) → (s : Settings) → ⟦<SettingsPlace as Visitor>⟧.meaning.reads t s ↔ IsSettings host tls t s }
+    ensures { let host = ⟦<Host as FromJson>⟧.means.from_tree in let tls = ⟦<Tls as FromJson>⟧.means.from_tree in
+        (t : Tree) → (s : Settings) → ⟦<Settings as FromJson>⟧.means.reads t s ↔ IsSettings host tls t s }
 {
     parts_meant()
 }
@@ -28,14 +28,14 @@ pub fn settings_meant()
 /// The settings of a text.
 pub fn load(alloc: Global, j: &str) -> Result<Settings>
     // The text spells a tree that means the settings, as their types say, and as `IsSettings` does.
-    ensures ok { IfOk result (λ s. (t : Tree) × IsJson j.now t × ⟦<SettingsPlace as Visitor>⟧.meaning.reads t s) }
-    ensures meant { let host = ⟦<HostPlace as Visitor>⟧.meaning.from_tree in let tls = ⟦<TlsPlace as Visitor>⟧.meaning.from_tree in
+    ensures ok { IfOk result (λ s. (t : Tree) × IsJson j.now t × ⟦<Settings as FromJson>⟧.means.reads t s) }
+    ensures meant { let host = ⟦<Host as FromJson>⟧.means.from_tree in let tls = ⟦<Tls as FromJson>⟧.means.from_tree in
         IfOk result (λ s. (t : Tree) × IsJson j.now t × IsSettings host tls t s) }
 
     // No tree of the text means any settings, by either word.
     ensures invalid { result ≡ Err Error.Invalid
-        → (t : Tree) → IsJson j.now t → (s : Settings) → ⟦<SettingsPlace as Visitor>⟧.meaning.reads t s → ⊥ }
-    ensures none { let host = ⟦<HostPlace as Visitor>⟧.meaning.from_tree in let tls = ⟦<TlsPlace as Visitor>⟧.meaning.from_tree in
+        → (t : Tree) → IsJson j.now t → (s : Settings) → ⟦<Settings as FromJson>⟧.means.reads t s → ⊥ }
+    ensures none { let host = ⟦<Host as FromJson>⟧.means.from_tree in let tls = ⟦<Tls as FromJson>⟧.means.from_tree in
         result ≡ Err Error.Invalid → (t : Tree) → IsJson j.now t → (s : Settings) → IsSettings host tls t s → ⊥ }
 {
     settings_meant();
@@ -46,9 +46,9 @@ pub fn load(alloc: Global, j: &str) -> Result<Settings>
 pub fn save(alloc: Global, s: &Settings) -> Result<String>
     // It spells the tree of the settings, which means them, and nothing that counts otherwise.
     ensures spells { IfOk result (λ j. IsJson (string_bytes j) (⟦<Settings as Serialize>⟧.tree s.now)) }
-    ensures means { ⟦<SettingsPlace as Visitor>⟧.meaning.reads (⟦<Settings as Serialize>⟧.tree s.now) s.now }
-    ensures only { (v : Settings) → ⟦<SettingsPlace as Visitor>⟧.meaning.reads (⟦<Settings as Serialize>⟧.tree s.now) v
-        → ⟦<SettingsPlace as Visitor>⟧.meaning.content v ≡ ⟦<SettingsPlace as Visitor>⟧.meaning.content s.now }
+    ensures means { ⟦<Settings as FromJson>⟧.means.reads (⟦<Settings as Serialize>⟧.tree s.now) s.now }
+    ensures only { (v : Settings) → ⟦<Settings as FromJson>⟧.means.reads (⟦<Settings as Serialize>⟧.tree s.now) v
+        → ⟦<Settings as FromJson>⟧.means.content v ≡ ⟦<Settings as FromJson>⟧.means.content s.now }
 
     // It is refused only for memory.
     ensures memory { result ≡ Err Error.Invalid → ⊥ }

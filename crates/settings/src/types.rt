@@ -1,13 +1,17 @@
 //! The types of `types.rs`, with the impls that `./derive` writes.
+ghost use Rattle.miniserde.specs.FieldsMeant.{field_and, no_fields, struct_meant};
 ghost use Rattle.miniserde.specs.Place.{inside};
-ghost use Rattle.miniserde.specs.Records.{names_of};
-ghost use Rattle.std.specs.Prelude.{Option, Some, None, refl};
+ghost use Rattle.miniserde.specs.Structs.{names_of, with_names};
+ghost use Rattle.miniserde.specs.Tree.{members};
+ghost use Rattle.std.specs.Prelude.{[], ◌∷◌, ⊤, refl};
 
-use miniserde::de::{Deserialize, Ranged, Step, Visitor};
-use miniserde::record::{
-    Field, Fields, Four, NoField, Parts, Record, RecordPlace, RoundRecord, record_again,
-    record_lossless, write_record,
+use miniserde::de::{Deserialize, FromJson, Ranged, Source, Step, Visitor};
+use miniserde::json::lex::Event;
+use miniserde::record::arity::{
+    Values2, Values5, read_record2, read_record5, record_again2, record_again5, record_lossless2,
+    record_lossless5, write_record2, write_record5,
 };
+use miniserde::record::{Field, Four, NoField, Parts, PlacedRecord, Record, RecordPlace};
 use miniserde::ser::{Serialize, Writer};
 use miniserde::{Error, Lossless, NeverNull, Result, RoundTrip};
 use std::alloc::Global;
@@ -26,11 +30,11 @@ const HOST_NAMES: &[&str] = &["host", "weight"];
 impl Record for Host {
     ghost use Rattle.settings.specs.declared.types.TheConstants.{HOST_NAMES};
 
-    type Fields = Field<String, Field<u8, NoField>>;
-
-    type Values = <Self::Fields as Fields>::Values;
+    type Values = Values2<String, u8>;
 
     ghost names = { names_of HOST_NAMES };
+
+    ghost count = { 2 };
 
     ghost values = { λ v. (v.host, (v.weight, tt)) };
 
@@ -51,10 +55,61 @@ impl Record for Host {
     ghost named = { refl };
 }
 
-/// Its place.
+impl FromJson for Host {
+    ghost means = { struct_meant (field_and ⟦<String as FromJson>⟧.means ⟦<String as FromJson>⟧.absent (field_and ⟦<u8 as FromJson>⟧.means ⟦<u8 as FromJson>⟧.absent no_fields))
+        ⟦<Host as Record>⟧.names ⟦<Host as Record>⟧.values };
+
+    fn missing() -> Option<Host> {
+        None
+    }
+
+    fn read<'a>(token: Event<'a>, source: &mut Source<'a>) -> Result<Host> {
+        read_record2::<Host, String, u8>(token, source)
+    }
+}
+
+impl Serialize for Host {
+    ghost tree = { λ v. members (with_names ⟦<Host as Record>⟧.names (⟦<String as Serialize>⟧.tree
+        v.host ∷ ⟦<u8 as Serialize>⟧.tree v.weight ∷ [])) };
+
+    fn begin(&self, w: &mut Writer) -> Result<()> {
+        write_record2(w, HOST_NAMES, &self.host, &self.weight)
+    }
+}
+
+impl Ranged for Host {
+    ghost real = { λ v. ⟦<String as Ranged>⟧.real v.host × (⟦<u8 as Ranged>⟧.real v.weight × ⊤) };
+
+    fn ranged(&self) {
+        self.host.ranged();
+        self.weight.ranged();
+    }
+}
+
+impl RoundTrip for Host {
+    fn again() {
+        record_again2::<Host, String, u8>()
+    }
+}
+
+impl Lossless for Host {
+    fn lossless() {
+        record_lossless2::<Host, String, u8>()
+    }
+}
+
+impl NeverNull for Host {
+    fn never_null() {}
+}
+
+/// The place of a `Host`.
 #[derive(Drop)]
 pub struct HostPlace {
     place: RecordPlace<Host>,
+}
+
+impl PlacedRecord for Host {
+    type Fields = Field<String, Field<u8, NoField>>;
 }
 
 impl Visitor for HostPlace {
@@ -89,44 +144,7 @@ impl Visitor for HostPlace {
 impl Deserialize for Host {
     type Place = HostPlace;
 
-    ghost absent = { None };
-
-    fn default() -> Option<Host> {
-        None
-    }
-}
-
-impl Serialize for Host {
-    ghost tree = { ⟦<Host as RoundRecord>⟧.tree };
-
-    fn begin(&self, w: &mut Writer) -> Result<()> {
-        write_record::<Host, _>(w, &Parts(&self.host, Parts(&self.weight, ())))
-    }
-}
-
-impl Ranged for Host {
-    ghost real = { ⟦<Host as RoundRecord>⟧.real };
-
-    fn ranged(&self) {
-        self.host.ranged();
-        self.weight.ranged();
-    }
-}
-
-impl RoundTrip for Host {
-    fn again() {
-        record_again::<Host>()
-    }
-}
-
-impl Lossless for Host {
-    fn lossless() {
-        record_lossless::<Host>()
-    }
-}
-
-impl NeverNull for Host {
-    fn never_null() {}
+    fn tied() {}
 }
 
 /// How a connection is secured.
@@ -142,11 +160,11 @@ const TLS_NAMES: &[&str] = &["cert", "verify"];
 impl Record for Tls {
     ghost use Rattle.settings.specs.declared.types.TheConstants.{TLS_NAMES};
 
-    type Fields = Field<String, Field<bool, NoField>>;
-
-    type Values = <Self::Fields as Fields>::Values;
+    type Values = Values2<String, bool>;
 
     ghost names = { names_of TLS_NAMES };
+
+    ghost count = { 2 };
 
     ghost values = { λ v. (v.cert, (v.verify, tt)) };
 
@@ -167,10 +185,61 @@ impl Record for Tls {
     ghost named = { refl };
 }
 
-/// Its place.
+impl FromJson for Tls {
+    ghost means = { struct_meant (field_and ⟦<String as FromJson>⟧.means ⟦<String as FromJson>⟧.absent (field_and ⟦<bool as FromJson>⟧.means ⟦<bool as FromJson>⟧.absent
+        no_fields)) ⟦<Tls as Record>⟧.names ⟦<Tls as Record>⟧.values };
+
+    fn missing() -> Option<Tls> {
+        None
+    }
+
+    fn read<'a>(token: Event<'a>, source: &mut Source<'a>) -> Result<Tls> {
+        read_record2::<Tls, String, bool>(token, source)
+    }
+}
+
+impl Serialize for Tls {
+    ghost tree = { λ v. members (with_names ⟦<Tls as Record>⟧.names (⟦<String as Serialize>⟧.tree
+        v.cert ∷ ⟦<bool as Serialize>⟧.tree v.verify ∷ [])) };
+
+    fn begin(&self, w: &mut Writer) -> Result<()> {
+        write_record2(w, TLS_NAMES, &self.cert, &self.verify)
+    }
+}
+
+impl Ranged for Tls {
+    ghost real = { λ v. ⟦<String as Ranged>⟧.real v.cert × (⟦<bool as Ranged>⟧.real v.verify × ⊤) };
+
+    fn ranged(&self) {
+        self.cert.ranged();
+        self.verify.ranged();
+    }
+}
+
+impl RoundTrip for Tls {
+    fn again() {
+        record_again2::<Tls, String, bool>()
+    }
+}
+
+impl Lossless for Tls {
+    fn lossless() {
+        record_lossless2::<Tls, String, bool>()
+    }
+}
+
+impl NeverNull for Tls {
+    fn never_null() {}
+}
+
+/// The place of a `Tls`.
 #[derive(Drop)]
 pub struct TlsPlace {
     place: RecordPlace<Tls>,
+}
+
+impl PlacedRecord for Tls {
+    type Fields = Field<String, Field<bool, NoField>>;
 }
 
 impl Visitor for TlsPlace {
@@ -205,44 +274,7 @@ impl Visitor for TlsPlace {
 impl Deserialize for Tls {
     type Place = TlsPlace;
 
-    ghost absent = { None };
-
-    fn default() -> Option<Tls> {
-        None
-    }
-}
-
-impl Serialize for Tls {
-    ghost tree = { ⟦<Tls as RoundRecord>⟧.tree };
-
-    fn begin(&self, w: &mut Writer) -> Result<()> {
-        write_record::<Tls, _>(w, &Parts(&self.cert, Parts(&self.verify, ())))
-    }
-}
-
-impl Ranged for Tls {
-    ghost real = { ⟦<Tls as RoundRecord>⟧.real };
-
-    fn ranged(&self) {
-        self.cert.ranged();
-        self.verify.ranged();
-    }
-}
-
-impl RoundTrip for Tls {
-    fn again() {
-        record_again::<Tls>()
-    }
-}
-
-impl Lossless for Tls {
-    fn lossless() {
-        record_lossless::<Tls>()
-    }
-}
-
-impl NeverNull for Tls {
-    fn never_null() {}
+    fn tied() {}
 }
 
 /// Settings of a server.
@@ -261,11 +293,11 @@ const SETTINGS_NAMES: &[&str] = &["name", "port", "tls", "hosts", "limits"];
 impl Record for Settings {
     ghost use Rattle.settings.specs.declared.types.TheConstants.{SETTINGS_NAMES};
 
-    type Fields = Four<String, u16, Option<Tls>, Vec<Host>, Field<BTreeMap<String, u64>, NoField>>;
-
-    type Values = <Self::Fields as Fields>::Values;
+    type Values = Values5<String, u16, Option<Tls>, Vec<Host>, BTreeMap<String, u64>>;
 
     ghost names = { names_of SETTINGS_NAMES };
+
+    ghost count = { 5 };
 
     ghost values = { λ v. (v.name, (v.port, (v.tls, (v.hosts, (v.limits, tt))))) };
 
@@ -301,10 +333,75 @@ impl Record for Settings {
     ghost named = { refl };
 }
 
-/// Its place.
+impl FromJson for Settings {
+    ghost means = { struct_meant (field_and ⟦<String as FromJson>⟧.means ⟦<String as FromJson>⟧.absent (field_and ⟦<u16 as FromJson>⟧.means ⟦<u16 as FromJson>⟧.absent (field_and
+        ⟦<Option<Tls> as FromJson>⟧.means ⟦<Option<Tls> as FromJson>⟧.absent (field_and ⟦<Vec<Host> as FromJson>⟧.means ⟦<Vec<Host> as FromJson>⟧.absent (field_and ⟦<BTreeMap<String, u64> as FromJson>⟧.means ⟦<BTreeMap<String, u64> as FromJson>⟧.absent no_fields))))) ⟦<Settings as Record>⟧.names ⟦<Settings as Record>⟧.values };
+
+    fn missing() -> Option<Settings> {
+        None
+    }
+
+    fn read<'a>(token: Event<'a>, source: &mut Source<'a>) -> Result<Settings> {
+        read_record5::<Settings, String, u16, Option<Tls>, Vec<Host>, BTreeMap<String, u64>>(
+            token, source,
+        )
+    }
+}
+
+impl Serialize for Settings {
+    ghost tree = { λ v. members (with_names ⟦<Settings as Record>⟧.names (⟦<String as Serialize>⟧.tree v.name ∷ ⟦<u16 as Serialize>⟧.tree v.port ∷ ⟦<Option<Tls> as Serialize>⟧.tree v.tls ∷ ⟦<Vec<Host> as Serialize>⟧.tree v.hosts ∷ ⟦<BTreeMap<String, u64> as Serialize>⟧.tree v.limits ∷ [])) };
+
+    fn begin(&self, w: &mut Writer) -> Result<()> {
+        write_record5(
+            w,
+            SETTINGS_NAMES,
+            &self.name,
+            &self.port,
+            &self.tls,
+            &self.hosts,
+            &self.limits,
+        )
+    }
+}
+
+impl Ranged for Settings {
+    ghost real = { λ v. ⟦<String as Ranged>⟧.real v.name × (⟦<u16 as Ranged>⟧.real v.port ×
+        (⟦<Option<Tls> as Ranged>⟧.real v.tls × (⟦<Vec<Host> as Ranged>⟧.real v.hosts ×
+        (⟦<BTreeMap<String, u64> as Ranged>⟧.real v.limits × ⊤)))) };
+
+    fn ranged(&self) {
+        self.name.ranged();
+        self.port.ranged();
+        self.tls.ranged();
+        self.hosts.ranged();
+        self.limits.ranged();
+    }
+}
+
+impl RoundTrip for Settings {
+    fn again() {
+        record_again5::<Settings, String, u16, Option<Tls>, Vec<Host>, BTreeMap<String, u64>>()
+    }
+}
+
+impl Lossless for Settings {
+    fn lossless() {
+        record_lossless5::<Settings, String, u16, Option<Tls>, Vec<Host>, BTreeMap<String, u64>>()
+    }
+}
+
+impl NeverNull for Settings {
+    fn never_null() {}
+}
+
+/// The place of a `Settings`.
 #[derive(Drop)]
 pub struct SettingsPlace {
     place: RecordPlace<Settings>,
+}
+
+impl PlacedRecord for Settings {
+    type Fields = Four<String, u16, Option<Tls>, Vec<Host>, Field<BTreeMap<String, u64>, NoField>>;
 }
 
 impl Visitor for SettingsPlace {
@@ -339,54 +436,5 @@ impl Visitor for SettingsPlace {
 impl Deserialize for Settings {
     type Place = SettingsPlace;
 
-    ghost absent = { None };
-
-    fn default() -> Option<Settings> {
-        None
-    }
-}
-
-impl Serialize for Settings {
-    ghost tree = { ⟦<Settings as RoundRecord>⟧.tree };
-
-    fn begin(&self, w: &mut Writer) -> Result<()> {
-        write_record::<Settings, _>(
-            w,
-            &Parts(
-                &self.name,
-                Parts(
-                    &self.port,
-                    Parts(&self.tls, Parts(&self.hosts, Parts(&self.limits, ()))),
-                ),
-            ),
-        )
-    }
-}
-
-impl Ranged for Settings {
-    ghost real = { ⟦<Settings as RoundRecord>⟧.real };
-
-    fn ranged(&self) {
-        self.name.ranged();
-        self.port.ranged();
-        self.tls.ranged();
-        self.hosts.ranged();
-        self.limits.ranged();
-    }
-}
-
-impl RoundTrip for Settings {
-    fn again() {
-        record_again::<Settings>()
-    }
-}
-
-impl Lossless for Settings {
-    fn lossless() {
-        record_lossless::<Settings>()
-    }
-}
-
-impl NeverNull for Settings {
-    fn never_null() {}
+    fn tied() {}
 }

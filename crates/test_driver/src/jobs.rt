@@ -5,7 +5,7 @@ use crate::{calls, places};
 use demo::{Demo, Example, StrictDemo};
 use miniserde::de::ignore;
 use miniserde::json::{Value, feed, from_str, to_string};
-use miniserde::{Deserialize, Result, Serialize};
+use miniserde::{FromJson, Result, Serialize};
 use std::alloc::Global;
 use std::collections::{BTreeMap, HashMap};
 use std::hash::{BuildHasherDefault, DefaultHasher};
@@ -20,7 +20,7 @@ pub enum Depth {
 }
 
 /// Reads a text as a type, and writes the value unless the depth is `Read`.
-fn rewrite<T: Deserialize + Serialize>(alloc: Global, depth: Depth, text: &str) -> Result<String> {
+fn rewrite<T: FromJson + Serialize>(alloc: Global, depth: Depth, text: &str) -> Result<String> {
     let value: T = from_str(alloc, text)?;
     match depth {
         Depth::Read => Ok(String::new(alloc)),

@@ -4,8 +4,8 @@ ghost use Rattle.miniserde.specs.Tree.{Tree};
 ghost use Rattle.miniserde.specs.Value.{IsJson};
 ghost use Rattle.uses.specs.Changes.{with_note};
 
-use crate::request::{Request, RequestPlace};
-use miniserde::de::Visitor;
+use crate::request::Request;
+use miniserde::de::FromJson;
 use miniserde::json::{from_str, to_string};
 use miniserde::{Error, Result, Serialize};
 use std::alloc::Global;
@@ -14,12 +14,12 @@ use std::alloc::Global;
 pub fn noted(alloc: Global, body: &str, note: &str) -> Result<String>
     // The body means a request, and the answer spells it with that note, and with all else as it was.
     ensures ok { IfOk result (λ j. (t : Tree) × (v : Request) × (n : String Global) × IsJson body.now t
-        × ⟦<RequestPlace as Visitor>⟧.meaning.reads t v × (string_bytes n ≡ note.now)
+        × ⟦<Request as FromJson>⟧.means.reads t v × (string_bytes n ≡ note.now)
         × IsJson (string_bytes j) (⟦<Request as Serialize>⟧.tree (with_note n v))) }
 
     // No tree of the body means a request.
     ensures invalid { result ≡ Err Error.Invalid
-        → (t : Tree) → IsJson body.now t → (v : Request) → ⟦<RequestPlace as Visitor>⟧.meaning.reads t v → ⊥ }
+        → (t : Tree) → IsJson body.now t → (v : Request) → ⟦<Request as FromJson>⟧.means.reads t v → ⊥ }
 {
     let mut request: Request = from_str(alloc, body)?;
     request.note = Some(String::from_str(alloc, note)?);

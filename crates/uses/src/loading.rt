@@ -4,22 +4,22 @@ ghost use Rattle.miniserde.specs.Tree.{Tree};
 ghost use Rattle.miniserde.specs.Value.{IsJson};
 ghost use Rattle.uses.specs.Changes.{at_port};
 
-use miniserde::de::Visitor;
+use miniserde::de::FromJson;
 use miniserde::{Error, Result, Serialize};
 use settings::loader::{load, save};
-use settings::types::{Settings, SettingsPlace};
+use settings::types::Settings;
 use std::alloc::Global;
 
 /// The settings of a text at another port, as text again.
 pub fn moved(alloc: Global, text: &str, port: u16) -> Result<String>
     // The text means settings, and the answer spells these at that port.
     ensures ok { IfOk result (λ j. (t : Tree) × (s : Settings) × IsJson text.now t
-        × ⟦<SettingsPlace as Visitor>⟧.meaning.reads t s
+        × ⟦<Settings as FromJson>⟧.means.reads t s
         × IsJson (string_bytes j) (⟦<Settings as Serialize>⟧.tree (at_port port s))) }
 
     // No tree of the text means settings.
     ensures invalid { result ≡ Err Error.Invalid
-        → (t : Tree) → IsJson text.now t → (s : Settings) → ⟦<SettingsPlace as Visitor>⟧.meaning.reads t s → ⊥ }
+        → (t : Tree) → IsJson text.now t → (s : Settings) → ⟦<Settings as FromJson>⟧.means.reads t s → ⊥ }
 {
     let mut settings = load(alloc, text)?;
     settings.port = port;

@@ -3,21 +3,20 @@ use Rattle.std.proofs.Common.{◌≡◌, ◌≤◌, ℕ, Bool, true, false, cond
 use Rattle.std.specs.Prelude.{◌↔◌}
 use Rattle.std.proofs.lemmas.Bool.{le-leb, leb-true}
 use Rattle.miniserde.specs.Tree.{Tree, nonneg}
-use Rattle.miniserde.specs.Leaf.{from_leaf}
-use Rattle.examples.specs.Percents.{from_percent, ReadsPercent}
+use Rattle.examples.specs.Percents.{percent_of, ReadsPercent}
 
 some_if : (b : Bool) (m n : ℕ) → cond b (Some m) None ≡ Some n → (b ≡ true) × (m ≡ n)
 some_if true m n e = (refl, cc)
 some_if false m n e = cc
 
-reads : (t : Tree) (n : ℕ) → ReadsPercent t n → from_leaf from_percent t ≡ Some n
+reads : (t : Tree) (n : ℕ) → ReadsPercent t n → percent_of t ≡ Some n
 reads t n h = rw (h.0, le-leb n 100 h.1) refl
 
-read : (t : Tree) (n : ℕ) → from_leaf from_percent t ≡ Some n → ReadsPercent t n
+read : (t : Tree) (n : ℕ) → percent_of t ≡ Some n → ReadsPercent t n
 read (nonneg m) n e =
     let p = some_if (nat_le m 100) m n e in
     (ap nonneg p.1, subst (λ k. k ≤ 100) p.1 (leb-true m 100 p.0))
 read t n e = absurd (cc)
 
-pub percent-given : (t : Tree) (n : ℕ) → ReadsPercent t n ↔ (from_leaf from_percent t ≡ Some n)
+pub percent-given : (t : Tree) (n : ℕ) → ReadsPercent t n ↔ (percent_of t ≡ Some n)
 percent-given t n = (reads t n, read t n)

@@ -1,6 +1,5 @@
 //! Values into text, and any text into its canonical text.
-ghost use Rattle.std.specs.Prelude.{◌≡◌, ◌≤◌, ◌↔◌, ◌⊎◌, true, ℕ, List, length, Err, IfOk, OnErr};
-ghost use Rattle.std.specs.Prelude.{IsErrOf, string_bytes};
+ghost use Rattle.std.specs.Prelude.{◌≡◌, ◌≤◌, ◌↔◌, ◌⊎◌, true, ℕ, List, length, Err, IfOk, string_bytes};
 ghost use Rattle.miniserde_model.specs.Tree.{Tree};
 ghost use Rattle.miniserde_model.specs.IsTree.{IsTree};
 ghost use Rattle.miniserde_model.specs.Compact.{compact};
@@ -8,25 +7,14 @@ ghost use Rattle.miniserde_model.specs.Distinct.{distinct};
 ghost use Rattle.miniserde_model.specs.Normal.{norm};
 ghost use Rattle.miniserde_model.specs.Size.{size};
 ghost use Rattle.miniserde_model.specs.Value.{IsJson};
-ghost use Rattle.miniserde_text.specs.declared.error.Error.TheVariants.{Invalid, Memory};
+ghost use Rattle.miniserde_text.specs.declared.error.Error.TheVariants.{Invalid};
 
-use crate::json::de::from_str;
-use miniserde_ser::ser::{Serialize, Writer};
+use miniserde_read::from_str;
+use miniserde_ser::ser::to_string;
 use miniserde_text::error::Result;
 use miniserde_value::json::unique::Unique;
 use miniserde_value::json::value::Value;
 use std::alloc::Global;
-
-/// Writes a value as compact text.
-pub fn to_string<T: Serialize>(alloc: Global, value: &T) -> Result<String>
-    ensures ok { IfOk result (λ s. string_bytes s ≡ compact (T.tree value.now)) }
-    ensures spells { IfOk result (λ s. IsJson (string_bytes s) (T.tree value.now)) }
-    ensures memory { OnErr result (IsErrOf result Memory) }
-{
-    let mut w = Writer::new(alloc);
-    value.begin(&mut w)?;
-    w.into_string()
-}
 
 /// The canonical text of a text: the one shortest text of what it says, whatever its order of members, spelling of
 /// strings and whitespace. Reads as `Value` and writes. Of equal names the last stands. Numbers that are no integers

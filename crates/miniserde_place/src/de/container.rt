@@ -1,8 +1,9 @@
 //! The place of any container.
 ghost use Rattle.std.specs.Prelude.{◌≡◌, true, Some, None, Ok, Err, IfOk};
 ghost use Rattle.miniserde_model.specs.Position.{complete};
-ghost use Rattle.miniserde_place.specs.Step.{event_of};
-ghost use Rattle.miniserde_place.specs.Place.{IsTreeEvent, LedTo, Barred};
+ghost use Rattle.miniserde_read.specs.Step.{event_of};
+ghost use Rattle.miniserde_place.specs.Place.{LedTo, Barred};
+ghost use Rattle.miniserde_read.specs.Step.{IsTreeEvent};
 ghost use Rattle.miniserde_text.specs.declared.error.Error.{Error};
 
 mod collect;

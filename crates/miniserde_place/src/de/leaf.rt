@@ -1,49 +1,25 @@
-//! The one place of all types whose values are leaves.
-ghost use Rattle.std.specs.Prelude.{◌≡◌, ◌↔◌, Bool, true, false, Option, Some, None, Ok, Err, List, [], IfOk, IfErr};
-ghost use Rattle.miniserde_model.specs.Tree.{Tree};
-ghost use Rattle.miniserde_model.specs.Event.{Event};
-ghost use Rattle.miniserde_place.specs.Step.{event_of};
-ghost use Rattle.miniserde_place.specs.Place.{IsTreeEvent};
-ghost use Rattle.miniserde_place.specs.Leaf.{on_leaf, from_one_event, from_leaf, leaf_shows};
+//! The one place of all types whose values are single tokens.
+ghost use Rattle.std.specs.Prelude.{◌≡◌, Bool, true, Option, Some, Err, List};
+ghost use Rattle.miniserde_place.specs.Leaf.{from_one_event, leaf_shows};
 ghost use Rattle.miniserde_place.specs.laws.Leaf.{one-event};
 ghost use Rattle.miniserde_text.specs.declared.error.Error.{Error};
 
-mod integers;
-mod text;
-mod words;
-
 use super::{Step, Visitor};
-pub use integers::IntegerPlace;
+pub use miniserde_read::{Leaf, read_leaf};
 use miniserde_text::error::{Error, Result};
 use std::alloc::Global;
-pub use text::StringPlace;
-pub use words::{BoolPlace, UnitPlace};
 
-/// A type whose values are leaves.
-pub trait Leaf: Drop {
-    // What counts of a value.
-    ghost Content: { Type 0 };
+/// The place of `()`.
+pub type UnitPlace = LeafPlace<()>;
 
-    ghost content: { Self → Content };
+/// The place of a `bool`.
+pub type BoolPlace = LeafPlace<bool>;
 
-    // What a leaf's event gives.
-    ghost from_event: { Event → Option Content };
+/// The place of an integer.
+pub type IntegerPlace<T> = LeafPlace<T>;
 
-    // The tree means the value: it gives what counts of the value.
-    ghost reads: { Tree → Self → Type 0 };
-
-    ghost reads_agrees: { (t : Tree) (v : Self) → reads t v ↔ (from_leaf from_event t ≡ Some (content v)) };
-
-    // Whether `from_step` takes no memory.
-    ghost reads_free: { Bool } = { false };
-
-    /// The value of an event, where it is one of a value of the type. Any other is `Invalid`.
-    fn from_step(alloc: Global, event: Step<'_>) -> Result<Self>
-        requires { IsTreeEvent (event_of event) }
-        ensures value { IfOk result (λ v. on_leaf from_event (event_of event.entry) ≡ Some (content v)) }
-        ensures invalid { result ≡ Err Error.Invalid → on_leaf from_event (event_of event.entry) ≡ None }
-        ensures free { reads_free ≡ true → IfErr result (λ r. r ≡ Error.Invalid) };
-}
+/// The place of a `String`.
+pub type StringPlace = LeafPlace<String>;
 
 /// The place of a leaf.
 #[derive(Drop)]
@@ -59,14 +35,14 @@ impl<T: Leaf> Visitor for LeafPlace<T> {
     ghost use Rattle.miniserde_place.specs.LeafPlace.{value_of, refusal_of};
 
     ghost meaning = { record {
-      Content = T.Content;
-      content = T.content;
-      from_events = from_one_event T.from_event;
-      from_tree = from_leaf T.from_event;
-      events_agree = one-event T.from_event;
-      reads = T.reads;
-      reads_agrees = T.reads_agrees;
-      shows = λ p. leaf_shows T.content T.from_event (value_of p) (refusal_of p);
+      Content = T.means.Content;
+      content = T.means.content;
+      from_events = from_one_event T.means.from_tree;
+      from_tree = T.means.from_tree;
+      events_agree = one-event T.means.from_tree T.only_leaves;
+      reads = T.means.reads;
+      reads_agrees = T.means.reads_agrees;
+      shows = λ p. leaf_shows T.means.content T.means.from_tree (value_of p) (refusal_of p);
     } };
 
     ghost begins_free = { true };
@@ -75,7 +51,7 @@ impl<T: Leaf> Visitor for LeafPlace<T> {
 
     // `Memory` comes only where it was refused with before, where reading an event takes none.
     ghost further = { λ old e answer new.
-        T.reads_free ≡ true → answer ≡ Err Error.Memory → refusal_of old ≡ Some Error.Memory };
+        T.read_infallible ≡ true → answer ≡ Err Error.Memory → refusal_of old ≡ Some Error.Memory };
 
     fn begin(alloc: Global) -> Result<LeafPlace<T>> {
         Ok(LeafPlace {

@@ -1,13 +1,8 @@
 -- How a text goes on, event by event, for the proofs that tie the grammar of whole texts to what a lexer takes.
-use Rattle.std.specs.Prelude.{◌≡◌, ℕ, Bool, true, false, List, ◌∷◌, ◌++◌, [], Option, Some, None, ⊤}
+use Rattle.std.specs.Prelude.{◌≡◌, ℕ, Bool, true, false, List, ◌++◌, [], Option, Some, None, ⊤}
 use Rattle.miniserde_model.specs.Event.{Event, seq, map}
 use Rattle.miniserde_model.specs.Lexing.{Kind, in_list, in_members}
 use Rattle.miniserde_model.specs.private.Reading.{Moment, due, first, after, Spells}
-
--- the open containers, with one more if one is given
-abbrev pub pushed : Option Kind → List Kind → List Kind
-pushed None st = st
-pushed (Some k) st = k ∷ st
 
 -- the kind of the container that an event opens
 abbrev pub opens : Event → Option Kind
@@ -30,10 +25,8 @@ abbrev pub Live : Moment → List Kind → Type 0
 Live first [] = ⊥
 Live _ _ = ⊤
 
--- The bytes taken spell the events done, whatever follows, and no other events begin what s spells.
+-- The bytes taken spell the events done, whatever follows.
 pub record Passes (m : Moment) (st : List Kind) (s : List ℕ) (done : List Event) (m' : Moment) (st' : List Kind) (s' : List ℕ) : Type 0 where
   pub taken : List ℕ
   pub text : s ≡ taken ++ s'
   pub on : (rest : List Event) (r : List ℕ) → Spells m' rest st' r → Spells m (done ++ rest) st (taken ++ r)
-  pub back : (es : List Event) → Spells m es st s → (rest : List Event) × (es ≡ done ++ rest) × Spells m' rest st' s'
-  pub live : Live m' st'

@@ -1,18 +1,19 @@
-//! The fields of a struct, one after another.
+//! The fields of a struct, collected from events one after another.
 ghost use Rattle.std.specs.Prelude.{◌≡◌, true, Option, None, Some, Ok, Err, [], IfOk, option_map, is_some, map};
-ghost use Rattle.std.specs.Option.{option_or};
 ghost use Rattle.miniserde_model.specs.Position.{complete};
 ghost use Rattle.miniserde_text.specs.declared.error.Error.{Error};
-ghost use Rattle.miniserde_place.specs.Step.{event_of};
-ghost use Rattle.miniserde_place.specs.Place.{IsTreeEvent, Takes, IsFresh, first_refusal};
+ghost use Rattle.miniserde_read.specs.Step.{event_of};
+ghost use Rattle.miniserde_place.specs.Place.{Takes, IsFresh, first_refusal};
+ghost use Rattle.miniserde_read.specs.Step.{IsTreeEvent};
 ghost use Rattle.miniserde_place.specs.Container.{is_complete};
-ghost use Rattle.miniserde_record.specs.Records.{FieldsMeaning, no_fields, field_and};
+ghost use Rattle.miniserde_record.specs.FieldPlaces.{FieldsMeaning, no_field_places, field_place_and};
 
+use super::slots::or_missing;
+use super::structs::Parts;
 use miniserde_de::de::Deserialize;
 use miniserde_place::de::{Ignore, Step, Visitor, ignore};
 use miniserde_text::error::{Error, Result};
 use std::alloc::Global;
-use std::marker::Model;
 use std::mem;
 
 /// The values so far of a struct's fields, and the place of the current one.
@@ -20,16 +21,16 @@ pub trait Fields {
     /// The fields' values, in their order.
     type Values;
 
-    // What the fields mean, and what the place of the current one shows.
+    // The meaning of the fields, and the view of the current one's place.
     ghost meaning: { FieldsMeaning Self Self.Values };
 
-    /// No values yet.
+    /// Returns fields without values.
     fn new() -> Self
-        ensures { meaning.state result ≡ meaning.empty };
+        ensures { meaning.state result ≡ meaning.meant.empty };
 
-    /// Whether a field of the name has a value already.
+    /// Returns whether the field of the name has a value.
     fn has_value(&self, names: &[&str], name: &str) -> bool
-        ensures { result ≡ meaning.has (map (λ n. n.now) names.now) (meaning.state self.now) name.now };
+        ensures { result ≡ meaning.meant.has (map (λ n. n.now) names.now) (meaning.state self.now) name.now };
 
     /// Begins the value of a member of the name.
     fn begin_child(&mut self, alloc: Global, names: &[&str], name: &str) -> Result<()>
@@ -41,38 +42,38 @@ pub trait Fields {
         ensures repeats { meaning.refuses (map (λ n. n.now) names.now) (meaning.state self.old) name.now ≡ true
             → result ≡ Err Error.Invalid };
 
-    /// The current value takes an event.
+    /// Hands an event to the current value's place.
     fn step(&mut self, event: Step<'_>) -> Result<()>
         requires { IsTreeEvent (event_of event) }
         ensures { Takes (meaning.child self.old) (event_of event.entry) result (meaning.child self.new) };
 
-    /// Marks the current value as refused, and answers its first refusal.
+    /// Marks the current value as refused, and returns its first error.
     fn refuse(&mut self, error: Error) -> Error
         ensures answer { result ≡ first_refusal (meaning.child self.old).refused error }
         ensures marks { (meaning.child self.new).refused ≡ Some result };
 
-    /// Whether the current value is complete.
+    /// Returns whether the current value is complete.
     fn is_child_complete(&self) -> bool
         ensures { result ≡ is_complete (meaning.child self.now).at };
 
-    /// The current value, which is complete, joins the values so far.
+    /// Adds the current value, which is complete, to the values so far.
     fn join(&mut self) -> Result<()>
         ensures joined { IfOk result (λ _. (meaning.child self.old).outcome [] ≡ Some (meaning.state self.new)) }
         ensures invalid { result ≡ Err Error.Invalid → (meaning.child self.old).refused ≡ None
             → (meaning.child self.old).at ≡ complete → (meaning.child self.old).outcome [] ≡ None }
         ensures keeps { (r : Error) → (meaning.child self.old).refused ≡ Some r → result ≡ Err r };
 
-    /// Whether each field has a value or a default.
+    /// Returns whether each field has a value or a default.
     fn are_whole(&self) -> bool
-        ensures { result ≡ is_some (meaning.end (meaning.state self.now)) };
+        ensures { result ≡ is_some (meaning.meant.end (meaning.state self.now)) };
 
-    /// The values, of fields that are whole.
+    /// Returns the values of the fields, each of which has one or a default.
     fn values(self) -> Self::Values
-        requires whole { is_some (meaning.end (meaning.state self)) ≡ true }
-        ensures { meaning.end (meaning.state self) ≡ Some (meaning.content result) };
+        requires whole { is_some (meaning.meant.end (meaning.state self)) ≡ true }
+        ensures { meaning.meant.end (meaning.state self) ≡ Some (meaning.meant.content result) };
 }
 
-/// No more fields: a member of any other name is skipped.
+/// No more fields: members of any other names are skipped.
 #[derive(Drop)]
 pub struct NoField {
     skipped: Ignore,
@@ -81,7 +82,7 @@ pub struct NoField {
 impl Fields for NoField {
     type Values = ();
 
-    ghost meaning = { no_fields (λ f. ⟦<Ignore as Visitor>⟧.meaning.shows f.skipped) };
+    ghost meaning = { no_field_places (λ f. ⟦<Ignore as Visitor>⟧.meaning.shows f.skipped) };
 
     fn new() -> NoField {
         NoField { skipped: ignore() }
@@ -119,16 +120,6 @@ impl Fields for NoField {
     fn values(self) {}
 }
 
-/// The value of a field, and those of the fields after it. Contracts see a pair.
-#[derive(Drop)]
-pub struct Parts<T, R>(pub T, pub R);
-
-impl<T, R> Model for Parts<T, R> {
-    ghost Value = { T × R };
-
-    ghost view = { λ p. (p.0, p.1) };
-}
-
 /// A field, and the ones after it, by the place of its value.
 #[derive(Drop)]
 pub struct FieldOf<P, T, R> {
@@ -140,20 +131,10 @@ pub struct FieldOf<P, T, R> {
 /// A field of a type, and the ones after it.
 pub type Field<T, R> = FieldOf<<T as Deserialize>::Place, T, R>;
 
-// The value, or else the default of its type.
-fn or_default<T: Deserialize>(value: Option<T>) -> Option<T>
-    ensures { result ≡ option_or value T.absent }
-{
-    match value {
-        Some(value) => Some(value),
-        None => T::default(),
-    }
-}
-
 impl<T: Deserialize, R: Fields> Fields for FieldOf<T::Place, T, R> {
     type Values = Parts<T, R::Values>;
 
-    ghost meaning = { field_and T.Place.meaning T.absent (λ f. f.value) (λ f. f.child) (λ f. f.rest) R.meaning };
+    ghost meaning = { field_place_and T.Place.meaning T.absent (λ f. f.value) (λ f. f.child) (λ f. f.rest) R.meaning };
 
     fn new() -> FieldOf<T::Place, T, R> {
         FieldOf {
@@ -223,7 +204,7 @@ impl<T: Deserialize, R: Fields> Fields for FieldOf<T::Place, T, R> {
     }
 
     fn are_whole(&self) -> bool {
-        (self.value.is_some() || T::default().is_some()) && self.rest.are_whole()
+        (self.value.is_some() || T::missing().is_some()) && self.rest.are_whole()
     }
 
     fn values(self) -> Parts<T, R::Values> {
@@ -232,6 +213,6 @@ impl<T: Deserialize, R: Fields> Fields for FieldOf<T::Place, T, R> {
             child: _,
             rest,
         } = self;
-        Parts(or_default(value).unwrap(), rest.values())
+        Parts(or_missing(value).unwrap(), rest.values())
     }
 }

@@ -1,14 +1,15 @@
 //! Four fields at once, for structs of many fields.
-ghost use Rattle.miniserde_record.specs.Records.{fields_inside};
+ghost use Rattle.miniserde_record.specs.FieldPlaces.{field_places_inside};
 
-use super::fields::{Field, FieldOf, Fields, Parts};
+use super::fields::{Field, FieldOf, Fields};
+use super::structs::Parts;
 use miniserde_de::de::Deserialize;
 use miniserde_place::de::Step;
 use miniserde_text::error::{Error, Result};
 use std::alloc::Global;
 
-/// Four fields, and the ones after them, by the places of their values. What a check takes of a list of fields doubles
-/// with each one, and with each four here.
+/// Four fields, and the ones after them, by the places of their values. A check of nested fields takes twice the time
+/// for each field more, and for each four more here.
 #[derive(Drop)]
 pub struct FourOf<P, A, Q, B, S, C, U, D, R> {
     fields: FieldOf<P, A, FieldOf<Q, B, FieldOf<S, C, FieldOf<U, D, R>>>>,
@@ -31,7 +32,7 @@ impl<A: Deserialize, B: Deserialize, C: Deserialize, D: Deserialize, R: Fields> 
     for FourOf<A::Place, A, B::Place, B, C::Place, C, D::Place, D, R> {
     type Values = Parts<A, Parts<B, Parts<C, Parts<D, R::Values>>>>;
 
-    ghost meaning = { fields_inside (λ f. f.fields) ⟦<Field<A, Field<B, Field<C, Field<D, R>>>> as Fields>⟧.meaning };
+    ghost meaning = { field_places_inside (λ f. f.fields) ⟦<Field<A, Field<B, Field<C, Field<D, R>>>> as Fields>⟧.meaning };
 
     fn new() -> Four<A, B, C, D, R> {
         FourOf {

@@ -1,47 +1,62 @@
-//! Structs and unit enums whose values are told apart by what is written.
-ghost use Rattle.std.specs.Prelude.{◌≡◌};
+//! Structs whose values are told apart by what is written.
+ghost use Rattle.std.specs.Prelude.{◌≡◌, List, [], ◌∷◌, length, ⊤};
+ghost use Rattle.miniserde_model.specs.Tree.{Tree};
+ghost use Rattle.miniserde_record.specs.FieldsMeant.{FieldsMeant, no_fields, field_and};
 ghost use Rattle.miniserde_record.specs.Structs.{record_tree};
 
-use super::fields::{Field, FieldOf, NoField};
-use super::fours::FourOf;
-use super::rounds::RoundFields;
-use super::structs::Record;
+use super::structs::{Parts, Record};
 use miniserde_round::Lossless;
 
-/// Fields of which no two values are written alike.
-pub trait LosslessFields: RoundFields {
-    /// Does nothing. It promises that of two values that Rust has and that have the same trees, the same counts.
+/// Values of fields that are told apart by what is written. It stands beside `AgainFields` and not above it: else each
+/// link of a chain of fields holds the other chain.
+pub trait LosslessFields {
+    // The meaning of the fields.
+    ghost meaning: { FieldsMeant Self };
+
+    // The values are ones that Rust has.
+    ghost real: { Self → Type 0 };
+
+    // The trees of the values, in their order.
+    ghost trees: { Self → List Tree };
+
+    /// Does nothing. It promises that each field has a tree, and that values that Rust has and that have the same trees
+    /// have the same content.
     fn lossless()
-        ensures { (v w : Self.Values) → Self.real v → Self.real w → Self.trees v ≡ Self.trees w
-            → Self.meaning.content v ≡ Self.meaning.content w };
+        ensures each { (v : Self) → length (trees v) ≡ meaning.count }
+        ensures same { (v w : Self) → real v → real w → trees v ≡ trees w → meaning.content v ≡ meaning.content w };
 }
 
-impl LosslessFields for NoField {
+impl LosslessFields for () {
+    ghost meaning = { no_fields };
+
+    ghost real = { λ _. ⊤ };
+
+    ghost trees = { λ _. [] };
+
     fn lossless() {}
 }
 
-impl<T: Lossless, R: LosslessFields> LosslessFields for FieldOf<T::Place, T, R> {
+impl<T: Lossless, R: LosslessFields> LosslessFields for Parts<T, R> {
+    ghost meaning = { field_and T.means T.absent R.meaning };
+
+    ghost real = { λ v. T.real v.0 × R.real v.1 };
+
+    ghost trees = { λ v. T.tree v.0 ∷ R.trees v.1 };
+
     fn lossless() {
         T::lossless();
         R::lossless();
     }
 }
 
-impl<A: Lossless, B: Lossless, C: Lossless, D: Lossless, R: LosslessFields> LosslessFields
-    for FourOf<A::Place, A, B::Place, B, C::Place, C, D::Place, D, R> {
-    fn lossless() {
-        <Field<A, Field<B, Field<C, Field<D, R>>>> as LosslessFields>::lossless()
-    }
-}
-
-/// Does nothing. It promises that of two structs that Rust has and that have one tree, the same counts.
+/// Does nothing. It promises that structs that Rust has and that have one tree have the same content.
 pub fn record_lossless<S: Record>()
 where
-    S::Fields: LosslessFields,
-    ensures { (v w : S) → S.Fields.real (S.values v) → S.Fields.real (S.values w)
-        → record_tree S.names S.Fields.trees S.values v ≡ record_tree S.names S.Fields.trees S.values w
-        → S.Fields.meaning.content (S.values v) ≡ S.Fields.meaning.content (S.values w) }
+    S::Values: LosslessFields,
+    requires { S.count ≡ S.Values.meaning.count }
+    ensures { (v w : S) → S.Values.real (S.values v) → S.Values.real (S.values w)
+        → record_tree S.names S.Values.trees S.values v ≡ record_tree S.names S.Values.trees S.values w
+        → S.Values.meaning.content (S.values v) ≡ S.Values.meaning.content (S.values w) }
 {
-    <S::Fields as RoundFields>::again();
-    <S::Fields as LosslessFields>::lossless()
+    <S::Values as LosslessFields>::lossless()
 }

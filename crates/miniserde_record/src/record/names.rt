@@ -1,17 +1,19 @@
 //! Unit enums, whose values are strings: their names.
-ghost use Rattle.std.specs.Prelude.{◌≡◌, true, Option, Some, Err, List, ⊤};
-ghost use Rattle.miniserde_model.specs.Tree.{str};
+ghost use Rattle.std.specs.Prelude.{◌≡◌, true, Option, None, Some, Ok, Err, List, ℕ, IfOk, IfErr, ⊤, refl};
+ghost use Rattle.miniserde_model.specs.Tree.{Tree, str};
+ghost use Rattle.miniserde_text.specs.Lexer.{front_of};
 ghost use Rattle.miniserde_text.specs.declared.error.Error.{Error};
-ghost use Rattle.miniserde_place.specs.Leaf.{from_one_event, from_leaf};
-ghost use Rattle.miniserde_place.specs.laws.Leaf.{one-event};
-ghost use Rattle.miniserde_de.specs.Objects.{Name};
+ghost use Rattle.miniserde_read.specs.Meant.{Meant};
+ghost use Rattle.miniserde_read.specs.Rest.{ValueAt};
+ghost use Rattle.miniserde_read.specs.Step.{IsTreeEvent};
+ghost use Rattle.miniserde_read.specs.meaning.Objects.{Name};
 ghost use Rattle.miniserde_round.specs.RoundTrip.{ReadsAgain};
-ghost use Rattle.miniserde_record.specs.Names.{named, named_of};
-ghost use Rattle.miniserde_record.specs.laws.Names.{named-given};
+ghost use Rattle.miniserde_record.specs.Names.{named, variant_of};
+ghost use Rattle.miniserde_record.specs.Variants.{variant_meant};
 
-use miniserde_place::de::leaf::{Leaf, LeafPlace};
-use miniserde_place::de::{Step, Visitor};
+use miniserde_read::{Leaf, Source, Step, read_leaf};
 use miniserde_text::error::{Error, Result};
+use miniserde_text::json::lex::Event;
 use std::alloc::Global;
 
 /// A unit enum.
@@ -25,23 +27,32 @@ pub trait UnitEnum: Copy {
     // Each value is the first that has its name: all are listed, and no two have one name.
     ghost found: { (v : Self) → named name_of all (name_of v) ≡ Some v };
 
-    /// Its values.
+    /// Returns its values.
     fn values() -> &'static [Self]
         ensures { result.now ≡ all };
 
-    /// The name of a value.
+    /// Returns the name of a value.
     fn name(&self) -> &'static str
         ensures { result.now ≡ name_of self.now };
 }
 
-// The first of a unit enum's values that has the name.
+/// A unit enum with its meaning: a string means the value of that name. Each unit enum is one.
+pub trait Variants: UnitEnum {
+    ghost meaning: { Meant Self };
+}
+
+impl<T: UnitEnum> Variants for T {
+    ghost meaning = { variant_meant T.name_of T.all T.found (λ v. v) };
+}
+
+// Returns the first of a unit enum's values that has the name.
 fn find<T: UnitEnum + 'static>(name: &str) -> Option<T>
     ensures { result ≡ named T.name_of T.all name.now }
 {
     find_among(T::values(), name)
 }
 
-// The first of the values that has the name.
+// Returns the first of the values that has the name.
 fn find_among<T: UnitEnum>(values: &[T], name: &str) -> Option<T>
     ensures { result ≡ named T.name_of values.now name.now }
 {
@@ -53,24 +64,18 @@ fn find_among<T: UnitEnum>(values: &[T], name: &str) -> Option<T>
     None
 }
 
-// A value of a unit enum, as a leaf.
+/// A value of a unit enum, as a leaf.
 #[derive(Clone, Copy, Drop)]
-struct Variant<T> {
-    value: T,
+pub struct Variant<T> {
+    pub value: T,
 }
 
 impl<T: UnitEnum + 'static> Leaf for Variant<T> {
-    ghost Content = { T };
+    ghost means = { variant_meant T.name_of T.all T.found (λ v. v.value) };
 
-    ghost content = { λ v. v.value };
+    ghost only_leaves = { (λ ts. refl, λ ms. refl) };
 
-    ghost from_event = { named_of T.name_of T.all };
-
-    ghost reads = { λ t v. t ≡ str (T.name_of v.value) };
-
-    ghost reads_agrees = { λ t v. named-given T.name_of T.all T.found t v.value };
-
-    ghost reads_free = { true };
+    ghost read_infallible = { true };
 
     fn from_step(_alloc: Global, event: Step<'_>) -> Result<Variant<T>> {
         match event {
@@ -83,53 +88,25 @@ impl<T: UnitEnum + 'static> Leaf for Variant<T> {
     }
 }
 
-/// The place of a unit enum.
-#[derive(Drop)]
-pub struct NamePlace<T> {
-    place: LeafPlace<Variant<T>>,
-}
-
-impl<T: UnitEnum + 'static> Visitor for NamePlace<T> {
-    type Out = T;
-
-    ghost meaning = { record {
-      Content = T;
-      content = λ v. v;
-      from_events = from_one_event (named_of T.name_of T.all);
-      from_tree = from_leaf (named_of T.name_of T.all);
-      events_agree = one-event (named_of T.name_of T.all);
-      reads = λ t v. t ≡ str (T.name_of v);
-      reads_agrees = named-given T.name_of T.all T.found;
-      shows = λ p. ⟦<LeafPlace<Variant<T>> as Visitor>⟧.meaning.shows p.place;
-    } };
-
-    ghost begins_free = { true };
-
-    ghost takes_free = { true };
-
-    ghost further = { λ old e answer new. answer ≡ Err Error.Memory
-        → (⟦<LeafPlace<Variant<T>> as Visitor>⟧.meaning.shows old.place).refused ≡ Some Error.Memory };
-
-    fn begin(alloc: Global) -> Result<NamePlace<T>> {
-        Ok(NamePlace {
-            place: <LeafPlace<Variant<T>> as Visitor>::begin(alloc)?,
-        })
-    }
-
-    fn step(&mut self, event: Step<'_>) -> Result<()> {
-        self.place.step(event)
-    }
-
-    fn refuse(&mut self, error: Error) -> Error {
-        self.place.refuse(error)
-    }
-
-    fn is_complete(&self) -> bool {
-        self.place.is_complete()
-    }
-
-    fn take(self) -> Result<T> {
-        Ok(self.place.take()?.value)
+/// Reads a value of a unit enum, which is one token. Takes nothing more from the source.
+#[inline(always)]
+pub fn read_variant<'a, T: UnitEnum + 'static>(
+    token: Event<'a>,
+    source: &mut Source<'a>,
+) -> Result<T>
+    requires { IsTreeEvent (front_of token source.old.scratch) }
+    ensures stays { source.new ≡ source.old }
+    ensures ok { IfOk result (λ v. (t : Tree)
+        × ValueAt t (front_of token.entry source.old.scratch) source.old.rest source.old.rest
+        × (variant_of T.name_of T.all t ≡ Some v)) }
+    ensures invalid { result ≡ Err Error.Invalid → (t : Tree) (r : List ℕ)
+        → ValueAt t (front_of token.entry source.old.scratch) source.old.rest r
+        → variant_of T.name_of T.all t ≡ None }
+    ensures infallible { IfErr result (λ e. e ≡ Error.Invalid) }
+{
+    match read_leaf::<Variant<T>>(token, source) {
+        Ok(variant) => Ok(variant.value),
+        Err(error) => Err(error),
     }
 }
 

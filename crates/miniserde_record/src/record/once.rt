@@ -1,87 +1,50 @@
-//! Fields that refuse a repeat of their own names.
-ghost use Rattle.miniserde_record.specs.Records.{fields_once};
+//! Fields that refuse a duplicate of their own names.
+ghost use Rattle.miniserde_record.specs.FieldsMeant.{fields_once};
 
-use super::fields::Fields;
-use super::lossless::LosslessFields;
-use super::rounds::{RoundFields, WriteFields};
-use miniserde_place::de::Step;
-use miniserde_ser::ser::Writer;
+use super::slots::Slots;
+use miniserde_read::Source;
 use miniserde_text::error::{Error, Result};
-use std::alloc::Global;
 
-/// The fields, each of which takes one member alone: the name of a second one is refused as it comes. Members of other
-/// names may repeat, and so may any name inside a value.
+/// The fields, each of which takes one member: a duplicate of a field's name is refused before its value is read.
+/// Members of other names may be duplicates, and so may any names inside a value.
 #[derive(Drop)]
-pub struct Once<F> {
-    fields: F,
+pub struct OnceSlots<F> {
+    slots: F,
 }
 
-impl<F: Fields> Fields for Once<F> {
+impl<F: Slots> Slots for OnceSlots<F> {
     type Values = F::Values;
 
-    ghost meaning = { fields_once (λ f. f.fields) F.meaning };
+    ghost meaning = { fields_once F.meaning };
 
-    fn new() -> Once<F> {
-        Once { fields: F::new() }
+    ghost state = { λ f. F.state f.slots };
+
+    fn new() -> OnceSlots<F> {
+        OnceSlots { slots: F::new() }
     }
 
     fn has_value(&self, names: &[&str], name: &str) -> bool {
-        self.fields.has_value(names, name)
+        self.slots.has_value(names, name)
     }
 
-    fn begin_child(&mut self, alloc: Global, names: &[&str], name: &str) -> Result<()> {
-        if self.fields.has_value(names, name) {
+    fn read_member<'a>(
+        &mut self,
+        names: &[&str],
+        name: &str,
+        source: &mut Source<'a>,
+    ) -> Result<()> {
+        if self.slots.has_value(names, name) {
             return Err(Error::Invalid);
         }
-        self.fields.begin_child(alloc, names, name)
-    }
-
-    fn step(&mut self, event: Step<'_>) -> Result<()> {
-        self.fields.step(event)
-    }
-
-    fn refuse(&mut self, error: Error) -> Error {
-        self.fields.refuse(error)
-    }
-
-    fn is_child_complete(&self) -> bool {
-        self.fields.is_child_complete()
-    }
-
-    fn join(&mut self) -> Result<()> {
-        self.fields.join()
+        self.slots.read_member(names, name, source)
     }
 
     fn are_whole(&self) -> bool {
-        self.fields.are_whole()
+        self.slots.are_whole()
     }
 
     fn values(self) -> F::Values {
-        let Once { fields } = self;
-        fields.values()
-    }
-}
-
-impl<F: RoundFields> RoundFields for Once<F> {
-    ghost real = { F.real };
-
-    ghost trees = { F.trees };
-
-    fn again() {
-        F::again()
-    }
-}
-
-impl<L, F: WriteFields<L>> WriteFields<L> for Once<F> {
-    ghost lent = { F.lent };
-
-    fn write(values: &L, w: &mut Writer, names: &[&str]) -> Result<()> {
-        F::write(values, w, names)
-    }
-}
-
-impl<F: LosslessFields> LosslessFields for Once<F> {
-    fn lossless() {
-        F::lossless()
+        let OnceSlots { slots } = self;
+        slots.values()
     }
 }

@@ -2,12 +2,11 @@
 use Rattle.std.proofs.Common.{◌≡◌, Some, sym, ap}
 use Rattle.std.specs.Prelude.{◌↔◌}
 use Rattle.miniserde_model.specs.Tree.{Tree, null, truth, nonneg, neg, num, str, list, members}
-use Rattle.miniserde_place.specs.Leaf.{from_leaf}
 use Rattle.miniserde_value.specs.declared.json.number.Number.{Number}
 use Rattle.miniserde_value.specs.declared.json.number.Number.TheVariants.{U64, I64, Text}
-use Rattle.miniserde_value.specs.Numbers.{number_leaf, from_number, ReadsNumber}
+use Rattle.miniserde_value.specs.Numbers.{number_leaf, number_of, ReadsNumber}
 
-number_reads : (t : Tree) (v : Number) → from_leaf from_number t ≡ Some (number_leaf v) → ReadsNumber t v
+number_reads : (t : Tree) (v : Number) → number_of t ≡ Some (number_leaf v) → ReadsNumber t v
 number_reads null v e = absurd (cc)
 number_reads (truth b) v e = absurd (cc)
 number_reads (nonneg n) (U64 m) e = let same : m ≡ n = cc in ap U64 same
@@ -23,7 +22,7 @@ number_reads (str s) v e = absurd (cc)
 number_reads (list ts) v e = absurd (cc)
 number_reads (members ms) v e = absurd (cc)
 
-number_meant : (t : Tree) (v : Number) → ReadsNumber t v → from_leaf from_number t ≡ Some (number_leaf v)
+number_meant : (t : Tree) (v : Number) → ReadsNumber t v → number_of t ≡ Some (number_leaf v)
 number_meant null v e = absurd e
 number_meant (truth b) v e = absurd e
 number_meant (nonneg n) v e = ap (λ (x : Tree). Some x) (ap number_leaf (sym e))
@@ -33,5 +32,5 @@ number_meant (str s) v e = absurd e
 number_meant (list ts) v e = absurd e
 number_meant (members ms) v e = absurd e
 
-pub number-given : (t : Tree) (v : Number) → ReadsNumber t v ↔ (from_leaf from_number t ≡ Some (number_leaf v))
+pub number-given : (t : Tree) (v : Number) → ReadsNumber t v ↔ (number_of t ≡ Some (number_leaf v))
 number-given t v = (number_meant t v, number_reads t v)

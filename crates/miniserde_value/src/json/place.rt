@@ -1,8 +1,8 @@
 //! Reading values of any shape, with no recursion.
-ghost use Rattle.std.specs.Prelude.{◌≡◌, true, [], Option, Some, None, Err, IfOk, OnOk, ⊤};
+ghost use Rattle.std.specs.Prelude.{◌≡◌, true, [], Option, Some, None, Err, IfOk, OnOk};
 ghost use Rattle.miniserde_text.specs.declared.error.Error.TheVariants.{Invalid};
-ghost use Rattle.miniserde_place.specs.Step.{event_of};
-ghost use Rattle.miniserde_place.specs.Place.{IsTreeEvent};
+ghost use Rattle.miniserde_read.specs.Step.{event_of};
+ghost use Rattle.miniserde_read.specs.Step.{IsTreeEvent};
 ghost use Rattle.miniserde_value.specs.Hole.{outside, begun, resumed, took};
 ghost use Rattle.miniserde_value.specs.Unique.{repeats};
 ghost use Rattle.miniserde_value.specs.Kinds.{is_start};
@@ -12,7 +12,7 @@ use super::builder::{Builder, Kind};
 use super::number::Number;
 use super::object::Object;
 use super::value::Value;
-use miniserde_de::de::{Deserialize, Ranged, Step, Visitor};
+use miniserde_de::de::{Step, Visitor};
 use miniserde_place::de::leaf::{Leaf, LeafPlace};
 use miniserde_text::error::{Error, Result};
 use miniserde_text::json::number::NumberText;
@@ -311,19 +311,12 @@ impl Visitor for NumberPlace {
 }
 
 impl Leaf for Number {
-    ghost use Rattle.miniserde_model.specs.Tree.{Tree};
-    ghost use Rattle.miniserde_value.specs.Numbers.{number_leaf, from_number, ReadsNumber};
-    ghost use Rattle.miniserde_value.specs.laws.Numbers.{number-given};
+    ghost use Rattle.std.specs.Prelude.{refl};
+    ghost use Rattle.miniserde_value.specs.Meanings.{number_meant};
 
-    ghost Content = { Tree };
+    ghost means = { number_meant };
 
-    ghost content = { number_leaf };
-
-    ghost from_event = { from_number };
-
-    ghost reads = { ReadsNumber };
-
-    ghost reads_agrees = { number-given };
+    ghost only_leaves = { (λ ts. refl, λ ms. refl) };
 
     fn from_step(alloc: Global, event: Step<'_>) -> Result<Number> {
         match event {
@@ -333,68 +326,4 @@ impl Leaf for Number {
             _ => Err(Error::Invalid),
         }
     }
-}
-
-impl Deserialize for Number {
-    type Place = NumberPlace;
-
-    ghost absent = { None };
-
-    fn default() -> Option<Number> {
-        None
-    }
-}
-
-impl Deserialize for Value {
-    type Place = ValuePlace;
-
-    ghost absent = { None };
-
-    fn default() -> Option<Value> {
-        None
-    }
-}
-
-impl Deserialize for Array {
-    type Place = ArrayPlace;
-
-    ghost absent = { None };
-
-    fn default() -> Option<Array> {
-        None
-    }
-}
-
-impl Deserialize for Object {
-    type Place = ObjectPlace;
-
-    ghost absent = { None };
-
-    fn default() -> Option<Object> {
-        None
-    }
-}
-
-impl Ranged for Number {
-    ghost real = { λ _. ⊤ };
-
-    fn ranged(&self) {}
-}
-
-impl Ranged for Value {
-    ghost real = { λ _. ⊤ };
-
-    fn ranged(&self) {}
-}
-
-impl Ranged for Array {
-    ghost real = { λ _. ⊤ };
-
-    fn ranged(&self) {}
-}
-
-impl Ranged for Object {
-    ghost real = { λ _. ⊤ };
-
-    fn ranged(&self) {}
 }

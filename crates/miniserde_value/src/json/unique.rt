@@ -1,9 +1,9 @@
 //! Values in which no name stands twice.
-ghost use Rattle.std.specs.Prelude.{◌≡◌, true, Option, None, ⊤};
+ghost use Rattle.std.specs.Prelude.{◌≡◌, true};
 
 use super::place::ValuePlace;
 use super::value::Value;
-use miniserde_de::de::{Deserialize, Ranged, Step, Visitor};
+use miniserde_de::de::{Step, Visitor};
 use miniserde_ser::ser::{Serialize, Writer};
 use miniserde_text::error::{Error, Result};
 use std::alloc::Global;
@@ -83,22 +83,6 @@ impl Visitor for UniquePlace {
     fn take(self) -> Result<Unique> {
         Ok(Unique::new(self.place.take()?))
     }
-}
-
-impl Deserialize for Unique {
-    type Place = UniquePlace;
-
-    ghost absent = { None };
-
-    fn default() -> Option<Unique> {
-        None
-    }
-}
-
-impl Ranged for Unique {
-    ghost real = { λ _. ⊤ };
-
-    fn ranged(&self) {}
 }
 
 impl Serialize for Unique {

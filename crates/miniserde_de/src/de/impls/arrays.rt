@@ -1,6 +1,6 @@
 //! Arrays.
 ghost use Rattle.std.specs.Prelude.{Option, None};
-ghost use Rattle.miniserde_de.specs.Meanings.{array_gathering};
+ghost use Rattle.miniserde_de.specs.PlaceMeanings.{array_gathering};
 
 use super::super::{Deserialize, Step, Visitor};
 use super::sequences::ListOf;
@@ -71,9 +71,7 @@ where
 impl<T: Deserialize, const N: usize> Deserialize for [T; N] {
     type Place = ArrayPlace<T, N>;
 
-    ghost absent = { None };
-
-    fn default() -> Option<[T; N]> {
-        None
+    fn tied() {
+        T::tied()
     }
 }

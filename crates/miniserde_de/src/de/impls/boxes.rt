@@ -1,6 +1,6 @@
 //! Boxed values.
 ghost use Rattle.std.specs.Prelude.{◌≡◌, Option, None};
-ghost use Rattle.miniserde_de.specs.Meanings.{box_meaning};
+ghost use Rattle.miniserde_de.specs.PlaceMeanings.{box_meaning};
 
 use super::super::{Deserialize, Step, Visitor};
 use miniserde_text::error::{Error, Result};
@@ -53,9 +53,7 @@ where
 impl<T: Deserialize> Deserialize for Box<T> {
     type Place = BoxPlace<T::Place>;
 
-    ghost absent = { None };
-
-    fn default() -> Option<Box<T>> {
-        None
+    fn tied() {
+        T::tied()
     }
 }

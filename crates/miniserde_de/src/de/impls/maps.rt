@@ -1,70 +1,16 @@
 //! Maps, ordered by their keys or hashed.
 ghost use Rattle.std.specs.Prelude.{◌≡◌, [], List, Option, None, Ok, IfOk, OnErr, IsErrOf};
 ghost use Rattle.miniserde_text.specs.declared.error.Error.TheVariants.{Memory};
-ghost use Rattle.miniserde_de.specs.Maps.{looked, with_entry};
-ghost use Rattle.miniserde_de.specs.Meanings.{map_gathering};
+ghost use Rattle.miniserde_read.specs.meaning.Maps.{looked, with_entry};
+ghost use Rattle.miniserde_de.specs.PlaceMeanings.{map_gathering};
 
 use super::super::{Deserialize, MapKey, Step, Visitor};
 use miniserde_place::de::container::{Collect, ContainerPlace};
+use miniserde_read::Table;
 use miniserde_text::error::{Error, Result};
 use std::alloc::Global;
 use std::collections::{BTreeMap, HashMap};
 use std::hash::{BuildHasher, Hash};
-
-/// A map that takes entries.
-pub trait Table: Drop {
-    type Key: MapKey;
-
-    type Value: Drop;
-
-    // The entries, in the order of its walk.
-    ghost entries: { Self → List (Self.Key × Self.Value) };
-
-    /// No entries yet. It takes no memory.
-    fn new(alloc: Global) -> Self
-        ensures { entries result ≡ [] };
-
-    /// Takes an entry: an equal key that is there stays, and has the value from then on.
-    fn put(&mut self, key: Self::Key, value: Self::Value) -> Result<()>
-        ensures put { IfOk result (λ _.
-            looked Self.Key.code Self.Key.content (λ v. v) (entries self.new) ≡ with_entry Self.Key.code
-            (looked Self.Key.code Self.Key.content (λ v. v) (entries self.old)) (Self.Key.content key) value) }
-        ensures memory { OnErr result (IsErrOf result Memory) };
-}
-
-impl<K: MapKey + Ord, V: Drop> Table for BTreeMap<K, V> {
-    type Key = K;
-
-    type Value = V;
-
-    ghost entries = { λ m. m.entries };
-
-    fn new(alloc: Global) -> BTreeMap<K, V> {
-        BTreeMap::new(alloc)
-    }
-
-    fn put(&mut self, key: K, value: V) -> Result<()> {
-        self.insert(key, value)?;
-        Ok(())
-    }
-}
-
-impl<K: MapKey + Hash, V: Drop, H: BuildHasher + Default + Drop> Table for HashMap<K, V, H> {
-    type Key = K;
-
-    type Value = V;
-
-    ghost entries = { λ m. m.entries };
-
-    fn new(alloc: Global) -> HashMap<K, V, H> {
-        HashMap::with_hasher(alloc, H::default())
-    }
-
-    fn put(&mut self, key: K, value: V) -> Result<()> {
-        HashMap::insert(self, key, value)?;
-        Ok(())
-    }
-}
 
 /// A map that is being read, with the key and the place of its current value.
 #[derive(Drop)]
@@ -158,10 +104,8 @@ impl<P: Visitor, M: Table<Value = P::Out>> Collect for MapOf<M, M::Key, P> {
 impl<K: MapKey + Ord, V: Deserialize> Deserialize for BTreeMap<K, V> {
     type Place = BTreeMapPlace<K, V>;
 
-    ghost absent = { None };
-
-    fn default() -> Option<BTreeMap<K, V>> {
-        None
+    fn tied() {
+        V::tied()
     }
 }
 
@@ -169,9 +113,7 @@ impl<K: MapKey + Hash, V: Deserialize, H: BuildHasher + Default + Drop> Deserial
     for HashMap<K, V, H> {
     type Place = HashMapPlace<K, V, H>;
 
-    ghost absent = { None };
-
-    fn default() -> Option<HashMap<K, V, H>> {
-        None
+    fn tied() {
+        V::tied()
     }
 }

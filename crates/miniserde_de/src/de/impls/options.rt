@@ -18,7 +18,7 @@ pub enum OptionPlace<P> {
 }
 
 impl<P: Visitor> Visitor for OptionPlace<P> {
-    ghost use Rattle.miniserde_de.specs.Meanings.{option_meaning};
+    ghost use Rattle.miniserde_de.specs.PlaceMeanings.{option_meaning};
 
     type Out = Option<P::Out>;
 
@@ -92,9 +92,7 @@ impl<P: Visitor> Visitor for OptionPlace<P> {
 impl<T: Deserialize> Deserialize for Option<T> {
     type Place = OptionPlace<T::Place>;
 
-    ghost absent = { Some None };
-
-    fn default() -> Option<Option<T>> {
-        Some(None)
+    fn tied() {
+        T::tied()
     }
 }

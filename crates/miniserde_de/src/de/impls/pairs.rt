@@ -1,6 +1,6 @@
 //! Pairs.
 ghost use Rattle.std.specs.Prelude.{Option, None};
-ghost use Rattle.miniserde_de.specs.Meanings.{pair_gathering};
+ghost use Rattle.miniserde_de.specs.PlaceMeanings.{pair_gathering};
 
 use super::super::{Deserialize, Step, Visitor};
 use miniserde_place::de::container::{Collect, ContainerPlace};
@@ -123,9 +123,8 @@ where
 impl<A: Deserialize, B: Deserialize> Deserialize for (A, B) {
     type Place = PairPlace<A, B>;
 
-    ghost absent = { None };
-
-    fn default() -> Option<(A, B)> {
-        None
+    fn tied() {
+        A::tied();
+        B::tied()
     }
 }

@@ -1,6 +1,6 @@
 //! Lists.
 ghost use Rattle.std.specs.Prelude.{◌≡◌, length, Option, None};
-ghost use Rattle.miniserde_de.specs.Meanings.{list_gathering};
+ghost use Rattle.miniserde_de.specs.PlaceMeanings.{list_gathering};
 
 use super::super::{Deserialize, Step, Visitor};
 use miniserde_place::de::container::{Collect, ContainerPlace};
@@ -100,9 +100,7 @@ where
 impl<T: Deserialize> Deserialize for Vec<T> {
     type Place = VecPlace<T>;
 
-    ghost absent = { None };
-
-    fn default() -> Option<Vec<T>> {
-        None
+    fn tied() {
+        T::tied()
     }
 }

@@ -3,8 +3,9 @@ ghost use Rattle.std.specs.Prelude.{◌≡◌, ◌↔◌, Bool, IsTrue, Option, 
 ghost use Rattle.std.specs.Prelude.{MatchOption, is_some};
 ghost use Rattle.miniserde_model.specs.Event.{Event};
 ghost use Rattle.miniserde_model.specs.Position.{complete};
-ghost use Rattle.miniserde_place.specs.Step.{event_of};
-ghost use Rattle.miniserde_place.specs.Place.{IsTreeEvent, Takes, IsFresh, first_refusal};
+ghost use Rattle.miniserde_read.specs.Step.{event_of};
+ghost use Rattle.miniserde_place.specs.Place.{Takes, IsFresh, first_refusal};
+ghost use Rattle.miniserde_read.specs.Step.{IsTreeEvent};
 ghost use Rattle.miniserde_place.specs.Container.{Gathering, BeginsChild, opening_event, is_complete};
 ghost use Rattle.miniserde_text.specs.declared.error.Error.{Error};
 

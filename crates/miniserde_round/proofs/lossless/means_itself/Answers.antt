@@ -4,7 +4,7 @@ use Rattle.miniserde_round.proofs.lossless.means_itself.Goals as goal
 
 pub returns-clause-means : goal.returns-clause-means
 returns-clause-means g c =
-    let m = g.T.Place.Visitor.meaning in
+    let m = g.T.FromJson.means in
     let v = c.args.value.now in
     let t = g.T.Serialize.tree v in
     let a = c.again.ensures v c.ranged.ensures in
@@ -13,7 +13,7 @@ returns-clause-means g c =
 
 pub returns-clause-only : goal.returns-clause-only
 returns-clause-only g c w r =
-    let m = g.T.Place.Visitor.meaning in
+    let m = g.T.FromJson.means in
     let v = c.args.value.now in
     let t = g.T.Serialize.tree v in
     let same : ◌≡◌ {A = Option m.Content} (Some (m.content w)) (Some (m.content v)) = sym ((m.reads_agrees t w).0 r) ∙ (m.reads_agrees t v).0 (returns-clause-means g c) in

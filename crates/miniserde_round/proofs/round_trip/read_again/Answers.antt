@@ -10,7 +10,7 @@ returns-clause-same g c =
     let a = c.again.ensures c.args.value.now c.ranged.ensures in
     let spells : IsJson c.as_str.result.now t = subst (λ z. IsJson z t) (sym c.as_str.ensures.value) c.in_ok-text.ensures.spells in
     let h = c.in_ok-again.ensures.ok in
-    a.1 c.in_ok-again.again c.ranged-2.ensures (subst (λ u. g.T.Place.Visitor.meaning.reads u c.in_ok-again.again) (c.in_ok-again.ensures.one h.0 t h.1 spells) h.2)
+    a.1 c.in_ok-again.again c.ranged-2.ensures (subst (λ u. g.T.FromJson.means.reads u c.in_ok-again.again) (c.in_ok-again.ensures.one h.0 t h.1 spells) h.2)
 
 pub returns-clause-itself : goal.returns-clause-itself
 returns-clause-itself g c = λ only. only c.in_ok-again.again c.ranged-2.ensures (returns-clause-same g c)

@@ -2,29 +2,28 @@
 use Rattle.std.proofs.Common.{◌≡◌, [], ◌∷◌, Some, None, refl, codes, string_bytes, pos, map}
 use Rattle.std.specs.Prelude.{option_map}
 use Rattle.miniserde.specs.Tree.{str, members}
-use Rattle.miniserde.specs.Leaf.{from_leaf}
-use Rattle.miniserde.specs.Words.{from_string}
-use Rattle.miniserde.specs.Integers.{from_unsigned, ReadsUnsigned}
+use Rattle.miniserde.specs.Words.{string_of}
+use Rattle.miniserde.specs.Integers.{unsigned_of, ReadsUnsigned}
 use Rattle.miniserde.specs.Lists.{ListReads, list_of}
 use Rattle.miniserde.specs.Options.{OptionReads, option_of}
 use Rattle.miniserde.specs.Maps.{MapReads, map_of, looked}
 use Rattle.settings.specs.Meant.{IsHost, IsTls}
-use Rattle.settings.specs.contracts.types.HostPlaceVisitor.TheImpl as host
-use Rattle.settings.specs.contracts.types.TlsPlaceVisitor.TheImpl as tls
+use Rattle.settings.specs.contracts.types.HostFromJson.TheImpl as host
+use Rattle.settings.specs.contracts.types.TlsFromJson.TheImpl as tls
 use Rattle.miniserde.specs.Said.{needs, says, items, optional, none_counts}
 use Rattle.settings.proofs.loader.settings_meant.Goals as goal
 
 pub returns : goal.returns
 returns c (members ms) s =
-    let h = host.ghosts.meaning in
-    let t = tls.ghosts.meaning in
-    let whole = from_leaf (from_unsigned 64) in
+    let h = host.ghosts.means in
+    let t = tls.ghosts.means in
+    let whole = unsigned_of 64 in
     let n1 = codes "name" in
     let n2 = codes "port" in
     let n3 = codes "tls" in
     let n4 = codes "hosts" in
-    let r1 = needs s.name (λ t s. t ≡ str (string_bytes s)) (from_leaf from_string) string_bytes (λ t. t ≡ str (string_bytes s.name)) (λ t. (λ r. r, λ r. r)) n1 [] refl ms in
-    let r2 = needs s.port (ReadsUnsigned 16) (from_leaf (from_unsigned 16)) pos (λ t. ReadsUnsigned 16 t s.port) (λ t. (λ r. r, λ r. r)) n2 (n1 ∷ []) refl ms in
+    let r1 = needs s.name (λ t s. t ≡ str (string_bytes s)) string_of string_bytes (λ t. t ≡ str (string_bytes s.name)) (λ t. (λ r. r, λ r. r)) n1 [] refl ms in
+    let r2 = needs s.port (ReadsUnsigned 16) (unsigned_of 16) pos (λ t. ReadsUnsigned 16 t s.port) (λ t. (λ r. r, λ r. r)) n2 (n1 ∷ []) refl ms in
     let r3 = says s.tls (OptionReads t.reads) (option_of t.from_tree) (option_map t.content) (Some None) (s.tls ≡ None) (λ u. OptionReads IsTls u s.tls) (λ u. optional c.parts_meant.ensures.tls u s.tls) (none_counts t.content s.tls) n3 (n1 ∷ n2 ∷ []) refl ms in
     let r4 = needs s.hosts (λ u v. ListReads h.reads u v.items) (list_of h.from_tree) (λ v. map h.content v.items) (λ u. ListReads IsHost u s.hosts.items) (λ u. items c.parts_meant.ensures.host u s.hosts.items) n4 (n1 ∷ n2 ∷ n3 ∷ []) refl ms in
     let r5 = needs s.limits (λ u m. MapReads Some (λ k. k) string_bytes whole (ReadsUnsigned 64) u m.entries) (map_of Some (λ k. k) whole) (λ m. looked (λ k. k) string_bytes pos m.entries) (λ u. MapReads Some (λ k. k) string_bytes whole (ReadsUnsigned 64) u s.limits.entries) (λ u. (λ r. r, λ r. r)) (codes "limits") (n1 ∷ n2 ∷ n3 ∷ n4 ∷ []) refl ms in (

@@ -1,5 +1,5 @@
 -- What was read is what is kept of the text's tree, in which no name stands twice.
-use Rattle.std.proofs.Common.{◌≡◌, ℕ, Bool, true, false, cond, Option, Some, None, List, is_some, sym, ap, subst, ◌∙◌, string_bytes, true≢false}
+use Rattle.std.proofs.Common.{◌≡◌, ℕ, Bool, true, false, cond, Some, None, List, is_some, sym, ap, subst, ◌∙◌, string_bytes, true≢false}
 use Rattle.std.proofs.lemmas.Result.{err_from_is_err_and, IfOk-weaker}
 use Rattle.std.specs.Prelude.{Result, Ok, Err, IfOk, OnErr, IsErrOf}
 use Rattle.miniserde_text.specs.declared.error.Error.{Error}

@@ -4,4 +4,4 @@ use Rattle.miniserde_round.proofs.Again.{again-inner}
 use Rattle.miniserde_round.proofs.round_trip.BoxRoundTrip.again.Goals as goal
 
 pub returns : goal.returns
-returns g c = λ v r. again-inner g.T.Ranged.real g.T.Serialize.tree g.T.Place.Visitor.meaning.reads (λ b. b.value) (with_value v) (λ x. refl) v (c.again.ensures v.value r)
+returns g c = λ v r. again-inner g.T.Ranged.real g.T.Serialize.tree g.T.FromJson.means.reads (λ b. b.value) (with_value v) (λ x. refl) v (c.again.ensures v.value r)

@@ -6,7 +6,7 @@ use Rattle.miniserde_round.proofs.round_trip.HashMapRoundTrip.again.Goals as goa
 
 pub returns : goal.returns
 returns g c = λ m r.
-    let v = g.V.Place.Visitor.meaning in
+    let v = g.V.FromJson.means in
     let k = g.K.MapKey in
     let laws = g.met.K.MapKey in
     again-hashed k.read k.code k.content k.text g.K.Ranged.real g.V.Ranged.real g.V.Serialize.tree v.from_tree v.reads

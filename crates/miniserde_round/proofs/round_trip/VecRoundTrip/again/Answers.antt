@@ -5,4 +5,4 @@ use Rattle.miniserde_round.proofs.Again.{again-list}
 use Rattle.miniserde_round.proofs.round_trip.VecRoundTrip.again.Goals as goal
 
 pub returns : goal.returns
-returns g c = λ v r. again-list g.T.Ranged.real g.T.Serialize.tree g.T.Place.Visitor.meaning.reads c.again.ensures (λ v. v.items) with_items (λ v ws e. with_items_is v ws (e ∙ sym v.ok.0)) v r
+returns g c = λ v r. again-list g.T.Ranged.real g.T.Serialize.tree g.T.FromJson.means.reads c.again.ensures (λ v. v.items) with_items (λ v ws e. with_items_is v ws (e ∙ sym v.ok.0)) v r

@@ -1,6 +1,6 @@
 use Rattle.std.proofs.Common.{rules, ap, ◌∙◌}
 use Rattle.miniserde_model.specs.Tree.{neg, str, num}
-use Rattle.miniserde_place.specs.Step.{event_of}
+use Rattle.miniserde_read.specs.Step.{event_of}
 use Rattle.miniserde_value.specs.declared.json.number.Number.TheVariants as number
 use Rattle.miniserde_value.specs.Hole.{begun}
 use Rattle.miniserde_value.specs.Places.{hole_at}

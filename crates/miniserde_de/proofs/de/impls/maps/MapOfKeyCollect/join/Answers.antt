@@ -1,8 +1,8 @@
 use Rattle.std.proofs.Common.{rules, ◌≡◌, [], Some}
 use Rattle.std.specs.Prelude.{option_and_then, option_map}
 use Rattle.std.proofs.lemmas.Result.{IfOk-weaker}
-use Rattle.miniserde_de.specs.Maps.{looked, with_entry}
-use Rattle.miniserde_de.proofs.Inserts.{put-joined}
+use Rattle.miniserde_read.specs.meaning.Maps.{looked, with_entry}
+use Rattle.miniserde_read.proofs.Inserts.{put-joined}
 use Rattle.miniserde_de.proofs.de.impls.maps.MapOfKeyCollect.join.Goals as goal
 
 pub returns-in_ok-take-in-Some-Some-clause-joined : goal.returns-in_ok-take-in-Some-Some-clause-joined

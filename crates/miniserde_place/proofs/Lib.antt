@@ -1,0 +1,4 @@
+pub mod Feeds
+pub mod Leads
+pub mod Moved
+pub mod Spelled

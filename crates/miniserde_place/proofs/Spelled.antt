@@ -1,0 +1,85 @@
+-- Which events some text spells, and that what has begun can be completed.
+use Rattle.std.proofs.Common.{◌≡◌, ℕ, Bool, true, false, Some, is_some, List, [], ◌∷◌, ◌++◌, codes, refl, sym, ap, subst, ◌∙◌, true≢false}
+use Rattle.miniserde_model.specs.Tree.{Tree, null, truth, nonneg, neg, num, str}
+use Rattle.miniserde_model.specs.Event.{Event, nothing, seq, element, map, key, finish, events}
+use Rattle.miniserde_model.specs.Lexing.{Kind, in_list, in_members, Starts, Names}
+use Rattle.miniserde_model.specs.private.Reading.{Moment, due, first, after}
+use Rattle.miniserde_model.proofs.ReadBack.{spells_json, nothing_left}
+use Rattle.miniserde_text.specs.Lexer.{front_of}
+use Rattle.miniserde_text.specs.declared.json.lex.Event as lexed
+use Rattle.miniserde_text.specs.declared.json.lex.Event.TheVariants as variant
+use Rattle.miniserde_read.specs.private.Stack.{pushed, innermost, outer}
+use Rattle.miniserde_read.specs.private.Moving.{opens, between, Live}
+use Rattle.miniserde_read.proofs.Fronts.{front, passes_start}
+use Rattle.miniserde_place.specs.private.Runs.{Spellable}
+
+-- ---- one event before others
+
+with_finish : (k : Kind) (f : Bool) (st : List Kind) (es : List Event) → Spellable after es st → Spellable (between f) (finish ∷ es) (k ∷ st)
+with_finish in_list true st es h = (93 ∷ h.0, front [] (93 ∷ []) h.0 tt refl h.1)
+with_finish in_list false st es h = (93 ∷ h.0, front [] (93 ∷ []) h.0 tt refl h.1)
+with_finish in_members true st es h = (125 ∷ h.0, front [] (125 ∷ []) h.0 tt refl h.1)
+with_finish in_members false st es h = (125 ∷ h.0, front [] (125 ∷ []) h.0 tt refl h.1)
+
+with_element : (f : Bool) (st : List Kind) (es : List Event) → Spellable due es (in_list ∷ st) → Spellable (between f) (element ∷ es) (in_list ∷ st)
+with_element true st es h = h
+with_element false st es h = (44 ∷ h.0, front [] (44 ∷ []) h.0 tt refl h.1)
+
+with_key : (f : Bool) (st : List Kind) (s r n : List ℕ) → Names s n r → (es : List Event) → Spellable due es (in_members ∷ st) → Spellable (between f) (key n ∷ es) (in_members ∷ st)
+with_key true st s r n p es h = (p.part ++ h.0, front [] p.part h.0 tt p.is_part h.1)
+with_key false st s r n p es h = (44 ∷ (p.part ++ h.0), front [] (44 ∷ []) (p.part ++ h.0) tt refl (front [] p.part h.0 tt p.is_part h.1))
+
+-- ---- the same by the innermost container
+
+split_top : (st : List Kind) (k : Kind) → innermost st ≡ Some k → st ≡ k ∷ outer st
+split_top [] k h = absurd (true≢false (ap is_some (sym h)))
+split_top (c ∷ st) k h = let e : c ≡ k = cc in ap (λ z. z ∷ st) e
+
+pub close_spellable : (st st' : List Kind) (k : Kind) (f : Bool) → innermost st ≡ Some k → st' ≡ outer st → (es : List Event) → Spellable after es st' → Spellable (between f) (finish ∷ es) st
+close_spellable st st' k f h q es p =
+    subst (λ z. Spellable (between f) (finish ∷ es) z) (sym (split_top st k h)) (with_finish k f (outer st) es (subst (λ z. Spellable after es z) q p))
+
+pub element_spellable : (st : List Kind) (k : Kind) (f : Bool) → innermost st ≡ Some k → k ≡ in_list → (es : List Event) → Spellable due es st → Spellable (between f) (element ∷ es) st
+element_spellable st k f h e es =
+    subst (λ z. Spellable due es z → Spellable (between f) (element ∷ es) z) (sym (split_top st in_list (h ∙ ap Some e))) (with_element f (outer st) es)
+
+pub key_spellable : (st : List Kind) (s r n : List ℕ) (k : Kind) (f : Bool) → innermost st ≡ Some k → k ≡ in_members → Names s n r → (es : List Event) → Spellable due es st → Spellable (between f) (key n ∷ es) st
+key_spellable st s r n k f h e p es =
+    subst (λ z. Spellable due es z → Spellable (between f) (key n ∷ es) z) (sym (split_top st in_members (h ∙ ap Some e))) (with_key f (outer st) s r n p es)
+
+pub start_spellable : (st : List Kind) (s r : List ℕ) (e : Event) (f : Bool) (st' : List Kind) → Starts s e r → f ≡ is_some (opens e) → st' ≡ pushed (opens e) st → (es : List Event) → Spellable (between f) es st' → Spellable due (e ∷ es) st
+start_spellable st s r e f st' k p q es h =
+    let g = passes_start st s e r k in
+    let i : Spellable (between (is_some (opens e))) es (pushed (opens e) st) = subst (λ z. Spellable (between z) es (pushed (opens e) st)) p (subst (λ z. Spellable (between f) es z) q h) in
+    (g.taken ++ i.0, g.on es i.0 i.1)
+
+-- ---- every beginning can be completed
+
+closers : (st : List Kind) → (rest : List Event) × Spellable after rest st
+closers [] = ([], ([], tt))
+closers (k ∷ st) = let r = closers st in (finish ∷ r.0, with_finish k false st r.0 r.1)
+
+pub completion : (m : Moment) (st : List Kind) → Live m st → (rest : List Event) × Spellable m rest st
+completion after st l = closers st
+completion due st l = let r = closers st in (nothing ∷ r.0, (codes "null" ++ r.1.0, front [] (codes "null") r.1.0 tt refl r.1.1))
+completion first [] l = absurd l
+completion first (k ∷ st) l = let r = closers st in (finish ∷ r.0, with_finish k true st r.0 r.1)
+
+-- ---- what some text spells is a tree's
+
+leaf_spelled : (t : Tree) (e : Event) (es : List Event) → events t ≡ e ∷ [] → Spellable after es [] → (u : Tree) × (e ∷ es ≡ events u)
+leaf_spelled t e es i h = (t, ap (λ z. e ∷ z) (nothing_left es h.0 h.1).0 ∙ sym i)
+
+spelled_events : (es : List Event) → Spellable due es [] → (u : Tree) × (es ≡ events u)
+spelled_events es h = let t = spells_json es h.0 h.1 in (t.0, t.1)
+
+-- the events behind a value's first token
+pub tree_spelled : (x : lexed.Event) (scratch : List ℕ) (es : List Event) → Spellable (between (is_some (opens (front_of x scratch)))) es (pushed (opens (front_of x scratch)) []) → (t : Tree) × (front_of x scratch ∷ es ≡ events t)
+tree_spelled variant.Null scratch es h = leaf_spelled null _ es refl h
+tree_spelled (variant.Bool b) scratch es h = leaf_spelled (truth b) _ es refl h
+tree_spelled (variant.Negative n) scratch es h = leaf_spelled (neg n) _ es refl h
+tree_spelled (variant.Nonnegative n) scratch es h = leaf_spelled (nonneg n) _ es refl h
+tree_spelled (variant.Number x) scratch es h = leaf_spelled (num x.now) _ es refl h
+tree_spelled (variant.Str t) scratch es h = leaf_spelled (str _) (front_of (variant.Str t) scratch) es refl h
+tree_spelled variant.SeqStart scratch es h = spelled_events (seq ∷ es) (91 ∷ h.0, front [] (91 ∷ []) h.0 tt refl h.1)
+tree_spelled variant.MapStart scratch es h = spelled_events (map ∷ es) (123 ∷ h.0, front [] (123 ∷ []) h.0 tt refl h.1)

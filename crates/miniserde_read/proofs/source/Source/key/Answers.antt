@@ -1,0 +1,7 @@
+use Rattle.std.proofs.Common.{sym, ap, subst, ◌∙◌}
+use Rattle.miniserde_model.specs.Lexing.{Names}
+use Rattle.miniserde_read.proofs.source.Source.key.Goals as goal
+
+pub returns-clause-invalid : goal.returns-clause-invalid
+returns-clause-invalid c = λ e n r p.
+    c.name.ensures.invalid e (ap (λ v. v.refused) c.self.view_is ∙ c.requires) n r (subst (λ z. Names z n r) (sym (ap (λ v. v.rest) c.self.view_is)) p)

@@ -1,0 +1,94 @@
+//! Values that are skipped.
+ghost use Rattle.std.specs.Prelude.{◌≡◌, ◌<◌, List, ℕ, None, Some, Ok, Err, IfOk, length};
+ghost use Rattle.miniserde_model.specs.Tree.{Tree};
+ghost use Rattle.miniserde_model.specs.private.Reading.{due};
+ghost use Rattle.miniserde_text.specs.Lexer.{front_of, kind_of};
+ghost use Rattle.miniserde_text.specs.declared.error.Error.{Error};
+ghost use Rattle.miniserde_read.specs.Meanings.{ignored_meant};
+ghost use Rattle.miniserde_read.specs.Rest.{ValueAt};
+ghost use Rattle.miniserde_read.specs.Step.{IsTreeEvent};
+ghost use Rattle.miniserde_read.specs.private.Moving.{between};
+ghost use Rattle.miniserde_read.specs.private.Runs.{Reaches, NeverRuns};
+ghost use Rattle.miniserde_read.specs.private.Stack.{innermost};
+
+use crate::from_json::FromJson;
+use crate::source::Source;
+use crate::stack::Stack;
+use miniserde_text::error::{Error, Result};
+use miniserde_text::json::lex::{After, Event, Kind};
+
+/// A value of any kind, whose content is not kept. Reading it takes no recursion, and memory only for one bit of each
+/// open container.
+#[derive(Drop)]
+pub struct Ignored {}
+
+impl FromJson for Ignored {
+    ghost means = { ignored_meant };
+
+    fn missing() -> Option<Ignored> {
+        None
+    }
+
+    fn read<'a>(token: Event<'a>, source: &mut Source<'a>) -> Result<Ignored> {
+        skip(token, source)?;
+        Ok(Ignored {})
+    }
+}
+
+/// Skips one value, whose first token is `token`. Returns `Invalid` if no beginning of the text spells a value.
+fn skip<'a>(token: Event<'a>, source: &mut Source<'a>) -> Result<()>
+    requires going { source.old.refused ≡ None }
+    requires event { IsTreeEvent (front_of token source.old.scratch) }
+    ensures going { IfOk result (λ _. source.new.refused ≡ None) }
+    ensures ok { IfOk result (λ _. (t : Tree)
+        × ValueAt t (front_of token.entry source.old.scratch) source.old.rest source.new.rest) }
+    ensures invalid { result ≡ Err Error.Invalid → (t : Tree) (r : List ℕ)
+        → ValueAt t (front_of token.entry source.old.scratch) source.old.rest r → ⊥ }
+{
+    let mut stack = Stack::new(source.alloc());
+    let mut first = stack.enter(token)?;
+    while let Some(kind) = stack.top() {
+        first = turn(source, &mut stack, kind, first)?;
+    }
+    Ok(())
+}
+
+/// Takes the closing bracket of the innermost container, or the tokens up to the first one of its next child. Returns
+/// whether that token opened a container. `first` says that the opening bracket was just taken.
+fn turn<'a>(source: &mut Source<'a>, stack: &mut Stack, kind: Kind, first: bool) -> Result<bool>
+    requires inside { innermost stack.old ≡ Some (kind_of kind) }
+    requires going { source.old.refused ≡ None }
+    ensures going { IfOk result (λ _. source.new.refused ≡ None) }
+    ensures less { IfOk result (λ _. length source.new.rest < length source.old.rest) }
+    ensures reaches { IfOk result (λ opened.
+        Reaches (between first) stack.old source.old.rest (between opened) stack.new source.new.rest) }
+    ensures invalid { result ≡ Err Error.Invalid → NeverRuns (between first) stack.old source.old.rest }
+{
+    match source.after(kind, first)? {
+        After::Close => {
+            stack.pop();
+            Ok(false)
+        }
+        After::Next => match kind {
+            Kind::Seq => begin(source, stack),
+            Kind::Map => {
+                source.key()?;
+                begin(source, stack)
+            }
+        },
+    }
+}
+
+/// Takes the first token of a value. Returns whether it opened a container.
+#[inline(always)]
+fn begin<'a>(source: &mut Source<'a>, stack: &mut Stack) -> Result<bool>
+    requires { source.old.refused ≡ None }
+    ensures going { IfOk result (λ _. source.new.refused ≡ None) }
+    ensures less { IfOk result (λ _. length source.new.rest < length source.old.rest) }
+    ensures reaches { IfOk result (λ opened.
+        Reaches due stack.old source.old.rest (between opened) stack.new source.new.rest) }
+    ensures invalid { result ≡ Err Error.Invalid → NeverRuns due stack.old source.old.rest }
+{
+    let token = source.token()?;
+    stack.enter(token)
+}

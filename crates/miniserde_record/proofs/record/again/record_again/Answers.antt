@@ -1,0 +1,20 @@
+-- The values that the fields' trees mean make a struct that the struct's tree means.
+use Rattle.std.proofs.Common.{◌≡◌, true, sym, ap, subst}
+use Rattle.miniserde_model.specs.Tree.{members}
+use Rattle.miniserde_record.specs.Structs.{are_names}
+use Rattle.miniserde_record.specs.Structs.{with_names}
+use Rattle.miniserde_record.proofs.record.again.record_again.Goals as goal
+
+pub returns : goal.returns
+returns g c = λ v r.
+    let s = g.S.Record in
+    let f = g.S.Values.AgainFields in
+    let a = c.again.ensures s.names (s.values v) (subst (λ k. are_names k s.names ≡ true) c.requires g.met.S.Record.named) r in
+    let same = sym (g.met.S.Record.whole.1 a.0.0) in (
+      (
+        s.made a.0.0,
+        subst f.real same a.0.1,
+        subst (f.meaning.reads s.names (with_names s.names (f.trees (s.values v)))) same a.0.2,
+      ),
+      λ w q h. ap (λ ts. members (with_names s.names ts)) (a.1 (s.values w) q h),
+    )

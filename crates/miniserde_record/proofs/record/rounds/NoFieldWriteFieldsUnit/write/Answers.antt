@@ -1,9 +1,0 @@
-use Rattle.std.proofs.Common.{map, sym, append-nil}
-use Rattle.miniserde_record.proofs.Rounds.{with_names_none, no_text}
-use Rattle.miniserde_record.proofs.record.rounds.NoFieldWriteFieldsUnit.write.Goals as goal
-
-pub returns-clause-ok : goal.returns-clause-ok
-returns-clause-ok c = rw (with_names_none (map (λ n. n.now) c.args._names.now), no_text c.args._w.now.first) (sym (append-nil _))
-
-pub returns-clause-are_trees : goal.returns-clause-are_trees
-returns-clause-are_trees c = rw (with_names_none (map (λ n. n.now) c.args._names.now)) tt

@@ -1,0 +1,100 @@
+-- The meaning of fields that are collected from events, and so of a struct's place.
+use Rattle.std.specs.Prelude.{◌≡◌, refl, ◌||◌, Bool, true, false, cond, List, Option, Some, None, option_map}
+use Rattle.miniserde_model.specs.Tree.{Tree}
+use Rattle.miniserde_model.specs.Event.{Event, events}
+use Rattle.miniserde_place.specs.Place.{Shown, Meaning}
+use Rattle.miniserde_place.specs.Container.{Gathering, joining}
+use Rattle.miniserde_read.specs.meaning.Objects.{Name, object_of}
+use Rattle.miniserde_de.specs.Objects.{object_rules}
+use Rattle.miniserde_de.specs.Tied.{meant_by}
+use Rattle.miniserde_de.specs.laws.Objects.{object-meant}
+use Rattle.miniserde_record.specs.Fields.{field_member, field_refuses, StructReads}
+use Rattle.miniserde_record.specs.FieldsMeant.{FieldsMeant, no_fields, field_and, fields_once}
+use Rattle.miniserde_record.specs.laws.Fields.{field-meant}
+use Rattle.miniserde_record.specs.laws.Meanings.{struct-given}
+use Rattle.miniserde_record.specs.laws.Repeats.{none-refused, field-refused, once-refused, once-meant}
+
+-- the meaning of fields: F are the fields so far, with the place of the current one, and V the values of all of them
+pub record FieldsMeaning (F V : Type 0) : Type 1 where
+  -- the meaning without events
+  pub meant : FieldsMeant V
+  -- the content of the values so far
+  pub state : F → meant.State
+  -- the state after one more member, by the fields' names, its name and its events
+  pub by_events : List Name → meant.State → Name → List Event → Option meant.State
+  pub events_agree : (names : List Name) (s : meant.State) (k : Name) (t : Tree) → by_events names s k (events t) ≡ meant.by_tree names s k t
+  -- a member of the name is refused before its value
+  pub refuses : List Name → meant.State → Name → Bool
+  pub refused : (names : List Name) (s : meant.State) (k : Name) → refuses names s k ≡ true → (es : List Event) → by_events names s k es ≡ None
+  -- the view of the current field's place, with the values so far
+  pub child : F → Shown meant.State
+
+-- no field: members of any names are skipped
+abbrev pub no_field_places : {F : Type 0} → (F → Shown (Unit {0})) → FieldsMeaning F (Unit {0})
+no_field_places skipped = record {
+  meant = no_fields;
+  state = λ _. tt;
+  by_events = λ ns s k es. Some tt;
+  events_agree = λ ns s k t. refl;
+  refuses = λ ns s k. false;
+  refused = λ ns s k h es. none-refused (Some tt) h;
+  child = λ f. joining (λ _. Some tt) (skipped f);
+}
+
+-- the view of the current field's place: the first field's, or a later one's
+abbrev pub field_shows : {P A S : Type 0} → (P → Shown A) → Option A → S → Shown S → Option P → Shown (Option A × S)
+field_shows shows v s later None = joining (λ r. Some (v, r)) later
+field_shows shows v s later (Some p) = joining (λ a. Some (Some a, s)) (shows p)
+
+-- a field, and the later ones
+abbrev pub field_place_and : {P T F R V : Type 0} → Meaning P T → Option T → (F → Option T) → (F → Option P) → (F → R) → FieldsMeaning R V → FieldsMeaning F (T × V)
+field_place_and m absent value child rest n = record {
+  meant = field_and (meant_by m) absent n.meant;
+  state = λ f. (option_map m.content (value f), n.state (rest f));
+  by_events = field_member m.from_events n.by_events;
+  events_agree = field-meant m.from_events m.from_tree n.by_events n.meant.by_tree m.events_agree n.events_agree;
+  refuses = field_refuses n.refuses;
+  refused = field-refused m.from_events n.by_events n.refuses n.refused;
+  child = λ f. field_shows m.shows (option_map m.content (value f)) (n.state (rest f)) (n.child (rest f)) (child f);
+}
+
+-- the meaning of a wrapper around fields
+abbrev pub field_places_inside : {F G V : Type 0} → (G → F) → FieldsMeaning F V → FieldsMeaning G V
+field_places_inside inner n = record {
+  meant = n.meant;
+  state = λ g. n.state (inner g);
+  by_events = n.by_events;
+  events_agree = n.events_agree;
+  refuses = n.refuses;
+  refused = n.refused;
+  child = λ g. n.child (inner g);
+}
+
+-- the meaning of a wrapper around fields, of which each takes one member: a duplicate of a field's name is invalid
+abbrev pub field_places_once : {F G V : Type 0} → (G → F) → FieldsMeaning F V → FieldsMeaning G V
+field_places_once inner n = record {
+  meant = fields_once n.meant;
+  state = λ g. n.state (inner g);
+  by_events = λ ns s k es. cond (n.meant.has ns s k) None (n.by_events ns s k es);
+  events_agree = once-meant n.by_events n.meant.by_tree n.meant.has n.events_agree;
+  refuses = λ ns s k. n.meant.has ns s k || n.refuses ns s k;
+  refused = once-refused n.by_events n.meant.has n.refuses n.refused;
+  child = λ g. n.child (inner g);
+}
+
+-- a struct, by the names and the values of its fields
+abbrev pub struct_gathering : {F V C W : Type 0} → FieldsMeaning F V → List Name → (W → V) → (C → F) → Gathering C W
+struct_gathering n names values fields = record {
+  Content = n.meant.Content;
+  content = λ w. n.meant.content (values w);
+  State = n.meant.State;
+  state = λ c. n.state (fields c);
+  empty = n.meant.empty;
+  is_object = true;
+  rules = object_rules (n.by_events names) n.meant.end;
+  from_tree = object_of (n.meant.from_members names n.meant.empty);
+  events_agree = object-meant (n.by_events names) (n.meant.by_tree names) n.meant.end (n.events_agree names) n.meant.empty (n.meant.from_members names n.meant.empty) (n.meant.members_agree names n.meant.empty);
+  reads = StructReads (n.meant.reads names) values;
+  reads_agrees = struct-given (n.meant.reads names) values (n.meant.from_members names n.meant.empty) n.meant.content (n.meant.reads_agrees names);
+  child = λ c. n.child (fields c);
+}

@@ -1,0 +1,107 @@
+//! Lent values, written as an object's members.
+ghost use Rattle.std.specs.Prelude.{◌≡◌, ◌++◌, true, false, List, [], ◌∷◌, OnOk, OnErr, IsErrOf, map};
+ghost use Rattle.miniserde_model.specs.Tree.{Tree, members};
+ghost use Rattle.miniserde_model.specs.Compact.{compact};
+ghost use Rattle.miniserde_model.specs.IsTree.{IsTree, AreNamedTrees};
+ghost use Rattle.miniserde_text.specs.declared.error.Error.TheVariants.{Memory};
+ghost use Rattle.miniserde_record.specs.Structs.{with_names, members_text};
+
+use super::structs::Parts;
+use miniserde_ser::ser::{Serialize, Writer};
+use miniserde_text::error::Result;
+
+/// Lent values, to be written as members.
+pub trait Members {
+    // The trees of the values, in their order.
+    ghost trees: { Self → List Tree };
+
+    /// Writes the members by the names. Returns `Memory` if the text cannot grow.
+    fn write(&self, w: &mut Writer, names: &[&str]) -> Result<()>
+        ensures ok { OnOk result (w.new.text ≡ w.old.text
+            ++ members_text w.old.first (with_names (map (λ n. n.now) names.now) (trees self.now))) }
+        ensures are_trees { OnOk result (AreNamedTrees
+            (with_names (map (λ n. n.now) names.now) (trees self.now))) }
+        ensures whole { OnOk result (w.new.refused ≡ w.old.refused) }
+        ensures memory { OnErr result (IsErrOf result Memory) }
+        ensures err { OnErr result (w.new.refused ≡ true) };
+}
+
+impl Members for () {
+    ghost trees = { λ _. [] };
+
+    fn write(&self, _w: &mut Writer, _names: &[&str]) -> Result<()> {
+        Ok(())
+    }
+}
+
+impl<'a, T: Serialize, M: Members> Members for Parts<&'a T, M> {
+    ghost trees = { λ l. T.tree l.0.now ∷ M.trees l.1 };
+
+    fn write(&self, w: &mut Writer, names: &[&str]) -> Result<()> {
+        match names.split_first() {
+            Some((name, more)) => {
+                w.key(name)?;
+                self.0.begin(w)?;
+                self.1.write(w, more)
+            }
+            None => Ok(()),
+        }
+    }
+}
+
+/// Lent members.
+pub struct Lent<'m, M>(pub &'m M);
+
+impl<'m, M> Drop for Lent<'m, M> {
+    fn drop(self) {
+        let Lent(_) = self;
+    }
+}
+
+impl<'m, M: Members> Members for Lent<'m, M> {
+    ghost trees = { λ l. M.trees l.0.now };
+
+    fn write(&self, w: &mut Writer, names: &[&str]) -> Result<()> {
+        self.0.write(w, names)
+    }
+}
+
+/// Four lent values, and the ones after them.
+pub struct FourLent<'a, A, B, C, D, M>(pub &'a A, pub &'a B, pub &'a C, pub &'a D, pub M);
+
+impl<'a, A, B, C, D, M: Drop> Drop for FourLent<'a, A, B, C, D, M> {
+    fn drop(self) {
+        let FourLent(_, _, _, _, more) = self;
+        drop(more);
+    }
+}
+
+impl<'a, A: Serialize, B: Serialize, C: Serialize, D: Serialize, M: Members> Members
+    for FourLent<'a, A, B, C, D, M> {
+    ghost trees = { λ l. A.tree l.0.now ∷ B.tree l.1.now ∷ C.tree l.2.now ∷ D.tree l.3.now ∷ M.trees l.4 };
+
+    fn write(&self, w: &mut Writer, names: &[&str]) -> Result<()> {
+        Parts(
+            self.0,
+            Parts(self.1, Parts(self.2, Parts(self.3, Lent(&self.4)))),
+        )
+        .write(w, names)
+    }
+}
+
+/// Writes an object of the members, by the names in their order. Returns `Memory` if the text cannot grow.
+pub fn write_members<M: Members>(w: &mut Writer, names: &[&str], values: &M) -> Result<()>
+    ensures ok { OnOk result (w.new.text ≡ w.old.text
+        ++ compact (members (with_names (map (λ n. n.now) names.now) (M.trees values.now)))) }
+    ensures is_tree { OnOk result (IsTree
+        (members (with_names (map (λ n. n.now) names.now) (M.trees values.now)))) }
+    ensures first { OnOk result (w.new.first ≡ false) }
+    ensures whole { OnOk result (w.new.refused ≡ false) }
+    ensures stays { OnOk result (w.old.refused ≡ false) }
+    ensures memory { OnErr result (IsErrOf result Memory) }
+    ensures err { OnErr result (w.new.refused ≡ true) }
+{
+    w.map()?;
+    values.write(w, names)?;
+    w.map_finish()
+}

@@ -1,0 +1,257 @@
+//! Structs that are read from a text, field by field.
+ghost use Rattle.std.specs.Prelude.{◌≡◌, true, Bool, List, ℕ, None, Some, Ok, Err, IfOk, map, is_some, Option};
+ghost use Rattle.std.specs.Option.{option_or};
+ghost use Rattle.miniserde_model.specs.Tree.{Tree};
+ghost use Rattle.miniserde_text.specs.Lexer.{front_of};
+ghost use Rattle.miniserde_text.specs.declared.error.Error.{Error};
+ghost use Rattle.miniserde_read.specs.Rest.{ValueAt};
+ghost use Rattle.miniserde_read.specs.Step.{IsTreeEvent};
+ghost use Rattle.miniserde_record.specs.FieldsMeant.{FieldsMeant, no_fields, field_and, struct_meant};
+ghost use Rattle.miniserde_record.specs.Members.{DueRead, DueRejects};
+
+use super::structs::{Parts, Record};
+use miniserde_read::{FromJson, Ignored, Source};
+use miniserde_text::error::{Error, Result};
+use miniserde_text::json::lex::{Event, Text};
+
+/// Reads the value of a member, after the member's name.
+#[inline(always)]
+fn read_due<'a, T: FromJson>(source: &mut Source<'a>) -> Result<T>
+    requires { source.old.refused ≡ None }
+    ensures going { IfOk result (λ _. source.new.refused ≡ None) }
+    ensures ok { IfOk result (λ v.
+        DueRead T.means.from_tree source.old.rest source.new.rest (T.means.content v)) }
+    ensures invalid { result ≡ Err Error.Invalid → DueRejects T.means.from_tree source.old.rest }
+{
+    let token = source.token()?;
+    T::read(token, source)
+}
+
+/// The values so far of a struct's fields.
+pub trait Slots: Drop {
+    /// The fields' values, in their order.
+    type Values;
+
+    // The meaning of the fields.
+    ghost meaning: { FieldsMeant Self.Values };
+
+    // The content of the values so far.
+    ghost state: { Self → meaning.State };
+
+    /// Returns slots without values.
+    fn new() -> Self
+        ensures { state result ≡ meaning.empty };
+
+    /// Returns whether the field of the name has a value.
+    fn has_value(&self, names: &[&str], name: &str) -> bool
+        ensures { result ≡ meaning.has (map (λ n. n.now) names.now) (state self.now) name.now };
+
+    /// Reads the value of a member of the name. Returns `Invalid` if no beginning of the text spells a value that the
+    /// field of the name accepts.
+    fn read_member<'a>(&mut self, names: &[&str], name: &str, source: &mut Source<'a>) -> Result<()>
+        requires { source.old.refused ≡ None }
+        ensures going { IfOk result (λ _. source.new.refused ≡ None) }
+        ensures ok { IfOk result (λ _.
+            DueRead (meaning.by_tree (map (λ n. n.now) names.now) (state self.old) name.now)
+            source.old.rest source.new.rest (state self.new)) }
+        ensures invalid { result ≡ Err Error.Invalid
+            → DueRejects (meaning.by_tree (map (λ n. n.now) names.now) (state self.old) name.now) source.old.rest };
+
+    /// Returns whether each field has a value or a default.
+    fn are_whole(&self) -> bool
+        ensures { result ≡ is_some (meaning.end (state self.now)) };
+
+    /// Returns the values of the fields, each of which has one or a default.
+    fn values(self) -> Self::Values
+        requires whole { is_some (meaning.end (state self)) ≡ true }
+        ensures { meaning.end (state self) ≡ Some (meaning.content result) };
+}
+
+/// No more fields: members of any other names are skipped.
+#[derive(Drop)]
+pub struct NoSlot {}
+
+impl Slots for NoSlot {
+    type Values = ();
+
+    ghost meaning = { no_fields };
+
+    ghost state = { λ _. tt };
+
+    fn new() -> NoSlot {
+        NoSlot {}
+    }
+
+    fn has_value(&self, _names: &[&str], _name: &str) -> bool {
+        false
+    }
+
+    fn read_member<'a>(
+        &mut self,
+        _names: &[&str],
+        _name: &str,
+        source: &mut Source<'a>,
+    ) -> Result<()> {
+        let _skipped = read_due::<Ignored>(source)?;
+        Ok(())
+    }
+
+    fn are_whole(&self) -> bool {
+        true
+    }
+
+    fn values(self) {}
+}
+
+/// A field, and the ones after it.
+#[derive(Drop)]
+pub struct Slot<T, R> {
+    value: Option<T>,
+    rest: R,
+}
+
+// Returns the value, or the value of a missing field.
+pub(crate) fn or_missing<T: FromJson>(value: Option<T>) -> Option<T>
+    ensures { result ≡ option_or value T.absent }
+{
+    match value {
+        Some(value) => Some(value),
+        None => T::missing(),
+    }
+}
+
+impl<T: FromJson, R: Slots> Slots for Slot<T, R> {
+    ghost use Rattle.std.specs.Prelude.{option_map};
+
+    type Values = Parts<T, R::Values>;
+
+    ghost meaning = { field_and T.means T.absent R.meaning };
+
+    ghost state = { λ f. (option_map T.means.content f.value, R.state f.rest) };
+
+    fn new() -> Slot<T, R> {
+        Slot {
+            value: None,
+            rest: R::new(),
+        }
+    }
+
+    fn has_value(&self, names: &[&str], name: &str) -> bool {
+        match names.split_first() {
+            Some((first, _)) if name == *first => self.value.is_some(),
+            Some((_, more)) => self.rest.has_value(more, name),
+            None => self.rest.has_value(names, name),
+        }
+    }
+
+    #[inline(always)]
+    fn read_member<'a>(
+        &mut self,
+        names: &[&str],
+        name: &str,
+        source: &mut Source<'a>,
+    ) -> Result<()> {
+        match names.split_first() {
+            Some((first, more)) => {
+                if name == *first {
+                    self.value = Some(read_due(source)?);
+                    Ok(())
+                } else {
+                    self.rest.read_member(more, name, source)
+                }
+            }
+            None => self.rest.read_member(names, name, source),
+        }
+    }
+
+    fn are_whole(&self) -> bool {
+        (self.value.is_some() || T::missing().is_some()) && self.rest.are_whole()
+    }
+
+    fn values(self) -> Parts<T, R::Values> {
+        let Slot { value, rest } = self;
+        Parts(or_missing(value).unwrap(), rest.values())
+    }
+}
+
+/// Four fields, and the ones after them. A check of nested slots takes time for each slot that it passes, and for each
+/// four here.
+#[derive(Drop)]
+pub struct FourSlot<A, B, C, D, R> {
+    slots: Slot<A, Slot<B, Slot<C, Slot<D, R>>>>,
+}
+
+impl<A: FromJson, B: FromJson, C: FromJson, D: FromJson, R: Slots> Slots
+    for FourSlot<A, B, C, D, R> {
+    type Values = Parts<A, Parts<B, Parts<C, Parts<D, R::Values>>>>;
+
+    ghost meaning = { field_and A.means A.absent
+        (field_and B.means B.absent (field_and C.means C.absent (field_and D.means D.absent R.meaning))) };
+
+    ghost state = { λ f. ⟦<Slot<A, Slot<B, Slot<C, Slot<D, R>>>> as Slots>⟧.state f.slots };
+
+    fn new() -> FourSlot<A, B, C, D, R> {
+        FourSlot {
+            slots: <Slot<A, Slot<B, Slot<C, Slot<D, R>>>> as Slots>::new(),
+        }
+    }
+
+    fn has_value(&self, names: &[&str], name: &str) -> bool {
+        self.slots.has_value(names, name)
+    }
+
+    fn read_member<'a>(
+        &mut self,
+        names: &[&str],
+        name: &str,
+        source: &mut Source<'a>,
+    ) -> Result<()> {
+        self.slots.read_member(names, name, source)
+    }
+
+    fn are_whole(&self) -> bool {
+        self.slots.are_whole()
+    }
+
+    fn values(self) -> Parts<A, Parts<B, Parts<C, Parts<D, R::Values>>>> {
+        let FourSlot { slots } = self;
+        slots.values()
+    }
+}
+
+/// Reads a struct, whose first token is `token`.
+pub fn read_record<'a, S: Record, F: Slots<Values = S::Values>>(
+    token: Event<'a>,
+    source: &mut Source<'a>,
+) -> Result<S>
+    requires going { source.old.refused ≡ None }
+    requires event { IsTreeEvent (front_of token source.old.scratch) }
+    ensures going { IfOk result (λ _. source.new.refused ≡ None) }
+    ensures ok { IfOk result (λ v. (t : Tree)
+        × ValueAt t (front_of token.entry source.old.scratch) source.old.rest source.new.rest
+        × ((struct_meant F.meaning S.names S.values).from_tree t
+        ≡ Some ((struct_meant F.meaning S.names S.values).content v))) }
+    ensures invalid { result ≡ Err Error.Invalid → (t : Tree) (r : List ℕ)
+        → ValueAt t (front_of token.entry source.old.scratch) source.old.rest r
+        → (struct_meant F.meaning S.names S.values).from_tree t ≡ None }
+{
+    let Event::MapStart = token else {
+        return Err(Error::Invalid);
+    };
+    let mut fields = F::new();
+    let mut first = true;
+    while let Some(name) = source.name(first)? {
+        match name {
+            Text::Input(name) => fields.read_member(S::names(), name, source)?,
+            Text::Scratch => {
+                let name = source.take_scratch();
+                fields.read_member(S::names(), name.as_str(), source)?;
+            }
+        }
+        first = false;
+    }
+    if !fields.are_whole() {
+        return Err(Error::Invalid);
+    }
+    Ok(S::build(fields.values()))
+}

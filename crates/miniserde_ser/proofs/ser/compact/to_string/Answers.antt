@@ -1,0 +1,14 @@
+-- The writer began empty, so its text is the compact text of the tree, which spells it.
+use Rattle.std.proofs.Common.{◌≡◌, ◌++◌, sym, ap, subst, ◌∙◌, string_bytes}
+use Rattle.std.proofs.lemmas.Result.{IfOk-weaker}
+use Rattle.miniserde_model.specs.Value.{IsJson}
+use Rattle.miniserde_model.specs.Compact.{compact}
+use Rattle.miniserde_model.proofs.Written.{written}
+use Rattle.miniserde_ser.proofs.ser.compact.to_string.Goals as goal
+
+pub returns-clause-spells : goal.returns-clause-spells
+returns-clause-spells g c =
+    let t = g.T.Serialize.tree c.args.value.now in
+    let e : c.begin.new.w.text ≡ compact t = c.in_ok-begin.ensures.ok ∙ ap (λ w. w.text ++ compact t) c.new-w.ensures in
+    IfOk-weaker c.into_string.result (λ s. string_bytes s ≡ c.begin.new.w.text) (λ s. IsJson (string_bytes s) t)
+    (λ s h. subst (λ z. IsJson z t) (sym (h ∙ e)) (written t c.in_ok-begin.ensures.is_tree)) c.into_string.ensures.ok

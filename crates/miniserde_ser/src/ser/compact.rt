@@ -1,0 +1,21 @@
+//! Values as compact text.
+ghost use Rattle.std.specs.Prelude.{◌≡◌, IfOk, OnErr, IsErrOf, string_bytes};
+ghost use Rattle.miniserde_model.specs.Compact.{compact};
+ghost use Rattle.miniserde_model.specs.Value.{IsJson};
+ghost use Rattle.miniserde_text.specs.declared.error.Error.TheVariants.{Memory};
+
+use super::{Serialize, Writer};
+use miniserde_text::error::Result;
+use std::alloc::Global;
+
+/// Serializes a value as compact text: no whitespace, each string by the escape rule. Returns `Memory` if the text
+/// cannot grow.
+pub fn to_string<T: Serialize>(alloc: Global, value: &T) -> Result<String>
+    ensures ok { IfOk result (λ s. string_bytes s ≡ compact (T.tree value.now)) }
+    ensures spells { IfOk result (λ s. IsJson (string_bytes s) (T.tree value.now)) }
+    ensures memory { OnErr result (IsErrOf result Memory) }
+{
+    let mut w = Writer::new(alloc);
+    value.begin(&mut w)?;
+    w.into_string()
+}

@@ -1,0 +1,168 @@
+-- The tree of a document means a document, and each that it means has that tree.
+use Rattle.std.proofs.Common.{◌≡◌, ℕ, pos, negsuc, List, [], ◌∷◌, length, String, refl, sym, ap, ap₂, ◌∙◌, arith}
+use Rattle.std.specs.Prelude.{⊤, string_bytes}
+use Rattle.std.specs.Map.{values_of}
+use Rattle.std.specs.Vec.{with_items as refilled}
+use Rattle.std.specs.declared.alloc.Global.{Global}
+use Rattle.std.specs.declared.cmp.Ordering.{Ordering}
+use Rattle.std.specs.declared.cmp.Ordering.TheVariants.{Less, Equal, Greater}
+use Rattle.std.proofs.lemmas.List.{with_items_is}
+use Rattle.std_collections.specs.Layout.BTreeMap.{with_entries}
+use Rattle.miniserde_model.specs.Tree.{Tree, null, truth, nonneg, neg, num, str, list, members, Trees, no_trees, tree, Members, no_members, member}
+use Rattle.miniserde_model.specs.Normal.{text_cmp, placed, with_first, norm, norm_children, norm_members}
+use Rattle.miniserde_model.proofs.Distinct.{norm_distinct}
+use Rattle.miniserde_model.proofs.Lookups.{norm_rises}
+use Rattle.miniserde_model.proofs.Normal.{norm_twice}
+use Rattle.miniserde_ser.specs.Trees.{trees_of, members_of}
+use Rattle.miniserde_value.specs.declared.json.number.Number.{Number}
+use Rattle.miniserde_value.specs.declared.json.number.Number.TheVariants.{U64, I64, Text}
+use Rattle.miniserde_value.specs.declared.json.value.Value.{Value, out-Value}
+use Rattle.miniserde_value.specs.declared.json.value.Value as Value
+use Rattle.miniserde_value.specs.declared.json.value.Value.TheOpen.{Value-F}
+use Rattle.miniserde_value.specs.declared.json.array.Array.{Array}
+use Rattle.miniserde_value.specs.declared.json.object.Object.{Object}
+use Rattle.miniserde_value.specs.declared.json.unique.Unique.{Unique}
+use Rattle.miniserde_value.specs.Fronts.{IsOrdered, AreOrdered, AreOrderedMembers}
+use Rattle.miniserde_value.specs.Kept.{kept}
+use Rattle.miniserde_value.specs.Numbers.{number_leaf, ReadsNumber}
+use Rattle.miniserde_value.specs.Values.{array_items, object_entries, object_values, with_items, with_members, below, children, shape, array_shape, object_shape, Reads}
+use Rattle.miniserde_value.proofs.Kepts.{norm_kept, kept_ordered}
+use Rattle.miniserde_value.proofs.Shapes.{level, shape_out, shape_number, shape_array, shape_object}
+use Rattle.miniserde_value.proofs.Trees.{Each, tree_ind}
+use Rattle.miniserde_value.specs.Meanings.{ReadsUnique}
+use Rattle.miniserde_round.specs.RoundTrip.{ReadsAgain}
+
+-- what is kept of a normal form has that normal form
+same : (s t : Tree) → s ≡ kept (norm t) → norm s ≡ norm t
+same s t e = ap norm e ∙ norm_kept (norm t) ∙ norm_twice t
+
+-- ---- a normal form is kept as it is
+
+ordered_placed : (o : Ordering) (name : List ℕ) (t : Tree) (other : List ℕ) (u : Tree) (ms more : Members) → IsOrdered t → IsOrdered u → AreOrderedMembers ms → AreOrderedMembers more → AreOrderedMembers (placed o name t other u ms more)
+ordered_placed Less name t other u ms more p q r s = (p, (q, r))
+ordered_placed Equal name t other u ms more p q r s = (q, r)
+ordered_placed Greater name t other u ms more p q r s = (q, s)
+
+ordered_with_first : (name : List ℕ) (t : Tree) (ms : Members) → IsOrdered t → AreOrderedMembers ms → AreOrderedMembers (with_first name t ms)
+ordered_with_first name t no_members p r = (p, tt)
+ordered_with_first name t (member other u ms) p r = ordered_placed (text_cmp name other) name t other u ms (with_first name t ms) p r.0 r.1 (ordered_with_first name t ms p r.1)
+
+mutual
+  norm_ordered : (t : Tree) → IsOrdered (norm t)
+  norm_ordered null = tt
+  norm_ordered (truth b) = tt
+  norm_ordered (nonneg n) = tt
+  norm_ordered (neg (pos n)) = tt
+  norm_ordered (neg (negsuc n)) = tt
+  norm_ordered (num x) = tt
+  norm_ordered (str s) = tt
+  norm_ordered (list ts) = norm_ordered_children ts
+  norm_ordered (members ms) = (norm_rises ms, norm_ordered_members ms)
+
+  norm_ordered_children : (ts : Trees) → AreOrdered (norm_children ts)
+  norm_ordered_children no_trees = tt
+  norm_ordered_children (tree t ts) = (norm_ordered t, norm_ordered_children ts)
+
+  norm_ordered_members : (ms : Members) → AreOrderedMembers (norm_members ms)
+  norm_ordered_members no_members = tt
+  norm_ordered_members (member name t ms) = ordered_with_first name (norm t) (norm_members ms) (norm_ordered t) (norm_ordered_members ms)
+
+kept_norm : (t : Tree) → norm t ≡ kept (norm t)
+kept_norm t = sym (kept_ordered (norm t) (norm_ordered t))
+
+-- ---- a document of the normal form
+
+normal_number : (n : Number) → (m : Number) × (number_leaf m ≡ norm (number_leaf n))
+normal_number (U64 n) = (U64 n, refl)
+normal_number (I64 (pos n)) = (U64 n, refl)
+normal_number (I64 (negsuc n)) = (I64 (negsuc n), refl)
+normal_number (Text x) = (Text x, refl)
+
+-- a value of the normal form
+abbrev Normal : Value → Type 0
+Normal v = (w : Value) × (shape w ≡ norm (shape v))
+
+normal_items : (vs : List Value) → Each Normal vs → (ws : List Value) × (length ws ≡ length vs) × (trees_of shape ws ≡ norm_children (trees_of shape vs))
+normal_items [] h = ([], refl, refl)
+normal_items (v ∷ vs) h = let r = normal_items vs h.1 in (h.0.0 ∷ r.0, omega (arith, r.1), ap₂ tree h.0.1 r.2)
+
+normal_array : (a : Array) → Each Normal (array_items a) → (b : Array) × (array_shape b ≡ norm (array_shape a))
+normal_array a h =
+    let r = normal_items (array_items a) h in
+    (with_items (refilled a.items r.0), ap list (ap (trees_of shape) (with_items_is a.items r.0 (r.1 ∙ sym a.items.ok.0)) ∙ r.2))
+
+abbrev Entries : Type 0
+Entries = List (String Global × Value)
+
+abbrev shown : Entries → Members
+shown es = members_of string_bytes shape es
+
+-- one more entry in the place of its name
+placed_entry : (e : String Global × Value) (es : Entries) → (fs : Entries) × (shown fs ≡ with_first (string_bytes e.0) (shape e.1) (shown es))
+placed_entry e [] = (e ∷ [], refl)
+placed_entry e (g ∷ es) = elim (text_cmp (string_bytes e.0) (string_bytes g.0)) as (λ o. (fs : Entries) × (shown fs ≡ placed o (string_bytes e.0) (shape e.1) (string_bytes g.0) (shape g.1) (shown es) (with_first (string_bytes e.0) (shape e.1) (shown es)))) [
+  | Less ↦ (e ∷ g ∷ es, refl)
+  | Equal ↦ (g ∷ es, refl)
+  | Greater ↦ let r = placed_entry e es in (g ∷ r.0, ap (member (string_bytes g.0) (shape g.1)) r.1)
+]
+
+normal_entries : (es : Entries) → Each Normal (values_of es) → (fs : Entries) × (shown fs ≡ norm_members (shown es))
+normal_entries [] h = ([], refl)
+normal_entries (e ∷ es) h =
+    let r = normal_entries es h.1 in
+    let p = placed_entry (e.0, h.0.0) r.0 in
+    (p.0, p.1 ∙ ap₂ (with_first (string_bytes e.0)) h.0.1 r.1)
+
+normal_object : (o : Object) → Each Normal (object_values o) → (p : Object) × (object_shape p ≡ norm (object_shape o))
+normal_object o h = let r = normal_entries (object_entries o) h in (with_members (with_entries o.members r.0), ap members r.1)
+
+normal_step : (v : Value) → Each Normal (children v) → Normal v
+normal_step v = go (out-Value v) refl
+  where
+    -- a value of the normal form of this level
+    given : (x : Value-F Value Array Object) → out-Value v ≡ x → (w : Value) → shape w ≡ norm (level x) → Normal v
+    given x e w s = (w, s ∙ sym (ap norm (shape_out v ∙ ap level e)))
+
+    go : (x : Value-F Value Array Object) → out-Value v ≡ x → Each Normal (below x) → Normal v
+    go Value-F.Null e h = given Value-F.Null e v (shape_out v ∙ ap level e)
+    go (Value-F.Bool b) e h = given (Value-F.Bool b) e v (shape_out v ∙ ap level e)
+    go (Value-F.String s) e h = given (Value-F.String s) e v (shape_out v ∙ ap level e)
+    go (Value-F.Number n) e h = let m = normal_number n in given (Value-F.Number n) e (Value.Number m.0) (shape_number m.0 ∙ m.1)
+    go (Value-F.Array a) e h = let b = normal_array a h in given (Value-F.Array a) e (Value.Array b.0) (shape_array b.0 ∙ b.1)
+    go (Value-F.Object o) e h = let p = normal_object o h in given (Value-F.Object o) e (Value.Object p.0) (shape_object p.0 ∙ p.1)
+
+normal : (v : Value) → Normal v
+normal = tree_ind Normal normal_step
+
+all_normal : (vs : List Value) → Each Normal vs
+all_normal [] = tt
+all_normal (v ∷ vs) = (normal v, all_normal vs)
+
+-- ---- documents
+
+pub again-number : (n : Number) → ReadsAgain (λ _. ⊤) (λ n. norm (number_leaf n)) ReadsNumber (norm (number_leaf n))
+again-number (U64 n) = ((U64 n, tt, refl), λ w r e. rw e refl)
+again-number (I64 (pos n)) = ((U64 n, tt, refl), λ w r e. rw e refl)
+again-number (I64 (negsuc n)) = ((I64 (negsuc n), tt, refl), λ w r e. rw e refl)
+again-number (Text x) = ((Text x, tt, refl), λ w r e. rw e refl)
+
+pub again-value : (v : Value) → ReadsAgain (λ _. ⊤) (λ v. norm (shape v)) Reads (norm (shape v))
+again-value v =
+    let n = normal v in
+    ((n.0, tt, n.1 ∙ kept_norm (shape v)), λ w r e. same (shape w) (shape v) e)
+
+pub again-array : (a : Array) → ReadsAgain (λ _. ⊤) (λ a. norm (array_shape a)) (λ t a. array_shape a ≡ kept t) (norm (array_shape a))
+again-array a =
+    let n = normal_array a (all_normal (array_items a)) in
+    ((n.0, tt, n.1 ∙ kept_norm (array_shape a)), λ w r e. same (array_shape w) (array_shape a) e)
+
+pub again-object : (o : Object) → ReadsAgain (λ _. ⊤) (λ o. norm (object_shape o)) (λ t o. object_shape o ≡ kept t) (norm (object_shape o))
+again-object o =
+    let n = normal_object o (all_normal (object_values o)) in
+    ((n.0, tt, n.1 ∙ kept_norm (object_shape o)), λ w r e. same (object_shape w) (object_shape o) e)
+
+-- in a normal form no name stands twice
+pub again-unique : (u : Unique) → ReadsAgain (λ _. ⊤) (λ u. norm (shape u.value)) ReadsUnique (norm (shape u.value))
+again-unique u =
+    let n = normal u.value in
+    ((record { value = n.0 }, tt, (norm_distinct (shape u.value), n.1 ∙ kept_norm (shape u.value))), λ w r e. same (shape w.value) (shape u.value) e.1)

@@ -1,0 +1,41 @@
+//! Documents that read back as they were written.
+
+use super::array::Array;
+use super::number::Number;
+use super::object::Object;
+use super::unique::Unique;
+use super::value::Value;
+use miniserde_round::{NeverNull, RoundTrip};
+
+// An `I64` of at least 0 is written as the `U64` of that number, and reads back as one.
+impl RoundTrip for Number {
+    fn again() {}
+}
+
+impl RoundTrip for Value {
+    fn again() {}
+}
+
+impl RoundTrip for Array {
+    fn again() {}
+}
+
+impl RoundTrip for Object {
+    fn again() {}
+}
+
+impl RoundTrip for Unique {
+    fn again() {}
+}
+
+impl NeverNull for Number {
+    fn never_null() {}
+}
+
+impl NeverNull for Array {
+    fn never_null() {}
+}
+
+impl NeverNull for Object {
+    fn never_null() {}
+}
