@@ -16,8 +16,8 @@ pub use Rattle.miniserde_model.specs.Value
 pub use Rattle.miniserde_model.specs.Whitespace
 pub use Rattle.miniserde_text.specs.Error
 pub use Rattle.miniserde_text.specs.Lexer
-pub use Rattle.miniserde_keys.specs.Keys
-pub use Rattle.miniserde_keys.specs.Ranged
+pub use Rattle.miniserde_text.specs.Keys
+pub use Rattle.miniserde_text.specs.Ranged
 pub use Rattle.miniserde_read.specs.Meant
 pub use Rattle.miniserde_read.specs.Rest
 pub use Rattle.miniserde_read.specs.Source

@@ -1,6 +1,7 @@
 //! JSON text.
 
-pub use miniserde_json::json::{canonical, canonical_both, canonical_unique, feed};
+pub use miniserde_json::json::{canonical, canonical_both, canonical_unique};
+pub use miniserde_place::feed;
 pub use miniserde_read::from_str;
 pub use miniserde_ser::ser::to_string;
 pub use miniserde_text::json::lex;

@@ -14,7 +14,7 @@ mod impls;
 pub use impls::{
     ArrayPlace, BTreeMapPlace, BoxPlace, HashMapPlace, OptionPlace, PairPlace, VecPlace,
 };
-pub use miniserde_keys::{MapKey, Ranged, WholeKey};
+pub use miniserde_text::{MapKey, Ranged, WholeKey};
 pub use miniserde_place::de::leaf::{BoolPlace, IntegerPlace, StringPlace, UnitPlace};
 pub use miniserde_place::de::{Ignore, Step, Visitor, container, ignore, leaf};
 pub use miniserde_read::{FromJson, Ignored, Source};

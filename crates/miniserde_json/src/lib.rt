@@ -1,6 +1,4 @@
-//! The engine of `miniserde`: JSON text into values of Rust, and values into text.
+//! Canonical texts.
 #![tactic(auto)]
 
 pub mod json;
-#[cfg(test)]
-mod tests;

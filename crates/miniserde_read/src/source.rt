@@ -58,11 +58,12 @@ impl<'a> Source<'a> {
     /// Takes whitespace and the first token of a value.
     #[inline(always)]
     pub fn token(&mut self) -> Result<Event<'a>>
-        requires { self.old.refused ≡ None }
         ensures going { IfOk result (λ _. self.new.refused ≡ None) }
         ensures ok { IfOk result (λ e. Starts self.old.rest (front_of e self.new.scratch) self.new.rest) }
-        ensures invalid { result ≡ Err Error.Invalid
+        ensures invalid { result ≡ Err Error.Invalid → self.old.refused ≡ None
             → (e : event.Event) (r : List ℕ) → Starts self.old.rest e r → ⊥ }
+        ensures err { IfErr result (λ e. self.new.refused ≡ Some e) }
+        ensures kept { IfSome self.old.refused (λ e. result ≡ Err e) }
     {
         self.lexer.start(&mut self.scratch)
     }
@@ -71,11 +72,12 @@ impl<'a> Source<'a> {
     /// that the opening bracket was just taken.
     #[inline(always)]
     pub fn element(&mut self, first: bool) -> Result<Option<Event<'a>>>
-        requires { self.old.refused ≡ None }
         ensures going { IfOk result (λ _. self.new.refused ≡ None) }
         ensures ok { IfOk result (λ o. ElementFollows o self.new.scratch first self.old.rest self.new.rest) }
-        ensures invalid { result ≡ Err Error.Invalid
+        ensures invalid { result ≡ Err Error.Invalid → self.old.refused ≡ None
             → (ts : Trees) (r : List ℕ) → ElementsAt ts first self.old.rest r → ⊥ }
+        ensures err { IfErr result (λ e. self.new.refused ≡ Some e) }
+        ensures kept { IfSome self.old.refused (λ e. result ≡ Err e) }
     {
         match self.lexer.after(Kind::Seq, first)? {
             After::Close => Ok(None),
@@ -87,11 +89,12 @@ impl<'a> Source<'a> {
     /// says that the opening bracket was just taken.
     #[inline(always)]
     pub fn name(&mut self, first: bool) -> Result<Option<Text<'a>>>
-        requires { self.old.refused ≡ None }
         ensures going { IfOk result (λ _. self.new.refused ≡ None) }
         ensures ok { IfOk result (λ o. NameFollows o self.new.scratch first self.old.rest self.new.rest) }
-        ensures invalid { result ≡ Err Error.Invalid
+        ensures invalid { result ≡ Err Error.Invalid → self.old.refused ≡ None
             → (ms : Members) (r : List ℕ) → MembersAt ms first self.old.rest r → ⊥ }
+        ensures err { IfErr result (λ e. self.new.refused ≡ Some e) }
+        ensures kept { IfSome self.old.refused (λ e. result ≡ Err e) }
     {
         match self.lexer.after(Kind::Map, first)? {
             After::Close => Ok(None),
@@ -103,11 +106,12 @@ impl<'a> Source<'a> {
     /// bracket was just taken; no comma is before the first child.
     #[inline(always)]
     pub fn after(&mut self, kind: Kind, first: bool) -> Result<After>
-        requires { self.old.refused ≡ None }
         ensures going { IfOk result (λ _. self.new.refused ≡ None) }
         ensures ok { IfOk result (λ a. Follows (kind_of kind) first (closes a) self.old.rest self.new.rest) }
-        ensures invalid { result ≡ Err Error.Invalid
+        ensures invalid { result ≡ Err Error.Invalid → self.old.refused ≡ None
             → (a : Bool) (r : List ℕ) → Follows (kind_of kind) first a self.old.rest r → ⊥ }
+        ensures err { IfErr result (λ e. self.new.refused ≡ Some e) }
+        ensures kept { IfSome self.old.refused (λ e. result ≡ Err e) }
     {
         self.lexer.after(kind, first)
     }
@@ -115,20 +119,23 @@ impl<'a> Source<'a> {
     /// Takes a member's name and its colon.
     #[inline(always)]
     pub fn key(&mut self) -> Result<Text<'a>>
-        requires { self.old.refused ≡ None }
         ensures going { IfOk result (λ _. self.new.refused ≡ None) }
         ensures ok { IfOk result (λ t. Names self.old.rest (text_of t self.new.scratch) self.new.rest) }
-        ensures invalid { result ≡ Err Error.Invalid → (n r : List ℕ) → Names self.old.rest n r → ⊥ }
+        ensures invalid { result ≡ Err Error.Invalid → self.old.refused ≡ None
+            → (n r : List ℕ) → Names self.old.rest n r → ⊥ }
+        ensures err { IfErr result (λ e. self.new.refused ≡ Some e) }
+        ensures kept { IfSome self.old.refused (λ e. result ≡ Err e) }
     {
         self.lexer.name(&mut self.scratch)
     }
 
     /// Checks that only whitespace is left.
     pub fn end(&mut self) -> Result<()>
-        requires { self.old.refused ≡ None }
         ensures ok { IfOk result (λ _. IsWhitespace self.old.rest) }
-        ensures invalid { result ≡ Err Error.Invalid → IsWhitespace self.old.rest → ⊥ }
-        ensures only { IfErr result (λ e. e ≡ Error.Invalid) }
+        ensures invalid { result ≡ Err Error.Invalid → self.old.refused ≡ None → IsWhitespace self.old.rest → ⊥ }
+        ensures only { IfErr result (λ e. self.old.refused ≡ None → e ≡ Error.Invalid) }
+        ensures err { IfErr result (λ e. self.new.refused ≡ Some e) }
+        ensures kept { IfSome self.old.refused (λ e. result ≡ Err e) }
     {
         self.lexer.end()
     }

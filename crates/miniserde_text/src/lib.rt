@@ -1,8 +1,11 @@
-//! The floor of texts: the two refusals of the library, the lexer of JSON text, and numbers that are kept as text.
+//! The texts of JSON: the two errors of the library, the lexer, numbers that are kept as text, and keys of maps.
 #![tactic(auto)]
 
 pub mod error;
 pub mod json;
+mod keys;
+mod ranged;
 pub mod scan;
-#[cfg(test)]
-mod tests;
+
+pub use keys::{MapKey, WholeKey};
+pub use ranged::Ranged;

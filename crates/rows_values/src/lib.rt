@@ -3,6 +3,8 @@
 
 #[cfg(test)]
 mod accepted;
+#[cfg(test)]
+mod depths;
 pub mod entries;
 #[cfg(test)]
 mod lists;

@@ -11,7 +11,7 @@ ghost use Rattle.miniserde_read.specs.meaning.Maps.{looked, with_entry};
 
 use super::FromJson;
 use crate::source::Source;
-use miniserde_keys::MapKey;
+use miniserde_text::MapKey;
 use miniserde_text::error::{Error, Result};
 use miniserde_text::json::lex::Event;
 use std::alloc::Global;

@@ -51,7 +51,7 @@ returns-in_err-token-clause-invalid g c = λ e t r p.
     let lead : LedTo (v c.args.place.now) ev (v c.enter.new.place) = c.in_ok-first.ensures.leads in
     let n = subst (λ z. Moved (between c.loop-kind.first) c.loop-kind.stack c.loop-kind.source.rest (v c.loop-kind.place).at (v c.loop-kind.place).outcome (onward z) c.turn.new.stack c.turn.new.source.rest (v c.turn.new.place).at (v c.turn.new.place).outcome) c.if-branch.true c.in_ok-turn.ensures.moved in
     let two = Moved-append (between (is_some (opens ev))) (pushed (opens ev) []) s (v c.enter.new.place).at (v c.enter.new.place).outcome (between c.loop-kind.first) c.loop-kind.stack c.loop-kind.source.rest (v c.loop-kind.place).at (v c.loop-kind.place).outcome due c.turn.new.stack c.turn.new.source.rest (v c.turn.new.place).at (v c.turn.new.place).outcome c.loop-kind.invariant.moved n in
-    later_barred (v c.args.place.now).at (v c.args.place.now).outcome ev (v c.enter.new.place).at (v c.enter.new.place).outcome s c.requires.fresh lead (barred_more (between (is_some (opens ev))) (pushed (opens ev) []) s (v c.enter.new.place).at (v c.enter.new.place).outcome due c.turn.new.stack c.turn.new.source.rest (v c.turn.new.place).at (v c.turn.new.place).outcome two (never_barred due c.turn.new.stack c.turn.new.source.rest (v c.turn.new.place).outcome (v c.turn.new.place).at (start_ends c.turn.new.stack c.turn.new.source.rest (c.in_err-token.ensures.invalid (cc (w.1, w.2, e)))))) t r p
+    later_barred (v c.args.place.now).at (v c.args.place.now).outcome ev (v c.enter.new.place).at (v c.enter.new.place).outcome s c.requires.fresh lead (barred_more (between (is_some (opens ev))) (pushed (opens ev) []) s (v c.enter.new.place).at (v c.enter.new.place).outcome due c.turn.new.stack c.turn.new.source.rest (v c.turn.new.place).at (v c.turn.new.place).outcome two (never_barred due c.turn.new.stack c.turn.new.source.rest (v c.turn.new.place).outcome (v c.turn.new.place).at (start_ends c.turn.new.stack c.turn.new.source.rest (c.in_err-token.ensures.invalid (cc (w.1, w.2, e)) c.in_ok-turn.ensures.going)))) t r p
 
 pub enter-requires-then-branch-clause-event : goal.enter-requires-then-branch-clause-event
 enter-requires-then-branch-clause-event g c = start_event _ _ _ c.in_ok-token.ensures.ok

@@ -14,7 +14,7 @@ use Rattle.miniserde_place.proofs.engine.turn.Goals as goal
 pub returns-in_err-after-clause-invalid : goal.returns-in_err-after-clause-invalid
 returns-in_err-after-clause-invalid g c = λ e.
     let w = err_from_is_err_and c.from_residual.result c.from_residual.ensures.1 in
-    never_barred (between c.args.first) c.args.stack.now c.args.source.now.rest (g.V.Visitor.meaning.shows c.args.place.now).outcome (g.V.Visitor.meaning.shows c.args.place.now).at (after_ends _ _ (kind_of c.args.kind) c.args.first c.requires.inside (c.in_err-after.ensures.invalid (cc (w.1, w.2, e))))
+    never_barred (between c.args.first) c.args.stack.now c.args.source.now.rest (g.V.Visitor.meaning.shows c.args.place.now).outcome (g.V.Visitor.meaning.shows c.args.place.now).at (after_ends _ _ (kind_of c.args.kind) c.args.first c.requires.inside (c.in_err-after.ensures.invalid (cc (w.1, w.2, e)) c.requires.going))
 
 pub returns-in_err-step-in-Close-clause-invalid : goal.returns-in_err-step-in-Close-clause-invalid
 returns-in_err-step-in-Close-clause-invalid g c = λ e.
@@ -36,7 +36,7 @@ pub returns-in_err-name-in-Map-clause-invalid : goal.returns-in_err-name-in-Map-
 returns-in_err-name-in-Map-clause-invalid g c = λ e.
     let w = err_from_is_err_and c.from_residual-in_err-name-in-Map.result c.from_residual-in_err-name-in-Map.ensures.1 in
     let p : Follows (kind_of c.args.kind) c.args.first false c.args.source.now.rest c.after.new.self.rest = subst (λ z. Follows (kind_of c.args.kind) c.args.first (closes z) c.args.source.now.rest c.after.new.self.rest) c.in-Next.is c.in_ok-after.ensures.ok in
-    never_barred (between c.args.first) c.args.stack.now c.args.source.now.rest (g.V.Visitor.meaning.shows c.args.place.now).outcome (g.V.Visitor.meaning.shows c.args.place.now).at (name_ends _ _ _ (kind_of c.args.kind) c.args.first c.requires.inside (ap kind_of c.in-Map.is) p (c.in_err-name-in-Map.ensures.invalid (cc (w.1, w.2, e))))
+    never_barred (between c.args.first) c.args.stack.now c.args.source.now.rest (g.V.Visitor.meaning.shows c.args.place.now).outcome (g.V.Visitor.meaning.shows c.args.place.now).at (name_ends _ _ _ (kind_of c.args.kind) c.args.first c.requires.inside (ap kind_of c.in-Map.is) p (c.in_err-name-in-Map.ensures.invalid (cc (w.1, w.2, e)) c.in_ok-after.ensures.going))
 
 pub returns-in_err-step-in-Map-clause-invalid : goal.returns-in_err-step-in-Map-clause-invalid
 returns-in_err-step-in-Map-clause-invalid g c = λ e.

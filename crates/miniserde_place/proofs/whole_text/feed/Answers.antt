@@ -30,7 +30,7 @@ pub returns-in_err-token-clause-invalid : goal.returns-in_err-token-clause-inval
 returns-in_err-token-clause-invalid g c = λ e t h.
     let w = err_from_is_err_and c.from_residual.result c.from_residual.ensures.1 in
     let a = json_at c.args.j.now t h in
-    absurd (c.in_err-token.ensures.invalid (cc (w.1, w.2, e)) a.event a.behind (subst (λ z. Starts z a.event a.behind) (sym c.new-source.ensures.rest) a.starts))
+    absurd (c.in_err-token.ensures.invalid (cc (w.1, w.2, e)) c.new-source.ensures.going a.event a.behind (subst (λ z. Starts z a.event a.behind) (sym c.new-source.ensures.rest) a.starts))
 
 pub returns-in_err-token-clause-keeps : goal.returns-in_err-token-clause-keeps
 returns-in_err-token-clause-keeps g c =
@@ -72,7 +72,7 @@ returns-clause-invalid g c = λ e t h.
     let f = json_front c.args.j.now t ev s h k in
     let r = c.in_ok-feed_from.ensures.ok in
     let same = value_same t r.0 ev s f.0 c.feed_from.new.source.rest f.1 r.1 in
-    absurd (c.end.ensures.invalid e (subst IsWhitespace same.1 f.2))
+    absurd (c.end.ensures.invalid e c.in_ok-feed_from.ensures.going (subst IsWhitespace same.1 f.2))
 
 pub returns-clause-keeps : goal.returns-clause-keeps
 returns-clause-keeps g c =

@@ -12,13 +12,13 @@ use Rattle.miniserde_read.proofs.ignored.turn.Goals as goal
 pub returns-in_err-after-clause-invalid : goal.returns-in_err-after-clause-invalid
 returns-in_err-after-clause-invalid c = λ e.
     let w = err_from_is_err_and c.from_residual.result c.from_residual.ensures.1 in
-    after_ends _ _ (kind_of c.args.kind) c.args.first c.requires.inside (c.in_err-after.ensures.invalid (cc (w.1, w.2, e)))
+    after_ends _ _ (kind_of c.args.kind) c.args.first c.requires.inside (c.in_err-after.ensures.invalid (cc (w.1, w.2, e)) c.requires.going)
 
 pub returns-in_err-key-in-Map-clause-invalid : goal.returns-in_err-key-in-Map-clause-invalid
 returns-in_err-key-in-Map-clause-invalid c = λ e.
     let w = err_from_is_err_and c.from_residual-in_err-key-in-Map.result c.from_residual-in_err-key-in-Map.ensures.1 in
     let p : Follows (kind_of c.args.kind) c.args.first false c.args.source.now.rest c.after.new.self.rest = subst (λ z. Follows (kind_of c.args.kind) c.args.first (closes z) c.args.source.now.rest c.after.new.self.rest) c.in-Next.is c.in_ok-after.ensures.ok in
-    name_ends _ _ _ (kind_of c.args.kind) c.args.first c.requires.inside (ap kind_of c.in-Map.is) p (c.in_err-key-in-Map.ensures.invalid (cc (w.1, w.2, e)))
+    name_ends _ _ _ (kind_of c.args.kind) c.args.first c.requires.inside (ap kind_of c.in-Map.is) p (c.in_err-key-in-Map.ensures.invalid (cc (w.1, w.2, e)) c.in_ok-after.ensures.going)
 
 pub returns-in-Close-clause-reaches : goal.returns-in-Close-clause-reaches
 returns-in-Close-clause-reaches c =

@@ -34,7 +34,7 @@ pub returns-in_err-token-clause-none : goal.returns-in_err-token-clause-none
 returns-in_err-token-clause-none g c = λ e t h.
     let w = err_from_is_err_and c.from_residual.result c.from_residual.ensures.1 in
     let a = json_at c.args.j.now t h in
-    absurd (c.in_err-token.ensures.invalid (cc (w.1, w.2, e)) a.event a.behind (subst (λ z. Starts z a.event a.behind) (sym c.new-source.ensures.rest) a.starts))
+    absurd (c.in_err-token.ensures.invalid (cc (w.1, w.2, e)) c.new-source.ensures.going a.event a.behind (subst (λ z. Starts z a.event a.behind) (sym c.new-source.ensures.rest) a.starts))
 
 pub returns-in_err-token-clause-invalid : goal.returns-in_err-token-clause-invalid
 returns-in_err-token-clause-invalid g c = λ e t h. nothing_meant g t (returns-in_err-token-clause-none g c e t h)
@@ -67,7 +67,7 @@ returns-in_err-end-clause-none g c = λ e t h.
     let f = json_front c.args.j.now t ev s h k in
     let v = c.in_ok-value.ensures.ok in
     let same = value_same t v.0 ev s f.0 c.read.new.source.rest f.1 v.1 in
-    absurd (c.in_err-end.ensures.invalid (cc (w.1, w.2, e)) (subst IsWhitespace same.1 f.2))
+    absurd (c.in_err-end.ensures.invalid (cc (w.1, w.2, e)) c.in_ok-value.ensures.going (subst IsWhitespace same.1 f.2))
 
 pub returns-in_err-end-clause-invalid : goal.returns-in_err-end-clause-invalid
 returns-in_err-end-clause-invalid g c = λ e t h. nothing_meant g t (returns-in_err-end-clause-none g c e t h)

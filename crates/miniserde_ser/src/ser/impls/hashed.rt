@@ -11,7 +11,7 @@ ghost use Rattle.miniserde_text.specs.declared.error.Error.TheVariants.{Memory};
 ghost use Rattle.miniserde_ser.specs.Trees.{members_of, in_order};
 
 use crate::ser::{Serialize, Writer};
-use miniserde_keys::MapKey;
+use miniserde_text::MapKey;
 use miniserde_text::error::Result;
 use std::alloc::Global;
 use std::collections::HashMap;

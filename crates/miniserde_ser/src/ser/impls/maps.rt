@@ -3,7 +3,7 @@ ghost use Rattle.miniserde_model.specs.Tree.{members};
 ghost use Rattle.miniserde_ser.specs.Trees.{members_of};
 
 use crate::ser::{Serialize, Writer};
-use miniserde_keys::MapKey;
+use miniserde_text::MapKey;
 use miniserde_text::error::Result;
 use std::collections::BTreeMap;
 

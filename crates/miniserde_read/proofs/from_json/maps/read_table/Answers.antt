@@ -47,7 +47,7 @@ returns-in_err-token-clause-invalid g c = λ e t r p.
     let n = text_of c.in-Some.name c.name.new.self.scratch in
     let q : ValueAt t map s r = subst (λ z. ValueAt t (front_of z c.args.source.now.scratch) s r) c.in-MapStart.is p in
     let o = opened_object t s r q in
-    absurd (object_no_start next no_key s c.loop-table.first c.loop-table.source.rest h.0 c.name.new.self.rest n m c.loop-table.invariant.goes h.1 h.2 (λ u d v. c.in_err-token.ensures.invalid (cc (w.1, w.2, e)) u d v) o.0 r o.2)
+    absurd (object_no_start next no_key s c.loop-table.first c.loop-table.source.rest h.0 c.name.new.self.rest n m c.loop-table.invariant.goes h.1 h.2 (λ u d v. c.in_err-token.ensures.invalid (cc (w.1, w.2, e)) c.in_ok-name.ensures.going u d v) o.0 r o.2)
 
 pub read-requires-clause-event : goal.read-requires-clause-event
 read-requires-clause-event g c = start_event _ _ _ c.in_ok-token.ensures.ok

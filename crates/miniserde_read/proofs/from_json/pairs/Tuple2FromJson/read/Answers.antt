@@ -51,7 +51,7 @@ returns-in_err-token-2-clause-invalid g c = λ e t r p.
     let v = c.in_ok-first.ensures.ok in
     let a = g.A.FromJson.means.content c.in_ok-first.first in
     let one = pair_first f k s h.0 c.element.new.self.rest c.read.new.source.rest ev v.0 a h.1 h.2 v.1 v.2 in
-    pair_none f k t s r None q (λ ts x y. absurd (list_stops (pair_next f k) (None, None) s false c.read.new.source.rest (Some a, None) one (c.in_err-token-2.ensures.invalid (cc (w.1, w.2, e))) ts x y)) refl
+    pair_none f k t s r None q (λ ts x y. absurd (list_stops (pair_next f k) (None, None) s false c.read.new.source.rest (Some a, None) one (c.in_err-token-2.ensures.invalid (cc (w.1, w.2, e)) c.in_ok-first.ensures.going) ts x y)) refl
 
 pub returns-in_default-3-clause-invalid : goal.returns-in_default-3-clause-invalid
 returns-in_default-3-clause-invalid g c = λ e t r p.
@@ -105,7 +105,7 @@ returns-in_err-element-clause-invalid g c = λ e t r p.
     let u = c.in_ok-second.ensures.ok in
     let b = g.B.FromJson.means.content c.in_ok-second.second in
     let two = pair_second f k s c.read.new.source.rest i.0 c.element-2.new.self.rest c.read-2.new.source.rest ew u.0 a b one i.1 i.2 u.1 u.2 in
-    pair_none f k t s r None q (λ ts x y. absurd (list_stops (pair_next f k) (None, None) s false c.read-2.new.source.rest (Some a, Some b) two (c.in_err-element.ensures.invalid (cc (w.1, w.2, e))) ts x y)) refl
+    pair_none f k t s r None q (λ ts x y. absurd (list_stops (pair_next f k) (None, None) s false c.read-2.new.source.rest (Some a, Some b) two (c.in_err-element.ensures.invalid (cc (w.1, w.2, e)) c.in_ok-second.ensures.going) ts x y)) refl
 
 pub returns-in-None-clause-ok : goal.returns-in-None-clause-ok
 returns-in-None-clause-ok g c =

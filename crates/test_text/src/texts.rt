@@ -1,9 +1,9 @@
 ghost use Rattle.std.specs.Prelude.{◌<◌, ◌≤◌, length};
 
-use crate::error::Error;
-use crate::json::lex::{After, Event, Kind, Lexer, Text};
-use crate::json::number::NumberText;
-use crate::scan::special;
+use miniserde_text::error::Error;
+use miniserde_text::json::lex::{After, Event, Kind, Lexer, Text};
+use miniserde_text::json::number::NumberText;
+use miniserde_text::scan::special;
 use std::test::Fail;
 
 #[derive(Clone, Copy, Debug, PartialEq, Eq)]

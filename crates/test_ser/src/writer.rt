@@ -1,4 +1,4 @@
-use crate::ser::{Fragment, Serialize, Writer, escape_str};
+use miniserde_ser::ser::{Fragment, Serialize, Writer, escape_str};
 use miniserde_text::error::{Error, Result};
 use miniserde_text::json::number::NumberText;
 use std::alloc::Global;

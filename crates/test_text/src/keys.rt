@@ -1,7 +1,7 @@
 ghost use Rattle.std.specs.Prelude.{◌≡◌, Err, IfOk, true};
 ghost use Rattle.miniserde_text.specs.declared.error.Error.TheVariants.{Invalid};
 
-use crate::keys::MapKey;
+use miniserde_text::MapKey;
 use miniserde_text::error::{Error, Result};
 use std::alloc::Global;
 use std::test::Fail;

@@ -1,0 +1,5 @@
+//! Tests of the writer and of what std's types are written as.
+#![tactic(auto)]
+
+#[cfg(test)]
+mod writer;
