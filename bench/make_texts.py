@@ -77,6 +77,7 @@ def texts():
     r.shuffle(names)
     yield 'names', '{' + ','.join('"name%d":%d' % (k, i) for i, k in enumerate(names)) + '}'
     yield 'numbers', fill(SIZE, lambda: str(r.randint(-10 ** r.randint(1, 18), 10 ** r.randint(1, 18))))
+    yield 'options', fill(SIZE, lambda: r.choice(['null', 'true', 'false']))
 
 
 def main():

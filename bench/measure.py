@@ -26,6 +26,7 @@ JOBS = [
     ('`BTreeMap<String, u64>`', 'map', 'map', 'empty_map'),
     ('`Vec<Demo>`, structs', 'demos', 'structs', 'empty'),
     ('`Vec<(u64, String)>`', 'pairs', 'pairs', 'empty'),
+    ('`Vec<Option<bool>>`', 'options', 'options', 'empty'),
     ('`canonical`, messages', 'value', 'messages', 'empty'),
     ('`canonical`, records', 'value', 'records', 'empty'),
     ('`canonical`, 100 deep', 'value', 'nested', 'empty'),

@@ -1,21 +1,16 @@
 //! Nested structs with optional, boxed and renamed fields.
-ghost use Rattle.miniserde.specs.FieldsMeant.{field_and, no_fields, struct_meant};
+ghost use Rattle.miniserde.specs.FieldsMeant.{struct_meant};
 ghost use Rattle.miniserde.specs.Place.{inside};
-ghost use Rattle.miniserde.specs.Structs.{names_of, with_names};
-ghost use Rattle.miniserde.specs.Tree.{members};
-ghost use Rattle.std.specs.Prelude.{[], ◌∷◌, ⊤, refl};
+ghost use Rattle.miniserde.specs.Structs.{names_of, record_tree};
+ghost use Rattle.std.specs.Prelude.{refl};
 
 use crate::tag::Tag;
-use miniserde::de::{Deserialize, FromJson, Ranged, Source, Step, Visitor};
-use miniserde::json::lex::Event;
-use miniserde::record::arity::{
-    Values2, Values5, read_record2, read_record5, record_again2, record_again5, record_lossless2,
-    record_lossless5, write_record2, write_record5,
+use miniserde::derived::{
+    AgainFields, Deserialize, Error, Event, Field, Four, FourLent, FourSlot, FromJson, Global,
+    Lossless, NeverNull, NoField, NoSlot, Parts, PlacedRecord, Ranged, Record, RecordPlace, Result,
+    RoundTrip, Serialize, Slot, Slots, Source, Step, Taken4, Visitor, Writer, read_record,
+    record_again, record_lossless, take4, write_members,
 };
-use miniserde::record::{Field, Four, NoField, Parts, PlacedRecord, Record, RecordPlace};
-use miniserde::ser::{Serialize, Writer};
-use miniserde::{Error, Lossless, NeverNull, Result, RoundTrip};
-use std::alloc::Global;
 
 /// A struct of two optional fields.
 #[derive(Drop)]
@@ -24,61 +19,60 @@ pub struct Nested {
     pub z: Option<String>,
 }
 
-// The names of its fields.
+// Its fields, and their names.
+type NestedFields = Slot<Option<Vec<String>>, Slot<Option<String>, NoSlot>>;
+
 const NESTED_NAMES: &[&str] = &["y", "z"];
 
 impl Record for Nested {
     ghost use Rattle.demo.specs.declared.example.TheConstants.{NESTED_NAMES};
 
-    type Values = Values2<Option<Vec<String>>, Option<String>>;
+    type Values = <NestedFields as Slots>::Values;
 
     ghost names = { names_of NESTED_NAMES };
-
-    ghost count = { 2 };
 
     ghost values = { λ v. (v.y, (v.z, tt)) };
 
     ghost made = { λ x. record { y = x.0; z = x.1.0 } };
+
+    ghost whole = { (λ v. refl, λ x. refl) };
+
+    ghost named = { refl };
 
     fn names() -> &'static [&'static str] {
         NESTED_NAMES
     }
 
     fn build(parts: Self::Values) -> Nested {
-        let Parts(y, parts) = parts;
-        let Parts(z, ()) = parts;
+        let Parts(y, Parts(z, ())) = parts;
         Nested { y, z }
     }
-
-    ghost whole = { (λ v. refl, λ x. refl) };
-
-    ghost named = { refl };
 }
 
 impl FromJson for Nested {
-    ghost means = { struct_meant (field_and ⟦<Option<Vec<String>> as FromJson>⟧.means
-        ⟦<Option<Vec<String>> as FromJson>⟧.absent (field_and ⟦<Option<String> as FromJson>⟧.means
-        ⟦<Option<String> as FromJson>⟧.absent no_fields)) ⟦<Nested as Record>⟧.names ⟦<Nested as Record>⟧.values };
+    ghost means = { struct_meant ⟦<NestedFields as Slots>⟧.meaning ⟦<Nested as Record>⟧.names
+        ⟦<Nested as Record>⟧.values };
 
     fn missing() -> Option<Nested> {
         None
     }
 
     fn read<'a>(token: Event<'a>, source: &mut Source<'a>) -> Result<Nested> {
-        read_record2::<Nested, Option<Vec<String>>, Option<String>>(token, source)
+        read_record::<Nested, NestedFields>(token, source)
     }
 }
 
 impl Serialize for Nested {
-    ghost tree = { λ v. members (with_names ⟦<Nested as Record>⟧.names (⟦<Option<Vec<String>> as Serialize>⟧.tree v.y ∷ ⟦<Option<String> as Serialize>⟧.tree v.z ∷ [])) };
+    ghost tree = { record_tree ⟦<Nested as Record>⟧.names ⟦<NestedFields as AgainFields>⟧.trees
+        ⟦<Nested as Record>⟧.values };
 
     fn begin(&self, w: &mut Writer) -> Result<()> {
-        write_record2(w, NESTED_NAMES, &self.y, &self.z)
+        write_members(w, NESTED_NAMES, &Parts(&self.y, Parts(&self.z, ())))
     }
 }
 
 impl Ranged for Nested {
-    ghost real = { λ v. ⟦<Option<Vec<String>> as Ranged>⟧.real v.y × (⟦<Option<String> as Ranged>⟧.real v.z × ⊤) };
+    ghost real = { λ v. ⟦<NestedFields as AgainFields>⟧.real (⟦<Nested as Record>⟧.values v) };
 
     fn ranged(&self) {
         self.y.ranged();
@@ -88,13 +82,13 @@ impl Ranged for Nested {
 
 impl RoundTrip for Nested {
     fn again() {
-        record_again2::<Nested, Option<Vec<String>>, Option<String>>()
+        record_again::<Nested, NestedFields>()
     }
 }
 
 impl Lossless for Nested {
     fn lossless() {
-        record_lossless2::<Nested, Option<Vec<String>>, Option<String>>()
+        record_lossless::<Nested, NestedFields>()
     }
 }
 
@@ -157,17 +151,17 @@ pub struct Example {
     pub nested: Box<Nested>,
 }
 
-// The names of its fields.
+// Its fields, and their names.
+type ExampleFields = FourSlot<String, Tag, Box<Tag>, [Tag; 1], Slot<Box<Nested>, NoSlot>>;
+
 const EXAMPLE_NAMES: &[&str] = &["x", "t1", "t2", "t3", "struct"];
 
 impl Record for Example {
     ghost use Rattle.demo.specs.declared.example.TheConstants.{EXAMPLE_NAMES};
 
-    type Values = Values5<String, Tag, Box<Tag>, [Tag; 1], Box<Nested>>;
+    type Values = <ExampleFields as Slots>::Values;
 
     ghost names = { names_of EXAMPLE_NAMES };
-
-    ghost count = { 5 };
 
     ghost values = { λ v. (v.x, (v.t1, (v.t2, (v.t3, (v.nested, tt))))) };
 
@@ -179,15 +173,16 @@ impl Record for Example {
       nested = x.1.1.1.1.0;
     } };
 
+    ghost whole = { (λ v. refl, λ x. refl) };
+
+    ghost named = { refl };
+
     fn names() -> &'static [&'static str] {
         EXAMPLE_NAMES
     }
 
     fn build(parts: Self::Values) -> Example {
-        let Parts(x, parts) = parts;
-        let Parts(t1, parts) = parts;
-        let Parts(t2, parts) = parts;
-        let Parts(t3, parts) = parts;
+        let Taken4(x, t1, t2, t3, parts) = take4(parts);
         let Parts(nested, ()) = parts;
         Example {
             x,
@@ -197,45 +192,42 @@ impl Record for Example {
             nested,
         }
     }
-
-    ghost whole = { (λ v. refl, λ x. refl) };
-
-    ghost named = { refl };
 }
 
 impl FromJson for Example {
-    ghost means = { struct_meant (field_and ⟦<String as FromJson>⟧.means ⟦<String as FromJson>⟧.absent (field_and ⟦<Tag as FromJson>⟧.means ⟦<Tag as FromJson>⟧.absent (field_and
-        ⟦<Box<Tag> as FromJson>⟧.means ⟦<Box<Tag> as FromJson>⟧.absent (field_and ⟦<[Tag; 1] as FromJson>⟧.means ⟦<[Tag; 1] as FromJson>⟧.absent (field_and ⟦<Box<Nested> as FromJson>⟧.means ⟦<Box<Nested> as FromJson>⟧.absent no_fields))))) ⟦<Example as Record>⟧.names ⟦<Example as Record>⟧.values };
+    ghost means = { struct_meant ⟦<ExampleFields as Slots>⟧.meaning ⟦<Example as Record>⟧.names
+        ⟦<Example as Record>⟧.values };
 
     fn missing() -> Option<Example> {
         None
     }
 
     fn read<'a>(token: Event<'a>, source: &mut Source<'a>) -> Result<Example> {
-        read_record5::<Example, String, Tag, Box<Tag>, [Tag; 1], Box<Nested>>(token, source)
+        read_record::<Example, ExampleFields>(token, source)
     }
 }
 
 impl Serialize for Example {
-    ghost tree = { λ v. members (with_names ⟦<Example as Record>⟧.names (⟦<String as Serialize>⟧.tree v.x ∷ ⟦<Tag as Serialize>⟧.tree v.t1 ∷ ⟦<Box<Tag> as Serialize>⟧.tree v.t2
-        ∷ ⟦<[Tag; 1] as Serialize>⟧.tree v.t3 ∷ ⟦<Box<Nested> as Serialize>⟧.tree v.nested ∷ [])) };
+    ghost tree = { record_tree ⟦<Example as Record>⟧.names ⟦<ExampleFields as AgainFields>⟧.trees
+        ⟦<Example as Record>⟧.values };
 
     fn begin(&self, w: &mut Writer) -> Result<()> {
-        write_record5(
+        write_members(
             w,
             EXAMPLE_NAMES,
-            &self.x,
-            &self.t1,
-            &self.t2,
-            &self.t3,
-            &self.nested,
+            &FourLent(
+                &self.x,
+                &self.t1,
+                &self.t2,
+                &self.t3,
+                Parts(&self.nested, ()),
+            ),
         )
     }
 }
 
 impl Ranged for Example {
-    ghost real = { λ v. ⟦<String as Ranged>⟧.real v.x × (⟦<Tag as Ranged>⟧.real v.t1 × (⟦<Box<Tag> as Ranged>⟧.real v.t2 × (⟦<[Tag; 1] as Ranged>⟧.real v.t3 × (⟦<Box<Nested> as Ranged>⟧.real
-        v.nested × ⊤)))) };
+    ghost real = { λ v. ⟦<ExampleFields as AgainFields>⟧.real (⟦<Example as Record>⟧.values v) };
 
     fn ranged(&self) {
         self.x.ranged();
@@ -248,13 +240,13 @@ impl Ranged for Example {
 
 impl RoundTrip for Example {
     fn again() {
-        record_again5::<Example, String, Tag, Box<Tag>, [Tag; 1], Box<Nested>>()
+        record_again::<Example, ExampleFields>()
     }
 }
 
 impl Lossless for Example {
     fn lossless() {
-        record_lossless5::<Example, String, Tag, Box<Tag>, [Tag; 1], Box<Nested>>()
+        record_lossless::<Example, ExampleFields>()
     }
 }
 

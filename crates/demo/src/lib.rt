@@ -1,11 +1,13 @@
 //! The types of miniserde's documentation, as structs and unit enums of a user's own.
 #![tactic(auto)]
 
+mod duplicates;
 mod example;
 mod strict;
 mod structs;
 mod tag;
 
+pub use duplicates::duplicate_names;
 pub use example::{Example, ExamplePlace, Nested, NestedPlace};
 pub use strict::{StrictDemo, StrictDemoPlace};
 pub use structs::{Demo, DemoPlace, Point, PointPlace};

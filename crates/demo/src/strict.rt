@@ -1,20 +1,14 @@
 //! A struct that refuses a repeat of its own names.
-ghost use Rattle.miniserde.specs.FieldsMeant.{field_and, fields_once, no_fields, struct_meant};
+ghost use Rattle.miniserde.specs.FieldsMeant.{struct_meant};
 ghost use Rattle.miniserde.specs.Place.{inside};
-ghost use Rattle.miniserde.specs.Structs.{names_of, with_names};
-ghost use Rattle.miniserde.specs.Tree.{members};
-ghost use Rattle.std.specs.Prelude.{[], ◌∷◌, ⊤, refl};
+ghost use Rattle.miniserde.specs.Structs.{names_of, record_tree};
+ghost use Rattle.std.specs.Prelude.{refl};
 
-use miniserde::de::{Deserialize, FromJson, Ranged, Source, Step, Visitor};
-use miniserde::json::lex::Event;
-use miniserde::record::arity::{Values2, write_record2};
-use miniserde::record::{
-    Field, NoField, NoSlot, Once, OnceSlots, Parts, PlacedRecord, Record, RecordPlace, Slot,
-    read_record, record_again_once,
+use miniserde::derived::{
+    AgainFields, Deserialize, Error, Event, Field, FromJson, Global, NoField, NoSlot, Once,
+    OnceSlots, Parts, PlacedRecord, Ranged, Record, RecordPlace, Result, RoundTrip, Serialize,
+    Slot, Slots, Source, Step, Visitor, Writer, read_record, record_again, write_members,
 };
-use miniserde::ser::{Serialize, Writer};
-use miniserde::{Error, Result, RoundTrip};
-use std::alloc::Global;
 
 /// As `Demo`, and refused where `code` or `message` stands twice among its members. Other names may repeat.
 #[derive(Drop)]
@@ -23,60 +17,62 @@ pub struct StrictDemo {
     pub message: String,
 }
 
-// The names of its fields.
+// Its fields, and their names.
+type StrictDemoFields = OnceSlots<Slot<u32, Slot<String, NoSlot>>>;
+
 const STRICT_DEMO_NAMES: &[&str] = &["code", "message"];
 
 impl Record for StrictDemo {
     ghost use Rattle.demo.specs.declared.strict.TheConstants.{STRICT_DEMO_NAMES};
 
-    type Values = Values2<u32, String>;
+    type Values = <StrictDemoFields as Slots>::Values;
 
     ghost names = { names_of STRICT_DEMO_NAMES };
-
-    ghost count = { 2 };
 
     ghost values = { λ v. (v.code, (v.message, tt)) };
 
     ghost made = { λ x. record { code = x.0; message = x.1.0 } };
+
+    ghost whole = { (λ v. refl, λ x. refl) };
+
+    ghost named = { refl };
 
     fn names() -> &'static [&'static str] {
         STRICT_DEMO_NAMES
     }
 
     fn build(parts: Self::Values) -> StrictDemo {
-        let Parts(code, parts) = parts;
-        let Parts(message, ()) = parts;
+        let Parts(code, Parts(message, ())) = parts;
         StrictDemo { code, message }
     }
-
-    ghost whole = { (λ v. refl, λ x. refl) };
-
-    ghost named = { refl };
 }
 
 impl FromJson for StrictDemo {
-    ghost means = { struct_meant (fields_once (field_and ⟦<u32 as FromJson>⟧.means ⟦<u32 as FromJson>⟧.absent (field_and ⟦<String as FromJson>⟧.means ⟦<String as FromJson>⟧.absent
-        no_fields))) ⟦<StrictDemo as Record>⟧.names ⟦<StrictDemo as Record>⟧.values };
+    ghost means = { struct_meant ⟦<StrictDemoFields as Slots>⟧.meaning ⟦<StrictDemo as Record>⟧.names ⟦<StrictDemo as Record>⟧.values };
 
     fn missing() -> Option<StrictDemo> {
         None
     }
 
     fn read<'a>(token: Event<'a>, source: &mut Source<'a>) -> Result<StrictDemo> {
-        read_record::<StrictDemo, OnceSlots<Slot<u32, Slot<String, NoSlot>>>>(token, source)
+        read_record::<StrictDemo, StrictDemoFields>(token, source)
     }
 }
 
 impl Serialize for StrictDemo {
-    ghost tree = { λ v. members (with_names ⟦<StrictDemo as Record>⟧.names (⟦<u32 as Serialize>⟧.tree v.code ∷ ⟦<String as Serialize>⟧.tree v.message ∷ [])) };
+    ghost tree = { record_tree ⟦<StrictDemo as Record>⟧.names ⟦<StrictDemoFields as AgainFields>⟧.trees ⟦<StrictDemo as Record>⟧.values };
 
     fn begin(&self, w: &mut Writer) -> Result<()> {
-        write_record2(w, STRICT_DEMO_NAMES, &self.code, &self.message)
+        write_members(
+            w,
+            STRICT_DEMO_NAMES,
+            &Parts(&self.code, Parts(&self.message, ())),
+        )
     }
 }
 
 impl Ranged for StrictDemo {
-    ghost real = { λ v. ⟦<u32 as Ranged>⟧.real v.code × (⟦<String as Ranged>⟧.real v.message × ⊤) };
+    ghost real = { λ v. ⟦<StrictDemoFields as AgainFields>⟧.real (⟦<StrictDemo as Record>⟧.values v) };
 
     fn ranged(&self) {
         self.code.ranged();
@@ -86,7 +82,7 @@ impl Ranged for StrictDemo {
 
 impl RoundTrip for StrictDemo {
     fn again() {
-        record_again_once::<StrictDemo>()
+        record_again::<StrictDemo, StrictDemoFields>()
     }
 }
 

@@ -1,17 +1,14 @@
 //! Structs with integer and string fields.
-ghost use Rattle.miniserde.specs.FieldsMeant.{field_and, no_fields, struct_meant};
+ghost use Rattle.miniserde.specs.FieldsMeant.{struct_meant};
 ghost use Rattle.miniserde.specs.Place.{inside};
-ghost use Rattle.miniserde.specs.Structs.{names_of, with_names};
-ghost use Rattle.miniserde.specs.Tree.{members};
-ghost use Rattle.std.specs.Prelude.{[], ◌∷◌, ⊤, refl};
+ghost use Rattle.miniserde.specs.Structs.{names_of, record_tree};
+ghost use Rattle.std.specs.Prelude.{refl};
 
-use miniserde::de::{Deserialize, FromJson, Ranged, Source, Step, Visitor};
-use miniserde::json::lex::Event;
-use miniserde::record::arity::{Values2, read_record2, record_again2, write_record2};
-use miniserde::record::{Field, NoField, Parts, PlacedRecord, Record, RecordPlace};
-use miniserde::ser::{Serialize, Writer};
-use miniserde::{Error, Result, RoundTrip};
-use std::alloc::Global;
+use miniserde::derived::{
+    AgainFields, Deserialize, Error, Event, Field, FromJson, Global, NoField, NoSlot, Parts,
+    PlacedRecord, Ranged, Record, RecordPlace, Result, RoundTrip, Serialize, Slot, Slots, Source,
+    Step, Visitor, Writer, read_record, record_again, write_members,
+};
 
 /// A struct of two fields.
 #[derive(Drop)]
@@ -20,61 +17,58 @@ pub struct Demo {
     pub message: String,
 }
 
-// The names of its fields.
+// Its fields, and their names.
+type DemoFields = Slot<u32, Slot<String, NoSlot>>;
+
 const DEMO_NAMES: &[&str] = &["code", "message"];
 
 impl Record for Demo {
     ghost use Rattle.demo.specs.declared.structs.TheConstants.{DEMO_NAMES};
 
-    type Values = Values2<u32, String>;
+    type Values = <DemoFields as Slots>::Values;
 
     ghost names = { names_of DEMO_NAMES };
-
-    ghost count = { 2 };
 
     ghost values = { λ v. (v.code, (v.message, tt)) };
 
     ghost made = { λ x. record { code = x.0; message = x.1.0 } };
+
+    ghost whole = { (λ v. refl, λ x. refl) };
+
+    ghost named = { refl };
 
     fn names() -> &'static [&'static str] {
         DEMO_NAMES
     }
 
     fn build(parts: Self::Values) -> Demo {
-        let Parts(code, parts) = parts;
-        let Parts(message, ()) = parts;
+        let Parts(code, Parts(message, ())) = parts;
         Demo { code, message }
     }
-
-    ghost whole = { (λ v. refl, λ x. refl) };
-
-    ghost named = { refl };
 }
 
 impl FromJson for Demo {
-    ghost means = { struct_meant (field_and ⟦<u32 as FromJson>⟧.means ⟦<u32 as FromJson>⟧.absent
-        (field_and ⟦<String as FromJson>⟧.means ⟦<String as FromJson>⟧.absent no_fields)) ⟦<Demo as Record>⟧.names ⟦<Demo as Record>⟧.values };
+    ghost means = { struct_meant ⟦<DemoFields as Slots>⟧.meaning ⟦<Demo as Record>⟧.names ⟦<Demo as Record>⟧.values };
 
     fn missing() -> Option<Demo> {
         None
     }
 
     fn read<'a>(token: Event<'a>, source: &mut Source<'a>) -> Result<Demo> {
-        read_record2::<Demo, u32, String>(token, source)
+        read_record::<Demo, DemoFields>(token, source)
     }
 }
 
 impl Serialize for Demo {
-    ghost tree = { λ v. members (with_names ⟦<Demo as Record>⟧.names (⟦<u32 as Serialize>⟧.tree
-        v.code ∷ ⟦<String as Serialize>⟧.tree v.message ∷ [])) };
+    ghost tree = { record_tree ⟦<Demo as Record>⟧.names ⟦<DemoFields as AgainFields>⟧.trees ⟦<Demo as Record>⟧.values };
 
     fn begin(&self, w: &mut Writer) -> Result<()> {
-        write_record2(w, DEMO_NAMES, &self.code, &self.message)
+        write_members(w, DEMO_NAMES, &Parts(&self.code, Parts(&self.message, ())))
     }
 }
 
 impl Ranged for Demo {
-    ghost real = { λ v. ⟦<u32 as Ranged>⟧.real v.code × (⟦<String as Ranged>⟧.real v.message × ⊤) };
+    ghost real = { λ v. ⟦<DemoFields as AgainFields>⟧.real (⟦<Demo as Record>⟧.values v) };
 
     fn ranged(&self) {
         self.code.ranged();
@@ -84,7 +78,7 @@ impl Ranged for Demo {
 
 impl RoundTrip for Demo {
     fn again() {
-        record_again2::<Demo, u32, String>()
+        record_again::<Demo, DemoFields>()
     }
 }
 
@@ -140,61 +134,59 @@ pub struct Point {
     pub y: u32,
 }
 
-// The names of its fields.
+// Its fields, and their names.
+type PointFields = Slot<u32, Slot<u32, NoSlot>>;
+
 const POINT_NAMES: &[&str] = &["x", "y"];
 
 impl Record for Point {
     ghost use Rattle.demo.specs.declared.structs.TheConstants.{POINT_NAMES};
 
-    type Values = Values2<u32, u32>;
+    type Values = <PointFields as Slots>::Values;
 
     ghost names = { names_of POINT_NAMES };
-
-    ghost count = { 2 };
 
     ghost values = { λ v. (v.x, (v.y, tt)) };
 
     ghost made = { λ x. record { x = x.0; y = x.1.0 } };
+
+    ghost whole = { (λ v. refl, λ x. refl) };
+
+    ghost named = { refl };
 
     fn names() -> &'static [&'static str] {
         POINT_NAMES
     }
 
     fn build(parts: Self::Values) -> Point {
-        let Parts(x, parts) = parts;
-        let Parts(y, ()) = parts;
+        let Parts(x, Parts(y, ())) = parts;
         Point { x, y }
     }
-
-    ghost whole = { (λ v. refl, λ x. refl) };
-
-    ghost named = { refl };
 }
 
 impl FromJson for Point {
-    ghost means = { struct_meant (field_and ⟦<u32 as FromJson>⟧.means ⟦<u32 as FromJson>⟧.absent
-        (field_and ⟦<u32 as FromJson>⟧.means ⟦<u32 as FromJson>⟧.absent no_fields)) ⟦<Point as Record>⟧.names ⟦<Point as Record>⟧.values };
+    ghost means = { struct_meant ⟦<PointFields as Slots>⟧.meaning ⟦<Point as Record>⟧.names ⟦<Point as Record>⟧.values };
 
     fn missing() -> Option<Point> {
         None
     }
 
     fn read<'a>(token: Event<'a>, source: &mut Source<'a>) -> Result<Point> {
-        read_record2::<Point, u32, u32>(token, source)
+        read_record::<Point, PointFields>(token, source)
     }
 }
 
 impl Serialize for Point {
-    ghost tree = { λ v. members (with_names ⟦<Point as Record>⟧.names (⟦<u32 as Serialize>⟧.tree v.x
-        ∷ ⟦<u32 as Serialize>⟧.tree v.y ∷ [])) };
+    ghost tree = { record_tree ⟦<Point as Record>⟧.names ⟦<PointFields as AgainFields>⟧.trees
+        ⟦<Point as Record>⟧.values };
 
     fn begin(&self, w: &mut Writer) -> Result<()> {
-        write_record2(w, POINT_NAMES, &self.x, &self.y)
+        write_members(w, POINT_NAMES, &Parts(&self.x, Parts(&self.y, ())))
     }
 }
 
 impl Ranged for Point {
-    ghost real = { λ v. ⟦<u32 as Ranged>⟧.real v.x × (⟦<u32 as Ranged>⟧.real v.y × ⊤) };
+    ghost real = { λ v. ⟦<PointFields as AgainFields>⟧.real (⟦<Point as Record>⟧.values v) };
 
     fn ranged(&self) {
         self.x.ranged();
@@ -204,7 +196,7 @@ impl Ranged for Point {
 
 impl RoundTrip for Point {
     fn again() {
-        record_again2::<Point, u32, u32>()
+        record_again::<Point, PointFields>()
     }
 }
 

@@ -2,13 +2,11 @@
 ghost use Rattle.miniserde.specs.Tree.{str};
 ghost use Rattle.std.specs.Prelude.{true, List, codes, [], ◌∷◌, ⊤, refl};
 
-use miniserde::de::{Deserialize, FromJson, Ranged, Source};
-use miniserde::json::lex::Event;
-use miniserde::record::{
-    NamePlace, UnitEnum, Variants, read_variant, variant_again, variant_lossless,
+use miniserde::derived::{
+    Deserialize, Event, Fragment, FromJson, Lossless, NamePlace, NeverNull, Ranged, Result,
+    RoundTrip, Serialize, Source, UnitEnum, Variants, Writer, read_variant, variant_again,
+    variant_lossless,
 };
-use miniserde::ser::{Fragment, Serialize, Writer};
-use miniserde::{Lossless, NeverNull, Result, RoundTrip};
 
 #[derive(Clone, Copy, PartialEq, Eq, Debug, Drop)]
 pub enum Tag {
@@ -53,12 +51,6 @@ impl FromJson for Tag {
     }
 }
 
-impl Deserialize for Tag {
-    type Place = NamePlace<Tag>;
-
-    fn tied() {}
-}
-
 impl Serialize for Tag {
     ghost tree = { λ v. str (⟦<Tag as UnitEnum>⟧.name_of v) };
 
@@ -87,4 +79,10 @@ impl Lossless for Tag {
 
 impl NeverNull for Tag {
     fn never_null() {}
+}
+
+impl Deserialize for Tag {
+    type Place = NamePlace<Tag>;
+
+    fn tied() {}
 }

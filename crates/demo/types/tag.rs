@@ -1,4 +1,4 @@
-pub enum Tag { // lossless
+pub enum Tag { // lossless, events
     A,
     B,    // rename "renamedB"
     Enum, // rename "enum"

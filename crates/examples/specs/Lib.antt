@@ -3,5 +3,6 @@ pub mod Elements
 pub mod Counter
 pub mod Percents
 pub mod Rates
+pub mod Services
 pub mod Totals
 pub mod laws

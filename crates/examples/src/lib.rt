@@ -9,4 +9,6 @@ pub mod percent;
 pub mod rate;
 pub mod rates;
 pub mod readme;
+pub mod service;
+pub mod services;
 pub mod totals;

@@ -5,6 +5,7 @@
 //! of any depth are read without recursion; memory alone bounds how deep they may be.
 #![tactic(auto)]
 
+pub mod derived;
 pub mod json;
 pub mod laws;
 pub mod ser;

@@ -14,11 +14,11 @@ mod impls;
 pub use impls::{
     ArrayPlace, BTreeMapPlace, BoxPlace, HashMapPlace, OptionPlace, PairPlace, VecPlace,
 };
-pub use miniserde_text::{MapKey, Ranged, WholeKey};
 pub use miniserde_place::de::leaf::{BoolPlace, IntegerPlace, StringPlace, UnitPlace};
 pub use miniserde_place::de::{Ignore, Step, Visitor, container, ignore, leaf};
 pub use miniserde_read::{FromJson, Ignored, Source};
 use miniserde_text::error::{Error, Result};
+pub use miniserde_text::{MapKey, Ranged, WholeKey};
 use std::alloc::Global;
 
 /// A type with a place, which collects a value from events. The place means what the type does.

@@ -1,3 +1,4 @@
 pub mod Due
+pub mod MarkRounds
 pub mod Named
 pub mod Rounds

@@ -1,9 +1,8 @@
 -- Members by the same names are alike only where their trees are, if each tree has a name.
-use Rattle.std.proofs.Common.{◌≡◌, ℕ, Bool, true, false, List, [], ◌∷◌, length, refl, ◌&&◌, nat_eq, arith}
-use Rattle.std.proofs.lemmas.Bool.Decides.{nat_tests}
+use Rattle.std.proofs.Common.{◌≡◌, List, [], ◌∷◌, length, refl, arith}
 use Rattle.miniserde_model.specs.Tree.{Tree, members, member, no_members}
 use Rattle.miniserde_read.specs.meaning.Objects.{Name}
-use Rattle.miniserde_record.specs.Structs.{with_names, are_names, are_distinct}
+use Rattle.miniserde_record.specs.Structs.{with_names}
 
 pub one_trees : (ns : List Name) (ts us : List Tree) → length ts ≡ length ns → length us ≡ length ns → with_names ns ts ≡ with_names ns us → ts ≡ us
 one_trees [] [] [] p q e = refl
@@ -16,10 +15,3 @@ one_trees (n ∷ ns) (t ∷ ts) (u ∷ us) p q e =
     let more : with_names ns ts ≡ with_names ns us = cc in
     let rest : ts ≡ us = one_trees ns ts us (omega (arith, p)) (omega (arith, q)) more in
     rw (first, rest) refl
-
-both : (a b : Bool) → (a && b) ≡ true → a ≡ true
-both true b h = refl
-both false b h = absurd (cc)
-
-pub named_length : (k : ℕ) (ns : List Name) → are_names k ns ≡ true → length ns ≡ k
-named_length k ns h = let e = both (nat_eq (length ns) k) (are_distinct ns) h in grind (arith, nat_tests, e)

@@ -21,14 +21,18 @@ both true b h = (refl, h)
 both false b h = absurd (cc)
 
 -- a name for each of one field more
-more_names : (k : ℕ) (n : Name) (ns : List Name) → are_names (k + 1) (n ∷ ns) ≡ true → (is_new n ns ≡ true) × (are_names k ns ≡ true)
+pub more_names : (k : ℕ) (n : Name) (ns : List Name) → are_names (k + 1) (n ∷ ns) ≡ true → (is_new n ns ≡ true) × (are_names k ns ≡ true)
 more_names k n ns h =
     let p = both (nat_eq (length (n ∷ ns)) (k + 1)) (is_new n ns && are_distinct ns) h in
     let q = both (is_new n ns) (are_distinct ns) p.1 in
     let e : nat_eq (length ns) k ≡ true = grind (arith, nat_tests, p.0) in
     (q.0, rw (e, q.1) refl)
 
-no_names : (k : ℕ) → are_names (k + 1) [] ≡ true → ⊥
+-- so many distinct names
+pub distinct_names : (k : ℕ) (ns : List Name) → length ns ≡ k → are_distinct ns ≡ true → are_names k ns ≡ true
+distinct_names k ns h d = let e : nat_eq (length ns) k ≡ true = grind (arith, nat_tests, h) in rw (e, d) refl
+
+pub no_names : (k : ℕ) → are_names (k + 1) [] ≡ true → ⊥
 no_names k h = let e : 0 ≡ k + 1 = grind (arith, nat_tests, (both (nat_eq 0 (k + 1)) true h).0) in omega (arith, e)
 
 -- a new name's test, at a name and the later ones
@@ -44,7 +48,7 @@ others_new n (k ∷ ks) [] h = refl
 others_new n (k ∷ ks) (t ∷ ts) h = let p = apart n k ks h in rw p.0 (ap (member k t) (others_new n ks ts p.1))
 
 -- so each one that has it means something
-all_new : {C : Type 0} (of : Tree → Option C) (n : Name) (ns : List Name) (ts : List Tree) → is_new n ns ≡ true → AllNamed of n (with_names ns ts)
+pub all_new : {C : Type 0} (of : Tree → Option C) (n : Name) (ns : List Name) (ts : List Tree) → is_new n ns ≡ true → AllNamed of n (with_names ns ts)
 all_new of n [] ts h = tt
 all_new of n (k ∷ ks) [] h = tt
 all_new of n (k ∷ ks) (t ∷ ts) h = let p = apart n k ks h in (λ e. absurd (true≢false (sym e ∙ p.0)), all_new of n ks ts p.1)
@@ -56,11 +60,11 @@ last_new n (k ∷ ks) [] h = refl
 last_new n (k ∷ ks) (t ∷ ts) h = let p = apart n k ks h in rw (p.0, last_new n ks ts p.1) refl
 
 -- a new name's own member is its last one
-last_own : (n : Name) (t : Tree) (ns : List Name) (ts : List Tree) → is_new n ns ≡ true → last_of n (member n t (with_names ns ts)) ≡ Some t
+pub last_own : (n : Name) (t : Tree) (ns : List Name) (ts : List Tree) → is_new n ns ≡ true → last_of n (member n t (with_names ns ts)) ≡ Some t
 last_own n t ns ts h = rw (last_new n ns ts h, same n) refl
 
 -- and the others are the later ones
-others_own : (n : Name) (t : Tree) (ns : List Name) (ts : List Tree) → is_new n ns ≡ true → others n (member n t (with_names ns ts)) ≡ with_names ns ts
+pub others_own : (n : Name) (t : Tree) (ns : List Name) (ts : List Tree) → is_new n ns ≡ true → others n (member n t (with_names ns ts)) ≡ with_names ns ts
 others_own n t ns ts h = rw (same n) (others_new n ns ts h)
 
 module _ {A C W : Type 0} (real_a : A → Type 0) (tree : A → Tree) (reads : Tree → A → Type 0) (of : Tree → Option C) (content : A → C) (absent : Option A) (given : (t : Tree) (v : A) → reads t v ↔ (of t ≡ Some (content v)))

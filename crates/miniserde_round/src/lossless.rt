@@ -4,8 +4,8 @@ ghost use Rattle.miniserde_model.specs.Tree.{null};
 ghost use Rattle.miniserde_text.specs.declared.error.Error.{Error};
 
 use crate::round_trip::{RoundTrip, read_again};
-use miniserde_text::{MapKey, WholeKey};
 use miniserde_text::error::Result;
+use miniserde_text::{MapKey, WholeKey};
 use std::alloc::Global;
 use std::collections::{BTreeMap, HashMap};
 use std::hash::{BuildHasher, Hash};

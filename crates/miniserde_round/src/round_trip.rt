@@ -3,10 +3,10 @@ ghost use Rattle.std.specs.Prelude.{◌≡◌, IfOk, Ok, Err};
 ghost use Rattle.miniserde_round.specs.RoundTrip.{ReadsAgain};
 ghost use Rattle.miniserde_text.specs.declared.error.Error.{Error};
 
-use miniserde_text::{MapKey, Ranged};
 use miniserde_read::{FromJson, from_str};
 use miniserde_ser::ser::{Serialize, to_string};
 use miniserde_text::error::{Error, Result};
+use miniserde_text::{MapKey, Ranged};
 use std::alloc::Global;
 use std::collections::{BTreeMap, HashMap};
 use std::hash::{BuildHasher, Hash};

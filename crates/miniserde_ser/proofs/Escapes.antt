@@ -1,5 +1,5 @@
 -- Texts by the escape rule, piece by piece.
-use Rattle.std.proofs.Common.{◌≡◌, ℕ, suc, ◌+◌, ◌-◌, ◌*◌, ◌<◌, ◌≤◌, List, [], ◌∷◌, ◌++◌, length, true, false, take, drop, get_or, refl, ap, sym, ◌∙◌, arith, length-append, length-drop, take-add}
+use Rattle.std.proofs.Common.{◌≡◌, ℕ, suc, ◌+◌, ◌-◌, ◌*◌, ◌<◌, ◌≤◌, List, [], ◌∷◌, ◌++◌, length, true, false, take, drop, get_or, refl, ap, sym, ◌∙◌, arith, length-append, length-drop, take-add, append_assoc}
 use Rattle.std.proofs.lemmas.Grind.{flat_map-append}
 use Rattle.std.proofs.lemmas.List.{take_more, append-nil, take-append-drop, length-take, get_or-take, get_or-drop}
 use Rattle.std.proofs.lemmas.Bool.Decides.{nat_tests}
@@ -94,3 +94,11 @@ length_escapes_six (x ∷ xs) =
 pub quoted_escapes : (s : List ℕ) → quoted s ≡ 34 ∷ (escapes s ++ 34 ∷ [])
 unfolding quoted escapes escape
 quoted_escapes s = refl
+
+-- a quote, what stands between the quotes, and a quote
+pub between_quotes : (old mid a b new v : List ℕ) → mid ≡ old → a ≡ mid ++ 34 ∷ [] → b ≡ a ++ escapes v → new ≡ b ++ 34 ∷ [] → new ≡ old ++ quoted v
+between_quotes old mid a b new v h i j k = rw (k, j, i, h, quoted_escapes v) (simp append_assoc refl)
+
+-- how long that is
+pub length_quoted : (v : List ℕ) → length (quoted v) ≡ 2 + length (escapes v)
+length_quoted v = rw quoted_escapes (omega (arith, length-append (escapes v) (34 ∷ [])))

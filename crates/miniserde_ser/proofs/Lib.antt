@@ -3,3 +3,4 @@ pub mod Escapes
 pub mod Members
 pub mod Ordered
 pub mod Names
+pub mod Plain

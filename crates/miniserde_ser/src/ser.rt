@@ -12,10 +12,11 @@ mod compact;
 mod escape;
 mod fields;
 mod impls;
+mod plain;
 
 pub use compact::to_string;
 pub use escape::escape_str;
-use escape::put_between;
+use escape::put_name;
 pub use fields::write_field;
 use itoa::Buffer;
 use miniserde_text::error::{Error, Result};
@@ -235,9 +236,24 @@ impl Writer {
             ((if self.old.first then [] else codes ",") ++ quoted k.now ++ codes ":")) }
         ensures capacity { self.old.capacity ≤ self.new.capacity }
     {
+        self.known_key(k)
+    }
+
+    /// As `key`, in the place where it is called, for a name that is known there.
+    #[inline(always)]
+    pub fn known_key(&mut self, k: &str) -> Result<()>
+        ensures ok { OnOk result (self.new ≡ with_first (appended self.old
+            ((if self.old.first then [] else codes ",") ++ quoted k.now ++ codes ":") self.new.capacity) false) }
+        ensures utf8 { OnOk result (IsUtf8 k.now) }
+        ensures stays { OnOk result (self.old.refused ≡ false) }
+        ensures memory { OnErr result (IsErrOf result Memory) }
+        ensures err { OnErr result (self.new ≡ with_refused self.old) }
+        ensures room { OnErr result (LacksRoom self.old
+            ((if self.old.first then [] else codes ",") ++ quoted k.now ++ codes ":")) }
+        ensures capacity { self.old.capacity ≤ self.new.capacity }
+    {
         self.check()?;
-        let comma = if self.first { "" } else { "," };
-        match put_between(comma, k, ":", &mut self.text) {
+        match put_name(self.first, k, &mut self.text) {
             Ok(()) => {
                 self.first = false;
                 Ok(())

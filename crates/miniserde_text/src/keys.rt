@@ -11,8 +11,8 @@ mod integers;
 mod whole;
 mod words;
 
-use crate::ranged::Ranged;
 use crate::error::Result;
+use crate::ranged::Ranged;
 use std::alloc::Global;
 pub use whole::WholeKey;
 

@@ -1,8 +1,8 @@
 //! What depth asks for. With the second request for memory refused, as by `rt try --test --fail-alloc 2`, the first of
 //! these tests passes too, and with the third refused both do.
 
-use miniserde::json::feed;
 use miniserde::de::ignore;
+use miniserde::json::feed;
 use std::alloc::Global;
 use std::str;
 use std::test::Fail;

@@ -1,20 +1,15 @@
 //! The types of `types.rs`, with the impls that `./derive` writes.
-ghost use Rattle.miniserde.specs.FieldsMeant.{field_and, no_fields, struct_meant};
+ghost use Rattle.miniserde.specs.FieldsMeant.{struct_meant};
 ghost use Rattle.miniserde.specs.Place.{inside};
-ghost use Rattle.miniserde.specs.Structs.{names_of, with_names};
-ghost use Rattle.miniserde.specs.Tree.{members};
-ghost use Rattle.std.specs.Prelude.{[], ◌∷◌, ⊤, refl};
+ghost use Rattle.miniserde.specs.Structs.{names_of, record_tree};
+ghost use Rattle.std.specs.Prelude.{refl};
 
-use miniserde::de::{Deserialize, FromJson, Ranged, Source, Step, Visitor};
-use miniserde::json::lex::Event;
-use miniserde::record::arity::{
-    Values2, Values5, read_record2, read_record5, record_again2, record_again5, record_lossless2,
-    record_lossless5, write_record2, write_record5,
+use miniserde::derived::{
+    AgainFields, Deserialize, Error, Event, Field, Four, FourLent, FourSlot, FromJson, Global,
+    Lossless, NeverNull, NoField, NoSlot, Parts, PlacedRecord, Ranged, Record, RecordPlace, Result,
+    RoundTrip, Serialize, Slot, Slots, Source, Step, Taken4, Visitor, Writer, read_record,
+    record_again, record_lossless, take4, write_members,
 };
-use miniserde::record::{Field, Four, NoField, Parts, PlacedRecord, Record, RecordPlace};
-use miniserde::ser::{Serialize, Writer};
-use miniserde::{Error, Lossless, NeverNull, Result, RoundTrip};
-use std::alloc::Global;
 use std::collections::BTreeMap;
 
 /// A host, and how much of the work it gets.
@@ -24,61 +19,58 @@ pub struct Host {
     pub weight: u8,
 }
 
-// The names of its fields.
+// Its fields, and their names.
+type HostFields = Slot<String, Slot<u8, NoSlot>>;
+
 const HOST_NAMES: &[&str] = &["host", "weight"];
 
 impl Record for Host {
     ghost use Rattle.settings.specs.declared.types.TheConstants.{HOST_NAMES};
 
-    type Values = Values2<String, u8>;
+    type Values = <HostFields as Slots>::Values;
 
     ghost names = { names_of HOST_NAMES };
-
-    ghost count = { 2 };
 
     ghost values = { λ v. (v.host, (v.weight, tt)) };
 
     ghost made = { λ x. record { host = x.0; weight = x.1.0 } };
+
+    ghost whole = { (λ v. refl, λ x. refl) };
+
+    ghost named = { refl };
 
     fn names() -> &'static [&'static str] {
         HOST_NAMES
     }
 
     fn build(parts: Self::Values) -> Host {
-        let Parts(host, parts) = parts;
-        let Parts(weight, ()) = parts;
+        let Parts(host, Parts(weight, ())) = parts;
         Host { host, weight }
     }
-
-    ghost whole = { (λ v. refl, λ x. refl) };
-
-    ghost named = { refl };
 }
 
 impl FromJson for Host {
-    ghost means = { struct_meant (field_and ⟦<String as FromJson>⟧.means ⟦<String as FromJson>⟧.absent (field_and ⟦<u8 as FromJson>⟧.means ⟦<u8 as FromJson>⟧.absent no_fields))
-        ⟦<Host as Record>⟧.names ⟦<Host as Record>⟧.values };
+    ghost means = { struct_meant ⟦<HostFields as Slots>⟧.meaning ⟦<Host as Record>⟧.names ⟦<Host as Record>⟧.values };
 
     fn missing() -> Option<Host> {
         None
     }
 
     fn read<'a>(token: Event<'a>, source: &mut Source<'a>) -> Result<Host> {
-        read_record2::<Host, String, u8>(token, source)
+        read_record::<Host, HostFields>(token, source)
     }
 }
 
 impl Serialize for Host {
-    ghost tree = { λ v. members (with_names ⟦<Host as Record>⟧.names (⟦<String as Serialize>⟧.tree
-        v.host ∷ ⟦<u8 as Serialize>⟧.tree v.weight ∷ [])) };
+    ghost tree = { record_tree ⟦<Host as Record>⟧.names ⟦<HostFields as AgainFields>⟧.trees ⟦<Host as Record>⟧.values };
 
     fn begin(&self, w: &mut Writer) -> Result<()> {
-        write_record2(w, HOST_NAMES, &self.host, &self.weight)
+        write_members(w, HOST_NAMES, &Parts(&self.host, Parts(&self.weight, ())))
     }
 }
 
 impl Ranged for Host {
-    ghost real = { λ v. ⟦<String as Ranged>⟧.real v.host × (⟦<u8 as Ranged>⟧.real v.weight × ⊤) };
+    ghost real = { λ v. ⟦<HostFields as AgainFields>⟧.real (⟦<Host as Record>⟧.values v) };
 
     fn ranged(&self) {
         self.host.ranged();
@@ -88,13 +80,13 @@ impl Ranged for Host {
 
 impl RoundTrip for Host {
     fn again() {
-        record_again2::<Host, String, u8>()
+        record_again::<Host, HostFields>()
     }
 }
 
 impl Lossless for Host {
     fn lossless() {
-        record_lossless2::<Host, String, u8>()
+        record_lossless::<Host, HostFields>()
     }
 }
 
@@ -154,61 +146,58 @@ pub struct Tls {
     pub verify: bool,
 }
 
-// The names of its fields.
+// Its fields, and their names.
+type TlsFields = Slot<String, Slot<bool, NoSlot>>;
+
 const TLS_NAMES: &[&str] = &["cert", "verify"];
 
 impl Record for Tls {
     ghost use Rattle.settings.specs.declared.types.TheConstants.{TLS_NAMES};
 
-    type Values = Values2<String, bool>;
+    type Values = <TlsFields as Slots>::Values;
 
     ghost names = { names_of TLS_NAMES };
-
-    ghost count = { 2 };
 
     ghost values = { λ v. (v.cert, (v.verify, tt)) };
 
     ghost made = { λ x. record { cert = x.0; verify = x.1.0 } };
+
+    ghost whole = { (λ v. refl, λ x. refl) };
+
+    ghost named = { refl };
 
     fn names() -> &'static [&'static str] {
         TLS_NAMES
     }
 
     fn build(parts: Self::Values) -> Tls {
-        let Parts(cert, parts) = parts;
-        let Parts(verify, ()) = parts;
+        let Parts(cert, Parts(verify, ())) = parts;
         Tls { cert, verify }
     }
-
-    ghost whole = { (λ v. refl, λ x. refl) };
-
-    ghost named = { refl };
 }
 
 impl FromJson for Tls {
-    ghost means = { struct_meant (field_and ⟦<String as FromJson>⟧.means ⟦<String as FromJson>⟧.absent (field_and ⟦<bool as FromJson>⟧.means ⟦<bool as FromJson>⟧.absent
-        no_fields)) ⟦<Tls as Record>⟧.names ⟦<Tls as Record>⟧.values };
+    ghost means = { struct_meant ⟦<TlsFields as Slots>⟧.meaning ⟦<Tls as Record>⟧.names ⟦<Tls as Record>⟧.values };
 
     fn missing() -> Option<Tls> {
         None
     }
 
     fn read<'a>(token: Event<'a>, source: &mut Source<'a>) -> Result<Tls> {
-        read_record2::<Tls, String, bool>(token, source)
+        read_record::<Tls, TlsFields>(token, source)
     }
 }
 
 impl Serialize for Tls {
-    ghost tree = { λ v. members (with_names ⟦<Tls as Record>⟧.names (⟦<String as Serialize>⟧.tree
-        v.cert ∷ ⟦<bool as Serialize>⟧.tree v.verify ∷ [])) };
+    ghost tree = { record_tree ⟦<Tls as Record>⟧.names ⟦<TlsFields as AgainFields>⟧.trees ⟦<Tls as Record>⟧.values };
 
     fn begin(&self, w: &mut Writer) -> Result<()> {
-        write_record2(w, TLS_NAMES, &self.cert, &self.verify)
+        write_members(w, TLS_NAMES, &Parts(&self.cert, Parts(&self.verify, ())))
     }
 }
 
 impl Ranged for Tls {
-    ghost real = { λ v. ⟦<String as Ranged>⟧.real v.cert × (⟦<bool as Ranged>⟧.real v.verify × ⊤) };
+    ghost real = { λ v. ⟦<TlsFields as AgainFields>⟧.real (⟦<Tls as Record>⟧.values v) };
 
     fn ranged(&self) {
         self.cert.ranged();
@@ -218,13 +207,13 @@ impl Ranged for Tls {
 
 impl RoundTrip for Tls {
     fn again() {
-        record_again2::<Tls, String, bool>()
+        record_again::<Tls, TlsFields>()
     }
 }
 
 impl Lossless for Tls {
     fn lossless() {
-        record_lossless2::<Tls, String, bool>()
+        record_lossless::<Tls, TlsFields>()
     }
 }
 
@@ -287,17 +276,23 @@ pub struct Settings {
     pub limits: BTreeMap<String, u64>,
 }
 
-// The names of its fields.
+// Its fields, and their names.
+type SettingsFields = FourSlot<
+    String,
+    u16,
+    Option<Tls>,
+    Vec<Host>,
+    Slot<BTreeMap<String, u64>, NoSlot>,
+>;
+
 const SETTINGS_NAMES: &[&str] = &["name", "port", "tls", "hosts", "limits"];
 
 impl Record for Settings {
     ghost use Rattle.settings.specs.declared.types.TheConstants.{SETTINGS_NAMES};
 
-    type Values = Values5<String, u16, Option<Tls>, Vec<Host>, BTreeMap<String, u64>>;
+    type Values = <SettingsFields as Slots>::Values;
 
     ghost names = { names_of SETTINGS_NAMES };
-
-    ghost count = { 5 };
 
     ghost values = { λ v. (v.name, (v.port, (v.tls, (v.hosts, (v.limits, tt))))) };
 
@@ -309,15 +304,16 @@ impl Record for Settings {
       limits = x.1.1.1.1.0;
     } };
 
+    ghost whole = { (λ v. refl, λ x. refl) };
+
+    ghost named = { refl };
+
     fn names() -> &'static [&'static str] {
         SETTINGS_NAMES
     }
 
     fn build(parts: Self::Values) -> Settings {
-        let Parts(name, parts) = parts;
-        let Parts(port, parts) = parts;
-        let Parts(tls, parts) = parts;
-        let Parts(hosts, parts) = parts;
+        let Taken4(name, port, tls, hosts, parts) = take4(parts);
         let Parts(limits, ()) = parts;
         Settings {
             name,
@@ -327,47 +323,42 @@ impl Record for Settings {
             limits,
         }
     }
-
-    ghost whole = { (λ v. refl, λ x. refl) };
-
-    ghost named = { refl };
 }
 
 impl FromJson for Settings {
-    ghost means = { struct_meant (field_and ⟦<String as FromJson>⟧.means ⟦<String as FromJson>⟧.absent (field_and ⟦<u16 as FromJson>⟧.means ⟦<u16 as FromJson>⟧.absent (field_and
-        ⟦<Option<Tls> as FromJson>⟧.means ⟦<Option<Tls> as FromJson>⟧.absent (field_and ⟦<Vec<Host> as FromJson>⟧.means ⟦<Vec<Host> as FromJson>⟧.absent (field_and ⟦<BTreeMap<String, u64> as FromJson>⟧.means ⟦<BTreeMap<String, u64> as FromJson>⟧.absent no_fields))))) ⟦<Settings as Record>⟧.names ⟦<Settings as Record>⟧.values };
+    ghost means = { struct_meant ⟦<SettingsFields as Slots>⟧.meaning ⟦<Settings as Record>⟧.names
+        ⟦<Settings as Record>⟧.values };
 
     fn missing() -> Option<Settings> {
         None
     }
 
     fn read<'a>(token: Event<'a>, source: &mut Source<'a>) -> Result<Settings> {
-        read_record5::<Settings, String, u16, Option<Tls>, Vec<Host>, BTreeMap<String, u64>>(
-            token, source,
-        )
+        read_record::<Settings, SettingsFields>(token, source)
     }
 }
 
 impl Serialize for Settings {
-    ghost tree = { λ v. members (with_names ⟦<Settings as Record>⟧.names (⟦<String as Serialize>⟧.tree v.name ∷ ⟦<u16 as Serialize>⟧.tree v.port ∷ ⟦<Option<Tls> as Serialize>⟧.tree v.tls ∷ ⟦<Vec<Host> as Serialize>⟧.tree v.hosts ∷ ⟦<BTreeMap<String, u64> as Serialize>⟧.tree v.limits ∷ [])) };
+    ghost tree = { record_tree ⟦<Settings as Record>⟧.names ⟦<SettingsFields as AgainFields>⟧.trees
+        ⟦<Settings as Record>⟧.values };
 
     fn begin(&self, w: &mut Writer) -> Result<()> {
-        write_record5(
+        write_members(
             w,
             SETTINGS_NAMES,
-            &self.name,
-            &self.port,
-            &self.tls,
-            &self.hosts,
-            &self.limits,
+            &FourLent(
+                &self.name,
+                &self.port,
+                &self.tls,
+                &self.hosts,
+                Parts(&self.limits, ()),
+            ),
         )
     }
 }
 
 impl Ranged for Settings {
-    ghost real = { λ v. ⟦<String as Ranged>⟧.real v.name × (⟦<u16 as Ranged>⟧.real v.port ×
-        (⟦<Option<Tls> as Ranged>⟧.real v.tls × (⟦<Vec<Host> as Ranged>⟧.real v.hosts ×
-        (⟦<BTreeMap<String, u64> as Ranged>⟧.real v.limits × ⊤)))) };
+    ghost real = { λ v. ⟦<SettingsFields as AgainFields>⟧.real (⟦<Settings as Record>⟧.values v) };
 
     fn ranged(&self) {
         self.name.ranged();
@@ -380,13 +371,13 @@ impl Ranged for Settings {
 
 impl RoundTrip for Settings {
     fn again() {
-        record_again5::<Settings, String, u16, Option<Tls>, Vec<Host>, BTreeMap<String, u64>>()
+        record_again::<Settings, SettingsFields>()
     }
 }
 
 impl Lossless for Settings {
     fn lossless() {
-        record_lossless5::<Settings, String, u16, Option<Tls>, Vec<Host>, BTreeMap<String, u64>>()
+        record_lossless::<Settings, SettingsFields>()
     }
 }
 

@@ -3,3 +3,5 @@
 
 #[cfg(test)]
 mod writer;
+#[cfg(test)]
+mod wrong;

@@ -1,24 +1,15 @@
+//! Keys of maps. A line of a table is a name, ` => `, and the text of the key that it is read as; a line without
+//! ` => ` is a name that is invalid.
 ghost use Rattle.std.specs.Prelude.{◌≡◌, Err, IfOk, true};
 ghost use Rattle.miniserde_text.specs.declared.error.Error.TheVariants.{Invalid};
 
+use crate::wrong::{Wrong, expect, is_displayed};
 use miniserde_text::MapKey;
 use miniserde_text::error::{Error, Result};
 use std::alloc::Global;
-use std::test::Fail;
+use std::fmt::Display;
 
-// Whether the text is the name of no key.
-fn is_invalid<K: MapKey>(alloc: Global, text: &str) -> bool {
-    matches!(K::from_key(alloc, text), Err(Error::Invalid))
-}
-
-// Whether the text is added for the key to what stands there.
-fn is_written<K: MapKey>(alloc: Global, key: &K, text: &str) -> Result<bool> {
-    let mut out = String::from_str(alloc, "before ")?;
-    key.to_key(&mut out)?;
-    Ok(out.as_str().strip_prefix("before ") == Some(text))
-}
-
-// The key that the text of a key is read as.
+/// Returns the key that is read from the name of a key.
 fn read_again<K: MapKey>(alloc: Global, key: &K) -> Result<K>
     ensures equal { IfOk result (λ again. K.eq again key.now ≡ true) }
     ensures never { result ≡ Err Invalid → ⊥ }
@@ -29,112 +20,173 @@ fn read_again<K: MapKey>(alloc: Global, key: &K) -> Result<K>
     K::from_key(alloc, name.as_str())
 }
 
-#[test]
-fn strings(rt: HostRuntime) -> std::result::Result<(), Fail> {
-    let alloc = rt.alloc();
-    for text in ["", "a", " 1", "\u{e9}\0\"", "true"] {
-        let key = String::from_key(alloc, text)?;
-        assert!(rt; key.as_str() == text, "at {text}");
-        assert!(rt; is_written(alloc, &key, text)?, "at {text}");
+/// Returns whether a text is appended for a key.
+fn is_written<K: MapKey>(alloc: Global, key: &K, text: &str) -> Result<bool> {
+    let mut out = String::from_str(alloc, "before ")?;
+    key.to_key(&mut out)?;
+    Ok(matches!(out.as_str().strip_prefix("before "), Some(written) if written == text))
+}
+
+/// Returns whether a name is read as the key that prints as a text, is written so, and is read again as an equal key.
+fn is_key<K: MapKey + Display>(alloc: Global, name: &str, text: &str) -> Result<bool> {
+    let key = K::from_key(alloc, name)?;
+    let is_same = read_again(alloc, &key)? == key;
+    Ok(is_same & is_displayed(alloc, &key, text)? & is_written(alloc, &key, text)?)
+}
+
+/// Returns whether a line is right for a type of keys.
+fn is_right<K: MapKey + Display>(alloc: Global, line: &str) -> bool {
+    match line.split_once(" => ") {
+        Some((name, text)) => matches!(is_key::<K>(alloc, name, text), Ok(true)),
+        None => matches!(K::from_key(alloc, line), Err(Error::Invalid)),
+    }
+}
+
+/// Fails with the first line of a table that is wrong for a type of keys, if any.
+fn expect_keys<K: MapKey + Display>(
+    alloc: Global,
+    table: &'static str,
+) -> std::result::Result<(), Wrong> {
+    for line in table.lines() {
+        expect(is_right::<K>(alloc, line), line)?;
     }
     Ok(())
 }
 
 #[test]
-fn bools(rt: HostRuntime) -> std::result::Result<(), Fail> {
-    let alloc = rt.alloc();
-    assert!(rt; matches!(bool::from_key(alloc, "true"), Ok(true)));
-    assert!(rt; matches!(bool::from_key(alloc, "false"), Ok(false)));
-    for text in ["True", "TRUE", "true ", "", "1", "tru"] {
-        assert!(rt; is_invalid::<bool>(alloc, text), "at {text}");
-    }
-    assert!(rt; is_written(alloc, &true, "true")?);
-    assert!(rt; is_written(alloc, &false, "false")?);
-    Ok(())
+fn any_text_is_the_key_of_a_string(rt: HostRuntime) -> std::result::Result<(), Wrong> {
+    expect_keys::<String>(
+        rt.alloc(),
+        " => \n\
+        a => a\n \
+        1 =>  1\n\
+        \u{e9}\0\" => \u{e9}\0\"\n\
+        true => true\n\
+        +7 => +7\n\
+        \\ud800 => \\ud800\n\
+        \u{1f600} => \u{1f600}",
+    )
 }
 
 #[test]
-fn chars(rt: HostRuntime) -> std::result::Result<(), Fail> {
-    let alloc = rt.alloc();
-    assert!(rt; matches!(char::from_key(alloc, "a"), Ok('a')));
-    assert!(rt; matches!(char::from_key(alloc, "\0"), Ok('\0')));
-    assert!(rt; matches!(char::from_key(alloc, "\u{e9}"), Ok('\u{e9}')));
-    assert!(rt; matches!(char::from_key(alloc, "\u{10ffff}"), Ok('\u{10ffff}')));
-    for text in ["", "ab", "\u{e9}\u{e9}", "e\u{301}"] {
-        assert!(rt; is_invalid::<char>(alloc, text), "at {text}");
-    }
-    assert!(rt; is_written(alloc, &'a', "a")?);
-    assert!(rt; is_written(alloc, &'\u{e9}', "\u{e9}")?);
-    assert!(rt; is_written(alloc, &'\u{1f600}', "\u{1f600}")?);
-    Ok(())
+fn the_keys_of_bools_are_true_and_false(rt: HostRuntime) -> std::result::Result<(), Wrong> {
+    expect_keys::<bool>(
+        rt.alloc(),
+        "true => true\n\
+        false => false\n\
+        True\n\
+        TRUE\n\
+        true \n\
+        \n\
+        1\n\
+        tru\n\
+        False\n\
+        0\n\
+        falsetto",
+    )
 }
 
 #[test]
-fn unsigned_integers(rt: HostRuntime) {
-    let alloc = rt.alloc();
-    assert!(rt; matches!(u8::from_key(alloc, "255"), Ok(255)));
-    assert!(rt; matches!(u8::from_key(alloc, "0000000255"), Ok(255)));
-    assert!(rt; matches!(u16::from_key(alloc, "65535"), Ok(65535)));
-    assert!(rt; matches!(u32::from_key(alloc, "007"), Ok(7)));
-    assert!(rt; matches!(u32::from_key(alloc, "+7"), Ok(7)));
-    assert!(rt; matches!(u32::from_key(alloc, "4294967295"), Ok(u32::MAX)));
-    assert!(rt; matches!(u64::from_key(alloc, "18446744073709551615"), Ok(u64::MAX)));
-    assert!(rt; matches!(usize::from_key(alloc, "+0"), Ok(0)));
-    for text in [
-        "-0", "-1", "256", "+", "-", "", " 1", "1 ", "++1", "1_0", "a", "1.0", "0x1",
-    ] {
-        assert!(rt; is_invalid::<u8>(alloc, text), "at {text}");
-    }
-    assert!(rt; is_invalid::<u16>(alloc, "65536"));
-    assert!(rt; is_invalid::<u32>(alloc, "4294967296"));
-    assert!(rt; is_invalid::<u64>(alloc, "18446744073709551616"));
-    assert!(rt; is_invalid::<usize>(alloc, "18446744073709551616"));
+fn the_key_of_a_char_is_one_code_point(rt: HostRuntime) -> std::result::Result<(), Wrong> {
+    expect_keys::<char>(
+        rt.alloc(),
+        "a => a\n\
+        \0 => \0\n\
+        \u{7f} => \u{7f}\n\
+        \u{80} => \u{80}\n\
+        \u{e9} => \u{e9}\n\
+        \u{7ff} => \u{7ff}\n\
+        \u{800} => \u{800}\n\
+        \u{d7ff} => \u{d7ff}\n\
+        \u{e000} => \u{e000}\n\
+        \u{ffff} => \u{ffff}\n\
+        \u{10000} => \u{10000}\n\
+        \u{1f600} => \u{1f600}\n\
+        \u{10ffff} => \u{10ffff}\n\
+        \n\
+        ab\n\
+        \u{e9}\u{e9}\n\
+        e\u{301}",
+    )
 }
 
 #[test]
-fn signed_integers(rt: HostRuntime) {
+fn keys_of_unsigned_integers_are_in_range(rt: HostRuntime) -> std::result::Result<(), Wrong> {
     let alloc = rt.alloc();
-    assert!(rt; matches!(i8::from_key(alloc, "-0"), Ok(0)));
-    assert!(rt; matches!(i8::from_key(alloc, "-128"), Ok(-128)));
-    assert!(rt; matches!(i16::from_key(alloc, "-5"), Ok(-5)));
-    assert!(rt; matches!(i16::from_key(alloc, "+3"), Ok(3)));
-    assert!(rt; matches!(i32::from_key(alloc, "-2147483648"), Ok(i32::MIN)));
-    assert!(rt; matches!(i64::from_key(alloc, "-9223372036854775808"), Ok(i64::MIN)));
-    assert!(rt; matches!(isize::from_key(alloc, "-007"), Ok(-7)));
-    for text in ["128", "-129", "+", "-", "", " 1", "+-1", "--1", "-1.0"] {
-        assert!(rt; is_invalid::<i8>(alloc, text), "at {text}");
-    }
-    assert!(rt; is_invalid::<i16>(alloc, "32768"));
-    assert!(rt; is_invalid::<i32>(alloc, "-2147483649"));
-    assert!(rt; is_invalid::<i64>(alloc, "9223372036854775808"));
-    assert!(rt; is_invalid::<isize>(alloc, "9223372036854775808"));
+    expect_keys::<u8>(
+        alloc,
+        "0 => 0\n\
+        255 => 255\n\
+        0000000255 => 255\n\
+        -0\n\
+        -1\n\
+        256\n\
+        +\n\
+        -\n\
+        \n \
+        1\n\
+        1 \n\
+        ++1\n\
+        1_0\n\
+        a\n\
+        1.0\n\
+        0x1",
+    )?;
+    expect_keys::<u16>(alloc, "0 => 0\n65535 => 65535\n65536\n-1")?;
+    expect_keys::<u32>(
+        alloc,
+        "0 => 0\n7 => 7\n007 => 7\n+7 => 7\n4294967295 => 4294967295\n4294967296\n-1",
+    )?;
+    expect_keys::<u64>(
+        alloc,
+        "0 => 0\n18446744073709551615 => 18446744073709551615\n18446744073709551616\n-1",
+    )?;
+    expect_keys::<usize>(
+        alloc,
+        "+0 => 0\n10 => 10\n18446744073709551615 => 18446744073709551615\n18446744073709551616\n-1",
+    )
 }
 
 #[test]
-fn written_integers(rt: HostRuntime) -> std::result::Result<(), Fail> {
+fn keys_of_signed_integers_are_in_range(rt: HostRuntime) -> std::result::Result<(), Wrong> {
     let alloc = rt.alloc();
-    assert!(rt; is_written(alloc, &0u8, "0")?);
-    assert!(rt; is_written(alloc, &65535u16, "65535")?);
-    assert!(rt; is_written(alloc, &7u32, "7")?);
-    assert!(rt; is_written(alloc, &u64::MAX, "18446744073709551615")?);
-    assert!(rt; is_written(alloc, &10usize, "10")?);
-    assert!(rt; is_written(alloc, &i8::MIN, "-128")?);
-    assert!(rt; is_written(alloc, &-5i16, "-5")?);
-    assert!(rt; is_written(alloc, &5i32, "5")?);
-    assert!(rt; is_written(alloc, &i64::MIN, "-9223372036854775808")?);
-    assert!(rt; is_written(alloc, &-1isize, "-1")?);
-    Ok(())
-}
-
-#[test]
-fn written_keys(rt: HostRuntime) -> std::result::Result<(), Fail> {
-    let alloc = rt.alloc();
-    let name = String::from_str(alloc, "+7")?;
-    assert!(rt; read_again(alloc, &name)?.as_str() == "+7");
-    assert!(rt; matches!(read_again(alloc, &true), Ok(true)));
-    assert!(rt; matches!(read_again(alloc, &'\u{e9}'), Ok('\u{e9}')));
-    assert!(rt; matches!(read_again(alloc, &7u32), Ok(7)));
-    assert!(rt; matches!(read_again(alloc, &-5i16), Ok(-5)));
-    assert!(rt; matches!(read_again(alloc, &i64::MIN), Ok(i64::MIN)));
-    Ok(())
+    expect_keys::<i8>(
+        alloc,
+        "-0 => 0\n\
+        -128 => -128\n\
+        127 => 127\n\
+        128\n\
+        -129\n\
+        +\n\
+        -\n\
+        \n \
+        1\n\
+        +-1\n\
+        --1\n\
+        -1.0",
+    )?;
+    expect_keys::<i16>(
+        alloc,
+        "-5 => -5\n+3 => 3\n-32768 => -32768\n32767 => 32767\n32768\n-32769",
+    )?;
+    expect_keys::<i32>(
+        alloc,
+        "5 => 5\n-2147483648 => -2147483648\n2147483647 => 2147483647\n-2147483649\n2147483648",
+    )?;
+    expect_keys::<i64>(
+        alloc,
+        "-9223372036854775808 => -9223372036854775808\n\
+        9223372036854775807 => 9223372036854775807\n\
+        9223372036854775808\n\
+        -9223372036854775809",
+    )?;
+    expect_keys::<isize>(
+        alloc,
+        "-007 => -7\n\
+        -1 => -1\n\
+        -9223372036854775808 => -9223372036854775808\n\
+        9223372036854775807 => 9223372036854775807\n\
+        9223372036854775808\n\
+        -9223372036854775809",
+    )
 }

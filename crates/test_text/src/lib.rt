@@ -5,3 +5,5 @@
 mod keys;
 #[cfg(test)]
 mod texts;
+#[cfg(test)]
+mod wrong;

@@ -1,273 +1,389 @@
+//! The lexer, numbers that are kept as text, the search for special bytes, and messages of errors.
 ghost use Rattle.std.specs.Prelude.{◌<◌, ◌≤◌, length};
 
-use miniserde_text::error::Error;
+use crate::wrong::{Wrong, expect, expect_ok, is_displayed};
+use miniserde_text::error::{Error, Result};
 use miniserde_text::json::lex::{After, Event, Kind, Lexer, Text};
 use miniserde_text::json::number::NumberText;
 use miniserde_text::scan::special;
-use std::test::Fail;
+use std::alloc::Global;
 
-#[derive(Clone, Copy, Debug, PartialEq, Eq)]
-enum Front {
-    Null,
-    True,
-    False,
-    Least,
-    MinusZero,
-    Negative,
-    Nonnegative(u64),
-    Number,
-    Borrowed,
-    Decoded,
-    Seq,
-    Map,
-    Invalid,
-    Memory,
-}
-
-fn read_front(text: &str, scratch: &mut String) -> Front {
-    match Lexer::new(text).start(scratch) {
-        Ok(Event::Null) => Front::Null,
-        Ok(Event::Bool(true)) => Front::True,
-        Ok(Event::Bool(false)) => Front::False,
-        Ok(Event::Negative(i64::MIN)) => Front::Least,
-        Ok(Event::Negative(0)) => Front::MinusZero,
-        Ok(Event::Negative(_)) => Front::Negative,
-        Ok(Event::Nonnegative(n)) => Front::Nonnegative(n),
-        Ok(Event::Number(_)) => Front::Number,
-        Ok(Event::Str(Text::Input(_))) => Front::Borrowed,
-        Ok(Event::Str(Text::Scratch)) => Front::Decoded,
-        Ok(Event::SeqStart) => Front::Seq,
-        Ok(Event::MapStart) => Front::Map,
-        Err(Error::Invalid) => Front::Invalid,
-        Err(Error::Memory) => Front::Memory,
+/// Returns the word for the front of a value.
+fn front(event: Event<'_>) -> &'static str {
+    match event {
+        Event::Null => "null",
+        Event::Bool(true) => "true",
+        Event::Bool(false) => "false",
+        Event::Negative(_) => "negative",
+        Event::Nonnegative(_) => "nonnegative",
+        Event::Number(_) => "number",
+        Event::Str(Text::Input(_)) => "borrowed",
+        Event::Str(Text::Scratch) => "decoded",
+        Event::SeqStart => "seq",
+        Event::MapStart => "map",
     }
 }
 
-#[test]
-fn fronts_of_numbers(rt: HostRuntime) {
-    let mut scratch = String::new(rt.alloc());
-    for (text, want) in [
-        ("-9223372036854775808", Front::Least),
-        ("-9223372036854775809", Front::Number),
-        ("-0", Front::MinusZero),
-        ("-17", Front::Negative),
-        ("0", Front::Nonnegative(0)),
-        (
-            "9999999999999999999",
-            Front::Nonnegative(9_999_999_999_999_999_999),
+/// Returns whether a front has a number, a text or a content; any other has nothing.
+fn has_content(event: Event<'_>, scratch: &str, content: &str) -> bool {
+    match event {
+        Event::Negative(n) => content.parse::<i64>().ok() == Some(n),
+        Event::Nonnegative(n) => content.parse::<u64>().ok() == Some(n),
+        Event::Number(text) => text == content,
+        Event::Str(Text::Input(text)) => text == content,
+        Event::Str(Text::Scratch) => scratch == content,
+        _ => content == "",
+    }
+}
+
+/// Returns whether the lexer takes a front that is a word and has a content, or refuses it as the word says.
+fn is_front(event: Result<Event<'_>>, scratch: &str, word: &str, content: &str) -> bool {
+    match event {
+        Ok(event) => (front(event) == word) & has_content(event, scratch, content),
+        Err(error) => is_error(error, word),
+    }
+}
+
+/// Returns whether what follows in a container is a word.
+fn is_step(after: Result<After>, word: &str) -> bool {
+    match after {
+        Ok(After::Next) => word == "next",
+        Ok(After::Close) => word == "close",
+        Err(error) => is_error(error, word),
+    }
+}
+
+/// Returns whether an error is a word. No test expects that an allocation fails.
+fn is_error(error: Error, word: &str) -> bool {
+    matches!(error, Error::Invalid) & (word == "invalid")
+}
+
+/// Makes the call of the lexer that a word names: `start`, `name`, `end`, or `after`, as `first of [` and `next of {`. Returns whether it answers as expected.
+fn is_answer(lexer: &mut Lexer<'_>, scratch: &mut String, call: &str, expected: &str) -> bool {
+    let (word, content) = expected.split_once(' ').unwrap_or((expected, ""));
+    match call {
+        "start" => is_front(lexer.start(scratch), scratch.as_str(), word, content),
+        "name" => is_front(
+            lexer.name(scratch).map(Event::Str),
+            scratch.as_str(),
+            word,
+            content,
         ),
-        (
-            "10000000000000000000",
-            Front::Nonnegative(10_000_000_000_000_000_000),
-        ),
-        ("18446744073709551615", Front::Nonnegative(u64::MAX)),
-        ("18446744073709551616", Front::Number),
-        ("99999999999999999999", Front::Number),
-        ("1.50 ", Front::Number),
-        ("1e400", Front::Number),
-        ("-2E-3,", Front::Number),
-        ("01", Front::Invalid),
-        ("1.", Front::Invalid),
-        ("1e", Front::Invalid),
-        ("1-", Front::Invalid),
-        ("-", Front::Invalid),
-        ("+1", Front::Invalid),
-        (".5", Front::Invalid),
-    ] {
-        let got = read_front(text, &mut scratch);
-        assert_eq!(rt; got, want, "at {text}");
+        "end" => match lexer.end() {
+            Ok(()) => word == "ok",
+            Err(error) => is_error(error, word),
+        },
+        _ => {
+            let kind = if call.ends_with('[') {
+                Kind::Seq
+            } else {
+                Kind::Map
+            };
+            is_step(lexer.after(kind, call.starts_with("first")), word)
+        }
     }
 }
 
-#[test]
-fn fronts_of_words_strings_and_brackets(rt: HostRuntime) {
-    let mut scratch = String::new(rt.alloc());
-    for (text, want) in [
-        (" null", Front::Null),
-        ("true", Front::True),
-        ("\t\n\r false", Front::False),
-        ("nul", Front::Invalid),
-        ("", Front::Invalid),
-        (" ", Front::Invalid),
-        ("\"ab\"", Front::Borrowed),
-        ("\"a\u{7f}\"", Front::Borrowed),
-        ("\"a\\u0062\"", Front::Decoded),
-        ("\"a", Front::Invalid),
-        ("\"\\ud800\"", Front::Invalid),
-        ("\"\\ud800x\"", Front::Invalid),
-        ("\"\\ude00\\ud83d\"", Front::Invalid),
-        ("\"\\x\"", Front::Invalid),
-        ("\"\\u12\"", Front::Invalid),
-        ("\"a\u{1f}\"", Front::Invalid),
-        // Behind an escape these never close, at the end of the text or at a control byte. Memory is there.
-        ("\"\\n", Front::Invalid),
-        ("\"\\n\u{1f}", Front::Invalid),
-        ("[", Front::Seq),
-        ("{", Front::Map),
-        ("]", Front::Invalid),
-    ] {
-        let got = read_front(text, &mut scratch);
-        assert_eq!(rt; got, want, "at {text}");
+/// Returns whether the calls on the lexer of a text answer as expected. A word with no call is what `start` answers.
+fn are_answers(text: &str, scratch: &mut String, calls: &str) -> bool {
+    let mut lexer = Lexer::new(text);
+    for item in calls.split("; ") {
+        let (call, expected) = item.split_once(": ").unwrap_or(("start", item));
+        if !is_answer(&mut lexer, scratch, call, expected) {
+            return false;
+        }
     }
+    true
 }
 
-#[test]
-fn strings(rt: HostRuntime) -> Result<(), Fail> {
-    let mut scratch = String::new(rt.alloc());
-    for (text, want) in [
-        ("\"a\\u0062\"", "ab"),
-        ("\"\\ud83d\\ude00\"", "\u{1f600}"),
-        ("\"\\uDBFF\\uDFFF\"", "\u{10ffff}"),
-        ("\"\\ud800\\udc00\"", "\u{10000}"),
-        (
-            "\"\u{e9}\\u00E9\\b\\f\\n\\r\\t\\/\\\\\\\"\"",
-            "\u{e9}\u{e9}\x08\x0c\n\r\t/\\\"",
-        ),
-    ] {
-        assert_eq!(rt; read_front(text, &mut scratch), Front::Decoded);
-        assert!(rt; scratch.as_str() == want, "at {text}");
+/// Returns whether the calls answer as expected, and leave the scratch text unless a string is decoded or refused.
+fn is_right(alloc: Global, text: &str, calls: &str) -> Result<bool> {
+    let mut scratch = String::from_str(alloc, "unchanged")?;
+    let are_right = are_answers(text, &mut scratch, calls);
+    let may_change = calls.contains("decoded") | calls.contains("invalid");
+    Ok(are_right & (may_change | (scratch.as_str() == "unchanged")))
+}
+
+/// Fails with the first wrong line of a table, if any: a text, ` => ` and its front, or calls on its lexer with their
+/// answers, or a text alone that is invalid at its front.
+fn expect_answers(alloc: Global, table: &'static str) -> std::result::Result<(), Wrong> {
+    for line in table.lines() {
+        let (text, calls) = line.split_once(" => ").unwrap_or((line, "invalid"));
+        expect(matches!(is_right(alloc, text, calls), Ok(true)), line)?;
     }
-    scratch.clear();
-    scratch.push_str("kept")?;
-    let mut borrowed = Lexer::new("\"ab\" ");
-    assert!(rt; matches!(borrowed.start(&mut scratch)?, Event::Str(Text::Input(x)) if x == "ab"));
-    assert!(rt; matches!(borrowed.end(), Ok(())));
-    assert!(rt; scratch.as_str() == "kept");
-    let mut number = Lexer::new("1.50]");
-    assert!(rt; matches!(number.start(&mut scratch)?, Event::Number(x) if x == "1.50"));
-    assert!(rt; scratch.as_str() == "kept");
-    let mut capital = Lexer::new("1E2");
-    assert!(rt; matches!(capital.start(&mut scratch)?, Event::Number("1E2")));
     Ok(())
 }
 
+/// Fails unless a text that has line breaks, or whose answer has, is answered as expected.
+fn expect_answer(
+    alloc: Global,
+    text: &'static str,
+    expected: &str,
+) -> std::result::Result<(), Wrong> {
+    expect(matches!(is_right(alloc, text, expected), Ok(true)), text)
+}
+
 #[test]
-fn number_texts(rt: HostRuntime) -> Result<(), Fail> {
+fn a_number_is_an_integer_in_range_or_a_text_or_invalid(
+    rt: HostRuntime,
+) -> std::result::Result<(), Wrong> {
+    expect_answers(
+        rt.alloc(),
+        "-9223372036854775808 => negative -9223372036854775808\n\
+        -9223372036854775809 => number -9223372036854775809\n\
+        -0 => negative 0\n\
+        -17 => negative -17\n\
+        0 => nonnegative 0\n\
+        9999999999999999999 => nonnegative 9999999999999999999\n\
+        10000000000000000000 => nonnegative 10000000000000000000\n\
+        18446744073709551615 => nonnegative 18446744073709551615\n\
+        18446744073709551616 => number 18446744073709551616\n\
+        99999999999999999999 => number 99999999999999999999\n\
+        1.50  => number 1.50\n\
+        1.50] => number 1.50\n\
+        1e400 => number 1e400\n\
+        1E2 => number 1E2\n\
+        -2E-3, => number -2E-3\n\
+        -0.0 => number -0.0\n\
+        -0e0 => number -0e0\n\
+        0e+00 => number 0e+00\n\
+        -1 => negative -1\n\
+        9223372036854775807 => nonnegative 9223372036854775807\n\
+        9223372036854775808 => nonnegative 9223372036854775808\n\
+        01\n1.\n1e\n1-\n-\n+1\n.5\n-01\n00\n1.e5\n1e+\n1E-\n--1\n-a\nNaN\nInfinity",
+    )
+}
+
+#[test]
+fn words_and_brackets_behind_whitespace(rt: HostRuntime) -> std::result::Result<(), Wrong> {
     let alloc = rt.alloc();
-    for text in [
-        "1e400",
-        "-0.0",
-        "1.50",
-        "1E+2",
-        "18446744073709551616",
-        "-9223372036854775809",
-    ] {
-        assert!(rt; NumberText::is_text(text), "at {text}");
-        let number = NumberText::new(alloc, text)?;
-        assert!(rt; number.as_str() == text, "at {text}");
-        let copy = number.try_clone(alloc)?;
-        assert!(rt; copy.as_str() == text, "at {text}");
-    }
-    Ok(())
+    expect_answers(
+        alloc,
+        " null => null\n\
+        true => true\n\
+        false => false\n\
+        \tnull => null\n\
+        \rnull => null\n\
+        [ => seq\n\
+        { => map\n\
+        nul\n\
+        \n \n\
+        ]\n\
+        }\n\
+        ,\n\
+        :\n\
+        Null\n\
+        tru\n\
+        fals\n\
+        \u{b}null\n\
+        \u{c}null\n\
+        \u{a0}null\n\
+        \u{feff}null",
+    )?;
+    expect_answer(alloc, "\t\n\r false", "false")
 }
 
 #[test]
-fn no_number_texts(rt: HostRuntime) {
-    for text in [
-        "",
-        "-0",
-        "7",
-        "18446744073709551615",
-        "-9223372036854775808",
-        "1.",
-        "01.5",
-        "1e",
-        " 1.5",
-        "1.5 ",
-        "1.5]",
-        "\"1.5\"",
-    ] {
-        assert!(rt; !NumberText::is_text(text), "at {text}");
-        let refused = NumberText::new(rt.alloc(), text);
-        assert!(rt; matches!(refused, Err(Error::Invalid)), "at {text}");
-    }
+fn a_string_with_no_escape_is_borrowed(rt: HostRuntime) -> std::result::Result<(), Wrong> {
+    expect_answers(
+        rt.alloc(),
+        "\"ab\" => borrowed ab\n\
+        \"a\u{7f}\" => borrowed a\u{7f}\n\
+        \"\" => borrowed \n\
+        \" \" => borrowed  \n\
+        \"/\" => borrowed /\n\
+        \"\u{80}\u{7ff}\u{800}\u{ffff}\u{10000}\u{10ffff}\" => borrowed \u{80}\u{7ff}\u{800}\u{ffff}\u{10000}\u{10ffff}",
+    )
 }
 
 #[test]
-fn containers(rt: HostRuntime) {
-    let mut scratch = String::new(rt.alloc());
-    let mut list = Lexer::new("[1 , true]");
-    assert!(rt; matches!(list.start(&mut scratch), Ok(Event::SeqStart)));
-    assert!(rt; matches!(list.after(Kind::Seq, true), Ok(After::Next)));
-    assert!(rt; matches!(list.start(&mut scratch), Ok(Event::Nonnegative(1))));
-    assert!(rt; matches!(list.after(Kind::Seq, false), Ok(After::Next)));
-    assert!(rt; matches!(list.start(&mut scratch), Ok(Event::Bool(true))));
-    assert!(rt; matches!(list.after(Kind::Seq, false), Ok(After::Close)));
-    assert!(rt; matches!(list.end(), Ok(())));
-    let mut empty = Lexer::new("{ }");
-    assert!(rt; matches!(empty.start(&mut scratch), Ok(Event::MapStart)));
-    assert!(rt; matches!(empty.after(Kind::Map, true), Ok(After::Close)));
-    assert!(rt; matches!(empty.end(), Ok(())));
-    let mut members = Lexer::new("{ \"k\" : null, \"\\u0061\" :0}");
-    assert!(rt; matches!(members.start(&mut scratch), Ok(Event::MapStart)));
-    assert!(rt; matches!(members.after(Kind::Map, true), Ok(After::Next)));
-    assert!(rt; matches!(members.name(&mut scratch), Ok(Text::Input(x)) if x == "k"));
-    assert!(rt; matches!(members.start(&mut scratch), Ok(Event::Null)));
-    assert!(rt; matches!(members.after(Kind::Map, false), Ok(After::Next)));
-    assert!(rt; matches!(members.name(&mut scratch), Ok(Text::Scratch)));
-    assert!(rt; scratch.as_str() == "a");
-    assert!(rt; matches!(members.start(&mut scratch), Ok(Event::Nonnegative(0))));
-    assert!(rt; matches!(members.after(Kind::Map, false), Ok(After::Close)));
-}
-
-#[test]
-fn refusals(rt: HostRuntime) {
-    let mut scratch = String::new(rt.alloc());
-    let mut wrong = Lexer::new("[}");
-    assert!(rt; matches!(wrong.start(&mut scratch), Ok(Event::SeqStart)));
-    assert!(rt; matches!(wrong.after(Kind::Seq, true), Err(Error::Invalid)));
-    assert!(rt; matches!(wrong.after(Kind::Map, true), Err(Error::Invalid)));
-    assert!(rt; matches!(wrong.start(&mut scratch), Err(Error::Invalid)));
-    assert!(rt; matches!(wrong.name(&mut scratch), Err(Error::Invalid)));
-    assert!(rt; matches!(wrong.end(), Err(Error::Invalid)));
-    let mut comma = Lexer::new("[1,]");
-    assert!(rt; matches!(comma.start(&mut scratch), Ok(Event::SeqStart)));
-    assert!(rt; matches!(comma.after(Kind::Seq, true), Ok(After::Next)));
-    assert!(rt; matches!(comma.start(&mut scratch), Ok(Event::Nonnegative(1))));
-    assert!(rt; matches!(comma.after(Kind::Seq, false), Ok(After::Next)));
-    assert!(rt; matches!(comma.start(&mut scratch), Err(Error::Invalid)));
-    let mut name = Lexer::new("\"a\" 1");
-    assert!(rt; matches!(name.name(&mut scratch), Err(Error::Invalid)));
-    // A decoded name with no colon behind it. Memory is there.
-    let mut decoded = Lexer::new("{\"\\n\" 1}");
-    assert!(rt; matches!(decoded.start(&mut scratch), Ok(Event::MapStart)));
-    assert!(rt; matches!(decoded.after(Kind::Map, true), Ok(After::Next)));
-    assert!(rt; matches!(decoded.name(&mut scratch), Err(Error::Invalid)));
-    let mut more = Lexer::new(" 1");
-    assert!(rt; matches!(more.end(), Err(Error::Invalid)));
-    assert!(rt; matches!(more.start(&mut scratch), Err(Error::Invalid)));
-}
-
-#[test]
-fn messages(rt: HostRuntime) -> Result<(), Fail> {
+fn each_escape_is_decoded(rt: HostRuntime) -> std::result::Result<(), Wrong> {
     let alloc = rt.alloc();
-    let invalid = Error::Invalid;
-    let memory = Error::Memory;
-    assert!(rt; format!(in alloc; "{invalid}")?.as_str() == "miniserde error");
-    assert!(rt; format!(in alloc; "{memory}")?.as_str() == "out of memory");
-    Ok(())
+    expect_answers(
+        alloc,
+        "\"a\\u0062\" => decoded ab\n\
+        \"\\ud83d\\ude00\" => decoded \u{1f600}\n\
+        \"\\uDBFF\\uDFFF\" => decoded \u{10ffff}\n\
+        \"\\ud800\\udc00\" => decoded \u{10000}\n\
+        \"\\ud800\\udfff\" => decoded \u{103ff}\n\
+        \"\\udbff\\udc00\" => decoded \u{10fc00}\n\
+        \"\\ud7ff\" => decoded \u{d7ff}\n\
+        \"\\ue000\" => decoded \u{e000}\n\
+        \"\\u0000\" => decoded \0\n\
+        \"\\u007f\\u0080\" => decoded \u{7f}\u{80}\n\
+        \"\\u07ff\\u0800\" => decoded \u{7ff}\u{800}\n\
+        \"\\uFFFF\" => decoded \u{ffff}\n\
+        \"\\\"\" => decoded \"\n\
+        \"\\\\\" => decoded \\\n\
+        \"\\/\" => decoded /\n\
+        \"\\b\" => decoded \x08\n\
+        \"\\f\" => decoded \x0c\n\
+        \"\\t\" => decoded \t\n\
+        \"\\r.\" => decoded \r.",
+    )?;
+    expect_answer(
+        alloc,
+        "\"\u{e9}\\u00E9\\b\\f\\n\\r\\t\\/\\\\\\\"\"",
+        "decoded \u{e9}\u{e9}\x08\x0c\n\r\t/\\\"",
+    )
 }
 
 #[test]
-fn special_bytes(rt: HostRuntime) -> Result<(), Fail> {
-    let mut bytes = vec![in rt.alloc(); b'a'; 64]?;
-    assert_eq!(rt; bytes.len(), 64);
+fn a_lone_surrogate_is_invalid(rt: HostRuntime) -> std::result::Result<(), Wrong> {
+    expect_answers(
+        rt.alloc(),
+        "\"\\ud800\"\n\
+        \"\\ud800x\"\n\
+        \"\\ude00\\ud83d\"\n\
+        \"\\udbff\"\n\
+        \"\\udc00\"\n\
+        \"\\udfff\"\n\
+        \"\\ud800\\n\"\n\
+        \"\\ud800\\ud800\"\n\
+        \"\\ud800\\ue000\"\n\
+        \"\\ud800\\udbff\"\n\
+        \"\\ud800\\u\"\n\
+        \"\\ud800\\",
+    )
+}
+
+// Behind an escape the last two lines of the first table never close. Memory is there.
+#[test]
+fn what_breaks_the_grammar_of_strings_is_invalid(
+    rt: HostRuntime,
+) -> std::result::Result<(), Wrong> {
+    let alloc = rt.alloc();
+    expect_answers(
+        alloc,
+        "\"a\n\
+        \"\n\
+        \"\\\n\
+        \"\\\"\n\
+        \"\\x\"\n\
+        \"\\u12\"\n\
+        \"\\u\"\n\
+        \"\\u123g\"\n\
+        \"\\U0041\"\n\
+        \"\\N\"\n\
+        \"\\ \"\n\
+        \"\0\"\n\
+        \"\t\"\n\
+        \"\r\"\n\
+        \"a\u{1f}\"\n\
+        'a'\n\
+        \"\\n\n\
+        \"\\n\u{1f}",
+    )?;
+    expect_answer(alloc, "\"a\nb\"", "invalid")
+}
+
+#[test]
+fn calls_follow_the_grammar_of_containers(rt: HostRuntime) -> std::result::Result<(), Wrong> {
+    expect_answers(
+        rt.alloc(),
+        "[1 , true] => start: seq; first of [: next; start: nonnegative 1; next of [: next; start: true; \
+        next of [: close; end: ok\n\
+        { } => start: map; first of {: close; end: ok\n\
+        { \"k\" : null, \"\\u0061\" :0} => start: map; first of {: next; name: borrowed k; start: null; \
+        next of {: next; name: decoded a; start: nonnegative 0; next of {: close\n\
+        \"ab\"  => start: borrowed ab; end: ok\n\
+        [ ] => start: seq; first of [: close; end: ok\n\
+        [[]] => start: seq; first of [: next; start: seq; first of [: close; next of [: close; end: ok",
+    )
+}
+
+// In the line with `\\n` a decoded name has no colon behind it. Memory is there.
+#[test]
+fn a_call_that_breaks_the_grammar_is_invalid_as_is_each_later_call(
+    rt: HostRuntime,
+) -> std::result::Result<(), Wrong> {
+    expect_answers(
+        rt.alloc(),
+        "[} => start: seq; first of [: invalid; first of {: invalid; start: invalid; name: invalid; end: invalid\n\
+        \x201 => end: invalid; start: invalid\n\
+        {] => start: map; first of {: invalid; next of {: invalid; end: invalid\n\
+        [1,] => start: seq; first of [: next; start: nonnegative 1; next of [: next; start: invalid\n\
+        \"a\" 1 => name: invalid\n\
+        {\"\\n\" 1} => start: map; first of {: next; name: invalid\n\
+        {1:2} => start: map; first of {: next; name: invalid\n\
+        [1 2] => start: seq; first of [: next; start: nonnegative 1; next of [: invalid\n\
+        1 2 => start: nonnegative 1; end: invalid",
+    )
+}
+
+/// Returns whether a text is kept as a number's text, also in a clone.
+fn is_number(alloc: Global, text: &str, kept: &str) -> Result<bool> {
+    let number = NumberText::new(alloc, text)?;
+    let copy = number.try_clone(alloc)?;
+    Ok(NumberText::is_text(text) & (number.as_str() == kept) & (copy.as_str() == kept))
+}
+
+/// Fails with the first wrong line of a table, if any: a text, ` => ` and what is kept, or a text that is invalid.
+fn expect_numbers(alloc: Global, table: &'static str) -> std::result::Result<(), Wrong> {
+    for line in table.lines() {
+        let is_right = match line.split_once(" => ") {
+            Some((text, kept)) => matches!(is_number(alloc, text, kept), Ok(true)),
+            None => is_no_number(alloc, line),
+        };
+        expect(is_right, line)?;
+    }
+    Ok(())
+}
+
+/// Returns whether a text is refused as a number's text.
+fn is_no_number(alloc: Global, text: &str) -> bool {
+    !NumberText::is_text(text) & matches!(NumberText::new(alloc, text), Err(Error::Invalid))
+}
+
+#[test]
+fn a_number_text_is_a_number_that_is_no_integer_in_range(
+    rt: HostRuntime,
+) -> std::result::Result<(), Wrong> {
+    expect_numbers(
+        rt.alloc(),
+        "1e400 => 1e400\n\
+        -0.0 => -0.0\n\
+        1.50 => 1.50\n\
+        1E+2 => 1E+2\n\
+        18446744073709551616 => 18446744073709551616\n\
+        -9223372036854775809 => -9223372036854775809\n\
+        0e0 => 0e0\n\
+        -1e-1 => -1e-1\n\
+        -0\n7\n18446744073709551615\n-9223372036854775808\n0\n-1\n9223372036854775808\n\
+        \n1.\n01.5\n1e\n 1.5\n1.5 \n1.5]\n\"1.5\"\n-\n+1.5\n.5\n-.5\n1e+\n1.5e\nnull",
+    )
+}
+
+#[test]
+fn errors_have_messages(rt: HostRuntime) -> std::result::Result<(), Wrong> {
+    let alloc = rt.alloc();
+    expect_ok(
+        is_displayed(alloc, &Error::Invalid, "miniserde error"),
+        "Invalid",
+    )?;
+    expect_ok(
+        is_displayed(alloc, &Error::Memory, "out of memory"),
+        "Memory",
+    )
+}
+
+#[test]
+fn special_finds_quotes_backslashes_and_control_bytes() -> std::result::Result<(), Wrong> {
+    let mut bytes = [b'a'; 64];
     bytes[31] = b'"';
     bytes[63] = b'\\';
-    assert_eq!(rt; special(&bytes, 0), 31);
-    assert_eq!(rt; special(&bytes, 32), 63);
-    assert_eq!(rt; special(&bytes, 64), 64);
-    let high = vec![in rt.alloc(); 0x80u8; 40]?;
-    assert_eq!(rt; special(&high, 0), 40);
-    let mut control = vec![in rt.alloc(); 0x7fu8; 34]?;
-    assert_eq!(rt; control.len(), 34);
+    expect(special(&bytes, 0) == 31, "the quote from 0")?;
+    expect(special(&bytes, 32) == 63, "the backslash from 32")?;
+    expect(special(&bytes, 64) == 64, "nothing from the end")?;
+    let high = [0x80u8; 40];
+    expect(special(&high, 0) == 40, "no byte above 0x7f")?;
+    let mut control = [0x7fu8; 34];
     control[33] = 0x1f;
-    assert_eq!(rt; special(&control, 1), 33);
-    assert_eq!(rt; special(&[], 0), 0);
-    Ok(())
+    expect(special(&control, 1) == 33, "the control byte from 1")?;
+    expect(special(&[], 0) == 0, "no bytes")
 }
 
-// Where `special` is to stop.
+/// Returns where `special` is to stop.
 fn first_special(bytes: &[u8], from: usize) -> usize {
     for (i, byte) in bytes.iter().enumerate() {
         if i >= from && (*byte < 0x20 || *byte == 0x22 || *byte == 0x5c) {
@@ -277,13 +393,14 @@ fn first_special(bytes: &[u8], from: usize) -> usize {
     bytes.len()
 }
 
+/// Returns whether `special` stops where it is to.
 fn stops_right(bytes: &[u8], from: usize) -> bool
     requires { from ≤ length bytes.now }
 {
     special(bytes, from) == first_special(bytes, from)
 }
 
-// The first byte which, standing at `place`, `special` takes wrongly.
+/// Returns the first byte at `place` that `special` takes wrongly, if any.
 fn wrong_byte(bytes: &mut [u8], place: usize) -> Option<u8>
     requires { place < length bytes.now }
 {
@@ -298,7 +415,7 @@ fn wrong_byte(bytes: &mut [u8], place: usize) -> Option<u8>
     None
 }
 
-// The first place and byte there which `special` takes wrongly.
+/// Returns the first place and the byte there that `special` takes wrongly, if any.
 fn wrong_place(bytes: &mut [u8]) -> Option<(usize, u8)> {
     for place in 0..bytes.len() {
         if let Some(byte) = wrong_byte(bytes, place) {
@@ -309,12 +426,17 @@ fn wrong_place(bytes: &mut [u8]) -> Option<(usize, u8)> {
 }
 
 #[test]
-fn each_byte_at_each_place(rt: HostRuntime) -> Result<(), Fail> {
+fn special_is_right_for_each_byte_at_each_place() -> std::result::Result<(), Wrong> {
     let plain = [0x20, 0x21, 0x23, 0x5b, 0x5d, 0x7f, 0x80, 0xff, b'a'];
-    let mut bytes = Vec::new(rt.alloc());
+    let mut bytes = [0u8; 70];
+    for i in 0..70 {
+        bytes[i] = plain[i % 9];
+    }
     for len in 0..=70 {
-        assert_eq!(rt; wrong_place(&mut bytes), None, "in {len} bytes");
-        bytes.push(plain[len % 9])?;
+        expect(
+            wrong_place(&mut bytes[..len]).is_none(),
+            "a length up to 70",
+        )?;
     }
     Ok(())
 }

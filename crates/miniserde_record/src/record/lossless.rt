@@ -1,32 +1,42 @@
 //! Structs whose values are told apart by what is written.
 ghost use Rattle.std.specs.Prelude.{◌≡◌, List, [], ◌∷◌, length, ⊤};
 ghost use Rattle.miniserde_model.specs.Tree.{Tree};
-ghost use Rattle.miniserde_record.specs.FieldsMeant.{FieldsMeant, no_fields, field_and};
+ghost use Rattle.miniserde_record.specs.FieldsMeant.{FieldsMeant, no_fields, field_and, fields_once};
 ghost use Rattle.miniserde_record.specs.Structs.{record_tree};
 
+mod blocks;
+
+use super::once::OnceSlots;
+use super::slots::{NoSlot, Slot};
 use super::structs::{Parts, Record};
 use miniserde_round::Lossless;
 
-/// Values of fields that are told apart by what is written. It stands beside `AgainFields` and not above it: else each
+/// Fields whose values are told apart by what is written. It stands beside `AgainFields` and not above it: else each
 /// link of a chain of fields holds the other chain.
 pub trait LosslessFields {
+    /// The fields' values, in their order.
+    type Values;
+
     // The meaning of the fields.
-    ghost meaning: { FieldsMeant Self };
+    ghost meaning: { FieldsMeant Self.Values };
 
     // The values are ones that Rust has.
-    ghost real: { Self → Type 0 };
+    ghost real: { Self.Values → Type 0 };
 
     // The trees of the values, in their order.
-    ghost trees: { Self → List Tree };
+    ghost trees: { Self.Values → List Tree };
 
     /// Does nothing. It promises that each field has a tree, and that values that Rust has and that have the same trees
     /// have the same content.
     fn lossless()
-        ensures each { (v : Self) → length (trees v) ≡ meaning.count }
-        ensures same { (v w : Self) → real v → real w → trees v ≡ trees w → meaning.content v ≡ meaning.content w };
+        ensures each { (v : Self.Values) → length (trees v) ≡ meaning.count }
+        ensures same { (v w : Self.Values) → real v → real w → trees v ≡ trees w
+            → meaning.content v ≡ meaning.content w };
 }
 
-impl LosslessFields for () {
+impl LosslessFields for NoSlot {
+    type Values = ();
+
     ghost meaning = { no_fields };
 
     ghost real = { λ _. ⊤ };
@@ -36,7 +46,9 @@ impl LosslessFields for () {
     fn lossless() {}
 }
 
-impl<T: Lossless, R: LosslessFields> LosslessFields for Parts<T, R> {
+impl<T: Lossless, R: LosslessFields> LosslessFields for Slot<T, R> {
+    type Values = Parts<T, R::Values>;
+
     ghost meaning = { field_and T.means T.absent R.meaning };
 
     ghost real = { λ v. T.real v.0 × R.real v.1 };
@@ -49,14 +61,26 @@ impl<T: Lossless, R: LosslessFields> LosslessFields for Parts<T, R> {
     }
 }
 
+impl<F: LosslessFields> LosslessFields for OnceSlots<F> {
+    type Values = F::Values;
+
+    ghost meaning = { fields_once F.meaning };
+
+    ghost real = { F.real };
+
+    ghost trees = { F.trees };
+
+    fn lossless() {
+        F::lossless()
+    }
+}
+
 /// Does nothing. It promises that structs that Rust has and that have one tree have the same content.
-pub fn record_lossless<S: Record>()
-where
-    S::Values: LosslessFields,
-    requires { S.count ≡ S.Values.meaning.count }
-    ensures { (v w : S) → S.Values.real (S.values v) → S.Values.real (S.values w)
-        → record_tree S.names S.Values.trees S.values v ≡ record_tree S.names S.Values.trees S.values w
-        → S.Values.meaning.content (S.values v) ≡ S.Values.meaning.content (S.values w) }
+pub fn record_lossless<S: Record, F: LosslessFields<Values = S::Values>>()
+    requires { length S.names ≡ F.meaning.count }
+    ensures { (v w : S) → F.real (S.values v) → F.real (S.values w)
+        → record_tree S.names F.trees S.values v ≡ record_tree S.names F.trees S.values w
+        → F.meaning.content (S.values v) ≡ F.meaning.content (S.values w) }
 {
-    <S::Values as LosslessFields>::lossless()
+    F::lossless()
 }

@@ -29,6 +29,7 @@ pub trait Members {
 impl Members for () {
     ghost trees = { λ _. [] };
 
+    #[inline(always)]
     fn write(&self, _w: &mut Writer, _names: &[&str]) -> Result<()> {
         Ok(())
     }
@@ -37,14 +38,15 @@ impl Members for () {
 impl<'a, T: Serialize, M: Members> Members for Parts<&'a T, M> {
     ghost trees = { λ l. T.tree l.0.now ∷ M.trees l.1 };
 
+    #[inline(always)]
     fn write(&self, w: &mut Writer, names: &[&str]) -> Result<()> {
-        match names.split_first() {
-            Some((name, more)) => {
-                w.key(name)?;
+        match names {
+            [name, more @ ..] => {
+                w.known_key(name)?;
                 self.0.begin(w)?;
                 self.1.write(w, more)
             }
-            None => Ok(()),
+            [] => Ok(()),
         }
     }
 }
@@ -61,6 +63,7 @@ impl<'m, M> Drop for Lent<'m, M> {
 impl<'m, M: Members> Members for Lent<'m, M> {
     ghost trees = { λ l. M.trees l.0.now };
 
+    #[inline(always)]
     fn write(&self, w: &mut Writer, names: &[&str]) -> Result<()> {
         self.0.write(w, names)
     }
@@ -80,6 +83,7 @@ impl<'a, A: Serialize, B: Serialize, C: Serialize, D: Serialize, M: Members> Mem
     for FourLent<'a, A, B, C, D, M> {
     ghost trees = { λ l. A.tree l.0.now ∷ B.tree l.1.now ∷ C.tree l.2.now ∷ D.tree l.3.now ∷ M.trees l.4 };
 
+    #[inline(always)]
     fn write(&self, w: &mut Writer, names: &[&str]) -> Result<()> {
         Parts(
             self.0,
@@ -90,6 +94,7 @@ impl<'a, A: Serialize, B: Serialize, C: Serialize, D: Serialize, M: Members> Mem
 }
 
 /// Writes an object of the members, by the names in their order. Returns `Memory` if the text cannot grow.
+#[inline(always)]
 pub fn write_members<M: Members>(w: &mut Writer, names: &[&str], values: &M) -> Result<()>
     ensures ok { OnOk result (w.new.text ≡ w.old.text
         ++ compact (members (with_names (map (λ n. n.now) names.now) (M.trees values.now)))) }

@@ -4,6 +4,7 @@ ghost use Rattle.miniserde_record.specs.FieldsMeant.{fields_once};
 use super::slots::Slots;
 use miniserde_read::Source;
 use miniserde_text::error::{Error, Result};
+use std::alloc::Global;
 
 /// The fields, each of which takes one member: a duplicate of a field's name is refused before its value is read.
 /// Members of other names may be duplicates, and so may any names inside a value.
@@ -43,8 +44,8 @@ impl<F: Slots> Slots for OnceSlots<F> {
         self.slots.are_whole()
     }
 
-    fn values(self) -> F::Values {
+    fn values(self, alloc: Global) -> Result<F::Values> {
         let OnceSlots { slots } = self;
-        slots.values()
+        slots.values(alloc)
     }
 }

@@ -1,5 +1,5 @@
 //! Structs that are read from a text, field by field.
-ghost use Rattle.std.specs.Prelude.{◌≡◌, true, Bool, List, ℕ, None, Some, Ok, Err, IfOk, map, is_some, Option};
+ghost use Rattle.std.specs.Prelude.{◌≡◌, true, Bool, List, ℕ, None, Some, Ok, Err, IfOk, IfErr, map, is_some, Option};
 ghost use Rattle.std.specs.Option.{option_or};
 ghost use Rattle.miniserde_model.specs.Tree.{Tree};
 ghost use Rattle.miniserde_text.specs.Lexer.{front_of};
@@ -13,10 +13,11 @@ use super::structs::{Parts, Record};
 use miniserde_read::{FromJson, Ignored, Source};
 use miniserde_text::error::{Error, Result};
 use miniserde_text::json::lex::{Event, Text};
+use std::alloc::Global;
 
 /// Reads the value of a member, after the member's name.
 #[inline(always)]
-fn read_due<'a, T: FromJson>(source: &mut Source<'a>) -> Result<T>
+pub(crate) fn read_due<'a, T: FromJson>(source: &mut Source<'a>) -> Result<T>
     requires { source.old.refused ≡ None }
     ensures going { IfOk result (λ _. source.new.refused ≡ None) }
     ensures ok { IfOk result (λ v.
@@ -61,10 +62,12 @@ pub trait Slots: Drop {
     fn are_whole(&self) -> bool
         ensures { result ≡ is_some (meaning.end (state self.now)) };
 
-    /// Returns the values of the fields, each of which has one or a default.
-    fn values(self) -> Self::Values
+    /// Returns the values of the fields, each of which has one or a default. Returns `Memory` if a default cannot be
+    /// allocated.
+    fn values(self, alloc: Global) -> Result<Self::Values>
         requires whole { is_some (meaning.end (state self)) ≡ true }
-        ensures { meaning.end (state self) ≡ Some (meaning.content result) };
+        ensures ok { IfOk result (λ v. meaning.end (state self) ≡ Some (meaning.content v)) }
+        ensures memory { IfErr result (λ e. e ≡ Error.Memory) };
 }
 
 /// No more fields: members of any other names are skipped.
@@ -100,7 +103,9 @@ impl Slots for NoSlot {
         true
     }
 
-    fn values(self) {}
+    fn values(self, _alloc: Global) -> Result<()> {
+        Ok(())
+    }
 }
 
 /// A field, and the ones after it.
@@ -168,54 +173,9 @@ impl<T: FromJson, R: Slots> Slots for Slot<T, R> {
         (self.value.is_some() || T::missing().is_some()) && self.rest.are_whole()
     }
 
-    fn values(self) -> Parts<T, R::Values> {
+    fn values(self, alloc: Global) -> Result<Parts<T, R::Values>> {
         let Slot { value, rest } = self;
-        Parts(or_missing(value).unwrap(), rest.values())
-    }
-}
-
-/// Four fields, and the ones after them. A check of nested slots takes time for each slot that it passes, and for each
-/// four here.
-#[derive(Drop)]
-pub struct FourSlot<A, B, C, D, R> {
-    slots: Slot<A, Slot<B, Slot<C, Slot<D, R>>>>,
-}
-
-impl<A: FromJson, B: FromJson, C: FromJson, D: FromJson, R: Slots> Slots
-    for FourSlot<A, B, C, D, R> {
-    type Values = Parts<A, Parts<B, Parts<C, Parts<D, R::Values>>>>;
-
-    ghost meaning = { field_and A.means A.absent
-        (field_and B.means B.absent (field_and C.means C.absent (field_and D.means D.absent R.meaning))) };
-
-    ghost state = { λ f. ⟦<Slot<A, Slot<B, Slot<C, Slot<D, R>>>> as Slots>⟧.state f.slots };
-
-    fn new() -> FourSlot<A, B, C, D, R> {
-        FourSlot {
-            slots: <Slot<A, Slot<B, Slot<C, Slot<D, R>>>> as Slots>::new(),
-        }
-    }
-
-    fn has_value(&self, names: &[&str], name: &str) -> bool {
-        self.slots.has_value(names, name)
-    }
-
-    fn read_member<'a>(
-        &mut self,
-        names: &[&str],
-        name: &str,
-        source: &mut Source<'a>,
-    ) -> Result<()> {
-        self.slots.read_member(names, name, source)
-    }
-
-    fn are_whole(&self) -> bool {
-        self.slots.are_whole()
-    }
-
-    fn values(self) -> Parts<A, Parts<B, Parts<C, Parts<D, R::Values>>>> {
-        let FourSlot { slots } = self;
-        slots.values()
+        Ok(Parts(or_missing(value).unwrap(), rest.values(alloc)?))
     }
 }
 
@@ -253,5 +213,6 @@ pub fn read_record<'a, S: Record, F: Slots<Values = S::Values>>(
     if !fields.are_whole() {
         return Err(Error::Invalid);
     }
-    Ok(S::build(fields.values()))
+    let values = fields.values(source.alloc())?;
+    Ok(S::build(values))
 }

@@ -1,7 +1,7 @@
 //! A struct, by its fields.
-ghost use Rattle.std.specs.Prelude.{◌≡◌, true, List, ℕ, map};
+ghost use Rattle.std.specs.Prelude.{◌≡◌, true, List, map};
 ghost use Rattle.miniserde_read.specs.meaning.Objects.{Name};
-ghost use Rattle.miniserde_record.specs.Structs.{are_names};
+ghost use Rattle.miniserde_record.specs.Structs.{are_distinct};
 
 use std::marker::Model;
 
@@ -12,9 +12,6 @@ pub trait Record: Sized + Drop {
 
     // The fields' names, in their order.
     ghost names: { List Name };
-
-    // The number of fields.
-    ghost count: { ℕ };
 
     // The values of the fields, in their order, and the struct of such values.
     ghost values: { Self → Self.Values };
@@ -32,8 +29,8 @@ pub trait Record: Sized + Drop {
     // A struct is its fields' values, no more and no less.
     ghost whole: { ((v : Self) → made (values v) ≡ v) × ((x : Self.Values) → values (made x) ≡ x) };
 
-    // Each field has a name, and no two names are equal.
-    ghost named: { are_names count names ≡ true };
+    // No name is a duplicate.
+    ghost named: { are_distinct names ≡ true };
 }
 
 /// The value of a field, and those of the fields after it. A contract sees a pair.

@@ -1,6 +1,6 @@
 //! Strings by the escape rule.
 ghost use Rattle.std.specs.Prelude.{◌≡◌, ◌≢◌, ℕ, ◌+◌, ◌/◌, ◌%◌, ◌^◌, ◌<◌, ◌≤◌, [], ◌∷◌, ◌++◌, length, true, false};
-ghost use Rattle.std.specs.Prelude.{◌-◌, take, drop, slice_index, OnOk, OnErr, IfSome, IfNone, IsErrOf, string_bytes, string_len};
+ghost use Rattle.std.specs.Prelude.{codes, if◌then◌else◌, ◌-◌, take, drop, slice_index, OnOk, OnErr, IfSome, IfNone, IsErrOf, string_bytes, string_len};
 ghost use Rattle.std.specs.Prelude.{string_capacity};
 ghost use Rattle.std.specs.Char.{digit_char};
 ghost use Rattle.std.specs.Str.{IsCharBoundary};
@@ -9,6 +9,7 @@ ghost use Rattle.miniserde_model.specs.Compact.{quoted};
 ghost use Rattle.miniserde_text.specs.declared.error.Error.TheVariants.{Memory};
 ghost use Rattle.miniserde_ser.specs.private.Escape.{escape, escapes};
 
+use super::plain::is_short_and_plain;
 use miniserde_text::error::{Error, Result};
 use miniserde_text::scan::special;
 
@@ -144,6 +145,22 @@ fn put_escapes(value: &str, out: &mut String)
     }
 }
 
+// Appends a text by the escape rule, where there is room for it. Where the caller knows the text as the program is built,
+// nothing is left to look at in a short one.
+#[inline(always)]
+fn put_text(value: &str, out: &mut String)
+    requires { string_len out.old + length (escapes value.now) ≤ string_capacity out.old }
+    ensures bytes { string_bytes out.new ≡ string_bytes out.old ++ escapes value.now }
+    ensures len { string_len out.new ≡ string_len out.old + length (escapes value.now) }
+    ensures capacity { string_capacity out.old ≤ string_capacity out.new }
+{
+    if is_short_and_plain(value.as_bytes()) {
+        out.push_str(value).unwrap();
+    } else {
+        put_escapes(value, out);
+    }
+}
+
 // Whether there is room for the text however it is written, and for so many marks: a byte takes six bytes at most.
 #[inline(always)]
 fn has_ample_room(value: &str, marks: usize, out: &String) -> bool
@@ -192,32 +209,85 @@ fn make_room(value: &str, marks: usize, out: &mut String) -> Result<()>
     }
 }
 
-// Appends a mark or nothing, a text between quotes by the escape rule, and again a mark or nothing. A call that refuses
-// leaves `out` as it was.
+// Appends the quote before a member's name, behind a comma where the member is not the first, where there is room for it.
 #[inline(always)]
-pub(crate) fn put_between(front: &str, value: &str, back: &str, out: &mut String) -> Result<()>
-    requires front { length front.now ≤ 1 }
-    requires back { length back.now ≤ 1 }
+fn put_front(first: bool, out: &mut String)
+    requires { string_len out.old + 2 ≤ string_capacity out.old }
+    ensures bytes { string_bytes out.new ≡ string_bytes out.old ++ ((if first then [] else codes ",") ++ codes "\"") }
+    ensures len { string_len out.new ≡ string_len out.old + (if first then 1 else 2) }
+    ensures capacity { string_capacity out.old ≤ string_capacity out.new }
+{
+    if first {
+        out.push_str("\"").unwrap();
+    } else {
+        out.push_str(",\"").unwrap();
+    }
+}
+
+// How many bytes a member's marks take.
+#[inline(always)]
+fn marks_of(first: bool) -> usize
+    ensures { result ≡ (if first then 3 else 4) }
+{
+    if first { 3 } else { 4 }
+}
+
+// Appends what a member begins with: a comma unless it is the first, its name as a string, and a colon. A call that
+// refuses leaves `out` as it was.
+#[inline(always)]
+pub(crate) fn put_name(first: bool, name: &str, out: &mut String) -> Result<()>
     ensures ok { OnOk result (string_bytes out.new
-        ≡ string_bytes out.old ++ (front.now ++ quoted value.now ++ back.now)) }
+        ≡ string_bytes out.old ++ ((if first then [] else codes ",") ++ quoted name.now ++ codes ":")) }
     ensures memory { OnErr result (IsErrOf result Memory) }
     ensures room { OnErr result (string_capacity out.old
-        < string_len out.old + length (front.now ++ quoted value.now ++ back.now)) }
+        < string_len out.old + length ((if first then [] else codes ",") ++ quoted name.now ++ codes ":")) }
     ensures err { OnErr result (string_bytes out.new ≡ string_bytes out.old) }
     ensures kept { OnErr result (string_capacity out.new ≡ string_capacity out.old) }
     ensures capacity { string_capacity out.old ≤ string_capacity out.new }
 {
-    make_room(value, front.len() + back.len() + 2, out)?;
-    out.push_str(front).unwrap();
-    out.push('"').unwrap();
+    make_room(name, marks_of(first), out)?;
+    put_front(first, out);
+    put_text(name, out);
+    out.push_str("\":").unwrap();
+    Ok(())
+}
+
+// Appends a short text in which each byte stands for itself, as a string.
+#[inline(always)]
+fn put_plain(value: &str, out: &mut String) -> Result<()>
+    requires plain { escapes value.now ≡ value.now }
+    requires short { length value.now < 32 }
+    ensures ok { OnOk result (string_bytes out.new ≡ string_bytes out.old ++ quoted value.now) }
+    ensures memory { OnErr result (IsErrOf result Memory) }
+    ensures room { OnErr result (string_capacity out.old < string_len out.old + length (quoted value.now)) }
+    ensures err { OnErr result (string_bytes out.new ≡ string_bytes out.old) }
+    ensures kept { OnErr result (string_capacity out.new ≡ string_capacity out.old) }
+    ensures capacity { string_capacity out.old ≤ string_capacity out.new }
+{
+    out.reserve(value.len() + 2)?;
+    out.push_str("\"").unwrap();
+    out.push_str(value).unwrap();
+    out.push_str("\"").unwrap();
+    Ok(())
+}
+
+// Appends any other text as a string.
+fn put_other(value: &str, out: &mut String) -> Result<()>
+    ensures ok { OnOk result (string_bytes out.new ≡ string_bytes out.old ++ quoted value.now) }
+    ensures memory { OnErr result (IsErrOf result Memory) }
+    ensures room { OnErr result (string_capacity out.old < string_len out.old + length (quoted value.now)) }
+    ensures err { OnErr result (string_bytes out.new ≡ string_bytes out.old) }
+    ensures kept { OnErr result (string_capacity out.new ≡ string_capacity out.old) }
+    ensures capacity { string_capacity out.old ≤ string_capacity out.new }
+{
+    make_room(value, 2, out)?;
+    out.push_str("\"").unwrap();
     put_escapes(value, out);
-    out.push('"').unwrap();
-    out.push_str(back).unwrap();
+    out.push_str("\"").unwrap();
     Ok(())
 }
 
 /// Appends a text as a string of JSON: between quotes, by the escape rule. A call that refuses leaves `out` as it was.
-#[inline(always)]
 pub fn escape_str(value: &str, out: &mut String) -> Result<()>
     ensures ok { OnOk result (string_bytes out.new ≡ string_bytes out.old ++ quoted value.now) }
     ensures memory { OnErr result (IsErrOf result Memory) }
@@ -226,5 +296,9 @@ pub fn escape_str(value: &str, out: &mut String) -> Result<()>
     ensures kept { OnErr result (string_capacity out.new ≡ string_capacity out.old) }
     ensures capacity { string_capacity out.old ≤ string_capacity out.new }
 {
-    put_between("", value, "", out)
+    if is_short_and_plain(value.as_bytes()) {
+        put_plain(value, out)
+    } else {
+        put_other(value, out)
+    }
 }

@@ -23,6 +23,6 @@ pub fn write_field<T: Serialize>(w: &mut Writer, name: &str, value: &T) -> Resul
     ensures memory { OnErr result (IsErrOf result Memory) }
     ensures err { OnErr result (w.new.refused ≡ true) }
 {
-    w.key(name)?;
+    w.known_key(name)?;
     value.begin(w)
 }

@@ -11,8 +11,8 @@ ghost use Rattle.miniserde_text.specs.declared.error.Error.TheVariants.{Memory};
 ghost use Rattle.miniserde_text.specs.laws.Keys.{nat-alike, int-alike, nat-text, int-text, unsigned-back, signed-back};
 
 use super::{MapKey, append};
-use itoa::{Buffer, Integer};
 use crate::error::{Error, Result};
+use itoa::{Buffer, Integer};
 use std::alloc::Global;
 
 // Adds an integer in decimal.

@@ -7,6 +7,7 @@ use miniserde_text::error::Result;
 impl<T: Serialize> Serialize for Option<T> {
     ghost tree = { option_tree T.tree };
 
+    #[inline(always)]
     fn begin(&self, w: &mut Writer) -> Result<()> {
         match self {
             Some(value) => value.begin(w),

@@ -9,11 +9,10 @@ impl<A: Serialize, B: Serialize> Serialize for (A, B) {
 
     fn begin(&self, w: &mut Writer) -> Result<()> {
         let (first, second) = self;
-        w.seq()?;
-        w.element()?;
+        w.punctuate("[", false)?;
         first.begin(w)?;
-        w.element()?;
+        w.punctuate(",", false)?;
         second.begin(w)?;
-        w.seq_finish()
+        w.punctuate("]", false)
     }
 }

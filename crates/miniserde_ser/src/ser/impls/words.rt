@@ -7,6 +7,7 @@ use miniserde_text::error::Result;
 impl Serialize for () {
     ghost tree = { λ _. null };
 
+    #[inline(always)]
     fn begin(&self, w: &mut Writer) -> Result<()> {
         w.fragment(Fragment::Null)
     }
@@ -15,6 +16,7 @@ impl Serialize for () {
 impl Serialize for bool {
     ghost tree = { truth };
 
+    #[inline(always)]
     fn begin(&self, w: &mut Writer) -> Result<()> {
         w.fragment(Fragment::Bool(*self))
     }

@@ -1,15 +1,15 @@
 -- The values that the fields' trees mean make a struct that the struct's tree means.
-use Rattle.std.proofs.Common.{◌≡◌, true, sym, ap, subst}
+use Rattle.std.proofs.Common.{◌≡◌, sym, ap, subst}
 use Rattle.miniserde_model.specs.Tree.{members}
-use Rattle.miniserde_record.specs.Structs.{are_names}
+use Rattle.miniserde_record.proofs.Rounds.{distinct_names}
 use Rattle.miniserde_record.specs.Structs.{with_names}
 use Rattle.miniserde_record.proofs.record.again.record_again.Goals as goal
 
 pub returns : goal.returns
 returns g c = λ v r.
     let s = g.S.Record in
-    let f = g.S.Values.AgainFields in
-    let a = c.again.ensures s.names (s.values v) (subst (λ k. are_names k s.names ≡ true) c.requires g.met.S.Record.named) r in
+    let f = g.F.AgainFields in
+    let a = c.again.ensures s.names (s.values v) (distinct_names f.meaning.count s.names c.requires g.met.S.Record.named) r in
     let same = sym (g.met.S.Record.whole.1 a.0.0) in (
       (
         s.made a.0.0,

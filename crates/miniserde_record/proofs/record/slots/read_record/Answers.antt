@@ -137,5 +137,5 @@ returns-clause-ok g c =
     let x = c.name.new.self.rest in
     let h = subst (λ z. NameFollows z c.name.new.self.scratch c.loop-fields.first c.loop-fields.source.rest x) c.in_default-2.is c.in_ok-name.ensures.ok in
     let d = object_ends next mean.empty s c.loop-fields.first c.loop-fields.source.rest x m c.loop-fields.invariant.goes h in
-    let given : mean.from_members names mean.empty d.0 ≡ Some (mean.content (g.S.Record.values c.build.result)) = sym (mean.members_agree names mean.empty d.0) ∙ ap (option_and_then mean.end) d.2 ∙ c.values.ensures ∙ ap (λ z. Some (mean.content z)) (sym c.build.ensures) in
+    let given : mean.from_members names mean.empty d.0 ≡ Some (mean.content (g.S.Record.values c.build.result)) = sym (mean.members_agree names mean.empty d.0) ∙ ap (option_and_then mean.end) d.2 ∙ c.in_ok-values.ensures.ok ∙ ap (λ z. Some (mean.content z)) (sym c.build.ensures) in
     (members d.0, (ap (λ z. front_of z c.args.source.now.scratch) c.in-MapStart.is, d.1), given)

@@ -1,0 +1,190 @@
+//! The types of `service.rs`, with the impls that `./derive` writes.
+ghost use Rattle.miniserde.specs.FieldsMeant.{struct_meant};
+ghost use Rattle.miniserde.specs.Structs.{names_of, record_tree};
+ghost use Rattle.miniserde.specs.Tree.{nonneg, truth, str};
+ghost use Rattle.std.specs.Prelude.{true, refl};
+
+use miniserde::derived::{
+    AgainFields, Closed, Empty, Event, FourLent, FromJson, Given, GivenSlot, Global, Lossless,
+    NeverNull, OnceGivenSlot, OnceSlot, Parts, Ranged, Record, Result, RoundTrip, Serialize, Slot,
+    Slots, Source, Taken4, Writer, read_record, record_again, record_lossless, take4,
+    write_members,
+};
+
+/// A service of a network. An unknown name is invalid.
+#[derive(Drop)]
+pub struct Service {
+    pub id: u64,
+    pub host: String,
+    pub port: u16,
+    pub secure: bool,
+    pub tags: Vec<String>,
+    pub note: Option<String>,
+}
+
+const SERVICE_HOST_DEFAULT: &str = "localhost";
+
+/// The value of a missing `host`.
+#[derive(Drop)]
+pub struct ServiceHostDefault {}
+
+impl Given<String> for ServiceHostDefault {
+    ghost use Rattle.examples.specs.declared.service.TheConstants.{SERVICE_HOST_DEFAULT};
+
+    ghost given = { str SERVICE_HOST_DEFAULT.now };
+
+    fn is_given() {}
+
+    fn make(alloc: Global) -> Result<String> {
+        Ok(String::from_str(alloc, SERVICE_HOST_DEFAULT)?)
+    }
+}
+
+/// The value of a missing `port`.
+#[derive(Drop)]
+pub struct ServicePortDefault {}
+
+impl Given<u16> for ServicePortDefault {
+    ghost given = { nonneg 8080 };
+
+    fn is_given() {}
+
+    fn make(_alloc: Global) -> Result<u16> {
+        Ok(8080)
+    }
+}
+
+/// The value of a missing `secure`.
+#[derive(Drop)]
+pub struct ServiceSecureDefault {}
+
+impl Given<bool> for ServiceSecureDefault {
+    ghost given = { truth true };
+
+    fn is_given() {}
+
+    fn make(_alloc: Global) -> Result<bool> {
+        Ok(true)
+    }
+}
+
+// Its fields, and their names.
+type ServiceFields = OnceSlot<
+    u64,
+    GivenSlot<
+        String,
+        ServiceHostDefault,
+        OnceGivenSlot<
+            u16,
+            ServicePortDefault,
+            GivenSlot<
+                bool,
+                ServiceSecureDefault,
+                GivenSlot<Vec<String>, Empty, Slot<Option<String>, Closed>>,
+            >,
+        >,
+    >,
+>;
+
+const SERVICE_NAMES: &[&str] = &["id", "host", "port", "secure", "tags", "note"];
+
+impl Record for Service {
+    ghost use Rattle.examples.specs.declared.service.TheConstants.{SERVICE_NAMES};
+
+    type Values = <ServiceFields as Slots>::Values;
+
+    ghost names = { names_of SERVICE_NAMES };
+
+    ghost values = { λ v. (v.id, (v.host, (v.port, (v.secure, (v.tags, (v.note, tt)))))) };
+
+    ghost made = { λ x. record {
+      id = x.0;
+      host = x.1.0;
+      port = x.1.1.0;
+      secure = x.1.1.1.0;
+      tags = x.1.1.1.1.0;
+      note = x.1.1.1.1.1.0;
+    } };
+
+    ghost whole = { (λ v. refl, λ x. refl) };
+
+    ghost named = { refl };
+
+    fn names() -> &'static [&'static str] {
+        SERVICE_NAMES
+    }
+
+    fn build(parts: Self::Values) -> Service {
+        let Taken4(id, host, port, secure, parts) = take4(parts);
+        let Parts(tags, Parts(note, ())) = parts;
+        Service {
+            id,
+            host,
+            port,
+            secure,
+            tags,
+            note,
+        }
+    }
+}
+
+impl FromJson for Service {
+    ghost means = { struct_meant ⟦<ServiceFields as Slots>⟧.meaning ⟦<Service as Record>⟧.names
+        ⟦<Service as Record>⟧.values };
+
+    fn missing() -> Option<Service> {
+        None
+    }
+
+    fn read<'a>(token: Event<'a>, source: &mut Source<'a>) -> Result<Service> {
+        read_record::<Service, ServiceFields>(token, source)
+    }
+}
+
+impl Serialize for Service {
+    ghost tree = { record_tree ⟦<Service as Record>⟧.names ⟦<ServiceFields as AgainFields>⟧.trees
+        ⟦<Service as Record>⟧.values };
+
+    fn begin(&self, w: &mut Writer) -> Result<()> {
+        write_members(
+            w,
+            SERVICE_NAMES,
+            &FourLent(
+                &self.id,
+                &self.host,
+                &self.port,
+                &self.secure,
+                Parts(&self.tags, Parts(&self.note, ())),
+            ),
+        )
+    }
+}
+
+impl Ranged for Service {
+    ghost real = { λ v. ⟦<ServiceFields as AgainFields>⟧.real (⟦<Service as Record>⟧.values v) };
+
+    fn ranged(&self) {
+        self.id.ranged();
+        self.host.ranged();
+        self.port.ranged();
+        self.secure.ranged();
+        self.tags.ranged();
+        self.note.ranged();
+    }
+}
+
+impl RoundTrip for Service {
+    fn again() {
+        record_again::<Service, ServiceFields>()
+    }
+}
+
+impl Lossless for Service {
+    fn lossless() {
+        record_lossless::<Service, ServiceFields>()
+    }
+}
+
+impl NeverNull for Service {
+    fn never_null() {}
+}

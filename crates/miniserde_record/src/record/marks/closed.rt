@@ -1,0 +1,71 @@
+//! Structs that refuse unknown names.
+ghost use Rattle.std.specs.Prelude.{[], ⊤};
+ghost use Rattle.miniserde_record.specs.MarksMeant.{closed_end};
+
+use crate::record::again::AgainFields;
+use crate::record::lossless::LosslessFields;
+use crate::record::slots::Slots;
+use miniserde_read::Source;
+use miniserde_text::error::{Error, Result};
+use std::alloc::Global;
+
+/// No more fields: a member of any other name is refused before its value is read.
+#[derive(Drop)]
+pub struct Closed {}
+
+impl Slots for Closed {
+    type Values = ();
+
+    ghost meaning = { closed_end };
+
+    ghost state = { λ _. tt };
+
+    fn new() -> Closed {
+        Closed {}
+    }
+
+    fn has_value(&self, _names: &[&str], _name: &str) -> bool {
+        false
+    }
+
+    fn read_member<'a>(
+        &mut self,
+        _names: &[&str],
+        _name: &str,
+        _source: &mut Source<'a>,
+    ) -> Result<()> {
+        Err(Error::Invalid)
+    }
+
+    fn are_whole(&self) -> bool {
+        true
+    }
+
+    fn values(self, _alloc: Global) -> Result<()> {
+        Ok(())
+    }
+}
+
+impl AgainFields for Closed {
+    type Values = ();
+
+    ghost meaning = { closed_end };
+
+    ghost real = { λ _. ⊤ };
+
+    ghost trees = { λ _. [] };
+
+    fn again() {}
+}
+
+impl LosslessFields for Closed {
+    type Values = ();
+
+    ghost meaning = { closed_end };
+
+    ghost real = { λ _. ⊤ };
+
+    ghost trees = { λ _. [] };
+
+    fn lossless() {}
+}

@@ -1,0 +1,550 @@
+//! Thirty fields of many types, with marks.
+ghost use Rattle.miniserde.specs.FieldsMeant.{struct_meant};
+ghost use Rattle.miniserde.specs.Structs.{names_of, record_tree};
+ghost use Rattle.miniserde.specs.Tree.{nonneg};
+ghost use Rattle.std.specs.Prelude.{refl};
+
+use miniserde::derived::{
+    AgainFields, Closed, Event, FourLent, FourSlot, FromJson, Given, GivenSlot, Global, Lossless,
+    NeverNull, NoSlot, OnceSlot, Parts, Ranged, Record, Result, RoundTrip, Serialize, SixteenSlot,
+    Slot, Slots, Source, Taken4, Taken8, Taken16, Writer, read_record, record_again,
+    record_lossless, take4, take8, take16, write_members,
+};
+use std::collections::BTreeMap;
+
+/// Where a server listens.
+#[derive(Drop)]
+pub struct Listener {
+    pub address: String,
+    pub port: u16,
+}
+
+// Its fields, and their names.
+type ListenerFields = Slot<String, Slot<u16, NoSlot>>;
+
+const LISTENER_NAMES: &[&str] = &["address", "port"];
+
+impl Record for Listener {
+    ghost use Rattle.test_wide.specs.declared.server.TheConstants.{LISTENER_NAMES};
+
+    type Values = <ListenerFields as Slots>::Values;
+
+    ghost names = { names_of LISTENER_NAMES };
+
+    ghost values = { λ v. (v.address, (v.port, tt)) };
+
+    ghost made = { λ x. record { address = x.0; port = x.1.0 } };
+
+    ghost whole = { (λ v. refl, λ x. refl) };
+
+    ghost named = { refl };
+
+    fn names() -> &'static [&'static str] {
+        LISTENER_NAMES
+    }
+
+    fn build(parts: Self::Values) -> Listener {
+        let Parts(address, Parts(port, ())) = parts;
+        Listener { address, port }
+    }
+}
+
+impl FromJson for Listener {
+    ghost means = { struct_meant ⟦<ListenerFields as Slots>⟧.meaning ⟦<Listener as Record>⟧.names
+        ⟦<Listener as Record>⟧.values };
+
+    fn missing() -> Option<Listener> {
+        None
+    }
+
+    fn read<'a>(token: Event<'a>, source: &mut Source<'a>) -> Result<Listener> {
+        read_record::<Listener, ListenerFields>(token, source)
+    }
+}
+
+impl Serialize for Listener {
+    ghost tree = { record_tree ⟦<Listener as Record>⟧.names ⟦<ListenerFields as AgainFields>⟧.trees
+        ⟦<Listener as Record>⟧.values };
+
+    fn begin(&self, w: &mut Writer) -> Result<()> {
+        write_members(
+            w,
+            LISTENER_NAMES,
+            &Parts(&self.address, Parts(&self.port, ())),
+        )
+    }
+}
+
+impl Ranged for Listener {
+    ghost real = { λ v. ⟦<ListenerFields as AgainFields>⟧.real (⟦<Listener as Record>⟧.values v) };
+
+    fn ranged(&self) {
+        self.address.ranged();
+        self.port.ranged();
+    }
+}
+
+impl RoundTrip for Listener {
+    fn again() {
+        record_again::<Listener, ListenerFields>()
+    }
+}
+
+impl Lossless for Listener {
+    fn lossless() {
+        record_lossless::<Listener, ListenerFields>()
+    }
+}
+
+impl NeverNull for Listener {
+    fn never_null() {}
+}
+
+/// Thirty settings of a server. An unknown name is invalid.
+#[derive(Drop)]
+pub struct Server {
+    pub name: String,
+    pub id: u64,
+    pub region: String,
+    pub zone: Option<String>,
+    pub version: u32,
+    pub active: bool,
+    pub owner: Option<u64>,
+    pub aliases: Vec<String>,
+    pub weights: Vec<u64>,
+    pub listener: Listener,
+    pub more_listeners: Vec<Listener>,
+    pub backup: Option<Listener>,
+    pub by_zone: BTreeMap<String, Listener>,
+    pub limits: BTreeMap<String, u64>,
+    pub labels: BTreeMap<String, Vec<String>>,
+    pub memory: u64,
+    pub processors: u8,
+    pub nice: i8,
+    pub offset: i64,
+    pub window: (u32, u32),
+    pub cache: u64,
+    pub log: Option<String>,
+    pub verbose: bool,
+    pub retries: u16,
+    pub timeout: u32,
+    pub proxy: Option<String>,
+    pub secret: String,
+    pub tags: Vec<String>,
+    pub flags: BTreeMap<String, bool>,
+    pub note: Option<String>,
+}
+
+/// The value of a missing `retries`.
+#[derive(Drop)]
+pub struct ServerRetriesDefault {}
+
+impl Given<u16> for ServerRetriesDefault {
+    ghost given = { nonneg 3 };
+
+    fn is_given() {}
+
+    fn make(_alloc: Global) -> Result<u16> {
+        Ok(3)
+    }
+}
+
+// Its fields, and their names.
+type ServerFields = SixteenSlot<
+    String,
+    u64,
+    String,
+    Option<String>,
+    u32,
+    bool,
+    Option<u64>,
+    Vec<String>,
+    Vec<u64>,
+    Listener,
+    Vec<Listener>,
+    Option<Listener>,
+    BTreeMap<String, Listener>,
+    BTreeMap<String, u64>,
+    BTreeMap<String, Vec<String>>,
+    u64,
+    FourSlot<
+        u8,
+        i8,
+        i64,
+        (u32, u32),
+        OnceSlot<
+            u64,
+            Slot<
+                Option<String>,
+                Slot<
+                    bool,
+                    GivenSlot<
+                        u16,
+                        ServerRetriesDefault,
+                        FourSlot<
+                            u32,
+                            Option<String>,
+                            String,
+                            Vec<String>,
+                            Slot<BTreeMap<String, bool>, Slot<Option<String>, Closed>>,
+                        >,
+                    >,
+                >,
+            >,
+        >,
+    >,
+>;
+
+const SERVER_NAMES: &[&str] = &[
+    "name",
+    "id",
+    "region",
+    "zone",
+    "version",
+    "active",
+    "owner",
+    "aliases",
+    "weights",
+    "listener",
+    "more_listeners",
+    "backup",
+    "by_zone",
+    "limits",
+    "labels",
+    "memory",
+    "processors",
+    "nice",
+    "offset",
+    "window",
+    "cache",
+    "log",
+    "verbose",
+    "retries",
+    "timeout",
+    "proxy",
+    "secret",
+    "tags",
+    "flags",
+    "note",
+];
+
+impl Record for Server {
+    ghost use Rattle.test_wide.specs.declared.server.TheConstants.{SERVER_NAMES};
+
+    type Values = <ServerFields as Slots>::Values;
+
+    ghost names = { names_of SERVER_NAMES };
+
+    ghost values = { λ v. (
+      v.name,
+      (
+        v.id,
+        (
+          v.region,
+          (
+            v.zone,
+            (
+              v.version,
+              (
+                v.active,
+                (
+                  v.owner,
+                  (
+                    v.aliases,
+                    (
+                      v.weights,
+                      (
+                        v.listener,
+                        (
+                          v.more_listeners,
+                          (
+                            v.backup,
+                            (
+                              v.by_zone,
+                              (
+                                v.limits,
+                                (
+                                  v.labels,
+                                  (
+                                    v.memory,
+                                    (
+                                      v.processors,
+                                      (
+                                        v.nice,
+                                        (
+                                          v.offset,
+                                          (
+                                            v.window,
+                                            (
+                                              v.cache,
+                                              (
+                                                v.log,
+                                                (
+                                                  v.verbose,
+                                                  (
+                                                    v.retries,
+                                                    (
+                                                      v.timeout,
+                                                      (
+                                                        v.proxy,
+                                                        (
+                                                          v.secret,
+                                                          (
+                                                            v.tags,
+                                                            (
+                                                              v.flags,
+                                                              (
+                                                                v.note,
+                                                                tt,
+                                                              ),
+                                                            ),
+                                                          ),
+                                                        ),
+                                                      ),
+                                                    ),
+                                                  ),
+                                                ),
+                                              ),
+                                            ),
+                                          ),
+                                        ),
+                                      ),
+                                    ),
+                                  ),
+                                ),
+                              ),
+                            ),
+                          ),
+                        ),
+                      ),
+                    ),
+                  ),
+                ),
+              ),
+            ),
+          ),
+        ),
+      ),
+    ) };
+
+    ghost made = { λ x. record {
+      name = x.0;
+      id = x.1.0;
+      region = x.1.1.0;
+      zone = x.1.1.1.0;
+      version = x.1.1.1.1.0;
+      active = x.1.1.1.1.1.0;
+      owner = x.1.1.1.1.1.1.0;
+      aliases = x.1.1.1.1.1.1.1.0;
+      weights = x.1.1.1.1.1.1.1.1.0;
+      listener = x.1.1.1.1.1.1.1.1.1.0;
+      more_listeners = x.1.1.1.1.1.1.1.1.1.1.0;
+      backup = x.1.1.1.1.1.1.1.1.1.1.1.0;
+      by_zone = x.1.1.1.1.1.1.1.1.1.1.1.1.0;
+      limits = x.1.1.1.1.1.1.1.1.1.1.1.1.1.0;
+      labels = x.1.1.1.1.1.1.1.1.1.1.1.1.1.1.0;
+      memory = x.1.1.1.1.1.1.1.1.1.1.1.1.1.1.1.0;
+      processors = x.1.1.1.1.1.1.1.1.1.1.1.1.1.1.1.1.0;
+      nice = x.1.1.1.1.1.1.1.1.1.1.1.1.1.1.1.1.1.0;
+      offset = x.1.1.1.1.1.1.1.1.1.1.1.1.1.1.1.1.1.1.0;
+      window = x.1.1.1.1.1.1.1.1.1.1.1.1.1.1.1.1.1.1.1.0;
+      cache = x.1.1.1.1.1.1.1.1.1.1.1.1.1.1.1.1.1.1.1.1.0;
+      log = x.1.1.1.1.1.1.1.1.1.1.1.1.1.1.1.1.1.1.1.1.1.0;
+      verbose = x.1.1.1.1.1.1.1.1.1.1.1.1.1.1.1.1.1.1.1.1.1.1.0;
+      retries = x.1.1.1.1.1.1.1.1.1.1.1.1.1.1.1.1.1.1.1.1.1.1.1.0;
+      timeout = x.1.1.1.1.1.1.1.1.1.1.1.1.1.1.1.1.1.1.1.1.1.1.1.1.0;
+      proxy = x.1.1.1.1.1.1.1.1.1.1.1.1.1.1.1.1.1.1.1.1.1.1.1.1.1.0;
+      secret = x.1.1.1.1.1.1.1.1.1.1.1.1.1.1.1.1.1.1.1.1.1.1.1.1.1.1.0;
+      tags = x.1.1.1.1.1.1.1.1.1.1.1.1.1.1.1.1.1.1.1.1.1.1.1.1.1.1.1.0;
+      flags = x.1.1.1.1.1.1.1.1.1.1.1.1.1.1.1.1.1.1.1.1.1.1.1.1.1.1.1.1.0;
+      note = x.1.1.1.1.1.1.1.1.1.1.1.1.1.1.1.1.1.1.1.1.1.1.1.1.1.1.1.1.1.0;
+    } };
+
+    ghost whole = { (λ v. refl, λ x. refl) };
+
+    ghost named = { refl };
+
+    fn names() -> &'static [&'static str] {
+        SERVER_NAMES
+    }
+
+    fn build(parts: Self::Values) -> Server {
+        let Taken16(
+            name,
+            id,
+            region,
+            zone,
+            version,
+            active,
+            owner,
+            aliases,
+            weights,
+            listener,
+            more_listeners,
+            backup,
+            by_zone,
+            limits,
+            labels,
+            memory,
+            parts,
+        ) = take16(parts);
+        let Taken8(processors, nice, offset, window, cache, log, verbose, retries, parts) = take8(
+            parts,
+        );
+        let Taken4(timeout, proxy, secret, tags, parts) = take4(parts);
+        let Parts(flags, Parts(note, ())) = parts;
+        Server {
+            name,
+            id,
+            region,
+            zone,
+            version,
+            active,
+            owner,
+            aliases,
+            weights,
+            listener,
+            more_listeners,
+            backup,
+            by_zone,
+            limits,
+            labels,
+            memory,
+            processors,
+            nice,
+            offset,
+            window,
+            cache,
+            log,
+            verbose,
+            retries,
+            timeout,
+            proxy,
+            secret,
+            tags,
+            flags,
+            note,
+        }
+    }
+}
+
+impl FromJson for Server {
+    ghost means = { struct_meant ⟦<ServerFields as Slots>⟧.meaning ⟦<Server as Record>⟧.names
+        ⟦<Server as Record>⟧.values };
+
+    fn missing() -> Option<Server> {
+        None
+    }
+
+    fn read<'a>(token: Event<'a>, source: &mut Source<'a>) -> Result<Server> {
+        read_record::<Server, ServerFields>(token, source)
+    }
+}
+
+impl Serialize for Server {
+    ghost tree = { record_tree ⟦<Server as Record>⟧.names ⟦<ServerFields as AgainFields>⟧.trees
+        ⟦<Server as Record>⟧.values };
+
+    fn begin(&self, w: &mut Writer) -> Result<()> {
+        write_members(
+            w,
+            SERVER_NAMES,
+            &FourLent(
+                &self.name,
+                &self.id,
+                &self.region,
+                &self.zone,
+                FourLent(
+                    &self.version,
+                    &self.active,
+                    &self.owner,
+                    &self.aliases,
+                    FourLent(
+                        &self.weights,
+                        &self.listener,
+                        &self.more_listeners,
+                        &self.backup,
+                        FourLent(
+                            &self.by_zone,
+                            &self.limits,
+                            &self.labels,
+                            &self.memory,
+                            FourLent(
+                                &self.processors,
+                                &self.nice,
+                                &self.offset,
+                                &self.window,
+                                FourLent(
+                                    &self.cache,
+                                    &self.log,
+                                    &self.verbose,
+                                    &self.retries,
+                                    FourLent(
+                                        &self.timeout,
+                                        &self.proxy,
+                                        &self.secret,
+                                        &self.tags,
+                                        Parts(&self.flags, Parts(&self.note, ())),
+                                    ),
+                                ),
+                            ),
+                        ),
+                    ),
+                ),
+            ),
+        )
+    }
+}
+
+impl Ranged for Server {
+    ghost real = { λ v. ⟦<ServerFields as AgainFields>⟧.real (⟦<Server as Record>⟧.values v) };
+
+    fn ranged(&self) {
+        self.name.ranged();
+        self.id.ranged();
+        self.region.ranged();
+        self.zone.ranged();
+        self.version.ranged();
+        self.active.ranged();
+        self.owner.ranged();
+        self.aliases.ranged();
+        self.weights.ranged();
+        self.listener.ranged();
+        self.more_listeners.ranged();
+        self.backup.ranged();
+        self.by_zone.ranged();
+        self.limits.ranged();
+        self.labels.ranged();
+        self.memory.ranged();
+        self.processors.ranged();
+        self.nice.ranged();
+        self.offset.ranged();
+        self.window.ranged();
+        self.cache.ranged();
+        self.log.ranged();
+        self.verbose.ranged();
+        self.retries.ranged();
+        self.timeout.ranged();
+        self.proxy.ranged();
+        self.secret.ranged();
+        self.tags.ranged();
+        self.flags.ranged();
+        self.note.ranged();
+    }
+}
+
+impl RoundTrip for Server {
+    fn again() {
+        record_again::<Server, ServerFields>()
+    }
+}
+
+impl Lossless for Server {
+    fn lossless() {
+        record_lossless::<Server, ServerFields>()
+    }
+}
+
+impl NeverNull for Server {
+    fn never_null() {}
+}
