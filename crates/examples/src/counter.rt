@@ -109,29 +109,3 @@ pub fn elements(alloc: Global, text: &str) -> Result<u64>
     feed(alloc, text, &mut place)?;
     place.take()
 }
-
-#[cfg(test)]
-mod tests {
-    use super::elements;
-    use miniserde::Error;
-    use std::test::Fail;
-
-    #[test]
-    fn the_elements_of_lists(rt: HostRuntime) -> std::result::Result<(), Fail> {
-        assert_eq!(rt; elements(rt.alloc(), " [ ] ")?, 0);
-        assert_eq!(rt; elements(rt.alloc(), "[[]]")?, 1);
-        assert_eq!(rt;
-            elements(rt.alloc(), "[1, [2, 3, [4]], {\"a\": [5, 6]}, null]")?,
-            4
-        );
-        Ok(())
-    }
-
-    #[test]
-    fn what_is_no_list_is_invalid(rt: HostRuntime) {
-        for text in ["", "7", "{\"a\": [1]}", "[1, 2", "[1,]", "[1] 2"] {
-            let got = elements(rt.alloc(), text);
-            assert!(rt; matches!(got, Err(Error::Invalid)), "on {text}");
-        }
-    }
-}

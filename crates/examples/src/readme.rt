@@ -10,19 +10,3 @@ pub fn one_more(alloc: Global, text: &str) -> Result<String> {
     order.quantity = order.quantity.saturating_add(1);
     to_string(alloc, &order)
 }
-
-#[cfg(test)]
-mod tests {
-    use super::one_more;
-    use std::test::Fail;
-
-    #[test]
-    fn a_quantity_is_raised(rt: HostRuntime) -> std::result::Result<(), Fail> {
-        let got = one_more(rt.alloc(), "{\"id\":7,\"quantity\":1,\"paid\":false}")?;
-        assert_eq!(rt;
-            got.as_str(),
-            "{\"id\":7,\"quantity\":2,\"paid\":false,\"note\":null}"
-        );
-        Ok(())
-    }
-}

@@ -3,9 +3,6 @@ ghost use Rattle.std.specs.Prelude.{◌↔◌};
 ghost use Rattle.miniserde.specs.Tree.{Tree};
 ghost use Rattle.examples.specs.Services.{IsService};
 
-#[cfg(test)]
-mod tests;
-
 use crate::service::Service;
 use miniserde::FromJson;
 

@@ -67,6 +67,3 @@ pub fn reloaded(alloc: Global, s: &Settings) -> Result<Settings>
     let text = save(alloc, s)?;
     load(alloc, text.as_str())
 }
-
-#[cfg(test)]
-mod tests;

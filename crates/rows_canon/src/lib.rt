@@ -1,9 +1,0 @@
-//! Tests of the program over memory, with slow and failing devices. Nothing here is for users.
-#![tactic(auto)]
-
-#[cfg(test)]
-mod devices;
-#[cfg(test)]
-mod failures;
-#[cfg(test)]
-mod program;

@@ -1,9 +1,0 @@
-use Rattle.std.proofs.Common.{sym, subst, rules}
-use Rattle.rows_hostile.specs.Letters.{AreLower}
-use Rattle.rows_hostile.specs.laws.Letters.{lowered}
-use Rattle.rows_hostile.proofs.lower.LowerMapKey.from_key.Goals as goal
-
-pub invariant_of-result : goal.invariant_of-result
-invariant_of-result c = record {
-  lower = subst AreLower (sym c.in_ok-to_ascii_lowercase.ensures.ok) (lowered c.args.k.now (search rules));
-}

@@ -1,0 +1,87 @@
+//! Callers with contracts of their own.
+
+use examples::counter::elements;
+use examples::orders::settled;
+use examples::rate::Rate;
+use examples::rates::fraction;
+use examples::readme::one_more;
+use examples::totals::total;
+use miniserde::error::{Error, Result};
+use miniserde::json::from_str;
+use std::alloc::Global;
+use test_tables::{Wrong, expect, expect_ok, expect_read_again, is_right, text_of};
+
+const ORDERS: &str =
+    r#"{"id":7,"quantity":2,"paid":false,"note":"by noon"} => {"id":7,"quantity":2,"paid":true,"note":"by noon"}
+ {"paid": true, "of": [1], "quantity": 0, "id": 18446744073709551615}  => {"id":18446744073709551615,"quantity":0,"paid":true,"note":null}
+{"id":1,"id":2,"quantity":1,"paid":false,"note":"a\/\u0022"} => {"id":2,"quantity":1,"paid":true,"note":"a/\""}
+
+[]
+{"id":7,"quantity":2,"note":null}
+{"id":-1,"quantity":2,"paid":false}
+{"id":7,"quantity":4294967296,"paid":false}
+{"id":7,"quantity":2,"paid":0}
+{"id":7,"quantity":2,"paid":false} 1"#;
+
+#[test]
+fn an_order_is_settled(rt: HostRuntime) -> std::result::Result<(), Wrong> {
+    for line in ORDERS.lines() {
+        expect(is_right(settled(rt.alloc(), text_of(line)), line), line)?;
+    }
+    Ok(())
+}
+
+#[test]
+fn a_quantity_is_raised(rt: HostRuntime) -> std::result::Result<(), Wrong> {
+    let line =
+        r#"{"id":7,"quantity":1,"paid":false} => {"id":7,"quantity":2,"paid":false,"note":null}"#;
+    expect(is_right(one_more(rt.alloc(), text_of(line)), line), line)
+}
+
+#[test]
+fn the_elements_of_a_list_are_counted(rt: HostRuntime) -> std::result::Result<(), Wrong> {
+    let alloc = rt.alloc();
+    expect(matches!(elements(alloc, " [ ] "), Ok(0)), "none")?;
+    expect(matches!(elements(alloc, "[[]]"), Ok(1)), "one")?;
+    let four = r#"[1, [2, 3, [4]], {"a": [5, 6]}, null]"#;
+    expect(matches!(elements(alloc, four), Ok(4)), "four")?;
+    for text in "\n7\n{\"a\": [1]}\n[1, 2\n[1,]\n[1] 2".lines() {
+        expect(matches!(elements(alloc, text), Err(Error::Invalid)), text)?;
+    }
+    Ok(())
+}
+
+#[test]
+fn prices_are_summed(rt: HostRuntime) -> std::result::Result<(), Wrong> {
+    let alloc = rt.alloc();
+    let none = r#"{"owner":"a","prices":[]}"#;
+    expect(matches!(total(alloc, none), Ok(Some(0))), "none")?;
+    let three = r#"{"prices":[7,0,5],"owner":"a"}"#;
+    expect(matches!(total(alloc, three), Ok(Some(12))), "three")?;
+    let large = r#"{"owner":"a","prices":[18446744073709551615,1]}"#;
+    expect(matches!(total(alloc, large), Ok(None)), "out of range")?;
+    for text in "[]\n{\"owner\":\"a\"}\n{\"owner\":\"a\",\"prices\":[-1]}".lines() {
+        expect(matches!(total(alloc, text), Err(Error::Invalid)), text)?;
+    }
+    Ok(())
+}
+
+const RATES: &str = r#"{"currency":"EUR","ratio":1.50} => same
+{"ratio":2,"currency":"USD"} => {"currency":"USD","ratio":2}
+{"currency":"EUR","ratio":"1.50"}"#;
+
+/// Returns whether the ratio of a text is kept as that fraction, or is a whole number where there is none.
+fn has_fraction(alloc: Global, text: &str, expected: Option<&str>) -> Result<bool> {
+    let rate: Rate = from_str(alloc, text)?;
+    Ok(fraction(&rate) == expected)
+}
+
+#[test]
+fn a_fraction_keeps_its_text(rt: HostRuntime) -> std::result::Result<(), Wrong> {
+    let alloc = rt.alloc();
+    expect_read_again::<Rate>(alloc, RATES)?;
+    let half = r#"{"currency":"EUR","ratio":1.50}"#;
+    expect_ok(has_fraction(alloc, half, Some("1.50")), "a fraction")?;
+    let whole = r#"{"ratio":2,"currency":"USD"}"#;
+    expect_ok(has_fraction(alloc, whole, None), "a whole number")
+}

@@ -1,0 +1,11 @@
+//! Tests of the crates `examples` and `settings`. Nothing here is for users.
+#![tactic(auto)]
+
+#[cfg(test)]
+mod callers;
+#[cfg(test)]
+mod loading;
+#[cfg(test)]
+mod percents;
+#[cfg(test)]
+mod services;

@@ -1,0 +1,117 @@
+//! A type of a crate above: a struct of two fields that is written as a list of two, with its own place and its round
+//! trip.
+ghost use Rattle.std.specs.Prelude.{◌≡◌, ◌<◌, ◌^◌, List, Option, None, Some, Ok, Err, IfOk, ℕ};
+ghost use Rattle.std.specs.String.{string_bytes};
+ghost use Rattle.miniserde.specs.Meanings.{pair_meant};
+ghost use Rattle.miniserde.specs.PlaceMeanings.{box_meaning};
+ghost use Rattle.miniserde.specs.Tree.{list, tree, no_trees, nonneg, str};
+
+use miniserde::de::{Deserialize, FromJson, PairPlace, Ranged, Source, Step, Visitor};
+use miniserde::json::lex::Event;
+use miniserde::ser::{Serialize, Writer};
+use miniserde::{Error, Result, RoundTrip};
+use std::alloc::Global;
+
+/// A number and a text.
+#[derive(Drop)]
+pub struct Entry {
+    pub code: u32,
+    pub message: String,
+}
+
+/// Its place: that of a pair.
+#[derive(Drop)]
+pub struct EntryPlace {
+    pair: PairPlace<u32, String>,
+}
+
+impl Visitor for EntryPlace {
+    type Out = Entry;
+
+    ghost meaning = { box_meaning (λ p. p.pair) (λ v. (v.code, v.message))
+        ⟦<PairPlace<u32, String> as Visitor>⟧.meaning };
+
+    fn begin(alloc: Global) -> Result<EntryPlace> {
+        Ok(EntryPlace {
+            pair: <(u32, String) as Deserialize>::begin(alloc)?,
+        })
+    }
+
+    fn step(&mut self, event: Step<'_>) -> Result<()> {
+        self.pair.step(event)
+    }
+
+    fn refuse(&mut self, error: Error) -> Error {
+        self.pair.refuse(error)
+    }
+
+    fn is_complete(&self) -> bool {
+        self.pair.is_complete()
+    }
+
+    fn take(self) -> Result<Entry> {
+        let EntryPlace { pair } = self;
+        let (code, message) = pair.take()?;
+        Ok(Entry { code, message })
+    }
+}
+
+impl FromJson for Entry {
+    ghost means = { pair_meant ⟦<u32 as FromJson>⟧.means ⟦<String as FromJson>⟧.means (λ v. v.code) (λ v. v.message) };
+
+    fn missing() -> Option<Entry> {
+        None
+    }
+
+    fn read<'a>(token: Event<'a>, source: &mut Source<'a>) -> Result<Entry> {
+        let (code, message) = <(u32, String) as FromJson>::read(token, source)?;
+        Ok(Entry { code, message })
+    }
+}
+
+impl Deserialize for Entry {
+    type Place = EntryPlace;
+
+    fn tied() {}
+}
+
+impl Serialize for Entry {
+    ghost tree = { λ v. list (tree (nonneg v.code) (tree (str (string_bytes v.message)) no_trees)) };
+
+    fn begin(&self, w: &mut Writer) -> Result<()> {
+        w.seq()?;
+        w.element()?;
+        self.code.begin(w)?;
+        w.element()?;
+        self.message.begin(w)?;
+        w.seq_finish()
+    }
+}
+
+impl Ranged for Entry {
+    ghost real = { λ v. v.code < 2 ^ 32 };
+
+    fn ranged(&self) {
+        self.code.ranged();
+    }
+}
+
+impl RoundTrip for Entry {
+    fn again() {
+        <(u32, String) as RoundTrip>::again()
+    }
+}
+
+#[cfg(test)]
+mod tests {
+    use super::Entry;
+    use test_tables::{Wrong, expect_read_again};
+
+    #[test]
+    fn an_entry_is_read_again(rt: HostRuntime) -> Result<(), Wrong> {
+        expect_read_again::<Entry>(
+            rt.alloc(),
+            " [ 7, \"a\\/\" ]  => [7,\"a/\"]\n[4294967295,\"\"] => same\n[7]\n[\"a\",7]\n[4294967296,\"\"]\n{}",
+        )
+    }
+}

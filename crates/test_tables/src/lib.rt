@@ -1,0 +1,14 @@
+//! What tests at many types share: tables of cases, and the error that ends a test.
+//!
+//! A table is one text, and each of its lines a case: a JSON text, ` => `, and the text that its value is written as,
+//! where `same` stands for the JSON text itself. A line without ` => ` is a text that is invalid.
+#![tactic(auto)]
+
+mod table;
+mod wrong;
+
+pub use table::{
+    expect_prefixes_invalid, expect_read_again, expect_read_itself, expect_table, is_lossless,
+    is_right, is_round_trip, text_of,
+};
+pub use wrong::{Wrong, expect, expect_ok};

@@ -1,0 +1,20 @@
+//! Tests of std's types and of the types of the crate `demo`: what is read, what is refused, and what is written.
+//! Nothing here is for users.
+#![tactic(auto)]
+
+#[cfg(test)]
+mod documented;
+#[cfg(test)]
+mod lists;
+#[cfg(test)]
+mod maps;
+#[cfg(test)]
+mod round_trips;
+#[cfg(test)]
+mod scalars;
+#[cfg(test)]
+mod shapes;
+#[cfg(test)]
+mod strings;
+#[cfg(test)]
+mod wrappers;
