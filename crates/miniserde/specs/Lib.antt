@@ -39,7 +39,6 @@ pub use Rattle.miniserde_place.specs.Container
 pub use Rattle.miniserde_place.specs.Stage
 pub use Rattle.miniserde_de.specs.PlaceMeanings
 pub use Rattle.miniserde_de.specs.Tied
-pub use Rattle.miniserde_ser.specs.Closed
 pub use Rattle.miniserde_ser.specs.Fragment
 pub use Rattle.miniserde_ser.specs.Trees
 pub use Rattle.miniserde_ser.specs.Writer

@@ -1,11 +1,11 @@
 -- Parts whose meanings agree make wholes whose meanings agree.
-use Rattle.std.proofs.Common.{◌≡◌, ℕ, suc, nat_eq, cond, length, Bool, true, false, List, [], ◌∷◌, Option, Some, None, refl, sym, ap, ◌∙◌}
-use Rattle.std.specs.Prelude.{◌≢◌, ◌↔◌, ◌&&◌, is_some, IsSome, option_map, option_and_then, ⊤}
-use Rattle.miniserde_model.specs.Tree.{Tree, null, truth, nonneg, neg, num, str, list, members, Trees, no_trees, tree, Members, no_members, member}
+use Rattle.std.proofs.Common.{◌≡◌, ℕ, suc, nat_eq, cond, length, true, false, List, [], ◌∷◌, Option, Some, None, refl, sym, ap, ◌∙◌}
+use Rattle.std.specs.Prelude.{◌&&◌, is_some, IsSome, option_map, option_and_then, ⊤}
+use Rattle.miniserde_model.specs.Tree.{Tree, null, list, members, Trees, no_trees, tree, Members, no_members, member}
 use Rattle.miniserde_read.specs.meaning.Lists.{EachReads, ListReads, each, list_of}
 use Rattle.miniserde_read.specs.meaning.Options.{OptionReads, option_of}
 use Rattle.miniserde_text.specs.Keys.{Key}
-use Rattle.miniserde_read.specs.meaning.Arrays.{ArrayReads, exactly, array_of}
+use Rattle.miniserde_read.specs.meaning.Arrays.{exactly, array_of}
 use Rattle.miniserde_read.specs.meaning.Pairs.{PairReads, pair_of, both}
 use Rattle.miniserde_read.specs.meaning.Objects.{Name, all_members}
 use Rattle.miniserde_read.specs.meaning.Maps.{AllTaken, MapReads, MeansAt, Entries, no_key, with_entry, map_member, map_of}
@@ -15,18 +15,6 @@ use Rattle.miniserde_de.specs.Tied.{Agree}
 
 pub agree_back : {V : Type 0} (m n : Meant V) → Agree m n → Agree n m
 agree_back m n a = record { same = λ t v. ((a.same t v).1, (a.same t v).0); some = λ t. sym (a.some t) }
-
--- what one gives the other gives
-pub agree_gives : {V : Type 0} (m n : Meant V) → Agree m n → (t : Tree) (v : V) → m.from_tree t ≡ Some (m.content v) → n.from_tree t ≡ Some (n.content v)
-agree_gives m n a t v e = (n.reads_agrees t v).0 ((a.same t v).0 ((m.reads_agrees t v).1 e))
-
-none_too : {A B : Type 0} (x : Option A) (y : Option B) → is_some x ≡ is_some y → x ≡ None → y ≡ None
-none_too x None e n = refl
-none_too None (Some b) e n = absurd (cc)
-none_too (Some a) (Some b) e n = absurd (cc)
-
-pub agree_none : {V : Type 0} (m n : Meant V) → Agree m n → (t : Tree) → m.from_tree t ≡ None → n.from_tree t ≡ None
-agree_none m n a t e = none_too (m.from_tree t) (n.from_tree t) (a.some t) e
 
 -- ---- lists
 

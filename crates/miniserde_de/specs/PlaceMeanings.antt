@@ -8,7 +8,8 @@ use Rattle.miniserde_place.specs.Leaf.{nothing_more}
 use Rattle.miniserde_place.specs.Place.{Shown, Meaning}
 use Rattle.miniserde_place.specs.Container.{Gathering, no_child, joining, child_shows}
 use Rattle.miniserde_de.specs.declared.de.impls.options.OptionPlace.{OptionPlace}
-use Rattle.miniserde_de.specs.declared.de.impls.options.OptionPlace.TheVariants.{Fresh, Null, Inner, Refused}
+use Rattle.miniserde_de.specs.declared.de.impls.options.OptionState.{OptionState}
+use Rattle.miniserde_de.specs.declared.de.impls.options.OptionState.TheVariants.{Fresh, Null, Inner, Refused}
 use Rattle.miniserde_de.specs.declared.de.impls.pairs.Part.{Part}
 use Rattle.miniserde_de.specs.declared.de.impls.pairs.Part.TheVariants.{Neither, First, Second}
 use Rattle.miniserde_read.specs.meaning.Lists.{ListReads, list_of}
@@ -108,7 +109,7 @@ map_gathering read code key m entries pending child whole = record {
 }
 
 -- what the place of an optional value shows
-abbrev pub option_shows : {P A : Type 0} → (List Event → Option A) → (P → Shown A) → OptionPlace P → Shown (Option A)
+abbrev pub option_shows : {P A : Type 0} → (List Event → Option A) → (P → Shown A) → OptionState P → Shown (Option A)
 option_shows f shows (Fresh _) = record { at = start; outcome = option_mean f; refused = None }
 option_shows f shows Null = record { at = complete; outcome = nothing_more None; refused = None }
 option_shows f shows (Inner p) = record { at = (shows p).at; outcome = λ es. option_map Some ((shows p).outcome es); refused = (shows p).refused }
@@ -124,7 +125,7 @@ option_meaning m = record {
   events_agree = option-meant m.from_events m.from_tree m.events_agree;
   reads = OptionReads m.reads;
   reads_agrees = option-given m.reads m.from_tree m.content m.reads_agrees;
-  shows = option_shows m.from_events m.shows;
+  shows = λ p. option_shows m.from_events m.shows p.state;
 }
 
 -- a value in a box

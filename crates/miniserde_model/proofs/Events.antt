@@ -27,10 +27,6 @@ mutual
   members_go no_members n rest h = h
   members_go (member name t ms) n rest h = ((refl, omega arith), subst (λ z. Completes (n + 1, true) z) (sym (append_assoc (events t) (member_events ms) rest)) (goes t (n + 1) (member_events ms ++ rest) (members_go ms n rest h)))
 
--- the events of a tree, and then what completes the rest
-pub events_then : (t : Tree) (n : ℕ) (rest : List Event) → Completes (n, false) rest → Completes (n, true) (events t ++ rest)
-events_then = goes
-
 pub events_complete : (t : Tree) → Completes start (events t)
 events_complete t = subst (λ z. Completes start z) (append-nil (events t)) (goes t 0 [] refl)
 

@@ -1,7 +1,7 @@
 -- Laws over the definitions. Each is the contract of a function of this crate.
 use Rattle.std.specs.Prelude.{◌≡◌, ◌≤◌, ◌↔◌, true, List, ◌++◌, ℕ, [], length, option_map}
 use Rattle.miniserde_model.specs.Tree.{Tree, Members, no_members}
-use Rattle.miniserde_model.specs.Value.{IsJson}
+use Rattle.miniserde_model.specs.Value.{IsValue, IsJson}
 use Rattle.miniserde_model.specs.IsTree.{IsTree}
 use Rattle.miniserde_model.specs.Event.{Event, events}
 use Rattle.miniserde_model.specs.Position.{Position, start, Completes}
@@ -21,6 +21,10 @@ SpelledIsTree = (b : List ℕ) (t : Tree) → IsJson b t → IsTree t
 -- the compact text of a tree spells it
 abbrev pub CompactSpells : Type 0
 CompactSpells = (t : Tree) → IsTree t → IsJson (compact t) t
+
+-- the compact text of a tree is the tree's value, so that it spells it amid a text too
+abbrev pub CompactIsValue : Type 0
+CompactIsValue = (t : Tree) → IsTree t → IsValue t (compact t)
 
 -- the normal form is its own normal form
 abbrev pub NormIsNormal : Type 0

@@ -4,7 +4,7 @@
 #![tactic(auto)]
 
 ghost use Rattle.miniserde_model.specs.Examples.{NormalForms, RefusedTexts, SpelledTexts};
-ghost use Rattle.miniserde_model.specs.Laws.{CanonicalIsShortest, CanonicalTells, CompactSpells, DistinctKeepsSize, EventsComplete};
+ghost use Rattle.miniserde_model.specs.Laws.{CanonicalIsShortest, CanonicalTells, CompactIsValue, CompactSpells, DistinctKeepsSize, EventsComplete};
 ghost use Rattle.miniserde_model.specs.Laws.{NoneBeginsAnother, NormIsDistinct, NormIsNormal, NormIsOnly, NormIsTree};
 ghost use Rattle.miniserde_model.specs.Laws.{NormKeepsLast, NormRises, PutGivesNorm, SpelledIsTree, TextHasOneTree};
 
@@ -18,9 +18,10 @@ pub fn spelled_is_tree()
     ensures { SpelledIsTree }
 {}
 
-/// The compact text of a tree spells it.
+/// The compact text of a tree spells it, as a whole text and as a value amid a text, with no whitespace around.
 pub fn compact_spells()
-    ensures { CompactSpells }
+    ensures text { CompactSpells }
+    ensures value { CompactIsValue }
 {}
 
 /// The normal form of a tree is a tree like it, and its own normal form.

@@ -68,10 +68,6 @@ pub opened_list : (t : Tree) (s r : List ℕ) → ValueAt t seq s r → (ts : Tr
 opened_list (list ts) s r p = (ts, refl, p.1)
 opened_list t s r p = let k : 6 ≡ tag (first_event t) = ap tag (value_event t seq s r p) in absurd (omega (arith, k))
 
--- and what does not is none
-pub no_list : {C : Type 0} (f : Trees → Option C) (of : Tree → Option C) (e : Event) → (e ≡ seq → ⊥) → ((ts : Trees) → of (list ts) ≡ f ts) → ((t : Tree) → ((ts : Trees) → t ≡ list ts → ⊥) → of t ≡ None) → (t : Tree) (s r : List ℕ) → ValueAt t e s r → of t ≡ None
-no_list f of e n h o t s r p = o t (λ ts i. n (value_event t e s r p ∙ ap first_event i))
-
 -- ---- the items of a list
 
 module _ {C : Type 0} (of : Tree → Option C) where

@@ -1,4 +1,3 @@
-pub mod Closed
 pub mod Fragment
 pub mod Trees
 pub mod Writer

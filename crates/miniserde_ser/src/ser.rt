@@ -10,14 +10,12 @@ ghost use Rattle.miniserde_text.specs.declared.error.Error.TheVariants.{Memory};
 
 mod compact;
 mod escape;
-mod fields;
 mod impls;
 mod plain;
 
 pub use compact::to_string;
 pub use escape::escape_str;
 use escape::put_name;
-pub use fields::write_field;
 use itoa::Buffer;
 use miniserde_text::error::{Error, Result};
 use miniserde_text::json::number::NumberText;

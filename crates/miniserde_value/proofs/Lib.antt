@@ -1,4 +1,5 @@
 pub mod Kepts
+pub mod Sizes
 pub mod Texts
 pub mod Built
 pub mod Ordered

@@ -2,8 +2,6 @@
 use Rattle.std.proofs.Common.{◌≡◌, List, [], ◌∷◌, map, refl, sym, ap, ◌∙◌, subst}
 use Rattle.std.specs.Map.{values_of}
 use Rattle.miniserde_value.specs.declared.json.value.Value.{Value, out-Value, roll-Value, out-roll-Value, fold-Value, fold_out-Value, ind-Value, map-Value}
-use Rattle.miniserde_value.specs.declared.json.value.Value as Value
-use Rattle.miniserde_value.specs.declared.json.value.Value.TheVariants.{outs-Array, outs-Object}
 use Rattle.miniserde_value.specs.declared.json.value.Value.TheOpen.{Value-F, Array-F, Object-F}
 use Rattle.miniserde_value.specs.declared.json.array.Array.{Array, fold-Array, fold_out-Array, rolls-Array'}
 use Rattle.miniserde_value.specs.declared.json.object.Object.{Object, fold-Object, fold_out-Object, rolls-Object'}
@@ -53,12 +51,6 @@ module _ {A : Type 0} (f : List A → A) where
   pub fold_tree_out : (v : Value) → fold_tree f v ≡ f (map (fold_tree f) (children v))
   unfolding fold_tree
   fold_tree_out v = fold_out-Value A (List A) (List A) (λ x. f (results x)) array_results object_results v ∙ ap f (results_below (out-Value v))
-
-pub children_array : (a : Array) → children (Value.Array a) ≡ array_items a
-children_array a = ap below (outs-Array a)
-
-pub children_object : (o : Object) → children (Value.Object o) ≡ object_values o
-children_object o = ap below (outs-Object o)
 
 -- P of each value of the list
 abbrev pub Each : (Value → Type 0) → List Value → Type 0

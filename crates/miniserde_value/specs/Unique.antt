@@ -1,5 +1,5 @@
 -- What events give where no name of an open object may be repeated.
-use Rattle.std.specs.Prelude.{ℕ, Bool, true, false, List, [], ◌∷◌, Option, Some, None, cond, option_and_then}
+use Rattle.std.specs.Prelude.{Bool, true, false, List, [], ◌∷◌, Option, Some, None, cond, option_and_then}
 use Rattle.miniserde_model.specs.Tree.{Tree}
 use Rattle.miniserde_model.specs.Event.{Event, key}
 use Rattle.miniserde_model.specs.Distinct.{distinct}

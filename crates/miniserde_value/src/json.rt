@@ -9,6 +9,7 @@ pub mod object;
 mod place;
 mod read;
 mod round_trip;
+mod show;
 pub mod unique;
 pub mod value;
 mod walk;

@@ -105,3 +105,16 @@ fn a_million_open_arrays(rt: HostRuntime) -> std::result::Result<(), Wrong> {
         "a wrong end",
     )
 }
+
+/// Returns whether a value a million levels deep is shown, by the length of what is shown.
+fn is_shown(alloc: Global) -> Result<bool> {
+    let value: Value = from_str(alloc, nested(alloc, 1_000_000, "[", "]", "]")?.as_str())?;
+    let shown = format!(in alloc; "{value:?}")?;
+    safely(value);
+    Ok(shown.len() == 8_000_000 && shown.as_str().starts_with("Array [Array ["))
+}
+
+#[test]
+fn a_deep_value_is_shown(rt: HostRuntime) -> std::result::Result<(), Wrong> {
+    expect_ok(is_shown(rt.alloc()), "a million levels")
+}

@@ -105,21 +105,45 @@ fn a_copy_is_written_as_its_value(rt: HostRuntime) -> std::result::Result<(), Wr
     Ok(())
 }
 
+const EACH_KIND: &str =
+    r#"{"Null":null,"Bool":true,"Number":1,"String":"...","Array":[true],"EmptyArray":[],"EmptyObject":{}}"#;
+
 const SHOWN: &str =
     r#"Object {"Array": Array [Bool(true)], "Bool": Bool(true), "EmptyArray": Array [], "EmptyObject": Object {}, "Null": Null, "Number": Number(1), "String": String("...")}"#;
 
+const SHOWN_ON_LINES: &str = r#"Object {
+    "Array": Array [
+        Bool(true),
+    ],
+    "Bool": Bool(true),
+    "EmptyArray": Array [],
+    "EmptyObject": Object {},
+    "Null": Null,
+    "Number": Number(1),
+    "String": String("..."),
+}"#;
+
 /// Returns whether a value of each kind is shown as it should be.
 fn is_shown(alloc: Global) -> Result<bool> {
-    let value: Value = from_str(
-        alloc,
-        r#"{"Null":null,"Bool":true,"Number":1,"String":"...","Array":[true],"EmptyArray":[],"EmptyObject":{}}"#,
-    )?;
+    let value: Value = from_str(alloc, EACH_KIND)?;
     Ok(format!(in alloc; "{value:?}")?.as_str() == SHOWN)
+}
+
+/// Returns whether a value of each kind is shown on lines as it should be, also in a list of std's.
+fn is_shown_on_lines(alloc: Global) -> Result<bool> {
+    let value: Value = from_str(alloc, EACH_KIND)?;
+    let list: Vec<Value> = from_str(alloc, "[[1],{}]")?;
+    Ok(
+        format!(in alloc; "{value:#?}")?.as_str() == SHOWN_ON_LINES
+            && format!(in alloc; "{list:#?}")?.as_str()
+                == "[\n    Array [\n        Number(1),\n    ],\n    Object {},\n]",
+    )
 }
 
 #[test]
 fn a_value_is_shown_by_its_kind(rt: HostRuntime) -> std::result::Result<(), Wrong> {
-    expect_ok(is_shown(rt.alloc()), "a value of each kind")
+    expect_ok(is_shown(rt.alloc()), "on one line")?;
+    expect_ok(is_shown_on_lines(rt.alloc()), "on lines")
 }
 
 /// Returns whether a value is let go with its looks counted.

@@ -2,7 +2,7 @@
 
 use demo::Demo;
 use miniserde::de::{Deserialize, Visitor};
-use miniserde::json::{Value, to_string};
+use miniserde::json::{Array, Object, Value, to_string};
 use miniserde::{Error, Result, Serialize};
 use std::alloc::Global;
 use std::collections::BTreeMap;
@@ -12,9 +12,23 @@ pub fn run(alloc: Global, job: &str, lines: &str) -> Option<Result<String>> {
     match job {
         "events-value" => Some(collect::<Value>(alloc, lines)),
         "events-demo" => Some(collect::<Demo>(alloc, lines)),
+        "begin" => Some(begin_each(alloc)),
         "events-map" => Some(collect::<BTreeMap<String, Vec<u64>>>(alloc, lines)),
         _ => None,
     }
+}
+
+/// Makes an empty array and object, and begins a place of each kind.
+fn begin_each(alloc: Global) -> Result<String> {
+    let _array = Array::new(alloc);
+    let _object = Object::new(alloc);
+    let _number = <u64 as Deserialize>::begin(alloc)?;
+    let _list = <Vec<String> as Deserialize>::begin(alloc)?;
+    let _map = <BTreeMap<String, Vec<u64>> as Deserialize>::begin(alloc)?;
+    let _option = <Option<Box<(u8, bool)>> as Deserialize>::begin(alloc)?;
+    let _struct = <Demo as Deserialize>::begin(alloc)?;
+    let _value = <Value as Deserialize>::begin(alloc)?;
+    Ok(String::new(alloc))
 }
 
 /// Hands the event of a line to a place. A line that names no event is `Invalid`.

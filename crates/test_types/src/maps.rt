@@ -107,7 +107,7 @@ fn a_key_is_of_its_type(rt: HostRuntime) -> Result<(), Wrong> {
     expect_table::<Hashed<char, u8>>(alloc, LETTERS)?;
     expect_table::<BTreeMap<i16, u8>>(
         alloc,
-        "{\"+3\":2,\"-5\":1} => {\"-5\":1,\"3\":2}\n{\"32768\":1}",
+        "{\"-5\":1,\"+3\":2} => {\"-5\":1,\"3\":2}\n{\"+3\":2,\"-5\":1} => {\"-5\":1,\"3\":2}\n{\"-32768\":1,\"32767\":2} => same\n{\"32768\":1}\n{\"-32769\":1}",
     )?;
     expect_table::<BTreeMap<bool, u8>>(
         alloc,

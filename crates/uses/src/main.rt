@@ -19,9 +19,10 @@ fn cached(alloc: Global) -> Result<Option<u64>> {
     cache::kept(alloc, &answers, " {\"a\":\"a\",\"b\":2}")
 }
 
-/// Two rows that say the same, and whether they do.
+/// Returns whether a row that is put in the place of another says what its text says.
 fn stored(alloc: Global) -> Result<bool> {
     let mut rows = BTreeMap::new(alloc);
+    store::put(alloc, &mut rows, 1, "[2]")?;
     store::put(alloc, &mut rows, 1, "[1, {\"x\": -0}]")?;
     store::is_row(alloc, &rows, 1, "[1,{\"x\":0}]")
 }

@@ -1,5 +1,5 @@
 -- What a list makes of trees.
-use Rattle.std.specs.Prelude.{List, [], ◌∷◌, ◌++◌, Option, Some, None, option_and_then, ⊤}
+use Rattle.std.specs.Prelude.{List, [], ◌∷◌, Option, Some, None, option_and_then, ⊤}
 use Rattle.miniserde_model.specs.Tree.{Tree, list, Trees, no_trees, tree}
 
 -- each child means the item in its place

@@ -1,5 +1,5 @@
 -- What a pair makes of trees.
-use Rattle.std.specs.Prelude.{Option, Some, None, option_and_then, option_map}
+use Rattle.std.specs.Prelude.{Option, None, option_and_then, option_map}
 use Rattle.miniserde_model.specs.Tree.{Tree, list, no_trees, tree}
 
 -- the tree is a list of exactly two, and each child means its part of the pair

@@ -7,7 +7,7 @@ use Rattle.miniserde_model.specs.Tree.{Tree, null, truth, nonneg, neg, num, str,
 use Rattle.miniserde_model.specs.Event.{Event, finish, events, child_events, member_events}
 use Rattle.miniserde_model.specs.Distinct.{has_name, distinct, distinct_children, distinct_members}
 use Rattle.miniserde_model.specs.Normal.{text_cmp, or_else, last_of, put as put_member, put_placed}
-use Rattle.miniserde_value.specs.Kept.{kept, kept_children, kept_members}
+use Rattle.miniserde_value.specs.Kept.{kept, kept_children}
 use Rattle.miniserde_value.specs.Hole.{Hole, outside, in_list, in_members, put}
 use Rattle.miniserde_value.specs.Unique.{once_outcome, kept_once}
 use Rattle.miniserde_value.specs.laws.Listed.{listed, put_kept, trees_listed, puts_kept}

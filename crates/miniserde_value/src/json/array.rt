@@ -1,5 +1,5 @@
 //! Lists of values.
-ghost use Rattle.std.specs.Prelude.{◌≡◌, ◌++◌, ◌∷◌, [], List, MatchOption, IfOk, OnErr, IsErrOf};
+ghost use Rattle.std.specs.Prelude.{◌≡◌, ◌++◌, ◌∷◌, [], List, MatchOption, IfOk, OnErr, IsErrOf, vec_capacity};
 ghost use Rattle.std.specs.Iterator.{IsFinite, Drains};
 ghost use Rattle.miniserde_text.specs.declared.error.Error.TheVariants.{Memory};
 ghost use Rattle.std.specs.Borrow.{Lends, sem};
@@ -16,7 +16,7 @@ pub use super::place::ArrayPlace;
 use super::value::Value;
 use miniserde_text::error::Result;
 use std::alloc::Global;
-use std::{fmt, mem, slice, vec};
+use std::{mem, slice, vec};
 
 /// A list of values. It is let go of with no recursion.
 #[cycle(value)]
@@ -28,9 +28,10 @@ impl Array {
     ghost use Rattle.miniserde_value.specs.Rows.{list_row};
     ghost use Rattle.miniserde_value.specs.contracts.json.array.Array.{the_row};
 
-    /// An array of no items. It takes no memory.
+    /// Returns an array of no items. It takes no memory.
     pub fn new(alloc: Global) -> Array
-        ensures { array_items result ≡ [] }
+        ensures items { array_items result ≡ [] }
+        ensures capacity { vec_capacity result.items ≡ 0 }
     {
         Array {
             items: Vec::new(alloc),
@@ -96,14 +97,6 @@ impl Array {
 impl Drop for Array {
     fn drop(self) {
         safely(Value::Array(self));
-    }
-}
-
-impl fmt::Debug for Array {
-    #[cycle(shown)]
-    fn fmt<W: fmt::Write>(&self, f: &mut fmt::Formatter<W>) -> fmt::Result {
-        f.write_str("Array ")?;
-        fmt::Debug::fmt(&self.items, f)
     }
 }
 

@@ -18,7 +18,7 @@ use super::value::Value;
 use miniserde_text::error::Result;
 use std::alloc::Global;
 use std::collections::{BTreeMap, btree_map};
-use std::{fmt, mem};
+use std::mem;
 
 /// Values by name, in byte order of the names. It is let go of with no recursion.
 #[cycle(value)]
@@ -109,14 +109,6 @@ impl Object {
 impl Drop for Object {
     fn drop(self) {
         safely(Value::Object(self));
-    }
-}
-
-impl fmt::Debug for Object {
-    #[cycle(shown)]
-    fn fmt<W: fmt::Write>(&self, f: &mut fmt::Formatter<W>) -> fmt::Result {
-        f.write_str("Object ")?;
-        fmt::Debug::fmt(&self.members, f)
     }
 }
 

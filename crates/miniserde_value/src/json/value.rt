@@ -2,14 +2,15 @@
 ghost use Rattle.std.specs.Prelude.{◌≡◌};
 ghost use Rattle.miniserde_model.specs.Tree.{Tree};
 ghost use Rattle.miniserde_model.specs.Normal.{norm};
+ghost use Rattle.miniserde_model.specs.Size.{size};
 ghost use Rattle.miniserde_value.specs.declared.json.value.Value.{Value as V};
+ghost use Rattle.miniserde_value.specs.Looks.{value_size};
 ghost use Rattle.miniserde_value.specs.Values.{Reads, tree_of};
 
 use super::array::Array;
 use super::number::Number;
 use super::object::Object;
 pub use super::place::ValuePlace;
-use std::fmt;
 
 /// Any JSON value. It is let go of with no recursion, at any depth.
 #[cycle(value)]
@@ -59,21 +60,8 @@ impl Default for Value {
     }
 }
 
-impl fmt::Debug for Value {
-    #[cycle(shown)]
-    fn fmt<W: fmt::Write>(&self, f: &mut fmt::Formatter<W>) -> fmt::Result {
-        match self {
-            Value::Null => f.write_str("Null"),
-            Value::Bool(b) => write!(f, "Bool({b})"),
-            Value::Number(number) => write!(f, "{number:?}"),
-            Value::String(text) => write!(f, "String({text:?})"),
-            Value::Array(array) => fmt::Debug::fmt(array, f),
-            Value::Object(object) => fmt::Debug::fmt(object, f),
-        }
-    }
-}
-
-/// The tree of what a tree means as a `Value` is the tree's normal form. Does nothing.
+/// Does nothing. What a tree means as a `Value` has the tree's normal form for its tree, and as many values as that.
 pub fn read_is_normal()
-    ensures { (t : Tree) (v : V) → Reads t v → tree_of v ≡ norm t }
+    ensures tree { (t : Tree) (v : V) → Reads t v → tree_of v ≡ norm t }
+    ensures size { (t : Tree) (v : V) → Reads t v → value_size v ≡ size (norm t) }
 {}

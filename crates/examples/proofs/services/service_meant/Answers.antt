@@ -14,10 +14,6 @@ use Rattle.miniserde.specs.MarkLaws.{once-says, closed-named, given-says}
 use Rattle.examples.specs.Services.{names}
 use Rattle.examples.proofs.services.service_meant.Goals as goal
 
--- a text that means a string
-abbrev IsText : {W : Type 0} → (W → List ℕ) → Tree → W → Type 0
-IsText bytes u x = u ≡ str (bytes x)
-
 same : (P : Tree → Type 0) (t : Tree) → P t ↔ P t
 same P t = (λ r. r, λ r. r)
 

@@ -5,16 +5,22 @@ use super::super::{Deserialize, Step, Visitor};
 use miniserde_text::error::{Error, Result};
 use std::alloc::Global;
 
-/// The place of an `Option`. It begins the place of the value at the first event, where that is not `null`.
+// What came so far.
 #[derive(Drop)]
-pub enum OptionPlace<P> {
-    /// Nothing came yet.
+enum OptionState<P> {
+    // Nothing came yet.
     Fresh(Global),
-    /// `null` came.
+    // `null` came.
     Null,
-    /// The place of the value has the events.
+    // The place of the value has the events.
     Inner(P),
     Refused(Error),
+}
+
+/// The place of an `Option`. It begins the place of the value at the first event, if that is not `null`.
+#[derive(Drop)]
+pub struct OptionPlace<P> {
+    state: OptionState<P>,
 }
 
 impl<P: Visitor> Visitor for OptionPlace<P> {
@@ -29,30 +35,32 @@ impl<P: Visitor> Visitor for OptionPlace<P> {
     ghost takes_free = { P.takes_free };
 
     fn begin(alloc: Global) -> Result<OptionPlace<P>> {
-        Ok(OptionPlace::Fresh(alloc))
+        Ok(OptionPlace {
+            state: OptionState::Fresh(alloc),
+        })
     }
 
     fn step(&mut self, event: Step<'_>) -> Result<()> {
-        match self {
-            OptionPlace::Inner(place) => place.step(event),
-            OptionPlace::Refused(error) => Err(*error),
-            OptionPlace::Null => {
-                *self = OptionPlace::Refused(Error::Invalid);
+        match &mut self.state {
+            OptionState::Inner(place) => place.step(event),
+            OptionState::Refused(error) => Err(*error),
+            OptionState::Null => {
+                self.state = OptionState::Refused(Error::Invalid);
                 Err(Error::Invalid)
             }
-            OptionPlace::Fresh(alloc) => match event {
+            OptionState::Fresh(alloc) => match event {
                 Step::Null => {
-                    *self = OptionPlace::Null;
+                    self.state = OptionState::Null;
                     Ok(())
                 }
                 event => match P::begin(*alloc) {
                     Ok(mut place) => {
                         let answer = place.step(event);
-                        *self = OptionPlace::Inner(place);
+                        self.state = OptionState::Inner(place);
                         answer
                     }
                     Err(error) => {
-                        *self = OptionPlace::Refused(error);
+                        self.state = OptionState::Refused(error);
                         Err(error)
                     }
                 },
@@ -61,30 +69,31 @@ impl<P: Visitor> Visitor for OptionPlace<P> {
     }
 
     fn refuse(&mut self, error: Error) -> Error {
-        match self {
-            OptionPlace::Refused(first) => *first,
-            OptionPlace::Inner(place) => place.refuse(error),
+        match &mut self.state {
+            OptionState::Refused(first) => *first,
+            OptionState::Inner(place) => place.refuse(error),
             _ => {
-                *self = OptionPlace::Refused(error);
+                self.state = OptionState::Refused(error);
                 error
             }
         }
     }
 
     fn is_complete(&self) -> bool {
-        match self {
-            OptionPlace::Null => true,
-            OptionPlace::Inner(place) => place.is_complete(),
+        match &self.state {
+            OptionState::Null => true,
+            OptionState::Inner(place) => place.is_complete(),
             _ => false,
         }
     }
 
     fn take(self) -> Result<Option<P::Out>> {
-        match self {
-            OptionPlace::Null => Ok(None),
-            OptionPlace::Inner(place) => Ok(Some(place.take()?)),
-            OptionPlace::Fresh(_) => Err(Error::Invalid),
-            OptionPlace::Refused(error) => Err(error),
+        let OptionPlace { state } = self;
+        match state {
+            OptionState::Null => Ok(None),
+            OptionState::Inner(place) => Ok(Some(place.take()?)),
+            OptionState::Fresh(_) => Err(Error::Invalid),
+            OptionState::Refused(error) => Err(error),
         }
     }
 }

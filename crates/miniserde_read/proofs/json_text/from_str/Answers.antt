@@ -1,5 +1,5 @@
 -- The text is whitespace, the first event, what the type read behind it, and whitespace.
-use Rattle.std.proofs.Common.{◌≡◌, Some, None, sym, ap, subst, ◌∙◌}
+use Rattle.std.proofs.Common.{◌≡◌, Some, None, sym, subst, ◌∙◌}
 use Rattle.std.proofs.lemmas.Result.{err_from_is_err_and}
 use Rattle.miniserde_model.proofs.Unique.{one_tree}
 use Rattle.miniserde_model.specs.Tree.{Tree}

@@ -1,5 +1,5 @@
 -- The event is a leaf's, and the tree is that leaf.
-use Rattle.std.proofs.Common.{◌≡◌, Some, None, ap, subst, ◌∙◌}
+use Rattle.std.proofs.Common.{◌≡◌, Some, None, subst}
 use Rattle.std.proofs.lemmas.Result.{IfOk-weaker}
 use Rattle.miniserde_model.specs.Tree.{Tree}
 use Rattle.miniserde_text.specs.Lexer.{front_of}

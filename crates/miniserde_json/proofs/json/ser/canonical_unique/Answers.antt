@@ -19,13 +19,6 @@ use Rattle.miniserde_value.specs.Kept.{kept}
 use Rattle.miniserde_json.proofs.Canonical.{IsCanonical, canonical_text, canonical_spelled, canonical_told, canonical_least}
 use Rattle.miniserde_json.proofs.json.ser.canonical_unique.Goals as goal
 
--- what was read of the text, and what was written: the text's tree has each name once
-abbrev IsOnce : List ℕ → List ℕ → Type 0
-IsOnce j c = (t : Tree) × IsJson j t × (distinct t ≡ true) × (c ≡ compact (norm t))
-
-canonical_of : (j c : List ℕ) → IsOnce j c → IsCanonical j c
-canonical_of j c h = (h.0, h.1, h.3)
-
 refused : (t : Tree) → is_some (cond (distinct t) (Some (kept t)) None) ≡ false → distinct t ≡ true → ⊥
 refused t e d = true≢false (sym (ap (λ (b : Bool). is_some (cond b (Some (kept t)) None)) d) ∙ e)
 

@@ -1,4 +1,3 @@
-use Rattle.miniserde_de.specs.Tied.{meant_by}
 use Rattle.miniserde_de.proofs.Agrees.{agree_same}
 use Rattle.miniserde_de.proofs.de.impls.leaves.leaf_tied.Goals as goal
 

@@ -11,7 +11,7 @@ use Rattle.miniserde_read.specs.Children.{added}
 use Rattle.miniserde_read.specs.meaning.Arrays.{exactly, array_of}
 use Rattle.std.specs.Prelude.{option_and_then}
 use Rattle.miniserde_read.proofs.Arrays.{array_full, so_many, not_so_many}
-use Rattle.std.proofs.Common.{ℕ, length, Some, None}
+use Rattle.std.proofs.Common.{length, Some}
 use Rattle.std.proofs.lemmas.List.{length-map}
 use Rattle.std.proofs.lemmas.Result.{IfOk-weaker}
 use Rattle.miniserde_model.specs.Tree.{Tree}

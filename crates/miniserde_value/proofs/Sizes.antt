@@ -1,0 +1,56 @@
+-- What a value keeps of a tree has as many values as the tree's normal form.
+use Rattle.std.proofs.Common.{◌≡◌, ℕ, ◌+◌, List, refl, ap, ap₂}
+use Rattle.std.specs.Prelude.{⊤, ℤ, pos, negsuc}
+use Rattle.std.specs.declared.cmp.Ordering.{Ordering}
+use Rattle.std.specs.declared.cmp.Ordering.TheVariants.{Less, Equal, Greater}
+use Rattle.miniserde_model.specs.Tree.{Tree, null, truth, nonneg, neg, num, str, list, members, Trees, no_trees, tree, Members, no_members, member}
+use Rattle.miniserde_model.specs.Size.{size, size_of_children, size_of_members}
+use Rattle.miniserde_model.specs.Normal.{placed, with_first, norm, norm_children, norm_members, norm_neg, text_cmp}
+use Rattle.miniserde_value.specs.Kept.{kept, kept_children, kept_members}
+
+-- the same names in the same order, each with as many values
+abbrev Alike : Members → Members → Type 0
+Alike no_members no_members = ⊤
+Alike (member n t ms) (member o u ns) = (n ≡ o) × (size t ≡ size u) × Alike ms ns
+Alike _ _ = ⊥
+
+placed_alike : (o : Ordering) (name : List ℕ) (t t' : Tree) (other : List ℕ) (u u' : Tree) (ms ms' more more' : Members) → size t ≡ size t' → size u ≡ size u' → Alike ms ms' → Alike more more' → Alike (placed o name t other u ms more) (placed o name t' other u' ms' more')
+placed_alike Less name t t' other u u' ms ms' more more' p q r s = (refl, p, (refl, q, r))
+placed_alike Equal name t t' other u u' ms ms' more more' p q r s = (refl, q, r)
+placed_alike Greater name t t' other u u' ms ms' more more' p q r s = (refl, q, s)
+
+with_first_alike : (name : List ℕ) (t t' : Tree) (ms ms' : Members) → size t ≡ size t' → Alike ms ms' → Alike (with_first name t ms) (with_first name t' ms')
+with_first_alike name t t' no_members no_members p h = (refl, p, tt)
+with_first_alike name t t' (member o u ms) (member o' u' ms') p h =
+    rw h.0 (placed_alike (text_cmp name o') name t t' o' u u' ms ms' (with_first name t ms) (with_first name t' ms') p h.1 h.2 (with_first_alike name t t' ms ms' p h.2))
+with_first_alike name t t' no_members (member o u ms) p h = absurd h
+with_first_alike name t t' (member o u ms) no_members p h = absurd h
+
+members_alike : (ms ns : Members) → Alike ms ns → size_of_members ms ≡ size_of_members ns
+members_alike no_members no_members h = refl
+members_alike (member n t ms) (member o u ns) h = ap₂ (λ (a b : ℕ). a + b) h.1 (members_alike ms ns h.2)
+members_alike no_members (member o u ns) h = absurd h
+members_alike (member n t ms) no_members h = absurd h
+
+neg_size : (z : ℤ) → 1 ≡ size (norm_neg z)
+neg_size (pos n) = refl
+neg_size (negsuc n) = refl
+
+mutual
+  pub kept_size : (t : Tree) → size (kept t) ≡ size (norm t)
+  kept_size null = refl
+  kept_size (truth b) = refl
+  kept_size (nonneg n) = refl
+  kept_size (neg z) = neg_size z
+  kept_size (num x) = refl
+  kept_size (str s) = refl
+  kept_size (list ts) = ap (λ (n : ℕ). 1 + n) (kept_children_size ts)
+  kept_size (members ms) = ap (λ (n : ℕ). 1 + n) (members_alike (kept_members ms) (norm_members ms) (kept_members_alike ms))
+
+  kept_children_size : (ts : Trees) → size_of_children (kept_children ts) ≡ size_of_children (norm_children ts)
+  kept_children_size no_trees = refl
+  kept_children_size (tree t ts) = ap₂ (λ (a b : ℕ). a + b) (kept_size t) (kept_children_size ts)
+
+  kept_members_alike : (ms : Members) → Alike (kept_members ms) (norm_members ms)
+  kept_members_alike no_members = tt
+  kept_members_alike (member name t ms) = with_first_alike name (kept t) (norm t) (kept_members ms) (norm_members ms) (kept_size t) (kept_members_alike ms)

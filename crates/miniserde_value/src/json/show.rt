@@ -1,0 +1,132 @@
+//! Values that show themselves, with no recursion.
+
+use super::array::Array;
+use super::object::Object;
+use super::value::Value;
+use super::walk::{Front, Walk};
+use std::fmt::{Debug, Error, Formatter, Result, Write};
+
+// How far a walk is shown: how many containers are open, and whether the innermost has no part yet.
+#[derive(Clone, Copy, Drop)]
+struct Shown {
+    levels: u64,
+    first: bool,
+}
+
+// Begins a line at the indentation of so many levels, as std does under `{:#?}`.
+fn begin_line<W: Write>(f: &mut Formatter<W>, levels: u64) -> Result {
+    f.write_str("\n")?;
+    for _ in 0..levels {
+        f.write_str("    ")?;
+    }
+    Ok(())
+}
+
+// Writes what stands before an item or a name.
+fn begin_part<W: Write>(f: &mut Formatter<W>, shown: Shown) -> Result {
+    match (f.alternate(), shown.first) {
+        (true, true) => begin_line(f, shown.levels),
+        (true, false) => {
+            f.write_str(",")?;
+            begin_line(f, shown.levels)
+        }
+        (false, true) => Ok(()),
+        (false, false) => f.write_str(", "),
+    }
+}
+
+// Writes the end of a container.
+fn end<W: Write>(f: &mut Formatter<W>, shown: Shown, bracket: &str) -> Result {
+    if f.alternate() && !shown.first {
+        f.write_str(",")?;
+        begin_line(f, shown.levels.saturating_sub(1))?;
+    }
+    f.write_str(bracket)
+}
+
+// Writes what a front says.
+fn show<W: Write>(f: &mut Formatter<W>, front: Front<'_>, shown: Shown) -> Result {
+    match front {
+        Front::Null => f.write_str("Null"),
+        Front::Bool(b) => write!(f, "Bool({b})"),
+        Front::Number(number) => write!(f, "{number:?}"),
+        Front::String(text) => write!(f, "String({text:?})"),
+        Front::Array => f.write_str("Array ["),
+        Front::Object => f.write_str("Object {"),
+        Front::Element => begin_part(f, shown),
+        Front::Name(name) => {
+            begin_part(f, shown)?;
+            write!(f, "{name:?}: ")
+        }
+        Front::ArrayEnd => end(f, shown, "]"),
+        Front::ObjectEnd => end(f, shown, "}"),
+    }
+}
+
+// Returns how far the walk is shown once a front is.
+fn after(front: Front<'_>, shown: Shown) -> Shown {
+    match front {
+        Front::Array | Front::Object => Shown {
+            levels: shown.levels.saturating_add(1),
+            first: true,
+        },
+        Front::ArrayEnd | Front::ObjectEnd => Shown {
+            levels: shown.levels.saturating_sub(1),
+            first: false,
+        },
+        _ => Shown {
+            first: false,
+            ..shown
+        },
+    }
+}
+
+// Writes all that a walk meets.
+fn show_all<W: Write>(mut walk: Walk<'_>, f: &mut Formatter<W>) -> Result {
+    let mut shown = Shown {
+        levels: 1,
+        first: true,
+    };
+    while let Some(front) = walk.next().map_err(|_| Error)? {
+        show(f, front, shown)?;
+        shown = after(front, shown);
+    }
+    Ok(())
+}
+
+impl Debug for Array {
+    fn fmt<W: Write>(&self, f: &mut Formatter<W>) -> Result {
+        f.write_str("Array [")?;
+        match Walk::array(*self.inner().allocator(), self) {
+            Ok(walk) => show_all(walk, f),
+            Err(_) => Err(Error),
+        }
+    }
+}
+
+impl Debug for Object {
+    fn fmt<W: Write>(&self, f: &mut Formatter<W>) -> Result {
+        f.write_str("Object {")?;
+        let Some((name, _)) = self.inner().iter().next() else {
+            return f.write_str("}");
+        };
+        match Walk::object(*name.allocator(), self) {
+            Ok(walk) => show_all(walk, f),
+            Err(_) => Err(Error),
+        }
+    }
+}
+
+/// Shows it as std shows enums, lists and maps, with no recursion. It fails also where there is no memory for the walk.
+impl Debug for Value {
+    fn fmt<W: Write>(&self, f: &mut Formatter<W>) -> Result {
+        match self {
+            Value::Null => f.write_str("Null"),
+            Value::Bool(b) => write!(f, "Bool({b})"),
+            Value::Number(number) => write!(f, "{number:?}"),
+            Value::String(text) => write!(f, "String({text:?})"),
+            Value::Array(array) => Debug::fmt(array, f),
+            Value::Object(object) => Debug::fmt(object, f),
+        }
+    }
+}
