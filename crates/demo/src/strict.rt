@@ -101,6 +101,10 @@ impl Visitor for StrictDemoPlace {
 
     ghost meaning = { inside (λ p. p.place) ⟦<RecordPlace<StrictDemo> as Visitor>⟧.meaning };
 
+    // The name of a field that has a value is refused as a key.
+    ghost further = { λ old e answer new.
+        ⟦<RecordPlace<StrictDemo> as Visitor>⟧.further old.place e answer new.place };
+
     fn begin(alloc: Global) -> Result<StrictDemoPlace> {
         Ok(StrictDemoPlace {
             place: <RecordPlace<StrictDemo> as Visitor>::begin(alloc)?,

@@ -49,6 +49,7 @@ list_gathering m items child whole = record {
   reads = λ t v. ListReads m.reads t (whole v);
   reads_agrees = λ t v. list-given m.reads m.from_tree m.content m.reads_agrees t (whole v);
   child = λ c. child_shows (λ x. Some (map m.content (items c) ++ x ∷ [])) m.shows (child c);
+  refuses = λ _ _. false;
 }
 
 -- an array of n items
@@ -66,6 +67,7 @@ array_gathering n m items child whole = record {
   reads = λ t v. ArrayReads n m.reads t (whole v);
   reads_agrees = λ t v. array-given n m.reads m.from_tree m.content m.reads_agrees t (whole v);
   child = λ c. child_shows (λ x. Some (map m.content (items c) ++ x ∷ [])) m.shows (child c);
+  refuses = λ _ _. false;
 }
 
 -- what the place of a pair's current part shows, by the parts so far
@@ -89,6 +91,7 @@ pair_gathering m n first second child one two = record {
   reads = λ t v. PairReads m.reads n.reads t (one v, two v);
   reads_agrees = λ t v. pair-given m.reads n.reads m.from_tree n.from_tree m.content n.content m.reads_agrees n.reads_agrees t (one v, two v);
   child = λ c. part_shows m.shows n.shows (option_map m.content (first c)) (option_map n.content (second c)) (child c);
+  refuses = λ _ _. false;
 }
 
 -- a map: its entries so far, the key and the place of the current value, and the entries of the whole
@@ -106,6 +109,7 @@ map_gathering read code key m entries pending child whole = record {
   reads = λ t v. MapReads read code key m.from_tree m.reads t (whole v);
   reads_agrees = λ t v. map-given read code key m.from_tree m.content m.reads m.reads_agrees t (whole v);
   child = λ c. child_shows (λ x. option_map (λ k. with_entry code (looked code key m.content (entries c)) (key k) x) (pending c)) m.shows (child c);
+  refuses = λ _ _. false;
 }
 
 -- what the place of an optional value shows

@@ -2,6 +2,7 @@
 use Rattle.std.proofs.Common.{◌≡◌, ℕ, Bool, true, false, Option, Some, None, is_some, Result, Ok, Err, IfErr, inl, inr, ◌⊎◌, List, [], ◌∷◌, ◌++◌, append-nil, refl, sym, ap, subst, ◌∙◌, true≢false}
 use Rattle.miniserde_model.proofs.Events.{events_complete}
 use Rattle.miniserde_model.specs.Tree.{Tree, null}
+use Rattle.miniserde_model.specs.IsTree.{IsTree}
 use Rattle.miniserde_model.specs.Event.{Event, events}
 use Rattle.miniserde_model.specs.Position.{Position, start, Completes}
 use Rattle.miniserde_model.specs.Lexing.{Kind}
@@ -19,7 +20,7 @@ use Rattle.miniserde_place.specs.private.Runs.{Moved, RunsBarred}
 use Rattle.miniserde_read.proofs.Passed.{live_opened}
 use Rattle.miniserde_read.proofs.Values.{value_later, whole_at}
 use Rattle.miniserde_place.proofs.Moved.{Moved-none}
-use Rattle.miniserde_place.proofs.Spelled.{completion, tree_spelled}
+use Rattle.miniserde_place.proofs.Spelled.{Unfinished, more_to_come, more_behind, tree_spelled}
 
 complete_from : (t : Tree) (at : Position) → at ≡ start → Completes at (events t)
 complete_from t at f = subst (λ z. Completes z (events t)) (sym f) (events_complete t)
@@ -54,18 +55,19 @@ feed_ok x scratch s s' at k a l f (c ∷ st) at' k' h d p = absurd (true≢false
 -- ---- where the engine stops early
 
 pub begun_none : {C : Type 0} (at : Position) (k : List Event → Option C) → Begun at k at k
-begun_none at k = record { done = []; rest = events null; whole = null; begins = refl; leads = λ rest h. (refl, refl) }
+begun_none at k = record { done = []; rest = events null; whole = null; in_range = tt; begins = refl; leads = λ rest h. (refl, refl) }
 
-pub begun_whole : {C : Type 0} (at : Position) (k : List Event → Option C) (t : Tree) (at' : Position) (k' : List Event → Option C) → LeadsBy at k (events t) at' k' → Begun at k at' k'
-begun_whole at k t at' k' l = record { done = events t; rest = []; whole = t; begins = append-nil (events t); leads = l }
+pub begun_whole : {C : Type 0} (at : Position) (k : List Event → Option C) (t : Tree) (at' : Position) (k' : List Event → Option C) → IsTree t → LeadsBy at k (events t) at' k' → Begun at k at' k'
+begun_whole at k t at' k' i l = record { done = events t; rest = []; whole = t; in_range = i; begins = append-nil (events t); leads = l }
 
 -- what a first token and the moves behind it lead to
-pub begun : {C : Type 0} (x : lexed.Event) (scratch s : List ℕ) (at : Position) (k : List Event → Option C) (a : Position) (l : List Event → Option C) (m' : Moment) (st' : List Kind) (s' : List ℕ) (at' : Position) (k' : List Event → Option C) → Leads at k (front_of x scratch) a l → Moved (between (is_some (opens (front_of x scratch)))) (pushed (opens (front_of x scratch)) []) s a l m' st' s' at' k' → Begun at k at' k'
-begun x scratch s at k a l m' st' s' at' k' d p =
+pub begun : {C : Type 0} (x : lexed.Event) (scratch s : List ℕ) (at : Position) (k : List Event → Option C) (a : Position) (l : List Event → Option C) (m' : Moment) (st' : List Kind) (s' : List ℕ) (at' : Position) (k' : List Event → Option C) → Leads at k (front_of x scratch) a l → Moved (between (is_some (opens (front_of x scratch)))) (pushed (opens (front_of x scratch)) []) s a l m' st' s' at' k' → Unfinished m' st' → Begun at k at' k'
+begun x scratch s at k a l m' st' s' at' k' d p u =
     let e = front_of x scratch in
-    let c = completion m' st' p.passed.live in
-    let t = tree_spelled x scratch (p.done ++ c.0) (p.spellable c.0 c.1) in
-    record { done = e ∷ p.done; rest = c.0; whole = t.0; begins = t.1; leads = LeadsBy-append at k (e ∷ []) a l p.done at' k' d p.leads }
+    let c = more_to_come m' st' p.passed.live u in
+    let rest = c.0 ∷ c.1 in
+    let t = tree_spelled x scratch (p.done ++ rest) (more_behind p.done c.0 c.1) (p.spellable rest c.2) in
+    record { done = e ∷ p.done; rest = rest; whole = t.0; in_range = t.2; begins = t.1; leads = LeadsBy-append at k (e ∷ []) a l p.done at' k' d p.leads }
 
 pub if_err : {T E : Type 0} (r : Result T E) (P : E → Type 0) → ((e : E) → P e) → IfErr r P
 if_err (Ok x) P h = tt

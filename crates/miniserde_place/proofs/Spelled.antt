@@ -1,10 +1,13 @@
 -- Which events some text spells, and that what has begun can be completed.
-use Rattle.std.proofs.Common.{◌≡◌, ℕ, Bool, true, false, Some, is_some, List, [], ◌∷◌, ◌++◌, codes, refl, sym, ap, subst, ◌∙◌, true≢false}
-use Rattle.miniserde_model.specs.Tree.{Tree, null, truth, nonneg, neg, num, str}
+use Rattle.std.proofs.Common.{◌≡◌, ℕ, Bool, true, false, Some, is_some, List, [], ◌∷◌, ◌++◌, length, codes, refl, sym, ap, subst, ◌∙◌, true≢false, arith, length-append}
+use Rattle.std.specs.Prelude.{⊤}
+use Rattle.miniserde_model.specs.Tree.{Tree}
+use Rattle.miniserde_model.specs.IsTree.{IsTree}
 use Rattle.miniserde_model.specs.Event.{Event, nothing, seq, element, map, key, finish, events}
 use Rattle.miniserde_model.specs.Lexing.{Kind, in_list, in_members, Starts, Names}
 use Rattle.miniserde_model.specs.private.Reading.{Moment, due, first, after}
 use Rattle.miniserde_model.proofs.ReadBack.{spells_json, nothing_left}
+use Rattle.miniserde_model.proofs.Accepted.{json_tree}
 use Rattle.miniserde_text.specs.Lexer.{front_of}
 use Rattle.miniserde_text.specs.declared.json.lex.Event as lexed
 use Rattle.miniserde_text.specs.declared.json.lex.Event.TheVariants as variant
@@ -59,27 +62,43 @@ closers : (st : List Kind) → (rest : List Event) × Spellable after rest st
 closers [] = ([], ([], tt))
 closers (k ∷ st) = let r = closers st in (finish ∷ r.0, with_finish k false st r.0 r.1)
 
-pub completion : (m : Moment) (st : List Kind) → Live m st → (rest : List Event) × Spellable m rest st
-completion after st l = closers st
-completion due st l = let r = closers st in (nothing ∷ r.0, (codes "null" ++ r.1.0, front [] (codes "null") r.1.0 tt refl r.1.1))
-completion first [] l = absurd l
-completion first (k ∷ st) l = let r = closers st in (finish ∷ r.0, with_finish k true st r.0 r.1)
+-- a value is due, or a container is open
+abbrev pub Unfinished : Moment → List Kind → Type 0
+Unfinished after [] = ⊥
+Unfinished _ _ = ⊤
+
+pub inside_unfinished : (f : Bool) (st : List Kind) (k : Kind) → innermost st ≡ Some k → Unfinished (between f) st
+inside_unfinished f [] k h = absurd (true≢false (ap is_some (sym h)))
+inside_unfinished true (c ∷ st) k h = tt
+inside_unfinished false (c ∷ st) k h = tt
+
+-- what is unfinished can be completed, and by no fewer than one event
+pub more_to_come : (m : Moment) (st : List Kind) → Live m st → Unfinished m st → (e : Event) × (rest : List Event) × Spellable m (e ∷ rest) st
+more_to_come after [] l u = absurd u
+more_to_come after (k ∷ st) l u = let r = closers st in (finish, r.0, with_finish k false st r.0 r.1)
+more_to_come due st l u = let r = closers st in (nothing, r.0, (codes "null" ++ r.1.0, front [] (codes "null") r.1.0 tt refl r.1.1))
+more_to_come first [] l u = absurd l
+more_to_come first (k ∷ st) l u = let r = closers st in (finish, r.0, with_finish k true st r.0 r.1)
 
 -- ---- what some text spells is a tree's
 
-leaf_spelled : (t : Tree) (e : Event) (es : List Event) → events t ≡ e ∷ [] → Spellable after es [] → (u : Tree) × (e ∷ es ≡ events u)
-leaf_spelled t e es i h = (t, ap (λ z. e ∷ z) (nothing_left es h.0 h.1).0 ∙ sym i)
+pub more_behind : (es : List Event) (e : Event) (rest : List Event) → es ++ e ∷ rest ≡ [] → ⊥
+more_behind es e rest h = omega (arith, ap length h, length-append es (e ∷ rest))
 
-spelled_events : (es : List Event) → Spellable due es [] → (u : Tree) × (es ≡ events u)
-spelled_events es h = let t = spells_json es h.0 h.1 in (t.0, t.1)
+-- behind a leaf no event comes
+leaf_ends : {A : Type 0} (es : List Event) → (es ≡ [] → ⊥) → Spellable after es [] → A
+leaf_ends es n h = absurd (n (nothing_left es h.0 h.1).0)
 
--- the events behind a value's first token
-pub tree_spelled : (x : lexed.Event) (scratch : List ℕ) (es : List Event) → Spellable (between (is_some (opens (front_of x scratch)))) es (pushed (opens (front_of x scratch)) []) → (t : Tree) × (front_of x scratch ∷ es ≡ events t)
-tree_spelled variant.Null scratch es h = leaf_spelled null _ es refl h
-tree_spelled (variant.Bool b) scratch es h = leaf_spelled (truth b) _ es refl h
-tree_spelled (variant.Negative n) scratch es h = leaf_spelled (neg n) _ es refl h
-tree_spelled (variant.Nonnegative n) scratch es h = leaf_spelled (nonneg n) _ es refl h
-tree_spelled (variant.Number x) scratch es h = leaf_spelled (num x.now) _ es refl h
-tree_spelled (variant.Str t) scratch es h = leaf_spelled (str _) (front_of (variant.Str t) scratch) es refl h
-tree_spelled variant.SeqStart scratch es h = spelled_events (seq ∷ es) (91 ∷ h.0, front [] (91 ∷ []) h.0 tt refl h.1)
-tree_spelled variant.MapStart scratch es h = spelled_events (map ∷ es) (123 ∷ h.0, front [] (123 ∷ []) h.0 tt refl h.1)
+spelled_events : (es : List Event) → Spellable due es [] → (u : Tree) × (es ≡ events u) × IsTree u
+spelled_events es h = let t = spells_json es h.0 h.1 in (t.0, t.1, json_tree h.0 t.0 t.2)
+
+-- the events behind a value's first token, where there are some
+pub tree_spelled : (x : lexed.Event) (scratch : List ℕ) (es : List Event) → (es ≡ [] → ⊥) → Spellable (between (is_some (opens (front_of x scratch)))) es (pushed (opens (front_of x scratch)) []) → (t : Tree) × (front_of x scratch ∷ es ≡ events t) × IsTree t
+tree_spelled variant.Null scratch es n h = leaf_ends es n h
+tree_spelled (variant.Bool b) scratch es n h = leaf_ends es n h
+tree_spelled (variant.Negative z) scratch es n h = leaf_ends es n h
+tree_spelled (variant.Nonnegative m) scratch es n h = leaf_ends es n h
+tree_spelled (variant.Number x) scratch es n h = leaf_ends es n h
+tree_spelled (variant.Str t) scratch es n h = leaf_ends es n h
+tree_spelled variant.SeqStart scratch es n h = spelled_events (seq ∷ es) (91 ∷ h.0, front [] (91 ∷ []) h.0 tt refl h.1)
+tree_spelled variant.MapStart scratch es n h = spelled_events (map ∷ es) (123 ∷ h.0, front [] (123 ∷ []) h.0 tt refl h.1)

@@ -28,7 +28,7 @@ pub trait FromJson: Sized + Drop {
     // The value of a struct's field that is missing.
     ghost absent: { Option Self } = { None };
 
-    // `read` allocates nothing.
+    // `read` never returns `Memory`.
     ghost read_infallible: { Bool } = { false };
 
     /// Returns the value of a struct's field that is missing, or `None` if such a struct is invalid.

@@ -24,7 +24,7 @@ pub trait Leaf: Drop {
     // No list and no object means a value.
     ghost only_leaves: { OnlyLeaves means.from_tree };
 
-    // `from_step` allocates nothing.
+    // `from_step` never returns `Memory`.
     ghost read_infallible: { Bool } = { false };
 
     /// Returns the value of an event, or `Invalid` if the event is of another kind or out of range.

@@ -1,7 +1,7 @@
 -- The meaning of fields that are collected from events, and so of a struct's place.
 use Rattle.std.specs.Prelude.{◌≡◌, refl, ◌||◌, Bool, true, false, cond, List, Option, Some, None, option_map}
 use Rattle.miniserde_model.specs.Tree.{Tree}
-use Rattle.miniserde_model.specs.Event.{Event, events}
+use Rattle.miniserde_model.specs.Event.{Event, key, events}
 use Rattle.miniserde_place.specs.Place.{Shown, Meaning}
 use Rattle.miniserde_place.specs.Container.{Gathering, joining}
 use Rattle.miniserde_read.specs.meaning.Objects.{Name, object_of}
@@ -82,6 +82,11 @@ field_places_once inner n = record {
   child = λ g. n.child (inner g);
 }
 
+-- a member is refused by its name
+abbrev pub refuses_member : (Name → Bool) → Event → Bool
+refuses_member refuses (key k) = refuses k
+refuses_member refuses _ = false
+
 -- a struct, by the names and the values of its fields
 abbrev pub struct_gathering : {F V C W : Type 0} → FieldsMeaning F V → List Name → (W → V) → (C → F) → Gathering C W
 struct_gathering n names values fields = record {
@@ -97,4 +102,5 @@ struct_gathering n names values fields = record {
   reads = StructReads (n.meant.reads names) values;
   reads_agrees = struct-given (n.meant.reads names) values (n.meant.from_members names n.meant.empty) n.meant.content (n.meant.reads_agrees names);
   child = λ c. n.child (fields c);
+  refuses = λ s e. refuses_member (n.refuses names s) e;
 }

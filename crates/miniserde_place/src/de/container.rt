@@ -37,7 +37,9 @@ pub struct ContainerPlace<C> {
 }
 
 impl<C: Collect> ContainerPlace<C> {
-    ghost use Rattle.miniserde_place.specs.Stage.{shown, shown_between};
+    ghost use Rattle.miniserde_place.specs.Stage.{shown, shown_between, RefusesChild};
+    ghost use Rattle.miniserde_place.specs.Container.{BeginsChild};
+    ghost use Rattle.std.specs.Result.{IsErr};
 
     // An event that no open child takes.
     #[inline(never)]
@@ -50,6 +52,7 @@ impl<C: Collect> ContainerPlace<C> {
         ensures bars { result ≡ Err Error.Invalid → (shown C.gathering self.old).refused ≡ None
             → Barred (shown C.gathering self.old) (event_of event.entry) }
         ensures keeps { (r : Error) → (shown C.gathering self.old).refused ≡ Some r → result ≡ Err r }
+        ensures refuses { RefusesChild C.gathering self.old (event_of event.entry) result self.new }
     {
         match self.stage {
             Stage::Fresh => {
@@ -76,6 +79,9 @@ impl<C: Collect> ContainerPlace<C> {
         ensures unrefused { IfOk result (λ _. (shown C.gathering self.new).refused ≡ None) }
         ensures bars { result ≡ Err Error.Invalid
             → Barred (shown_between C.gathering self.old.collector) (event_of event.entry) }
+        ensures refuses { BeginsChild (event_of event.entry)
+            → C.gathering.refuses (C.gathering.state self.old.collector) (event_of event.entry) ≡ true
+            → IsErr result }
     {
         match event {
             Step::Element | Step::Key(_) => {
@@ -96,13 +102,16 @@ impl<C: Collect> ContainerPlace<C> {
 }
 
 impl<C: Collect> Visitor for ContainerPlace<C> {
-    ghost use Rattle.miniserde_place.specs.Stage.{place_of};
+    ghost use Rattle.miniserde_place.specs.Stage.{place_of, RefusesChild};
 
     type Out = C::Out;
 
     ghost meaning = { place_of C.gathering };
 
     ghost begins_free = { true };
+
+    // A child that the container refuses by the event that begins it, it refuses at once.
+    ghost further = { RefusesChild C.gathering };
 
     fn begin(alloc: Global) -> Result<ContainerPlace<C>> {
         Ok(ContainerPlace {

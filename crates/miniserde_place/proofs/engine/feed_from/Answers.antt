@@ -11,7 +11,7 @@ use Rattle.miniserde_place.specs.private.Runs.{Moved}
 use Rattle.miniserde_read.proofs.Passed.{start_ends, value_passed}
 use Rattle.miniserde_place.proofs.Moved.{Moved-append, moved_one, barred_one, barred_more, never_barred}
 use Rattle.miniserde_place.proofs.Feeds.{first_barred, later_barred, moved_init, feed_ok, begun_none, begun, if_err, keeps_exit}
-use Rattle.miniserde_place.proofs.Spelled.{start_spellable}
+use Rattle.miniserde_place.proofs.Spelled.{start_spellable, inside_unfinished}
 use Rattle.miniserde_place.proofs.engine.feed_from.Goals as goal
 
 pub returns-in_err-first-clause-invalid : goal.returns-in_err-first-clause-invalid
@@ -118,7 +118,7 @@ returns-in_err-turn-clause-keeps g c =
     let lead : LedTo (v c.args.place.now) ev (v c.enter.new.place) = c.in_ok-first.ensures.leads in
     let w = err_from_is_err_and c.from_residual-in_err-turn.result c.from_residual-in_err-turn.ensures.1 in
     keeps_exit v (v c.args.place.now).at (v c.args.place.now).outcome c.loop-kind.place c.turn.new.place c.from_residual-in_err-turn.result c.in_err-turn.field-0.0 (cc (w.1, w.2)) c.loop-kind.invariant.unrefused
-    (begun c.args.token c.args.source.now.scratch s (v c.args.place.now).at (v c.args.place.now).outcome (v c.enter.new.place).at (v c.enter.new.place).outcome (between c.loop-kind.first) c.loop-kind.stack c.loop-kind.source.rest (v c.loop-kind.place).at (v c.loop-kind.place).outcome lead c.loop-kind.invariant.moved) c.in_err-turn.ensures.keeps
+    (begun c.args.token c.args.source.now.scratch s (v c.args.place.now).at (v c.args.place.now).outcome (v c.enter.new.place).at (v c.enter.new.place).outcome (between c.loop-kind.first) c.loop-kind.stack c.loop-kind.source.rest (v c.loop-kind.place).at (v c.loop-kind.place).outcome lead c.loop-kind.invariant.moved (inside_unfinished c.loop-kind.first c.loop-kind.stack _ (sym c.top.ensures ∙ ap (option_map kind_of) c.in-Some.is))) c.in_err-turn.ensures.keeps
 
 pub returns-in_err-token-clause-keeps : goal.returns-in_err-token-clause-keeps
 returns-in_err-token-clause-keeps g c =
@@ -129,7 +129,7 @@ returns-in_err-token-clause-keeps g c =
     let n = subst (λ z. Moved (between c.loop-kind.first) c.loop-kind.stack c.loop-kind.source.rest (v c.loop-kind.place).at (v c.loop-kind.place).outcome (onward z) c.turn.new.stack c.turn.new.source.rest (v c.turn.new.place).at (v c.turn.new.place).outcome) c.if-branch.true c.in_ok-turn.ensures.moved in
     let two = Moved-append (between (is_some (opens ev))) (pushed (opens ev) []) s (v c.enter.new.place).at (v c.enter.new.place).outcome (between c.loop-kind.first) c.loop-kind.stack c.loop-kind.source.rest (v c.loop-kind.place).at (v c.loop-kind.place).outcome due c.turn.new.stack c.turn.new.source.rest (v c.turn.new.place).at (v c.turn.new.place).outcome c.loop-kind.invariant.moved n in
     if_err c.from_residual-in_err-token.result (λ e. ((v c.turn.new.place).refused ≡ Some e) ⊎ (((v c.turn.new.place).refused ≡ None) × Begun (v c.args.place.now).at (v c.args.place.now).outcome (v c.turn.new.place).at (v c.turn.new.place).outcome))
-    (λ e. inr (c.in_ok-turn.ensures.unrefused, begun c.args.token c.args.source.now.scratch s (v c.args.place.now).at (v c.args.place.now).outcome (v c.enter.new.place).at (v c.enter.new.place).outcome due c.turn.new.stack c.turn.new.source.rest (v c.turn.new.place).at (v c.turn.new.place).outcome lead two))
+    (λ e. inr (c.in_ok-turn.ensures.unrefused, begun c.args.token c.args.source.now.scratch s (v c.args.place.now).at (v c.args.place.now).outcome (v c.enter.new.place).at (v c.enter.new.place).outcome due c.turn.new.stack c.turn.new.source.rest (v c.turn.new.place).at (v c.turn.new.place).outcome lead two tt))
 
 pub returns-in_err-first-2-clause-keeps : goal.returns-in_err-first-2-clause-keeps
 returns-in_err-first-2-clause-keeps g c =
@@ -141,4 +141,4 @@ returns-in_err-first-2-clause-keeps g c =
     let n = subst (λ z. Moved (between c.loop-kind.first) c.loop-kind.stack c.loop-kind.source.rest (v c.loop-kind.place).at (v c.loop-kind.place).outcome (onward z) c.turn.new.stack c.turn.new.source.rest (v c.turn.new.place).at (v c.turn.new.place).outcome) c.if-branch.true c.in_ok-turn.ensures.moved in
     let two = Moved-append (between (is_some (opens ev))) (pushed (opens ev) []) s (v c.enter.new.place).at (v c.enter.new.place).outcome (between c.loop-kind.first) c.loop-kind.stack c.loop-kind.source.rest (v c.loop-kind.place).at (v c.loop-kind.place).outcome due c.turn.new.stack c.turn.new.source.rest (v c.turn.new.place).at (v c.turn.new.place).outcome c.loop-kind.invariant.moved n in
     keeps_exit v (v c.args.place.now).at (v c.args.place.now).outcome c.turn.new.place c.enter-then-branch.new.place c.from_residual-in_err-first-2.result c.in_err-first-2.field-0.0 (cc (w.1, w.2)) c.in_ok-turn.ensures.unrefused
-    (begun c.args.token c.args.source.now.scratch s (v c.args.place.now).at (v c.args.place.now).outcome (v c.enter.new.place).at (v c.enter.new.place).outcome due c.turn.new.stack c.turn.new.source.rest (v c.turn.new.place).at (v c.turn.new.place).outcome lead two) c.in_err-first-2.ensures.keeps
+    (begun c.args.token c.args.source.now.scratch s (v c.args.place.now).at (v c.args.place.now).outcome (v c.enter.new.place).at (v c.enter.new.place).outcome due c.turn.new.stack c.turn.new.source.rest (v c.turn.new.place).at (v c.turn.new.place).outcome lead two tt) c.in_err-first-2.ensures.keeps

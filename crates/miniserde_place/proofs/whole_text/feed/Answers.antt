@@ -12,6 +12,7 @@ use Rattle.miniserde_read.proofs.Fronts.{start_event}
 use Rattle.miniserde_read.proofs.Same.{value_same}
 use Rattle.miniserde_read.proofs.Json.{json_at, json_front, at_json}
 use Rattle.miniserde_place.specs.Place.{LeadsBy, Begun}
+use Rattle.miniserde_place.proofs.InRange.{value_in_range}
 use Rattle.miniserde_place.proofs.Feeds.{begun_none, begun_whole, if_err}
 use Rattle.miniserde_place.proofs.whole_text.feed.Goals as goal
 
@@ -77,6 +78,10 @@ returns-clause-invalid g c = λ e t h.
 pub returns-clause-keeps : goal.returns-clause-keeps
 returns-clause-keeps g c =
     let v = g.V.Visitor.meaning.shows in
+    let ev = front_of c.in_ok-token.token c.token.new.self.scratch in
+    let s = c.token.new.self.rest in
+    let k : Starts c.args.j.now ev s = subst (λ z. Starts z ev s) c.new-source.ensures.rest c.in_ok-token.ensures.ok in
     let r = c.in_ok-feed_from.ensures.ok in
+    let i = value_in_range r.0 ev c.args.j.now s c.feed_from.new.source.rest k r.1 in
     if_err c.end.result (λ e. ((v c.feed_from.new.place).refused ≡ Some e) ⊎ (((v c.feed_from.new.place).refused ≡ None) × Begun (v c.args.place.now).at (v c.args.place.now).outcome (v c.feed_from.new.place).at (v c.feed_from.new.place).outcome))
-    (λ e. inr (c.in_ok-feed_from.ensures.unrefused, begun_whole (v c.args.place.now).at (v c.args.place.now).outcome r.0 (v c.feed_from.new.place).at (v c.feed_from.new.place).outcome r.2))
+    (λ e. inr (c.in_ok-feed_from.ensures.unrefused, begun_whole (v c.args.place.now).at (v c.args.place.now).outcome r.0 (v c.feed_from.new.place).at (v c.feed_from.new.place).outcome i r.2))

@@ -1,5 +1,5 @@
 //! What a container says of itself, so that one place serves them all.
-ghost use Rattle.std.specs.Prelude.{◌≡◌, ◌↔◌, Bool, IsTrue, Option, Some, None, Ok, Err, List, [], IfOk, IfErr};
+ghost use Rattle.std.specs.Prelude.{◌≡◌, ◌↔◌, Bool, true, IsTrue, Option, Some, None, Ok, Err, List, [], IfOk, IfErr};
 ghost use Rattle.std.specs.Prelude.{MatchOption, is_some};
 ghost use Rattle.miniserde_model.specs.Event.{Event};
 ghost use Rattle.miniserde_model.specs.Position.{complete};
@@ -35,7 +35,9 @@ pub trait Collect: Drop {
             (gathering.rules.child (gathering.state self.old) (event_of event.entry))
             (gathering.child self.new)) }
         ensures invalid { result ≡ Err Error.Invalid
-            → (es : List Event) → gathering.rules.child (gathering.state self.old) (event_of event.entry) es ≡ None };
+            → (es : List Event) → gathering.rules.child (gathering.state self.old) (event_of event.entry) es ≡ None }
+        ensures refuses { gathering.refuses (gathering.state self.old) (event_of event.entry) ≡ true
+            → result ≡ Err Error.Invalid };
 
     /// The current child takes an event.
     fn step(&mut self, event: Step<'_>) -> Result<()>
