@@ -10,7 +10,7 @@ use miniserde::derived::{
     Slot, Slots, Source, Step, Visitor, Writer, read_record, record_again, write_members,
 };
 
-/// As `Demo`, and refused where `code` or `message` stands twice among its members. Other names may repeat.
+/// As `Demo`, and invalid if `code` or `message` is duplicated among its members. Other names may be.
 #[derive(Drop)]
 pub struct StrictDemo {
     pub code: u32,

@@ -1,4 +1,4 @@
-/// As `Demo`, and refused where `code` or `message` stands twice among its members. Other names may repeat.
+/// As `Demo`, and invalid if `code` or `message` is duplicated among its members. Other names may be.
 pub struct StrictDemo { // once, events
     pub code: u32,
     pub message: String,

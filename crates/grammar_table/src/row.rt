@@ -20,7 +20,7 @@ pub struct Row<'a> {
     pub rule: &'a str,
     /// The text that the rule is tried on.
     pub text: Vec<u8>,
-    /// What becomes of it.
+    /// Whether it is accepted.
     pub verdict: Verdict,
 }
 

@@ -31,11 +31,11 @@ IsAnswer xs ys = IsUtf8 xs × ((t : Tree) × IsJson xs t × (ys ≡ compact (nor
 unfoldable pub HasNoAnswer : List ℕ → Type 0
 HasNoAnswer xs = (IsUtf8 xs → ⊥) ⊎ ((t : Tree) → IsJson xs t → ⊥)
 
--- the same, where no name stands twice in the tree, so that the normal form has as many values
+-- the same, if no name is duplicated in the tree, so that the normal form has as many values
 unfoldable pub IsUniqueAnswer : List ℕ → List ℕ → Type 0
 IsUniqueAnswer xs ys = IsUtf8 xs × ((t : Tree) × IsJson xs t × (distinct t ≡ true) × (size (norm t) ≡ size t) × (ys ≡ compact (norm t)))
 
--- the bytes are no UTF-8, or spell no tree in which no name stands twice
+-- the bytes are no UTF-8, or spell no tree without duplicate names
 unfoldable pub HasNoUniqueAnswer : List ℕ → Type 0
 HasNoUniqueAnswer xs = (IsUtf8 xs → ⊥) ⊎ ((t : Tree) → IsJson xs t → distinct t ≡ true → ⊥)
 

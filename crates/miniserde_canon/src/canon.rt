@@ -173,7 +173,7 @@ fn read_all<R: Read>(alloc: Global, r: &mut Counted<R>) -> Result<Vec<u8>, Fault
     }
 }
 
-/// The text that is written for the bytes, which are let go of before it is made.
+/// Canonicalizes the bytes. Frees the input before it allocates the output.
 fn answer(alloc: Global, bytes: Vec<u8>) -> Result<String, Fault>
     ensures ok { IfOk result (λ s. IsAnswer bytes.items (string_bytes s)) }
     ensures invalid { IsErrOf result Fault.Invalid → HasNoAnswer bytes.items }

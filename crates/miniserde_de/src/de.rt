@@ -36,7 +36,7 @@ pub trait Deserialize: FromJson {
         Self::missing()
     }
 
-    /// A fresh place. It refuses only for want of memory.
+    /// A fresh place. Its only error is `Memory`.
     final fn begin(alloc: Global) -> Result<Self::Place>
         ensures fresh { IfOk result (λ p. IsFresh Self.Place.meaning.from_events (Self.Place.meaning.shows p)) }
         ensures memory { IfErr result (λ r. r ≡ Error.Memory) }

@@ -1,4 +1,4 @@
--- In a normal form no name stands twice; and it has as many values as a tree in which none does.
+-- A normal form has no duplicate name; and it has as many values as a tree that has none.
 use Rattle.std.proofs.Common.{◌≡◌, ℕ, ◌+◌, ℤ, pos, negsuc, Bool, true, false, List, Option, Some, None, option_map, bytes_eq, cond, is_some, refl, sym, ap, ap₂, ◌∙◌, arith, Ordering, Less, Equal, Greater, true≢false}
 use Rattle.std.specs.Prelude.{not, ◌&&◌}
 use Rattle.std.proofs.lemmas.Map.Lookups.{exact_bytes}
@@ -24,7 +24,7 @@ second_of false b e = absurd (cc)
 
 -- ---- the normal form
 
--- in each member's tree no name stands twice
+-- each member's tree has no duplicate name
 abbrev each_distinct : Members → Bool
 each_distinct no_members = true
 each_distinct (member name t ms) = distinct t && each_distinct ms

@@ -1,5 +1,5 @@
 -- Members in the order of their names are told by the tree at each name; and members that are put in from the left, where the later
--- stands in the place of the earlier, are those of the normal form.
+-- replaces the earlier, are those of the normal form.
 use Rattle.std.proofs.Common.{◌≡◌, ℕ, Bool, true, false, List, Option, Some, None, option_map, bytes_eq, cond, is_some, refl, sym, ap, ap₂, subst, ◌∙◌, Ordering, Less, Equal, Greater, true≢false}
 use Rattle.std.specs.Ordering.{ordering_reverse, is_eq}
 use Rattle.std.proofs.lemmas.Bool.{false_from_ne_true}

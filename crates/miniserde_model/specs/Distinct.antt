@@ -1,4 +1,4 @@
--- Trees in which no name stands twice.
+-- Trees without duplicate names.
 use Rattle.std.specs.Prelude.{ℕ, Bool, true, not, ◌&&◌, List, is_some}
 use Rattle.miniserde_model.specs.Tree.{Tree, null, truth, nonneg, neg, num, str, list, members, Trees, no_trees, tree, Members, no_members, member}
 use Rattle.miniserde_model.specs.Normal.{last_of}

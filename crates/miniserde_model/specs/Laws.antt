@@ -50,11 +50,11 @@ NormIsOnly = (ms ns : Members) → Rise ns → ((q : List ℕ) → last_of q ns 
 abbrev pub PutGivesNorm : Type 0
 PutGivesNorm = (ms : Members) → put_all no_members ms ≡ norm_members ms
 
--- in the normal form of a tree no name stands twice
+-- the normal form of a tree has no duplicate name
 abbrev pub NormIsDistinct : Type 0
 NormIsDistinct = (t : Tree) → distinct (norm t) ≡ true
 
--- where no name stands twice, the normal form has as many values
+-- if no name is duplicated, the normal form has as many values
 abbrev pub DistinctKeepsSize : Type 0
 DistinctKeepsSize = (t : Tree) → distinct t ≡ true → size (norm t) ≡ size t
 

@@ -39,8 +39,7 @@ pub fn norm_of_members()
     ensures put { PutGivesNorm }
 {}
 
-/// In the normal form of a tree no name stands twice; and where none does in the tree, its normal form has as many
-/// values.
+/// The normal form of a tree has no duplicate name; and if the tree has none, its normal form has as many values.
 pub fn norm_of_distinct()
     ensures distinct { NormIsDistinct }
     ensures size { DistinctKeepsSize }

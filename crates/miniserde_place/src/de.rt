@@ -40,7 +40,7 @@ pub trait Visitor: Drop {
     // What a call that hands on an event promises besides: nothing, where the place does not say otherwise.
     ghost further: { Self → Event → Result (Unit {0}) Error → Self → Type 0 } = { λ _ _ _ _. ⊤ };
 
-    /// A fresh place. It refuses only for want of memory.
+    /// A fresh place. Its only error is `Memory`.
     fn begin(alloc: Global) -> Result<Self>
         ensures fresh { IfOk result (λ p. IsFresh meaning.from_events (meaning.shows p)) }
         ensures memory { IfErr result (λ r. r ≡ Error.Memory) }

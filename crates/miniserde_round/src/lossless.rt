@@ -26,7 +26,7 @@ pub trait NeverNull: RoundTrip {
 }
 
 /// Does nothing. It promises that the tree of a value means that value, and nothing that counts otherwise. So of a text
-/// that spells it, `from_str` answers the value, want of memory aside.
+/// that spells it, `from_str` returns the value, unless allocation fails.
 pub fn means_itself<T: Lossless>(value: &T)
     ensures means { T.means.reads (T.tree value.now) value.now }
     ensures only { (v : T) → T.means.reads (T.tree value.now) v

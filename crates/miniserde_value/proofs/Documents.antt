@@ -161,7 +161,7 @@ again-object o =
     let n = normal_object o (all_normal (object_values o)) in
     ((n.0, tt, n.1 ∙ kept_norm (object_shape o)), λ w r e. same (object_shape w) (object_shape o) e)
 
--- in a normal form no name stands twice
+-- a normal form has no duplicate name
 pub again-unique : (u : Unique) → ReadsAgain (λ _. ⊤) (λ u. norm (shape u.value)) ReadsUnique (norm (shape u.value))
 again-unique u =
     let n = normal u.value in

@@ -21,6 +21,6 @@ once_outcome true h [] = None
 once_outcome false h [] = whole h
 once_outcome due h (e ∷ es) = option_and_then (λ s. once_outcome s.0 s.1 es) (took_once due h e)
 
--- what is kept of a tree in which no name stands twice
+-- what is kept of a tree without duplicate names
 abbrev pub kept_once : Tree → Option Tree
 kept_once t = cond (distinct t) (Some (kept t)) None

@@ -1,4 +1,4 @@
-//! Documents in which no name stands twice.
+//! Documents without duplicate names.
 
 use crate::texts::nested;
 use miniserde::de::{Deserialize, Visitor};

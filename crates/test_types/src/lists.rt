@@ -1,4 +1,4 @@
-//! Lists, arrays of fixed length and pairs, alone and in one another.
+//! Lists, arrays of fixed length and pairs, alone and nested.
 
 use miniserde::error::Result;
 use miniserde::json::from_str;

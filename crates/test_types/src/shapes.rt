@@ -1,4 +1,4 @@
-//! Lists, pairs, options and maps in one another, as users write them: one wrong leaf at the innermost place is refused.
+//! Nested lists, pairs, options and maps, as users write them: one wrong leaf at the innermost place is refused.
 
 use crate::maps::Hashed;
 use std::collections::BTreeMap;

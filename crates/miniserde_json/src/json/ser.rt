@@ -63,11 +63,11 @@ pub fn canonical_unique(alloc: Global, j: &str) -> Result<String>
     ensures shortest { IfOk result (λ c. (t : Tree) → IsJson j.now t → (b : List ℕ) → (u : Tree)
         → IsJson b u → norm u ≡ norm t → length (string_bytes c) ≤ length b) }
 
-    // No name stands twice in the text's tree, so the normal form has as many values.
+    // The text's tree has no duplicate name, so the normal form has as many values.
     ensures distinct { IfOk result (λ _. (t : Tree) → IsJson j.now t → distinct t ≡ true) }
     ensures size { IfOk result (λ _. (t : Tree) → IsJson j.now t → size (norm t) ≡ size t) }
 
-    // The text has no tree in which no name stands twice; and never more than one tree.
+    // The text has no tree without duplicate names; and never more than one tree.
     ensures invalid { result ≡ Err Invalid → (t : Tree) → IsJson j.now t → distinct t ≡ true → ⊥ }
     ensures one { (t u : Tree) → IsJson j.now t → IsJson j.now u → t ≡ u }
 

@@ -18,7 +18,7 @@ use miniserde_text::error::Result;
 use std::alloc::Global;
 use std::{mem, slice, vec};
 
-/// A list of values. It is let go of with no recursion.
+/// A list of values. It is dropped without recursion.
 #[cycle(value)]
 pub struct Array {
     items: Vec<Value>,
@@ -38,7 +38,7 @@ impl Array {
         }
     }
 
-    /// The items in order. It refuses only for want of memory.
+    /// The items in order. Its only error is `Memory`.
     pub fn from_iter<I: IntoIterator<Item = Value>>(alloc: Global, iter: I) -> Result<Array>
         requires { (it : I.IntoIter) → I.into_iter_gives iter it → I.IntoIter.can_next it
             × IsFinite (I.IntoIter.remaining it) }
@@ -93,7 +93,7 @@ impl Array {
     }
 }
 
-/// Lets go of all that it holds, with no recursion and no memory taken.
+/// Drops all that it contains, without recursion, and allocates nothing.
 impl Drop for Array {
     fn drop(self) {
         safely(Value::Array(self));

@@ -46,7 +46,7 @@ fn add_all(alloc: Global, mut walk: Walk<'_>, builder: &mut Builder) -> Result<(
 }
 
 impl Array {
-    /// A copy. It refuses only for want of memory.
+    /// A copy. Its only error is `Memory`.
     pub fn try_clone(&self, alloc: Global) -> Result<Array>
         ensures ok { IfOk result (λ copy. array_shape copy ≡ array_shape self.now) }
         ensures memory { OnErr result (IsErrOf result Memory) }
@@ -65,7 +65,7 @@ impl Array {
 }
 
 impl Object {
-    /// A copy. It refuses only for want of memory.
+    /// A copy. Its only error is `Memory`.
     pub fn try_clone(&self, alloc: Global) -> Result<Object>
         ensures ok { IfOk result (λ copy. object_shape copy ≡ object_shape self.now) }
         ensures memory { OnErr result (IsErrOf result Memory) }
@@ -84,7 +84,7 @@ impl Object {
 }
 
 impl Value {
-    /// A copy. It refuses only for want of memory.
+    /// A copy. Its only error is `Memory`.
     pub fn try_clone(&self, alloc: Global) -> Result<Value>
         ensures ok { IfOk result (λ copy. shape copy ≡ shape self.now) }
         ensures memory { OnErr result (IsErrOf result Memory) }

@@ -20,7 +20,7 @@ use std::alloc::Global;
 use std::collections::{BTreeMap, btree_map};
 use std::mem;
 
-/// Values by name, in byte order of the names. It is let go of with no recursion.
+/// Values by name, in byte order of the names. It is dropped without recursion.
 #[cycle(value)]
 pub struct Object {
     members: BTreeMap<String, Value>,
@@ -39,7 +39,7 @@ impl Object {
         }
     }
 
-    /// The members by name, where of equal names the last stands. It refuses only for want of memory.
+    /// The members by name, where of equal names the last stands. Its only error is `Memory`.
     pub fn from_iter<I: IntoIterator<Item = (String, Value)>>(
         alloc: Global,
         iter: I,
@@ -105,7 +105,7 @@ impl Object {
     }
 }
 
-/// Lets go of all that it holds, with no recursion and no memory taken.
+/// Drops all that it contains, without recursion, and allocates nothing.
 impl Drop for Object {
     fn drop(self) {
         safely(Value::Object(self));

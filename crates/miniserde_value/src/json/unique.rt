@@ -1,4 +1,4 @@
-//! Values in which no name stands twice.
+//! Values without duplicate names.
 ghost use Rattle.std.specs.Prelude.{◌≡◌, true};
 
 use super::place::ValuePlace;
@@ -16,7 +16,7 @@ pub struct Unique {
 }
 
 impl Unique {
-    /// The value, as it is: no name stands twice in a `Value`.
+    /// The value, as it is: a `Value` has no duplicate name.
     pub fn new(value: Value) -> Unique
         ensures { result.value ≡ value }
     {

@@ -12,7 +12,7 @@ use super::number::Number;
 use super::object::Object;
 pub use super::place::ValuePlace;
 
-/// Any JSON value. It is let go of with no recursion, at any depth.
+/// Any JSON value. It is dropped without recursion, at any depth.
 #[cycle(value)]
 #[derive(Drop)]
 pub enum Value {

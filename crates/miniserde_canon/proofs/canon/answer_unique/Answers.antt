@@ -1,4 +1,4 @@
--- The answer is the compact text of the normal form of the tree that was read, in which no name stands twice.
+-- The answer is the compact text of the normal form of the tree that was read, which has no duplicate name.
 use Rattle.std.proofs.Common.{◌≡◌, true, cond, ap, ◌∙◌, inl, inr, is_some, Option, Some, None, Bool}
 use Rattle.std.proofs.lemmas.Result.{err_from_is_err_and}
 use Rattle.miniserde_model.specs.Compact.{compact}
@@ -16,7 +16,7 @@ returns-clause-ok c =
     let r = c.in_ok-value.ensures.ok in
     (r.0, (r.1.0, r.1.1, r.1.2.0, distinct_size r.1.0 r.1.2.0, c.in_ok-to_string.ensures.ok ∙ ap compact (ap norm r.1.2.1 ∙ norm_kept r.1.0)))
 
--- a tree in which no name stands twice means a value
+-- a tree without duplicate names means a value
 pub returns-in_err-value-clause-invalid : goal.returns-in_err-value-clause-invalid
 unfolding HasNoUniqueAnswer IsNotRead
 returns-in_err-value-clause-invalid c = λ h.

@@ -1,4 +1,4 @@
--- What was read is what is kept of the text's tree, in which no name stands twice.
+-- What was read is what is kept of the text's tree, which has no duplicate name.
 use Rattle.std.proofs.Common.{◌≡◌, ℕ, Bool, true, false, cond, Some, None, List, is_some, sym, ap, subst, ◌∙◌, string_bytes, true≢false}
 use Rattle.std.proofs.lemmas.Result.{err_from_is_err_and, IfOk-weaker}
 use Rattle.std.specs.Prelude.{Result, Ok, Err, IfOk, OnErr, IsErrOf}
