@@ -85,7 +85,8 @@ def texts():
 
 def main():
     if len(sys.argv) != 2 or sys.argv[1].startswith('-'):
-        sys.exit(__doc__.strip())
+        print(__doc__.strip())
+        sys.exit(0 if sys.argv[1:] in (['--help'], ['-h']) else 2)
     folder = pathlib.Path(sys.argv[1])
     folder.mkdir(parents=True, exist_ok=True)
     complete = folder / 'complete'

@@ -90,13 +90,15 @@ class Crate:
 
 def crates():
     """Returns the crates of crates.txt by name."""
-    lines = re.findall(r"^(\w+)[^:\n]*:(.*)$", (ROOT / "crates.txt").read_text(), re.M)
+    lines = re.findall(r"^(\w+)[^:#\n]*:([^#\n]*)", (ROOT / "crates.txt").read_text(), re.M)
     listed = {name: words.split() for name, words in lines}
     found = {}
 
-    def made(name):
+    def made(name, above=()):
+        if name in above:
+            sys.exit(f"crates.txt: {' uses '.join([*above[above.index(name):], name])}, a circle")
         if name not in found:
-            own = [made(it) for it in listed[name] if it in listed]
+            own = [made(it, (*above, name)) for it in listed[name] if it in listed]
             found[name] = Crate(name, own, [it for it in listed[name] if it not in listed])
         return found[name]
 
