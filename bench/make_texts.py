@@ -1,6 +1,9 @@
 #!/usr/bin/env python3
-"""Makes the measured texts, from a fixed seed: make_texts.py FOLDER"""
-import os
+"""Makes the measured texts, from a fixed seed.
+
+    make_texts.py FOLDER    writes FOLDER/NAME.json, and last an empty file FOLDER/complete
+"""
+import pathlib
 import random
 import sys
 
@@ -81,11 +84,16 @@ def texts():
 
 
 def main():
-    folder = sys.argv[1]
-    os.makedirs(folder, exist_ok=True)
+    if len(sys.argv) != 2 or sys.argv[1].startswith('-'):
+        print(__doc__.strip())
+        sys.exit(0 if sys.argv[1:] in (['--help'], ['-h']) else 2)
+    folder = pathlib.Path(sys.argv[1])
+    folder.mkdir(parents=True, exist_ok=True)
+    complete = folder / 'complete'
+    complete.unlink(missing_ok=True)
     for name, text in texts():
-        with open('%s/%s.json' % (folder, name), 'w', encoding='utf-8') as f:
-            f.write(text)
+        (folder / f'{name}.json').write_text(text, encoding='utf-8')
+    complete.touch()
 
 
 if __name__ == '__main__':

@@ -135,12 +135,17 @@ def main():
     a.add_argument('--rounds', type=int, default=15)
     a.add_argument('--no-instructions', action='store_true')
     a = a.parse_args()
+    lacking = [p.path for p in a.programs if not os.access(p.path, os.X_OK)]
+    if lacking or a.rounds < 1:
+        sys.exit('measure.py: %s' % (f'{lacking[0]} is no program' if lacking else '--rounds takes a number from 1'))
     rows = []
     for job in JOBS:
         if a.only in ' '.join(job):
             rows.append((job[0], measure(a.programs, job, a.texts, a.rounds, not a.no_instructions)))
             print('.', end='', file=sys.stderr, flush=True)
     print(file=sys.stderr)
+    if not rows:
+        sys.exit('measure.py: no job has %s in it' % a.only)
     whats = ['time'] if a.no_instructions else ['instructions', 'time']
     for mode in ('read', 'write', 'both'):
         print({'read': '### Read and drop', 'write': '### Write (both less read)', 'both': '### Read and write'}[mode] + '\n')

@@ -1,18 +1,21 @@
 """What the tools share: the crates of this repository, and how `rattle` checks one over built libraries."""
+import functools
 import pathlib
 import re
 import subprocess
+import sys
 
 ROOT = pathlib.Path(__file__).resolve().parent.parent
 
 
+@functools.cache
 def kit():
-    """Returns the toolchain's folder."""
-    return pathlib.Path(subprocess.run(["rt", "doc"], capture_output=True, text=True, check=True).stdout.strip()).parent
-
-
-KIT = kit()
-RATTLE = str(KIT / "bin/rattle")
+    """Returns the toolchain's folder, and ends the run if there is none."""
+    try:
+        told = subprocess.run(["rt", "doc"], capture_output=True, text=True, check=True).stdout
+    except (OSError, subprocess.CalledProcessError):
+        sys.exit("rt, Rattle's toolchain, is not on PATH")
+    return pathlib.Path(told.strip()).parent
 
 
 class Crate:
@@ -39,15 +42,15 @@ class Crate:
 
     def check(self, *flags, tests=False):
         """Returns the command that checks the crate, with the libraries below it as they are built."""
-        words = [RATTLE, "check", "--crate-name", self.name, f"src/{'main' if self.is_program else 'lib'}.rt"]
+        words = [f"{kit()}/bin/rattle", "check", "--crate-name", self.name, f"src/{'main' if self.is_program else 'lib'}.rt"]
         for name in ["std", *self.of_kit]:
-            words += ["--extern", f"{name}={KIT}/rlibs/{name}.rlib"]
-        words += ["-L", f"dependency={KIT}/rlibs"]
+            words += ["--extern", f"{name}={kit()}/rlibs/{name}.rlib"]
+        words += ["-L", f"dependency={kit()}/rlibs"]
         for library in self.libraries:
             words += ["--extern", f"{library.name}={library.rlib}"]
         for library in self.below():
             words += ["-L", f"dependency={library.rlib.parent}"]
-        words += ["--antt-project", f"{KIT}/rattle/logic/antt-project.json", "--logic-built", f"{KIT}/logic_built"]
+        words += ["--antt-project", f"{kit()}/rattle/logic/antt-project.json", "--logic-built", f"{kit()}/logic_built"]
         return [*words, "--jobs", "1", "--links", f"{self.name}=", *["--test"] * tests, *flags]
 
     def sources(self):
@@ -68,19 +71,34 @@ class Crate:
     def build_below(self):
         """Builds the libraries below the crate that no gate and no check has left behind."""
         for library in self.below():
-            if not library.is_built():
-                subprocess.run(["rt", "lib"], cwd=library.folder, stdout=subprocess.DEVNULL, check=True)
+            if not library.is_built() and subprocess.run(["rt", "lib"], cwd=library.folder, stdout=subprocess.DEVNULL).returncode:
+                sys.exit(f"{library.name}, a library of {self.name}, was not built: `rt lib` in its folder says why")
+
+    def program(self, suffix=""):
+        """Returns the crate's program, or with `_tests` that of its tests; ends the run if it is older than its sources.
+
+        Times tell: `rt ci` writes each program anew in every run, one that it kept from an earlier run too.
+        """
+        path = self.folder / f"out/{self.name}{suffix}"
+        if not path.is_file():
+            sys.exit(f"{path.relative_to(ROOT)} is missing: run `rt ci`, which builds it")
+        newest = max((file for it in [*self.below(), self] for file in it.sources()), key=lambda file: file.stat().st_mtime)
+        if newest.stat().st_mtime >= path.stat().st_mtime:
+            sys.exit(f"{path.relative_to(ROOT)} is older than {newest.relative_to(ROOT)}: run `rt ci`, which builds it anew")
+        return path
 
 
 def crates():
     """Returns the crates of crates.txt by name."""
-    lines = re.findall(r"^(\w+)[^:\n]*:(.*)$", (ROOT / "crates.txt").read_text(), re.M)
+    lines = re.findall(r"^(\w+)[^:#\n]*:([^#\n]*)", (ROOT / "crates.txt").read_text(), re.M)
     listed = {name: words.split() for name, words in lines}
     found = {}
 
-    def made(name):
+    def made(name, above=()):
+        if name in above:
+            sys.exit(f"crates.txt: {' uses '.join([*above[above.index(name):], name])}, a circle")
         if name not in found:
-            own = [made(it) for it in listed[name] if it in listed]
+            own = [made(it, (*above, name)) for it in listed[name] if it in listed]
             found[name] = Crate(name, own, [it for it in listed[name] if it not in listed])
         return found[name]
 
