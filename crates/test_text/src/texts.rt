@@ -311,11 +311,13 @@ fn a_call_that_breaks_the_grammar_is_invalid_as_is_each_later_call(
     )
 }
 
-/// Returns whether a text is kept as a number's text, also in a clone.
+/// Returns whether a text is kept as a number's text, also unchecked and in a clone.
 fn is_number(alloc: Global, text: &str, kept: &str) -> Result<bool> {
     let number = NumberText::new(alloc, text)?;
     let copy = number.try_clone(alloc)?;
-    Ok(NumberText::is_text(text) & (number.as_str() == kept) & (copy.as_str() == kept))
+    let unchecked = NumberText::new_unchecked(alloc, text)?;
+    let all_kept = (number.as_str() == kept) & (copy.as_str() == kept) & (unchecked.as_str() == kept);
+    Ok(NumberText::is_text(text) & all_kept)
 }
 
 /// Fails with the first wrong line of a table, if any: a text, ` => ` and what is kept, or a text that is invalid.

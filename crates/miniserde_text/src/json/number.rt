@@ -52,6 +52,15 @@ impl NumberText {
         if !NumberText::is_text(t) {
             return Err(Error::Invalid);
         }
+        NumberText::new_unchecked(alloc, t)
+    }
+
+    /// A copy of `t`, which is such a text by its contract, and is not read for it. Returns `Memory` if allocation fails.
+    pub fn new_unchecked(alloc: Global, t: &str) -> Result<NumberText>
+        requires { IsNumber t.now (num t.now) }
+        ensures ok { IfOk result (λ n. n ≡ t.now) }
+        ensures memory { OnErr result (IsErrOf result Error.Memory) }
+    {
         let text = String::from_str(alloc, t)?;
         Ok(NumberText { text })
     }

@@ -63,7 +63,7 @@ impl ValuePlace {
             Step::Negative(n) => self.builder.put(Value::Number(Number::I64(n))),
             Step::Nonnegative(n) => self.builder.put(Value::Number(Number::U64(n))),
             Step::Float(t) => {
-                let text = NumberText::new(self.alloc, t)?;
+                let text = NumberText::new_unchecked(self.alloc, t)?;
                 self.builder.put(Value::Number(Number::Text(text)))
             }
             Step::Seq => self.builder.open_array(),
@@ -322,7 +322,7 @@ impl Leaf for Number {
         match event {
             Step::Negative(n) => Ok(Number::I64(n)),
             Step::Nonnegative(n) => Ok(Number::U64(n)),
-            Step::Float(t) => Ok(Number::Text(NumberText::new(alloc, t)?)),
+            Step::Float(t) => Ok(Number::Text(NumberText::new_unchecked(alloc, t)?)),
             _ => Err(Error::Invalid),
         }
     }

@@ -1,0 +1,196 @@
+"""What `./derive` reads: the types of a file, with their words and marks."""
+import re
+from dataclasses import dataclass, field
+
+from refusals import NAME, Refused, check_cycles, check_field_name, check_foreign_marks, check_places, check_type, check_written
+
+
+@dataclass
+class Part:
+    """A field or a variant: its name and its name in JSON; and a field's type, the `pub` in front of it and its marks.
+
+    `above` are the lines of comments and attributes above it. `default` is the text of the value of a missing field, ""
+    for the empty one and None for no such value.
+    """
+
+    name: str
+    written: str
+    line: int
+    above: list
+    of: str = ""
+    public: str = ""
+    once: bool = False
+    default: str = None
+
+
+@dataclass
+class Definition:
+    """A struct or an enum. `above` are the lines above it, without its derives."""
+
+    kind: str
+    name: str
+    line: int
+    above: list
+    derives: list
+    public: str
+    words: tuple
+    parts: list = field(default_factory=list)
+
+
+USE = re.compile(r"(?:pub )?use [A-Za-z0-9_:{}*, ]+;")
+DERIVE = re.compile(r"#\[derive\(([^)]*)\)\]")
+WORD = r"(?:once|closed|lossless|events)"
+WORDS = rf"\s*//\s*({WORD}(?:,\s*{WORD})*)"
+PUBLIC = r"(pub(?:\([a-z ]+\))?\s+)?"
+HEAD = re.compile(rf"{PUBLIC}(struct|enum)\s+({NAME})\s*\{{(?:{WORDS})?")
+ON_ONE_LINE = re.compile(rf"({PUBLIC}(?:struct|enum)\s+{NAME}\s*\{{)([^{{}}]*)\}}({WORDS})?")
+MARKS = re.compile(r'//\s*((?:once|default|rename)\b.*)$')
+MARK = re.compile(r'\s*(?:(once)|default(?:\s+(-?\d+|true|false|"[^"\\]*"))?|rename\s+"([^"\\]*)")\s*(?:,|$)')
+INTEGER = re.compile(r"[ui](8|16|32|64|size)")
+
+
+def marks_of(kind, text, line):
+    """The marks behind a field or a variant: whether it is `once`, its default, and its name in JSON."""
+    once, default, rename = False, None, None
+    while text:
+        found = MARK.match(text)
+        if not found:
+            raise Refused(f'line {line}: not a mark (`once`, `default VALUE`, `rename "x"`): {text.strip()}')
+        if found.group(1):
+            once = True
+        elif found.group(3) is not None:
+            rename = found.group(3)
+        else:
+            default = found.group(2) or ""
+        text = text[found.end() :]
+    if kind == "enum" and (once or default is not None):
+        raise Refused(f"line {line}: a variant has no value of its own: `once` and `default` mark fields")
+    return once, default, rename
+
+
+def part_of(kind, text, line, above):
+    """The field or variant of a line."""
+    marks = MARKS.search(text)
+    once, default, rename = marks_of(kind, marks.group(1) if marks else "", line)
+    bare = (text[: marks.start()] if marks else text).strip()
+    if "//" in bare:
+        raise Refused(f"line {line}: a comment that is no mark stands on a line of its own, above the field: {text}")
+    pattern = rf"{PUBLIC}((?:r#)?{NAME})\s*:\s*(.+?),?" if kind == "struct" else rf"()({NAME}),?"
+    found = re.fullmatch(pattern, bare)
+    if not found:
+        raise Refused(f"line {line}: {no_part(kind, bare)}: {bare}")
+    name, of = found.group(2), found.group(3) if kind == "struct" else ""
+    if kind == "struct":
+        check_field_name(name, line)
+        if len(split_at_commas(of)) > 1:
+            raise Refused(f"line {line}: more than one field stands on the line: {text}")
+    elif name == "List":
+        raise Refused(f'line {line}: derived code uses the name `List`: write `Items, // rename "List"`')
+    if default is not None:
+        check_default(of, default, line)
+    return Part(name, rename if rename is not None else name, line, above, of, found.group(1) or "", once, default)
+
+
+def no_part(kind, bare):
+    """Says why a line is no field or no variant."""
+    if kind == "struct":
+        return "not a named field `name: Type`, one a line"
+    if re.match(rf"{NAME}\s*[({{]", bare):
+        return "a variant has no data: write a struct with the kind as a unit enum, and the data in `Option`s"
+    return "not a variant, one a line, with no number"
+
+
+def check_default(of, default, line):
+    """Refuses a default that is no value of the field's type."""
+    if default == "":
+        fits = of in ("bool", "String") or INTEGER.fullmatch(of) or re.match(r"(Vec|BTreeMap|HashMap|Option)<", of)
+    elif default[0] == '"':
+        fits = of == "String"
+    elif default in ("true", "false"):
+        fits = of == "bool"
+    else:
+        fits = INTEGER.fullmatch(of) and in_range(of, int(default))
+    if not fits:
+        raise Refused(f"line {line}: `{f'default {default}'.strip()}` gives no value of `{of}`")
+
+
+def in_range(of, value):
+    """Whether an integer is one of the type."""
+    bits = 64 if of.endswith("size") else int(of[1:])
+    return 0 <= value < 2**bits if of[0] == "u" else -(2 ** (bits - 1)) <= value < 2 ** (bits - 1)
+
+
+def head_of(bare, line, above):
+    """The type that a line begins."""
+    found = HEAD.fullmatch(bare)
+    if found:
+        words = tuple(re.findall(r"\w+", found.group(4) or ""))
+        derives = [name for it in above for names in DERIVE.findall(it) for name in re.findall(r"\w+", names)]
+        return Definition(found.group(2), found.group(3), line, [it for it in above if not DERIVE.fullmatch(it)], derives, found.group(1) or "", words)
+    if re.match(rf"{PUBLIC}(struct|enum)\s+{NAME}\s*<", bare):
+        raise Refused(f"line {line}: a type has no parameters and no lifetimes: write it for the types that it is used with: {bare}")
+    if re.match(rf"{PUBLIC}struct\s+{NAME}\s*\(", bare):
+        raise Refused(f"line {line}: a newtype is written by hand (docs/BY-HAND.md), or has a named field: {bare}")
+    raise Refused(f"line {line}: not the first line of a `struct Name {{` or an `enum Name {{`: {bare}")
+
+
+def split_at_commas(text):
+    """The parts of a text between commas that stand in no bracket."""
+    parts, depth = [""], 0
+    for sign in text:
+        depth += (sign in "([<") - (sign in ")]>")
+        if sign == "," and depth == 0:
+            parts.append("")
+        else:
+            parts[-1] += sign
+    return [it.strip() for it in parts if it.strip()]
+
+
+def lines_of(text):
+    """The lines of a file with their numbers; a type on one line becomes several of its number."""
+    for number, line in enumerate(text.splitlines(), 1):
+        bare = line.strip()
+        found = ON_ONE_LINE.fullmatch(bare)
+        if found:
+            yield number, found.group(1) + (found.group(4) or "")
+            yield from ((number, f"{it},") for it in split_at_commas(found.group(3)))
+            yield number, "}"
+        else:
+            yield number, bare
+
+
+def definitions_of(text):
+    """The types of a file, in order, and its `use` lines; comments and blank lines stay above what they stood above."""
+    found, uses, above, now = [], [], [], None
+    for number, bare in lines_of(text):
+        if not bare or bare.startswith("//") or bare.startswith("#["):
+            above += [bare] if bare or above or now and now.parts else []
+        elif now and bare == "}":
+            found, now, above = [*found, now], None, []
+        elif now:
+            now.parts.append(part_of(now.kind, bare, number, above))
+            above = []
+        elif USE.fullmatch(bare):
+            uses, above = [*uses, *above, bare], []
+        else:
+            now, above = head_of(bare, number, above), []
+    if now:
+        raise Refused(f"line {now.line}: `{now.name}` is not closed")
+    return found, uses
+
+
+def names_known(found, uses):
+    """The names that a file defines or imports."""
+    return {it.name for it in found} | {name for line in uses if USE.fullmatch(line) for name in re.findall(NAME, line)}
+
+
+def check(found, uses):
+    """Refuses types that no impl can be written for."""
+    known = names_known(found, uses)
+    for it in found:
+        check_foreign_marks(it)
+        check_written(it)
+        for part in it.parts:
+            check_type(part.of, known, part.line)
+    check_cycles(found)
+    check_places(found)

@@ -1,0 +1,396 @@
+"""What `./derive` writes: a type with its impls, and what they import."""
+import re
+
+# Words that clauses reserve: a field of such a name is quoted there.
+RESERVED = set(
+    "abbrev absurd as axiom cc coe data elim exists forall grind hiding in infix let module mod mutual omega open "
+    "opaque package pub record refl rw simp subst tt unfold unfoldable unfolding use where λ".split()
+)
+
+
+def quoted(name):
+    return f"«{name}»" if name in RESERVED else name
+
+
+def nested(items, last, word=""):
+    """Nested items, as (a, (b, last)), or with a word in front of each bracket."""
+    text = last
+    for item in reversed(items):
+        text = f"{word}({item}, {text})"
+    return text
+
+
+def fields_of(types):
+    """The list of fields of a place, four at a time."""
+    if len(types) >= 4:
+        return f"Four<{', '.join(types[:4])}, {fields_of(types[4:])}>"
+    return f"Field<{types[0]}, {fields_of(types[1:])}>" if types else "NoField"
+
+
+def wrapped(head, text):
+    """A line of a clause, in more than one where it is long."""
+    whole = f"    ghost {head} = {{ {text} }};"
+    if len(whole) <= 100:
+        return whole
+    lines, now = [], f"    ghost {head} = {{"
+    for word in f"{text} }};".split(" "):
+        if len(now) + 1 + len(word) > 100:
+            lines.append(now)
+            now = "       "
+        now += f" {word}"
+    return "\n".join([*lines, now])
+
+
+def made_of(names):
+    """The clause that makes a struct of the values of its fields."""
+    made = [f"{quoted(name)} = x{'.1' * at}.0" for at, name in enumerate(names)]
+    whole = f"    ghost made = {{ λ x. record {{ {'; '.join(made)} }} }};"
+    if len(whole) <= 100:
+        return whole
+    return "\n".join(["    ghost made = { λ x. record {", *(f"      {it};" for it in made), "    } };"])
+
+
+def const_of(name):
+    return re.sub(r"(?<=[a-z0-9])(?=[A-Z])", "_", name).upper() + "_NAMES"
+
+
+# What each type derives. An enum without data is small, so it is copied and compared.
+DERIVES = {"struct": ["Drop"], "enum": ["Clone", "Copy", "PartialEq", "Eq", "Debug", "Drop"]}
+# Derives of serde and the original, which the impls stand for.
+STOOD_FOR = ("Serialize", "Deserialize")
+
+
+def head_of(it):
+    """A type as its user wrote it, with what it derives."""
+    own = [name for name in it.derives if name not in STOOD_FOR and name not in DERIVES[it.kind]]
+    lines = [*it.above, f"#[derive({', '.join([*own, *DERIVES[it.kind]])})]", f"{it.public}{it.kind} {it.name} {{"]
+    for part in it.parts:
+        lines += [f"    {line}".rstrip() for line in part.above]
+        lines.append(f"    {part.public}{part.name}: {part.of}," if it.kind == "struct" else f"    {part.name},")
+    return "\n".join([*lines, "}"])
+
+
+def chain_of(names):
+    """The name of the chain of a struct's values, which is no field's."""
+    return next(name for name in ("parts", "chain", "values") if name not in names)
+
+
+def printed_for(it):
+    """The names of types that are written beside a type."""
+    names = [given_of(it, part) for part in it.parts if part.default]
+    if it.kind == "struct":
+        names.append(f"{it.name}Fields")
+        names += [f"{it.name}Place"] if "events" in it.words else []
+    return names
+
+
+def lossless_text(it, law):
+    """The impls that tell its values apart by what is written, where they are asked for."""
+    if "lossless" not in it.words:
+        return ""
+    return f"""
+impl Lossless for {it.name} {{
+    fn lossless() {{
+        {law}
+    }}
+}}
+
+impl NeverNull for {it.name} {{
+    fn never_null() {{}}
+}}
+"""
+
+
+def of(kind, member, each):
+    """A ghost member of a type's impl."""
+    return f"⟦<{each} as {kind}>⟧.{member}"
+
+
+# The blocks of fields, from the widest.
+BLOCKS = ((16, "SixteenSlot"), (8, "EightSlot"), (4, "FourSlot"))
+
+
+def slots_of(it, parts):
+    """The list of fields, in blocks where they have no marks: a check passes one impl for each block."""
+    if not parts:
+        return "Closed" if "closed" in it.words else "NoSlot"
+    plain = next((at for at, part in enumerate(parts) if part.once or part.default is not None), len(parts))
+    for size, block in BLOCKS:
+        if plain >= size:
+            return f"{block}<{', '.join(part.of for part in parts[:size])}, {slots_of(it, parts[size:])}>"
+    part, rest = parts[0], slots_of(it, parts[1:])
+    if part.default is not None:
+        return f"{'Once' if part.once else ''}GivenSlot<{part.of}, {given_of(it, part)}, {rest}>"
+    return f"{'Once' if part.once else ''}Slot<{part.of}, {rest}>"
+
+
+def given_of(it, part):
+    """The type that gives a missing field its value."""
+    words = "".join(word[:1].upper() + word[1:] for word in part.name.split("_"))
+    return f"{it.name}{words}Default" if part.default else "Empty"
+
+
+def given_text(it, path):
+    """The types that give missing fields their values."""
+    text = ""
+    for part in it.parts:
+        if not part.default:
+            continue
+        name, uses, made = given_of(it, part), "", part.default
+        if part.default[0] == '"':
+            const = const_of(name).removesuffix("_NAMES")
+            text += f"\nconst {const}: &str = {part.default};\n"
+            uses = f"    ghost use Rattle.{path}.TheConstants.{{{const}}};\n\n"
+            tree, made = f"str {const}.now", f"String::from_str(alloc, {const})?"
+        elif part.default in ("true", "false"):
+            tree = f"truth {part.default}"
+        else:
+            made = int(part.default)
+            tree = f"nonneg {made}" if made >= 0 else f"neg (negsuc {-made - 1})"
+        alloc = "alloc" if part.default[0] == '"' else "_alloc"
+        text += f"""
+/// The value of a missing `{part.name}`.
+#[derive(Drop)]
+{it.public}struct {name} {{}}
+
+impl Given<{part.of}> for {name} {{
+{uses}    ghost given = {{ {tree} }};
+
+    fn is_given() {{}}
+
+    fn make({alloc}: Global) -> Result<{part.of}> {{
+        Ok({made})
+    }}
+}}
+"""
+    return text
+
+
+def taken_of(names, chain):
+    """The lines that take the fields' values out of their chain."""
+    for size, _ in BLOCKS:
+        if len(names) >= size:
+            rest = "()" if len(names) == size else chain
+            return [f"        let Taken{size}({', '.join(names[:size])}, {rest}) = take{size}({chain});", *taken_of(names[size:], chain)]
+    return [f"        let {nested(names, '()', 'Parts')} = {chain};"] if names else []
+
+
+def lent_of(lent):
+    """The fields' values, lent in blocks of four."""
+    if len(lent) >= 4:
+        return f"FourLent({', '.join(lent[:4])}, {lent_of(lent[4:])})"
+    return nested(lent, "()", "Parts")
+
+
+def struct_text(it, path):
+    """A struct with its impls."""
+    name, const, fields = it.name, const_of(it.name), f"{it.name}Fields"
+    names = [part.name for part in it.parts]
+    chain = chain_of(names)
+    slots = slots_of(it, it.parts)
+    slots = f"OnceSlots<{slots}>" if "once" in it.words else slots
+    written = ", ".join(f'"{part.written}"' for part in it.parts)
+    meaning = f"struct_meant {of('Slots', 'meaning', fields)} {of('Record', 'names', name)} {of('Record', 'values', name)}"
+    tree = f"record_tree {of('Record', 'names', name)} {of('AgainFields', 'trees', fields)} {of('Record', 'values', name)}"
+    real = f"λ v. {of('AgainFields', 'real', fields)} ({of('Record', 'values', name)} v)"
+    return f"""{head_of(it)}
+{given_text(it, path)}
+// Its fields, and their names.
+type {fields} = {slots};
+
+const {const}: &[&str] = &[{written}];
+
+impl Record for {name} {{
+    ghost use Rattle.{path}.TheConstants.{{{const}}};
+
+    type Values = <{fields} as Slots>::Values;
+
+    ghost names = {{ names_of {const} }};
+
+{wrapped("values", "λ v. " + nested([f"v.{part}" for part in names], "tt"))}
+
+{made_of(names)}
+
+    ghost whole = {{ (λ v. refl, λ x. refl) }};
+
+    ghost named = {{ refl }};
+
+    fn names() -> &'static [&'static str] {{
+        {const}
+    }}
+
+    fn build({chain}: Self::Values) -> {name} {{
+{chr(10).join(taken_of(names, chain))}
+        {name} {{ {", ".join(names)} }}
+    }}
+}}
+
+impl FromJson for {name} {{
+{wrapped("means", meaning)}
+
+    fn missing() -> Option<{name}> {{
+        None
+    }}
+
+    fn read<'a>(token: Event<'a>, source: &mut Source<'a>) -> Result<{name}> {{
+        read_record::<{name}, {fields}>(token, source)
+    }}
+}}
+
+impl Serialize for {name} {{
+{wrapped("tree", tree)}
+
+    fn begin(&self, w: &mut Writer) -> Result<()> {{
+        write_members(w, {const}, &{lent_of([f"&self.{part}" for part in names])})
+    }}
+}}
+
+impl Ranged for {name} {{
+{wrapped("real", real)}
+
+    fn ranged(&self) {{
+{chr(10).join(f"        self.{part}.ranged();" for part in names)}
+    }}
+}}
+
+impl RoundTrip for {name} {{
+    fn again() {{
+        record_again::<{name}, {fields}>()
+    }}
+}}
+{lossless_text(it, f"record_lossless::<{name}, {fields}>()")}{place_text(it)}"""
+
+
+def place_text(it):
+    """The place of a struct, where its events are to be handed on."""
+    if "events" not in it.words:
+        return ""
+    name, fields = it.name, fields_of([part.of for part in it.parts])
+    placed, further = fields, ""
+    if "once" in it.words:
+        placed, further = f"Once<{fields}>", f"""
+
+    // The name of a field that has a value is refused as a key.
+    ghost further = {{ λ old e answer new.
+        ⟦<RecordPlace<{name}> as Visitor>⟧.further old.place e answer new.place }};"""
+    return f"""
+/// The place of a `{name}`.
+#[derive(Drop)]
+{it.public}struct {name}Place {{
+    place: RecordPlace<{name}>,
+}}
+
+impl PlacedRecord for {name} {{
+    type Fields = {placed};
+}}
+
+impl Visitor for {name}Place {{
+    type Out = {name};
+
+    ghost meaning = {{ inside (λ p. p.place) ⟦<RecordPlace<{name}> as Visitor>⟧.meaning }};{further}
+
+    fn begin(alloc: Global) -> Result<{name}Place> {{
+        Ok({name}Place {{
+            place: <RecordPlace<{name}> as Visitor>::begin(alloc)?,
+        }})
+    }}
+
+    fn step(&mut self, event: Step<'_>) -> Result<()> {{
+        self.place.step(event)
+    }}
+
+    fn refuse(&mut self, error: Error) -> Error {{
+        self.place.refuse(error)
+    }}
+
+    fn is_complete(&self) -> bool {{
+        self.place.is_complete()
+    }}
+
+    fn take(self) -> Result<{name}> {{
+        let {name}Place {{ place }} = self;
+        place.take()
+    }}
+}}
+
+impl Deserialize for {name} {{
+    type Place = {name}Place;
+
+    fn tied() {{}}
+}}
+"""
+
+
+def enum_text(it, path):
+    """A unit enum with its impls."""
+    name, names = it.name, [part.name for part in it.parts]
+    arms = [f'            {name}::{part.name} => "{part.written}",' for part in it.parts]
+    return f"""{head_of(it)}
+
+impl UnitEnum for {name} {{
+    ghost use Rattle.{path}.{name}.TheVariants.{{{", ".join(names)}}};
+
+{wrapped("all", " ∷ ".join([*names, "[]"]))}
+
+{wrapped("name_of", "elim [ " + " | ".join(f'{part.name} ↦ codes "{part.written}"' for part in it.parts) + " ]")}
+
+{wrapped("found", "elim [ " + " | ".join(f"{part} ↦ refl" for part in names) + " ]")}
+
+    fn values() -> &'static [{name}] {{
+        &[{", ".join(f"{name}::{part}" for part in names)}]
+    }}
+
+    fn name(&self) -> &'static str {{
+        match self {{
+{chr(10).join(arms)}
+        }}
+    }}
+}}
+
+impl FromJson for {name} {{
+    ghost means = {{ ⟦<{name} as Variants>⟧.meaning }};
+
+    ghost read_infallible = {{ true }};
+
+    fn missing() -> Option<{name}> {{
+        None
+    }}
+
+    fn read<'a>(token: Event<'a>, source: &mut Source<'a>) -> Result<{name}> {{
+        read_variant(token, source)
+    }}
+}}
+
+impl Serialize for {name} {{
+    ghost tree = {{ λ v. str (⟦<{name} as UnitEnum>⟧.name_of v) }};
+
+    fn begin(&self, w: &mut Writer) -> Result<()> {{
+        w.fragment(Fragment::Str(self.name()))
+    }}
+}}
+
+impl Ranged for {name} {{
+    ghost real = {{ λ _. ⊤ }};
+
+    fn ranged(&self) {{}}
+}}
+
+impl RoundTrip for {name} {{
+    fn again() {{
+        variant_again::<{name}>()
+    }}
+}}
+{lossless_text(it, f"variant_lossless::<{name}>()")}{name_place_text(it)}"""
+
+
+def name_place_text(it):
+    """The place of a unit enum, where its events are to be handed on."""
+    if "events" not in it.words:
+        return ""
+    return f"""
+impl Deserialize for {it.name} {{
+    type Place = NamePlace<{it.name}>;
+
+    fn tied() {{}}
+}}
+"""

@@ -1,0 +1,134 @@
+"""What `./derive` refuses: types and names that no impl can be written for. Each message has the reason, and what to write."""
+import re
+
+NAME = r"[A-Za-z_][A-Za-z0-9_]*"
+
+
+class Refused(Exception):
+    """A definition that can't be taken."""
+
+
+# What derived code may name.
+NAMED = (
+    "AgainFields Closed Deserialize EightSlot Empty Error Event Field Four FourLent FourSlot Fragment FromJson Given GivenSlot Global Lossless "
+    "NamePlace NeverNull NoField NoSlot Once OnceGivenSlot OnceSlot OnceSlots Parts PlacedRecord Ranged Record RecordPlace Result "
+    "RoundTrip Serialize SixteenSlot Slot Slots Source Step Taken4 Taken8 Taken16 UnitEnum Variants Visitor Writer read_record "
+    "read_variant record_again record_lossless take4 take8 take16 variant_again variant_lossless write_members"
+)
+# Names of Rust's prelude and of the clauses, which derived code uses as they are.
+OF_RUST = "Box Err List None Ok Option Self Some String Vec"
+
+KEYWORDS = set(
+    "as break const continue crate else enum extern false fn for ghost if impl in let loop match mod move mut pub ref return "
+    "self static struct super trait true type unsafe use where while async await dyn box yield".split()
+)
+
+# Types that are not read, each with what to write.
+UNREAD = {
+    "f32 f64": "`miniserde::json::Number` keeps a fraction as its text",
+    "i128 u128": "an integer of 64 bits, or `miniserde::json::Number`, which keeps any number",
+    "char str OsString Path PathBuf": "`String`",
+    "BTreeSet BinaryHeap HashSet LinkedList VecDeque": "`Vec`",
+    "Arc Cell Cow Mutex Rc RefCell": "the type in it, or a `Box` of that",
+    "Duration Instant SystemTime": "an integer, or a newtype by hand (docs/BY-HAND.md)",
+    "Result": "a struct of two `Option`s",
+}
+INSTEAD = {name: instead for names, instead in UNREAD.items() for name in names.split()}
+
+
+def widest_tuple(of):
+    """Returns the most parts that a tuple in a type has."""
+    widest, open_at = 0, []
+    for sign in of:
+        if sign in "([<{":
+            open_at.append([sign, 1])
+        elif sign in ")]>}" and open_at:
+            bracket, parts = open_at.pop()
+            widest = max(widest, parts if bracket == "(" else 0)
+        elif sign == "," and open_at:
+            open_at[-1][1] += 1
+    return widest
+
+
+def check_type(of, known, line):
+    """Refuses a field's type that is not read, unless the file defines or imports its name."""
+    if "'" in of or "&" in of:
+        raise Refused(f"line {line}: a value owns what it has, with no lifetime and no reference, as `String` for `&str`: {of}")
+    if re.search(r"\bdyn\b|\bimpl\b|\bfn\b", of):
+        raise Refused(f"line {line}: a field has a type of its own, with no `dyn`, no `impl` and no `fn`: {of}")
+    if re.search(r"\[[^;\]]*\]", of):
+        raise Refused(f"line {line}: a list has a length, as `[T; 4]`, or is a `Vec<T>`: {of}")
+    if widest_tuple(of) > 2:
+        raise Refused(f"line {line}: a tuple has two parts: write a struct, or `(A, (B, C))`: {of}")
+    for name in re.findall(r"(?<![\w:])" + NAME, of):
+        if name in INSTEAD and name not in known:
+            raise Refused(f"line {line}: `{name}` is not read: {INSTEAD[name]}")
+
+
+def check_field_name(name, line):
+    """Refuses the name of a field that Rattle has no way to write."""
+    if name.startswith("r#") or name in KEYWORDS:
+        bare = name.removeprefix("r#")
+        raise Refused(f'line {line}: `{name}` is a word of the language: write `{bare}_: T, // rename "{bare}"`')
+
+
+def check_written(it):
+    """Refuses two fields or variants of one JSON name, at the second."""
+    seen = {}
+    for part in it.parts:
+        if part.written in seen:
+            raise Refused(f'line {part.line}: `{part.name}` is "{part.written}" in JSON, and so is `{seen[part.written].name}` on line {seen[part.written].line}')
+        seen[part.written] = part
+
+
+def check_type_names(found, printed_for):
+    """Refuses types whose names derived code has; `printed_for` returns the names that are written for a type."""
+    lines = {}
+    for it in found:
+        if it.name in NAMED.split() or it.name in OF_RUST.split():
+            raise Refused(f"line {it.line}: derived code uses the name `{it.name}`: call the type otherwise, its JSON stays")
+        if it.name in lines:
+            raise Refused(f"line {it.line}: line {lines[it.name]} has a type `{it.name}` too")
+        lines[it.name] = it.line
+    for it in found:
+        for name in printed_for(it):
+            if name in lines:
+                raise Refused(f"line {lines[name]}: derived code has a type `{name}` for `{it.name}`: call this one otherwise")
+
+
+def check_cycles(found):
+    """Refuses a type that contains itself, by whatever way."""
+    inner = {it.name: [(part, name) for part in it.parts for name in re.findall(NAME, part.of)] for it in found}
+
+    def reaches(name, aim, seen):
+        if name == aim:
+            return True
+        if name in seen or name not in inner:
+            return False
+        return any(reaches(of, aim, seen | {name}) for _, of in inner[name])
+
+    for it in found:
+        for part, name in inner[it.name]:
+            if reaches(name, it.name, frozenset()):
+                raise Refused(f"line {part.line}: `{it.name}` contains itself by `{part.name}`: keep the inner part as a `miniserde::json::Value`")
+
+
+def check_foreign_marks(it):
+    """Refuses marks that the type or its place does not know."""
+    if not it.parts:
+        raise Refused(f"line {it.line}: `{it.name}` has no field or variant")
+    if it.kind == "enum" and {"once", "closed"} & set(it.words):
+        raise Refused(f"line {it.line}: `{it.name}` is no struct, and has no members that `once` or `closed` could speak of")
+    if "events" in it.words and ("closed" in it.words or any(part.once or part.default is not None for part in it.parts)):
+        raise Refused(f"line {it.line}: `{it.name}` has marks that a place does not know: leave out `events`, `closed` or the fields' marks")
+
+
+def check_places(found):
+    """Refuses a struct with a place around a type of the same file without one."""
+    without = {it.name for it in found if "events" not in it.words}
+    for it in found:
+        for part in it.parts if "events" in it.words else []:
+            inner = without & set(re.findall(NAME, part.of))
+            if inner:
+                each = sorted(inner)[0]
+                raise Refused(f"line {part.line}: `{it.name}` has a place, and its field `{part.name}` has none: mark `{each}` with `// events` too")
