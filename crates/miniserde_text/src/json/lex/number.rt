@@ -12,7 +12,8 @@ ghost use Rattle.miniserde_text.specs.private.Reading.{after_fraction, after_sig
 ghost use Rattle.miniserde_text.specs.private.Reading.{after_tail, event_of_parts, number_at};
 
 use super::Event;
-use super::bytes::{before, byte_at, is_digit, is_exponent_letter, is_number_byte, is_sign, skip};
+use super::bytes::{before, byte_at, is_digit, is_exponent_letter, is_sign, skip};
+use super::tables::is_number_byte;
 
 fn after_run_of_digits(s: &str) -> &str
     ensures { result.now ≡ after_run is_digit s.now }
