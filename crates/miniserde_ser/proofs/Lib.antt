@@ -4,3 +4,4 @@ pub mod Members
 pub mod Ordered
 pub mod Names
 pub mod Plain
+pub mod Digits

@@ -9,6 +9,7 @@ ghost use Rattle.miniserde_model.specs.IsTree.{IsTree};
 ghost use Rattle.miniserde_text.specs.declared.error.Error.TheVariants.{Memory};
 
 mod compact;
+mod digits;
 mod escape;
 mod impls;
 mod plain;
@@ -62,7 +63,7 @@ impl Model for Writer {
 
 impl Writer {
     ghost use Rattle.std.specs.Prelude.{◌≡◌, [], ◌++◌, true, false, OnOk, OnErr, IfOk, IsErrOf, IsUtf8, string_bytes};
-    ghost use Rattle.std.specs.Prelude.{string_capacity, ◌≤◌, if◌then◌else◌, codes};
+    ghost use Rattle.std.specs.Prelude.{string_capacity, ◌≤◌, if◌then◌else◌, codes, decimal};
     ghost use Rattle.miniserde_model.specs.Compact.{compact, quoted};
     ghost use Rattle.miniserde_text.specs.declared.error.Error.TheVariants.{Memory};
     ghost use Rattle.miniserde_ser.specs.Writer.{appended, with_first, with_refused, LacksRoom};
@@ -119,6 +120,24 @@ impl Writer {
         }
     }
 
+    // Appends the digits of a number, in one copy of fixed size where there is room for the longest.
+    #[inline(always)]
+    fn append_number(&mut self, n: u64) -> Result<()>
+        ensures ok { OnOk result (self.new ≡ appended self.old (decimal n) self.new.capacity) }
+        ensures stays { OnOk result (self.old.refused ≡ false) }
+        ensures memory { OnErr result (IsErrOf result Memory) }
+        ensures err { OnErr result (self.new ≡ with_refused self.old) }
+        ensures room { OnErr result (LacksRoom self.old (decimal n)) }
+        ensures capacity { self.old.capacity ≤ self.new.capacity }
+    {
+        if !digits::has_room(&self.text) {
+            return self.append(Buffer::new().format(n));
+        }
+        self.check()?;
+        digits::put_digits(n, &mut self.text);
+        Ok(())
+    }
+
     // Appends a text as a string.
     #[inline(always)]
     fn append_quoted(&mut self, text: &str) -> Result<()>
@@ -166,7 +185,7 @@ impl Writer {
             Fragment::Bool(true) => self.append("true"),
             Fragment::Bool(false) => self.append("false"),
             Fragment::Str(s) => self.append_quoted(s),
-            Fragment::U64(n) => self.append(Buffer::new().format(n)),
+            Fragment::U64(n) => self.append_number(n),
             Fragment::I64(n) => self.append(Buffer::new().format(n)),
             Fragment::Text(n) => self.append(n.as_str()),
         }

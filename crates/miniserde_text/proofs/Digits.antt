@@ -1,5 +1,5 @@
 -- The value of digits, a turn of the loop each: the whole keeps its value, and what is read so far is never above it.
-use Rattle.std.proofs.Common.{◌≡◌, ℕ, suc, ◌+◌, ◌-◌, ◌*◌, ◌^◌, ◌≤◌, ◌<◌, List, [], ◌∷◌, length, drop, get_or, ap, ◌∙◌, subst, arith}
+use Rattle.std.proofs.Common.{◌≡◌, ℕ, suc, ◌+◌, ◌-◌, ◌*◌, ◌%◌, ◌^◌, ◌≤◌, ◌<◌, List, [], ◌∷◌, length, drop, get_or, ap, ◌∙◌, subst, arith}
 use Rattle.std.proofs.Math.Nat.{pow-suc, pow-le-pow_right}
 use Rattle.std.proofs.lemmas.Bool.Decides.{nat_tests}
 use Rattle.std.proofs.lemmas.List.{drop_more}
@@ -41,3 +41,7 @@ short_fits v i n small within few = omega (arith, pow-le-pow_right {n = 10} (ome
 
 pub below_next : (v i d : ℕ) → v < 10 ^ i → d ≤ 9 → v * 10 + d < 10 ^ (i + 1)
 below_next v i d small digit = let next : suc i ≡ i + 1 = omega arith in omega (arith, pow-suc 10 i, ap (λ k. 10 ^ k) next)
+
+-- what may wrap in a turn doesn't where fewer than 19 digits stand before it
+pub wraps_not : (v i d : ℕ) → v < 10 ^ i → i < 19 → d ≤ 9 → (v * 10 % 2 ^ 64 + d) % 2 ^ 64 ≡ v * 10 + d
+wraps_not v i d small few digit = omega (arith, short_fits v i 19 small few (omega arith))

@@ -11,3 +11,4 @@ pub mod Fronts
 pub mod Names
 pub mod Kept
 pub mod Equal
+pub mod Tables

@@ -23,6 +23,17 @@ fn specials(v: u8x32) -> u64
     (controls | quotes | backslashes).to_bitmask()
 }
 
+// As `specials`, sixteen at a time.
+#[inline(always)]
+fn specials_of_sixteen(v: u8x16) -> u64
+    ensures { result ≡ mask_l (map is_special v) }
+{
+    let controls = v.simd_lt(u8x16::splat(0x20));
+    let quotes = v.simd_eq(u8x16::splat(b'"'));
+    let backslashes = v.simd_eq(u8x16::splat(b'\\'));
+    (controls | quotes | backslashes).to_bitmask()
+}
+
 // As `specials`, eight at a time.
 #[inline(always)]
 fn specials_of_eight(v: u8x8) -> u64
@@ -62,7 +73,17 @@ fn search_eights(bytes: &[u8], from: usize) -> usize
     search_bytes(bytes, i)
 }
 
+// As `search_eights`, apart from where it is called.
+#[inline(never)]
+fn search_few(bytes: &[u8], from: usize) -> usize
+    requires { from ≤ length bytes.now }
+    ensures { result ≡ from + position_or_len is_special (drop from bytes.now) }
+{
+    search_eights(bytes, from)
+}
+
 // The search by lanes of 32 bytes.
+#[inline(never)]
 fn search(bytes: &[u8], from: usize) -> usize
     requires { from ≤ length bytes.now }
     ensures { result ≡ from + position_or_len is_special (drop from bytes.now) }
@@ -78,6 +99,22 @@ fn search(bytes: &[u8], from: usize) -> usize
     search_eights(bytes, i)
 }
 
+/// As `special`, for a byte at hand that seldom is special itself: 16 lanes come first.
+#[inline(always)]
+pub(crate) fn special_in_lanes(bytes: &[u8], from: usize) -> usize
+    requires { from ≤ length bytes.now }
+    ensures { result ≡ from + position_or_len is_special (drop from bytes.now) }
+{
+    if bytes.len() - from < 16 {
+        return search_few(bytes, from);
+    }
+    let found = specials_of_sixteen(u8x16::from_slice(&bytes[from..]));
+    if found != 0 {
+        return from + found.trailing_zeros() as usize;
+    }
+    search(bytes, from + 16)
+}
+
 /// The first byte at or after `from` that may not stand for itself in a string, or the length.
 #[inline(always)]
 pub fn special(bytes: &[u8], from: usize) -> usize
@@ -88,5 +125,5 @@ pub fn special(bytes: &[u8], from: usize) -> usize
     if from < bytes.len() && is_special(bytes[from]) {
         return from;
     }
-    search(bytes, from)
+    special_in_lanes(bytes, from)
 }

@@ -26,6 +26,7 @@ pub(super) mod number;
 mod space;
 mod step;
 mod string;
+mod tables;
 
 use self::front::{take_front, take_name};
 use self::space::after_space;

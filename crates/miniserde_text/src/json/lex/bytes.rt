@@ -1,6 +1,6 @@
 //! Tests of bytes, and steps over the bytes of a text.
 ghost use Rattle.std.specs.Prelude.{◌≡◌, ◌-◌, ◌<◌, drop, length, slice_index};
-ghost use Rattle.miniserde_model.specs.Bytes.{is_space, is_number_byte};
+ghost use Rattle.miniserde_model.specs.Bytes.{is_space};
 ghost use Rattle.miniserde_text.specs.private.Reading.{is_digit, is_sign, is_exponent_letter, before, EndsWith};
 
 pub(super) fn is_space(c: u8) -> bool
@@ -25,12 +25,6 @@ pub(super) fn is_exponent_letter(c: u8) -> bool
     ensures { result ≡ is_exponent_letter c }
 {
     c == b'e' || c == b'E'
-}
-
-pub(super) fn is_number_byte(c: u8) -> bool
-    ensures { result ≡ is_number_byte c }
-{
-    is_digit(c) || c == b'+' || c == b'-' || c == b'.' || c == b'E' || c == b'e'
 }
 
 /// The byte at `i`, or 0 past the end.

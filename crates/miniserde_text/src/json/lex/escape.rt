@@ -6,6 +6,7 @@ ghost use Rattle.miniserde_text.specs.private.Reading.{begins_escape, pair_of, l
 ghost use Rattle.miniserde_text.specs.private.Reading.{escape_at};
 
 use super::bytes::{byte_at, skip};
+use super::tables;
 
 // The value of a digit of base 36, or 36.
 fn hex(c: u8) -> u32
@@ -13,12 +14,7 @@ fn hex(c: u8) -> u32
     ensures ascii { result < 16 → (0 < c) × (c < 128) }
     ensures small { result ≤ 36 }
 {
-    match c {
-        b'0'..=b'9' => (c - b'0') as u32,
-        b'A'..=b'Z' => (c - b'A') as u32 + 10,
-        b'a'..=b'z' => (c - b'a') as u32 + 10,
-        _ => 36,
-    }
+    u32::from(tables::digit(c))
 }
 
 // Four hexadecimal digits.
@@ -97,15 +93,8 @@ fn short(letter: u8) -> Option<char>
     ensures value { result ≡ short_at letter }
     ensures ascii { IfSome result (λ c. (0 < letter) × (letter < 128)) }
 {
-    match letter {
-        b'"' | b'\\' | b'/' => Some(letter as char),
-        b'b' => Some('\x08'),
-        b'f' => Some('\x0c'),
-        b'n' => Some('\n'),
-        b'r' => Some('\r'),
-        b't' => Some('\t'),
-        _ => None,
-    }
+    let c = tables::short(letter);
+    if c == 0 { None } else { Some(c as char) }
 }
 
 /// Takes an escape, behind its backslash, and tells its character.

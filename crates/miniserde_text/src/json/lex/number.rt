@@ -1,5 +1,5 @@
 //! Numbers, and the event of each.
-ghost use Rattle.std.specs.Prelude.{◌≡◌, ◌<◌, ◌^◌, [], None, Some, List, ℕ, length, min, take, option_map, nat_lt};
+ghost use Rattle.std.specs.Prelude.{◌≡◌, ◌<◌, ◌≤◌, ◌^◌, [], None, Some, List, ℕ, length, take, option_map, nat_lt};
 ghost use Rattle.std.specs.Prelude.{if◌then◌else◌, IfSome, IfNone};
 ghost use Rattle.std.specs.Option.{option_copied};
 ghost use Rattle.std.specs.List.{AllByRecursion, prefix_len};
@@ -12,7 +12,8 @@ ghost use Rattle.miniserde_text.specs.private.Reading.{after_fraction, after_sig
 ghost use Rattle.miniserde_text.specs.private.Reading.{after_tail, event_of_parts, number_at};
 
 use super::Event;
-use super::bytes::{before, byte_at, is_digit, is_exponent_letter, is_number_byte, is_sign, skip};
+use super::bytes::{before, byte_at, is_digit, is_exponent_letter, is_sign, skip};
+use super::tables::is_number_byte;
 
 fn after_run_of_digits(s: &str) -> &str
     ensures { result.now ≡ after_run is_digit s.now }
@@ -149,17 +150,19 @@ fn event<'a>(text: &'a str, minus: bool, whole: &str, tail: &str) -> Event<'a>
     Event::Number(text)
 }
 
-// The digits in front, up to 19 of them: how many, and the number that they write.
+// The digits in front: how many, and the number that they write, where they are at most 19. More may wrap.
 #[inline(always)]
 fn leading_digits(s: &str) -> (usize, u64)
-    ensures count { result.0 ≡ min 19 (prefix_len is_digit s.now) }
-    ensures value { result.1 ≡ digits_value 10 (take result.0 s.now) }
+    ensures count { result.0 ≡ prefix_len is_digit s.now }
+    ensures value { result.0 ≤ 19 → result.1 ≡ digits_value 10 (take result.0 s.now) }
 {
     let bytes = s.as_bytes();
     let mut value = 0u64;
     let mut i = 0;
-    while i < bytes.len() && i < 19 && is_digit(bytes[i]) {
-        value = value * 10 + u64::from(bytes[i] - b'0');
+    while i < bytes.len() && is_digit(bytes[i]) {
+        value = value
+            .wrapping_mul(10)
+            .wrapping_add(u64::from(bytes[i] - b'0'));
         i += 1;
     }
     (i, value)
@@ -172,7 +175,7 @@ fn short_number<'a>(s: &'a str) -> Option<(Event<'a>, &'a str)>
 {
     let digits = after_minus(s);
     let (count, value) = leading_digits(digits);
-    if count == 0 || is_number_byte(byte_at(digits, count)) {
+    if count == 0 || count > 19 || is_number_byte(byte_at(digits, count)) {
         return None;
     }
     if count > 1 && byte_at(digits, 0) == b'0' {
@@ -203,6 +206,17 @@ fn take_any_number<'a>(s: &'a str) -> Option<(Event<'a>, &'a str)>
     Some((event, rest))
 }
 
+// As `take_any_number`. What that call leaves in memory is moved out of it here, so that a short number passes through none.
+#[inline(always)]
+fn take_long_number<'a>(s: &'a str) -> Option<(Event<'a>, &'a str)>
+    ensures { option_map (λ x. (front_of x.0 [], x.1.now)) result ≡ number_at s.now }
+{
+    match take_any_number(s) {
+        Some((event, rest)) => Some((event, rest)),
+        None => None,
+    }
+}
+
 /// Takes a number, behind which no byte of number texts may stand.
 #[inline(always)]
 pub(crate) fn take_number<'a>(s: &'a str) -> Option<(Event<'a>, &'a str)>
@@ -210,6 +224,6 @@ pub(crate) fn take_number<'a>(s: &'a str) -> Option<(Event<'a>, &'a str)>
 {
     match short_number(s) {
         Some(taken) => Some(taken),
-        None => take_any_number(s),
+        None => take_long_number(s),
     }
 }

@@ -28,4 +28,4 @@ returns c =
     let v = c.leading_digits-count.result.1 in
     let e = front_of c.in_ok-event.event [] in
     let event = subst (λ x. (text whole : List ℕ) → digits_value 10 whole ≡ v → event_of_parts text (x == 45) whole [] ≡ e) c.byte_at-2.ensures c.in_ok-event.ensures.some in
-    short_read s t n v e c.after_minus-digits.ensures (omega arith) digits away ends c.leading_digits-count.ensures.value event ∙ ap (λ r. Some (e, r)) (sym c.skip.ensures)
+    short_read s t n v e c.after_minus-digits.ensures (omega arith) digits away ends (c.leading_digits-count.ensures.value (omega arith)) event ∙ ap (λ r. Some (e, r)) (sym c.skip.ensures)

@@ -13,7 +13,7 @@ returns-in_default-clause-invalid c is cs r h =
     no_escape c.args.s.now none cs r h
 
 pub before-run-requires : goal.before-run-requires
-before-run-requires c = run_ends c.in-Some.rest.now c.after_unescaped-next.result.now c.after_unescaped-next.ensures.value
+before-run-requires c = run_ends c.in-Some.rest.now c.after_more-next.result.now c.after_more-next.ensures.value
 
 pub returns-clause-ok : goal.returns-clause-ok
 returns-clause-ok c =
@@ -21,15 +21,15 @@ returns-clause-ok c =
     let pushed : string_bytes c.push.new.self ≡ string_bytes c.args.scratch.now ++ encode_utf8 c.in-Some.c = grind arith in
     let run = c.before-run.result.now in
     let added : string_bytes c.if-not-is_empty.scratch ≡ string_bytes c.push.new.self ++ run = grind (arith, nil_from_length run, append-nil (string_bytes c.push.new.self), c.if-not-is_empty.branch) in
-    escape_adds _ _ _ c.args.s.now c.in-Some.c c.in-Some.rest.now c.after_unescaped-next.result.now read c.after_unescaped-next.ensures.value c.after_unescaped-next.ensures.text c.after_unescaped-next.utf8 pushed (added ∙ ap (λ x. string_bytes c.push.new.self ++ x) c.before-run.ensures)
+    escape_adds _ _ _ c.args.s.now c.in-Some.c c.in-Some.rest.now c.after_more-next.result.now read c.after_more-next.ensures.value c.after_more-next.ensures.text c.after_more-next.utf8 pushed (added ∙ ap (λ x. string_bytes c.push.new.self ++ x) c.before-run.ensures)
 
 pub returns-clause-stops : goal.returns-clause-stops
-returns-clause-stops c = run_special c.in-Some.rest.now _ c.after_unescaped-next.ensures.value
+returns-clause-stops c = run_special c.in-Some.rest.now _ c.after_more-next.ensures.value
 
 pub returns-clause-shorter : goal.returns-clause-shorter
 returns-clause-shorter c =
     let read : escape_at c.args.s.now ≡ Some (c.in-Some.c, c.in-Some.rest.now) = grind arith in
-    escape_shorter c.args.s.now c.in-Some.c c.in-Some.rest.now _ read c.after_unescaped-next.ensures.value
+    escape_shorter c.args.s.now c.in-Some.c c.in-Some.rest.now _ read c.after_more-next.ensures.value
 
 pub returns-clause-text : goal.returns-clause-text
-returns-clause-text c = c.after_unescaped-next.utf8
+returns-clause-text c = c.after_more-next.utf8

@@ -1,0 +1,56 @@
+-- What the tables have for each byte: all 256 are compared.
+use Rattle.std.proofs.Common.{◌≡◌, ℕ, zero, suc, ◌-◌, ◌<◌, ◌==◌, Bool, true, false, cond, ◌&&◌, T, eqb, get_or, if◌then◌else◌, None, Some, refl, inl, inr, arith, eq-zero-or-pos, eqb→eq}
+use lib.Ieee.Fits.{and_l, and_r}
+use Rattle.std.specs.Prelude.{◌||◌}
+use Rattle.std.specs.Char.{digit_value}
+use Rattle.std.proofs.lemmas.Bool.Decides.{nat_tests}
+use Rattle.miniserde_text.specs.private.Reading.{short_at}
+use Rattle.miniserde_model.specs.Bytes.{is_number_byte}
+use Rattle.miniserde_text.specs.declared.json.lex.tables.TheConstants.{DIGITS, SHORT, NUMBER}
+
+abbrev agree : (ℕ → ℕ) → (ℕ → ℕ) → ℕ → Bool
+agree f g zero = true
+agree f g (suc c) = eqb (f c) (g c) && agree f g c
+
+alike : (f g : ℕ → ℕ) (n c : ℕ) → T (agree f g n) → c < n → f c ≡ g c
+alike f g zero c t h = absurd (omega arith)
+alike f g (suc n) c t h =
+    elim (eq-zero-or-pos (n - c)) [
+      | inl z ↦ let e : c ≡ n = omega arith in rw e (eqb→eq _ _ (and_l _ (agree f g n) t))
+      | inr g' ↦ alike f g n c (and_r _ (agree f g n) t) (omega arith)
+    ]
+
+pub digit_at : (c : ℕ) → c < 256 → get_or DIGITS c 0 ≡ digit_value c
+digit_at c h = alike (λ k. get_or DIGITS k 0) digit_value 256 c tt h
+
+one_if : (b : Bool) (n : ℕ) → n ≡ cond b 1 0 → (n == 1) ≡ b
+one_if true n e = rw e refl
+one_if false n e = rw e refl
+
+pub number_at : (c : ℕ) → c < 256 → (get_or NUMBER c 0 == 1) ≡ is_number_byte c
+number_at c h = one_if (is_number_byte c) _ (alike (λ k. get_or NUMBER k 0) (λ k. cond (is_number_byte k) 1 0) 256 c tt h)
+
+abbrev code_of : ℕ → ℕ
+code_of x =
+    if (x == 34) || ((x == 92) || (x == 47)) then x
+    else if x == 98 then 8
+    else if x == 102 then 12
+    else if x == 110 then 10
+    else if x == 114 then 13
+    else if x == 116 then 9
+    else 0
+
+short_code : (x : ℕ) → short_at x ≡ (if code_of x == 0 then None else Some (code_of x))
+short_code x = grind (arith, nat_tests)
+
+code_ascii : (x : ℕ) → code_of x < 128
+code_ascii x = grind (arith, nat_tests)
+
+short_code_at : (c : ℕ) → c < 256 → get_or SHORT c 0 ≡ code_of c
+short_code_at c h = alike (λ k. get_or SHORT k 0) code_of 256 c tt h
+
+pub short_is : (c : ℕ) → c < 256 → short_at c ≡ (if get_or SHORT c 0 == 0 then None else Some (get_or SHORT c 0))
+short_is c h = rw (short_code_at c h) (short_code c)
+
+pub short_ascii : (c : ℕ) → c < 256 → get_or SHORT c 0 < 128
+short_ascii c h = rw (short_code_at c h) (code_ascii c)
