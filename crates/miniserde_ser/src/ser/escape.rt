@@ -3,7 +3,7 @@ ghost use Rattle.std.specs.Prelude.{◌≡◌, ◌≢◌, ℕ, ◌+◌, ◌/◌,
 ghost use Rattle.std.specs.Prelude.{codes, if◌then◌else◌, ◌-◌, take, drop, slice_index, OnOk, OnErr, IfSome, IfNone, IsErrOf, string_bytes, string_len};
 ghost use Rattle.std.specs.Prelude.{string_capacity};
 ghost use Rattle.std.specs.Char.{digit_char};
-ghost use Rattle.std.specs.Str.{IsCharBoundary};
+ghost use Rattle.std.specs.Str.{IsAscii, IsCharBoundary};
 ghost use Rattle.miniserde_model.specs.Bytes as bytes;
 ghost use Rattle.miniserde_model.specs.Compact.{quoted};
 ghost use Rattle.miniserde_text.specs.declared.error.Error.TheVariants.{Memory};
@@ -12,6 +12,7 @@ ghost use Rattle.miniserde_ser.specs.private.Escape.{escape, escapes};
 use super::plain::is_short_and_plain;
 use miniserde_text::error::{Error, Result};
 use miniserde_text::scan::special;
+use std::str;
 
 // The end of the run of bytes from `from` on that stand for themselves.
 fn run_end(text: &[u8], from: usize) -> usize
@@ -76,16 +77,25 @@ fn escaped_len(value: &str) -> Option<usize>
 }
 
 // The hexadecimal digit, in lower case.
-fn hex_digit(n: u8) -> char
+fn hex_digit(n: u8) -> u8
     requires { n < 16 }
     ensures value { result ≡ digit_char n }
     ensures ascii { result < 128 }
 {
-    if n < 10 {
-        (b'0' + n) as char
-    } else {
-        (b'a' + (n - 10)) as char
-    }
+    if n < 10 { b'0' + n } else { b'a' + (n - 10) }
+}
+
+// Appends ASCII bytes in one piece, where there is room for them.
+#[inline(always)]
+fn put_ascii(bytes: &[u8], out: &mut String)
+    requires ascii { IsAscii bytes.now }
+    requires room { string_len out.old + length bytes.now ≤ string_capacity out.old }
+    ensures bytes { string_bytes out.new ≡ string_bytes out.old ++ bytes.now }
+    ensures len { string_len out.new ≡ string_len out.old + length bytes.now }
+    ensures capacity { string_capacity out.old ≤ string_capacity out.new }
+{
+    out.push_str(unsafe { str::from_utf8_unchecked(bytes) })
+        .unwrap();
 }
 
 // Appends a byte that may not stand for itself, where there is room for it.
@@ -98,12 +108,19 @@ fn put_escape(b: u8, out: &mut String)
 {
     let letter = letter_of(b);
     if letter != 0 {
-        out.push('\\').unwrap();
-        out.push(letter as char).unwrap();
+        put_ascii(&[b'\\', letter], out);
     } else {
-        out.push_str("\\u00").unwrap();
-        out.push(hex_digit(b / 16)).unwrap();
-        out.push(hex_digit(b % 16)).unwrap();
+        put_ascii(
+            &[
+                b'\\',
+                b'u',
+                b'0',
+                b'0',
+                hex_digit(b / 16),
+                hex_digit(b % 16),
+            ],
+            out,
+        );
     }
 }
 
