@@ -316,7 +316,9 @@ fn is_number(alloc: Global, text: &str, kept: &str) -> Result<bool> {
     let number = NumberText::new(alloc, text)?;
     let copy = number.try_clone(alloc)?;
     let unchecked = NumberText::new_unchecked(alloc, text)?;
-    let all_kept = (number.as_str() == kept) & (copy.as_str() == kept) & (unchecked.as_str() == kept);
+    let all_kept = (number.as_str() == kept)
+        & (copy.as_str() == kept)
+        & (unchecked.as_str() == kept);
     Ok(NumberText::is_text(text) & all_kept)
 }
 
