@@ -6,7 +6,8 @@
 mod accepted;
 #[cfg(test)]
 mod depths;
-pub mod entries;
+#[cfg(test)]
+mod entries;
 #[cfg(test)]
 mod events;
 #[cfg(test)]

@@ -1,7 +1,9 @@
 //! Tests of types that read themselves from a text and have no place.
 #![tactic(auto)]
 
-pub mod port;
+#[cfg(test)]
+mod port;
 #[cfg(test)]
 mod skipped;
-pub mod table;
+#[cfg(test)]
+mod table;

@@ -1,7 +1,9 @@
 //! Tests of structs of thirty fields.
 #![tactic(auto)]
 
-pub mod integers;
-pub mod server;
+#[cfg(test)]
+mod integers;
+#[cfg(test)]
+mod server;
 #[cfg(test)]
 mod tests;
