@@ -1,27 +1,27 @@
 #!/usr/bin/env python3
 """Draws the table of instructions a byte for reading and writing as bars: picture.py [PAGE] [PICTURE].
 
-PAGE has the tables that measure.py printed (docs/SPEED.md, if left out), and the picture goes to PICTURE (docs/speed.svg).
-Shorter bars are better. A job that a program does not do has no bar.
+PAGE has the tables as measure.py prints them (docs/SPEED.md, if left out), and the picture goes to PICTURE
+(docs/speed.svg). Shorter bars are better. A job that a program does not do has no bar.
 """
 import pathlib
 import re
 import sys
 from html import escape
 
-ROOT = pathlib.Path(__file__).resolve().parent.parent
-HEADING = "### Read and write: instructions a byte"
+DOCS = pathlib.Path(__file__).resolve().parent.parent / "docs"
+TABLE = re.compile(r"### Read and write(?:: instructions a byte)?\n\n((?:\|.*\n)+)")
 COLOURS = ("#1f6feb", "#8c959f", "#d4a72c", "#57ab5a", "#c96198")
 LABELS, BARS, BAR, GAP, TOP = 210, 470, 11, 10, 54
 
 
 def table_of(page):
     """Returns the names of the programs, and of each job its name and its figures, or None where it has none."""
-    lines = page[page.index(HEADING) :].split("\n\n")[1].splitlines()
-    rows = [[cell.strip() for cell in line.strip("|").split("|")] for line in lines]
-    names = [name for name in rows[0][1:] if not name.startswith("to ")]
-    figures = [(row[0].replace("`", ""), [number_of(cell) for cell in row[1 : len(names) + 1]]) for row in rows[2:]]
-    return names, figures
+    heads, _, *rows = [[cell.strip() for cell in line.strip("|").split("|")] for line in TABLE.search(page)[1].splitlines()]
+    chosen = [at for at, head in enumerate(heads) if head.startswith("instructions, ")]
+    chosen = chosen or [at for at, head in enumerate(heads) if at and not head.startswith("to ")]
+    names = [heads[at].removeprefix("instructions, ") for at in chosen]
+    return names, [(row[0].replace("`", ""), [number_of(row[at]) for at in chosen]) for row in rows]
 
 
 def number_of(cell):
@@ -64,9 +64,9 @@ def main(words):
     if words in (["--help"], ["-h"]) or len(words) > 2:
         print(__doc__.strip())
         return 0 if len(words) == 1 else 2
-    page, drawn = [*words, *("docs/SPEED.md", "docs/speed.svg")[len(words) :]]
-    names, jobs = table_of((ROOT / page).read_text())
-    (ROOT / drawn).write_text(picture(names, jobs))
+    page, drawn = [*words, *(str(DOCS / "SPEED.md"), str(DOCS / "speed.svg"))[len(words) :]]
+    names, jobs = table_of(pathlib.Path(page).read_text())
+    pathlib.Path(drawn).write_text(picture(names, jobs))
     return 0
 
 

@@ -4,8 +4,8 @@
 slow.py PROGRAM [--only WORD]
 
 PROGRAM takes a type and a mode as words and a text on standard input, as `crates/test_driver` does. Each input is read as
-a document and written. Where the cost a byte grows by more than 1.3 times, the last line says so and the status is 1; an
-object's names are looked up in a tree, so there the logarithm of their number is taken off first.
+its type and written. If the cost a byte grows by more than 1.3 times, the last line says so and the status is 1; the names
+of an object are looked up in a tree, so there the logarithm of their number is taken off first.
 """
 import argparse
 import math
@@ -30,27 +30,51 @@ def shared(size):
     return names('shuffled', size, 'a' * 1000 + '%d')
 
 
-# the row, the text of a size, the larger size, and whether names are looked up
+def numbered(size):
+    return '{%s}' % ','.join('"%d":true' % k for k in range(size))
+
+
+def unknown(size):
+    return '{"code":1,"message":"",%s}' % ','.join('"n%d":%d' % (10 ** 7 + k, k) for k in range(size))
+
+
+def deep_unknown(size):
+    return '{"code":1,"message":"","n":%s}' % ('[' * size + ']' * size)
+
+
+# an empty text of each type
+EMPTY = {'value': '{}', 'map': '{}', 'hashed': '{}', 'strings': '[]', 'cubes': '[]', 'demo': '{"code":1,"message":""}'}
+
+# the row, the type, the text of a size, the larger size, and whether names are looked up in a tree
 JOBS = [
-    ('100,000 distinct names, rising', lambda n: names('rising', n), 100000, True),
-    ('100,000 distinct names, falling', lambda n: names('falling', n), 100000, True),
-    ('100,000 distinct names, shuffled', lambda n: names('shuffled', n), 100000, True),
-    ('100,000 equal names', lambda n: '{%s}' % ','.join(['"a":1'] * n), 100000, False),
-    ('10,000 names that share 1,000 bytes', shared, 10000, True),
-    ('a string of 1,000,000 escapes', lambda n: '"%s"' % ('\\n' * n), 1000000, False),
-    ('1,000,000 levels of lists', lambda n: '[' * n + ']' * n, 1000000, False),
-    ('1,000,000 levels of objects', lambda n: '{"":' * n + '0' + '}' * n, 1000000, False),
-    ('1,000,000 empty lists in a list', lambda n: '[%s]' % ','.join(['[]'] * n), 1000000, False),
+    ('100,000 distinct names, rising', 'value', lambda n: names('rising', n), 100000, True),
+    ('100,000 distinct names, falling', 'value', lambda n: names('falling', n), 100000, True),
+    ('100,000 distinct names, shuffled', 'value', lambda n: names('shuffled', n), 100000, True),
+    ('100,000 equal names', 'value', lambda n: '{%s}' % ','.join(['"a":1'] * n), 100000, False),
+    ('10,000 names that share 1,000 bytes', 'value', shared, 10000, True),
+    ('a string of 1,000,000 escapes', 'value', lambda n: '"%s"' % ('\\n' * n), 1000000, False),
+    ('1,000,000 levels of lists', 'value', lambda n: '[' * n + ']' * n, 1000000, False),
+    ('1,000,000 levels of objects', 'value', lambda n: '{"":' * n + '0' + '}' * n, 1000000, False),
+    ('1,000,000 empty lists in a list', 'value', lambda n: '[%s]' % ','.join(['[]'] * n), 1000000, False),
+    ('`BTreeMap<String, u64>`, names falling', 'map', lambda n: names('falling', n), 100000, True),
+    ('`BTreeMap<String, u64>`, names shuffled', 'map', lambda n: names('shuffled', n), 100000, True),
+    ('`BTreeMap<String, u64>`, equal names', 'map', lambda n: '{%s}' % ','.join(['"a":1'] * n), 100000, False),
+    ('`BTreeMap<String, u64>`, names that share 1,000 bytes', 'map', shared, 10000, True),
+    ('`HashMap<u32, bool>`', 'hashed', numbered, 100000, False),
+    ('a struct with 100,000 unknown members', 'demo', unknown, 100000, False),
+    ('a struct with an unknown member of 1,000,000 levels', 'demo', deep_unknown, 1000000, False),
+    ('`Vec<String>`, a string of 1,000,000 escapes', 'strings', lambda n: '["%s"]' % ('\\n' * n), 1000000, False),
+    ('`Vec<Vec<Vec<u64>>>`, 1,000,000 empty lists', 'cubes', lambda n: '[[%s]]' % ','.join(['[]'] * n), 1000000, False),
 ]
 
 
-def instructions(program, text):
+def instructions(program, kind, text):
     with tempfile.NamedTemporaryFile() as file:
         file.write(text.encode())
         file.flush()
         file.seek(0)
         run = subprocess.run(
-            ['valgrind', '--tool=callgrind', '--callgrind-out-file=/dev/null', program, 'value', 'both'],
+            ['valgrind', '--tool=callgrind', '--callgrind-out-file=/dev/null', program, kind, 'both'],
             stdin=file, stdout=subprocess.DEVNULL, stderr=subprocess.PIPE)
     if run.returncode:
         sys.exit('slow.py: the program refused a text')
@@ -62,17 +86,16 @@ def main():
     words.add_argument('program')
     words.add_argument('--only', default='')
     given = words.parse_args()
-    empty = instructions(given.program, '{}')
     slow = []
     print('| input | instructions a byte at a tenth | at full size | grows by |')
     print('|---|---|---|---|')
-    for row, text_of, size, looks_up in JOBS:
+    for row, kind, text_of, size, looks_up in JOBS:
         if given.only not in row:
             continue
-        costs = []
+        costs, empty = [], instructions(given.program, kind, EMPTY[kind])
         for n in (size // 10, size):
             text = text_of(n)
-            costs.append((instructions(given.program, text) - empty) / len(text))
+            costs.append((instructions(given.program, kind, text) - empty) / len(text))
         growth = costs[1] / costs[0]
         told = '%.2f' % growth
         if looks_up:
