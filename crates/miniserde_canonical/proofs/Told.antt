@@ -1,0 +1,45 @@
+-- What is so of a text's canonical text.
+use Rattle.std.proofs.Common.{◌≡◌, ◌≤◌, ◌↔◌, ℕ, List, length, sym, ap, subst, ◌∙◌}
+use Rattle.miniserde_model.specs.Tree.{Tree}
+use Rattle.miniserde_model.specs.Value.{IsJson}
+use Rattle.miniserde_model.specs.IsTree.{IsTree}
+use Rattle.miniserde_model.specs.Compact.{compact}
+use Rattle.miniserde_model.specs.Normal.{norm}
+use Rattle.miniserde_model.proofs.Normal.{norm_tree, norm_twice}
+use Rattle.miniserde_model.proofs.Unique.{one_tree}
+use Rattle.miniserde_model.proofs.Written.{written}
+use Rattle.miniserde_model.proofs.Canonical.{canonical_spells, canonical_tells}
+use Rattle.miniserde_model.proofs.Shortest.{shortest}
+
+-- c is the compact text of the normal form of a tree of j
+abbrev pub IsCanonical : List ℕ → List ℕ → Type 0
+IsCanonical j c = (t : Tree) × IsJson j t × (c ≡ compact (norm t))
+
+pub canonical_text : (j c : List ℕ) → IsCanonical j c → (t : Tree) → IsJson j t → c ≡ compact (norm t)
+canonical_text j c h t p = h.2 ∙ ap (λ z. compact (norm z)) (one_tree j h.0 t h.1 p)
+
+pub canonical_spelled : (j c : List ℕ) → IsCanonical j c → (t : Tree) → IsJson j t → IsJson c (norm t)
+canonical_spelled j c h t p = subst (λ z. IsJson z (norm t)) (sym (canonical_text j c h t p)) (canonical_spells j t p)
+
+pub canonical_told : (j c : List ℕ) → IsCanonical j c → (t : Tree) → IsJson j t → (u : Tree) → IsTree u → (c ≡ compact (norm u)) ↔ (norm u ≡ norm t)
+canonical_told j c h t p u r = (
+  λ e. one_tree c (norm u) (norm t) (subst (λ z. IsJson z (norm u)) (sym e) (written (norm u) (norm_tree u r))) (canonical_spelled j c h t p),
+  λ e. canonical_text j c h t p ∙ ap compact (sym e),
+)
+
+pub canonical_least : (j c : List ℕ) → IsCanonical j c → (t : Tree) → IsJson j t → (b : List ℕ) (u : Tree) → IsJson b u → norm u ≡ norm t → length c ≤ length b
+canonical_least j c h t p b u q e = subst (λ z. length z ≤ length b) (sym (canonical_text j c h t p)) (shortest b t u q e)
+
+pub both_told : (a b c d : List ℕ) → IsCanonical a c → IsCanonical b d → (t u : Tree) → IsJson a t → IsJson b u → (c ≡ d) ↔ (norm t ≡ norm u)
+both_told a b c d h i t u p q =
+    let x = canonical_text a c h t p in
+    let y = canonical_text b d i u q in
+    let l = canonical_tells a b t u p q in
+    (λ e. l.0 (sym x ∙ e ∙ y), λ e. x ∙ l.1 e ∙ sym y)
+
+-- a canonical text is one of the normal form itself
+pub its_own : (j b : List ℕ) (t : Tree) → IsJson b t → j ≡ compact (norm t) → IsJson j (norm t)
+its_own j b t h e = subst (λ z. IsJson z (norm t)) (sym e) (canonical_spells b t h)
+
+pub canonical_again : (j c b : List ℕ) → IsCanonical j c → (t : Tree) → IsJson b t → j ≡ compact (norm t) → c ≡ j
+canonical_again j c b i t h e = canonical_text j c i (norm t) (its_own j b t h e) ∙ ap compact (norm_twice t) ∙ sym e

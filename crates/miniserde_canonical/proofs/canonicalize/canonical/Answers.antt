@@ -1,0 +1,36 @@
+-- Each clause but the first is a fact of canonical texts.
+use Rattle.std.proofs.Common.{string_bytes}
+use Rattle.std.proofs.lemmas.Result.{err_from_is_err_and}
+use Rattle.miniserde_model.proofs.Normal.{norm_twice}
+use Rattle.miniserde_model.proofs.Unique.{one_tree}
+use Rattle.miniserde_canonical.proofs.Told.{canonical_text, canonical_spelled, canonical_told, canonical_least}
+use Rattle.miniserde_canonical.proofs.canonicalize.canonical.Goals as goal
+
+pub returns-in_err-text-clause-invalid : goal.returns-in_err-text-clause-invalid
+returns-in_err-text-clause-invalid c = λ e.
+    let w = err_from_is_err_and c.from_residual.result c.from_residual.ensures.1 in
+    c.in_err-text.ensures.invalid (cc (w.1, w.2, e))
+
+pub returns-in_err-text-clause-one : goal.returns-in_err-text-clause-one
+returns-in_err-text-clause-one c = one_tree c.args.j.now
+
+pub returns-clause-ok : goal.returns-clause-ok
+returns-clause-ok c = let r = c.in_ok-text.ensures.ok in (r.0, r.1, r.2)
+
+pub returns-clause-text : goal.returns-clause-text
+returns-clause-text c = canonical_text c.args.j.now _ (returns-clause-ok c)
+
+pub returns-clause-spells : goal.returns-clause-spells
+returns-clause-spells c = canonical_spelled c.args.j.now _ (returns-clause-ok c)
+
+pub returns-clause-normal : goal.returns-clause-normal
+returns-clause-normal c = λ t p. norm_twice t
+
+pub returns-clause-tells : goal.returns-clause-tells
+returns-clause-tells c = canonical_told c.args.j.now _ (returns-clause-ok c)
+
+pub returns-clause-shortest : goal.returns-clause-shortest
+returns-clause-shortest c = canonical_least c.args.j.now _ (returns-clause-ok c)
+
+pub returns-clause-one : goal.returns-clause-one
+returns-clause-one c = one_tree c.args.j.now

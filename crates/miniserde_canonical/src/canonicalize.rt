@@ -1,0 +1,112 @@
+//! Any JSON text into its canonical text.
+ghost use Rattle.std.specs.Prelude.{◌≡◌, ◌≤◌, ◌↔◌, ◌⊎◌, true, ℕ, List, length, Err, IfOk, string_bytes};
+ghost use Rattle.miniserde_model.specs.Tree.{Tree};
+ghost use Rattle.miniserde_model.specs.IsTree.{IsTree};
+ghost use Rattle.miniserde_model.specs.Compact.{compact};
+ghost use Rattle.miniserde_model.specs.Distinct.{distinct};
+ghost use Rattle.miniserde_model.specs.Normal.{norm};
+ghost use Rattle.miniserde_model.specs.Size.{size};
+ghost use Rattle.miniserde_model.specs.Value.{IsJson};
+ghost use Rattle.miniserde_text.specs.declared.error.Error.TheVariants.{Invalid};
+
+use crate::arrange::arrange;
+use crate::read::read;
+use crate::write::write;
+use miniserde_text::error::{Error, Result};
+use std::alloc::Global;
+
+/// Returns the canonical text of a JSON text: one text for each meaning, whatever the order of members, the spelling of
+/// strings and the whitespace, and none with that meaning is shorter. Of equal names the last stands. Numbers that are
+/// no integers of 64 bits keep their texts. Returns `Invalid` if the text is no JSON (RFC 8259).
+pub fn canonical(alloc: Global, j: &str) -> Result<String>
+    // It is the compact text of the normal form of the text's tree.
+    ensures ok { IfOk result (λ c. (t : Tree) × IsJson j.now t × (string_bytes c ≡ compact (norm t))) }
+    ensures text { IfOk result (λ c. (t : Tree) → IsJson j.now t → string_bytes c ≡ compact (norm t)) }
+
+    // It spells that normal form, which is its own.
+    ensures spells { IfOk result (λ c. (t : Tree) → IsJson j.now t → IsJson (string_bytes c) (norm t)) }
+    ensures normal { IfOk result (λ _. (t : Tree) → IsJson j.now t → norm (norm t) ≡ norm t) }
+
+    // It tells trees apart exactly by their normal forms.
+    ensures tells { IfOk result (λ c. (t : Tree) → IsJson j.now t → (u : Tree) → IsTree u
+        → (string_bytes c ≡ compact (norm u)) ↔ (norm u ≡ norm t)) }
+
+    // No text of a tree with that normal form is shorter.
+    ensures shortest { IfOk result (λ c. (t : Tree) → IsJson j.now t → (b : List ℕ) → (u : Tree)
+        → IsJson b u → norm u ≡ norm t → length (string_bytes c) ≤ length b) }
+
+    // The text has no tree; and never more than one.
+    ensures invalid { result ≡ Err Invalid → (t : Tree) → IsJson j.now t → ⊥ }
+    ensures one { (t u : Tree) → IsJson j.now t → IsJson j.now u → t ≡ u }
+{
+    let (text, _) = canonicalize(alloc, j)?;
+    Ok(text)
+}
+
+/// Returns the canonical text of a JSON text without duplicate names. Returns `Invalid` for every other text.
+pub fn canonical_unique(alloc: Global, j: &str) -> Result<String>
+    // It is the compact text of the normal form of the text's tree.
+    ensures ok { IfOk result (λ c. (t : Tree) × IsJson j.now t × (string_bytes c ≡ compact (norm t))) }
+    ensures text { IfOk result (λ c. (t : Tree) → IsJson j.now t → string_bytes c ≡ compact (norm t)) }
+
+    // It spells that normal form, which is its own.
+    ensures spells { IfOk result (λ c. (t : Tree) → IsJson j.now t → IsJson (string_bytes c) (norm t)) }
+    ensures normal { IfOk result (λ _. (t : Tree) → IsJson j.now t → norm (norm t) ≡ norm t) }
+
+    // It tells trees apart exactly by their normal forms.
+    ensures tells { IfOk result (λ c. (t : Tree) → IsJson j.now t → (u : Tree) → IsTree u
+        → (string_bytes c ≡ compact (norm u)) ↔ (norm u ≡ norm t)) }
+
+    // No text of a tree with that normal form is shorter.
+    ensures shortest { IfOk result (λ c. (t : Tree) → IsJson j.now t → (b : List ℕ) → (u : Tree)
+        → IsJson b u → norm u ≡ norm t → length (string_bytes c) ≤ length b) }
+
+    // The text's tree has no duplicate name, so the normal form has as many values.
+    ensures distinct { IfOk result (λ _. (t : Tree) → IsJson j.now t → distinct t ≡ true) }
+    ensures size { IfOk result (λ _. (t : Tree) → IsJson j.now t → size (norm t) ≡ size t) }
+
+    // The text has no tree without duplicate names; and never more than one tree.
+    ensures invalid { result ≡ Err Invalid → (t : Tree) → IsJson j.now t → distinct t ≡ true → ⊥ }
+    ensures one { (t u : Tree) → IsJson j.now t → IsJson j.now u → t ≡ u }
+
+    // A canonical text is its own.
+    ensures again { (b : List ℕ) (t : Tree) → IsJson b t → j.now ≡ compact (norm t)
+        → IfOk result (λ c. string_bytes c ≡ j.now) × (result ≡ Err Invalid → ⊥) }
+{
+    let (text, is_distinct) = canonicalize(alloc, j)?;
+    if is_distinct {
+        Ok(text)
+    } else {
+        Err(Error::Invalid)
+    }
+}
+
+/// Returns the canonical texts of two JSON texts. They are equal exactly if the texts have one meaning.
+pub fn canonical_both(alloc: Global, a: &str, b: &str) -> Result<(String, String)>
+    ensures ok { IfOk result (λ c. (t : Tree) × (u : Tree) × IsJson a.now t × IsJson b.now u
+        × (string_bytes c.0 ≡ compact (norm t)) × (string_bytes c.1 ≡ compact (norm u))) }
+    ensures tells { IfOk result (λ c. (t u : Tree) → IsJson a.now t → IsJson b.now u
+        → (string_bytes c.0 ≡ string_bytes c.1) ↔ (norm t ≡ norm u)) }
+    ensures invalid { result ≡ Err Invalid
+        → ((t : Tree) → IsJson a.now t → ⊥) ⊎ ((u : Tree) → IsJson b.now u → ⊥) }
+{
+    Ok((canonical(alloc, a)?, canonical(alloc, b)?))
+}
+
+// Returns the canonical text, and whether the text's tree has no duplicate name.
+fn canonicalize(alloc: Global, j: &str) -> Result<(String, bool)>
+    ensures ok { IfOk result (λ r. (t : Tree) × IsJson j.now t × (string_bytes r.0 ≡ compact (norm t))
+        × (r.1 ≡ distinct t)) }
+    ensures invalid { result ≡ Err Invalid → (t : Tree) → IsJson j.now t → ⊥ }
+{
+    let nodes = read(alloc, j)?;
+    let arranged = arrange(alloc, nodes.as_slice())?;
+    let (text, left) = write(
+        alloc,
+        nodes.len(),
+        arranged.pieces.as_slice(),
+        arranged.groups.as_slice(),
+    )?;
+    // A duplicate that was dropped takes its nodes with it.
+    Ok((text, left == 0))
+}

@@ -1,0 +1,12 @@
+//! Any JSON text into its canonical text, over nodes that borrow from the text.
+#![tactic(auto)]
+
+mod arrange;
+mod canonicalize;
+mod escape;
+mod node;
+mod read;
+mod stack;
+mod write;
+
+pub use canonicalize::{canonical, canonical_both, canonical_unique};
