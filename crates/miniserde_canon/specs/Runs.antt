@@ -15,14 +15,6 @@ use Rattle.miniserde_canon.specs.declared.canon.Fault.TheVariants.{Invalid, Memo
 
 -- ---- the text
 
--- the bytes xs are a text that spells a tree of which this is so
-unfoldable pub IsRead : List ℕ → (Tree → Type 0) → Type 0
-IsRead xs is = IsUtf8 xs × ((t : Tree) × IsJson xs t × is t)
-
--- the bytes are no UTF-8, or spell no tree of which this is so
-unfoldable pub IsNotRead : List ℕ → (Tree → Type 0) → Type 0
-IsNotRead xs is = (IsUtf8 xs → ⊥) ⊎ ((t : Tree) → IsJson xs t → is t → ⊥)
-
 -- the bytes xs are a text that spells a tree, and ys is the compact text of the tree's normal form
 unfoldable pub IsAnswer : List ℕ → List ℕ → Type 0
 IsAnswer xs ys = IsUtf8 xs × ((t : Tree) × IsJson xs t × (ys ≡ compact (norm t)))

@@ -1,11 +1,12 @@
 //! The program `canon`: it reads a text to the end of its input, and writes its canonical text.
 ghost use Rattle.std.specs.Prelude.{◌≡◌, ◌+◌, ◌<◌, ◌⊎◌, [], ◌∷◌, length, map, codes, Result, OnOk, OnErr, IfOk};
-ghost use Rattle.std.specs.Prelude.{IfSome, IsSome, IsErrOf};
+ghost use Rattle.std.specs.Prelude.{IfSome, IsErrOf};
 ghost use Rattle.std.specs.String.{string_bytes};
+ghost use Rattle.std.specs.Str.{IsUtf8};
 ghost use Rattle.std.specs.Io.KnownBytes.{Consumes, IsAtEnd, Keeps, Appends};
 ghost use Rattle.miniserde_canon.specs.Counts.{inner_of, failures, flushes};
 ghost use Rattle.miniserde_canon.specs.Runs.{IsAnswer, HasNoAnswer, IsUniqueAnswer, HasNoUniqueAnswer};
-ghost use Rattle.miniserde_canon.specs.Runs.{IsRead, IsNotRead, fault_of, read_faults, write_faults, IfRead};
+ghost use Rattle.miniserde_canon.specs.Runs.{fault_of, read_faults, write_faults, IfRead};
 ghost use Rattle.miniserde_canon.specs.Runs.{AppendsUnique, BeginsUnique};
 ghost use Rattle.miniserde_canon.specs.Runs.{IfSilent, AppendsPart, AppendsAnswer, BeginsAnswer, status_of, line_of};
 ghost use Rattle.miniserde_canon.specs.Runs.{Ran};
@@ -15,11 +16,8 @@ mod count;
 mod counted;
 
 pub use counted::Counted;
-use miniserde_read::{FromJson, from_str};
-use miniserde_ser::ser::to_string;
+use miniserde_canonical::{canonical, canonical_unique};
 use miniserde_text::error::Error;
-use miniserde_value::json::unique::Unique;
-use miniserde_value::json::value::Value;
 use std::alloc::Global;
 use std::io::{Read, Write};
 
@@ -72,7 +70,7 @@ pub fn run<R: Read, W: Write>(
         (AppendsAnswer (W.contents (inner_of w.old)) (W.contents (inner_of w.new))) }
 {
     let bytes = read_all(alloc, r)?;
-    let text = answer(alloc, bytes)?;
+    let text = answer(alloc, bytes.as_slice())?;
     write_out(text, w)
 }
 
@@ -102,7 +100,7 @@ pub fn run_unique<R: Read, W: Write>(
         (AppendsUnique (W.contents (inner_of w.old)) (W.contents (inner_of w.new))) }
 {
     let bytes = read_all(alloc, r)?;
-    let text = answer_unique(alloc, bytes)?;
+    let text = answer_unique(alloc, bytes.as_slice())?;
     write_out(text, w)
 }
 
@@ -173,37 +171,36 @@ fn read_all<R: Read>(alloc: Global, r: &mut Counted<R>) -> Result<Vec<u8>, Fault
     }
 }
 
-/// Canonicalizes the bytes. Frees the input before it allocates the output.
-fn answer(alloc: Global, bytes: Vec<u8>) -> Result<String, Fault>
-    ensures ok { IfOk result (λ s. IsAnswer bytes.items (string_bytes s)) }
-    ensures invalid { IsErrOf result Fault.Invalid → HasNoAnswer bytes.items }
+// Returns the canonical text of the bytes.
+fn answer(alloc: Global, bytes: &[u8]) -> Result<String, Fault>
+    ensures ok { IfOk result (λ s. IsAnswer bytes.now (string_bytes s)) }
+    ensures invalid { IsErrOf result Fault.Invalid → HasNoAnswer bytes.now }
     ensures only { OnErr result (IsErrOf result Fault.Invalid ⊎ IsErrOf result Fault.Memory) }
 {
-    let value: Value = value_of(alloc, bytes)?;
-    Ok(to_string(alloc, &value)?)
+    let text = text_of(bytes)?;
+    Ok(canonical(alloc, text)?)
 }
 
-/// The same, where no object has one name twice.
-fn answer_unique(alloc: Global, bytes: Vec<u8>) -> Result<String, Fault>
-    ensures ok { IfOk result (λ s. IsUniqueAnswer bytes.items (string_bytes s)) }
-    ensures invalid { IsErrOf result Fault.Invalid → HasNoUniqueAnswer bytes.items }
+// Returns the canonical text of the bytes, if no object has one name twice.
+fn answer_unique(alloc: Global, bytes: &[u8]) -> Result<String, Fault>
+    ensures ok { IfOk result (λ s. IsUniqueAnswer bytes.now (string_bytes s)) }
+    ensures invalid { IsErrOf result Fault.Invalid → HasNoUniqueAnswer bytes.now }
     ensures only { OnErr result (IsErrOf result Fault.Invalid ⊎ IsErrOf result Fault.Memory) }
 {
-    let value: Unique = value_of(alloc, bytes)?;
-    Ok(to_string(alloc, &value)?)
+    let text = text_of(bytes)?;
+    Ok(canonical_unique(alloc, text)?)
 }
 
-/// The value that the bytes mean.
-fn value_of<T: FromJson>(alloc: Global, bytes: Vec<u8>) -> Result<T, Fault>
-    ensures ok { IfOk result (λ v. IsRead bytes.items (λ t. T.means.reads t v)) }
-    ensures invalid { IsErrOf result Fault.Invalid
-        → IsNotRead bytes.items (λ t. IsSome (T.means.from_tree t)) }
-    ensures only { OnErr result (IsErrOf result Fault.Invalid ⊎ IsErrOf result Fault.Memory) }
+// Returns the bytes as a text, or `Invalid` if they are no UTF-8.
+fn text_of(bytes: &[u8]) -> Result<&str, Fault>
+    ensures ok { IfOk result (λ s. (s.now ≡ bytes.now) × IsUtf8 s.now) }
+    ensures invalid { OnErr result (IsUtf8 bytes.now → ⊥) }
+    ensures only { OnErr result (IsErrOf result Fault.Invalid) }
 {
-    let Ok(text) = std::str::from_utf8(bytes.as_slice()) else {
-        return Err(Fault::Invalid);
-    };
-    Ok(from_str(alloc, text)?)
+    match std::str::from_utf8(bytes) {
+        Ok(text) => Ok(text),
+        Err(_) => Err(Fault::Invalid),
+    }
 }
 
 /// Writes the text and flushes once.

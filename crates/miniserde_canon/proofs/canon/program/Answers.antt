@@ -1,6 +1,6 @@
 -- One word that is `--unique` is all the words.
-use Rattle.std.proofs.Common.{◌≡◌, ℕ, ◌≤◌, ◌<◌, List, [], ◌∷◌, String, Global, length, map, codes, refl, sym, ap, ◌∙◌, arith}
-use Rattle.std.specs.Prelude.{string_bytes, bytes_eq, get_or, true}
+use Rattle.std.proofs.Common.{◌≡◌, ℕ, ◌≤◌, ◌<◌, List, [], ◌∷◌, String, Global, length, map, codes, sym, ap, ◌∙◌, arith}
+use Rattle.std.specs.Prelude.{string_bytes, get_or}
 use Rattle.std.proofs.lemmas.Slice.Eq.{bytes_eq-Decides}
 use Rattle.miniserde_canon.proofs.canon.program.Goals as goal
 

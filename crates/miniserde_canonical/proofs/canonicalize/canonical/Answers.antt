@@ -1,5 +1,4 @@
 -- Each clause but the first is a fact of canonical texts.
-use Rattle.std.proofs.Common.{string_bytes}
 use Rattle.std.proofs.lemmas.Result.{err_from_is_err_and}
 use Rattle.miniserde_model.proofs.Normal.{norm_twice}
 use Rattle.miniserde_model.proofs.Unique.{one_tree}

@@ -1,6 +1,6 @@
 -- The nodes are those of the text's tree, in the order of its normal form, whose text is written. Each token of it takes
 -- one from the number of the nodes.
-use Rattle.std.proofs.Common.{rules, ◌≡◌, ℕ, length, ap, subst, sym, ◌∙◌}
+use Rattle.std.proofs.Common.{rules, ◌≡◌, length, ap, subst, sym, ◌∙◌}
 use Rattle.std.proofs.lemmas.Result.{err_from_is_err_and}
 use Rattle.std.proofs.lemmas.List.{length-map}
 use Rattle.miniserde_model.specs.Normal.{norm}
