@@ -1,6 +1,6 @@
 //! JSON text.
 
-pub use miniserde_json::json::{canonical, canonical_both, canonical_unique};
+pub use miniserde_canonical::{canonical, canonical_both, canonical_unique};
 pub use miniserde_place::feed;
 pub use miniserde_read::from_str;
 pub use miniserde_ser::ser::to_string;

@@ -1,5 +1,0 @@
-//! Any text into its canonical text.
-
-mod ser;
-
-pub use ser::{canonical, canonical_both, canonical_unique};

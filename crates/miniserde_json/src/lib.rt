@@ -1,4 +1,0 @@
-//! Canonical texts.
-#![tactic(auto)]
-
-pub mod json;
