@@ -33,8 +33,7 @@ pub trait FromJson: Sized + Drop {
     // `read` never returns `Memory`.
     ghost read_infallible: { Bool } = { false };
 
-    // What stands in the text, or was read of it, if `read` returns `Memory`: by the event of the token, and by the
-    // source before the call and after it.
+    // Holds if `read` returns `Memory`, of the token's event and of the source before the call and after it.
     ghost lacking: { event.Event → Remaining → Remaining → Type 0 } = { λ _ _ _. ⊤ };
 
     /// Returns the value of a struct's field that is missing, or `None` if such a struct is invalid.

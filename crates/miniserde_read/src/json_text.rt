@@ -22,7 +22,7 @@ pub fn from_str<T: FromJson>(alloc: Global, j: &str) -> Result<T>
         → (t : Tree) → IsJson j.now t → (v : T) → T.means.reads t v → ⊥ }
     ensures none { result ≡ Err Error.Invalid → (t : Tree) → IsJson j.now t → T.means.from_tree t ≡ None }
 
-    // Memory was lacking for the first token, or behind it, as the type says.
+    // The first token could not be decoded, or `lacking` of the type holds behind it.
     ensures memory { result ≡ Err Error.Memory → TextLacks T.read_infallible T.lacking j.now }
 
     // No text has two trees.

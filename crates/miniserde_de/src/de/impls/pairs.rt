@@ -39,7 +39,7 @@ where
     ghost gathering = { pair_gathering P.meaning Q.meaning
         (λ c. c.first) (λ c. c.second) (λ c. c.child) (λ v. v.0) (λ v. v.1) };
 
-    // A part joins without growth.
+    // `join` moves a part, and allocates nothing itself.
     ghost join_infallible = { P.takes_free && Q.takes_free };
 
     fn new(_alloc: Global) -> PairOf<P, P::Out, Q, Q::Out> {
