@@ -18,6 +18,7 @@ pub use Rattle.miniserde_text.specs.Error
 pub use Rattle.miniserde_text.specs.Lexer
 pub use Rattle.miniserde_text.specs.Keys
 pub use Rattle.miniserde_text.specs.Ranged
+pub use Rattle.miniserde_read.specs.Lacking
 pub use Rattle.miniserde_read.specs.Meant
 pub use Rattle.miniserde_read.specs.Rest
 pub use Rattle.miniserde_read.specs.Source

@@ -1,6 +1,6 @@
 -- What the places of std's types mean, by what the places of their parts do. P is the place of a part, V what it
 -- reads, C the container so far, and W the whole.
-use Rattle.std.specs.Prelude.{ℕ, false, true, List, [], ◌∷◌, ◌++◌, map, Option, Some, None, option_map}
+use Rattle.std.specs.Prelude.{ℕ, false, true, List, [], ◌∷◌, ◌++◌, map, length, nat_le, ◌&&◌, is_some, Option, Some, None, option_map}
 use Rattle.miniserde_model.specs.Event.{Event}
 use Rattle.miniserde_model.specs.Position.{start, complete}
 use Rattle.miniserde_text.specs.Keys.{Key}
@@ -52,7 +52,7 @@ list_gathering m items child whole = record {
   refuses = λ _ _. false;
 }
 
--- an array of n items
+-- an array of n items, which refuses another one behind the last
 abbrev pub array_gathering : {P V C W : Type 0} → ℕ → Meaning P V → (C → List V) → (C → Option P) → (W → List V) → Gathering C W
 array_gathering n m items child whole = record {
   Content = List m.Content;
@@ -67,7 +67,7 @@ array_gathering n m items child whole = record {
   reads = λ t v. ArrayReads n m.reads t (whole v);
   reads_agrees = λ t v. array-given n m.reads m.from_tree m.content m.reads_agrees t (whole v);
   child = λ c. child_shows (λ x. Some (map m.content (items c) ++ x ∷ [])) m.shows (child c);
-  refuses = λ _ _. false;
+  refuses = λ s _. nat_le n (length s);
 }
 
 -- what the place of a pair's current part shows, by the parts so far
@@ -76,7 +76,7 @@ part_shows f g a b Neither = no_child
 part_shows f g a b (First p) = joining (λ x. Some (Some x, b)) (f p)
 part_shows f g a b (Second q) = joining (λ y. Some (a, Some y)) (g q)
 
--- a pair: its parts so far, the place of the current one, and the parts of the whole
+-- a pair: its parts so far, the place of the current one, and the parts of the whole; it refuses a third
 abbrev pub pair_gathering : {P Q V U C W : Type 0} → Meaning P V → Meaning Q U → (C → Option V) → (C → Option U) → (C → Part P Q) → (W → V) → (W → U) → Gathering C W
 pair_gathering m n first second child one two = record {
   Content = m.Content × n.Content;
@@ -91,7 +91,7 @@ pair_gathering m n first second child one two = record {
   reads = λ t v. PairReads m.reads n.reads t (one v, two v);
   reads_agrees = λ t v. pair-given m.reads n.reads m.from_tree n.from_tree m.content n.content m.reads_agrees n.reads_agrees t (one v, two v);
   child = λ c. part_shows m.shows n.shows (option_map m.content (first c)) (option_map n.content (second c)) (child c);
-  refuses = λ _ _. false;
+  refuses = λ s _. is_some s.0 && is_some s.1;
 }
 
 -- a map: its entries so far, the key and the place of the current value, and the entries of the whole

@@ -4,14 +4,13 @@ use Rattle.std.specs.Prelude.{option_and_then}
 use Rattle.std.proofs.lemmas.Bool.Decides.{nat_tests}
 use Rattle.std.proofs.lemmas.List.{length-append}
 use Rattle.miniserde_model.specs.Tree.{Tree, list, Trees, no_trees, tree}
-use Rattle.miniserde_model.specs.Event.{Event}
-use Rattle.miniserde_model.specs.Lexing.{in_list, Starts, Follows}
+use Rattle.miniserde_model.specs.Lexing.{in_list, Follows}
 use Rattle.miniserde_read.specs.meaning.Arrays.{exactly, array_of}
 use Rattle.miniserde_read.specs.Children.{all_children}
 use Rattle.miniserde_read.specs.Children.{added}
 use Rattle.miniserde_read.specs.Rest.{ElementsAt}
 use Rattle.miniserde_read.proofs.Lists.{ListGoes, each_all}
-use Rattle.miniserde_read.proofs.Steps.{elements_there}
+use Rattle.miniserde_read.proofs.Steps.{elements_start, elements_there}
 
 module _ {C : Type 0} (n : ℕ) (of : Tree → Option C) where
   pub not_exactly : (xs : List C) → nat_eq (length xs) n ≡ false → exactly n xs ≡ None
@@ -37,10 +36,11 @@ module _ {C : Type 0} (n : ℕ) (of : Tree → Option C) where
   ]
 
   -- one more element, where there are n
-  pub array_full : (begin : List ℕ) (f : Bool) (s b c : List ℕ) (e : Event) (m : List C) → ListGoes (added of) [] begin f s m → Follows in_list f false s b → Starts b e c → length m ≡ n → (ts : Trees) (r : List ℕ) → ElementsAt ts true begin r → array_of n of (list ts) ≡ None
-  array_full begin f s b c e m g h k l ts r p =
+  pub array_full : (begin : List ℕ) (f : Bool) (s b : List ℕ) (m : List C) → ListGoes (added of) [] begin f s m → Follows in_list f false s b → length m ≡ n → (ts : Trees) (r : List ℕ) → ElementsAt ts true begin r → array_of n of (list ts) ≡ None
+  array_full begin f s b m g h l ts r p =
       let a = g.back ts r p in
-      let u = elements_there a.0 f s b c r e h k a.1 in
+      let k = elements_start a.0 f s b r h a.1 in
+      let u = elements_there a.0 f s b k.1 r k.0 h k.2 a.1 in
       ap (option_and_then (exactly n)) (sym (each_all of ts) ∙ a.2 ∙ ap (all_children (added of) m) u.is) ∙ too_many m u.one u.more l
 
   pub so_many : (xs : List C) → length xs ≡ n → exactly n xs ≡ Some xs

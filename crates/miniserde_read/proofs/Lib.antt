@@ -3,6 +3,7 @@ pub mod Entries
 pub mod Fronts
 pub mod Inserts
 pub mod Json
+pub mod Lacking
 pub mod Leaves
 pub mod Length
 pub mod Lists

@@ -8,7 +8,8 @@ use Rattle.miniserde_read.specs.Children.{all_children}
 use Rattle.miniserde_read.specs.meaning.Pairs.{both, pair_of}
 use Rattle.miniserde_read.specs.Children.{pair_next}
 use Rattle.miniserde_read.specs.Rest.{ValueAt, ElementsAt}
-use Rattle.miniserde_read.proofs.Lists.{ListGoes, list_begins, list_goes, opened_list}
+use Rattle.miniserde_read.proofs.Lists.{ListGoes, list_begins, list_goes, list_none, opened_list}
+use Rattle.miniserde_read.proofs.Steps.{elements_start}
 
 module _ {A B : Type 0} (f : Tree → Option A) (g : Tree → Option B) where
   one_child : (t : Tree) → option_and_then both (all_children (pair_next f g) (None, None) (tree t no_trees)) ≡ None
@@ -38,3 +39,10 @@ module _ {A B : Type 0} (f : Tree → Option A) (g : Tree → Option B) where
 
   pub pair_second : (z s b c d : List ℕ) (e : Event) (t : Tree) (a : A) (y : B) → ListGoes (pair_next f g) (None, None) z false s (Some a, None) → Follows in_list false false s b → Starts b e c → ValueAt t e c d → g t ≡ Some y → ListGoes (pair_next f g) (None, None) z false d (Some a, Some y)
   pair_second z s b c d e t a y l h k v i = list_goes (pair_next f g) (None, None) z false s b c d e t (Some a, None) (Some a, Some y) l h k v (rw i refl)
+
+  -- a third child gives nothing
+  pub pair_full : (z s b : List ℕ) (a : A) (y : B) → ListGoes (pair_next f g) (None, None) z false s (Some a, Some y) → Follows in_list false false s b → (ts : Trees) (r : List ℕ) → ElementsAt ts true z r → all_children (pair_next f g) (None, None) ts ≡ None
+  pair_full z s b a y l h ts r p =
+      let o = l.back ts r p in
+      let k = elements_start o.0 false s b r h o.1 in
+      list_none (pair_next f g) (None, None) z false s b k.1 k.0 (Some a, Some y) l h k.2 (λ t d v. refl) ts r p

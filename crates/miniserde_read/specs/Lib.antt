@@ -1,4 +1,5 @@
 pub mod Children
+pub mod Lacking
 pub mod Meanings
 pub mod Meant
 pub mod Rest

@@ -1,10 +1,12 @@
 //! Types that read themselves from a JSON text.
-ghost use Rattle.std.specs.Prelude.{◌≡◌, Bool, true, false, List, ℕ, Option, None, Some, Ok, Err, IfOk, IfErr};
+ghost use Rattle.std.specs.Prelude.{◌≡◌, Bool, true, false, List, ℕ, Option, None, Some, Ok, Err, IfOk, IfErr, ⊤};
 ghost use Rattle.miniserde_model.specs.Tree.{Tree};
+ghost use Rattle.miniserde_model.specs.Event as event;
 ghost use Rattle.miniserde_text.specs.Lexer.{front_of};
 ghost use Rattle.miniserde_text.specs.declared.error.Error.{Error};
 ghost use Rattle.miniserde_read.specs.Meant.{Meant};
 ghost use Rattle.miniserde_read.specs.Rest.{ValueAt};
+ghost use Rattle.miniserde_read.specs.Source.{Remaining};
 ghost use Rattle.miniserde_read.specs.Step.{IsTreeEvent};
 
 mod arrays;
@@ -31,6 +33,9 @@ pub trait FromJson: Sized + Drop {
     // `read` never returns `Memory`.
     ghost read_infallible: { Bool } = { false };
 
+    // Holds if `read` returns `Memory`, of the token's event and of the source before the call and after it.
+    ghost lacking: { event.Event → Remaining → Remaining → Type 0 } = { λ _ _ _. ⊤ };
+
     /// Returns the value of a struct's field that is missing, or `None` if such a struct is invalid.
     fn missing() -> Option<Self>
         ensures { result ≡ absent };
@@ -47,5 +52,7 @@ pub trait FromJson: Sized + Drop {
         ensures invalid { result ≡ Err Error.Invalid → (t : Tree) (r : List ℕ)
             → ValueAt t (front_of token.entry source.old.scratch) source.old.rest r
             → means.from_tree t ≡ None }
-        ensures infallible { read_infallible ≡ true → IfErr result (λ e. e ≡ Error.Invalid) };
+        ensures infallible { read_infallible ≡ true → IfErr result (λ e. e ≡ Error.Invalid) }
+        ensures memory { result ≡ Err Error.Memory
+            → lacking (front_of token.entry source.old.scratch) source.old source.new };
 }

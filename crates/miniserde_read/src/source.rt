@@ -5,9 +5,10 @@ ghost use Rattle.miniserde_model.specs.Tree.{Trees, Members};
 ghost use Rattle.miniserde_model.specs.Event as event;
 ghost use Rattle.miniserde_model.specs.Lexing.{Starts, Names, Follows};
 ghost use Rattle.miniserde_model.specs.Whitespace.{IsWhitespace};
-ghost use Rattle.miniserde_text.specs.Lexer.{front_of, text_of, kind_of, closes};
+ghost use Rattle.miniserde_text.specs.Lexer.{front_of, text_of, kind_of, closes, BeginsEscaped};
 ghost use Rattle.miniserde_text.specs.declared.error.Error.{Error};
 ghost use Rattle.miniserde_read.specs.Step.{event_of};
+ghost use Rattle.miniserde_read.specs.Lacking.{EscapedElement};
 ghost use Rattle.miniserde_read.specs.Rest.{ElementsAt, MembersAt};
 ghost use Rattle.miniserde_read.specs.Source.{ElementFollows, NameFollows};
 
@@ -62,6 +63,7 @@ impl<'a> Source<'a> {
         ensures ok { IfOk result (λ e. Starts self.old.rest (front_of e self.new.scratch) self.new.rest) }
         ensures invalid { result ≡ Err Error.Invalid → self.old.refused ≡ None
             → (e : event.Event) (r : List ℕ) → Starts self.old.rest e r → ⊥ }
+        ensures memory { result ≡ Err Error.Memory → self.old.refused ≡ None → BeginsEscaped self.old.rest }
         ensures err { IfErr result (λ e. self.new.refused ≡ Some e) }
         ensures kept { IfSome self.old.refused (λ e. result ≡ Err e) }
     {
@@ -76,6 +78,7 @@ impl<'a> Source<'a> {
         ensures ok { IfOk result (λ o. ElementFollows o self.new.scratch first self.old.rest self.new.rest) }
         ensures invalid { result ≡ Err Error.Invalid → self.old.refused ≡ None
             → (ts : Trees) (r : List ℕ) → ElementsAt ts first self.old.rest r → ⊥ }
+        ensures memory { result ≡ Err Error.Memory → self.old.refused ≡ None → EscapedElement first self.old.rest }
         ensures err { IfErr result (λ e. self.new.refused ≡ Some e) }
         ensures kept { IfSome self.old.refused (λ e. result ≡ Err e) }
     {
@@ -110,6 +113,7 @@ impl<'a> Source<'a> {
         ensures ok { IfOk result (λ a. Follows (kind_of kind) first (closes a) self.old.rest self.new.rest) }
         ensures invalid { result ≡ Err Error.Invalid → self.old.refused ≡ None
             → (a : Bool) (r : List ℕ) → Follows (kind_of kind) first a self.old.rest r → ⊥ }
+        ensures only { IfErr result (λ e. self.old.refused ≡ None → e ≡ Error.Invalid) }
         ensures err { IfErr result (λ e. self.new.refused ≡ Some e) }
         ensures kept { IfSome self.old.refused (λ e. result ≡ Err e) }
     {

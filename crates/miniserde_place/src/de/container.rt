@@ -39,7 +39,6 @@ pub struct ContainerPlace<C> {
 impl<C: Collect> ContainerPlace<C> {
     ghost use Rattle.miniserde_place.specs.Stage.{shown, shown_between, RefusesChild};
     ghost use Rattle.miniserde_place.specs.Container.{BeginsChild};
-    ghost use Rattle.std.specs.Result.{IsErr};
 
     // An event that no open child takes.
     #[inline(never)]
@@ -52,7 +51,7 @@ impl<C: Collect> ContainerPlace<C> {
         ensures bars { result ≡ Err Error.Invalid → (shown C.gathering self.old).refused ≡ None
             → Barred (shown C.gathering self.old) (event_of event.entry) }
         ensures keeps { (r : Error) → (shown C.gathering self.old).refused ≡ Some r → result ≡ Err r }
-        ensures refuses { RefusesChild C.gathering self.old (event_of event.entry) result self.new }
+        ensures refuses { RefusesChild C.gathering C.join_infallible self.old (event_of event.entry) result self.new }
     {
         match self.stage {
             Stage::Fresh => {
@@ -81,7 +80,7 @@ impl<C: Collect> ContainerPlace<C> {
             → Barred (shown_between C.gathering self.old.collector) (event_of event.entry) }
         ensures refuses { BeginsChild (event_of event.entry)
             → C.gathering.refuses (C.gathering.state self.old.collector) (event_of event.entry) ≡ true
-            → IsErr result }
+            → result ≡ Err Error.Invalid }
     {
         match event {
             Step::Element | Step::Key(_) => {
@@ -111,7 +110,7 @@ impl<C: Collect> Visitor for ContainerPlace<C> {
     ghost begins_free = { true };
 
     // A child that the container refuses by the event that begins it, it refuses at once.
-    ghost further = { RefusesChild C.gathering };
+    ghost further = { RefusesChild C.gathering C.join_infallible };
 
     fn begin(alloc: Global) -> Result<ContainerPlace<C>> {
         Ok(ContainerPlace {

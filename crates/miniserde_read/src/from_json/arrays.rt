@@ -1,15 +1,18 @@
 //! Arrays.
-ghost use Rattle.std.specs.Prelude.{◌≡◌, length, Ok, Err, IfOk};
+ghost use Rattle.std.specs.Prelude.{◌≡◌, length, Ok, Err, IfOk, IfErr};
 ghost use Rattle.miniserde_text.specs.declared.error.Error.{Error};
+ghost use Rattle.miniserde_read.specs.Lacking.{ArrayLacks};
 ghost use Rattle.miniserde_read.specs.Meanings.{array_meant};
 
 use super::FromJson;
 use crate::source::Source;
 use miniserde_text::error::{Error, Result};
-use miniserde_text::json::lex::Event;
+use miniserde_text::json::lex::{After, Event, Kind};
 
 impl<T: FromJson, const N: usize> FromJson for [T; N] {
     ghost means = { array_meant N T.means (λ v. v) };
+
+    ghost lacking = { ArrayLacks N T.read_infallible };
 
     fn missing() -> Option<[T; N]> {
         None
@@ -21,10 +24,11 @@ impl<T: FromJson, const N: usize> FromJson for [T; N] {
         };
         let mut items = Vec::new(source.alloc());
         let mut first = true;
-        while let Some(token) = source.element(first)? {
+        while let After::Next = source.after(Kind::Seq, first)? {
             if items.len() == N {
                 return Err(Error::Invalid);
             }
+            let token = source.token()?;
             items.push(T::read(token, source)?)?;
             first = false;
         }
@@ -36,6 +40,7 @@ impl<T: FromJson, const N: usize> FromJson for [T; N] {
 fn array_from<T: Drop, const N: usize>(items: Vec<T>) -> Result<[T; N]>
     ensures ok { IfOk result (λ v. (v ≡ items.items) × (length items.items ≡ N)) }
     ensures invalid { result ≡ Err Error.Invalid → length items.items ≡ N → ⊥ }
+    ensures only { IfErr result (λ e. e ≡ Error.Invalid) }
 {
     <[T; N]>::try_from(items).ok().ok_or(Error::Invalid)
 }

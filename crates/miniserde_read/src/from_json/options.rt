@@ -14,6 +14,8 @@ impl<T: FromJson> FromJson for Option<T> {
 
     ghost read_infallible = { T.read_infallible };
 
+    ghost lacking = { T.lacking };
+
     fn missing() -> Option<Option<T>> {
         Some(None)
     }

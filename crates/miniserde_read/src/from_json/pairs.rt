@@ -1,13 +1,16 @@
 //! Pairs.
+ghost use Rattle.miniserde_read.specs.Lacking.{PairLacks};
 ghost use Rattle.miniserde_read.specs.Meanings.{pair_meant};
 
 use super::FromJson;
 use crate::source::Source;
 use miniserde_text::error::{Error, Result};
-use miniserde_text::json::lex::Event;
+use miniserde_text::json::lex::{After, Event, Kind};
 
 impl<A: FromJson, B: FromJson> FromJson for (A, B) {
     ghost means = { pair_meant A.means B.means (λ v. v.0) (λ v. v.1) };
+
+    ghost lacking = { PairLacks A.read_infallible B.read_infallible };
 
     fn missing() -> Option<(A, B)> {
         None
@@ -25,9 +28,9 @@ impl<A: FromJson, B: FromJson> FromJson for (A, B) {
             return Err(Error::Invalid);
         };
         let second = B::read(token, source)?;
-        match source.element(false)? {
-            None => Ok((first, second)),
-            Some(_) => Err(Error::Invalid),
+        match source.after(Kind::Seq, false)? {
+            After::Close => Ok((first, second)),
+            After::Next => Err(Error::Invalid),
         }
     }
 }

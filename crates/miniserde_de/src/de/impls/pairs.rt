@@ -1,5 +1,5 @@
 //! Pairs.
-ghost use Rattle.std.specs.Prelude.{Option, None};
+ghost use Rattle.std.specs.Prelude.{Option, None, ◌&&◌};
 ghost use Rattle.miniserde_de.specs.PlaceMeanings.{pair_gathering};
 
 use super::super::{Deserialize, Step, Visitor};
@@ -38,6 +38,9 @@ where
 
     ghost gathering = { pair_gathering P.meaning Q.meaning
         (λ c. c.first) (λ c. c.second) (λ c. c.child) (λ v. v.0) (λ v. v.1) };
+
+    // `join` moves a part, and allocates nothing itself.
+    ghost join_infallible = { P.takes_free && Q.takes_free };
 
     fn new(_alloc: Global) -> PairOf<P, P::Out, Q, Q::Out> {
         PairOf {

@@ -1,6 +1,6 @@
 //! What a container says of itself, so that one place serves them all.
-ghost use Rattle.std.specs.Prelude.{◌≡◌, ◌↔◌, Bool, true, IsTrue, Option, Some, None, Ok, Err, List, [], IfOk, IfErr};
-ghost use Rattle.std.specs.Prelude.{MatchOption, is_some};
+ghost use Rattle.std.specs.Prelude.{◌≡◌, ◌↔◌, Bool, true, false, IsTrue, Option, Some, None, Ok, Err, List, []};
+ghost use Rattle.std.specs.Prelude.{IfOk, IfErr, MatchOption, is_some};
 ghost use Rattle.miniserde_model.specs.Event.{Event};
 ghost use Rattle.miniserde_model.specs.Position.{complete};
 ghost use Rattle.miniserde_read.specs.Step.{event_of};
@@ -19,6 +19,9 @@ pub trait Collect: Drop {
 
     // What the container means, and what the place of its current child shows.
     ghost gathering: { Gathering Self Self.Out };
+
+    // `join` returns `Memory` only if the current child was refused with it before.
+    ghost join_infallible: { Bool } = { false };
 
     /// No children yet. It takes no memory.
     fn new(alloc: Global) -> Self
@@ -58,6 +61,8 @@ pub trait Collect: Drop {
         ensures joined { IfOk result (λ _. (gathering.child self.old).outcome [] ≡ Some (gathering.state self.new)) }
         ensures invalid { result ≡ Err Error.Invalid → (gathering.child self.old).refused ≡ None
             → (gathering.child self.old).at ≡ complete → (gathering.child self.old).outcome [] ≡ None }
+        ensures infallible { join_infallible ≡ true → result ≡ Err Error.Memory
+            → (gathering.child self.old).refused ≡ Some Error.Memory }
         ensures keeps { (r : Error) → (gathering.child self.old).refused ≡ Some r → result ≡ Err r };
 
     /// Whether the children so far make a whole.

@@ -1,0 +1,34 @@
+-- Elements that are read one by one: what stands among the next ones stands among those of the whole list.
+use Rattle.std.proofs.Common.{◌≡◌, ℕ, suc, ◌+◌, ◌-◌, ◌<◌, Bool, true, false, List, refl, subst, arith, inl, inr}
+use Rattle.miniserde_model.specs.Tree.{Tree}
+use Rattle.miniserde_model.specs.Event.{Event}
+use Rattle.miniserde_model.specs.Lexing.{in_list, Starts, Follows}
+use Rattle.miniserde_read.specs.Rest.{ValueAt}
+use Rattle.miniserde_read.specs.Lacking.{EscapedElement, AnElement, EscapedAmong, SomeElements}
+
+pub an_element : (f : Bool) (s b c d : List ℕ) (e : Event) (t : Tree) → Follows in_list f false s b → Starts b e c → ValueAt t e c d → AnElement f s d
+an_element f s b c d e t h k v = (t, record { begin = b; event = e; behind = c; rest = d; follows = h; starts = k; is_value = v; is_rest = refl })
+
+-- Of n elements, k stand from `begin` to s.
+pub record AmongGoes (n : ℕ) (begin : List ℕ) (first : Bool) (s : List ℕ) (k : ℕ) : Type 0 where
+  pub escaped : (m : ℕ) → m + k ≡ n → EscapedAmong m first s → EscapedAmong n true begin
+  pub some : (m : ℕ) (r : List ℕ) → m + k ≡ n → SomeElements m first s r → SomeElements n true begin r
+
+module _ (n : ℕ) (begin : List ℕ) where
+  pub among_begins : AmongGoes n begin true begin 0
+  among_begins = record {
+    escaped = λ m e p. let same : m ≡ n = omega (arith, e) in subst (λ z. EscapedAmong z true begin) same p;
+    some = λ m r e p. let same : m ≡ n = omega (arith, e) in subst (λ z. SomeElements z true begin r) same p;
+  }
+
+  pub among_goes : (f : Bool) (s d : List ℕ) (k : ℕ) → AmongGoes n begin f s k → AnElement f s d → AmongGoes n begin false d (suc k)
+  among_goes f s d k g a = record {
+    escaped = λ m e p. g.escaped (suc m) (omega (arith, e)) (inr (d, a, p));
+    some = λ m r e p. g.some (suc m) r (omega (arith, e)) (inr (d, a, p));
+  }
+
+  pub among_escaped : (f : Bool) (s : List ℕ) (k : ℕ) → AmongGoes n begin f s k → k < n → EscapedElement f s → EscapedAmong n true begin
+  among_escaped f s k g l p = g.escaped (suc (n - suc k)) (omega (arith, l)) (inl p)
+
+  pub among_some : (f : Bool) (s d : List ℕ) (k : ℕ) → AmongGoes n begin f s k → k < n → AnElement f s d → SomeElements n true begin d
+  among_some f s d k g l a = g.some (suc (n - suc k)) d (omega (arith, l)) (inl a)
