@@ -33,11 +33,11 @@ impl NumberText {
     pub fn is_text(t: &str) -> bool
         ensures { IsTrue result ↔ IsNumber t.now (num t.now) }
     {
-        let Some((event, rest)) = take_number(t) else {
+        let Some((event, end)) = take_number(t, 0) else {
             return false;
         };
         match event {
-            Event::Number(_) => rest.is_empty(),
+            Event::Number(_) => end == t.len(),
             _ => false,
         }
     }

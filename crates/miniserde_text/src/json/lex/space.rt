@@ -1,18 +1,19 @@
 //! Whitespace.
-ghost use Rattle.std.specs.Prelude.{◌≡◌};
+ghost use Rattle.std.specs.Prelude.{◌≡◌, ◌≤◌, drop, length};
 ghost use Rattle.miniserde_model.specs.Bytes.{is_space};
 ghost use Rattle.miniserde_text.specs.private.Reading.{after_run};
 
 use super::bytes::is_space;
 
-/// What follows the whitespace at the front.
-pub(super) fn after_space(s: &str) -> &str
-    ensures { result.now ≡ after_run is_space s.now }
+/// Returns the place behind the whitespace at `at`.
+pub(super) fn after_space(bytes: &[u8], at: usize) -> usize
+    requires { at ≤ length bytes.now }
+    ensures value { drop result bytes.now ≡ after_run is_space (drop at bytes.now) }
+    ensures within { result ≤ length bytes.now }
 {
-    let bytes = s.as_bytes();
-    let mut i = 0;
+    let mut i = at;
     while i < bytes.len() && is_space(bytes[i]) {
         i += 1;
     }
-    &s[i..]
+    i
 }
