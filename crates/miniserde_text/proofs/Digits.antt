@@ -1,12 +1,11 @@
 -- The value of digits, a turn of the loop each: the whole keeps its value, and what is read so far is never above it.
-use Rattle.std.proofs.Common.{◌≡◌, ℕ, suc, ◌+◌, ◌-◌, ◌*◌, ◌%◌, ◌^◌, ◌≤◌, ◌<◌, List, [], ◌∷◌, length, length-drop, take, drop, get_or, ap, ◌∙◌, subst, arith}
+use Rattle.std.proofs.Common.{◌≡◌, ℕ, suc, ◌+◌, ◌-◌, ◌*◌, ◌%◌, ◌^◌, ◌≤◌, ◌<◌, List, [], ◌∷◌, length, drop, get_or, ap, ◌∙◌, subst, arith}
 use Rattle.std.proofs.Math.Nat.{pow-suc, pow-le-pow_right}
 use Rattle.std.proofs.lemmas.Bool.Decides.{nat_tests}
-use Rattle.std.proofs.lemmas.List.{drop_more, get_or-drop}
-use Rattle.std.proofs.lemmas.Int.Digits.{digits_value_more}
+use Rattle.std.proofs.lemmas.List.{drop_more}
 use Rattle.std.specs.List.{AllByRecursion}
 use Rattle.std.specs.Char.{digit_value}
-use Rattle.std.specs.Str.Parse.{digits_value, digits_value_after}
+use Rattle.std.specs.Str.Parse.{digits_value_after}
 use Rattle.miniserde_model.specs.Number.{IsDigit}
 
 le-digits_value_after : (n : ℕ) (ds : List ℕ) → n ≤ digits_value_after 10 n ds
@@ -46,11 +45,3 @@ below_next v i d small digit = let next : suc i ≡ i + 1 = omega arith in omega
 -- what may wrap in a turn doesn't where fewer than 19 digits stand before it
 pub wraps_not : (v i d : ℕ) → v < 10 ^ i → i < 19 → d ≤ 9 → (v * 10 % 2 ^ 64 + d) % 2 ^ 64 ≡ v * 10 + d
 wraps_not v i d small few digit = omega (arith, short_fits v i 19 small few (omega arith))
-
--- one more of the digits from a place on
-pub digits_more : (s : List ℕ) (a i : ℕ) → a ≤ i → i < length s → digits_value 10 (take (i + 1 - a) (drop a s)) ≡ digits_value 10 (take (i - a) (drop a s)) * 10 + digit_value (get_or s i 0)
-digits_more s a i h k =
-    let n : i + 1 - a ≡ i - a + 1 = omega arith in
-    let e : a + (i - a) ≡ i = omega arith in
-    ap (λ m. digits_value 10 (take m (drop a s))) n ∙ digits_value_more 10 (drop a s) (i - a) (omega (arith, length-drop a s))
-    ∙ ap (λ d. digits_value 10 (take (i - a) (drop a s)) * 10 + digit_value d) (get_or-drop a s (i - a) 0 ∙ ap (λ m. get_or s m 0) e)

@@ -1,9 +1,8 @@
 -- Places in a text, as indices: what is left from one on, and where one is a border of characters.
 use Rattle.std.proofs.Common.{◌≡◌, ℕ, ◌+◌, ◌-◌, ◌≤◌, ◌<◌, List, length, drop, get_or, refl, ap, sym, subst, ◌∙◌, arith, length-append, length-drop}
-use Rattle.std.specs.Prelude.{slice_index}
 use Rattle.std.specs.List.{position_or_len}
 use Rattle.std.specs.Str.{IsUtf8, IsCharBoundary}
-use Rattle.std.proofs.lemmas.List.{drop-drop, get_or-drop}
+use Rattle.std.proofs.lemmas.List.{drop-drop}
 use Rattle.std.proofs.lemmas.Str.{IsCharBoundary-after_ascii, IsCharBoundary-from_rest}
 use Rattle.miniserde_model.specs.Bytes.{is_special}
 use Rattle.miniserde_text.specs.private.Reading.{after_run, is_unescaped, BehindAscii, EndsWith}
@@ -20,15 +19,6 @@ behind_boundary s i u h =
 -- the rest from j on is the end of that from i on
 pub ends_order : (s : List ℕ) (i j : ℕ) → i ≤ length s → j ≤ length s → EndsWith (drop i s) (drop j s) → i ≤ j
 ends_order s i j h k (b, e) = omega (arith, ap length e ∙ length-append b (drop j s), length-drop i s, length-drop j s)
-
--- a byte behind a place
-pub byte_from : (s : List ℕ) (i j : ℕ) → i ≤ j → slice_index (drop i s) (j - i) ≡ slice_index (drop j s) 0
-byte_from s i j h =
-    let e : i + (j - i) ≡ j + 0 = omega arith in
-    get_or-drop i s (j - i) 0 ∙ ap (λ k. get_or s k 0) e ∙ sym (get_or-drop j s 0 0)
-
-pub rest_from : (s : List ℕ) (i j : ℕ) → i ≤ j → drop (j - i) (drop i s) ≡ drop j s
-rest_from s i j h = let e : i + (j - i) ≡ j = omega arith in drop-drop (j - i) i s ∙ ap (λ k. drop k s) e
 
 -- ---- the run of a string
 

@@ -125,8 +125,8 @@ impl<'a> Lexer<'a> {
         if let Some(e) = self.refused {
             return Err(e);
         }
-        let at = after_space(self.text.as_bytes(), self.at);
-        match take_front(self.text, at, scratch) {
+        let (at, first) = after_space(self.text.as_bytes(), self.at);
+        match take_front(self.text, at, first, scratch) {
             Ok((event, end)) => {
                 self.at = end;
                 Ok(event)
@@ -151,8 +151,8 @@ impl<'a> Lexer<'a> {
         if let Some(e) = self.refused {
             return Err(e);
         }
-        let at = after_space(self.text.as_bytes(), self.at);
-        match take_name(self.text, at, scratch) {
+        let (at, first) = after_space(self.text.as_bytes(), self.at);
+        match take_name(self.text, at, first, scratch) {
             Ok((text, end)) => {
                 self.at = end;
                 Ok(text)
@@ -177,7 +177,8 @@ impl<'a> Lexer<'a> {
             return Err(e);
         }
         let bytes = self.text.as_bytes();
-        match take_step(kind, first, bytes, after_space(bytes, self.at)) {
+        let (at, byte) = after_space(bytes, self.at);
+        match take_step(kind, first, bytes, at, byte) {
             Some((answer, end)) => {
                 self.at = end;
                 Ok(answer)
@@ -199,7 +200,8 @@ impl<'a> Lexer<'a> {
             return Err(e);
         }
         let bytes = self.text.as_bytes();
-        if after_space(bytes, self.at) == bytes.len() {
+        let (at, _) = after_space(bytes, self.at);
+        if at == bytes.len() {
             return Ok(());
         }
         self.refuse(Error::Invalid)

@@ -24,6 +24,9 @@ fn unit(bytes: &[u8], at: usize) -> Option<(u32, usize)>
     ensures small { IfSome result (λ x. x.0 < 65536) }
     ensures behind { IfSome result (λ x. BehindAscii bytes.now x.1) }
 {
+    if bytes.len() - at < 4 {
+        return None;
+    }
     let a = hex(byte_behind(bytes, at, 0));
     let b = hex(byte_behind(bytes, at, 1));
     let c = hex(byte_behind(bytes, at, 2));

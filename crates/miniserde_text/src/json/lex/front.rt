@@ -8,7 +8,7 @@ ghost use Rattle.miniserde_text.specs.private.Reading.{word_at, front_by};
 ghost use Rattle.miniserde_text.specs.private.Inside.{Taken, NameTaken, EventTakesText, NameTakesText};
 ghost use Rattle.miniserde_text.specs.private.Inside.{ReachesBackslash};
 
-use super::bytes::{byte_at, skip};
+use super::bytes::skip;
 use super::number::take_number;
 use super::space::after_space;
 use super::string::take_string;
@@ -55,18 +55,20 @@ fn take_plain<'a>(text: &'a str, at: usize, first: u8) -> Option<(Event<'a>, usi
         b'f' => take_word(bytes, at, b"false", Event::Bool(false)),
         b'[' => Some((Event::SeqStart, skip(bytes, at, 1))),
         b'{' => Some((Event::MapStart, skip(bytes, at, 1))),
-        _ => take_number(text, at),
+        _ => take_number(text, at, first),
     }
 }
 
-/// Takes the front of a value.
+/// Takes the front of a value, of which the first byte is at hand.
 #[inline(always)]
 pub(super) fn take_front<'a>(
     text: &'a str,
     at: usize,
+    first: u8,
     scratch: &mut String,
 ) -> Result<(Event<'a>, usize)>
-    requires { at ≤ length text.now }
+    requires within { at ≤ length text.now }
+    requires first { first ≡ slice_index (drop at text.now) 0 }
     ensures ok { IfOk result (λ x.
         Taken (drop at text.now) (front_of x.0 (string_bytes scratch.new)) (drop x.1 text.now)) }
     ensures text { IfOk result (λ x. EventTakesText x.0 (drop at text.now) (drop x.1 text.now)) }
@@ -77,10 +79,8 @@ pub(super) fn take_front<'a>(
     ensures invalid { result ≡ Err Error.Invalid
         → (e : event.Event) (r : List ℕ) → Taken (drop at text.now) e r → ⊥ }
 {
-    let bytes = text.as_bytes();
-    let first = byte_at(bytes, at);
     if first == b'"' {
-        let (text, end) = take_string(text, skip(bytes, at, 1), scratch)?;
+        let (text, end) = take_string(text, skip(text.as_bytes(), at, 1), scratch)?;
         return Ok((Event::Str(text), end));
     }
     match take_plain(text, at, first) {
@@ -89,12 +89,14 @@ pub(super) fn take_front<'a>(
     }
 }
 
-/// Takes a string, whitespace and a colon.
+/// Takes a string, whitespace and a colon. The first byte is at hand.
 pub(super) fn take_name<'a>(
     text: &'a str,
     at: usize,
+    first: u8,
     scratch: &mut String,
 ) -> Result<(Text<'a>, usize)>
+    requires { first ≡ slice_index (drop at text.now) 0 }
     ensures ok { IfOk result (λ x.
         NameTaken (drop at text.now) (text_of x.0 (string_bytes scratch.new)) (drop x.1 text.now)) }
     ensures text { IfOk result (λ x. NameTakesText x.0 (drop at text.now) (drop x.1 text.now)) }
@@ -105,13 +107,13 @@ pub(super) fn take_name<'a>(
     ensures invalid { result ≡ Err Error.Invalid
         → (n r : List ℕ) → NameTaken (drop at text.now) n r → ⊥ }
 {
-    let bytes = text.as_bytes();
-    if byte_at(bytes, at) != b'"' {
+    if first != b'"' {
         return Err(Error::Invalid);
     }
+    let bytes = text.as_bytes();
     let (name, end) = take_string(text, skip(bytes, at, 1), scratch)?;
-    let colon = after_space(bytes, end);
-    if byte_at(bytes, colon) != b':' {
+    let (colon, byte) = after_space(bytes, end);
+    if byte != b':' {
         return Err(Error::Invalid);
     }
     Ok((name, skip(bytes, colon, 1)))

@@ -1,6 +1,6 @@
 //! Numbers, and the event of each.
-ghost use Rattle.std.specs.Prelude.{◌≡◌, ◌+◌, ◌-◌, ◌<◌, ◌≤◌, ◌^◌, [], None, Some, List, ℕ, length, take, drop};
-ghost use Rattle.std.specs.Prelude.{option_map, nat_lt, if◌then◌else◌, IfSome, IfNone};
+ghost use Rattle.std.specs.Prelude.{◌≡◌, ◌<◌, ◌≤◌, ◌^◌, [], None, Some, List, ℕ, length, take, drop};
+ghost use Rattle.std.specs.Prelude.{option_map, nat_lt, slice_index, if◌then◌else◌, IfSome, IfNone};
 ghost use Rattle.std.specs.List.{AllByRecursion, prefix_len};
 ghost use Rattle.std.specs.Str.Parse.{digits_value};
 ghost use Rattle.miniserde_model.specs.Number.{IsDigit};
@@ -38,12 +38,14 @@ fn after_digits(bytes: &[u8], at: usize) -> Option<usize>
     }
 }
 
-fn after_minus(bytes: &[u8], at: usize) -> usize
-    requires { at ≤ length bytes.now }
+// The first byte is at hand.
+fn after_minus(bytes: &[u8], at: usize, first: u8) -> usize
+    requires within { at ≤ length bytes.now }
+    requires first { first ≡ slice_index (drop at bytes.now) 0 }
     ensures value { drop result bytes.now ≡ after_minus (drop at bytes.now) }
     ensures within { result ≤ length bytes.now }
 {
-    if byte_at(bytes, at) == b'-' {
+    if first == b'-' {
         skip(bytes, at, 1)
     } else {
         at
@@ -164,17 +166,14 @@ fn event<'a>(text: &'a str, minus: bool, whole: &[u8], tail: &[u8]) -> Event<'a>
     Event::Number(text)
 }
 
-// The end of the digits at `at`, and the number that they write, where they are at most 19. More may wrap.
+// The digits in front: how many, and the number that they write, where they are at most 19. More may wrap.
 #[inline(always)]
-fn leading_digits(bytes: &[u8], at: usize) -> (usize, u64)
-    requires { at ≤ length bytes.now }
-    ensures end { result.0 ≡ at + prefix_len is_digit (drop at bytes.now) }
-    ensures within { result.0 ≤ length bytes.now }
-    ensures value { result.0 - at ≤ 19
-        → result.1 ≡ digits_value 10 (take (result.0 - at) (drop at bytes.now)) }
+fn leading_digits(bytes: &[u8]) -> (usize, u64)
+    ensures count { result.0 ≡ prefix_len is_digit bytes.now }
+    ensures value { result.0 ≤ 19 → result.1 ≡ digits_value 10 (take result.0 bytes.now) }
 {
     let mut value = 0u64;
-    let mut i = at;
+    let mut i = 0;
     while i < bytes.len() && is_digit(bytes[i]) {
         value = value
             .wrapping_mul(10)
@@ -184,38 +183,40 @@ fn leading_digits(bytes: &[u8], at: usize) -> (usize, u64)
     (i, value)
 }
 
-// An integer of up to 19 digits, in one pass.
+// An integer of up to 19 digits, in one pass. The loop over its digits goes by a slice, which counts them as it goes.
 #[inline(always)]
-fn short_number<'a>(bytes: &[u8], at: usize) -> Option<(Event<'a>, usize)>
-    requires { at ≤ length bytes.now }
+fn short_number<'a>(bytes: &[u8], at: usize, first: u8) -> Option<(Event<'a>, usize)>
+    requires within { at ≤ length bytes.now }
+    requires first { first ≡ slice_index (drop at bytes.now) 0 }
     ensures value { IfSome result (λ x.
         number_at (drop at bytes.now) ≡ Some (front_of x.0 [], drop x.1 bytes.now)) }
     ensures within { IfSome result (λ x. x.1 ≤ length bytes.now) }
 {
-    let digits = after_minus(bytes, at);
-    let (end, value) = leading_digits(bytes, digits);
-    let count = end - digits;
-    if count == 0 || count > 19 || is_number_byte(byte_at(bytes, end)) {
+    let start = after_minus(bytes, at, first);
+    let digits = &bytes[start..];
+    let (count, value) = leading_digits(digits);
+    if count == 0 || count > 19 || is_number_byte(byte_at(digits, count)) {
         return None;
     }
-    if count > 1 && byte_at(bytes, digits) == b'0' {
+    if count > 1 && byte_at(digits, 0) == b'0' {
         return None;
     }
-    let event = integer_event(byte_at(bytes, at) == b'-', value)?;
-    Some((event, end))
+    let event = integer_event(first == b'-', value)?;
+    Some((event, start + count))
 }
 
-// Takes any number.
+/// Takes any number.
 #[inline(never)]
 #[tactic(auto, unfolding(crate::specs::private::Reading::number_at))]
-fn take_any_number<'a>(text: &'a str, at: usize) -> Option<(Event<'a>, usize)>
+pub(crate) fn take_any_number<'a>(text: &'a str, at: usize) -> Option<(Event<'a>, usize)>
     requires { at ≤ length text.now }
     ensures value { option_map (λ x. (front_of x.0 [], drop x.1 text.now)) result
         ≡ number_at (drop at text.now) }
     ensures within { IfSome result (λ x. x.1 ≤ length text.now) }
 {
     let bytes = text.as_bytes();
-    let digits = after_minus(bytes, at);
+    let first = byte_at(bytes, at);
+    let digits = after_minus(bytes, at, first);
     let tail = after_whole(bytes, digits)?;
     let end = after_tail(bytes, tail)?;
     if is_number_byte(byte_at(bytes, end)) {
@@ -223,7 +224,7 @@ fn take_any_number<'a>(text: &'a str, at: usize) -> Option<(Event<'a>, usize)>
     }
     let event = event(
         between(text, at, end),
-        byte_at(bytes, at) == b'-',
+        first == b'-',
         part(bytes, digits, tail),
         part(bytes, tail, end),
     );
@@ -244,15 +245,16 @@ fn take_long_number<'a>(text: &'a str, at: usize) -> Option<(Event<'a>, usize)>
     }
 }
 
-/// Takes a number, behind which no byte of number texts may stand.
+/// Takes a number, of which the first byte is at hand, and behind which no byte of number texts may stand.
 #[inline(always)]
-pub(crate) fn take_number<'a>(text: &'a str, at: usize) -> Option<(Event<'a>, usize)>
-    requires { at ≤ length text.now }
+pub(super) fn take_number<'a>(text: &'a str, at: usize, first: u8) -> Option<(Event<'a>, usize)>
+    requires within { at ≤ length text.now }
+    requires first { first ≡ slice_index (drop at text.now) 0 }
     ensures value { option_map (λ x. (front_of x.0 [], drop x.1 text.now)) result
         ≡ number_at (drop at text.now) }
     ensures within { IfSome result (λ x. x.1 ≤ length text.now) }
 {
-    match short_number(text.as_bytes(), at) {
+    match short_number(text.as_bytes(), at, first) {
         Some(taken) => Some(taken),
         None => take_long_number(text, at),
     }

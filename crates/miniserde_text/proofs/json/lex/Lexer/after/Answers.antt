@@ -7,14 +7,14 @@ use Rattle.miniserde_text.proofs.json.lex.Lexer.after.Goals as goal
 
 pub returns-in-Some-take_step-clause-ok : goal.returns-in-Some-take_step-clause-ok
 returns-in-Some-take_step-clause-ok c =
-    let t = drop c.after_space.result c.self.inside.text.now in
+    let t = drop c.after_space-at.result.0 c.self.inside.text.now in
     let from : t ≡ after_run is_space c.args.self.now.rest = grind arith in
     let read : step_at (kind_of c.args.kind) c.args.first t ≡ Some (closes c.in-Some-take_step.answer, drop c.in-Some-take_step.end c.self.inside.text.now) = grind arith in
     (grind arith, grind arith, follows _ c.args.first _ t _ _ from read)
 
 pub returns-in-None-clause-invalid : goal.returns-in-None-clause-invalid
 returns-in-None-clause-invalid c is fresh a r h =
-    let t = drop c.after_space.result c.self.inside.text.now in
+    let t = drop c.after_space-at.result.0 c.self.inside.text.now in
     let from : t ≡ after_run is_space c.args.self.now.rest = grind arith in
     let read : step_at (kind_of c.args.kind) c.args.first t ≡ None = grind arith in
     follows_refused _ c.args.first _ t from read a r h

@@ -12,8 +12,8 @@ use Rattle.miniserde_text.proofs.Fronts.{quoted}
 use Rattle.miniserde_text.proofs.Names.{colon_leads, name_taken, name_quote, name_string, name_colon}
 use Rattle.miniserde_text.proofs.json.lex.front.take_name.Goals as goal
 
-pub returns-then-byte_at-ne34-clause-invalid : goal.returns-then-byte_at-ne34-clause-invalid
-returns-then-byte_at-ne34-clause-invalid c is n r h =
+pub returns-then-first-ne34-clause-invalid : goal.returns-then-first-ne34-clause-invalid
+returns-then-first-ne34-clause-invalid c is n r h =
     let s = drop c.args.at c.args.text.now in
     let at = name_quote s n r h in absurd (grind arith)
 
@@ -34,35 +34,35 @@ returns-in_err-name-clause-memory c is =
     let at : slice_index s 0 ≡ 34 = grind arith in
     (at, subst ReachesBackslash next (c.in_err-name.ensures.memory (ap Err e)))
 
-pub returns-then-byte_at-ne58-clause-invalid : goal.returns-then-byte_at-ne58-clause-invalid
-returns-then-byte_at-ne58-clause-invalid c is n r h =
+pub returns-then-byte-ne58-clause-invalid : goal.returns-then-byte-ne58-clause-invalid
+returns-then-byte-ne58-clause-invalid c is n r h =
     let s = drop c.args.at c.args.text.now in
     let next : drop c.skip.result c.args.text.now ≡ drop 1 s = grind arith in
-    let space : drop c.after_space-colon.result c.args.text.now ≡ after_run is_space (drop c.in_ok-name.end c.args.text.now) = grind arith in
+    let space : drop c.after_space-colon.result.0 c.args.text.now ≡ after_run is_space (drop c.in_ok-name.end c.args.text.now) = grind arith in
     let q = c.in_ok-name.ensures.ok in
     let at : slice_index s 0 ≡ 34 = grind arith in
-    let away : slice_index (drop c.after_space-colon.result c.args.text.now) 0 ≢ 58 = λ e. grind arith in
-    name_colon s n r q.0 (drop c.in_ok-name.end c.args.text.now) (drop c.after_space-colon.result c.args.text.now) at h (subst (λ x. Chars q.0 x (drop c.in_ok-name.end c.args.text.now)) next q.1) space away
+    let away : slice_index (drop c.after_space-colon.result.0 c.args.text.now) 0 ≢ 58 = λ e. grind arith in
+    name_colon s n r q.0 (drop c.in_ok-name.end c.args.text.now) (drop c.after_space-colon.result.0 c.args.text.now) at h (subst (λ x. Chars q.0 x (drop c.in_ok-name.end c.args.text.now)) next q.1) space away
 
 pub returns-clause-ok : goal.returns-clause-ok
 returns-clause-ok c =
     let s = drop c.args.at c.args.text.now in
     let next : drop c.skip.result c.args.text.now ≡ drop 1 s = grind arith in
-    let space : drop c.after_space-colon.result c.args.text.now ≡ after_run is_space (drop c.in_ok-name.end c.args.text.now) = grind arith in
-    let last : drop c.skip-2.result c.args.text.now ≡ drop 1 (drop c.after_space-colon.result c.args.text.now) = grind arith in
+    let space : drop c.after_space-colon.result.0 c.args.text.now ≡ after_run is_space (drop c.in_ok-name.end c.args.text.now) = grind arith in
+    let last : drop c.skip-2.result c.args.text.now ≡ drop 1 (drop c.after_space-colon.result.0 c.args.text.now) = grind arith in
     let q = c.in_ok-name.ensures.ok in
     let at : slice_index s 0 ≡ 34 = grind arith in
-    let colon : slice_index (drop c.after_space-colon.result c.args.text.now) 0 ≡ 58 = grind arith in
-    name_taken s _ (drop c.in_ok-name.end c.args.text.now) (drop c.after_space-colon.result c.args.text.now) (drop c.skip-2.result c.args.text.now) q.0 at (subst (λ x. Chars q.0 x (drop c.in_ok-name.end c.args.text.now)) next q.1) q.2 space colon last
+    let colon : slice_index (drop c.after_space-colon.result.0 c.args.text.now) 0 ≡ 58 = grind arith in
+    name_taken s _ (drop c.in_ok-name.end c.args.text.now) (drop c.after_space-colon.result.0 c.args.text.now) (drop c.skip-2.result c.args.text.now) q.0 at (subst (λ x. Chars q.0 x (drop c.in_ok-name.end c.args.text.now)) next q.1) q.2 space colon last
 
 pub returns-clause-text : goal.returns-clause-text
 returns-clause-text c =
     let s = drop c.args.at c.args.text.now in
     let next : drop c.skip.result c.args.text.now ≡ drop 1 s = grind arith in
-    let space : drop c.after_space-colon.result c.args.text.now ≡ after_run is_space (drop c.in_ok-name.end c.args.text.now) = grind arith in
-    let last : drop c.skip-2.result c.args.text.now ≡ drop 1 (drop c.after_space-colon.result c.args.text.now) = grind arith in
+    let space : drop c.after_space-colon.result.0 c.args.text.now ≡ after_run is_space (drop c.in_ok-name.end c.args.text.now) = grind arith in
+    let last : drop c.skip-2.result c.args.text.now ≡ drop 1 (drop c.after_space-colon.result.0 c.args.text.now) = grind arith in
     let at : slice_index s 0 ≡ 34 = grind arith in
-    let colon : slice_index (drop c.after_space-colon.result c.args.text.now) 0 ≡ 58 = grind arith in
+    let colon : slice_index (drop c.after_space-colon.result.0 c.args.text.now) 0 ≡ 58 = grind arith in
     let text = c.in_ok-name.name in
     let rest = (drop c.in_ok-name.end c.args.text.now) in
-    colon_leads (Between 34 (StandsFor text) 34) s rest (drop c.after_space-colon.result c.args.text.now) (drop c.skip-2.result c.args.text.now) (quoted text s (drop c.skip.result c.args.text.now) rest at next c.in_ok-name.ensures.text) space colon last
+    colon_leads (Between 34 (StandsFor text) 34) s rest (drop c.after_space-colon.result.0 c.args.text.now) (drop c.skip-2.result c.args.text.now) (quoted text s (drop c.skip.result c.args.text.now) rest at next c.in_ok-name.ensures.text) space colon last
