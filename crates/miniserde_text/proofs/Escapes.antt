@@ -1,10 +1,11 @@
 -- Reading takes exactly the escapes of the grammar: what is read is a piece of it (`X_takes`), and each such piece is
 -- read.
-use Rattle.std.proofs.Common.{◌≡◌, ℕ, ◌+◌, ◌*◌, ◌<◌, ◌≤◌, ◌==◌, true, false, cond, List, [], ◌∷◌, ◌++◌, drop, Some, None, refl, ap, sym, subst, ◌∙◌, inl, inr, arith, append_assoc, eqb-true, ltb-true}
-use Rattle.std.specs.Prelude.{◌⊎◌, ◌||◌, slice_index, option_and_then, option_map}
+use Rattle.std.proofs.Common.{◌≡◌, ℕ, ◌+◌, ◌*◌, ◌<◌, ◌≤◌, ◌==◌, Bool, true, false, cond, List, [], ◌∷◌, ◌++◌, length, drop, Some, None, refl, ap, sym, subst, ◌∙◌, inl, inr, arith, append_assoc, eqb-true, ltb-true}
+use Rattle.std.specs.Prelude.{◌⊎◌, ◌&&◌, ◌||◌, slice_index, option_and_then, option_map}
 use Rattle.std.specs.Char.{digit_value, IsScalar}
 use Rattle.std.proofs.lemmas.Bool.Decides.{nat_tests}
 use Rattle.std.proofs.lemmas.Bool.{true≢false}
+use Rattle.std.proofs.lemmas.List.{get_or_past}
 use lib.Utf8.{scalar_cases}
 use Rattle.miniserde_model.specs.String.{IsRaw, IsShort, quote, backslash, slash, backspace, form_feed, line_feed, carriage_return, tab, IsUnit, IsPair, IsPiece, raw, short, unit, pair}
 use Rattle.miniserde_text.specs.private.Reading.{is_hex, is_high, is_low, begins_unit, unit_at, begins_escape, pair_of, low_at, unicode_at, short_at, escape_at}
@@ -24,6 +25,16 @@ four (x ∷ y ∷ z ∷ w ∷ s) a b c d = refl
 
 abbrev value_of : List ℕ → ℕ
 value_of s = digit_value (slice_index s 0) * 4096 + digit_value (slice_index s 1) * 256 + digit_value (slice_index s 2) * 16 + digit_value (slice_index s 3)
+
+and_no : (b : Bool) → (b && false) ≡ false
+and_no true = refl
+and_no false = refl
+
+-- fewer than four bytes are no unit
+pub few_bytes : (s : List ℕ) → length s < 4 → unit_at s ≡ None
+few_bytes s h =
+    let three : is_hex (slice_index s 3) ≡ false = ap is_hex (get_or_past s 3 0 (omega arith)) in
+    ap (λ b. cond b (Some (value_of s, drop 4 s)) None) (ap (λ b. is_hex (slice_index s 0) && is_hex (slice_index s 1) && is_hex (slice_index s 2) && b) three ∙ and_no _)
 
 hex_of : (c : ℕ) → is_hex c ≡ true → digit_value c < 16
 hex_of c h = ltb-true (digit_value c) 16 h

@@ -1,7 +1,7 @@
 -- The number texts that are kept are those that reading keeps and takes whole.
-use Rattle.std.proofs.Common.{◌≡◌, ℕ, ◌==◌, List, [], ◌∷◌, length, Some, IsTrue, ◌↔◌, false, refl, ap, sym, subst, ◌∙◌, arith}
+use Rattle.std.proofs.Common.{◌≡◌, ℕ, ◌≤◌, ◌==◌, List, [], length, length-drop, drop, Some, IsTrue, ◌↔◌, false, refl, ap, sym, subst, ◌∙◌, arith, eqb-true, eq-eqb}
 use Rattle.std.proofs.lemmas.Bool.{true≢false}
-use Rattle.std.proofs.lemmas.List.{append-nil}
+use Rattle.std.proofs.lemmas.List.{append-nil, drop_all}
 use Rattle.std.specs.Borrow.{Bor}
 use Rattle.miniserde_model.specs.Tree.{num}
 use Rattle.miniserde_model.specs.Event.{float}
@@ -24,9 +24,13 @@ pub kept_read : (t : List ℕ) → IsNumber t (num t) → number_at t ≡ Some (
 kept_read t n = ap number_at (sym (append-nil t)) ∙ number_only t [] n.0 tt ∙ ap (λ l. Some (event_of l, [])) n.1
 
 -- what reading keeps is a kept text exactly where nothing is left
-pub kept_where : (t x r : List ℕ) → number_at t ≡ Some (float x, r) → IsTrue (length r == 0) ↔ IsNumber t (num t)
-kept_where t x [] h = (λ _. kept_of t x h, λ _. refl)
-kept_where t x (c ∷ r) h = (λ e. grind arith, λ n. ap (λ w. length w == 0) (ap (λ q. q.1) (same_Some _ _ (sym h ∙ kept_read t n))))
+pub kept_where : (t x : List ℕ) (i : ℕ) → number_at t ≡ Some (float x, drop i t) → i ≤ length t → IsTrue (i == length t) ↔ IsNumber t (num t)
+kept_where t x i h within = (
+  λ e. kept_of t x (h ∙ ap (λ r. Some (float x, r)) (drop_all i t (omega (arith, eqb-true i (length t) e)))),
+  λ n.
+      let none : drop i t ≡ [] = ap (λ q. q.1) (same_Some _ _ (sym h ∙ kept_read t n)) in
+      eq-eqb i (length t) (omega (arith, within, length-drop i t, ap length none)),
+)
 
 -- where reading does not keep a text, it is none
 pub no_kept : (t : List ℕ) → (IsNumber t (num t) → ⊥) → IsTrue false ↔ IsNumber t (num t)

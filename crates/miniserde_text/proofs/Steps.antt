@@ -1,8 +1,9 @@
 -- What follows in a container, and at the end: each step that is taken is one of the grammar, and each of the grammar
 -- is taken, so where none is taken there is none.
-use Rattle.std.proofs.Common.{◌≡◌, ℕ, ◌==◌, Bool, true, false, cond, not, List, [], ◌∷◌, ◌++◌, length, drop, Option, Some, None, refl, ap, sym, subst, ◌∙◌, inl, inr, arith, eqb-true, append-nil}
+use Rattle.std.proofs.Common.{◌≡◌, ℕ, ◌≤◌, ◌==◌, Bool, true, false, cond, not, List, [], ◌∷◌, ◌++◌, length, length-drop, drop, Option, Some, None, refl, ap, sym, subst, ◌∙◌, inl, inr, arith, eqb-true, append-nil}
 use Rattle.std.specs.Prelude.{slice_index, is_some}
 use Rattle.std.proofs.lemmas.Bool.{true≢false}
+use Rattle.std.proofs.lemmas.List.{drop_all}
 use Rattle.std.proofs.lemmas.Bool.Decides.{nat_tests}
 use Rattle.miniserde_model.specs.Bytes.{is_space, StopsAt}
 use Rattle.miniserde_model.specs.Whitespace.{IsWhitespace}
@@ -106,11 +107,12 @@ follows_refused k first s t e none a r h = true≢false (sym (ap is_some (follow
 
 -- ---- the end
 
-pub blank_of : (s t : List ℕ) → t ≡ after_run is_space s → (length t == 0) ≡ true → IsWhitespace s
-blank_of s [] e h = let w = run_split is_space s in subst IsWhitespace (sym (w.2 ∙ ap (λ x. w.0 ++ x) (sym e) ∙ append-nil w.0)) (whitespace_of w.0 w.1)
-blank_of s (c ∷ cs) e h = let no_length : length (c ∷ cs) ≡ 0 = eqb-true (length (c ∷ cs)) 0 h in absurd (omega arith)
+pub blank_of : (s t : List ℕ) (i : ℕ) → drop i t ≡ after_run is_space s → length t ≤ i → IsWhitespace s
+blank_of s t i e h =
+    let w = run_split is_space s in
+    subst IsWhitespace (sym (w.2 ∙ ap (λ x. w.0 ++ x) (sym e ∙ drop_all i t h) ∙ append-nil w.0)) (whitespace_of w.0 w.1)
 
-pub not_blank : (s t : List ℕ) → t ≡ after_run is_space s → (length t == 0) ≡ false → IsWhitespace s → ⊥
-not_blank s t e h k =
-    let none : t ≡ [] = e ∙ ap (after_run is_space) (sym (append-nil s)) ∙ run_only_space s [] k tt in
-    true≢false (ap (λ x. length x == 0) (sym none) ∙ h)
+pub not_blank : (s t : List ℕ) (i : ℕ) → drop i t ≡ after_run is_space s → (length t ≤ i → ⊥) → IsWhitespace s → ⊥
+not_blank s t i e h k =
+    let none : drop i t ≡ [] = e ∙ ap (after_run is_space) (sym (append-nil s)) ∙ run_only_space s [] k tt in
+    h (omega (arith, length-drop i t, ap length none))

@@ -1,10 +1,9 @@
 -- Reading as functions on lists, in the order of the code. Only private clauses cite it: lemmas show that each reads
 -- exactly what the grammar has.
-use Rattle.std.specs.Prelude.{◌≡◌, ℕ, ◌-◌, ◌+◌, ◌*◌, ◌^◌, ◌&&◌, ◌||◌, nat_le, nat_lt, pos, neg_ℤ, if◌then◌else◌, option_map, List, [], ◌∷◌, ◌++◌, Bool, true, false, cond, not, ◌==◌, nat_eq, Option, Some, None, option_and_then, length, take, drop, codes, slice_index}
+use Rattle.std.specs.Prelude.{◌≡◌, ℕ, ◌<◌, ◌≤◌, ◌-◌, ◌+◌, ◌*◌, ◌^◌, ◌&&◌, ◌||◌, nat_le, nat_lt, pos, neg_ℤ, if◌then◌else◌, option_map, List, [], ◌∷◌, ◌++◌, Bool, true, false, cond, not, ◌==◌, nat_eq, Option, Some, None, option_and_then, length, take, drop, codes, slice_index}
 use Rattle.std.specs.List.{starts_with}
 use Rattle.std.specs.Char.{digit_value}
 use Rattle.std.specs.Str.Parse.{digits_value}
-use Rattle.std.specs.Borrow.{Bor}
 use Rattle.miniserde_model.specs.Bytes.{is_number_byte, is_special}
 use Rattle.miniserde_model.specs.Event.{Event, nothing, boolean, negative, nonnegative, float, seq, map}
 use Rattle.miniserde_model.specs.Lexing.{Kind, closing}
@@ -45,6 +44,14 @@ after_run p (c ∷ cs) = cond (p c) (after_run p cs) (c ∷ cs)
 
 abbrev pub EndsWith : List ℕ → List ℕ → Type 0
 EndsWith s r = (b : List ℕ) × (s ≡ b ++ r)
+
+-- the place i in s has an ASCII byte before it
+abbrev pub BehindAscii : List ℕ → ℕ → Type 0
+BehindAscii s i = (0 < i) × (i ≤ length s) × (slice_index s (i - 1) < 128)
+
+-- what is left of s from a place on, if there is one
+abbrev pub left : List ℕ → Option ℕ → Option (List ℕ)
+left s r = option_map (λ i. drop i s) r
 
 abbrev pub before : List ℕ → List ℕ → List ℕ
 before s r = take (length s - length r) s
@@ -117,8 +124,9 @@ step_at kind first t =
 
 -- ---- escapes, behind the backslash
 
-abbrev pub found : Option (ℕ × Bor (List ℕ)) → Option (ℕ × List ℕ)
-found r = option_map (λ x. (x.0, x.1.now)) r
+-- a number, and what is left of s from a place on
+abbrev pub found : List ℕ → Option (ℕ × ℕ) → Option (ℕ × List ℕ)
+found s r = option_map (λ x. (x.0, drop x.1 s)) r
 
 abbrev pub begins_unit : List ℕ → Bool
 begins_unit s =

@@ -10,7 +10,7 @@
 //! | `{ }` | `start` `MapStart`, `after(Map, true)` `Close`, `end` Ok |
 //! | `[}` | `start` `SeqStart`, `after(Seq, true)` `Invalid`, as does every later call |
 //! | `[1,]` | `start` `SeqStart`, `after(Seq, true)` `Next`, `start` `Nonnegative(1)`, `after(Seq, false)` `Next`, `start` `Invalid` |
-ghost use Rattle.std.specs.Prelude.{◌≡◌, List, ℕ, Bool, None, Some, Err, IfOk, IfErr, IfSome};
+ghost use Rattle.std.specs.Prelude.{◌≡◌, ◌≤◌, length, List, ℕ, Bool, None, Some, Err, IfOk, IfErr, IfSome};
 ghost use Rattle.std.specs.String.{string_bytes};
 ghost use Rattle.miniserde_model.specs.Whitespace.{IsWhitespace};
 ghost use Rattle.miniserde_model.specs.Event as event;
@@ -81,16 +81,20 @@ pub enum After {
 /// answers that to every later call.
 #[derive(Drop)]
 pub struct Lexer<'a> {
-    rest: &'a str,
+    text: &'a str,
+    // Where the rest begins.
+    at: usize,
     refused: Option<Error>,
+    ghost within: { at ≤ length text.now },
 }
 
 impl<'a> Model for Lexer<'a> {
+    ghost use Rattle.std.specs.Prelude.{drop};
     ghost use Rattle.miniserde_text.specs.Lexer.{Lexing};
 
     ghost Value = { Lexing };
 
-    ghost view = { λ l. record { rest = l.rest.now; refused = l.refused } };
+    ghost view = { λ l. record { rest = drop l.at l.text.now; refused = l.refused } };
 }
 
 impl<'a> Lexer<'a> {
@@ -99,7 +103,8 @@ impl<'a> Lexer<'a> {
         ensures { result ≡ record { rest = j.now; refused = None } }
     {
         Lexer {
-            rest: j,
+            text: j,
+            at: 0,
             refused: None,
         }
     }
@@ -120,9 +125,10 @@ impl<'a> Lexer<'a> {
         if let Some(e) = self.refused {
             return Err(e);
         }
-        match take_front(after_space(self.rest), scratch) {
-            Ok((event, rest)) => {
-                self.rest = rest;
+        let (at, first) = after_space(self.text.as_bytes(), self.at);
+        match take_front(self.text, at, first, scratch) {
+            Ok((event, end)) => {
+                self.at = end;
                 Ok(event)
             }
             Err(e) => self.refuse(e),
@@ -145,9 +151,10 @@ impl<'a> Lexer<'a> {
         if let Some(e) = self.refused {
             return Err(e);
         }
-        match take_name(after_space(self.rest), scratch) {
-            Ok((text, rest)) => {
-                self.rest = rest;
+        let (at, first) = after_space(self.text.as_bytes(), self.at);
+        match take_name(self.text, at, first, scratch) {
+            Ok((text, end)) => {
+                self.at = end;
                 Ok(text)
             }
             Err(e) => self.refuse(e),
@@ -169,9 +176,11 @@ impl<'a> Lexer<'a> {
         if let Some(e) = self.refused {
             return Err(e);
         }
-        match take_step(kind, first, after_space(self.rest)) {
-            Some((answer, rest)) => {
-                self.rest = rest;
+        let bytes = self.text.as_bytes();
+        let (at, byte) = after_space(bytes, self.at);
+        match take_step(kind, first, bytes, at, byte) {
+            Some((answer, end)) => {
+                self.at = end;
                 Ok(answer)
             }
             None => self.refuse(Error::Invalid),
@@ -190,7 +199,9 @@ impl<'a> Lexer<'a> {
         if let Some(e) = self.refused {
             return Err(e);
         }
-        if after_space(self.rest).is_empty() {
+        let bytes = self.text.as_bytes();
+        let (at, _) = after_space(bytes, self.at);
+        if at == bytes.len() {
             return Ok(());
         }
         self.refuse(Error::Invalid)

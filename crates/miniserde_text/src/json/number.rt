@@ -5,7 +5,7 @@ ghost use Rattle.miniserde_model.specs.Number.{IsNumber};
 ghost use Rattle.miniserde_text.specs.declared.error.Error.{Error};
 
 use super::lex::Event;
-use super::lex::number::take_number;
+use super::lex::number::take_any_number;
 use crate::error::{Error, Result};
 use std::alloc::Global;
 use std::marker::Model;
@@ -33,11 +33,11 @@ impl NumberText {
     pub fn is_text(t: &str) -> bool
         ensures { IsTrue result ↔ IsNumber t.now (num t.now) }
     {
-        let Some((event, rest)) = take_number(t) else {
+        let Some((event, end)) = take_any_number(t, 0) else {
             return false;
         };
         match event {
-            Event::Number(_) => rest.is_empty(),
+            Event::Number(_) => end == t.len(),
             _ => false,
         }
     }

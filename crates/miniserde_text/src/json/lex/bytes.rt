@@ -1,7 +1,8 @@
 //! Tests of bytes, and steps over the bytes of a text.
-ghost use Rattle.std.specs.Prelude.{◌≡◌, ◌-◌, ◌<◌, drop, length, slice_index};
+ghost use Rattle.std.specs.Prelude.{◌≡◌, ◌-◌, ◌<◌, ◌≤◌, drop, length, slice_index};
+ghost use Rattle.std.specs.Str.{IsCharBoundary};
 ghost use Rattle.miniserde_model.specs.Bytes.{is_space};
-ghost use Rattle.miniserde_text.specs.private.Reading.{is_digit, is_sign, is_exponent_letter, before, EndsWith};
+ghost use Rattle.miniserde_text.specs.private.Reading.{is_digit, is_sign, is_exponent_letter, before, BehindAscii};
 
 pub(super) fn is_space(c: u8) -> bool
     ensures { result ≡ is_space c }
@@ -27,28 +28,51 @@ pub(super) fn is_exponent_letter(c: u8) -> bool
     c == b'e' || c == b'E'
 }
 
-/// The byte at `i`, or 0 past the end.
-pub(super) fn byte_at(s: &str, i: usize) -> u8
-    ensures { result ≡ slice_index s.now i }
+/// Returns the byte at `at`, or 0 past the end.
+pub(super) fn byte_at(bytes: &[u8], at: usize) -> u8
+    ensures { result ≡ slice_index (drop at bytes.now) 0 }
 {
-    let bytes = s.as_bytes();
-    if i < bytes.len() { bytes[i] } else { 0 }
+    if at < bytes.len() { bytes[at] } else { 0 }
 }
 
-/// What follows the first `n` bytes, of which the last is ASCII and not 0.
-pub(super) fn skip(s: &str, n: usize) -> &str
+/// Returns the byte `n` bytes behind `at`, or 0 past the end.
+pub(super) fn byte_behind(bytes: &[u8], at: usize, n: usize) -> u8
+    requires { at ≤ length bytes.now }
+    ensures { result ≡ slice_index (drop at bytes.now) n }
+{
+    if n < bytes.len() - at {
+        bytes[at + n]
+    } else {
+        0
+    }
+}
+
+/// Steps over `n` bytes, of which the last is ASCII and not 0. Only its contract reads the bytes.
+pub(super) fn skip(bytes: &[u8], at: usize, n: usize) -> usize
     requires some { 0 < n }
-    requires there { 0 < slice_index s.now (n - 1) }
-    requires ascii { slice_index s.now (n - 1) < 128 }
-    ensures { result.now ≡ drop n s.now }
+    requires there { 0 < slice_index (drop at bytes.now) (n - 1) }
+    requires ascii { slice_index (drop at bytes.now) (n - 1) < 128 }
+    ensures value { drop result bytes.now ≡ drop n (drop at bytes.now) }
+    ensures behind { BehindAscii bytes.now result }
 {
-    &s[n..]
+    at + n
 }
 
-/// What stands before the end `rest` of the text.
-pub(super) fn before<'a>(s: &'a str, rest: &str) -> &'a str
-    requires { EndsWith s.now rest.now }
-    ensures { result.now ≡ before s.now rest.now }
+/// Returns the bytes between two places.
+pub(super) fn part(bytes: &[u8], from: usize, to: usize) -> &[u8]
+    requires order { from ≤ to }
+    requires within { to ≤ length bytes.now }
+    ensures { result.now ≡ before (drop from bytes.now) (drop to bytes.now) }
 {
-    &s[..s.len() - rest.len()]
+    &bytes[from..to]
+}
+
+/// Returns the text between two places, which are borders of characters.
+pub(super) fn between<'a>(text: &'a str, from: usize, to: usize) -> &'a str
+    requires order { from ≤ to }
+    requires from { IsCharBoundary text.now from }
+    requires to { IsCharBoundary text.now to }
+    ensures { result.now ≡ before (drop from text.now) (drop to text.now) }
+{
+    &text[from..to]
 }

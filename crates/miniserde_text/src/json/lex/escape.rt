@@ -1,11 +1,11 @@
 //! Escapes of strings.
-ghost use Rattle.std.specs.Prelude.{◌≡◌, ◌<◌, ◌≤◌, true, IfSome};
+ghost use Rattle.std.specs.Prelude.{◌≡◌, ◌<◌, ◌≤◌, true, drop, length, IfSome};
 ghost use Rattle.std.specs.Char.{digit_value};
 ghost use Rattle.miniserde_text.specs.private.Reading.{found, unit_at, is_high, is_low};
 ghost use Rattle.miniserde_text.specs.private.Reading.{begins_escape, pair_of, low_at, unicode_at, short_at};
-ghost use Rattle.miniserde_text.specs.private.Reading.{escape_at};
+ghost use Rattle.miniserde_text.specs.private.Reading.{escape_at, BehindAscii};
 
-use super::bytes::{byte_at, skip};
+use super::bytes::{byte_at, byte_behind, skip};
 use super::tables;
 
 // The value of a digit of base 36, or 36.
@@ -18,16 +18,21 @@ fn hex(c: u8) -> u32
 }
 
 // Four hexadecimal digits.
-fn unit(s: &str) -> Option<(u32, &str)>
-    ensures value { found result ≡ unit_at s.now }
+fn unit(bytes: &[u8], at: usize) -> Option<(u32, usize)>
+    requires { at ≤ length bytes.now }
+    ensures value { found bytes.now result ≡ unit_at (drop at bytes.now) }
     ensures small { IfSome result (λ x. x.0 < 65536) }
+    ensures behind { IfSome result (λ x. BehindAscii bytes.now x.1) }
 {
-    let a = hex(byte_at(s, 0));
-    let b = hex(byte_at(s, 1));
-    let c = hex(byte_at(s, 2));
-    let d = hex(byte_at(s, 3));
+    if bytes.len() - at < 4 {
+        return None;
+    }
+    let a = hex(byte_behind(bytes, at, 0));
+    let b = hex(byte_behind(bytes, at, 1));
+    let c = hex(byte_behind(bytes, at, 2));
+    let d = hex(byte_behind(bytes, at, 3));
     if a < 16 && b < 16 && c < 16 && d < 16 {
-        Some((a * 4096 + b * 256 + c * 16 + d, skip(s, 4)))
+        Some((a * 4096 + b * 256 + c * 16 + d, skip(bytes, at, 4)))
     } else {
         None
     }
@@ -45,10 +50,11 @@ fn is_low(u: u32) -> bool
     0xdc00 <= u && u < 0xe000
 }
 
-fn begins_escape(s: &str) -> bool
-    ensures value { result ≡ begins_escape s.now }
+fn begins_escape(bytes: &[u8], at: usize) -> bool
+    requires { at ≤ length bytes.now }
+    ensures { result ≡ begins_escape (drop at bytes.now) }
 {
-    byte_at(s, 0) == b'\\' && byte_at(s, 1) == b'u'
+    byte_behind(bytes, at, 0) == b'\\' && byte_behind(bytes, at, 1) == b'u'
 }
 
 fn pair(high: u32, low: u32) -> char
@@ -60,33 +66,37 @@ fn pair(high: u32, low: u32) -> char
 }
 
 // The second escape of a surrogate pair.
-fn low(high: u32, s: &str) -> Option<(char, &str)>
-    requires { is_high high ≡ true }
-    ensures { found result ≡ low_at high s.now }
+fn low(high: u32, bytes: &[u8], at: usize) -> Option<(char, usize)>
+    requires high { is_high high ≡ true }
+    requires within { at ≤ length bytes.now }
+    ensures value { found bytes.now result ≡ low_at high (drop at bytes.now) }
+    ensures behind { IfSome result (λ x. BehindAscii bytes.now x.1) }
 {
-    if !begins_escape(s) {
+    if !begins_escape(bytes, at) {
         return None;
     }
-    let (low, rest) = unit(skip(s, 2))?;
+    let (low, end) = unit(bytes, skip(bytes, at, 2))?;
     if !is_low(low) {
         return None;
     }
-    Some((pair(high, low), rest))
+    Some((pair(high, low), end))
 }
 
 // What `\u` goes on with.
 #[tactic(auto, unfolding(crate::specs::private::Reading::unicode_at))]
-fn unicode(s: &str) -> Option<(char, &str)>
-    ensures { found result ≡ unicode_at s.now }
+fn unicode(bytes: &[u8], at: usize) -> Option<(char, usize)>
+    requires { at ≤ length bytes.now }
+    ensures value { found bytes.now result ≡ unicode_at (drop at bytes.now) }
+    ensures behind { IfSome result (λ x. BehindAscii bytes.now x.1) }
 {
-    let (code, rest) = unit(s)?;
+    let (code, end) = unit(bytes, at)?;
     if is_high(code) {
-        return low(code, rest);
+        return low(code, bytes, end);
     }
     if is_low(code) {
         return None;
     }
-    Some((char::from_u32(code).unwrap(), rest))
+    Some((char::from_u32(code).unwrap(), end))
 }
 
 fn short(letter: u8) -> Option<char>
@@ -97,15 +107,16 @@ fn short(letter: u8) -> Option<char>
     if c == 0 { None } else { Some(c as char) }
 }
 
-/// Takes an escape, behind its backslash, and tells its character.
+/// Takes an escape, behind its backslash, and returns its character.
 #[tactic(auto, unfolding(crate::specs::private::Reading::escape_at))]
-pub(super) fn take_escape(s: &str) -> Option<(char, &str)>
-    ensures { found result ≡ escape_at s.now }
+pub(super) fn take_escape(bytes: &[u8], at: usize) -> Option<(char, usize)>
+    ensures value { found bytes.now result ≡ escape_at (drop at bytes.now) }
+    ensures behind { IfSome result (λ x. BehindAscii bytes.now x.1) }
 {
-    let letter = byte_at(s, 0);
+    let letter = byte_at(bytes, at);
     if letter == b'u' {
-        return unicode(skip(s, 1));
+        return unicode(bytes, skip(bytes, at, 1));
     }
     let c = short(letter)?;
-    Some((c, skip(s, 1)))
+    Some((c, skip(bytes, at, 1)))
 }

@@ -1,7 +1,6 @@
 //! Numbers, and the event of each.
-ghost use Rattle.std.specs.Prelude.{◌≡◌, ◌<◌, ◌≤◌, ◌^◌, [], None, Some, List, ℕ, length, take, option_map, nat_lt};
-ghost use Rattle.std.specs.Prelude.{if◌then◌else◌, IfSome, IfNone};
-ghost use Rattle.std.specs.Option.{option_copied};
+ghost use Rattle.std.specs.Prelude.{◌≡◌, ◌<◌, ◌≤◌, ◌^◌, [], None, Some, List, ℕ, length, take, drop};
+ghost use Rattle.std.specs.Prelude.{option_map, nat_lt, slice_index, if◌then◌else◌, IfSome, IfNone};
 ghost use Rattle.std.specs.List.{AllByRecursion, prefix_len};
 ghost use Rattle.std.specs.Str.Parse.{digits_value};
 ghost use Rattle.miniserde_model.specs.Number.{IsDigit};
@@ -9,85 +8,102 @@ ghost use Rattle.miniserde_model.specs.Event.{float};
 ghost use Rattle.miniserde_text.specs.Lexer.{front_of};
 ghost use Rattle.miniserde_text.specs.private.Reading.{after_run, is_digit, after_digits, after_whole};
 ghost use Rattle.miniserde_text.specs.private.Reading.{after_fraction, after_sign, after_exponent, after_minus};
-ghost use Rattle.miniserde_text.specs.private.Reading.{after_tail, event_of_parts, number_at};
+ghost use Rattle.miniserde_text.specs.private.Reading.{after_tail, event_of_parts, number_at, left, BehindAscii};
 
 use super::Event;
-use super::bytes::{before, byte_at, is_digit, is_exponent_letter, is_sign, skip};
+use super::bytes::{between, byte_at, is_digit, is_exponent_letter, is_sign, part, skip};
 use super::tables::is_number_byte;
 
-fn after_run_of_digits(s: &str) -> &str
-    ensures { result.now ≡ after_run is_digit s.now }
+fn after_run_of_digits(bytes: &[u8], at: usize) -> usize
+    requires { BehindAscii bytes.now at }
+    ensures value { drop result bytes.now ≡ after_run is_digit (drop at bytes.now) }
+    ensures behind { BehindAscii bytes.now result }
 {
-    let bytes = s.as_bytes();
-    let mut i = 0;
+    let mut i = at;
     while i < bytes.len() && is_digit(bytes[i]) {
         i += 1;
     }
-    &s[i..]
+    i
 }
 
 // One digit or more.
-fn after_digits(s: &str) -> Option<&str>
-    ensures { option_copied result ≡ after_digits s.now }
+fn after_digits(bytes: &[u8], at: usize) -> Option<usize>
+    ensures value { left bytes.now result ≡ after_digits (drop at bytes.now) }
+    ensures behind { IfSome result (λ r. BehindAscii bytes.now r) }
 {
-    if is_digit(byte_at(s, 0)) {
-        Some(after_run_of_digits(s))
+    if is_digit(byte_at(bytes, at)) {
+        Some(after_run_of_digits(bytes, skip(bytes, at, 1)))
     } else {
         None
     }
 }
 
-fn after_minus(s: &str) -> &str
-    ensures { result.now ≡ after_minus s.now }
+// The first byte is at hand.
+fn after_minus(bytes: &[u8], at: usize, first: u8) -> usize
+    requires within { at ≤ length bytes.now }
+    requires first { first ≡ slice_index (drop at bytes.now) 0 }
+    ensures value { drop result bytes.now ≡ after_minus (drop at bytes.now) }
+    ensures within { result ≤ length bytes.now }
 {
-    if byte_at(s, 0) == b'-' { skip(s, 1) } else { s }
-}
-
-fn after_whole(s: &str) -> Option<&str>
-    ensures { option_copied result ≡ after_whole s.now }
-{
-    if byte_at(s, 0) == b'0' {
-        Some(skip(s, 1))
+    if first == b'-' {
+        skip(bytes, at, 1)
     } else {
-        after_digits(s)
+        at
     }
 }
 
-fn after_fraction(s: &str) -> Option<&str>
-    ensures { option_copied result ≡ after_fraction s.now }
+fn after_whole(bytes: &[u8], at: usize) -> Option<usize>
+    ensures value { left bytes.now result ≡ after_whole (drop at bytes.now) }
+    ensures behind { IfSome result (λ r. BehindAscii bytes.now r) }
 {
-    if byte_at(s, 0) == b'.' {
-        after_digits(skip(s, 1))
+    if byte_at(bytes, at) == b'0' {
+        Some(skip(bytes, at, 1))
     } else {
-        Some(s)
+        after_digits(bytes, at)
     }
 }
 
-fn after_sign(s: &str) -> &str
-    ensures { result.now ≡ after_sign s.now }
+fn after_fraction(bytes: &[u8], at: usize) -> Option<usize>
+    requires { BehindAscii bytes.now at }
+    ensures value { left bytes.now result ≡ after_fraction (drop at bytes.now) }
+    ensures behind { IfSome result (λ r. BehindAscii bytes.now r) }
 {
-    if is_sign(byte_at(s, 0)) {
-        skip(s, 1)
+    if byte_at(bytes, at) == b'.' {
+        after_digits(bytes, skip(bytes, at, 1))
     } else {
-        s
+        Some(at)
     }
 }
 
-fn after_exponent(s: &str) -> Option<&str>
-    ensures { option_copied result ≡ after_exponent s.now }
+fn after_sign(bytes: &[u8], at: usize) -> usize
+    ensures { drop result bytes.now ≡ after_sign (drop at bytes.now) }
 {
-    if is_exponent_letter(byte_at(s, 0)) {
-        after_digits(after_sign(skip(s, 1)))
+    if is_sign(byte_at(bytes, at)) {
+        skip(bytes, at, 1)
     } else {
-        Some(s)
+        at
+    }
+}
+
+fn after_exponent(bytes: &[u8], at: usize) -> Option<usize>
+    requires { BehindAscii bytes.now at }
+    ensures value { left bytes.now result ≡ after_exponent (drop at bytes.now) }
+    ensures behind { IfSome result (λ r. BehindAscii bytes.now r) }
+{
+    if is_exponent_letter(byte_at(bytes, at)) {
+        after_digits(bytes, after_sign(bytes, skip(bytes, at, 1)))
+    } else {
+        Some(at)
     }
 }
 
 // A fraction and an exponent, of which each may be missing.
-fn after_tail(s: &str) -> Option<&str>
-    ensures { option_copied result ≡ after_tail s.now }
+fn after_tail(bytes: &[u8], at: usize) -> Option<usize>
+    requires { BehindAscii bytes.now at }
+    ensures value { left bytes.now result ≡ after_tail (drop at bytes.now) }
+    ensures behind { IfSome result (λ r. BehindAscii bytes.now r) }
 {
-    after_exponent(after_fraction(s)?)
+    after_exponent(bytes, after_fraction(bytes, at)?)
 }
 
 // The number that up to 19 digits write: it is below 10^19, so no turn needs a check.
@@ -136,12 +152,12 @@ fn integer_event<'a>(minus: bool, n: u64) -> Option<Event<'a>>
 }
 
 // The event of a number by its minus, its whole part and what stands behind that.
-fn event<'a>(text: &'a str, minus: bool, whole: &str, tail: &str) -> Event<'a>
+fn event<'a>(text: &'a str, minus: bool, whole: &[u8], tail: &[u8]) -> Event<'a>
     requires { AllByRecursion IsDigit whole.now }
     ensures { front_of result [] ≡ event_of_parts text.now minus whole.now tail.now }
 {
     if tail.is_empty() {
-        if let Some(n) = integer(whole.as_bytes()) {
+        if let Some(n) = integer(whole) {
             if let Some(event) = integer_event(minus, n) {
                 return event;
             }
@@ -152,11 +168,10 @@ fn event<'a>(text: &'a str, minus: bool, whole: &str, tail: &str) -> Event<'a>
 
 // The digits in front: how many, and the number that they write, where they are at most 19. More may wrap.
 #[inline(always)]
-fn leading_digits(s: &str) -> (usize, u64)
-    ensures count { result.0 ≡ prefix_len is_digit s.now }
-    ensures value { result.0 ≤ 19 → result.1 ≡ digits_value 10 (take result.0 s.now) }
+fn leading_digits(bytes: &[u8]) -> (usize, u64)
+    ensures count { result.0 ≡ prefix_len is_digit bytes.now }
+    ensures value { result.0 ≤ 19 → result.1 ≡ digits_value 10 (take result.0 bytes.now) }
 {
-    let bytes = s.as_bytes();
     let mut value = 0u64;
     let mut i = 0;
     while i < bytes.len() && is_digit(bytes[i]) {
@@ -168,12 +183,17 @@ fn leading_digits(s: &str) -> (usize, u64)
     (i, value)
 }
 
-// An integer of up to 19 digits, in one pass.
+// An integer of up to 19 digits, in one pass. The loop over its digits goes by a slice, which counts them as it goes.
 #[inline(always)]
-fn short_number<'a>(s: &'a str) -> Option<(Event<'a>, &'a str)>
-    ensures { IfSome result (λ x. number_at s.now ≡ Some (front_of x.0 [], x.1.now)) }
+fn short_number<'a>(bytes: &[u8], at: usize, first: u8) -> Option<(Event<'a>, usize)>
+    requires within { at ≤ length bytes.now }
+    requires first { first ≡ slice_index (drop at bytes.now) 0 }
+    ensures value { IfSome result (λ x.
+        number_at (drop at bytes.now) ≡ Some (front_of x.0 [], drop x.1 bytes.now)) }
+    ensures within { IfSome result (λ x. x.1 ≤ length bytes.now) }
 {
-    let digits = after_minus(s);
+    let start = after_minus(bytes, at, first);
+    let digits = &bytes[start..];
     let (count, value) = leading_digits(digits);
     if count == 0 || count > 19 || is_number_byte(byte_at(digits, count)) {
         return None;
@@ -181,49 +201,61 @@ fn short_number<'a>(s: &'a str) -> Option<(Event<'a>, &'a str)>
     if count > 1 && byte_at(digits, 0) == b'0' {
         return None;
     }
-    let event = integer_event(byte_at(s, 0) == b'-', value)?;
-    Some((event, skip(digits, count)))
+    let event = integer_event(first == b'-', value)?;
+    Some((event, start + count))
 }
 
-// Takes any number.
+/// Takes any number.
 #[inline(never)]
 #[tactic(auto, unfolding(crate::specs::private::Reading::number_at))]
-fn take_any_number<'a>(s: &'a str) -> Option<(Event<'a>, &'a str)>
-    ensures { option_map (λ x. (front_of x.0 [], x.1.now)) result ≡ number_at s.now }
+pub(crate) fn take_any_number<'a>(text: &'a str, at: usize) -> Option<(Event<'a>, usize)>
+    requires { at ≤ length text.now }
+    ensures value { option_map (λ x. (front_of x.0 [], drop x.1 text.now)) result
+        ≡ number_at (drop at text.now) }
+    ensures within { IfSome result (λ x. x.1 ≤ length text.now) }
 {
-    let digits = after_minus(s);
-    let tail = after_whole(digits)?;
-    let rest = after_tail(tail)?;
-    if is_number_byte(byte_at(rest, 0)) {
+    let bytes = text.as_bytes();
+    let first = byte_at(bytes, at);
+    let digits = after_minus(bytes, at, first);
+    let tail = after_whole(bytes, digits)?;
+    let end = after_tail(bytes, tail)?;
+    if is_number_byte(byte_at(bytes, end)) {
         return None;
     }
     let event = event(
-        before(s, rest),
-        byte_at(s, 0) == b'-',
-        before(digits, tail),
-        before(tail, rest),
+        between(text, at, end),
+        first == b'-',
+        part(bytes, digits, tail),
+        part(bytes, tail, end),
     );
-    Some((event, rest))
+    Some((event, end))
 }
 
 // As `take_any_number`. What that call leaves in memory is moved out of it here, so that a short number passes through none.
 #[inline(always)]
-fn take_long_number<'a>(s: &'a str) -> Option<(Event<'a>, &'a str)>
-    ensures { option_map (λ x. (front_of x.0 [], x.1.now)) result ≡ number_at s.now }
+fn take_long_number<'a>(text: &'a str, at: usize) -> Option<(Event<'a>, usize)>
+    requires { at ≤ length text.now }
+    ensures value { option_map (λ x. (front_of x.0 [], drop x.1 text.now)) result
+        ≡ number_at (drop at text.now) }
+    ensures within { IfSome result (λ x. x.1 ≤ length text.now) }
 {
-    match take_any_number(s) {
-        Some((event, rest)) => Some((event, rest)),
+    match take_any_number(text, at) {
+        Some((event, end)) => Some((event, end)),
         None => None,
     }
 }
 
-/// Takes a number, behind which no byte of number texts may stand.
+/// Takes a number, of which the first byte is at hand, and behind which no byte of number texts may stand.
 #[inline(always)]
-pub(crate) fn take_number<'a>(s: &'a str) -> Option<(Event<'a>, &'a str)>
-    ensures { option_map (λ x. (front_of x.0 [], x.1.now)) result ≡ number_at s.now }
+pub(super) fn take_number<'a>(text: &'a str, at: usize, first: u8) -> Option<(Event<'a>, usize)>
+    requires within { at ≤ length text.now }
+    requires first { first ≡ slice_index (drop at text.now) 0 }
+    ensures value { option_map (λ x. (front_of x.0 [], drop x.1 text.now)) result
+        ≡ number_at (drop at text.now) }
+    ensures within { IfSome result (λ x. x.1 ≤ length text.now) }
 {
-    match short_number(s) {
+    match short_number(text.as_bytes(), at, first) {
         Some(taken) => Some(taken),
-        None => take_long_number(s),
+        None => take_long_number(text, at),
     }
 }

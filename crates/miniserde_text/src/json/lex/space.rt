@@ -1,18 +1,24 @@
 //! Whitespace.
-ghost use Rattle.std.specs.Prelude.{◌≡◌};
+ghost use Rattle.std.specs.Prelude.{◌≡◌, ◌≤◌, drop, length, slice_index};
 ghost use Rattle.miniserde_model.specs.Bytes.{is_space};
 ghost use Rattle.miniserde_text.specs.private.Reading.{after_run};
 
 use super::bytes::is_space;
 
-/// What follows the whitespace at the front.
-pub(super) fn after_space(s: &str) -> &str
-    ensures { result.now ≡ after_run is_space s.now }
+/// Returns the place behind the whitespace at `at`, and the byte there, or 0 at the end.
+pub(super) fn after_space(bytes: &[u8], at: usize) -> (usize, u8)
+    requires { at ≤ length bytes.now }
+    ensures value { drop result.0 bytes.now ≡ after_run is_space (drop at bytes.now) }
+    ensures within { result.0 ≤ length bytes.now }
+    ensures byte { result.1 ≡ slice_index (drop result.0 bytes.now) 0 }
 {
-    let bytes = s.as_bytes();
-    let mut i = 0;
-    while i < bytes.len() && is_space(bytes[i]) {
+    let mut i = at;
+    while i < bytes.len() {
+        let byte = bytes[i];
+        if !is_space(byte) {
+            return (i, byte);
+        }
         i += 1;
     }
-    &s[i..]
+    (i, 0)
 }

@@ -1,10 +1,10 @@
 //! What stands between the children of a container.
-ghost use Rattle.std.specs.Prelude.{◌≡◌, ◌<◌, option_map};
+ghost use Rattle.std.specs.Prelude.{◌≡◌, ◌<◌, ◌≤◌, drop, length, option_map, slice_index, IfSome};
 ghost use Rattle.miniserde_model.specs.Lexing.{closing};
 ghost use Rattle.miniserde_text.specs.Lexer.{kind_of, closes};
 ghost use Rattle.miniserde_text.specs.private.Reading.{is_closing, begins, step_at};
 
-use super::bytes::{byte_at, skip};
+use super::bytes::skip;
 use super::{After, Kind};
 
 fn is_closing(c: u8) -> bool
@@ -23,32 +23,39 @@ fn closing(kind: Kind) -> u8
     }
 }
 
-// Whether something is left, and no closing bracket.
-fn begins(s: &str) -> bool
-    ensures { result ≡ begins s.now }
+// Returns whether something is left, and no closing bracket.
+fn begins(bytes: &[u8], at: usize, byte: u8) -> bool
+    requires { byte ≡ slice_index (drop at bytes.now) 0 }
+    ensures { result ≡ begins (drop at bytes.now) }
 {
-    match s.as_bytes().first() {
-        Some(c) => !is_closing(*c),
-        None => false,
-    }
+    at < bytes.len() && !is_closing(byte)
 }
 
-/// Takes a closing bracket, or what leads to the next child.
+/// Takes a closing bracket, or what leads to the next child, of which the first byte is at hand.
 #[tactic(auto, unfolding(crate::specs::private::Reading::step_at))]
-pub(super) fn take_step<'a>(kind: Kind, first: bool, s: &'a str) -> Option<(After, &'a str)>
-    ensures { option_map (λ x. (closes x.0, x.1.now)) result ≡ step_at (kind_of kind) first s.now }
+pub(super) fn take_step(
+    kind: Kind,
+    first: bool,
+    bytes: &[u8],
+    at: usize,
+    byte: u8,
+) -> Option<(After, usize)>
+    requires within { at ≤ length bytes.now }
+    requires byte { byte ≡ slice_index (drop at bytes.now) 0 }
+    ensures value { option_map (λ x. (closes x.0, drop x.1 bytes.now)) result
+        ≡ step_at (kind_of kind) first (drop at bytes.now) }
+    ensures within { IfSome result (λ x. x.1 ≤ length bytes.now) }
 {
-    let c = byte_at(s, 0);
-    if c == closing(kind) {
-        Some((After::Close, skip(s, 1)))
+    if byte == closing(kind) {
+        Some((After::Close, skip(bytes, at, 1)))
     } else if first {
-        if begins(s) {
-            Some((After::Next, s))
+        if begins(bytes, at, byte) {
+            Some((After::Next, at))
         } else {
             None
         }
-    } else if c == b',' {
-        Some((After::Next, skip(s, 1)))
+    } else if byte == b',' {
+        Some((After::Next, skip(bytes, at, 1)))
     } else {
         None
     }

@@ -1,119 +1,147 @@
 //! Strings.
-ghost use Rattle.std.specs.Prelude.{◌≡◌, ◌++◌, ◌∷◌, ◌≤◌, length, ℕ, List, Err, false, IfOk, slice_index};
-ghost use Rattle.std.specs.Str.{encode_utf8_all, IsUtf8};
+ghost use Rattle.std.specs.Prelude.{◌≡◌, ◌++◌, ◌∷◌, ◌≤◌, drop, length, ℕ, List, Err, false, IfOk, IfErr};
+ghost use Rattle.std.specs.Prelude.{slice_index};
+ghost use Rattle.std.specs.Str.{encode_utf8_all, IsCharBoundary};
 ghost use Rattle.std.specs.String.{string_bytes};
 ghost use Rattle.miniserde_text.specs.Lexer.{text_of, KeepsScratch};
-ghost use Rattle.miniserde_text.specs.private.Reading.{after_run, before, is_unescaped, EndsWith};
+ghost use Rattle.miniserde_text.specs.private.Reading.{after_run, before, is_unescaped, BehindAscii};
 ghost use Rattle.miniserde_text.specs.private.Inside.{Chars, Adds, TakesText, ReachesBackslash};
 
 use super::Text;
-use super::bytes::{before, byte_at, skip};
+use super::bytes::{between, byte_at, skip};
 use super::escape::take_escape;
 use crate::error::{Error, Result};
 use crate::scan::{special, special_in_lanes};
 
-// What follows the bytes that stand for themselves.
+// Returns the end of the bytes that stand for themselves.
 #[inline(always)]
-fn after_unescaped(s: &str) -> &str
-    ensures value { result.now ≡ after_run is_unescaped s.now }
-    ensures text { IsUtf8 s.now }
+fn after_unescaped(text: &str, at: usize) -> usize
+    requires { at ≤ length text.now }
+    ensures value { drop result text.now ≡ after_run is_unescaped (drop at text.now) }
+    ensures order { at ≤ result }
+    ensures boundary { IsCharBoundary text.now result }
 {
-    &s[special_in_lanes(s.as_bytes(), 0)..]
+    special_in_lanes(text.as_bytes(), at)
 }
 
 // As `after_unescaped`, behind an escape, where the byte at hand often begins one more.
 #[inline(always)]
-fn after_more(s: &str) -> &str
-    ensures value { result.now ≡ after_run is_unescaped s.now }
-    ensures text { IsUtf8 s.now }
+fn after_more(text: &str, at: usize) -> usize
+    requires { at ≤ length text.now }
+    ensures value { drop result text.now ≡ after_run is_unescaped (drop at text.now) }
+    ensures order { at ≤ result }
+    ensures boundary { IsCharBoundary text.now result }
 {
-    &s[special(s.as_bytes(), 0)..]
+    special(text.as_bytes(), at)
 }
 
-// Takes an escape, behind its backslash, and the run behind it.
-fn take_run<'a>(s: &'a str, scratch: &mut String) -> Result<&'a str>
-    ensures ok { IfOk result (λ r.
-        Adds (string_bytes scratch.old) (string_bytes scratch.new) (92 ∷ s.now) r.now) }
-    ensures stops { IfOk result (λ r. is_unescaped (slice_index r.now 0) ≡ false) }
-    ensures shorter { IfOk result (λ r. length r.now ≤ length s.now) }
-    ensures text { IfOk result (λ r. IsUtf8 r.now) }
-    ensures invalid { result ≡ Err Error.Invalid → (cs r : List ℕ) → Chars cs (92 ∷ s.now) r → ⊥ }
+// Adds a run, which often is empty, to the scratch text.
+fn push_run(scratch: &mut String, run: &str) -> Result<()>
+    ensures ok { IfOk result (λ _. string_bytes scratch.new ≡ string_bytes scratch.old ++ run.now) }
+    ensures memory { IfErr result (λ e. e ≡ Error.Memory) }
 {
-    let Some((c, rest)) = take_escape(s) else {
-        return Err(Error::Invalid);
-    };
-    let next = after_more(rest);
-    let run = before(rest, next);
-    scratch.push(c)?;
     if !run.is_empty() {
         scratch.push_str(run)?;
     }
+    Ok(())
+}
+
+// Takes an escape, behind its backslash, and the run behind it.
+fn take_run(text: &str, at: usize, scratch: &mut String) -> Result<usize>
+    ensures ok { IfOk result (λ r.
+        Adds (string_bytes scratch.old) (string_bytes scratch.new) (92 ∷ drop at text.now) (drop r text.now)) }
+    ensures stops { IfOk result (λ r. is_unescaped (slice_index (drop r text.now) 0) ≡ false) }
+    ensures shorter { IfOk result (λ r. length (drop r text.now) ≤ length (drop at text.now)) }
+    ensures invalid { result ≡ Err Error.Invalid
+        → (cs r : List ℕ) → Chars cs (92 ∷ drop at text.now) r → ⊥ }
+{
+    let Some((c, rest)) = take_escape(text.as_bytes(), at) else {
+        return Err(Error::Invalid);
+    };
+    let next = after_more(text, rest);
+    scratch.push(c)?;
+    push_run(scratch, between(text, rest, next))?;
     Ok(next)
 }
 
 // Takes the rest of a string, from where bytes stop to stand for themselves.
-fn take_escaped<'a>(s: &'a str, scratch: &mut String) -> Result<&'a str>
-    requires { is_unescaped (slice_index s.now 0) ≡ false }
-    ensures ok { IfOk result (λ r. (cs : List ℕ) × Chars cs s.now r.now
+fn take_escaped(text: &str, at: usize, scratch: &mut String) -> Result<usize>
+    requires { is_unescaped (slice_index (drop at text.now) 0) ≡ false }
+    ensures ok { IfOk result (λ r. (cs : List ℕ) × Chars cs (drop at text.now) (drop r text.now)
         × (string_bytes scratch.new ≡ string_bytes scratch.old ++ encode_utf8_all cs)) }
-    ensures invalid { result ≡ Err Error.Invalid → (cs r : List ℕ) → Chars cs s.now r → ⊥ }
+    ensures within { IfOk result (λ r. r ≤ length text.now) }
+    ensures invalid { result ≡ Err Error.Invalid → (cs r : List ℕ) → Chars cs (drop at text.now) r → ⊥ }
 {
-    let mut tail = s;
-    while byte_at(tail, 0) == b'\\' {
-        tail = take_run(skip(tail, 1), scratch)?;
+    let bytes = text.as_bytes();
+    let mut tail = at;
+    while byte_at(bytes, tail) == b'\\' {
+        tail = take_run(text, skip(bytes, tail, 1), scratch)?;
     }
-    if byte_at(tail, 0) == b'"' {
-        Ok(skip(tail, 1))
+    if byte_at(bytes, tail) == b'"' {
+        Ok(skip(bytes, tail, 1))
     } else {
         Err(Error::Invalid)
     }
 }
 
-// Takes a string from the backslash at `tail` on, where its run at the front is `before(s, tail)`.
+// Takes a string from the backslash at `tail` on, where its run at the front is `between(text, at, tail)`.
 #[inline(never)]
-fn decode<'a>(s: &'a str, tail: &'a str, scratch: &mut String) -> Result<&'a str>
-    requires ends { EndsWith s.now tail.now }
-    requires stops { is_unescaped (slice_index tail.now 0) ≡ false }
-    ensures ok { IfOk result (λ r. (cs : List ℕ) × Chars cs tail.now r.now
-        × (string_bytes scratch.new ≡ before s.now tail.now ++ encode_utf8_all cs)) }
-    ensures invalid { result ≡ Err Error.Invalid → (cs r : List ℕ) → Chars cs tail.now r → ⊥ }
+fn decode(text: &str, at: usize, tail: usize, scratch: &mut String) -> Result<usize>
+    requires behind { BehindAscii text.now at }
+    requires order { at ≤ tail }
+    requires boundary { IsCharBoundary text.now tail }
+    requires stops { is_unescaped (slice_index (drop tail text.now) 0) ≡ false }
+    ensures ok { IfOk result (λ r. (cs : List ℕ) × Chars cs (drop tail text.now) (drop r text.now)
+        × (string_bytes scratch.new ≡ before (drop at text.now) (drop tail text.now) ++ encode_utf8_all cs)) }
+    ensures within { IfOk result (λ r. r ≤ length text.now) }
+    ensures invalid { result ≡ Err Error.Invalid → (cs r : List ℕ) → Chars cs (drop tail text.now) r → ⊥ }
 {
     scratch.clear();
-    scratch.push_str(before(s, tail))?;
-    take_escaped(tail, scratch)
+    scratch.push_str(between(text, at, tail))?;
+    take_escaped(text, tail, scratch)
 }
 
 // As `decode`. What that call leaves in memory is moved out of it here, so that other strings pass through none.
 #[inline(always)]
-fn take_decoded<'a>(s: &'a str, tail: &'a str, scratch: &mut String) -> Result<&'a str>
-    requires ends { EndsWith s.now tail.now }
-    requires stops { is_unescaped (slice_index tail.now 0) ≡ false }
-    ensures ok { IfOk result (λ r. (cs : List ℕ) × Chars cs tail.now r.now
-        × (string_bytes scratch.new ≡ before s.now tail.now ++ encode_utf8_all cs)) }
-    ensures invalid { result ≡ Err Error.Invalid → (cs r : List ℕ) → Chars cs tail.now r → ⊥ }
+fn take_decoded(text: &str, at: usize, tail: usize, scratch: &mut String) -> Result<usize>
+    requires behind { BehindAscii text.now at }
+    requires order { at ≤ tail }
+    requires boundary { IsCharBoundary text.now tail }
+    requires stops { is_unescaped (slice_index (drop tail text.now) 0) ≡ false }
+    ensures ok { IfOk result (λ r. (cs : List ℕ) × Chars cs (drop tail text.now) (drop r text.now)
+        × (string_bytes scratch.new ≡ before (drop at text.now) (drop tail text.now) ++ encode_utf8_all cs)) }
+    ensures within { IfOk result (λ r. r ≤ length text.now) }
+    ensures invalid { result ≡ Err Error.Invalid → (cs r : List ℕ) → Chars cs (drop tail text.now) r → ⊥ }
 {
-    match decode(s, tail, scratch) {
-        Ok(rest) => Ok(rest),
+    match decode(text, at, tail, scratch) {
+        Ok(end) => Ok(end),
         Err(e) => Err(e),
     }
 }
 
 /// Takes a string, behind its first quote. The scratch text is touched only where a backslash stands.
 #[inline(always)]
-pub(super) fn take_string<'a>(s: &'a str, scratch: &mut String) -> Result<(Text<'a>, &'a str)>
-    ensures ok { IfOk result (λ x. (cs : List ℕ) × Chars cs s.now x.1.now
+pub(super) fn take_string<'a>(
+    text: &'a str,
+    at: usize,
+    scratch: &mut String,
+) -> Result<(Text<'a>, usize)>
+    requires { BehindAscii text.now at }
+    ensures ok { IfOk result (λ x. (cs : List ℕ) × Chars cs (drop at text.now) (drop x.1 text.now)
         × (text_of x.0 (string_bytes scratch.new) ≡ encode_utf8_all cs)) }
-    ensures text { IfOk result (λ x. TakesText x.0 s.now x.1.now) }
+    ensures text { IfOk result (λ x. TakesText x.0 (drop at text.now) (drop x.1 text.now)) }
+    ensures within { IfOk result (λ x. x.1 ≤ length text.now) }
     ensures kept { IfOk result (λ x. KeepsScratch x.0 scratch.old scratch.new) }
-    ensures memory { result ≡ Err Error.Memory → ReachesBackslash s.now }
-    ensures invalid { result ≡ Err Error.Invalid → (cs r : List ℕ) → Chars cs s.now r → ⊥ }
+    ensures memory { result ≡ Err Error.Memory → ReachesBackslash (drop at text.now) }
+    ensures invalid { result ≡ Err Error.Invalid → (cs r : List ℕ) → Chars cs (drop at text.now) r → ⊥ }
 {
-    let tail = after_unescaped(s);
-    match byte_at(tail, 0) {
-        b'"' => Ok((Text::Input(before(s, tail)), skip(tail, 1))),
+    let tail = after_unescaped(text, at);
+    let bytes = text.as_bytes();
+    match byte_at(bytes, tail) {
+        b'"' => Ok((Text::Input(between(text, at, tail)), skip(bytes, tail, 1))),
         b'\\' => {
-            let rest = take_decoded(s, tail, scratch)?;
-            Ok((Text::Scratch, rest))
+            let end = take_decoded(text, at, tail, scratch)?;
+            Ok((Text::Scratch, end))
         }
         _ => Err(Error::Invalid),
     }

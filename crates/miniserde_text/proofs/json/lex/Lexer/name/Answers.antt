@@ -1,5 +1,5 @@
 -- The facts of `take_name`, about the text behind the whitespace, are carried over to the whole text.
-use Rattle.std.proofs.Common.{◌≡◌, Err, ap, arith}
+use Rattle.std.proofs.Common.{◌≡◌, Err, drop, ap, arith}
 use Rattle.miniserde_model.specs.Bytes.{is_space}
 use Rattle.miniserde_model.specs.Value.{Between}
 use Rattle.miniserde_model.specs.Lexing.{BeforeColon}
@@ -13,23 +13,23 @@ use Rattle.miniserde_text.proofs.json.lex.Lexer.name.Goals as goal
 
 pub returns-in-Ok-clause-ok : goal.returns-in-Ok-clause-ok
 returns-in-Ok-clause-ok c =
-    let from : c.after_space.result.now ≡ after_run is_space c.args.self.now.rest = grind arith in
-    (grind arith, grind arith, names_of _ c.after_space.result.now _ _ from c.in-Ok.ensures.ok)
+    let from : drop c.after_space-at.result.0 c.self.inside.text.now ≡ after_run is_space c.args.self.now.rest = grind arith in
+    (grind arith, grind arith, names_of _ (drop c.after_space-at.result.0 c.self.inside.text.now) _ _ from c.in-Ok.ensures.ok)
 
 pub returns-in-Ok-clause-text : goal.returns-in-Ok-clause-text
 returns-in-Ok-clause-text c =
-    let from : c.after_space.result.now ≡ after_run is_space c.args.self.now.rest = grind arith in
-    stands_of (BeforeColon (Between 34 (StandsFor c.in-Ok.text) 34)) _ c.after_space.result.now c.in-Ok.rest.now from c.in-Ok.ensures.text
+    let from : drop c.after_space-at.result.0 c.self.inside.text.now ≡ after_run is_space c.args.self.now.rest = grind arith in
+    stands_of (BeforeColon (Between 34 (StandsFor c.in-Ok.text) 34)) _ (drop c.after_space-at.result.0 c.self.inside.text.now) (drop c.in-Ok.end c.self.inside.text.now) from c.in-Ok.ensures.text
 
 pub returns-in-Err-clause-invalid : goal.returns-in-Err-clause-invalid
 returns-in-Err-clause-invalid c is fresh n r h =
-    let from : c.after_space.result.now ≡ after_run is_space c.args.self.now.rest = grind arith in
+    let from : drop c.after_space-at.result.0 c.self.inside.text.now ≡ after_run is_space c.args.self.now.rest = grind arith in
     let v : c.in-Err.e ≡ Invalid = cc in
-    c.in-Err.ensures.invalid (ap Err v) n r (names_only _ c.after_space.result.now n r from h)
+    c.in-Err.ensures.invalid (ap Err v) n r (names_only _ (drop c.after_space-at.result.0 c.self.inside.text.now) n r from h)
 
 pub returns-in-Err-clause-memory : goal.returns-in-Err-clause-memory
 returns-in-Err-clause-memory c is fresh =
-    let from : c.after_space.result.now ≡ after_run is_space c.args.self.now.rest = grind arith in
+    let from : drop c.after_space-at.result.0 c.self.inside.text.now ≡ after_run is_space c.args.self.now.rest = grind arith in
     let v : c.in-Err.e ≡ Memory = cc in
     let m = c.in-Err.ensures.memory (ap Err v) in
-    backslash_behind _ c.after_space.result.now from m.0 m.1
+    backslash_behind _ (drop c.after_space-at.result.0 c.self.inside.text.now) from m.0 m.1

@@ -1,4 +1,4 @@
-use Rattle.std.proofs.Common.{◌≡◌, Err, ap, arith}
+use Rattle.std.proofs.Common.{◌≡◌, Err, drop, ap, arith}
 use Rattle.miniserde_model.specs.Bytes.{is_space}
 use Rattle.miniserde_text.specs.declared.error.Error.TheVariants.{Invalid, Memory}
 use Rattle.miniserde_text.specs.private.Reading.{after_run}
@@ -7,23 +7,23 @@ use Rattle.miniserde_text.proofs.json.lex.Lexer.start.Goals as goal
 
 pub returns-in-Ok-clause-ok : goal.returns-in-Ok-clause-ok
 returns-in-Ok-clause-ok c =
-    let from : c.after_space.result.now ≡ after_run is_space c.args.self.now.rest = grind arith in
-    (grind arith, grind arith, start_takes _ c.after_space.result.now _ _ from c.in-Ok.ensures.ok)
+    let from : drop c.after_space-at.result.0 c.self.inside.text.now ≡ after_run is_space c.args.self.now.rest = grind arith in
+    (grind arith, grind arith, start_takes _ (drop c.after_space-at.result.0 c.self.inside.text.now) _ _ from c.in-Ok.ensures.ok)
 
 pub returns-in-Ok-clause-text : goal.returns-in-Ok-clause-text
 returns-in-Ok-clause-text c =
-    let from : c.after_space.result.now ≡ after_run is_space c.args.self.now.rest = grind arith in
-    text_behind _ c.after_space.result.now c.in-Ok.event c.in-Ok.rest.now from c.in-Ok.ensures.text
+    let from : drop c.after_space-at.result.0 c.self.inside.text.now ≡ after_run is_space c.args.self.now.rest = grind arith in
+    text_behind _ (drop c.after_space-at.result.0 c.self.inside.text.now) c.in-Ok.event (drop c.in-Ok.end c.self.inside.text.now) from c.in-Ok.ensures.text
 
 pub returns-in-Err-clause-invalid : goal.returns-in-Err-clause-invalid
 returns-in-Err-clause-invalid c is fresh e r h =
-    let from : c.after_space.result.now ≡ after_run is_space c.args.self.now.rest = grind arith in
+    let from : drop c.after_space-at.result.0 c.self.inside.text.now ≡ after_run is_space c.args.self.now.rest = grind arith in
     let v : c.in-Err.e ≡ Invalid = cc in
-    c.in-Err.ensures.invalid (ap Err v) e r (start_only _ c.after_space.result.now e r from h)
+    c.in-Err.ensures.invalid (ap Err v) e r (start_only _ (drop c.after_space-at.result.0 c.self.inside.text.now) e r from h)
 
 pub returns-in-Err-clause-memory : goal.returns-in-Err-clause-memory
 returns-in-Err-clause-memory c is fresh =
-    let from : c.after_space.result.now ≡ after_run is_space c.args.self.now.rest = grind arith in
+    let from : drop c.after_space-at.result.0 c.self.inside.text.now ≡ after_run is_space c.args.self.now.rest = grind arith in
     let v : c.in-Err.e ≡ Memory = cc in
     let m = c.in-Err.ensures.memory (ap Err v) in
-    backslash_behind _ c.after_space.result.now from m.0 m.1
+    backslash_behind _ (drop c.after_space-at.result.0 c.self.inside.text.now) from m.0 m.1

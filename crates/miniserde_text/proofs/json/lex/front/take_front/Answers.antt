@@ -1,6 +1,6 @@
 -- Behind a quote each fact is one of `take_string`. Elsewhere the functions on lists tell what is read, and that it is
 -- no string.
-use Rattle.std.proofs.Common.{◌≡◌, ◌≢◌, Err, Some, None, ℕ, List, [], slice_index, ap, subst, arith}
+use Rattle.std.proofs.Common.{◌≡◌, ◌≢◌, Err, Some, None, ℕ, List, [], drop, slice_index, ap, subst, arith}
 use Rattle.std.proofs.lemmas.Result.{err_from_is_err_and}
 use Rattle.miniserde_text.specs.declared.error.Error.TheVariants.{Invalid, Memory}
 use Rattle.miniserde_text.specs.Lexer.{front_of}
@@ -11,46 +11,57 @@ use Rattle.miniserde_text.proofs.json.lex.front.take_front.Goals as goal
 
 pub returns-in_err-text-clause-invalid : goal.returns-in_err-text-clause-invalid
 returns-in_err-text-clause-invalid c is e r h =
+    let s = drop c.args.at c.args.text.now in
+    let next : drop c.skip.result c.args.text.now ≡ drop 1 s = grind arith in
     let q = err_from_is_err_and c.from_residual.result c.from_residual.ensures.1 in
     let v : c.in_err-text.field-0.0 ≡ Invalid = cc (q.1, q.2) in
-    let at : slice_index c.args.s.now 0 ≡ 34 = omega arith in
-    string_refused c.args.s.now at (subst (λ x. (cs r : List ℕ) → Chars cs x r → ⊥) c.skip.ensures (c.in_err-text.ensures.invalid (ap Err v))) e r h
+    let at : slice_index s 0 ≡ 34 = grind arith in
+    string_refused s at (subst (λ x. (cs r : List ℕ) → Chars cs x r → ⊥) next (c.in_err-text.ensures.invalid (ap Err v))) e r h
 
 pub returns-in_err-text-clause-memory : goal.returns-in_err-text-clause-memory
 returns-in_err-text-clause-memory c is =
+    let s = drop c.args.at c.args.text.now in
+    let next : drop c.skip.result c.args.text.now ≡ drop 1 s = grind arith in
     let q = err_from_is_err_and c.from_residual.result c.from_residual.ensures.1 in
     let v : c.in_err-text.field-0.0 ≡ Memory = cc (q.1, q.2) in
-    let at : slice_index c.args.s.now 0 ≡ 34 = omega arith in
-    (at, subst ReachesBackslash c.skip.ensures (c.in_err-text.ensures.memory (ap Err v)))
+    let at : slice_index s 0 ≡ 34 = grind arith in
+    (at, subst ReachesBackslash next (c.in_err-text.ensures.memory (ap Err v)))
 
 pub returns-then-first-eq34-clause-ok : goal.returns-then-first-eq34-clause-ok
 returns-then-first-eq34-clause-ok c =
-    let at : slice_index c.args.s.now 0 ≡ 34 = omega arith in
+    let s = drop c.args.at c.args.text.now in
+    let next : drop c.skip.result c.args.text.now ≡ drop 1 s = grind arith in
+    let at : slice_index s 0 ≡ 34 = grind arith in
     let q = c.in_ok-text.ensures.ok in
-    string_taken q.0 c.args.s.now _ c.in_ok-text.rest.now at (subst (λ x. Chars q.0 x c.in_ok-text.rest.now) c.skip.ensures q.1) q.2
+    string_taken q.0 s _ (drop c.in_ok-text.end c.args.text.now) at (subst (λ x. Chars q.0 x (drop c.in_ok-text.end c.args.text.now)) next q.1) q.2
 
 pub returns-then-first-eq34-clause-text : goal.returns-then-first-eq34-clause-text
 returns-then-first-eq34-clause-text c =
-    let at : slice_index c.args.s.now 0 ≡ 34 = omega arith in
-    quoted c.in_ok-text.text c.args.s.now c.skip.result.now c.in_ok-text.rest.now at c.skip.ensures c.in_ok-text.ensures.text
+    let s = drop c.args.at c.args.text.now in
+    let next : drop c.skip.result c.args.text.now ≡ drop 1 s = grind arith in
+    let at : slice_index s 0 ≡ 34 = grind arith in
+    quoted c.in_ok-text.text s (drop c.skip.result c.args.text.now) (drop c.in_ok-text.end c.args.text.now) at next c.in_ok-text.ensures.text
 
 pub returns-in-Some-clause-ok : goal.returns-in-Some-clause-ok
 returns-in-Some-clause-ok c =
-    let away : slice_index c.args.s.now 0 ≢ 34 = λ e. omega arith in
-    let read : front_at c.args.s.now ≡ Some (front_of c.in-Some.taken.0 [], c.in-Some.taken.1.now) = grind arith in
-    read_taken c.args.s.now _ c.in-Some.taken.0 _ away read
+    let s = drop c.args.at c.args.text.now in
+    let away : slice_index s 0 ≢ 34 = λ e. grind arith in
+    let read : front_at s ≡ Some (front_of c.in-Some.taken.0 [], drop c.in-Some.taken.1 c.args.text.now) = grind arith in
+    read_taken s _ c.in-Some.taken.0 _ away read
 
 pub returns-in-Some-clause-text : goal.returns-in-Some-clause-text
 returns-in-Some-clause-text c =
-    let away : slice_index c.args.s.now 0 ≢ 34 = λ e. omega arith in
-    let read : front_at c.args.s.now ≡ Some (front_of c.in-Some.taken.0 [], c.in-Some.taken.1.now) = grind arith in
-    read_text c.args.s.now [] c.in-Some.taken.0 _ away (read_taken c.args.s.now [] c.in-Some.taken.0 _ away read)
+    let s = drop c.args.at c.args.text.now in
+    let away : slice_index s 0 ≢ 34 = λ e. grind arith in
+    let read : front_at s ≡ Some (front_of c.in-Some.taken.0 [], drop c.in-Some.taken.1 c.args.text.now) = grind arith in
+    read_text s [] c.in-Some.taken.0 _ away (read_taken s [] c.in-Some.taken.0 _ away read)
 
 pub returns-in-Some-clause-kept : goal.returns-in-Some-clause-kept
 returns-in-Some-clause-kept c = keeps c.in-Some.taken.0 _
 
 pub returns-in-None-clause-invalid : goal.returns-in-None-clause-invalid
 returns-in-None-clause-invalid c is e r h =
-    let away : slice_index c.args.s.now 0 ≢ 34 = λ e. omega arith in
-    let read : front_at c.args.s.now ≡ None = grind arith in
-    front_refused c.args.s.now away read e r h
+    let s = drop c.args.at c.args.text.now in
+    let away : slice_index s 0 ≢ 34 = λ e. grind arith in
+    let read : front_at s ≡ None = grind arith in
+    front_refused s away read e r h

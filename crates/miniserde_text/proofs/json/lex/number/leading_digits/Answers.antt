@@ -8,15 +8,15 @@ use Rattle.miniserde_text.proofs.json.lex.number.leading_digits.Goals as goal
 
 pub loop-i-preserved : goal.loop-i-preserved
 loop-i-preserved c =
-    let s = c.args.s.now in
+    let s = c.args.bytes.now in
     let l = c.loop-i in
     let at = get_or s l.i 0 in
-    let here : is_digit at ≡ true = grind (arith, c.as_bytes-bytes.ensures.value) in
+    let here : is_digit at ≡ true = grind arith in
     let digit = digit_of at here in
-    let least : c.from.result ≤ 9 = grind (arith, digit, c.as_bytes-bytes.ensures.value) in
+    let least : c.from.result ≤ 9 = grind (arith, digit) in
     let turn : l.i < 19 → (l.value * 10 % 2 ^ 64 + c.from.result) % 2 ^ 64 ≡ l.value * 10 + c.from.result = λ few. wraps_not l.value l.i c.from.result (l.invariant.small (omega arith)) few least in
     record {
       count = omega (arith, prefix_len-drop_yes is_digit s l.i 0 (omega arith) here);
-      value = λ few. turn (omega arith) ∙ grind (arith, l.invariant.value (omega arith), digits_value_more 10 s l.i (omega arith), digit_value_is at digit, c.as_bytes-bytes.ensures.value);
+      value = λ few. turn (omega arith) ∙ grind (arith, l.invariant.value (omega arith), digits_value_more 10 s l.i (omega arith), digit_value_is at digit);
       small = λ few. rw (turn (omega arith)) (below_next l.value l.i c.from.result (l.invariant.small (omega arith)) least);
     }

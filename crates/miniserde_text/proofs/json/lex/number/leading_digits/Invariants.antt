@@ -6,8 +6,8 @@ use Rattle.miniserde_text.proofs.json.lex.number.leading_digits.Given as goal
 
 abbrev pub invariant-loop-i : goal.invariant-loop-i
 invariant-loop-i l = record {
-  count : l.i + prefix_len is_digit (drop l.i l.s) ≡ prefix_len is_digit l.s;
-  value : l.i ≤ 19 → l.value ≡ digits_value 10 (take l.i l.s);
+  count : l.i + prefix_len is_digit (drop l.i l.bytes) ≡ prefix_len is_digit l.bytes;
+  value : l.i ≤ 19 → l.value ≡ digits_value 10 (take l.i l.bytes);
   small : l.i ≤ 19 → l.value < 10 ^ l.i;
 }
 

@@ -1,17 +1,14 @@
-use Rattle.std.proofs.Common.{◌≡◌, false, length, slice_index}
+use Rattle.std.proofs.Common.{◌≡◌, false, length, drop, slice_index}
 use Rattle.std.specs.String.{string_bytes}
 use Rattle.miniserde_text.specs.private.Reading.{is_unescaped}
 use Rattle.miniserde_text.specs.private.Inside.{Adds}
-use denote.Shadow.{shadow}
-use denote.Text.{Utf8}
 use Rattle.miniserde_text.proofs.json.lex.string.take_escaped.Given as goal
 
-abbrev pub invariant-loop-tail : goal.invariant-loop-tail
-invariant-loop-tail l = record {
-  utf8 : shadow (Utf8 l.tail);
-  adds : Adds (string_bytes l.initial.scratch) (string_bytes l.scratch) l.s l.tail;
-  stops : is_unescaped (slice_index l.tail 0) ≡ false;
+abbrev pub invariant-loop-scratch : goal.invariant-loop-scratch
+invariant-loop-scratch l = record {
+  adds : Adds (string_bytes l.initial.scratch) (string_bytes l.scratch) (drop l.at l.text) (drop l.tail l.text);
+  stops : is_unescaped (slice_index (drop l.tail l.text) 0) ≡ false;
 }
 
-abbrev pub decreases-loop-tail : goal.decreases-loop-tail
-decreases-loop-tail l = length l.tail
+abbrev pub decreases-loop-scratch : goal.decreases-loop-scratch
+decreases-loop-scratch l = length (drop l.tail l.text)

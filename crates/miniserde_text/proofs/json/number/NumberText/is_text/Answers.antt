@@ -1,4 +1,4 @@
-use Rattle.std.proofs.Common.{◌≡◌, Some, None, [], ap, sym, ◌∙◌, arith}
+use Rattle.std.proofs.Common.{◌≡◌, Some, None, [], drop, ap, sym, ◌∙◌, arith}
 use Rattle.miniserde_model.specs.Event.{float}
 use Rattle.miniserde_text.specs.Lexer.{front_of}
 use Rattle.miniserde_text.specs.private.Reading.{number_at}
@@ -14,10 +14,10 @@ returns-in_default c =
 
 pub returns-in-Number : goal.returns-in-Number
 returns-in-Number c =
-    let read : number_at c.args.t.now ≡ Some (float c.in-Number.field-0.now, c.in-Some.rest.now) = grind arith in
-    rw c.is_empty.ensures (kept_where _ _ _ read)
+    let read : number_at c.args.t.now ≡ Some (float c.in-Number.field-0.now, drop c.in-Some.end c.args.t.now) = grind arith in
+    kept_where _ _ c.in-Some.end read c.in-Some.ensures.within
 
 pub returns-in_default-event : goal.returns-in_default-event
 returns-in_default-event c =
-    let read : number_at c.args.t.now ≡ Some (front_of c.in-Some.event [], c.in-Some.rest.now) = grind arith in
+    let read : number_at c.args.t.now ≡ Some (front_of c.in-Some.event [], drop c.in-Some.end c.args.t.now) = grind arith in
     no_kept _ (λ n. let y = number_of_float c.in-Some.event _ (ap (λ q. q.0) (same_Some _ _ (sym read ∙ kept_read _ n))) in c.in_default-event.not-Number y.0 y.1)
