@@ -27,15 +27,17 @@ JOBS = [
     ('`Vec<Demo>`, structs', 'demos', 'structs', 'empty'),
     ('`Vec<(u64, String)>`', 'pairs', 'pairs', 'empty'),
     ('`Vec<Option<bool>>`', 'options', 'options', 'empty'),
-    ('`canonical`, messages', 'value', 'messages', 'empty'),
-    ('`canonical`, records', 'value', 'records', 'empty'),
-    ('`canonical`, 100 deep', 'value', 'nested', 'empty'),
-    ('`canonical`, 100,000 deep', 'value', 'deep', 'empty'),
-    ('`canonical`, distinct names', 'value', 'names', 'empty_map'),
-    ('`canonical`, escapes', 'value', 'escapes', 'empty'),
-    ('`canonical`, numbers', 'value', 'numbers', 'empty'),
+    *((f'{what}, {text}', kind, name, 'empty_map' if name == 'names' else 'empty')
+      for what, kind in (('`Value`', 'value'), ('`canonical`', 'canonical'))
+      for text, name in (('messages', 'messages'), ('records', 'records'), ('100 deep', 'nested'),
+                         ('100,000 deep', 'deep'), ('distinct names', 'names'), ('escapes', 'escapes'),
+                         ('numbers', 'numbers'))),
 ]
-MODES = ['read', 'both']
+
+
+def modes_of(kind):
+    """Canonical text is made in one call, so there is nothing that is read alone."""
+    return ['both'] if kind == 'canonical' else ['read', 'both']
 
 
 class Program:
@@ -84,9 +86,9 @@ def measure(programs, job, folder, rounds, with_instructions):
         if answer is not None and answer != ours:
             sys.exit('%s: %s wrote another text' % (job[0], name))
     able = [p for p in programs if answers[p.name] is not None]
-    figures = {}
+    figures, modes = {}, modes_of(kind)
     for p in able:
-        for mode in MODES:
+        for mode in modes:
             if with_instructions:
                 more = p.instructions(kind, mode, text) - p.instructions(kind, mode, empty)
                 figures[p.name, mode, 'instructions'] = more / size
@@ -95,17 +97,17 @@ def measure(programs, job, folder, rounds, with_instructions):
     with open('/dev/shm/%d' % os.getpid(), 'wb') as to:
         for _ in range(rounds):
             for p in able:
-                for mode in MODES:
+                for mode in modes:
                     for t in (text, empty):
                         to.seek(0)
                         key = p.name, mode, t
                         least[key] = min(least.get(key, 1e9), p.seconds(kind, mode, t, to))
         os.unlink(to.name)
     for p in able:
-        for mode in MODES:
+        for mode in modes:
             figures[p.name, mode, 'time'] = (least[p.name, mode, text] - least[p.name, mode, empty]) * 1e9 / size
         for what in ('instructions', 'time'):
-            if (p.name, 'both', what) in figures:
+            if (p.name, 'read', what) in figures:
                 figures[p.name, 'write', what] = figures[p.name, 'both', what] - figures[p.name, 'read', what]
     return figures
 
@@ -116,6 +118,9 @@ def table(programs, rows, mode, whats):
     heads += ['%s, to %s' % (what, p.name) for what in whats for p in others]
     print('| ' + ' | '.join(heads) + ' |\n|' + '---|' * len(heads))
     for label, figures in rows:
+        if not any((ours.name, mode, what) in figures for what in whats):
+            continue
+
         def cell(p, what):
             return '%.1f' % figures[p.name, mode, what] if (p.name, mode, what) in figures else '-'
 

@@ -51,6 +51,7 @@ fn main() -> ExitCode {
         "pairs" => job::<Vec<(u64, String)>>(mode, &text),
         "options" => job::<Vec<Option<bool>>>(mode, &text),
         "value" => job::<serde_json::Value>(mode, &text),
+        "canonical" => job::<serde_json::Value>("both", &text),
         "ignore" => skip(mode, &text),
         _ => false,
     };
