@@ -4,7 +4,7 @@ pub mod Options
 pub mod Leaves
 pub mod Numbers
 pub mod Lanes
-pub mod Places
+pub mod Indices
 pub mod Escapes
 pub mod Strings
 pub mod Steps

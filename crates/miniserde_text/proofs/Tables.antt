@@ -5,8 +5,9 @@ use Rattle.std.specs.Prelude.{◌||◌}
 use Rattle.std.specs.Char.{digit_value}
 use Rattle.std.proofs.lemmas.Bool.Decides.{nat_tests}
 use Rattle.miniserde_text.specs.private.Reading.{short_at}
-use Rattle.miniserde_model.specs.Bytes.{is_number_byte}
+use Rattle.miniserde_model.specs.Bytes.{is_number_byte, is_special}
 use Rattle.miniserde_text.specs.declared.json.lex.tables.TheConstants.{DIGITS, SHORT, NUMBER}
+use Rattle.miniserde_text.specs.declared.scan.TheConstants.{SPECIAL}
 
 abbrev agree : (ℕ → ℕ) → (ℕ → ℕ) → ℕ → Bool
 agree f g zero = true
@@ -29,6 +30,9 @@ one_if false n e = rw e refl
 
 pub number_at : (c : ℕ) → c < 256 → (get_or NUMBER c 0 == 1) ≡ is_number_byte c
 number_at c h = one_if (is_number_byte c) _ (alike (λ k. get_or NUMBER k 0) (λ k. cond (is_number_byte k) 1 0) 256 c tt h)
+
+pub special_at : (c : ℕ) → c < 256 → (get_or SPECIAL c 0 == 1) ≡ is_special c
+special_at c h = one_if (is_special c) _ (alike (λ k. get_or SPECIAL k 0) (λ k. cond (is_special k) 1 0) 256 c tt h)
 
 abbrev code_of : ℕ → ℕ
 code_of x =

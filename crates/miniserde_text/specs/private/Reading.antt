@@ -45,11 +45,11 @@ after_run p (c ∷ cs) = cond (p c) (after_run p cs) (c ∷ cs)
 abbrev pub EndsWith : List ℕ → List ℕ → Type 0
 EndsWith s r = (b : List ℕ) × (s ≡ b ++ r)
 
--- the place i in s has an ASCII byte before it
-abbrev pub BehindAscii : List ℕ → ℕ → Type 0
-BehindAscii s i = (0 < i) × (i ≤ length s) × (slice_index s (i - 1) < 128)
+-- an ASCII byte precedes the index i
+abbrev pub FollowsAscii : List ℕ → ℕ → Type 0
+FollowsAscii s i = (0 < i) × (i ≤ length s) × (slice_index s (i - 1) < 128)
 
--- what is left of s from a place on, if there is one
+-- the suffix of s from an index, if there is one
 abbrev pub left : List ℕ → Option ℕ → Option (List ℕ)
 left s r = option_map (λ i. drop i s) r
 
@@ -124,7 +124,7 @@ step_at kind first t =
 
 -- ---- escapes, behind the backslash
 
--- a number, and what is left of s from a place on
+-- a number, and the suffix of s from an index
 abbrev pub found : List ℕ → Option (ℕ × ℕ) → Option (ℕ × List ℕ)
 found s r = option_map (λ x. (x.0, drop x.1 s)) r
 

@@ -82,7 +82,7 @@ pub enum After {
 #[derive(Drop)]
 pub struct Lexer<'a> {
     text: &'a str,
-    // Where the rest begins.
+    // The index of the first byte that is left.
     at: usize,
     refused: Option<Error>,
     ghost within: { at ≤ length text.now },

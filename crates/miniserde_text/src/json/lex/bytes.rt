@@ -2,7 +2,7 @@
 ghost use Rattle.std.specs.Prelude.{◌≡◌, ◌-◌, ◌<◌, ◌≤◌, drop, length, slice_index};
 ghost use Rattle.std.specs.Str.{IsCharBoundary};
 ghost use Rattle.miniserde_model.specs.Bytes.{is_space};
-ghost use Rattle.miniserde_text.specs.private.Reading.{is_digit, is_sign, is_exponent_letter, before, BehindAscii};
+ghost use Rattle.miniserde_text.specs.private.Reading.{is_digit, is_sign, is_exponent_letter, before, FollowsAscii};
 
 pub(super) fn is_space(c: u8) -> bool
     ensures { result ≡ is_space c }
@@ -35,8 +35,8 @@ pub(super) fn byte_at(bytes: &[u8], at: usize) -> u8
     if at < bytes.len() { bytes[at] } else { 0 }
 }
 
-/// Returns the byte `n` bytes behind `at`, or 0 past the end.
-pub(super) fn byte_behind(bytes: &[u8], at: usize, n: usize) -> u8
+/// Returns the byte `n` bytes after `at`, or 0 past the end.
+pub(super) fn byte_after(bytes: &[u8], at: usize, n: usize) -> u8
     requires { at ≤ length bytes.now }
     ensures { result ≡ slice_index (drop at bytes.now) n }
 {
@@ -47,18 +47,18 @@ pub(super) fn byte_behind(bytes: &[u8], at: usize, n: usize) -> u8
     }
 }
 
-/// Steps over `n` bytes, of which the last is ASCII and not 0. Only its contract reads the bytes.
+/// Skips `n` bytes, the last of which is ASCII and not 0. Only the contract reads them.
 pub(super) fn skip(bytes: &[u8], at: usize, n: usize) -> usize
     requires some { 0 < n }
     requires there { 0 < slice_index (drop at bytes.now) (n - 1) }
     requires ascii { slice_index (drop at bytes.now) (n - 1) < 128 }
     ensures value { drop result bytes.now ≡ drop n (drop at bytes.now) }
-    ensures behind { BehindAscii bytes.now result }
+    ensures follows { FollowsAscii bytes.now result }
 {
     at + n
 }
 
-/// Returns the bytes between two places.
+/// Returns the bytes between two indices.
 pub(super) fn part(bytes: &[u8], from: usize, to: usize) -> &[u8]
     requires order { from ≤ to }
     requires within { to ≤ length bytes.now }
@@ -67,7 +67,7 @@ pub(super) fn part(bytes: &[u8], from: usize, to: usize) -> &[u8]
     &bytes[from..to]
 }
 
-/// Returns the text between two places, which are borders of characters.
+/// Returns the text between two indices, which are character boundaries.
 pub(super) fn between<'a>(text: &'a str, from: usize, to: usize) -> &'a str
     requires order { from ≤ to }
     requires from { IsCharBoundary text.now from }

@@ -3,9 +3,9 @@ ghost use Rattle.std.specs.Prelude.{◌≡◌, ◌<◌, ◌≤◌, true, drop, l
 ghost use Rattle.std.specs.Char.{digit_value};
 ghost use Rattle.miniserde_text.specs.private.Reading.{found, unit_at, is_high, is_low};
 ghost use Rattle.miniserde_text.specs.private.Reading.{begins_escape, pair_of, low_at, unicode_at, short_at};
-ghost use Rattle.miniserde_text.specs.private.Reading.{escape_at, BehindAscii};
+ghost use Rattle.miniserde_text.specs.private.Reading.{escape_at, FollowsAscii};
 
-use super::bytes::{byte_at, byte_behind, skip};
+use super::bytes::{byte_after, byte_at, skip};
 use super::tables;
 
 // The value of a digit of base 36, or 36.
@@ -22,15 +22,15 @@ fn unit(bytes: &[u8], at: usize) -> Option<(u32, usize)>
     requires { at ≤ length bytes.now }
     ensures value { found bytes.now result ≡ unit_at (drop at bytes.now) }
     ensures small { IfSome result (λ x. x.0 < 65536) }
-    ensures behind { IfSome result (λ x. BehindAscii bytes.now x.1) }
+    ensures follows { IfSome result (λ x. FollowsAscii bytes.now x.1) }
 {
     if bytes.len() - at < 4 {
         return None;
     }
-    let a = hex(byte_behind(bytes, at, 0));
-    let b = hex(byte_behind(bytes, at, 1));
-    let c = hex(byte_behind(bytes, at, 2));
-    let d = hex(byte_behind(bytes, at, 3));
+    let a = hex(byte_after(bytes, at, 0));
+    let b = hex(byte_after(bytes, at, 1));
+    let c = hex(byte_after(bytes, at, 2));
+    let d = hex(byte_after(bytes, at, 3));
     if a < 16 && b < 16 && c < 16 && d < 16 {
         Some((a * 4096 + b * 256 + c * 16 + d, skip(bytes, at, 4)))
     } else {
@@ -54,7 +54,7 @@ fn begins_escape(bytes: &[u8], at: usize) -> bool
     requires { at ≤ length bytes.now }
     ensures { result ≡ begins_escape (drop at bytes.now) }
 {
-    byte_behind(bytes, at, 0) == b'\\' && byte_behind(bytes, at, 1) == b'u'
+    byte_after(bytes, at, 0) == b'\\' && byte_after(bytes, at, 1) == b'u'
 }
 
 fn pair(high: u32, low: u32) -> char
@@ -70,7 +70,7 @@ fn low(high: u32, bytes: &[u8], at: usize) -> Option<(char, usize)>
     requires high { is_high high ≡ true }
     requires within { at ≤ length bytes.now }
     ensures value { found bytes.now result ≡ low_at high (drop at bytes.now) }
-    ensures behind { IfSome result (λ x. BehindAscii bytes.now x.1) }
+    ensures follows { IfSome result (λ x. FollowsAscii bytes.now x.1) }
 {
     if !begins_escape(bytes, at) {
         return None;
@@ -87,7 +87,7 @@ fn low(high: u32, bytes: &[u8], at: usize) -> Option<(char, usize)>
 fn unicode(bytes: &[u8], at: usize) -> Option<(char, usize)>
     requires { at ≤ length bytes.now }
     ensures value { found bytes.now result ≡ unicode_at (drop at bytes.now) }
-    ensures behind { IfSome result (λ x. BehindAscii bytes.now x.1) }
+    ensures follows { IfSome result (λ x. FollowsAscii bytes.now x.1) }
 {
     let (code, end) = unit(bytes, at)?;
     if is_high(code) {
@@ -111,7 +111,7 @@ fn short(letter: u8) -> Option<char>
 #[tactic(auto, unfolding(crate::specs::private::Reading::escape_at))]
 pub(super) fn take_escape(bytes: &[u8], at: usize) -> Option<(char, usize)>
     ensures value { found bytes.now result ≡ escape_at (drop at bytes.now) }
-    ensures behind { IfSome result (λ x. BehindAscii bytes.now x.1) }
+    ensures follows { IfSome result (λ x. FollowsAscii bytes.now x.1) }
 {
     let letter = byte_at(bytes, at);
     if letter == b'u' {

@@ -59,7 +59,7 @@ fn take_plain<'a>(text: &'a str, at: usize, first: u8) -> Option<(Event<'a>, usi
     }
 }
 
-/// Takes the front of a value, of which the first byte is at hand.
+/// Takes the front of a value. `first` is the byte at `at`.
 #[inline(always)]
 pub(super) fn take_front<'a>(
     text: &'a str,
@@ -89,7 +89,7 @@ pub(super) fn take_front<'a>(
     }
 }
 
-/// Takes a string, whitespace and a colon. The first byte is at hand.
+/// Takes a string, whitespace and a colon. `first` is the byte at `at`.
 pub(super) fn take_name<'a>(
     text: &'a str,
     at: usize,

@@ -8,16 +8,16 @@ ghost use Rattle.miniserde_model.specs.Event.{float};
 ghost use Rattle.miniserde_text.specs.Lexer.{front_of};
 ghost use Rattle.miniserde_text.specs.private.Reading.{after_run, is_digit, after_digits, after_whole};
 ghost use Rattle.miniserde_text.specs.private.Reading.{after_fraction, after_sign, after_exponent, after_minus};
-ghost use Rattle.miniserde_text.specs.private.Reading.{after_tail, event_of_parts, number_at, left, BehindAscii};
+ghost use Rattle.miniserde_text.specs.private.Reading.{after_tail, event_of_parts, number_at, left, FollowsAscii};
 
 use super::Event;
 use super::bytes::{between, byte_at, is_digit, is_exponent_letter, is_sign, part, skip};
 use super::tables::is_number_byte;
 
 fn after_run_of_digits(bytes: &[u8], at: usize) -> usize
-    requires { BehindAscii bytes.now at }
+    requires { FollowsAscii bytes.now at }
     ensures value { drop result bytes.now ≡ after_run is_digit (drop at bytes.now) }
-    ensures behind { BehindAscii bytes.now result }
+    ensures follows { FollowsAscii bytes.now result }
 {
     let mut i = at;
     while i < bytes.len() && is_digit(bytes[i]) {
@@ -29,7 +29,7 @@ fn after_run_of_digits(bytes: &[u8], at: usize) -> usize
 // One digit or more.
 fn after_digits(bytes: &[u8], at: usize) -> Option<usize>
     ensures value { left bytes.now result ≡ after_digits (drop at bytes.now) }
-    ensures behind { IfSome result (λ r. BehindAscii bytes.now r) }
+    ensures follows { IfSome result (λ r. FollowsAscii bytes.now r) }
 {
     if is_digit(byte_at(bytes, at)) {
         Some(after_run_of_digits(bytes, skip(bytes, at, 1)))
@@ -38,7 +38,7 @@ fn after_digits(bytes: &[u8], at: usize) -> Option<usize>
     }
 }
 
-// The first byte is at hand.
+// `first` is the byte at `at`.
 fn after_minus(bytes: &[u8], at: usize, first: u8) -> usize
     requires within { at ≤ length bytes.now }
     requires first { first ≡ slice_index (drop at bytes.now) 0 }
@@ -54,7 +54,7 @@ fn after_minus(bytes: &[u8], at: usize, first: u8) -> usize
 
 fn after_whole(bytes: &[u8], at: usize) -> Option<usize>
     ensures value { left bytes.now result ≡ after_whole (drop at bytes.now) }
-    ensures behind { IfSome result (λ r. BehindAscii bytes.now r) }
+    ensures follows { IfSome result (λ r. FollowsAscii bytes.now r) }
 {
     if byte_at(bytes, at) == b'0' {
         Some(skip(bytes, at, 1))
@@ -64,9 +64,9 @@ fn after_whole(bytes: &[u8], at: usize) -> Option<usize>
 }
 
 fn after_fraction(bytes: &[u8], at: usize) -> Option<usize>
-    requires { BehindAscii bytes.now at }
+    requires { FollowsAscii bytes.now at }
     ensures value { left bytes.now result ≡ after_fraction (drop at bytes.now) }
-    ensures behind { IfSome result (λ r. BehindAscii bytes.now r) }
+    ensures follows { IfSome result (λ r. FollowsAscii bytes.now r) }
 {
     if byte_at(bytes, at) == b'.' {
         after_digits(bytes, skip(bytes, at, 1))
@@ -86,9 +86,9 @@ fn after_sign(bytes: &[u8], at: usize) -> usize
 }
 
 fn after_exponent(bytes: &[u8], at: usize) -> Option<usize>
-    requires { BehindAscii bytes.now at }
+    requires { FollowsAscii bytes.now at }
     ensures value { left bytes.now result ≡ after_exponent (drop at bytes.now) }
-    ensures behind { IfSome result (λ r. BehindAscii bytes.now r) }
+    ensures follows { IfSome result (λ r. FollowsAscii bytes.now r) }
 {
     if is_exponent_letter(byte_at(bytes, at)) {
         after_digits(bytes, after_sign(bytes, skip(bytes, at, 1)))
@@ -99,9 +99,9 @@ fn after_exponent(bytes: &[u8], at: usize) -> Option<usize>
 
 // A fraction and an exponent, of which each may be missing.
 fn after_tail(bytes: &[u8], at: usize) -> Option<usize>
-    requires { BehindAscii bytes.now at }
+    requires { FollowsAscii bytes.now at }
     ensures value { left bytes.now result ≡ after_tail (drop at bytes.now) }
-    ensures behind { IfSome result (λ r. BehindAscii bytes.now r) }
+    ensures follows { IfSome result (λ r. FollowsAscii bytes.now r) }
 {
     after_exponent(bytes, after_fraction(bytes, at)?)
 }
@@ -183,7 +183,7 @@ fn leading_digits(bytes: &[u8]) -> (usize, u64)
     (i, value)
 }
 
-// An integer of up to 19 digits, in one pass. The loop over its digits goes by a slice, which counts them as it goes.
+// An integer of up to 19 digits, in one pass. Its loop goes over a slice: over the whole text it would keep two counters.
 #[inline(always)]
 fn short_number<'a>(bytes: &[u8], at: usize, first: u8) -> Option<(Event<'a>, usize)>
     requires within { at ≤ length bytes.now }
@@ -245,7 +245,7 @@ fn take_long_number<'a>(text: &'a str, at: usize) -> Option<(Event<'a>, usize)>
     }
 }
 
-/// Takes a number, of which the first byte is at hand, and behind which no byte of number texts may stand.
+/// Takes a number, after which no byte of number texts may stand. `first` is the byte at `at`.
 #[inline(always)]
 pub(super) fn take_number<'a>(text: &'a str, at: usize, first: u8) -> Option<(Event<'a>, usize)>
     requires within { at ≤ length text.now }

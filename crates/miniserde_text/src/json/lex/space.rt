@@ -5,7 +5,7 @@ ghost use Rattle.miniserde_text.specs.private.Reading.{after_run};
 
 use super::bytes::is_space;
 
-/// Returns the place behind the whitespace at `at`, and the byte there, or 0 at the end.
+/// Skips whitespace. Returns the index of the next byte, and that byte, or 0 at the end.
 pub(super) fn after_space(bytes: &[u8], at: usize) -> (usize, u8)
     requires { at ≤ length bytes.now }
     ensures value { drop result.0 bytes.now ≡ after_run is_space (drop at bytes.now) }

@@ -23,7 +23,7 @@ fn closing(kind: Kind) -> u8
     }
 }
 
-// Returns whether something is left, and no closing bracket.
+// Returns whether text is left that begins with no closing bracket. `byte` is the byte at `at`.
 fn begins(bytes: &[u8], at: usize, byte: u8) -> bool
     requires { byte ≡ slice_index (drop at bytes.now) 0 }
     ensures { result ≡ begins (drop at bytes.now) }
@@ -31,7 +31,7 @@ fn begins(bytes: &[u8], at: usize, byte: u8) -> bool
     at < bytes.len() && !is_closing(byte)
 }
 
-/// Takes a closing bracket, or what leads to the next child, of which the first byte is at hand.
+/// Takes a closing bracket, or what leads to the next child. `byte` is the byte at `at`.
 #[tactic(auto, unfolding(crate::specs::private::Reading::step_at))]
 pub(super) fn take_step(
     kind: Kind,

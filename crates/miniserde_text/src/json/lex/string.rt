@@ -4,7 +4,7 @@ ghost use Rattle.std.specs.Prelude.{slice_index};
 ghost use Rattle.std.specs.Str.{encode_utf8_all, IsCharBoundary};
 ghost use Rattle.std.specs.String.{string_bytes};
 ghost use Rattle.miniserde_text.specs.Lexer.{text_of, KeepsScratch};
-ghost use Rattle.miniserde_text.specs.private.Reading.{after_run, before, is_unescaped, BehindAscii};
+ghost use Rattle.miniserde_text.specs.private.Reading.{after_run, before, is_unescaped, FollowsAscii};
 ghost use Rattle.miniserde_text.specs.private.Inside.{Chars, Adds, TakesText, ReachesBackslash};
 
 use super::Text;
@@ -13,7 +13,7 @@ use super::escape::take_escape;
 use crate::error::{Error, Result};
 use crate::scan::{special, special_in_lanes};
 
-// Returns the end of the bytes that stand for themselves.
+// Returns the index after the bytes that stand for themselves.
 #[inline(always)]
 fn after_unescaped(text: &str, at: usize) -> usize
     requires { at ≤ length text.now }
@@ -87,7 +87,7 @@ fn take_escaped(text: &str, at: usize, scratch: &mut String) -> Result<usize>
 // Takes a string from the backslash at `tail` on, where its run at the front is `between(text, at, tail)`.
 #[inline(never)]
 fn decode(text: &str, at: usize, tail: usize, scratch: &mut String) -> Result<usize>
-    requires behind { BehindAscii text.now at }
+    requires follows { FollowsAscii text.now at }
     requires order { at ≤ tail }
     requires boundary { IsCharBoundary text.now tail }
     requires stops { is_unescaped (slice_index (drop tail text.now) 0) ≡ false }
@@ -104,7 +104,7 @@ fn decode(text: &str, at: usize, tail: usize, scratch: &mut String) -> Result<us
 // As `decode`. What that call leaves in memory is moved out of it here, so that other strings pass through none.
 #[inline(always)]
 fn take_decoded(text: &str, at: usize, tail: usize, scratch: &mut String) -> Result<usize>
-    requires behind { BehindAscii text.now at }
+    requires follows { FollowsAscii text.now at }
     requires order { at ≤ tail }
     requires boundary { IsCharBoundary text.now tail }
     requires stops { is_unescaped (slice_index (drop tail text.now) 0) ≡ false }
@@ -126,7 +126,7 @@ pub(super) fn take_string<'a>(
     at: usize,
     scratch: &mut String,
 ) -> Result<(Text<'a>, usize)>
-    requires { BehindAscii text.now at }
+    requires { FollowsAscii text.now at }
     ensures ok { IfOk result (λ x. (cs : List ℕ) × Chars cs (drop at text.now) (drop x.1 text.now)
         × (text_of x.0 (string_bytes scratch.new) ≡ encode_utf8_all cs)) }
     ensures text { IfOk result (λ x. TakesText x.0 (drop at text.now) (drop x.1 text.now)) }

@@ -1,7 +1,7 @@
 use Rattle.std.proofs.Common.{◌≡◌, ◌+◌, drop, arith}
 use Rattle.std.specs.List.{position_or_len}
 use Rattle.miniserde_model.specs.Bytes.{is_special}
-use Rattle.miniserde_text.proofs.Places.{unescaped_from, special_boundary}
+use Rattle.miniserde_text.proofs.Indices.{unescaped_from, special_boundary}
 use Rattle.miniserde_text.proofs.json.lex.string.after_more.Goals as goal
 
 pub returns-clause-value : goal.returns-clause-value

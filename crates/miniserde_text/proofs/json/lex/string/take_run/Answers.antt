@@ -3,8 +3,8 @@ use Rattle.std.proofs.Common.{◌≡◌, ◌++◌, ◌∙◌, ap, subst, Some, N
 use Rattle.std.specs.String.{string_bytes}
 use Rattle.std.specs.Char.{encode_utf8}
 use Rattle.std.proofs.lemmas.Str.{IsUtf8-drop}
-use Rattle.miniserde_text.specs.private.Reading.{escape_at, BehindAscii}
-use Rattle.miniserde_text.proofs.Places.{behind_boundary}
+use Rattle.miniserde_text.specs.private.Reading.{escape_at, FollowsAscii}
+use Rattle.miniserde_text.proofs.Indices.{follows_boundary}
 use Rattle.miniserde_text.proofs.Strings.{no_escape, run_special, escape_adds, escape_shorter}
 use Rattle.miniserde_text.proofs.json.lex.string.take_run.Goals as goal
 
@@ -15,7 +15,7 @@ returns-in_default-clause-invalid c is cs r h =
 
 pub between-requires-clause-from : goal.between-requires-clause-from
 between-requires-clause-from c =
-    behind_boundary c.args.text.now c.in-Some.rest c.utf8.text (subst (λ x. BehindAscii x c.in-Some.rest) c.as_bytes.ensures.value c.in-Some.ensures.behind)
+    follows_boundary c.args.text.now c.in-Some.rest c.utf8.text (subst (λ x. FollowsAscii x c.in-Some.rest) c.as_bytes.ensures.value c.in-Some.ensures.follows)
 
 pub returns-clause-ok : goal.returns-clause-ok
 returns-clause-ok c =
@@ -25,7 +25,7 @@ returns-clause-ok c =
     let next = drop c.after_more-next.result text in
     let read : escape_at s ≡ Some (c.in-Some.c, rest) = grind arith in
     let pushed : string_bytes c.push.new.self ≡ string_bytes c.args.scratch.now ++ encode_utf8 c.in-Some.c = grind arith in
-    let border = behind_boundary text c.in-Some.rest c.utf8.text (subst (λ x. BehindAscii x c.in-Some.rest) c.as_bytes.ensures.value c.in-Some.ensures.behind) in
+    let border = follows_boundary text c.in-Some.rest c.utf8.text (subst (λ x. FollowsAscii x c.in-Some.rest) c.as_bytes.ensures.value c.in-Some.ensures.follows) in
     escape_adds _ _ _ s c.in-Some.c rest next read c.after_more-next.ensures.value (IsUtf8-drop text c.in-Some.rest c.utf8.text border)
     (IsUtf8-drop text c.after_more-next.result c.utf8.text c.after_more-next.ensures.boundary) pushed (c.in_ok-push_run.ensures.ok ∙ ap (λ x. string_bytes c.push.new.self ++ x) c.between.ensures)
 

@@ -5,9 +5,9 @@ use Rattle.std.specs.Str.{encode_utf8_all, IsUtf8, IsCharBoundary}
 use Rattle.std.proofs.lemmas.Result.{err_from_is_err_and}
 use Rattle.std.proofs.lemmas.Str.{encodes-append, IsUtf8-drop}
 use Rattle.miniserde_text.specs.declared.error.Error.TheVariants.{Invalid}
-use Rattle.miniserde_text.specs.private.Reading.{after_run, before, is_unescaped, BehindAscii}
+use Rattle.miniserde_text.specs.private.Reading.{after_run, before, is_unescaped, FollowsAscii}
 use Rattle.miniserde_text.specs.private.Inside.{Chars, Passes}
-use Rattle.miniserde_text.proofs.Places.{behind_boundary}
+use Rattle.miniserde_text.proofs.Indices.{follows_boundary}
 use Rattle.miniserde_text.proofs.Strings.{run_of, run_special, quote_ends, no_chars, join_chars, run_refused, run_inside, escaped_inside, reaches_backslash}
 use Rattle.miniserde_text.proofs.json.lex.string.take_string.Goals as goal
 
@@ -15,11 +15,11 @@ pub take_decoded-requires-clause-stops : goal.take_decoded-requires-clause-stops
 take_decoded-requires-clause-stops c = run_special (drop c.args.at c.args.text.now) (drop c.after_unescaped-tail.result c.args.text.now) c.after_unescaped-tail.ensures.value
 
 pub between-requires-clause-from : goal.between-requires-clause-from
-between-requires-clause-from c = behind_boundary c.args.text.now c.args.at c.utf8.text c.requires
+between-requires-clause-from c = follows_boundary c.args.text.now c.args.at c.utf8.text c.requires
 
-module _ (text : List ℕ) (at tail : ℕ) (utf8 : IsUtf8 text) (behind : BehindAscii text at) (value : drop tail text ≡ after_run is_unescaped (drop at text)) (boundary : IsCharBoundary text tail) where
+module _ (text : List ℕ) (at tail : ℕ) (utf8 : IsUtf8 text) (follows : FollowsAscii text at) (value : drop tail text ≡ after_run is_unescaped (drop at text)) (boundary : IsCharBoundary text tail) where
   run : (ds : List ℕ) × Passes ds (drop at text) (drop tail text) × (before (drop at text) (drop tail text) ≡ encode_utf8_all ds)
-  run = run_of (drop at text) (drop tail text) value (IsUtf8-drop text at utf8 (behind_boundary text at utf8 behind)) (IsUtf8-drop text tail utf8 boundary)
+  run = run_of (drop at text) (drop tail text) value (IsUtf8-drop text at utf8 (follows_boundary text at utf8 follows)) (IsUtf8-drop text tail utf8 boundary)
 
 pub returns-in-34-clause-ok : goal.returns-in-34-clause-ok
 returns-in-34-clause-ok c =

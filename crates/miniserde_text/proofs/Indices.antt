@@ -1,22 +1,22 @@
--- Places in a text, as indices: what is left from one on, and where one is a border of characters.
+-- Indices into a text: their order, which are character boundaries, and where a run of a string ends.
 use Rattle.std.proofs.Common.{◌≡◌, ℕ, ◌+◌, ◌-◌, ◌≤◌, ◌<◌, List, length, drop, get_or, refl, ap, sym, subst, ◌∙◌, arith, length-append, length-drop}
 use Rattle.std.specs.List.{position_or_len}
 use Rattle.std.specs.Str.{IsUtf8, IsCharBoundary}
 use Rattle.std.proofs.lemmas.List.{drop-drop}
 use Rattle.std.proofs.lemmas.Str.{IsCharBoundary-after_ascii, IsCharBoundary-from_rest}
 use Rattle.miniserde_model.specs.Bytes.{is_special}
-use Rattle.miniserde_text.specs.private.Reading.{after_run, is_unescaped, BehindAscii, EndsWith}
+use Rattle.miniserde_text.specs.private.Reading.{after_run, is_unescaped, FollowsAscii, EndsWith}
 use Rattle.miniserde_text.proofs.Lanes.{after_unescaped_is, boundary}
 
-pub behind_more : (s : List ℕ) (i : ℕ) → i < length s → get_or s i 0 < 128 → BehindAscii s (i + 1)
-behind_more s i h ascii = let e : i + 1 - 1 ≡ i = omega arith in (omega arith, omega arith, subst (λ k. get_or s k 0 < 128) (sym e) ascii)
+pub follows_more : (s : List ℕ) (i : ℕ) → i < length s → get_or s i 0 < 128 → FollowsAscii s (i + 1)
+follows_more s i h ascii = let e : i + 1 - 1 ≡ i = omega arith in (omega arith, omega arith, subst (λ k. get_or s k 0 < 128) (sym e) ascii)
 
-pub behind_boundary : (s : List ℕ) (i : ℕ) → IsUtf8 s → BehindAscii s i → IsCharBoundary s i
-behind_boundary s i u h =
+pub follows_boundary : (s : List ℕ) (i : ℕ) → IsUtf8 s → FollowsAscii s i → IsCharBoundary s i
+follows_boundary s i u h =
     let e : i - 1 + 1 ≡ i = omega arith in
     subst (IsCharBoundary s) e (IsCharBoundary-after_ascii s (i - 1) u (omega arith) h.2)
 
--- the rest from j on is the end of that from i on
+-- the suffix from j is a suffix of that from i
 pub ends_order : (s : List ℕ) (i j : ℕ) → i ≤ length s → j ≤ length s → EndsWith (drop i s) (drop j s) → i ≤ j
 ends_order s i j h k (b, e) = omega (arith, ap length e ∙ length-append b (drop j s), length-drop i s, length-drop j s)
 

@@ -1,0 +1,6 @@
+use Rattle.std.proofs.Common.{arith}
+use Rattle.miniserde_text.proofs.Tables.{special_at}
+use Rattle.miniserde_text.proofs.scan.is_special.Goals as goal
+
+pub returns : goal.returns
+returns c = special_at c.args.c (omega arith)
