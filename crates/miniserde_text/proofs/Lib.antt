@@ -12,3 +12,6 @@ pub mod Names
 pub mod Kept
 pub mod Equal
 pub mod Tables
+pub mod Escaping
+pub mod Plain
+pub mod Decimals

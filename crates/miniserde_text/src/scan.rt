@@ -6,7 +6,7 @@ ghost use Rattle.miniserde_model.specs.Bytes.{is_special};
 
 use std::simd::prelude::*;
 
-fn is_special(c: u8) -> bool
+pub(crate) fn is_special(c: u8) -> bool
     ensures { result ≡ is_special c }
 {
     c < 0x20 || c == b'"' || c == b'\\'
@@ -25,7 +25,7 @@ fn specials(v: u8x32) -> u64
 
 // As `specials`, sixteen at a time.
 #[inline(always)]
-fn specials_of_sixteen(v: u8x16) -> u64
+pub(crate) fn specials_of_sixteen(v: u8x16) -> u64
     ensures { result ≡ mask_l (map is_special v) }
 {
     let controls = v.simd_lt(u8x16::splat(0x20));
@@ -36,7 +36,7 @@ fn specials_of_sixteen(v: u8x16) -> u64
 
 // As `specials`, eight at a time.
 #[inline(always)]
-fn specials_of_eight(v: u8x8) -> u64
+pub(crate) fn specials_of_eight(v: u8x8) -> u64
     ensures { result ≡ mask_l (map is_special v) }
 {
     let controls = v.simd_lt(u8x8::splat(0x20));
