@@ -3,7 +3,6 @@
 
 mod arrange;
 mod canonicalize;
-mod escape;
 mod node;
 mod read;
 mod stack;
