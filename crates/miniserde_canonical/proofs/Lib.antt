@@ -1,4 +1,3 @@
-pub mod Stacks
 pub mod Fronts
 pub mod Turns
 pub mod Steps

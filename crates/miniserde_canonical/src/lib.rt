@@ -5,7 +5,6 @@ mod arrange;
 mod canonicalize;
 mod node;
 mod read;
-mod stack;
 mod write;
 
 pub use canonicalize::{canonical, canonical_both, canonical_unique};

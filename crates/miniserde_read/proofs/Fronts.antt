@@ -14,8 +14,8 @@ use Rattle.miniserde_model.proofs.Prefixes.{whitespace_passes}
 use Rattle.miniserde_model.proofs.Unique.{kind_of_byte, Head, value_head, head_no_space, string_head, same_word, same_truth}
 use Rattle.miniserde_model.proofs.Accepted.{value_tree}
 use Rattle.miniserde_read.specs.Step.{IsTreeEvent}
-use Rattle.miniserde_read.specs.private.Stack.{pushed}
-use Rattle.miniserde_read.specs.private.Moving.{opens, between, Live, Passes}
+use Rattle.miniserde_text.specs.private.Stack.{pushed}
+use Rattle.miniserde_text.specs.private.Moving.{opens, between, Live, Passes}
 
 -- ---- the first byte
 

@@ -10,8 +10,8 @@ use Rattle.miniserde_model.proofs.Reading.{json_spells}
 use Rattle.miniserde_model.proofs.ReadBack.{spells_json}
 use Rattle.miniserde_model.proofs.Forced.{after_stops}
 use Rattle.miniserde_model.proofs.Unique.{kind_of_byte, Head, known_no_space}
-use Rattle.miniserde_read.specs.private.Stack.{pushed}
-use Rattle.miniserde_read.specs.private.Moving.{opens, between}
+use Rattle.miniserde_text.specs.private.Stack.{pushed}
+use Rattle.miniserde_text.specs.private.Moving.{opens, between}
 use Rattle.miniserde_read.proofs.Fronts.{stands, passes_start}
 use Rattle.miniserde_read.proofs.Turns.{passes_finish, passes_element, passes_key}
 use Rattle.miniserde_read.specs.Rest.{ValueAt, ElementsAt, MembersAt}

@@ -3,8 +3,8 @@ use Rattle.std.proofs.Common.{◌≡◌, ℕ, Bool, true, false, Some, is_some, 
 use Rattle.miniserde_model.specs.Event.{Event, element, key, finish}
 use Rattle.miniserde_model.specs.Lexing.{Kind, in_list, in_members, Starts, Names, Follows}
 use Rattle.miniserde_model.specs.private.Reading.{Moment, due, after}
-use Rattle.miniserde_read.specs.private.Stack.{pushed, innermost, outer}
-use Rattle.miniserde_read.specs.private.Moving.{opens, between, Live}
+use Rattle.miniserde_text.specs.private.Stack.{pushed, innermost, outer}
+use Rattle.miniserde_text.specs.private.Moving.{opens, between, Live}
 use Rattle.miniserde_read.specs.private.Runs.{Runs, Passed, Reaches, NeverRuns}
 use Rattle.miniserde_read.proofs.Fronts.{live_at, same_start, same_name}
 use Rattle.miniserde_read.proofs.Same.{close_same, next_same, close_no_next}

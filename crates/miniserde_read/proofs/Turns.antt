@@ -5,7 +5,7 @@ use Rattle.miniserde_model.specs.Event.{Event, element, key, finish}
 use Rattle.miniserde_model.specs.Lexing.{Kind, in_list, in_members, IsByte, Stands, Names, closing, Follows}
 use Rattle.miniserde_model.specs.private.Reading.{due, after, Spells}
 use Rattle.miniserde_model.proofs.Reading.{due_space, space_append}
-use Rattle.miniserde_read.specs.private.Moving.{between, Passes}
+use Rattle.miniserde_text.specs.private.Moving.{between, Passes}
 use Rattle.miniserde_read.proofs.Fronts.{front}
 
 -- ---- the closing bracket

@@ -15,3 +15,4 @@ pub mod Tables
 pub mod Escaping
 pub mod Plain
 pub mod Decimals
+pub mod Stacks

@@ -10,6 +10,8 @@ pub mod json;
 mod keys;
 mod ranged;
 pub mod scan;
+#[doc(hidden)]
+pub mod stack;
 
 pub use keys::{MapKey, WholeKey};
 pub use ranged::Ranged;

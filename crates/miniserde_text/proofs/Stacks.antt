@@ -7,7 +7,7 @@ use Rattle.std.proofs.lemmas.Grind.{get_or-set_at}
 use Rattle.std.proofs.lemmas.Nat.{and_mask}
 use Rattle.std.proofs.lemmas.Nat.Bits.{shr_and_one}
 use Rattle.miniserde_model.specs.Lexing.{Kind, in_list, in_members}
-use Rattle.miniserde_read.specs.private.Stack.{bit_of, kind_by, kind_at, stack_of, innermost}
+use Rattle.miniserde_text.specs.private.Stack.{bit_of, kind_by, kind_at, stack_of, innermost}
 
 -- of the words only the kinds at the levels count
 same_kinds : (ws vs : List ℕ) (n : ℕ) → ((i : ℕ) → i < n → kind_at ws i ≡ kind_at vs i) → stack_of ws n ≡ stack_of vs n

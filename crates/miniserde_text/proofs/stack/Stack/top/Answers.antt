@@ -1,7 +1,7 @@
 use Rattle.std.proofs.Common.{◌≡◌, ◌+◌, ◌/◌, ◌^◌, Some, bit_and, rules, ap, sym, ◌∙◌}
-use Rattle.miniserde_read.specs.private.Stack.{kind_by}
-use Rattle.miniserde_read.proofs.Stacks.{stack_top, bit_clear}
-use Rattle.miniserde_read.proofs.stack.Stack.top.Goals as goal
+use Rattle.miniserde_text.specs.private.Stack.{kind_by}
+use Rattle.miniserde_text.proofs.Stacks.{stack_top, bit_clear}
+use Rattle.miniserde_text.proofs.stack.Stack.top.Goals as goal
 
 pub returns-then-word-level-eq1 : goal.returns-then-word-level-eq1
 returns-then-word-level-eq1 c =

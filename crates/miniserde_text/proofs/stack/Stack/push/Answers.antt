@@ -1,9 +1,9 @@
 use Rattle.std.proofs.Common.{◌≡◌, ◌+◌, ◌/◌, ◌<◌, length, rules, refl, ap, ◌∙◌}
 use Rattle.miniserde_text.specs.Lexer.{kind_of}
-use Rattle.miniserde_read.specs.private.Stack.{stack_of}
-use Rattle.miniserde_read.proofs.Stacks.{stack_opened, stack_grown}
-use Rattle.miniserde_read.proofs.stack.Stack.push.Goals as goal
-use Rattle.miniserde_read.proofs.stack.Stack.push.Goals.{then-place-len+in_ok-push, else-place-len}
+use Rattle.miniserde_text.specs.private.Stack.{stack_of}
+use Rattle.miniserde_text.proofs.Stacks.{stack_opened, stack_grown}
+use Rattle.miniserde_text.proofs.stack.Stack.push.Goals as goal
+use Rattle.miniserde_text.proofs.stack.Stack.push.Goals.{then-place-len+in_ok-push, else-place-len}
 
 pub returns-after-place-len-clause-ok : goal.returns-after-place-len-clause-ok
 returns-after-place-len-clause-ok c =
