@@ -13,7 +13,7 @@ use Rattle.miniserde_text.specs.declared.json.lex.Event as lexed
 use Rattle.miniserde_text.specs.declared.json.lex.Event.TheVariants as variant
 use Rattle.miniserde_text.specs.private.Stack.{pushed, innermost, outer}
 use Rattle.miniserde_text.specs.private.Moving.{opens, between, Live}
-use Rattle.miniserde_read.proofs.Fronts.{front, passes_start}
+use Rattle.miniserde_text.proofs.Starting.{front, passes_start}
 use Rattle.miniserde_place.specs.private.Runs.{Spellable}
 
 -- ---- one event before others

@@ -13,5 +13,4 @@ pub mod Passed
 pub mod Same
 pub mod Skips
 pub mod Steps
-pub mod Turns
 pub mod Values

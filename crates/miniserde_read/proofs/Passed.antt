@@ -6,7 +6,7 @@ use Rattle.miniserde_model.specs.private.Reading.{Moment, due, after}
 use Rattle.miniserde_text.specs.private.Stack.{pushed, innermost, outer}
 use Rattle.miniserde_text.specs.private.Moving.{opens, between, Live}
 use Rattle.miniserde_read.specs.private.Runs.{Runs, Passed, Reaches, NeverRuns}
-use Rattle.miniserde_read.proofs.Fronts.{live_at, same_start, same_name}
+use Rattle.miniserde_text.proofs.Starting.{live_at, same_start, same_name}
 use Rattle.miniserde_read.proofs.Same.{close_same, next_same, close_no_next}
 
 -- ---- a value's first event

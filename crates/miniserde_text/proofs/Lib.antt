@@ -16,3 +16,5 @@ pub mod Escaping
 pub mod Plain
 pub mod Decimals
 pub mod Stacks
+pub mod Starting
+pub mod Turning

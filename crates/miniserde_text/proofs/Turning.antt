@@ -2,11 +2,12 @@
 use Rattle.std.proofs.Common.{◌≡◌, ℕ, Bool, true, false, List, [], ◌∷◌, ◌++◌, sym, ap, subst, ◌∙◌, append_assoc}
 use Rattle.miniserde_model.specs.Whitespace.{IsWhitespace}
 use Rattle.miniserde_model.specs.Event.{Event, element, key, finish}
-use Rattle.miniserde_model.specs.Lexing.{Kind, in_list, in_members, IsByte, Stands, Names, closing, Follows}
+use Rattle.miniserde_model.specs.Bytes.{StopsAt, is_space}
+use Rattle.miniserde_model.specs.Lexing.{Kind, in_list, in_members, IsByte, Stands, Names, closing, Begins, Follows}
 use Rattle.miniserde_model.specs.private.Reading.{due, after, Spells}
 use Rattle.miniserde_model.proofs.Reading.{due_space, space_append}
 use Rattle.miniserde_text.specs.private.Moving.{between, Passes}
-use Rattle.miniserde_read.proofs.Fronts.{front}
+use Rattle.miniserde_text.proofs.Starting.{front}
 
 -- ---- the closing bracket
 
@@ -25,8 +26,11 @@ passes_finish k f st s r p = record {
 
 -- ---- an element
 
-bare : (s r : List ℕ) (p : Stands (λ b. b ≡ []) s r) → s ≡ p.space ++ r
+pub bare : (s r : List ℕ) (p : Stands (λ b. b ≡ []) s r) → s ≡ p.space ++ r
 bare s r p = p.text ∙ ap (λ z. p.space ++ (z ++ r)) p.is_part
+
+pub begins_stops : (r : List ℕ) → Begins r → StopsAt is_space r
+begins_stops r b = subst (StopsAt is_space) (sym b.text) b.no_space
 
 pub passes_element : (f : Bool) (st : List Kind) (s r : List ℕ) → Follows in_list f false s r → Passes (between f) (in_list ∷ st) s (element ∷ []) due (in_list ∷ st) r
 passes_element true st s r p = record {
