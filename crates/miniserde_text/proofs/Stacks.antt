@@ -1,5 +1,5 @@
 -- The bits of the open containers.
-use Rattle.std.proofs.Common.{◌≡◌, ℕ, zero, suc, ◌+◌, ◌*◌, ◌/◌, ◌%◌, ◌^◌, ◌<◌, ◌≤◌, ◌≢◌, inl, inr, List, [], ◌∷◌, ◌++◌, Some, get_or, set, length, bit_and, refl, sym, ap, ◌∙◌, arith}
+use Rattle.std.proofs.Common.{◌≡◌, ℕ, zero, suc, ◌+◌, ◌*◌, ◌/◌, ◌%◌, ◌^◌, ◌<◌, ◌≤◌, ◌≢◌, inl, inr, List, [], ◌∷◌, ◌++◌, Some, is_some, true≢false, get_or, set, length, bit_and, refl, sym, ap, ◌∙◌, arith}
 use Rattle.std.specs.Int.{bit_at}
 use Rattle.std.proofs.lemmas.Bool.{cases_eq}
 use Rattle.std.proofs.lemmas.List.{get_or-set_same, get_or-set_other, get_or_default}
@@ -7,7 +7,7 @@ use Rattle.std.proofs.lemmas.Grind.{get_or-set_at}
 use Rattle.std.proofs.lemmas.Nat.{and_mask}
 use Rattle.std.proofs.lemmas.Nat.Bits.{shr_and_one}
 use Rattle.miniserde_model.specs.Lexing.{Kind, in_list, in_members}
-use Rattle.miniserde_text.specs.private.Stack.{bit_of, kind_by, kind_at, stack_of, innermost}
+use Rattle.miniserde_text.specs.private.Stack.{bit_of, kind_by, kind_at, stack_of, innermost, outer}
 
 -- of the words only the kinds at the levels count
 same_kinds : (ws vs : List ℕ) (n : ℕ) → ((i : ℕ) → i < n → kind_at ws i ≡ kind_at vs i) → stack_of ws n ≡ stack_of vs n
@@ -77,3 +77,9 @@ pub bit_clear : (a : ℕ) → (bit_and a 1 ≡ 1 → ⊥) → bit_and a 1 ≡ 0
 bit_clear a h =
     let bit : bit_and a 1 ≡ a % 2 = and_mask a 1 in
     elim (cases_eq (a % 2) 1) [ inl e ↦ absurd (h (bit ∙ e)) | inr e ↦ bit ∙ omega arith ]
+
+-- ---- an innermost container
+
+pub split_top : (st : List Kind) (k : Kind) → innermost st ≡ Some k → st ≡ k ∷ outer st
+split_top [] k h = absurd (true≢false (ap is_some (sym h)))
+split_top (c ∷ st) k h = let e : c ≡ k = cc in ap (λ z. z ∷ st) e
