@@ -1,5 +1,3 @@
-pub mod Escapes
-pub mod Stacks
 pub mod Fronts
 pub mod Turns
 pub mod Steps

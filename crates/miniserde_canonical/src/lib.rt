@@ -3,10 +3,8 @@
 
 mod arrange;
 mod canonicalize;
-mod escape;
 mod node;
 mod read;
-mod stack;
 mod write;
 
 pub use canonicalize::{canonical, canonical_both, canonical_unique};

@@ -1,5 +1,5 @@
 //! Pieces into text.
-ghost use Rattle.std.specs.Prelude.{◌≡◌, ◌++◌, ◌≤◌, ◌-◌, ◌+◌, ◌⊎◌, [], ℕ, List, take, drop, length, IfOk, OnOk, OnErr, IsErrOf, string_bytes, false};
+ghost use Rattle.std.specs.Prelude.{◌≡◌, ◌++◌, ◌≤◌, ◌-◌, ◌+◌, ◌⊎◌, [], ℕ, List, take, drop, length, IfOk, OnOk, OnErr, IsErrOf, string_bytes, decimal, false};
 ghost use Rattle.miniserde_text.specs.declared.error.Error.TheVariants.{Memory};
 ghost use Rattle.miniserde_canonical.specs.Token.{Token};
 ghost use Rattle.miniserde_canonical.specs.private.Nodes.{token_of};
@@ -8,10 +8,11 @@ ghost use Rattle.miniserde_canonical.specs.private.Weights.{Ordered, weights, lo
 ghost use Rattle.miniserde_canonical.specs.private.Written.{written, ends, put, Writes};
 ghost use Rattle.miniserde_model.specs.Compact.{quoted};
 
-use crate::escape::escape_str;
 use crate::node::{Node, Piece, Plain};
 use itoa::Buffer;
+use miniserde_text::decimal::{has_room, put_digits};
 use miniserde_text::error::Result;
+use miniserde_text::escape::escape_str;
 use std::alloc::Global;
 
 /// Returns the text of pieces, and what is left of a number from which each token takes one, down to zero.
@@ -126,7 +127,7 @@ fn put_front(out: &mut String, node: &Node<'_>) -> Result<()>
         Node::Bool(true) => out.push_str("true")?,
         Node::Bool(false) => out.push_str("false")?,
         Node::Negative(n) => out.push_str(Buffer::new().format(*n))?,
-        Node::Nonnegative(n) => out.push_str(Buffer::new().format(*n))?,
+        Node::Nonnegative(n) => put_nonnegative(out, *n)?,
         Node::Number(x) => out.push_str(x)?,
         Node::Str(s) => put_plain(out, s)?,
         Node::Decoded(s) => escape_str(s.as_str(), out)?,
@@ -142,6 +143,20 @@ fn put_front(out: &mut String, node: &Node<'_>) -> Result<()>
         }
         Node::SeqEnd => out.push(']')?,
         Node::MapEnd => out.push('}')?,
+    }
+    Ok(())
+}
+
+// Appends the digits of a number, in one copy of fixed size where there is room for the longest.
+#[inline(always)]
+fn put_nonnegative(out: &mut String, n: u64) -> Result<()>
+    ensures ok { OnOk result (string_bytes out.new ≡ string_bytes out.old ++ decimal n) }
+    ensures memory { OnErr result (IsErrOf result Memory) }
+{
+    if has_room(out) {
+        put_digits(n, out);
+    } else {
+        out.push_str(Buffer::new().format(n))?;
     }
     Ok(())
 }

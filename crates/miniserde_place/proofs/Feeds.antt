@@ -8,8 +8,8 @@ use Rattle.miniserde_model.specs.Position.{Position, start, Completes}
 use Rattle.miniserde_model.specs.Lexing.{Kind}
 use Rattle.miniserde_model.specs.private.Reading.{Moment}
 use Rattle.miniserde_place.specs.Place.{Shown, Leads, Bars, LeadsBy, Begun}
-use Rattle.miniserde_read.specs.private.Stack.{pushed, innermost}
-use Rattle.miniserde_read.specs.private.Moving.{opens, between}
+use Rattle.miniserde_text.specs.private.Stack.{pushed, innermost}
+use Rattle.miniserde_text.specs.private.Moving.{opens, between}
 use Rattle.miniserde_place.proofs.Leads.{LeadsBy-append}
 use Rattle.miniserde_text.specs.Lexer.{front_of}
 use Rattle.miniserde_text.specs.declared.error.Error.{Error}

@@ -4,7 +4,7 @@ use Rattle.miniserde_model.specs.Event.{Event}
 use Rattle.miniserde_model.specs.Position.{Position, Completes}
 use Rattle.miniserde_model.specs.Lexing.{Kind}
 use Rattle.miniserde_model.specs.private.Reading.{Moment}
-use Rattle.miniserde_read.specs.private.Moving.{Live}
+use Rattle.miniserde_text.specs.private.Moving.{Live}
 use Rattle.miniserde_read.specs.private.Runs.{Passed, NeverRuns}
 use Rattle.miniserde_read.proofs.Passed.{Passed-none, Passed-append}
 use Rattle.miniserde_place.specs.Place.{Leads, Bars}

@@ -11,9 +11,10 @@ use Rattle.miniserde_model.proofs.Accepted.{json_tree}
 use Rattle.miniserde_text.specs.Lexer.{front_of}
 use Rattle.miniserde_text.specs.declared.json.lex.Event as lexed
 use Rattle.miniserde_text.specs.declared.json.lex.Event.TheVariants as variant
-use Rattle.miniserde_read.specs.private.Stack.{pushed, innermost, outer}
-use Rattle.miniserde_read.specs.private.Moving.{opens, between, Live}
-use Rattle.miniserde_read.proofs.Fronts.{front, passes_start}
+use Rattle.miniserde_text.specs.private.Stack.{pushed, innermost, outer}
+use Rattle.miniserde_text.specs.private.Moving.{opens, between, Live}
+use Rattle.miniserde_text.proofs.Stacks.{split_top}
+use Rattle.miniserde_text.proofs.Starting.{front, passes_start}
 use Rattle.miniserde_place.specs.private.Runs.{Spellable}
 
 -- ---- one event before others
@@ -33,10 +34,6 @@ with_key true st s r n p es h = (p.part ++ h.0, front [] p.part h.0 tt p.is_part
 with_key false st s r n p es h = (44 ∷ (p.part ++ h.0), front [] (44 ∷ []) (p.part ++ h.0) tt refl (front [] p.part h.0 tt p.is_part h.1))
 
 -- ---- the same by the innermost container
-
-split_top : (st : List Kind) (k : Kind) → innermost st ≡ Some k → st ≡ k ∷ outer st
-split_top [] k h = absurd (true≢false (ap is_some (sym h)))
-split_top (c ∷ st) k h = let e : c ≡ k = cc in ap (λ z. z ∷ st) e
 
 pub close_spellable : (st st' : List Kind) (k : Kind) (f : Bool) → innermost st ≡ Some k → st' ≡ outer st → (es : List Event) → Spellable after es st' → Spellable (between f) (finish ∷ es) st
 close_spellable st st' k f h q es p =

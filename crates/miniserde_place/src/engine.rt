@@ -7,8 +7,8 @@ ghost use Rattle.miniserde_text.specs.Lexer.{front_of, kind_of};
 ghost use Rattle.miniserde_text.specs.declared.error.Error.{Error};
 ghost use Rattle.miniserde_read.specs.Rest.{ValueAt};
 ghost use Rattle.miniserde_read.specs.Step.{IsTreeEvent};
-ghost use Rattle.miniserde_read.specs.private.Moving.{between, onward, opens};
-ghost use Rattle.miniserde_read.specs.private.Stack.{innermost, pushed};
+ghost use Rattle.miniserde_text.specs.private.Moving.{between, onward, opens};
+ghost use Rattle.miniserde_text.specs.private.Stack.{innermost, pushed};
 ghost use Rattle.miniserde_place.specs.Place.{LedBy, HasBegun, LedTo, Barred};
 ghost use Rattle.miniserde_place.specs.private.Runs.{Moved, RunsBarred};
 

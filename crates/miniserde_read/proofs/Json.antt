@@ -10,12 +10,12 @@ use Rattle.miniserde_model.proofs.Reading.{json_spells}
 use Rattle.miniserde_model.proofs.ReadBack.{spells_json}
 use Rattle.miniserde_model.proofs.Forced.{after_stops}
 use Rattle.miniserde_model.proofs.Unique.{kind_of_byte, Head, known_no_space}
-use Rattle.miniserde_read.specs.private.Stack.{pushed}
-use Rattle.miniserde_read.specs.private.Moving.{opens, between}
-use Rattle.miniserde_read.proofs.Fronts.{stands, passes_start}
-use Rattle.miniserde_read.proofs.Turns.{passes_finish, passes_element, passes_key}
+use Rattle.miniserde_text.specs.private.Stack.{pushed}
+use Rattle.miniserde_text.specs.private.Moving.{opens, between}
+use Rattle.miniserde_text.proofs.Starting.{stands, passes_start}
+use Rattle.miniserde_text.proofs.Turning.{passes_finish, passes_element, passes_key}
 use Rattle.miniserde_read.specs.Rest.{ValueAt, ElementsAt, MembersAt}
-use Rattle.miniserde_read.proofs.Fronts.{class, class_below, piece_head, name_head, same_start}
+use Rattle.miniserde_text.proofs.Starting.{class, class_below, piece_head, name_head, same_start}
 use Rattle.miniserde_read.proofs.Same.{value_same}
 
 -- ---- from the events that a text spells

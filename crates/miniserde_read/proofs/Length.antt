@@ -3,7 +3,7 @@ use Rattle.std.proofs.Common.{ℕ, ◌≤◌, ◌++◌, Bool, true, false, List,
 use Rattle.miniserde_model.specs.Tree.{Tree, null, truth, nonneg, neg, num, str, list, members, Trees, no_trees, tree, Members, no_members, member}
 use Rattle.miniserde_model.specs.Event.{Event}
 use Rattle.miniserde_model.specs.Lexing.{Kind, in_list, in_members, Stands, Follows}
-use Rattle.miniserde_read.proofs.Fronts.{start_less}
+use Rattle.miniserde_text.proofs.Starting.{start_less}
 use Rattle.miniserde_read.specs.Rest.{ValueAt, ElementsAt, MembersAt}
 
 pub stands_least : {P : List ℕ → Type 0} (s r : List ℕ) → Stands P s r → length r ≤ length s

@@ -13,7 +13,5 @@ pub mod Pairs
 pub mod Passed
 pub mod Same
 pub mod Skips
-pub mod Stacks
 pub mod Steps
-pub mod Turns
 pub mod Values

@@ -1,12 +1,13 @@
 -- One event of an engine, and several of them.
-use Rattle.std.proofs.Common.{◌≡◌, ℕ, Bool, true, false, Some, is_some, List, [], ◌∷◌, ◌++◌, refl, sym, ap, subst, ◌∙◌, append_assoc, true≢false}
+use Rattle.std.proofs.Common.{◌≡◌, ℕ, Bool, true, false, Some, is_some, List, [], ◌∷◌, ◌++◌, refl, sym, ap, subst, ◌∙◌, append_assoc}
 use Rattle.miniserde_model.specs.Event.{Event, element, key, finish}
 use Rattle.miniserde_model.specs.Lexing.{Kind, in_list, in_members, Starts, Names, Follows}
 use Rattle.miniserde_model.specs.private.Reading.{Moment, due, after}
-use Rattle.miniserde_read.specs.private.Stack.{pushed, innermost, outer}
-use Rattle.miniserde_read.specs.private.Moving.{opens, between, Live}
+use Rattle.miniserde_text.specs.private.Stack.{pushed, innermost, outer}
+use Rattle.miniserde_text.specs.private.Moving.{opens, between, Live}
+use Rattle.miniserde_text.proofs.Stacks.{split_top}
 use Rattle.miniserde_read.specs.private.Runs.{Runs, Passed, Reaches, NeverRuns}
-use Rattle.miniserde_read.proofs.Fronts.{live_at, same_start, same_name}
+use Rattle.miniserde_text.proofs.Starting.{live_at, same_start, same_name}
 use Rattle.miniserde_read.proofs.Same.{close_same, next_same, close_no_next}
 
 -- ---- a value's first event
@@ -78,10 +79,6 @@ pub passed_key : (f : Bool) (st : List Kind) (s b n c : List ℕ) → Follows in
 passed_key f st s b n c p q = record { on = key_on f st s b n c p q; back = key_back f st s b n c p q; live = tt }
 
 -- ---- by the innermost container
-
-split_top : (st : List Kind) (k : Kind) → innermost st ≡ Some k → st ≡ k ∷ outer st
-split_top [] k h = absurd (true≢false (ap is_some (sym h)))
-split_top (c ∷ st) k h = let e : c ≡ k = cc in ap (λ z. z ∷ st) e
 
 pub close_passed : (st st' : List Kind) (s r : List ℕ) (k : Kind) (f : Bool) → innermost st ≡ Some k → Follows k f true s r → st' ≡ outer st → Passed (between f) st s (finish ∷ []) after st' r
 close_passed st st' s r k f h p q =

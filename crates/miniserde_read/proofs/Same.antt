@@ -1,14 +1,15 @@
 -- What follows in a text spells one tree at most, and ends in one place.
-use Rattle.std.proofs.Common.{◌≡◌, ℕ, Bool, true, false, List, [], ◌++◌, refl, sym, ap, subst, ◌∙◌, arith}
+use Rattle.std.proofs.Common.{◌≡◌, ℕ, Bool, true, false, List, refl, sym, ap, subst, ◌∙◌, arith}
 use Rattle.miniserde_model.specs.Tree.{Tree, null, truth, nonneg, neg, num, str, list, members, Trees, no_trees, tree, Members, no_members, member}
 use Rattle.miniserde_model.specs.Event.{Event, nothing, boolean, string, negative, nonnegative, float, seq, map}
-use Rattle.miniserde_model.specs.Bytes.{StopsAt, is_space}
-use Rattle.miniserde_model.specs.Lexing.{Kind, in_list, in_members, Stands, Begins, Starts, Names, Follows, closing}
+use Rattle.miniserde_model.specs.Bytes.{is_space}
+use Rattle.miniserde_model.specs.Lexing.{Kind, in_list, in_members, Begins, Starts, Names, Follows, closing}
 use Rattle.miniserde_model.proofs.Runs.{same_run}
 use Rattle.miniserde_model.proofs.Prefixes.{whitespace_passes}
-use Rattle.miniserde_read.proofs.Fronts.{same_first, first_byte, begins_first, same_byte, same_name}
+use Rattle.miniserde_text.proofs.Starting.{same_first, first_byte, begins_first, same_byte, same_name}
 use Rattle.miniserde_read.specs.Rest.{ValueAt, ElementsAt, MembersAt}
-use Rattle.miniserde_read.proofs.Fronts.{same_start}
+use Rattle.miniserde_text.proofs.Starting.{same_start}
+use Rattle.miniserde_text.proofs.Turning.{bare, begins_stops}
 
 -- ---- what a lexer finds in a container
 
@@ -23,12 +24,6 @@ closing_no_comma in_members e = omega (arith, e)
 not_closing : (k : Kind) (r : List ℕ) (b : Begins r) → b.byte ≡ closing k → ⊥
 not_closing in_list r b e = b.no_list_end e
 not_closing in_members r b e = b.no_members_end e
-
-begins_stops : (r : List ℕ) → Begins r → StopsAt is_space r
-begins_stops r b = subst (StopsAt is_space) (sym b.text) b.no_space
-
-bare : (s r : List ℕ) (p : Stands (λ b. b ≡ []) s r) → s ≡ p.space ++ r
-bare s r p = p.text ∙ ap (λ z. p.space ++ (z ++ r)) p.is_part
 
 pub close_same : (k : Kind) (f : Bool) (s r x : List ℕ) → Follows k f true s r → Follows k f true s x → r ≡ x
 close_same k f s r x p q = (same_byte (closing k) (closing k) s r x (closing_no_space k) (closing_no_space k) p q).1

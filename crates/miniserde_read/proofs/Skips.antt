@@ -9,8 +9,8 @@ use Rattle.miniserde_text.specs.Lexer.{front_of}
 use Rattle.miniserde_text.specs.declared.error.Error.{Error}
 use Rattle.miniserde_text.specs.declared.json.lex.Event as lexed
 use Rattle.miniserde_read.specs.Rest.{ValueAt}
-use Rattle.miniserde_read.specs.private.Stack.{pushed, innermost}
-use Rattle.miniserde_read.specs.private.Moving.{opens, between}
+use Rattle.miniserde_text.specs.private.Stack.{pushed, innermost}
+use Rattle.miniserde_text.specs.private.Moving.{opens, between}
 use Rattle.miniserde_read.specs.private.Runs.{Runs, Reaches, NeverRuns}
 use Rattle.miniserde_read.proofs.Passed.{Passed-none, live_opened, value_passed}
 use Rattle.miniserde_read.proofs.Values.{value_later, whole_at}

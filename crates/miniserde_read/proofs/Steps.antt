@@ -3,9 +3,9 @@ use Rattle.std.proofs.Common.{◌≡◌, ℕ, Bool, true, false, List, refl, ap,
 use Rattle.miniserde_model.specs.Tree.{Tree, Trees, no_trees, tree, Members, no_members, member}
 use Rattle.miniserde_model.specs.Event.{Event}
 use Rattle.miniserde_model.specs.Lexing.{in_list, in_members, Starts, Names, Follows}
-use Rattle.miniserde_read.proofs.Fronts.{same_name}
+use Rattle.miniserde_text.proofs.Starting.{same_name}
 use Rattle.miniserde_read.specs.Rest.{ValueAt, ElementsAt, MembersAt}
-use Rattle.miniserde_read.proofs.Fronts.{same_start}
+use Rattle.miniserde_text.proofs.Starting.{same_start}
 use Rattle.miniserde_read.proofs.Same.{close_same, next_same, close_no_next}
 
 -- ---- a list

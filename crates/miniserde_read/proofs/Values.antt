@@ -4,8 +4,8 @@ use Rattle.miniserde_model.specs.Tree.{Tree, null, truth, nonneg, neg, num, str,
 use Rattle.miniserde_model.specs.Event.{Event, nothing, boolean, string, negative, nonnegative, float, seq, element, map, key, finish, events, child_events, member_events}
 use Rattle.miniserde_model.specs.Lexing.{Kind, in_list, in_members, Starts, Names, Follows}
 use Rattle.miniserde_model.specs.private.Reading.{due, first, after}
-use Rattle.miniserde_read.specs.private.Stack.{pushed}
-use Rattle.miniserde_read.specs.private.Moving.{opens, between}
+use Rattle.miniserde_text.specs.private.Stack.{pushed}
+use Rattle.miniserde_text.specs.private.Moving.{opens, between}
 use Rattle.miniserde_text.specs.Lexer.{front_of}
 use Rattle.miniserde_text.specs.declared.json.lex.Event as lexed
 use Rattle.miniserde_text.specs.declared.json.lex.Event.TheVariants as variant

@@ -7,15 +7,15 @@ ghost use Rattle.miniserde_text.specs.declared.error.Error.{Error};
 ghost use Rattle.miniserde_read.specs.Meanings.{ignored_meant};
 ghost use Rattle.miniserde_read.specs.Rest.{ValueAt};
 ghost use Rattle.miniserde_read.specs.Step.{IsTreeEvent};
-ghost use Rattle.miniserde_read.specs.private.Moving.{between};
+ghost use Rattle.miniserde_text.specs.private.Moving.{between};
 ghost use Rattle.miniserde_read.specs.private.Runs.{Reaches, NeverRuns};
-ghost use Rattle.miniserde_read.specs.private.Stack.{innermost};
+ghost use Rattle.miniserde_text.specs.private.Stack.{innermost};
 
 use crate::from_json::FromJson;
 use crate::source::Source;
-use crate::stack::Stack;
 use miniserde_text::error::{Error, Result};
 use miniserde_text::json::lex::{After, Event, Kind};
+use miniserde_text::stack::Stack;
 
 /// A value of any kind, whose content is not kept. Reading it takes no recursion, and memory only for one bit of each
 /// open container.

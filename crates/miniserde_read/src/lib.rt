@@ -6,14 +6,13 @@ mod ignored;
 mod json_text;
 mod leaf;
 mod source;
-mod stack;
 mod step;
 
 pub use from_json::{FromJson, Table};
 pub use ignored::Ignored;
 pub use json_text::from_str;
 pub use leaf::{Leaf, read_leaf};
-pub use source::Source;
 #[doc(hidden)]
-pub use stack::Stack;
+pub use miniserde_text::stack::Stack;
+pub use source::Source;
 pub use step::Step;

@@ -5,7 +5,7 @@ use Rattle.miniserde_model.specs.Event.{Event}
 use Rattle.miniserde_model.specs.Lexing.{in_members, Starts, Names, Follows}
 use Rattle.miniserde_read.specs.meaning.Objects.{Name, all_members}
 use Rattle.miniserde_read.specs.Rest.{ValueAt, MembersAt}
-use Rattle.miniserde_read.proofs.Fronts.{start_less, same_start}
+use Rattle.miniserde_text.proofs.Starting.{start_less, same_start}
 use Rattle.miniserde_read.proofs.Length.{value_least}
 use Rattle.miniserde_read.proofs.Objects.{ObjectGoes, object_goes}
 use Rattle.miniserde_read.proofs.Steps.{members_there}

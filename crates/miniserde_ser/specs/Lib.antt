@@ -1,4 +1,3 @@
 pub mod Fragment
 pub mod Trees
 pub mod Writer
-pub mod private

@@ -9,16 +9,14 @@ ghost use Rattle.miniserde_model.specs.IsTree.{IsTree};
 ghost use Rattle.miniserde_text.specs.declared.error.Error.TheVariants.{Memory};
 
 mod compact;
-mod digits;
-mod escape;
 mod impls;
-mod plain;
 
 pub use compact::to_string;
-pub use escape::escape_str;
-use escape::put_name;
 use itoa::Buffer;
+use miniserde_text::decimal::{has_room, put_digits};
 use miniserde_text::error::{Error, Result};
+pub use miniserde_text::escape::escape_str;
+use miniserde_text::escape::put_name;
 use miniserde_text::json::number::NumberText;
 use std::alloc::Global;
 use std::marker::Model;
@@ -130,11 +128,11 @@ impl Writer {
         ensures room { OnErr result (LacksRoom self.old (decimal n)) }
         ensures capacity { self.old.capacity ≤ self.new.capacity }
     {
-        if !digits::has_room(&self.text) {
+        if !has_room(&self.text) {
             return self.append(Buffer::new().format(n));
         }
         self.check()?;
-        digits::put_digits(n, &mut self.text);
+        put_digits(n, &mut self.text);
         Ok(())
     }
 

@@ -13,3 +13,9 @@ pub mod Names
 pub mod Kept
 pub mod Equal
 pub mod Tables
+pub mod Escaping
+pub mod Plain
+pub mod Decimals
+pub mod Stacks
+pub mod Starting
+pub mod Turning

@@ -19,7 +19,7 @@ static SPECIAL: [u8; 256] = [
 ];
 
 #[inline(always)]
-fn is_special(c: u8) -> bool
+pub(crate) fn is_special(c: u8) -> bool
     ensures { result ≡ is_special c }
 {
     SPECIAL[c as usize] == 1
@@ -38,7 +38,7 @@ fn specials(v: u8x32) -> u64
 
 // As `specials`, sixteen at a time.
 #[inline(always)]
-fn specials_of_sixteen(v: u8x16) -> u64
+pub(crate) fn specials_of_sixteen(v: u8x16) -> u64
     ensures { result ≡ mask_l (map is_special v) }
 {
     let controls = v.simd_lt(u8x16::splat(0x20));
@@ -49,7 +49,7 @@ fn specials_of_sixteen(v: u8x16) -> u64
 
 // As `specials`, eight at a time.
 #[inline(always)]
-fn specials_of_eight(v: u8x8) -> u64
+pub(crate) fn specials_of_eight(v: u8x8) -> u64
     ensures { result ≡ mask_l (map is_special v) }
 {
     let controls = v.simd_lt(u8x8::splat(0x20));

@@ -3,8 +3,8 @@ use Rattle.std.specs.Prelude.{◌≡◌, ℕ, true, false, is_some, List, [], �
 use Rattle.miniserde_model.specs.Event.{Event, element, key, finish}
 use Rattle.miniserde_model.specs.Lexing.{Kind, in_list, in_members, Starts, Names, Follows}
 use Rattle.miniserde_model.specs.private.Reading.{Moment, due, first, after}
-use Rattle.miniserde_read.specs.private.Stack.{pushed}
-use Rattle.miniserde_read.specs.private.Moving.{opens, between, Live}
+use Rattle.miniserde_text.specs.private.Stack.{pushed}
+use Rattle.miniserde_text.specs.private.Moving.{opens, between, Live}
 
 -- From the moment and the open containers the text between s and r spells the events, and at r all is closed.
 abbrev pub Runs : Moment → List Event → List Kind → List ℕ → List ℕ → Type 0

@@ -4,8 +4,8 @@ use Rattle.std.proofs.lemmas.Result.{err_from_is_err_and}
 use Rattle.miniserde_model.specs.private.Reading.{due, after}
 use Rattle.miniserde_text.specs.Lexer.{front_of, kind_of}
 use Rattle.miniserde_place.specs.Place.{LedTo, Begun}
-use Rattle.miniserde_read.specs.private.Stack.{pushed, innermost}
-use Rattle.miniserde_read.specs.private.Moving.{opens, between, onward}
+use Rattle.miniserde_text.specs.private.Stack.{pushed, innermost}
+use Rattle.miniserde_text.specs.private.Moving.{opens, between, onward}
 use Rattle.miniserde_read.proofs.Fronts.{start_event}
 use Rattle.miniserde_place.specs.private.Runs.{Moved}
 use Rattle.miniserde_read.proofs.Passed.{start_ends, value_passed}

@@ -1,7 +1,7 @@
 use Rattle.std.proofs.Common.{◌≡◌, None, [], is_some, length}
 use Rattle.miniserde_text.specs.Lexer.{front_of}
-use Rattle.miniserde_read.specs.private.Stack.{pushed}
-use Rattle.miniserde_read.specs.private.Moving.{between, opens}
+use Rattle.miniserde_text.specs.private.Stack.{pushed}
+use Rattle.miniserde_text.specs.private.Moving.{between, opens}
 use Rattle.miniserde_place.specs.private.Runs.{Moved}
 use Rattle.miniserde_place.proofs.engine.feed_from.Given as goal
 

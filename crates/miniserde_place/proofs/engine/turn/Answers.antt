@@ -3,7 +3,7 @@ use Rattle.std.proofs.Common.{true, false, sym, ap, subst, arith, true≢false}
 use Rattle.std.proofs.lemmas.Result.{err_from_is_err_and}
 use Rattle.miniserde_model.specs.Event.{key, element, finish}
 use Rattle.miniserde_model.specs.Lexing.{Names, Follows}
-use Rattle.miniserde_read.specs.private.Moving.{between}
+use Rattle.miniserde_text.specs.private.Moving.{between}
 use Rattle.miniserde_text.specs.Lexer.{kind_of, closes}
 use Rattle.miniserde_read.proofs.Passed.{close_passed, element_passed, key_passed, after_ends, name_ends}
 use Rattle.miniserde_place.proofs.Moved.{moved_one, barred_one, never_barred}

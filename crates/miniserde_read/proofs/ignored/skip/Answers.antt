@@ -2,8 +2,8 @@
 use Rattle.std.proofs.Common.{◌≡◌, [], None, is_some, option_map, sym, ap, ◌∙◌}
 use Rattle.std.proofs.lemmas.Result.{err_from_is_err_and}
 use Rattle.miniserde_text.specs.Lexer.{front_of, kind_of}
-use Rattle.miniserde_read.specs.private.Stack.{pushed, innermost}
-use Rattle.miniserde_read.specs.private.Moving.{opens, between}
+use Rattle.miniserde_text.specs.private.Stack.{pushed, innermost}
+use Rattle.miniserde_text.specs.private.Moving.{opens, between}
 use Rattle.miniserde_read.proofs.Passed.{Reaches-append, ends_behind}
 use Rattle.miniserde_read.proofs.Skips.{reaches_init, skip_ok, skip_none}
 use Rattle.miniserde_read.proofs.ignored.skip.Goals as goal

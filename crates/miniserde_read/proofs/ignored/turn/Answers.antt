@@ -4,7 +4,7 @@ use Rattle.std.proofs.lemmas.Result.{err_from_is_err_and, IfOk-weaker}
 use Rattle.miniserde_model.specs.Lexing.{Follows}
 use Rattle.miniserde_model.specs.private.Reading.{due}
 use Rattle.miniserde_text.specs.Lexer.{kind_of, closes}
-use Rattle.miniserde_read.specs.private.Moving.{between}
+use Rattle.miniserde_text.specs.private.Moving.{between}
 use Rattle.miniserde_read.specs.private.Runs.{Reaches}
 use Rattle.miniserde_read.proofs.Passed.{close_passed, element_passed, key_passed, after_ends, name_ends, ends_behind, Reaches-one, Reaches-append}
 use Rattle.miniserde_read.proofs.ignored.turn.Goals as goal

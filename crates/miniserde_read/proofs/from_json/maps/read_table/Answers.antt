@@ -9,7 +9,7 @@ use Rattle.miniserde_read.specs.meaning.Maps.{looked, no_key, with_entry, map_of
 use Rattle.miniserde_read.proofs.Inserts.{put-joined}
 use Rattle.std.proofs.lemmas.Option.{same_Some}
 use Rattle.miniserde_read.proofs.Fronts.{start_event}
-use Rattle.miniserde_read.proofs.Fronts.{start_less}
+use Rattle.miniserde_text.proofs.Starting.{start_less}
 use Rattle.miniserde_read.specs.Rest.{ValueAt}
 use Rattle.miniserde_read.specs.Source.{NameFollows}
 use Rattle.miniserde_read.proofs.Length.{follows_least, stands_least, value_least}

@@ -16,7 +16,7 @@ use Rattle.std.proofs.lemmas.List.{length-map}
 use Rattle.std.proofs.lemmas.Result.{IfOk-weaker}
 use Rattle.miniserde_model.specs.Tree.{Tree}
 use Rattle.miniserde_read.proofs.Fronts.{start_event}
-use Rattle.miniserde_read.proofs.Fronts.{start_less}
+use Rattle.miniserde_text.proofs.Starting.{start_less}
 use Rattle.miniserde_read.specs.Rest.{ValueAt}
 use Rattle.miniserde_read.proofs.Lacking.{AmongGoes, among_goes, among_escaped, among_some, an_element}
 use Rattle.miniserde_read.proofs.Steps.{elements_follow, elements_start}

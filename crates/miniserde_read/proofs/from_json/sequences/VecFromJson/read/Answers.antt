@@ -9,7 +9,7 @@ use Rattle.miniserde_text.specs.Lexer.{front_of}
 use Rattle.miniserde_read.specs.meaning.Lists.{list_of}
 use Rattle.miniserde_read.specs.Children.{added}
 use Rattle.miniserde_read.proofs.Fronts.{start_event}
-use Rattle.miniserde_read.proofs.Fronts.{start_less}
+use Rattle.miniserde_text.proofs.Starting.{start_less}
 use Rattle.miniserde_read.specs.Rest.{ValueAt}
 use Rattle.miniserde_read.specs.Source.{ElementFollows}
 use Rattle.miniserde_read.proofs.Length.{follows_least, value_least}

@@ -1,6 +1,0 @@
-use Rattle.std.proofs.Common.{eqb-true, sym, ◌∙◌}
-use Rattle.miniserde_ser.proofs.Plain.{lanes_plain}
-use Rattle.miniserde_ser.proofs.ser.plain.four_are_plain.Goals as goal
-
-pub returns : goal.returns
-returns c = λ none. lanes_plain 4 c.args.bytes.now c.args.at c.requires (sym c.specials_of_four-found.ensures ∙ eqb-true _ _ none)

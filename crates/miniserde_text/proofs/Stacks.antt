@@ -1,0 +1,85 @@
+-- The bits of the open containers.
+use Rattle.std.proofs.Common.{◌≡◌, ℕ, zero, suc, ◌+◌, ◌*◌, ◌/◌, ◌%◌, ◌^◌, ◌<◌, ◌≤◌, ◌≢◌, inl, inr, List, [], ◌∷◌, ◌++◌, Some, is_some, true≢false, get_or, set, length, bit_and, refl, sym, ap, ◌∙◌, arith}
+use Rattle.std.specs.Int.{bit_at}
+use Rattle.std.proofs.lemmas.Bool.{cases_eq}
+use Rattle.std.proofs.lemmas.List.{get_or-set_same, get_or-set_other, get_or_default}
+use Rattle.std.proofs.lemmas.Grind.{get_or-set_at}
+use Rattle.std.proofs.lemmas.Nat.{and_mask}
+use Rattle.std.proofs.lemmas.Nat.Bits.{shr_and_one}
+use Rattle.miniserde_model.specs.Lexing.{Kind, in_list, in_members}
+use Rattle.miniserde_text.specs.private.Stack.{bit_of, kind_by, kind_at, stack_of, innermost, outer}
+
+-- of the words only the kinds at the levels count
+same_kinds : (ws vs : List ℕ) (n : ℕ) → ((i : ℕ) → i < n → kind_at ws i ≡ kind_at vs i) → stack_of ws n ≡ stack_of vs n
+same_kinds ws vs zero h = refl
+same_kinds ws vs (suc n) h =
+    let here : kind_at ws n ≡ kind_at vs n = h n (omega arith) in
+    let rest : stack_of ws n ≡ stack_of vs n = same_kinds ws vs n (λ i l. h i (omega arith)) in
+    ap (λ k. k ∷ stack_of ws n) here ∙ ap (λ st. kind_at vs n ∷ st) rest
+
+kind_of_bit : (k : Kind) → kind_by (bit_of k) ≡ k
+kind_of_bit in_list = refl
+kind_of_bit in_members = refl
+
+-- `&` with 63 is the remainder by 64
+place : (n : ℕ) → bit_and n 63 ≡ n % 64
+place n = and_mask n 6
+
+word_grown : (ws : List ℕ) (i : ℕ) → get_or (ws ++ 0 ∷ []) i 0 ≡ get_or ws i 0
+word_grown [] zero = refl
+word_grown [] (suc i) = refl
+word_grown (w ∷ ws) zero = refl
+word_grown (w ∷ ws) (suc i) = word_grown ws i
+
+-- a word of zeros past the end changes nothing
+pub stack_grown : (ws : List ℕ) (n : ℕ) → stack_of (ws ++ 0 ∷ []) n ≡ stack_of ws n
+stack_grown ws n = same_kinds (ws ++ 0 ∷ []) ws n (λ i l. ap (λ w. kind_by (bit_at w (i % 64))) (word_grown ws (i / 64)))
+
+-- w has the bits of the word x of level n but for that level's own: the levels below stay
+below_stays : (ws : List ℕ) (n w : ℕ) → n / 64 < length ws → ((i : ℕ) → i < 64 → i ≢ n % 64 → bit_at w i ≡ bit_at (get_or ws (n / 64) 0) i) → (i : ℕ) → i < n → kind_at (set ws (n / 64) w) i ≡ kind_at ws i
+below_stays ws n w l h i b =
+    elim (cases_eq (i / 64) (n / 64)) [
+      | inl e ↦
+          let apart : i % 64 ≢ n % 64 = λ q. omega (arith, e, q, b) in
+          ap kind_by (ap (λ z. bit_at z (i % 64)) (get_or-set_at ws (n / 64) (i / 64) w 0 e l) ∙ h (i % 64) (omega arith) apart ∙ ap (λ z. bit_at (get_or ws z 0) (i % 64)) (sym e))
+      | inr e ↦ ap (λ z. kind_by (bit_at z (i % 64))) (get_or-set_other ws (n / 64) (i / 64) w 0 e)
+    ]
+
+-- level n is opened by its bit
+opened : (ws : List ℕ) (n w : ℕ) (k : Kind) → n / 64 < length ws → bit_at w (n % 64) ≡ bit_of k → ((i : ℕ) → i < 64 → i ≢ n % 64 → bit_at w i ≡ bit_at (get_or ws (n / 64) 0) i) → stack_of (set ws (n / 64) w) (suc n) ≡ k ∷ stack_of ws n
+opened ws n w k l e h =
+    let here : kind_at (set ws (n / 64) w) n ≡ k = ap (λ z. kind_by (bit_at z (n % 64))) (get_or-set_same ws (n / 64) w 0 l) ∙ ap kind_by e ∙ kind_of_bit k in
+    let rest : stack_of (set ws (n / 64) w) n ≡ stack_of ws n = same_kinds (set ws (n / 64) w) ws n (below_stays ws n w l h) in
+    ap (λ z. z ∷ stack_of (set ws (n / 64) w) n) here ∙ ap (λ st. k ∷ st) rest
+
+-- the same by the word x that was read, over the stack st
+pub stack_opened : (ws : List ℕ) (n m x w : ℕ) (k : Kind) (st : List Kind) → m ≡ n + 1 → n / 64 < length ws → x ≡ get_or ws (n / 64) x → bit_at w (bit_and n 63) ≡ bit_of k → ((i : ℕ) → i < 64 → i ≢ bit_and n 63 → bit_at w i ≡ bit_at x i) → stack_of ws n ≡ st → stack_of (set ws (n / 64) w) m ≡ k ∷ st
+stack_opened ws n m x w k st s l r e h v =
+    let next : m ≡ suc n = omega (arith, s) in
+    let word : x ≡ get_or ws (n / 64) 0 = r ∙ get_or_default ws (n / 64) x 0 l in
+    let here : bit_at w (n % 64) ≡ bit_of k = ap (bit_at w) (sym (place n)) ∙ e in
+    ap (stack_of (set ws (n / 64) w)) next ∙ opened ws n w k l here (λ i b d. h i b (λ q. d (q ∙ place n)) ∙ ap (λ z. bit_at z i) word) ∙ ap (λ z. k ∷ z) v
+
+top_at : (ws : List ℕ) (n m : ℕ) → m + 1 ≡ n → innermost (stack_of ws n) ≡ Some (kind_at ws m)
+top_at ws zero m e = absurd (omega arith)
+top_at ws (suc n) m e = let same : n ≡ m = omega arith in ap (λ z. Some (kind_at ws z)) same
+
+-- the innermost kind is that of the last level's bit in its word x
+pub stack_top : (ws : List ℕ) (n m x : ℕ) (st : List Kind) → m + 1 ≡ n → n ≤ 64 * length ws → x ≡ get_or ws (m / 64) x → stack_of ws n ≡ st → Some (kind_by (bit_and (x / 2 ^ bit_and m 63) 1)) ≡ innermost st
+stack_top ws n m x st e f r v =
+    let l : m / 64 < length ws = omega (arith, e, f) in
+    let word : x ≡ get_or ws (m / 64) 0 = r ∙ get_or_default ws (m / 64) x 0 l in
+    let bit : bit_and (x / 2 ^ bit_and m 63) 1 ≡ bit_at (get_or ws (m / 64) 0) (m % 64) = shr_and_one x (bit_and m 63) ∙ ap (bit_at x) (place m) ∙ ap (λ z. bit_at z (m % 64)) word in
+    ap (λ z. Some (kind_by z)) bit ∙ sym (top_at ws n m e) ∙ ap innermost v
+
+-- a bit that isn't 1
+pub bit_clear : (a : ℕ) → (bit_and a 1 ≡ 1 → ⊥) → bit_and a 1 ≡ 0
+bit_clear a h =
+    let bit : bit_and a 1 ≡ a % 2 = and_mask a 1 in
+    elim (cases_eq (a % 2) 1) [ inl e ↦ absurd (h (bit ∙ e)) | inr e ↦ bit ∙ omega arith ]
+
+-- ---- an innermost container
+
+pub split_top : (st : List Kind) (k : Kind) → innermost st ≡ Some k → st ≡ k ∷ outer st
+split_top [] k h = absurd (true≢false (ap is_some (sym h)))
+split_top (c ∷ st) k h = let e : c ≡ k = cc in ap (λ z. z ∷ st) e

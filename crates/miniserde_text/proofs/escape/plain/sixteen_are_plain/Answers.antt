@@ -1,0 +1,6 @@
+use Rattle.std.proofs.Common.{eqb-true, sym, ◌∙◌}
+use Rattle.miniserde_text.proofs.Plain.{lanes_plain}
+use Rattle.miniserde_text.proofs.escape.plain.sixteen_are_plain.Goals as goal
+
+pub returns : goal.returns
+returns c = λ none. lanes_plain 16 c.args.bytes.now c.args.at c.requires (sym c.specials_of_sixteen-found.ensures ∙ eqb-true _ _ none)

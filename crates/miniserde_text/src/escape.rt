@@ -1,0 +1,324 @@
+//! Strings by the escape rule.
+ghost use Rattle.std.specs.Prelude.{◌≡◌, ◌≢◌, ℕ, ◌+◌, ◌/◌, ◌%◌, ◌^◌, ◌<◌, ◌≤◌, [], ◌∷◌, ◌++◌, length, true, false};
+ghost use Rattle.std.specs.Prelude.{codes, if◌then◌else◌, ◌-◌, take, drop, slice_index, OnOk, OnErr, IfSome, IfNone, IsErrOf, string_bytes, string_len};
+ghost use Rattle.std.specs.Prelude.{string_capacity};
+ghost use Rattle.std.specs.Char.{digit_char};
+ghost use Rattle.std.specs.Str.{IsAscii, IsCharBoundary};
+ghost use Rattle.miniserde_model.specs.Bytes as bytes;
+ghost use Rattle.miniserde_model.specs.Compact.{quoted};
+ghost use Rattle.miniserde_text.specs.declared.error.Error.TheVariants.{Memory};
+ghost use Rattle.miniserde_text.specs.private.Escape.{escape, escapes};
+
+mod plain;
+
+use self::plain::is_short_and_plain;
+use crate::error::{Error, Result};
+use crate::scan::special;
+use std::str;
+
+// The end of the run of bytes from `from` on that stand for themselves.
+fn run_end(text: &[u8], from: usize) -> usize
+    requires { from ≤ length text.now }
+    ensures low { from ≤ result }
+    ensures high { result ≤ length text.now }
+    ensures plain { (k : ℕ) → from ≤ k → k < result → bytes.is_special (slice_index text.now k) ≡ false }
+    ensures found { result < length text.now → bytes.is_special (slice_index text.now result) ≡ true }
+{
+    special(text, from)
+}
+
+// The letter that stands for the byte behind a backslash, or 0.
+#[tactic(auto, unfolding(crate::specs::private::Escape::escape))]
+fn letter_of(b: u8) -> u8
+    ensures short { result ≢ 0 → escape b ≡ 92 ∷ result ∷ [] }
+    ensures control { result ≡ 0 → b < 32
+        → escape b ≡ 92 ∷ 117 ∷ 48 ∷ 48 ∷ digit_char (b / 16) ∷ digit_char (b % 16) ∷ [] }
+    ensures plain { result ≡ 0 → 32 ≤ b → escape b ≡ b ∷ [] }
+    ensures special { result ≡ 0 → bytes.is_special b ≡ true → b < 32 }
+    ensures ascii { result < 128 }
+{
+    match b {
+        8 => b'b',
+        9 => b't',
+        10 => b'n',
+        12 => b'f',
+        13 => b'r',
+        34 => b'"',
+        92 => b'\\',
+        _ => 0,
+    }
+}
+
+// How many bytes the byte is written as.
+fn byte_len(b: u8) -> usize
+    ensures len { result ≡ length (escape b) }
+    ensures low { 1 ≤ result }
+{
+    if letter_of(b) != 0 {
+        2
+    } else if b < 32 {
+        6
+    } else {
+        1
+    }
+}
+
+// How many bytes the text is written as, without the quotes, unless no `usize` holds that.
+fn escaped_len(value: &str) -> Option<usize>
+    ensures some { IfSome result (λ n. n ≡ length (escapes value.now)) }
+    ensures none { IfNone result (2 ^ 64 ≤ length (escapes value.now)) }
+{
+    let text = value.as_bytes();
+    let mut total = text.len();
+    let mut at = run_end(text, 0);
+    while at < text.len() {
+        total = total.checked_add(byte_len(text[at]) - 1)?;
+        at = run_end(text, at + 1);
+    }
+    Some(total)
+}
+
+// The hexadecimal digit, in lower case.
+fn hex_digit(n: u8) -> u8
+    requires { n < 16 }
+    ensures value { result ≡ digit_char n }
+    ensures ascii { result < 128 }
+{
+    if n < 10 { b'0' + n } else { b'a' + (n - 10) }
+}
+
+// Appends ASCII bytes in one piece, where there is room for them.
+#[inline(always)]
+fn put_ascii(bytes: &[u8], out: &mut String)
+    requires ascii { IsAscii bytes.now }
+    requires room { string_len out.old + length bytes.now ≤ string_capacity out.old }
+    ensures bytes { string_bytes out.new ≡ string_bytes out.old ++ bytes.now }
+    ensures len { string_len out.new ≡ string_len out.old + length bytes.now }
+    ensures capacity { string_capacity out.old ≤ string_capacity out.new }
+{
+    out.push_str(unsafe { str::from_utf8_unchecked(bytes) })
+        .unwrap();
+}
+
+// Appends a byte that may not stand for itself, where there is room for it.
+fn put_escape(b: u8, out: &mut String)
+    requires special { bytes.is_special b ≡ true }
+    requires room { string_len out.old + length (escape b) ≤ string_capacity out.old }
+    ensures bytes { string_bytes out.new ≡ string_bytes out.old ++ escape b }
+    ensures len { string_len out.new ≡ string_len out.old + length (escape b) }
+    ensures capacity { string_capacity out.old ≤ string_capacity out.new }
+{
+    let letter = letter_of(b);
+    if letter != 0 {
+        put_ascii(&[b'\\', letter], out);
+    } else {
+        put_ascii(
+            &[
+                b'\\',
+                b'u',
+                b'0',
+                b'0',
+                hex_digit(b / 16),
+                hex_digit(b % 16),
+            ],
+            out,
+        );
+    }
+}
+
+// Appends the bytes from `start` to `end`, where there is room for them. Between two escapes there are none.
+#[inline(always)]
+fn put_run(value: &str, start: usize, end: usize, out: &mut String)
+    requires start { IsCharBoundary value.now start }
+    requires end { IsCharBoundary value.now end }
+    requires order { start ≤ end }
+    requires room { string_len out.old + (end - start) ≤ string_capacity out.old }
+    ensures bytes { string_bytes out.new ≡ string_bytes out.old ++ take (end - start) (drop start value.now) }
+    ensures len { string_len out.new ≡ string_len out.old + (end - start) }
+    ensures capacity { string_capacity out.old ≤ string_capacity out.new }
+{
+    if start < end {
+        out.push_str(&value[start..end]).unwrap();
+    }
+}
+
+// Appends a text by the escape rule, where there is room for it: each run of bytes that stand for themselves in one
+// piece.
+fn put_escapes(value: &str, out: &mut String)
+    requires { string_len out.old + length (escapes value.now) ≤ string_capacity out.old }
+    ensures bytes { string_bytes out.new ≡ string_bytes out.old ++ escapes value.now }
+    ensures len { string_len out.new ≡ string_len out.old + length (escapes value.now) }
+    ensures capacity { string_capacity out.old ≤ string_capacity out.new }
+{
+    let text = value.as_bytes();
+    let mut start = 0;
+    while start < text.len() {
+        let at = run_end(text, start);
+        put_run(value, start, at, out);
+        if at < text.len() {
+            put_escape(text[at], out);
+            start = at + 1;
+        } else {
+            start = at;
+        }
+    }
+}
+
+// Appends a text by the escape rule, where there is room for it. Where the caller knows the text as the program is built,
+// nothing is left to look at in a short one.
+#[inline(always)]
+fn put_text(value: &str, out: &mut String)
+    requires { string_len out.old + length (escapes value.now) ≤ string_capacity out.old }
+    ensures bytes { string_bytes out.new ≡ string_bytes out.old ++ escapes value.now }
+    ensures len { string_len out.new ≡ string_len out.old + length (escapes value.now) }
+    ensures capacity { string_capacity out.old ≤ string_capacity out.new }
+{
+    if is_short_and_plain(value.as_bytes()) {
+        out.push_str(value).unwrap();
+    } else {
+        put_escapes(value, out);
+    }
+}
+
+// Whether there is room for the text however it is written, and for so many marks: a byte takes six bytes at most.
+#[inline(always)]
+fn has_ample_room(value: &str, marks: usize, out: &String) -> bool
+    ensures { result ≡ true
+        → string_len out.now + length (escapes value.now) + marks ≤ string_capacity out.now }
+{
+    let free = out.capacity() - out.len();
+    marks <= free && value.len() <= (free - marks) / 6
+}
+
+// Makes room for the text by the escape rule and so many marks, and no more than `reserve` makes for them.
+fn grow(value: &str, marks: usize, out: &mut String) -> Result<()>
+    ensures ok { OnOk result (string_len out.new + length (escapes value.now) + marks ≤ string_capacity out.new) }
+    ensures bytes { string_bytes out.new ≡ string_bytes out.old }
+    ensures len { string_len out.new ≡ string_len out.old }
+    ensures memory { OnErr result (IsErrOf result Memory) }
+    ensures room { OnErr result (string_capacity out.old
+        < string_len out.old + length (escapes value.now) + marks) }
+    ensures kept { OnErr result (string_capacity out.new ≡ string_capacity out.old) }
+    ensures capacity { string_capacity out.old ≤ string_capacity out.new }
+{
+    let Some(len) = escaped_len(value) else {
+        // No memory holds so long a text.
+        return Err(Error::Memory);
+    };
+    out.reserve(len.saturating_add(marks))?;
+    Ok(())
+}
+
+// As `grow`, and counts the text only where room is short.
+#[inline(always)]
+fn make_room(value: &str, marks: usize, out: &mut String) -> Result<()>
+    ensures ok { OnOk result (string_len out.new + length (escapes value.now) + marks ≤ string_capacity out.new) }
+    ensures bytes { string_bytes out.new ≡ string_bytes out.old }
+    ensures len { string_len out.new ≡ string_len out.old }
+    ensures memory { OnErr result (IsErrOf result Memory) }
+    ensures room { OnErr result (string_capacity out.old
+        < string_len out.old + length (escapes value.now) + marks) }
+    ensures kept { OnErr result (string_capacity out.new ≡ string_capacity out.old) }
+    ensures capacity { string_capacity out.old ≤ string_capacity out.new }
+{
+    if has_ample_room(value, marks, out) {
+        Ok(())
+    } else {
+        grow(value, marks, out)
+    }
+}
+
+// Appends the quote before a member's name, behind a comma where the member is not the first, where there is room for it.
+#[inline(always)]
+fn put_front(first: bool, out: &mut String)
+    requires { string_len out.old + 2 ≤ string_capacity out.old }
+    ensures bytes { string_bytes out.new ≡ string_bytes out.old ++ ((if first then [] else codes ",") ++ codes "\"") }
+    ensures len { string_len out.new ≡ string_len out.old + (if first then 1 else 2) }
+    ensures capacity { string_capacity out.old ≤ string_capacity out.new }
+{
+    if first {
+        out.push_str("\"").unwrap();
+    } else {
+        out.push_str(",\"").unwrap();
+    }
+}
+
+// How many bytes a member's marks take.
+#[inline(always)]
+fn marks_of(first: bool) -> usize
+    ensures { result ≡ (if first then 3 else 4) }
+{
+    if first { 3 } else { 4 }
+}
+
+/// Appends what a member begins with: a comma unless it is the first, its name as a string, and a colon. A call that
+/// fails leaves `out` as it was.
+#[doc(hidden)]
+#[inline(always)]
+pub fn put_name(first: bool, name: &str, out: &mut String) -> Result<()>
+    ensures ok { OnOk result (string_bytes out.new
+        ≡ string_bytes out.old ++ ((if first then [] else codes ",") ++ quoted name.now ++ codes ":")) }
+    ensures memory { OnErr result (IsErrOf result Memory) }
+    ensures room { OnErr result (string_capacity out.old
+        < string_len out.old + length ((if first then [] else codes ",") ++ quoted name.now ++ codes ":")) }
+    ensures err { OnErr result (string_bytes out.new ≡ string_bytes out.old) }
+    ensures kept { OnErr result (string_capacity out.new ≡ string_capacity out.old) }
+    ensures capacity { string_capacity out.old ≤ string_capacity out.new }
+{
+    make_room(name, marks_of(first), out)?;
+    put_front(first, out);
+    put_text(name, out);
+    out.push_str("\":").unwrap();
+    Ok(())
+}
+
+// Appends a short text in which each byte stands for itself, as a string.
+#[inline(always)]
+fn put_plain(value: &str, out: &mut String) -> Result<()>
+    requires plain { escapes value.now ≡ value.now }
+    requires short { length value.now < 32 }
+    ensures ok { OnOk result (string_bytes out.new ≡ string_bytes out.old ++ quoted value.now) }
+    ensures memory { OnErr result (IsErrOf result Memory) }
+    ensures room { OnErr result (string_capacity out.old < string_len out.old + length (quoted value.now)) }
+    ensures err { OnErr result (string_bytes out.new ≡ string_bytes out.old) }
+    ensures kept { OnErr result (string_capacity out.new ≡ string_capacity out.old) }
+    ensures capacity { string_capacity out.old ≤ string_capacity out.new }
+{
+    out.reserve(value.len() + 2)?;
+    out.push_str("\"").unwrap();
+    out.push_str(value).unwrap();
+    out.push_str("\"").unwrap();
+    Ok(())
+}
+
+// Appends any other text as a string.
+fn put_other(value: &str, out: &mut String) -> Result<()>
+    ensures ok { OnOk result (string_bytes out.new ≡ string_bytes out.old ++ quoted value.now) }
+    ensures memory { OnErr result (IsErrOf result Memory) }
+    ensures room { OnErr result (string_capacity out.old < string_len out.old + length (quoted value.now)) }
+    ensures err { OnErr result (string_bytes out.new ≡ string_bytes out.old) }
+    ensures kept { OnErr result (string_capacity out.new ≡ string_capacity out.old) }
+    ensures capacity { string_capacity out.old ≤ string_capacity out.new }
+{
+    make_room(value, 2, out)?;
+    out.push_str("\"").unwrap();
+    put_escapes(value, out);
+    out.push_str("\"").unwrap();
+    Ok(())
+}
+
+/// Appends a text as a string of JSON: between quotes, by the escape rule. A call that refuses leaves `out` as it was.
+pub fn escape_str(value: &str, out: &mut String) -> Result<()>
+    ensures ok { OnOk result (string_bytes out.new ≡ string_bytes out.old ++ quoted value.now) }
+    ensures memory { OnErr result (IsErrOf result Memory) }
+    ensures room { OnErr result (string_capacity out.old < string_len out.old + length (quoted value.now)) }
+    ensures err { OnErr result (string_bytes out.new ≡ string_bytes out.old) }
+    ensures kept { OnErr result (string_capacity out.new ≡ string_capacity out.old) }
+    ensures capacity { string_capacity out.old ≤ string_capacity out.new }
+{
+    if is_short_and_plain(value.as_bytes()) {
+        put_plain(value, out)
+    } else {
+        put_other(value, out)
+    }
+}
