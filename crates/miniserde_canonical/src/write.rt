@@ -16,7 +16,7 @@ use miniserde_text::escape::escape_str;
 use std::alloc::Global;
 
 /// Returns the text of pieces, and what is left of a number from which each token takes one, down to zero.
-pub fn write<'g, 't, 'a>(
+pub(crate) fn write<'g, 't, 'a>(
     alloc: Global,
     number: usize,
     pieces: &'g [Piece<'t, 'a>],

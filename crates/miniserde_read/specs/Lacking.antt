@@ -2,7 +2,7 @@
 use Rattle.std.specs.Prelude.{◌≡◌, ◌⊎◌, ℕ, zero, suc, Bool, true, false, List}
 use Rattle.miniserde_model.specs.Tree.{Tree}
 use Rattle.miniserde_model.specs.Event.{Event, seq}
-use Rattle.miniserde_model.specs.Lexing.{in_list, Starts, Follows}
+use Rattle.miniserde_model.specs.Lexing.{in_list, Follows}
 use Rattle.miniserde_text.specs.Lexer.{BeginsEscaped}
 use Rattle.miniserde_read.specs.Rest.{OneElement, ValueAt}
 use Rattle.miniserde_read.specs.Source.{Remaining}
@@ -34,8 +34,3 @@ PairLacks a b e old new = a ≡ true → b ≡ true → (e ≡ seq) × EscapedAm
 -- with a backslash, or at most n elements were read, and the list of items failed to grow.
 abbrev pub ArrayLacks : ℕ → Bool → Event → Remaining → Remaining → Type 0
 ArrayLacks n a e old new = a ≡ true → (e ≡ seq) × (EscapedAmong n true old.rest ⊎ SomeElements n true old.rest new.rest)
-
--- The text begins as a string with a backslash, or `read` of the type may return `Memory` (a is false) and its `lacking`
--- holds behind the first token.
-abbrev pub TextLacks : Bool → (Event → Remaining → Remaining → Type 0) → List ℕ → Type 0
-TextLacks a lacking text = BeginsEscaped text ⊎ ((a ≡ false) × (e : Event) × (old new : Remaining) × Starts text e old.rest × lacking e old new)

@@ -3,7 +3,6 @@ ghost use Rattle.std.specs.Prelude.{◌≡◌, List, ℕ, None, Some, Ok, Err, I
 ghost use Rattle.miniserde_model.specs.Tree.{Tree};
 ghost use Rattle.miniserde_model.specs.Value.{IsJson};
 ghost use Rattle.miniserde_text.specs.declared.error.Error.{Error};
-ghost use Rattle.miniserde_read.specs.Lacking.{TextLacks};
 
 use crate::from_json::FromJson;
 use crate::source::Source;
@@ -21,9 +20,6 @@ pub fn from_str<T: FromJson>(alloc: Global, j: &str) -> Result<T>
     ensures invalid { result ≡ Err Error.Invalid
         → (t : Tree) → IsJson j.now t → (v : T) → T.means.reads t v → ⊥ }
     ensures none { result ≡ Err Error.Invalid → (t : Tree) → IsJson j.now t → T.means.from_tree t ≡ None }
-
-    // The first token could not be decoded, or `lacking` of the type holds behind it.
-    ensures memory { result ≡ Err Error.Memory → TextLacks T.read_infallible T.lacking j.now }
 
     // No text has two trees.
     ensures one { (t u : Tree) → IsJson j.now t → IsJson j.now u → t ≡ u }

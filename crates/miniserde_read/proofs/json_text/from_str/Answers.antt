@@ -1,11 +1,11 @@
 -- The text is whitespace, the first event, what the type read behind it, and whitespace.
-use Rattle.std.proofs.Common.{◌≡◌, true, false, Some, None, inl, inr, refl, sym, subst, ◌∙◌}
+use Rattle.std.proofs.Common.{◌≡◌, Some, None, sym, subst, ◌∙◌}
 use Rattle.std.proofs.lemmas.Result.{err_from_is_err_and}
 use Rattle.miniserde_model.proofs.Unique.{one_tree}
 use Rattle.miniserde_model.specs.Tree.{Tree}
 use Rattle.miniserde_model.specs.Whitespace.{IsWhitespace}
 use Rattle.miniserde_model.specs.Lexing.{Starts}
-use Rattle.miniserde_text.specs.Lexer.{front_of, BeginsEscaped}
+use Rattle.miniserde_text.specs.Lexer.{front_of}
 use Rattle.miniserde_read.proofs.Fronts.{start_event}
 use Rattle.miniserde_read.proofs.Same.{value_same}
 use Rattle.miniserde_read.proofs.Json.{json_at, json_front, at_json}
@@ -71,22 +71,6 @@ returns-in_err-end-clause-none g c = λ e t h.
 
 pub returns-in_err-end-clause-invalid : goal.returns-in_err-end-clause-invalid
 returns-in_err-end-clause-invalid g c = λ e t h. nothing_meant g t (returns-in_err-end-clause-none g c e t h)
-
--- ---- memory is lacking
-
-pub returns-in_err-token-clause-memory : goal.returns-in_err-token-clause-memory
-returns-in_err-token-clause-memory g c = λ e.
-    let w = err_from_is_err_and c.from_residual.result c.from_residual.ensures.1 in
-    inl (subst BeginsEscaped c.new-source.ensures.rest (c.in_err-token.ensures.memory (cc (w.1, w.2, e)) c.new-source.ensures.going))
-
-pub returns-in_err-value-clause-memory : goal.returns-in_err-value-clause-memory
-returns-in_err-value-clause-memory g c = λ e.
-    let w = err_from_is_err_and c.from_residual-in_err-value.result c.from_residual-in_err-value.ensures.1 in
-    let ev = front_of c.in_ok-token.token c.token.new.self.scratch in
-    let k : Starts c.args.j.now ev c.token.new.self.rest = subst (λ z. Starts z ev c.token.new.self.rest) c.new-source.ensures.rest c.in_ok-token.ensures.ok in
-    let free = g.T.FromJson.read_infallible in
-    let takes : free ≡ false = elim free as (λ b. free ≡ b → free ≡ false) [ true ↦ λ t. let i = c.in_err-value.ensures.infallible t in absurd (cc) | false ↦ λ f. f ] refl in
-    inr (takes, ev, c.token.new.self, c.read.new.source, k, c.in_err-value.ensures.memory (cc (w.1, w.2, e)))
 
 -- ---- all is read
 
