@@ -43,19 +43,21 @@ def deep_unknown(size):
 
 
 # an empty text of each type
-EMPTY = {'value': '{}', 'map': '{}', 'hashed': '{}', 'strings': '[]', 'cubes': '[]', 'demo': '{"code":1,"message":""}'}
+EMPTY = {'value': '{}', 'canonical': '{}', 'map': '{}', 'hashed': '{}', 'strings': '[]', 'cubes': '[]', 'demo': '{"code":1,"message":""}'}
 
 # the row, the type, the text of a size, the larger size, and whether names are looked up in a tree
 JOBS = [
-    ('100,000 distinct names, rising', 'value', lambda n: names('rising', n), 100000, True),
-    ('100,000 distinct names, falling', 'value', lambda n: names('falling', n), 100000, True),
-    ('100,000 distinct names, shuffled', 'value', lambda n: names('shuffled', n), 100000, True),
-    ('100,000 equal names', 'value', lambda n: '{%s}' % ','.join(['"a":1'] * n), 100000, False),
-    ('10,000 names that share 1,000 bytes', 'value', shared, 10000, True),
-    ('a string of 1,000,000 escapes', 'value', lambda n: '"%s"' % ('\\n' * n), 1000000, False),
-    ('1,000,000 levels of lists', 'value', lambda n: '[' * n + ']' * n, 1000000, False),
-    ('1,000,000 levels of objects', 'value', lambda n: '{"":' * n + '0' + '}' * n, 1000000, False),
-    ('1,000,000 empty lists in a list', 'value', lambda n: '[%s]' % ','.join(['[]'] * n), 1000000, False),
+    *((f'{what}, {row}', kind, *rest) for what, kind in (('`Value`', 'value'), ('`canonical`', 'canonical')) for row, *rest in (
+        ('100,000 distinct names, rising', lambda n: names('rising', n), 100000, True),
+        ('100,000 distinct names, falling', lambda n: names('falling', n), 100000, True),
+        ('100,000 distinct names, shuffled', lambda n: names('shuffled', n), 100000, True),
+        ('100,000 equal names', lambda n: '{%s}' % ','.join(['"a":1'] * n), 100000, False),
+        ('10,000 names that share 1,000 bytes', shared, 10000, True),
+        ('a string of 1,000,000 escapes', lambda n: '"%s"' % ('\\n' * n), 1000000, False),
+        ('1,000,000 levels of lists', lambda n: '[' * n + ']' * n, 1000000, False),
+        ('1,000,000 levels of objects', lambda n: '{"":' * n + '0' + '}' * n, 1000000, False),
+        ('100,000 levels of objects with names that fall', lambda n: '{"b":1,"a":' * n + '0' + '}' * n, 100000, False),
+        ('1,000,000 empty lists in a list', lambda n: '[%s]' % ','.join(['[]'] * n), 1000000, False))),
     ('`BTreeMap<String, u64>`, names falling', 'map', lambda n: names('falling', n), 100000, True),
     ('`BTreeMap<String, u64>`, names shuffled', 'map', lambda n: names('shuffled', n), 100000, True),
     ('`BTreeMap<String, u64>`, equal names', 'map', lambda n: '{%s}' % ','.join(['"a":1'] * n), 100000, False),
