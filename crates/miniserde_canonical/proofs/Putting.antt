@@ -3,14 +3,13 @@ use Rattle.std.proofs.Common.{◌≡◌, ◌≤◌, ◌<◌, ◌-◌, ◌+◌, �
 use Rattle.std.proofs.lemmas.List.{map-append, take-map, drop-map, length-map, take_all, drop_all}
 use Rattle.std.specs.Borrow.{Bor}
 use Rattle.miniserde_canonical.specs.Token.{Token}
-use Rattle.miniserde_canonical.specs.private.Nodes.{token_of}
+use Rattle.miniserde_canonical.specs.private.Nodes.{tokens_of}
 use Rattle.miniserde_canonical.specs.private.Pieces.{part_of, parts_of, lists_of, between, Unfolds, Waits}
-use Rattle.miniserde_canonical.specs.private.Written.{written, ends, put, Writes, TakesOff}
+use Rattle.miniserde_canonical.specs.private.Written.{written, Writes, TakesOff}
 use Rattle.miniserde_canonical.specs.declared.node.Piece.{Piece}
 use Rattle.miniserde_canonical.specs.declared.node.Node.{Node}
 use Rattle.miniserde_canonical.specs.declared.node.Piece.TheVariants as piece
-use Rattle.miniserde_canonical.proofs.Unfolding.{unfolds_nil, unfolds_one, unfolds_group, waits_push, waits_pop}
-use Rattle.miniserde_canonical.proofs.Texts.{writes_one}
+use Rattle.miniserde_canonical.proofs.Unfolding.{unfolds_nil, unfolds_run, unfolds_group, waits_push, waits_pop}
 
 pub part_at : (ps : List Piece) (i : ℕ) (d x : Piece) → i < length ps → get_or ps i d ≡ x → parts_of (drop i ps) ≡ part_of x ∷ parts_of (drop (i + 1) ps)
 part_at ps i d x l e = ap parts_of (drop-cons ps i d l) ∙ ap (λ z. part_of z ∷ parts_of (drop (suc i) ps)) e ∙ ap (λ z. part_of x ∷ parts_of (drop z ps)) (sym (add-one i))
@@ -18,12 +17,12 @@ part_at ps i d x l e = ap parts_of (drop-cons ps i d l) ∙ ap (λ z. part_of z 
 abbrev pub Rest : List Piece → List Piece → ℕ → List ℕ → Bool → ℕ → List ℕ → Bool → ℕ → Type 0
 Rest gs ps i old first start new after left = (ks : List Token) → Unfolds (parts_of gs) (parts_of ps) ks → (ls : List Token) × Unfolds (parts_of gs) (parts_of (drop i ps)) ls × Writes old first ks new after ls × TakesOff start ks left ls
 
-pub put_node : (gs ps : List Piece) (i : ℕ) (d : Piece) (n : Bor Node) (old new new' : List ℕ) (first after after' : Bool) (start left left' : ℕ) → i < length ps → get_or ps i d ≡ piece.Node n → Rest gs ps i old first start new after left → new' ≡ new ++ put after (token_of n.now) → after' ≡ ends (token_of n.now) → left' ≡ left - 1 → Rest gs ps (i + 1) old first start new' after' left'
-put_node gs ps i d n old new new' first after after' start left left' l e r p q f = λ ks u.
+pub put_run : (gs ps : List Piece) (i : ℕ) (d : Piece) (n : Bor (List Node)) (old new new' : List ℕ) (first after after' : Bool) (start left left' : ℕ) → i < length ps → get_or ps i d ≡ piece.Run n → Rest gs ps i old first start new after left → ((xs : List Token) → new' ++ written after' xs ≡ new ++ written after (tokens_of n.now ++ xs)) → left' ≡ left - length (tokens_of n.now) → Rest gs ps (i + 1) old first start new' after' left'
+put_run gs ps i d n old new new' first after after' start left left' l e r p f = λ ks u.
     let s = r ks u in
-    let t = unfolds_one (parts_of gs) (parts_of (drop (i + 1) ps)) (token_of n.now) s.0 (subst (λ z. Unfolds (parts_of gs) z s.0) (part_at ps i d (piece.Node n) l e) s.1) in
-    let w : Writes old first ks new after (token_of n.now ∷ t.0) = subst (λ z. Writes old first ks new after z) t.1 s.2 in
-    (t.0, t.2, subst (λ z. Writes old first ks new' z t.0) (sym q) (writes_one old first ks new new' after (token_of n.now) t.0 w p), (s.3.0 + 1, omega (arith, s.3.1, ap length t.1), omega (arith, f, s.3.2)))
+    let t = unfolds_run (parts_of gs) (parts_of (drop (i + 1) ps)) (tokens_of n.now) s.0 (subst (λ z. Unfolds (parts_of gs) z s.0) (part_at ps i d (piece.Run n) l e) s.1) in
+    let more : Writes old first ks new' after' t.0 = λ xs. p (t.0 ++ xs) ∙ ap (λ z. new ++ written after z) (sym (append_assoc (tokens_of n.now) t.0 xs) ∙ ap (λ z. z ++ xs) (sym t.1)) ∙ s.2 xs in
+    (t.0, t.2, more, (s.3.0 + length (tokens_of n.now), omega (arith, s.3.1, ap length t.1, length-append (tokens_of n.now) t.0), omega (arith, f, s.3.2)))
 
 pub parts_between : (a b : ℕ) (gs : List Piece) → parts_of (take (b - a) (drop a gs)) ≡ between a b (parts_of gs)
 parts_between a b gs = sym (take-map part_of (b - a) (drop a gs)) ∙ ap (λ z. take (b - a) z) (sym (drop-map part_of a gs))
@@ -53,6 +52,11 @@ put_end gs ps i old new first after start left was now l r k = λ ks xs u w.
     let s = r ks u in
     let n = unfolds_nil (parts_of gs) s.0 (subst (λ z. Unfolds (parts_of gs) (parts_of z) s.0) (drop_all i ps l) s.1) in
     (xs, subst (λ z. Waits (parts_of gs) (lists_of z) xs) (sym k) w, ap (λ z. new ++ written after (z ++ xs)) (sym n) ∙ s.2 xs, ap (λ z. left - length (z ++ xs)) (sym n) ∙ taken_off start left ks s.0 xs s.3)
+
+-- ---- a run, node by node
+
+abbrev pub RunRest : List Node → ℕ → List ℕ → Bool → List ℕ → Bool → Type 0
+RunRest ns i old first new after = (xs : List Token) → new ++ written after (tokens_of (drop i ns) ++ xs) ≡ old ++ written first (tokens_of ns ++ xs)
 
 -- ---- the lists that wait
 

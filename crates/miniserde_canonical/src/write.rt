@@ -2,7 +2,7 @@
 ghost use Rattle.std.specs.Prelude.{◌≡◌, ◌++◌, ◌≤◌, ◌-◌, ◌+◌, ◌⊎◌, [], ℕ, List, take, drop, length, IfOk, OnOk, OnErr, IsErrOf, string_bytes, decimal, false};
 ghost use Rattle.miniserde_text.specs.declared.error.Error.TheVariants.{Memory};
 ghost use Rattle.miniserde_canonical.specs.Token.{Token};
-ghost use Rattle.miniserde_canonical.specs.private.Nodes.{token_of};
+ghost use Rattle.miniserde_canonical.specs.private.Nodes.{token_of, tokens_of};
 ghost use Rattle.miniserde_canonical.specs.private.Pieces.{parts_of, lists_of, Unfolds, Waits};
 ghost use Rattle.miniserde_canonical.specs.private.Weights.{Ordered, weights, load, loads};
 ghost use Rattle.miniserde_canonical.specs.private.Written.{written, ends, put, Writes};
@@ -62,10 +62,9 @@ fn put_part<'g, 't, 'a>(
     let mut after = first;
     for i in 0..part.len() {
         match part[i] {
-            Piece::Node(node) => {
-                put(out, node, after)?;
-                after = ends(node);
-                *left = left.saturating_sub(1);
+            Piece::Run(nodes) => {
+                after = put_run(out, nodes, after)?;
+                *left = left.saturating_sub(nodes.len());
             }
             Piece::Group(from, to) => {
                 later.push(&part[i + 1..])?;
@@ -73,6 +72,21 @@ fn put_part<'g, 't, 'a>(
                 return Ok(after);
             }
         }
+    }
+    Ok(after)
+}
+
+// Writes nodes that stand together.
+#[inline(always)]
+fn put_run(out: &mut String, nodes: &[Node<'_>], first: bool) -> Result<bool>
+    ensures ok { IfOk result (λ after. (ks : List Token) → string_bytes out.new ++ written after ks
+        ≡ string_bytes out.old ++ written first (tokens_of nodes.now ++ ks)) }
+    ensures memory { OnErr result (IsErrOf result Memory) }
+{
+    let mut after = first;
+    for node in nodes {
+        put(out, node, after)?;
+        after = ends(node);
     }
     Ok(after)
 }

@@ -1,7 +1,9 @@
 -- The parts that are left are those of the rest of the list.
-use Rattle.std.proofs.Common.{refl}
+use Rattle.std.proofs.Common.{refl, sym, ap, ◌∙◌, ◌-◌}
+use Rattle.std.proofs.lemmas.List.{length-map}
+use Rattle.miniserde_canonical.specs.private.Nodes.{token_of}
 use Rattle.miniserde_canonical.proofs.Weights.{less_group}
-use Rattle.miniserde_canonical.proofs.Putting.{put_node, put_group, put_end}
+use Rattle.miniserde_canonical.proofs.Putting.{put_run, put_group, put_end}
 use Rattle.miniserde_canonical.proofs.write.put_part.Goals as goal
 
 pub returns-in-Group-clause-ok : goal.returns-in-Group-clause-ok
@@ -11,7 +13,7 @@ returns-in-Group-clause-ok c =
 pub loop-i-preserved : goal.loop-i-preserved
 loop-i-preserved c = record {
   kept = c.loop-i.invariant.kept;
-  rest = put_node c.args.groups.now c.args.part.now c.loop-i.i _ c.in-Node.node _ _ _ c.args.first c.loop-i.after _ _ _ _ c.loop-i-test.true c.in-Node.is c.loop-i.invariant.rest c.in_ok-put-in-Node.ensures.ok c.ends-after.ensures c.saturating_sub.ensures;
+  rest = put_run c.args.groups.now c.args.part.now c.loop-i.i _ c.in-Run.nodes _ _ _ c.args.first c.loop-i.after c.in_ok-after-in-Run.after _ _ _ c.loop-i-test.true c.in-Run.is c.loop-i.invariant.rest c.in_ok-after-in-Run.ensures.ok (c.saturating_sub.ensures ∙ ap (λ z. c.loop-i.left - z) (sym (length-map c.in-Run.nodes.now token_of)));
 }
 
 pub returns-clause-ok : goal.returns-clause-ok
