@@ -121,23 +121,18 @@ def measure(programs, job, folder, rounds, with_instructions):
     return figures
 
 
-def table(programs, rows, mode, whats):
+def table(programs, rows, mode, what):
+    """Prints the figures of each job that has them, and ours in multiples of the others'."""
     ours, others = programs[0], programs[1:]
-    heads = ['job'] + ['%s, %s' % (what, p.name) for what in whats for p in programs]
-    heads += ['%s, to %s' % (what, p.name) for what in whats for p in others]
+    heads = ['job', *(p.name for p in programs), *(f'to {p.name}' for p in others)]
     print('| ' + ' | '.join(heads) + ' |\n|' + '---|' * len(heads))
     for label, figures in rows:
-        if not any((ours.name, mode, what) in figures for what in whats):
+        if (ours.name, mode, what) not in figures:
             continue
-
-        def cell(p, what):
-            return '%.1f' % figures[p.name, mode, what] if (p.name, mode, what) in figures else '-'
-
-        def ratio(p, what):
-            there = figures.get((p.name, mode, what), 0)
-            return '%.2f' % (figures[ours.name, mode, what] / there) if there > 0 else '-'
-        print('| ' + ' | '.join([label] + [cell(p, w) for w in whats for p in programs]
-                                + [ratio(p, w) for w in whats for p in others]) + ' |')
+        found = [figures.get((p.name, mode, what)) for p in programs]
+        cells = ['-' if it is None else '%.1f' % it for it in found]
+        cells += ['%.2f' % (found[0] / it) if it and it > 0 else '-' for it in found[1:]]
+        print('| ' + ' | '.join([label, *cells]) + ' |')
     print()
 
 
@@ -160,10 +155,12 @@ def main():
     print(file=sys.stderr)
     if not rows:
         sys.exit('measure.py: no job has %s in it' % a.only)
-    whats = ['time'] if a.no_instructions else ['instructions', 'time']
-    for mode in ('read', 'write', 'both'):
-        print({'read': '### Read and drop', 'write': '### Write (both less read)', 'both': '### Read and write'}[mode] + '\n')
-        table(a.programs, rows, mode, whats + ([] if mode == 'write' else ['memory']))
+    for mode, title in (('read', 'Read and drop'), ('write', 'Write (both less read)'), ('both', 'Read and write')):
+        for what, unit in (('instructions', 'instructions a byte'), ('time', 'nanoseconds a byte'),
+                           ('memory', 'peak memory in multiples of the text')):
+            if any((a.programs[0].name, mode, what) in figures for _, figures in rows):
+                print(f'### {title}: {unit}\n')
+                table(a.programs, rows, mode, what)
 
 
 if __name__ == '__main__':
