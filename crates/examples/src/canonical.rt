@@ -7,14 +7,15 @@ ghost use Rattle.miniserde.specs.Normal.{norm};
 
 use miniserde::error::Result;
 use miniserde::json::value::read_is_normal;
-use miniserde::json::{Value, canonical, from_str, to_string};
+use miniserde::json;
+use miniserde::json::{canonical, from_str, to_string};
 use std::alloc::Global;
 
 /// Parses a document and writes it again: its canonical text.
 pub fn rewritten(alloc: Global, text: &str) -> Result<String>
     ensures { IfOk result (λ s. (t : Tree) × IsJson text.now t × (string_bytes s ≡ compact (norm t))) }
 {
-    let document: Value = from_str(alloc, text)?;
+    let document: json::Value = from_str(alloc, text)?;
     read_is_normal();
     to_string(alloc, &document)
 }
