@@ -5,4 +5,5 @@ pub mod Percents
 pub mod Rates
 pub mod Services
 pub mod Totals
+pub mod Versions
 pub mod laws

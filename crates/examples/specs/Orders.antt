@@ -1,7 +1,11 @@
 -- Orders, and what becomes of them.
-use Rattle.std.specs.Prelude.{true}
+use Rattle.std.specs.Prelude.{◌+◌, ◌-◌, ◌^◌, min, true}
 use Rattle.examples.specs.declared.order.Order.{Order}
 
 -- the order, paid
 abbrev pub settled_of : Order → Order
 settled_of v = record v { paid = true }
+
+-- the order, of one more, and at most 2 ^ 32 - 1
+abbrev pub one_more_of : Order → Order
+one_more_of v = record v { quantity = min (v.quantity + 1) (2 ^ 32 - 1) }

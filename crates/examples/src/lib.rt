@@ -12,4 +12,7 @@ pub mod rates;
 pub mod readme;
 pub mod service;
 pub mod services;
+pub mod tasks;
 pub mod totals;
+pub mod users;
+pub mod versions;

@@ -11,12 +11,12 @@ use miniserde::json::from_str;
 use miniserde::{Error, Result};
 use std::alloc::Global;
 
-// The sum of the prices, where it is below 2^64.
-fn sum(prices: &[u64]) -> Option<u64>
-    ensures { SomeIff result (sum_of prices.now < 2 ^ 64) (sum_of prices.now) }
+// The sum of a basket's prices, where it is below 2^64.
+fn sum(basket: &Basket) -> Option<u64>
+    ensures { SomeIff result (sum_of basket.now.prices.items < 2 ^ 64) (sum_of basket.now.prices.items) }
 {
     let mut total: u64 = 0;
-    for price in prices {
+    for price in &basket.prices {
         total = total.checked_add(*price)?;
     }
     Some(total)
@@ -34,5 +34,5 @@ pub fn total(alloc: Global, text: &str) -> Result<Option<u64>>
         → (t : Tree) → IsJson text.now t → (v : Basket) → ⟦<Basket as FromJson>⟧.means.reads t v → ⊥ }
 {
     let basket: Basket = from_str(alloc, text)?;
-    Ok(sum(&basket.prices))
+    Ok(sum(&basket))
 }

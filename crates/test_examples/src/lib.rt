@@ -9,3 +9,5 @@ mod loading;
 mod percents;
 #[cfg(test)]
 mod services;
+#[cfg(test)]
+mod versions;

@@ -4,6 +4,8 @@
 mod bodies;
 mod cache;
 mod loading;
+mod only;
+mod refused;
 mod request;
 mod store;
 
@@ -25,6 +27,27 @@ fn stored(alloc: Global) -> Result<bool> {
     store::put(alloc, &mut rows, 1, "[2]")?;
     store::put(alloc, &mut rows, 1, "[1, {\"x\": -0}]")?;
     store::is_row(alloc, &rows, 1, "[1,{\"x\":0}]")
+}
+
+/// Settings: five with a field that is refused, good ones, and a text that is no JSON.
+const TEXTS: &str = r#"{"name":7,"port":80,"hosts":[],"limits":{}}
+{"name":"a","port":"x","port":80,"hosts":[],"limits":{}}
+{"name":"a","port":80,"tls":{"cert":""},"hosts":[],"limits":{}}
+{"name":"a","port":80,"limits":{}}
+{"name":"a","port":80,"hosts":[],"limits":{"x":-1}}
+{"name":"a","port":80,"hosts":[],"limits":{}}
+{"name":"a","port":80"#;
+
+/// Prints for each text the field that it is refused for.
+fn tell(rt: &HostRuntime) -> io::Result<()> {
+    for text in TEXTS.lines() {
+        match refused::refused(rt.alloc(), text) {
+            Ok(Some(part)) => println!(rt; "refused: {part:?}")?,
+            Ok(None) => println!(rt; "refused: nothing")?,
+            Err(error) => println!(rt; "refused: {error}")?,
+        }
+    }
+    Ok(())
 }
 
 fn main(rt: HostRuntime) -> io::Result<()> {
@@ -50,5 +73,5 @@ fn main(rt: HostRuntime) -> io::Result<()> {
         Ok(noted) => println!(rt; "request: {noted}")?,
         Err(error) => println!(rt; "request: {error}")?,
     }
-    Ok(())
+    tell(&rt)
 }
