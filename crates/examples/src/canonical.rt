@@ -6,8 +6,8 @@ ghost use Rattle.miniserde.specs.Compact.{compact};
 ghost use Rattle.miniserde.specs.Normal.{norm};
 
 use miniserde::error::Result;
-use miniserde::json::value::read_is_normal;
 use miniserde::json;
+use miniserde::json::value::read_is_normal;
 use miniserde::json::{canonical, from_str, to_string};
 use std::alloc::Global;
 
