@@ -5,7 +5,8 @@ use Rattle.std.specs.Prelude.{◌||◌}
 use Rattle.std.specs.Char.{digit_value}
 use Rattle.std.proofs.lemmas.Bool.Decides.{nat_tests}
 use Rattle.miniserde_text.specs.private.Reading.{short_at}
-use Rattle.miniserde_model.specs.Bytes.{is_number_byte, is_special}
+use Rattle.miniserde_model.specs.Bytes.{is_number_byte, is_special, is_space}
+use Rattle.miniserde_text.specs.declared.json.lex.bytes.TheConstants.{SPACE}
 use Rattle.miniserde_text.specs.declared.json.lex.tables.TheConstants.{DIGITS, SHORT, NUMBER}
 use Rattle.miniserde_text.specs.declared.scan.TheConstants.{SPECIAL}
 
@@ -58,3 +59,6 @@ short_is c h = rw (short_code_at c h) (short_code c)
 
 pub short_ascii : (c : ℕ) → c < 256 → get_or SHORT c 0 < 128
 short_ascii c h = rw (short_code_at c h) (code_ascii c)
+
+pub space_at : (c : ℕ) → c < 256 → (get_or SPACE c 0 == 1) ≡ is_space c
+space_at c h = one_if (is_space c) _ (alike (λ k. get_or SPACE k 0) (λ k. cond (is_space k) 1 0) 256 c tt h)
