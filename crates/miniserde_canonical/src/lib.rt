@@ -1,4 +1,4 @@
-//! Any JSON text into its canonical text, over nodes that borrow from the text.
+//! Makes canonical text of any JSON text, over nodes that borrow from it.
 #![tactic(auto)]
 
 mod arrange;

@@ -1,4 +1,4 @@
-//! Pieces into text.
+//! Writes pieces as text.
 ghost use Rattle.std.specs.Prelude.{◌≡◌, ◌++◌, ◌≤◌, ◌-◌, ◌+◌, ◌⊎◌, [], ℕ, List, take, drop, length, IfOk, OnOk, OnErr, IsErrOf, string_bytes, decimal, false};
 ghost use Rattle.miniserde_text.specs.declared.error.Error.TheVariants.{Memory};
 ghost use Rattle.miniserde_canonical.specs.Token.{Token};
@@ -15,7 +15,7 @@ use miniserde_text::error::Result;
 use miniserde_text::escape::escape_str;
 use std::alloc::Global;
 
-/// Returns the text of pieces, and what is left of a number from which each token takes one, down to zero.
+/// Returns the text of the pieces, and `number` less one for each token, down to zero.
 pub(crate) fn write<'g, 't, 'a>(
     alloc: Global,
     number: usize,
@@ -38,7 +38,7 @@ pub(crate) fn write<'g, 't, 'a>(
     Ok((out, left))
 }
 
-/// Writes pieces up to a group, which is then to be written first, and what stands behind it after that.
+/// Writes pieces up to the first group. That group is next on `later`, and the pieces behind it follow.
 #[inline(always)]
 fn put_part<'g, 't, 'a>(
     out: &mut String,
@@ -76,7 +76,7 @@ fn put_part<'g, 't, 'a>(
     Ok(after)
 }
 
-// Writes nodes that stand together.
+// Writes a run of nodes.
 #[inline(always)]
 fn put_run(out: &mut String, nodes: &[Node<'_>], first: bool) -> Result<bool>
     ensures ok { IfOk result (λ after. (ks : List Token) → string_bytes out.new ++ written after ks
@@ -102,7 +102,7 @@ fn group_at<'g, 't, 'a>(groups: &'g [Piece<'t, 'a>], from: usize, to: usize) -> 
     }
 }
 
-/// Whether a value ends there.
+/// Returns whether a value ends with the node.
 #[inline(always)]
 fn ends(node: &Node<'_>) -> bool
     ensures { result ≡ ends (token_of node.now) }
