@@ -14,10 +14,10 @@ pub use Rattle.miniserde_model.specs.String
 pub use Rattle.miniserde_model.specs.Tree
 pub use Rattle.miniserde_model.specs.Value
 pub use Rattle.miniserde_model.specs.Whitespace
-pub use Rattle.miniserde_text.specs.Error
+pub use Rattle.miniserde_model.specs.Error
 pub use Rattle.miniserde_text.specs.Lexer
-pub use Rattle.miniserde_text.specs.Keys
-pub use Rattle.miniserde_text.specs.Ranged
+pub use Rattle.miniserde_keys.specs.Keys
+pub use Rattle.miniserde_keys.specs.Ranged
 pub use Rattle.miniserde_read.specs.Lacking
 pub use Rattle.miniserde_read.specs.Meant
 pub use Rattle.miniserde_read.specs.Rest

@@ -1,7 +1,7 @@
 -- Refusals of a text, as faults of a run.
 use Rattle.std.proofs.Common.{◌≡◌, refl}
-use Rattle.miniserde_text.specs.declared.error.Error.{Error}
-use Rattle.miniserde_text.specs.declared.error.Error.TheVariants as error
+use Rattle.miniserde_model.specs.declared.error.Error.{Error}
+use Rattle.miniserde_model.specs.declared.error.Error.TheVariants as error
 use Rattle.miniserde_canon.specs.declared.canon.Fault.TheVariants.{Invalid}
 use Rattle.miniserde_canon.specs.Runs.{fault_of}
 

@@ -8,8 +8,8 @@ use Rattle.miniserde_model.specs.Compact.{compact}
 use Rattle.miniserde_model.specs.Distinct.{distinct}
 use Rattle.miniserde_model.specs.Normal.{norm}
 use Rattle.miniserde_model.specs.Size.{size}
-use Rattle.miniserde_text.specs.declared.error.Error.{Error}
-use Rattle.miniserde_text.specs.declared.error.Error.TheVariants as error
+use Rattle.miniserde_model.specs.declared.error.Error.{Error}
+use Rattle.miniserde_model.specs.declared.error.Error.TheVariants as error
 use Rattle.miniserde_canon.specs.declared.canon.Fault.{Fault}
 use Rattle.miniserde_canon.specs.declared.canon.Fault.TheVariants.{Invalid, Memory, Read, Write}
 

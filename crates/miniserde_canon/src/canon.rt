@@ -17,7 +17,7 @@ mod counted;
 
 pub use counted::Counted;
 use miniserde_canonical::{canonical, canonical_unique};
-use miniserde_text::error::Error;
+use miniserde_model::error::Error;
 use std::alloc::Global;
 use std::io::{Read, Write};
 

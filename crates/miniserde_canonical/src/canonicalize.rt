@@ -7,12 +7,12 @@ ghost use Rattle.miniserde_model.specs.Distinct.{distinct};
 ghost use Rattle.miniserde_model.specs.Normal.{norm};
 ghost use Rattle.miniserde_model.specs.Size.{size};
 ghost use Rattle.miniserde_model.specs.Value.{IsJson};
-ghost use Rattle.miniserde_text.specs.declared.error.Error.TheVariants.{Invalid};
+ghost use Rattle.miniserde_model.specs.declared.error.Error.TheVariants.{Invalid};
 
 use crate::arrange::arrange;
 use crate::read::read;
 use crate::write::write;
-use miniserde_text::error::{Error, Result};
+use miniserde_model::error::{Error, Result};
 use std::alloc::Global;
 
 /// Returns the canonical text of a JSON text: one text for each meaning, whatever the order of members, the spelling of

@@ -1,6 +1,6 @@
 //! Writes pieces as text.
 ghost use Rattle.std.specs.Prelude.{◌≡◌, ◌++◌, ◌≤◌, ◌-◌, ◌+◌, ◌⊎◌, [], ℕ, List, take, drop, length, IfOk, OnOk, OnErr, IsErrOf, string_bytes, decimal, false};
-ghost use Rattle.miniserde_text.specs.declared.error.Error.TheVariants.{Memory};
+ghost use Rattle.miniserde_model.specs.declared.error.Error.TheVariants.{Memory};
 ghost use Rattle.miniserde_canonical.specs.Token.{Token};
 ghost use Rattle.miniserde_canonical.specs.private.Nodes.{token_of, tokens_of};
 ghost use Rattle.miniserde_canonical.specs.private.Pieces.{parts_of, lists_of, Unfolds, Waits};
@@ -10,8 +10,8 @@ ghost use Rattle.miniserde_model.specs.Compact.{quoted};
 
 use crate::node::{Node, Piece, Plain};
 use itoa::Buffer;
+use miniserde_model::error::Result;
 use miniserde_text::decimal::{has_room, put_digits};
-use miniserde_text::error::Result;
 use miniserde_text::escape::escape_str;
 use std::alloc::Global;
 

@@ -4,7 +4,7 @@ use Rattle.std.specs.Prelude.{◌&&◌, is_some, IsSome, option_map, option_and_
 use Rattle.miniserde_model.specs.Tree.{Tree, null, list, members, Trees, no_trees, tree, Members, no_members, member}
 use Rattle.miniserde_read.specs.meaning.Lists.{EachReads, ListReads, each, list_of}
 use Rattle.miniserde_read.specs.meaning.Options.{OptionReads, option_of}
-use Rattle.miniserde_text.specs.Keys.{Key}
+use Rattle.miniserde_keys.specs.Keys.{Key}
 use Rattle.miniserde_read.specs.meaning.Arrays.{exactly, array_of}
 use Rattle.miniserde_read.specs.meaning.Pairs.{PairReads, pair_of, both}
 use Rattle.miniserde_read.specs.meaning.Objects.{Name, all_members}

@@ -3,7 +3,7 @@
 use Rattle.std.specs.Prelude.{ℕ, false, true, List, [], ◌∷◌, ◌++◌, map, length, nat_le, ◌&&◌, is_some, Option, Some, None, option_map}
 use Rattle.miniserde_model.specs.Event.{Event}
 use Rattle.miniserde_model.specs.Position.{start, complete}
-use Rattle.miniserde_text.specs.Keys.{Key}
+use Rattle.miniserde_keys.specs.Keys.{Key}
 use Rattle.miniserde_place.specs.Leaf.{nothing_more}
 use Rattle.miniserde_place.specs.Place.{Shown, Meaning}
 use Rattle.miniserde_place.specs.Container.{Gathering, no_child, joining, child_shows}

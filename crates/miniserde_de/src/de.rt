@@ -5,7 +5,7 @@
 //! `null`, `finish`.
 ghost use Rattle.std.specs.Prelude.{◌≡◌, ◌≢◌, true, IsOk, Option, Some, None, Ok, Err, [], IfOk, IfErr};
 ghost use Rattle.miniserde_model.specs.Position.{complete};
-ghost use Rattle.miniserde_text.specs.declared.error.Error.{Error};
+ghost use Rattle.miniserde_model.specs.declared.error.Error.{Error};
 ghost use Rattle.miniserde_place.specs.Place.{IsFresh};
 ghost use Rattle.miniserde_de.specs.Tied.{Agree, meant_by};
 
@@ -14,11 +14,11 @@ mod impls;
 pub use impls::{
     ArrayPlace, BTreeMapPlace, BoxPlace, HashMapPlace, OptionPlace, PairPlace, VecPlace,
 };
+pub use miniserde_keys::{MapKey, Ranged, WholeKey};
+use miniserde_model::error::{Error, Result};
 pub use miniserde_place::de::leaf::{BoolPlace, IntegerPlace, StringPlace, UnitPlace};
 pub use miniserde_place::de::{Ignore, Step, Visitor, container, ignore, leaf};
 pub use miniserde_read::{FromJson, Ignored, Source};
-use miniserde_text::error::{Error, Result};
-pub use miniserde_text::{MapKey, Ranged, WholeKey};
 use std::alloc::Global;
 
 /// A type with a place, which collects a value from events. The place means what the type does.

@@ -1,6 +1,7 @@
 pub mod Bytes
 pub mod Compact
 pub mod Distinct
+pub mod Error
 pub mod Event
 pub mod Examples
 pub mod IsTree

@@ -1,12 +1,15 @@
-//! What a JSON text means: the definitions stand in `specs/`, and each function here carries a law over them.
+//! What a JSON text means: the definitions stand in `specs/`, and each function here carries a law over them. The two
+//! errors of the library stand in `error`.
 //!
-//! No function does anything when it runs.
+//! No function here does anything when it runs.
 #![tactic(auto)]
 
 ghost use Rattle.miniserde_model.specs.Examples.{NormalForms, RefusedTexts, SpelledTexts};
 ghost use Rattle.miniserde_model.specs.Laws.{CanonicalIsShortest, CanonicalTells, CompactIsValue, CompactSpells, DistinctKeepsSize, EventsComplete};
 ghost use Rattle.miniserde_model.specs.Laws.{NoneBeginsAnother, NormIsDistinct, NormIsNormal, NormIsOnly, NormIsTree};
 ghost use Rattle.miniserde_model.specs.Laws.{NormKeepsLast, NormRises, PutGivesNorm, SpelledIsTree, TextHasOneTree};
+
+pub mod error;
 
 /// A text has one tree at most.
 pub fn text_has_one_tree()

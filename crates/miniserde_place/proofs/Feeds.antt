@@ -12,7 +12,7 @@ use Rattle.miniserde_text.specs.private.Stack.{pushed, innermost}
 use Rattle.miniserde_text.specs.private.Moving.{opens, between}
 use Rattle.miniserde_place.proofs.Leads.{LeadsBy-append}
 use Rattle.miniserde_text.specs.Lexer.{front_of}
-use Rattle.miniserde_text.specs.declared.error.Error.{Error}
+use Rattle.miniserde_model.specs.declared.error.Error.{Error}
 use Rattle.miniserde_text.specs.declared.json.lex.Event as lexed
 use Rattle.miniserde_read.specs.Rest.{ValueAt}
 use Rattle.miniserde_read.specs.private.Runs.{Runs}

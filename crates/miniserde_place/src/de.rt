@@ -13,15 +13,15 @@ ghost use Rattle.miniserde_read.specs.Step.{event_of};
 ghost use Rattle.miniserde_place.specs.Place.{Meaning, Takes, IsFresh, first_refusal};
 ghost use Rattle.miniserde_read.specs.Step.{IsTreeEvent};
 ghost use Rattle.miniserde_place.specs.Container.{is_complete};
-ghost use Rattle.miniserde_text.specs.declared.error.Error.{Error};
+ghost use Rattle.miniserde_model.specs.declared.error.Error.{Error};
 
 pub mod container;
 pub mod leaf;
 
 pub use crate::ignore::Ignore;
 pub use crate::ignore::fresh::ignore;
+use miniserde_model::error::{Error, Result};
 pub use miniserde_read::Step;
-use miniserde_text::error::{Error, Result};
 use std::alloc::Global;
 
 /// A place: it takes all events of one value, those of nested values too. Events may come in any order; the

@@ -4,7 +4,7 @@ ghost use Rattle.miniserde_model.specs.Tree.{Tree};
 ghost use Rattle.miniserde_model.specs.Event.{events};
 ghost use Rattle.miniserde_model.specs.Position.{start};
 ghost use Rattle.miniserde_text.specs.Lexer.{front_of, kind_of};
-ghost use Rattle.miniserde_text.specs.declared.error.Error.{Error};
+ghost use Rattle.miniserde_model.specs.declared.error.Error.{Error};
 ghost use Rattle.miniserde_read.specs.Rest.{ValueAt};
 ghost use Rattle.miniserde_read.specs.Step.{IsTreeEvent};
 ghost use Rattle.miniserde_text.specs.private.Moving.{between, onward, opens};
@@ -13,8 +13,8 @@ ghost use Rattle.miniserde_place.specs.Place.{LedBy, HasBegun, LedTo, Barred};
 ghost use Rattle.miniserde_place.specs.private.Runs.{Moved, RunsBarred};
 
 use crate::de::{Step, Visitor};
+use miniserde_model::error::{Error, Result};
 use miniserde_read::{Source, Stack};
-use miniserde_text::error::{Error, Result};
 use miniserde_text::json::lex::{After, Event, Kind};
 
 /// Reads one value, whose first token is `token`, by a fresh place of its own.

@@ -5,7 +5,7 @@ ghost use Rattle.miniserde_model.specs.Position.{start};
 pub(crate) mod fresh;
 
 use crate::de::{Step, Visitor};
-use miniserde_text::error::{Error, Result};
+use miniserde_model::error::{Error, Result};
 use std::alloc::Global;
 
 /// A place that takes one value of any shape, and collects nothing. It counts the containers that are open.

@@ -4,13 +4,13 @@ ghost use Rattle.miniserde_model.specs.Tree.{Tree};
 ghost use Rattle.miniserde_model.specs.Value.{IsJson};
 ghost use Rattle.miniserde_model.specs.Event.{events};
 ghost use Rattle.miniserde_model.specs.Position.{start};
-ghost use Rattle.miniserde_text.specs.declared.error.Error.{Error};
+ghost use Rattle.miniserde_model.specs.declared.error.Error.{Error};
 ghost use Rattle.miniserde_place.specs.Place.{LedBy, HasBegun};
 
 use crate::de::Visitor;
 use crate::engine::feed_from;
+use miniserde_model::error::{Error, Result};
 use miniserde_read::Source;
-use miniserde_text::error::{Error, Result};
 use std::alloc::Global;
 
 /// Hands a fresh place the events of a whole text, in order, until the text ends or something is refused.

@@ -2,7 +2,7 @@
 use Rattle.std.proofs.Common.{◌≡◌, Option, Some, None, refl}
 use Rattle.std.specs.Prelude.{option_and_then, option_map}
 use Rattle.miniserde_model.specs.Tree.{Tree}
-use Rattle.miniserde_text.specs.Keys.{Key}
+use Rattle.miniserde_keys.specs.Keys.{Key}
 use Rattle.miniserde_read.specs.meaning.Objects.{Name}
 use Rattle.miniserde_read.specs.meaning.Maps.{Entries, with_entry, map_member}
 

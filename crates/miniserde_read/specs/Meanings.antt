@@ -1,7 +1,7 @@
 -- The meaning of each of std's types, by the meanings of its parts. V is what a part reads, and W the whole.
 use Rattle.std.specs.Prelude.{ℕ, ℤ, pos, Bool, List, map, Option, Some, option_map, ◌≡◌, refl, ⊤}
 use Rattle.miniserde_model.specs.Tree.{null, truth, str}
-use Rattle.miniserde_text.specs.Keys.{Key}
+use Rattle.miniserde_keys.specs.Keys.{Key}
 use Rattle.miniserde_read.specs.Meant.{Meant}
 use Rattle.miniserde_read.specs.meaning.Words.{unit_of, boolean_of, string_of}
 use Rattle.miniserde_read.specs.laws.Words.{unit-given, truth-given, text-given}

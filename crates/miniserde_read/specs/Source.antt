@@ -4,7 +4,7 @@ use Rattle.miniserde_model.specs.Lexing.{in_list, in_members, Starts, Names, Fol
 use Rattle.miniserde_text.specs.Lexer.{front_of, text_of}
 use Rattle.miniserde_text.specs.declared.json.lex.Text.{Text}
 use Rattle.miniserde_text.specs.declared.json.lex.Event.{Event}
-use Rattle.miniserde_text.specs.declared.error.Error.{Error}
+use Rattle.miniserde_model.specs.declared.error.Error.{Error}
 
 -- the text that is left, the first error if there was one, and the scratch text
 pub record Remaining : Type 0 where

@@ -3,7 +3,7 @@ ghost use Rattle.std.specs.Prelude.{◌≡◌, Bool, true, false, List, ℕ, Opt
 ghost use Rattle.miniserde_model.specs.Tree.{Tree};
 ghost use Rattle.miniserde_model.specs.Event as event;
 ghost use Rattle.miniserde_text.specs.Lexer.{front_of};
-ghost use Rattle.miniserde_text.specs.declared.error.Error.{Error};
+ghost use Rattle.miniserde_model.specs.declared.error.Error.{Error};
 ghost use Rattle.miniserde_read.specs.Meant.{Meant};
 ghost use Rattle.miniserde_read.specs.Rest.{ValueAt};
 ghost use Rattle.miniserde_read.specs.Source.{Remaining};
@@ -19,7 +19,7 @@ mod sequences;
 
 use crate::source::Source;
 pub use maps::Table;
-use miniserde_text::error::{Error, Result};
+use miniserde_model::error::{Error, Result};
 use miniserde_text::json::lex::Event;
 
 /// A type that reads itself from a JSON text (RFC 8259).

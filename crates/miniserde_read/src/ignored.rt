@@ -3,7 +3,7 @@ ghost use Rattle.std.specs.Prelude.{◌≡◌, ◌<◌, List, ℕ, None, Some, O
 ghost use Rattle.miniserde_model.specs.Tree.{Tree};
 ghost use Rattle.miniserde_model.specs.private.Reading.{due};
 ghost use Rattle.miniserde_text.specs.Lexer.{front_of, kind_of};
-ghost use Rattle.miniserde_text.specs.declared.error.Error.{Error};
+ghost use Rattle.miniserde_model.specs.declared.error.Error.{Error};
 ghost use Rattle.miniserde_read.specs.Meanings.{ignored_meant};
 ghost use Rattle.miniserde_read.specs.Rest.{ValueAt};
 ghost use Rattle.miniserde_read.specs.Step.{IsTreeEvent};
@@ -13,7 +13,7 @@ ghost use Rattle.miniserde_text.specs.private.Stack.{innermost};
 
 use crate::from_json::FromJson;
 use crate::source::Source;
-use miniserde_text::error::{Error, Result};
+use miniserde_model::error::{Error, Result};
 use miniserde_text::json::lex::{After, Event, Kind};
 use miniserde_text::stack::Stack;
 

@@ -2,11 +2,11 @@
 ghost use Rattle.std.specs.Prelude.{◌≡◌, List, ℕ, None, Some, Ok, Err, IfOk};
 ghost use Rattle.miniserde_model.specs.Tree.{Tree};
 ghost use Rattle.miniserde_model.specs.Value.{IsJson};
-ghost use Rattle.miniserde_text.specs.declared.error.Error.{Error};
+ghost use Rattle.miniserde_model.specs.declared.error.Error.{Error};
 
 use crate::from_json::FromJson;
 use crate::source::Source;
-use miniserde_text::error::Result;
+use miniserde_model::error::Result;
 use std::alloc::Global;
 
 /// Parses one JSON value that spans the whole text (RFC 8259, section 2).

@@ -6,14 +6,14 @@ ghost use Rattle.miniserde_model.specs.Event as event;
 ghost use Rattle.miniserde_model.specs.Lexing.{Starts, Names, Follows};
 ghost use Rattle.miniserde_model.specs.Whitespace.{IsWhitespace};
 ghost use Rattle.miniserde_text.specs.Lexer.{front_of, text_of, kind_of, closes, BeginsEscaped};
-ghost use Rattle.miniserde_text.specs.declared.error.Error.{Error};
+ghost use Rattle.miniserde_model.specs.declared.error.Error.{Error};
 ghost use Rattle.miniserde_read.specs.Step.{event_of};
 ghost use Rattle.miniserde_read.specs.Lacking.{EscapedElement};
 ghost use Rattle.miniserde_read.specs.Rest.{ElementsAt, MembersAt};
 ghost use Rattle.miniserde_read.specs.Source.{ElementFollows, NameFollows};
 
 use crate::step::Step;
-use miniserde_text::error::{Error, Result};
+use miniserde_model::error::{Error, Result};
 use miniserde_text::json::lex::{After, Event, Kind, Lexer, Text};
 use std::alloc::Global;
 use std::marker::Model;

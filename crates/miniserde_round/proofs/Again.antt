@@ -6,7 +6,7 @@ use Rattle.std.proofs.lemmas.Bool.Decides.{nat_tests}
 use mir.Syntax.{Width}
 use mir.Val.{hbits}
 use Rattle.miniserde_model.specs.Tree.{Tree, null, truth, nonneg, neg, num, str, list, members, no_trees, tree}
-use Rattle.miniserde_text.specs.Ranged.{OptionReal}
+use Rattle.miniserde_keys.specs.Ranged.{OptionReal}
 use Rattle.miniserde_read.specs.meaning.Integers.{fits_signed, ReadsUnsigned, ReadsSigned}
 use Rattle.miniserde_read.specs.meaning.Lists.{EachReads, ListReads}
 use Rattle.miniserde_read.specs.meaning.Options.{OptionReads}

@@ -9,7 +9,7 @@ use Rattle.std.proofs.lemmas.List.Elements.{All-contains, All-from_recursion}
 use Rattle.std.proofs.lemmas.Map.Lookups.{exact_bytes}
 use Rattle.miniserde_model.specs.Tree.{Tree, Members, no_members, member}
 use Rattle.miniserde_model.specs.Normal.{text_cmp, placed, with_first, last_of}
-use Rattle.miniserde_text.specs.Keys.{Key}
+use Rattle.miniserde_keys.specs.Keys.{Key}
 use Rattle.miniserde_read.specs.meaning.Objects.{Name}
 use Rattle.miniserde_read.specs.meaning.Maps.{key_at, met, met_at, AllTaken, entry_at}
 use Rattle.miniserde_read.proofs.Entries.{same, contains-first, contains-later, found, at-contained}

@@ -12,8 +12,8 @@ use Rattle.std.proofs.lemmas.Map.Keys.{IsDistinct-from_sorted}
 use Rattle.miniserde_model.specs.Tree.{Tree, Members, no_members, member, members}
 use Rattle.miniserde_model.specs.Normal.{or_else, last_of}
 use Rattle.miniserde_model.proofs.Lookups.{last_with_first}
-use Rattle.miniserde_text.specs.Keys.{Key}
-use Rattle.miniserde_text.specs.laws.Keys.{ReadsBack}
+use Rattle.miniserde_keys.specs.Keys.{Key}
+use Rattle.miniserde_keys.specs.laws.Keys.{ReadsBack}
 use Rattle.miniserde_read.specs.meaning.Objects.{Name}
 use Rattle.miniserde_read.specs.meaning.Maps.{entry_at, looked}
 use Rattle.miniserde_read.proofs.Entries.{same, same_code, code_same, contains-cases, contains-first, contains-later, found, at-contained}

@@ -11,8 +11,8 @@ use Rattle.std.proofs.lemmas.List.Elements.{All-contains, All-from_recursion}
 use Rattle.std.proofs.lemmas.Map.Keys.{IsDistinct-from_sorted}
 use Rattle.miniserde_model.specs.Tree.{Tree, members}
 use Rattle.miniserde_model.specs.Normal.{with_first}
-use Rattle.miniserde_text.specs.Keys.{Key}
-use Rattle.miniserde_text.specs.laws.Keys.{ReadsBack}
+use Rattle.miniserde_keys.specs.Keys.{Key}
+use Rattle.miniserde_keys.specs.laws.Keys.{ReadsBack}
 use Rattle.miniserde_read.specs.meaning.Objects.{Name}
 use Rattle.miniserde_read.specs.meaning.Maps.{met, met_at, AllTaken, entry_at, MeansAt, MapReads}
 use Rattle.miniserde_read.proofs.Entries.{same, same_code, code_same, found}

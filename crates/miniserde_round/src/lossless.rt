@@ -1,11 +1,11 @@
 //! Types whose values are told apart by what is written.
 ghost use Rattle.std.specs.Prelude.{◌≡◌, IfOk, Err};
 ghost use Rattle.miniserde_model.specs.Tree.{null};
-ghost use Rattle.miniserde_text.specs.declared.error.Error.{Error};
+ghost use Rattle.miniserde_model.specs.declared.error.Error.{Error};
 
 use crate::round_trip::{RoundTrip, read_again};
-use miniserde_text::error::Result;
-use miniserde_text::{MapKey, WholeKey};
+use miniserde_keys::{MapKey, WholeKey};
+use miniserde_model::error::Result;
 use std::alloc::Global;
 use std::collections::{BTreeMap, HashMap};
 use std::hash::{BuildHasher, Hash};

@@ -1,12 +1,12 @@
 //! Values that read back as they were written.
 ghost use Rattle.std.specs.Prelude.{◌≡◌, IfOk, Ok, Err};
 ghost use Rattle.miniserde_round.specs.RoundTrip.{ReadsAgain};
-ghost use Rattle.miniserde_text.specs.declared.error.Error.{Error};
+ghost use Rattle.miniserde_model.specs.declared.error.Error.{Error};
 
+use miniserde_keys::{MapKey, Ranged};
+use miniserde_model::error::{Error, Result};
 use miniserde_read::{FromJson, from_str};
 use miniserde_ser::ser::{Serialize, to_string};
-use miniserde_text::error::{Error, Result};
-use miniserde_text::{MapKey, Ranged};
 use std::alloc::Global;
 use std::collections::{BTreeMap, HashMap};
 use std::hash::{BuildHasher, Hash};

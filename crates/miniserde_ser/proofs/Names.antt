@@ -6,8 +6,8 @@ use Rattle.std.proofs.lemmas.Option.{same_Some}
 use Rattle.std.proofs.lemmas.Bool.{false_from_ne_true}
 use Rattle.std.proofs.lemmas.Slice.Eq.{bytes_eq-Decides}
 use Rattle.miniserde_model.specs.Tree.{Tree}
-use Rattle.miniserde_text.specs.Keys.{Key}
-use Rattle.miniserde_text.specs.laws.Keys.{ReadsBack}
+use Rattle.miniserde_keys.specs.Keys.{Key}
+use Rattle.miniserde_keys.specs.laws.Keys.{ReadsBack}
 use Rattle.miniserde_ser.specs.Trees.{members_of}
 
 -- by the laws of a key

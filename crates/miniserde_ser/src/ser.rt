@@ -6,15 +6,15 @@ ghost use Rattle.std.specs.Prelude.{◌≡◌, ◌++◌, true, false, OnOk, OnEr
 ghost use Rattle.miniserde_model.specs.Tree.{Tree};
 ghost use Rattle.miniserde_model.specs.Compact.{compact};
 ghost use Rattle.miniserde_model.specs.IsTree.{IsTree};
-ghost use Rattle.miniserde_text.specs.declared.error.Error.TheVariants.{Memory};
+ghost use Rattle.miniserde_model.specs.declared.error.Error.TheVariants.{Memory};
 
 mod compact;
 mod impls;
 
 pub use compact::to_string;
 use itoa::Buffer;
+use miniserde_model::error::{Error, Result};
 use miniserde_text::decimal::{has_room, put_digits};
-use miniserde_text::error::{Error, Result};
 pub use miniserde_text::escape::escape_str;
 use miniserde_text::escape::put_name;
 use miniserde_text::json::number::NumberText;
@@ -63,7 +63,7 @@ impl Writer {
     ghost use Rattle.std.specs.Prelude.{◌≡◌, [], ◌++◌, true, false, OnOk, OnErr, IfOk, IsErrOf, IsUtf8, string_bytes};
     ghost use Rattle.std.specs.Prelude.{string_capacity, ◌≤◌, if◌then◌else◌, codes, decimal};
     ghost use Rattle.miniserde_model.specs.Compact.{compact, quoted};
-    ghost use Rattle.miniserde_text.specs.declared.error.Error.TheVariants.{Memory};
+    ghost use Rattle.miniserde_model.specs.declared.error.Error.TheVariants.{Memory};
     ghost use Rattle.miniserde_ser.specs.Writer.{appended, with_first, with_refused, LacksRoom};
     ghost use Rattle.miniserde_ser.specs.Fragment.{fragment_tree};
 

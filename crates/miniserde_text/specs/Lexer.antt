@@ -7,7 +7,7 @@ use Rattle.miniserde_model.specs.Event.{nothing, boolean, string, negative, nonn
 use Rattle.miniserde_model.specs.Event as tree
 use Rattle.miniserde_model.specs.Lexing.{in_list, in_members, Stands, BeforeColon}
 use Rattle.miniserde_model.specs.Lexing as grammar
-use Rattle.miniserde_text.specs.declared.error.Error.{Error}
+use Rattle.miniserde_model.specs.declared.error.Error.{Error}
 use Rattle.miniserde_text.specs.declared.json.lex.Text.{Text}
 use Rattle.miniserde_text.specs.declared.json.lex.Text.TheVariants.{Input, Scratch}
 use Rattle.miniserde_text.specs.declared.json.lex.Event.{Event}

@@ -6,14 +6,14 @@ ghost use Rattle.std.specs.Char.{digit_char};
 ghost use Rattle.std.specs.Str.{IsAscii, IsCharBoundary};
 ghost use Rattle.miniserde_model.specs.Bytes as bytes;
 ghost use Rattle.miniserde_model.specs.Compact.{quoted};
-ghost use Rattle.miniserde_text.specs.declared.error.Error.TheVariants.{Memory};
+ghost use Rattle.miniserde_model.specs.declared.error.Error.TheVariants.{Memory};
 ghost use Rattle.miniserde_text.specs.private.Escape.{escape, escapes};
 
 mod plain;
 
 use self::plain::is_short_and_plain;
-use crate::error::{Error, Result};
 use crate::scan::special;
+use miniserde_model::error::{Error, Result};
 use std::str;
 
 // The end of the run of bytes from `from` on that stand for themselves.

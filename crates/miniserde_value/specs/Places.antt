@@ -2,8 +2,8 @@
 use Rattle.std.specs.Prelude.{◌≡◌, Bool, true, [], Option, Some, None, Result, Err, OnOk, refl, string_bytes}
 use Rattle.miniserde_model.specs.Tree.{Tree}
 use Rattle.miniserde_model.specs.Event.{Event}
-use Rattle.miniserde_text.specs.declared.error.Error.{Error}
-use Rattle.miniserde_text.specs.declared.error.Error.TheVariants.{Invalid}
+use Rattle.miniserde_model.specs.declared.error.Error.{Error}
+use Rattle.miniserde_model.specs.declared.error.Error.TheVariants.{Invalid}
 use Rattle.miniserde_place.specs.Place.{Shown, Meaning, first_refusal}
 use Rattle.miniserde_ser.specs.Trees.{trees_of, members_of}
 use Rattle.miniserde_value.specs.declared.json.value.Value.{Value}

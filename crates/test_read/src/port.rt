@@ -2,9 +2,9 @@
 ghost use Rattle.miniserde_model.specs.Tree.{nonneg};
 ghost use Rattle.miniserde_read.specs.Meanings.{box_meant};
 
+use miniserde_model::error::Result;
 use miniserde_read::{FromJson, Source};
 use miniserde_ser::ser::{Serialize, Writer};
-use miniserde_text::error::Result;
 use miniserde_text::json::lex::Event;
 
 /// A port.

@@ -1,7 +1,7 @@
 //! Values that are skipped must be grammatical.
 
+use miniserde_model::error::{Error, Result};
 use miniserde_read::{Ignored, from_str};
-use miniserde_text::error::{Error, Result};
 use std::alloc::Global;
 
 fn skip(alloc: Global, text: &str) -> Result<()> {

@@ -1,8 +1,8 @@
 //! Tables of cases: a text, ` => `, and what is written of the value; a line without ` => ` is a text that is invalid.
 
+use miniserde_model::error::{Error, Result};
 use miniserde_read::{FromJson, from_str};
 use miniserde_ser::ser::{Serialize, to_string};
-use miniserde_text::error::{Error, Result};
 use std::alloc::Global;
 
 /// Returns the text of the value that a text means for a type.

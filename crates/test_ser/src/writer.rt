@@ -1,8 +1,8 @@
 //! The writer, and what std's types are written as.
 
 use crate::wrong::{Wrong, expect, expect_ok};
+use miniserde_model::error::{Error, Result};
 use miniserde_ser::ser::{Fragment, Serialize, Writer, escape_str};
-use miniserde_text::error::{Error, Result};
 use miniserde_text::json::number::NumberText;
 use std::alloc::Global;
 use std::collections::{BTreeMap, HashMap};

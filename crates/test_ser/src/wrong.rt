@@ -13,7 +13,7 @@ pub fn expect(holds: bool, case: &'static str) -> Result<(), Wrong> {
 
 /// Fails with a case unless it holds, also where it fails to allocate.
 pub fn expect_ok(
-    holds: miniserde_text::error::Result<bool>,
+    holds: miniserde_model::error::Result<bool>,
     case: &'static str,
 ) -> Result<(), Wrong> {
     expect(matches!(holds, Ok(true)), case)

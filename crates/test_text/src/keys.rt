@@ -1,11 +1,11 @@
 //! Keys of maps. A line of a table is a name, ` => `, and the text of the key that it is read as; a line without
 //! ` => ` is a name that is invalid.
 ghost use Rattle.std.specs.Prelude.{◌≡◌, Err, IfOk, true};
-ghost use Rattle.miniserde_text.specs.declared.error.Error.TheVariants.{Invalid};
+ghost use Rattle.miniserde_model.specs.declared.error.Error.TheVariants.{Invalid};
 
 use crate::wrong::{Wrong, expect, is_displayed};
-use miniserde_text::MapKey;
-use miniserde_text::error::{Error, Result};
+use miniserde_keys::MapKey;
+use miniserde_model::error::{Error, Result};
 use std::alloc::Global;
 use std::fmt::Display;
 

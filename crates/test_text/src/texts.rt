@@ -2,7 +2,7 @@
 ghost use Rattle.std.specs.Prelude.{◌<◌, ◌≤◌, length};
 
 use crate::wrong::{Wrong, expect, expect_ok, is_displayed};
-use miniserde_text::error::{Error, Result};
+use miniserde_model::error::{Error, Result};
 use miniserde_text::json::lex::{After, Event, Kind, Lexer, Text};
 use miniserde_text::json::number::NumberText;
 use miniserde_text::scan::special;

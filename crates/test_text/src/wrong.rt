@@ -16,7 +16,7 @@ pub fn expect(holds: bool, case: &'static str) -> Result<(), Wrong> {
 
 /// Fails with a case unless it holds, also where it fails to allocate.
 pub fn expect_ok(
-    holds: miniserde_text::error::Result<bool>,
+    holds: miniserde_model::error::Result<bool>,
     case: &'static str,
 ) -> Result<(), Wrong> {
     expect(matches!(holds, Ok(true)), case)
@@ -27,6 +27,6 @@ pub fn is_displayed<T: Display>(
     alloc: Global,
     value: &T,
     text: &str,
-) -> miniserde_text::error::Result<bool> {
+) -> miniserde_model::error::Result<bool> {
     Ok(value.to_string(alloc)?.as_str() == text)
 }

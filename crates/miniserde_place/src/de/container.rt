@@ -4,13 +4,13 @@ ghost use Rattle.miniserde_model.specs.Position.{complete};
 ghost use Rattle.miniserde_read.specs.Step.{event_of};
 ghost use Rattle.miniserde_place.specs.Place.{LedTo, Barred};
 ghost use Rattle.miniserde_read.specs.Step.{IsTreeEvent};
-ghost use Rattle.miniserde_text.specs.declared.error.Error.{Error};
+ghost use Rattle.miniserde_model.specs.declared.error.Error.{Error};
 
 mod collect;
 
 use super::{Step, Visitor};
 pub use collect::Collect;
-use miniserde_text::error::{Error, Result};
+use miniserde_model::error::{Error, Result};
 use std::alloc::Global;
 
 /// Where the place stands.

@@ -2,11 +2,11 @@
 ghost use Rattle.std.specs.Prelude.{◌≡◌, Bool, true, Option, Some, Err, List};
 ghost use Rattle.miniserde_place.specs.Leaf.{from_one_event, leaf_shows};
 ghost use Rattle.miniserde_place.specs.laws.Leaf.{one-event};
-ghost use Rattle.miniserde_text.specs.declared.error.Error.{Error};
+ghost use Rattle.miniserde_model.specs.declared.error.Error.{Error};
 
 use super::{Step, Visitor};
+use miniserde_model::error::{Error, Result};
 pub use miniserde_read::{Leaf, read_leaf};
-use miniserde_text::error::{Error, Result};
 use std::alloc::Global;
 
 /// The place of `()`.

@@ -3,7 +3,7 @@ use Rattle.std.proofs.Common.{◌≡◌, true, false, cond, List, Option, Some, 
 use Rattle.std.specs.Prelude.{◌↔◌, IsSome, option_and_then, option_map, bytes_eq}
 use Rattle.std.proofs.lemmas.Option.{same_Some}
 use Rattle.miniserde_model.specs.Tree.{Tree, null, truth, nonneg, neg, num, str, list, members, Members, no_members, member}
-use Rattle.miniserde_text.specs.Keys.{Key}
+use Rattle.miniserde_keys.specs.Keys.{Key}
 use Rattle.miniserde_read.specs.meaning.Objects.{Name, all_members}
 use Rattle.miniserde_read.specs.meaning.Maps.{key_at, met, met_at, AllTaken, entry_at, MeansAt, MapReads, Entries, no_key, standing, with_entry, looked, map_member, map_of}
 

@@ -1,7 +1,7 @@
 -- Maps, and what a map's tree means. What equality looks at of a key is its code; content is all that counts of it.
 use Rattle.std.specs.Prelude.{cond, List, [], ◌∷◌, Option, Some, None, option_and_then, option_map, IsSome, bytes_eq, ◌≡◌, ⊤}
 use Rattle.miniserde_model.specs.Tree.{Tree, members, Members, no_members, member}
-use Rattle.miniserde_text.specs.Keys.{Key}
+use Rattle.miniserde_keys.specs.Keys.{Key}
 use Rattle.miniserde_read.specs.meaning.Objects.{Name, object_of, all_members}
 
 -- ---- what a map's tree means

@@ -1,12 +1,12 @@
 //! Arrays.
 ghost use Rattle.std.specs.Prelude.{◌≡◌, length, Ok, Err, IfOk, IfErr};
-ghost use Rattle.miniserde_text.specs.declared.error.Error.{Error};
+ghost use Rattle.miniserde_model.specs.declared.error.Error.{Error};
 ghost use Rattle.miniserde_read.specs.Lacking.{ArrayLacks};
 ghost use Rattle.miniserde_read.specs.Meanings.{array_meant};
 
 use super::FromJson;
 use crate::source::Source;
-use miniserde_text::error::{Error, Result};
+use miniserde_model::error::{Error, Result};
 use miniserde_text::json::lex::{After, Event, Kind};
 
 impl<T: FromJson, const N: usize> FromJson for [T; N] {

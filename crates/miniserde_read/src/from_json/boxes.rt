@@ -3,7 +3,7 @@ ghost use Rattle.miniserde_read.specs.Meanings.{box_meant};
 
 use super::FromJson;
 use crate::source::Source;
-use miniserde_text::error::Result;
+use miniserde_model::error::Result;
 use miniserde_text::json::lex::Event;
 
 impl<T: FromJson> FromJson for Box<T> {

@@ -5,7 +5,7 @@ ghost use Rattle.miniserde_read.specs.Meanings.{unit_meant, boolean_meant, unsig
 use super::FromJson;
 use crate::leaf::read_leaf;
 use crate::source::Source;
-use miniserde_text::error::Result;
+use miniserde_model::error::Result;
 use miniserde_text::json::lex::Event;
 
 impl FromJson for () {

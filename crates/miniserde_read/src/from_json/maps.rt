@@ -2,8 +2,8 @@
 ghost use Rattle.std.specs.Prelude.{◌≡◌, [], List, ℕ, None, Some, Ok, Err, IfOk, OnErr, IsErrOf};
 ghost use Rattle.miniserde_model.specs.Tree.{Tree};
 ghost use Rattle.miniserde_text.specs.Lexer.{front_of};
-ghost use Rattle.miniserde_text.specs.declared.error.Error.{Error};
-ghost use Rattle.miniserde_text.specs.declared.error.Error.TheVariants.{Memory};
+ghost use Rattle.miniserde_model.specs.declared.error.Error.{Error};
+ghost use Rattle.miniserde_model.specs.declared.error.Error.TheVariants.{Memory};
 ghost use Rattle.miniserde_read.specs.Meanings.{map_meant};
 ghost use Rattle.miniserde_read.specs.Rest.{ValueAt};
 ghost use Rattle.miniserde_read.specs.Step.{IsTreeEvent};
@@ -11,8 +11,8 @@ ghost use Rattle.miniserde_read.specs.meaning.Maps.{looked, with_entry};
 
 use super::FromJson;
 use crate::source::Source;
-use miniserde_text::MapKey;
-use miniserde_text::error::{Error, Result};
+use miniserde_keys::MapKey;
+use miniserde_model::error::{Error, Result};
 use miniserde_text::json::lex::Event;
 use std::alloc::Global;
 use std::collections::{BTreeMap, HashMap};

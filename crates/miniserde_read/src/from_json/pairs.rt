@@ -4,7 +4,7 @@ ghost use Rattle.miniserde_read.specs.Meanings.{pair_meant};
 
 use super::FromJson;
 use crate::source::Source;
-use miniserde_text::error::{Error, Result};
+use miniserde_model::error::{Error, Result};
 use miniserde_text::json::lex::{After, Event, Kind};
 
 impl<A: FromJson, B: FromJson> FromJson for (A, B) {

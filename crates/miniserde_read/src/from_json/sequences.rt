@@ -3,7 +3,7 @@ ghost use Rattle.miniserde_read.specs.Meanings.{list_meant};
 
 use super::FromJson;
 use crate::source::Source;
-use miniserde_text::error::{Error, Result};
+use miniserde_model::error::{Error, Result};
 use miniserde_text::json::lex::Event;
 
 impl<T: FromJson> FromJson for Vec<T> {

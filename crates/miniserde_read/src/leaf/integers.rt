@@ -4,7 +4,7 @@ ghost use Rattle.miniserde_read.specs.Meanings.{unsigned_meant, signed_meant};
 
 use super::Leaf;
 use crate::step::Step;
-use miniserde_text::error::{Error, Result};
+use miniserde_model::error::{Error, Result};
 use std::alloc::Global;
 
 impl Leaf for u8 {

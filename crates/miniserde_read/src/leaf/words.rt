@@ -4,7 +4,7 @@ ghost use Rattle.miniserde_read.specs.Meanings.{unit_meant, boolean_meant, strin
 
 use super::Leaf;
 use crate::step::Step;
-use miniserde_text::error::{Error, Result};
+use miniserde_model::error::{Error, Result};
 use std::alloc::Global;
 
 impl Leaf for () {

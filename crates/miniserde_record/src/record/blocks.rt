@@ -1,8 +1,8 @@
 //! Fields of a struct in blocks of four, eight and sixteen. A check of nested slots takes time for each slot that it passes,
 //! and for each block here.
 use super::slots::{Slot, Slots};
+use miniserde_model::error::Result;
 use miniserde_read::{FromJson, Source};
-use miniserde_text::error::Result;
 use std::alloc::Global;
 
 /// Four fields, and the ones after them.

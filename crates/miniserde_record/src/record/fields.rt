@@ -1,7 +1,7 @@
 //! The fields of a struct, collected from events one after another.
 ghost use Rattle.std.specs.Prelude.{◌≡◌, true, Option, None, Some, Ok, Err, [], IfOk, option_map, is_some, map};
 ghost use Rattle.miniserde_model.specs.Position.{complete};
-ghost use Rattle.miniserde_text.specs.declared.error.Error.{Error};
+ghost use Rattle.miniserde_model.specs.declared.error.Error.{Error};
 ghost use Rattle.miniserde_read.specs.Step.{event_of};
 ghost use Rattle.miniserde_place.specs.Place.{Takes, IsFresh, first_refusal};
 ghost use Rattle.miniserde_read.specs.Step.{IsTreeEvent};
@@ -11,8 +11,8 @@ ghost use Rattle.miniserde_record.specs.FieldPlaces.{FieldsMeaning, no_field_pla
 use super::slots::or_missing;
 use super::structs::Parts;
 use miniserde_de::de::Deserialize;
+use miniserde_model::error::{Error, Result};
 use miniserde_place::de::{Ignore, Step, Visitor, ignore};
-use miniserde_text::error::{Error, Result};
 use std::alloc::Global;
 use std::mem;
 

@@ -4,8 +4,8 @@ ghost use Rattle.miniserde_record.specs.FieldPlaces.{field_places_inside};
 use super::fields::{Field, FieldOf, Fields};
 use super::structs::Parts;
 use miniserde_de::de::Deserialize;
+use miniserde_model::error::{Error, Result};
 use miniserde_place::de::Step;
-use miniserde_text::error::{Error, Result};
 use std::alloc::Global;
 
 /// Four fields, and the ones after them, by the places of their values. A check of nested fields takes twice the time

@@ -3,12 +3,12 @@ ghost use Rattle.std.specs.Prelude.{◌≡◌, ◌++◌, true, false, List, [], 
 ghost use Rattle.miniserde_model.specs.Tree.{Tree, members};
 ghost use Rattle.miniserde_model.specs.Compact.{compact};
 ghost use Rattle.miniserde_model.specs.IsTree.{IsTree, AreNamedTrees};
-ghost use Rattle.miniserde_text.specs.declared.error.Error.TheVariants.{Memory};
+ghost use Rattle.miniserde_model.specs.declared.error.Error.TheVariants.{Memory};
 ghost use Rattle.miniserde_record.specs.Structs.{with_names, members_text};
 
 use super::structs::Parts;
+use miniserde_model::error::Result;
 use miniserde_ser::ser::{Serialize, Writer};
-use miniserde_text::error::Result;
 
 /// Lent values, to be written as members.
 pub trait Members {

@@ -1,16 +1,16 @@
 //! The place of a unit enum.
 ghost use Rattle.std.specs.Prelude.{◌≡◌, true, Some, Err, refl};
 ghost use Rattle.miniserde_model.specs.Tree.{str};
-ghost use Rattle.miniserde_text.specs.declared.error.Error.{Error};
+ghost use Rattle.miniserde_model.specs.declared.error.Error.{Error};
 ghost use Rattle.miniserde_place.specs.Leaf.{from_one_event};
 ghost use Rattle.miniserde_place.specs.laws.Leaf.{one-event};
 ghost use Rattle.miniserde_record.specs.Names.{variant_of};
 ghost use Rattle.miniserde_record.specs.laws.Names.{variant-given};
 
 use super::names::{UnitEnum, Variant};
+use miniserde_model::error::{Error, Result};
 use miniserde_place::de::leaf::LeafPlace;
 use miniserde_place::de::{Step, Visitor};
-use miniserde_text::error::{Error, Result};
 use std::alloc::Global;
 
 /// The place of a unit enum.

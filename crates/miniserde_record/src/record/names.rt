@@ -2,7 +2,7 @@
 ghost use Rattle.std.specs.Prelude.{◌≡◌, true, Option, None, Some, Ok, Err, List, ℕ, IfOk, IfErr, ⊤, refl};
 ghost use Rattle.miniserde_model.specs.Tree.{Tree, str};
 ghost use Rattle.miniserde_text.specs.Lexer.{front_of};
-ghost use Rattle.miniserde_text.specs.declared.error.Error.{Error};
+ghost use Rattle.miniserde_model.specs.declared.error.Error.{Error};
 ghost use Rattle.miniserde_read.specs.Meant.{Meant};
 ghost use Rattle.miniserde_read.specs.Rest.{ValueAt};
 ghost use Rattle.miniserde_read.specs.Step.{IsTreeEvent};
@@ -11,8 +11,8 @@ ghost use Rattle.miniserde_round.specs.RoundTrip.{ReadsAgain};
 ghost use Rattle.miniserde_record.specs.Names.{named, variant_of};
 ghost use Rattle.miniserde_record.specs.Variants.{variant_meant};
 
+use miniserde_model::error::{Error, Result};
 use miniserde_read::{Leaf, Source, Step, read_leaf};
-use miniserde_text::error::{Error, Result};
 use miniserde_text::json::lex::Event;
 use std::alloc::Global;
 

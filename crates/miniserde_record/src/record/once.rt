@@ -2,8 +2,8 @@
 ghost use Rattle.miniserde_record.specs.FieldsMeant.{fields_once};
 
 use super::slots::Slots;
+use miniserde_model::error::{Error, Result};
 use miniserde_read::Source;
-use miniserde_text::error::{Error, Result};
 use std::alloc::Global;
 
 /// The fields, each of which takes one member: a duplicate of a field's name is refused before its value is read.

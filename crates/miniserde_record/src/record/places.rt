@@ -3,9 +3,9 @@ ghost use Rattle.miniserde_record.specs.FieldPlaces.{struct_gathering};
 
 use super::fields::Fields;
 use super::structs::Record;
+use miniserde_model::error::{Error, Result};
 use miniserde_place::de::Step;
 use miniserde_place::de::container::{Collect, ContainerPlace};
-use miniserde_text::error::{Error, Result};
 use std::alloc::Global;
 use std::marker::PhantomData;
 

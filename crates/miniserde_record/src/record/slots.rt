@@ -3,15 +3,15 @@ ghost use Rattle.std.specs.Prelude.{◌≡◌, true, Bool, List, ℕ, None, Some
 ghost use Rattle.std.specs.Option.{option_or};
 ghost use Rattle.miniserde_model.specs.Tree.{Tree};
 ghost use Rattle.miniserde_text.specs.Lexer.{front_of};
-ghost use Rattle.miniserde_text.specs.declared.error.Error.{Error};
+ghost use Rattle.miniserde_model.specs.declared.error.Error.{Error};
 ghost use Rattle.miniserde_read.specs.Rest.{ValueAt};
 ghost use Rattle.miniserde_read.specs.Step.{IsTreeEvent};
 ghost use Rattle.miniserde_record.specs.FieldsMeant.{FieldsMeant, no_fields, field_and, struct_meant};
 ghost use Rattle.miniserde_record.specs.Members.{DueRead, DueRejects};
 
 use super::structs::{Parts, Record};
+use miniserde_model::error::{Error, Result};
 use miniserde_read::{FromJson, Ignored, Source};
-use miniserde_text::error::{Error, Result};
 use miniserde_text::json::lex::{Event, Text};
 use std::alloc::Global;
 

@@ -2,10 +2,10 @@
 ghost use Rattle.std.specs.Prelude.{◌≡◌, IfOk, OnErr, IsErrOf, string_bytes};
 ghost use Rattle.miniserde_model.specs.Compact.{compact};
 ghost use Rattle.miniserde_model.specs.Value.{IsJson};
-ghost use Rattle.miniserde_text.specs.declared.error.Error.TheVariants.{Memory};
+ghost use Rattle.miniserde_model.specs.declared.error.Error.TheVariants.{Memory};
 
 use super::{Serialize, Writer};
-use miniserde_text::error::Result;
+use miniserde_model::error::Result;
 use std::alloc::Global;
 
 /// Serializes a value as compact text: no whitespace, each string by the escape rule. Returns `Memory` if the text

@@ -17,7 +17,7 @@ ghost use Rattle.miniserde_model.specs.Event as event;
 ghost use Rattle.miniserde_model.specs.Lexing.{Starts, Names, Follows};
 ghost use Rattle.miniserde_text.specs.Lexer.{front_of, text_of, kind_of, closes, EventStandsFor, NameStandsFor};
 ghost use Rattle.miniserde_text.specs.Lexer.{KeepsScratch, EventKeepsScratch, BeginsEscaped};
-ghost use Rattle.miniserde_text.specs.declared.error.Error.{Error};
+ghost use Rattle.miniserde_model.specs.declared.error.Error.{Error};
 
 mod bytes;
 mod escape;
@@ -31,7 +31,7 @@ mod tables;
 use self::front::{take_front, take_name};
 use self::space::after_space;
 use self::step::take_step;
-use crate::error::{Error, Result};
+use miniserde_model::error::{Error, Result};
 use std::marker::Model;
 
 /// The text of a string: borrowed from the input, or decoded into the scratch text.

@@ -2,11 +2,11 @@
 ghost use Rattle.std.specs.Prelude.{◌≡◌, ◌↔◌, Err, IsTrue, IfOk, OnOk, OnErr, IsErrOf};
 ghost use Rattle.miniserde_model.specs.Tree.{num};
 ghost use Rattle.miniserde_model.specs.Number.{IsNumber};
-ghost use Rattle.miniserde_text.specs.declared.error.Error.{Error};
+ghost use Rattle.miniserde_model.specs.declared.error.Error.{Error};
 
 use super::lex::Event;
 use super::lex::number::take_any_number;
-use crate::error::{Error, Result};
+use miniserde_model::error::{Error, Result};
 use std::alloc::Global;
 use std::marker::Model;
 

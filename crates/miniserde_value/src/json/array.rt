@@ -1,7 +1,7 @@
 //! Lists of values.
 ghost use Rattle.std.specs.Prelude.{◌≡◌, ◌++◌, ◌∷◌, [], List, MatchOption, IfOk, OnErr, IsErrOf, vec_capacity};
 ghost use Rattle.std.specs.Iterator.{IsFinite, Drains};
-ghost use Rattle.miniserde_text.specs.declared.error.Error.TheVariants.{Memory};
+ghost use Rattle.miniserde_model.specs.declared.error.Error.TheVariants.{Memory};
 ghost use Rattle.std.specs.Borrow.{Lends, sem};
 ghost use Rattle.std.specs.Global.{Global};
 ghost use Rattle.std.specs.Iterator.Runs.{EveryRun, ItemsAre, ItemsMapTo};
@@ -14,7 +14,7 @@ ghost use Rattle.miniserde_value.specs.Looks.{replaces_first};
 use super::drop::safely;
 pub use super::place::ArrayPlace;
 use super::value::Value;
-use miniserde_text::error::Result;
+use miniserde_model::error::Result;
 use std::alloc::Global;
 use std::{mem, slice, vec};
 

@@ -1,7 +1,7 @@
 //! The one way in which values are built.
 ghost use Rattle.std.specs.Prelude.{◌≡◌, ◌≤◌, [], None, Some, Option, IfOk, OnOk, OnErr, IsErrOf, option_map};
 ghost use Rattle.std.specs.Prelude.{drop, take, length, string_bytes, is_some};
-ghost use Rattle.miniserde_text.specs.declared.error.Error.TheVariants.{Memory};
+ghost use Rattle.miniserde_model.specs.declared.error.Error.TheVariants.{Memory};
 ghost use Rattle.miniserde_model.specs.Tree.{no_members};
 ghost use Rattle.miniserde_model.specs.Normal.{last_of};
 ghost use Rattle.miniserde_value.specs.Hole.{Hole, outside, in_list, in_members, put, named, closed, whole, has_member};
@@ -12,7 +12,7 @@ ghost use Rattle.miniserde_value.specs.laws.Marks.{marks-fit-once};
 use super::array::Array;
 use super::object::Object;
 use super::value::Value;
-use miniserde_text::error::Result;
+use miniserde_model::error::Result;
 use std::alloc::Global;
 use std::collections::BTreeMap;
 use std::mem;

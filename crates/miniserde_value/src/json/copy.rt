@@ -1,6 +1,6 @@
 //! Copies of values, with no recursion.
 ghost use Rattle.std.specs.Prelude.{◌≡◌, ◌∷◌, [], IfOk, OnOk, OnErr, IsErrOf};
-ghost use Rattle.miniserde_text.specs.declared.error.Error.TheVariants.{Memory};
+ghost use Rattle.miniserde_model.specs.declared.error.Error.TheVariants.{Memory};
 ghost use Rattle.miniserde_value.specs.Values.{shape, array_shape, object_shape};
 ghost use Rattle.miniserde_value.specs.Builders.{hole_in};
 ghost use Rattle.miniserde_value.specs.Fronts.{built};
@@ -12,7 +12,7 @@ use super::number::Number;
 use super::object::Object;
 use super::value::Value;
 use super::walk::{Front, Walk};
-use miniserde_text::error::Result;
+use miniserde_model::error::Result;
 use std::alloc::Global;
 
 // Builds what a front says.

@@ -1,9 +1,9 @@
 //! Numbers.
 ghost use Rattle.std.specs.Prelude.{◌≡◌, IfOk, OnErr, IsErrOf};
-ghost use Rattle.miniserde_text.specs.declared.error.Error.TheVariants.{Memory};
+ghost use Rattle.miniserde_model.specs.declared.error.Error.TheVariants.{Memory};
 
 pub use super::place::NumberPlace;
-use miniserde_text::error::Result;
+use miniserde_model::error::Result;
 use miniserde_text::json::number::NumberText;
 use std::alloc::Global;
 use std::fmt;

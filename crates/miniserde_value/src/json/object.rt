@@ -2,7 +2,7 @@
 ghost use Rattle.std.specs.Prelude.{◌≡◌, ◌++◌, ◌∷◌, [], List, String, MatchOption, IfOk, OnErr, IsErrOf};
 ghost use Rattle.std.specs.Iterator.{IsFinite, Drains};
 ghost use Rattle.std.specs.declared.alloc.Global.{Global};
-ghost use Rattle.miniserde_text.specs.declared.error.Error.TheVariants.{Memory};
+ghost use Rattle.miniserde_model.specs.declared.error.Error.TheVariants.{Memory};
 ghost use Rattle.std.specs.Borrow.{Lends, sem};
 ghost use Rattle.std.specs.BTreeMap.{keys, IsFromIterResult, IsOrdered};
 ghost use Rattle.std.specs.BTreeMap.IterMut.{IterMutCanStep, iter_mut_rest};
@@ -15,7 +15,7 @@ ghost use Rattle.miniserde_value.specs.Looks.{replaces_first};
 use super::drop::safely;
 pub use super::place::ObjectPlace;
 use super::value::Value;
-use miniserde_text::error::Result;
+use miniserde_model::error::Result;
 use std::alloc::Global;
 use std::collections::{BTreeMap, btree_map};
 use std::mem;

@@ -1,6 +1,6 @@
 //! Reading values of any shape, with no recursion.
 ghost use Rattle.std.specs.Prelude.{◌≡◌, true, [], Option, Some, None, Err, IfOk, OnOk};
-ghost use Rattle.miniserde_text.specs.declared.error.Error.TheVariants.{Invalid};
+ghost use Rattle.miniserde_model.specs.declared.error.Error.TheVariants.{Invalid};
 ghost use Rattle.miniserde_read.specs.Step.{event_of};
 ghost use Rattle.miniserde_read.specs.Step.{IsTreeEvent};
 ghost use Rattle.miniserde_value.specs.Hole.{outside, begun, resumed, took};
@@ -13,8 +13,8 @@ use super::number::Number;
 use super::object::Object;
 use super::value::Value;
 use miniserde_de::de::{Step, Visitor};
+use miniserde_model::error::{Error, Result};
 use miniserde_place::de::leaf::{Leaf, LeafPlace};
-use miniserde_text::error::{Error, Result};
 use miniserde_text::json::number::NumberText;
 use std::alloc::Global;
 

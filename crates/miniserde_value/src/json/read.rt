@@ -8,9 +8,9 @@ use super::place::{ArrayPlace, NumberPlace, ObjectPlace, ValuePlace};
 use super::unique::{Unique, UniquePlace};
 use super::value::Value;
 use miniserde_de::de::{Deserialize, FromJson, Ranged};
+use miniserde_model::error::Result;
 use miniserde_place::engine::read_by_place;
 use miniserde_read::{Source, read_leaf};
-use miniserde_text::error::Result;
 use miniserde_text::json::lex::Event;
 
 impl FromJson for Number {

@@ -4,8 +4,8 @@ ghost use Rattle.std.specs.Prelude.{◌≡◌, true};
 use super::place::ValuePlace;
 use super::value::Value;
 use miniserde_de::de::{Step, Visitor};
+use miniserde_model::error::{Error, Result};
 use miniserde_ser::ser::{Serialize, Writer};
-use miniserde_text::error::{Error, Result};
 use std::alloc::Global;
 
 /// Any JSON value, read from a text in which no object has one name twice. Names are compared as what they spell, so

@@ -1,6 +1,6 @@
 //! The one walk over a value that stands elsewhere.
 ghost use Rattle.std.specs.Prelude.{◌≡◌, ◌∷◌, [], None, IfOk, OnOk, OnErr, IsErrOf, MatchOption};
-ghost use Rattle.miniserde_text.specs.declared.error.Error.TheVariants.{Memory};
+ghost use Rattle.miniserde_model.specs.declared.error.Error.TheVariants.{Memory};
 ghost use Rattle.miniserde_value.specs.Values.{shape, array_shape, object_shape};
 ghost use Rattle.miniserde_value.specs.Fronts.{fronts, list_begins, members_begin, IsOrdered};
 ghost use Rattle.miniserde_value.specs.Walks.{meets, left, LeftOrdered};
@@ -12,7 +12,7 @@ use super::array::Array;
 use super::number::Number;
 use super::object::Object;
 use super::value::Value;
-use miniserde_text::error::Result;
+use miniserde_model::error::Result;
 use std::alloc::Global;
 
 /// What a walk meets next.

@@ -2,7 +2,7 @@
 ghost use Rattle.std.specs.Prelude.{◌≡◌, ◌++◌, ◌∷◌, List, [], true, false, OnOk, OnErr, IsErrOf};
 ghost use Rattle.miniserde_model.specs.IsTree.{IsTree};
 ghost use Rattle.miniserde_model.specs.Normal.{norm};
-ghost use Rattle.miniserde_text.specs.declared.error.Error.TheVariants.{Memory};
+ghost use Rattle.miniserde_model.specs.declared.error.Error.TheVariants.{Memory};
 ghost use Rattle.miniserde_ser.specs.Fragment.{fragment_tree};
 ghost use Rattle.miniserde_value.specs.Numbers.{number_leaf};
 ghost use Rattle.miniserde_value.specs.Fronts.{Meets, text_of, first_after, AreFronts};
@@ -13,8 +13,8 @@ use super::number::Number;
 use super::object::Object;
 use super::value::Value;
 use super::walk::{Front, Walk};
+use miniserde_model::error::Result;
 use miniserde_ser::ser::{Fragment, Serialize, Writer};
-use miniserde_text::error::Result;
 
 impl Number {
     // The leaf to be written.

@@ -4,8 +4,8 @@ ghost use Rattle.miniserde_de.specs.PlaceMeanings.{array_gathering};
 
 use super::super::{Deserialize, Step, Visitor};
 use super::sequences::ListOf;
+use miniserde_model::error::{Error, Result};
 use miniserde_place::de::container::{Collect, ContainerPlace};
-use miniserde_text::error::{Error, Result};
 use std::alloc::Global;
 
 /// An array that is being read: a list of at most `N` items.

@@ -3,7 +3,7 @@ ghost use Rattle.std.specs.Prelude.{◌≡◌, Option, None};
 ghost use Rattle.miniserde_de.specs.PlaceMeanings.{box_meaning};
 
 use super::super::{Deserialize, Step, Visitor};
-use miniserde_text::error::{Error, Result};
+use miniserde_model::error::{Error, Result};
 use std::alloc::Global;
 
 /// The place of a `Box`: that of the value, which is boxed when it is taken.

@@ -1,13 +1,13 @@
 //! Maps, ordered by their keys or hashed.
 ghost use Rattle.std.specs.Prelude.{◌≡◌, [], List, Option, None, Ok, IfOk, OnErr, IsErrOf};
-ghost use Rattle.miniserde_text.specs.declared.error.Error.TheVariants.{Memory};
+ghost use Rattle.miniserde_model.specs.declared.error.Error.TheVariants.{Memory};
 ghost use Rattle.miniserde_read.specs.meaning.Maps.{looked, with_entry};
 ghost use Rattle.miniserde_de.specs.PlaceMeanings.{map_gathering};
 
 use super::super::{Deserialize, MapKey, Step, Visitor};
+use miniserde_model::error::{Error, Result};
 use miniserde_place::de::container::{Collect, ContainerPlace};
 use miniserde_read::Table;
-use miniserde_text::error::{Error, Result};
 use std::alloc::Global;
 use std::collections::{BTreeMap, HashMap};
 use std::hash::{BuildHasher, Hash};

@@ -3,8 +3,8 @@ ghost use Rattle.std.specs.Prelude.{Option, None, ◌&&◌};
 ghost use Rattle.miniserde_de.specs.PlaceMeanings.{pair_gathering};
 
 use super::super::{Deserialize, Step, Visitor};
+use miniserde_model::error::{Error, Result};
 use miniserde_place::de::container::{Collect, ContainerPlace};
-use miniserde_text::error::{Error, Result};
 use std::alloc::Global;
 use std::mem;
 

@@ -3,8 +3,8 @@ ghost use Rattle.std.specs.Prelude.{◌≡◌, length, Option, None};
 ghost use Rattle.miniserde_de.specs.PlaceMeanings.{list_gathering};
 
 use super::super::{Deserialize, Step, Visitor};
+use miniserde_model::error::{Error, Result};
 use miniserde_place::de::container::{Collect, ContainerPlace};
-use miniserde_text::error::{Error, Result};
 use std::alloc::Global;
 
 /// A list that is being read, and the place of its current item.

@@ -7,10 +7,10 @@ ghost use Rattle.miniserde_read.specs.Step.{event_of};
 ghost use Rattle.miniserde_place.specs.Place.{Takes, IsFresh, first_refusal};
 ghost use Rattle.miniserde_read.specs.Step.{IsTreeEvent};
 ghost use Rattle.miniserde_place.specs.Container.{Gathering, BeginsChild, opening_event, is_complete};
-ghost use Rattle.miniserde_text.specs.declared.error.Error.{Error};
+ghost use Rattle.miniserde_model.specs.declared.error.Error.{Error};
 
 use super::super::Step;
-use miniserde_text::error::{Error, Result};
+use miniserde_model::error::{Error, Result};
 use std::alloc::Global;
 
 /// A container that is being read: its children so far, and the place of the current one.

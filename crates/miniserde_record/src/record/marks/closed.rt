@@ -5,8 +5,8 @@ ghost use Rattle.miniserde_record.specs.MarksMeant.{closed_end};
 use crate::record::again::AgainFields;
 use crate::record::lossless::LosslessFields;
 use crate::record::slots::Slots;
+use miniserde_model::error::{Error, Result};
 use miniserde_read::Source;
-use miniserde_text::error::{Error, Result};
 use std::alloc::Global;
 
 /// No more fields: a member of any other name is refused before its value is read.

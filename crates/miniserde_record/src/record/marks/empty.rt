@@ -3,9 +3,9 @@ ghost use Rattle.std.specs.Prelude.{[], false};
 ghost use Rattle.miniserde_model.specs.Tree.{null, truth, nonneg, str, list, no_trees, members, no_members};
 
 use super::given::Given;
+use miniserde_keys::MapKey;
+use miniserde_model::error::Result;
 use miniserde_read::FromJson;
-use miniserde_text::MapKey;
-use miniserde_text::error::Result;
 use std::alloc::Global;
 use std::collections::{BTreeMap, HashMap};
 use std::hash::{BuildHasher, Hash};

@@ -2,16 +2,16 @@
 ghost use Rattle.std.specs.Prelude.{◌≡◌, ◌∷◌, Some, Ok, Err, IfOk, IfErr, IsSome, option_map};
 ghost use Rattle.std.specs.Option.{option_or};
 ghost use Rattle.miniserde_model.specs.Tree.{Tree};
-ghost use Rattle.miniserde_text.specs.declared.error.Error.{Error};
+ghost use Rattle.miniserde_model.specs.declared.error.Error.{Error};
 ghost use Rattle.miniserde_record.specs.MarksMeant.{given_and};
 
 use crate::record::again::AgainFields;
 use crate::record::lossless::LosslessFields;
 use crate::record::slots::{Slots, read_due};
 use crate::record::structs::Parts;
+use miniserde_model::error::{Error, Result};
 use miniserde_read::{FromJson, Source};
 use miniserde_round::{Lossless, RoundTrip};
-use miniserde_text::error::{Error, Result};
 use std::alloc::Global;
 use std::marker::PhantomData;
 

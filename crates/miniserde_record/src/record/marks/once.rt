@@ -5,8 +5,8 @@ use super::given::GivenSlot;
 use crate::record::again::AgainFields;
 use crate::record::lossless::LosslessFields;
 use crate::record::slots::{Slot, Slots};
+use miniserde_model::error::{Error, Result};
 use miniserde_read::Source;
-use miniserde_text::error::{Error, Result};
 use std::alloc::Global;
 
 /// The fields, of which the first takes one member: a duplicate of its name is refused before its value is read.

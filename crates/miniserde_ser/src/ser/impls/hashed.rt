@@ -7,12 +7,12 @@ ghost use Rattle.miniserde_model.specs.Tree.{members};
 ghost use Rattle.miniserde_model.specs.Compact.{compact};
 ghost use Rattle.miniserde_model.specs.IsTree.{IsTree};
 ghost use Rattle.miniserde_model.specs.Normal.{text_cmp};
-ghost use Rattle.miniserde_text.specs.declared.error.Error.TheVariants.{Memory};
+ghost use Rattle.miniserde_model.specs.declared.error.Error.TheVariants.{Memory};
 ghost use Rattle.miniserde_ser.specs.Trees.{members_of, in_order};
 
 use crate::ser::{Serialize, Writer};
-use miniserde_text::MapKey;
-use miniserde_text::error::Result;
+use miniserde_keys::MapKey;
+use miniserde_model::error::Result;
 use std::alloc::Global;
 use std::collections::HashMap;
 use std::hash::{BuildHasher, Hash};

@@ -3,7 +3,7 @@ ghost use Rattle.miniserde_model.specs.Tree.{nonneg};
 ghost use Rattle.miniserde_ser.specs.Fragment.{integer};
 
 use crate::ser::{Fragment, Serialize, Writer};
-use miniserde_text::error::Result;
+use miniserde_model::error::Result;
 
 impl Serialize for u8 {
     ghost tree = { nonneg };

@@ -3,8 +3,8 @@ ghost use Rattle.miniserde_model.specs.Tree.{members};
 ghost use Rattle.miniserde_ser.specs.Trees.{members_of};
 
 use crate::ser::{Serialize, Writer};
-use miniserde_text::MapKey;
-use miniserde_text::error::Result;
+use miniserde_keys::MapKey;
+use miniserde_model::error::Result;
 use std::collections::BTreeMap;
 
 impl<K: MapKey + Ord, V: Serialize> Serialize for BTreeMap<K, V> {

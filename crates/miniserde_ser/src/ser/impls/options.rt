@@ -2,7 +2,7 @@
 ghost use Rattle.miniserde_ser.specs.Trees.{option_tree};
 
 use crate::ser::{Fragment, Serialize, Writer};
-use miniserde_text::error::Result;
+use miniserde_model::error::Result;
 
 impl<T: Serialize> Serialize for Option<T> {
     ghost tree = { option_tree T.tree };

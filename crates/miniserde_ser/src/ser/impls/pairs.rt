@@ -2,7 +2,7 @@
 ghost use Rattle.miniserde_model.specs.Tree.{list, no_trees, tree};
 
 use crate::ser::{Serialize, Writer};
-use miniserde_text::error::Result;
+use miniserde_model::error::Result;
 
 impl<A: Serialize, B: Serialize> Serialize for (A, B) {
     ghost tree = { λ v. list (tree (A.tree v.0) (tree (B.tree v.1) no_trees)) };

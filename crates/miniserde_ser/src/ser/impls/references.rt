@@ -1,7 +1,7 @@
 //! References and boxes: each is written as what it leads to.
 
 use crate::ser::{Serialize, Writer};
-use miniserde_text::error::Result;
+use miniserde_model::error::Result;
 
 impl<T: Serialize> Serialize for &T {
     ghost tree = { λ r. T.tree r.now };

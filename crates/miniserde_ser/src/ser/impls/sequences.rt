@@ -3,11 +3,11 @@ ghost use Rattle.std.specs.Prelude.{◌≡◌, ◌++◌, false, true, OnOk, OnEr
 ghost use Rattle.miniserde_model.specs.Tree.{list};
 ghost use Rattle.miniserde_model.specs.Compact.{compact};
 ghost use Rattle.miniserde_model.specs.IsTree.{IsTree};
-ghost use Rattle.miniserde_text.specs.declared.error.Error.TheVariants.{Memory};
+ghost use Rattle.miniserde_model.specs.declared.error.Error.TheVariants.{Memory};
 ghost use Rattle.miniserde_ser.specs.Trees.{trees_of};
 
 use crate::ser::{Serialize, Writer};
-use miniserde_text::error::Result;
+use miniserde_model::error::Result;
 
 // Writes a list of the values.
 fn begin_all<T: Serialize>(items: &[T], w: &mut Writer) -> Result<()>

@@ -4,7 +4,7 @@ ghost use Rattle.std.specs.Cow.{cow_str_bytes};
 ghost use Rattle.miniserde_model.specs.Tree.{str};
 
 use crate::ser::{Fragment, Serialize, Writer};
-use miniserde_text::error::Result;
+use miniserde_model::error::Result;
 use std::borrow::CowStr;
 
 impl Serialize for String {

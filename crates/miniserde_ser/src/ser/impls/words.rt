@@ -2,7 +2,7 @@
 ghost use Rattle.miniserde_model.specs.Tree.{null, truth};
 
 use crate::ser::{Fragment, Serialize, Writer};
-use miniserde_text::error::Result;
+use miniserde_model::error::Result;
 
 impl Serialize for () {
     ghost tree = { λ _. null };

@@ -13,7 +13,7 @@ use super::number::take_number;
 use super::space::after_space;
 use super::string::take_string;
 use super::{Event, Text};
-use crate::error::{Error, Result};
+use miniserde_model::error::{Error, Result};
 
 // Takes a word, which ends with an ASCII byte.
 #[tactic(auto, unfolding(crate::specs::private::Reading::word_at))]

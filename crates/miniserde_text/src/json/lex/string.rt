@@ -10,8 +10,8 @@ ghost use Rattle.miniserde_text.specs.private.Inside.{Chars, Adds, TakesText, Re
 use super::Text;
 use super::bytes::{between, byte_at, skip};
 use super::escape::take_escape;
-use crate::error::{Error, Result};
 use crate::scan::{special, special_in_lanes};
+use miniserde_model::error::{Error, Result};
 
 // Returns the index after the bytes that stand for themselves.
 #[inline(always)]

@@ -1,14 +1,14 @@
 //! The open containers of a walk, and what is left of each.
 ghost use Rattle.std.specs.Prelude.{◌≡◌, ◌∷◌, [], OnOk, OnErr, IsErrOf, MatchOption};
 ghost use Rattle.std.specs.Slice.Iter.{iter_rest};
-ghost use Rattle.miniserde_text.specs.declared.error.Error.TheVariants.{Memory};
+ghost use Rattle.miniserde_model.specs.declared.error.Error.TheVariants.{Memory};
 ghost use Rattle.miniserde_value.specs.Walks.{meets, items_left, members_left, ItemsOrdered, MembersOrdered};
 ghost use Rattle.miniserde_value.specs.Walks.{frames_left, due_left, FramesOrdered, DueOrdered};
 
 use super::super::builder::Kind;
 use super::super::value::Value;
 use super::Front;
-use miniserde_text::error::Result;
+use miniserde_model::error::Result;
 use std::alloc::Global;
 use std::collections::btree_map;
 use std::slice;

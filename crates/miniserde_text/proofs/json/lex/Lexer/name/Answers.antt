@@ -3,7 +3,7 @@ use Rattle.std.proofs.Common.{◌≡◌, Err, drop, ap, arith}
 use Rattle.miniserde_model.specs.Bytes.{is_space}
 use Rattle.miniserde_model.specs.Value.{Between}
 use Rattle.miniserde_model.specs.Lexing.{BeforeColon}
-use Rattle.miniserde_text.specs.declared.error.Error.TheVariants.{Invalid, Memory}
+use Rattle.miniserde_model.specs.declared.error.Error.TheVariants.{Invalid, Memory}
 use Rattle.miniserde_text.specs.Lexer.{StandsFor}
 use Rattle.miniserde_text.specs.private.Reading.{after_run}
 use Rattle.miniserde_text.proofs.Runs.{stands_of}

@@ -2,7 +2,7 @@
 -- no string.
 use Rattle.std.proofs.Common.{◌≡◌, ◌≢◌, Err, Some, None, ℕ, List, [], drop, slice_index, ap, subst, arith}
 use Rattle.std.proofs.lemmas.Result.{err_from_is_err_and}
-use Rattle.miniserde_text.specs.declared.error.Error.TheVariants.{Invalid, Memory}
+use Rattle.miniserde_model.specs.declared.error.Error.TheVariants.{Invalid, Memory}
 use Rattle.miniserde_text.specs.Lexer.{front_of}
 use Rattle.miniserde_text.specs.private.Reading.{front_at}
 use Rattle.miniserde_text.specs.private.Inside.{Chars, ReachesBackslash}

@@ -3,7 +3,7 @@
 use Rattle.std.proofs.Common.{◌≡◌, ◌≢◌, Err, ℕ, List, drop, slice_index, ap, subst, arith}
 use Rattle.std.proofs.lemmas.Result.{err_from_is_err_and}
 use Rattle.miniserde_model.specs.Value.{Between}
-use Rattle.miniserde_text.specs.declared.error.Error.TheVariants.{Invalid, Memory}
+use Rattle.miniserde_model.specs.declared.error.Error.TheVariants.{Invalid, Memory}
 use Rattle.miniserde_text.specs.Lexer.{StandsFor}
 use Rattle.miniserde_model.specs.Bytes.{is_space}
 use Rattle.miniserde_text.specs.private.Reading.{after_run}

@@ -3,7 +3,7 @@
 use Rattle.std.proofs.Common.{◌≡◌, ◌∷◌, Err, ℕ, List, drop, slice_index, sym, ap, subst, arith}
 use Rattle.std.specs.String.{string_bytes}
 use Rattle.std.proofs.lemmas.Result.{err_from_is_err_and}
-use Rattle.miniserde_text.specs.declared.error.Error.TheVariants.{Invalid}
+use Rattle.miniserde_model.specs.declared.error.Error.TheVariants.{Invalid}
 use Rattle.miniserde_text.specs.private.Inside.{Chars, Adds}
 use Rattle.miniserde_text.proofs.Strings.{adds_nil, adds_escape, end_refused, escape_refused, string_of}
 use Rattle.miniserde_text.proofs.json.lex.string.take_escaped.Goals as goal

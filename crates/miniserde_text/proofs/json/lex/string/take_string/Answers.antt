@@ -4,7 +4,7 @@ use Rattle.std.proofs.Common.{◌≡◌, ◌++◌, ℕ, List, Err, drop, slice_i
 use Rattle.std.specs.Str.{encode_utf8_all, IsUtf8, IsCharBoundary}
 use Rattle.std.proofs.lemmas.Result.{err_from_is_err_and}
 use Rattle.std.proofs.lemmas.Str.{encodes-append, IsUtf8-drop}
-use Rattle.miniserde_text.specs.declared.error.Error.TheVariants.{Invalid}
+use Rattle.miniserde_model.specs.declared.error.Error.TheVariants.{Invalid}
 use Rattle.miniserde_text.specs.private.Reading.{after_run, before, is_unescaped, FollowsAscii}
 use Rattle.miniserde_text.specs.private.Inside.{Chars, Passes}
 use Rattle.miniserde_text.proofs.Indices.{follows_boundary}

@@ -6,13 +6,13 @@ ghost use Rattle.std.specs.Prelude.{string_len, string_capacity};
 ghost use Rattle.std.proofs.Common.{arith};
 ghost use Rattle.std.specs.Fmt.{decimal, signed_decimal};
 ghost use Rattle.std.specs.Int.{w8, w16, w32, w64};
-ghost use Rattle.miniserde_text.specs.Keys.{of_nat, of_int, read_unsigned, read_signed};
-ghost use Rattle.miniserde_text.specs.declared.error.Error.TheVariants.{Memory};
-ghost use Rattle.miniserde_text.specs.laws.Keys.{nat-alike, int-alike, nat-text, int-text, unsigned-back, signed-back};
+ghost use Rattle.miniserde_keys.specs.Keys.{of_nat, of_int, read_unsigned, read_signed};
+ghost use Rattle.miniserde_model.specs.declared.error.Error.TheVariants.{Memory};
+ghost use Rattle.miniserde_keys.specs.laws.Keys.{nat-alike, int-alike, nat-text, int-text, unsigned-back, signed-back};
 
 use super::{MapKey, append};
-use crate::error::{Error, Result};
 use itoa::{Buffer, Integer};
+use miniserde_model::error::{Error, Result};
 use std::alloc::Global;
 
 // Adds an integer in decimal.

@@ -5,7 +5,7 @@ ghost use Rattle.std.specs.List.{AllByRecursion};
 ghost use Rattle.std.specs.Char.{IsScalar};
 ghost use Rattle.std.specs.BTreeMap.{IsOrdered};
 ghost use Rattle.std.specs.HashMap.{IsUnique};
-ghost use Rattle.miniserde_text.specs.Ranged.{OptionReal};
+ghost use Rattle.miniserde_keys.specs.Ranged.{OptionReal};
 
 use std::collections::{BTreeMap, HashMap};
 use std::hash::{BuildHasher, Hash};

@@ -3,16 +3,16 @@ ghost use Rattle.std.specs.Prelude.{◌≡◌, ◌<◌, ◌+◌, ◌++◌, ℕ, 
 ghost use Rattle.std.specs.Prelude.{IfOk, IfErr, OnOk, OnErr, IsErrOf, option_map, length, string_bytes, string_len};
 ghost use Rattle.std.specs.Prelude.{string_capacity};
 ghost use Rattle.std.specs.Str.{bytes_eq};
-ghost use Rattle.miniserde_text.specs.Keys.{Key};
-ghost use Rattle.miniserde_text.specs.declared.error.Error.{Error};
-ghost use Rattle.miniserde_text.specs.declared.error.Error.TheVariants.{Memory};
+ghost use Rattle.miniserde_keys.specs.Keys.{Key};
+ghost use Rattle.miniserde_model.specs.declared.error.Error.{Error};
+ghost use Rattle.miniserde_model.specs.declared.error.Error.TheVariants.{Memory};
 
 mod integers;
 mod whole;
 mod words;
 
-use crate::error::Result;
 use crate::ranged::Ranged;
+use miniserde_model::error::Result;
 use std::alloc::Global;
 pub use whole::WholeKey;
 

@@ -1,7 +1,7 @@
 //! The two refusals of the library.
 ghost use Rattle.std.specs.Prelude.{◌≡◌, Some};
-ghost use Rattle.miniserde_text.specs.Error.{message};
-ghost use Rattle.miniserde_text.specs.declared.error.Error.TheVariants.{Memory};
+ghost use Rattle.miniserde_model.specs.Error.{message};
+ghost use Rattle.miniserde_model.specs.declared.error.Error.TheVariants.{Memory};
 
 use std::alloc::{AllocError, AllocFailed};
 use std::{error, fmt};

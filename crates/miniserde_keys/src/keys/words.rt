@@ -1,11 +1,11 @@
 //! Keys that are texts, `bool` and `char`.
 ghost use Rattle.std.specs.Prelude.{true, Some, refl, string_bytes};
 ghost use Rattle.std.specs.Char.{encode_utf8};
-ghost use Rattle.miniserde_text.specs.Keys.{of_nat, of_bool, bool_text, read_bool, read_char};
-ghost use Rattle.miniserde_text.specs.laws.Keys.{bool-alike, bool-back, bool-text, char-back, nat-alike, nat-text};
+ghost use Rattle.miniserde_keys.specs.Keys.{of_nat, of_bool, bool_text, read_bool, read_char};
+ghost use Rattle.miniserde_keys.specs.laws.Keys.{bool-alike, bool-back, bool-text, char-back, nat-alike, nat-text};
 
 use super::{MapKey, append};
-use crate::error::{Error, Result};
+use miniserde_model::error::{Error, Result};
 use std::alloc::Global;
 
 impl MapKey for String {

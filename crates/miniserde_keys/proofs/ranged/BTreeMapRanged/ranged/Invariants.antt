@@ -1,7 +1,7 @@
 use Rattle.std.proofs.Common.{map}
 use Rattle.std.specs.List.{AllByRecursion}
 use Rattle.std.specs.Map.Iter.{deref_pair}
-use Rattle.miniserde_text.proofs.ranged.HashMapRanged.ranged.Given as goal
+use Rattle.miniserde_keys.proofs.ranged.BTreeMapRanged.ranged.Given as goal
 
 abbrev pub invariant-loop-key : goal.invariant-loop-key
 invariant-loop-key g l = AllByRecursion (λ e. g.K.Ranged.real e.0 × g.V.Ranged.real e.1) (map deref_pair l.yielded)

@@ -1,7 +1,7 @@
 -- What a refusal prints.
 use Rattle.std.specs.Prelude.{ℕ, List, codes}
-use Rattle.miniserde_text.specs.declared.error.Error.{Error}
-use Rattle.miniserde_text.specs.declared.error.Error.TheVariants.{Invalid, Memory}
+use Rattle.miniserde_model.specs.declared.error.Error.{Error}
+use Rattle.miniserde_model.specs.declared.error.Error.TheVariants.{Invalid, Memory}
 
 abbrev pub message : Error → List ℕ
 message Invalid = codes "miniserde error"

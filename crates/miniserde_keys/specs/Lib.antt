@@ -1,0 +1,3 @@
+pub mod Keys
+pub mod Ranged
+pub mod laws

@@ -1,0 +1,8 @@
+//! Keys of maps, and values in the range of their types.
+#![tactic(auto)]
+
+mod keys;
+mod ranged;
+
+pub use keys::{MapKey, WholeKey};
+pub use ranged::Ranged;
