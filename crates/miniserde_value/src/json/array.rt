@@ -85,6 +85,7 @@ impl Array {
         mem::replace(&mut self.items[0], value)
     }
 
+    #[inline(always)]
     pub(crate) fn take_last(&mut self) -> Option<Value>
         ensures { MatchOption result ((array_items self.old ≡ []) × (array_items self.new ≡ []))
             (λ last. array_items self.old ≡ array_items self.new ++ last ∷ []) }

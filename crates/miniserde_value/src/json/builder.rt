@@ -2,7 +2,8 @@
 ghost use Rattle.std.specs.Prelude.{◌≡◌, ◌≤◌, [], None, Some, Option, IfOk, OnOk, OnErr, IsErrOf, option_map};
 ghost use Rattle.std.specs.Prelude.{drop, take, length, string_bytes, is_some};
 ghost use Rattle.miniserde_model.specs.declared.error.Error.TheVariants.{Memory};
-ghost use Rattle.miniserde_model.specs.Tree.{no_members};
+ghost use Rattle.miniserde_model.specs.Number.{IsNumber};
+ghost use Rattle.miniserde_model.specs.Tree.{no_members, num, str};
 ghost use Rattle.miniserde_model.specs.Normal.{last_of};
 ghost use Rattle.miniserde_value.specs.Hole.{Hole, outside, in_list, in_members, put, named, closed, whole, has_member};
 ghost use Rattle.miniserde_value.specs.Values.{shape};
@@ -10,9 +11,11 @@ ghost use Rattle.miniserde_value.specs.Marks.{MarksFit, innermost, made_members,
 ghost use Rattle.miniserde_value.specs.laws.Marks.{marks-fit-once};
 
 use super::array::Array;
+use super::number::Number;
 use super::object::Object;
 use super::value::Value;
 use miniserde_model::error::Result;
+use miniserde_text::json::number::NumberText;
 use std::alloc::Global;
 use std::collections::BTreeMap;
 use std::mem;
@@ -125,6 +128,7 @@ impl Builder {
     }
 
     /// The kind of the innermost open container.
+    #[inline(always)]
     pub(crate) fn innermost(&self) -> Option<Kind>
         ensures { result ≡ innermost (hole_in self.now) }
     {
@@ -162,7 +166,27 @@ impl Builder {
         Ok(())
     }
 
+    /// Puts a text in the hole.
+    pub(crate) fn put_text(&mut self, text: &str) -> Result<()>
+        ensures ok { OnOk result (hole_in self.new ≡ put (str text.now) (hole_in self.old)) }
+        ensures memory { OnErr result (IsErrOf result Memory) }
+    {
+        let text = String::from_str(self.alloc, text)?;
+        self.put(Value::String(text))
+    }
+
+    /// Puts a number in the hole, by its text.
+    pub(crate) fn put_number(&mut self, text: &str) -> Result<()>
+        requires { IsNumber text.now (num text.now) }
+        ensures ok { OnOk result (hole_in self.new ≡ put (num text.now) (hole_in self.old)) }
+        ensures memory { OnErr result (IsErrOf result Memory) }
+    {
+        let text = NumberText::new_unchecked(self.alloc, text)?;
+        self.put(Value::Number(Number::Text(text)))
+    }
+
     /// Opens an array in the hole.
+    #[inline(always)]
     pub(crate) fn open_array(&mut self) -> Result<()>
         ensures ok { OnOk result (hole_in self.new ≡ in_list [] (hole_in self.old)) }
         ensures memory { OnErr result (IsErrOf result Memory) }
@@ -172,6 +196,7 @@ impl Builder {
     }
 
     /// Opens an object in the hole.
+    #[inline(always)]
     pub(crate) fn open_object(&mut self) -> Result<()>
         ensures ok { OnOk result (hole_in self.new ≡ in_members no_members None (hole_in self.old)) }
         ensures memory { OnErr result (IsErrOf result Memory) }
@@ -182,6 +207,7 @@ impl Builder {
     }
 
     /// Names the next value of the innermost container, where that is an object.
+    #[inline(always)]
     pub(crate) fn name(&mut self, name: &str) -> Result<()>
         ensures ok { OnOk result (hole_in self.new ≡ named name.now (hole_in self.old)) }
         ensures memory { OnErr result (IsErrOf result Memory) }
@@ -197,6 +223,7 @@ impl Builder {
     }
 
     /// Closes the innermost open container: its values become one, in the hole of what it stands in.
+    #[inline(always)]
     pub(crate) fn close(&mut self) -> Result<()>
         ensures ok { OnOk result (hole_in self.new ≡ closed (hole_in self.old)) }
         ensures memory { OnErr result (IsErrOf result Memory) }

@@ -9,6 +9,7 @@ use super::value::Value;
 pub use looks::Looks;
 
 /// Whether a value is a leaf or an empty container.
+#[inline(always)]
 fn is_bare(value: &Value) -> bool
     ensures { IsTrue result ↔ IsBare value.now }
 {
@@ -20,6 +21,7 @@ fn is_bare(value: &Value) -> bool
 }
 
 /// Takes the last child in hand.
+#[inline(always)]
 fn take_last(value: &mut Value, looks: &mut Looks) -> Option<Value>
     ensures taken { MatchOption result (IsBare value.old × IsBare value.new)
         (λ last. children value.old ≡ children value.new ++ last ∷ []) }
@@ -37,6 +39,7 @@ fn take_last(value: &mut Value, looks: &mut Looks) -> Option<Value>
 }
 
 /// Puts a value in the place of the first child, and takes that child in hand.
+#[inline(always)]
 fn park(value: &mut Value, parent: Value, looks: &mut Looks) -> Value
     requires { children value.old ≡ [] → ⊥ }
     ensures parked { replaces_first parent result (children value.old) (children value.new) }
@@ -52,6 +55,7 @@ fn park(value: &mut Value, parent: Value, looks: &mut Looks) -> Value
 }
 
 /// The one place where a value is let go.
+#[inline(always)]
 fn let_go(value: Value, looks: &mut Looks)
     requires { IsBare value }
     ensures looked { looks.new.looked ≡ looks.old.looked }

@@ -46,6 +46,7 @@ impl ValuePlace {
     }
 
     // Takes the first event of a value.
+    #[inline(always)]
     fn begin_value(&mut self, event: Step<'_>) -> Result<()>
         requires { IsTreeEvent (event_of event) }
         ensures ok { OnOk result (begun (event_of event.entry) (hole_at self.old) ≡ Some (hole_at self.new)) }
@@ -56,16 +57,10 @@ impl ValuePlace {
         match event {
             Step::Null => self.builder.put(Value::Null),
             Step::Bool(b) => self.builder.put(Value::Bool(b)),
-            Step::Str(s) => {
-                let text = String::from_str(self.alloc, s)?;
-                self.builder.put(Value::String(text))
-            }
+            Step::Str(s) => self.builder.put_text(s),
             Step::Negative(n) => self.builder.put(Value::Number(Number::I64(n))),
             Step::Nonnegative(n) => self.builder.put(Value::Number(Number::U64(n))),
-            Step::Float(t) => {
-                let text = NumberText::new_unchecked(self.alloc, t)?;
-                self.builder.put(Value::Number(Number::Text(text)))
-            }
+            Step::Float(t) => self.builder.put_number(t),
             Step::Seq => self.builder.open_array(),
             Step::Map => self.builder.open_object(),
             Step::Element | Step::Key(_) | Step::Finish => Err(Error::Invalid),
@@ -73,6 +68,7 @@ impl ValuePlace {
     }
 
     // Takes an event inside the innermost open container, and says whether a value is due then.
+    #[inline(always)]
     fn resume(&mut self, event: Step<'_>) -> Result<bool>
         ensures ok { IfOk result (λ due.
             resumed (event_of event.entry) (hole_at self.old) ≡ Some (due, hole_at self.new)) }
@@ -94,6 +90,7 @@ impl ValuePlace {
     }
 
     // Takes an event.
+    #[inline(always)]
     fn accept(&mut self, event: Step<'_>) -> Result<()>
         requires { IsTreeEvent (event_of event) }
         ensures ok { OnOk result (took (due_in self.old) (hole_at self.old) (event_of event.entry)
@@ -147,6 +144,7 @@ impl Visitor for ValuePlace {
         Ok(ValuePlace::new(alloc))
     }
 
+    #[inline(always)]
     fn step(&mut self, event: Step<'_>) -> Result<()> {
         if let Some(error) = self.refused {
             return Err(error);
