@@ -4,6 +4,5 @@ pub mod Counter
 pub mod Percents
 pub mod Rates
 pub mod Services
-pub mod Totals
 pub mod Versions
 pub mod laws

@@ -1,5 +1,5 @@
 -- What a field means alone, it means among the members that earlier fields leave.
-use Rattle.std.proofs.Common.{◌≡◌, true, List, [], ◌∷◌, Option, Some, refl}
+use Rattle.std.proofs.Common.{◌≡◌, true, List, [], Option, Some, refl}
 use Rattle.std.specs.Prelude.{option_map}
 use Rattle.miniserde.specs.Tree.{Tree, Members}
 use Rattle.miniserde.specs.Objects.{Name}

@@ -23,5 +23,6 @@ pub fn noted(alloc: Global, body: &str, note: &str) -> Result<String>
 {
     let mut request: Request = from_str(alloc, body)?;
     request.note = Some(String::from_str(alloc, note)?);
-    to_string(alloc, &request)
+    let written = to_string(alloc, &request)?;
+    Ok(written)
 }

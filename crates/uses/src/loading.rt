@@ -23,5 +23,6 @@ pub fn moved(alloc: Global, text: &str, port: u16) -> Result<String>
 {
     let mut settings = load(alloc, text)?;
     settings.port = port;
-    save(alloc, &settings)
+    let written = save(alloc, &settings)?;
+    Ok(written)
 }

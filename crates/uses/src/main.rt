@@ -1,4 +1,4 @@
-//! Four uses of the library, one after another: settings, a cache, a store of rows and a request's body.
+//! Uses of the library, one after another: settings, a cache, a store of rows, a request's body and a store of requests.
 #![tactic(auto)]
 
 mod bodies;
@@ -7,9 +7,12 @@ mod loading;
 mod only;
 mod refused;
 mod request;
+mod requests;
 mod store;
 
 use miniserde::Result;
+use miniserde::json::{from_str, to_string};
+use request::Request;
 use std::alloc::Global;
 use std::collections::BTreeMap;
 use std::io;
@@ -27,6 +30,17 @@ fn stored(alloc: Global) -> Result<bool> {
     store::put(alloc, &mut rows, 1, "[2]")?;
     store::put(alloc, &mut rows, 1, "[1, {\"x\": -0}]")?;
     store::is_row(alloc, &rows, 1, "[1,{\"x\":0}]")
+}
+
+/// Puts the request of a body into a store, and returns the text of the one that is found there.
+fn found(alloc: Global, body: &str) -> Result<Option<String>> {
+    let request: Request = from_str(alloc, body)?;
+    let mut rows = BTreeMap::new(alloc);
+    requests::put(alloc, &mut rows, 1, &request)?;
+    match requests::find(alloc, &rows, 1)? {
+        Some(found) => Ok(Some(to_string(alloc, &found)?)),
+        None => Ok(None),
+    }
 }
 
 /// Settings: five with a field that is refused, good ones, and a text that is no JSON.
@@ -72,6 +86,11 @@ fn main(rt: HostRuntime) -> io::Result<()> {
     match bodies::noted(alloc, body, "by noon") {
         Ok(noted) => println!(rt; "request: {noted}")?,
         Err(error) => println!(rt; "request: {error}")?,
+    }
+    match found(alloc, body) {
+        Ok(Some(found)) => println!(rt; "found: {found}")?,
+        Ok(None) => println!(rt; "found: nothing")?,
+        Err(error) => println!(rt; "found: {error}")?,
     }
     tell(&rt)
 }
