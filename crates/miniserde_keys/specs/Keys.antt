@@ -1,22 +1,22 @@
--- Keys of maps: which texts are read as which keys.
+-- Keys of maps: which texts are parsed as which keys.
 use Rattle.std.specs.Prelude.{ℕ, suc, ◌+◌, ◌-◌, ◌^◌, ℤ, pos, negsuc, neg_ℤ, Bool, true, false, ◌&&◌, nat_lt, List, [], ◌∷◌, length, drop, Option, Some, None, codes, if◌then◌else◌}
 use Rattle.std.specs.Str.{all_ascii_digits, bytes_eq, chars, is_utf8}
 use Rattle.std.specs.Str.Parse.{digits_value, starts_with_minus, without_leading_plus}
 
--- what counts of a key
+-- the content of a key
 abbrev pub Key : Type 0
 Key = List ℕ
 
--- what counts of an unsigned integer, and of a character
+-- the content of an unsigned integer, and of a character
 abbrev pub of_nat : ℕ → Key
 of_nat n = n ∷ []
 
--- what counts of a signed integer: 1 below 0 and else 0, and how far the number is from 0
+-- the content of a signed integer: 1 if it is below 0 and else 0, and its absolute value
 abbrev pub of_int : ℤ → Key
 of_int (pos n) = 0 ∷ n ∷ []
 of_int (negsuc n) = 1 ∷ suc n ∷ []
 
--- what counts of a `bool`
+-- the content of a `bool`
 abbrev pub of_bool : Bool → Key
 of_bool true = 1 ∷ []
 of_bool false = 0 ∷ []
@@ -26,35 +26,35 @@ abbrev pub bool_text : Bool → List ℕ
 bool_text true = codes "true"
 bool_text false = codes "false"
 
--- exactly `true`, or exactly `false`
+-- the content of the `bool` that a text is parsed as
 abbrev pub read_bool : List ℕ → Option Key
 read_bool k =
     if bytes_eq k (bool_text true) then Some (of_bool true)
     else (if bytes_eq k (bool_text false) then Some (of_bool false) else None)
 
--- the only one of the characters
+-- the content of the character of a list of one
 abbrev pub only : List ℕ → Option Key
 only (c ∷ []) = Some (of_nat c)
 only _ = None
 
--- a text of exactly one character
+-- the content of the character that a text of one character is parsed as
 unfoldable pub read_char : List ℕ → Option Key
 read_char k = if is_utf8 k then only (chars k) else None
 
--- one digit 0 to 9 or more and nothing else, and the number that they write is below the limit
+-- the list is one digit or more, and their number is below the limit
 abbrev pub are_digits_below : ℕ → List ℕ → Bool
 are_digits_below limit ds = nat_lt 0 (length ds) && (all_ascii_digits ds && nat_lt (digits_value 10 ds) limit)
 
--- the content of the number that such digits write
+-- the content of the number of such digits
 abbrev pub read_digits : ℕ → (ℕ → Key) → List ℕ → Option Key
 read_digits limit content ds = if are_digits_below limit ds then Some (content (digits_value 10 ds)) else None
 
--- an unsigned integer of so many bits: digits, after a `+` or not
+-- the content of the unsigned integer of so many bits that a text is parsed as: digits, with a `+` in front or not
 unfoldable pub read_unsigned : ℕ → List ℕ → Option Key
 read_unsigned bits k = read_digits (2 ^ bits) of_nat (without_leading_plus k)
 
--- a signed integer of so many bits: digits, after a `+` or a `-` or not; the least is one further from 0
--- than the largest
+-- the content of the signed integer of so many bits that a text is parsed as: digits, with a `+` or a `-` in front or
+-- not
 unfoldable pub read_signed : ℕ → List ℕ → Option Key
 read_signed bits k =
     if starts_with_minus k then read_digits (2 ^ (bits - 1) + 1) (λ n. of_int (neg_ℤ (pos n))) (drop 1 k)

@@ -18,38 +18,38 @@ pub use whole::WholeKey;
 
 /// A type whose values are written as the names of an object's members.
 pub trait MapKey: Ranged + Sized + Eq + Drop {
-    // What counts of a key, as a list of numbers.
+    // The content of a key: the part that contracts compare, as a list of numbers.
     ghost content: { Self → Key };
 
-    // What equality looks at of that: all of it, where the type does not say otherwise.
+    // The part of the content that `Eq` compares; all of it by default.
     ghost code: { Key → Key } = { λ c. c };
 
-    // The content of the key that a text is read as.
+    // The content of the key that a text is parsed as, if any.
     ghost read: { List ℕ → Option Key };
 
-    // The text that a key is written as.
+    // The text of a key.
     ghost text: { Self → List ℕ };
 
-    // Whether `from_key` needs no memory, and so never answers `Memory`.
+    // Whether `from_key` never returns `Memory`.
     ghost reads_free: { Bool } = { false };
 
-    /// The key that a text is read as.
+    /// Parses a key.
     fn from_key(alloc: Global, k: &str) -> Result<Self>
         ensures value { IfOk result (λ v. read k.now ≡ Some (content v)) }
         ensures invalid { result ≡ Err Error.Invalid → read k.now ≡ None }
         ensures free { reads_free ≡ true → IfErr result (λ e. e ≡ Error.Invalid) };
 
-    /// Adds the text of the key.
+    /// Appends the text of the key. Leaves `out` as it was if allocation fails.
     fn to_key(&self, out: &mut String) -> Result<()>
         ensures ok { OnOk result (string_bytes out.new ≡ string_bytes out.old ++ text self.now) }
         ensures memory { OnErr result (IsErrOf result Memory) }
         ensures err { OnErr result (string_bytes out.new ≡ string_bytes out.old) }
         ensures room { OnErr result (string_capacity out.old < string_len out.old + length (text self.now)) };
 
-    // Keys are equal exactly where their codes are.
+    // Keys are equal exactly if their codes are.
     ghost alike: { (a b : Self) → Self.eq a b ≡ bytes_eq (code (content a)) (code (content b)) };
 
-    // A written key reads as an equal key, which is one that Rust has.
+    // The text of a valid key is parsed as an equal key that is valid.
     ghost back: { (k : Self) → Self.real k
         → (w : Self) × Self.real w × (read (text k) ≡ Some (content w)) × (code (content w) ≡ code (content k)) };
 
@@ -57,7 +57,7 @@ pub trait MapKey: Ranged + Sized + Eq + Drop {
     ghost one_text: { (a b : Self) → code (content a) ≡ code (content b) → text a ≡ text b };
 }
 
-// Adds a text.
+// Appends a text.
 fn append(out: &mut String, text: &str) -> Result<()>
     ensures ok { OnOk result (string_bytes out.new ≡ string_bytes out.old ++ text.now) }
     ensures memory { OnErr result (IsErrOf result Memory) }

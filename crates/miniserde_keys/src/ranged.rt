@@ -1,4 +1,4 @@
-//! Values that Rust has.
+//! Types with a validity predicate.
 ghost use Rattle.std.specs.Prelude.{◌≡◌, ◌<◌, ◌^◌, FitsSigned, length, ⊤};
 ghost use Rattle.std.specs.Int.{w8, w16, w32, w64};
 ghost use Rattle.std.specs.List.{AllByRecursion};
@@ -10,13 +10,13 @@ ghost use Rattle.miniserde_keys.specs.Ranged.{OptionReal};
 use std::collections::{BTreeMap, HashMap};
 use std::hash::{BuildHasher, Hash};
 
-/// A type whose values say that they are ones that Rust has. A clause can name a number past an integer's range, or
-/// an ordered map whose keys are out of order; `ranged` tells a proof that the value in hand is none.
+/// A type with a validity predicate. A clause can name a number out of an integer's range, or a `BTreeMap` whose keys are
+/// out of order; a call of `ranged` tells a proof that a value of the program is no such value.
 pub trait Ranged {
-    // The value is one that Rust has.
+    // The value is valid.
     ghost real: { Self → Type 0 };
 
-    /// Does nothing.
+    /// Does nothing. It promises that the value is valid.
     fn ranged(&self)
         ensures { real self.now };
 }
@@ -36,7 +36,7 @@ impl Ranged for bool {
 impl Ranged for char {
     ghost real = { IsScalar };
 
-    // Here and below: a value behind a reference is read to tell the proof that it is in its type's range.
+    // Here and below: the read tells the proof that the value is in the range of its type.
     fn ranged(&self) {
         let _value = *self;
     }
@@ -155,7 +155,7 @@ impl<A: Ranged, B: Ranged> Ranged for (A, B) {
     }
 }
 
-// Each of the values is one that Rust has.
+// Promises that each of the values is valid.
 fn ranged_all<T: Ranged>(items: &[T])
     ensures { AllByRecursion T.real items.now }
 {

@@ -1,4 +1,4 @@
--- What a refusal prints.
+-- What an error prints.
 use Rattle.std.specs.Prelude.{ℕ, List, codes}
 use Rattle.miniserde_model.specs.declared.error.Error.{Error}
 use Rattle.miniserde_model.specs.declared.error.Error.TheVariants.{Invalid, Memory}

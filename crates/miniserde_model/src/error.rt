@@ -1,4 +1,4 @@
-//! The two refusals of the library.
+//! The two errors of the library.
 ghost use Rattle.std.specs.Prelude.{◌≡◌, Some};
 ghost use Rattle.miniserde_model.specs.Error.{message};
 ghost use Rattle.miniserde_model.specs.declared.error.Error.TheVariants.{Memory};
@@ -6,22 +6,22 @@ ghost use Rattle.miniserde_model.specs.declared.error.Error.TheVariants.{Memory}
 use std::alloc::{AllocError, AllocFailed};
 use std::{error, fmt};
 
-/// Why a call was refused.
+/// Why a call failed.
 #[derive(Clone, Copy, Debug)]
 pub enum Error {
-    /// The input is not what was asked for. Nothing tells where or why.
+    /// The input is not what was asked for. It has no position and no detail.
     Invalid,
-    /// Memory could not be had.
+    /// An allocation failed.
     Memory,
 }
 
-/// What a call that may be refused answers.
+/// The result of a call that may fail.
 pub type Result<T> = std::result::Result<T, Error>;
 
 impl fmt::Display for Error {
     ghost output = { λ e. Some (message e) };
 
-    // Also under options, as `{:>20}`: nothing is padded or cut.
+    // Options, as in `{:>20}`, change nothing.
     ghost styled_output = { λ e _. Some (message e) };
 
     fn fmt<W: fmt::Write>(&self, f: &mut fmt::Formatter<W>) -> fmt::Result {

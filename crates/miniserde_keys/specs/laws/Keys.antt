@@ -1,5 +1,5 @@
--- What `parse` reads as a key, and the laws of keys: equal keys have equal codes and one text, and a key's text is read
--- as it. Each test of a text is first turned into the fact that it decides.
+-- What `parse` returns as a key, and the laws of keys: equal keys have equal codes and one text, and a key's text is
+-- parsed as it. Each test of a text is first turned into the fact that it decides.
 use Rattle.std.proofs.Common.{◌≡◌, ◌≢◌, ◌∙◌, ℕ, zero, suc, ◌+◌, ◌-◌, ◌^◌, ◌<◌, ◌≤◌, ℤ, pos, negsuc, neg_ℤ, Bool, true, false, cond, nat_eq, List, [], ◌∷◌, length, drop, get_or, Option, Some, None, refl, sym, ap, subst, inl, inr, arith, append-nil}
 use Rattle.std.specs.Prelude.{decimal, ◌⊎◌, ⊤}
 use Rattle.std.specs.Bool.{beq, Decides}
@@ -22,7 +22,7 @@ use mir.Syntax.{Width, w8, w16, w32, w64, w128}
 use mir.Val.{hbits}
 use Rattle.miniserde_keys.specs.Keys.{Key, of_nat, of_int, of_bool, bool_text, read_bool, only, read_char, are_digits_below, read_digits, read_unsigned, read_signed}
 
--- the law of a type of keys: a text reads as an equal key, which is one that Rust has
+-- the law of a type of keys: the text of a valid key is parsed as an equal key that is valid
 abbrev pub ReadsBack : {K : Type 0} → (K → Type 0) → (K → Key) → (Key → Key) → (List ℕ → Option Key) → (K → List ℕ) → Type 0
 ReadsBack {K} real content code read text =
     (k : K) → real k → (w : K) × real w × (read (text k) ≡ Some (content w)) × (code (content w) ≡ code (content k))

@@ -1,4 +1,4 @@
-//! Keys that are integers.
+//! Integers as keys.
 #![tactic(auto, using(crate::specs::laws::Keys::integer_reads))]
 
 ghost use Rattle.std.specs.Prelude.{◌≡◌, ◌<◌, ◌+◌, ◌++◌, true, OnOk, OnErr, IsErrOf, refl, length, string_bytes};
@@ -15,7 +15,7 @@ use itoa::{Buffer, Integer};
 use miniserde_model::error::{Error, Result};
 use std::alloc::Global;
 
-// Adds an integer in decimal.
+// Appends an integer in decimal.
 fn append_integer<I: Integer>(out: &mut String, n: I) -> Result<()>
     ensures ok { OnOk result (string_bytes out.new ≡ string_bytes out.old ++ I.text n) }
     ensures memory { OnErr result (IsErrOf result Memory) }

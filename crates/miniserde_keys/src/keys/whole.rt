@@ -1,11 +1,11 @@
-//! Keys of which equality looks at all that counts.
+//! Keys of which `Eq` compares the whole content.
 ghost use Rattle.std.specs.Prelude.{◌≡◌};
 
 use super::MapKey;
 
-/// A type of keys of which equality looks at all that counts.
+/// A type of keys of which `Eq` compares the whole content.
 pub trait WholeKey: MapKey {
-    // Keys with one code are one key.
+    // Keys with one code have one content.
     ghost whole: { (a b : Self) → Self.code (Self.content a) ≡ Self.code (Self.content b)
         → Self.content a ≡ Self.content b };
 }

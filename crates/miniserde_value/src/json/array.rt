@@ -77,7 +77,7 @@ impl Array {
         items
     }
 
-    /// Puts a value in the first place, and answers the one that stood there.
+    /// Replaces the first item by a value, and returns that item.
     pub(crate) fn park(&mut self, value: Value) -> Value
         requires { array_items self.old ≡ [] → ⊥ }
         ensures { replaces_first value result (array_items self.old) (array_items self.new) }

@@ -1,4 +1,4 @@
-//! The one way in which values are built.
+//! Builds documents, without recursion.
 ghost use Rattle.std.specs.Prelude.{◌≡◌, ◌≤◌, [], None, Some, Option, IfOk, OnOk, OnErr, IsErrOf, option_map};
 ghost use Rattle.std.specs.Prelude.{drop, take, length, string_bytes, is_some};
 ghost use Rattle.miniserde_model.specs.declared.error.Error.TheVariants.{Memory};
@@ -42,7 +42,7 @@ pub(crate) struct OpenObject {
 }
 
 impl OpenObject {
-    /// No members yet. It takes no memory.
+    /// Returns an object without members. Allocates nothing.
     pub(crate) fn new(alloc: Global) -> OpenObject
         ensures members { made_members result ≡ no_members }
         ensures name { next_name result ≡ None }
@@ -61,7 +61,7 @@ impl OpenObject {
         self.name = Some(name);
     }
 
-    /// Puts a value under its name, in the place of the one of that name. A value with no name is let go.
+    /// Puts a value under its name; it replaces the value of a duplicate. Drops a value that has no name.
     pub(crate) fn put(&mut self, value: Value) -> Result<()>
         ensures ok { OnOk result ((h : Hole) → opened self.new h ≡ put (shape value) (opened self.old h)) }
         ensures memory { OnErr result (IsErrOf result Memory) }
@@ -72,7 +72,7 @@ impl OpenObject {
         Ok(())
     }
 
-    /// Whether there is a member of the name.
+    /// Returns whether there is a member of the name.
     pub(crate) fn has_name(&self, name: &str) -> bool
         ensures { result ≡ is_some (last_of name.now (made_members self.now)) }
     {
@@ -80,7 +80,7 @@ impl OpenObject {
     }
 }
 
-/// Values that are being built. A contract sees a tree with a hole, which the open containers are.
+/// A document that is being built. Contracts see it as a tree with a hole, inside the open containers.
 #[derive(Drop)]
 pub(crate) struct Builder {
     alloc: Global,
@@ -93,7 +93,7 @@ pub(crate) struct Builder {
     ghost fits: { MarksFit values.items objects.items marks.items } by { marks-fit-once values.items objects.items marks.items },
 }
 
-// The values from this place on, taken out: the whole list as it lies, where that is asked for.
+// Takes the values out from this place on; with `as_it_lies` the whole list without a copy.
 fn take_from(
     alloc: Global,
     values: &mut Vec<Value>,
@@ -115,7 +115,7 @@ fn take_from(
 impl Builder {
     ghost use Rattle.miniserde_value.specs.Builders.{hole_in};
 
-    /// Nothing yet. It takes no memory.
+    /// Returns a builder of which nothing is built. Allocates nothing.
     pub(crate) fn new(alloc: Global) -> Builder
         ensures { hole_in result ≡ outside [] }
     {
@@ -127,7 +127,7 @@ impl Builder {
         }
     }
 
-    /// The kind of the innermost open container.
+    /// Returns the kind of the innermost open container.
     #[inline(always)]
     pub(crate) fn innermost(&self) -> Option<Kind>
         ensures { result ≡ innermost (hole_in self.now) }
@@ -139,7 +139,7 @@ impl Builder {
         }
     }
 
-    /// Whether the innermost open container is an object that has a member of the name.
+    /// Returns whether the innermost open container is an object with a member of the name.
     pub(crate) fn has_name(&self, name: &str) -> bool
         ensures { result ≡ has_member name.now (hole_in self.now) }
     {
@@ -151,7 +151,7 @@ impl Builder {
         false
     }
 
-    /// Puts a whole value in the hole.
+    /// Fills the hole with a value.
     pub(crate) fn put(&mut self, value: Value) -> Result<()>
         ensures ok { OnOk result (hole_in self.new ≡ put (shape value) (hole_in self.old)) }
         ensures memory { OnErr result (IsErrOf result Memory) }
@@ -166,7 +166,7 @@ impl Builder {
         Ok(())
     }
 
-    /// Puts a text in the hole.
+    /// Fills the hole with a text.
     pub(crate) fn put_text(&mut self, text: &str) -> Result<()>
         ensures ok { OnOk result (hole_in self.new ≡ put (str text.now) (hole_in self.old)) }
         ensures memory { OnErr result (IsErrOf result Memory) }
@@ -175,7 +175,7 @@ impl Builder {
         self.put(Value::String(text))
     }
 
-    /// Puts a number in the hole, by its text.
+    /// Fills the hole with a number that keeps its text.
     pub(crate) fn put_number(&mut self, text: &str) -> Result<()>
         requires { IsNumber text.now (num text.now) }
         ensures ok { OnOk result (hole_in self.new ≡ put (num text.now) (hole_in self.old)) }
@@ -206,7 +206,7 @@ impl Builder {
         Ok(())
     }
 
-    /// Names the next value of the innermost container, where that is an object.
+    /// Names the next value of the innermost container if that is an object.
     #[inline(always)]
     pub(crate) fn name(&mut self, name: &str) -> Result<()>
         ensures ok { OnOk result (hole_in self.new ≡ named name.now (hole_in self.old)) }
@@ -244,7 +244,7 @@ impl Builder {
         }
     }
 
-    /// The value, where it is whole.
+    /// Returns the value if it is complete.
     pub(crate) fn into_value(self) -> Option<Value>
         ensures { option_map shape result ≡ whole (hole_in self) }
     {

@@ -1,4 +1,4 @@
-//! Letting values go with no recursion and no growth.
+//! Drops documents without recursion and without allocation.
 ghost use Rattle.std.specs.Prelude.{◌≡◌, ◌+◌, ◌*◌, ◌≤◌, ◌++◌, ◌∷◌, [], ◌↔◌, IsTrue, MatchOption};
 ghost use Rattle.miniserde_value.specs.Values.{children, IsBare};
 ghost use Rattle.miniserde_value.specs.Looks.{value_size, replaces_first};
@@ -8,7 +8,7 @@ mod looks;
 use super::value::Value;
 pub use looks::Looks;
 
-/// Whether a value is a leaf or an empty container.
+/// Returns whether a value is a leaf or an empty container.
 #[inline(always)]
 fn is_bare(value: &Value) -> bool
     ensures { IsTrue result ↔ IsBare value.now }
@@ -20,7 +20,7 @@ fn is_bare(value: &Value) -> bool
     }
 }
 
-/// Takes the last child in hand.
+/// Takes the last child out.
 #[inline(always)]
 fn take_last(value: &mut Value, looks: &mut Looks) -> Option<Value>
     ensures taken { MatchOption result (IsBare value.old × IsBare value.new)
@@ -38,7 +38,7 @@ fn take_last(value: &mut Value, looks: &mut Looks) -> Option<Value>
     Some(last)
 }
 
-/// Puts a value in the place of the first child, and takes that child in hand.
+/// Replaces the first child by a value, and returns that child.
 #[inline(always)]
 fn park(value: &mut Value, parent: Value, looks: &mut Looks) -> Value
     requires { children value.old ≡ [] → ⊥ }
@@ -54,7 +54,7 @@ fn park(value: &mut Value, parent: Value, looks: &mut Looks) -> Value
     }
 }
 
-/// The one place where a value is let go.
+/// Drops a value that is a leaf or an empty container. No other function here drops one.
 #[inline(always)]
 fn let_go(value: Value, looks: &mut Looks)
     requires { IsBare value }
@@ -72,7 +72,7 @@ fn let_go(value: Value, looks: &mut Looks)
     }
 }
 
-/// Takes a value apart, and counts how often a value was looked at, and how many were let go. It takes no memory.
+/// Drops a value, and counts how often a value was looked at and how many were dropped. Allocates nothing.
 pub fn counted(value: Value, looks: &mut Looks)
     ensures gone { looks.new.gone ≡ looks.old.gone + value_size value }
     ensures at_least { looks.old.looked + value_size value ≤ looks.new.looked }
@@ -106,7 +106,7 @@ pub fn counted(value: Value, looks: &mut Looks)
     }
 }
 
-/// Takes a value apart. It takes no memory.
+/// Drops a value. Allocates nothing.
 pub fn safely(value: Value) {
     let mut looks = Looks::new();
     counted(value, &mut looks);

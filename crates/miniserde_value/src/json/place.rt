@@ -1,4 +1,4 @@
-//! Reading values of any shape, with no recursion.
+//! The places of documents, without recursion.
 ghost use Rattle.std.specs.Prelude.{◌≡◌, true, [], Option, Some, None, Err, IfOk, OnOk};
 ghost use Rattle.miniserde_model.specs.declared.error.Error.TheVariants.{Invalid};
 ghost use Rattle.miniserde_read.specs.Step.{event_of};
@@ -31,7 +31,7 @@ pub struct ValuePlace {
 impl ValuePlace {
     ghost use Rattle.miniserde_value.specs.Places.{hole_at, due_in, refusal_of};
 
-    /// A place that has no event yet. It takes no memory.
+    /// Returns a place that took no event. Allocates nothing.
     pub(crate) fn new(alloc: Global) -> ValuePlace
         ensures hole { hole_at result ≡ outside [] }
         ensures due { due_in result ≡ true }
@@ -67,7 +67,7 @@ impl ValuePlace {
         }
     }
 
-    // Takes an event inside the innermost open container, and says whether a value is due then.
+    // Takes an event inside the innermost open container. Returns whether a value is due behind it.
     #[inline(always)]
     fn resume(&mut self, event: Step<'_>) -> Result<bool>
         ensures ok { IfOk result (λ due.
@@ -108,7 +108,7 @@ impl ValuePlace {
         Ok(())
     }
 
-    /// Whether the event is a name that the innermost open object has.
+    /// Returns whether the event is a name that the innermost open object has.
     pub(crate) fn repeats(&self, event: &Step<'_>) -> bool
         ensures { result ≡ repeats (event_of event.now) (hole_at self.now) }
     {
@@ -118,7 +118,7 @@ impl ValuePlace {
         }
     }
 
-    // Whether no event was taken.
+    // Returns whether no event was taken.
     fn is_fresh(&self) -> bool
         ensures { result ≡ is_start (due_in self.now) (hole_at self.now) }
     {
