@@ -18,6 +18,8 @@ pub use miniserde_model::error::{Error, Result};
 pub use miniserde_place::engine::read_by_place;
 pub use miniserde_read::FromJson;
 pub use miniserde_record::record;
-pub use miniserde_round::{Lossless, NeverNull, RoundTrip, means_itself, read_again, read_itself};
+pub use miniserde_round::{
+    Lossless, NeverNull, RoundTrip, means_itself, read_again, read_back, read_itself,
+};
 pub use miniserde_ser::ser::Serialize;
 pub use miniserde_text::scan;

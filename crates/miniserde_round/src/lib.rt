@@ -5,4 +5,4 @@ mod lossless;
 mod round_trip;
 
 pub use lossless::{Lossless, NeverNull, means_itself, read_itself};
-pub use round_trip::{RoundTrip, read_again};
+pub use round_trip::{RoundTrip, read_again, read_back};

@@ -1,5 +1,7 @@
 //! Values that read back as they were written.
 ghost use Rattle.std.specs.Prelude.{◌≡◌, IfOk, Ok, Err};
+ghost use Rattle.miniserde_model.specs.Tree.{Tree};
+ghost use Rattle.miniserde_model.specs.Value.{IsJson};
 ghost use Rattle.miniserde_round.specs.RoundTrip.{ReadsAgain};
 ghost use Rattle.miniserde_model.specs.declared.error.Error.{Error};
 
@@ -20,7 +22,30 @@ pub trait RoundTrip: Ranged + Serialize + FromJson {
             → ReadsAgain Self.real Self.tree Self.means.reads (Self.tree v) };
 }
 
-/// Writes a value and reads it again.
+/// Parses a text that spells the tree of some value, as `to_string` wrote it or in another spelling: the result has that
+/// tree. Of any other text it is `from_str`.
+pub fn read_back<T: RoundTrip>(alloc: Global, text: &str) -> Result<T>
+    // The text spells a tree that means the value, which is valid.
+    ensures ok { IfOk result (λ read. (t : Tree) × IsJson text.now t × T.means.reads t read) }
+    ensures valid { IfOk result (λ read. T.real read) }
+
+    // If the text spells the tree of a valid value, the result has that tree.
+    ensures same { IfOk result (λ read. (v : T) → T.real v → IsJson text.now (T.tree v) → T.tree read ≡ T.tree v) }
+
+    // It spells the tree of no valid value.
+    ensures stored { result ≡ Err Error.Invalid → (v : T) → T.real v → IsJson text.now (T.tree v) → ⊥ }
+
+    // No tree of the text means any value.
+    ensures invalid { result ≡ Err Error.Invalid → (t : Tree) → IsJson text.now t
+        → (v : T) → T.means.reads t v → ⊥ }
+{
+    T::again();
+    let read: T = from_str(alloc, text)?;
+    read.ranged();
+    Ok(read)
+}
+
+/// Writes a value and parses it: the result has the same tree.
 pub fn read_again<T: RoundTrip>(alloc: Global, value: &T) -> Result<T>
     ensures same { IfOk result (λ v. T.tree v ≡ T.tree value.now) }
     ensures itself { ((v : T) → T.real v → T.tree v ≡ T.tree value.now
@@ -29,10 +54,8 @@ pub fn read_again<T: RoundTrip>(alloc: Global, value: &T) -> Result<T>
     ensures memory { result ≡ Err Error.Invalid → ⊥ }
 {
     value.ranged();
-    T::again();
     let text = to_string(alloc, value)?;
-    let again: T = from_str(alloc, text.as_str())?;
-    again.ranged();
+    let again: T = read_back(alloc, text.as_str())?;
     Ok(again)
 }
 

@@ -6,8 +6,8 @@ ghost use Rattle.miniserde.specs.Value.{IsJson};
 
 use crate::request::Request;
 use miniserde::de::Ranged;
-use miniserde::json::{from_str, to_string};
-use miniserde::{Error, Result, RoundTrip, Serialize};
+use miniserde::json::to_string;
+use miniserde::{Error, Result, Serialize, read_back};
 use std::alloc::Global;
 use std::collections::BTreeMap;
 
@@ -32,21 +32,6 @@ pub fn put(
     Ok(())
 }
 
-// Reads a row.
-fn read_row(alloc: Global, row: &String) -> Result<Request>
-    // A request whose tree the row spells has the tree of the answer, and there is none if the row is invalid.
-    ensures ok { IfOk result (λ read. (v : Request) → ⟦<Request as Ranged>⟧.real v
-        → IsJson (string_bytes row.now) (⟦<Request as Serialize>⟧.tree v)
-        → ⟦<Request as Serialize>⟧.tree read ≡ ⟦<Request as Serialize>⟧.tree v) }
-    ensures invalid { result ≡ Err Error.Invalid → (v : Request) → ⟦<Request as Ranged>⟧.real v
-        → IsJson (string_bytes row.now) (⟦<Request as Serialize>⟧.tree v) → ⊥ }
-{
-    <Request as RoundTrip>::again();
-    let request: Request = from_str(alloc, row.as_str())?;
-    request.ranged();
-    Ok(request)
-}
-
 /// Returns the request of a number, if there is one.
 pub fn find(alloc: Global, rows: &BTreeMap<u64, String>, number: u64) -> Result<Option<Request>>
     // If the row spells a request's tree, as `put` leaves it, the answer has that tree.
@@ -64,7 +49,7 @@ pub fn find(alloc: Global, rows: &BTreeMap<u64, String>, number: u64) -> Result<
 {
     match rows.get(&number) {
         Some(row) => {
-            let request = read_row(alloc, row)?;
+            let request: Request = read_back(alloc, row.as_str())?;
             Ok(Some(request))
         }
         None => Ok(None),
