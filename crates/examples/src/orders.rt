@@ -6,9 +6,8 @@ ghost use Rattle.miniserde.specs.Compact.{compact};
 ghost use Rattle.examples.specs.Orders.{settled_of};
 
 use crate::order::Order;
-use miniserde::de::FromJson;
 use miniserde::json::{from_str, to_string};
-use miniserde::{Error, Result, Serialize};
+use miniserde::{Error, FromJson, Result, Serialize};
 use std::alloc::Global;
 
 /// The order of a text, paid, as text again.
@@ -24,5 +23,6 @@ pub fn settled(alloc: Global, text: &str) -> Result<String>
 {
     let mut order: Order = from_str(alloc, text)?;
     order.paid = true;
-    to_string(alloc, &order)
+    let written = to_string(alloc, &order)?;
+    Ok(written)
 }

@@ -6,9 +6,8 @@ ghost use Rattle.miniserde.specs.Compact.{compact};
 ghost use Rattle.examples.specs.Orders.{one_more_of};
 
 use crate::order::Order;
-use miniserde::error::Result;
 use miniserde::json::{from_str, to_string};
-use miniserde::{FromJson, Serialize};
+use miniserde::{FromJson, Result, Serialize};
 use std::alloc::Global;
 
 /// Reads an order, adds one to its quantity, and writes it.

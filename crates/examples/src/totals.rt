@@ -5,9 +5,8 @@ ghost use Rattle.miniserde.specs.Tree.{Tree};
 ghost use Rattle.miniserde.specs.Value.{IsJson};
 
 use crate::basket::Basket;
-use miniserde::de::FromJson;
 use miniserde::json::from_str;
-use miniserde::{Error, Result};
+use miniserde::{Error, FromJson, Result};
 use std::alloc::Global;
 
 // The sum of a basket's prices, where it is below 2^64.

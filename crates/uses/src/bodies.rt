@@ -5,9 +5,8 @@ ghost use Rattle.miniserde.specs.Value.{IsJson};
 ghost use Rattle.uses.specs.Changes.{with_note};
 
 use crate::request::Request;
-use miniserde::de::FromJson;
 use miniserde::json::{from_str, to_string};
-use miniserde::{Error, Result, Serialize};
+use miniserde::{Error, FromJson, Result, Serialize};
 use std::alloc::Global;
 
 /// The request of a body with a note, as text again.

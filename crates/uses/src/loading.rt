@@ -4,8 +4,7 @@ ghost use Rattle.miniserde.specs.Tree.{Tree};
 ghost use Rattle.miniserde.specs.Value.{IsJson};
 ghost use Rattle.uses.specs.Changes.{at_port};
 
-use miniserde::de::FromJson;
-use miniserde::{Error, Result, Serialize};
+use miniserde::{Error, FromJson, Result, Serialize};
 use settings::loader::{load, save};
 use settings::types::Settings;
 use std::alloc::Global;
