@@ -18,3 +18,5 @@ pub mod Frames
 pub mod Walks
 pub mod Written
 pub mod Documents
+pub mod Builds
+pub mod Openings

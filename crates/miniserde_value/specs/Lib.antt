@@ -13,3 +13,4 @@ pub mod Kinds
 pub mod Meanings
 pub mod Places
 pub mod laws
+pub mod private

@@ -2,9 +2,9 @@
 use Rattle.std.specs.Prelude.{ℕ, ◌≤◌, List, [], ◌∷◌, Option, Some, None, option_map, string_bytes, reverse, take, drop, length, ⊤}
 use Rattle.miniserde_model.specs.Tree.{Tree, Members, no_members}
 use Rattle.miniserde_ser.specs.Trees.{members_of}
+use Rattle.miniserde_text.specs.declared.json.lex.Kind.{Kind}
+use Rattle.miniserde_text.specs.declared.json.lex.Kind.TheVariants as kind
 use Rattle.miniserde_value.specs.declared.json.value.Value.{Value}
-use Rattle.miniserde_value.specs.declared.json.builder.Kind.{Kind}
-use Rattle.miniserde_value.specs.declared.json.builder.Kind.TheVariants as kind
 use Rattle.miniserde_value.specs.declared.json.builder.OpenObject.{OpenObject}
 use Rattle.miniserde_value.specs.declared.json.builder.Mark.{Mark}
 use Rattle.miniserde_value.specs.declared.json.builder.Mark.TheVariants as mark
@@ -56,5 +56,5 @@ MarksFit vs os ms = Fits (length vs) (reverse os) (reverse ms)
 -- the kind of the innermost open container
 abbrev pub innermost : Hole → Option Kind
 innermost (outside ts) = None
-innermost (in_list ts h) = Some kind.Array
-innermost (in_members ms n h) = Some kind.Object
+innermost (in_list ts h) = Some kind.Seq
+innermost (in_members ms n h) = Some kind.Map

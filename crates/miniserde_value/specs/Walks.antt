@@ -6,8 +6,8 @@ use Rattle.std.specs.declared.alloc.Global.{Global}
 use Rattle.std.specs.declared.slice.Iter.{Iter}
 use Rattle.miniserde_model.specs.Tree.{null, truth, str}
 use Rattle.miniserde_ser.specs.Trees.{trees_of, members_of}
-use Rattle.miniserde_value.specs.declared.json.builder.Kind.{Kind}
-use Rattle.miniserde_value.specs.declared.json.builder.Kind.TheVariants as kind
+use Rattle.miniserde_text.specs.declared.json.lex.Kind.{Kind}
+use Rattle.miniserde_text.specs.declared.json.lex.Kind.TheVariants as kind
 use Rattle.miniserde_value.specs.declared.json.value.Value.{Value}
 use Rattle.miniserde_value.specs.declared.json.walk.Front.{Front}
 use Rattle.miniserde_value.specs.declared.json.walk.Front.TheVariants as front
@@ -41,10 +41,10 @@ members_left ms rest = member_fronts (members_of string_bytes shape ms) (members
 -- of all open containers, in lists with the innermost first. Each kind takes the first of its own list
 abbrev pub stack_left : List Kind → List (Iter Value) → List (List (String Global × Value)) → List Meets
 stack_left [] arrays objects = []
-stack_left (kind.Array ∷ kinds) [] objects = []
-stack_left (kind.Array ∷ kinds) (a ∷ arrays) objects = items_left a (stack_left kinds arrays objects)
-stack_left (kind.Object ∷ kinds) arrays [] = []
-stack_left (kind.Object ∷ kinds) arrays (o ∷ objects) = members_left o (stack_left kinds arrays objects)
+stack_left (kind.Seq ∷ kinds) [] objects = []
+stack_left (kind.Seq ∷ kinds) (a ∷ arrays) objects = items_left a (stack_left kinds arrays objects)
+stack_left (kind.Map ∷ kinds) arrays [] = []
+stack_left (kind.Map ∷ kinds) arrays (o ∷ objects) = members_left o (stack_left kinds arrays objects)
 
 abbrev pub frames_left : Frames → List Meets
 frames_left f = stack_left (reverse f.kinds.items) (reverse f.arrays.items) (reverse f.objects.items)
@@ -68,10 +68,10 @@ MembersOrdered ms = AreOrderedMembers (members_of string_bytes shape ms)
 
 abbrev pub StackOrdered : List Kind → List (Iter Value) → List (List (String Global × Value)) → Type 0
 StackOrdered [] arrays objects = ⊤
-StackOrdered (kind.Array ∷ kinds) [] objects = ⊤
-StackOrdered (kind.Array ∷ kinds) (a ∷ arrays) objects = ItemsOrdered a × StackOrdered kinds arrays objects
-StackOrdered (kind.Object ∷ kinds) arrays [] = ⊤
-StackOrdered (kind.Object ∷ kinds) arrays (o ∷ objects) = MembersOrdered o × StackOrdered kinds arrays objects
+StackOrdered (kind.Seq ∷ kinds) [] objects = ⊤
+StackOrdered (kind.Seq ∷ kinds) (a ∷ arrays) objects = ItemsOrdered a × StackOrdered kinds arrays objects
+StackOrdered (kind.Map ∷ kinds) arrays [] = ⊤
+StackOrdered (kind.Map ∷ kinds) arrays (o ∷ objects) = MembersOrdered o × StackOrdered kinds arrays objects
 
 abbrev pub FramesOrdered : Frames → Type 0
 FramesOrdered f = StackOrdered (reverse f.kinds.items) (reverse f.arrays.items) (reverse f.objects.items)

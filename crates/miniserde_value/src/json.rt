@@ -8,6 +8,7 @@ pub mod number;
 pub mod object;
 mod place;
 mod read;
+mod reader;
 mod round_trip;
 mod show;
 pub mod unique;

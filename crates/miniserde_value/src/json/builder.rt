@@ -1,11 +1,12 @@
 //! Builds documents, without recursion.
-ghost use Rattle.std.specs.Prelude.{◌≡◌, ◌≤◌, [], None, Some, Option, IfOk, OnOk, OnErr, IsErrOf, option_map};
+ghost use Rattle.std.specs.Prelude.{◌≡◌, ◌≤◌, [], None, Some, Option, Err, IfOk, OnOk, OnErr, IsErrOf, option_map};
 ghost use Rattle.std.specs.Prelude.{drop, take, length, string_bytes, is_some};
-ghost use Rattle.miniserde_model.specs.declared.error.Error.TheVariants.{Memory};
+ghost use Rattle.miniserde_model.specs.declared.error.Error.TheVariants.{Invalid, Memory};
 ghost use Rattle.miniserde_model.specs.Number.{IsNumber};
 ghost use Rattle.miniserde_model.specs.Tree.{no_members, num, str};
 ghost use Rattle.miniserde_model.specs.Normal.{last_of};
-ghost use Rattle.miniserde_value.specs.Hole.{Hole, outside, in_list, in_members, put, named, closed, whole, has_member};
+ghost use Rattle.miniserde_read.specs.Step.{event_of, IsTreeEvent};
+ghost use Rattle.miniserde_value.specs.Hole.{Hole, outside, in_list, in_members, put, named, closed, whole, has_member, begun};
 ghost use Rattle.miniserde_value.specs.Values.{shape};
 ghost use Rattle.miniserde_value.specs.Marks.{MarksFit, innermost, made_members, next_name, opened};
 ghost use Rattle.miniserde_value.specs.laws.Marks.{marks-fit-once};
@@ -14,18 +15,13 @@ use super::array::Array;
 use super::number::Number;
 use super::object::Object;
 use super::value::Value;
-use miniserde_model::error::Result;
+use miniserde_model::error::{Error, Result};
+use miniserde_read::Step;
+use miniserde_text::json::lex::Kind;
 use miniserde_text::json::number::NumberText;
 use std::alloc::Global;
 use std::collections::BTreeMap;
 use std::mem;
-
-/// A kind of container.
-#[derive(Clone, Copy, Drop)]
-pub(crate) enum Kind {
-    Array,
-    Object,
-}
 
 /// An open container: where the items of an array begin, or the next of the open objects.
 #[derive(Clone, Copy, Drop)]
@@ -134,8 +130,8 @@ impl Builder {
     {
         match self.marks.last() {
             None => None,
-            Some(Mark::Array(_)) => Some(Kind::Array),
-            Some(Mark::Object) => Some(Kind::Object),
+            Some(Mark::Array(_)) => Some(Kind::Seq),
+            Some(Mark::Object) => Some(Kind::Map),
         }
     }
 
@@ -152,6 +148,7 @@ impl Builder {
     }
 
     /// Fills the hole with a value.
+    #[inline(always)]
     pub(crate) fn put(&mut self, value: Value) -> Result<()>
         ensures ok { OnOk result (hole_in self.new ≡ put (shape value) (hole_in self.old)) }
         ensures memory { OnErr result (IsErrOf result Memory) }
@@ -204,6 +201,26 @@ impl Builder {
         self.objects.push(OpenObject::new(self.alloc))?;
         self.marks.push(Mark::Object)?;
         Ok(())
+    }
+
+    /// Takes the first event of a value. Returns `Invalid` of any other event.
+    #[inline(always)]
+    pub(crate) fn begin(&mut self, event: Step<'_>) -> Result<()>
+        requires { IsTreeEvent (event_of event) }
+        ensures ok { OnOk result (begun (event_of event.entry) (hole_in self.old) ≡ Some (hole_in self.new)) }
+        ensures invalid { result ≡ Err Invalid → begun (event_of event.entry) (hole_in self.old) ≡ None }
+    {
+        match event {
+            Step::Null => self.put(Value::Null),
+            Step::Bool(b) => self.put(Value::Bool(b)),
+            Step::Str(s) => self.put_text(s),
+            Step::Negative(n) => self.put(Value::Number(Number::I64(n))),
+            Step::Nonnegative(n) => self.put(Value::Number(Number::U64(n))),
+            Step::Float(t) => self.put_number(t),
+            Step::Seq => self.open_array(),
+            Step::Map => self.open_object(),
+            Step::Element | Step::Key(_) | Step::Finish => Err(Error::Invalid),
+        }
     }
 
     /// Names the next value of the innermost container if that is an object.

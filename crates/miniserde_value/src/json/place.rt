@@ -3,18 +3,19 @@ ghost use Rattle.std.specs.Prelude.{◌≡◌, true, [], Option, Some, None, Err
 ghost use Rattle.miniserde_model.specs.declared.error.Error.TheVariants.{Invalid};
 ghost use Rattle.miniserde_read.specs.Step.{event_of};
 ghost use Rattle.miniserde_read.specs.Step.{IsTreeEvent};
-ghost use Rattle.miniserde_value.specs.Hole.{outside, begun, resumed, took};
+ghost use Rattle.miniserde_value.specs.Hole.{outside, resumed, took};
 ghost use Rattle.miniserde_value.specs.Unique.{repeats};
 ghost use Rattle.miniserde_value.specs.Kinds.{is_start};
 
 use super::array::Array;
-use super::builder::{Builder, Kind};
+use super::builder::Builder;
 use super::number::Number;
 use super::object::Object;
 use super::value::Value;
 use miniserde_de::de::{Step, Visitor};
 use miniserde_model::error::{Error, Result};
 use miniserde_place::de::leaf::{Leaf, LeafPlace};
+use miniserde_text::json::lex::Kind;
 use miniserde_text::json::number::NumberText;
 use std::alloc::Global;
 
@@ -45,28 +46,6 @@ impl ValuePlace {
         }
     }
 
-    // Takes the first event of a value.
-    #[inline(always)]
-    fn begin_value(&mut self, event: Step<'_>) -> Result<()>
-        requires { IsTreeEvent (event_of event) }
-        ensures ok { OnOk result (begun (event_of event.entry) (hole_at self.old) ≡ Some (hole_at self.new)) }
-        ensures invalid { result ≡ Err Invalid → begun (event_of event.entry) (hole_at self.old) ≡ None }
-        ensures due { due_in self.new ≡ due_in self.old }
-        ensures refused { refusal_of self.new ≡ refusal_of self.old }
-    {
-        match event {
-            Step::Null => self.builder.put(Value::Null),
-            Step::Bool(b) => self.builder.put(Value::Bool(b)),
-            Step::Str(s) => self.builder.put_text(s),
-            Step::Negative(n) => self.builder.put(Value::Number(Number::I64(n))),
-            Step::Nonnegative(n) => self.builder.put(Value::Number(Number::U64(n))),
-            Step::Float(t) => self.builder.put_number(t),
-            Step::Seq => self.builder.open_array(),
-            Step::Map => self.builder.open_object(),
-            Step::Element | Step::Key(_) | Step::Finish => Err(Error::Invalid),
-        }
-    }
-
     // Takes an event inside the innermost open container. Returns whether a value is due behind it.
     #[inline(always)]
     fn resume(&mut self, event: Step<'_>) -> Result<bool>
@@ -76,8 +55,8 @@ impl ValuePlace {
         ensures refused { refusal_of self.new ≡ refusal_of self.old }
     {
         match (event, self.builder.innermost()) {
-            (Step::Element, Some(Kind::Array)) => Ok(true),
-            (Step::Key(name), Some(Kind::Object)) => {
+            (Step::Element, Some(Kind::Seq)) => Ok(true),
+            (Step::Key(name), Some(Kind::Map)) => {
                 self.builder.name(name)?;
                 Ok(true)
             }
@@ -100,7 +79,7 @@ impl ValuePlace {
         ensures refused { refusal_of self.new ≡ refusal_of self.old }
     {
         if self.due {
-            self.begin_value(event)?;
+            self.builder.begin(event)?;
             self.due = false;
         } else {
             self.due = self.resume(event)?;

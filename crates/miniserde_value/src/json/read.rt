@@ -1,14 +1,15 @@
-//! Documents that read themselves: of any depth, by the engine, with no recursion.
+//! Documents that read themselves: of any depth, with no recursion.
 ghost use Rattle.std.specs.Prelude.{⊤};
 
 use super::array::Array;
 use super::number::Number;
 use super::object::Object;
 use super::place::{ArrayPlace, NumberPlace, ObjectPlace, ValuePlace};
+use super::reader::read_value;
 use super::unique::{Unique, UniquePlace};
 use super::value::Value;
 use miniserde_de::de::{Deserialize, FromJson, Ranged};
-use miniserde_model::error::Result;
+use miniserde_model::error::{Error, Result};
 use miniserde_place::engine::read_by_place;
 use miniserde_read::{Source, read_leaf};
 use miniserde_text::json::lex::Event;
@@ -38,7 +39,7 @@ impl FromJson for Value {
     }
 
     fn read<'a>(token: Event<'a>, source: &mut Source<'a>) -> Result<Value> {
-        read_by_place::<ValuePlace>(token, source)
+        read_value(token, source)
     }
 }
 
@@ -52,7 +53,13 @@ impl FromJson for Array {
     }
 
     fn read<'a>(token: Event<'a>, source: &mut Source<'a>) -> Result<Array> {
-        read_by_place::<ArrayPlace>(token, source)
+        match token {
+            Event::SeqStart => match read_value(token, source)?.into_array() {
+                Some(array) => Ok(array),
+                None => Err(Error::Invalid),
+            },
+            _ => Err(Error::Invalid),
+        }
     }
 }
 
@@ -66,7 +73,13 @@ impl FromJson for Object {
     }
 
     fn read<'a>(token: Event<'a>, source: &mut Source<'a>) -> Result<Object> {
-        read_by_place::<ObjectPlace>(token, source)
+        match token {
+            Event::MapStart => match read_value(token, source)?.into_object() {
+                Some(object) => Ok(object),
+                None => Err(Error::Invalid),
+            },
+            _ => Err(Error::Invalid),
+        }
     }
 }
 

@@ -5,10 +5,10 @@ ghost use Rattle.miniserde_model.specs.declared.error.Error.TheVariants.{Memory}
 ghost use Rattle.miniserde_value.specs.Walks.{meets, items_left, members_left, ItemsOrdered, MembersOrdered};
 ghost use Rattle.miniserde_value.specs.Walks.{frames_left, due_left, FramesOrdered, DueOrdered};
 
-use super::super::builder::Kind;
 use super::super::value::Value;
 use super::Front;
 use miniserde_model::error::Result;
+use miniserde_text::json::lex::Kind;
 use std::alloc::Global;
 use std::collections::btree_map;
 use std::slice;
@@ -41,7 +41,7 @@ impl<'a> Frames<'a> {
         ensures memory { OnErr result (IsErrOf result Memory) }
     {
         self.arrays.push(items)?;
-        self.kinds.push(Kind::Array)?;
+        self.kinds.push(Kind::Seq)?;
         Ok(())
     }
 
@@ -52,7 +52,7 @@ impl<'a> Frames<'a> {
         ensures memory { OnErr result (IsErrOf result Memory) }
     {
         self.objects.push(members)?;
-        self.kinds.push(Kind::Object)?;
+        self.kinds.push(Kind::Map)?;
         Ok(())
     }
 
@@ -64,7 +64,7 @@ impl<'a> Frames<'a> {
             (λ next. DueOrdered next.1 → FramesOrdered self.new → FramesOrdered self.old) }
     {
         match self.kinds.last()? {
-            Kind::Array => match self.arrays.last_mut()?.next() {
+            Kind::Seq => match self.arrays.last_mut()?.next() {
                 Some(item) => Some((Front::Element, Some(item))),
                 None => {
                     self.arrays.pop();
@@ -72,7 +72,7 @@ impl<'a> Frames<'a> {
                     Some((Front::ArrayEnd, None))
                 }
             },
-            Kind::Object => match self.objects.last_mut()?.next() {
+            Kind::Map => match self.objects.last_mut()?.next() {
                 Some((name, value)) => Some((Front::Name(name.as_str()), Some(value))),
                 None => {
                     self.objects.pop();

@@ -1,0 +1,100 @@
+//! Reads a document by one loop, without recursion.
+ghost use Rattle.std.specs.Prelude.{◌≡◌, ◌<◌, List, ℕ, None, Some, Err, IfOk, OnOk, OnErr, IsErrOf, length, is_some};
+ghost use Rattle.miniserde_model.specs.Tree.{Tree};
+ghost use Rattle.miniserde_model.specs.private.Reading.{due};
+ghost use Rattle.miniserde_model.specs.declared.error.Error.TheVariants.{Invalid, Memory};
+ghost use Rattle.miniserde_text.specs.Lexer.{front_of};
+ghost use Rattle.miniserde_text.specs.private.Moving.{between, opens};
+ghost use Rattle.miniserde_read.specs.Rest.{ValueAt};
+ghost use Rattle.miniserde_read.specs.Step.{IsTreeEvent};
+ghost use Rattle.miniserde_read.specs.private.Runs.{NeverRuns};
+ghost use Rattle.miniserde_value.specs.Builders.{hole_in};
+ghost use Rattle.miniserde_value.specs.Hole.{begun};
+ghost use Rattle.miniserde_value.specs.Marks.{innermost};
+ghost use Rattle.miniserde_value.specs.Values.{Reads};
+ghost use Rattle.miniserde_value.specs.private.Builds.{Builds, kinds};
+
+use super::builder::Builder;
+use super::value::Value;
+use miniserde_model::error::Result;
+use miniserde_read::Source;
+use miniserde_text::json::lex::{After, Event, Kind};
+
+/// Reads one value, whose first token is `token`. Returns `Invalid` if no beginning of the text spells a value.
+pub(crate) fn read_value<'a>(token: Event<'a>, source: &mut Source<'a>) -> Result<Value>
+    requires going { source.old.refused ≡ None }
+    requires event { IsTreeEvent (front_of token source.old.scratch) }
+    ensures going { IfOk result (λ _. source.new.refused ≡ None) }
+    ensures ok { IfOk result (λ v. (t : Tree)
+        × ValueAt t (front_of token.entry source.old.scratch) source.old.rest source.new.rest × Reads t v) }
+    ensures invalid { result ≡ Err Invalid → (t : Tree) (r : List ℕ)
+        → ValueAt t (front_of token.entry source.old.scratch) source.old.rest r → ⊥ }
+{
+    let mut builder = Builder::new(source.alloc());
+    let mut first = enter(token, source, &mut builder)?;
+    while let Some(kind) = builder.innermost() {
+        first = turn(source, &mut builder, kind, first)?;
+    }
+    match builder.into_value() {
+        Some(value) => Ok(value),
+        None => unreachable!(),
+    }
+}
+
+/// Takes the closing bracket of the innermost container, or the tokens up to the first one of its next child. Returns
+/// whether that token opened a container. `first` says that the opening bracket was just taken.
+#[inline(always)]
+fn turn<'a>(source: &mut Source<'a>, builder: &mut Builder, kind: Kind, first: bool) -> Result<bool>
+    requires inside { innermost (hole_in builder.old) ≡ Some kind }
+    requires going { source.old.refused ≡ None }
+    ensures going { IfOk result (λ _. source.new.refused ≡ None) }
+    ensures less { IfOk result (λ _. length source.new.rest < length source.old.rest) }
+    ensures builds { IfOk result (λ opened. Builds (between first) (hole_in builder.old) source.old.rest
+        (between opened) (hole_in builder.new) source.new.rest) }
+    ensures invalid { result ≡ Err Invalid → NeverRuns (between first) (kinds (hole_in builder.old)) source.old.rest }
+{
+    match source.after(kind, first)? {
+        After::Close => {
+            builder.close()?;
+            Ok(false)
+        }
+        After::Next => {
+            if let Kind::Map = kind {
+                let name = source.key()?;
+                builder.name(source.text(name))?;
+            }
+            begin(source, builder)
+        }
+    }
+}
+
+/// Takes the first token of a value. Returns whether it opened a container.
+#[inline(always)]
+fn begin<'a>(source: &mut Source<'a>, builder: &mut Builder) -> Result<bool>
+    requires { source.old.refused ≡ None }
+    ensures going { IfOk result (λ _. source.new.refused ≡ None) }
+    ensures less { IfOk result (λ _. length source.new.rest < length source.old.rest) }
+    ensures builds { IfOk result (λ opened. Builds due (hole_in builder.old) source.old.rest
+        (between opened) (hole_in builder.new) source.new.rest) }
+    ensures invalid { result ≡ Err Invalid → NeverRuns due (kinds (hole_in builder.old)) source.old.rest }
+{
+    let token = source.token()?;
+    enter(token, source, builder)
+}
+
+/// Builds the value of a leaf's token, or opens the container that the token opens. Returns whether it opens one.
+#[inline(always)]
+fn enter<'a>(token: Event<'a>, source: &Source<'a>, builder: &mut Builder) -> Result<bool>
+    requires { IsTreeEvent (front_of token source.now.scratch) }
+    ensures opens { IfOk result (λ opened. opened ≡ is_some (opens (front_of token.entry source.now.scratch))) }
+    ensures begun { OnOk result (begun (front_of token.entry source.now.scratch) (hole_in builder.old)
+        ≡ Some (hole_in builder.new)) }
+    ensures memory { OnErr result (IsErrOf result Memory) }
+{
+    let opens = match token {
+        Event::SeqStart | Event::MapStart => true,
+        _ => false,
+    };
+    builder.begin(source.step(token))?;
+    Ok(opens)
+}
