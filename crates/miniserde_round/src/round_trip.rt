@@ -22,8 +22,9 @@ pub trait RoundTrip: Ranged + Serialize + FromJson {
             → ReadsAgain Self.real Self.tree Self.means.reads (Self.tree v) };
 }
 
-/// Parses a text that spells the tree of some value, as `to_string` wrote it or in another spelling: the result has that
-/// tree. Of any other text it is `from_str`.
+/// Parses one JSON value that spans the whole text, as `from_str` does (RFC 8259, section 2). If the text spells the
+/// tree of a valid value, as `to_string` writes it or in another spelling, the result has that tree. Returns `Invalid`
+/// if the text means no value, and `Memory` if an allocation fails.
 pub fn read_back<T: RoundTrip>(alloc: Global, text: &str) -> Result<T>
     // The text spells a tree that means the value, which is valid.
     ensures ok { IfOk result (λ read. (t : Tree) × IsJson text.now t × T.means.reads t read) }

@@ -254,7 +254,7 @@ impl Writer {
         self.known_key(k)
     }
 
-    /// As `key`, in the place where it is called, for a name that is known there.
+    /// Appends a member's name as `key` does, and is inlined into its caller.
     #[inline(always)]
     pub fn known_key(&mut self, k: &str) -> Result<()>
         ensures ok { OnOk result (self.new ≡ with_first (appended self.old

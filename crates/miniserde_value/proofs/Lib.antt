@@ -20,3 +20,4 @@ pub mod Written
 pub mod Documents
 pub mod Builds
 pub mod Openings
+pub mod Writes

@@ -9,6 +9,7 @@ pub mod Fronts
 pub mod Marks
 pub mod Builders
 pub mod Walks
+pub mod Writes
 pub mod Kinds
 pub mod Meanings
 pub mod Places

@@ -90,6 +90,7 @@ pub(crate) struct Builder {
 }
 
 // Takes the values out from this place on; with `as_it_lies` the whole list without a copy.
+#[inline(always)]
 fn take_from(
     alloc: Global,
     values: &mut Vec<Value>,

@@ -7,7 +7,7 @@ ghost use Rattle.miniserde_value.specs.Walks.{meets, left, LeftOrdered};
 
 mod frames;
 
-use self::frames::Frames;
+pub(crate) use self::frames::Frames;
 use super::array::Array;
 use super::number::Number;
 use super::object::Object;

@@ -5,14 +5,16 @@ ghost use Rattle.miniserde_model.specs.Normal.{norm};
 ghost use Rattle.miniserde_model.specs.declared.error.Error.TheVariants.{Memory};
 ghost use Rattle.miniserde_ser.specs.Fragment.{fragment_tree};
 ghost use Rattle.miniserde_value.specs.Numbers.{number_leaf};
-ghost use Rattle.miniserde_value.specs.Fronts.{Meets, text_of, first_after, AreFronts};
-ghost use Rattle.miniserde_value.specs.Walks.{meets, left, LeftOrdered};
+ghost use Rattle.miniserde_value.specs.Values.{shape, array_shape, object_shape};
+ghost use Rattle.miniserde_value.specs.Fronts.{Meets, fronts, text_of, first_after, AreFronts, IsOrdered};
+ghost use Rattle.miniserde_value.specs.Walks.{meets, frames_left, FramesOrdered};
+ghost use Rattle.miniserde_value.specs.Writes.{Writes};
 
 use super::array::Array;
 use super::number::Number;
 use super::object::Object;
 use super::value::Value;
-use super::walk::{Front, Walk};
+use super::walk::{Frames, Front};
 use miniserde_model::error::Result;
 use miniserde_ser::ser::{Fragment, Serialize, Writer};
 
@@ -35,11 +37,13 @@ impl Number {
 }
 
 // Writes what a front says.
+#[inline(always)]
 fn put(front: Front<'_>, w: &mut Writer) -> Result<()>
     ensures ok { OnOk result ((rest : List Meets) → w.new.text ++ text_of w.new.first rest
         ≡ w.old.text ++ text_of w.old.first (meets front.entry ∷ rest)) }
     ensures is_tree { OnOk result (AreFronts (meets front.entry ∷ [])) }
     ensures first { OnOk result (w.new.first ≡ first_after w.old.first (meets front.entry ∷ [])) }
+    ensures stays { OnOk result (w.old.refused ≡ false) }
     ensures whole { OnOk result (w.new.refused ≡ false) }
     ensures memory { OnErr result (IsErrOf result Memory) }
     ensures err { OnErr result (w.new.refused ≡ true) }
@@ -53,29 +57,78 @@ fn put(front: Front<'_>, w: &mut Writer) -> Result<()>
         Front::Element => w.element(),
         Front::ArrayEnd => w.seq_finish(),
         Front::Object => w.map(),
-        Front::Name(name) => w.key(name),
+        Front::Name(name) => w.known_key(name),
         Front::ObjectEnd => w.map_finish(),
     }
 }
 
-// Writes all that a walk meets.
-fn put_all(mut walk: Walk<'_>, w: &mut Writer) -> Result<()>
-    requires { w.old.refused ≡ false }
-    ensures ok { OnOk result (w.new.text ≡ w.old.text ++ text_of w.old.first (left walk.entry)) }
-    ensures is_tree { OnOk result (AreFronts (left walk.entry)) }
-    ensures ordered { OnOk result (LeftOrdered walk.entry) }
-    ensures first { OnOk result (w.new.first ≡ first_after w.old.first (left walk.entry)) }
-    ensures whole { OnOk result (w.new.refused ≡ false) }
+// Writes what opens an array.
+#[inline(always)]
+fn put_array<'a>(array: &'a Array, frames: &mut Frames<'a>, w: &mut Writer) -> Result<()>
+    ensures ok { OnOk result (Writes w.old (fronts (array_shape array.entry.now) (frames_left frames.old))
+        w.new (frames_left frames.new)) }
+    ensures ordered { OnOk result (FramesOrdered frames.new
+        → IsOrdered (array_shape array.entry.now) × FramesOrdered frames.old) }
     ensures memory { OnErr result (IsErrOf result Memory) }
     ensures err { OnErr result (w.new.refused ≡ true) }
 {
-    loop {
-        match walk.next() {
-            Ok(Some(front)) => put(front, w)?,
-            Ok(None) => return Ok(()),
-            Err(_) => return Err(w.refuse()),
+    match frames.push_array(array.inner().iter()) {
+        Ok(()) => w.seq(),
+        Err(_) => Err(w.refuse()),
+    }
+}
+
+// Writes what opens an object.
+#[inline(always)]
+fn put_object<'a>(object: &'a Object, frames: &mut Frames<'a>, w: &mut Writer) -> Result<()>
+    ensures ok { OnOk result (Writes w.old (fronts (object_shape object.entry.now) (frames_left frames.old))
+        w.new (frames_left frames.new)) }
+    ensures ordered { OnOk result (FramesOrdered frames.new
+        → IsOrdered (object_shape object.entry.now) × FramesOrdered frames.old) }
+    ensures memory { OnErr result (IsErrOf result Memory) }
+    ensures err { OnErr result (w.new.refused ≡ true) }
+{
+    match frames.push_object(object.inner().iter()) {
+        Ok(()) => w.map(),
+        Err(_) => Err(w.refuse()),
+    }
+}
+
+// Writes a leaf, or what opens a container.
+#[inline(always)]
+fn put_value<'a>(value: &'a Value, frames: &mut Frames<'a>, w: &mut Writer) -> Result<()>
+    ensures ok { OnOk result (Writes w.old (fronts (shape value.entry.now) (frames_left frames.old))
+        w.new (frames_left frames.new)) }
+    ensures ordered { OnOk result (FramesOrdered frames.new
+        → IsOrdered (shape value.entry.now) × FramesOrdered frames.old) }
+    ensures memory { OnErr result (IsErrOf result Memory) }
+    ensures err { OnErr result (w.new.refused ≡ true) }
+{
+    match value {
+        Value::Null => w.fragment(Fragment::Null),
+        Value::Bool(b) => w.fragment(Fragment::Bool(*b)),
+        Value::Number(number) => w.fragment(number.fragment()),
+        Value::String(text) => w.fragment(Fragment::Str(text.as_str())),
+        Value::Array(array) => put_array(array, frames, w),
+        Value::Object(object) => put_object(object, frames, w),
+    }
+}
+
+// Writes all that open containers have left, and their ends.
+fn put_all(mut frames: Frames<'_>, w: &mut Writer) -> Result<()>
+    requires { w.old.refused ≡ false }
+    ensures ok { OnOk result (Writes w.old (frames_left frames.entry) w.new []) }
+    ensures ordered { OnOk result (FramesOrdered frames.entry) }
+    ensures memory { OnErr result (IsErrOf result Memory) }
+    ensures err { OnErr result (w.new.refused ≡ true) }
+{
+    while let Some((front, child)) = frames.next() {
+        put(front, w)?;
+        if let Some(value) = child {
+            put_value(value, &mut frames, w)?;
         }
     }
+    Ok(())
 }
 
 impl Serialize for Number {
@@ -87,30 +140,22 @@ impl Serialize for Number {
 }
 
 impl Serialize for Array {
-    ghost use Rattle.miniserde_value.specs.Values.{array_shape};
-
     ghost tree = { λ a. norm (array_shape a) };
 
     fn begin(&self, w: &mut Writer) -> Result<()> {
-        w.seq()?;
-        match Walk::array(w.alloc(), self) {
-            Ok(walk) => put_all(walk, w),
-            Err(_) => Err(w.refuse()),
-        }
+        let mut frames = Frames::new(w.alloc());
+        put_array(self, &mut frames, w)?;
+        put_all(frames, w)
     }
 }
 
 impl Serialize for Object {
-    ghost use Rattle.miniserde_value.specs.Values.{object_shape};
-
     ghost tree = { λ o. norm (object_shape o) };
 
     fn begin(&self, w: &mut Writer) -> Result<()> {
-        w.map()?;
-        match Walk::object(w.alloc(), self) {
-            Ok(walk) => put_all(walk, w),
-            Err(_) => Err(w.refuse()),
-        }
+        let mut frames = Frames::new(w.alloc());
+        put_object(self, &mut frames, w)?;
+        put_all(frames, w)
     }
 }
 
@@ -120,13 +165,8 @@ impl Serialize for Value {
     ghost tree = { tree_of };
 
     fn begin(&self, w: &mut Writer) -> Result<()> {
-        match self {
-            Value::Null => w.fragment(Fragment::Null),
-            Value::Bool(b) => w.fragment(Fragment::Bool(*b)),
-            Value::Number(number) => w.fragment(number.fragment()),
-            Value::String(text) => w.fragment(Fragment::Str(text.as_str())),
-            Value::Array(array) => array.begin(w),
-            Value::Object(object) => object.begin(w),
-        }
+        let mut frames = Frames::new(w.alloc());
+        put_value(self, &mut frames, w)?;
+        put_all(frames, w)
     }
 }

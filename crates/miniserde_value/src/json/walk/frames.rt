@@ -57,6 +57,7 @@ impl<'a> Frames<'a> {
     }
 
     /// What comes next in the innermost open container: a child, or its end, and then it is no longer open.
+    #[inline(always)]
     pub(crate) fn next(&mut self) -> Option<(Front<'a>, Option<&'a Value>)>
         ensures left { MatchOption result (frames_left self.old ≡ [])
             (λ next. frames_left self.old ≡ meets next.0 ∷ due_left next.1 (frames_left self.new)) }

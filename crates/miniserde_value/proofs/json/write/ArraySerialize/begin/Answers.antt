@@ -1,22 +1,31 @@
-use Rattle.std.proofs.Common.{ap, ◌∙◌}
+-- What opens it was written, and then what is left.
+use Rattle.std.proofs.Common.{[], subst}
 use Rattle.std.proofs.lemmas.Result.{on_ok_weaker}
-use Rattle.miniserde_ser.specs.Trees.{trees_of}
-use Rattle.miniserde_ser.specs.Writer.{Writing}
-use Rattle.miniserde_value.specs.Values.{array_items, shape}
-use Rattle.miniserde_value.specs.Walks.{left}
-use Rattle.miniserde_value.proofs.Written.{list_text, list_tree, list_first, on_ok_both}
+use Rattle.miniserde_value.specs.Fronts.{fronts}
+use Rattle.miniserde_value.specs.Values.{array_shape}
+use Rattle.miniserde_value.specs.Walks.{frames_left}
+use Rattle.miniserde_value.specs.Writes.{Writes}
+use Rattle.miniserde_value.proofs.Writes.{text_wrote, tree_wrote, first_wrote}
+use Rattle.miniserde_value.proofs.Written.{on_ok_both}
 use Rattle.miniserde_value.proofs.json.write.ArraySerialize.begin.Goals as goal
 
-pub returns-in-Ok-clause-ok : goal.returns-in-Ok-clause-ok
-returns-in-Ok-clause-ok c =
-    let opened = c.in_ok-seq.ensures.ok in
-    let w = c.seq.new.self in
-    on_ok_both c.put_all.result (λ text order. list_text _ (left c.in-Ok.walk) w.first _ w.text _ c.in-Ok.ensures.left (c.in-Ok.ensures.ordered order) (ap (λ (x : Writing). x.first) opened) (ap (λ (x : Writing). x.text) opened) text) c.put_all.ensures.ok c.put_all.ensures.ordered
+pub returns-clause-ok : goal.returns-clause-ok
+returns-clause-ok c =
+    let t = array_shape c.args.self.now in
+    let left = frames_left c.put_array.new.frames in
+    let begun : Writes c.args.w.now (fronts t []) c.put_array.new.w left = subst (λ x. Writes c.args.w.now (fronts t x) c.put_array.new.w left) c.new-frames.ensures.left c.in_ok-put_array.ensures.ok in
+    on_ok_both c.put_all.result (λ ended order. text_wrote t c.args.w.now c.put_array.new.w c.put_all.new.w left (record { begun = begun; ended = ended }) (c.in_ok-put_array.ensures.ordered order).0) c.put_all.ensures.ok c.put_all.ensures.ordered
 
-pub returns-in-Ok-clause-is_tree : goal.returns-in-Ok-clause-is_tree
-returns-in-Ok-clause-is_tree c = on_ok_weaker c.put_all.result (λ h. list_tree (trees_of shape (array_items c.args.self.now)) (left c.in-Ok.walk) c.in-Ok.ensures.left h) c.put_all.ensures.is_tree
+pub returns-clause-is_tree : goal.returns-clause-is_tree
+returns-clause-is_tree c =
+    let t = array_shape c.args.self.now in
+    let left = frames_left c.put_array.new.frames in
+    let begun : Writes c.args.w.now (fronts t []) c.put_array.new.w left = subst (λ x. Writes c.args.w.now (fronts t x) c.put_array.new.w left) c.new-frames.ensures.left c.in_ok-put_array.ensures.ok in
+    on_ok_weaker c.put_all.result (λ ended. tree_wrote t c.args.w.now c.put_array.new.w c.put_all.new.w left (record { begun = begun; ended = ended })) c.put_all.ensures.ok
 
-pub returns-in-Ok-clause-first : goal.returns-in-Ok-clause-first
-returns-in-Ok-clause-first c =
-    let opened = c.in_ok-seq.ensures.ok in
-    on_ok_weaker c.put_all.result (λ h _. h ∙ list_first _ (left c.in-Ok.walk) c.seq.new.self.first c.in-Ok.ensures.left (ap (λ (x : Writing). x.first) opened)) c.put_all.ensures.first
+pub returns-clause-first : goal.returns-clause-first
+returns-clause-first c =
+    let t = array_shape c.args.self.now in
+    let left = frames_left c.put_array.new.frames in
+    let begun : Writes c.args.w.now (fronts t []) c.put_array.new.w left = subst (λ x. Writes c.args.w.now (fronts t x) c.put_array.new.w left) c.new-frames.ensures.left c.in_ok-put_array.ensures.ok in
+    on_ok_weaker c.put_all.result (λ ended. first_wrote t c.args.w.now c.put_array.new.w c.put_all.new.w left (record { begun = begun; ended = ended })) c.put_all.ensures.ok
