@@ -1,8 +1,14 @@
 -- Elements that are read one by one: what stands among the next ones stands among those of the whole list.
-use Rattle.std.proofs.Common.{◌≡◌, ℕ, suc, ◌+◌, ◌-◌, ◌<◌, Bool, true, false, List, refl, subst, arith, inl, inr}
+use Rattle.std.proofs.Common.{◌≡◌, ℕ, suc, ◌+◌, ◌-◌, ◌<◌, Bool, true, false, List, [], ◌∷◌, ◌++◌, refl, sym, ap, ◌∙◌, subst, arith, inl, inr}
+use Rattle.std.specs.Prelude.{◌==◌, ◌≢◌}
+use Rattle.std.specs.List.{AllByRecursion}
+use Rattle.std.proofs.lemmas.List.{append_assoc}
+use Rattle.miniserde_model.specs.Bytes.{is_special}
 use Rattle.miniserde_model.specs.Tree.{Tree}
 use Rattle.miniserde_model.specs.Event.{Event}
 use Rattle.miniserde_model.specs.Lexing.{in_list, Starts, Follows}
+use Rattle.miniserde_text.specs.Lexer.{BeginsEscaped}
+use Rattle.miniserde_read.specs.Escaped.{HasEscape}
 use Rattle.miniserde_read.specs.Rest.{ValueAt}
 use Rattle.miniserde_read.specs.Lacking.{EscapedElement, AnElement, EscapedAmong, SomeElements}
 
@@ -32,3 +38,18 @@ module _ (n : ℕ) (begin : List ℕ) where
 
   pub among_some : (f : Bool) (s d : List ℕ) (k : ℕ) → AmongGoes n begin f s k → k < n → AnElement f s d → SomeElements n true begin d
   among_some f s d k g l a = g.some (suc (n - suc k)) d (omega (arith, l)) (inl a)
+
+-- ---- a whole text
+
+no_quote : (c : ℕ) → is_special c ≡ false → c ≢ 34
+no_quote c h e = absurd (cc (h, ap is_special e))
+
+no_quotes : (inside : List ℕ) → AllByRecursion (λ c. is_special c ≡ false) inside → AllByRecursion (λ c. c ≢ 34) inside
+no_quotes [] h = tt
+no_quotes (c ∷ cs) h = (no_quote c h.0, no_quotes cs h.1)
+
+-- what a lexer says of a text that it fails to decode, of the whole text
+pub has_escape : (j : List ℕ) → BeginsEscaped j → HasEscape j
+has_escape j (r, p) =
+    (p.space, p.is_part.inside, r, p.is_space, no_quotes p.is_part.inside p.is_part.is_inside,
+    p.text ∙ ap (λ x. p.space ++ x) (ap (λ x. x ++ r) p.is_part.text ∙ ap (λ x. 34 ∷ x) (append_assoc p.is_part.inside (92 ∷ []) r)))

@@ -2,7 +2,7 @@
 use Rattle.std.specs.Prelude.{◌≡◌, ◌⊎◌, ℕ, zero, suc, Bool, true, false, List}
 use Rattle.miniserde_model.specs.Tree.{Tree}
 use Rattle.miniserde_model.specs.Event.{Event, seq}
-use Rattle.miniserde_model.specs.Lexing.{in_list, Follows}
+use Rattle.miniserde_model.specs.Lexing.{in_list, in_members, Follows}
 use Rattle.miniserde_text.specs.Lexer.{BeginsEscaped}
 use Rattle.miniserde_read.specs.Rest.{OneElement, ValueAt}
 use Rattle.miniserde_read.specs.Source.{Remaining}
@@ -10,6 +10,10 @@ use Rattle.miniserde_read.specs.Source.{Remaining}
 -- The next element begins as a string with a backslash.
 abbrev pub EscapedElement : Bool → List ℕ → Type 0
 EscapedElement first s = (b : List ℕ) × Follows in_list first false s b × BeginsEscaped b
+
+-- The next member's name has a backslash.
+abbrev pub EscapedMember : Bool → List ℕ → Type 0
+EscapedMember first s = (b : List ℕ) × Follows in_members first false s b × BeginsEscaped b
 
 -- From s to r stands one element, with the comma before it.
 abbrev pub AnElement : Bool → List ℕ → List ℕ → Type 0

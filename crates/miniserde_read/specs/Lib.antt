@@ -1,4 +1,5 @@
 pub mod Children
+pub mod Escaped
 pub mod Lacking
 pub mod Meanings
 pub mod Meant

@@ -1,8 +1,9 @@
 //! Whole texts.
-ghost use Rattle.std.specs.Prelude.{◌≡◌, List, ℕ, None, Some, Ok, Err, IfOk};
+ghost use Rattle.std.specs.Prelude.{◌≡◌, true, List, ℕ, None, Some, Ok, Err, IfOk};
 ghost use Rattle.miniserde_model.specs.Tree.{Tree};
 ghost use Rattle.miniserde_model.specs.Value.{IsJson};
 ghost use Rattle.miniserde_model.specs.declared.error.Error.{Error};
+ghost use Rattle.miniserde_read.specs.Escaped.{HasEscape};
 
 use crate::from_json::FromJson;
 use crate::source::Source;
@@ -20,6 +21,9 @@ pub fn from_str<T: FromJson>(alloc: Global, j: &str) -> Result<T>
     ensures invalid { result ≡ Err Error.Invalid
         → (t : Tree) → IsJson j.now t → (v : T) → T.means.reads t v → ⊥ }
     ensures none { result ≡ Err Error.Invalid → (t : Tree) → IsJson j.now t → T.means.from_tree t ≡ None }
+
+    // Where reading the type never fails to allocate, the value is a string with a backslash.
+    ensures memory { T.read_infallible ≡ true → result ≡ Err Error.Memory → HasEscape j.now }
 
     // No text has two trees.
     ensures one { (t u : Tree) → IsJson j.now t → IsJson j.now u → t ≡ u }

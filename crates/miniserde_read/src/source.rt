@@ -8,7 +8,7 @@ ghost use Rattle.miniserde_model.specs.Whitespace.{IsWhitespace};
 ghost use Rattle.miniserde_text.specs.Lexer.{front_of, text_of, kind_of, closes, BeginsEscaped};
 ghost use Rattle.miniserde_model.specs.declared.error.Error.{Error};
 ghost use Rattle.miniserde_read.specs.Step.{event_of};
-ghost use Rattle.miniserde_read.specs.Lacking.{EscapedElement};
+ghost use Rattle.miniserde_read.specs.Lacking.{EscapedElement, EscapedMember};
 ghost use Rattle.miniserde_read.specs.Rest.{ElementsAt, MembersAt};
 ghost use Rattle.miniserde_read.specs.Source.{ElementFollows, NameFollows};
 
@@ -96,6 +96,7 @@ impl<'a> Source<'a> {
         ensures ok { IfOk result (λ o. NameFollows o self.new.scratch first self.old.rest self.new.rest) }
         ensures invalid { result ≡ Err Error.Invalid → self.old.refused ≡ None
             → (ms : Members) (r : List ℕ) → MembersAt ms first self.old.rest r → ⊥ }
+        ensures memory { result ≡ Err Error.Memory → self.old.refused ≡ None → EscapedMember first self.old.rest }
         ensures err { IfErr result (λ e. self.new.refused ≡ Some e) }
         ensures kept { IfSome self.old.refused (λ e. result ≡ Err e) }
     {
@@ -111,6 +112,7 @@ impl<'a> Source<'a> {
     pub fn after(&mut self, kind: Kind, first: bool) -> Result<After>
         ensures going { IfOk result (λ _. self.new.refused ≡ None) }
         ensures ok { IfOk result (λ a. Follows (kind_of kind) first (closes a) self.old.rest self.new.rest) }
+        ensures scratch { self.new.scratch ≡ self.old.scratch }
         ensures invalid { result ≡ Err Error.Invalid → self.old.refused ≡ None
             → (a : Bool) (r : List ℕ) → Follows (kind_of kind) first a self.old.rest r → ⊥ }
         ensures only { IfErr result (λ e. self.old.refused ≡ None → e ≡ Error.Invalid) }
@@ -127,6 +129,7 @@ impl<'a> Source<'a> {
         ensures ok { IfOk result (λ t. Names self.old.rest (text_of t self.new.scratch) self.new.rest) }
         ensures invalid { result ≡ Err Error.Invalid → self.old.refused ≡ None
             → (n r : List ℕ) → Names self.old.rest n r → ⊥ }
+        ensures memory { result ≡ Err Error.Memory → self.old.refused ≡ None → BeginsEscaped self.old.rest }
         ensures err { IfErr result (λ e. self.new.refused ≡ Some e) }
         ensures kept { IfSome self.old.refused (λ e. result ≡ Err e) }
     {
@@ -136,6 +139,7 @@ impl<'a> Source<'a> {
     /// Checks that only whitespace is left.
     pub fn end(&mut self) -> Result<()>
         ensures ok { IfOk result (λ _. IsWhitespace self.old.rest) }
+        ensures scratch { self.new.scratch ≡ self.old.scratch }
         ensures invalid { result ≡ Err Error.Invalid → self.old.refused ≡ None → IsWhitespace self.old.rest → ⊥ }
         ensures only { IfErr result (λ e. self.old.refused ≡ None → e ≡ Error.Invalid) }
         ensures err { IfErr result (λ e. self.new.refused ≡ Some e) }

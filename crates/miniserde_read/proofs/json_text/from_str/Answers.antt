@@ -5,10 +5,11 @@ use Rattle.miniserde_model.proofs.Unique.{one_tree}
 use Rattle.miniserde_model.specs.Tree.{Tree}
 use Rattle.miniserde_model.specs.Whitespace.{IsWhitespace}
 use Rattle.miniserde_model.specs.Lexing.{Starts}
-use Rattle.miniserde_text.specs.Lexer.{front_of}
+use Rattle.miniserde_text.specs.Lexer.{front_of, BeginsEscaped}
 use Rattle.miniserde_read.proofs.Fronts.{start_event}
 use Rattle.miniserde_read.proofs.Same.{value_same}
 use Rattle.miniserde_read.proofs.Json.{json_at, json_front, at_json}
+use Rattle.miniserde_read.proofs.Lacking.{has_escape}
 use Rattle.miniserde_read.proofs.json_text.from_str.Given.{Over}
 use Rattle.miniserde_read.proofs.json_text.from_str.Goals as goal
 
@@ -38,6 +39,11 @@ returns-in_err-token-clause-none g c = λ e t h.
 
 pub returns-in_err-token-clause-invalid : goal.returns-in_err-token-clause-invalid
 returns-in_err-token-clause-invalid g c = λ e t h. nothing_meant g t (returns-in_err-token-clause-none g c e t h)
+
+pub returns-in_err-token-clause-memory : goal.returns-in_err-token-clause-memory
+returns-in_err-token-clause-memory g c = λ i e.
+    let w = err_from_is_err_and c.from_residual.result c.from_residual.ensures.1 in
+    has_escape c.args.j.now (subst BeginsEscaped c.new-source.ensures.rest (c.in_err-token.ensures.memory (cc (w.1, w.2, e)) c.new-source.ensures.going))
 
 -- ---- the type refuses what stands there
 

@@ -1,4 +1,4 @@
--- No members go on where the lexer refuses.
+-- No members go on where the lexer refuses; where it lacks memory, the name has a backslash.
 use Rattle.std.proofs.Common.{false, sym, ap, subst, ◌∙◌}
 use Rattle.std.proofs.lemmas.Result.{err_from_is_err_and}
 use Rattle.miniserde_model.specs.Lexing.{in_members, Follows}
@@ -18,3 +18,9 @@ returns-in_err-name-in-Next-clause-invalid c = λ e k ms r p.
     let h = subst (λ z. Follows in_members c.args.first false z c.after.new.self.rest) (ap (λ v. v.rest) c.self.view_is) (subst (λ z. Follows in_members c.args.first (closes z) c.self.inside.lexer.rest c.after.new.self.rest) c.in-Next.is c.in_ok-after.ensures.ok.2) in
     let a = members_name ms c.args.first _ c.after.new.self.rest r h p in
     c.in_err-name-in-Next.ensures.invalid (cc (w.1, w.2, e)) c.in_ok-after.ensures.ok.1 a.0 a.1 a.2
+
+pub returns-in_err-name-in-Next-clause-memory : goal.returns-in_err-name-in-Next-clause-memory
+returns-in_err-name-in-Next-clause-memory c = λ e k.
+    let w = err_from_is_err_and c.from_residual-in_err-name-in-Next.result c.from_residual-in_err-name-in-Next.ensures.1 in
+    let h = subst (λ z. Follows in_members c.args.first false z c.after.new.self.rest) (ap (λ v. v.rest) c.self.view_is) (subst (λ z. Follows in_members c.args.first (closes z) c.self.inside.lexer.rest c.after.new.self.rest) c.in-Next.is c.in_ok-after.ensures.ok.2) in
+    (c.after.new.self.rest, h, c.in_err-name-in-Next.ensures.memory (cc (w.1, w.2, e)) c.in_ok-after.ensures.ok.1)
