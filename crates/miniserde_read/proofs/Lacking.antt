@@ -1,6 +1,6 @@
 -- Elements that are read one by one: what stands among the next ones stands among those of the whole list.
-use Rattle.std.proofs.Common.{◌≡◌, ℕ, suc, ◌+◌, ◌-◌, ◌<◌, Bool, true, false, List, [], ◌∷◌, ◌++◌, refl, sym, ap, ◌∙◌, subst, arith, inl, inr}
-use Rattle.std.specs.Prelude.{◌==◌, ◌≢◌}
+use Rattle.std.proofs.Common.{◌≡◌, ℕ, suc, ◌+◌, ◌-◌, ◌<◌, Bool, true, false, List, [], ◌∷◌, ◌++◌, refl, ap, ◌∙◌, subst, arith, inl, inr}
+use Rattle.std.specs.Prelude.{◌≢◌}
 use Rattle.std.specs.List.{AllByRecursion}
 use Rattle.std.proofs.lemmas.List.{append_assoc}
 use Rattle.miniserde_model.specs.Bytes.{is_special}
@@ -50,6 +50,11 @@ no_quotes (c ∷ cs) h = (no_quote c h.0, no_quotes cs h.1)
 
 -- what a lexer says of a text that it fails to decode, of the whole text
 pub has_escape : (j : List ℕ) → BeginsEscaped j → HasEscape j
-has_escape j (r, p) =
-    (p.space, p.is_part.inside, r, p.is_space, no_quotes p.is_part.inside p.is_part.is_inside,
-    p.text ∙ ap (λ x. p.space ++ x) (ap (λ x. x ++ r) p.is_part.text ∙ ap (λ x. 34 ∷ x) (append_assoc p.is_part.inside (92 ∷ []) r)))
+has_escape j (r, p) = (
+  p.space,
+  p.is_part.inside,
+  r,
+  p.is_space,
+  no_quotes p.is_part.inside p.is_part.is_inside,
+  p.text ∙ ap (λ x. p.space ++ x) (ap (λ x. x ++ r) p.is_part.text ∙ ap (λ x. 34 ∷ x) (append_assoc p.is_part.inside (92 ∷ []) r)),
+)

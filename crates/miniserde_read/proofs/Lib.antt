@@ -4,6 +4,7 @@ pub mod Fronts
 pub mod Inserts
 pub mod Json
 pub mod Lacking
+pub mod LastMembers
 pub mod Leaves
 pub mod Length
 pub mod Lists

@@ -1,6 +1,7 @@
 pub mod Children
 pub mod Escaped
 pub mod Lacking
+pub mod Lookups
 pub mod Meanings
 pub mod Meant
 pub mod Rest

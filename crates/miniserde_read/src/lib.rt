@@ -5,6 +5,7 @@ mod from_json;
 mod ignored;
 mod json_text;
 mod leaf;
+mod lookups;
 mod source;
 mod step;
 
@@ -12,6 +13,7 @@ pub use from_json::{FromJson, Table};
 pub use ignored::Ignored;
 pub use json_text::from_str;
 pub use leaf::{Leaf, read_leaf};
+pub use lookups::{gets_last, gets_last_by_hashed_key, gets_last_by_key};
 #[doc(hidden)]
 pub use miniserde_text::stack::Stack;
 pub use source::Source;

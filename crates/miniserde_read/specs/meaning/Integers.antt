@@ -1,11 +1,6 @@
 -- What an integer type of so many bits makes of trees.
-use Rattle.std.specs.Prelude.{◌≡◌, ◌<◌, ◌-◌, ◌^◌, ℕ, ℤ, pos, negsuc, Bool, true, false, Option, Some, None, nat_lt, if◌then◌else◌}
+use Rattle.std.specs.Prelude.{◌≡◌, ◌<◌, ◌-◌, ◌^◌, ℕ, ℤ, pos, negsuc, Bool, true, Option, Some, None, nat_lt, if◌then◌else◌}
 use Rattle.miniserde_model.specs.Tree.{Tree, nonneg, neg}
-
--- at least 0, and below 2 ^ bits
-abbrev pub fits_unsigned : ℕ → ℤ → Bool
-fits_unsigned bits (pos n) = nat_lt n (2 ^ bits)
-fits_unsigned bits (negsuc n) = false
 
 -- at least - 2 ^ (bits - 1), and below 2 ^ (bits - 1)
 abbrev pub fits_signed : ℕ → ℤ → Bool
@@ -14,7 +9,7 @@ fits_signed bits (negsuc n) = nat_lt n (2 ^ (bits - 1))
 
 -- an unsigned type takes no integer that is written with a minus
 abbrev pub unsigned_of : ℕ → Tree → Option ℤ
-unsigned_of bits (nonneg n) = if fits_unsigned bits (pos n) then Some (pos n) else None
+unsigned_of bits (nonneg n) = if nat_lt n (2 ^ bits) then Some (pos n) else None
 unsigned_of bits _ = None
 
 -- a signed type takes both

@@ -1,0 +1,21 @@
+-- The last member of a name, and of a key, in the words of std's `get`.
+use Rattle.std.specs.Prelude.{◌≡◌, Option, Some, None, option_map, MatchOption}
+use Rattle.miniserde_model.specs.Tree.{Tree, members}
+use Rattle.miniserde_model.specs.Normal.{last_of}
+use Rattle.miniserde_keys.specs.Keys.{Key}
+use Rattle.miniserde_read.specs.meaning.Objects.{Name}
+use Rattle.miniserde_read.specs.meaning.Maps.{met_at}
+
+-- the tree of the last member of a name, in an object
+abbrev pub last_in : Name → Tree → Option Tree
+last_in name (members ms) = last_of name ms
+last_in name _ = None
+
+-- the tree of the last member whose name is read as a key with the code
+abbrev pub last_at : (Name → Option Key) → (Key → Key) → Key → Tree → Option Tree
+last_at read code q (members ms) = option_map (λ e. e.1) (met_at read code q ms)
+last_at read code q _ = None
+
+-- There is a value if there is a tree, and the tree means it.
+abbrev pub IsValueOf : {V : Type 0} → (Tree → V → Type 0) → Option Tree → Option V → Type 0
+IsValueOf reads tree value = MatchOption value (tree ≡ None) (λ v. (t : Tree) × (tree ≡ Some t) × reads t v)
