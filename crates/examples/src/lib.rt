@@ -4,6 +4,7 @@
 pub mod basket;
 pub mod canonical;
 pub mod counter;
+pub mod limits;
 pub mod order;
 pub mod orders;
 pub mod percent;

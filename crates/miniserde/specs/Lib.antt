@@ -18,7 +18,9 @@ pub use Rattle.miniserde_model.specs.Error
 pub use Rattle.miniserde_text.specs.Lexer
 pub use Rattle.miniserde_keys.specs.Keys
 pub use Rattle.miniserde_keys.specs.Ranged
+pub use Rattle.miniserde_read.specs.Escaped
 pub use Rattle.miniserde_read.specs.Lacking
+pub use Rattle.miniserde_read.specs.Lookups
 pub use Rattle.miniserde_read.specs.Meant
 pub use Rattle.miniserde_read.specs.Rest
 pub use Rattle.miniserde_read.specs.Source

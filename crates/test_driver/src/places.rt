@@ -2,10 +2,11 @@
 
 use demo::Demo;
 use miniserde::de::{Deserialize, Visitor};
-use miniserde::json::{Array, Object, Value, to_string};
+use miniserde::json::{Array, Object, Value, from_str, to_string};
 use miniserde::{Error, Result, Serialize};
 use std::alloc::Global;
-use std::collections::BTreeMap;
+use std::collections::{BTreeMap, HashMap};
+use std::hash::{BuildHasherDefault, DefaultHasher};
 
 /// Runs the job of a name on the lines of a text. Returns `None` if no job here has the name.
 pub fn run(alloc: Global, job: &str, lines: &str) -> Option<Result<String>> {
@@ -18,10 +19,13 @@ pub fn run(alloc: Global, job: &str, lines: &str) -> Option<Result<String>> {
     }
 }
 
-/// Makes an empty array and object, and begins a place of each kind.
+/// Makes an empty array and object, reads a number and an empty map of each kind, and begins a place of each kind.
 fn begin_each(alloc: Global) -> Result<String> {
     let _array = Array::new(alloc);
     let _object = Object::new(alloc);
+    let _read: u64 = from_str(alloc, "7")?;
+    let _ordered: BTreeMap<String, u64> = from_str(alloc, "{}")?;
+    let _hashed: HashMap<String, u64, BuildHasherDefault<DefaultHasher>> = from_str(alloc, "{}")?;
     let _number = <u64 as Deserialize>::begin(alloc)?;
     let _list = <Vec<String> as Deserialize>::begin(alloc)?;
     let _map = <BTreeMap<String, Vec<u64>> as Deserialize>::begin(alloc)?;

@@ -1,6 +1,7 @@
 //! Callers with contracts of their own.
 
 use examples::counter::elements;
+use examples::limits::limit_of;
 use examples::orders::settled;
 use examples::rate::Rate;
 use examples::rates::fraction;
@@ -84,4 +85,23 @@ fn a_fraction_keeps_its_text(rt: HostRuntime) -> std::result::Result<(), Wrong> 
     expect_ok(has_fraction(alloc, half, Some("1.50")), "a fraction")?;
     let whole = r#"{"ratio":2,"currency":"USD"}"#;
     expect_ok(has_fraction(alloc, whole, None), "a whole number")
+}
+
+#[test]
+fn a_limit_is_that_of_its_last_member(rt: HostRuntime) -> std::result::Result<(), Wrong> {
+    let alloc = rt.alloc();
+    let limits = r#"{"a":1,"b":2,"\u0061":3}"#;
+    expect(
+        matches!(limit_of(alloc, limits, "a"), Ok(Some(3))),
+        "the last",
+    )?;
+    expect(
+        matches!(limit_of(alloc, limits, "b"), Ok(Some(2))),
+        "the only",
+    )?;
+    expect(matches!(limit_of(alloc, limits, "c"), Ok(None)), "none")?;
+    expect(
+        matches!(limit_of(alloc, r#"{"a":-1}"#, "b"), Err(Error::Invalid)),
+        "no limit",
+    )
 }

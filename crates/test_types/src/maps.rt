@@ -1,8 +1,11 @@
 //! Maps, ordered and hashed, with keys of each kind.
 
+use miniserde::json::from_str;
+use miniserde::{gets_last_by_hashed_key, gets_last_by_key};
+use std::alloc::Global;
 use std::collections::{BTreeMap, HashMap};
 use std::hash::{BuildHasherDefault, DefaultHasher};
-use test_tables::{Wrong, expect_prefixes_invalid, expect_read_itself, expect_table};
+use test_tables::{Wrong, expect_ok, expect_prefixes_invalid, expect_read_itself, expect_table};
 
 pub type Hashed<K, V> = HashMap<K, V, BuildHasherDefault<DefaultHasher>>;
 
@@ -43,6 +46,23 @@ fn equal_keys_are_one(rt: HostRuntime) -> Result<(), Wrong> {
 fn a_key_of_a_number_is_an_integer_in_range(rt: HostRuntime) -> Result<(), Wrong> {
     expect_table::<BTreeMap<u8, u8>>(rt.alloc(), NUMBERS)?;
     expect_table::<Hashed<u8, u8>>(rt.alloc(), NUMBERS)
+}
+
+/// Returns whether `get` returns the value of the last member whose name is the key 7.
+fn gets_the_last_seven(alloc: Global, text: &str, expected: Option<u8>) -> miniserde::Result<bool> {
+    let ordered: BTreeMap<u8, u8> = from_str(alloc, text)?;
+    gets_last_by_key(&ordered);
+    let hashed: Hashed<u8, u8> = from_str(alloc, text)?;
+    gets_last_by_hashed_key(&hashed);
+    Ok(ordered.get(7u8).copied() == expected && hashed.get(7u8).copied() == expected)
+}
+
+#[test]
+fn a_key_has_the_value_of_its_last_member(rt: HostRuntime) -> Result<(), Wrong> {
+    let alloc = rt.alloc();
+    let twice = r#"{"7":1,"8":3,"+7":2}"#;
+    expect_ok(gets_the_last_seven(alloc, twice, Some(2)), "twice")?;
+    expect_ok(gets_the_last_seven(alloc, r#"{"8":3}"#, None), "none")
 }
 
 const REPEATS: &str = r#"{"1":[2],"01":[]} => {"1":[]}
