@@ -54,7 +54,7 @@ fn gets_the_last_seven(alloc: Global, text: &str, expected: Option<u8>) -> minis
     gets_last_by_key(&ordered);
     let hashed: Hashed<u8, u8> = from_str(alloc, text)?;
     gets_last_by_hashed_key(&hashed);
-    Ok(ordered.get(7u8).copied() == expected && hashed.get(7u8).copied() == expected)
+    Ok(ordered.get(&7u8).copied() == expected && hashed.get(&7u8).copied() == expected)
 }
 
 #[test]
