@@ -7,6 +7,7 @@ mod looks;
 
 use super::value::Value;
 pub use looks::Looks;
+use looks::drop_bare;
 
 /// Returns whether a value is a leaf or an empty container.
 #[inline(always)]
@@ -54,24 +55,6 @@ fn park(value: &mut Value, parent: Value, looks: &mut Looks) -> Value
     }
 }
 
-/// Drops a value that is a leaf or an empty container. No other function here drops one.
-#[inline(always)]
-fn let_go(value: Value, looks: &mut Looks)
-    requires { IsBare value }
-    ensures looked { looks.new.looked ≡ looks.old.looked }
-    ensures gone { looks.new.gone ≡ looks.old.gone + 1 }
-{
-    looks.release();
-    match value {
-        Value::Null => {}
-        Value::Bool(_) => {}
-        Value::Number(_) => {}
-        Value::String(_) => {}
-        Value::Array(array) => array.into_inner().destroy_empty(),
-        Value::Object(object) => object.into_inner().destroy_empty(),
-    }
-}
-
 /// Drops a value, and counts how often a value was looked at and how many were dropped. Allocates nothing.
 pub fn counted(value: Value, looks: &mut Looks)
     ensures gone { looks.new.gone ≡ looks.old.gone + value_size value }
@@ -81,18 +64,18 @@ pub fn counted(value: Value, looks: &mut Looks)
     looks.look();
     let mut current = value;
     let mut hand = match take_last(&mut current, looks) {
-        None => return let_go(current, looks),
+        None => return drop_bare(current, looks),
         Some(last) => last,
     };
     loop {
         if is_bare(&hand) {
-            let_go(hand, looks);
+            drop_bare(hand, looks);
             match take_last(&mut current, looks) {
-                None => return let_go(current, looks),
+                None => return drop_bare(current, looks),
                 Some(last) => hand = last,
             }
         } else if is_bare(&current) {
-            let_go(current, looks);
+            drop_bare(current, looks);
             current = hand;
             match take_last(&mut current, looks) {
                 None => unreachable!(),

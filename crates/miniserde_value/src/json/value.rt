@@ -1,16 +1,24 @@
 //! Values of any shape.
-ghost use Rattle.std.specs.Prelude.{◌≡◌};
+ghost use Rattle.std.specs.Prelude.{◌≡◌, true, Err, IfOk, string_bytes};
 ghost use Rattle.miniserde_model.specs.Tree.{Tree};
+ghost use Rattle.miniserde_model.specs.Compact.{compact};
+ghost use Rattle.miniserde_model.specs.Distinct.{distinct};
 ghost use Rattle.miniserde_model.specs.Normal.{norm};
 ghost use Rattle.miniserde_model.specs.Size.{size};
+ghost use Rattle.miniserde_model.specs.Value.{IsJson};
+ghost use Rattle.miniserde_model.specs.declared.error.Error.TheVariants.{Invalid};
 ghost use Rattle.miniserde_value.specs.declared.json.value.Value.{Value as V};
 ghost use Rattle.miniserde_value.specs.Looks.{value_size};
-ghost use Rattle.miniserde_value.specs.Values.{Reads, tree_of};
+ghost use Rattle.miniserde_value.specs.Values.{Reads, shape, tree_of};
 
 use super::array::Array;
 use super::number::Number;
 use super::object::Object;
 pub use super::place::ValuePlace;
+use miniserde_model::error::Result;
+use miniserde_read::from_str;
+use miniserde_ser::ser::to_string;
+use std::alloc::Global;
 
 /// Any JSON value. It is dropped without recursion, at any depth.
 #[cycle(value)]
@@ -65,3 +73,24 @@ pub fn read_is_normal()
     ensures tree { (t : Tree) (v : V) → Reads t v → tree_of v ≡ norm t }
     ensures size { (t : Tree) (v : V) → Reads t v → value_size v ≡ size (norm t) }
 {}
+
+/// Does nothing. A value has as many values as its tree, if no object of it has a duplicate name, as no map has.
+pub fn size_is_of_tree()
+    ensures { (v : V) → distinct (shape v) ≡ true → size (tree_of v) ≡ value_size v }
+{}
+
+/// Parses a JSON text as a `Value`, and writes that: the text's canonical text, which `canonical` returns too. Returns
+/// `Invalid` if the text is no JSON (RFC 8259).
+pub fn rewritten(alloc: Global, j: &str) -> Result<String>
+    // It is the compact text of the normal form of the text's tree.
+    ensures ok { IfOk result (λ c. (t : Tree) × IsJson j.now t × (string_bytes c ≡ compact (norm t))) }
+    ensures text { IfOk result (λ c. (t : Tree) → IsJson j.now t → string_bytes c ≡ compact (norm t)) }
+
+    // The text has no tree; and never more than one.
+    ensures invalid { result ≡ Err Invalid → (t : Tree) → IsJson j.now t → ⊥ }
+    ensures one { (t u : Tree) → IsJson j.now t → IsJson j.now u → t ≡ u }
+{
+    let document: Value = from_str(alloc, j)?;
+    read_is_normal();
+    to_string(alloc, &document)
+}

@@ -1,10 +1,12 @@
-//! The count of what is let go.
+//! The count of dropped values, beside the function that drops them: no other can raise it.
 ghost use Rattle.std.specs.Prelude.{◌≡◌, ℕ, ◌+◌};
 ghost use Rattle.std.specs.Borrow.{ftrue};
+ghost use Rattle.miniserde_value.specs.Values.{IsBare};
 
+use super::super::value::Value;
 use std::marker::{Model, PhantomData};
 
-/// How often a value was looked at, and how many were let go. It takes no bytes: contracts alone see the counts.
+/// How often a value was looked at, and how many were dropped. It takes no bytes: contracts alone see the counts.
 #[derive(Drop)]
 pub struct Looks {
     marker: PhantomData<u8>,
@@ -31,8 +33,27 @@ impl Looks {
         ensures { (self.new.looked ≡ self.old.looked + 1) × (self.new.gone ≡ self.old.gone) }
     {}
 
-    // One value let go.
-    pub(crate) fn release(&mut self)
+    // One value dropped.
+    fn release(&mut self)
         ensures { (self.new.looked ≡ self.old.looked) × (self.new.gone ≡ self.old.gone + 1) }
     {}
+}
+
+/// Drops a value that is a leaf or an empty container, and counts it. No other function here drops a value, and none
+/// else can raise the count.
+#[inline(always)]
+pub(crate) fn drop_bare(value: Value, looks: &mut Looks)
+    requires { IsBare value }
+    ensures looked { looks.new.looked ≡ looks.old.looked }
+    ensures gone { looks.new.gone ≡ looks.old.gone + 1 }
+{
+    looks.release();
+    match value {
+        Value::Null => {}
+        Value::Bool(_) => {}
+        Value::Number(_) => {}
+        Value::String(_) => {}
+        Value::Array(array) => array.into_inner().destroy_empty(),
+        Value::Object(object) => object.into_inner().destroy_empty(),
+    }
 }
