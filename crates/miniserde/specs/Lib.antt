@@ -51,6 +51,7 @@ pub use Rattle.miniserde_value.specs.Values
 pub use Rattle.miniserde_value.specs.Looks
 pub use Rattle.miniserde_value.specs.Hole
 pub use Rattle.miniserde_value.specs.Kinds
+pub use Rattle.miniserde_value.specs.Meanings as DocumentMeanings
 pub use Rattle.miniserde_value.specs.Places
 pub use Rattle.miniserde_value.specs.Unique
 pub use Rattle.miniserde_round.specs.RoundTrip

@@ -1,5 +1,5 @@
 -- Every tree means a document, whose tree is the tree's normal form.
-use Rattle.std.proofs.Common.{◌≡◌, List, ℕ, Some, None, Ok, Err, ap, ◌∙◌, string_bytes}
+use Rattle.std.proofs.Common.{◌≡◌, Some, None, Ok, Err, ap, ◌∙◌, string_bytes}
 use Rattle.std.specs.Prelude.{IfOk}
 use Rattle.std.proofs.lemmas.Result.{err_from_is_err_and}
 use Rattle.miniserde_model.specs.Tree.{Tree}
