@@ -38,8 +38,8 @@ pub trait Fields {
             (meaning.by_events (map (λ n. n.now) names.now) (meaning.state self.old) name.now)
             (meaning.child self.new)) }
         ensures invalid { result ≡ Err Error.Invalid
-            → meaning.refuses (map (λ n. n.now) names.now) (meaning.state self.old) name.now ≡ true }
-        ensures repeats { meaning.refuses (map (λ n. n.now) names.now) (meaning.state self.old) name.now ≡ true
+            → meaning.meant.refuses (map (λ n. n.now) names.now) (meaning.state self.old) name.now ≡ true }
+        ensures repeats { meaning.meant.refuses (map (λ n. n.now) names.now) (meaning.state self.old) name.now ≡ true
             → result ≡ Err Error.Invalid };
 
     /// Hands an event to the current value's place.
