@@ -119,6 +119,8 @@ impl<C: Collect> Visitor for ContainerPlace<C> {
 
     ghost begins_free = { true };
 
+    ghost takes_free = { true };
+
     // What each event does to the children: one whose child the container refuses by the event is refused at once.
     ghost further = { ContainerSteps C.gathering C.join_infallible };
 
