@@ -1,5 +1,5 @@
 -- The meaning of fields that are collected from events, and so of a struct's place.
-use Rattle.std.specs.Prelude.{◌≡◌, refl, ◌||◌, Bool, true, false, cond, List, Option, Some, None, option_map}
+use Rattle.std.specs.Prelude.{◌≡◌, refl, Bool, true, false, cond, List, Option, Some, None, option_map}
 use Rattle.miniserde_model.specs.Tree.{Tree}
 use Rattle.miniserde_model.specs.Event.{Event, key, events}
 use Rattle.miniserde_place.specs.Place.{Shown, Meaning}
@@ -8,7 +8,7 @@ use Rattle.miniserde_read.specs.meaning.Objects.{Name, object_of}
 use Rattle.miniserde_de.specs.Objects.{object_rules}
 use Rattle.miniserde_de.specs.Tied.{meant_by}
 use Rattle.miniserde_de.specs.laws.Objects.{object-meant}
-use Rattle.miniserde_record.specs.Fields.{field_member, field_refuses, StructReads}
+use Rattle.miniserde_record.specs.Fields.{field_member, StructReads}
 use Rattle.miniserde_record.specs.FieldsMeant.{FieldsMeant, no_fields, field_and, fields_once}
 use Rattle.miniserde_record.specs.laws.Fields.{field-meant}
 use Rattle.miniserde_record.specs.laws.Meanings.{struct-given}
@@ -23,9 +23,8 @@ pub record FieldsMeaning (F V : Type 0) : Type 1 where
   -- the state after one more member, by the fields' names, its name and its events
   pub by_events : List Name → meant.State → Name → List Event → Option meant.State
   pub events_agree : (names : List Name) (s : meant.State) (k : Name) (t : Tree) → by_events names s k (events t) ≡ meant.by_tree names s k t
-  -- a member of the name is refused before its value
-  pub refuses : List Name → meant.State → Name → Bool
-  pub refused : (names : List Name) (s : meant.State) (k : Name) → refuses names s k ≡ true → (es : List Event) → by_events names s k es ≡ None
+  -- a member whose name is refused gives nothing, whatever its events
+  pub refused : (names : List Name) (s : meant.State) (k : Name) → meant.refuses names s k ≡ true → (es : List Event) → by_events names s k es ≡ None
   -- the view of the current field's place, with the values so far
   pub child : F → Shown meant.State
 
@@ -36,7 +35,6 @@ no_field_places skipped = record {
   state = λ _. tt;
   by_events = λ ns s k es. Some tt;
   events_agree = λ ns s k t. refl;
-  refuses = λ ns s k. false;
   refused = λ ns s k h es. none-refused (Some tt) h;
   child = λ f. joining (λ _. Some tt) (skipped f);
 }
@@ -53,8 +51,7 @@ field_place_and m absent value child rest n = record {
   state = λ f. (option_map m.content (value f), n.state (rest f));
   by_events = field_member m.from_events n.by_events;
   events_agree = field-meant m.from_events m.from_tree n.by_events n.meant.by_tree m.events_agree n.events_agree;
-  refuses = field_refuses n.refuses;
-  refused = field-refused m.from_events n.by_events n.refuses n.refused;
+  refused = field-refused m.from_events n.by_events n.meant.refuses n.refused;
   child = λ f. field_shows m.shows (option_map m.content (value f)) (n.state (rest f)) (n.child (rest f)) (child f);
 }
 
@@ -65,7 +62,6 @@ field_places_inside inner n = record {
   state = λ g. n.state (inner g);
   by_events = n.by_events;
   events_agree = n.events_agree;
-  refuses = n.refuses;
   refused = n.refused;
   child = λ g. n.child (inner g);
 }
@@ -77,8 +73,7 @@ field_places_once inner n = record {
   state = λ g. n.state (inner g);
   by_events = λ ns s k es. cond (n.meant.has ns s k) None (n.by_events ns s k es);
   events_agree = once-meant n.by_events n.meant.by_tree n.meant.has n.events_agree;
-  refuses = λ ns s k. n.meant.has ns s k || n.refuses ns s k;
-  refused = once-refused n.by_events n.meant.has n.refuses n.refused;
+  refused = once-refused n.by_events n.meant.has n.meant.refuses n.refused;
   child = λ g. n.child (inner g);
 }
 
@@ -102,5 +97,5 @@ struct_gathering n names values fields = record {
   reads = StructReads (n.meant.reads names) values;
   reads_agrees = struct-given (n.meant.reads names) values (n.meant.from_members names n.meant.empty) n.meant.content (n.meant.reads_agrees names);
   child = λ c. n.child (fields c);
-  refuses = λ s e. refuses_member (n.refuses names s) e;
+  refuses = λ s e. refuses_member (n.meant.refuses names s) e;
 }

@@ -3,11 +3,11 @@ use Rattle.std.specs.Prelude.{◌≡◌, ◌↔◌, refl, ℕ, ◌+◌, ◌&&◌
 use Rattle.miniserde_model.specs.Tree.{Tree, Members}
 use Rattle.miniserde_read.specs.Meant.{Meant}
 use Rattle.miniserde_read.specs.meaning.Objects.{Name, object_of, all_members}
-use Rattle.miniserde_record.specs.Fields.{field_member, field_owns, field_has, field_closed, field_given, FieldsRead, StructReads}
+use Rattle.miniserde_record.specs.Fields.{field_member, field_owns, field_has, field_refuses, field_closed, field_given, FieldsRead, StructReads}
 use Rattle.miniserde_record.specs.Once.{once_given, OnceReads}
 use Rattle.miniserde_record.specs.laws.Fields.{field-apart, none-apart}
 use Rattle.miniserde_record.specs.laws.Meanings.{none-given, field-given, struct-given}
-use Rattle.miniserde_record.specs.laws.Repeats.{field-has_none, field-has_more, once-has_more, once-apart, once-given}
+use Rattle.miniserde_record.specs.laws.Repeats.{none-refused, field-refused, once-refused, field-has_none, field-has_more, once-has_more, once-apart, once-given}
 
 -- the meaning of fields: V are the values of all of them
 pub record FieldsMeant (V : Type 0) : Type 1 where
@@ -21,6 +21,9 @@ pub record FieldsMeant (V : Type 0) : Type 1 where
   pub count : ℕ
   -- the state after one more member, by the fields' names, its name and its tree
   pub by_tree : List Name → State → Name → Tree → Option State
+  -- a member of the name is refused before its value, whatever that is
+  pub refuses : List Name → State → Name → Bool
+  pub refused : (names : List Name) (s : State) (k : Name) → refuses names s k ≡ true → (t : Tree) → by_tree names s k t ≡ None
   -- the name is a field's
   pub owns : List Name → Name → Bool
   -- the field of the name has a value: none has one at first, and a member gives one to the field of its name
@@ -45,6 +48,8 @@ no_fields = record {
   empty = tt;
   count = 0;
   by_tree = λ ns s k t. Some tt;
+  refuses = λ ns s k. false;
+  refused = λ ns s k h t. none-refused (Some tt) h;
   owns = λ ns k. false;
   has = λ ns s k. false;
   has_none = λ ns k. refl;
@@ -65,6 +70,8 @@ field_and m absent n = record {
   empty = (None, n.empty);
   count = n.count + 1;
   by_tree = field_member m.from_tree n.by_tree;
+  refuses = field_refuses n.refuses;
+  refused = field-refused m.from_tree n.by_tree n.refuses n.refused;
   owns = field_owns n.owns;
   has = field_has n.has;
   has_none = field-has_none n.empty n.has n.has_none m.Content;
@@ -85,6 +92,8 @@ fields_once n = record {
   empty = n.empty;
   count = n.count;
   by_tree = λ ns s k t. cond (n.has ns s k) None (n.by_tree ns s k t);
+  refuses = λ ns s k. n.has ns s k || n.refuses ns s k;
+  refused = once-refused n.by_tree n.has n.refuses n.refused;
   owns = n.owns;
   has = n.has;
   has_none = n.has_none;

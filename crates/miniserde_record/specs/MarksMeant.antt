@@ -1,13 +1,13 @@
 -- The meaning of fields with marks. A field without one is `field_and`, and the end of a struct without one is `no_fields`.
-use Rattle.std.specs.Prelude.{◌≡◌, ◌+◌, true, false, cond, Option, Some, None, refl}
+use Rattle.std.specs.Prelude.{◌≡◌, ◌+◌, ◌||◌, true, false, cond, Option, Some, None, refl}
 use Rattle.miniserde_model.specs.Tree.{Tree}
 use Rattle.miniserde_read.specs.Meant.{Meant}
-use Rattle.miniserde_record.specs.Fields.{field_member, field_owns, field_has, field_closed, field_given}
+use Rattle.miniserde_record.specs.Fields.{field_member, field_owns, field_has, field_refuses, field_closed, field_given}
 use Rattle.miniserde_record.specs.Once.{once_given, OnceReads}
 use Rattle.miniserde_record.specs.FieldsMeant.{FieldsMeant}
 use Rattle.miniserde_record.specs.Marks.{first_owns, first_has, are_none, GivenReads}
 use Rattle.miniserde_record.specs.laws.Fields.{field-apart}
-use Rattle.miniserde_record.specs.laws.Repeats.{field-has_none, field-has_more, once-apart, once-given}
+use Rattle.miniserde_record.specs.laws.Repeats.{field-refused, once-refused, field-has_none, field-has_more, once-apart, once-given}
 use Rattle.miniserde_record.specs.laws.Marks.{first-more, first-has_more, first-has_none, closed-apart, closed-given, given-given}
 
 -- `once`: the same fields, of which the first takes one member. Members of which at most one has its name mean what they
@@ -20,6 +20,8 @@ first_once n = record {
   empty = n.empty;
   count = n.count;
   by_tree = λ ns s k t. cond (first_has n.has ns s k) None (n.by_tree ns s k t);
+  refuses = λ ns s k. first_has n.has ns s k || n.refuses ns s k;
+  refused = once-refused n.by_tree (first_has n.has) n.refuses n.refused;
   owns = n.owns;
   has = n.has;
   has_none = n.has_none;
@@ -40,6 +42,8 @@ closed_end = record {
   empty = tt;
   count = 0;
   by_tree = λ ns s k t. None;
+  refuses = λ ns s k. true;
+  refused = λ ns s k h t. refl;
   owns = λ ns k. false;
   has = λ ns s k. false;
   has_none = λ ns k. refl;
@@ -61,6 +65,8 @@ given_and m given n = record {
   empty = (None, n.empty);
   count = n.count + 1;
   by_tree = field_member m.from_tree n.by_tree;
+  refuses = field_refuses n.refuses;
+  refused = field-refused m.from_tree n.by_tree n.refuses n.refused;
   owns = field_owns n.owns;
   has = field_has n.has;
   has_none = field-has_none n.empty n.has n.has_none m.Content;

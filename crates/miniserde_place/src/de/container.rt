@@ -2,7 +2,7 @@
 ghost use Rattle.std.specs.Prelude.{◌≡◌, true, Some, None, Ok, Err, IfOk};
 ghost use Rattle.miniserde_model.specs.Position.{complete};
 ghost use Rattle.miniserde_read.specs.Step.{event_of};
-ghost use Rattle.miniserde_place.specs.Place.{LedTo, Barred};
+ghost use Rattle.miniserde_place.specs.Place.{LedTo, Barred, IsFresh};
 ghost use Rattle.miniserde_read.specs.Step.{IsTreeEvent};
 ghost use Rattle.miniserde_model.specs.declared.error.Error.{Error};
 
@@ -37,7 +37,7 @@ pub struct ContainerPlace<C> {
 }
 
 impl<C: Collect> ContainerPlace<C> {
-    ghost use Rattle.miniserde_place.specs.Stage.{shown, shown_between, RefusesChild};
+    ghost use Rattle.miniserde_place.specs.Stage.{shown, shown_between, children, RefusesChild};
     ghost use Rattle.miniserde_place.specs.Container.{BeginsChild};
 
     // An event that no open child takes.
@@ -51,6 +51,11 @@ impl<C: Collect> ContainerPlace<C> {
         ensures bars { result ≡ Err Error.Invalid → (shown C.gathering self.old).refused ≡ None
             → Barred (shown C.gathering self.old) (event_of event.entry) }
         ensures keeps { (r : Error) → (shown C.gathering self.old).refused ≡ Some r → result ≡ Err r }
+        ensures opens { IfOk result (λ _. self.old.stage ≡ Stage.Fresh
+            → children C.gathering self.new ≡ Some C.gathering.empty) }
+        ensures begins { IfOk result (λ _. (s : C.gathering.State) → children C.gathering self.old ≡ Some s
+            → BeginsChild (event_of event.entry) → (self.new.stage ≡ Stage.Child)
+            × IsFresh (C.gathering.rules.child s (event_of event.entry)) (C.gathering.child self.new.collector)) }
         ensures refuses { RefusesChild C.gathering C.join_infallible self.old (event_of event.entry) result self.new }
     {
         match self.stage {
@@ -58,6 +63,8 @@ impl<C: Collect> ContainerPlace<C> {
                 if !C::opens(&event) {
                     return Err(Error::Invalid);
                 }
+                // Nothing is known of the collector of a place that no event came to, so the children begin here.
+                self.collector = C::new(self.alloc);
                 self.stage = Stage::Between;
                 Ok(())
             }
@@ -78,6 +85,9 @@ impl<C: Collect> ContainerPlace<C> {
         ensures unrefused { IfOk result (λ _. (shown C.gathering self.new).refused ≡ None) }
         ensures bars { result ≡ Err Error.Invalid
             → Barred (shown_between C.gathering self.old.collector) (event_of event.entry) }
+        ensures begins { IfOk result (λ _. BeginsChild (event_of event.entry) → (self.new.stage ≡ Stage.Child)
+            × IsFresh (C.gathering.rules.child (C.gathering.state self.old.collector) (event_of event.entry))
+            (C.gathering.child self.new.collector)) }
         ensures refuses { BeginsChild (event_of event.entry)
             → C.gathering.refuses (C.gathering.state self.old.collector) (event_of event.entry) ≡ true
             → result ≡ Err Error.Invalid }
@@ -101,7 +111,7 @@ impl<C: Collect> ContainerPlace<C> {
 }
 
 impl<C: Collect> Visitor for ContainerPlace<C> {
-    ghost use Rattle.miniserde_place.specs.Stage.{place_of, RefusesChild};
+    ghost use Rattle.miniserde_place.specs.Stage.{place_of, ContainerSteps};
 
     type Out = C::Out;
 
@@ -109,8 +119,10 @@ impl<C: Collect> Visitor for ContainerPlace<C> {
 
     ghost begins_free = { true };
 
-    // A child that the container refuses by the event that begins it, it refuses at once.
-    ghost further = { RefusesChild C.gathering C.join_infallible };
+    ghost takes_free = { true };
+
+    // What each event does to the children: one whose child the container refuses by the event is refused at once.
+    ghost further = { ContainerSteps C.gathering C.join_infallible };
 
     fn begin(alloc: Global) -> Result<ContainerPlace<C>> {
         Ok(ContainerPlace {

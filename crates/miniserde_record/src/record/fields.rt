@@ -1,5 +1,5 @@
 //! The fields of a struct, collected from events one after another.
-ghost use Rattle.std.specs.Prelude.{◌≡◌, true, Option, None, Some, Ok, Err, [], IfOk, option_map, is_some, map};
+ghost use Rattle.std.specs.Prelude.{◌≡◌, ◌&&◌, Bool, true, false, Option, None, Some, Ok, Err, [], IfOk, option_map, is_some, map};
 ghost use Rattle.miniserde_model.specs.Position.{complete};
 ghost use Rattle.miniserde_model.specs.declared.error.Error.{Error};
 ghost use Rattle.miniserde_read.specs.Step.{event_of};
@@ -24,6 +24,9 @@ pub trait Fields {
     // The meaning of the fields, and the view of the current one's place.
     ghost meaning: { FieldsMeaning Self Self.Values };
 
+    // `join` returns `Memory` only if the current value was refused with it before.
+    ghost join_infallible: { Bool } = { false };
+
     /// Returns fields without values.
     fn new() -> Self
         ensures { meaning.state result ≡ meaning.meant.empty };
@@ -38,8 +41,8 @@ pub trait Fields {
             (meaning.by_events (map (λ n. n.now) names.now) (meaning.state self.old) name.now)
             (meaning.child self.new)) }
         ensures invalid { result ≡ Err Error.Invalid
-            → meaning.refuses (map (λ n. n.now) names.now) (meaning.state self.old) name.now ≡ true }
-        ensures repeats { meaning.refuses (map (λ n. n.now) names.now) (meaning.state self.old) name.now ≡ true
+            → meaning.meant.refuses (map (λ n. n.now) names.now) (meaning.state self.old) name.now ≡ true }
+        ensures repeats { meaning.meant.refuses (map (λ n. n.now) names.now) (meaning.state self.old) name.now ≡ true
             → result ≡ Err Error.Invalid };
 
     /// Hands an event to the current value's place.
@@ -61,6 +64,8 @@ pub trait Fields {
         ensures joined { IfOk result (λ _. (meaning.child self.old).outcome [] ≡ Some (meaning.state self.new)) }
         ensures invalid { result ≡ Err Error.Invalid → (meaning.child self.old).refused ≡ None
             → (meaning.child self.old).at ≡ complete → (meaning.child self.old).outcome [] ≡ None }
+        ensures infallible { join_infallible ≡ true → result ≡ Err Error.Memory
+            → (meaning.child self.old).refused ≡ Some Error.Memory }
         ensures keeps { (r : Error) → (meaning.child self.old).refused ≡ Some r → result ≡ Err r };
 
     /// Returns whether each field has a value or a default.
@@ -83,6 +88,8 @@ impl Fields for NoField {
     type Values = ();
 
     ghost meaning = { no_field_places (λ f. ⟦<Ignore as Visitor>⟧.meaning.shows f.skipped) };
+
+    ghost join_infallible = { true };
 
     fn new() -> NoField {
         NoField { skipped: ignore() }
@@ -135,6 +142,9 @@ impl<T: Deserialize, R: Fields> Fields for FieldOf<T::Place, T, R> {
     type Values = Parts<T, R::Values>;
 
     ghost meaning = { field_place_and T.Place.meaning T.absent (λ f. f.value) (λ f. f.child) (λ f. f.rest) R.meaning };
+
+    // `join` moves the value out of its place, and allocates nothing itself.
+    ghost join_infallible = { T.Place.takes_free && R.join_infallible };
 
     fn new() -> FieldOf<T::Place, T, R> {
         FieldOf {

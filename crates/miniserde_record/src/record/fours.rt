@@ -34,6 +34,8 @@ impl<A: Deserialize, B: Deserialize, C: Deserialize, D: Deserialize, R: Fields> 
 
     ghost meaning = { field_places_inside (λ f. f.fields) ⟦<Field<A, Field<B, Field<C, Field<D, R>>>> as Fields>⟧.meaning };
 
+    ghost join_infallible = { ⟦<Field<A, Field<B, Field<C, Field<D, R>>>> as Fields>⟧.join_infallible };
+
     fn new() -> Four<A, B, C, D, R> {
         FourOf {
             fields: <Field<A, Field<B, Field<C, Field<D, R>>>> as Fields>::new(),

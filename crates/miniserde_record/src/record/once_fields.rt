@@ -18,6 +18,8 @@ impl<F: Fields> Fields for Once<F> {
 
     ghost meaning = { field_places_once (λ f. f.fields) F.meaning };
 
+    ghost join_infallible = { F.join_infallible };
+
     fn new() -> Once<F> {
         Once { fields: F::new() }
     }

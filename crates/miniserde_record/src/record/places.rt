@@ -30,6 +30,8 @@ impl<S: PlacedRecord + 'static> Collect for RecordOf<S, S::Fields> {
 
     ghost gathering = { struct_gathering S.Fields.meaning S.names S.values (λ c. c.fields) };
 
+    ghost join_infallible = { S.Fields.join_infallible };
+
     fn new(_alloc: Global) -> RecordOf<S, S::Fields> {
         RecordOf {
             fields: <S::Fields as Fields>::new(),

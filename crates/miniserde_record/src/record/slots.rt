@@ -56,7 +56,9 @@ pub trait Slots: Drop {
             DueRead (meaning.by_tree (map (λ n. n.now) names.now) (state self.old) name.now)
             source.old.rest source.new.rest (state self.new)) }
         ensures invalid { result ≡ Err Error.Invalid
-            → DueRejects (meaning.by_tree (map (λ n. n.now) names.now) (state self.old) name.now) source.old.rest };
+            → DueRejects (meaning.by_tree (map (λ n. n.now) names.now) (state self.old) name.now) source.old.rest }
+        ensures refuses { meaning.refuses (map (λ n. n.now) names.now) (state self.old) name.now ≡ true
+            → (result ≡ Err Error.Invalid) × (source.new ≡ source.old) };
 
     /// Returns whether each field has a value or a default.
     fn are_whole(&self) -> bool
