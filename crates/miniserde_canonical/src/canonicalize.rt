@@ -15,9 +15,9 @@ use crate::write::write;
 use miniserde_model::error::{Error, Result};
 use std::alloc::Global;
 
-/// Returns the canonical text of a JSON text: one text for each meaning, whatever the order of members, the spelling of
-/// strings and the whitespace, and none with that meaning is shorter. Of equal names the last stands. Numbers that are
-/// no integers of 64 bits keep their texts. Returns `Invalid` if the text is no JSON (RFC 8259).
+/// Returns the canonical text of a JSON text: the compact text of its normal form, whatever the order of members, the
+/// spelling of strings and the whitespace. No text with that normal form is shorter. Of equal names the last stands.
+/// Numbers that are no integers of 64 bits keep their texts. Returns `Invalid` if the text is no JSON (RFC 8259).
 pub fn canonical(alloc: Global, j: &str) -> Result<String>
     // It is the compact text of the normal form of the text's tree.
     ensures ok { IfOk result (λ c. (t : Tree) × IsJson j.now t × (string_bytes c ≡ compact (norm t))) }
@@ -38,6 +38,10 @@ pub fn canonical(alloc: Global, j: &str) -> Result<String>
     // The text has no tree; and never more than one.
     ensures invalid { result ≡ Err Invalid → (t : Tree) → IsJson j.now t → ⊥ }
     ensures one { (t u : Tree) → IsJson j.now t → IsJson j.now u → t ≡ u }
+
+    // A canonical text is its own.
+    ensures again { (b : List ℕ) (t : Tree) → IsJson b t → j.now ≡ compact (norm t)
+        → IfOk result (λ c. string_bytes c ≡ j.now) × (result ≡ Err Invalid → ⊥) }
 {
     let (text, _) = canonicalize(alloc, j)?;
     Ok(text)
@@ -81,7 +85,7 @@ pub fn canonical_unique(alloc: Global, j: &str) -> Result<String>
     }
 }
 
-/// Returns the canonical texts of two JSON texts. They are equal exactly if the texts have one meaning.
+/// Returns the canonical texts of two JSON texts. They are equal exactly if the texts have one normal form.
 pub fn canonical_both(alloc: Global, a: &str, b: &str) -> Result<(String, String)>
     ensures ok { IfOk result (λ c. (t : Tree) × (u : Tree) × IsJson a.now t × IsJson b.now u
         × (string_bytes c.0 ≡ compact (norm t)) × (string_bytes c.1 ≡ compact (norm u))) }

@@ -1,8 +1,11 @@
 -- Each clause but the first is a fact of canonical texts.
+use Rattle.std.proofs.Common.{◌≡◌, sym, subst, string_bytes}
+use Rattle.std.specs.Prelude.{IfOk}
 use Rattle.std.proofs.lemmas.Result.{err_from_is_err_and}
+use Rattle.miniserde_model.specs.Normal.{norm}
 use Rattle.miniserde_model.proofs.Normal.{norm_twice}
 use Rattle.miniserde_model.proofs.Unique.{one_tree}
-use Rattle.miniserde_canonical.proofs.Told.{canonical_text, canonical_spelled, canonical_told, canonical_least}
+use Rattle.miniserde_canonical.proofs.Told.{canonical_text, canonical_spelled, canonical_told, canonical_least, canonical_again, its_own}
 use Rattle.miniserde_canonical.proofs.canonicalize.canonical.Goals as goal
 
 pub returns-in_err-text-clause-invalid : goal.returns-in_err-text-clause-invalid
@@ -12,6 +15,11 @@ returns-in_err-text-clause-invalid c = λ e.
 
 pub returns-in_err-text-clause-one : goal.returns-in_err-text-clause-one
 returns-in_err-text-clause-one c = one_tree c.args.j.now
+
+pub returns-in_err-text-clause-again : goal.returns-in_err-text-clause-again
+returns-in_err-text-clause-again c = λ b t h e.
+    let w = err_from_is_err_and c.from_residual.result c.from_residual.ensures.1 in
+    (subst (λ r. IfOk r (λ s. string_bytes s ≡ c.args.j.now)) (sym w.1) tt, λ i. returns-in_err-text-clause-invalid c i (norm t) (its_own c.args.j.now b t h e))
 
 pub returns-clause-ok : goal.returns-clause-ok
 returns-clause-ok c = let r = c.in_ok-text.ensures.ok in (r.0, r.1, r.2)
@@ -33,3 +41,6 @@ returns-clause-shortest c = canonical_least c.args.j.now _ (returns-clause-ok c)
 
 pub returns-clause-one : goal.returns-clause-one
 returns-clause-one c = one_tree c.args.j.now
+
+pub returns-clause-again : goal.returns-clause-again
+returns-clause-again c = λ b t h e. (canonical_again c.args.j.now _ b (returns-clause-ok c) t h e, λ i. absurd (cc))
