@@ -7,7 +7,7 @@ ghost use Rattle.examples.specs.laws.Elements.{events_count};
 
 use miniserde::de::{Step, Visitor};
 use miniserde::json::feed;
-use miniserde::laws::events_complete;
+use miniserde::laws::events_give;
 use miniserde::{Error, Result};
 use std::alloc::Global;
 
@@ -103,8 +103,8 @@ pub fn elements(alloc: Global, text: &str) -> Result<u64>
     ensures ok { IfOk result (λ n. (t : Tree) × IsJson text.now t × (elements_of t ≡ Some n)) }
     ensures invalid { result ≡ Err Error.Invalid → (t : Tree) → IsJson text.now t → elements_of t ≡ None }
 {
-    // Does nothing: it tells the proof that the events of a tree are those of one value.
-    events_complete();
+    // Does nothing: it tells the proof what the events of a tree give in the place.
+    events_give::<Counter>();
     let mut place = <Counter as Visitor>::begin(alloc)?;
     feed(alloc, text, &mut place)?;
     place.take()

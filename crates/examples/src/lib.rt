@@ -2,6 +2,7 @@
 #![tactic(auto)]
 
 pub mod basket;
+pub mod by_events;
 pub mod canonical;
 pub mod counter;
 pub mod limits;

@@ -40,6 +40,7 @@ pub use Rattle.miniserde_place.specs.LeafPlace
 pub use Rattle.miniserde_place.specs.Ignore
 pub use Rattle.miniserde_place.specs.Container
 pub use Rattle.miniserde_place.specs.Stage
+pub use Rattle.miniserde_de.specs.Fed
 pub use Rattle.miniserde_de.specs.PlaceMeanings
 pub use Rattle.miniserde_de.specs.Tied
 pub use Rattle.miniserde_ser.specs.Fragment

@@ -1,5 +1,6 @@
-//! The laws of the definitions, for proofs by users: a call does nothing, and its contract is the law.
+//! The laws of the definitions and of places, for proofs by users: a call does nothing, and its contract is the law.
 
+pub use miniserde_de::events::{events_give, events_mean};
 pub use miniserde_model::{
     canonical_is_shortest, canonical_tells, compact_spells, events_complete, norm_is_normal,
     norm_of_distinct, norm_of_members, spelled_is_tree, text_has_one_tree, worked_examples,

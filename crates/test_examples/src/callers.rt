@@ -1,5 +1,6 @@
 //! Callers with contracts of their own.
 
+use examples::by_events::read_by_events;
 use examples::counter::elements;
 use examples::limits::limit_of;
 use examples::orders::settled;
@@ -48,6 +49,22 @@ fn the_elements_of_a_list_are_counted(rt: HostRuntime) -> std::result::Result<()
     expect(matches!(elements(alloc, four), Ok(4)), "four")?;
     for text in "\n7\n{\"a\": [1]}\n[1, 2\n[1,]\n[1] 2".lines() {
         expect(matches!(elements(alloc, text), Err(Error::Invalid)), text)?;
+    }
+    Ok(())
+}
+
+#[test]
+fn a_type_is_read_by_its_place(rt: HostRuntime) -> std::result::Result<(), Wrong> {
+    let alloc = rt.alloc();
+    expect(
+        matches!(read_by_events::<bool>(alloc, " true "), Ok(true)),
+        "true",
+    )?;
+    for text in "\nnull\n[true]\ntrue 1".lines() {
+        expect(
+            matches!(read_by_events::<bool>(alloc, text), Err(Error::Invalid)),
+            text,
+        )?;
     }
     Ok(())
 }
