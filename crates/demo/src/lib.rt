@@ -3,12 +3,14 @@
 
 mod duplicates;
 mod example;
+mod repeats;
 mod strict;
 mod structs;
 mod tag;
 
 pub use duplicates::duplicate_names;
 pub use example::{Example, ExamplePlace, Nested, NestedPlace};
+pub use repeats::repeated_name;
 pub use strict::{StrictDemo, StrictDemoPlace};
 pub use structs::{Demo, DemoPlace, Point, PointPlace};
 pub use tag::Tag;
