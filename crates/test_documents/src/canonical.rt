@@ -2,18 +2,22 @@
 
 use crate::texts::nested;
 use miniserde::error::{Error, Result};
+use miniserde::json::value::rewritten;
 use miniserde::json::{canonical, canonical_both};
 use std::alloc::Global;
 use test_tables::{Wrong, expect, expect_ok, is_right, text_of};
 
-/// Returns whether a text has the canonical text of its line, which is no longer and its own canonical text.
+/// Returns whether a text has the canonical text of its line, which is no longer, its own canonical text, and what the
+/// text is written as when it is read as a `Value`.
 fn is_canonical(alloc: Global, line: &str) -> Result<bool> {
     let text = text_of(line);
     let answer = canonical(alloc, text)?;
     let again = canonical(alloc, answer.as_str())?;
+    let by_value = rewritten(alloc, text)?;
     Ok(
         answer.len() <= text.len()
             && again.as_str() == answer.as_str()
+            && by_value.as_str() == answer.as_str()
             && is_right(Ok(answer), line),
     )
 }

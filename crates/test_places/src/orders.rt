@@ -1,7 +1,7 @@
 //! Places handed events in every order of four: each call returns, and the first refusal stands.
 
 use crate::events::{Event, hand};
-use demo::Demo;
+use demo::{Demo, repeated_name};
 use miniserde::de::{Deserialize, Visitor, ignore};
 use miniserde::json::Value;
 use miniserde::{Error, Result};
@@ -108,4 +108,10 @@ fn a_container_keeps_its_refusal(rt: HostRuntime) -> std::result::Result<(), Wro
     expect_ok(takes::<[u8; 2]>(alloc, 252), "an array")?;
     expect_ok(takes::<Option<Vec<u8>>>(alloc, 504), "an optional list")?;
     expect_ok(takes::<BTreeMap<String, Option<bool>>>(alloc, 296), "a map")
+}
+
+#[test]
+fn a_repeated_name_is_invalid_at_its_key(rt: HostRuntime) -> std::result::Result<(), Wrong> {
+    let answer = repeated_name(rt.alloc(), 7);
+    expect(matches!(answer, Ok(Err(Error::Invalid))), "the second name")
 }
