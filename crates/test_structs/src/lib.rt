@@ -1,9 +1,13 @@
-//! Tests of structs in structs, lists and maps, as users write them. Nothing here is for users.
+//! Tests of structs in structs, lists and maps, and of thirty fields, as users write them. Nothing here is for users.
 #![tactic(auto)]
 
 #[cfg(test)]
 mod hosts;
 #[cfg(test)]
+mod server;
+#[cfg(test)]
 mod structs;
 #[cfg(test)]
 mod users;
+#[cfg(test)]
+mod wide;

@@ -25,7 +25,7 @@ type ListenerFields = Slot<String, Slot<u16, NoSlot>>;
 const LISTENER_NAMES: &[&str] = &["address", "port"];
 
 impl Record for Listener {
-    ghost use Rattle.test_wide.specs.declared.server.TheConstants.{LISTENER_NAMES};
+    ghost use Rattle.test_structs.specs.declared.server.TheConstants.{LISTENER_NAMES};
 
     type Values = <ListenerFields as Slots>::Values;
 
@@ -229,7 +229,7 @@ const SERVER_NAMES: &[&str] = &[
 ];
 
 impl Record for Server {
-    ghost use Rattle.test_wide.specs.declared.server.TheConstants.{SERVER_NAMES};
+    ghost use Rattle.test_structs.specs.declared.server.TheConstants.{SERVER_NAMES};
 
     type Values = <ServerFields as Slots>::Values;
 
