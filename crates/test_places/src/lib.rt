@@ -1,5 +1,4 @@
-//! Tests of places, handed one event after another, of the calls of `Writer`, and of types by hand. Nothing here is for
-//! users.
+//! Tests of places, handed one event after another, and of types by hand. Nothing here is for users.
 #![tactic(auto)]
 
 #[cfg(test)]
@@ -17,5 +16,3 @@ pub mod lower;
 mod orders;
 #[cfg(test)]
 mod places;
-#[cfg(test)]
-mod writer;

@@ -2,6 +2,10 @@
 #![tactic(auto)]
 
 #[cfg(test)]
-mod writer;
+mod calls;
+#[cfg(test)]
+mod escapes;
+#[cfg(test)]
+mod types;
 #[cfg(test)]
 mod wrong;

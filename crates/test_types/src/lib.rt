@@ -9,8 +9,6 @@ mod lists;
 #[cfg(test)]
 mod maps;
 #[cfg(test)]
-mod round_trips;
-#[cfg(test)]
 mod scalars;
 #[cfg(test)]
 mod shapes;

@@ -3,7 +3,7 @@
 use miniserde::error::Result;
 use miniserde::json::from_str;
 use std::alloc::Global;
-use test_tables::{Wrong, expect_ok, expect_prefixes_invalid, expect_table};
+use test_tables::{Wrong, expect_ok, expect_prefixes_invalid, expect_read_itself, expect_table};
 
 const NUMBERS: &str = r#" [ 7 , 0,18446744073709551615 ]  => [7,0,18446744073709551615]
 [] => same
@@ -44,7 +44,7 @@ fn a_line_end_is_whitespace(rt: HostRuntime) -> std::result::Result<(), Wrong> {
 
 #[test]
 fn a_list_of_lists_has_lists_alone(rt: HostRuntime) -> std::result::Result<(), Wrong> {
-    expect_table::<Vec<Vec<u64>>>(
+    expect_read_itself::<Vec<Vec<u64>>>(
         rt.alloc(),
         "[[1],[],[2, 3]] => [[1],[],[2,3]]\n[1]\n[[1]\n[[1]]]\n[[1],]\n[{}]\n{\"a\":[]}\nnull\n[[-1]]",
     )
@@ -82,13 +82,13 @@ fn an_array_has_its_length(rt: HostRuntime) -> std::result::Result<(), Wrong> {
         alloc,
         "[\"1\",\"2\",\"3\"] => same\n[\"1\",\"2\"]\n[\"1\",\"2\",\"3\",\"4\"]\n[]\n[\"1\",2,\"3\"]\n\"123\"",
     )?;
-    expect_table::<[u8; 0]>(alloc, "[ ] => []\n[1]\nnull\n{}")
+    expect_read_itself::<[u8; 0]>(alloc, "[ ] => []\n[1]\nnull\n{}")
 }
 
 #[test]
 fn an_array_of_pairs_has_pairs_alone(rt: HostRuntime) -> std::result::Result<(), Wrong> {
     let alloc = rt.alloc();
-    expect_table::<[(u8, String); 2]>(
+    expect_read_itself::<[(u8, String); 2]>(
         alloc,
         "[[1,\"a\"],[2,\"b\"]] => same\n[[1,\"a\"],[2,2]]\n[[1,\"a\"]]",
     )?;

@@ -2,7 +2,7 @@
 
 use crate::maps::Hashed;
 use std::collections::BTreeMap;
-use test_tables::{Wrong, expect_table};
+use test_tables::{Wrong, expect_read_itself, expect_table};
 
 const SIX: &str = "[] => same
 [[[[[[1,2],[]]],[]]],[]] => same
@@ -44,7 +44,7 @@ const INDEX: &str = r#"{} => same
 
 #[test]
 fn an_index_has_lists_under_its_names(rt: HostRuntime) -> Result<(), Wrong> {
-    expect_table::<BTreeMap<String, Vec<(String, Option<u64>)>>>(rt.alloc(), INDEX)
+    expect_read_itself::<BTreeMap<String, Vec<(String, Option<u64>)>>>(rt.alloc(), INDEX)
 }
 
 const MIXED: &str = r#"null => same

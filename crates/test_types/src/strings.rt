@@ -1,6 +1,6 @@
 //! Strings: each escape, surrogates, and bytes that may not stand for themselves.
 
-use test_tables::{Wrong, expect_prefixes_invalid, expect_table};
+use test_tables::{Wrong, expect_prefixes_invalid, expect_read_itself};
 
 const ESCAPES: &str = r#""" => same
 "\"" => same
@@ -40,12 +40,12 @@ null
 
 #[test]
 fn an_escape_is_the_character_that_it_stands_for(rt: HostRuntime) -> Result<(), Wrong> {
-    expect_table::<String>(rt.alloc(), ESCAPES)
+    expect_read_itself::<String>(rt.alloc(), ESCAPES)
 }
 
 #[test]
 fn surrogates_come_in_pairs(rt: HostRuntime) -> Result<(), Wrong> {
-    expect_table::<String>(
+    expect_read_itself::<String>(
         rt.alloc(),
         "\"\\ud7ff\\uE000\\uffff\" => \"\u{d7ff}\u{e000}\u{ffff}\"\n\
         \"\\uDBFF\\uDFFF\" => \"\u{10ffff}\"\n\
@@ -65,7 +65,7 @@ fn surrogates_come_in_pairs(rt: HostRuntime) -> Result<(), Wrong> {
 
 #[test]
 fn a_control_character_is_escaped(rt: HostRuntime) -> Result<(), Wrong> {
-    expect_table::<String>(
+    expect_read_itself::<String>(
         rt.alloc(),
         "\"\x7f\" => same\n\"\u{80}\" => same\n\"\u{2028}\" => same\n\"\x1f\"\n\"\x01\"\n\"\x00\"\n\"\t\"\n\"a\x0cb\"\n\"a\rb\"",
     )
