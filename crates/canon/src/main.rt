@@ -1,7 +1,7 @@
 //! Reads a JSON text on standard input, and writes its canonical text on standard output.
 #![tactic(auto)]
 
-use miniserde_canon::canon::{Counted, program};
+use miniserde_program::canon::{Counted, program};
 use std::process::ExitCode;
 use std::{env, io};
 

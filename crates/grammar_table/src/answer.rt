@@ -2,7 +2,7 @@
 
 use crate::notation::Spelled;
 use crate::row::Verdict;
-use miniserde_canon::canon::{Counted, program};
+use miniserde_program::canon::{Counted, program};
 use std::alloc::Global;
 use std::fmt;
 

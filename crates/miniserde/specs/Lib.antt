@@ -42,6 +42,9 @@ pub use Rattle.miniserde_place.specs.Container
 pub use Rattle.miniserde_place.specs.Stage
 pub use Rattle.miniserde_de.specs.Fed
 pub use Rattle.miniserde_de.specs.PlaceMeanings
+pub use Rattle.miniserde_de.specs.FieldPlaces
+pub use Rattle.miniserde_de.specs.Kinds as PlaceKinds
+pub use Rattle.miniserde_de.specs.Places
 pub use Rattle.miniserde_de.specs.Tied
 pub use Rattle.miniserde_ser.specs.Fragment
 pub use Rattle.miniserde_ser.specs.Trees
@@ -53,10 +56,7 @@ pub use Rattle.miniserde_value.specs.Looks
 pub use Rattle.miniserde_value.specs.Hole
 pub use Rattle.miniserde_value.specs.Kinds
 pub use Rattle.miniserde_value.specs.Meanings as DocumentMeanings
-pub use Rattle.miniserde_value.specs.Places
-pub use Rattle.miniserde_value.specs.Unique
 pub use Rattle.miniserde_round.specs.RoundTrip
-pub use Rattle.miniserde_record.specs.FieldPlaces
 pub use Rattle.miniserde_record.specs.Fields
 pub use Rattle.miniserde_record.specs.FieldsMeant
 pub use Rattle.miniserde_record.specs.Marks
@@ -68,5 +68,5 @@ pub use Rattle.miniserde_record.specs.Structs
 pub use Rattle.miniserde_record.specs.Variants
 pub use Rattle.miniserde_record.specs.laws.Said
 pub use Rattle.miniserde_record.specs.laws.Marks as MarkLaws
-pub use Rattle.miniserde_canon.specs.Counts
-pub use Rattle.miniserde_canon.specs.Runs
+pub use Rattle.miniserde_program.specs.Counts
+pub use Rattle.miniserde_program.specs.Runs

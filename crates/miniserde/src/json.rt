@@ -7,14 +7,39 @@ pub use miniserde_ser::ser::to_string;
 pub use miniserde_text::json::lex;
 pub use miniserde_text::json::number::NumberText;
 pub use miniserde_value::json::array::Array;
+pub use miniserde_value::json::drop;
 pub use miniserde_value::json::number::Number;
 pub use miniserde_value::json::object::Object;
 pub use miniserde_value::json::unique::Unique;
 pub use miniserde_value::json::value::Value;
-pub use miniserde_value::json::{array, drop, object, unique, value};
 
-/// Numbers, and those that are kept as their texts.
+/// Arrays, and their place.
+pub mod array {
+    pub use miniserde_de::documents::ArrayPlace;
+    pub use miniserde_value::json::array::Array;
+}
+
+/// Numbers, those that are kept as their texts, and their place.
 pub mod number {
+    pub use miniserde_de::documents::NumberPlace;
     pub use miniserde_text::json::number::NumberText;
-    pub use miniserde_value::json::number::{Number, NumberPlace};
+    pub use miniserde_value::json::number::Number;
+}
+
+/// Objects, and their place.
+pub mod object {
+    pub use miniserde_de::documents::ObjectPlace;
+    pub use miniserde_value::json::object::Object;
+}
+
+/// Values without duplicate names, and their place.
+pub mod unique {
+    pub use miniserde_de::documents::UniquePlace;
+    pub use miniserde_value::json::unique::Unique;
+}
+
+/// Any values, their place, and laws of them.
+pub mod value {
+    pub use miniserde_de::documents::ValuePlace;
+    pub use miniserde_value::json::value::{Value, read_is_normal, rewritten, size_is_of_tree};
 }

@@ -8,16 +8,16 @@
 pub mod derived;
 pub mod json;
 pub mod laws;
+pub mod record;
 pub mod ser;
 
-pub use miniserde_canon::canon;
 pub use miniserde_de::de;
 pub use miniserde_de::de::Deserialize;
 pub use miniserde_model::error;
 pub use miniserde_model::error::{Error, Result};
 pub use miniserde_place::engine::read_by_place;
+pub use miniserde_program::canon;
 pub use miniserde_read::{FromJson, gets_last, gets_last_by_hashed_key, gets_last_by_key};
-pub use miniserde_record::record;
 pub use miniserde_round::{
     Lossless, NeverNull, RoundTrip, means_itself, read_again, read_back, read_itself,
 };

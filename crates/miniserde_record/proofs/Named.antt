@@ -1,6 +1,6 @@
 -- Members by the same names are alike only where their trees are, if each tree has a name.
 use Rattle.std.proofs.Common.{◌≡◌, List, [], ◌∷◌, length, refl, arith}
-use Rattle.miniserde_model.specs.Tree.{Tree, members, member, no_members}
+use Rattle.miniserde_model.specs.Tree.{Tree}
 use Rattle.miniserde_read.specs.meaning.Objects.{Name}
 use Rattle.miniserde_record.specs.Structs.{with_names}
 

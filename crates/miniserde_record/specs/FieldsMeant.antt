@@ -1,5 +1,5 @@
 -- The meaning of a struct, by the meanings of its fields.
-use Rattle.std.specs.Prelude.{◌≡◌, ◌↔◌, refl, ℕ, ◌+◌, ◌&&◌, ◌||◌, Bool, true, false, cond, List, [], Option, Some, None, option_map, option_and_then, bytes_eq, ⊤}
+use Rattle.std.specs.Prelude.{◌≡◌, ◌↔◌, refl, ℕ, ◌+◌, ◌&&◌, ◌||◌, Bool, true, false, cond, List, Option, Some, None, option_map, option_and_then, bytes_eq, ⊤}
 use Rattle.miniserde_model.specs.Tree.{Tree, Members}
 use Rattle.miniserde_read.specs.Meant.{Meant}
 use Rattle.miniserde_read.specs.meaning.Objects.{Name, object_of, all_members}

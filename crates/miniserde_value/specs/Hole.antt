@@ -1,5 +1,5 @@
 -- A tree with a hole, which the open containers are.
-use Rattle.std.specs.Prelude.{ℕ, ◌+◌, Bool, true, false, List, [], ◌∷◌, ◌++◌, Option, Some, None, option_map, option_and_then, is_some}
+use Rattle.std.specs.Prelude.{ℕ, ◌+◌, ◌&&◌, Bool, true, false, cond, List, [], ◌∷◌, ◌++◌, Option, Some, None, option_map, option_and_then, is_some}
 use Rattle.miniserde_model.specs.Tree.{Tree, null, truth, nonneg, neg, num, str, list, members, Members, no_members}
 use Rattle.miniserde_model.specs.Event.{Event, nothing, boolean, string, negative, nonnegative, float, seq, element, map, key, finish}
 use Rattle.miniserde_model.specs.Normal.{last_of, put as put_member}
@@ -85,8 +85,17 @@ abbrev pub took : Bool → Hole → Event → Option (Bool × Hole)
 took true h e = option_map (λ g. (false, g)) (begun e h)
 took false h e = resumed e h
 
+-- the event is a name that the innermost open object has
+abbrev pub repeats : Event → Hole → Bool
+repeats (key k) h = has_member k h
+repeats _ h = false
+
+-- the same, where `once` says that no name may be repeated
+abbrev pub next : Bool → Bool → Hole → Event → Option (Bool × Hole)
+next once due h e = cond (once && repeats e h) None (took due h e)
+
 -- what the events that are still to come give
-abbrev pub outcome : Bool → Hole → List Event → Option Tree
-outcome true h [] = None
-outcome false h [] = whole h
-outcome due h (e ∷ es) = option_and_then (λ s. outcome s.0 s.1 es) (took due h e)
+abbrev pub outcome : Bool → Bool → Hole → List Event → Option Tree
+outcome once true h [] = None
+outcome once false h [] = whole h
+outcome once due h (e ∷ es) = option_and_then (λ s. outcome once s.0 s.1 es) (next once due h e)

@@ -4,7 +4,6 @@ pub mod Values
 pub mod Rows
 pub mod Looks
 pub mod Hole
-pub mod Unique
 pub mod Fronts
 pub mod Marks
 pub mod Builders
@@ -12,6 +11,5 @@ pub mod Walks
 pub mod Writes
 pub mod Kinds
 pub mod Meanings
-pub mod Places
 pub mod laws
 pub mod private

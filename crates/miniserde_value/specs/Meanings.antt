@@ -9,10 +9,9 @@ use Rattle.miniserde_value.specs.declared.json.value.Value.{Value}
 use Rattle.miniserde_value.specs.declared.json.array.Array.{Array}
 use Rattle.miniserde_value.specs.declared.json.object.Object.{Object}
 use Rattle.miniserde_value.specs.declared.json.unique.Unique.{Unique}
-use Rattle.miniserde_value.specs.Kept.{kept}
+use Rattle.miniserde_value.specs.Kept.{kept, kept_if}
 use Rattle.miniserde_value.specs.Kinds.{only_list, only_members}
 use Rattle.miniserde_value.specs.Numbers.{number_leaf, number_of, ReadsNumber}
-use Rattle.miniserde_value.specs.Unique.{kept_once}
 use Rattle.miniserde_value.specs.Values.{shape, Reads, array_items, object_entries, array_shape, object_shape}
 use Rattle.miniserde_value.specs.laws.Numbers.{number-given}
 use Rattle.miniserde_value.specs.laws.Outcomes.{reads-agree, list-agrees, members-agree}
@@ -67,7 +66,7 @@ abbrev pub unique_meant : Meant Unique
 unique_meant = record {
   Content = Tree;
   content = λ u. shape u.value;
-  from_tree = kept_once;
+  from_tree = kept_if true;
   reads = ReadsUnique;
   reads_agrees = λ t u. once-agrees t (shape u.value);
 }

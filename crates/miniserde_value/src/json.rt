@@ -1,12 +1,11 @@
 //! Values of JSON whose type nobody knows beforehand.
 
 pub mod array;
-mod builder;
+pub mod builder;
 mod copy;
 pub mod drop;
 pub mod number;
 pub mod object;
-mod place;
 mod read;
 mod reader;
 mod round_trip;

@@ -37,13 +37,24 @@ fn is_copied(alloc: Global) -> Result<bool> {
     Ok(matches!(item, Some(Value::Number(Number::I64(5)))) && is_written(alloc, &copy, "[5]")?)
 }
 
+/// Returns whether a value that is an array is taken as it, and one that is an object is not.
+fn is_taken_alone(alloc: Global) -> Result<bool> {
+    let list: Value = from_str(alloc, "[1]")?;
+    let object: Value = from_str(alloc, "{}")?;
+    match (list.into_array(), object.into_array()) {
+        (Some(array), None) => is_written(alloc, &array, "[1]"),
+        _ => Ok(false),
+    }
+}
+
 #[test]
 fn an_array_is_made_of_its_items(rt: HostRuntime) -> std::result::Result<(), Wrong> {
     let alloc = rt.alloc();
     expect_ok(is_written(alloc, &Array::new(alloc), "[]"), "no item")?;
     expect_ok(is_replaced(alloc), "a replaced item")?;
     expect_ok(is_made(alloc), "from_iter")?;
-    expect_ok(is_copied(alloc), "a copy")
+    expect_ok(is_copied(alloc), "a copy")?;
+    expect_ok(is_taken_alone(alloc), "an array of a value")
 }
 
 /// Returns the items of an array, which it lends, one after another.

@@ -38,13 +38,24 @@ fn is_added(alloc: Global) -> Result<bool> {
     Ok(object.inner().len() == 2 && is_written(alloc, &object, r#"{"a":null,"b":1}"#)?)
 }
 
+/// Returns whether a value that is an object is taken as it, and one that is an array is not.
+fn is_taken_alone(alloc: Global) -> Result<bool> {
+    let object: Value = from_str(alloc, r#"{"a":1}"#)?;
+    let list: Value = from_str(alloc, "[]")?;
+    match (object.into_object(), list.into_object()) {
+        (Some(object), None) => is_written(alloc, &object, r#"{"a":1}"#),
+        _ => Ok(false),
+    }
+}
+
 #[test]
 fn an_object_is_made_of_its_members(rt: HostRuntime) -> std::result::Result<(), Wrong> {
     let alloc = rt.alloc();
     expect_ok(is_written(alloc, &Object::new(alloc), "{}"), "no member")?;
     expect_ok(is_made(alloc), "from_iter")?;
     expect_ok(is_copied(alloc), "a copy")?;
-    expect_ok(is_added(alloc), "a member by hand")
+    expect_ok(is_added(alloc), "a member by hand")?;
+    expect_ok(is_taken_alone(alloc), "an object of a value")
 }
 
 /// Returns the names and values of an object, which it lends, one after another.

@@ -4,6 +4,10 @@
 #[cfg(test)]
 mod keys;
 #[cfg(test)]
-mod texts;
+mod lexer;
+#[cfg(test)]
+mod numbers;
+#[cfg(test)]
+mod special;
 #[cfg(test)]
 mod wrong;

@@ -117,8 +117,8 @@ pub struct Slot<T, R> {
     rest: R,
 }
 
-// Returns the value, or the value of a missing field.
-pub(crate) fn or_missing<T: FromJson>(value: Option<T>) -> Option<T>
+/// Returns the value, or the value of a missing field.
+pub fn or_missing<T: FromJson>(value: Option<T>) -> Option<T>
     ensures { result ≡ option_or value T.absent }
 {
     match value {

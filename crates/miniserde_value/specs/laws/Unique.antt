@@ -7,9 +7,9 @@ use Rattle.miniserde_model.specs.Tree.{Tree, null, truth, nonneg, neg, num, str,
 use Rattle.miniserde_model.specs.Event.{Event, finish, events, child_events, member_events}
 use Rattle.miniserde_model.specs.Distinct.{has_name, distinct, distinct_children, distinct_members}
 use Rattle.miniserde_model.specs.Normal.{text_cmp, or_else, last_of, put as put_member, put_placed}
-use Rattle.miniserde_value.specs.Kept.{kept, kept_children}
-use Rattle.miniserde_value.specs.Hole.{Hole, outside, in_list, in_members, put}
-use Rattle.miniserde_value.specs.Unique.{once_outcome, kept_once}
+use Rattle.miniserde_value.specs.Kept.{kept, kept_children, kept_if}
+use Rattle.miniserde_value.specs.Hole.{Hole, outside, in_list, in_members, put, outcome}
+use Rattle.miniserde_value.specs.laws.Outcomes.{outcome-whole}
 use Rattle.miniserde_value.specs.laws.Listed.{listed, put_kept, trees_listed, puts_kept}
 
 -- ---- which names members have, with one more put in
@@ -94,7 +94,7 @@ repeated true x f = refl
 repeated false x f = refl
 
 mutual
-  pub once_events : (h : Hole) (t : Tree) (rest : List Event) → once_outcome true h (events t ++ rest) ≡ if_so (distinct t) (once_outcome false (put (kept t) h) rest)
+  pub once_events : (h : Hole) (t : Tree) (rest : List Event) → outcome true true h (events t ++ rest) ≡ if_so (distinct t) (outcome true false (put (kept t) h) rest)
   once_events h null rest = refl
   once_events h (truth b) rest = refl
   once_events h (nonneg n) rest = refl
@@ -102,31 +102,31 @@ mutual
   once_events h (num x) rest = refl
   once_events h (str s) rest = refl
   once_events h (list ts) rest =
-      ap (once_outcome false (in_list [] h)) (append_assoc (child_events ts) (finish ∷ []) rest)
+      ap (outcome true false (in_list [] h)) (append_assoc (child_events ts) (finish ∷ []) rest)
       ∙ once_children ts [] h (finish ∷ rest)
-      ∙ ap (λ z. if_so (distinct_children ts) (once_outcome false (put (list z) h) rest)) (trees_listed (kept_children ts))
+      ∙ ap (λ z. if_so (distinct_children ts) (outcome true false (put (list z) h) rest)) (trees_listed (kept_children ts))
   once_events h (members ms) rest =
-      ap (once_outcome false (in_members no_members None h)) (append_assoc (member_events ms) (finish ∷ []) rest)
+      ap (outcome true false (in_members no_members None h)) (append_assoc (member_events ms) (finish ∷ []) rest)
       ∙ once_members ms no_members h (finish ∷ rest)
-      ∙ ap₂ (λ b z. if_so b (once_outcome false (put (members z) h) rest)) (all_fresh (distinct_members ms) ms) (puts_kept ms)
+      ∙ ap₂ (λ b z. if_so b (outcome true false (put (members z) h) rest)) (all_fresh (distinct_members ms) ms) (puts_kept ms)
 
-  pub once_children : (ts : Trees) (us : List Tree) (h : Hole) (rest : List Event) → once_outcome false (in_list us h) (child_events ts ++ rest) ≡ if_so (distinct_children ts) (once_outcome false (in_list (us ++ listed (kept_children ts)) h) rest)
-  once_children no_trees us h rest = ap (λ z. once_outcome false (in_list z h) rest) (sym (append-nil us))
+  pub once_children : (ts : Trees) (us : List Tree) (h : Hole) (rest : List Event) → outcome true false (in_list us h) (child_events ts ++ rest) ≡ if_so (distinct_children ts) (outcome true false (in_list (us ++ listed (kept_children ts)) h) rest)
+  once_children no_trees us h rest = ap (λ z. outcome true false (in_list z h) rest) (sym (append-nil us))
   once_children (tree t ts) us h rest =
-      ap (once_outcome true (in_list us h)) (append_assoc (events t) (child_events ts) rest)
+      ap (outcome true true (in_list us h)) (append_assoc (events t) (child_events ts) rest)
       ∙ once_events (in_list us h) t (child_events ts ++ rest)
       ∙ ap (if_so (distinct t)) (once_children ts (us ++ kept t ∷ []) h rest)
       ∙ both_so (distinct t) (distinct_children ts) _
-      ∙ ap (λ z. if_so (distinct t && distinct_children ts) (once_outcome false (in_list z h) rest)) (append_assoc us (kept t ∷ []) (listed (kept_children ts)))
+      ∙ ap (λ z. if_so (distinct t && distinct_children ts) (outcome true false (in_list z h) rest)) (append_assoc us (kept t ∷ []) (listed (kept_children ts)))
 
-  pub once_members : (ms made : Members) (h : Hole) (rest : List Event) → once_outcome false (in_members made None h) (member_events ms ++ rest) ≡ if_so (distinct_members ms && all_new made ms) (once_outcome false (in_members (put_kept made ms) None h) rest)
+  pub once_members : (ms made : Members) (h : Hole) (rest : List Event) → outcome true false (in_members made None h) (member_events ms ++ rest) ≡ if_so (distinct_members ms && all_new made ms) (outcome true false (in_members (put_kept made ms) None h) rest)
   once_members no_members made h rest = refl
   once_members (member n t ms) made h rest =
-      repeated (has_name n made) (true, in_members made (Some n) h) (λ s. once_outcome s.0 s.1 ((events t ++ member_events ms) ++ rest))
+      repeated (has_name n made) (true, in_members made (Some n) h) (λ s. outcome true s.0 s.1 ((events t ++ member_events ms) ++ rest))
       ∙ ap (if_so (not (has_name n made)))
-      (ap (once_outcome true (in_members made (Some n) h)) (append_assoc (events t) (member_events ms) rest)
+      (ap (outcome true true (in_members made (Some n) h)) (append_assoc (events t) (member_events ms) rest)
       ∙ once_events (in_members made (Some n) h) t (member_events ms ++ rest)
-      ∙ ap (if_so (distinct t)) (once_members ms (put_member n (kept t) made) h rest ∙ ap (λ b. if_so (distinct_members ms && b) (once_outcome false (in_members (put_kept (put_member n (kept t) made) ms) None h) rest)) (all_new_put n (kept t) made ms)))
+      ∙ ap (if_so (distinct t)) (once_members ms (put_member n (kept t) made) h rest ∙ ap (λ b. if_so (distinct_members ms && b) (outcome true false (in_members (put_kept (put_member n (kept t) made) ms) None h) rest)) (all_new_put n (kept t) made ms)))
       ∙ regrouped (not (has_name n made)) (distinct t) (distinct_members ms) (not (has_name n ms)) (all_new made ms) _
 
   all_fresh : (b : Bool) (ms : Members) → (b && all_new no_members ms) ≡ b
@@ -134,10 +134,14 @@ mutual
   all_fresh true (member n t ms) = all_fresh true ms
   all_fresh false ms = refl
 
-pub once-whole : (t : Tree) → once_outcome true (outside []) (events t) ≡ kept_once t
-once-whole t = ap (once_outcome true (outside [])) (sym (append-nil (events t))) ∙ once_events (outside []) t []
+pub once-whole : (t : Tree) → outcome true true (outside []) (events t) ≡ kept_if true t
+once-whole t = ap (outcome true true (outside [])) (sym (append-nil (events t))) ∙ once_events (outside []) t []
 
-pub once-agrees : (t u : Tree) → ((distinct t ≡ true) × (u ≡ kept t)) ↔ (kept_once t ≡ Some u)
+pub gives-kept : (once : Bool) (t : Tree) → outcome once true (outside []) (events t) ≡ kept_if once t
+gives-kept true t = once-whole t
+gives-kept false t = outcome-whole t
+
+pub once-agrees : (t u : Tree) → ((distinct t ≡ true) × (u ≡ kept t)) ↔ (kept_if true t ≡ Some u)
 once-agrees t u = elim (distinct t) as (λ b. ((b ≡ true) × (u ≡ kept t)) ↔ (cond b (Some (kept t)) None ≡ Some u)) [
   | true ↦ (λ e. ap (λ (x : Tree). Some x) (sym e.1), λ e. (refl, cc))
   | false ↦ (λ e. absurd (cc), λ e. absurd (cc))

@@ -12,7 +12,6 @@ ghost use Rattle.miniserde_value.specs.Values.{array_items, with_items};
 ghost use Rattle.miniserde_value.specs.Looks.{replaces_first};
 
 use super::drop::safely;
-pub use super::place::ArrayPlace;
 use super::value::Value;
 use miniserde_model::error::Result;
 use std::alloc::Global;

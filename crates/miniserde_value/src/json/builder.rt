@@ -78,7 +78,7 @@ impl OpenObject {
 
 /// A document that is being built. Contracts see it as a tree with a hole, inside the open containers.
 #[derive(Drop)]
-pub(crate) struct Builder {
+pub struct Builder {
     alloc: Global,
     // The finished values outside of all containers and the items of all open arrays, the outermost first.
     values: Vec<Value>,
@@ -113,7 +113,7 @@ impl Builder {
     ghost use Rattle.miniserde_value.specs.Builders.{hole_in};
 
     /// Returns a builder of which nothing is built. Allocates nothing.
-    pub(crate) fn new(alloc: Global) -> Builder
+    pub fn new(alloc: Global) -> Builder
         ensures { hole_in result ≡ outside [] }
     {
         Builder {
@@ -126,7 +126,7 @@ impl Builder {
 
     /// Returns the kind of the innermost open container.
     #[inline(always)]
-    pub(crate) fn innermost(&self) -> Option<Kind>
+    pub fn innermost(&self) -> Option<Kind>
         ensures { result ≡ innermost (hole_in self.now) }
     {
         match self.marks.last() {
@@ -137,7 +137,7 @@ impl Builder {
     }
 
     /// Returns whether the innermost open container is an object with a member of the name.
-    pub(crate) fn has_name(&self, name: &str) -> bool
+    pub fn has_name(&self, name: &str) -> bool
         ensures { result ≡ has_member name.now (hole_in self.now) }
     {
         if let Some(Mark::Object) = self.marks.last() {
@@ -165,7 +165,7 @@ impl Builder {
     }
 
     /// Fills the hole with a text.
-    pub(crate) fn put_text(&mut self, text: &str) -> Result<()>
+    fn put_text(&mut self, text: &str) -> Result<()>
         ensures ok { OnOk result (hole_in self.new ≡ put (str text.now) (hole_in self.old)) }
         ensures memory { OnErr result (IsErrOf result Memory) }
     {
@@ -174,7 +174,7 @@ impl Builder {
     }
 
     /// Fills the hole with a number that keeps its text.
-    pub(crate) fn put_number(&mut self, text: &str) -> Result<()>
+    fn put_number(&mut self, text: &str) -> Result<()>
         requires { IsNumber text.now (num text.now) }
         ensures ok { OnOk result (hole_in self.new ≡ put (num text.now) (hole_in self.old)) }
         ensures memory { OnErr result (IsErrOf result Memory) }
@@ -206,7 +206,7 @@ impl Builder {
 
     /// Takes the first event of a value. Returns `Invalid` of any other event.
     #[inline(always)]
-    pub(crate) fn begin(&mut self, event: Step<'_>) -> Result<()>
+    pub fn begin(&mut self, event: Step<'_>) -> Result<()>
         requires { IsTreeEvent (event_of event) }
         ensures ok { OnOk result (begun (event_of event.entry) (hole_in self.old) ≡ Some (hole_in self.new)) }
         ensures invalid { result ≡ Err Invalid → begun (event_of event.entry) (hole_in self.old) ≡ None }
@@ -226,7 +226,7 @@ impl Builder {
 
     /// Names the next value of the innermost container if that is an object.
     #[inline(always)]
-    pub(crate) fn name(&mut self, name: &str) -> Result<()>
+    pub fn name(&mut self, name: &str) -> Result<()>
         ensures ok { OnOk result (hole_in self.new ≡ named name.now (hole_in self.old)) }
         ensures memory { OnErr result (IsErrOf result Memory) }
     {
@@ -242,7 +242,7 @@ impl Builder {
 
     /// Closes the innermost open container: its values become one, in the hole of what it stands in.
     #[inline(always)]
-    pub(crate) fn close(&mut self) -> Result<()>
+    pub fn close(&mut self) -> Result<()>
         ensures ok { OnOk result (hole_in self.new ≡ closed (hole_in self.old)) }
         ensures memory { OnErr result (IsErrOf result Memory) }
     {
@@ -263,7 +263,7 @@ impl Builder {
     }
 
     /// Returns the value if it is complete.
-    pub(crate) fn into_value(self) -> Option<Value>
+    pub fn into_value(self) -> Option<Value>
         ensures { option_map shape result ≡ whole (hole_in self) }
     {
         let Builder {

@@ -2,7 +2,6 @@
 ghost use Rattle.std.specs.Prelude.{◌≡◌, IfOk, OnErr, IsErrOf};
 ghost use Rattle.miniserde_model.specs.declared.error.Error.TheVariants.{Memory};
 
-pub use super::place::NumberPlace;
 use miniserde_model::error::Result;
 use miniserde_text::json::number::NumberText;
 use std::alloc::Global;

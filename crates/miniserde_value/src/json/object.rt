@@ -13,7 +13,6 @@ ghost use Rattle.miniserde_value.specs.Values.{object_entries, object_values, wi
 ghost use Rattle.miniserde_value.specs.Looks.{replaces_first};
 
 use super::drop::safely;
-pub use super::place::ObjectPlace;
 use super::value::Value;
 use miniserde_model::error::Result;
 use std::alloc::Global;

@@ -4,15 +4,33 @@ ghost use Rattle.std.specs.Prelude.{⊤};
 use super::array::Array;
 use super::number::Number;
 use super::object::Object;
-use super::place::{ArrayPlace, NumberPlace, ObjectPlace, ValuePlace};
 use super::reader::read_value;
-use super::unique::{Unique, UniquePlace};
+use super::unique::Unique;
 use super::value::Value;
-use miniserde_de::de::{Deserialize, FromJson, Ranged};
+use miniserde_keys::Ranged;
 use miniserde_model::error::{Error, Result};
-use miniserde_place::engine::read_by_place;
-use miniserde_read::{Source, read_leaf};
+use miniserde_read::{FromJson, Leaf, Source, Step, read_leaf};
 use miniserde_text::json::lex::Event;
+use miniserde_text::json::number::NumberText;
+use std::alloc::Global;
+
+impl Leaf for Number {
+    ghost use Rattle.std.specs.Prelude.{refl};
+    ghost use Rattle.miniserde_value.specs.Meanings.{number_meant};
+
+    ghost means = { number_meant };
+
+    ghost only_leaves = { (λ ts. refl, λ ms. refl) };
+
+    fn from_step(alloc: Global, event: Step<'_>) -> Result<Number> {
+        match event {
+            Step::Negative(n) => Ok(Number::I64(n)),
+            Step::Nonnegative(n) => Ok(Number::U64(n)),
+            Step::Float(t) => Ok(Number::Text(NumberText::new_unchecked(alloc, t)?)),
+            _ => Err(Error::Invalid),
+        }
+    }
+}
 
 impl FromJson for Number {
     ghost use Rattle.miniserde_value.specs.Meanings.{number_meant};
@@ -39,7 +57,7 @@ impl FromJson for Value {
     }
 
     fn read<'a>(token: Event<'a>, source: &mut Source<'a>) -> Result<Value> {
-        read_value(token, source)
+        read_value(token, source, false)
     }
 }
 
@@ -54,7 +72,7 @@ impl FromJson for Array {
 
     fn read<'a>(token: Event<'a>, source: &mut Source<'a>) -> Result<Array> {
         match token {
-            Event::SeqStart => match read_value(token, source)?.into_array() {
+            Event::SeqStart => match read_value(token, source, false)?.into_array() {
                 Some(array) => Ok(array),
                 None => Err(Error::Invalid),
             },
@@ -74,7 +92,7 @@ impl FromJson for Object {
 
     fn read<'a>(token: Event<'a>, source: &mut Source<'a>) -> Result<Object> {
         match token {
-            Event::MapStart => match read_value(token, source)?.into_object() {
+            Event::MapStart => match read_value(token, source, false)?.into_object() {
                 Some(object) => Ok(object),
                 None => Err(Error::Invalid),
             },
@@ -93,38 +111,8 @@ impl FromJson for Unique {
     }
 
     fn read<'a>(token: Event<'a>, source: &mut Source<'a>) -> Result<Unique> {
-        read_by_place::<UniquePlace>(token, source)
+        Ok(Unique::new(read_value(token, source, true)?))
     }
-}
-
-impl Deserialize for Number {
-    type Place = NumberPlace;
-
-    fn tied() {}
-}
-
-impl Deserialize for Value {
-    type Place = ValuePlace;
-
-    fn tied() {}
-}
-
-impl Deserialize for Array {
-    type Place = ArrayPlace;
-
-    fn tied() {}
-}
-
-impl Deserialize for Object {
-    type Place = ObjectPlace;
-
-    fn tied() {}
-}
-
-impl Deserialize for Unique {
-    type Place = UniquePlace;
-
-    fn tied() {}
 }
 
 impl Ranged for Number {

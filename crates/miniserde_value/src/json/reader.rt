@@ -1,5 +1,5 @@
 //! Reads a document by one loop, without recursion.
-ghost use Rattle.std.specs.Prelude.{◌≡◌, ◌<◌, List, ℕ, None, Some, Err, IfOk, OnOk, OnErr, IsErrOf, length, is_some};
+ghost use Rattle.std.specs.Prelude.{◌≡◌, ◌<◌, ◌&&◌, true, false, Bool, List, ℕ, None, Some, Err, IfOk, OnOk, OnErr, IsErrOf, length, is_some};
 ghost use Rattle.miniserde_model.specs.Tree.{Tree};
 ghost use Rattle.miniserde_model.specs.private.Reading.{due};
 ghost use Rattle.miniserde_model.specs.declared.error.Error.TheVariants.{Invalid, Memory};
@@ -9,31 +9,34 @@ ghost use Rattle.miniserde_read.specs.Rest.{ValueAt};
 ghost use Rattle.miniserde_read.specs.Step.{IsTreeEvent};
 ghost use Rattle.miniserde_read.specs.private.Runs.{NeverRuns};
 ghost use Rattle.miniserde_value.specs.Builders.{hole_in};
-ghost use Rattle.miniserde_value.specs.Hole.{begun};
+ghost use Rattle.miniserde_value.specs.Hole.{begun, has_member, named};
 ghost use Rattle.miniserde_value.specs.Marks.{innermost};
-ghost use Rattle.miniserde_value.specs.Values.{Reads};
-ghost use Rattle.miniserde_value.specs.private.Builds.{Builds, kinds};
+ghost use Rattle.miniserde_value.specs.Kept.{kept_if};
+ghost use Rattle.miniserde_value.specs.Values.{shape};
+ghost use Rattle.miniserde_value.specs.private.Builds.{Builds, NeverGives, kinds};
 
 use super::builder::Builder;
 use super::value::Value;
-use miniserde_model::error::Result;
+use miniserde_model::error::{Error, Result};
 use miniserde_read::Source;
 use miniserde_text::json::lex::{After, Event, Kind};
 
-/// Reads one value, whose first token is `token`. Returns `Invalid` if no beginning of the text spells a value.
-pub(crate) fn read_value<'a>(token: Event<'a>, source: &mut Source<'a>) -> Result<Value>
+/// Reads one value, whose first token is `token`. Returns `Invalid` if no beginning of the text spells a value, or if
+/// an object in it has one name twice where `once` says that none may.
+pub(crate) fn read_value<'a>(token: Event<'a>, source: &mut Source<'a>, once: bool) -> Result<Value>
     requires going { source.old.refused ≡ None }
     requires event { IsTreeEvent (front_of token source.old.scratch) }
     ensures going { IfOk result (λ _. source.new.refused ≡ None) }
     ensures ok { IfOk result (λ v. (t : Tree)
-        × ValueAt t (front_of token.entry source.old.scratch) source.old.rest source.new.rest × Reads t v) }
+        × ValueAt t (front_of token.entry source.old.scratch) source.old.rest source.new.rest
+        × (kept_if once t ≡ Some (shape v))) }
     ensures invalid { result ≡ Err Invalid → (t : Tree) (r : List ℕ)
-        → ValueAt t (front_of token.entry source.old.scratch) source.old.rest r → ⊥ }
+        → ValueAt t (front_of token.entry source.old.scratch) source.old.rest r → kept_if once t ≡ None }
 {
     let mut builder = Builder::new(source.alloc());
     let mut first = enter(token, source, &mut builder)?;
     while let Some(kind) = builder.innermost() {
-        first = turn(source, &mut builder, kind, first)?;
+        first = turn(source, &mut builder, kind, first, once)?;
     }
     match builder.into_value() {
         Some(value) => Ok(value),
@@ -44,14 +47,20 @@ pub(crate) fn read_value<'a>(token: Event<'a>, source: &mut Source<'a>) -> Resul
 /// Takes the closing bracket of the innermost container, or the tokens up to the first one of its next child. Returns
 /// whether that token opened a container. `first` says that the opening bracket was just taken.
 #[inline(always)]
-fn turn<'a>(source: &mut Source<'a>, builder: &mut Builder, kind: Kind, first: bool) -> Result<bool>
+fn turn<'a>(
+    source: &mut Source<'a>,
+    builder: &mut Builder,
+    kind: Kind,
+    first: bool,
+    once: bool,
+) -> Result<bool>
     requires inside { innermost (hole_in builder.old) ≡ Some kind }
     requires going { source.old.refused ≡ None }
     ensures going { IfOk result (λ _. source.new.refused ≡ None) }
     ensures less { IfOk result (λ _. length source.new.rest < length source.old.rest) }
-    ensures builds { IfOk result (λ opened. Builds (between first) (hole_in builder.old) source.old.rest
+    ensures builds { IfOk result (λ opened. Builds once (between first) (hole_in builder.old) source.old.rest
         (between opened) (hole_in builder.new) source.new.rest) }
-    ensures invalid { result ≡ Err Invalid → NeverRuns (between first) (kinds (hole_in builder.old)) source.old.rest }
+    ensures invalid { result ≡ Err Invalid → NeverGives once (between first) (hole_in builder.old) source.old.rest }
 {
     match source.after(kind, first)? {
         After::Close => {
@@ -61,11 +70,27 @@ fn turn<'a>(source: &mut Source<'a>, builder: &mut Builder, kind: Kind, first: b
         After::Next => {
             if let Kind::Map = kind {
                 let name = source.key()?;
-                builder.name(source.text(name))?;
+                name_next(builder, source.text(name), once)?;
             }
             begin(source, builder)
         }
     }
+}
+
+/// Names the next value of the innermost object. Returns `Invalid` of a name that the object has where `once` says that
+/// none may be repeated.
+#[inline(always)]
+fn name_next(builder: &mut Builder, name: &str, once: bool) -> Result<()>
+    ensures ok { OnOk result (hole_in builder.new ≡ named name.now (hole_in builder.old)) }
+    ensures new { OnOk result ((once && has_member name.now (hole_in builder.old)) ≡ false) }
+    ensures invalid { result ≡ Err Invalid → (once && has_member name.now (hole_in builder.old)) ≡ true }
+{
+    if once {
+        if builder.has_name(name) {
+            return Err(Error::Invalid);
+        }
+    }
+    builder.name(name)
 }
 
 /// Takes the first token of a value. Returns whether it opened a container.
@@ -74,7 +99,7 @@ fn begin<'a>(source: &mut Source<'a>, builder: &mut Builder) -> Result<bool>
     requires { source.old.refused ≡ None }
     ensures going { IfOk result (λ _. source.new.refused ≡ None) }
     ensures less { IfOk result (λ _. length source.new.rest < length source.old.rest) }
-    ensures builds { IfOk result (λ opened. Builds due (hole_in builder.old) source.old.rest
+    ensures builds { (once : Bool) → IfOk result (λ opened. Builds once due (hole_in builder.old) source.old.rest
         (between opened) (hole_in builder.new) source.new.rest) }
     ensures invalid { result ≡ Err Invalid → NeverRuns due (kinds (hole_in builder.old)) source.old.rest }
 {

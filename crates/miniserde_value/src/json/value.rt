@@ -14,7 +14,6 @@ ghost use Rattle.miniserde_value.specs.Values.{Reads, shape, tree_of};
 use super::array::Array;
 use super::number::Number;
 use super::object::Object;
-pub use super::place::ValuePlace;
 use miniserde_model::error::Result;
 use miniserde_read::from_str;
 use miniserde_ser::ser::to_string;
@@ -37,8 +36,8 @@ impl Value {
     ghost use Rattle.miniserde_value.specs.Values.{shape, array_shape, object_shape};
     ghost use Rattle.miniserde_value.specs.Kinds.{only_list, only_members};
 
-    /// The array, where the value is one.
-    pub(crate) fn into_array(self) -> Option<Array>
+    /// Returns the array if the value is one. Allocates nothing.
+    pub fn into_array(self) -> Option<Array>
         ensures { option_map array_shape result ≡ only_list (Some (shape self)) }
     {
         match self {
@@ -47,8 +46,8 @@ impl Value {
         }
     }
 
-    /// The object, where the value is one.
-    pub(crate) fn into_object(self) -> Option<Object>
+    /// Returns the object if the value is one. Allocates nothing.
+    pub fn into_object(self) -> Option<Object>
         ensures { option_map object_shape result ≡ only_members (Some (shape self)) }
     {
         match self {

@@ -1,5 +1,5 @@
 -- The values that the fields' trees mean make a struct that the struct's tree means.
-use Rattle.std.proofs.Common.{◌≡◌, sym, ap, subst}
+use Rattle.std.proofs.Common.{sym, ap, subst}
 use Rattle.miniserde_model.specs.Tree.{members}
 use Rattle.miniserde_record.proofs.Rounds.{distinct_names}
 use Rattle.miniserde_record.specs.Structs.{with_names}

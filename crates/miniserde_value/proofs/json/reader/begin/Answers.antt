@@ -9,4 +9,4 @@ pub enter-requires : goal.enter-requires
 enter-requires c = start_event _ _ _ c.in_ok-token.ensures.ok
 
 pub returns-clause-builds : goal.returns-clause-builds
-returns-clause-builds c = entered c.enter.result (hole_in c.args.builder.now) (hole_in c.enter.new.builder) c.args.source.now.rest c.token.new.self.rest (front_of c.in_ok-token.token c.token.new.self.scratch) c.in_ok-token.ensures.ok c.enter.ensures.opens c.enter.ensures.begun
+returns-clause-builds c = λ once. entered once c.enter.result (hole_in c.args.builder.now) (hole_in c.enter.new.builder) c.args.source.now.rest c.token.new.self.rest (front_of c.in_ok-token.token c.token.new.self.scratch) c.in_ok-token.ensures.ok c.enter.ensures.opens c.enter.ensures.begun

@@ -15,7 +15,7 @@ loop-kind-init c =
     let e = front_of c.args.token c.args.source.now.scratch in
     record {
       going = c.requires.going;
-      builds = builds_init e (hole_in c.enter.new.builder) c.in_ok-first.first c.args.source.now.rest c.in_ok-first.ensures.opens (ap (begun e) (sym c.new-builder.ensures) ∙ c.in_ok-first.ensures.begun);
+      builds = builds_init c.args.once e (hole_in c.enter.new.builder) c.in_ok-first.first c.args.source.now.rest c.in_ok-first.ensures.opens (ap (begun e) (sym c.new-builder.ensures) ∙ c.in_ok-first.ensures.begun);
     }
 
 pub loop-kind-preserved : goal.loop-kind-preserved
@@ -23,28 +23,25 @@ loop-kind-preserved c =
     let e = front_of c.args.token c.args.source.now.scratch in
     record {
       going = c.in_ok-first-2.ensures.going;
-      builds = Builds-append (between (is_some (opens e))) (hole_in c.enter.new.builder) c.args.source.now.rest (between c.loop-kind.first) (hole_in c.loop-kind.builder) c.loop-kind.source.rest (between c.in_ok-first-2.first) (hole_in c.turn.new.builder) c.turn.new.source.rest c.loop-kind.invariant.builds c.in_ok-first-2.ensures.builds;
+      builds = Builds-append c.args.once (between (is_some (opens e))) (hole_in c.enter.new.builder) c.args.source.now.rest (between c.loop-kind.first) (hole_in c.loop-kind.builder) c.loop-kind.source.rest (between c.in_ok-first-2.first) (hole_in c.turn.new.builder) c.turn.new.source.rest c.loop-kind.invariant.builds c.in_ok-first-2.ensures.builds;
     }
 
 pub returns-in_err-first-2-clause-invalid : goal.returns-in_err-first-2-clause-invalid
 returns-in_err-first-2-clause-invalid c = λ x.
     let w = err_from_is_err_and c.from_residual-in_err-first-2.result c.from_residual-in_err-first-2.ensures.1 in
     let e = front_of c.args.token c.args.source.now.scratch in
-    read_none e (hole_in c.enter.new.builder) c.args.source.now.rest (ap (begun e) (sym c.new-builder.ensures) ∙ c.in_ok-first.ensures.begun)
-    (never_behind (between (is_some (opens e))) (hole_in c.enter.new.builder) c.args.source.now.rest (between c.loop-kind.first) (hole_in c.loop-kind.builder) c.loop-kind.source.rest c.loop-kind.invariant.builds (c.in_err-first-2.ensures.invalid (cc (w.1, w.2, x))))
+    read_none c.args.once e (hole_in c.enter.new.builder) c.args.source.now.rest (ap (begun e) (sym c.new-builder.ensures) ∙ c.in_ok-first.ensures.begun)
+    (never_behind c.args.once (between (is_some (opens e))) (hole_in c.enter.new.builder) c.args.source.now.rest (between c.loop-kind.first) (hole_in c.loop-kind.builder) c.loop-kind.source.rest c.loop-kind.invariant.builds (c.in_err-first-2.ensures.invalid (cc (w.1, w.2, x))))
 
 pub unreachable-requires : goal.unreachable-requires
 unreachable-requires c =
     let e = front_of c.args.token c.args.source.now.scratch in
-    let read = read_ok c.args.token c.args.source.now.scratch c.args.source.now.rest c.loop-kind.source.rest (hole_in c.enter.new.builder) c.loop-kind.first (hole_in c.loop-kind.builder) (ap (begun e) (sym c.new-builder.ensures) ∙ c.in_ok-first.ensures.begun) (sym c.innermost.ensures ∙ c.in_default.is) c.loop-kind.invariant.builds in
-    let there : option_map shape c.into_value.result ≡ Some (kept read.0) = c.into_value.ensures ∙ read.2 in
-    let none : None ≡ Some (kept read.0) = ap (option_map shape) (sym c.in-None.is) ∙ there in
+    let read = read_ok c.args.once c.args.token c.args.source.now.scratch c.args.source.now.rest c.loop-kind.source.rest (hole_in c.enter.new.builder) c.loop-kind.first (hole_in c.loop-kind.builder) (ap (begun e) (sym c.new-builder.ensures) ∙ c.in_ok-first.ensures.begun) (sym c.innermost.ensures ∙ c.in_default.is) c.loop-kind.invariant.builds in
+    let none : None ≡ Some (kept read.0) = ap (option_map shape) (sym c.in-None.is) ∙ c.into_value.ensures ∙ read.2 in
     cc
 
 pub returns-clause-ok : goal.returns-clause-ok
 returns-clause-ok c =
     let e = front_of c.args.token c.args.source.now.scratch in
-    let read = read_ok c.args.token c.args.source.now.scratch c.args.source.now.rest c.loop-kind.source.rest (hole_in c.enter.new.builder) c.loop-kind.first (hole_in c.loop-kind.builder) (ap (begun e) (sym c.new-builder.ensures) ∙ c.in_ok-first.ensures.begun) (sym c.innermost.ensures ∙ c.in_default.is) c.loop-kind.invariant.builds in
-    let there : option_map shape c.into_value.result ≡ Some (kept read.0) = c.into_value.ensures ∙ read.2 in
-    let same : Some (shape c.in-Some-into_value.value) ≡ Some (kept read.0) = ap (option_map shape) (sym c.in-Some-into_value.is) ∙ there in
-    (read.0, read.1, cc)
+    let read = read_ok c.args.once c.args.token c.args.source.now.scratch c.args.source.now.rest c.loop-kind.source.rest (hole_in c.enter.new.builder) c.loop-kind.first (hole_in c.loop-kind.builder) (ap (begun e) (sym c.new-builder.ensures) ∙ c.in_ok-first.ensures.begun) (sym c.innermost.ensures ∙ c.in_default.is) c.loop-kind.invariant.builds in
+    (read.0, read.1, sym read.3 ∙ sym c.into_value.ensures ∙ ap (option_map shape) c.in-Some-into_value.is)

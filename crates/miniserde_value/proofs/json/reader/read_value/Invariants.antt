@@ -8,7 +8,7 @@ use Rattle.miniserde_value.proofs.json.reader.read_value.Given as goal
 abbrev pub invariant-loop-kind : goal.invariant-loop-kind
 invariant-loop-kind l = record {
   going : l.source.refused ≡ None;
-  builds : Builds (between (is_some (opens (front_of l.fn.token l.fn.source.scratch)))) (hole_in l.initial.builder) l.fn.source.rest (between l.first) (hole_in l.builder) l.source.rest;
+  builds : Builds l.fn.once (between (is_some (opens (front_of l.fn.token l.fn.source.scratch)))) (hole_in l.initial.builder) l.fn.source.rest (between l.first) (hole_in l.builder) l.source.rest;
 }
 
 abbrev pub decreases-loop-kind : goal.decreases-loop-kind

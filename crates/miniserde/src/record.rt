@@ -1,0 +1,12 @@
+//! Structs and unit enums: what one says of itself, how it is read and written by that, and its place.
+
+pub use miniserde_de::structs::{
+    Field, FieldOf, Fields, Four, FourOf, NamePlace, NoField, Once, PlacedRecord, RecordPlace,
+};
+pub use miniserde_record::record::{
+    AgainFields, Closed, EightSlot, Empty, FirstOnce, FourLent, FourSlot, Given, GivenSlot, Lent,
+    LosslessFields, Members, NoSlot, OnceGivenSlot, OnceSlot, OnceSlots, Parts, Record,
+    SixteenSlot, Slot, Slots, Taken4, Taken8, Taken16, UnitEnum, Variant, Variants, read_record,
+    read_variant, record_again, record_lossless, take4, take8, take16, variant_again,
+    variant_lossless, write_members,
+};

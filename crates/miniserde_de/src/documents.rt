@@ -1,0 +1,11 @@
+//! The places of documents.
+
+mod kinds;
+mod number_place;
+mod unique_place;
+mod value_place;
+
+pub use kinds::{ArrayPlace, ObjectPlace};
+pub use number_place::NumberPlace;
+pub use unique_place::UniquePlace;
+pub use value_place::ValuePlace;

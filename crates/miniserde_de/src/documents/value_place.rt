@@ -1,0 +1,161 @@
+//! The place of a document of any depth, without recursion.
+ghost use Rattle.std.specs.Prelude.{◌≡◌, true, [], Option, Some, None, Err, IfOk, OnOk};
+ghost use Rattle.miniserde_model.specs.declared.error.Error.TheVariants.{Invalid};
+ghost use Rattle.miniserde_read.specs.Step.{event_of};
+ghost use Rattle.miniserde_read.specs.Step.{IsTreeEvent};
+ghost use Rattle.miniserde_value.specs.Hole.{outside, resumed, took};
+ghost use Rattle.miniserde_value.specs.Hole.{repeats};
+ghost use Rattle.miniserde_de.specs.Kinds.{is_start};
+
+use crate::de::{Deserialize, Step, Visitor};
+use miniserde_model::error::{Error, Result};
+use miniserde_text::json::lex::Kind;
+use miniserde_value::json::builder::Builder;
+use miniserde_value::json::value::Value;
+use std::alloc::Global;
+
+/// The place of a `Value`.
+#[derive(Drop)]
+pub struct ValuePlace {
+    alloc: Global,
+    builder: Builder,
+    // A value is due: the next event is its first.
+    due: bool,
+    refused: Option<Error>,
+}
+
+impl ValuePlace {
+    ghost use Rattle.miniserde_de.specs.Places.{hole_at, due_in, refusal_of};
+
+    /// Returns a place that took no event. Allocates nothing.
+    pub(crate) fn new(alloc: Global) -> ValuePlace
+        ensures hole { hole_at result ≡ outside [] }
+        ensures due { due_in result ≡ true }
+        ensures unrefused { refusal_of result ≡ None }
+    {
+        ValuePlace {
+            alloc,
+            builder: Builder::new(alloc),
+            due: true,
+            refused: None,
+        }
+    }
+
+    // Takes an event inside the innermost open container. Returns whether a value is due behind it.
+    #[inline(always)]
+    fn resume(&mut self, event: Step<'_>) -> Result<bool>
+        ensures ok { IfOk result (λ due.
+            resumed (event_of event.entry) (hole_at self.old) ≡ Some (due, hole_at self.new)) }
+        ensures invalid { result ≡ Err Invalid → resumed (event_of event.entry) (hole_at self.old) ≡ None }
+        ensures refused { refusal_of self.new ≡ refusal_of self.old }
+    {
+        match (event, self.builder.innermost()) {
+            (Step::Element, Some(Kind::Seq)) => Ok(true),
+            (Step::Key(name), Some(Kind::Map)) => {
+                self.builder.name(name)?;
+                Ok(true)
+            }
+            (Step::Finish, Some(_)) => {
+                self.builder.close()?;
+                Ok(false)
+            }
+            _ => Err(Error::Invalid),
+        }
+    }
+
+    // Takes an event.
+    #[inline(always)]
+    fn accept(&mut self, event: Step<'_>) -> Result<()>
+        requires { IsTreeEvent (event_of event) }
+        ensures ok { OnOk result (took (due_in self.old) (hole_at self.old) (event_of event.entry)
+            ≡ Some (due_in self.new, hole_at self.new)) }
+        ensures invalid { result ≡ Err Invalid
+            → took (due_in self.old) (hole_at self.old) (event_of event.entry) ≡ None }
+        ensures refused { refusal_of self.new ≡ refusal_of self.old }
+    {
+        if self.due {
+            self.builder.begin(event)?;
+            self.due = false;
+        } else {
+            self.due = self.resume(event)?;
+        }
+        Ok(())
+    }
+
+    /// Returns whether the event is a name that the innermost open object has.
+    pub(crate) fn repeats(&self, event: &Step<'_>) -> bool
+        ensures { result ≡ repeats (event_of event.now) (hole_at self.now) }
+    {
+        match event {
+            Step::Key(name) => self.builder.has_name(name),
+            _ => false,
+        }
+    }
+
+    /// Returns whether no event was taken.
+    pub(crate) fn is_fresh(&self) -> bool
+        ensures { result ≡ is_start (due_in self.now) (hole_at self.now) }
+    {
+        self.due && self.builder.innermost().is_none()
+    }
+}
+
+impl Visitor for ValuePlace {
+    type Out = Value;
+
+    ghost use Rattle.miniserde_de.specs.Places.{value_meaning, steps};
+
+    ghost meaning = { value_meaning };
+
+    ghost begins_free = { true };
+
+    ghost takes_free = { true };
+
+    // What an event makes of the hole.
+    ghost further = { steps };
+
+    fn begin(alloc: Global) -> Result<ValuePlace> {
+        Ok(ValuePlace::new(alloc))
+    }
+
+    #[inline(always)]
+    fn step(&mut self, event: Step<'_>) -> Result<()> {
+        if let Some(error) = self.refused {
+            return Err(error);
+        }
+        match self.accept(event) {
+            Ok(()) => Ok(()),
+            Err(error) => Err(self.refuse(error)),
+        }
+    }
+
+    fn refuse(&mut self, error: Error) -> Error {
+        match self.refused {
+            Some(first) => first,
+            None => {
+                self.refused = Some(error);
+                error
+            }
+        }
+    }
+
+    fn is_complete(&self) -> bool {
+        !self.due && self.builder.innermost().is_none()
+    }
+
+    fn take(self) -> Result<Value> {
+        if let Some(error) = self.refused {
+            return Err(error);
+        }
+        if self.due {
+            return Err(Error::Invalid);
+        }
+        self.builder.into_value().ok_or(Error::Invalid)
+    }
+}
+
+impl Deserialize for Value {
+    type Place = ValuePlace;
+
+    fn tied() {}
+}

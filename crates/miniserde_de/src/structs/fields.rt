@@ -1,0 +1,227 @@
+//! The fields of a struct, collected from events one after another.
+ghost use Rattle.std.specs.Prelude.{◌≡◌, ◌&&◌, Bool, true, false, Option, None, Some, Ok, Err, [], IfOk, option_map, is_some, map};
+ghost use Rattle.miniserde_model.specs.Position.{complete};
+ghost use Rattle.miniserde_model.specs.declared.error.Error.{Error};
+ghost use Rattle.miniserde_read.specs.Step.{event_of};
+ghost use Rattle.miniserde_place.specs.Place.{Takes, IsFresh, first_refusal};
+ghost use Rattle.miniserde_read.specs.Step.{IsTreeEvent};
+ghost use Rattle.miniserde_place.specs.Container.{is_complete};
+ghost use Rattle.miniserde_de.specs.FieldPlaces.{FieldsMeaning, no_field_places, field_place_and};
+
+use crate::de::Deserialize;
+use miniserde_model::error::{Error, Result};
+use miniserde_place::de::{Ignore, Step, Visitor, ignore};
+use miniserde_record::record::{Parts, or_missing};
+use std::alloc::Global;
+use std::mem;
+
+/// The values so far of a struct's fields, and the place of the current one.
+pub trait Fields {
+    /// The fields' values, in their order.
+    type Values;
+
+    // The meaning of the fields, and the view of the current one's place.
+    ghost meaning: { FieldsMeaning Self Self.Values };
+
+    // `join` returns `Memory` only if the current value was refused with it before.
+    ghost join_infallible: { Bool } = { false };
+
+    /// Returns fields without values.
+    fn new() -> Self
+        ensures { meaning.state result ≡ meaning.meant.empty };
+
+    /// Returns whether the field of the name has a value.
+    fn has_value(&self, names: &[&str], name: &str) -> bool
+        ensures { result ≡ meaning.meant.has (map (λ n. n.now) names.now) (meaning.state self.now) name.now };
+
+    /// Begins the value of a member of the name.
+    fn begin_child(&mut self, alloc: Global, names: &[&str], name: &str) -> Result<()>
+        ensures fresh { IfOk result (λ _. IsFresh
+            (meaning.by_events (map (λ n. n.now) names.now) (meaning.state self.old) name.now)
+            (meaning.child self.new)) }
+        ensures invalid { result ≡ Err Error.Invalid
+            → meaning.meant.refuses (map (λ n. n.now) names.now) (meaning.state self.old) name.now ≡ true }
+        ensures repeats { meaning.meant.refuses (map (λ n. n.now) names.now) (meaning.state self.old) name.now ≡ true
+            → result ≡ Err Error.Invalid };
+
+    /// Hands an event to the current value's place.
+    fn step(&mut self, event: Step<'_>) -> Result<()>
+        requires { IsTreeEvent (event_of event) }
+        ensures { Takes (meaning.child self.old) (event_of event.entry) result (meaning.child self.new) };
+
+    /// Marks the current value as refused, and returns its first error.
+    fn refuse(&mut self, error: Error) -> Error
+        ensures answer { result ≡ first_refusal (meaning.child self.old).refused error }
+        ensures marks { (meaning.child self.new).refused ≡ Some result };
+
+    /// Returns whether the current value is complete.
+    fn is_child_complete(&self) -> bool
+        ensures { result ≡ is_complete (meaning.child self.now).at };
+
+    /// Adds the current value, which is complete, to the values so far.
+    fn join(&mut self) -> Result<()>
+        ensures joined { IfOk result (λ _. (meaning.child self.old).outcome [] ≡ Some (meaning.state self.new)) }
+        ensures invalid { result ≡ Err Error.Invalid → (meaning.child self.old).refused ≡ None
+            → (meaning.child self.old).at ≡ complete → (meaning.child self.old).outcome [] ≡ None }
+        ensures infallible { join_infallible ≡ true → result ≡ Err Error.Memory
+            → (meaning.child self.old).refused ≡ Some Error.Memory }
+        ensures keeps { (r : Error) → (meaning.child self.old).refused ≡ Some r → result ≡ Err r };
+
+    /// Returns whether each field has a value or a default.
+    fn are_whole(&self) -> bool
+        ensures { result ≡ is_some (meaning.meant.end (meaning.state self.now)) };
+
+    /// Returns the values of the fields, each of which has one or a default.
+    fn values(self) -> Self::Values
+        requires whole { is_some (meaning.meant.end (meaning.state self)) ≡ true }
+        ensures { meaning.meant.end (meaning.state self) ≡ Some (meaning.meant.content result) };
+}
+
+/// No more fields: members of any other names are skipped.
+#[derive(Drop)]
+pub struct NoField {
+    skipped: Ignore,
+}
+
+impl Fields for NoField {
+    type Values = ();
+
+    ghost meaning = { no_field_places (λ f. ⟦<Ignore as Visitor>⟧.meaning.shows f.skipped) };
+
+    ghost join_infallible = { true };
+
+    fn new() -> NoField {
+        NoField { skipped: ignore() }
+    }
+
+    fn has_value(&self, _names: &[&str], _name: &str) -> bool {
+        false
+    }
+
+    fn begin_child(&mut self, _alloc: Global, _names: &[&str], _name: &str) -> Result<()> {
+        self.skipped = ignore();
+        Ok(())
+    }
+
+    fn step(&mut self, event: Step<'_>) -> Result<()> {
+        self.skipped.step(event)
+    }
+
+    fn refuse(&mut self, error: Error) -> Error {
+        self.skipped.refuse(error)
+    }
+
+    fn is_child_complete(&self) -> bool {
+        self.skipped.is_complete()
+    }
+
+    fn join(&mut self) -> Result<()> {
+        mem::replace(&mut self.skipped, ignore()).take()
+    }
+
+    fn are_whole(&self) -> bool {
+        true
+    }
+
+    fn values(self) {}
+}
+
+/// A field, and the ones after it, by the place of its value.
+#[derive(Drop)]
+pub struct FieldOf<P, T, R> {
+    value: Option<T>,
+    child: Option<P>,
+    rest: R,
+}
+
+/// A field of a type, and the ones after it.
+pub type Field<T, R> = FieldOf<<T as Deserialize>::Place, T, R>;
+
+impl<T: Deserialize, R: Fields> Fields for FieldOf<T::Place, T, R> {
+    type Values = Parts<T, R::Values>;
+
+    ghost meaning = { field_place_and T.Place.meaning T.absent (λ f. f.value) (λ f. f.child) (λ f. f.rest) R.meaning };
+
+    // `join` moves the value out of its place, and allocates nothing itself.
+    ghost join_infallible = { T.Place.takes_free && R.join_infallible };
+
+    fn new() -> FieldOf<T::Place, T, R> {
+        FieldOf {
+            value: None,
+            child: None,
+            rest: R::new(),
+        }
+    }
+
+    fn has_value(&self, names: &[&str], name: &str) -> bool {
+        match names.split_first() {
+            Some((first, _)) if name == *first => self.value.is_some(),
+            Some((_, more)) => self.rest.has_value(more, name),
+            None => self.rest.has_value(names, name),
+        }
+    }
+
+    #[inline(always)]
+    fn begin_child(&mut self, alloc: Global, names: &[&str], name: &str) -> Result<()> {
+        match names.split_first() {
+            Some((first, more)) => {
+                if name == *first {
+                    self.child = Some(<T::Place as Visitor>::begin(alloc)?);
+                    Ok(())
+                } else {
+                    self.child = None;
+                    self.rest.begin_child(alloc, more, name)
+                }
+            }
+            None => {
+                self.child = None;
+                self.rest.begin_child(alloc, names, name)
+            }
+        }
+    }
+
+    fn step(&mut self, event: Step<'_>) -> Result<()> {
+        match &mut self.child {
+            Some(place) => place.step(event),
+            None => self.rest.step(event),
+        }
+    }
+
+    fn refuse(&mut self, error: Error) -> Error {
+        match &mut self.child {
+            Some(place) => place.refuse(error),
+            None => self.rest.refuse(error),
+        }
+    }
+
+    fn is_child_complete(&self) -> bool {
+        match &self.child {
+            Some(place) => place.is_complete(),
+            None => self.rest.is_child_complete(),
+        }
+    }
+
+    #[inline(always)]
+    fn join(&mut self) -> Result<()> {
+        match self.child.take() {
+            Some(place) => {
+                self.value = Some(place.take()?);
+                Ok(())
+            }
+            None => self.rest.join(),
+        }
+    }
+
+    fn are_whole(&self) -> bool {
+        (self.value.is_some() || T::missing().is_some()) && self.rest.are_whole()
+    }
+
+    fn values(self) -> Parts<T, R::Values> {
+        let FieldOf {
+            value,
+            child: _,
+            rest,
+        } = self;
+        Parts(or_missing(value).unwrap(), rest.values())
+    }
+}

@@ -1,0 +1,15 @@
+-- What a clause sees of a counted reader or writer.
+use Rattle.std.specs.Prelude.{ℕ}
+use Rattle.miniserde_program.specs.declared.canon.counted.Counted.{Counted}
+
+-- the reader or writer itself
+abbrev pub inner_of : {T : Type 0} → Counted T → T
+inner_of c = c.inner
+
+-- how many of its calls failed
+abbrev pub failures : {T : Type 0} → Counted T → ℕ
+failures c = c.failed.value
+
+-- how many calls of `flush` there were
+abbrev pub flushes : {T : Type 0} → Counted T → ℕ
+flushes c = c.flushed.value

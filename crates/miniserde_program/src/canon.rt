@@ -1,0 +1,243 @@
+//! The program `canon`: it reads a text to the end of its input, and writes its canonical text.
+ghost use Rattle.std.specs.Prelude.{◌≡◌, ◌+◌, ◌<◌, ◌⊎◌, [], ◌∷◌, length, map, codes, Result, OnOk, OnErr, IfOk};
+ghost use Rattle.std.specs.Prelude.{IfSome, IsErrOf};
+ghost use Rattle.std.specs.String.{string_bytes};
+ghost use Rattle.std.specs.Str.{IsUtf8};
+ghost use Rattle.std.specs.Io.KnownBytes.{Consumes, IsAtEnd, Keeps, Appends};
+ghost use Rattle.miniserde_program.specs.Counts.{inner_of, failures, flushes};
+ghost use Rattle.miniserde_program.specs.Runs.{IsAnswer, HasNoAnswer, IsUniqueAnswer, HasNoUniqueAnswer};
+ghost use Rattle.miniserde_program.specs.Runs.{fault_of, read_faults, write_faults, IfRead};
+ghost use Rattle.miniserde_program.specs.Runs.{AppendsUnique, BeginsUnique};
+ghost use Rattle.miniserde_program.specs.Runs.{IfSilent, AppendsPart, AppendsAnswer, BeginsAnswer, status_of, line_of};
+ghost use Rattle.miniserde_program.specs.Runs.{Ran};
+ghost use Rattle.miniserde_program.specs.declared.canon.Fault.{Fault};
+
+mod count;
+mod counted;
+
+pub use counted::Counted;
+use miniserde_canonical::{canonical, canonical_unique};
+use miniserde_model::error::Error;
+use std::alloc::Global;
+use std::io::{Read, Write};
+
+/// Why a run was refused.
+#[derive(Clone, Copy, Debug, PartialEq, Eq)]
+pub enum Fault {
+    /// What was read is no JSON text in UTF-8.
+    Invalid,
+    /// Memory could not be had.
+    Memory,
+    /// A read failed.
+    Read,
+    /// A write or a flush failed, or a write took nothing.
+    Write,
+}
+
+impl From<Error> for Fault {
+    ghost from_gives = { λ e f. f ≡ fault_of e };
+
+    fn from(error: Error) -> Fault {
+        match error {
+            Error::Invalid => Fault::Invalid,
+            Error::Memory => Fault::Memory,
+        }
+    }
+}
+
+/// Reads a text to its end, writes its canonical text and flushes once. A call that failed is not made again.
+pub fn run<R: Read, W: Write>(
+    alloc: Global,
+    r: &mut Counted<R>,
+    w: &mut Counted<W>,
+) -> Result<(), Fault>
+    // The answer was written, nothing else, and flushed once.
+    ensures ok { OnOk result (IfSome (R.remaining (inner_of r.old))
+        (AppendsAnswer (W.contents (inner_of w.old)) (W.contents (inner_of w.new)))) }
+    ensures flushed { OnOk result (flushes w.new ≡ flushes w.old + 1) }
+
+    // The reader was read to its end, and the failures are counted.
+    ensures read { IfRead result (IsAtEnd (R.remaining (inner_of r.new))) }
+    ensures read_failures { failures r.new ≡ failures r.old + read_faults result }
+    ensures write_failures { failures w.new ≡ failures w.old + write_faults result }
+
+    // What a refusal means, and what went out.
+    ensures invalid { IsErrOf result Fault.Invalid → IfSome (R.remaining (inner_of r.old)) HasNoAnswer }
+    ensures silent { IfSilent result (Keeps (W.contents (inner_of w.old)) (W.contents (inner_of w.new))) }
+    ensures part { IsErrOf result Fault.Write → IfSome (R.remaining (inner_of r.old))
+        (BeginsAnswer (W.contents (inner_of w.old)) (W.contents (inner_of w.new))) }
+    ensures whole { IsErrOf result Fault.Write → flushes w.old < flushes w.new → IfSome (R.remaining (inner_of r.old))
+        (AppendsAnswer (W.contents (inner_of w.old)) (W.contents (inner_of w.new))) }
+{
+    let bytes = read_all(alloc, r)?;
+    let text = answer(alloc, bytes.as_slice())?;
+    write_out(text, w)
+}
+
+/// Reads a text to its end, writes its canonical text and flushes once, where no object of it has one name
+/// twice. A call that failed is not made again.
+pub fn run_unique<R: Read, W: Write>(
+    alloc: Global,
+    r: &mut Counted<R>,
+    w: &mut Counted<W>,
+) -> Result<(), Fault>
+    // The answer was written, nothing else, and flushed once.
+    ensures ok { OnOk result (IfSome (R.remaining (inner_of r.old))
+        (AppendsUnique (W.contents (inner_of w.old)) (W.contents (inner_of w.new)))) }
+    ensures flushed { OnOk result (flushes w.new ≡ flushes w.old + 1) }
+
+    // The reader was read to its end, and the failures are counted.
+    ensures read { IfRead result (IsAtEnd (R.remaining (inner_of r.new))) }
+    ensures read_failures { failures r.new ≡ failures r.old + read_faults result }
+    ensures write_failures { failures w.new ≡ failures w.old + write_faults result }
+
+    // What a refusal means, and what went out.
+    ensures invalid { IsErrOf result Fault.Invalid → IfSome (R.remaining (inner_of r.old)) HasNoUniqueAnswer }
+    ensures silent { IfSilent result (Keeps (W.contents (inner_of w.old)) (W.contents (inner_of w.new))) }
+    ensures part { IsErrOf result Fault.Write → IfSome (R.remaining (inner_of r.old))
+        (BeginsUnique (W.contents (inner_of w.old)) (W.contents (inner_of w.new))) }
+    ensures whole { IsErrOf result Fault.Write → flushes w.old < flushes w.new → IfSome (R.remaining (inner_of r.old))
+        (AppendsUnique (W.contents (inner_of w.old)) (W.contents (inner_of w.new))) }
+{
+    let bytes = read_all(alloc, r)?;
+    let text = answer_unique(alloc, bytes.as_slice())?;
+    write_out(text, w)
+}
+
+/// Runs as the words after the program's name ask: `run` without any, `run_unique` for `--unique`. Answers the status,
+/// and the line on standard error, which is empty for none.
+pub fn program<R: Read, W: Write>(
+    alloc: Global,
+    args: &[String],
+    r: &mut Counted<R>,
+    w: &mut Counted<W>,
+) -> (u8, &'static str)
+    ensures ran { length args.now ≡ 0
+        → (answer : Result (Unit {0}) Fault)
+        × (result.0 ≡ status_of answer) × (result.1.now ≡ line_of answer)
+        × Ran IsAnswer HasNoAnswer answer (R.remaining (inner_of r.old)) (R.remaining (inner_of r.new))
+        (failures r.old) (failures r.new) (W.contents (inner_of w.old)) (W.contents (inner_of w.new))
+        (failures w.old) (failures w.new) (flushes w.old) (flushes w.new) }
+    ensures unique { map string_bytes args.now ≡ codes "--unique" ∷ []
+        → (answer : Result (Unit {0}) Fault)
+        × (result.0 ≡ status_of answer) × (result.1.now ≡ line_of answer)
+        × Ran IsUniqueAnswer HasNoUniqueAnswer answer (R.remaining (inner_of r.old)) (R.remaining (inner_of r.new))
+        (failures r.old) (failures r.new) (W.contents (inner_of w.old)) (W.contents (inner_of w.new))
+        (failures w.old) (failures w.new) (flushes w.old) (flushes w.new) }
+    ensures usage { 0 < length args.now → (map string_bytes args.now ≡ codes "--unique" ∷ [] → ⊥)
+        → (result.0 ≡ 2) × (result.1.now ≡ codes "usage: canon [--unique]") × (r.new ≡ r.old) × (w.new ≡ w.old) }
+{
+    match args {
+        [] => told(run(alloc, r, w)),
+        [word] if word.as_str() == "--unique" => told(run_unique(alloc, r, w)),
+        _ => (2, "usage: canon [--unique]"),
+    }
+}
+
+// What is said of a run's end.
+fn told(answer: Result<(), Fault>) -> (u8, &'static str)
+    ensures status { result.0 ≡ status_of answer }
+    ensures line { result.1.now ≡ line_of answer }
+{
+    match answer {
+        Ok(()) => (0, ""),
+        Err(Fault::Invalid) => (1, "canon: invalid text"),
+        Err(Fault::Memory) => (3, "canon: out of memory"),
+        Err(Fault::Read) => (4, "canon: read failed"),
+        Err(Fault::Write) => (5, "canon: write failed"),
+    }
+}
+
+/// All that the reader has left.
+fn read_all<R: Read>(alloc: Global, r: &mut Counted<R>) -> Result<Vec<u8>, Fault>
+    ensures given { IfOk result (λ v.
+        Consumes (R.remaining (inner_of r.old)) (R.remaining (inner_of r.new)) v.items) }
+    ensures end { OnOk result (IsAtEnd (R.remaining (inner_of r.new))) }
+    ensures failures { failures r.new ≡ failures r.old + read_faults result }
+    ensures only { OnErr result (IsErrOf result Fault.Read ⊎ IsErrOf result Fault.Memory) }
+{
+    let mut bytes = Vec::new(alloc);
+    let mut chunk = [0u8; 65536];
+    loop {
+        match r.read(&mut chunk) {
+            Ok(0) => return Ok(bytes),
+            Ok(n) => {
+                if bytes.extend_from_slice(&chunk[..n]).is_err() {
+                    return Err(Fault::Memory);
+                }
+            }
+            Err(_) => return Err(Fault::Read),
+        }
+    }
+}
+
+// Returns the canonical text of the bytes.
+fn answer(alloc: Global, bytes: &[u8]) -> Result<String, Fault>
+    ensures ok { IfOk result (λ s. IsAnswer bytes.now (string_bytes s)) }
+    ensures invalid { IsErrOf result Fault.Invalid → HasNoAnswer bytes.now }
+    ensures only { OnErr result (IsErrOf result Fault.Invalid ⊎ IsErrOf result Fault.Memory) }
+{
+    let text = text_of(bytes)?;
+    Ok(canonical(alloc, text)?)
+}
+
+// Returns the canonical text of the bytes, if no object has one name twice.
+fn answer_unique(alloc: Global, bytes: &[u8]) -> Result<String, Fault>
+    ensures ok { IfOk result (λ s. IsUniqueAnswer bytes.now (string_bytes s)) }
+    ensures invalid { IsErrOf result Fault.Invalid → HasNoUniqueAnswer bytes.now }
+    ensures only { OnErr result (IsErrOf result Fault.Invalid ⊎ IsErrOf result Fault.Memory) }
+{
+    let text = text_of(bytes)?;
+    Ok(canonical_unique(alloc, text)?)
+}
+
+// Returns the bytes as a text, or `Invalid` if they are no UTF-8.
+fn text_of(bytes: &[u8]) -> Result<&str, Fault>
+    ensures ok { IfOk result (λ s. (s.now ≡ bytes.now) × IsUtf8 s.now) }
+    ensures invalid { OnErr result (IsUtf8 bytes.now → ⊥) }
+    ensures only { OnErr result (IsErrOf result Fault.Invalid) }
+{
+    match std::str::from_utf8(bytes) {
+        Ok(text) => Ok(text),
+        Err(_) => Err(Fault::Invalid),
+    }
+}
+
+/// Writes the text and flushes once.
+fn write_out<W: Write>(text: String, w: &mut Counted<W>) -> Result<(), Fault>
+    ensures ok { OnOk result (Appends (W.contents (inner_of w.old)) (W.contents (inner_of w.new)) (string_bytes text)) }
+    ensures flushed { OnOk result (flushes w.new ≡ flushes w.old + 1) }
+    ensures failures { failures w.new ≡ failures w.old + write_faults result }
+    ensures only { OnErr result (IsErrOf result Fault.Write) }
+    ensures part { OnErr result
+        (AppendsPart (W.contents (inner_of w.old)) (W.contents (inner_of w.new)) (string_bytes text)) }
+    ensures whole { OnErr result (flushes w.old < flushes w.new
+        → Appends (W.contents (inner_of w.old)) (W.contents (inner_of w.new)) (string_bytes text)) }
+{
+    put_all(w, text.as_bytes())?;
+    match w.flush() {
+        Ok(()) => Ok(()),
+        Err(_) => Err(Fault::Write),
+    }
+}
+
+/// Writes all the bytes, and tries no write again that failed.
+fn put_all<W: Write>(w: &mut Counted<W>, bytes: &[u8]) -> Result<(), Fault>
+    ensures ok { OnOk result
+        (Appends (W.contents (inner_of w.old)) (W.contents (inner_of w.new)) bytes.now) }
+    ensures failures { failures w.new ≡ failures w.old + write_faults result }
+    ensures flushes { flushes w.new ≡ flushes w.old }
+    ensures only { OnErr result (IsErrOf result Fault.Write) }
+    ensures part { OnErr result
+        (AppendsPart (W.contents (inner_of w.old)) (W.contents (inner_of w.new)) bytes.now) }
+{
+    let mut at = 0;
+    while at < bytes.len() {
+        match w.write(&bytes[at..]) {
+            Ok(0) => return Err(Fault::Write),
+            Ok(n) => at += n,
+            Err(_) => return Err(Fault::Write),
+        }
+    }
+    Ok(())
+}

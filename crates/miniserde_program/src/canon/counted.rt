@@ -1,0 +1,106 @@
+//! A reader or a writer, with the number of its calls that failed and of its calls of `flush`.
+ghost use Rattle.std.specs.Prelude.{◌≡◌, ◌+◌, ◌<◌, length, MatchResult, OnOk, OnErr, IfOk};
+ghost use Rattle.std.specs.Io.{ReadsAtMost, WritesAtMost};
+ghost use Rattle.std.specs.Io.KnownBytes.{ReadConsumes, WriteAppends, Keeps};
+
+use crate::canon::count::Count;
+use std::io;
+use std::io::{Read, Write};
+
+/// A reader or a writer that counts. The counts are for proofs alone and take no memory.
+#[derive(Drop)]
+pub struct Counted<T> {
+    inner: T,
+    failed: Count,
+    flushed: Count,
+}
+
+impl<T> Counted<T> {
+    ghost use Rattle.miniserde_program.specs.Counts.{inner_of, failures, flushes};
+
+    /// With nothing counted yet.
+    pub fn new(inner: T) -> Counted<T>
+        ensures inner { inner_of result ≡ inner }
+        ensures failures { failures result ≡ 0 }
+        ensures flushes { flushes result ≡ 0 }
+    {
+        Counted {
+            inner,
+            failed: Count::new(),
+            flushed: Count::new(),
+        }
+    }
+
+    /// The reader or writer itself.
+    pub fn into_inner(self) -> T
+        ensures { result ≡ inner_of self }
+    {
+        let Counted {
+            inner,
+            failed: _,
+            flushed: _,
+        } = self;
+        inner
+    }
+}
+
+impl<R: Read> Read for Counted<R> {
+    ghost use Rattle.miniserde_program.specs.Counts.{inner_of, failures, flushes};
+
+    ghost remaining = { λ c. R.remaining (inner_of c) };
+
+    fn read(&mut self, buf: &mut [u8]) -> io::Result<usize>
+        ensures bound { ReadsAtMost result buf.new }
+        ensures bytes { ReadConsumes (R.remaining (inner_of self.old)) (R.remaining (inner_of self.new))
+            result buf.new }
+        ensures failures { MatchResult result (λ _. failures self.new ≡ failures self.old)
+            (λ _. failures self.new ≡ failures self.old + 1) }
+        ensures flushes { flushes self.new ≡ flushes self.old }
+    {
+        let result = self.inner.read(buf);
+        if result.is_err() {
+            self.failed = self.failed.next();
+        }
+        result
+    }
+}
+
+impl<W: Write> Write for Counted<W> {
+    ghost use Rattle.miniserde_program.specs.Counts.{inner_of, failures, flushes};
+
+    ghost contents = { λ c. W.contents (inner_of c) };
+
+    fn write(&mut self, buf: &[u8]) -> io::Result<usize>
+        ensures bound { WritesAtMost result buf.now }
+        ensures bytes { WriteAppends (W.contents (inner_of self.old)) (W.contents (inner_of self.new)) result buf.now }
+        ensures taken { IfOk result (λ n. 0 < n → failures self.new ≡ failures self.old) }
+        ensures idle { IfOk result (λ n. length buf.now ≡ 0 → failures self.new ≡ failures self.old) }
+        ensures none_taken { IfOk result (λ n. n ≡ 0 → 0 < length buf.now → failures self.new ≡ failures self.old + 1) }
+        ensures failed { OnErr result (failures self.new ≡ failures self.old + 1) }
+        ensures flushes { flushes self.new ≡ flushes self.old }
+    {
+        let result = self.inner.write(buf);
+        let failed = match &result {
+            Ok(n) => *n == 0 && !buf.is_empty(),
+            Err(_) => true,
+        };
+        if failed {
+            self.failed = self.failed.next();
+        }
+        result
+    }
+
+    fn flush(&mut self) -> io::Result<()>
+        ensures bytes { Keeps (W.contents (inner_of self.old)) (W.contents (inner_of self.new)) }
+        ensures failures { MatchResult result (λ _. failures self.new ≡ failures self.old)
+            (λ _. failures self.new ≡ failures self.old + 1) }
+        ensures flushes { flushes self.new ≡ flushes self.old + 1 }
+    {
+        let result = self.inner.flush();
+        self.flushed = self.flushed.next();
+        if result.is_err() {
+            self.failed = self.failed.next();
+        }
+        result
+    }
+}

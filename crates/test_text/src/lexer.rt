@@ -1,0 +1,309 @@
+//! The lexer.
+
+use crate::wrong::{Wrong, expect};
+use miniserde_model::error::{Error, Result};
+use miniserde_text::json::lex::{After, Event, Kind, Lexer, Text};
+use std::alloc::Global;
+
+/// Returns the word for the front of a value.
+fn front(event: Event<'_>) -> &'static str {
+    match event {
+        Event::Null => "null",
+        Event::Bool(true) => "true",
+        Event::Bool(false) => "false",
+        Event::Negative(_) => "negative",
+        Event::Nonnegative(_) => "nonnegative",
+        Event::Number(_) => "number",
+        Event::Str(Text::Input(_)) => "borrowed",
+        Event::Str(Text::Scratch) => "decoded",
+        Event::SeqStart => "seq",
+        Event::MapStart => "map",
+    }
+}
+
+/// Returns whether a front has a number, a text or a content; any other has nothing.
+fn has_content(event: Event<'_>, scratch: &str, content: &str) -> bool {
+    match event {
+        Event::Negative(n) => content.parse::<i64>().ok() == Some(n),
+        Event::Nonnegative(n) => content.parse::<u64>().ok() == Some(n),
+        Event::Number(text) => text == content,
+        Event::Str(Text::Input(text)) => text == content,
+        Event::Str(Text::Scratch) => scratch == content,
+        _ => content == "",
+    }
+}
+
+/// Returns whether the lexer takes a front that is a word and has a content, or refuses it as the word says.
+fn is_front(event: Result<Event<'_>>, scratch: &str, word: &str, content: &str) -> bool {
+    match event {
+        Ok(event) => (front(event) == word) & has_content(event, scratch, content),
+        Err(error) => is_error(error, word),
+    }
+}
+
+/// Returns whether what follows in a container is a word.
+fn is_step(after: Result<After>, word: &str) -> bool {
+    match after {
+        Ok(After::Next) => word == "next",
+        Ok(After::Close) => word == "close",
+        Err(error) => is_error(error, word),
+    }
+}
+
+/// Returns whether an error is a word. No test expects that an allocation fails.
+fn is_error(error: Error, word: &str) -> bool {
+    matches!(error, Error::Invalid) & (word == "invalid")
+}
+
+/// Makes the call of the lexer that a word names: `start`, `name`, `end`, or `after`, as `first of [` and `next of {`. Returns whether it answers as expected.
+fn is_answer(lexer: &mut Lexer<'_>, scratch: &mut String, call: &str, expected: &str) -> bool {
+    let (word, content) = expected.split_once(' ').unwrap_or((expected, ""));
+    match call {
+        "start" => is_front(lexer.start(scratch), scratch.as_str(), word, content),
+        "name" => is_front(
+            lexer.name(scratch).map(Event::Str),
+            scratch.as_str(),
+            word,
+            content,
+        ),
+        "end" => match lexer.end() {
+            Ok(()) => word == "ok",
+            Err(error) => is_error(error, word),
+        },
+        _ => {
+            let kind = if call.ends_with('[') {
+                Kind::Seq
+            } else {
+                Kind::Map
+            };
+            is_step(lexer.after(kind, call.starts_with("first")), word)
+        }
+    }
+}
+
+/// Returns whether the calls on the lexer of a text answer as expected. A word with no call is what `start` answers.
+fn are_answers(text: &str, scratch: &mut String, calls: &str) -> bool {
+    let mut lexer = Lexer::new(text);
+    for item in calls.split("; ") {
+        let (call, expected) = item.split_once(": ").unwrap_or(("start", item));
+        if !is_answer(&mut lexer, scratch, call, expected) {
+            return false;
+        }
+    }
+    true
+}
+
+/// Returns whether the calls answer as expected, and leave the scratch text unless a string is decoded or refused.
+fn is_right(alloc: Global, text: &str, calls: &str) -> Result<bool> {
+    let mut scratch = String::from_str(alloc, "unchanged")?;
+    let are_right = are_answers(text, &mut scratch, calls);
+    let may_change = calls.contains("decoded") | calls.contains("invalid");
+    Ok(are_right & (may_change | (scratch.as_str() == "unchanged")))
+}
+
+/// Fails with the first wrong line of a table, if any: a text, ` => ` and its front, or calls on its lexer with their
+/// answers, or a text alone that is invalid at its front.
+fn expect_answers(alloc: Global, table: &'static str) -> std::result::Result<(), Wrong> {
+    for line in table.lines() {
+        let (text, calls) = line.split_once(" => ").unwrap_or((line, "invalid"));
+        expect(matches!(is_right(alloc, text, calls), Ok(true)), line)?;
+    }
+    Ok(())
+}
+
+/// Fails unless a text that has line breaks, or whose answer has, is answered as expected.
+fn expect_answer(
+    alloc: Global,
+    text: &'static str,
+    expected: &str,
+) -> std::result::Result<(), Wrong> {
+    expect(matches!(is_right(alloc, text, expected), Ok(true)), text)
+}
+
+#[test]
+fn a_number_is_an_integer_in_range_or_a_text_or_invalid(
+    rt: HostRuntime,
+) -> std::result::Result<(), Wrong> {
+    expect_answers(
+        rt.alloc(),
+        "-9223372036854775808 => negative -9223372036854775808\n\
+        -9223372036854775809 => number -9223372036854775809\n\
+        -0 => negative 0\n\
+        -17 => negative -17\n\
+        0 => nonnegative 0\n\
+        9999999999999999999 => nonnegative 9999999999999999999\n\
+        10000000000000000000 => nonnegative 10000000000000000000\n\
+        18446744073709551615 => nonnegative 18446744073709551615\n\
+        18446744073709551616 => number 18446744073709551616\n\
+        99999999999999999999 => number 99999999999999999999\n\
+        1.50  => number 1.50\n\
+        1.50] => number 1.50\n\
+        1e400 => number 1e400\n\
+        1E2 => number 1E2\n\
+        -2E-3, => number -2E-3\n\
+        -0.0 => number -0.0\n\
+        -0e0 => number -0e0\n\
+        0e+00 => number 0e+00\n\
+        -1 => negative -1\n\
+        9223372036854775807 => nonnegative 9223372036854775807\n\
+        9223372036854775808 => nonnegative 9223372036854775808\n\
+        01\n1.\n1e\n1-\n-\n+1\n.5\n-01\n00\n1.e5\n1e+\n1E-\n--1\n-a\nNaN\nInfinity",
+    )
+}
+
+#[test]
+fn words_and_brackets_behind_whitespace(rt: HostRuntime) -> std::result::Result<(), Wrong> {
+    let alloc = rt.alloc();
+    expect_answers(
+        alloc,
+        " null => null\n\
+        true => true\n\
+        false => false\n\
+        \tnull => null\n\
+        \rnull => null\n\
+        [ => seq\n\
+        { => map\n\
+        nul\n\
+        \n \n\
+        ]\n\
+        }\n\
+        ,\n\
+        :\n\
+        Null\n\
+        tru\n\
+        fals\n\
+        \u{b}null\n\
+        \u{c}null\n\
+        \u{a0}null\n\
+        \u{feff}null",
+    )?;
+    expect_answer(alloc, "\t\n\r false", "false")
+}
+
+#[test]
+fn a_string_with_no_escape_is_borrowed(rt: HostRuntime) -> std::result::Result<(), Wrong> {
+    expect_answers(
+        rt.alloc(),
+        "\"ab\" => borrowed ab\n\
+        \"a\u{7f}\" => borrowed a\u{7f}\n\
+        \"\" => borrowed \n\
+        \" \" => borrowed  \n\
+        \"/\" => borrowed /\n\
+        \"\u{80}\u{7ff}\u{800}\u{ffff}\u{10000}\u{10ffff}\" => borrowed \u{80}\u{7ff}\u{800}\u{ffff}\u{10000}\u{10ffff}",
+    )
+}
+
+#[test]
+fn each_escape_is_decoded(rt: HostRuntime) -> std::result::Result<(), Wrong> {
+    let alloc = rt.alloc();
+    expect_answers(
+        alloc,
+        "\"a\\u0062\" => decoded ab\n\
+        \"\\ud83d\\ude00\" => decoded \u{1f600}\n\
+        \"\\uDBFF\\uDFFF\" => decoded \u{10ffff}\n\
+        \"\\ud800\\udc00\" => decoded \u{10000}\n\
+        \"\\ud800\\udfff\" => decoded \u{103ff}\n\
+        \"\\udbff\\udc00\" => decoded \u{10fc00}\n\
+        \"\\ud7ff\" => decoded \u{d7ff}\n\
+        \"\\ue000\" => decoded \u{e000}\n\
+        \"\\u0000\" => decoded \0\n\
+        \"\\u007f\\u0080\" => decoded \u{7f}\u{80}\n\
+        \"\\u07ff\\u0800\" => decoded \u{7ff}\u{800}\n\
+        \"\\uFFFF\" => decoded \u{ffff}\n\
+        \"\\\"\" => decoded \"\n\
+        \"\\\\\" => decoded \\\n\
+        \"\\/\" => decoded /\n\
+        \"\\b\" => decoded \x08\n\
+        \"\\f\" => decoded \x0c\n\
+        \"\\t\" => decoded \t\n\
+        \"\\r.\" => decoded \r.",
+    )?;
+    expect_answer(
+        alloc,
+        "\"\u{e9}\\u00E9\\b\\f\\n\\r\\t\\/\\\\\\\"\"",
+        "decoded \u{e9}\u{e9}\x08\x0c\n\r\t/\\\"",
+    )
+}
+
+#[test]
+fn a_lone_surrogate_is_invalid(rt: HostRuntime) -> std::result::Result<(), Wrong> {
+    expect_answers(
+        rt.alloc(),
+        "\"\\ud800\"\n\
+        \"\\ud800x\"\n\
+        \"\\ude00\\ud83d\"\n\
+        \"\\udbff\"\n\
+        \"\\udc00\"\n\
+        \"\\udfff\"\n\
+        \"\\ud800\\n\"\n\
+        \"\\ud800\\ud800\"\n\
+        \"\\ud800\\ue000\"\n\
+        \"\\ud800\\udbff\"\n\
+        \"\\ud800\\u\"\n\
+        \"\\ud800\\",
+    )
+}
+
+// Behind an escape the last two lines of the first table never close. Memory is there.
+#[test]
+fn what_breaks_the_grammar_of_strings_is_invalid(
+    rt: HostRuntime,
+) -> std::result::Result<(), Wrong> {
+    let alloc = rt.alloc();
+    expect_answers(
+        alloc,
+        "\"a\n\
+        \"\n\
+        \"\\\n\
+        \"\\\"\n\
+        \"\\x\"\n\
+        \"\\u12\"\n\
+        \"\\u\"\n\
+        \"\\u123g\"\n\
+        \"\\U0041\"\n\
+        \"\\N\"\n\
+        \"\\ \"\n\
+        \"\0\"\n\
+        \"\t\"\n\
+        \"\r\"\n\
+        \"a\u{1f}\"\n\
+        'a'\n\
+        \"\\n\n\
+        \"\\n\u{1f}",
+    )?;
+    expect_answer(alloc, "\"a\nb\"", "invalid")
+}
+
+#[test]
+fn calls_follow_the_grammar_of_containers(rt: HostRuntime) -> std::result::Result<(), Wrong> {
+    expect_answers(
+        rt.alloc(),
+        "[1 , true] => start: seq; first of [: next; start: nonnegative 1; next of [: next; start: true; \
+        next of [: close; end: ok\n\
+        { } => start: map; first of {: close; end: ok\n\
+        { \"k\" : null, \"\\u0061\" :0} => start: map; first of {: next; name: borrowed k; start: null; \
+        next of {: next; name: decoded a; start: nonnegative 0; next of {: close\n\
+        \"ab\"  => start: borrowed ab; end: ok\n\
+        [ ] => start: seq; first of [: close; end: ok\n\
+        [[]] => start: seq; first of [: next; start: seq; first of [: close; next of [: close; end: ok",
+    )
+}
+
+// In the line with `\\n` a decoded name has no colon behind it. Memory is there.
+#[test]
+fn a_call_that_breaks_the_grammar_is_invalid_as_is_each_later_call(
+    rt: HostRuntime,
+) -> std::result::Result<(), Wrong> {
+    expect_answers(
+        rt.alloc(),
+        "[} => start: seq; first of [: invalid; first of {: invalid; start: invalid; name: invalid; end: invalid\n\
+        \x201 => end: invalid; start: invalid\n\
+        {] => start: map; first of {: invalid; next of {: invalid; end: invalid\n\
+        [1,] => start: seq; first of [: next; start: nonnegative 1; next of [: next; start: invalid\n\
+        \"a\" 1 => name: invalid\n\
+        {\"\\n\" 1} => start: map; first of {: next; name: invalid\n\
+        {1:2} => start: map; first of {: next; name: invalid\n\
+        [1 2] => start: seq; first of [: next; start: nonnegative 1; next of [: invalid\n\
+        1 2 => start: nonnegative 1; end: invalid",
+    )
+}
