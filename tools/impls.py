@@ -106,18 +106,13 @@ def of(kind, member, each):
     return f"⟦<{each} as {kind}>⟧.{member}"
 
 
-# The blocks of fields, from the widest.
-BLOCKS = ((16, "SixteenSlot"), (8, "EightSlot"), (4, "FourSlot"))
-
-
 def slots_of(it, parts):
-    """The list of fields, in blocks where they have no marks: a check passes one impl for each block."""
+    """The list of fields, in blocks of four where they have no marks: a check passes one impl for each block."""
     if not parts:
         return "Closed" if "closed" in it.words else "NoSlot"
     plain = next((at for at, part in enumerate(parts) if part.once or part.default is not None), len(parts))
-    for size, block in BLOCKS:
-        if plain >= size:
-            return f"{block}<{', '.join(part.of for part in parts[:size])}, {slots_of(it, parts[size:])}>"
+    if plain >= 4:
+        return f"FourSlot<{', '.join(part.of for part in parts[:4])}, {slots_of(it, parts[4:])}>"
     part, rest = parts[0], slots_of(it, parts[1:])
     if part.default is not None:
         return f"{'Once' if part.once else ''}GivenSlot<{part.of}, {given_of(it, part)}, {rest}>"
@@ -168,10 +163,9 @@ impl Given<{part.of}> for {name} {{
 
 def taken_of(names, chain):
     """The lines that take the fields' values out of their chain."""
-    for size, _ in BLOCKS:
-        if len(names) >= size:
-            rest = "()" if len(names) == size else chain
-            return [f"        let Taken{size}({', '.join(names[:size])}, {rest}) = take{size}({chain});", *taken_of(names[size:], chain)]
+    if len(names) >= 4:
+        rest = "()" if len(names) == 4 else chain
+        return [f"        let Taken4({', '.join(names[:4])}, {rest}) = take4({chain});", *taken_of(names[4:], chain)]
     return [f"        let {nested(names, '()', 'Parts')} = {chain};"] if names else []
 
 

@@ -10,10 +10,10 @@ class Refused(Exception):
 
 # What derived code may name.
 NAMED = (
-    "AgainFields Closed Deserialize EightSlot Empty Error Event Field Four FourLent FourSlot Fragment FromJson Given GivenSlot Global Lossless "
+    "AgainFields Closed Deserialize Empty Error Event Field Four FourLent FourSlot Fragment FromJson Given GivenSlot Global Lossless "
     "NamePlace NeverNull NoField NoSlot Once OnceGivenSlot OnceSlot OnceSlots Parts PlacedRecord Ranged Record RecordPlace Result "
-    "RoundTrip Serialize SixteenSlot Slot Slots Source Step Taken4 Taken8 Taken16 UnitEnum Variants Visitor Writer read_record "
-    "read_variant record_again record_lossless take4 take8 take16 variant_again variant_lossless write_members"
+    "RoundTrip Serialize Slot Slots Source Step Taken4 UnitEnum Variants Visitor Writer read_record "
+    "read_variant record_again record_lossless take4 variant_again variant_lossless write_members"
 )
 # Names of Rust's prelude and of the clauses, which derived code uses as they are.
 OF_RUST = "Box Err List None Ok Option Self Some String Vec"

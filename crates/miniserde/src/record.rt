@@ -4,9 +4,8 @@ pub use miniserde_de::structs::{
     Field, FieldOf, Fields, Four, FourOf, NamePlace, NoField, Once, PlacedRecord, RecordPlace,
 };
 pub use miniserde_record::record::{
-    AgainFields, Closed, EightSlot, Empty, FirstOnce, FourLent, FourSlot, Given, GivenSlot, Lent,
-    LosslessFields, Members, NoSlot, OnceGivenSlot, OnceSlot, OnceSlots, Parts, Record,
-    SixteenSlot, Slot, Slots, Taken4, Taken8, Taken16, UnitEnum, Variant, Variants, read_record,
-    read_variant, record_again, record_lossless, take4, take8, take16, variant_again,
-    variant_lossless, write_members,
+    AgainFields, Closed, Empty, FirstOnce, FourLent, FourSlot, Given, GivenSlot, Lent,
+    LosslessFields, Members, NoSlot, OnceGivenSlot, OnceSlot, OnceSlots, Parts, Record, Slot,
+    Slots, Taken4, UnitEnum, Variant, Variants, read_record, read_variant, record_again,
+    record_lossless, take4, variant_again, variant_lossless, write_members,
 };

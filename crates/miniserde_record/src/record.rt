@@ -12,7 +12,7 @@ mod structs;
 mod taken;
 
 pub use again::{AgainFields, record_again};
-pub use blocks::{EightSlot, FourSlot, SixteenSlot};
+pub use blocks::FourSlot;
 pub use lossless::{LosslessFields, record_lossless};
 pub use marks::{Closed, Empty, FirstOnce, Given, GivenSlot, OnceGivenSlot, OnceSlot};
 pub use members::{FourLent, Lent, Members, write_members};
@@ -20,4 +20,4 @@ pub use names::{UnitEnum, Variant, Variants, read_variant, variant_again, varian
 pub use once::OnceSlots;
 pub use slots::{NoSlot, Slot, Slots, or_missing, read_record};
 pub use structs::{Parts, Record};
-pub use taken::{Taken4, Taken8, Taken16, take4, take8, take16};
+pub use taken::{Taken4, take4};

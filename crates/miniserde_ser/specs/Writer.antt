@@ -1,5 +1,7 @@
 -- Writers, as contracts see them.
-use Rattle.std.specs.Prelude.{◌≡◌, ℕ, ◌+◌, ◌<◌, List, ◌++◌, length, Bool, true, false}
+use Rattle.std.specs.Prelude.{◌≡◌, ◌≤◌, ℕ, ◌+◌, ◌<◌, List, ◌++◌, length, Bool, true, false, Result, OnOk, OnErr, IsErrOf}
+use Rattle.miniserde_model.specs.declared.error.Error.{Error}
+use Rattle.miniserde_model.specs.declared.error.Error.TheVariants.{Memory}
 
 -- what is written so far
 pub record Writing : Type 0 where
@@ -27,3 +29,13 @@ with_refused w = record w { refused = true }
 -- if no call was refused, then there is no room for these bytes behind the text
 abbrev pub LacksRoom : Writing → List ℕ → Type 0
 LacksRoom w bs = w.refused ≡ false → w.capacity < length w.text + length bs
+
+-- What a call of the writer does that appends these bytes and leaves this flag: exactly that, or a refusal for memory,
+-- after which text and room are as before.
+pub record Appends (old : Writing) (bs : List ℕ) (first : Bool) (answer : Result (Unit {0}) Error) (new : Writing) : Type 0 where
+  pub ok : OnOk answer (new ≡ with_first (appended old bs new.capacity) first)
+  pub stays : OnOk answer (old.refused ≡ false)
+  pub memory : OnErr answer (IsErrOf answer Memory)
+  pub err : OnErr answer (new ≡ with_refused old)
+  pub room : OnErr answer (LacksRoom old bs)
+  pub capacity : old.capacity ≤ new.capacity

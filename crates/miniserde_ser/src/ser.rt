@@ -64,7 +64,7 @@ impl Writer {
     ghost use Rattle.std.specs.Prelude.{string_capacity, ◌≤◌, if◌then◌else◌, codes, decimal};
     ghost use Rattle.miniserde_model.specs.Compact.{compact, quoted};
     ghost use Rattle.miniserde_model.specs.declared.error.Error.TheVariants.{Memory};
-    ghost use Rattle.miniserde_ser.specs.Writer.{appended, with_first, with_refused, LacksRoom};
+    ghost use Rattle.miniserde_ser.specs.Writer.{Appends, with_refused};
     ghost use Rattle.miniserde_ser.specs.Fragment.{fragment_tree};
 
     /// A writer of no text yet. It takes no memory.
@@ -100,12 +100,7 @@ impl Writer {
     // Appends a text as it is.
     #[inline(always)]
     fn append(&mut self, text: &str) -> Result<()>
-        ensures ok { OnOk result (self.new ≡ appended self.old text.now self.new.capacity) }
-        ensures stays { OnOk result (self.old.refused ≡ false) }
-        ensures memory { OnErr result (IsErrOf result Memory) }
-        ensures err { OnErr result (self.new ≡ with_refused self.old) }
-        ensures room { OnErr result (LacksRoom self.old text.now) }
-        ensures capacity { self.old.capacity ≤ self.new.capacity }
+        ensures { Appends self.old text.now self.old.first result self.new }
     {
         self.check()?;
         // A `push_str` that fails leaves the capacity open, and a `reserve` that fails does not.
@@ -121,12 +116,7 @@ impl Writer {
     // Appends the digits of a number, in one copy of fixed size where there is room for the longest.
     #[inline(always)]
     fn append_number(&mut self, n: u64) -> Result<()>
-        ensures ok { OnOk result (self.new ≡ appended self.old (decimal n) self.new.capacity) }
-        ensures stays { OnOk result (self.old.refused ≡ false) }
-        ensures memory { OnErr result (IsErrOf result Memory) }
-        ensures err { OnErr result (self.new ≡ with_refused self.old) }
-        ensures room { OnErr result (LacksRoom self.old (decimal n)) }
-        ensures capacity { self.old.capacity ≤ self.new.capacity }
+        ensures { Appends self.old (decimal n) self.old.first result self.new }
     {
         if !has_room(&self.text) {
             return self.append(Buffer::new().format(n));
@@ -139,12 +129,7 @@ impl Writer {
     // Appends a text as a string.
     #[inline(always)]
     fn append_quoted(&mut self, text: &str) -> Result<()>
-        ensures ok { OnOk result (self.new ≡ appended self.old (quoted text.now) self.new.capacity) }
-        ensures stays { OnOk result (self.old.refused ≡ false) }
-        ensures memory { OnErr result (IsErrOf result Memory) }
-        ensures err { OnErr result (self.new ≡ with_refused self.old) }
-        ensures room { OnErr result (LacksRoom self.old (quoted text.now)) }
-        ensures capacity { self.old.capacity ≤ self.new.capacity }
+        ensures { Appends self.old (quoted text.now) self.old.first result self.new }
     {
         self.check()?;
         match escape_str(text, &mut self.text) {
@@ -156,12 +141,7 @@ impl Writer {
     // Appends a mark of punctuation, and says whether an element after it is the first.
     #[inline(always)]
     fn punctuate(&mut self, mark: &str, first: bool) -> Result<()>
-        ensures ok { OnOk result (self.new ≡ with_first (appended self.old mark.now self.new.capacity) first) }
-        ensures stays { OnOk result (self.old.refused ≡ false) }
-        ensures memory { OnErr result (IsErrOf result Memory) }
-        ensures err { OnErr result (self.new ≡ with_refused self.old) }
-        ensures room { OnErr result (LacksRoom self.old mark.now) }
-        ensures capacity { self.old.capacity ≤ self.new.capacity }
+        ensures { Appends self.old mark.now first result self.new }
     {
         self.append(mark)?;
         self.first = first;
@@ -171,12 +151,7 @@ impl Writer {
     /// Appends a leaf.
     #[inline(always)]
     pub fn fragment(&mut self, f: Fragment<'_>) -> Result<()>
-        ensures ok { OnOk result (self.new ≡ appended self.old (compact (fragment_tree f.entry)) self.new.capacity) }
-        ensures stays { OnOk result (self.old.refused ≡ false) }
-        ensures memory { OnErr result (IsErrOf result Memory) }
-        ensures err { OnErr result (self.new ≡ with_refused self.old) }
-        ensures room { OnErr result (LacksRoom self.old (compact (fragment_tree f.entry))) }
-        ensures capacity { self.old.capacity ≤ self.new.capacity }
+        ensures { Appends self.old (compact (fragment_tree f.entry)) self.old.first result self.new }
     {
         match f {
             Fragment::Null => self.append("null"),
@@ -191,12 +166,7 @@ impl Writer {
 
     /// Opens a list.
     pub fn seq(&mut self) -> Result<()>
-        ensures ok { OnOk result (self.new ≡ with_first (appended self.old (codes "[") self.new.capacity) true) }
-        ensures stays { OnOk result (self.old.refused ≡ false) }
-        ensures memory { OnErr result (IsErrOf result Memory) }
-        ensures err { OnErr result (self.new ≡ with_refused self.old) }
-        ensures room { OnErr result (LacksRoom self.old (codes "[")) }
-        ensures capacity { self.old.capacity ≤ self.new.capacity }
+        ensures { Appends self.old (codes "[") true result self.new }
     {
         self.punctuate("[", true)
     }
@@ -204,52 +174,30 @@ impl Writer {
     /// Goes before each element of a list.
     #[inline(always)]
     pub fn element(&mut self) -> Result<()>
-        ensures ok { OnOk result (self.new
-            ≡ with_first (appended self.old (if self.old.first then [] else codes ",") self.new.capacity) false) }
-        ensures stays { OnOk result (self.old.refused ≡ false) }
-        ensures memory { OnErr result (IsErrOf result Memory) }
-        ensures err { OnErr result (self.new ≡ with_refused self.old) }
-        ensures room { OnErr result (LacksRoom self.old (if self.old.first then [] else codes ",")) }
-        ensures capacity { self.old.capacity ≤ self.new.capacity }
+        ensures { Appends self.old (if self.old.first then [] else codes ",") false result self.new }
     {
         self.punctuate(if self.first { "" } else { "," }, false)
     }
 
     /// Closes a list.
     pub fn seq_finish(&mut self) -> Result<()>
-        ensures ok { OnOk result (self.new ≡ with_first (appended self.old (codes "]") self.new.capacity) false) }
-        ensures stays { OnOk result (self.old.refused ≡ false) }
-        ensures memory { OnErr result (IsErrOf result Memory) }
-        ensures err { OnErr result (self.new ≡ with_refused self.old) }
-        ensures room { OnErr result (LacksRoom self.old (codes "]")) }
-        ensures capacity { self.old.capacity ≤ self.new.capacity }
+        ensures { Appends self.old (codes "]") false result self.new }
     {
         self.punctuate("]", false)
     }
 
     /// Opens an object.
     pub fn map(&mut self) -> Result<()>
-        ensures ok { OnOk result (self.new ≡ with_first (appended self.old (codes "{") self.new.capacity) true) }
-        ensures stays { OnOk result (self.old.refused ≡ false) }
-        ensures memory { OnErr result (IsErrOf result Memory) }
-        ensures err { OnErr result (self.new ≡ with_refused self.old) }
-        ensures room { OnErr result (LacksRoom self.old (codes "{")) }
-        ensures capacity { self.old.capacity ≤ self.new.capacity }
+        ensures { Appends self.old (codes "{") true result self.new }
     {
         self.punctuate("{", true)
     }
 
     /// Goes before each member of an object, and gives its name.
     pub fn key(&mut self, k: &str) -> Result<()>
-        ensures ok { OnOk result (self.new ≡ with_first (appended self.old
-            ((if self.old.first then [] else codes ",") ++ quoted k.now ++ codes ":") self.new.capacity) false) }
+        ensures appends { Appends self.old
+            ((if self.old.first then [] else codes ",") ++ quoted k.now ++ codes ":") false result self.new }
         ensures utf8 { OnOk result (IsUtf8 k.now) }
-        ensures stays { OnOk result (self.old.refused ≡ false) }
-        ensures memory { OnErr result (IsErrOf result Memory) }
-        ensures err { OnErr result (self.new ≡ with_refused self.old) }
-        ensures room { OnErr result (LacksRoom self.old
-            ((if self.old.first then [] else codes ",") ++ quoted k.now ++ codes ":")) }
-        ensures capacity { self.old.capacity ≤ self.new.capacity }
     {
         self.known_key(k)
     }
@@ -257,15 +205,9 @@ impl Writer {
     /// Appends a member's name as `key` does, and is inlined into its caller.
     #[inline(always)]
     pub fn known_key(&mut self, k: &str) -> Result<()>
-        ensures ok { OnOk result (self.new ≡ with_first (appended self.old
-            ((if self.old.first then [] else codes ",") ++ quoted k.now ++ codes ":") self.new.capacity) false) }
+        ensures appends { Appends self.old
+            ((if self.old.first then [] else codes ",") ++ quoted k.now ++ codes ":") false result self.new }
         ensures utf8 { OnOk result (IsUtf8 k.now) }
-        ensures stays { OnOk result (self.old.refused ≡ false) }
-        ensures memory { OnErr result (IsErrOf result Memory) }
-        ensures err { OnErr result (self.new ≡ with_refused self.old) }
-        ensures room { OnErr result (LacksRoom self.old
-            ((if self.old.first then [] else codes ",") ++ quoted k.now ++ codes ":")) }
-        ensures capacity { self.old.capacity ≤ self.new.capacity }
     {
         self.check()?;
         match put_name(self.first, k, &mut self.text) {
@@ -279,12 +221,7 @@ impl Writer {
 
     /// Closes an object.
     pub fn map_finish(&mut self) -> Result<()>
-        ensures ok { OnOk result (self.new ≡ with_first (appended self.old (codes "}") self.new.capacity) false) }
-        ensures stays { OnOk result (self.old.refused ≡ false) }
-        ensures memory { OnErr result (IsErrOf result Memory) }
-        ensures err { OnErr result (self.new ≡ with_refused self.old) }
-        ensures room { OnErr result (LacksRoom self.old (codes "}")) }
-        ensures capacity { self.old.capacity ≤ self.new.capacity }
+        ensures { Appends self.old (codes "}") false result self.new }
     {
         self.punctuate("}", false)
     }

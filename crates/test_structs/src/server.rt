@@ -6,9 +6,8 @@ ghost use Rattle.std.specs.Prelude.{refl};
 
 use miniserde::derived::{
     AgainFields, Closed, Event, FourLent, FourSlot, FromJson, Given, GivenSlot, Global, Lossless,
-    NeverNull, NoSlot, OnceSlot, Parts, Ranged, Record, Result, RoundTrip, Serialize, SixteenSlot,
-    Slot, Slots, Source, Taken4, Taken8, Taken16, Writer, read_record, record_again,
-    record_lossless, take4, take8, take16, write_members,
+    NeverNull, NoSlot, OnceSlot, Parts, Ranged, Record, Result, RoundTrip, Serialize, Slot, Slots,
+    Source, Taken4, Writer, read_record, record_again, record_lossless, take4, write_members,
 };
 use std::collections::BTreeMap;
 
@@ -150,43 +149,49 @@ impl Given<u16> for ServerRetriesDefault {
 }
 
 // Its fields, and their names.
-type ServerFields = SixteenSlot<
+type ServerFields = FourSlot<
     String,
     u64,
     String,
     Option<String>,
-    u32,
-    bool,
-    Option<u64>,
-    Vec<String>,
-    Vec<u64>,
-    Listener,
-    Vec<Listener>,
-    Option<Listener>,
-    BTreeMap<String, Listener>,
-    BTreeMap<String, u64>,
-    BTreeMap<String, Vec<String>>,
-    u64,
     FourSlot<
-        u8,
-        i8,
-        i64,
-        (u32, u32),
-        OnceSlot<
-            u64,
-            Slot<
-                Option<String>,
-                Slot<
-                    bool,
-                    GivenSlot<
-                        u16,
-                        ServerRetriesDefault,
-                        FourSlot<
-                            u32,
+        u32,
+        bool,
+        Option<u64>,
+        Vec<String>,
+        FourSlot<
+            Vec<u64>,
+            Listener,
+            Vec<Listener>,
+            Option<Listener>,
+            FourSlot<
+                BTreeMap<String, Listener>,
+                BTreeMap<String, u64>,
+                BTreeMap<String, Vec<String>>,
+                u64,
+                FourSlot<
+                    u8,
+                    i8,
+                    i64,
+                    (u32, u32),
+                    OnceSlot<
+                        u64,
+                        Slot<
                             Option<String>,
-                            String,
-                            Vec<String>,
-                            Slot<BTreeMap<String, bool>, Slot<Option<String>, Closed>>,
+                            Slot<
+                                bool,
+                                GivenSlot<
+                                    u16,
+                                    ServerRetriesDefault,
+                                    FourSlot<
+                                        u32,
+                                        Option<String>,
+                                        String,
+                                        Vec<String>,
+                                        Slot<BTreeMap<String, bool>, Slot<Option<String>, Closed>>,
+                                    >,
+                                >,
+                            >,
                         >,
                     >,
                 >,
@@ -369,28 +374,12 @@ impl Record for Server {
     }
 
     fn build(parts: Self::Values) -> Server {
-        let Taken16(
-            name,
-            id,
-            region,
-            zone,
-            version,
-            active,
-            owner,
-            aliases,
-            weights,
-            listener,
-            more_listeners,
-            backup,
-            by_zone,
-            limits,
-            labels,
-            memory,
-            parts,
-        ) = take16(parts);
-        let Taken8(processors, nice, offset, window, cache, log, verbose, retries, parts) = take8(
-            parts,
-        );
+        let Taken4(name, id, region, zone, parts) = take4(parts);
+        let Taken4(version, active, owner, aliases, parts) = take4(parts);
+        let Taken4(weights, listener, more_listeners, backup, parts) = take4(parts);
+        let Taken4(by_zone, limits, labels, memory, parts) = take4(parts);
+        let Taken4(processors, nice, offset, window, parts) = take4(parts);
+        let Taken4(cache, log, verbose, retries, parts) = take4(parts);
         let Taken4(timeout, proxy, secret, tags, parts) = take4(parts);
         let Parts(flags, Parts(note, ())) = parts;
         Server {

@@ -4,9 +4,8 @@ ghost use Rattle.miniserde.specs.Structs.{names_of, record_tree};
 ghost use Rattle.std.specs.Prelude.{refl};
 
 use miniserde::derived::{
-    AgainFields, EightSlot, Event, FourLent, FourSlot, FromJson, NoSlot, Ranged, Record, Result,
-    RoundTrip, Serialize, Slots, Source, Taken4, Taken8, Writer, read_record, record_again, take4,
-    take8, write_members,
+    AgainFields, Event, FourLent, FourSlot, FromJson, NoSlot, Ranged, Record, Result, RoundTrip,
+    Serialize, Slots, Source, Taken4, Writer, read_record, record_again, take4, write_members,
 };
 
 /// Twelve fields of six kinds.
@@ -27,16 +26,18 @@ pub struct User {
 }
 
 // Its fields, and their names.
-type UserFields = EightSlot<
+type UserFields = FourSlot<
     u64,
     String,
     u8,
     bool,
-    i64,
-    Vec<String>,
-    Option<String>,
-    i8,
-    FourSlot<Vec<u32>, Option<String>, u64, bool, NoSlot>,
+    FourSlot<
+        i64,
+        Vec<String>,
+        Option<String>,
+        i8,
+        FourSlot<Vec<u32>, Option<String>, u64, bool, NoSlot>,
+    >,
 >;
 
 const USER_NAMES: &[&str] = &[
@@ -101,7 +102,8 @@ impl Record for User {
     }
 
     fn build(parts: Self::Values) -> User {
-        let Taken8(id, name, age, admin, score, tags, email, shift, parts) = take8(parts);
+        let Taken4(id, name, age, admin, parts) = take4(parts);
+        let Taken4(score, tags, email, shift, parts) = take4(parts);
         let Taken4(groups, note, size, live, ()) = take4(parts);
         User {
             id,

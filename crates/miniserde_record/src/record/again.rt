@@ -6,8 +6,6 @@ ghost use Rattle.miniserde_round.specs.RoundTrip.{ReadsAgain};
 ghost use Rattle.miniserde_record.specs.FieldsMeant.{FieldsMeant, no_fields, field_and, fields_once, struct_meant};
 ghost use Rattle.miniserde_record.specs.Structs.{FieldsAgain, are_names, record_tree};
 
-mod blocks;
-
 use super::once::OnceSlots;
 use super::slots::{NoSlot, Slot};
 use super::structs::{Parts, Record};

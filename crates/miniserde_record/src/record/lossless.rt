@@ -4,8 +4,6 @@ ghost use Rattle.miniserde_model.specs.Tree.{Tree};
 ghost use Rattle.miniserde_record.specs.FieldsMeant.{FieldsMeant, no_fields, field_and, fields_once};
 ghost use Rattle.miniserde_record.specs.Structs.{record_tree};
 
-mod blocks;
-
 use super::once::OnceSlots;
 use super::slots::{NoSlot, Slot};
 use super::structs::{Parts, Record};

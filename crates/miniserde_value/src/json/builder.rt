@@ -5,6 +5,7 @@ ghost use Rattle.miniserde_model.specs.declared.error.Error.TheVariants.{Invalid
 ghost use Rattle.miniserde_model.specs.Number.{IsNumber};
 ghost use Rattle.miniserde_model.specs.Tree.{no_members, num, str};
 ghost use Rattle.miniserde_model.specs.Normal.{last_of};
+ghost use Rattle.miniserde_text.specs.private.Moving.{opens};
 ghost use Rattle.miniserde_read.specs.Step.{event_of, IsTreeEvent};
 ghost use Rattle.miniserde_value.specs.Hole.{Hole, outside, in_list, in_members, put, named, closed, whole, has_member, begun};
 ghost use Rattle.miniserde_value.specs.Values.{shape};
@@ -204,24 +205,32 @@ impl Builder {
         Ok(())
     }
 
-    /// Takes the first event of a value. Returns `Invalid` of any other event.
+    /// Takes the first event of a value. Returns whether it opens a container, and `Invalid` of any other event.
     #[inline(always)]
-    pub fn begin(&mut self, event: Step<'_>) -> Result<()>
+    pub fn begin(&mut self, event: Step<'_>) -> Result<bool>
         requires { IsTreeEvent (event_of event) }
+        ensures opens { IfOk result (λ opened. opened ≡ is_some (opens (event_of event.entry))) }
         ensures ok { OnOk result (begun (event_of event.entry) (hole_in self.old) ≡ Some (hole_in self.new)) }
         ensures invalid { result ≡ Err Invalid → begun (event_of event.entry) (hole_in self.old) ≡ None }
     {
         match event {
-            Step::Null => self.put(Value::Null),
-            Step::Bool(b) => self.put(Value::Bool(b)),
-            Step::Str(s) => self.put_text(s),
-            Step::Negative(n) => self.put(Value::Number(Number::I64(n))),
-            Step::Nonnegative(n) => self.put(Value::Number(Number::U64(n))),
-            Step::Float(t) => self.put_number(t),
-            Step::Seq => self.open_array(),
-            Step::Map => self.open_object(),
-            Step::Element | Step::Key(_) | Step::Finish => Err(Error::Invalid),
+            Step::Null => self.put(Value::Null)?,
+            Step::Bool(b) => self.put(Value::Bool(b))?,
+            Step::Str(s) => self.put_text(s)?,
+            Step::Negative(n) => self.put(Value::Number(Number::I64(n)))?,
+            Step::Nonnegative(n) => self.put(Value::Number(Number::U64(n)))?,
+            Step::Float(t) => self.put_number(t)?,
+            Step::Seq => {
+                self.open_array()?;
+                return Ok(true);
+            }
+            Step::Map => {
+                self.open_object()?;
+                return Ok(true);
+            }
+            Step::Element | Step::Key(_) | Step::Finish => return Err(Error::Invalid),
         }
+        Ok(false)
     }
 
     /// Names the next value of the innermost container if that is an object.

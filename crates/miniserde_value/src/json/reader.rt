@@ -34,7 +34,7 @@ pub(crate) fn read_value<'a>(token: Event<'a>, source: &mut Source<'a>, once: bo
         → ValueAt t (front_of token.entry source.old.scratch) source.old.rest r → kept_if once t ≡ None }
 {
     let mut builder = Builder::new(source.alloc());
-    let mut first = enter(token, source, &mut builder)?;
+    let mut first = builder.begin(source.step(token))?;
     while let Some(kind) = builder.innermost() {
         first = turn(source, &mut builder, kind, first, once)?;
     }
@@ -104,22 +104,5 @@ fn begin<'a>(source: &mut Source<'a>, builder: &mut Builder) -> Result<bool>
     ensures invalid { result ≡ Err Invalid → NeverRuns due (kinds (hole_in builder.old)) source.old.rest }
 {
     let token = source.token()?;
-    enter(token, source, builder)
-}
-
-/// Builds the value of a leaf's token, or opens the container that the token opens. Returns whether it opens one.
-#[inline(always)]
-fn enter<'a>(token: Event<'a>, source: &Source<'a>, builder: &mut Builder) -> Result<bool>
-    requires { IsTreeEvent (front_of token source.now.scratch) }
-    ensures opens { IfOk result (λ opened. opened ≡ is_some (opens (front_of token.entry source.now.scratch))) }
-    ensures begun { OnOk result (begun (front_of token.entry source.now.scratch) (hole_in builder.old)
-        ≡ Some (hole_in builder.new)) }
-    ensures memory { OnErr result (IsErrOf result Memory) }
-{
-    let opens = match token {
-        Event::SeqStart | Event::MapStart => true,
-        _ => false,
-    };
-    builder.begin(source.step(token))?;
-    Ok(opens)
+    builder.begin(source.step(token))
 }

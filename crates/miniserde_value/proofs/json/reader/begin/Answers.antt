@@ -1,12 +1,27 @@
 -- The token begins a value, and it is one that a tree can have.
+use Rattle.std.proofs.Common.{◌≡◌, Some, is_some, subst, sym, ap, ◌∙◌}
+use Rattle.std.specs.Prelude.{IfOk, OnOk}
 use Rattle.miniserde_text.specs.Lexer.{front_of}
+use Rattle.miniserde_text.specs.private.Moving.{opens}
+use Rattle.miniserde_read.specs.Step.{IsTreeEvent}
 use Rattle.miniserde_read.proofs.Fronts.{start_event}
 use Rattle.miniserde_value.specs.Builders.{hole_in}
-use Rattle.miniserde_value.proofs.Builds.{entered}
+use Rattle.miniserde_value.specs.Hole.{begun}
+use Rattle.miniserde_value.proofs.Builds.{begins, entered}
 use Rattle.miniserde_value.proofs.json.reader.begin.Goals as goal
 
-pub enter-requires : goal.enter-requires
-enter-requires c = start_event _ _ _ c.in_ok-token.ensures.ok
+pub begin-requires : goal.begin-requires
+begin-requires c = subst (λ z. IsTreeEvent z) (sym c.step.ensures) (start_event _ _ _ c.in_ok-token.ensures.ok)
 
 pub returns-clause-builds : goal.returns-clause-builds
-returns-clause-builds c = λ once. entered once c.enter.result (hole_in c.args.builder.now) (hole_in c.enter.new.builder) c.args.source.now.rest c.token.new.self.rest (front_of c.in_ok-token.token c.token.new.self.scratch) c.in_ok-token.ensures.ok c.enter.ensures.opens c.enter.ensures.begun
+returns-clause-builds c =
+    let h = hole_in c.args.builder.now in
+    let g = hole_in c.begin.new.self in
+    λ once. entered once c.begin.result h g c.args.source.now.rest c.token.new.self.rest (front_of c.in_ok-token.token c.token.new.self.scratch) c.in_ok-token.ensures.ok
+    (subst (λ z. IfOk c.begin.result (λ o. o ≡ is_some (opens z))) c.step.ensures c.begin.ensures.opens)
+    (subst (λ z. OnOk c.begin.result (begun z h ≡ Some g)) c.step.ensures c.begin.ensures.ok)
+
+pub returns-clause-invalid : goal.returns-clause-invalid
+returns-clause-invalid c = λ e.
+    let h = hole_in c.args.builder.now in
+    absurd (begins c.in_ok-token.token c.token.new.self.scratch h (ap (λ z. begun z h) (sym c.step.ensures) ∙ c.begin.ensures.invalid e))

@@ -12,7 +12,7 @@ loop-row-preserved g c =
     let rows = c.args.rows.now in
     let row = c.row-item.result in
     let inv = c.loop-row.invariant in
-    let at = rw c.as_str.ensures.value at c.in_ok-key.ensures.ok in
+    let at = rw c.as_str.ensures.value at c.in_ok-key.ensures.appends.ok in
     let utf8 = rw c.as_str.ensures.value at c.in_ok-key.ensures.utf8 in
     rw (took rows i row (omega arith) c.row-item.is) (record {
       text = compact_members_step string_bytes f (take i rows) row i c.loop-row.w.first _ _ _ _ (length-take-le i rows (omega arith)) inv.start inv.later inv.text (ap (λ s. s.text) at) c.in_ok-begin.ensures.ok;

@@ -11,7 +11,7 @@ loop-key-preserved g c =
     let done = c.loop-key.yielded in
     let inv = c.loop-key.invariant in
     let named : c.as_str.result.now ≡ text c.in-Some.key.now = search rules in
-    let at = rw named at c.in_ok-key.ensures.ok in
+    let at = rw named at c.in_ok-key.ensures.appends.ok in
     let utf8 = rw named at c.in_ok-key.ensures.utf8 in
     rw (map-append deref_pair done ((c.in-Some.key, c.in-Some.value) ∷ [])) (record {
       text = compact_members_step text f (map deref_pair done) (c.in-Some.key.now, c.in-Some.value.now) (length done) c.loop-key.w.first _ _ _ _ (length-map done deref_pair) inv.start inv.later inv.text (ap (λ s. s.text) at) c.in_ok-begin.ensures.ok;
