@@ -20,11 +20,11 @@ def nested(items, last, word=""):
     return text
 
 
-def fields_of(types):
+def fields_of(types, once):
     """The list of fields of a place, four at a time."""
     if len(types) >= 4:
-        return f"Four<{', '.join(types[:4])}, {fields_of(types[4:])}>"
-    return f"Field<{types[0]}, {fields_of(types[1:])}>" if types else "NoField"
+        return f"{once}Four<{', '.join(types[:4])}, {fields_of(types[4:], once)}>"
+    return f"{once}Field<{types[0]}, {fields_of(types[1:], once)}>" if types else "NoField"
 
 
 def wrapped(head, text):
@@ -106,17 +106,23 @@ def of(kind, member, each):
     return f"⟦<{each} as {kind}>⟧.{member}"
 
 
+def mark_of(it, part):
+    """The mark of a field."""
+    mark = "Plain" if part.default is None else f"WithDefault<{given_of(it, part)}>"
+    return f"Once<{mark}>" if part.once or "once" in it.words else mark
+
+
 def slots_of(it, parts):
-    """The list of fields, in blocks of four where they have no marks: a check passes one impl for each block."""
+    """The list of fields, in blocks of four: a check passes one impl for each block."""
     if not parts:
         return "Closed" if "closed" in it.words else "NoSlot"
-    plain = next((at for at, part in enumerate(parts) if part.once or part.default is not None), len(parts))
-    if plain >= 4:
-        return f"FourSlot<{', '.join(part.of for part in parts[:4])}, {slots_of(it, parts[4:])}>"
-    part, rest = parts[0], slots_of(it, parts[1:])
-    if part.default is not None:
-        return f"{'Once' if part.once else ''}GivenSlot<{part.of}, {given_of(it, part)}, {rest}>"
-    return f"{'Once' if part.once else ''}Slot<{part.of}, {rest}>"
+    at = 4 if len(parts) >= 4 else 1
+    marks, rest = [mark_of(it, part) for part in parts[:at]], slots_of(it, parts[at:])
+    short = {"Plain": ["Slot", "FourSlot"], "Once<Plain>": ["OnceSlot"]}.get(marks[0], []) if len(set(marks)) == 1 else []
+    if len(short) > at // 4:
+        return f"{short[at // 4]}<{', '.join([*(part.of for part in parts[:at]), rest])}>"
+    marked = [word for part, mark in zip(parts, marks) for word in (part.of, mark)]
+    return f"Marked{'Four' if at == 4 else 'Slot'}<{', '.join([*marked, rest])}>"
 
 
 def given_of(it, part):
@@ -151,8 +157,6 @@ def given_text(it, path):
 impl Given<{part.of}> for {name} {{
 {uses}    ghost given = {{ {tree} }};
 
-    fn is_given() {{}}
-
     fn make({alloc}: Global) -> Result<{part.of}> {{
         Ok({made})
     }}
@@ -182,7 +186,6 @@ def struct_text(it, path):
     names = [part.name for part in it.parts]
     chain = chain_of(names)
     slots = slots_of(it, it.parts)
-    slots = f"OnceSlots<{slots}>" if "once" in it.words else slots
     written = ", ".join(f'"{part.written}"' for part in it.parts)
     meaning = f"struct_meant {of('Slots', 'meaning', fields)} {of('Record', 'names', name)} {of('Record', 'values', name)}"
     tree = f"record_tree {of('Record', 'names', name)} {of('AgainFields', 'trees', fields)} {of('Record', 'values', name)}"
@@ -259,10 +262,9 @@ def place_text(it):
     """The place of a struct, where its events are to be handed on."""
     if "events" not in it.words:
         return ""
-    name, fields = it.name, fields_of([part.of for part in it.parts])
-    placed, further = fields, ""
-    if "once" in it.words:
-        placed, further = f"Once<{fields}>", f"""
+    name, once, further = it.name, "Once" if "once" in it.words else "", ""
+    if once:
+        further = f"""
 
     // The name of a field that has a value is refused as a key.
     ghost further = {{ λ old e answer new.
@@ -275,7 +277,7 @@ def place_text(it):
 }}
 
 impl PlacedRecord for {name} {{
-    type Fields = {placed};
+    type Fields = {fields_of([part.of for part in it.parts], once)};
 }}
 
 impl Visitor for {name}Place {{

@@ -10,9 +10,9 @@ class Refused(Exception):
 
 # What derived code may name.
 NAMED = (
-    "AgainFields Closed Deserialize Empty Error Event Field Four FourLent FourSlot Fragment FromJson Given GivenSlot Global Lossless "
-    "NamePlace NeverNull NoField NoSlot Once OnceGivenSlot OnceSlot OnceSlots Parts PlacedRecord Ranged Record RecordPlace Result "
-    "RoundTrip Serialize Slot Slots Source Step Taken4 UnitEnum Variants Visitor Writer read_record "
+    "AgainFields Closed Deserialize Empty Error Event Field Four FourLent FourSlot Fragment FromJson Given Global Lossless MarkedFour "
+    "MarkedSlot NamePlace NeverNull NoField NoSlot Once OnceField OnceFour OnceSlot Parts PlacedRecord Plain Ranged Record RecordPlace "
+    "Result RoundTrip Serialize Slot Slots Source Step Taken4 UnitEnum Variants Visitor WithDefault Writer read_record "
     "read_variant record_again record_lossless take4 variant_again variant_lossless write_members"
 )
 # Names of Rust's prelude and of the clauses, which derived code uses as they are.

@@ -5,9 +5,9 @@ ghost use Rattle.miniserde.specs.Structs.{names_of, record_tree};
 ghost use Rattle.std.specs.Prelude.{refl};
 
 use miniserde::derived::{
-    AgainFields, Deserialize, Error, Event, Field, FromJson, Global, NoField, NoSlot, Once,
-    OnceSlots, Parts, PlacedRecord, Ranged, Record, RecordPlace, Result, RoundTrip, Serialize,
-    Slot, Slots, Source, Step, Visitor, Writer, read_record, record_again, write_members,
+    AgainFields, Deserialize, Error, Event, FromJson, Global, NoField, NoSlot, OnceField, OnceSlot,
+    Parts, PlacedRecord, Ranged, Record, RecordPlace, Result, RoundTrip, Serialize, Slots, Source,
+    Step, Visitor, Writer, read_record, record_again, write_members,
 };
 
 /// As `Demo`, and invalid if `code` or `message` is duplicated among its members. Other names may be.
@@ -18,7 +18,7 @@ pub struct StrictDemo {
 }
 
 // Its fields, and their names.
-type StrictDemoFields = OnceSlots<Slot<u32, Slot<String, NoSlot>>>;
+type StrictDemoFields = OnceSlot<u32, OnceSlot<String, NoSlot>>;
 
 const STRICT_DEMO_NAMES: &[&str] = &["code", "message"];
 
@@ -93,7 +93,7 @@ pub struct StrictDemoPlace {
 }
 
 impl PlacedRecord for StrictDemo {
-    type Fields = Once<Field<u32, Field<String, NoField>>>;
+    type Fields = OnceField<u32, OnceField<String, NoField>>;
 }
 
 impl Visitor for StrictDemoPlace {

@@ -1,15 +1,16 @@
 -- What a field of one type's tree means as the same field of another type.
 use Rattle.std.proofs.Common.{◌≡◌, cond, Bool, true, false, Option, Some, None, refl, sym, ap, ◌∙◌, subst}
-use Rattle.std.specs.Prelude.{◌↔◌, bytes_eq, is_some, IsSome, option_map, MatchOption}
+use Rattle.std.specs.Prelude.{◌↔◌, bytes_eq, IsSome, MatchOption}
 use Rattle.miniserde.specs.Tree.{Tree, Members, no_members, member}
 use Rattle.miniserde.specs.Normal.{or_else, last_of}
 use Rattle.miniserde.specs.Objects.{Name}
-use Rattle.miniserde.specs.Fields.{AllNamed, FieldReads, MeansOr, Says}
+use Rattle.miniserde.specs.Fields.{AllNamed, Says}
 
 -- a tree of a needed field means a second value exactly if that one has the first one's content
-pub same_field : {A C : Type 0} (R : Tree → A → Type 0) (of : Tree → Option C) (content : A → C) → ((t : Tree) (v : A) → R t v ↔ (of t ≡ Some (content v))) → (n : Name) (ms : Members) (v w : A) → FieldReads R of content None n ms v → FieldReads R of content None n ms w ↔ (content w ≡ content v)
-same_field R of content agrees n ms v w r =
-    let go : (o : Option Tree) → MeansOr R content None o v → MeansOr R content None o w ↔ (content w ≡ content v) = λ o. elim o as (λ o. MeansOr R content None o v → MeansOr R content None o w ↔ (content w ≡ content v)) [
+pub same_field : {A C : Type 0} (R : Tree → A → Type 0) (of : Tree → Option C) (content : A → C) → ((t : Tree) (v : A) → R t v ↔ (of t ≡ Some (content v))) → (n : Name) (ms : Members) (v w : A) → Says (None ≡ Some (content v)) (λ t. R t v) of n ms → Says (None ≡ Some (content w)) (λ t. R t w) of n ms ↔ (content w ≡ content v)
+same_field {A} R of content agrees n ms v w r =
+    let means : A → Option Tree → Type 0 = λ v o. MatchOption o (None ≡ Some (content v)) (λ t. R t v) in
+    let go : (o : Option Tree) → means v o → means w o ↔ (content w ≡ content v) = λ o. elim o as (λ o. means v o → means w o ↔ (content w ≡ content v)) [
       | None ↦ λ h. absurd (cc)
       | Some t ↦ λ h. let e = (agrees t v).0 h in (λ g. let f = (agrees t w).0 g in cc, λ q. (agrees t w).1 (e ∙ ap Some (sym q)))
     ] in
@@ -38,13 +39,15 @@ all_named of to more n (member k t ms) h = (λ e. more t (h.0 e), all_named of t
 
 -- the same of a field of an enum, of which each tree means the value of a second enum that `to` gives
 pub other_field : {A B : Type 0} (R : Tree → A → Type 0) (of : Tree → Option A) → ((t : Tree) (v : A) → R t v ↔ (of t ≡ Some v)) → (S : Tree → B → Type 0) (by : Tree → Option B) → ((t : Tree) (w : B) → S t w ↔ (by t ≡ Some w)) → (to : A → B) → ((t : Tree) (v : A) (w : B) → R t v → S t w ↔ (w ≡ to v))
-    → (n : Name) (ms : Members) (v : A) (w : B) → FieldReads R of (λ v. v) None n ms v → FieldReads S by (λ w. w) None n ms w ↔ (w ≡ to v)
+    → (n : Name) (ms : Members) (v : A) (w : B) → Says (None ≡ Some v) (λ t. R t v) of n ms → Says (None ≡ Some w) (λ t. S t w) by n ms ↔ (w ≡ to v)
 other_field {A} {B} R of agrees S by gives to law n ms v w r =
     let more : (t : Tree) → IsSome (of t) → IsSome (by t) = λ t. elim (of t) as (λ o. of t ≡ o → IsSome o → IsSome (by t)) [
       | None ↦ λ e h. absurd (cc)
       | Some x ↦ λ e h. subst IsSome (sym ((gives t (to x)).0 ((law t x (to x) ((agrees t x).1 e)).1 refl))) refl
     ] refl in
-    let go : (o : Option Tree) → MeansOr R (λ v. v) None o v → MeansOr S (λ w. w) None o w ↔ (w ≡ to v) = λ o. elim o as (λ o. MeansOr R (λ v. v) None o v → MeansOr S (λ w. w) None o w ↔ (w ≡ to v)) [
+    let was : Option Tree → Type 0 = λ o. MatchOption o (None ≡ Some v) (λ t. R t v) in
+    let is : Option Tree → Type 0 = λ o. MatchOption o (None ≡ Some w) (λ t. S t w) in
+    let go : (o : Option Tree) → was o → is o ↔ (w ≡ to v) = λ o. elim o as (λ o. was o → is o ↔ (w ≡ to v)) [
       | None ↦ λ h. absurd (cc)
       | Some t ↦ λ h. law t v w h
     ] in

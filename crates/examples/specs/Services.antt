@@ -6,8 +6,8 @@ use Rattle.miniserde.specs.Integers.{unsigned_of}
 use Rattle.miniserde.specs.Lists.{ListReads, list_of}
 use Rattle.miniserde.specs.Options.{OptionReads, option_of}
 use Rattle.miniserde.specs.Objects.{Name}
-use Rattle.miniserde.specs.Fields.{Says}
-use Rattle.miniserde.specs.Marks.{all_named, count_named}
+use Rattle.miniserde.specs.Fields.{Says, count_named}
+use Rattle.miniserde.specs.Marks.{all_named}
 use Rattle.examples.specs.declared.service.Service.{Service}
 
 -- the tree is a number below the limit

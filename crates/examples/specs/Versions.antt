@@ -1,5 +1,5 @@
 -- What becomes of values that an earlier version stored.
-use Rattle.std.specs.Prelude.{◌≡◌, ⊤, ℕ, List, None, string_bytes}
+use Rattle.std.specs.Prelude.{◌≡◌, ⊤, None, string_bytes}
 use Rattle.miniserde.specs.Tree.{Tree, members}
 use Rattle.miniserde.specs.Normal.{last_of}
 use Rattle.miniserde.specs.Objects.{Name}

@@ -5,9 +5,9 @@ ghost use Rattle.miniserde.specs.Tree.{nonneg, truth, str};
 ghost use Rattle.std.specs.Prelude.{true, refl};
 
 use miniserde::derived::{
-    AgainFields, Closed, Empty, Event, FourLent, FromJson, Given, GivenSlot, Global, Lossless,
-    NeverNull, OnceGivenSlot, OnceSlot, Parts, Ranged, Record, Result, RoundTrip, Serialize, Slot,
-    Slots, Source, Taken4, Writer, read_record, record_again, record_lossless, take4,
+    AgainFields, Closed, Empty, Event, FourLent, FromJson, Given, Global, Lossless, MarkedFour,
+    MarkedSlot, NeverNull, Once, Parts, Plain, Ranged, Record, Result, RoundTrip, Serialize, Slot,
+    Slots, Source, Taken4, WithDefault, Writer, read_record, record_again, record_lossless, take4,
     write_members,
 };
 
@@ -33,8 +33,6 @@ impl Given<String> for ServiceHostDefault {
 
     ghost given = { str SERVICE_HOST_DEFAULT.now };
 
-    fn is_given() {}
-
     fn make(alloc: Global) -> Result<String> {
         Ok(String::from_str(alloc, SERVICE_HOST_DEFAULT)?)
     }
@@ -46,8 +44,6 @@ pub struct ServicePortDefault {}
 
 impl Given<u16> for ServicePortDefault {
     ghost given = { nonneg 8080 };
-
-    fn is_given() {}
 
     fn make(_alloc: Global) -> Result<u16> {
         Ok(8080)
@@ -61,29 +57,22 @@ pub struct ServiceSecureDefault {}
 impl Given<bool> for ServiceSecureDefault {
     ghost given = { truth true };
 
-    fn is_given() {}
-
     fn make(_alloc: Global) -> Result<bool> {
         Ok(true)
     }
 }
 
 // Its fields, and their names.
-type ServiceFields = OnceSlot<
+type ServiceFields = MarkedFour<
     u64,
-    GivenSlot<
-        String,
-        ServiceHostDefault,
-        OnceGivenSlot<
-            u16,
-            ServicePortDefault,
-            GivenSlot<
-                bool,
-                ServiceSecureDefault,
-                GivenSlot<Vec<String>, Empty, Slot<Option<String>, Closed>>,
-            >,
-        >,
-    >,
+    Once<Plain>,
+    String,
+    WithDefault<ServiceHostDefault>,
+    u16,
+    Once<WithDefault<ServicePortDefault>>,
+    bool,
+    WithDefault<ServiceSecureDefault>,
+    MarkedSlot<Vec<String>, WithDefault<Empty>, Slot<Option<String>, Closed>>,
 >;
 
 const SERVICE_NAMES: &[&str] = &["id", "host", "port", "secure", "tags", "note"];

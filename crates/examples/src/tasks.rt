@@ -5,9 +5,10 @@ ghost use Rattle.miniserde.specs.Tree.{nonneg, str};
 ghost use Rattle.std.specs.Prelude.{true, List, codes, [], ◌∷◌, ⊤, refl};
 
 use miniserde::derived::{
-    AgainFields, Event, FourLent, FourSlot, Fragment, FromJson, Given, GivenSlot, Global, NoSlot,
-    Parts, Ranged, Record, Result, RoundTrip, Serialize, Slot, Slots, Source, Taken4, UnitEnum,
-    Variants, Writer, read_record, read_variant, record_again, take4, variant_again, write_members,
+    AgainFields, Event, FourLent, FourSlot, Fragment, FromJson, Given, Global, MarkedFour, NoSlot,
+    Parts, Plain, Ranged, Record, Result, RoundTrip, Serialize, Slot, Slots, Source, Taken4,
+    UnitEnum, Variants, WithDefault, Writer, read_record, read_variant, record_again, take4,
+    variant_again, write_members,
 };
 
 /// How a task of version 1 stands.
@@ -240,17 +241,22 @@ pub struct TaskRetriesDefault {}
 impl Given<u32> for TaskRetriesDefault {
     ghost given = { nonneg 3 };
 
-    fn is_given() {}
-
     fn make(_alloc: Global) -> Result<u32> {
         Ok(3)
     }
 }
 
 // Its fields, and their names.
-type TaskFields = Slot<
+type TaskFields = MarkedFour<
     u64,
-    Slot<String, Slot<State, GivenSlot<u32, TaskRetriesDefault, Slot<Option<String>, NoSlot>>>>,
+    Plain,
+    String,
+    Plain,
+    State,
+    Plain,
+    u32,
+    WithDefault<TaskRetriesDefault>,
+    Slot<Option<String>, NoSlot>,
 >;
 
 const TASK_NAMES: &[&str] = &["id", "title", "state", "retries", "note"];

@@ -60,10 +60,8 @@ pub use Rattle.miniserde_round.specs.RoundTrip
 pub use Rattle.miniserde_record.specs.Fields
 pub use Rattle.miniserde_record.specs.FieldsMeant
 pub use Rattle.miniserde_record.specs.Marks
-pub use Rattle.miniserde_record.specs.MarksMeant
 pub use Rattle.miniserde_record.specs.Members
 pub use Rattle.miniserde_record.specs.Names
-pub use Rattle.miniserde_record.specs.Once
 pub use Rattle.miniserde_record.specs.Structs
 pub use Rattle.miniserde_record.specs.Variants
 pub use Rattle.miniserde_record.specs.laws.Said

@@ -1,5 +1,5 @@
 -- The meaning of fields that are collected from events, and so of a struct's place.
-use Rattle.std.specs.Prelude.{◌≡◌, refl, Bool, true, false, cond, List, Option, Some, None, option_map}
+use Rattle.std.specs.Prelude.{◌≡◌, refl, Bool, true, false, List, Option, Some, None, option_map}
 use Rattle.miniserde_model.specs.Tree.{Tree}
 use Rattle.miniserde_model.specs.Event.{Event, key, events}
 use Rattle.miniserde_place.specs.Place.{Shown, Meaning}
@@ -9,10 +9,9 @@ use Rattle.miniserde_de.specs.Objects.{object_rules}
 use Rattle.miniserde_de.specs.Tied.{meant_by}
 use Rattle.miniserde_de.specs.laws.Objects.{object-meant}
 use Rattle.miniserde_record.specs.Fields.{field_member, StructReads}
-use Rattle.miniserde_record.specs.FieldsMeant.{FieldsMeant, no_fields, field_and, fields_once}
-use Rattle.miniserde_record.specs.laws.Fields.{field-meant}
+use Rattle.miniserde_record.specs.FieldsMeant.{FieldsMeant, no_fields, field_and}
+use Rattle.miniserde_record.specs.laws.Fields.{none-refused, field-refused, field-meant}
 use Rattle.miniserde_record.specs.laws.Meanings.{struct-given}
-use Rattle.miniserde_record.specs.laws.Repeats.{none-refused, field-refused, once-refused, once-meant}
 
 -- the meaning of fields: F are the fields so far, with the place of the current one, and V the values of all of them
 pub record FieldsMeaning (F V : Type 0) : Type 1 where
@@ -44,14 +43,14 @@ abbrev pub field_shows : {P A S : Type 0} → (P → Shown A) → Option A → S
 field_shows shows v s later None = joining (λ r. Some (v, r)) later
 field_shows shows v s later (Some p) = joining (λ a. Some (Some a, s)) (shows p)
 
--- a field, and the later ones
-abbrev pub field_place_and : {P T F R V : Type 0} → Meaning P T → Option T → (F → Option T) → (F → Option P) → (F → R) → FieldsMeaning R V → FieldsMeaning F (T × V)
-field_place_and m absent value child rest n = record {
-  meant = field_and (meant_by m) absent n.meant;
+-- a field, which takes one member alone where it is `once`, and the later ones
+abbrev pub field_place_and : {P T F R V : Type 0} → Bool → Meaning P T → Option T → (F → Option T) → (F → Option P) → (F → R) → FieldsMeaning R V → FieldsMeaning F (T × V)
+field_place_and once m absent value child rest n = record {
+  meant = field_and once None (meant_by m) absent n.meant;
   state = λ f. (option_map m.content (value f), n.state (rest f));
-  by_events = field_member m.from_events n.by_events;
-  events_agree = field-meant m.from_events m.from_tree n.by_events n.meant.by_tree m.events_agree n.events_agree;
-  refused = field-refused m.from_events n.by_events n.meant.refuses n.refused;
+  by_events = field_member once m.from_events n.by_events;
+  events_agree = field-meant once m.from_events m.from_tree n.by_events n.meant.by_tree m.events_agree n.events_agree;
+  refused = field-refused once m.from_events n.by_events n.meant.refuses n.refused;
   child = λ f. field_shows m.shows (option_map m.content (value f)) (n.state (rest f)) (n.child (rest f)) (child f);
 }
 
@@ -63,17 +62,6 @@ field_places_inside inner n = record {
   by_events = n.by_events;
   events_agree = n.events_agree;
   refused = n.refused;
-  child = λ g. n.child (inner g);
-}
-
--- the meaning of a wrapper around fields, of which each takes one member: a duplicate of a field's name is invalid
-abbrev pub field_places_once : {F G V : Type 0} → (G → F) → FieldsMeaning F V → FieldsMeaning G V
-field_places_once inner n = record {
-  meant = fields_once n.meant;
-  state = λ g. n.state (inner g);
-  by_events = λ ns s k es. cond (n.meant.has ns s k) None (n.by_events ns s k es);
-  events_agree = once-meant n.by_events n.meant.by_tree n.meant.has n.events_agree;
-  refused = once-refused n.by_events n.meant.has n.meant.refuses n.refused;
   child = λ g. n.child (inner g);
 }
 

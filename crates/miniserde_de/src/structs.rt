@@ -3,11 +3,9 @@
 mod fields;
 mod fours;
 mod name_place;
-mod once;
 mod record_place;
 
-pub use fields::{Field, FieldOf, Fields, NoField};
-pub use fours::{Four, FourOf};
+pub use fields::{Field, FieldOf, Fields, NoField, OnceField};
+pub use fours::{Four, FourOf, OnceFour};
 pub use name_place::NamePlace;
-pub use once::Once;
 pub use record_place::{PlacedRecord, RecordPlace};

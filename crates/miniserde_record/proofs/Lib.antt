@@ -1,4 +1,3 @@
 pub mod Due
-pub mod MarkRounds
 pub mod Named
 pub mod Rounds

@@ -1,16 +1,17 @@
 -- The fields of a struct read again, one after another, where each has a name of its own.
-use Rattle.std.proofs.Common.{◌≡◌, ℕ, ◌+◌, Bool, true, false, not, ◌&&◌, nat_eq, List, [], ◌∷◌, length, Option, Some, None, refl, sym, ap, subst, ◌∙◌, true≢false, arith}
-use Rattle.std.specs.Prelude.{◌↔◌, IsSome, bytes_eq}
+use Rattle.std.proofs.Common.{◌≡◌, ℕ, ◌+◌, ◌≤◌, Bool, true, false, not, ◌&&◌, nat_eq, List, [], ◌∷◌, length, Option, Some, None, refl, sym, ap, subst, ◌∙◌, true≢false, arith}
+use Rattle.std.specs.Prelude.{IsSome, MatchOption, bytes_eq, ⊤}
 use Rattle.std.proofs.lemmas.Bool.Decides.{nat_tests}
 use Rattle.std.proofs.lemmas.Slice.Eq.{bytes_eq-Decides}
 use Rattle.miniserde_model.specs.Tree.{Tree, Members, no_members, member}
 use Rattle.miniserde_model.specs.Normal.{last_of}
 use Rattle.miniserde_text.proofs.Equal.{bytes_eq-flips}
+use Rattle.miniserde_read.specs.Meant.{Meant}
 use Rattle.miniserde_read.specs.meaning.Objects.{Name}
 use Rattle.miniserde_round.specs.RoundTrip.{ReadsAgain}
-use Rattle.miniserde_record.specs.Fields.{others, AllNamed, MeansOr, FieldsRead}
+use Rattle.miniserde_record.specs.Fields.{others, AllNamed, Says, count_named, OnceAnd, FieldsRead}
+use Rattle.miniserde_record.specs.Marks.{are_none}
 use Rattle.miniserde_record.specs.Structs.{is_new, are_distinct, are_names}
-use Rattle.miniserde_record.specs.Once.{once, OnceReads}
 use Rattle.miniserde_record.specs.Structs.{with_names, members_text, FieldsAgain}
 
 same : (n : Name) → bytes_eq n n ≡ true
@@ -67,51 +68,55 @@ last_own n t ns ts h = rw (last_new n ns ts h, same n) refl
 pub others_own : (n : Name) (t : Tree) (ns : List Name) (ts : List Tree) → is_new n ns ≡ true → others n (member n t (with_names ns ts)) ≡ with_names ns ts
 others_own n t ns ts h = rw (same n) (others_new n ns ts h)
 
-module _ {A C W : Type 0} (real_a : A → Type 0) (tree : A → Tree) (reads : Tree → A → Type 0) (of : Tree → Option C) (content : A → C) (absent : Option A) (given : (t : Tree) (v : A) → reads t v ↔ (of t ≡ Some (content v)))
+-- of a new name no member counts
+count_new : (n : Name) (ns : List Name) (ts : List Tree) → is_new n ns ≡ true → count_named n (with_names ns ts) ≡ 0
+count_new n [] ts h = refl
+count_new n (k ∷ ks) [] h = refl
+count_new n (k ∷ ks) (t ∷ ts) h = let p = apart n k ks h in rw p.0 (count_new n ks ts p.1)
+
+-- so its own member is one alone
+count_own : (n : Name) (t : Tree) (ns : List Name) (ts : List Tree) → is_new n ns ≡ true → count_named n (member n t (with_names ns ts)) ≤ 1
+count_own n t ns ts h = rw (same n, count_new n ns ts h) (omega (arith))
+
+-- `once`, where one member alone has the name
+and_once : (once : Bool) (n : Name) (ms : Members) (P : Type 0) → count_named n ms ≤ 1 → P → OnceAnd once n ms P
+and_once false n ms P c p = p
+and_once true n ms P c p = (c, p)
+
+once_and : (once : Bool) (n : Name) (ms : Members) (P : Type 0) → OnceAnd once n ms P → P
+once_and false n ms P h = h
+once_and true n ms P h = h.1
+
+module _ {A W : Type 0} (once : Bool) (m : Meant A) (missing : A → Type 0) (real_a : A → Type 0) (tree : A → Tree)
     (real_r : W → Type 0) (trees : W → List Tree) (count : ℕ) (reads_r : List Name → Members → W → Type 0)
-    (first : (v : A) → real_a v → ReadsAgain real_a tree reads (tree v))
+    (first : (v : A) → real_a v → ReadsAgain real_a tree m.reads (tree v))
     (later : (names : List Name) (v : W) → are_names count names ≡ true → real_r v → FieldsAgain real_r trees reads_r names (trees v)) where
+  -- a written field is there, so what a missing one has is not asked for
   pub again-field : (names : List Name) (v : A × W) → are_names (count + 1) names ≡ true → real_a v.0 × real_r v.1
-      → FieldsAgain (λ (v : A × W). real_a v.0 × real_r v.1) (λ v. tree v.0 ∷ trees v.1) (FieldsRead reads of content absent reads_r) names (tree v.0 ∷ trees v.1)
+      → FieldsAgain (λ (v : A × W). real_a v.0 × real_r v.1) (λ v. tree v.0 ∷ trees v.1) (FieldsRead once m.reads m.from_tree missing reads_r) names (tree v.0 ∷ trees v.1)
   again-field [] v f r = absurd (no_names count f)
   again-field (n ∷ ns) v f r =
       let f = more_names count n ns f in
       let a = first v.0 r.0 in
       let b = later ns v.1 f.1 r.1 in
+      let ms = member n (tree v.0) (with_names ns (trees v.1)) in
       let last = last_own n (tree v.0) ns (trees v.1) f.0 in
       let rest = others_own n (tree v.0) ns (trees v.1) f.0 in
-      let some : IsSome (of (tree v.0)) = rw ((given (tree v.0) a.0.0).0 a.0.2) refl in (
+      let some : IsSome (m.from_tree (tree v.0)) = rw ((m.reads_agrees (tree v.0) a.0.0).0 a.0.2) refl in
+      let says : (w : A) → Type 0 = λ w. Says (missing w) (λ t. m.reads t w) m.from_tree n ms in (
         (
           (a.0.0, b.0.0),
           (a.0.1, b.0.1),
           (
-            ((λ _. some, all_new of n ns (trees v.1) f.0), subst (λ o. MeansOr reads content absent o a.0.0) (sym last) a.0.2),
+            and_once once n ms (says a.0.0) (count_own n (tree v.0) ns (trees v.1) f.0) ((λ _. some, all_new m.from_tree n ns (trees v.1) f.0), subst (λ o. MatchOption o (missing a.0.0) (λ t. m.reads t a.0.0)) (sym last) a.0.2),
             subst (λ ms. reads_r ns ms b.0.0) (sym rest) b.0.2,
           ),
         ),
         λ w s e. rw (
-          a.1 w.0 s.0 (subst (λ o. MeansOr reads content absent o w.0) last e.0.1),
+          a.1 w.0 s.0 (subst (λ o. MatchOption o (missing w.0) (λ t. m.reads t w.0)) last (once_and once n ms (says w.0) e.0).1),
           b.1 w.1 s.1 (subst (λ ms. reads_r ns ms w.1) rest e.1),
         ) refl,
       )
-
--- ---- fields of which each takes one member alone
-
--- names of which no two are alike name members of which no two are
-once_names : (owns : Name → Bool) (ns : List Name) (ts : List Tree) → are_distinct ns ≡ true → once owns (with_names ns ts) ≡ true
-once_names owns [] ts h = refl
-once_names owns (n ∷ ns) [] h = refl
-once_names owns (n ∷ ns) (t ∷ ts) h =
-    let p = both (is_new n ns) (are_distinct ns) h in
-    rw (last_new n ns ts p.0, once_names owns ns ts p.1) (elim (owns n) as (λ b. (not (b && false) && true) ≡ true) [ true ↦ refl | false ↦ refl ])
-
-pub again-once : {W : Type 0} (owns : List Name → Name → Bool) (real : W → Type 0) (trees : W → List Tree) (count : ℕ) (reads : List Name → Members → W → Type 0) (names : List Name) (v : W)
-    → are_names count names ≡ true → FieldsAgain real trees reads names (trees v) → FieldsAgain real trees (OnceReads owns reads) names (trees v)
-again-once owns real trees count reads names v h a =
-    let p = both (nat_eq (length names) count) (are_distinct names) h in (
-      (a.0.0, a.0.1, (once_names (owns names) names (trees v) p.1, a.0.2)),
-      λ w s e. a.1 w s e.1,
-    )
 
 -- ---- writing
 
@@ -122,3 +127,7 @@ with_names_none (n ∷ ns) = refl
 pub no_text : (first : Bool) → members_text first no_members ≡ []
 no_text true = refl
 no_text false = refl
+
+-- no member is left behind the last field
+pub again-closed : (names : List Name) → FieldsAgain {V = Unit {0}} (λ _. ⊤) (λ _. []) (λ ns ms v. are_none ms ≡ true) names []
+again-closed names = ((tt, tt, ap are_none (with_names_none names)), λ v r e. refl)

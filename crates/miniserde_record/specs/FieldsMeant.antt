@@ -1,13 +1,12 @@
--- The meaning of a struct, by the meanings of its fields.
-use Rattle.std.specs.Prelude.{◌≡◌, ◌↔◌, refl, ℕ, ◌+◌, ◌&&◌, ◌||◌, Bool, true, false, cond, List, Option, Some, None, option_map, option_and_then, bytes_eq, ⊤}
+-- The meaning of a struct, by the meanings and the marks of its fields.
+use Rattle.std.specs.Prelude.{◌≡◌, ◌↔◌, refl, ℕ, ◌+◌, Bool, true, false, cond, List, Option, Some, None, option_and_then, ⊤}
 use Rattle.miniserde_model.specs.Tree.{Tree, Members}
 use Rattle.miniserde_read.specs.Meant.{Meant}
 use Rattle.miniserde_read.specs.meaning.Objects.{Name, object_of, all_members}
-use Rattle.miniserde_record.specs.Fields.{field_member, field_owns, field_has, field_refuses, field_closed, field_given, FieldsRead, StructReads}
-use Rattle.miniserde_record.specs.Once.{once_given, OnceReads}
-use Rattle.miniserde_record.specs.laws.Fields.{field-apart, none-apart}
-use Rattle.miniserde_record.specs.laws.Meanings.{none-given, field-given, struct-given}
-use Rattle.miniserde_record.specs.laws.Repeats.{none-refused, field-refused, once-refused, field-has_none, field-has_more, once-has_more, once-apart, once-given}
+use Rattle.miniserde_record.specs.Fields.{field_member, field_refuses, field_closed, field_given, missing_content, MissingReads, FieldsRead, StructReads}
+use Rattle.miniserde_record.specs.Marks.{are_none}
+use Rattle.miniserde_record.specs.laws.Fields.{none-refused, field-refused, none-apart, closed-apart, field-apart}
+use Rattle.miniserde_record.specs.laws.Meanings.{none-given, closed-given, missing-agrees, field-given, struct-given}
 
 -- the meaning of fields: V are the values of all of them
 pub record FieldsMeant (V : Type 0) : Type 1 where
@@ -24,12 +23,6 @@ pub record FieldsMeant (V : Type 0) : Type 1 where
   -- a member of the name is refused before its value, whatever that is
   pub refuses : List Name → State → Name → Bool
   pub refused : (names : List Name) (s : State) (k : Name) → refuses names s k ≡ true → (t : Tree) → by_tree names s k t ≡ None
-  -- the name is a field's
-  pub owns : List Name → Name → Bool
-  -- the field of the name has a value: none has one at first, and a member gives one to the field of its name
-  pub has : List Name → State → Name → Bool
-  pub has_none : (names : List Name) (k : Name) → has names empty k ≡ false
-  pub has_more : (names : List Name) (s : State) (k : Name) (t : Tree) (r : State) → by_tree names s k t ≡ Some r → (j : Name) → has names r j ≡ (has names s j || (owns names k && bytes_eq j k))
   -- the content at the end of the members
   pub end : State → Option Content
   -- the content that the members give from a state, field by field
@@ -50,10 +43,6 @@ no_fields = record {
   by_tree = λ ns s k t. Some tt;
   refuses = λ ns s k. false;
   refused = λ ns s k h t. none-refused (Some tt) h;
-  owns = λ ns k. false;
-  has = λ ns s k. false;
-  has_none = λ ns k. refl;
-  has_more = λ ns s k t r e j. refl;
   end = λ s. Some tt;
   from_members = λ ns s ms. Some tt;
   members_agree = λ ns s ms. none-apart ms;
@@ -61,48 +50,42 @@ no_fields = record {
   reads_agrees = λ ns ms v. none-given v;
 }
 
--- a field, by its type's meaning and the value where the field is missing, and the later fields
-abbrev pub field_and : {T V : Type 0} → Meant T → Option T → FieldsMeant V → FieldsMeant (T × V)
-field_and m absent n = record {
+-- `closed`: behind the last field no member is left, so each member's name is a field's (`closed-named`)
+abbrev pub closed_end : FieldsMeant (Unit {0})
+closed_end = record {
+  Content = Unit {0};
+  content = λ _. tt;
+  State = Unit {0};
+  empty = tt;
+  count = 0;
+  by_tree = λ ns s k t. None;
+  refuses = λ ns s k. true;
+  refused = λ ns s k h t. refl;
+  end = λ s. Some tt;
+  from_members = λ ns s ms. cond (are_none ms) (Some tt) None;
+  members_agree = λ ns s ms. closed-apart s ms;
+  reads = λ ns ms v. are_none ms ≡ true;
+  reads_agrees = λ ns ms v. closed-given ms v;
+}
+
+-- A field, by its mark and its type's meaning, and the later fields. `once`: at most one member has its name. `default`:
+-- members with the name mean what they do without the mark (`given-present`), and those without it what they would beside
+-- a member of that name with the given tree (`given-missing`).
+abbrev pub field_and : {T V : Type 0} → Bool → Option Tree → Meant T → Option T → FieldsMeant V → FieldsMeant (T × V)
+field_and once given m absent n = record {
   Content = m.Content × n.Content;
   content = λ v. (m.content v.0, n.content v.1);
   State = Option m.Content × n.State;
   empty = (None, n.empty);
   count = n.count + 1;
-  by_tree = field_member m.from_tree n.by_tree;
-  refuses = field_refuses n.refuses;
-  refused = field-refused m.from_tree n.by_tree n.refuses n.refused;
-  owns = field_owns n.owns;
-  has = field_has n.has;
-  has_none = field-has_none n.empty n.has n.has_none m.Content;
-  has_more = field-has_more m.from_tree n.by_tree n.owns n.has n.has_more;
-  end = field_closed (option_map m.content absent) n.end;
-  from_members = field_given m.from_tree (option_map m.content absent) n.from_members;
-  members_agree = field-apart m.from_tree (option_map m.content absent) n.by_tree n.end n.from_members n.members_agree;
-  reads = FieldsRead m.reads m.from_tree m.content absent n.reads;
-  reads_agrees = field-given m.reads m.from_tree m.content absent m.reads_agrees n.reads n.from_members n.content n.empty n.reads_agrees;
-}
-
--- the same fields, of which each takes one member: a duplicate of a field's name is invalid
-abbrev pub fields_once : {V : Type 0} → FieldsMeant V → FieldsMeant V
-fields_once n = record {
-  Content = n.Content;
-  content = n.content;
-  State = n.State;
-  empty = n.empty;
-  count = n.count;
-  by_tree = λ ns s k t. cond (n.has ns s k) None (n.by_tree ns s k t);
-  refuses = λ ns s k. n.has ns s k || n.refuses ns s k;
-  refused = once-refused n.by_tree n.has n.refuses n.refused;
-  owns = n.owns;
-  has = n.has;
-  has_none = n.has_none;
-  has_more = once-has_more n.by_tree n.owns n.has n.has_more;
-  end = n.end;
-  from_members = λ ns s ms. once_given (n.owns ns) (n.has ns s) (n.from_members ns s ms) ms;
-  members_agree = once-apart n.by_tree n.owns n.has n.has_more n.end n.from_members n.members_agree;
-  reads = OnceReads n.owns n.reads;
-  reads_agrees = once-given n.owns n.has n.empty n.has_none n.reads n.from_members n.content n.reads_agrees;
+  by_tree = field_member once m.from_tree n.by_tree;
+  refuses = field_refuses once n.refuses;
+  refused = field-refused once m.from_tree n.by_tree n.refuses n.refused;
+  end = field_closed (missing_content m given absent) n.end;
+  from_members = field_given once m.from_tree (missing_content m given absent) n.from_members;
+  members_agree = field-apart once m.from_tree (missing_content m given absent) n.by_tree n.end n.from_members n.members_agree;
+  reads = FieldsRead once m.reads m.from_tree (MissingReads m given absent) n.reads;
+  reads_agrees = field-given once m (missing_content m given absent) (MissingReads m given absent) (missing-agrees m given absent) n.reads n.from_members n.content n.empty n.reads_agrees;
 }
 
 -- a struct, by the names and the values of its fields

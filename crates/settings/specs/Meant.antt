@@ -1,6 +1,6 @@
 -- Which trees mean settings, and when two settings are the same: field by field, in the words of a user.
-use Rattle.std.specs.Prelude.{◌≡◌, ◌<◌, ◌^◌, ℕ, Bool, List, map, Option, Some, None, option_map, MatchOption, string_bytes, codes}
-use Rattle.miniserde.specs.Tree.{Tree, nonneg, str, truth, members, Members}
+use Rattle.std.specs.Prelude.{◌≡◌, ◌<◌, ◌^◌, ℕ, Bool, List, map, Option, Some, None, option_map, string_bytes, codes}
+use Rattle.miniserde.specs.Tree.{Tree, nonneg, str, truth, members}
 use Rattle.miniserde.specs.Words.{boolean_of, string_of}
 use Rattle.miniserde.specs.Integers.{unsigned_of}
 use Rattle.miniserde.specs.Lists.{ListReads, list_of}

@@ -5,9 +5,10 @@ ghost use Rattle.miniserde.specs.Tree.{nonneg};
 ghost use Rattle.std.specs.Prelude.{refl};
 
 use miniserde::derived::{
-    AgainFields, Closed, Event, FourLent, FourSlot, FromJson, Given, GivenSlot, Global, Lossless,
-    NeverNull, NoSlot, OnceSlot, Parts, Ranged, Record, Result, RoundTrip, Serialize, Slot, Slots,
-    Source, Taken4, Writer, read_record, record_again, record_lossless, take4, write_members,
+    AgainFields, Closed, Event, FourLent, FourSlot, FromJson, Given, Global, Lossless, MarkedFour,
+    NeverNull, NoSlot, Once, Parts, Plain, Ranged, Record, Result, RoundTrip, Serialize, Slot,
+    Slots, Source, Taken4, WithDefault, Writer, read_record, record_again, record_lossless, take4,
+    write_members,
 };
 use std::collections::BTreeMap;
 
@@ -141,8 +142,6 @@ pub struct ServerRetriesDefault {}
 impl Given<u16> for ServerRetriesDefault {
     ghost given = { nonneg 3 };
 
-    fn is_given() {}
-
     fn make(_alloc: Global) -> Result<u16> {
         Ok(3)
     }
@@ -174,24 +173,21 @@ type ServerFields = FourSlot<
                     i8,
                     i64,
                     (u32, u32),
-                    OnceSlot<
+                    MarkedFour<
                         u64,
-                        Slot<
+                        Once<Plain>,
+                        Option<String>,
+                        Plain,
+                        bool,
+                        Plain,
+                        u16,
+                        WithDefault<ServerRetriesDefault>,
+                        FourSlot<
+                            u32,
                             Option<String>,
-                            Slot<
-                                bool,
-                                GivenSlot<
-                                    u16,
-                                    ServerRetriesDefault,
-                                    FourSlot<
-                                        u32,
-                                        Option<String>,
-                                        String,
-                                        Vec<String>,
-                                        Slot<BTreeMap<String, bool>, Slot<Option<String>, Closed>>,
-                                    >,
-                                >,
-                            >,
+                            String,
+                            Vec<String>,
+                            Slot<BTreeMap<String, bool>, Slot<Option<String>, Closed>>,
                         >,
                     >,
                 >,

@@ -11,12 +11,13 @@ ghost use Rattle.miniserde_de.specs.FieldPlaces.{FieldsMeaning, no_field_places,
 use crate::de::Deserialize;
 use miniserde_model::error::{Error, Result};
 use miniserde_place::de::{Ignore, Step, Visitor, ignore};
-use miniserde_record::record::{Parts, or_missing};
+use miniserde_record::record::{Once, Parts, Plain, Repeats};
 use std::alloc::Global;
+use std::marker::PhantomData;
 use std::mem;
 
 /// The values so far of a struct's fields, and the place of the current one.
-pub trait Fields {
+pub trait Fields: Drop {
     /// The fields' values, in their order.
     type Values;
 
@@ -29,10 +30,6 @@ pub trait Fields {
     /// Returns fields without values.
     fn new() -> Self
         ensures { meaning.state result ≡ meaning.meant.empty };
-
-    /// Returns whether the field of the name has a value.
-    fn has_value(&self, names: &[&str], name: &str) -> bool
-        ensures { result ≡ meaning.meant.has (map (λ n. n.now) names.now) (meaning.state self.now) name.now };
 
     /// Begins the value of a member of the name.
     fn begin_child(&mut self, alloc: Global, names: &[&str], name: &str) -> Result<()>
@@ -71,10 +68,9 @@ pub trait Fields {
     fn are_whole(&self) -> bool
         ensures { result ≡ is_some (meaning.meant.end (meaning.state self.now)) };
 
-    /// Returns the values of the fields, each of which has one or a default.
-    fn values(self) -> Self::Values
-        requires whole { is_some (meaning.meant.end (meaning.state self)) ≡ true }
-        ensures { meaning.meant.end (meaning.state self) ≡ Some (meaning.meant.content result) };
+    /// Returns the values of the fields, if each has one or a default.
+    fn end(self) -> Option<Self::Values>
+        ensures { option_map meaning.meant.content result ≡ meaning.meant.end (meaning.state self) };
 }
 
 /// No more fields: members of any other names are skipped.
@@ -92,10 +88,6 @@ impl Fields for NoField {
 
     fn new() -> NoField {
         NoField { skipped: ignore() }
-    }
-
-    fn has_value(&self, _names: &[&str], _name: &str) -> bool {
-        false
     }
 
     fn begin_child(&mut self, _alloc: Global, _names: &[&str], _name: &str) -> Result<()> {
@@ -123,41 +115,54 @@ impl Fields for NoField {
         true
     }
 
-    fn values(self) {}
+    fn end(self) -> Option<()> {
+        Some(())
+    }
 }
 
-/// A field, and the ones after it, by the place of its value.
-#[derive(Drop)]
-pub struct FieldOf<P, T, R> {
+/// A field, and the ones after it, by the place of its value. `O` says whether it takes one member alone.
+pub struct FieldOf<P, T, O, R> {
     value: Option<T>,
     child: Option<P>,
+    once: PhantomData<O>,
     rest: R,
 }
 
 /// A field of a type, and the ones after it.
-pub type Field<T, R> = FieldOf<<T as Deserialize>::Place, T, R>;
+pub type Field<T, R> = FieldOf<<T as Deserialize>::Place, T, Plain, R>;
 
-impl<T: Deserialize, R: Fields> Fields for FieldOf<T::Place, T, R> {
+/// A field of a type that takes one member alone, and the ones after it: a duplicate of its name is refused before its
+/// value. Members of other names may be duplicates, and so may any names inside a value.
+pub type OnceField<T, R> = FieldOf<<T as Deserialize>::Place, T, Once<Plain>, R>;
+
+impl<P: Drop, T: Drop, O, R: Drop> Drop for FieldOf<P, T, O, R> {
+    fn drop(self) {
+        let FieldOf {
+            value,
+            child,
+            once: _,
+            rest,
+        } = self;
+        drop(value);
+        drop(child);
+        drop(rest);
+    }
+}
+
+impl<T: Deserialize, O: Repeats, R: Fields> Fields for FieldOf<T::Place, T, O, R> {
     type Values = Parts<T, R::Values>;
 
-    ghost meaning = { field_place_and T.Place.meaning T.absent (λ f. f.value) (λ f. f.child) (λ f. f.rest) R.meaning };
+    ghost meaning = { field_place_and O.once T.Place.meaning T.absent (λ f. f.value) (λ f. f.child) (λ f. f.rest) R.meaning };
 
     // `join` moves the value out of its place, and allocates nothing itself.
     ghost join_infallible = { T.Place.takes_free && R.join_infallible };
 
-    fn new() -> FieldOf<T::Place, T, R> {
+    fn new() -> FieldOf<T::Place, T, O, R> {
         FieldOf {
             value: None,
             child: None,
+            once: PhantomData,
             rest: R::new(),
-        }
-    }
-
-    fn has_value(&self, names: &[&str], name: &str) -> bool {
-        match names.split_first() {
-            Some((first, _)) if name == *first => self.value.is_some(),
-            Some((_, more)) => self.rest.has_value(more, name),
-            None => self.rest.has_value(names, name),
         }
     }
 
@@ -166,6 +171,9 @@ impl<T: Deserialize, R: Fields> Fields for FieldOf<T::Place, T, R> {
         match names.split_first() {
             Some((first, more)) => {
                 if name == *first {
+                    if O::is_once() && self.value.is_some() {
+                        return Err(Error::Invalid);
+                    }
                     self.child = Some(<T::Place as Visitor>::begin(alloc)?);
                     Ok(())
                 } else {
@@ -216,12 +224,17 @@ impl<T: Deserialize, R: Fields> Fields for FieldOf<T::Place, T, R> {
         (self.value.is_some() || T::missing().is_some()) && self.rest.are_whole()
     }
 
-    fn values(self) -> Parts<T, R::Values> {
+    fn end(self) -> Option<Parts<T, R::Values>> {
         let FieldOf {
             value,
             child: _,
+            once: _,
             rest,
         } = self;
-        Parts(or_missing(value).unwrap(), rest.values())
+        let value = match value {
+            Some(value) => value,
+            None => T::missing()?,
+        };
+        Some(Parts(value, rest.end()?))
     }
 }

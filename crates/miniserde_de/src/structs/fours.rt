@@ -1,18 +1,17 @@
 //! Four fields at once, for structs of many fields.
 ghost use Rattle.miniserde_de.specs.FieldPlaces.{field_places_inside};
 
-use super::fields::{Field, FieldOf, Fields};
+use super::fields::{FieldOf, Fields};
 use crate::de::Deserialize;
 use miniserde_model::error::{Error, Result};
 use miniserde_place::de::Step;
-use miniserde_record::record::Parts;
+use miniserde_record::record::{Once, Parts, Plain, Repeats};
 use std::alloc::Global;
 
-/// Four fields, and the ones after them, by the places of their values. A check of nested fields takes twice the time
-/// for each field more, and for each four more here.
-#[derive(Drop)]
-pub struct FourOf<P, A, Q, B, S, C, U, D, R> {
-    fields: FieldOf<P, A, FieldOf<Q, B, FieldOf<S, C, FieldOf<U, D, R>>>>,
+/// Four fields, and the ones after them, by the places of their values. `O` says whether each takes one member alone. A
+/// check of nested fields takes twice the time for each field more, and for each four more here.
+pub struct FourOf<P, A, Q, B, S, C, U, D, O, R> {
+    fields: FieldOf<P, A, O, FieldOf<Q, B, O, FieldOf<S, C, O, FieldOf<U, D, O, R>>>>,
 }
 
 /// Four fields of these types, and the ones after them.
@@ -25,25 +24,49 @@ pub type Four<A, B, C, D, R> = FourOf<
     C,
     <D as Deserialize>::Place,
     D,
+    Plain,
     R,
 >;
 
-impl<A: Deserialize, B: Deserialize, C: Deserialize, D: Deserialize, R: Fields> Fields
-    for FourOf<A::Place, A, B::Place, B, C::Place, C, D::Place, D, R> {
+/// Four fields of these types that each take one member alone, and the ones after them.
+pub type OnceFour<A, B, C, D, R> = FourOf<
+    <A as Deserialize>::Place,
+    A,
+    <B as Deserialize>::Place,
+    B,
+    <C as Deserialize>::Place,
+    C,
+    <D as Deserialize>::Place,
+    D,
+    Once<Plain>,
+    R,
+>;
+
+impl<P: Drop, A: Drop, Q: Drop, B: Drop, S: Drop, C: Drop, U: Drop, D: Drop, O, R: Drop> Drop
+    for FourOf<P, A, Q, B, S, C, U, D, O, R> {
+    fn drop(self) {
+        let FourOf { fields } = self;
+        drop(fields);
+    }
+}
+
+impl<A: Deserialize, B: Deserialize, C: Deserialize, D: Deserialize, O: Repeats, R: Fields> Fields
+    for FourOf<A::Place, A, B::Place, B, C::Place, C, D::Place, D, O, R> {
     type Values = Parts<A, Parts<B, Parts<C, Parts<D, R::Values>>>>;
 
-    ghost meaning = { field_places_inside (λ f. f.fields) ⟦<Field<A, Field<B, Field<C, Field<D, R>>>> as Fields>⟧.meaning };
+    ghost meaning = { field_places_inside (λ f. f.fields) ⟦<FieldOf<A::Place, A, O, FieldOf<B::Place, B, O, FieldOf<C::Place, C, O, FieldOf<D::Place, D, O, R>>>> as Fields>⟧.meaning };
 
-    ghost join_infallible = { ⟦<Field<A, Field<B, Field<C, Field<D, R>>>> as Fields>⟧.join_infallible };
+    ghost join_infallible = { ⟦<FieldOf<A::Place, A, O, FieldOf<B::Place, B, O, FieldOf<C::Place, C, O, FieldOf<D::Place, D, O, R>>>> as Fields>⟧.join_infallible };
 
-    fn new() -> Four<A, B, C, D, R> {
+    fn new() -> FourOf<A::Place, A, B::Place, B, C::Place, C, D::Place, D, O, R> {
         FourOf {
-            fields: <Field<A, Field<B, Field<C, Field<D, R>>>> as Fields>::new(),
+            fields: <FieldOf<
+                A::Place,
+                A,
+                O,
+                FieldOf<B::Place, B, O, FieldOf<C::Place, C, O, FieldOf<D::Place, D, O, R>>>,
+            > as Fields>::new(),
         }
-    }
-
-    fn has_value(&self, names: &[&str], name: &str) -> bool {
-        self.fields.has_value(names, name)
     }
 
     fn begin_child(&mut self, alloc: Global, names: &[&str], name: &str) -> Result<()> {
@@ -70,8 +93,8 @@ impl<A: Deserialize, B: Deserialize, C: Deserialize, D: Deserialize, R: Fields> 
         self.fields.are_whole()
     }
 
-    fn values(self) -> Parts<A, Parts<B, Parts<C, Parts<D, R::Values>>>> {
+    fn end(self) -> Option<Parts<A, Parts<B, Parts<C, Parts<D, R::Values>>>>> {
         let FourOf { fields } = self;
-        fields.values()
+        fields.end()
     }
 }

@@ -12,7 +12,7 @@ use std::marker::PhantomData;
 /// A struct with a place, which collects it from events.
 pub trait PlacedRecord: Record {
     /// The fields so far.
-    type Fields: Fields<Values = Self::Values> + Drop;
+    type Fields: Fields<Values = Self::Values>;
 }
 
 /// A struct that is being collected.
@@ -73,9 +73,6 @@ impl<S: PlacedRecord + 'static> Collect for RecordOf<S, S::Fields> {
 
     fn end(self) -> Option<S> {
         let RecordOf { fields, record: _ } = self;
-        if !fields.are_whole() {
-            return None;
-        }
-        Some(S::build(fields.values()))
+        Some(S::build(fields.end()?))
     }
 }

@@ -3,11 +3,11 @@ ghost use Rattle.std.specs.Prelude.{◌≡◌, true, List, [], ◌∷◌, length
 ghost use Rattle.miniserde_model.specs.Tree.{Tree};
 ghost use Rattle.miniserde_read.specs.meaning.Objects.{Name};
 ghost use Rattle.miniserde_round.specs.RoundTrip.{ReadsAgain};
-ghost use Rattle.miniserde_record.specs.FieldsMeant.{FieldsMeant, no_fields, field_and, fields_once, struct_meant};
+ghost use Rattle.miniserde_record.specs.FieldsMeant.{FieldsMeant, no_fields, field_and, struct_meant};
 ghost use Rattle.miniserde_record.specs.Structs.{FieldsAgain, are_names, record_tree};
 
-use super::once::OnceSlots;
-use super::slots::{NoSlot, Slot};
+use super::marks::Mark;
+use super::slots::{MarkedSlot, NoSlot};
 use super::structs::{Parts, Record};
 use miniserde_round::RoundTrip;
 
@@ -44,10 +44,10 @@ impl AgainFields for NoSlot {
     fn again() {}
 }
 
-impl<T: RoundTrip, R: AgainFields> AgainFields for Slot<T, R> {
+impl<T: RoundTrip, M: Mark<T>, R: AgainFields> AgainFields for MarkedSlot<T, M, R> {
     type Values = Parts<T, R::Values>;
 
-    ghost meaning = { field_and T.means T.absent R.meaning };
+    ghost meaning = { field_and M.once M.given T.means T.absent R.meaning };
 
     ghost real = { λ v. T.real v.0 × R.real v.1 };
 
@@ -56,20 +56,6 @@ impl<T: RoundTrip, R: AgainFields> AgainFields for Slot<T, R> {
     fn again() {
         T::again();
         R::again();
-    }
-}
-
-impl<F: AgainFields> AgainFields for OnceSlots<F> {
-    type Values = F::Values;
-
-    ghost meaning = { fields_once F.meaning };
-
-    ghost real = { F.real };
-
-    ghost trees = { F.trees };
-
-    fn again() {
-        F::again()
     }
 }
 

@@ -2,13 +2,137 @@
 //! block here.
 use super::again::AgainFields;
 use super::lossless::LosslessFields;
-use super::slots::{Slot, Slots};
+use super::marks::Mark;
+use super::slots::{MarkedSlot, Slot, Slots};
 use miniserde_model::error::Result;
 use miniserde_read::{FromJson, Source};
 use miniserde_round::{Lossless, RoundTrip};
 use std::alloc::Global;
 
-/// Four fields, and the ones after them.
+/// Four fields with their marks, and the fields after them.
+pub struct MarkedFour<A, M, B, N, C, O, D, P, Z> {
+    slots: MarkedSlot<A, M, MarkedSlot<B, N, MarkedSlot<C, O, MarkedSlot<D, P, Z>>>>,
+}
+
+impl<A: Drop, M, B: Drop, N, C: Drop, O, D: Drop, P, Z: Drop> Drop
+    for MarkedFour<A, M, B, N, C, O, D, P, Z> {
+    fn drop(self) {
+        let MarkedFour { slots } = self;
+        drop(slots);
+    }
+}
+
+impl<
+    A: FromJson,
+    M: Mark<A>,
+    B: FromJson,
+    N: Mark<B>,
+    C: FromJson,
+    O: Mark<C>,
+    D: FromJson,
+    P: Mark<D>,
+    Z: Slots,
+> Slots for MarkedFour<A, M, B, N, C, O, D, P, Z> {
+    type Values = <MarkedSlot<
+        A,
+        M,
+        MarkedSlot<B, N, MarkedSlot<C, O, MarkedSlot<D, P, Z>>>,
+    > as Slots>::Values;
+
+    ghost meaning = { ⟦<MarkedSlot<A, M, MarkedSlot<B, N, MarkedSlot<C, O, MarkedSlot<D, P, Z>>>> as Slots>⟧.meaning };
+
+    ghost state = { λ f. ⟦<MarkedSlot<A, M, MarkedSlot<B, N, MarkedSlot<C, O, MarkedSlot<D, P, Z>>>> as Slots>⟧.state f.slots };
+
+    fn new() -> MarkedFour<A, M, B, N, C, O, D, P, Z> {
+        MarkedFour {
+            slots: <MarkedSlot<
+                A,
+                M,
+                MarkedSlot<B, N, MarkedSlot<C, O, MarkedSlot<D, P, Z>>>,
+            > as Slots>::new(),
+        }
+    }
+
+    fn read_member<'a>(
+        &mut self,
+        names: &[&str],
+        name: &str,
+        source: &mut Source<'a>,
+    ) -> Result<()> {
+        self.slots.read_member(names, name, source)
+    }
+
+    fn end(self, alloc: Global) -> Result<Self::Values> {
+        let MarkedFour { slots } = self;
+        slots.end(alloc)
+    }
+}
+
+impl<
+    A: RoundTrip,
+    M: Mark<A>,
+    B: RoundTrip,
+    N: Mark<B>,
+    C: RoundTrip,
+    O: Mark<C>,
+    D: RoundTrip,
+    P: Mark<D>,
+    Z: AgainFields,
+> AgainFields for MarkedFour<A, M, B, N, C, O, D, P, Z> {
+    type Values = <MarkedSlot<
+        A,
+        M,
+        MarkedSlot<B, N, MarkedSlot<C, O, MarkedSlot<D, P, Z>>>,
+    > as AgainFields>::Values;
+
+    ghost meaning = { ⟦<MarkedSlot<A, M, MarkedSlot<B, N, MarkedSlot<C, O, MarkedSlot<D, P, Z>>>> as AgainFields>⟧.meaning };
+
+    ghost real = { ⟦<MarkedSlot<A, M, MarkedSlot<B, N, MarkedSlot<C, O, MarkedSlot<D, P, Z>>>> as AgainFields>⟧.real };
+
+    ghost trees = { ⟦<MarkedSlot<A, M, MarkedSlot<B, N, MarkedSlot<C, O, MarkedSlot<D, P, Z>>>> as AgainFields>⟧.trees };
+
+    fn again() {
+        <MarkedSlot<
+            A,
+            M,
+            MarkedSlot<B, N, MarkedSlot<C, O, MarkedSlot<D, P, Z>>>,
+        > as AgainFields>::again()
+    }
+}
+
+impl<
+    A: Lossless,
+    M: Mark<A>,
+    B: Lossless,
+    N: Mark<B>,
+    C: Lossless,
+    O: Mark<C>,
+    D: Lossless,
+    P: Mark<D>,
+    Z: LosslessFields,
+> LosslessFields for MarkedFour<A, M, B, N, C, O, D, P, Z> {
+    type Values = <MarkedSlot<
+        A,
+        M,
+        MarkedSlot<B, N, MarkedSlot<C, O, MarkedSlot<D, P, Z>>>,
+    > as LosslessFields>::Values;
+
+    ghost meaning = { ⟦<MarkedSlot<A, M, MarkedSlot<B, N, MarkedSlot<C, O, MarkedSlot<D, P, Z>>>> as LosslessFields>⟧.meaning };
+
+    ghost real = { ⟦<MarkedSlot<A, M, MarkedSlot<B, N, MarkedSlot<C, O, MarkedSlot<D, P, Z>>>> as LosslessFields>⟧.real };
+
+    ghost trees = { ⟦<MarkedSlot<A, M, MarkedSlot<B, N, MarkedSlot<C, O, MarkedSlot<D, P, Z>>>> as LosslessFields>⟧.trees };
+
+    fn lossless() {
+        <MarkedSlot<
+            A,
+            M,
+            MarkedSlot<B, N, MarkedSlot<C, O, MarkedSlot<D, P, Z>>>,
+        > as LosslessFields>::lossless()
+    }
+}
+
+/// Four fields without a mark, and the fields after them. They name no marks, so they take less time than `MarkedFour`.
 #[derive(Drop)]
 pub struct FourSlot<A, B, C, D, Z> {
     slots: Slot<A, Slot<B, Slot<C, Slot<D, Z>>>>,
@@ -28,10 +152,6 @@ impl<A: FromJson, B: FromJson, C: FromJson, D: FromJson, Z: Slots> Slots
         }
     }
 
-    fn has_value(&self, names: &[&str], name: &str) -> bool {
-        self.slots.has_value(names, name)
-    }
-
     fn read_member<'a>(
         &mut self,
         names: &[&str],
@@ -41,13 +161,9 @@ impl<A: FromJson, B: FromJson, C: FromJson, D: FromJson, Z: Slots> Slots
         self.slots.read_member(names, name, source)
     }
 
-    fn are_whole(&self) -> bool {
-        self.slots.are_whole()
-    }
-
-    fn values(self, alloc: Global) -> Result<Self::Values> {
+    fn end(self, alloc: Global) -> Result<Self::Values> {
         let FourSlot { slots } = self;
-        slots.values(alloc)
+        slots.end(alloc)
     }
 }
 

@@ -1,11 +1,11 @@
 //! Structs whose values are told apart by what is written.
 ghost use Rattle.std.specs.Prelude.{◌≡◌, List, [], ◌∷◌, length, ⊤};
 ghost use Rattle.miniserde_model.specs.Tree.{Tree};
-ghost use Rattle.miniserde_record.specs.FieldsMeant.{FieldsMeant, no_fields, field_and, fields_once};
+ghost use Rattle.miniserde_record.specs.FieldsMeant.{FieldsMeant, no_fields, field_and};
 ghost use Rattle.miniserde_record.specs.Structs.{record_tree};
 
-use super::once::OnceSlots;
-use super::slots::{NoSlot, Slot};
+use super::marks::Mark;
+use super::slots::{MarkedSlot, NoSlot};
 use super::structs::{Parts, Record};
 use miniserde_round::Lossless;
 
@@ -44,10 +44,10 @@ impl LosslessFields for NoSlot {
     fn lossless() {}
 }
 
-impl<T: Lossless, R: LosslessFields> LosslessFields for Slot<T, R> {
+impl<T: Lossless, M: Mark<T>, R: LosslessFields> LosslessFields for MarkedSlot<T, M, R> {
     type Values = Parts<T, R::Values>;
 
-    ghost meaning = { field_and T.means T.absent R.meaning };
+    ghost meaning = { field_and M.once M.given T.means T.absent R.meaning };
 
     ghost real = { λ v. T.real v.0 × R.real v.1 };
 
@@ -56,20 +56,6 @@ impl<T: Lossless, R: LosslessFields> LosslessFields for Slot<T, R> {
     fn lossless() {
         T::lossless();
         R::lossless();
-    }
-}
-
-impl<F: LosslessFields> LosslessFields for OnceSlots<F> {
-    type Values = F::Values;
-
-    ghost meaning = { fields_once F.meaning };
-
-    ghost real = { F.real };
-
-    ghost trees = { F.trees };
-
-    fn lossless() {
-        F::lossless()
     }
 }
 

@@ -1,11 +1,13 @@
-//! Marks on a struct and on its fields: one member a field, no unknown names, and given values.
+//! Marks on a struct and on its fields: one member a field, a value for a missing field, no unknown names.
 
 mod closed;
 mod empty;
 mod given;
 mod once;
+mod plain;
 
 pub use closed::Closed;
 pub use empty::Empty;
-pub use given::{Given, GivenSlot};
-pub use once::{FirstOnce, OnceGivenSlot, OnceSlot};
+pub use given::{Given, WithDefault};
+pub use once::Once;
+pub use plain::{Mark, Plain, Repeats};

@@ -1,6 +1,5 @@
 //! Structs that are read from a text, field by field.
 ghost use Rattle.std.specs.Prelude.{◌≡◌, true, Bool, List, ℕ, None, Some, Ok, Err, IfOk, IfErr, map, is_some, Option};
-ghost use Rattle.std.specs.Option.{option_or};
 ghost use Rattle.miniserde_model.specs.Tree.{Tree};
 ghost use Rattle.miniserde_text.specs.Lexer.{front_of};
 ghost use Rattle.miniserde_model.specs.declared.error.Error.{Error};
@@ -9,11 +8,13 @@ ghost use Rattle.miniserde_read.specs.Step.{IsTreeEvent};
 ghost use Rattle.miniserde_record.specs.FieldsMeant.{FieldsMeant, no_fields, field_and, struct_meant};
 ghost use Rattle.miniserde_record.specs.Members.{DueRead, DueRejects};
 
+use super::marks::{Mark, Once, Plain};
 use super::structs::{Parts, Record};
 use miniserde_model::error::{Error, Result};
 use miniserde_read::{FromJson, Ignored, Source};
 use miniserde_text::json::lex::{Event, Text};
 use std::alloc::Global;
+use std::marker::PhantomData;
 
 /// Reads the value of a member, after the member's name.
 #[inline(always)]
@@ -43,10 +44,6 @@ pub trait Slots: Drop {
     fn new() -> Self
         ensures { state result ≡ meaning.empty };
 
-    /// Returns whether the field of the name has a value.
-    fn has_value(&self, names: &[&str], name: &str) -> bool
-        ensures { result ≡ meaning.has (map (λ n. n.now) names.now) (state self.now) name.now };
-
     /// Reads the value of a member of the name. Returns `Invalid` if no beginning of the text spells a value that the
     /// field of the name accepts.
     fn read_member<'a>(&mut self, names: &[&str], name: &str, source: &mut Source<'a>) -> Result<()>
@@ -60,16 +57,11 @@ pub trait Slots: Drop {
         ensures refuses { meaning.refuses (map (λ n. n.now) names.now) (state self.old) name.now ≡ true
             → (result ≡ Err Error.Invalid) × (source.new ≡ source.old) };
 
-    /// Returns whether each field has a value or a default.
-    fn are_whole(&self) -> bool
-        ensures { result ≡ is_some (meaning.end (state self.now)) };
-
-    /// Returns the values of the fields, each of which has one or a default. Returns `Memory` if a default cannot be
-    /// allocated.
-    fn values(self, alloc: Global) -> Result<Self::Values>
-        requires whole { is_some (meaning.end (state self)) ≡ true }
+    /// Returns the values of the fields, or of missing ones their defaults. Returns `Invalid` if a missing field has none,
+    /// and `Memory` if a default cannot be allocated.
+    fn end(self, alloc: Global) -> Result<Self::Values>
         ensures ok { IfOk result (λ v. meaning.end (state self) ≡ Some (meaning.content v)) }
-        ensures memory { IfErr result (λ e. e ≡ Error.Memory) };
+        ensures invalid { result ≡ Err Error.Invalid → meaning.end (state self) ≡ None };
 }
 
 /// No more fields: members of any other names are skipped.
@@ -87,10 +79,6 @@ impl Slots for NoSlot {
         NoSlot {}
     }
 
-    fn has_value(&self, _names: &[&str], _name: &str) -> bool {
-        false
-    }
-
     fn read_member<'a>(
         &mut self,
         _names: &[&str],
@@ -101,53 +89,50 @@ impl Slots for NoSlot {
         Ok(())
     }
 
-    fn are_whole(&self) -> bool {
-        true
-    }
-
-    fn values(self, _alloc: Global) -> Result<()> {
+    fn end(self, _alloc: Global) -> Result<()> {
         Ok(())
     }
 }
 
-/// A field, and the ones after it.
-#[derive(Drop)]
-pub struct Slot<T, R> {
+/// A field with a mark, and the fields after it.
+pub struct MarkedSlot<T, M, R> {
     value: Option<T>,
+    mark: PhantomData<M>,
     rest: R,
 }
 
-/// Returns the value, or the value of a missing field.
-pub fn or_missing<T: FromJson>(value: Option<T>) -> Option<T>
-    ensures { result ≡ option_or value T.absent }
-{
-    match value {
-        Some(value) => Some(value),
-        None => T::missing(),
+/// A field without a mark, and the fields after it.
+pub type Slot<T, R> = MarkedSlot<T, Plain, R>;
+
+/// A field that takes one member, and the fields after it.
+pub type OnceSlot<T, R> = MarkedSlot<T, Once<Plain>, R>;
+
+impl<T: Drop, M, R: Drop> Drop for MarkedSlot<T, M, R> {
+    fn drop(self) {
+        let MarkedSlot {
+            value,
+            mark: _,
+            rest,
+        } = self;
+        drop(value);
+        drop(rest);
     }
 }
 
-impl<T: FromJson, R: Slots> Slots for Slot<T, R> {
+impl<T: FromJson, M: Mark<T>, R: Slots> Slots for MarkedSlot<T, M, R> {
     ghost use Rattle.std.specs.Prelude.{option_map};
 
     type Values = Parts<T, R::Values>;
 
-    ghost meaning = { field_and T.means T.absent R.meaning };
+    ghost meaning = { field_and M.once M.given T.means T.absent R.meaning };
 
     ghost state = { λ f. (option_map T.means.content f.value, R.state f.rest) };
 
-    fn new() -> Slot<T, R> {
-        Slot {
+    fn new() -> MarkedSlot<T, M, R> {
+        MarkedSlot {
             value: None,
+            mark: PhantomData,
             rest: R::new(),
-        }
-    }
-
-    fn has_value(&self, names: &[&str], name: &str) -> bool {
-        match names.split_first() {
-            Some((first, _)) if name == *first => self.value.is_some(),
-            Some((_, more)) => self.rest.has_value(more, name),
-            None => self.rest.has_value(names, name),
         }
     }
 
@@ -161,6 +146,9 @@ impl<T: FromJson, R: Slots> Slots for Slot<T, R> {
         match names.split_first() {
             Some((first, more)) => {
                 if name == *first {
+                    if M::is_once() && self.value.is_some() {
+                        return Err(Error::Invalid);
+                    }
                     self.value = Some(read_due(source)?);
                     Ok(())
                 } else {
@@ -171,13 +159,20 @@ impl<T: FromJson, R: Slots> Slots for Slot<T, R> {
         }
     }
 
-    fn are_whole(&self) -> bool {
-        (self.value.is_some() || T::missing().is_some()) && self.rest.are_whole()
-    }
-
-    fn values(self, alloc: Global) -> Result<Parts<T, R::Values>> {
-        let Slot { value, rest } = self;
-        Ok(Parts(or_missing(value).unwrap(), rest.values(alloc)?))
+    fn end(self, alloc: Global) -> Result<Parts<T, R::Values>> {
+        let MarkedSlot {
+            value,
+            mark: _,
+            rest,
+        } = self;
+        let value = match value {
+            Some(value) => Some(value),
+            None => M::missing(alloc)?,
+        };
+        match value {
+            Some(value) => Ok(Parts(value, rest.end(alloc)?)),
+            None => Err(Error::Invalid),
+        }
     }
 }
 
@@ -212,9 +207,5 @@ pub fn read_record<'a, S: Record, F: Slots<Values = S::Values>>(
         }
         first = false;
     }
-    if !fields.are_whole() {
-        return Err(Error::Invalid);
-    }
-    let values = fields.values(source.alloc())?;
-    Ok(S::build(values))
+    Ok(S::build(fields.end(source.alloc())?))
 }

@@ -1,16 +1,14 @@
 -- Field by field, of all members.
-use Rattle.std.proofs.Common.{◌≡◌, ℕ, Bool, true, false, List, [], ◌∷◌, Some, None, refl, sym, ap, ◌∙◌, codes, string_bytes, pos, arith}
+use Rattle.std.proofs.Common.{◌≡◌, ℕ, Bool, true, List, [], ◌∷◌, Some, None, refl, sym, ap, ◌∙◌, codes, string_bytes, pos, arith}
 use Rattle.std.specs.Prelude.{◌↔◌, option_map}
 use Rattle.miniserde.specs.Tree.{Tree, members, nonneg, str, truth, list, no_trees}
-use Rattle.miniserde.specs.Objects.{Name}
 use Rattle.miniserde.specs.Words.{string_of}
 use Rattle.miniserde.specs.Integers.{unsigned_of, ReadsUnsigned}
 use Rattle.miniserde.specs.Lists.{EachReads}
 use Rattle.miniserde.specs.Options.{OptionReads, option_of}
-use Rattle.miniserde.specs.Meanings.{boolean_meant, unsigned_meant, string_meant, list_meant}
-use Rattle.miniserde.specs.Fields.{field_owns}
+use Rattle.miniserde.specs.Meanings.{boolean_meant, string_meant, list_meant}
 use Rattle.miniserde.specs.Said.{needs, says, none_counts}
-use Rattle.miniserde.specs.MarkLaws.{once-says, closed-named, given-says}
+use Rattle.miniserde.specs.MarkLaws.{once-says, closed-named}
 use Rattle.examples.specs.Services.{names}
 use Rattle.examples.proofs.services.service_meant.Goals as goal
 
@@ -32,7 +30,6 @@ nothing R (x ∷ xs) = (λ h. absurd h, λ e. absurd (cc))
 
 pub returns : goal.returns
 returns c (members ms) s =
-    let owns : List Name → Name → Bool = field_owns (field_owns (field_owns (field_owns (λ _ _. false)))) in
     let n1 = codes "id" in
     let n2 = codes "host" in
     let n3 = codes "port" in
@@ -41,17 +38,21 @@ returns c (members ms) s =
     let n6 = codes "note" in
     let text = string_meant string_bytes in
     let tags = list_meant text (λ v. v.items) in
-    let port = unsigned_meant 16 in
-    let o1 = once-says (field_owns (field_owns owns)) n1 (n2 ∷ n3 ∷ n4 ∷ n5 ∷ n6 ∷ []) refl [] refl ms in
-    let r1 = needs s.id (ReadsUnsigned 64) (unsigned_of 64) pos (λ t. ReadsUnsigned 64 t s.id) (same (λ t. ReadsUnsigned 64 t s.id)) n1 [] refl ms in
-    let r2 = given-says s.host text.reads text.from_tree text.content text.reads_agrees (str (codes "localhost")) (string_bytes s.host ≡ codes "localhost") (λ t. text.reads t s.host) (same (λ t. text.reads t s.host)) (local (string_bytes s.host)) n2 (n1 ∷ []) refl ms in
-    let o3 = once-says owns n3 (n4 ∷ n5 ∷ n6 ∷ []) refl (n1 ∷ n2 ∷ []) refl ms in
-    let r3 = given-says s.port port.reads port.from_tree port.content port.reads_agrees (nonneg 8080) (s.port ≡ 8080) (λ t. port.reads t s.port) (same (λ t. port.reads t s.port)) (http s.port) n3 (n1 ∷ n2 ∷ []) refl ms in
-    let r4 = given-says s.secure boolean_meant.reads boolean_meant.from_tree boolean_meant.content boolean_meant.reads_agrees (truth true) (s.secure ≡ true) (λ t. boolean_meant.reads t s.secure) (same (λ t. boolean_meant.reads t s.secure)) (yes s.secure) n4 (n1 ∷ n2 ∷ n3 ∷ []) refl ms in
-    let r5 = given-says s.tags tags.reads tags.from_tree tags.content tags.reads_agrees (list no_trees) (s.tags.items ≡ []) (λ t. tags.reads t s.tags) (same (λ t. tags.reads t s.tags)) (nothing text.reads s.tags.items) n5 (n1 ∷ n2 ∷ n3 ∷ n4 ∷ []) refl ms in
-    let r6 = says s.note (OptionReads text.reads) (option_of string_of) (option_map string_bytes) (Some None) (s.note ≡ None) (λ t. OptionReads text.reads t s.note) (same (λ t. OptionReads text.reads t s.note)) (none_counts string_bytes s.note) n6 (n1 ∷ n2 ∷ n3 ∷ n4 ∷ n5 ∷ []) refl ms in
+    let o1 = once-says n1 [] refl ms in
+    let r1 = needs (unsigned_of 64) (pos s.id) (λ t. ReadsUnsigned 64 t s.id) n1 [] refl ms in
+    let host : Tree → Type 0 = λ t. text.reads t s.host in
+    let r2 = says text.from_tree (host (str (codes "localhost"))) (string_bytes s.host ≡ codes "localhost") host host (same host) (local (string_bytes s.host)) n2 (n1 ∷ []) refl ms in
+    let o3 = once-says n3 (n1 ∷ n2 ∷ []) refl ms in
+    let port : Tree → Type 0 = λ t. ReadsUnsigned 16 t s.port in
+    let r3 = says (unsigned_of 16) (port (nonneg 8080)) (s.port ≡ 8080) port port (same port) (http s.port) n3 (n1 ∷ n2 ∷ []) refl ms in
+    let secure : Tree → Type 0 = λ t. boolean_meant.reads t s.secure in
+    let r4 = says boolean_meant.from_tree (secure (truth true)) (s.secure ≡ true) secure secure (same secure) (yes s.secure) n4 (n1 ∷ n2 ∷ n3 ∷ []) refl ms in
+    let has : Tree → Type 0 = λ t. tags.reads t s.tags in
+    let r5 = says tags.from_tree (has (list no_trees)) (s.tags.items ≡ []) has has (same has) (nothing text.reads s.tags.items) n5 (n1 ∷ n2 ∷ n3 ∷ n4 ∷ []) refl ms in
+    let note : Tree → Type 0 = λ t. OptionReads text.reads t s.note in
+    let r6 = says (option_of string_of) (Some None ≡ Some (option_map string_bytes s.note)) (s.note ≡ None) note note (same note) (none_counts string_bytes s.note) n6 (n1 ∷ n2 ∷ n3 ∷ n4 ∷ n5 ∷ []) refl ms in
     let all = closed-named names ms in (
-      λ r. (sym all ∙ r.1.1.1.1.1.1.1.1, o1.0 r.0, r1.0 r.1.0, r2.0 r.1.1.0, o3.0 r.1.1.1.0, r3.0 r.1.1.1.1.0, r4.0 r.1.1.1.1.1.0, r5.0 r.1.1.1.1.1.1.0, r6.0 r.1.1.1.1.1.1.1.0),
-      λ q. (o1.1 q.1, (r1.1 q.2, (r2.1 q.3, (o3.1 q.4, (r3.1 q.5, (r4.1 q.6, (r5.1 q.7, (r6.1 q.8, all ∙ q.0)))))))),
+      λ r. (sym all ∙ r.1.1.1.1.1.1, o1.0 r.0.0, r1.0 r.0.1, r2.0 r.1.0, o3.0 r.1.1.0.0, r3.0 r.1.1.0.1, r4.0 r.1.1.1.0, r5.0 r.1.1.1.1.0, r6.0 r.1.1.1.1.1.0),
+      λ q. ((o1.1 q.1, r1.1 q.2), (r2.1 q.3, ((o3.1 q.4, r3.1 q.5), (r4.1 q.6, (r5.1 q.7, (r6.1 q.8, all ∙ q.0)))))),
     )
 returns c t s = (λ r. absurd r, λ r. absurd r)

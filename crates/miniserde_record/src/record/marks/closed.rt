@@ -1,6 +1,6 @@
 //! Structs that refuse unknown names.
 ghost use Rattle.std.specs.Prelude.{[], ⊤};
-ghost use Rattle.miniserde_record.specs.MarksMeant.{closed_end};
+ghost use Rattle.miniserde_record.specs.FieldsMeant.{closed_end};
 
 use crate::record::again::AgainFields;
 use crate::record::lossless::LosslessFields;
@@ -24,10 +24,6 @@ impl Slots for Closed {
         Closed {}
     }
 
-    fn has_value(&self, _names: &[&str], _name: &str) -> bool {
-        false
-    }
-
     fn read_member<'a>(
         &mut self,
         _names: &[&str],
@@ -37,11 +33,7 @@ impl Slots for Closed {
         Err(Error::Invalid)
     }
 
-    fn are_whole(&self) -> bool {
-        true
-    }
-
-    fn values(self, _alloc: Global) -> Result<()> {
+    fn end(self, _alloc: Global) -> Result<()> {
         Ok(())
     }
 }

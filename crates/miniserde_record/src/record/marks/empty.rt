@@ -17,8 +17,6 @@ pub struct Empty {}
 impl Given<bool> for Empty {
     ghost given = { truth false };
 
-    fn is_given() {}
-
     fn make(_alloc: Global) -> Result<bool> {
         Ok(false)
     }
@@ -26,8 +24,6 @@ impl Given<bool> for Empty {
 
 impl Given<String> for Empty {
     ghost given = { str [] };
-
-    fn is_given() {}
 
     fn make(alloc: Global) -> Result<String> {
         Ok(String::new(alloc))
@@ -37,8 +33,6 @@ impl Given<String> for Empty {
 impl<T: FromJson> Given<Option<T>> for Empty {
     ghost given = { null };
 
-    fn is_given() {}
-
     fn make(_alloc: Global) -> Result<Option<T>> {
         Ok(None)
     }
@@ -47,8 +41,6 @@ impl<T: FromJson> Given<Option<T>> for Empty {
 impl<T: FromJson> Given<Vec<T>> for Empty {
     ghost given = { list no_trees };
 
-    fn is_given() {}
-
     fn make(alloc: Global) -> Result<Vec<T>> {
         Ok(Vec::new(alloc))
     }
@@ -56,8 +48,6 @@ impl<T: FromJson> Given<Vec<T>> for Empty {
 
 impl<K: MapKey + Ord, V: FromJson> Given<BTreeMap<K, V>> for Empty {
     ghost given = { members no_members };
-
-    fn is_given() {}
 
     fn make(alloc: Global) -> Result<BTreeMap<K, V>> {
         Ok(BTreeMap::new(alloc))
@@ -68,8 +58,6 @@ impl<K: MapKey + Hash, V: FromJson, H: BuildHasher + Default + Drop> Given<HashM
     for Empty {
     ghost given = { members no_members };
 
-    fn is_given() {}
-
     fn make(alloc: Global) -> Result<HashMap<K, V, H>> {
         Ok(HashMap::with_hasher(alloc, H::default()))
     }
@@ -77,8 +65,6 @@ impl<K: MapKey + Hash, V: FromJson, H: BuildHasher + Default + Drop> Given<HashM
 
 impl Given<u8> for Empty {
     ghost given = { nonneg 0 };
-
-    fn is_given() {}
 
     fn make(_alloc: Global) -> Result<u8> {
         Ok(0)
@@ -88,8 +74,6 @@ impl Given<u8> for Empty {
 impl Given<u16> for Empty {
     ghost given = { nonneg 0 };
 
-    fn is_given() {}
-
     fn make(_alloc: Global) -> Result<u16> {
         Ok(0)
     }
@@ -97,8 +81,6 @@ impl Given<u16> for Empty {
 
 impl Given<u32> for Empty {
     ghost given = { nonneg 0 };
-
-    fn is_given() {}
 
     fn make(_alloc: Global) -> Result<u32> {
         Ok(0)
@@ -108,8 +90,6 @@ impl Given<u32> for Empty {
 impl Given<u64> for Empty {
     ghost given = { nonneg 0 };
 
-    fn is_given() {}
-
     fn make(_alloc: Global) -> Result<u64> {
         Ok(0)
     }
@@ -117,8 +97,6 @@ impl Given<u64> for Empty {
 
 impl Given<usize> for Empty {
     ghost given = { nonneg 0 };
-
-    fn is_given() {}
 
     fn make(_alloc: Global) -> Result<usize> {
         Ok(0)
@@ -128,8 +106,6 @@ impl Given<usize> for Empty {
 impl Given<i8> for Empty {
     ghost given = { nonneg 0 };
 
-    fn is_given() {}
-
     fn make(_alloc: Global) -> Result<i8> {
         Ok(0)
     }
@@ -137,8 +113,6 @@ impl Given<i8> for Empty {
 
 impl Given<i16> for Empty {
     ghost given = { nonneg 0 };
-
-    fn is_given() {}
 
     fn make(_alloc: Global) -> Result<i16> {
         Ok(0)
@@ -148,8 +122,6 @@ impl Given<i16> for Empty {
 impl Given<i32> for Empty {
     ghost given = { nonneg 0 };
 
-    fn is_given() {}
-
     fn make(_alloc: Global) -> Result<i32> {
         Ok(0)
     }
@@ -158,8 +130,6 @@ impl Given<i32> for Empty {
 impl Given<i64> for Empty {
     ghost given = { nonneg 0 };
 
-    fn is_given() {}
-
     fn make(_alloc: Global) -> Result<i64> {
         Ok(0)
     }
@@ -167,8 +137,6 @@ impl Given<i64> for Empty {
 
 impl Given<isize> for Empty {
     ghost given = { nonneg 0 };
-
-    fn is_given() {}
 
     fn make(_alloc: Global) -> Result<isize> {
         Ok(0)

@@ -10,7 +10,7 @@ use Rattle.miniserde.specs.Maps.{MapReads, map_of, looked}
 use Rattle.settings.specs.Meant.{IsHost, IsTls}
 use Rattle.settings.specs.contracts.types.HostFromJson.TheImpl as host
 use Rattle.settings.specs.contracts.types.TlsFromJson.TheImpl as tls
-use Rattle.miniserde.specs.Said.{needs, says, items, optional, none_counts}
+use Rattle.miniserde.specs.Said.{needs, says, lacks, items, optional, none_counts}
 use Rattle.settings.proofs.loader.settings_meant.Goals as goal
 
 pub returns : goal.returns
@@ -22,11 +22,12 @@ returns c (members ms) s =
     let n2 = codes "port" in
     let n3 = codes "tls" in
     let n4 = codes "hosts" in
-    let r1 = needs s.name (λ t s. t ≡ str (string_bytes s)) string_of string_bytes (λ t. t ≡ str (string_bytes s.name)) (λ t. (λ r. r, λ r. r)) n1 [] refl ms in
-    let r2 = needs s.port (ReadsUnsigned 16) (unsigned_of 16) pos (λ t. ReadsUnsigned 16 t s.port) (λ t. (λ r. r, λ r. r)) n2 (n1 ∷ []) refl ms in
-    let r3 = says s.tls (OptionReads t.reads) (option_of t.from_tree) (option_map t.content) (Some None) (s.tls ≡ None) (λ u. OptionReads IsTls u s.tls) (λ u. optional c.parts_meant.ensures.tls u s.tls) (none_counts t.content s.tls) n3 (n1 ∷ n2 ∷ []) refl ms in
-    let r4 = needs s.hosts (λ u v. ListReads h.reads u v.items) (list_of h.from_tree) (λ v. map h.content v.items) (λ u. ListReads IsHost u s.hosts.items) (λ u. items c.parts_meant.ensures.host u s.hosts.items) n4 (n1 ∷ n2 ∷ n3 ∷ []) refl ms in
-    let r5 = needs s.limits (λ u m. MapReads Some (λ k. k) string_bytes whole (ReadsUnsigned 64) u m.entries) (map_of Some (λ k. k) whole) (λ m. looked (λ k. k) string_bytes pos m.entries) (λ u. MapReads Some (λ k. k) string_bytes whole (ReadsUnsigned 64) u s.limits.entries) (λ u. (λ r. r, λ r. r)) (codes "limits") (n1 ∷ n2 ∷ n3 ∷ n4 ∷ []) refl ms in (
+    let r1 = needs string_of (string_bytes s.name) (λ t. t ≡ str (string_bytes s.name)) n1 [] refl ms in
+    let r2 = needs (unsigned_of 16) (pos s.port) (λ t. ReadsUnsigned 16 t s.port) n2 (n1 ∷ []) refl ms in
+    let r3 = says (option_of t.from_tree) (Some None ≡ Some (option_map t.content s.tls)) (s.tls ≡ None) (λ u. OptionReads t.reads u s.tls) (λ u. OptionReads IsTls u s.tls) (λ u. optional c.parts_meant.ensures.tls u s.tls) (none_counts t.content s.tls) n3 (n1 ∷ n2 ∷ []) refl ms in
+    let contents = map h.content s.hosts.items in
+    let r4 = says (list_of h.from_tree) (None ≡ Some contents) ⊥ (λ u. ListReads h.reads u s.hosts.items) (λ u. ListReads IsHost u s.hosts.items) (λ u. items c.parts_meant.ensures.host u s.hosts.items) (lacks contents) n4 (n1 ∷ n2 ∷ n3 ∷ []) refl ms in
+    let r5 = needs (map_of Some (λ k. k) whole) (looked (λ k. k) string_bytes pos s.limits.entries) (λ u. MapReads Some (λ k. k) string_bytes whole (ReadsUnsigned 64) u s.limits.entries) (codes "limits") (n1 ∷ n2 ∷ n3 ∷ n4 ∷ []) refl ms in (
       λ r. (r1.0 r.0, r2.0 r.1.0, r3.0 r.1.1.0, r4.0 r.1.1.1.0, r5.0 r.1.1.1.1.0),
       λ r. (r1.1 r.0, (r2.1 r.1, (r3.1 r.2, (r4.1 r.3, (r5.1 r.4, tt))))),
     )

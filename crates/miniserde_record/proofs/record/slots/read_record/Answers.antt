@@ -1,5 +1,5 @@
 -- The values so far are what the members so far give; a name that was decoded is taken out of the scratch text.
-use Rattle.std.proofs.Common.{rules, false, ◌≡◌, length, map, None, Some, sym, ap, subst, ◌∙◌, arith}
+use Rattle.std.proofs.Common.{false, ◌≡◌, length, map, None, Some, sym, ap, subst, ◌∙◌, arith}
 use Rattle.std.specs.Prelude.{option_and_then}
 use Rattle.std.proofs.lemmas.Result.{err_from_is_err_and}
 use Rattle.miniserde_model.specs.Tree.{members}
@@ -112,8 +112,8 @@ loop-fields-preserved g c =
       goes = due_goes next mean.empty s c.loop-fields.first c.loop-fields.source.rest h.0 x y n m m' c.loop-fields.invariant.goes h.1 h.2 d;
     }
 
-pub returns-then-not-are_whole-clause-invalid : goal.returns-then-not-are_whole-clause-invalid
-returns-then-not-are_whole-clause-invalid g c = λ e t r p.
+pub returns-in_err-end-clause-invalid : goal.returns-in_err-end-clause-invalid
+returns-in_err-end-clause-invalid g c = λ e t r p.
     let names = g.S.Record.names in
     let mean = g.F.Slots.meaning in
     let next = mean.by_tree names in
@@ -124,7 +124,8 @@ returns-then-not-are_whole-clause-invalid g c = λ e t r p.
     let o = opened_object t s r q in
     let h = subst (λ z. NameFollows z c.name.new.self.scratch c.loop-fields.first c.loop-fields.source.rest x) c.in_default-2.is c.in_ok-name.ensures.ok in
     let all = object_ended next mean.empty s c.loop-fields.first c.loop-fields.source.rest x m c.loop-fields.invariant.goes h o.0 r o.2 in
-    let none : mean.end m ≡ None = search rules in
+    let w = err_from_is_err_and c.from_residual-in_err-end.result c.from_residual-in_err-end.ensures.1 in
+    let none : mean.end m ≡ None = c.in_err-end.ensures.invalid (cc (w.1, w.2, e)) in
     ap (object_of (mean.from_members names mean.empty)) o.1 ∙ sym (mean.members_agree names mean.empty o.0) ∙ ap (option_and_then mean.end) all ∙ none
 
 pub returns-clause-ok : goal.returns-clause-ok
@@ -137,5 +138,5 @@ returns-clause-ok g c =
     let x = c.name.new.self.rest in
     let h = subst (λ z. NameFollows z c.name.new.self.scratch c.loop-fields.first c.loop-fields.source.rest x) c.in_default-2.is c.in_ok-name.ensures.ok in
     let d = object_ends next mean.empty s c.loop-fields.first c.loop-fields.source.rest x m c.loop-fields.invariant.goes h in
-    let given : mean.from_members names mean.empty d.0 ≡ Some (mean.content (g.S.Record.values c.build.result)) = sym (mean.members_agree names mean.empty d.0) ∙ ap (option_and_then mean.end) d.2 ∙ c.in_ok-values.ensures.ok ∙ ap (λ z. Some (mean.content z)) (sym c.build.ensures) in
+    let given : mean.from_members names mean.empty d.0 ≡ Some (mean.content (g.S.Record.values c.build.result)) = sym (mean.members_agree names mean.empty d.0) ∙ ap (option_and_then mean.end) d.2 ∙ c.in_ok-end.ensures.ok ∙ ap (λ z. Some (mean.content z)) (sym c.build.ensures) in
     (members d.0, (ap (λ z. front_of z c.args.source.now.scratch) c.in-MapStart.is, d.1), given)

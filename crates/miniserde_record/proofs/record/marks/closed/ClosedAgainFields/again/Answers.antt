@@ -1,4 +1,4 @@
-use Rattle.miniserde_record.proofs.MarkRounds.{again-closed}
+use Rattle.miniserde_record.proofs.Rounds.{again-closed}
 use Rattle.miniserde_record.proofs.record.marks.closed.ClosedAgainFields.again.Goals as goal
 
 pub returns : goal.returns
