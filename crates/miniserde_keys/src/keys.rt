@@ -13,7 +13,8 @@ mod words;
 
 use crate::ranged::Ranged;
 use miniserde_model::error::Result;
-use std::alloc::Global;
+use std::alloc::{AllocError, Global};
+use std::result;
 pub use whole::WholeKey;
 
 /// A type whose values are written as the names of an object's members.
@@ -58,11 +59,10 @@ pub trait MapKey: Ranged + Sized + Eq + Drop {
 }
 
 // Appends a text.
-fn append(out: &mut String, text: &str) -> Result<()>
+fn append(out: &mut String, text: &str) -> result::Result<(), AllocError>
     ensures ok { OnOk result (string_bytes out.new ≡ string_bytes out.old ++ text.now) }
-    ensures memory { OnErr result (IsErrOf result Memory) }
     ensures err { OnErr result (string_bytes out.new ≡ string_bytes out.old) }
     ensures room { OnErr result (string_capacity out.old < string_len out.old + length text.now) }
 {
-    Ok(out.push_str(text)?)
+    out.push_str(text)
 }

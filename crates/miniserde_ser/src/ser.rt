@@ -18,8 +18,9 @@ use miniserde_text::decimal::{has_room, put_digits};
 pub use miniserde_text::escape::escape_str;
 use miniserde_text::escape::put_name;
 use miniserde_text::json::number::NumberText;
-use std::alloc::Global;
+use std::alloc::{AllocError, Global};
 use std::marker::Model;
+use std::result;
 
 /// A value with no children.
 #[derive(Clone, Copy, Debug, Drop)]
@@ -86,13 +87,12 @@ impl Writer {
 
     // Answers the refusal that the writer keeps.
     #[inline(always)]
-    fn check(&self) -> Result<()>
+    fn check(&self) -> result::Result<(), AllocError>
         ensures stays { OnOk result (self.now.refused ≡ false) }
-        ensures memory { OnErr result (IsErrOf result Memory) }
         ensures err { OnErr result (self.now.refused ≡ true) }
     {
         if self.refused {
-            return Err(Error::Memory);
+            return Err(AllocError);
         }
         Ok(())
     }

@@ -1,2 +1,3 @@
 pub mod Lexer
+pub mod Texts
 pub mod private

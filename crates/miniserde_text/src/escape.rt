@@ -7,14 +7,16 @@ ghost use Rattle.std.specs.Str.{IsAscii, IsCharBoundary};
 ghost use Rattle.miniserde_model.specs.Bytes as bytes;
 ghost use Rattle.miniserde_model.specs.Compact.{quoted};
 ghost use Rattle.miniserde_model.specs.declared.error.Error.TheVariants.{Memory};
+ghost use Rattle.miniserde_text.specs.Texts.{Extends, MakesRoom};
 ghost use Rattle.miniserde_text.specs.private.Escape.{escape, escapes};
 
 mod plain;
 
 use self::plain::is_short_and_plain;
 use crate::scan::special;
-use miniserde_model::error::{Error, Result};
-use std::str;
+use miniserde_model::error::Result;
+use std::alloc::AllocError;
+use std::{result, str};
 
 // The end of the run of bytes from `from` on that stand for themselves.
 fn run_end(text: &[u8], from: usize) -> usize
@@ -191,35 +193,20 @@ fn has_ample_room(value: &str, marks: usize, out: &String) -> bool
 }
 
 // Makes room for the text by the escape rule and so many marks, and no more than `reserve` makes for them.
-fn grow(value: &str, marks: usize, out: &mut String) -> Result<()>
-    ensures ok { OnOk result (string_len out.new + length (escapes value.now) + marks ≤ string_capacity out.new) }
-    ensures bytes { string_bytes out.new ≡ string_bytes out.old }
-    ensures len { string_len out.new ≡ string_len out.old }
-    ensures memory { OnErr result (IsErrOf result Memory) }
-    ensures room { OnErr result (string_capacity out.old
-        < string_len out.old + length (escapes value.now) + marks) }
-    ensures kept { OnErr result (string_capacity out.new ≡ string_capacity out.old) }
-    ensures capacity { string_capacity out.old ≤ string_capacity out.new }
+fn grow(value: &str, marks: usize, out: &mut String) -> result::Result<(), AllocError>
+    ensures { MakesRoom out.old (length (escapes value.now) + marks) result out.new }
 {
     let Some(len) = escaped_len(value) else {
         // No memory holds so long a text.
-        return Err(Error::Memory);
+        return Err(AllocError);
     };
-    out.reserve(len.saturating_add(marks))?;
-    Ok(())
+    out.reserve(len.saturating_add(marks))
 }
 
 // As `grow`, and counts the text only where room is short.
 #[inline(always)]
-fn make_room(value: &str, marks: usize, out: &mut String) -> Result<()>
-    ensures ok { OnOk result (string_len out.new + length (escapes value.now) + marks ≤ string_capacity out.new) }
-    ensures bytes { string_bytes out.new ≡ string_bytes out.old }
-    ensures len { string_len out.new ≡ string_len out.old }
-    ensures memory { OnErr result (IsErrOf result Memory) }
-    ensures room { OnErr result (string_capacity out.old
-        < string_len out.old + length (escapes value.now) + marks) }
-    ensures kept { OnErr result (string_capacity out.new ≡ string_capacity out.old) }
-    ensures capacity { string_capacity out.old ≤ string_capacity out.new }
+fn make_room(value: &str, marks: usize, out: &mut String) -> result::Result<(), AllocError>
+    ensures { MakesRoom out.old (length (escapes value.now) + marks) result out.new }
 {
     if has_ample_room(value, marks, out) {
         Ok(())
@@ -256,14 +243,9 @@ fn marks_of(first: bool) -> usize
 #[doc(hidden)]
 #[inline(always)]
 pub fn put_name(first: bool, name: &str, out: &mut String) -> Result<()>
-    ensures ok { OnOk result (string_bytes out.new
-        ≡ string_bytes out.old ++ ((if first then [] else codes ",") ++ quoted name.now ++ codes ":")) }
+    ensures appends { Extends out.old
+        ((if first then [] else codes ",") ++ quoted name.now ++ codes ":") result out.new }
     ensures memory { OnErr result (IsErrOf result Memory) }
-    ensures room { OnErr result (string_capacity out.old
-        < string_len out.old + length ((if first then [] else codes ",") ++ quoted name.now ++ codes ":")) }
-    ensures err { OnErr result (string_bytes out.new ≡ string_bytes out.old) }
-    ensures kept { OnErr result (string_capacity out.new ≡ string_capacity out.old) }
-    ensures capacity { string_capacity out.old ≤ string_capacity out.new }
 {
     make_room(name, marks_of(first), out)?;
     put_front(first, out);
@@ -274,15 +256,10 @@ pub fn put_name(first: bool, name: &str, out: &mut String) -> Result<()>
 
 // Appends a short text in which each byte stands for itself, as a string.
 #[inline(always)]
-fn put_plain(value: &str, out: &mut String) -> Result<()>
+fn put_plain(value: &str, out: &mut String) -> result::Result<(), AllocError>
     requires plain { escapes value.now ≡ value.now }
     requires short { length value.now < 32 }
-    ensures ok { OnOk result (string_bytes out.new ≡ string_bytes out.old ++ quoted value.now) }
-    ensures memory { OnErr result (IsErrOf result Memory) }
-    ensures room { OnErr result (string_capacity out.old < string_len out.old + length (quoted value.now)) }
-    ensures err { OnErr result (string_bytes out.new ≡ string_bytes out.old) }
-    ensures kept { OnErr result (string_capacity out.new ≡ string_capacity out.old) }
-    ensures capacity { string_capacity out.old ≤ string_capacity out.new }
+    ensures { Extends out.old (quoted value.now) result out.new }
 {
     out.reserve(value.len() + 2)?;
     out.push_str("\"").unwrap();
@@ -292,13 +269,8 @@ fn put_plain(value: &str, out: &mut String) -> Result<()>
 }
 
 // Appends any other text as a string.
-fn put_other(value: &str, out: &mut String) -> Result<()>
-    ensures ok { OnOk result (string_bytes out.new ≡ string_bytes out.old ++ quoted value.now) }
-    ensures memory { OnErr result (IsErrOf result Memory) }
-    ensures room { OnErr result (string_capacity out.old < string_len out.old + length (quoted value.now)) }
-    ensures err { OnErr result (string_bytes out.new ≡ string_bytes out.old) }
-    ensures kept { OnErr result (string_capacity out.new ≡ string_capacity out.old) }
-    ensures capacity { string_capacity out.old ≤ string_capacity out.new }
+fn put_other(value: &str, out: &mut String) -> result::Result<(), AllocError>
+    ensures { Extends out.old (quoted value.now) result out.new }
 {
     make_room(value, 2, out)?;
     out.push_str("\"").unwrap();
@@ -309,16 +281,13 @@ fn put_other(value: &str, out: &mut String) -> Result<()>
 
 /// Appends a text as a string of JSON: between quotes, by the escape rule. A call that refuses leaves `out` as it was.
 pub fn escape_str(value: &str, out: &mut String) -> Result<()>
-    ensures ok { OnOk result (string_bytes out.new ≡ string_bytes out.old ++ quoted value.now) }
+    ensures appends { Extends out.old (quoted value.now) result out.new }
     ensures memory { OnErr result (IsErrOf result Memory) }
-    ensures room { OnErr result (string_capacity out.old < string_len out.old + length (quoted value.now)) }
-    ensures err { OnErr result (string_bytes out.new ≡ string_bytes out.old) }
-    ensures kept { OnErr result (string_capacity out.new ≡ string_capacity out.old) }
-    ensures capacity { string_capacity out.old ≤ string_capacity out.new }
 {
     if is_short_and_plain(value.as_bytes()) {
-        put_plain(value, out)
+        put_plain(value, out)?;
     } else {
-        put_other(value, out)
+        put_other(value, out)?;
     }
+    Ok(())
 }

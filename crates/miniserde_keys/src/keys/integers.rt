@@ -1,24 +1,23 @@
 //! Integers as keys.
 #![tactic(auto, using(crate::specs::laws::Keys::integer_reads))]
 
-ghost use Rattle.std.specs.Prelude.{◌≡◌, ◌<◌, ◌+◌, ◌++◌, true, OnOk, OnErr, IsErrOf, refl, length, string_bytes};
+ghost use Rattle.std.specs.Prelude.{◌≡◌, ◌<◌, ◌+◌, ◌++◌, true, OnOk, OnErr, refl, length, string_bytes};
 ghost use Rattle.std.specs.Prelude.{string_len, string_capacity};
 ghost use Rattle.std.proofs.Common.{arith};
 ghost use Rattle.std.specs.Fmt.{decimal, signed_decimal};
 ghost use Rattle.std.specs.Int.{w8, w16, w32, w64};
 ghost use Rattle.miniserde_keys.specs.Keys.{of_nat, of_int, read_unsigned, read_signed};
-ghost use Rattle.miniserde_model.specs.declared.error.Error.TheVariants.{Memory};
 ghost use Rattle.miniserde_keys.specs.laws.Keys.{nat-alike, int-alike, nat-text, int-text, unsigned-back, signed-back};
 
 use super::{MapKey, append};
 use itoa::{Buffer, Integer};
 use miniserde_model::error::{Error, Result};
-use std::alloc::Global;
+use std::alloc::{AllocError, Global};
+use std::result;
 
 // Appends an integer in decimal.
-fn append_integer<I: Integer>(out: &mut String, n: I) -> Result<()>
+fn append_integer<I: Integer>(out: &mut String, n: I) -> result::Result<(), AllocError>
     ensures ok { OnOk result (string_bytes out.new ≡ string_bytes out.old ++ I.text n) }
-    ensures memory { OnErr result (IsErrOf result Memory) }
     ensures err { OnErr result (string_bytes out.new ≡ string_bytes out.old) }
     ensures room { OnErr result (string_capacity out.old < string_len out.old + length (I.text n)) }
 {
@@ -48,7 +47,7 @@ impl MapKey for u8 {
     }
 
     fn to_key(&self, out: &mut String) -> Result<()> {
-        append_integer(out, *self)
+        Ok(append_integer(out, *self)?)
     }
 }
 
@@ -75,7 +74,7 @@ impl MapKey for u16 {
     }
 
     fn to_key(&self, out: &mut String) -> Result<()> {
-        append_integer(out, *self)
+        Ok(append_integer(out, *self)?)
     }
 }
 
@@ -102,7 +101,7 @@ impl MapKey for u32 {
     }
 
     fn to_key(&self, out: &mut String) -> Result<()> {
-        append_integer(out, *self)
+        Ok(append_integer(out, *self)?)
     }
 }
 
@@ -129,7 +128,7 @@ impl MapKey for u64 {
     }
 
     fn to_key(&self, out: &mut String) -> Result<()> {
-        append_integer(out, *self)
+        Ok(append_integer(out, *self)?)
     }
 }
 
@@ -156,7 +155,7 @@ impl MapKey for usize {
     }
 
     fn to_key(&self, out: &mut String) -> Result<()> {
-        append_integer(out, *self)
+        Ok(append_integer(out, *self)?)
     }
 }
 
@@ -183,7 +182,7 @@ impl MapKey for i8 {
     }
 
     fn to_key(&self, out: &mut String) -> Result<()> {
-        append_integer(out, *self)
+        Ok(append_integer(out, *self)?)
     }
 }
 
@@ -210,7 +209,7 @@ impl MapKey for i16 {
     }
 
     fn to_key(&self, out: &mut String) -> Result<()> {
-        append_integer(out, *self)
+        Ok(append_integer(out, *self)?)
     }
 }
 
@@ -237,7 +236,7 @@ impl MapKey for i32 {
     }
 
     fn to_key(&self, out: &mut String) -> Result<()> {
-        append_integer(out, *self)
+        Ok(append_integer(out, *self)?)
     }
 }
 
@@ -264,7 +263,7 @@ impl MapKey for i64 {
     }
 
     fn to_key(&self, out: &mut String) -> Result<()> {
-        append_integer(out, *self)
+        Ok(append_integer(out, *self)?)
     }
 }
 
@@ -291,6 +290,6 @@ impl MapKey for isize {
     }
 
     fn to_key(&self, out: &mut String) -> Result<()> {
-        append_integer(out, *self)
+        Ok(append_integer(out, *self)?)
     }
 }

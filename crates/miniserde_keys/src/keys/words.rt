@@ -26,7 +26,7 @@ impl MapKey for String {
     }
 
     fn to_key(&self, out: &mut String) -> Result<()> {
-        append(out, self)
+        Ok(append(out, self)?)
     }
 }
 
@@ -54,7 +54,7 @@ impl MapKey for bool {
     }
 
     fn to_key(&self, out: &mut String) -> Result<()> {
-        append(out, if *self { "true" } else { "false" })
+        Ok(append(out, if *self { "true" } else { "false" })?)
     }
 }
 

@@ -20,9 +20,9 @@ use miniserde_model::error::{Error, Result};
 use miniserde_read::Step;
 use miniserde_text::json::lex::Kind;
 use miniserde_text::json::number::NumberText;
-use std::alloc::Global;
+use std::alloc::{AllocError, Global};
 use std::collections::BTreeMap;
-use std::mem;
+use std::{mem, result};
 
 /// An open container: where the items of an array begin, or the next of the open objects.
 #[derive(Clone, Copy, Drop)]
@@ -59,9 +59,8 @@ impl OpenObject {
     }
 
     /// Puts a value under its name; it replaces the value of a duplicate. Drops a value that has no name.
-    pub(crate) fn put(&mut self, value: Value) -> Result<()>
-        ensures ok { OnOk result ((h : Hole) → opened self.new h ≡ put (shape value) (opened self.old h)) }
-        ensures memory { OnErr result (IsErrOf result Memory) }
+    pub(crate) fn put(&mut self, value: Value) -> result::Result<(), AllocError>
+        ensures { OnOk result ((h : Hole) → opened self.new h ≡ put (shape value) (opened self.old h)) }
     {
         if let Some(name) = self.name.take() {
             self.members.insert(name, value)?;
@@ -97,12 +96,11 @@ fn take_from(
     values: &mut Vec<Value>,
     from: usize,
     as_it_lies: bool,
-) -> Result<Vec<Value>>
+) -> result::Result<Vec<Value>, AllocError>
     requires { from ≤ length values.old.items }
     ensures items { OnOk result (values.new.items ≡ take from values.old.items) }
     ensures tail { IfOk result (λ taken. taken.items ≡ drop from values.old.items) }
     ensures err { OnErr result (values.new ≡ values.old) }
-    ensures memory { OnErr result (IsErrOf result Memory) }
 {
     if as_it_lies && from == 0 {
         return Ok(mem::replace(values, Vec::new(alloc)));
@@ -151,9 +149,8 @@ impl Builder {
 
     /// Fills the hole with a value.
     #[inline(always)]
-    pub(crate) fn put(&mut self, value: Value) -> Result<()>
-        ensures ok { OnOk result (hole_in self.new ≡ put (shape value) (hole_in self.old)) }
-        ensures memory { OnErr result (IsErrOf result Memory) }
+    pub(crate) fn put(&mut self, value: Value) -> result::Result<(), AllocError>
+        ensures { OnOk result (hole_in self.new ≡ put (shape value) (hole_in self.old)) }
     {
         if let Some(Mark::Object) = self.marks.last() {
             return match self.objects.last_mut() {
@@ -166,9 +163,8 @@ impl Builder {
     }
 
     /// Fills the hole with a text.
-    fn put_text(&mut self, text: &str) -> Result<()>
-        ensures ok { OnOk result (hole_in self.new ≡ put (str text.now) (hole_in self.old)) }
-        ensures memory { OnErr result (IsErrOf result Memory) }
+    fn put_text(&mut self, text: &str) -> result::Result<(), AllocError>
+        ensures { OnOk result (hole_in self.new ≡ put (str text.now) (hole_in self.old)) }
     {
         let text = String::from_str(self.alloc, text)?;
         self.put(Value::String(text))
@@ -181,14 +177,14 @@ impl Builder {
         ensures memory { OnErr result (IsErrOf result Memory) }
     {
         let text = NumberText::new_unchecked(self.alloc, text)?;
-        self.put(Value::Number(Number::Text(text)))
+        self.put(Value::Number(Number::Text(text)))?;
+        Ok(())
     }
 
     /// Opens an array in the hole.
     #[inline(always)]
-    pub(crate) fn open_array(&mut self) -> Result<()>
-        ensures ok { OnOk result (hole_in self.new ≡ in_list [] (hole_in self.old)) }
-        ensures memory { OnErr result (IsErrOf result Memory) }
+    pub(crate) fn open_array(&mut self) -> result::Result<(), AllocError>
+        ensures { OnOk result (hole_in self.new ≡ in_list [] (hole_in self.old)) }
     {
         self.marks.push(Mark::Array(self.values.len()))?;
         Ok(())
@@ -196,9 +192,8 @@ impl Builder {
 
     /// Opens an object in the hole.
     #[inline(always)]
-    pub(crate) fn open_object(&mut self) -> Result<()>
-        ensures ok { OnOk result (hole_in self.new ≡ in_members no_members None (hole_in self.old)) }
-        ensures memory { OnErr result (IsErrOf result Memory) }
+    pub(crate) fn open_object(&mut self) -> result::Result<(), AllocError>
+        ensures { OnOk result (hole_in self.new ≡ in_members no_members None (hole_in self.old)) }
     {
         self.objects.push(OpenObject::new(self.alloc))?;
         self.marks.push(Mark::Object)?;
@@ -256,19 +251,20 @@ impl Builder {
         ensures memory { OnErr result (IsErrOf result Memory) }
     {
         match self.marks.pop() {
-            None => Ok(()),
+            None => (),
             Some(Mark::Array(from)) => {
                 let is_outermost = self.marks.is_empty();
                 let items = take_from(self.alloc, &mut self.values, from, is_outermost)?;
-                self.put(Value::Array(Array::from_inner(items)))
+                self.put(Value::Array(Array::from_inner(items)))?;
             }
             Some(Mark::Object) => match self.objects.pop() {
                 Some(OpenObject { members, name: _ }) => {
-                    self.put(Value::Object(Object::from_inner(members)))
+                    self.put(Value::Object(Object::from_inner(members)))?;
                 }
                 None => unreachable!(),
             },
         }
+        Ok(())
     }
 
     /// Returns the value if it is complete.

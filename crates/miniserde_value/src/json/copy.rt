@@ -21,16 +21,17 @@ fn add(alloc: Global, front: Front<'_>, builder: &mut Builder) -> Result<()>
     ensures memory { OnErr result (IsErrOf result Memory) }
 {
     match front {
-        Front::Null => builder.put(Value::Null),
-        Front::Bool(b) => builder.put(Value::Bool(b)),
-        Front::Number(number) => builder.put(Value::Number(number.try_clone(alloc)?)),
-        Front::String(text) => builder.put(Value::String(String::from_str(alloc, text)?)),
-        Front::Array => builder.open_array(),
-        Front::Object => builder.open_object(),
-        Front::Element => Ok(()),
-        Front::Name(name) => builder.name(name),
-        Front::ArrayEnd | Front::ObjectEnd => builder.close(),
+        Front::Null => builder.put(Value::Null)?,
+        Front::Bool(b) => builder.put(Value::Bool(b))?,
+        Front::Number(number) => builder.put(Value::Number(number.try_clone(alloc)?))?,
+        Front::String(text) => builder.put(Value::String(String::from_str(alloc, text)?))?,
+        Front::Array => builder.open_array()?,
+        Front::Object => builder.open_object()?,
+        Front::Element => (),
+        Front::Name(name) => builder.name(name)?,
+        Front::ArrayEnd | Front::ObjectEnd => builder.close()?,
     }
+    Ok(())
 }
 
 // Builds all that a walk meets.

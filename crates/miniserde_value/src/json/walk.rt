@@ -1,6 +1,5 @@
 //! The one walk over a value that stands elsewhere.
-ghost use Rattle.std.specs.Prelude.{◌≡◌, ◌∷◌, [], None, IfOk, OnOk, OnErr, IsErrOf, MatchOption};
-ghost use Rattle.miniserde_model.specs.declared.error.Error.TheVariants.{Memory};
+ghost use Rattle.std.specs.Prelude.{◌≡◌, ◌∷◌, [], None, IfOk, OnOk, MatchOption};
 ghost use Rattle.miniserde_value.specs.Values.{shape, array_shape, object_shape};
 ghost use Rattle.miniserde_value.specs.Fronts.{fronts, list_begins, members_begin, IsOrdered};
 ghost use Rattle.miniserde_value.specs.Walks.{meets, left, LeftOrdered};
@@ -12,8 +11,8 @@ use super::array::Array;
 use super::number::Number;
 use super::object::Object;
 use super::value::Value;
-use miniserde_model::error::Result;
-use std::alloc::Global;
+use std::alloc::{AllocError, Global};
+use std::result;
 
 /// What a walk meets next.
 #[derive(Clone, Copy, Drop)]
@@ -41,10 +40,9 @@ pub(crate) struct Walk<'a> {
 
 impl<'a> Walk<'a> {
     /// Over the items of an array, and its end.
-    pub(crate) fn array(alloc: Global, array: &'a Array) -> Result<Walk<'a>>
+    pub(crate) fn array(alloc: Global, array: &'a Array) -> result::Result<Walk<'a>, AllocError>
         ensures left { IfOk result (λ w. list_begins ∷ left w ≡ fronts (array_shape array.entry.now) []) }
         ensures ordered { IfOk result (λ w. LeftOrdered w → IsOrdered (array_shape array.entry.now)) }
-        ensures memory { OnErr result (IsErrOf result Memory) }
     {
         let mut frames = Frames::new(alloc);
         frames.push_array(array.inner().iter())?;
@@ -52,10 +50,9 @@ impl<'a> Walk<'a> {
     }
 
     /// Over the members of an object, and its end.
-    pub(crate) fn object(alloc: Global, object: &'a Object) -> Result<Walk<'a>>
+    pub(crate) fn object(alloc: Global, object: &'a Object) -> result::Result<Walk<'a>, AllocError>
         ensures left { IfOk result (λ w. members_begin ∷ left w ≡ fronts (object_shape object.entry.now) []) }
         ensures ordered { IfOk result (λ w. LeftOrdered w → IsOrdered (object_shape object.entry.now)) }
-        ensures memory { OnErr result (IsErrOf result Memory) }
     {
         let mut frames = Frames::new(alloc);
         frames.push_object(object.inner().iter())?;
@@ -63,12 +60,11 @@ impl<'a> Walk<'a> {
     }
 
     /// What comes next, where anything does.
-    pub(crate) fn next(&mut self) -> Result<Option<Front<'a>>>
+    pub(crate) fn next(&mut self) -> result::Result<Option<Front<'a>>, AllocError>
         ensures left { IfOk result (λ next. MatchOption next (left self.old ≡ [])
             (λ f. left self.old ≡ meets f ∷ left self.new)) }
         ensures ordered { IfOk result (λ next. MatchOption next (LeftOrdered self.old)
             (λ _. LeftOrdered self.new → LeftOrdered self.old)) }
-        ensures memory { OnErr result (IsErrOf result Memory) }
     {
         match self.due {
             Some(value) => {
@@ -80,12 +76,11 @@ impl<'a> Walk<'a> {
     }
 
     // The first front of a value.
-    fn begin(&mut self, value: &'a Value) -> Result<Front<'a>>
+    fn begin(&mut self, value: &'a Value) -> result::Result<Front<'a>, AllocError>
         requires { self.old.due ≡ None }
         ensures left { IfOk result (λ f. fronts (shape value.entry.now) (left self.old) ≡ meets f ∷ left self.new) }
         ensures ordered { OnOk result (LeftOrdered self.new
             → IsOrdered (shape value.entry.now) × LeftOrdered self.old) }
-        ensures memory { OnErr result (IsErrOf result Memory) }
     {
         match value {
             Value::Null => Ok(Front::Null),

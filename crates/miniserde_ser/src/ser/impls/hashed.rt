@@ -13,9 +13,10 @@ ghost use Rattle.miniserde_ser.specs.Trees.{members_of, in_order};
 use crate::ser::{Serialize, Writer};
 use miniserde_keys::MapKey;
 use miniserde_model::error::Result;
-use std::alloc::Global;
+use std::alloc::{AllocError, Global};
 use std::collections::HashMap;
 use std::hash::{BuildHasher, Hash};
+use std::result;
 
 // The text of a key, and that the key is one that Rust has.
 fn name_of<K: MapKey>(alloc: Global, key: &K) -> Result<String>
@@ -48,10 +49,9 @@ fn rows_of<'a, K: MapKey + Hash, V: Serialize, H: BuildHasher>(
 }
 
 // Sorts by the bytes of the names.
-fn sort_rows<V>(rows: &mut Vec<(String, &V)>) -> Result<()>
+fn sort_rows<V>(rows: &mut Vec<(String, &V)>) -> result::Result<(), AllocError>
     ensures sorted { OnOk result (IsSortedByKey (λ r. string_bytes r.0) text_cmp rows.new.items) }
     ensures permutation { IsPermutation rows.old.items rows.new.items }
-    ensures memory { OnErr result (IsErrOf result Memory) }
 {
     Ok(rows.sort_by(|a, b| a.0.cmp(&b.0))?)
 }

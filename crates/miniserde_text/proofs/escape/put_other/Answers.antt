@@ -4,16 +4,17 @@ use Rattle.miniserde_model.specs.Compact.{quoted}
 use Rattle.miniserde_text.proofs.Escaping.{between_quotes, length_quoted}
 use Rattle.miniserde_text.proofs.escape.put_other.Goals as goal
 
-pub returns-clause-ok : goal.returns-clause-ok
-returns-clause-ok c =
+pub returns : goal.returns
+returns c =
     let open_quote : c.push_str.result ≡ Ok c.unwrap.result = c.unwrap.ensures in
     let close_quote : c.push_str-2.result ≡ Ok c.unwrap-2.result = c.unwrap-2.ensures in
     let opened = rw open_quote at c.push_str.ensures in
     let closed = rw close_quote at c.push_str-2.ensures in
-    between_quotes _ _ _ _ _ c.args.value.now c.in_ok-make_room.ensures.bytes opened.bytes c.put_escapes.ensures.bytes closed.bytes
+    let whole = between_quotes _ _ _ _ _ c.args.value.now c.in_ok-make_room.ensures.bytes opened.bytes c.put_escapes.ensures.bytes closed.bytes in
+    search (rules, whole)
 
-pub returns-in_err-make_room-clause-room : goal.returns-in_err-make_room-clause-room
-returns-in_err-make_room-clause-room c =
+pub returns-in_err-make_room : goal.returns-in_err-make_room
+returns-in_err-make_room c =
     let out = c.args.out.now in
     let full = c.in_err-make_room.ensures.room in
     let lacks : string_capacity out < string_len out + length (quoted c.args.value.now) = omega (arith, full, length_quoted c.args.value.now) in

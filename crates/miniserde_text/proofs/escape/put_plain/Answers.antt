@@ -4,18 +4,19 @@ use Rattle.miniserde_model.specs.Compact.{quoted}
 use Rattle.miniserde_text.proofs.Escaping.{between_quotes, length_quoted}
 use Rattle.miniserde_text.proofs.escape.put_plain.Goals as goal
 
-pub returns-clause-ok : goal.returns-clause-ok
-returns-clause-ok c =
+pub returns : goal.returns
+returns c =
     let first : c.push_str.result ≡ Ok c.unwrap.result = c.unwrap.ensures in
     let text : c.push_str-2.result ≡ Ok c.unwrap-2.result = c.unwrap-2.ensures in
     let last : c.push_str-3.result ≡ Ok c.unwrap-3.result = c.unwrap-3.ensures in
     let opened = rw first at c.push_str.ensures in
     let pushed = rw text at c.push_str-2.ensures in
     let closed = rw last at c.push_str-3.ensures in
-    between_quotes _ _ _ _ _ c.args.value.now c.in_ok-reserve.ensures.bytes opened.bytes (rw c.requires.plain pushed.bytes) closed.bytes
+    let whole = between_quotes _ _ _ _ _ c.args.value.now c.in_ok-reserve.ensures.bytes opened.bytes (rw c.requires.plain pushed.bytes) closed.bytes in
+    search (rules, whole)
 
-pub returns-in_err-reserve-clause-room : goal.returns-in_err-reserve-clause-room
-returns-in_err-reserve-clause-room c =
+pub returns-in_err-reserve : goal.returns-in_err-reserve
+returns-in_err-reserve c =
     let out = c.args.out.now in
     let full = c.in_err-reserve.ensures.full in
     let lacks : string_capacity out < string_len out + length (quoted c.args.value.now) = omega (arith, full, length_quoted c.args.value.now, ap length c.requires.plain) in

@@ -1,5 +1,5 @@
 //! Strings.
-ghost use Rattle.std.specs.Prelude.{◌≡◌, ◌++◌, ◌∷◌, ◌≤◌, drop, length, ℕ, List, Err, false, IfOk, IfErr};
+ghost use Rattle.std.specs.Prelude.{◌≡◌, ◌++◌, ◌∷◌, ◌≤◌, drop, length, ℕ, List, Err, false, IfOk};
 ghost use Rattle.std.specs.Prelude.{slice_index};
 ghost use Rattle.std.specs.Str.{encode_utf8_all, IsCharBoundary};
 ghost use Rattle.std.specs.String.{string_bytes};
@@ -12,6 +12,8 @@ use super::bytes::{between, byte_at, skip};
 use super::escape::take_escape;
 use crate::scan::{special, special_in_lanes};
 use miniserde_model::error::{Error, Result};
+use std::alloc::AllocError;
+use std::result;
 
 // Returns the index after the bytes that stand for themselves.
 #[inline(always)]
@@ -36,9 +38,8 @@ fn after_more(text: &str, at: usize) -> usize
 }
 
 // Adds a run, which often is empty, to the scratch text.
-fn push_run(scratch: &mut String, run: &str) -> Result<()>
-    ensures ok { IfOk result (λ _. string_bytes scratch.new ≡ string_bytes scratch.old ++ run.now) }
-    ensures memory { IfErr result (λ e. e ≡ Error.Memory) }
+fn push_run(scratch: &mut String, run: &str) -> result::Result<(), AllocError>
+    ensures { IfOk result (λ _. string_bytes scratch.new ≡ string_bytes scratch.old ++ run.now) }
 {
     if !run.is_empty() {
         scratch.push_str(run)?;

@@ -1,17 +1,15 @@
 //! The open containers of a walk, and what is left of each.
-ghost use Rattle.std.specs.Prelude.{◌≡◌, ◌∷◌, [], OnOk, OnErr, IsErrOf, MatchOption};
+ghost use Rattle.std.specs.Prelude.{◌≡◌, ◌∷◌, [], OnOk, MatchOption};
 ghost use Rattle.std.specs.Slice.Iter.{iter_rest};
-ghost use Rattle.miniserde_model.specs.declared.error.Error.TheVariants.{Memory};
 ghost use Rattle.miniserde_value.specs.Walks.{meets, items_left, members_left, ItemsOrdered, MembersOrdered};
 ghost use Rattle.miniserde_value.specs.Walks.{frames_left, due_left, FramesOrdered, DueOrdered};
 
 use super::super::value::Value;
 use super::Front;
-use miniserde_model::error::Result;
 use miniserde_text::json::lex::Kind;
-use std::alloc::Global;
+use std::alloc::{AllocError, Global};
 use std::collections::btree_map;
-use std::slice;
+use std::{result, slice};
 
 /// The open containers, each list with the innermost last. The iterators of arrays and of objects stand apart,
 /// so that an open array takes no more than its own iterator and a kind. After a refusal the lists do not fit.
@@ -35,10 +33,12 @@ impl<'a> Frames<'a> {
     }
 
     /// Opens an array, of which these items are left.
-    pub(crate) fn push_array(&mut self, items: slice::Iter<'a, Value>) -> Result<()>
+    pub(crate) fn push_array(
+        &mut self,
+        items: slice::Iter<'a, Value>,
+    ) -> result::Result<(), AllocError>
         ensures left { OnOk result (frames_left self.new ≡ items_left items.entry (frames_left self.old)) }
         ensures ordered { OnOk result (FramesOrdered self.new → ItemsOrdered items.entry × FramesOrdered self.old) }
-        ensures memory { OnErr result (IsErrOf result Memory) }
     {
         self.arrays.push(items)?;
         self.kinds.push(Kind::Seq)?;
@@ -46,10 +46,12 @@ impl<'a> Frames<'a> {
     }
 
     /// Opens an object, of which these members are left.
-    pub(crate) fn push_object(&mut self, members: btree_map::Iter<'a, String, Value>) -> Result<()>
+    pub(crate) fn push_object(
+        &mut self,
+        members: btree_map::Iter<'a, String, Value>,
+    ) -> result::Result<(), AllocError>
         ensures left { OnOk result (frames_left self.new ≡ members_left members.entry (frames_left self.old)) }
         ensures ordered { OnOk result (FramesOrdered self.new → MembersOrdered members.entry × FramesOrdered self.old) }
-        ensures memory { OnErr result (IsErrOf result Memory) }
     {
         self.objects.push(members)?;
         self.kinds.push(Kind::Map)?;

@@ -1,5 +1,4 @@
 use Rattle.std.proofs.Common.{rules, ◌≡◌, List, [], ◌∷◌, ◌++◌, map, length, reverse, ap, subst, ◌∙◌}
-use Rattle.std.proofs.lemmas.Result.{on_ok_weaker}
 use Rattle.miniserde_value.specs.declared.json.builder.Mark.{Mark}
 use Rattle.miniserde_value.specs.declared.json.builder.Mark.TheVariants as mark
 use Rattle.miniserde_value.specs.Values.{shape}
@@ -16,18 +15,18 @@ invariant_of-self-in-Some-Array c =
     let fits = subst (λ (ms : List Mark). Fits (length c.args.self.now.values.items) (reverse c.args.self.now.objects.items) ms) top c.args.self.now.fits in
     record { fits = fits_split c.take_from.result c.args.self.now.values _ _ _ (reverse c.pop.new.self.items) c.take_from.ensures.items c.take_from.ensures.err fits }
 
-pub returns-in_ok-items-in-Some-Array-clause-ok : goal.returns-in_ok-items-in-Some-Array-clause-ok
-returns-in_ok-items-in-Some-Array-clause-ok c =
+pub returns-in_ok-put-in-Some-Array-clause-ok : goal.returns-in_ok-put-in-Some-Array-clause-ok
+returns-in_ok-put-in-Some-Array-clause-ok c =
     let last : c.args.self.now.marks.items ≡ c.pop.new.self.items ++ mark.Array c.in-Some-Array.from ∷ [] = search rules in
     let top = reverse_added c.pop.new.self.items _ _ last in
-    on_ok_weaker c.put.result (λ e. e ∙ closed_array c.args.self.now.values.items c.take_from.new.values.items c.in-Some-Array.from (reverse c.args.self.now.objects.items) (reverse c.args.self.now.marks.items) (reverse c.pop.new.self.items) c.from_inner.result top
-    c.in_ok-items-in-Some-Array.ensures.items (ap (λ v. v.items) c.from_inner.ensures ∙ c.in_ok-items-in-Some-Array.ensures.tail)) c.put.ensures.ok
+    c.in_ok-put-in-Some-Array.ensures ∙ closed_array c.args.self.now.values.items c.take_from.new.values.items c.in-Some-Array.from (reverse c.args.self.now.objects.items) (reverse c.args.self.now.marks.items) (reverse c.pop.new.self.items) c.from_inner.result top
+    c.in_ok-items-in-Some-Array.ensures.items (ap (λ v. v.items) c.from_inner.ensures ∙ c.in_ok-items-in-Some-Array.ensures.tail)
 
-pub returns-in-Some-clause-ok : goal.returns-in-Some-clause-ok
-returns-in-Some-clause-ok c =
+pub returns-in_ok-put-in-Some-clause-ok : goal.returns-in_ok-put-in-Some-clause-ok
+returns-in_ok-put-in-Some-clause-ok c =
     let last : c.args.self.now.marks.items ≡ c.pop.new.self.items ++ mark.Object ∷ [] = search rules in
     let innermost : c.args.self.now.objects.items ≡ c.pop-in-Some-Object.new.self.items ++ c.in-Some.field-0 ∷ [] = search rules in
     let marks = reverse_added c.pop.new.self.items _ _ last in
     let objects = reverse_added c.pop-in-Some-Object.new.self.items _ _ innermost in
-    on_ok_weaker c.put-in-Some.result (λ e. e ∙ closed_object (map shape c.args.self.now.values.items) (reverse c.args.self.now.objects.items) (reverse c.pop-in-Some-Object.new.self.items) c.in-Some.field-0 (reverse c.args.self.now.marks.items) (reverse c.pop.new.self.items) c.from_inner-in-Some.result marks objects
-    (search rules)) c.put-in-Some.ensures.ok
+    c.in_ok-put-in-Some.ensures ∙ closed_object (map shape c.args.self.now.values.items) (reverse c.args.self.now.objects.items) (reverse c.pop-in-Some-Object.new.self.items) c.in-Some.field-0 (reverse c.args.self.now.marks.items) (reverse c.pop.new.self.items) c.from_inner-in-Some.result marks objects
+    (search rules)

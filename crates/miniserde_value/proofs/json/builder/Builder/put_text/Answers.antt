@@ -6,5 +6,5 @@ use Rattle.miniserde_value.specs.Builders.{hole_in}
 use Rattle.miniserde_value.proofs.Shapes.{shape_string}
 use Rattle.miniserde_value.proofs.json.builder.Builder.put_text.Goals as goal
 
-pub returns-clause-ok : goal.returns-clause-ok
-returns-clause-ok c = subst (λ z. OnOk c.put.result (hole_in c.put.new.self ≡ put z (hole_in c.args.self.now))) (shape_string c.in_ok-text.text ∙ ap str (search rules)) c.put.ensures.ok
+pub returns : goal.returns
+returns c = subst (λ z. OnOk c.put.result (hole_in c.put.new.self ≡ put z (hole_in c.args.self.now))) (shape_string c.in_ok-text.text ∙ ap str (search rules)) c.put.ensures
