@@ -5,7 +5,7 @@ ghost use Rattle.miniserde_model.specs.Event.{events};
 ghost use Rattle.miniserde_model.specs.Position.{start};
 ghost use Rattle.miniserde_text.specs.Lexer.{front_of, kind_of};
 ghost use Rattle.miniserde_model.specs.declared.error.Error.{Error};
-ghost use Rattle.miniserde_read.specs.Rest.{ValueAt};
+ghost use Rattle.miniserde_read.specs.Rest.{ValueAt, GivesAt, GivesNoneAt};
 ghost use Rattle.miniserde_read.specs.Step.{IsTreeEvent};
 ghost use Rattle.miniserde_text.specs.private.Moving.{between, onward, opens};
 ghost use Rattle.miniserde_text.specs.private.Stack.{innermost, pushed};
@@ -22,12 +22,10 @@ pub fn read_by_place<'a, V: Visitor>(token: Event<'a>, source: &mut Source<'a>) 
     requires going { source.old.refused ≡ None }
     requires event { IsTreeEvent (front_of token source.old.scratch) }
     ensures going { IfOk result (λ _. source.new.refused ≡ None) }
-    ensures ok { IfOk result (λ v. (t : Tree)
-        × ValueAt t (front_of token.entry source.old.scratch) source.old.rest source.new.rest
-        × (V.meaning.from_tree t ≡ Some (V.meaning.content v))) }
-    ensures invalid { result ≡ Err Error.Invalid → (t : Tree) (r : List ℕ)
-        → ValueAt t (front_of token.entry source.old.scratch) source.old.rest r
-        → V.meaning.from_tree t ≡ None }
+    ensures ok { IfOk result (λ v. GivesAt V.meaning.from_tree (front_of token.entry source.old.scratch)
+        source.old.rest source.new.rest (V.meaning.content v)) }
+    ensures invalid { result ≡ Err Error.Invalid
+        → GivesNoneAt V.meaning.from_tree (front_of token.entry source.old.scratch) source.old.rest }
 {
     let mut place = V::begin(source.alloc())?;
     feed_from(token, source, &mut place)?;

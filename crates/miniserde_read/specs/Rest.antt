@@ -1,6 +1,6 @@
 -- What a text spells behind the first token of a value, by cases on the tree. Each step is one of a lexer's
 -- (`Starts`, `Names` and `Follows`).
-use Rattle.std.specs.Prelude.{◌≡◌, ℕ, Bool, true, false, List}
+use Rattle.std.specs.Prelude.{◌≡◌, ℕ, Bool, true, false, List, Option, Some, None}
 use Rattle.miniserde_model.specs.Tree.{Tree, null, truth, nonneg, neg, num, str, list, members, Trees, no_trees, tree, Members, no_members, member}
 use Rattle.miniserde_model.specs.Event.{Event, nothing, boolean, string, negative, nonnegative, float, seq, map}
 use Rattle.miniserde_model.specs.Lexing.{in_list, in_members, Starts, Names, Follows}
@@ -50,3 +50,13 @@ abbrev mutual
   pub MembersAt : Members → Bool → List ℕ → List ℕ → Type 0
   MembersAt no_members first s r = Follows in_members first true s r
   MembersAt (member name t ms) first s r = OneMember name (ValueAt t) (MembersAt ms false) first s r
+
+-- ---- what the value at a token gives, as `of` says of its tree
+
+-- the token e and the text s behind it, up to r, spell a tree that gives c
+abbrev pub GivesAt : {C : Type 0} → (Tree → Option C) → Event → List ℕ → List ℕ → C → Type 0
+GivesAt of e s r c = (t : Tree) × ValueAt t e s r × (of t ≡ Some c)
+
+-- no tree that the token and a beginning of the text spell gives anything
+abbrev pub GivesNoneAt : {C : Type 0} → (Tree → Option C) → Event → List ℕ → Type 0
+GivesNoneAt of e s = (t : Tree) (r : List ℕ) → ValueAt t e s r → of t ≡ None

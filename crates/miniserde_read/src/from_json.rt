@@ -1,11 +1,10 @@
 //! Types that read themselves from a JSON text.
-ghost use Rattle.std.specs.Prelude.{◌≡◌, Bool, true, false, List, ℕ, Option, None, Some, Ok, Err, IfOk, IfErr, ⊤};
-ghost use Rattle.miniserde_model.specs.Tree.{Tree};
+ghost use Rattle.std.specs.Prelude.{◌≡◌, Bool, true, false, Option, None, Err, IfOk, IfErr, ⊤};
 ghost use Rattle.miniserde_model.specs.Event as event;
 ghost use Rattle.miniserde_text.specs.Lexer.{front_of};
 ghost use Rattle.miniserde_model.specs.declared.error.Error.{Error};
 ghost use Rattle.miniserde_read.specs.Meant.{Meant};
-ghost use Rattle.miniserde_read.specs.Rest.{ValueAt};
+ghost use Rattle.miniserde_read.specs.Rest.{GivesAt, GivesNoneAt};
 ghost use Rattle.miniserde_read.specs.Source.{Remaining};
 ghost use Rattle.miniserde_read.specs.Step.{IsTreeEvent};
 
@@ -46,12 +45,10 @@ pub trait FromJson: Sized + Drop {
         requires going { source.old.refused ≡ None }
         requires event { IsTreeEvent (front_of token source.old.scratch) }
         ensures going { IfOk result (λ _. source.new.refused ≡ None) }
-        ensures ok { IfOk result (λ v. (t : Tree)
-            × ValueAt t (front_of token.entry source.old.scratch) source.old.rest source.new.rest
-            × (means.from_tree t ≡ Some (means.content v))) }
-        ensures invalid { result ≡ Err Error.Invalid → (t : Tree) (r : List ℕ)
-            → ValueAt t (front_of token.entry source.old.scratch) source.old.rest r
-            → means.from_tree t ≡ None }
+        ensures ok { IfOk result (λ v. GivesAt means.from_tree (front_of token.entry source.old.scratch)
+            source.old.rest source.new.rest (means.content v)) }
+        ensures invalid { result ≡ Err Error.Invalid
+            → GivesNoneAt means.from_tree (front_of token.entry source.old.scratch) source.old.rest }
         ensures infallible { read_infallible ≡ true → IfErr result (λ e. e ≡ Error.Invalid) }
         ensures memory { result ≡ Err Error.Memory
             → lacking (front_of token.entry source.old.scratch) source.old source.new };

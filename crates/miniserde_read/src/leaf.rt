@@ -1,10 +1,9 @@
 //! Types whose values are single tokens.
-ghost use Rattle.std.specs.Prelude.{◌≡◌, Bool, true, false, List, ℕ, None, Some, Ok, Err, IfOk, IfErr};
-ghost use Rattle.miniserde_model.specs.Tree.{Tree};
+ghost use Rattle.std.specs.Prelude.{◌≡◌, Bool, true, false, None, Some, Err, IfOk, IfErr};
 ghost use Rattle.miniserde_text.specs.Lexer.{front_of};
 ghost use Rattle.miniserde_model.specs.declared.error.Error.{Error};
 ghost use Rattle.miniserde_read.specs.Meant.{Meant};
-ghost use Rattle.miniserde_read.specs.Rest.{ValueAt};
+ghost use Rattle.miniserde_read.specs.Rest.{GivesAt, GivesNoneAt};
 ghost use Rattle.miniserde_read.specs.Step.{event_of, IsTreeEvent, on_leaf, OnlyLeaves};
 
 mod integers;
@@ -40,12 +39,10 @@ pub trait Leaf: Drop {
 pub fn read_leaf<'a, T: Leaf>(token: Event<'a>, source: &mut Source<'a>) -> Result<T>
     requires { IsTreeEvent (front_of token source.old.scratch) }
     ensures stays { source.new ≡ source.old }
-    ensures ok { IfOk result (λ v. (t : Tree)
-        × ValueAt t (front_of token.entry source.old.scratch) source.old.rest source.old.rest
-        × (T.means.from_tree t ≡ Some (T.means.content v))) }
-    ensures invalid { result ≡ Err Error.Invalid → (t : Tree) (r : List ℕ)
-        → ValueAt t (front_of token.entry source.old.scratch) source.old.rest r
-        → T.means.from_tree t ≡ None }
+    ensures ok { IfOk result (λ v. GivesAt T.means.from_tree (front_of token.entry source.old.scratch)
+        source.old.rest source.old.rest (T.means.content v)) }
+    ensures invalid { result ≡ Err Error.Invalid
+        → GivesNoneAt T.means.from_tree (front_of token.entry source.old.scratch) source.old.rest }
     ensures infallible { T.read_infallible ≡ true → IfErr result (λ e. e ≡ Error.Invalid) }
 {
     T::from_step(source.alloc(), source.step(token))

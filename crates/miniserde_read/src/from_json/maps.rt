@@ -1,11 +1,10 @@
 //! Maps, ordered by their keys or hashed.
-ghost use Rattle.std.specs.Prelude.{◌≡◌, [], List, ℕ, None, Some, Ok, Err, IfOk, OnErr, IsErrOf};
-ghost use Rattle.miniserde_model.specs.Tree.{Tree};
+ghost use Rattle.std.specs.Prelude.{◌≡◌, [], List, None, Some, Ok, Err, IfOk, OnErr, IsErrOf};
 ghost use Rattle.miniserde_text.specs.Lexer.{front_of};
 ghost use Rattle.miniserde_model.specs.declared.error.Error.{Error};
 ghost use Rattle.miniserde_model.specs.declared.error.Error.TheVariants.{Memory};
 ghost use Rattle.miniserde_read.specs.Meanings.{map_meant};
-ghost use Rattle.miniserde_read.specs.Rest.{ValueAt};
+ghost use Rattle.miniserde_read.specs.Rest.{GivesAt, GivesNoneAt};
 ghost use Rattle.miniserde_read.specs.Step.{IsTreeEvent};
 ghost use Rattle.miniserde_read.specs.meaning.Maps.{looked, with_entry};
 
@@ -85,13 +84,13 @@ fn read_table<'a, V: FromJson, M: Table<Value = V>>(
     requires going { source.old.refused ≡ None }
     requires event { IsTreeEvent (front_of token source.old.scratch) }
     ensures going { IfOk result (λ _. source.new.refused ≡ None) }
-    ensures ok { IfOk result (λ v. (t : Tree)
-        × ValueAt t (front_of token.entry source.old.scratch) source.old.rest source.new.rest
-        × ((map_meant M.Key.read M.Key.code M.Key.content V.means M.entries).from_tree t
-        ≡ Some ((map_meant M.Key.read M.Key.code M.Key.content V.means M.entries).content v))) }
-    ensures invalid { result ≡ Err Error.Invalid → (t : Tree) (r : List ℕ)
-        → ValueAt t (front_of token.entry source.old.scratch) source.old.rest r
-        → (map_meant M.Key.read M.Key.code M.Key.content V.means M.entries).from_tree t ≡ None }
+    ensures ok { IfOk result (λ v.
+        GivesAt (map_meant M.Key.read M.Key.code M.Key.content V.means M.entries).from_tree
+        (front_of token.entry source.old.scratch) source.old.rest source.new.rest
+        ((map_meant M.Key.read M.Key.code M.Key.content V.means M.entries).content v)) }
+    ensures invalid { result ≡ Err Error.Invalid
+        → GivesNoneAt (map_meant M.Key.read M.Key.code M.Key.content V.means M.entries).from_tree
+        (front_of token.entry source.old.scratch) source.old.rest }
 {
     let Event::MapStart = token else {
         return Err(Error::Invalid);

@@ -1,11 +1,10 @@
 //! Reads a document by one loop, without recursion.
-ghost use Rattle.std.specs.Prelude.{◌≡◌, ◌<◌, ◌&&◌, true, false, Bool, List, ℕ, None, Some, Err, IfOk, OnOk, OnErr, IsErrOf, length, is_some};
-ghost use Rattle.miniserde_model.specs.Tree.{Tree};
+ghost use Rattle.std.specs.Prelude.{◌≡◌, ◌<◌, ◌&&◌, true, false, Bool, None, Some, Err, IfOk, OnOk, length};
 ghost use Rattle.miniserde_model.specs.private.Reading.{due};
 ghost use Rattle.miniserde_model.specs.declared.error.Error.TheVariants.{Invalid, Memory};
 ghost use Rattle.miniserde_text.specs.Lexer.{front_of};
 ghost use Rattle.miniserde_text.specs.private.Moving.{between, opens};
-ghost use Rattle.miniserde_read.specs.Rest.{ValueAt};
+ghost use Rattle.miniserde_read.specs.Rest.{GivesAt, GivesNoneAt};
 ghost use Rattle.miniserde_read.specs.Step.{IsTreeEvent};
 ghost use Rattle.miniserde_read.specs.private.Runs.{NeverRuns};
 ghost use Rattle.miniserde_value.specs.Builders.{hole_in};
@@ -27,11 +26,10 @@ pub(crate) fn read_value<'a>(token: Event<'a>, source: &mut Source<'a>, once: bo
     requires going { source.old.refused ≡ None }
     requires event { IsTreeEvent (front_of token source.old.scratch) }
     ensures going { IfOk result (λ _. source.new.refused ≡ None) }
-    ensures ok { IfOk result (λ v. (t : Tree)
-        × ValueAt t (front_of token.entry source.old.scratch) source.old.rest source.new.rest
-        × (kept_if once t ≡ Some (shape v))) }
-    ensures invalid { result ≡ Err Invalid → (t : Tree) (r : List ℕ)
-        → ValueAt t (front_of token.entry source.old.scratch) source.old.rest r → kept_if once t ≡ None }
+    ensures ok { IfOk result (λ v. GivesAt (kept_if once) (front_of token.entry source.old.scratch)
+        source.old.rest source.new.rest (shape v)) }
+    ensures invalid { result ≡ Err Invalid
+        → GivesNoneAt (kept_if once) (front_of token.entry source.old.scratch) source.old.rest }
 {
     let mut builder = Builder::new(source.alloc());
     let mut first = builder.begin(source.step(token))?;
