@@ -1,10 +1,10 @@
 //! Unit enums, whose values are strings: their names.
-ghost use Rattle.std.specs.Prelude.{◌≡◌, true, Option, None, Some, Ok, Err, List, ℕ, IfOk, IfErr, ⊤, refl};
-ghost use Rattle.miniserde_model.specs.Tree.{Tree, str};
+ghost use Rattle.std.specs.Prelude.{◌≡◌, true, Option, None, Some, Ok, Err, List, IfOk, IfErr, ⊤, refl};
+ghost use Rattle.miniserde_model.specs.Tree.{str};
 ghost use Rattle.miniserde_text.specs.Lexer.{front_of};
 ghost use Rattle.miniserde_model.specs.declared.error.Error.{Error};
 ghost use Rattle.miniserde_read.specs.Meant.{Meant};
-ghost use Rattle.miniserde_read.specs.Rest.{ValueAt};
+ghost use Rattle.miniserde_read.specs.Rest.{GivesAt, GivesNoneAt};
 ghost use Rattle.miniserde_read.specs.Step.{IsTreeEvent};
 ghost use Rattle.miniserde_read.specs.meaning.Objects.{Name};
 ghost use Rattle.miniserde_round.specs.RoundTrip.{ReadsAgain};
@@ -96,12 +96,10 @@ pub fn read_variant<'a, T: UnitEnum + 'static>(
 ) -> Result<T>
     requires { IsTreeEvent (front_of token source.old.scratch) }
     ensures stays { source.new ≡ source.old }
-    ensures ok { IfOk result (λ v. (t : Tree)
-        × ValueAt t (front_of token.entry source.old.scratch) source.old.rest source.old.rest
-        × (variant_of T.name_of T.all t ≡ Some v)) }
-    ensures invalid { result ≡ Err Error.Invalid → (t : Tree) (r : List ℕ)
-        → ValueAt t (front_of token.entry source.old.scratch) source.old.rest r
-        → variant_of T.name_of T.all t ≡ None }
+    ensures ok { IfOk result (λ v. GivesAt (variant_of T.name_of T.all)
+        (front_of token.entry source.old.scratch) source.old.rest source.old.rest v) }
+    ensures invalid { result ≡ Err Error.Invalid → GivesNoneAt (variant_of T.name_of T.all)
+        (front_of token.entry source.old.scratch) source.old.rest }
     ensures infallible { IfErr result (λ e. e ≡ Error.Invalid) }
 {
     match read_leaf::<Variant<T>>(token, source) {

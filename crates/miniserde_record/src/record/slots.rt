@@ -1,9 +1,8 @@
 //! Structs that are read from a text, field by field.
-ghost use Rattle.std.specs.Prelude.{◌≡◌, true, Bool, List, ℕ, None, Some, Ok, Err, IfOk, IfErr, map, is_some, Option};
-ghost use Rattle.miniserde_model.specs.Tree.{Tree};
+ghost use Rattle.std.specs.Prelude.{◌≡◌, true, None, Some, Ok, Err, IfOk, map, Option};
 ghost use Rattle.miniserde_text.specs.Lexer.{front_of};
 ghost use Rattle.miniserde_model.specs.declared.error.Error.{Error};
-ghost use Rattle.miniserde_read.specs.Rest.{ValueAt};
+ghost use Rattle.miniserde_read.specs.Rest.{GivesAt, GivesNoneAt};
 ghost use Rattle.miniserde_read.specs.Step.{IsTreeEvent};
 ghost use Rattle.miniserde_record.specs.FieldsMeant.{FieldsMeant, no_fields, field_and, struct_meant};
 ghost use Rattle.miniserde_record.specs.Members.{DueRead, DueRejects};
@@ -184,13 +183,11 @@ pub fn read_record<'a, S: Record, F: Slots<Values = S::Values>>(
     requires going { source.old.refused ≡ None }
     requires event { IsTreeEvent (front_of token source.old.scratch) }
     ensures going { IfOk result (λ _. source.new.refused ≡ None) }
-    ensures ok { IfOk result (λ v. (t : Tree)
-        × ValueAt t (front_of token.entry source.old.scratch) source.old.rest source.new.rest
-        × ((struct_meant F.meaning S.names S.values).from_tree t
-        ≡ Some ((struct_meant F.meaning S.names S.values).content v))) }
-    ensures invalid { result ≡ Err Error.Invalid → (t : Tree) (r : List ℕ)
-        → ValueAt t (front_of token.entry source.old.scratch) source.old.rest r
-        → (struct_meant F.meaning S.names S.values).from_tree t ≡ None }
+    ensures ok { IfOk result (λ v. GivesAt (struct_meant F.meaning S.names S.values).from_tree
+        (front_of token.entry source.old.scratch) source.old.rest source.new.rest
+        ((struct_meant F.meaning S.names S.values).content v)) }
+    ensures invalid { result ≡ Err Error.Invalid → GivesNoneAt (struct_meant F.meaning S.names S.values).from_tree
+        (front_of token.entry source.old.scratch) source.old.rest }
 {
     let Event::MapStart = token else {
         return Err(Error::Invalid);
