@@ -16,6 +16,7 @@ pub use Rattle.miniserde_model.specs.Value
 pub use Rattle.miniserde_model.specs.Whitespace
 pub use Rattle.miniserde_model.specs.Error
 pub use Rattle.miniserde_text.specs.Lexer
+pub use Rattle.miniserde_text.specs.Texts
 pub use Rattle.miniserde_keys.specs.Keys
 pub use Rattle.miniserde_keys.specs.Ranged
 pub use Rattle.miniserde_read.specs.Escaped
