@@ -4,14 +4,13 @@ use Rattle.miniserde_model.specs.Tree.{Tree}
 use Rattle.miniserde_model.specs.Event.{Event, key, events}
 use Rattle.miniserde_place.specs.Place.{Shown, Meaning}
 use Rattle.miniserde_place.specs.Container.{Gathering, joining}
-use Rattle.miniserde_read.specs.meaning.Objects.{Name, object_of}
+use Rattle.miniserde_read.specs.meaning.Objects.{Name}
 use Rattle.miniserde_de.specs.Objects.{object_rules}
 use Rattle.miniserde_de.specs.Tied.{meant_by}
 use Rattle.miniserde_de.specs.laws.Objects.{object-meant}
-use Rattle.miniserde_record.specs.Fields.{field_member, StructReads}
-use Rattle.miniserde_record.specs.FieldsMeant.{FieldsMeant, no_fields, field_and}
+use Rattle.miniserde_record.specs.Fields.{field_member}
+use Rattle.miniserde_record.specs.FieldsMeant.{FieldsMeant, no_fields, field_and, struct_meant}
 use Rattle.miniserde_record.specs.laws.Fields.{none-refused, field-refused, field-meant}
-use Rattle.miniserde_record.specs.laws.Meanings.{struct-given}
 
 -- the meaning of fields: F are the fields so far, with the place of the current one, and V the values of all of them
 pub record FieldsMeaning (F V : Type 0) : Type 1 where
@@ -73,17 +72,13 @@ refuses_member refuses _ = false
 -- a struct, by the names and the values of its fields
 abbrev pub struct_gathering : {F V C W : Type 0} → FieldsMeaning F V → List Name → (W → V) → (C → F) → Gathering C W
 struct_gathering n names values fields = record {
-  Content = n.meant.Content;
-  content = λ w. n.meant.content (values w);
+  meant = struct_meant n.meant names values;
   State = n.meant.State;
   state = λ c. n.state (fields c);
   empty = n.meant.empty;
   is_object = true;
   rules = object_rules (n.by_events names) n.meant.end;
-  from_tree = object_of (n.meant.from_members names n.meant.empty);
   events_agree = object-meant (n.by_events names) (n.meant.by_tree names) n.meant.end (n.events_agree names) n.meant.empty (n.meant.from_members names n.meant.empty) (n.meant.members_agree names n.meant.empty);
-  reads = StructReads (n.meant.reads names) values;
-  reads_agrees = struct-given (n.meant.reads names) values (n.meant.from_members names n.meant.empty) n.meant.content (n.meant.reads_agrees names);
   child = λ c. n.child (fields c);
   refuses = λ s e. refuses_member (n.meant.refuses names s) e;
 }

@@ -1,11 +1,10 @@
 -- What the places of values mean.
-use Rattle.std.specs.Prelude.{◌≡◌, Bool, true, false, [], Option, Some, None, Result, Err, OnOk, refl, string_bytes}
+use Rattle.std.specs.Prelude.{◌≡◌, Bool, true, false, [], Option, Some, None, Result, Err, OnOk, refl}
 use Rattle.miniserde_model.specs.Tree.{Tree}
 use Rattle.miniserde_model.specs.Event.{Event}
 use Rattle.miniserde_model.specs.declared.error.Error.{Error}
 use Rattle.miniserde_model.specs.declared.error.Error.TheVariants.{Invalid}
-use Rattle.miniserde_place.specs.Place.{Shown, Meaning, first_refusal}
-use Rattle.miniserde_ser.specs.Trees.{trees_of, members_of}
+use Rattle.miniserde_place.specs.Place.{Shown, Meaning, placed, first_refusal}
 use Rattle.miniserde_value.specs.declared.json.value.Value.{Value}
 use Rattle.miniserde_value.specs.declared.json.array.Array.{Array}
 use Rattle.miniserde_value.specs.declared.json.object.Object.{Object}
@@ -16,21 +15,17 @@ use Rattle.miniserde_de.specs.declared.documents.kinds.ArrayPlace.{ArrayPlace}
 use Rattle.miniserde_de.specs.declared.documents.kinds.ObjectPlace.{ObjectPlace}
 use Rattle.miniserde_value.specs.Hole.{Hole, outside, depth, took, next, outcome, repeats}
 use Rattle.miniserde_value.specs.Builders.{hole_in}
-use Rattle.miniserde_value.specs.Kept.{kept, kept_if}
-use Rattle.miniserde_value.specs.Values.{shape, Reads, array_items, object_entries, array_shape, object_shape}
 use Rattle.miniserde_place.specs.Leaf.{from_one_event, leaf_shows}
 use Rattle.miniserde_place.specs.LeafPlace.{value_of, refusal_of as leaf_refusal}
 use Rattle.miniserde_place.specs.laws.Leaf.{one-event}
 use Rattle.miniserde_value.specs.declared.json.number.Number.{Number}
 use Rattle.miniserde_de.specs.declared.documents.number_place.NumberPlace.{NumberPlace}
-use Rattle.miniserde_value.specs.Numbers.{number_leaf, number_of, ReadsNumber}
-use Rattle.miniserde_value.specs.laws.Numbers.{number-given}
-use Rattle.miniserde_value.specs.Meanings.{ReadsUnique}
-use Rattle.miniserde_value.specs.Kinds.{only_list, only_members}
+use Rattle.miniserde_value.specs.Numbers.{number_leaf, number_of}
+use Rattle.miniserde_value.specs.Meanings.{value_meant, unique_meant, json_array_meant, json_object_meant, number_meant}
 use Rattle.miniserde_de.specs.Kinds.{list_outcome, members_outcome}
 use Rattle.miniserde_de.specs.laws.Kinds.{list-whole, members-whole}
-use Rattle.miniserde_value.specs.laws.Unique.{once-whole, once-agrees}
-use Rattle.miniserde_value.specs.laws.Outcomes.{outcome-whole, reads-agree, list-agrees, members-agree}
+use Rattle.miniserde_value.specs.laws.Unique.{once-whole}
+use Rattle.miniserde_value.specs.laws.Outcomes.{outcome-whole}
 
 -- what is read so far
 abbrev pub hole_at : ValuePlace → Hole
@@ -49,16 +44,7 @@ value_shows p = record { at = (depth (hole_at p), due_in p); outcome = outcome f
 
 -- every tree means a value, which keeps of each name the last tree
 abbrev pub value_meaning : Meaning ValuePlace Value
-value_meaning = record {
-  Content = Tree;
-  content = shape;
-  from_events = outcome false true (outside []);
-  from_tree = λ t. Some (kept t);
-  events_agree = outcome-whole;
-  reads = Reads;
-  reads_agrees = λ t v. reads-agree t (shape v);
-  shows = value_shows;
-}
+value_meaning = placed value_meant (outcome false true (outside [])) outcome-whole value_shows
 
 -- What an event made of the hole, where it was accepted. One that was refused as invalid has no place in it.
 abbrev pub steps : ValuePlace → Event → Result (Unit {0}) Error → ValuePlace → Type 0
@@ -75,52 +61,20 @@ steps_once old e answer new =
 
 -- a tree in which no name is duplicated means the value, which keeps the tree
 abbrev pub unique_meaning : Meaning UniquePlace Unique
-unique_meaning = record {
-  Content = Tree;
-  content = λ u. shape u.value;
-  from_events = outcome true true (outside []);
-  from_tree = kept_if true;
-  events_agree = once-whole;
-  reads = ReadsUnique;
-  reads_agrees = λ t u. once-agrees t (shape u.value);
-  shows = λ p. record { at = (depth (hole_at p.place), due_in p.place); outcome = outcome true (due_in p.place) (hole_at p.place); refused = refusal_of p.place };
-}
+unique_meaning = placed unique_meant (outcome true true (outside [])) once-whole
+    (λ p. record { at = (depth (hole_at p.place), due_in p.place); outcome = outcome true (due_in p.place) (hole_at p.place); refused = refusal_of p.place })
 
 -- the tree means the array: it is a list, whose items the array has as values keep them
 abbrev pub array_meaning : Meaning ArrayPlace Array
-array_meaning = record {
-  Content = Tree;
-  content = array_shape;
-  from_events = list_outcome true (outside []);
-  from_tree = λ t. only_list (Some (kept t));
-  events_agree = list-whole;
-  reads = λ t a. array_shape a ≡ kept t;
-  reads_agrees = λ t a. list-agrees t (trees_of shape (array_items a));
-  shows = λ p. record { at = (depth (hole_at p.place), due_in p.place); outcome = list_outcome (due_in p.place) (hole_at p.place); refused = refusal_of p.place };
-}
+array_meaning = placed json_array_meant (list_outcome true (outside [])) list-whole
+    (λ p. record { at = (depth (hole_at p.place), due_in p.place); outcome = list_outcome (due_in p.place) (hole_at p.place); refused = refusal_of p.place })
 
 -- the tree means the object: it has members, which the object has as values keep them
 abbrev pub object_meaning : Meaning ObjectPlace Object
-object_meaning = record {
-  Content = Tree;
-  content = object_shape;
-  from_events = members_outcome true (outside []);
-  from_tree = λ t. only_members (Some (kept t));
-  events_agree = members-whole;
-  reads = λ t o. object_shape o ≡ kept t;
-  reads_agrees = λ t o. members-agree t (members_of string_bytes shape (object_entries o));
-  shows = λ p. record { at = (depth (hole_at p.place), due_in p.place); outcome = members_outcome (due_in p.place) (hole_at p.place); refused = refusal_of p.place };
-}
+object_meaning = placed json_object_meant (members_outcome true (outside [])) members-whole
+    (λ p. record { at = (depth (hole_at p.place), due_in p.place); outcome = members_outcome (due_in p.place) (hole_at p.place); refused = refusal_of p.place })
 
 -- the tree means the number
 abbrev pub number_meaning : Meaning NumberPlace Number
-number_meaning = record {
-  Content = Tree;
-  content = number_leaf;
-  from_events = from_one_event number_of;
-  from_tree = number_of;
-  events_agree = one-event number_of (λ ts. refl, λ ms. refl);
-  reads = ReadsNumber;
-  reads_agrees = number-given;
-  shows = λ p. leaf_shows number_leaf number_of (value_of p.place) (leaf_refusal p.place);
-}
+number_meaning = placed number_meant (from_one_event number_of) (one-event number_of (λ ts. refl, λ ms. refl))
+    (λ p. leaf_shows number_leaf number_of (value_of p.place) (leaf_refusal p.place))

@@ -1,6 +1,8 @@
 //! A place that takes one value of any shape and collects nothing.
-ghost use Rattle.std.specs.Prelude.{◌≡◌, true, Some, None, ⊤, refl};
+ghost use Rattle.std.specs.Prelude.{◌≡◌, true, Some, None, refl};
 ghost use Rattle.miniserde_model.specs.Position.{start};
+ghost use Rattle.miniserde_read.specs.Meanings.{ignored_meant};
+ghost use Rattle.miniserde_place.specs.Place.{placed};
 
 pub(crate) mod fresh;
 
@@ -36,16 +38,8 @@ impl Visitor for Ignore {
 
     type Out = ();
 
-    ghost meaning = { record {
-      Content = Unit {0};
-      content = λ _. tt;
-      from_events = λ _. Some tt;
-      from_tree = λ _. Some tt;
-      events_agree = λ _. refl;
-      reads = λ _ _. ⊤;
-      reads_agrees = λ t v. (λ _. refl, λ _. tt);
-      shows = λ p. record { at = position_of p; outcome = λ _. Some tt; refused = refusal_of p };
-    } };
+    ghost meaning = { placed ignored_meant (λ _. Some tt) (λ _. refl)
+        (λ p. record { at = position_of p; outcome = λ _. Some tt; refused = refusal_of p }) };
 
     ghost begins_free = { true };
 

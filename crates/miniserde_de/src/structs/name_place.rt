@@ -1,11 +1,11 @@
 //! The place of a unit enum.
 ghost use Rattle.std.specs.Prelude.{◌≡◌, true, Some, Err, refl};
-ghost use Rattle.miniserde_model.specs.Tree.{str};
 ghost use Rattle.miniserde_model.specs.declared.error.Error.{Error};
+ghost use Rattle.miniserde_place.specs.Place.{placed};
 ghost use Rattle.miniserde_place.specs.Leaf.{from_one_event};
 ghost use Rattle.miniserde_place.specs.laws.Leaf.{one-event};
 ghost use Rattle.miniserde_record.specs.Names.{variant_of};
-ghost use Rattle.miniserde_record.specs.laws.Names.{variant-given};
+ghost use Rattle.miniserde_record.specs.Variants.{variant_meant};
 
 use miniserde_model::error::{Error, Result};
 use miniserde_place::de::leaf::LeafPlace;
@@ -22,16 +22,9 @@ pub struct NamePlace<T> {
 impl<T: UnitEnum + 'static> Visitor for NamePlace<T> {
     type Out = T;
 
-    ghost meaning = { record {
-      Content = T;
-      content = λ v. v;
-      from_events = from_one_event (variant_of T.name_of T.all);
-      from_tree = variant_of T.name_of T.all;
-      events_agree = one-event (variant_of T.name_of T.all) (λ ts. refl, λ ms. refl);
-      reads = λ t v. t ≡ str (T.name_of v);
-      reads_agrees = variant-given T.name_of T.all T.found;
-      shows = λ p. ⟦<LeafPlace<Variant<T>> as Visitor>⟧.meaning.shows p.place;
-    } };
+    ghost meaning = { placed (variant_meant T.name_of T.all T.found (λ v. v)) (from_one_event (variant_of T.name_of T.all))
+        (one-event (variant_of T.name_of T.all) (λ ts. refl, λ ms. refl))
+        (λ p. ⟦<LeafPlace<Variant<T>> as Visitor>⟧.meaning.shows p.place) };
 
     ghost begins_free = { true };
 

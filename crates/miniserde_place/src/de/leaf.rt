@@ -1,5 +1,6 @@
 //! The one place of all types whose values are single tokens.
 ghost use Rattle.std.specs.Prelude.{◌≡◌, Bool, true, Option, Some, Err, List};
+ghost use Rattle.miniserde_place.specs.Place.{placed};
 ghost use Rattle.miniserde_place.specs.Leaf.{from_one_event, leaf_shows};
 ghost use Rattle.miniserde_place.specs.laws.Leaf.{one-event};
 ghost use Rattle.miniserde_model.specs.declared.error.Error.{Error};
@@ -34,16 +35,8 @@ impl<T: Leaf> Visitor for LeafPlace<T> {
 
     ghost use Rattle.miniserde_place.specs.LeafPlace.{value_of, refusal_of};
 
-    ghost meaning = { record {
-      Content = T.means.Content;
-      content = T.means.content;
-      from_events = from_one_event T.means.from_tree;
-      from_tree = T.means.from_tree;
-      events_agree = one-event T.means.from_tree T.only_leaves;
-      reads = T.means.reads;
-      reads_agrees = T.means.reads_agrees;
-      shows = λ p. leaf_shows T.means.content T.means.from_tree (value_of p) (refusal_of p);
-    } };
+    ghost meaning = { placed T.means (from_one_event T.means.from_tree) (one-event T.means.from_tree T.only_leaves)
+        (λ p. leaf_shows T.means.content T.means.from_tree (value_of p) (refusal_of p)) };
 
     ghost begins_free = { true };
 

@@ -72,5 +72,5 @@ pub trait Collect: Drop {
     /// The whole, where the children make one.
     fn end(self) -> Option<Self::Out>
         ensures { MatchOption result (gathering.rules.end (gathering.state self) ≡ None)
-            (λ v. gathering.rules.end (gathering.state self) ≡ Some (gathering.content v)) };
+            (λ v. gathering.rules.end (gathering.state self) ≡ Some (gathering.meant.content v)) };
 }
