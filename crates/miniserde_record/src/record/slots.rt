@@ -93,6 +93,27 @@ impl Slots for NoSlot {
     }
 }
 
+// As `read_member`, where no name is left: a struct has one for each field, so its code is kept apart.
+#[inline(never)]
+fn read_unnamed<'a, R: Slots>(
+    rest: &mut R,
+    names: &[&str],
+    name: &str,
+    source: &mut Source<'a>,
+) -> Result<()>
+    requires { source.old.refused ≡ None }
+    ensures going { IfOk result (λ _. source.new.refused ≡ None) }
+    ensures ok { IfOk result (λ _.
+        DueRead (R.meaning.by_tree (map (λ n. n.now) names.now) (R.state rest.old) name.now)
+        source.old.rest source.new.rest (R.state rest.new)) }
+    ensures invalid { result ≡ Err Error.Invalid
+        → DueRejects (R.meaning.by_tree (map (λ n. n.now) names.now) (R.state rest.old) name.now) source.old.rest }
+    ensures refuses { R.meaning.refuses (map (λ n. n.now) names.now) (R.state rest.old) name.now ≡ true
+        → (result ≡ Err Error.Invalid) × (source.new ≡ source.old) }
+{
+    rest.read_member(names, name, source)
+}
+
 /// A field with a mark, and the fields after it.
 pub struct MarkedSlot<T, M, R> {
     value: Option<T>,
@@ -154,7 +175,7 @@ impl<T: FromJson, M: Mark<T>, R: Slots> Slots for MarkedSlot<T, M, R> {
                     self.rest.read_member(more, name, source)
                 }
             }
-            None => self.rest.read_member(names, name, source),
+            None => read_unnamed(&mut self.rest, names, name, source),
         }
     }
 
