@@ -16,3 +16,4 @@ pub mod OneNormal
 pub mod Distinct
 pub mod Forced
 pub mod Examples
+pub mod RefusedExamples

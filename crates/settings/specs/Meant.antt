@@ -7,8 +7,8 @@ use Rattle.miniserde.specs.Lists.{ListReads, list_of}
 use Rattle.miniserde.specs.Options.{OptionReads, option_of}
 use Rattle.miniserde.specs.Maps.{MapReads, map_of, looked}
 use Rattle.miniserde.specs.Fields.{Says}
-use Rattle.settings.specs.declared.types.Host.{Host}
-use Rattle.settings.specs.declared.types.Tls.{Tls}
+use Rattle.settings.specs.declared.parts.Host.{Host}
+use Rattle.settings.specs.declared.parts.Tls.{Tls}
 use Rattle.settings.specs.declared.types.Settings.{Settings}
 
 -- the tree is a number below the limit

@@ -2,4 +2,5 @@
 #![tactic(auto)]
 
 pub mod loader;
+pub mod parts;
 pub mod types;

@@ -4,7 +4,8 @@ ghost use Rattle.miniserde.specs.Tree.{Tree};
 ghost use Rattle.miniserde.specs.Value.{IsJson};
 ghost use Rattle.settings.specs.Meant.{AreSame, IsHost, IsTls, IsSettings};
 
-use crate::types::{Host, Settings, Tls};
+use crate::parts::{Host, Tls};
+use crate::types::Settings;
 use miniserde::de::FromJson;
 use miniserde::json::{from_str, to_string};
 use miniserde::laws::text_has_one_tree;

@@ -7,7 +7,7 @@ use miniserde::derived::{
     AgainFields, Event, FromJson, NoSlot, Parts, Ranged, Record, Result, RoundTrip, Serialize,
     Slot, Slots, Source, Writer, read_record, record_again, write_members,
 };
-use settings::types::{Host, Tls};
+use settings::parts::{Host, Tls};
 use std::collections::BTreeMap;
 
 /// The `name` of settings, alone.

@@ -1,4 +1,5 @@
-use Rattle.miniserde_model.proofs.Examples.{spelled_texts, normal_forms, refused_texts}
+use Rattle.miniserde_model.proofs.Examples.{spelled_texts, normal_forms}
+use Rattle.miniserde_model.proofs.RefusedExamples.{refused_texts}
 use Rattle.miniserde_model.proofs.worked_examples.Goals as goal
 
 pub returns-clause-spelled : goal.returns-clause-spelled

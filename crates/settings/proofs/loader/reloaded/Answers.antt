@@ -6,8 +6,8 @@ use Rattle.std.proofs.lemmas.Result.{IfOk-weaker}
 use Rattle.miniserde.specs.Value.{IsJson}
 use Rattle.settings.specs.Meant.{AreSame}
 use Rattle.settings.specs.declared.types.Settings.{Settings}
-use Rattle.settings.specs.contracts.types.HostPlaceVisitor.TheImpl as host
-use Rattle.settings.specs.contracts.types.TlsPlaceVisitor.TheImpl as tls
+use Rattle.settings.specs.contracts.parts.HostPlaceVisitor.TheImpl as host
+use Rattle.settings.specs.contracts.parts.TlsPlaceVisitor.TheImpl as tls
 use Rattle.settings.specs.contracts.types.SettingsPlaceVisitor.TheImpl as settings
 use Rattle.settings.specs.contracts.types.SettingsSerialize.TheImpl as written
 use Rattle.miniserde.specs.Said.{maps, option_maps}

@@ -8,8 +8,8 @@ use Rattle.miniserde.specs.Lists.{ListReads, list_of}
 use Rattle.miniserde.specs.Options.{OptionReads, option_of}
 use Rattle.miniserde.specs.Maps.{MapReads, map_of, looked}
 use Rattle.settings.specs.Meant.{IsHost, IsTls}
-use Rattle.settings.specs.contracts.types.HostFromJson.TheImpl as host
-use Rattle.settings.specs.contracts.types.TlsFromJson.TheImpl as tls
+use Rattle.settings.specs.contracts.parts.HostFromJson.TheImpl as host
+use Rattle.settings.specs.contracts.parts.TlsFromJson.TheImpl as tls
 use Rattle.miniserde.specs.Said.{needs, says, lacks, items, optional, none_counts}
 use Rattle.settings.proofs.loader.settings_meant.Goals as goal
 

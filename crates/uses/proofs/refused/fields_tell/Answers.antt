@@ -7,8 +7,8 @@ use Rattle.miniserde.specs.Lists.{ListReads, list_of}
 use Rattle.miniserde.specs.Options.{OptionReads, option_of}
 use Rattle.miniserde.specs.Maps.{MapReads, map_of, looked}
 use Rattle.miniserde.specs.Said.{moved}
-use Rattle.settings.specs.contracts.types.HostFromJson.TheImpl as host
-use Rattle.settings.specs.contracts.types.TlsFromJson.TheImpl as tls
+use Rattle.settings.specs.contracts.parts.HostFromJson.TheImpl as host
+use Rattle.settings.specs.contracts.parts.TlsFromJson.TheImpl as tls
 use Rattle.uses.proofs.refused.fields_tell.Goals as goal
 
 pub returns : goal.returns
