@@ -1,5 +1,6 @@
 //! A number of its own kind: a check stands between its text and its values.
-ghost use Rattle.std.specs.Prelude.{◌≡◌, ◌≤◌, ◌↔◌, ℕ, true, refl, IsSome, IfSome};
+ghost use Rattle.std.specs.Prelude.{◌≡◌, ◌≤◌, ◌↔◌, true, refl, IsSome, IfSome};
+ghost use Rattle.miniserde.specs.Meant.{meant};
 ghost use Rattle.miniserde.specs.Tree.{nonneg};
 ghost use Rattle.miniserde.specs.Place.{inside};
 ghost use Rattle.examples.specs.Percents.{percent_of, ReadsPercent};
@@ -42,13 +43,7 @@ impl Percent {
 }
 
 impl Leaf for Percent {
-    ghost means = { record {
-      Content = ℕ;
-      content = λ p. p.of;
-      from_tree = percent_of;
-      reads = λ t p. ReadsPercent t p.of;
-      reads_agrees = λ t p. percent-given t p.of;
-    } };
+    ghost means = { meant (λ p. p.of) percent_of (λ t p. ReadsPercent t p.of) (λ t p. percent-given t p.of) };
 
     ghost only_leaves = { (λ ts. refl, λ ms. refl) };
 

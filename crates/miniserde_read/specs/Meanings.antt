@@ -2,7 +2,7 @@
 use Rattle.std.specs.Prelude.{ℕ, ℤ, pos, Bool, List, map, Option, Some, option_map, ◌≡◌, refl, ⊤}
 use Rattle.miniserde_model.specs.Tree.{null, truth, str}
 use Rattle.miniserde_keys.specs.Keys.{Key}
-use Rattle.miniserde_read.specs.Meant.{Meant}
+use Rattle.miniserde_read.specs.Meant.{Meant, meant}
 use Rattle.miniserde_read.specs.meaning.Words.{unit_of, boolean_of, string_of}
 use Rattle.miniserde_read.specs.laws.Words.{unit-given, truth-given, text-given}
 use Rattle.miniserde_read.specs.meaning.Integers.{unsigned_of, signed_of, ReadsUnsigned, ReadsSigned}
@@ -21,120 +21,60 @@ use Rattle.miniserde_read.specs.laws.Maps.{map-given}
 
 -- `null` means `()`
 abbrev pub unit_meant : Meant (Unit {0})
-unit_meant = record {
-  Content = Unit {0};
-  content = λ _. tt;
-  from_tree = unit_of;
-  reads = λ t _. t ≡ null;
-  reads_agrees = λ t _. unit-given t;
-}
+unit_meant = meant (λ _. tt) unit_of (λ t _. t ≡ null) (λ t _. unit-given t)
 
 -- every tree means the value, and all values are equal
 abbrev pub ignored_meant : {V : Type 0} → Meant V
-ignored_meant = record {
-  Content = Unit {0};
-  content = λ _. tt;
-  from_tree = λ _. Some tt;
-  reads = λ _ _. ⊤;
-  reads_agrees = λ _ _. (λ _. refl, λ _. tt);
-}
+ignored_meant = meant {C = Unit {0}} (λ _. tt) (λ _. Some tt) (λ _ _. ⊤) (λ _ _. (λ _. refl, λ _. tt))
 
 -- the words `true` and `false` mean the two booleans
 abbrev pub boolean_meant : Meant Bool
-boolean_meant = record {
-  Content = Bool;
-  content = λ b. b;
-  from_tree = boolean_of;
-  reads = λ t b. t ≡ truth b;
-  reads_agrees = truth-given;
-}
+boolean_meant = meant (λ b. b) boolean_of (λ t b. t ≡ truth b) truth-given
 
 -- an unsigned integer of so many bits
 abbrev pub unsigned_meant : ℕ → Meant ℕ
-unsigned_meant bits = record {
-  Content = ℤ;
-  content = λ n. pos n;
-  from_tree = unsigned_of bits;
-  reads = ReadsUnsigned bits;
-  reads_agrees = unsigned-given bits;
-}
+unsigned_meant bits = meant (λ n. pos n) (unsigned_of bits) (ReadsUnsigned bits) (unsigned-given bits)
 
 -- a signed integer of so many bits
 abbrev pub signed_meant : ℕ → Meant ℤ
-signed_meant bits = record {
-  Content = ℤ;
-  content = λ z. z;
-  from_tree = signed_of bits;
-  reads = ReadsSigned bits;
-  reads_agrees = signed-given bits;
-}
+signed_meant bits = meant (λ z. z) (signed_of bits) (ReadsSigned bits) (signed-given bits)
 
 -- a string means the text with its bytes
 abbrev pub string_meant : {W : Type 0} → (W → List ℕ) → Meant W
-string_meant bytes = record {
-  Content = List ℕ;
-  content = bytes;
-  from_tree = string_of;
-  reads = λ t s. t ≡ str (bytes s);
-  reads_agrees = λ t s. text-given t (bytes s);
-}
+string_meant bytes = meant bytes string_of (λ t s. t ≡ str (bytes s)) (λ t s. text-given t (bytes s))
 
 -- a list, by its items
 abbrev pub list_meant : {V W : Type 0} → Meant V → (W → List V) → Meant W
-list_meant m items = record {
-  Content = List m.Content;
-  content = λ v. map m.content (items v);
-  from_tree = list_of m.from_tree;
-  reads = λ t v. ListReads m.reads t (items v);
-  reads_agrees = λ t v. list-given m.reads m.from_tree m.content m.reads_agrees t (items v);
-}
+list_meant m items =
+    meant (λ v. map m.content (items v)) (list_of m.from_tree) (λ t v. ListReads m.reads t (items v))
+    (λ t v. list-given m.reads m.from_tree m.content m.reads_agrees t (items v))
 
 -- an array of n items
 abbrev pub array_meant : {V W : Type 0} → ℕ → Meant V → (W → List V) → Meant W
-array_meant n m items = record {
-  Content = List m.Content;
-  content = λ v. map m.content (items v);
-  from_tree = array_of n m.from_tree;
-  reads = λ t v. ArrayReads n m.reads t (items v);
-  reads_agrees = λ t v. array-given n m.reads m.from_tree m.content m.reads_agrees t (items v);
-}
+array_meant n m items =
+    meant (λ v. map m.content (items v)) (array_of n m.from_tree) (λ t v. ArrayReads n m.reads t (items v))
+    (λ t v. array-given n m.reads m.from_tree m.content m.reads_agrees t (items v))
 
 -- a pair, by its parts
 abbrev pub pair_meant : {V U W : Type 0} → Meant V → Meant U → (W → V) → (W → U) → Meant W
-pair_meant m n one two = record {
-  Content = m.Content × n.Content;
-  content = λ v. (m.content (one v), n.content (two v));
-  from_tree = pair_of m.from_tree n.from_tree;
-  reads = λ t v. PairReads m.reads n.reads t (one v, two v);
-  reads_agrees = λ t v. pair-given m.reads n.reads m.from_tree n.from_tree m.content n.content m.reads_agrees n.reads_agrees t (one v, two v);
-}
+pair_meant m n one two =
+    meant (λ v. (m.content (one v), n.content (two v))) (pair_of m.from_tree n.from_tree)
+    (λ t v. PairReads m.reads n.reads t (one v, two v))
+    (λ t v. pair-given m.reads n.reads m.from_tree n.from_tree m.content n.content m.reads_agrees n.reads_agrees t (one v, two v))
 
 -- an optional value
 abbrev pub option_meant : {V : Type 0} → Meant V → Meant (Option V)
-option_meant m = record {
-  Content = Option m.Content;
-  content = option_map m.content;
-  from_tree = option_of m.from_tree;
-  reads = OptionReads m.reads;
-  reads_agrees = option-given m.reads m.from_tree m.content m.reads_agrees;
-}
+option_meant m =
+    meant (option_map m.content) (option_of m.from_tree) (OptionReads m.reads)
+    (option-given m.reads m.from_tree m.content m.reads_agrees)
 
 -- a value in a box means what the value does
 abbrev pub box_meant : {V W : Type 0} → Meant V → (W → V) → Meant W
-box_meant m value = record {
-  Content = m.Content;
-  content = λ b. m.content (value b);
-  from_tree = m.from_tree;
-  reads = λ t b. m.reads t (value b);
-  reads_agrees = λ t b. m.reads_agrees t (value b);
-}
+box_meant m value = meant (λ b. m.content (value b)) m.from_tree (λ t b. m.reads t (value b)) (λ t b. m.reads_agrees t (value b))
 
 -- a map, by its entries: `read` gives the key of a name, `code` what equality compares of it
 abbrev pub map_meant : {K V W : Type 0} → (Name → Option Key) → (Key → Key) → (K → Key) → Meant V → (W → List (K × V)) → Meant W
-map_meant read code key m entries = record {
-  Content = Key → Option (Key × m.Content);
-  content = λ v. looked code key m.content (entries v);
-  from_tree = map_of read code m.from_tree;
-  reads = λ t v. MapReads read code key m.from_tree m.reads t (entries v);
-  reads_agrees = λ t v. map-given read code key m.from_tree m.content m.reads m.reads_agrees t (entries v);
-}
+map_meant read code key m entries =
+    meant (λ v. looked code key m.content (entries v)) (map_of read code m.from_tree)
+    (λ t v. MapReads read code key m.from_tree m.reads t (entries v))
+    (λ t v. map-given read code key m.from_tree m.content m.reads m.reads_agrees t (entries v))

@@ -12,3 +12,7 @@ pub record Meant (V : Type 0) : Type 1 where
   pub reads : Tree → V → Type 0
   -- a tree means a value exactly if it gives the value's content
   pub reads_agrees : (t : Tree) (v : V) → reads t v ↔ (from_tree t ≡ Some (content v))
+
+-- a meaning, by the content of a value, the content that a tree gives, and which trees mean which values
+abbrev pub meant : {V C : Type 0} (content : V → C) (from_tree : Tree → Option C) (reads : Tree → V → Type 0) → ((t : Tree) (v : V) → reads t v ↔ (from_tree t ≡ Some (content v))) → Meant V
+meant {V} {C} content from_tree reads agrees = record { Content = C; content = content; from_tree = from_tree; reads = reads; reads_agrees = agrees }

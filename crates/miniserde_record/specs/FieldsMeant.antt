@@ -1,7 +1,7 @@
 -- The meaning of a struct, by the meanings and the marks of its fields.
 use Rattle.std.specs.Prelude.{◌≡◌, ◌↔◌, refl, ℕ, ◌+◌, Bool, true, false, cond, List, Option, Some, None, option_and_then, ⊤}
 use Rattle.miniserde_model.specs.Tree.{Tree, Members}
-use Rattle.miniserde_read.specs.Meant.{Meant}
+use Rattle.miniserde_read.specs.Meant.{Meant, meant}
 use Rattle.miniserde_read.specs.meaning.Objects.{Name, object_of, all_members}
 use Rattle.miniserde_record.specs.Fields.{field_member, field_refuses, field_closed, field_given, missing_content, MissingReads, FieldsRead, StructReads}
 use Rattle.miniserde_record.specs.Marks.{are_none}
@@ -90,10 +90,6 @@ field_and once given m absent n = record {
 
 -- a struct, by the names and the values of its fields
 abbrev pub struct_meant : {V W : Type 0} → FieldsMeant V → List Name → (W → V) → Meant W
-struct_meant n names values = record {
-  Content = n.Content;
-  content = λ w. n.content (values w);
-  from_tree = object_of (n.from_members names n.empty);
-  reads = StructReads (n.reads names) values;
-  reads_agrees = struct-given (n.reads names) values (n.from_members names n.empty) n.content (n.reads_agrees names);
-}
+struct_meant n names values =
+    meant (λ w. n.content (values w)) (object_of (n.from_members names n.empty)) (StructReads (n.reads names) values)
+    (struct-given (n.reads names) values (n.from_members names n.empty) n.content (n.reads_agrees names))

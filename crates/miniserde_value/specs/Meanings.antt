@@ -2,7 +2,7 @@
 use Rattle.std.specs.Prelude.{◌≡◌, true, Some, string_bytes}
 use Rattle.miniserde_model.specs.Tree.{Tree}
 use Rattle.miniserde_model.specs.Distinct.{distinct}
-use Rattle.miniserde_read.specs.Meant.{Meant}
+use Rattle.miniserde_read.specs.Meant.{Meant, meant}
 use Rattle.miniserde_ser.specs.Trees.{trees_of, members_of}
 use Rattle.miniserde_value.specs.declared.json.number.Number.{Number}
 use Rattle.miniserde_value.specs.declared.json.value.Value.{Value}
@@ -19,43 +19,23 @@ use Rattle.miniserde_value.specs.laws.Unique.{once-agrees}
 
 -- a number's leaf means the number
 abbrev pub number_meant : Meant Number
-number_meant = record {
-  Content = Tree;
-  content = number_leaf;
-  from_tree = number_of;
-  reads = ReadsNumber;
-  reads_agrees = number-given;
-}
+number_meant = meant number_leaf number_of ReadsNumber number-given
 
 -- every tree means a value, which keeps of each name the last tree
 abbrev pub value_meant : Meant Value
-value_meant = record {
-  Content = Tree;
-  content = shape;
-  from_tree = λ t. Some (kept t);
-  reads = Reads;
-  reads_agrees = λ t v. reads-agree t (shape v);
-}
+value_meant = meant shape (λ t. Some (kept t)) Reads (λ t v. reads-agree t (shape v))
 
 -- the tree means the array: it is a list, whose items the array has as values keep them
 abbrev pub json_array_meant : Meant Array
-json_array_meant = record {
-  Content = Tree;
-  content = array_shape;
-  from_tree = λ t. only_list (Some (kept t));
-  reads = λ t a. array_shape a ≡ kept t;
-  reads_agrees = λ t a. list-agrees t (trees_of shape (array_items a));
-}
+json_array_meant =
+    meant array_shape (λ t. only_list (Some (kept t))) (λ t a. array_shape a ≡ kept t)
+    (λ t a. list-agrees t (trees_of shape (array_items a)))
 
 -- the tree means the object: it has members, which the object has as values keep them
 abbrev pub json_object_meant : Meant Object
-json_object_meant = record {
-  Content = Tree;
-  content = object_shape;
-  from_tree = λ t. only_members (Some (kept t));
-  reads = λ t o. object_shape o ≡ kept t;
-  reads_agrees = λ t o. members-agree t (members_of string_bytes shape (object_entries o));
-}
+json_object_meant =
+    meant object_shape (λ t. only_members (Some (kept t))) (λ t o. object_shape o ≡ kept t)
+    (λ t o. members-agree t (members_of string_bytes shape (object_entries o)))
 
 -- the tree means the value inside, and no name is duplicated in it
 abbrev pub ReadsUnique : Tree → Unique → Type 0
@@ -63,10 +43,4 @@ ReadsUnique t u = (distinct t ≡ true) × Reads t u.value
 
 -- a tree in which no name is duplicated means the value, which keeps the tree
 abbrev pub unique_meant : Meant Unique
-unique_meant = record {
-  Content = Tree;
-  content = λ u. shape u.value;
-  from_tree = kept_if true;
-  reads = ReadsUnique;
-  reads_agrees = λ t u. once-agrees t (shape u.value);
-}
+unique_meant = meant (λ u. shape u.value) (kept_if true) ReadsUnique (λ t u. once-agrees t (shape u.value))
