@@ -17,6 +17,7 @@ mod pairs;
 mod sequences;
 
 use crate::source::Source;
+pub use leaves::StdLeaf;
 pub use maps::Table;
 use miniserde_model::error::{Error, Result};
 use miniserde_text::json::lex::Event;

@@ -9,7 +9,7 @@ mod lookups;
 mod source;
 mod step;
 
-pub use from_json::{FromJson, Table};
+pub use from_json::{FromJson, StdLeaf, Table};
 pub use ignored::Ignored;
 pub use json_text::from_str;
 pub use leaf::{Leaf, read_leaf};

@@ -51,54 +51,6 @@ impl Lossless for () {
     fn lossless() {}
 }
 
-impl Lossless for bool {
-    fn lossless() {}
-}
-
-impl Lossless for u8 {
-    fn lossless() {}
-}
-
-impl Lossless for u16 {
-    fn lossless() {}
-}
-
-impl Lossless for u32 {
-    fn lossless() {}
-}
-
-impl Lossless for u64 {
-    fn lossless() {}
-}
-
-impl Lossless for usize {
-    fn lossless() {}
-}
-
-impl Lossless for i8 {
-    fn lossless() {}
-}
-
-impl Lossless for i16 {
-    fn lossless() {}
-}
-
-impl Lossless for i32 {
-    fn lossless() {}
-}
-
-impl Lossless for i64 {
-    fn lossless() {}
-}
-
-impl Lossless for isize {
-    fn lossless() {}
-}
-
-impl Lossless for String {
-    fn lossless() {}
-}
-
 impl<T: Lossless> Lossless for Vec<T> {
     fn lossless() {
         T::lossless()
@@ -142,54 +94,6 @@ impl<K: MapKey + Hash + WholeKey, V: Lossless, H: BuildHasher + Default + Drop> 
     fn lossless() {
         V::lossless()
     }
-}
-
-impl NeverNull for bool {
-    fn never_null() {}
-}
-
-impl NeverNull for u8 {
-    fn never_null() {}
-}
-
-impl NeverNull for u16 {
-    fn never_null() {}
-}
-
-impl NeverNull for u32 {
-    fn never_null() {}
-}
-
-impl NeverNull for u64 {
-    fn never_null() {}
-}
-
-impl NeverNull for usize {
-    fn never_null() {}
-}
-
-impl NeverNull for i8 {
-    fn never_null() {}
-}
-
-impl NeverNull for i16 {
-    fn never_null() {}
-}
-
-impl NeverNull for i32 {
-    fn never_null() {}
-}
-
-impl NeverNull for i64 {
-    fn never_null() {}
-}
-
-impl NeverNull for isize {
-    fn never_null() {}
-}
-
-impl NeverNull for String {
-    fn never_null() {}
 }
 
 impl<T: RoundTrip> NeverNull for Vec<T> {

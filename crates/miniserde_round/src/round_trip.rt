@@ -64,54 +64,6 @@ impl RoundTrip for () {
     fn again() {}
 }
 
-impl RoundTrip for bool {
-    fn again() {}
-}
-
-impl RoundTrip for u8 {
-    fn again() {}
-}
-
-impl RoundTrip for u16 {
-    fn again() {}
-}
-
-impl RoundTrip for u32 {
-    fn again() {}
-}
-
-impl RoundTrip for u64 {
-    fn again() {}
-}
-
-impl RoundTrip for usize {
-    fn again() {}
-}
-
-impl RoundTrip for i8 {
-    fn again() {}
-}
-
-impl RoundTrip for i16 {
-    fn again() {}
-}
-
-impl RoundTrip for i32 {
-    fn again() {}
-}
-
-impl RoundTrip for i64 {
-    fn again() {}
-}
-
-impl RoundTrip for isize {
-    fn again() {}
-}
-
-impl RoundTrip for String {
-    fn again() {}
-}
-
 impl<T: RoundTrip> RoundTrip for Vec<T> {
     fn again() {
         T::again()

@@ -43,6 +43,8 @@ impl<
 
     ghost state = { λ f. ⟦<MarkedSlot<A, M, MarkedSlot<B, N, MarkedSlot<C, O, MarkedSlot<D, P, Z>>>> as Slots>⟧.state f.slots };
 
+    ghost end_infallible = { ⟦<MarkedSlot<A, M, MarkedSlot<B, N, MarkedSlot<C, O, MarkedSlot<D, P, Z>>>> as Slots>⟧.end_infallible };
+
     fn new() -> MarkedFour<A, M, B, N, C, O, D, P, Z> {
         MarkedFour {
             slots: <MarkedSlot<
@@ -132,7 +134,8 @@ impl<
     }
 }
 
-/// Four fields without a mark, and the fields after them. They name no marks, so they take less time than `MarkedFour`.
+/// Four fields without a mark, and the fields after them. They name no marks, so a check of them takes less time
+/// than one of `MarkedFour`.
 #[derive(Drop)]
 pub struct FourSlot<A, B, C, D, Z> {
     slots: Slot<A, Slot<B, Slot<C, Slot<D, Z>>>>,
@@ -145,6 +148,8 @@ impl<A: FromJson, B: FromJson, C: FromJson, D: FromJson, Z: Slots> Slots
     ghost meaning = { ⟦<Slot<A, Slot<B, Slot<C, Slot<D, Z>>>> as Slots>⟧.meaning };
 
     ghost state = { λ f. ⟦<Slot<A, Slot<B, Slot<C, Slot<D, Z>>>> as Slots>⟧.state f.slots };
+
+    ghost end_infallible = { ⟦<Slot<A, Slot<B, Slot<C, Slot<D, Z>>>> as Slots>⟧.end_infallible };
 
     fn new() -> FourSlot<A, B, C, D, Z> {
         FourSlot {

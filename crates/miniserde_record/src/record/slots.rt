@@ -1,5 +1,5 @@
 //! Structs that are read from a text, field by field.
-ghost use Rattle.std.specs.Prelude.{◌≡◌, true, None, Some, Ok, Err, IfOk, map, Option};
+ghost use Rattle.std.specs.Prelude.{◌≡◌, ◌&&◌, Bool, true, false, None, Some, Ok, Err, IfOk, IfErr, map, Option};
 ghost use Rattle.miniserde_text.specs.Lexer.{front_of};
 ghost use Rattle.miniserde_model.specs.declared.error.Error.{Error};
 ghost use Rattle.miniserde_read.specs.Rest.{GivesAt, GivesNoneAt};
@@ -39,6 +39,9 @@ pub trait Slots: Drop {
     // The content of the values so far.
     ghost state: { Self → meaning.State };
 
+    // No missing field's default is allocated.
+    ghost end_infallible: { Bool } = { false };
+
     /// Returns slots without values.
     fn new() -> Self
         ensures { state result ≡ meaning.empty };
@@ -60,7 +63,8 @@ pub trait Slots: Drop {
     /// and `Memory` if a default cannot be allocated.
     fn end(self, alloc: Global) -> Result<Self::Values>
         ensures ok { IfOk result (λ v. meaning.end (state self) ≡ Some (meaning.content v)) }
-        ensures invalid { result ≡ Err Error.Invalid → meaning.end (state self) ≡ None };
+        ensures invalid { result ≡ Err Error.Invalid → meaning.end (state self) ≡ None }
+        ensures infallible { end_infallible ≡ true → IfErr result (λ e. e ≡ Error.Invalid) };
 }
 
 /// No more fields: members of any other names are skipped.
@@ -73,6 +77,8 @@ impl Slots for NoSlot {
     ghost meaning = { no_fields };
 
     ghost state = { λ _. tt };
+
+    ghost end_infallible = { true };
 
     fn new() -> NoSlot {
         NoSlot {}
@@ -147,6 +153,8 @@ impl<T: FromJson, M: Mark<T>, R: Slots> Slots for MarkedSlot<T, M, R> {
     ghost meaning = { field_and M.once M.given T.means T.absent R.meaning };
 
     ghost state = { λ f. (option_map T.means.content f.value, R.state f.rest) };
+
+    ghost end_infallible = { M.missing_infallible && R.end_infallible };
 
     fn new() -> MarkedSlot<T, M, R> {
         MarkedSlot {

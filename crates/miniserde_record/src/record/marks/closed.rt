@@ -1,5 +1,5 @@
 //! Structs that refuse unknown names.
-ghost use Rattle.std.specs.Prelude.{[], ⊤};
+ghost use Rattle.std.specs.Prelude.{true, [], ⊤};
 ghost use Rattle.miniserde_record.specs.FieldsMeant.{closed_end};
 
 use crate::record::again::AgainFields;
@@ -19,6 +19,8 @@ impl Slots for Closed {
     ghost meaning = { closed_end };
 
     ghost state = { λ _. tt };
+
+    ghost end_infallible = { true };
 
     fn new() -> Closed {
         Closed {}

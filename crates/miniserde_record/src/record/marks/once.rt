@@ -24,6 +24,8 @@ impl<M> Repeats for Once<M> {
 impl<T: FromJson, M: Mark<T>> Mark<T> for Once<M> {
     ghost given = { M.given };
 
+    ghost missing_infallible = { M.missing_infallible };
+
     fn missing(alloc: Global) -> Result<Option<T>> {
         M::missing(alloc)
     }

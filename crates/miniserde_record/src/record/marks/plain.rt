@@ -1,5 +1,5 @@
 //! What a mark asks of a field, and fields without a mark.
-ghost use Rattle.std.specs.Prelude.{◌≡◌, false, Bool, Option, None, Ok, Err, IfOk, IfErr, option_map};
+ghost use Rattle.std.specs.Prelude.{◌≡◌, true, false, Bool, Option, None, Ok, Err, IfOk, IfErr, IsOk, option_map};
 ghost use Rattle.miniserde_model.specs.Tree.{Tree};
 ghost use Rattle.miniserde_model.specs.declared.error.Error.{Error};
 ghost use Rattle.miniserde_record.specs.Fields.{missing_content};
@@ -23,10 +23,14 @@ pub trait Mark<T: FromJson>: Repeats {
     // The tree that a missing field has; without one, the field's type says what is missing.
     ghost given: { Option Tree };
 
+    // `missing` allocates nothing.
+    ghost missing_infallible: { Bool } = { false };
+
     /// Returns the value of a missing field, if it has one. Returns `Memory` if that cannot be allocated.
     fn missing(alloc: Global) -> Result<Option<T>>
         ensures ok { IfOk result (λ v. option_map T.means.content v ≡ missing_content T.means given T.absent) }
-        ensures memory { IfErr result (λ e. e ≡ Error.Memory) };
+        ensures memory { IfErr result (λ e. e ≡ Error.Memory) }
+        ensures infallible { missing_infallible ≡ true → IsOk result };
 }
 
 /// A field without a mark: the last member of its name counts, and its type says what is missing.
@@ -42,6 +46,8 @@ impl Repeats for Plain {
 
 impl<T: FromJson> Mark<T> for Plain {
     ghost given = { None };
+
+    ghost missing_infallible = { true };
 
     fn missing(_alloc: Global) -> Result<Option<T>> {
         Ok(T::missing())

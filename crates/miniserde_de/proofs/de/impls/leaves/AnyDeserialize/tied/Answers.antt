@@ -1,0 +1,5 @@
+use Rattle.miniserde_de.proofs.Agrees.{agree_same}
+use Rattle.miniserde_de.proofs.de.impls.leaves.AnyDeserialize.tied.Goals as goal
+
+pub returns : goal.returns
+returns g c = agree_same _

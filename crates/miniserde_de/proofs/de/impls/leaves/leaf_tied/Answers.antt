@@ -1,5 +1,0 @@
-use Rattle.miniserde_de.proofs.Agrees.{agree_same}
-use Rattle.miniserde_de.proofs.de.impls.leaves.leaf_tied.Goals as goal
-
-pub returns : goal.returns
-returns g c = agree_same _

@@ -1,5 +1,0 @@
-use Rattle.miniserde_round.proofs.Again.{again-unsigned}
-use Rattle.miniserde_round.proofs.round_trip.U16RoundTrip.again.Goals as goal
-
-pub returns : goal.returns
-returns c = λ v r. again-unsigned 16 v r
