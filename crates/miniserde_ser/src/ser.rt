@@ -5,6 +5,7 @@
 ghost use Rattle.std.specs.Prelude.{◌≡◌, ◌++◌, true, false, OnOk, OnErr, IsErrOf};
 ghost use Rattle.miniserde_model.specs.Tree.{Tree};
 ghost use Rattle.miniserde_model.specs.Compact.{compact};
+ghost use Rattle.miniserde_text.specs.Texts.{Extends};
 ghost use Rattle.miniserde_model.specs.IsTree.{IsTree};
 ghost use Rattle.miniserde_model.specs.declared.error.Error.TheVariants.{Memory};
 
@@ -60,6 +61,17 @@ impl Model for Writer {
     } };
 }
 
+// Appends a text where there is no room for it yet. It is seldom called, so it stands apart.
+#[inline(never)]
+fn push_growing(out: &mut String, text: &str) -> result::Result<(), AllocError>
+    ensures { Extends out.old text.now result out.new }
+{
+    // A `push_str` that fails leaves the capacity open, and a `reserve` that fails does not.
+    out.reserve(text.len())?;
+    out.push_str(text).unwrap();
+    Ok(())
+}
+
 impl Writer {
     ghost use Rattle.std.specs.Prelude.{◌≡◌, [], ◌++◌, true, false, OnOk, OnErr, IfOk, IsErrOf, IsUtf8, string_bytes};
     ghost use Rattle.std.specs.Prelude.{string_capacity, ◌≤◌, if◌then◌else◌, codes, decimal};
@@ -103,12 +115,12 @@ impl Writer {
         ensures { Appends self.old text.now self.old.first result self.new }
     {
         self.check()?;
-        // A `push_str` that fails leaves the capacity open, and a `reserve` that fails does not.
-        match self.text.reserve(text.len()) {
-            Ok(()) => {
-                self.text.push_str(text).unwrap();
-                Ok(())
-            }
+        if self.text.capacity() - self.text.len() >= text.len() {
+            self.text.push_str(text).unwrap();
+            return Ok(());
+        }
+        match push_growing(&mut self.text, text) {
+            Ok(()) => Ok(()),
             Err(_) => Err(self.refuse()),
         }
     }
@@ -176,7 +188,12 @@ impl Writer {
     pub fn element(&mut self) -> Result<()>
         ensures { Appends self.old (if self.old.first then [] else codes ",") false result self.new }
     {
-        self.punctuate(if self.first { "" } else { "," }, false)
+        if self.first {
+            self.check()?;
+            self.first = false;
+            return Ok(());
+        }
+        self.append(",")
     }
 
     /// Closes a list.

@@ -1,5 +1,6 @@
 -- What each step of the reader builds, and what it gives at its end.
 use Rattle.std.proofs.Common.{cond, ◌≡◌, ℕ, Bool, true, false, Option, Some, None, is_some, option_map, List, [], ◌∷◌, ◌++◌, append_assoc, append-nil, refl, sym, ap, subst, ◌∙◌}
+use Rattle.std.proofs.Math.Bool.{and-false}
 use Rattle.std.specs.Prelude.{◌&&◌, option_and_then, Result, Ok, Err, IfOk, OnOk}
 use Rattle.miniserde_model.specs.Tree.{Tree, no_members}
 use Rattle.miniserde_model.specs.Event.{Event, nothing, boolean, string, negative, nonnegative, float, seq, element, map, key, finish}
@@ -73,10 +74,6 @@ not_due : (f : Bool) → is_due (between f) ≡ false
 not_due true = refl
 not_due false = refl
 
-off : (b : Bool) → (b && false) ≡ false
-off true = refl
-off false = refl
-
 -- an event is taken that repeats no name
 goes_on : (once due : Bool) (h : Hole) (e : Event) (d : Bool) (g : Hole) → (once && repeats e h) ≡ false → took due h e ≡ Some (d, g) → (es : List Event) → outcome once due h (e ∷ es) ≡ outcome once d g es
 goes_on once true h e d g n t es =
@@ -88,8 +85,8 @@ goes_on once false h e d g n t es =
 
 closes_hole : (once : Bool) (h : Hole) (k : lexed.Kind) → innermost h ≡ Some k → (es : List Event) → outcome once false h (finish ∷ es) ≡ outcome once false (closed h) es
 closes_hole once (outside ts) k i es = absurd (cc)
-closes_hole once (in_list ts h) k i es = goes_on once false (in_list ts h) finish false (closed (in_list ts h)) (off once) refl es
-closes_hole once (in_members ms n h) k i es = goes_on once false (in_members ms n h) finish false (closed (in_members ms n h)) (off once) refl es
+closes_hole once (in_list ts h) k i es = goes_on once false (in_list ts h) finish false (closed (in_list ts h)) (and-false once) refl es
+closes_hole once (in_members ms n h) k i es = goes_on once false (in_members ms n h) finish false (closed (in_members ms n h)) (and-false once) refl es
 
 close_makes : (once : Bool) (h g : Hole) (k : lexed.Kind) (f : Bool) → innermost h ≡ Some k → g ≡ closed h → Makes once (between f) h (finish ∷ []) after g
 close_makes once h g k f i c = λ es. ap (λ z. outcome once z h (finish ∷ es)) (not_due f) ∙ closes_hole once h k i es ∙ ap (λ z. outcome once false z es) (sym c)
@@ -104,7 +101,7 @@ close_builds once h g s r k f i p c = record {
 
 goes_to_element : (once : Bool) (h : Hole) (k : lexed.Kind) → innermost h ≡ Some k → k ≡ kind.Seq → (es : List Event) → outcome once false h (element ∷ es) ≡ outcome once true h es
 goes_to_element once (outside ts) k i q es = absurd (cc)
-goes_to_element once (in_list ts h) k i q es = goes_on once false (in_list ts h) element true (in_list ts h) (off once) refl es
+goes_to_element once (in_list ts h) k i q es = goes_on once false (in_list ts h) element true (in_list ts h) (and-false once) refl es
 goes_to_element once (in_members ms n h) k i q es = absurd (cc)
 
 element_makes : (once : Bool) (h g : Hole) (k : lexed.Kind) (f : Bool) → innermost h ≡ Some k → k ≡ kind.Seq → g ≡ h → Makes once (between f) h (element ∷ []) due g
@@ -143,14 +140,14 @@ key_builds once h g s b n u r k f i q p w l d e = record {
 }
 
 start_new : (once : Bool) (e : Event) (h g : Hole) → begun e h ≡ Some g → (once && repeats e h) ≡ false
-start_new once nothing h g b = off once
-start_new once (boolean x) h g b = off once
-start_new once (string x) h g b = off once
-start_new once (negative x) h g b = off once
-start_new once (nonnegative x) h g b = off once
-start_new once (float x) h g b = off once
-start_new once seq h g b = off once
-start_new once map h g b = off once
+start_new once nothing h g b = and-false once
+start_new once (boolean x) h g b = and-false once
+start_new once (string x) h g b = and-false once
+start_new once (negative x) h g b = and-false once
+start_new once (nonnegative x) h g b = and-false once
+start_new once (float x) h g b = and-false once
+start_new once seq h g b = and-false once
+start_new once map h g b = and-false once
 start_new once element h g b = absurd (cc)
 start_new once (key k) h g b = absurd (cc)
 start_new once finish h g b = absurd (cc)

@@ -6,11 +6,11 @@ use Rattle.std.specs.declared.alloc.Global.{Global}
 use Rattle.std.specs.declared.slice.Iter.{Iter}
 use Rattle.miniserde_model.specs.Tree.{null, truth, str}
 use Rattle.miniserde_ser.specs.Trees.{trees_of, members_of}
-use Rattle.miniserde_text.specs.declared.json.lex.Kind.{Kind}
-use Rattle.miniserde_text.specs.declared.json.lex.Kind.TheVariants as kind
 use Rattle.miniserde_value.specs.declared.json.value.Value.{Value}
 use Rattle.miniserde_value.specs.declared.json.walk.Front.{Front}
 use Rattle.miniserde_value.specs.declared.json.walk.Front.TheVariants as front
+use Rattle.miniserde_value.specs.declared.json.walk.frames.Frame.{Frame}
+use Rattle.miniserde_value.specs.declared.json.walk.frames.Frame.TheVariants as frame
 use Rattle.miniserde_value.specs.declared.json.walk.frames.Frames.{Frames}
 use Rattle.miniserde_value.specs.declared.json.walk.Walk.{Walk}
 use Rattle.miniserde_value.specs.Numbers.{number_leaf}
@@ -38,16 +38,15 @@ items_left it rest = child_fronts (trees_of shape (iter_rest it)) (list_ends ∷
 abbrev pub members_left : List (String Global × Value) → List Meets → List Meets
 members_left ms rest = member_fronts (members_of string_bytes shape ms) (members_end ∷ rest)
 
--- of all open containers, in lists with the innermost first. Each kind takes the first of its own list
-abbrev pub stack_left : List Kind → List (Iter Value) → List (List (String Global × Value)) → List Meets
-stack_left [] arrays objects = []
-stack_left (kind.Seq ∷ kinds) [] objects = []
-stack_left (kind.Seq ∷ kinds) (a ∷ arrays) objects = items_left a (stack_left kinds arrays objects)
-stack_left (kind.Map ∷ kinds) arrays [] = []
-stack_left (kind.Map ∷ kinds) arrays (o ∷ objects) = members_left o (stack_left kinds arrays objects)
+-- of all open containers, in lists with the innermost first. Each object takes the first of its own list
+abbrev pub stack_left : List Frame → List (List (String Global × Value)) → List Meets
+stack_left [] objects = []
+stack_left (frame.Array a ∷ frames) objects = items_left a (stack_left frames objects)
+stack_left (frame.Object ∷ frames) [] = []
+stack_left (frame.Object ∷ frames) (o ∷ objects) = members_left o (stack_left frames objects)
 
 abbrev pub frames_left : Frames → List Meets
-frames_left f = stack_left (reverse f.kinds.items) (reverse f.arrays.items) (reverse f.objects.items)
+frames_left f = stack_left (reverse f.open.items) (reverse f.objects.items)
 
 -- the fronts of a child that is due, and then others
 abbrev pub due_left : Option (Bor Value) → List Meets → List Meets
@@ -66,15 +65,14 @@ ItemsOrdered it = AreOrdered (trees_of shape (iter_rest it))
 abbrev pub MembersOrdered : List (String Global × Value) → Type 0
 MembersOrdered ms = AreOrderedMembers (members_of string_bytes shape ms)
 
-abbrev pub StackOrdered : List Kind → List (Iter Value) → List (List (String Global × Value)) → Type 0
-StackOrdered [] arrays objects = ⊤
-StackOrdered (kind.Seq ∷ kinds) [] objects = ⊤
-StackOrdered (kind.Seq ∷ kinds) (a ∷ arrays) objects = ItemsOrdered a × StackOrdered kinds arrays objects
-StackOrdered (kind.Map ∷ kinds) arrays [] = ⊤
-StackOrdered (kind.Map ∷ kinds) arrays (o ∷ objects) = MembersOrdered o × StackOrdered kinds arrays objects
+abbrev pub StackOrdered : List Frame → List (List (String Global × Value)) → Type 0
+StackOrdered [] objects = ⊤
+StackOrdered (frame.Array a ∷ frames) objects = ItemsOrdered a × StackOrdered frames objects
+StackOrdered (frame.Object ∷ frames) [] = ⊤
+StackOrdered (frame.Object ∷ frames) (o ∷ objects) = MembersOrdered o × StackOrdered frames objects
 
 abbrev pub FramesOrdered : Frames → Type 0
-FramesOrdered f = StackOrdered (reverse f.kinds.items) (reverse f.arrays.items) (reverse f.objects.items)
+FramesOrdered f = StackOrdered (reverse f.open.items) (reverse f.objects.items)
 
 abbrev pub DueOrdered : Option (Bor Value) → Type 0
 DueOrdered None = ⊤

@@ -6,17 +6,22 @@ ghost use Rattle.miniserde_value.specs.Walks.{frames_left, due_left, FramesOrder
 
 use super::super::value::Value;
 use super::Front;
-use miniserde_text::json::lex::Kind;
 use std::alloc::{AllocError, Global};
 use std::collections::btree_map;
 use std::{result, slice};
 
-/// The open containers, each list with the innermost last. The iterators of arrays and of objects stand apart,
-/// so that an open array takes no more than its own iterator and a kind. After a refusal the lists do not fit.
+/// An open container: what is left of an array, or the next of the open objects.
+#[derive(Drop)]
+pub(crate) enum Frame<'a> {
+    Array(slice::Iter<'a, Value>),
+    Object,
+}
+
+/// The open containers, each list with the innermost last. The iterators of objects, which are large, stand apart.
+/// After a refusal the lists do not fit.
 #[derive(Drop)]
 pub(crate) struct Frames<'a> {
-    kinds: Vec<Kind>,
-    arrays: Vec<slice::Iter<'a, Value>>,
+    open: Vec<Frame<'a>>,
     objects: Vec<btree_map::Iter<'a, String, Value>>,
 }
 
@@ -26,8 +31,7 @@ impl<'a> Frames<'a> {
         ensures left { frames_left result ≡ [] }
     {
         Frames {
-            kinds: Vec::new(alloc),
-            arrays: Vec::new(alloc),
+            open: Vec::new(alloc),
             objects: Vec::new(alloc),
         }
     }
@@ -40,8 +44,7 @@ impl<'a> Frames<'a> {
         ensures left { OnOk result (frames_left self.new ≡ items_left items.entry (frames_left self.old)) }
         ensures ordered { OnOk result (FramesOrdered self.new → ItemsOrdered items.entry × FramesOrdered self.old) }
     {
-        self.arrays.push(items)?;
-        self.kinds.push(Kind::Seq)?;
+        self.open.push(Frame::Array(items))?;
         Ok(())
     }
 
@@ -54,7 +57,7 @@ impl<'a> Frames<'a> {
         ensures ordered { OnOk result (FramesOrdered self.new → MembersOrdered members.entry × FramesOrdered self.old) }
     {
         self.objects.push(members)?;
-        self.kinds.push(Kind::Map)?;
+        self.open.push(Frame::Object)?;
         Ok(())
     }
 
@@ -66,20 +69,19 @@ impl<'a> Frames<'a> {
         ensures ordered { MatchOption result (FramesOrdered self.old)
             (λ next. DueOrdered next.1 → FramesOrdered self.new → FramesOrdered self.old) }
     {
-        match self.kinds.last()? {
-            Kind::Seq => match self.arrays.last_mut()?.next() {
+        match self.open.last_mut()? {
+            Frame::Array(items) => match items.next() {
                 Some(item) => Some((Front::Element, Some(item))),
                 None => {
-                    self.arrays.pop();
-                    self.kinds.pop();
+                    self.open.pop();
                     Some((Front::ArrayEnd, None))
                 }
             },
-            Kind::Map => match self.objects.last_mut()?.next() {
+            Frame::Object => match self.objects.last_mut()?.next() {
                 Some((name, value)) => Some((Front::Name(name.as_str()), Some(value))),
                 None => {
                     self.objects.pop();
-                    self.kinds.pop();
+                    self.open.pop();
                     Some((Front::ObjectEnd, None))
                 }
             },
