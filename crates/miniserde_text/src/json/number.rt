@@ -13,7 +13,7 @@ use std::marker::Model;
 /// The text of a number that is no plain integer from -2^63 to 2^64-1. A contract sees its bytes.
 #[derive(Debug, Drop)]
 pub struct NumberText {
-    text: String,
+    text: Box<String>,
 }
 
 impl Model for NumberText {
@@ -23,9 +23,9 @@ impl Model for NumberText {
 
     ghost Value = { List ℕ };
 
-    ghost view = { λ n. string_bytes n.text };
+    ghost view = { λ n. string_bytes n.text.value };
 
-    ghost invariant = { λ n. IsNumber (string_bytes n.text) (num (string_bytes n.text)) };
+    ghost invariant = { λ n. IsNumber (string_bytes n.text.value) (num (string_bytes n.text.value)) };
 }
 
 impl NumberText {
@@ -61,7 +61,7 @@ impl NumberText {
         ensures ok { IfOk result (λ n. n ≡ t.now) }
         ensures memory { OnErr result (IsErrOf result Error.Memory) }
     {
-        let text = String::from_str(alloc, t)?;
+        let text = Box::new(alloc, String::from_str(alloc, t)?)?;
         Ok(NumberText { text })
     }
 
@@ -78,7 +78,7 @@ impl NumberText {
         ensures ok { IfOk result (λ n. n ≡ self.now) }
         ensures memory { OnErr result (IsErrOf result Error.Memory) }
     {
-        let text = String::from_str(alloc, self.text.as_str())?;
+        let text = Box::new(alloc, String::from_str(alloc, self.text.as_str())?)?;
         Ok(NumberText { text })
     }
 }
