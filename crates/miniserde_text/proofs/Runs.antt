@@ -1,6 +1,6 @@
 -- Runs of bytes that pass a test, by recursion on the list. Whitespace is such a run, so a piece stands behind it
 -- exactly where the rest of the text begins with that piece.
-use Rattle.std.proofs.Common.{◌≡◌, ℕ, ◌+◌, ◌<◌, ◌==◌, ◌||◌, ◌⊎◌, Bool, true, false, cond, List, [], ◌∷◌, ◌++◌, length, drop, get_or, refl, ap, sym, ◌∙◌, inl, inr, arith, lt_of_not-le, eqb-true}
+use Rattle.std.proofs.Common.{◌≡◌, ℕ, ◌+◌, ◌<◌, ◌==◌, ◌||◌, ◌⊎◌, Bool, true, false, cond, List, [], ◌∷◌, ◌++◌, length, drop, get_or, refl, ap, sym, subst, ◌∙◌, inl, inr, arith, lt_of_not-le, eqb-true}
 use Rattle.std.proofs.lemmas.Bool.Decides.{nat_tests}
 use Rattle.std.proofs.lemmas.List.{drop_more, get_or_past}
 use Rattle.miniserde_model.specs.Bytes.{is_space, StopsAt}
@@ -10,6 +10,7 @@ use Rattle.miniserde_model.proofs.Runs.{AllPass}
 use Rattle.miniserde_model.proofs.Prefixes.{whitespace_passes}
 use Rattle.miniserde_text.specs.private.Reading.{after_run, is_digit}
 use Rattle.miniserde_text.specs.private.Inside.{Leads}
+use Rattle.miniserde_text.specs.Lexer.{Blank}
 
 pub space_ascii : (c : ℕ) → is_space c ≡ true → c < 128
 space_ascii c h = grind (arith, nat_tests)
@@ -97,3 +98,8 @@ stands_of P s t r e h =
 pub stands_only : (P : List ℕ → Type 0) (s t r : List ℕ) → ((b : List ℕ) → P b → StopsAt is_space (b ++ r)) → t ≡ after_run is_space s → Stands P s r → Leads P t r
 stands_only P s t r heads e h =
     (h.part, h.is_part, e ∙ ap (after_run is_space) h.text ∙ run_only_space h.space (h.part ++ r) h.is_space (heads h.part h.is_part))
+
+pub blank_of : (s t : List ℕ) → t ≡ after_run is_space s → Blank s t
+blank_of s t e =
+    let w = run_split is_space s in
+    record { space = w.0; text = w.2 ∙ ap (λ x. w.0 ++ x) (sym e); white = whitespace_of w.0 w.1; stops = subst (λ x. StopsAt is_space x) (sym e) (stops_at is_space (after_run is_space s) (run_stops is_space refl s)) }

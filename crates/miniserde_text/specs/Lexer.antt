@@ -1,7 +1,8 @@
 -- How contracts see a lexer, and what it answers.
 use Rattle.std.specs.Prelude.{◌≡◌, ℕ, List, ◌∷◌, ◌++◌, Option, Bool, true, false, ⊤}
 use Rattle.std.specs.List.{AllByRecursion}
-use Rattle.miniserde_model.specs.Bytes.{is_special}
+use Rattle.miniserde_model.specs.Bytes.{is_special, is_space, StopsAt}
+use Rattle.miniserde_model.specs.Whitespace.{IsWhitespace}
 use Rattle.miniserde_model.specs.Value.{Between}
 use Rattle.miniserde_model.specs.Event.{nothing, boolean, string, negative, nonnegative, float, seq, map}
 use Rattle.miniserde_model.specs.Event as tree
@@ -81,3 +82,12 @@ EventKeepsScratch _ old new = new ≡ old
 -- a string begins behind whitespace, and a backslash stands in it
 abbrev pub BeginsEscaped : List ℕ → Type 0
 BeginsEscaped s = (r : List ℕ) × Stands (Between 34 (AllByRecursion (λ c. is_special c ≡ false)) 92) s r
+
+-- ---- whitespace
+
+-- s is all whitespace up to r, and r begins with none
+pub record Blank (s r : List ℕ) : Type 0 where
+  pub space : List ℕ
+  pub text : s ≡ space ++ r
+  pub white : IsWhitespace space
+  pub stops : StopsAt is_space r

@@ -1,7 +1,7 @@
 //! The lexer: it takes one piece of a JSON text a call, in the grammar of RFC 8259.
 //!
 //! `start` takes the front of a value, `after` what follows in a container, `name` a member's name with its colon, and
-//! `end` the end of the text:
+//! `end` the end of the text. `skip` takes whitespace, and `left` says how much is left:
 //!
 //! | text | calls and answers |
 //! |---|---|
@@ -15,7 +15,7 @@ ghost use Rattle.std.specs.String.{string_bytes};
 ghost use Rattle.miniserde_model.specs.Whitespace.{IsWhitespace};
 ghost use Rattle.miniserde_model.specs.Event as event;
 ghost use Rattle.miniserde_model.specs.Lexing.{Starts, Names, Follows};
-ghost use Rattle.miniserde_text.specs.Lexer.{front_of, text_of, kind_of, closes, EventStandsFor, NameStandsFor};
+ghost use Rattle.miniserde_text.specs.Lexer.{front_of, text_of, kind_of, closes, EventStandsFor, NameStandsFor, Blank};
 ghost use Rattle.miniserde_text.specs.Lexer.{KeepsScratch, EventKeepsScratch, BeginsEscaped};
 ghost use Rattle.miniserde_model.specs.declared.error.Error.{Error};
 
@@ -107,6 +107,24 @@ impl<'a> Lexer<'a> {
             at: 0,
             refused: None,
         }
+    }
+
+    /// Takes whitespace.
+    #[inline(always)]
+    pub fn skip(&mut self)
+        ensures space { Blank self.old.rest self.new.rest }
+        ensures kept { self.new.refused ≡ self.old.refused }
+    {
+        let (at, _) = after_space(self.text.as_bytes(), self.at);
+        self.at = at;
+    }
+
+    /// Returns how many bytes are left.
+    #[inline(always)]
+    pub fn left(&self) -> usize
+        ensures { result ≡ length self.now.rest }
+    {
+        self.text.len() - self.at
     }
 
     /// Takes whitespace and the front of a value: a word, a number, a string, `[` or `{`.
