@@ -1,4 +1,4 @@
-//! Booleans, integers and texts, whose laws are one another's: each value has a tree of its own.
+//! Booleans, integers and texts: no two values have one tree.
 ghost use Rattle.std.specs.Prelude.{◌≡◌};
 ghost use Rattle.miniserde_model.specs.Tree.{null};
 ghost use Rattle.miniserde_round.specs.RoundTrip.{ReadsAgain};
@@ -9,7 +9,7 @@ use miniserde_keys::Ranged;
 use miniserde_read::FromJson;
 use miniserde_ser::ser::Serialize;
 
-/// A type of std each value of which has a tree of its own, which is not `null`.
+/// A type of std. No two of its values have one tree, and no value has the tree `null`.
 pub trait Scalar: Ranged + Serialize + FromJson {
     /// Does nothing. It promises what `RoundTrip`, `Lossless` and `NeverNull` do.
     fn scalar()
