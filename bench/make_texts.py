@@ -3,6 +3,7 @@
 
     make_texts.py FOLDER    writes FOLDER/NAME.json, and last an empty file FOLDER/complete
 """
+import json
 import pathlib
 import random
 import sys
@@ -50,6 +51,17 @@ def message(r, number_of_message):
         r.choice(['true', 'false']), r.choice(['en', 'ja', 'fr']))
 
 
+def in_order(text):
+    """The text with the names of its objects in order, without whitespace, and no escape but those that must be."""
+    return json.dumps(json.loads(text), sort_keys=True, ensure_ascii=False, separators=(',', ':'))
+
+
+def polygon(r):
+    """A polygon as maps have them: pairs of degrees with fractions."""
+    points = listed('[%s,%s]' % (round(r.uniform(-180, 180), 6), round(r.uniform(-90, 90), 6)) for _ in range(r.randrange(10, 200)))
+    return '{"type":"Feature","geometry":{"type":"Polygon","coordinates":[%s]}}' % points
+
+
 def texts():
     r = random.Random(20261123)
     row = lambda: listed(number(r) for _ in range(10))
@@ -69,10 +81,15 @@ def texts():
     r.shuffle(names)
     yield 'map', '{' + ','.join('"name%d":%d' % (k, r.randrange(10 ** 6)) for k in names) + '}'
     messages = (message(r, n) for n in range(10 ** 6))
-    yield 'messages', fill(SIZE, lambda: next(messages))
+    listed_messages = fill(SIZE, lambda: next(messages))
+    yield 'messages', listed_messages
+    yield 'indented_messages', json.dumps(json.loads(listed_messages), ensure_ascii=False, indent=2)
+    yield 'messages_in_order', in_order(listed_messages)
     ids = iter(range(10 ** 6))
     record = lambda i: '{"id": %d, "name": "user%d", "tags": ["a", "b"], "ok": true, "at": {"x": %d, "y": null}}' % (i, i, i * 7)
-    yield 'records', fill(SIZE, lambda: record(next(ids)))
+    records = fill(SIZE, lambda: record(next(ids)))
+    yield 'records', records
+    yield 'records_in_order', in_order(records)
     # serde_json refuses what is nested deeper.
     yield 'nested', fill(SIZE, lambda: '[' * 100 + ']' * 100)
     yield 'deep', '[' * 100_000 + ']' * 100_000
@@ -81,6 +98,8 @@ def texts():
     yield 'names', '{' + ','.join('"name%d":%d' % (k, i) for i, k in enumerate(names)) + '}'
     yield 'numbers', fill(SIZE, lambda: str(r.randint(-10 ** r.randint(1, 18), 10 ** r.randint(1, 18))))
     yield 'options', fill(SIZE, lambda: r.choice(['null', 'true', 'false']))
+    yield 'polygons', fill(SIZE, lambda: polygon(r))
+    yield 'out_of_order', fill(SIZE, lambda: '{"b":' * 100 + '0' + ',"a":1}' * 100)
 
 
 def main():

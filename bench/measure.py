@@ -33,6 +33,10 @@ JOBS = [
       for text, name in (('messages', 'messages'), ('records', 'records'), ('100 deep', 'nested'),
                          ('100,000 deep', 'deep'), ('distinct names', 'names'), ('escapes', 'escapes'),
                          ('numbers', 'numbers'))),
+    *((f'`canonical`, {text}', 'canonical', name, 'empty')
+      for text, name in (('messages, indented', 'indented_messages'), ('messages in order', 'messages_in_order'),
+                         ('records in order', 'records_in_order'), ('polygons', 'polygons'),
+                         ('100 levels out of order', 'out_of_order'))),
 ]
 
 

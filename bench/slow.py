@@ -42,6 +42,12 @@ def deep_unknown(size):
     return '{"code":1,"message":"","n":%s}' % ('[' * size + ']' * size)
 
 
+def out_of_order(levels):
+    """Objects of that many levels in a list, as many levels in all as asked."""
+    tower = '{"b":' * levels + '0' + ',"a":1}' * levels
+    return lambda n: '[%s]' % ','.join([tower] * (n // levels))
+
+
 # an empty text of each type
 EMPTY = {'value': '{}', 'canonical': '{}', 'map': '{}', 'hashed': '{}', 'strings': '[]', 'cubes': '[]', 'demo': '{"code":1,"message":""}'}
 
@@ -58,6 +64,9 @@ JOBS = [
         ('1,000,000 levels of objects', lambda n: '{"":' * n + '0' + '}' * n, 1000000, False),
         ('100,000 levels of objects with names that fall', lambda n: '{"b":1,"a":' * n + '0' + '}' * n, 100000, False),
         ('1,000,000 empty lists in a list', lambda n: '[%s]' % ','.join(['[]'] * n), 1000000, False))),
+    ('`canonical`, objects out of order, by 10 levels', 'canonical', out_of_order(10), 100000, False),
+    ('`canonical`, objects out of order, by 1,000 levels', 'canonical', out_of_order(1000), 100000, False),
+    ('`canonical`, 100,000 levels of objects out of order', 'canonical', lambda n: out_of_order(n)(n), 100000, False),
     ('`BTreeMap<String, u64>`, names falling', 'map', lambda n: names('falling', n), 100000, True),
     ('`BTreeMap<String, u64>`, names shuffled', 'map', lambda n: names('shuffled', n), 100000, True),
     ('`BTreeMap<String, u64>`, equal names', 'map', lambda n: '{%s}' % ','.join(['"a":1'] * n), 100000, False),
