@@ -9,9 +9,7 @@ ghost use Rattle.miniserde_model.specs.Size.{size};
 ghost use Rattle.miniserde_model.specs.Value.{IsJson};
 ghost use Rattle.miniserde_model.specs.declared.error.Error.TheVariants.{Invalid};
 
-use crate::arrange::arrange;
 use crate::read::read;
-use crate::write::write;
 use miniserde_model::error::{Error, Result};
 use std::alloc::Global;
 
@@ -103,14 +101,6 @@ fn canonicalize(alloc: Global, j: &str) -> Result<(String, bool)>
         × (r.1 ≡ distinct t)) }
     ensures invalid { result ≡ Err Invalid → (t : Tree) → IsJson j.now t → ⊥ }
 {
-    let nodes = read(alloc, j)?;
-    let arranged = arrange(alloc, nodes.as_slice())?;
-    let (text, left) = write(
-        alloc,
-        nodes.len(),
-        arranged.pieces.as_slice(),
-        arranged.groups.as_slice(),
-    )?;
-    // A duplicate that was dropped takes its nodes with it.
-    Ok((text, left == 0))
+    let (bytes, is_distinct) = read(alloc, j)?;
+    Ok((unsafe { String::from_utf8_unchecked(bytes) }, is_distinct))
 }

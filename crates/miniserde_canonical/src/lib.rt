@@ -1,10 +1,14 @@
-//! Makes canonical text of any JSON text, over nodes that borrow from it.
+//! Canonical text of any JSON text.
 #![tactic(auto)]
 
-mod arrange;
 mod canonicalize;
-mod node;
+mod draft;
+mod groups;
+mod member;
+mod members;
+mod put;
 mod read;
-mod write;
+mod settle;
+mod spread;
 
 pub use canonicalize::{canonical, canonical_both, canonical_unique};

@@ -1,0 +1,174 @@
+-- A reader takes tokens, and its draft with it.
+use Rattle.std.proofs.Common.{◌≡◌, ◌≤◌, ℕ, Bool, true, false, None, is_some, List, [], ◌∷◌, ◌++◌, length, refl, sym, ap, subst, ◌∙◌, arith, length-append, append_assoc}
+use Rattle.miniserde_model.specs.Tree.{Tree}
+use Rattle.miniserde_model.specs.Value.{IsJson}
+use Rattle.miniserde_model.specs.Whitespace.{IsWhitespace}
+use Rattle.miniserde_model.specs.Compact.{compact, quoted}
+use Rattle.miniserde_model.specs.Event.{Event, nothing, boolean, string, negative, nonnegative, float, seq, element, map, key, finish}
+use Rattle.miniserde_model.specs.Bytes.{is_space, StopsAt}
+use Rattle.miniserde_model.specs.Lexing.{Kind, in_list, in_members, Piece, Stands, Starts, Names, Follows, closing}
+use Rattle.miniserde_model.proofs.Reading.{space_append}
+use Rattle.miniserde_model.proofs.Runs.{same_run}
+use Rattle.miniserde_model.proofs.Prefixes.{whitespace_passes}
+use Rattle.miniserde_text.specs.Lexer.{Blank}
+use Rattle.miniserde_text.proofs.Starting.{piece_no_space, name_no_space}
+use Rattle.miniserde_text.proofs.Turning.{begins_stops}
+use Rattle.miniserde_canonical.proofs.Plains.{at_once}
+use Rattle.miniserde_model.specs.private.Reading.{Moment, due, after}
+use Rattle.miniserde_text.specs.private.Stack.{innermost}
+use Rattle.miniserde_text.specs.private.Moving.{opens, between}
+use Rattle.miniserde_canonical.specs.Token.{Token, leaf, name, array, array_end, object, object_end, tokens}
+use Rattle.miniserde_canonical.specs.Token as token
+use Rattle.miniserde_canonical.specs.declared.draft.Draft.{Draft}
+use Rattle.miniserde_canonical.specs.private.Arranging.{gap, State, Step, Run, start}
+use Rattle.miniserde_canonical.specs.private.Drafts.{Wrote, Holding, Represents, Keeps, Recalls, Takes}
+use Rattle.miniserde_canonical.specs.private.Moving.{front_token, end_token, Reads}
+use Rattle.miniserde_canonical.proofs.Growing.{run_append}
+use Rattle.miniserde_canonical.proofs.Drafting.{keep_holding, holding_added}
+use Rattle.miniserde_canonical.proofs.Running.{wrote_on}
+use Rattle.miniserde_canonical.proofs.Wholes.{Reads-append, end_ok}
+
+-- ---- one token
+
+-- behind a token, which is the front of a value
+abbrev fronted : Token → State → State
+fronted (leaf t) s = record { entries = s.entries; last = s.last ++ compact t; opened = s.opened; first = false; distinct = s.distinct }
+fronted array s = record { entries = s.entries; last = s.last ++ 91 ∷ []; opened = s.opened; first = true; distinct = s.distinct }
+fronted object s = record { entries = s.entries; last = s.last ++ 123 ∷ []; opened = s.opened ++ length s.entries ∷ []; first = true; distinct = s.distinct }
+fronted _ s = s
+
+front_step : (e : Event) (b : List ℕ) → Piece e b → (s : State) → Step (front_token e) s (fronted (front_token e) s) × Recalls (between (is_some (opens e))) (fronted (front_token e) s)
+front_step nothing b p s = (((refl, refl, refl, refl), refl), refl)
+front_step (boolean x) b p s = (((refl, refl, refl, refl), refl), refl)
+front_step (string x) b p s = (((refl, refl, refl, refl), refl), refl)
+front_step (negative z) b p s = (((refl, refl, refl, refl), refl), refl)
+front_step (nonnegative n) b p s = (((refl, refl, refl, refl), refl), refl)
+front_step (float x) b p s = (((refl, refl, refl, refl), refl), refl)
+front_step seq b p s = (((refl, refl, refl, refl), refl), refl)
+front_step map b p s = ((refl, refl, refl, refl, refl), refl)
+front_step element b p s = absurd p
+front_step (key x) b p s = absurd p
+front_step finish b p s = absurd p
+
+pub takes_front : (e : Event) (b rest mid rest' : List ℕ) (o : Bool) (d d1 d' : Draft) → Piece e b → o ≡ is_some (opens e) → ((s : State) → Represents d rest s → Represents d1 mid s) → ((s s' : State) → Represents d1 mid s → Step (front_token e) s s' → Represents d' rest' s') → Takes due rest (front_token e ∷ []) (between o) rest' d d'
+takes_front e b rest mid rest' o d d1 d' p q k f = λ s r h.
+    let t = front_step e b p s in
+    let s' = fronted (front_token e) s in
+    (s', (s', t.0, refl), f s s' (k s r) t.0, subst (λ z. Recalls (between z) s') (sym q) t.1)
+
+recalled : (f : Bool) (s : State) → Recalls (between f) s → s.first ≡ f
+recalled true s h = h
+recalled false s h = h
+
+-- whitespace changes nothing
+pub skipped : (d d' : Draft) (rest rest' : List ℕ) → ((bs : List ℕ) → Wrote d rest bs → Wrote d' rest' bs) → Keeps d d' → (s : State) → Represents d rest s → Represents d' rest' s
+skipped d d' rest rest' f k s r = record { bytes = r.bytes; wrote = f r.bytes r.wrote; holding = keep_holding d d' r.bytes s k r.holding }
+
+pub takes_element : (f : Bool) (rest mid rest' : List ℕ) (d d' : Draft) → ((s : State) → Represents d rest s → Represents d' mid s) → mid ≡ gap f ++ rest' → Takes (between f) rest (token.element ∷ []) due rest' d d'
+takes_element f rest mid rest' d d' k e = λ s r h.
+    let s' : State = record { entries = s.entries; last = s.last ++ gap s.first; opened = s.opened; first = s.first; distinct = s.distinct } in
+    let a : Step token.element s s' = (refl, refl, refl, refl) in
+    let q = k s r in
+    let comma : mid ≡ gap s.first ++ rest' = e ∙ ap (λ z. gap z ++ rest') (sym (recalled f s h)) in
+    (s', (s', a, refl), record { bytes = q.bytes ++ gap s.first; wrote = wrote_on d' mid (gap s.first) rest' q.bytes q.wrote comma; holding = holding_added d' q.bytes s s' (gap s.first) a q.holding }, tt)
+
+-- behind a comma, if any, and whitespace, a name
+pub takes_name : (f : Bool) (n rest mid rest1 rest2 part rest' : List ℕ) (d d1 d2 d' : Draft) → ((s : State) → Represents d rest s → Represents d1 mid s) → mid ≡ gap f ++ rest1 → ((bs : List ℕ) → Wrote d1 rest1 bs → Wrote d2 rest2 bs) → Keeps d1 d2 → ((before : List ℕ) (s s' : State) → Wrote d2 rest2 (before ++ gap s.first) → Holding d2 before s → s.first ≡ f → Step (name n) s s' → Represents d' rest' s') → Takes (between f) rest (name n ∷ []) due rest' d d'
+takes_name f n rest mid rest1 rest2 part rest' d d1 d2 d' k e w p g = λ s r h.
+    let s' : State = record { entries = s.entries ++ record { text = s.last; first = s.first; name = n } ∷ []; last = quoted n ++ 58 ∷ []; opened = s.opened; first = s.first; distinct = s.distinct } in
+    let a : Step (name n) s s' = (refl, refl, refl, refl) in
+    let q = k s r in
+    let i = recalled f s h in
+    let comma : mid ≡ gap s.first ++ rest1 = e ∙ ap (λ z. gap z ++ rest1) (sym i) in
+    let wrote = w (q.bytes ++ gap s.first) (wrote_on d1 mid (gap s.first) rest1 q.bytes q.wrote comma) in
+    (s', (s', a, refl), g q.bytes s s' wrote (keep_holding d1 d2 q.bytes s p q.holding) i a, tt)
+
+end_recalls : (k : Kind) (s s' : State) → Step (end_token k) s s' → s'.first ≡ false
+end_recalls in_list s s' a = a.1
+end_recalls in_members s s' a = a.3
+
+pub takes_end : (m : Moment) (k : Kind) (rest mid rest' : List ℕ) (d d1 d' : Draft) → ((s : State) → Represents d rest s → Represents d1 mid s) → ((s : State) → Represents d1 mid s → (s' : State) × Step (end_token k) s s' × Represents d' rest' s') → Takes m rest (end_token k ∷ []) after rest' d d'
+takes_end m k rest mid rest' d d1 d' w f = λ s r h.
+    let t = f s (w s r) in
+    (t.0, (t.0, t.1, refl), t.2, end_recalls k s t.0 t.1)
+
+-- ---- all tokens so far
+
+pub record Taken (j : List ℕ) (m : Moment) (st : List Kind) (rest : List ℕ) (d : Draft) : Type 0 where
+  pub tokens : List Token
+  pub state : State
+  pub reads : Reads due [] j tokens m st rest
+  pub run : Run tokens start state
+  pub represents : Represents d rest state
+  pub recalls : Recalls m state
+
+pub taken_first : (j s : List ℕ) (st su : List Kind) (ks : List Token) (m : Moment) (rest : List ℕ) (d d' : Draft) → su ≡ [] → s ≡ j → Represents d j start → Reads due su s ks m st rest → Takes due j ks m rest d d' → Taken j m st rest d'
+taken_first j s st su ks m rest d d' e f r p t =
+    let a = t start r tt in
+    record { tokens = ks; state = a.0; reads = subst (λ z. Reads due z j ks m st rest) e (subst (λ z. Reads due su z ks m st rest) f p); run = a.1; represents = a.2; recalls = a.3 }
+
+pub taken_more : (j : List ℕ) (m m' : Moment) (st st' : List Kind) (rest rest' : List ℕ) (ks : List Token) (d d' : Draft) → Taken j m st rest d → Reads m st rest ks m' st' rest' → Takes m rest ks m' rest' d d' → Taken j m' st' rest' d'
+taken_more j m m' st st' rest rest' ks d d' t p f =
+    let a = f t.state t.represents t.recalls in
+    record { tokens = t.tokens ++ ks; state = a.0; reads = Reads-append due [] j t.tokens m st rest ks m' st' rest' t.reads p; run = run_append t.tokens ks start t.state a.0 t.run a.1; represents = a.2; recalls = a.3 }
+
+pub taken_all : (j : List ℕ) (f : Bool) (st : List Kind) (rest : List ℕ) (d : Draft) → innermost st ≡ None → IsWhitespace rest → Taken j (between f) st rest d → (t : Tree) × (s : State) × IsJson j t × Run (tokens t) start s × Represents d rest s
+taken_all j f st rest d e w k =
+    let t = end_ok j k.tokens f st rest e k.reads w in
+    (t.0, k.state, t.1, subst (λ z. Run z start k.state) t.2 k.run, k.represents)
+
+pub stands_less : {P : List ℕ → Type 0} (s r : List ℕ) → Stands P s r → length r ≤ length s
+stands_less s r p = omega (arith, ap length p.text, length-append p.space (p.part ++ r), length-append p.part r)
+
+pub follows_less : (k : Kind) (f c : Bool) (s r : List ℕ) → Follows k f c s r → length r ≤ length s
+follows_less k f true s r p = stands_less s r p
+follows_less k true false s r p = stands_less s r p.0
+follows_less k false false s r p = stands_less s r p
+
+-- ---- behind whitespace
+
+stands_behind : {P : List ℕ → Type 0} (s m r : List ℕ) → Blank s m → Stands P m r → Stands P s r
+stands_behind s m r b p = record { space = b.space ++ p.space; part = p.part; text = b.text ∙ ap (λ z. b.space ++ z) p.text ∙ sym (append_assoc b.space p.space (p.part ++ r)); is_space = space_append b.space p.space b.white p.is_space; is_part = p.is_part }
+
+pub starts_behind : (s m : List ℕ) (e : Event) (r : List ℕ) → Blank s m → Starts m e r → Starts s e r
+starts_behind s m e r b p = (stands_behind s m r b p.0, p.1)
+
+pub names_behind : (s m n r : List ℕ) → Blank s m → Names m n r → Names s n r
+names_behind s m n r b p = stands_behind s m r b p
+
+pub follows_behind : (k : Kind) (f c : Bool) (s m r : List ℕ) → Blank s m → Follows k f c m r → Follows k f c s r
+follows_behind k f true s m r b p = stands_behind s m r b p
+follows_behind k true false s m r b p = (stands_behind s m r b p.0, p.1)
+follows_behind k false false s m r b p = stands_behind s m r b p
+
+-- what stands behind whitespace stands at its end
+stands_at : {P : List ℕ → Type 0} (s m r : List ℕ) → Blank s m → (p : Stands P s r) → StopsAt is_space (p.part ++ r) → Stands P m r
+stands_at s m r b p h =
+    let same = same_run is_space b.space p.space m (p.part ++ r) (whitespace_passes b.space b.white) (whitespace_passes p.space p.is_space) b.stops h (sym b.text ∙ p.text) in
+    record { space = []; part = p.part; text = same.1; is_space = tt; is_part = p.is_part }
+
+pub starts_at : (s m : List ℕ) (e : Event) (r : List ℕ) → Blank s m → Starts s e r → Starts m e r
+starts_at s m e r b p = (stands_at s m r b p.0 (piece_no_space e p.0.part r p.0.is_part), p.1)
+
+pub names_at : (s m n r : List ℕ) → Blank s m → Names s n r → Names m n r
+names_at s m n r b p = stands_at s m r b p (name_no_space n p.part r p.is_part)
+
+byte_stops : (c : ℕ) (part r : List ℕ) → is_space c ≡ false → part ≡ c ∷ [] → StopsAt is_space (part ++ r)
+byte_stops c part r h e = subst (λ z. StopsAt is_space (z ++ r)) (sym e) h
+
+pub follows_at : (k : Kind) (f c : Bool) (s m r : List ℕ) → Blank s m → Follows k f c s r → Follows k f c m r
+follows_at in_list f true s m r b p = stands_at s m r b p (byte_stops 93 p.part r refl p.is_part)
+follows_at in_members f true s m r b p = stands_at s m r b p (byte_stops 125 p.part r refl p.is_part)
+follows_at k true false s m r b p = (stands_at s m r b p.0 (subst (λ z. StopsAt is_space (z ++ r)) (sym p.0.is_part) (begins_stops r p.1)), p.1)
+follows_at k false false s m r b p = stands_at s m r b p (byte_stops 44 p.part r refl p.is_part)
+
+-- what is taken between children where no whitespace stands
+pub closing_at : (k : Kind) (f : Bool) (m r : List ℕ) → StopsAt is_space m → Follows k f true m r → m ≡ closing k ∷ r
+closing_at k f m r h p = at_once m r p h ∙ ap (λ z. z ++ r) p.is_part
+
+pub comma_at : (k : Kind) (f : Bool) (m r : List ℕ) → StopsAt is_space m → Follows k f false m r → m ≡ gap f ++ r
+comma_at k true m r h p = at_once m r p.0 h ∙ ap (λ z. z ++ r) p.0.is_part
+comma_at k false m r h p = at_once m r p h ∙ ap (λ z. z ++ r) p.is_part
+
+pub blank_less : (s r : List ℕ) → Blank s r → length r ≤ length s
+blank_less s r b = omega (arith, ap length b.text, length-append b.space r)

@@ -1,0 +1,21 @@
+use Rattle.std.proofs.Common.{rules, ◌≡◌, ◌+◌, length, [], ◌∷◌, ◌++◌, refl, sym, ap, ◌∙◌}
+use Rattle.miniserde_model.specs.Compact.{quoted}
+use Rattle.miniserde_text.specs.Lexer.{text_of}
+use Rattle.miniserde_canonical.specs.declared.spread.Place.{Place}
+use Rattle.miniserde_canonical.specs.private.Names.{name_of}
+use Rattle.miniserde_canonical.specs.private.Arranging.{gap}
+use Rattle.miniserde_canonical.proofs.Drafting.{keep_holding, holding_begun}
+use Rattle.miniserde_canonical.proofs.Running.{run_length}
+use Rattle.miniserde_canonical.proofs.draft.Draft.name.Goals as goal
+
+pub returns-clause-ok : goal.returns-clause-ok
+returns-clause-ok c = λ rest part rest' before s s' t h e f g p i a.
+    let n = text_of c.args.text c.args.scratch.now in
+    let place : c.in_ok-ok_or.field-0 ≡ length c.args.self.now.out.bytes.items + c.saturating_sub-run.result = search rules in
+    let holes : c.len-2.result ≡ length c.args.self.now.out.holes.items = search rules in
+    let here : c.in_ok-ok_or.field-0 ≡ length (before ++ gap s.first) = run_length c.args.self.now rest (before ++ gap s.first) c.args.token.at _ t f (place ∙ ap (λ z. length c.args.self.now.out.bytes.items + z) c.saturating_sub-run.ensures) in
+    record {
+      bytes = (before ++ gap s.first) ++ (quoted n ++ 58 ∷ []);
+      wrote = c.in_ok-spell.ensures.wrote rest part rest' (before ++ gap s.first) (record { front = t.front; run = t.run; input = t.input; left = t.left; text = t.text }) e f g p;
+      holding = keep_holding _ c.spell.new.self _ s' c.in_ok-spell.ensures.keeps (holding_begun c.args.self.now _ before s s' _ n (quoted n ++ 58 ∷ []) refl refl refl c.in_ok-push.ensures.items refl refl (ap name_of c.new-2.ensures.name ∙ c.in_ok-name.ensures.ok) (c.new-2.ensures.first ∙ sym i) (ap (λ (z : Place). z.bytes) c.new-2.ensures.place ∙ here) (ap (λ (z : Place). z.holes) c.new-2.ensures.place ∙ holes) a.0 a.1 a.2 a.3 h);
+    }

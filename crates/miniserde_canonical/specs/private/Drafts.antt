@@ -1,0 +1,47 @@
+-- How a draft holds a state, and what it takes.
+use Rattle.std.specs.Prelude.{◌≡◌, ℕ, true, false, List, ◌++◌, length, ⊤}
+use Rattle.miniserde_model.specs.private.Reading.{Moment, due, first, after}
+use Rattle.miniserde_canonical.specs.Token.{Token}
+use Rattle.miniserde_canonical.specs.declared.draft.Draft.{Draft}
+use Rattle.miniserde_canonical.specs.private.Spreads.{Good}
+use Rattle.miniserde_canonical.specs.private.Settling.{Chain}
+use Rattle.miniserde_canonical.specs.private.Arranging.{State, Run}
+
+-- where rest is left of the input, the text and the run are bs
+pub record Wrote (d : Draft) (rest bs : List ℕ) : Type 0 where
+  pub front : List ℕ
+  pub run : List ℕ
+  pub input : d.input.now ≡ front ++ (run ++ rest)
+  pub left : d.left ≡ length (run ++ rest)
+  pub text : d.out.bytes.items ++ run ≡ bs
+
+-- with the bytes bs for its text, the draft holds the state
+pub record Holding (d : Draft) (bs : List ℕ) (s : State) : Type 0 where
+  pub chain : Chain d.members.items s.entries d.groups.bytes.items d.groups.holes.items 0 0 bs d.out.holes.items s.last
+  pub good : Good d.groups.holes.items d.out.holes.items
+  pub opened : d.opened.items ≡ s.opened
+  pub distinct : d.is_distinct ≡ s.distinct
+
+pub record Represents (d : Draft) (rest : List ℕ) (s : State) : Type 0 where
+  pub bytes : List ℕ
+  pub wrote : Wrote d rest bytes
+  pub holding : Holding d bytes s
+
+-- nothing changes but the bytes of the text and the run
+pub record Keeps (d d' : Draft) : Type 0 where
+  pub holes : d'.out.holes.items ≡ d.out.holes.items
+  pub groups : d'.groups.bytes.items ≡ d.groups.bytes.items
+  pub inner : d'.groups.holes.items ≡ d.groups.holes.items
+  pub members : d'.members.items ≡ d.members.items
+  pub opened : d'.opened.items ≡ d.opened.items
+  pub distinct : d'.is_distinct ≡ d.is_distinct
+
+-- what a moment says of the last token
+abbrev pub Recalls : Moment → State → Type 0
+Recalls due s = ⊤
+Recalls first s = s.first ≡ true
+Recalls after s = s.first ≡ false
+
+-- between two moments, and two places of the input, a draft takes tokens
+abbrev pub Takes : Moment → List ℕ → List Token → Moment → List ℕ → Draft → Draft → Type 0
+Takes m rest ks m' rest' d d' = (s : State) → Represents d rest s → Recalls m s → (s' : State) × Run ks s s' × Represents d' rest' s' × Recalls m' s'

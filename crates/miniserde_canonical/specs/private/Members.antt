@@ -1,0 +1,56 @@
+-- Members of an open object: their names, their spans, and rows of names with trees.
+use Rattle.std.specs.Prelude.{◌≡◌, ◌<◌, ◌+◌, ◌-◌, ℕ, Bool, false, cond, List, [], ◌∷◌, drop, length, bytes_eq, get_or}
+use Rattle.std.specs.declared.cmp.Ordering.TheVariants.{Less}
+use Rattle.miniserde_model.specs.Tree.{Tree, Members, no_members, member}
+use Rattle.miniserde_model.specs.Normal.{text_cmp}
+use Rattle.miniserde_canonical.specs.declared.spread.Place.{Place}
+use Rattle.miniserde_canonical.specs.declared.member.Member.{Member}
+use Rattle.miniserde_canonical.specs.private.Names.{name_of}
+use Rattle.miniserde_canonical.specs.private.Arranging.{gap}
+
+abbrev pub first_name : List Member → List ℕ
+first_name [] = []
+first_name (m ∷ ms) = name_of m.name
+
+-- the name at an index
+abbrev pub name_in : List Member → ℕ → List ℕ
+name_in ms i = first_name (drop i ms)
+
+-- each name is below the next
+abbrev pub NamesRise : List Member → Type 0
+NamesRise ms = (k : ℕ) (d : Member) → k + 1 < length ms → text_cmp (name_of (get_or ms k d).name) (name_of (get_or ms (k + 1) d).name) ≡ Less
+
+-- ---- where a member begins and ends
+
+abbrev pub begin_of : List Member → Place → Place
+begin_of [] end = end
+begin_of (m ∷ ms) end = m.place
+
+abbrev pub before_comma : List Member → Place → Place
+before_comma [] end = end
+before_comma (m ∷ ms) end = record { bytes = m.place.bytes - length (gap m.first); holes = m.place.holes }
+
+abbrev pub end_of : List Member → Place → Place
+end_of [] end = end
+end_of (m ∷ ms) end = before_comma ms end
+
+-- ---- rows
+
+-- members by their names and their trees
+abbrev pub rows_by : {X : Type 0} → (X → List ℕ) → (X → Tree) → List X → Members
+rows_by n r [] = no_members
+rows_by n r (x ∷ xs) = member (n x) (r x) (rows_by n r xs)
+
+-- the names at those indices, with trees
+abbrev pub rows : List Member → (ℕ → Tree) → List ℕ → Members
+rows ms r order = rows_by (name_in ms) r order
+
+-- the first of the members has that name
+abbrev pub heads : List ℕ → Members → Bool
+heads n no_members = false
+heads n (member m t ms) = bytes_eq n m
+
+-- without each that the next one repeats
+abbrev pub kept : Members → Members
+kept no_members = no_members
+kept (member n t ms) = cond (heads n ms) (kept ms) (member n t (kept ms))

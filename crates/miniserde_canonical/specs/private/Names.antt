@@ -1,0 +1,18 @@
+-- Names, and their first bytes as a number.
+use Rattle.std.specs.Prelude.{◌≡◌, ◌<◌, ◌+◌, ◌*◌, ◌^◌, ℕ, zero, suc, List, [], ◌∷◌, string_bytes, get_or}
+use Rattle.miniserde_canonical.specs.declared.member.Name.{Name}
+use Rattle.miniserde_canonical.specs.declared.member.Name.TheVariants.{Input, Decoded}
+
+abbrev pub name_of : Name → List ℕ
+name_of (Input s) = s.now
+name_of (Decoded s) = string_bytes s.value
+
+-- the first n bytes as a number, the first the highest; missing ones are 0
+abbrev pub lead : ℕ → List ℕ → ℕ
+lead zero s = 0
+lead (suc n) [] = 0
+lead (suc n) (c ∷ s) = c * 256 ^ n + lead n s
+
+pub record IsPrefix (p : ℕ) (s : List ℕ) : Type 0 where
+  pub value : p ≡ lead 8 s
+  pub small : (i : ℕ) → get_or s i 0 < 256

@@ -1,0 +1,21 @@
+-- The spans of groups that wait to be written, the last to come first.
+use Rattle.std.specs.Prelude.{◌≡◌, ◌-◌, ◌+◌, ◌^◌, ℕ, List, [], ◌∷◌, ◌++◌}
+use Rattle.miniserde_canonical.specs.declared.spread.Span.{Span}
+use Rattle.miniserde_canonical.specs.declared.spread.Hole.{Hole}
+use Rattle.miniserde_canonical.specs.private.Spreads.{Holds, Within, bytes_in, holes_in}
+
+-- a span of the groups holds the text
+abbrev pub SpanHolds : List ℕ → List Hole → Span → List ℕ → Type 0
+SpanHolds ms gs p x = Within p ms gs × Holds ms gs p.from.bytes (bytes_in p ms) (holes_in p gs) x
+
+abbrev pub Waits : List ℕ → List Hole → List Span → List ℕ → Type 0
+Waits ms gs [] x = x ≡ []
+Waits ms gs (p ∷ ps) x = (y z : List ℕ) × Waits ms gs ps y × SpanHolds ms gs p z × (x ≡ y ++ z)
+
+-- More than what its holes take, where each takes more than all that stand before it.
+abbrev pub load : Span → ℕ
+load p = 1 + (2 ^ (1 + p.to.holes) - 2 ^ (1 + p.from.holes))
+
+abbrev pub loads : List Span → ℕ
+loads [] = 0
+loads (p ∷ ps) = load p + loads ps

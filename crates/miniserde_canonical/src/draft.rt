@@ -1,0 +1,272 @@
+//! The canonical text of what is read, while it is read.
+//!
+//! What stands in the input as it is goes to the text in runs: whitespace, an escaped string, `-0` or an object out of
+//! order ends a run. If the names of an object rise, its text stays as it is. If not, the text of its members moves to
+//! the groups, in the order of their names and without all but the last of equal names. A short text comes back; for
+//! another a hole stays, so no byte of it moves again before the end.
+ghost use Rattle.std.specs.Prelude.{◌≡◌, ◌++◌, ◌∷◌, [], ℕ, List, length, IfOk, OnOk, OnErr, IsErrOf};
+ghost use Rattle.miniserde_model.specs.Compact.{quoted};
+ghost use Rattle.miniserde_model.specs.Lexing.{closing};
+ghost use Rattle.miniserde_model.specs.declared.error.Error.TheVariants.{Memory};
+ghost use Rattle.miniserde_text.specs.Lexer.{front_of, text_of, kind_of};
+ghost use Rattle.miniserde_canonical.specs.Token.{name};
+ghost use Rattle.miniserde_canonical.specs.private.Moving.{front_token, end_token};
+ghost use Rattle.miniserde_canonical.specs.private.Plain.{TextPlain, TextSpelled, Spelled, NameSpelled};
+ghost use Rattle.miniserde_canonical.specs.private.Arranging.{State, Step, Closes, gap, front_text, start};
+ghost use Rattle.miniserde_canonical.specs.private.Drafts.{Wrote, Holding, Keeps, Represents};
+
+use crate::member::{Member, Name};
+use crate::members::rises;
+use crate::put::{put_escaped, put_string, stands};
+use crate::settle::settle;
+use crate::spread::{Place, Spread, part};
+use miniserde_model::error::{Error, Result};
+use miniserde_text::json::lex::{Event, Kind, Text};
+use std::alloc::Global;
+
+/// How many bytes of the input are left where a token begins, and behind it.
+#[derive(Clone, Copy, Drop)]
+pub(crate) struct Token {
+    pub(crate) at: usize,
+    pub(crate) end: usize,
+}
+
+/// The canonical text of what was read so far.
+#[derive(Drop)]
+pub(crate) struct Draft<'a> {
+    alloc: Global,
+    input: &'a str,
+    // How many bytes of the input are left where the run begins that is not in the text yet.
+    left: usize,
+    // The text. The members of the open objects stand in the order of the input.
+    pub(crate) out: Spread,
+    // The members of closed objects that were out of order.
+    pub(crate) groups: Spread,
+    // The members of the open objects.
+    members: Vec<Member<'a>>,
+    // For each open object, how many members stand before its own.
+    opened: Vec<usize>,
+    // Whether no object that was closed had a name twice.
+    pub(crate) is_distinct: bool,
+    // Room for the indices of members that are sorted, and for a string with its escapes.
+    order: Vec<usize>,
+    escaped: String,
+}
+
+impl<'a> Draft<'a> {
+    /// Returns a draft of nothing.
+    pub(crate) fn new(alloc: Global, input: &'a str) -> Draft<'a>
+        ensures { Represents result input.now start }
+    {
+        Draft {
+            alloc,
+            input,
+            left: input.len(),
+            out: Spread::new(alloc),
+            groups: Spread::new(alloc),
+            members: Vec::new(alloc),
+            opened: Vec::new(alloc),
+            is_distinct: true,
+            order: Vec::new(alloc),
+            escaped: String::new(alloc),
+        }
+    }
+
+    /// Ends the run where that many bytes are left.
+    #[inline(always)]
+    pub(crate) fn flush(&mut self, left: usize) -> Result<()>
+        ensures wrote { OnOk result ((rest bs : List ℕ) → Wrote self.old rest bs → left ≡ length rest
+            → Wrote self.new rest bs × (self.new.out.bytes.items ≡ bs)) }
+        ensures left { OnOk result (self.new.left ≡ left) }
+        ensures keeps { OnOk result (Keeps self.old self.new) }
+        ensures memory { OnErr result (IsErrOf result Memory) }
+    {
+        let all = self.input.len();
+        let bytes = self.input.as_bytes();
+        let run = part(
+            bytes,
+            all.saturating_sub(self.left),
+            all.saturating_sub(left),
+        );
+        self.out.bytes.extend_from_slice(run)?;
+        self.left = left;
+        Ok(())
+    }
+
+    /// Takes whitespace, which ends a run.
+    #[inline(always)]
+    pub(crate) fn skip(&mut self, space: Token) -> Result<()>
+        ensures wrote { OnOk result ((rest w rest' bs : List ℕ) → Wrote self.old rest bs → rest ≡ w ++ rest'
+            → space.at ≡ length rest → space.end ≡ length rest' → Wrote self.new rest' bs) }
+        ensures keeps { OnOk result (Keeps self.old self.new) }
+        ensures memory { OnErr result (IsErrOf result Memory) }
+    {
+        if space.at == space.end {
+            return Ok(());
+        }
+        self.flush(space.at)?;
+        self.left = space.end;
+        Ok(())
+    }
+
+    /// Takes the front of a value.
+    #[inline(always)]
+    pub(crate) fn front(&mut self, event: Event<'_>, scratch: &str, token: Token) -> Result<()>
+        ensures ok { OnOk result ((rest part rest' : List ℕ) (s s' : State) → Represents self.old rest s
+            → rest ≡ part ++ rest' → token.at ≡ length rest → token.end ≡ length rest'
+            → Spelled event.entry scratch.now part → Step (front_token (front_of event.entry scratch.now)) s s'
+            → Represents self.new rest' s') }
+        ensures memory { OnErr result (IsErrOf result Memory) }
+    {
+        self.text(event, scratch, token)?;
+        if let Event::MapStart = event {
+            self.opened.push(self.members.len())?;
+        }
+        Ok(())
+    }
+
+    // Takes the text of the front of a value.
+    #[inline(always)]
+    fn text(&mut self, event: Event<'_>, scratch: &str, token: Token) -> Result<()>
+        ensures wrote { OnOk result ((rest part rest' bs : List ℕ) → Wrote self.old rest bs → rest ≡ part ++ rest'
+            → token.at ≡ length rest → token.end ≡ length rest' → Spelled event.entry scratch.now part
+            → Wrote self.new rest' (bs ++ front_text (front_token (front_of event.entry scratch.now)))) }
+        ensures keeps { OnOk result (Keeps self.old self.new) }
+        ensures memory { OnErr result (IsErrOf result Memory) }
+    {
+        match event {
+            Event::Negative(n) => {
+                if n != 0 {
+                    return Ok(());
+                }
+                self.zero(token)?;
+            }
+            Event::Str(text) => self.string(text, scratch, token)?,
+            _ => {}
+        }
+        Ok(())
+    }
+
+    // Takes a negated zero, which is a zero.
+    fn zero(&mut self, token: Token) -> Result<()>
+        ensures wrote { OnOk result ((rest part rest' bs : List ℕ) → Wrote self.old rest bs → rest ≡ part ++ rest'
+            → token.at ≡ length rest → token.end ≡ length rest' → Wrote self.new rest' (bs ++ 48 ∷ [])) }
+        ensures keeps { OnOk result (Keeps self.old self.new) }
+        ensures memory { OnErr result (IsErrOf result Memory) }
+    {
+        self.flush(token.at)?;
+        self.out.bytes.push(b'0')?;
+        self.left = token.end;
+        Ok(())
+    }
+
+    // Takes a string. A decoded one is written anew.
+    #[inline(always)]
+    fn string(&mut self, text: Text<'_>, scratch: &str, token: Token) -> Result<()>
+        ensures wrote { OnOk result ((rest part rest' bs : List ℕ) → Wrote self.old rest bs → rest ≡ part ++ rest'
+            → token.at ≡ length rest → token.end ≡ length rest' → TextSpelled text.entry part
+            → Wrote self.new rest' (bs ++ quoted (text_of text.entry scratch.now))) }
+        ensures keeps { OnOk result (Keeps self.old self.new) }
+        ensures memory { OnErr result (IsErrOf result Memory) }
+    {
+        if let Text::Scratch = text {
+            self.flush(token.at)?;
+            put_escaped(scratch, &mut self.escaped, &mut self.out.bytes)?;
+            self.left = token.end;
+        }
+        Ok(())
+    }
+
+    /// Takes the name of a member, with its colon.
+    #[inline(always)]
+    pub(crate) fn name(
+        &mut self,
+        text: Text<'a>,
+        scratch: &str,
+        first: bool,
+        token: Token,
+    ) -> Result<()>
+        requires { TextPlain text }
+        ensures ok { OnOk result ((rest part rest' before : List ℕ) (s s' : State)
+            → Wrote self.old rest (before ++ gap s.first) → Holding self.old before s
+            → rest ≡ part ++ rest' → token.at ≡ length rest → token.end ≡ length rest'
+            → NameSpelled text.entry part → s.first ≡ first
+            → Step (name (text_of text.entry scratch.now)) s s' → Represents self.new rest' s') }
+        ensures memory { OnErr result (IsErrOf result Memory) }
+    {
+        let run = self.left.saturating_sub(token.at);
+        let place = Place {
+            bytes: self.out.bytes.len().checked_add(run).ok_or(Error::Memory)?,
+            holes: self.out.holes.len(),
+        };
+        let name = Name::new(self.alloc, text, scratch)?;
+        self.members.push(Member::new(name, place, first))?;
+        self.spell(text, scratch, token)?;
+        Ok(())
+    }
+
+    // Takes the text of a name, with its colon.
+    #[inline(always)]
+    fn spell(&mut self, text: Text<'_>, scratch: &str, token: Token) -> Result<()>
+        requires { TextPlain text }
+        ensures wrote { OnOk result ((rest part rest' bs : List ℕ) → Wrote self.old rest bs → rest ≡ part ++ rest'
+            → token.at ≡ length rest → token.end ≡ length rest' → NameSpelled text.entry part
+            → Wrote self.new rest' (bs ++ (quoted (text_of text.entry scratch.now) ++ 58 ∷ []))) }
+        ensures keeps { OnOk result (Keeps self.old self.new) }
+        ensures memory { OnErr result (IsErrOf result Memory) }
+    {
+        if stands(text, token.at.saturating_sub(token.end)) {
+            return Ok(());
+        }
+        self.flush(token.at)?;
+        put_string(text, scratch, &mut self.escaped, &mut self.out.bytes)?;
+        self.out.bytes.push(b':')?;
+        self.left = token.end;
+        Ok(())
+    }
+
+    /// Takes the closing bracket of a container. That many bytes are left before it.
+    #[inline(always)]
+    pub(crate) fn end(&mut self, kind: Kind, at: usize) -> Result<()>
+        ensures ok { OnOk result ((rest rest' : List ℕ) (s : State) → Represents self.old rest s
+            → at ≡ length rest → rest ≡ closing (kind_of kind) ∷ rest'
+            → (s' : State) × Step (end_token (kind_of kind)) s s' × Represents self.new rest' s') }
+        ensures memory { OnErr result (IsErrOf result Memory) }
+    {
+        match kind {
+            Kind::Seq => {}
+            Kind::Map => self.close(at)?,
+        }
+        Ok(())
+    }
+
+    // Closes the innermost object, up to its bracket.
+    fn close(&mut self, at: usize) -> Result<()>
+        ensures ok { OnOk result ((rest : List ℕ) (s : State) → Represents self.old rest s → at ≡ length rest
+            → (m : State) × Closes s m × Represents self.new rest m) }
+        ensures memory { OnErr result (IsErrOf result Memory) }
+    {
+        let Some(before) = self.opened.pop() else {
+            return Ok(());
+        };
+        if self.members.len() < before {
+            return Ok(());
+        }
+        if rises(&self.members[before..]) {
+            self.members.truncate(before);
+            return Ok(());
+        }
+        self.flush(at)?;
+        let outermost = self.opened.is_empty();
+        let is_distinct = settle(
+            &self.members[before..],
+            outermost,
+            &mut self.order,
+            &mut self.out,
+            &mut self.groups,
+        )?;
+        self.is_distinct = self.is_distinct & is_distinct;
+        self.members.truncate(before);
+        Ok(())
+    }
+}

@@ -1,0 +1,78 @@
+//! Writes a text with the groups in its holes.
+ghost use Rattle.std.specs.Prelude.{◌≡◌, ◌++◌, ◌+◌, ◌<◌, ℕ, List, IfOk, OnOk, OnErr, IsErrOf};
+ghost use Rattle.miniserde_model.specs.declared.error.Error.TheVariants.{Memory};
+ghost use Rattle.miniserde_canonical.specs.private.Spreads.{Holds, Good, Ordered};
+ghost use Rattle.miniserde_canonical.specs.private.Waiting.{SpanHolds, Waits, load, loads};
+
+use crate::spread::{Place, Span, Spread, part};
+use miniserde_model::error::Result;
+use std::alloc::Global;
+
+/// Returns the whole text.
+pub(crate) fn fill_holes(alloc: Global, text: Spread, groups: &Spread) -> Result<Vec<u8>>
+    requires { Good groups.now.holes.items text.holes.items }
+    ensures ok { IfOk result (λ r. (x : List ℕ)
+        → Holds groups.now.bytes.items groups.now.holes.items 0 text.bytes.items text.holes.items x → r.items ≡ x) }
+    ensures memory { OnErr result (IsErrOf result Memory) }
+{
+    let holes = text.holes.as_slice();
+    if holes.is_empty() {
+        return Ok(text.bytes);
+    }
+    let mut out = Vec::new(alloc);
+    let mut later = Vec::new(alloc);
+    let mut at = 0;
+    for hole in holes {
+        out.extend_from_slice(part(text.bytes.as_slice(), at, hole.at))?;
+        put_group(hole.group, groups, &mut out, &mut later)?;
+        at = hole.at;
+    }
+    out.extend_from_slice(part(text.bytes.as_slice(), at, text.bytes.len()))?;
+    Ok(out)
+}
+
+// Appends the text of a group.
+fn put_group(group: Span, groups: &Spread, out: &mut Vec<u8>, later: &mut Vec<Span>) -> Result<()>
+    requires { Ordered 0 groups.now.holes.items }
+    ensures ok { OnOk result ((x : List ℕ) → SpanHolds groups.now.bytes.items groups.now.holes.items group x
+        → out.new.items ≡ out.old.items ++ x) }
+    ensures memory { OnErr result (IsErrOf result Memory) }
+{
+    later.clear();
+    later.push(group)?;
+    while let Some(span) = later.pop() {
+        put_span(span, groups, out, later)?;
+    }
+    Ok(())
+}
+
+// Appends the text of a span up to its first hole. The group of that hole is next on `later`, and the rest of the span
+// follows.
+fn put_span(span: Span, groups: &Spread, out: &mut Vec<u8>, later: &mut Vec<Span>) -> Result<()>
+    ensures ok { OnOk result ((x y : List ℕ) → SpanHolds groups.now.bytes.items groups.now.holes.items span x
+        → Waits groups.now.bytes.items groups.now.holes.items later.old.items y
+        → (z : List ℕ) × Waits groups.now.bytes.items groups.now.holes.items later.new.items z
+        × (out.new.items ++ z ≡ out.old.items ++ (x ++ y))) }
+    ensures less { OnOk result (Ordered 0 groups.now.holes.items
+        → loads later.new.items < loads later.old.items + load span) }
+    ensures memory { OnErr result (IsErrOf result Memory) }
+{
+    let holes = groups.holes.as_slice();
+    let next = span.from.holes;
+    if next < span.to.holes && next < holes.len() {
+        let hole = holes[next];
+        let behind = Place {
+            bytes: hole.at,
+            holes: next + 1,
+        };
+        out.extend_from_slice(part(groups.bytes.as_slice(), span.from.bytes, hole.at))?;
+        later.push(Span {
+            from: behind,
+            to: span.to,
+        })?;
+        later.push(hole.group)?;
+    } else {
+        out.extend_from_slice(part(groups.bytes.as_slice(), span.from.bytes, span.to.bytes))?;
+    }
+    Ok(())
+}

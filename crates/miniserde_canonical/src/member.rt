@@ -1,0 +1,108 @@
+//! Members, and the first bytes of their names.
+ghost use Rattle.std.specs.Prelude.{◌≡◌, IfOk, OnErr, IsErrOf, get_or, string_bytes};
+ghost use Rattle.miniserde_model.specs.declared.error.Error.TheVariants.{Memory};
+ghost use Rattle.miniserde_text.specs.Lexer.{text_of};
+ghost use Rattle.miniserde_canonical.specs.private.Names.{name_of, IsPrefix};
+
+use crate::spread::Place;
+use miniserde_model::error::Result;
+use miniserde_text::json::lex::Text;
+use std::alloc::Global;
+
+/// A name: borrowed from the input, or decoded.
+#[derive(Drop)]
+pub(crate) enum Name<'a> {
+    Input(&'a str),
+    Decoded(Box<String>),
+}
+
+impl<'a> Name<'a> {
+    /// Returns the name that a text is.
+    #[inline(always)]
+    pub(crate) fn new(alloc: Global, text: Text<'a>, scratch: &str) -> Result<Name<'a>>
+        ensures ok { IfOk result (λ n. name_of n ≡ text_of text.entry scratch.now) }
+        ensures memory { OnErr result (IsErrOf result Memory) }
+    {
+        match text {
+            Text::Input(s) => Ok(Name::Input(s)),
+            Text::Scratch => Ok(Name::Decoded(boxed(alloc, scratch)?)),
+        }
+    }
+
+    /// Returns the text.
+    #[inline(always)]
+    pub(crate) fn text(&self) -> &str
+        ensures { result.now ≡ name_of self.now }
+    {
+        match self {
+            Name::Input(s) => s,
+            Name::Decoded(s) => s.as_str(),
+        }
+    }
+}
+
+// Copies a text to the heap.
+fn boxed(alloc: Global, text: &str) -> Result<Box<String>>
+    ensures ok { IfOk result (λ b. string_bytes b.value ≡ text.now) }
+    ensures memory { OnErr result (IsErrOf result Memory) }
+{
+    Ok(Box::new(alloc, String::from_str(alloc, text)?)?)
+}
+
+/// A member of an open object: its name, and where it begins in what is written.
+#[derive(Drop)]
+pub(crate) struct Member<'a> {
+    pub(crate) name: Name<'a>,
+    /// The first eight bytes of the name as a number.
+    pub(crate) prefix: u64,
+    pub(crate) place: Place,
+    /// Whether it is the first of its object, so that no comma stands before it.
+    pub(crate) first: bool,
+    ghost leads: { IsPrefix prefix (name_of name) },
+}
+
+impl<'a> Member<'a> {
+    /// Returns a member.
+    #[inline(always)]
+    pub(crate) fn new(name: Name<'a>, place: Place, first: bool) -> Member<'a>
+        ensures name { result.name ≡ name.entry }
+        ensures place { result.place ≡ place }
+        ensures first { result.first ≡ first }
+    {
+        let prefix = prefix(name.text());
+        Member {
+            name,
+            prefix,
+            place,
+            first,
+        }
+    }
+}
+
+// Returns the first eight bytes of a text as a number, the first the highest. Missing ones are 0.
+#[inline(always)]
+fn prefix(name: &str) -> u64
+    ensures { IsPrefix result name.now }
+{
+    let b = name.as_bytes();
+    if b.len() >= 8 {
+        return u64::from_be_bytes([b[0], b[1], b[2], b[3], b[4], b[5], b[6], b[7]]);
+    }
+    u64::from_be_bytes([
+        byte(b, 0),
+        byte(b, 1),
+        byte(b, 2),
+        byte(b, 3),
+        byte(b, 4),
+        byte(b, 5),
+        byte(b, 6),
+        byte(b, 7),
+    ])
+}
+
+#[inline(always)]
+fn byte(b: &[u8], i: usize) -> u8
+    ensures { result ≡ get_or b.now i 0 }
+{
+    if i < b.len() { b[i] } else { 0 }
+}

@@ -1,0 +1,143 @@
+//! The members of the open objects, and their order.
+ghost use Rattle.std.specs.Prelude.{◌≡◌, ◌<◌, ◌+◌, ℕ, List, length, drop, true, false, OnOk, OnErr, IsErrOf, IsSortedByKey, slice_index_or};
+ghost use Rattle.std.specs.List.{range_with_len};
+ghost use Rattle.std.specs.declared.cmp.Ordering.TheVariants.{Less};
+ghost use Rattle.miniserde_model.specs.Tree.{Tree};
+ghost use Rattle.miniserde_model.specs.Normal.{text_cmp, last_of};
+ghost use Rattle.miniserde_model.specs.declared.error.Error.TheVariants.{Memory};
+ghost use Rattle.miniserde_canonical.specs.private.Arranging.{gap};
+ghost use Rattle.miniserde_canonical.specs.private.Names.{name_of};
+ghost use Rattle.miniserde_canonical.specs.private.Members.{name_in, rows, heads, begin_of, before_comma, end_of, NamesRise};
+
+use crate::member::Member;
+use crate::spread::{Place, Span};
+use miniserde_model::error::Result;
+use std::cmp::Ordering;
+
+/// Returns whether the names strictly rise.
+pub(crate) fn rises(members: &[Member<'_>]) -> bool
+    ensures rises { result ≡ true → NamesRise members.now }
+    ensures some { result ≡ false → 0 < length members.now }
+{
+    for i in 1..members.len() {
+        if !below(&members[i - 1], &members[i]) {
+            return false;
+        }
+    }
+    true
+}
+
+#[inline(always)]
+fn below(a: &Member<'_>, b: &Member<'_>) -> bool
+    ensures { result ≡ true → text_cmp (name_of a.now.name) (name_of b.now.name) ≡ Less }
+{
+    match compare_names(a, b) {
+        Ordering::Less => true,
+        _ => false,
+    }
+}
+
+// Compares the names of two members, by their first eight bytes if these differ.
+#[inline(always)]
+fn compare_names(a: &Member<'_>, b: &Member<'_>) -> Ordering
+    ensures { result ≡ text_cmp (name_of a.now.name) (name_of b.now.name) }
+{
+    if a.prefix < b.prefix {
+        return Ordering::Less;
+    }
+    if b.prefix < a.prefix {
+        return Ordering::Greater;
+    }
+    a.name.text().cmp(b.name.text())
+}
+
+/// Fills `order` with the indices of the members.
+pub(crate) fn fill(members: &[Member<'_>], order: &mut Vec<usize>) -> Result<()>
+    ensures ok { OnOk result (order.new.items ≡ range_with_len 0 (length members.now)) }
+    ensures memory { OnErr result (IsErrOf result Memory) }
+{
+    order.clear();
+    for i in 0..members.len() {
+        order.push(i)?;
+    }
+    Ok(())
+}
+
+/// Sorts the indices of the members by name. The sort is stable, so of equal names the last stays last.
+pub(crate) fn sort(members: &[Member<'_>], order: &mut Vec<usize>) -> Result<()>
+    ensures sorted { OnOk result (IsSortedByKey (name_in members.now) text_cmp order.new.items) }
+    ensures last { (r : ℕ → Tree) (q : List ℕ) → last_of q (rows members.now r order.new.items)
+        ≡ last_of q (rows members.now r order.old.items) }
+    ensures memory { OnErr result (IsErrOf result Memory) }
+{
+    Ok(order.sort_by(|a, b| compare(members, *a, *b))?)
+}
+
+// Compares the names at two indices.
+#[inline(always)]
+fn compare(members: &[Member<'_>], a: usize, b: usize) -> Ordering
+    ensures { result ≡ text_cmp (name_in members.now a) (name_in members.now b) }
+{
+    if a >= members.len() || b >= members.len() {
+        return name_at(members, a).cmp(name_at(members, b));
+    }
+    compare_names(&members[a], &members[b])
+}
+
+// Returns the name at an index, or the empty text behind the last.
+#[inline(always)]
+fn name_at<'m>(members: &'m [Member<'_>], i: usize) -> &'m str
+    ensures { result.now ≡ name_in members.now i }
+{
+    if i < members.len() {
+        members[i].name.text()
+    } else {
+        ""
+    }
+}
+
+/// Returns whether the next member in that order has the same name.
+#[inline(always)]
+pub(crate) fn repeats(members: &[Member<'_>], order: &[usize], k: usize) -> bool
+    requires { k < length order.now }
+    ensures { (r : ℕ → Tree) (d : ℕ) → result ≡ heads (name_in members.now (slice_index_or order.now k d))
+        (rows members.now r (drop (k + 1) order.now)) }
+{
+    k + 1 < order.len() && name_at(members, order[k]) == name_at(members, order[k + 1])
+}
+
+/// Returns the span of a member, without the comma behind it. The last member ends at `end`.
+#[inline(always)]
+pub(crate) fn span_of(members: &[Member<'_>], i: usize, end: Place) -> Span
+    ensures from { result.from ≡ begin_of (drop i members.now) end }
+    ensures to { result.to ≡ end_of (drop i members.now) end }
+{
+    if i >= members.len() {
+        return Span { from: end, to: end };
+    }
+    Span {
+        from: members[i].place,
+        to: end_at(members, i + 1, end),
+    }
+}
+
+// Returns how many bytes stand between a member and the one before it.
+fn comma_len(first: bool) -> usize
+    ensures { result ≡ length (gap first) }
+{
+    if first { 0 } else { 1 }
+}
+
+// Returns where the member before an index ends.
+fn end_at(members: &[Member<'_>], i: usize, end: Place) -> Place
+    ensures { result ≡ before_comma (drop i members.now) end }
+{
+    if i >= members.len() {
+        return end;
+    }
+    let place = members[i].place;
+    Place {
+        bytes: place.bytes.saturating_sub(comma_len(members[i].first)),
+        holes: place.holes,
+    }
+}

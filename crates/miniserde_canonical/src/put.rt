@@ -1,0 +1,76 @@
+//! Writes what does not stand in the input as it is.
+ghost use Rattle.std.specs.Prelude.{◌≡◌, ◌++◌, ◌∷◌, [], ℕ, List, length, true, OnOk, OnErr, IsErrOf};
+ghost use Rattle.miniserde_model.specs.Compact.{quoted};
+ghost use Rattle.miniserde_model.specs.declared.error.Error.TheVariants.{Memory};
+ghost use Rattle.miniserde_text.specs.Lexer.{text_of};
+ghost use Rattle.miniserde_canonical.specs.private.Arranging.{gap};
+ghost use Rattle.miniserde_canonical.specs.private.Plain.{TextPlain, NameSpelled, is_plain};
+
+use miniserde_model::error::Result;
+use miniserde_text::escape::escape_str;
+use miniserde_text::json::lex::Text;
+
+/// Appends what stands before a child that is the first of its container, or not.
+#[inline(always)]
+pub(crate) fn put_gap(first: bool, out: &mut Vec<u8>) -> Result<()>
+    ensures ok { OnOk result (out.new.items ≡ out.old.items ++ gap first) }
+    ensures memory { OnErr result (IsErrOf result Memory) }
+{
+    if !first {
+        out.push(b',')?;
+    }
+    Ok(())
+}
+
+/// Appends a string.
+#[inline(always)]
+pub(crate) fn put_string(
+    text: Text<'_>,
+    scratch: &str,
+    escaped: &mut String,
+    out: &mut Vec<u8>,
+) -> Result<()>
+    requires { TextPlain text }
+    ensures ok { OnOk result (out.new.items ≡ out.old.items ++ quoted (text_of text.entry scratch.now)) }
+    ensures memory { OnErr result (IsErrOf result Memory) }
+{
+    match text {
+        Text::Input(s) => put_plain(s, out),
+        Text::Scratch => put_escaped(scratch, escaped, out),
+    }
+}
+
+/// Appends a decoded string.
+pub(crate) fn put_escaped(text: &str, escaped: &mut String, out: &mut Vec<u8>) -> Result<()>
+    ensures ok { OnOk result (out.new.items ≡ out.old.items ++ quoted text.now) }
+    ensures memory { OnErr result (IsErrOf result Memory) }
+{
+    escaped.clear();
+    escape_str(text, escaped)?;
+    Ok(out.extend_from_slice(escaped.as_bytes())?)
+}
+
+// Appends a text of which no byte is escaped, between quotes.
+fn put_plain(text: &str, out: &mut Vec<u8>) -> Result<()>
+    requires { is_plain text.now ≡ true }
+    ensures ok { OnOk result (out.new.items ≡ out.old.items ++ quoted text.now) }
+    ensures memory { OnErr result (IsErrOf result Memory) }
+{
+    out.push(b'"')?;
+    out.extend_from_slice(text.as_bytes())?;
+    out.push(b'"')?;
+    Ok(())
+}
+
+/// Returns whether a name of that length with its colon stands in the input as it is: its string is not escaped, and no
+/// whitespace stands before the colon.
+#[inline(always)]
+pub(crate) fn stands(text: Text<'_>, len: usize) -> bool
+    ensures { (scratch part : List ℕ) → result ≡ true → len ≡ length part → NameSpelled text.entry part
+        → part ≡ quoted (text_of text.entry scratch) ++ 58 ∷ [] }
+{
+    match text {
+        Text::Input(s) => len == s.len() + 3,
+        Text::Scratch => false,
+    }
+}
