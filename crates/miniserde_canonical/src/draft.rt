@@ -4,10 +4,9 @@
 //! order ends a run. If the names of an object rise, its text stays as it is. If not, the text of its members moves to
 //! the groups, in the order of their names and without all but the last of equal names. A short text comes back; for
 //! another a hole stays, so no byte of it moves again before the end.
-ghost use Rattle.std.specs.Prelude.{◌≡◌, ◌++◌, ◌∷◌, [], ℕ, List, length, IfOk, OnOk, OnErr, IsErrOf};
+ghost use Rattle.std.specs.Prelude.{◌≡◌, ◌++◌, ◌∷◌, [], ℕ, List, length, IfOk, OnOk};
 ghost use Rattle.miniserde_model.specs.Compact.{quoted};
 ghost use Rattle.miniserde_model.specs.Lexing.{closing};
-ghost use Rattle.miniserde_model.specs.declared.error.Error.TheVariants.{Memory};
 ghost use Rattle.miniserde_text.specs.Lexer.{front_of, text_of, kind_of};
 ghost use Rattle.miniserde_canonical.specs.Token.{name};
 ghost use Rattle.miniserde_canonical.specs.private.Moving.{front_token, end_token};
@@ -20,9 +19,8 @@ use crate::members::rises;
 use crate::put::{put_escaped, put_string, stands};
 use crate::settle::settle;
 use crate::spread::{Place, Spread, part};
-use miniserde_model::error::{Error, Result};
 use miniserde_text::json::lex::{Event, Kind, Text};
-use std::alloc::Global;
+use std::alloc::{AllocError, Global};
 
 /// How many bytes of the input are left where a token begins, and behind it.
 #[derive(Clone, Copy, Drop)]
@@ -74,12 +72,11 @@ impl<'a> Draft<'a> {
 
     /// Ends the run where that many bytes are left.
     #[inline(always)]
-    pub(crate) fn flush(&mut self, left: usize) -> Result<()>
+    pub(crate) fn flush(&mut self, left: usize) -> Result<(), AllocError>
         ensures wrote { OnOk result ((rest bs : List ℕ) → Wrote self.old rest bs → left ≡ length rest
             → Wrote self.new rest bs × (self.new.out.bytes.items ≡ bs)) }
         ensures left { OnOk result (self.new.left ≡ left) }
         ensures keeps { OnOk result (Keeps self.old self.new) }
-        ensures memory { OnErr result (IsErrOf result Memory) }
     {
         let all = self.input.len();
         let bytes = self.input.as_bytes();
@@ -95,11 +92,10 @@ impl<'a> Draft<'a> {
 
     /// Takes whitespace, which ends a run.
     #[inline(always)]
-    pub(crate) fn skip(&mut self, space: Token) -> Result<()>
+    pub(crate) fn skip(&mut self, space: Token) -> Result<(), AllocError>
         ensures wrote { OnOk result ((rest w rest' bs : List ℕ) → Wrote self.old rest bs → rest ≡ w ++ rest'
             → space.at ≡ length rest → space.end ≡ length rest' → Wrote self.new rest' bs) }
         ensures keeps { OnOk result (Keeps self.old self.new) }
-        ensures memory { OnErr result (IsErrOf result Memory) }
     {
         if space.at == space.end {
             return Ok(());
@@ -111,12 +107,16 @@ impl<'a> Draft<'a> {
 
     /// Takes the front of a value.
     #[inline(always)]
-    pub(crate) fn front(&mut self, event: Event<'_>, scratch: &str, token: Token) -> Result<()>
-        ensures ok { OnOk result ((rest part rest' : List ℕ) (s s' : State) → Represents self.old rest s
+    pub(crate) fn front(
+        &mut self,
+        event: Event<'_>,
+        scratch: &str,
+        token: Token,
+    ) -> Result<(), AllocError>
+        ensures { OnOk result ((rest part rest' : List ℕ) (s s' : State) → Represents self.old rest s
             → rest ≡ part ++ rest' → token.at ≡ length rest → token.end ≡ length rest'
             → Spelled event.entry scratch.now part → Step (front_token (front_of event.entry scratch.now)) s s'
             → Represents self.new rest' s') }
-        ensures memory { OnErr result (IsErrOf result Memory) }
     {
         self.text(event, scratch, token)?;
         if let Event::MapStart = event {
@@ -127,12 +127,11 @@ impl<'a> Draft<'a> {
 
     // Takes the text of the front of a value.
     #[inline(always)]
-    fn text(&mut self, event: Event<'_>, scratch: &str, token: Token) -> Result<()>
+    fn text(&mut self, event: Event<'_>, scratch: &str, token: Token) -> Result<(), AllocError>
         ensures wrote { OnOk result ((rest part rest' bs : List ℕ) → Wrote self.old rest bs → rest ≡ part ++ rest'
             → token.at ≡ length rest → token.end ≡ length rest' → Spelled event.entry scratch.now part
             → Wrote self.new rest' (bs ++ front_text (front_token (front_of event.entry scratch.now)))) }
         ensures keeps { OnOk result (Keeps self.old self.new) }
-        ensures memory { OnErr result (IsErrOf result Memory) }
     {
         match event {
             Event::Negative(n) => {
@@ -148,11 +147,10 @@ impl<'a> Draft<'a> {
     }
 
     // Takes a negated zero, which is a zero.
-    fn zero(&mut self, token: Token) -> Result<()>
+    fn zero(&mut self, token: Token) -> Result<(), AllocError>
         ensures wrote { OnOk result ((rest part rest' bs : List ℕ) → Wrote self.old rest bs → rest ≡ part ++ rest'
             → token.at ≡ length rest → token.end ≡ length rest' → Wrote self.new rest' (bs ++ 48 ∷ [])) }
         ensures keeps { OnOk result (Keeps self.old self.new) }
-        ensures memory { OnErr result (IsErrOf result Memory) }
     {
         self.flush(token.at)?;
         self.out.bytes.push(b'0')?;
@@ -162,12 +160,11 @@ impl<'a> Draft<'a> {
 
     // Takes a string. A decoded one is written anew.
     #[inline(always)]
-    fn string(&mut self, text: Text<'_>, scratch: &str, token: Token) -> Result<()>
+    fn string(&mut self, text: Text<'_>, scratch: &str, token: Token) -> Result<(), AllocError>
         ensures wrote { OnOk result ((rest part rest' bs : List ℕ) → Wrote self.old rest bs → rest ≡ part ++ rest'
             → token.at ≡ length rest → token.end ≡ length rest' → TextSpelled text.entry part
             → Wrote self.new rest' (bs ++ quoted (text_of text.entry scratch.now))) }
         ensures keeps { OnOk result (Keeps self.old self.new) }
-        ensures memory { OnErr result (IsErrOf result Memory) }
     {
         if let Text::Scratch = text {
             self.flush(token.at)?;
@@ -185,18 +182,17 @@ impl<'a> Draft<'a> {
         scratch: &str,
         first: bool,
         token: Token,
-    ) -> Result<()>
+    ) -> Result<(), AllocError>
         requires { TextPlain text }
-        ensures ok { OnOk result ((rest part rest' before : List ℕ) (s s' : State)
+        ensures { OnOk result ((rest part rest' before : List ℕ) (s s' : State)
             → Wrote self.old rest (before ++ gap s.first) → Holding self.old before s
             → rest ≡ part ++ rest' → token.at ≡ length rest → token.end ≡ length rest'
             → NameSpelled text.entry part → s.first ≡ first
             → Step (name (text_of text.entry scratch.now)) s s' → Represents self.new rest' s') }
-        ensures memory { OnErr result (IsErrOf result Memory) }
     {
         let run = self.left.saturating_sub(token.at);
         let place = Place {
-            bytes: self.out.bytes.len().checked_add(run).ok_or(Error::Memory)?,
+            bytes: self.out.bytes.len().checked_add(run).ok_or(AllocError)?,
             holes: self.out.holes.len(),
         };
         let name = Name::new(self.alloc, text, scratch)?;
@@ -207,13 +203,12 @@ impl<'a> Draft<'a> {
 
     // Takes the text of a name, with its colon.
     #[inline(always)]
-    fn spell(&mut self, text: Text<'_>, scratch: &str, token: Token) -> Result<()>
+    fn spell(&mut self, text: Text<'_>, scratch: &str, token: Token) -> Result<(), AllocError>
         requires { TextPlain text }
         ensures wrote { OnOk result ((rest part rest' bs : List ℕ) → Wrote self.old rest bs → rest ≡ part ++ rest'
             → token.at ≡ length rest → token.end ≡ length rest' → NameSpelled text.entry part
             → Wrote self.new rest' (bs ++ (quoted (text_of text.entry scratch.now) ++ 58 ∷ []))) }
         ensures keeps { OnOk result (Keeps self.old self.new) }
-        ensures memory { OnErr result (IsErrOf result Memory) }
     {
         if stands(text, token.at.saturating_sub(token.end)) {
             return Ok(());
@@ -227,11 +222,10 @@ impl<'a> Draft<'a> {
 
     /// Takes the closing bracket of a container. That many bytes are left before it.
     #[inline(always)]
-    pub(crate) fn end(&mut self, kind: Kind, at: usize) -> Result<()>
-        ensures ok { OnOk result ((rest rest' : List ℕ) (s : State) → Represents self.old rest s
+    pub(crate) fn end(&mut self, kind: Kind, at: usize) -> Result<(), AllocError>
+        ensures { OnOk result ((rest rest' : List ℕ) (s : State) → Represents self.old rest s
             → at ≡ length rest → rest ≡ closing (kind_of kind) ∷ rest'
             → (s' : State) × Step (end_token (kind_of kind)) s s' × Represents self.new rest' s') }
-        ensures memory { OnErr result (IsErrOf result Memory) }
     {
         match kind {
             Kind::Seq => {}
@@ -241,10 +235,9 @@ impl<'a> Draft<'a> {
     }
 
     // Closes the innermost object, up to its bracket.
-    fn close(&mut self, at: usize) -> Result<()>
-        ensures ok { OnOk result ((rest : List ℕ) (s : State) → Represents self.old rest s → at ≡ length rest
+    fn close(&mut self, at: usize) -> Result<(), AllocError>
+        ensures { OnOk result ((rest : List ℕ) (s : State) → Represents self.old rest s → at ≡ length rest
             → (m : State) × Closes s m × Represents self.new rest m) }
-        ensures memory { OnErr result (IsErrOf result Memory) }
     {
         let Some(before) = self.opened.pop() else {
             return Ok(());

@@ -1,19 +1,20 @@
 //! Writes a text with the groups in its holes.
-ghost use Rattle.std.specs.Prelude.{◌≡◌, ◌++◌, ◌+◌, ◌<◌, ℕ, List, IfOk, OnOk, OnErr, IsErrOf};
-ghost use Rattle.miniserde_model.specs.declared.error.Error.TheVariants.{Memory};
+ghost use Rattle.std.specs.Prelude.{◌≡◌, ◌++◌, ◌+◌, ◌<◌, ℕ, List, IfOk, OnOk};
 ghost use Rattle.miniserde_canonical.specs.private.Spreads.{Holds, Good, Ordered};
 ghost use Rattle.miniserde_canonical.specs.private.Waiting.{SpanHolds, Waits, load, loads};
 
 use crate::spread::{Place, Span, Spread, part};
-use miniserde_model::error::Result;
-use std::alloc::Global;
+use std::alloc::{AllocError, Global};
 
 /// Returns the whole text.
-pub(crate) fn fill_holes(alloc: Global, text: Spread, groups: &Spread) -> Result<Vec<u8>>
+pub(crate) fn fill_holes(
+    alloc: Global,
+    text: Spread,
+    groups: &Spread,
+) -> Result<Vec<u8>, AllocError>
     requires { Good groups.now.holes.items text.holes.items }
-    ensures ok { IfOk result (λ r. (x : List ℕ)
+    ensures { IfOk result (λ r. (x : List ℕ)
         → Holds groups.now.bytes.items groups.now.holes.items 0 text.bytes.items text.holes.items x → r.items ≡ x) }
-    ensures memory { OnErr result (IsErrOf result Memory) }
 {
     let holes = text.holes.as_slice();
     if holes.is_empty() {
@@ -32,11 +33,15 @@ pub(crate) fn fill_holes(alloc: Global, text: Spread, groups: &Spread) -> Result
 }
 
 // Appends the text of a group.
-fn put_group(group: Span, groups: &Spread, out: &mut Vec<u8>, later: &mut Vec<Span>) -> Result<()>
+fn put_group(
+    group: Span,
+    groups: &Spread,
+    out: &mut Vec<u8>,
+    later: &mut Vec<Span>,
+) -> Result<(), AllocError>
     requires { Ordered 0 groups.now.holes.items }
-    ensures ok { OnOk result ((x : List ℕ) → SpanHolds groups.now.bytes.items groups.now.holes.items group x
+    ensures { OnOk result ((x : List ℕ) → SpanHolds groups.now.bytes.items groups.now.holes.items group x
         → out.new.items ≡ out.old.items ++ x) }
-    ensures memory { OnErr result (IsErrOf result Memory) }
 {
     later.clear();
     later.push(group)?;
@@ -48,14 +53,18 @@ fn put_group(group: Span, groups: &Spread, out: &mut Vec<u8>, later: &mut Vec<Sp
 
 // Appends the text of a span up to its first hole. The group of that hole is next on `later`, and the rest of the span
 // follows.
-fn put_span(span: Span, groups: &Spread, out: &mut Vec<u8>, later: &mut Vec<Span>) -> Result<()>
+fn put_span(
+    span: Span,
+    groups: &Spread,
+    out: &mut Vec<u8>,
+    later: &mut Vec<Span>,
+) -> Result<(), AllocError>
     ensures ok { OnOk result ((x y : List ℕ) → SpanHolds groups.now.bytes.items groups.now.holes.items span x
         → Waits groups.now.bytes.items groups.now.holes.items later.old.items y
         → (z : List ℕ) × Waits groups.now.bytes.items groups.now.holes.items later.new.items z
         × (out.new.items ++ z ≡ out.old.items ++ (x ++ y))) }
     ensures less { OnOk result (Ordered 0 groups.now.holes.items
         → loads later.new.items < loads later.old.items + load span) }
-    ensures memory { OnErr result (IsErrOf result Memory) }
 {
     let holes = groups.holes.as_slice();
     let next = span.from.holes;

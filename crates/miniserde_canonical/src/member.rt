@@ -1,13 +1,11 @@
 //! Members, and the first bytes of their names.
-ghost use Rattle.std.specs.Prelude.{◌≡◌, IfOk, OnErr, IsErrOf, get_or, string_bytes};
-ghost use Rattle.miniserde_model.specs.declared.error.Error.TheVariants.{Memory};
+ghost use Rattle.std.specs.Prelude.{◌≡◌, IfOk, get_or, string_bytes};
 ghost use Rattle.miniserde_text.specs.Lexer.{text_of};
 ghost use Rattle.miniserde_canonical.specs.private.Names.{name_of, IsPrefix};
 
 use crate::spread::Place;
-use miniserde_model::error::Result;
 use miniserde_text::json::lex::Text;
-use std::alloc::Global;
+use std::alloc::{AllocError, Global};
 
 /// A name: borrowed from the input, or decoded.
 #[derive(Drop)]
@@ -19,9 +17,8 @@ pub(crate) enum Name<'a> {
 impl<'a> Name<'a> {
     /// Returns the name that a text is.
     #[inline(always)]
-    pub(crate) fn new(alloc: Global, text: Text<'a>, scratch: &str) -> Result<Name<'a>>
-        ensures ok { IfOk result (λ n. name_of n ≡ text_of text.entry scratch.now) }
-        ensures memory { OnErr result (IsErrOf result Memory) }
+    pub(crate) fn new(alloc: Global, text: Text<'a>, scratch: &str) -> Result<Name<'a>, AllocError>
+        ensures { IfOk result (λ n. name_of n ≡ text_of text.entry scratch.now) }
     {
         match text {
             Text::Input(s) => Ok(Name::Input(s)),
@@ -42,9 +39,8 @@ impl<'a> Name<'a> {
 }
 
 // Copies a text to the heap.
-fn boxed(alloc: Global, text: &str) -> Result<Box<String>>
-    ensures ok { IfOk result (λ b. string_bytes b.value ≡ text.now) }
-    ensures memory { OnErr result (IsErrOf result Memory) }
+fn boxed(alloc: Global, text: &str) -> Result<Box<String>, AllocError>
+    ensures { IfOk result (λ b. string_bytes b.value ≡ text.now) }
 {
     Ok(Box::new(alloc, String::from_str(alloc, text)?)?)
 }

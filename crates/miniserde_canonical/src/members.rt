@@ -1,17 +1,16 @@
 //! The members of the open objects, and their order.
-ghost use Rattle.std.specs.Prelude.{◌≡◌, ◌<◌, ◌+◌, ℕ, List, length, drop, true, false, OnOk, OnErr, IsErrOf, IsSortedByKey, slice_index_or};
+ghost use Rattle.std.specs.Prelude.{◌≡◌, ◌<◌, ◌+◌, ℕ, List, length, drop, true, false, OnOk, IsSortedByKey, slice_index_or};
 ghost use Rattle.std.specs.List.{range_with_len};
 ghost use Rattle.std.specs.declared.cmp.Ordering.TheVariants.{Less};
 ghost use Rattle.miniserde_model.specs.Tree.{Tree};
 ghost use Rattle.miniserde_model.specs.Normal.{text_cmp, last_of};
-ghost use Rattle.miniserde_model.specs.declared.error.Error.TheVariants.{Memory};
 ghost use Rattle.miniserde_canonical.specs.private.Arranging.{gap};
 ghost use Rattle.miniserde_canonical.specs.private.Names.{name_of};
 ghost use Rattle.miniserde_canonical.specs.private.Members.{name_in, rows, heads, begin_of, before_comma, end_of, NamesRise};
 
 use crate::member::Member;
 use crate::spread::{Place, Span};
-use miniserde_model::error::Result;
+use std::alloc::AllocError;
 use std::cmp::Ordering;
 
 /// Returns whether the names strictly rise.
@@ -52,9 +51,8 @@ fn compare_names(a: &Member<'_>, b: &Member<'_>) -> Ordering
 }
 
 /// Fills `order` with the indices of the members.
-pub(crate) fn fill(members: &[Member<'_>], order: &mut Vec<usize>) -> Result<()>
-    ensures ok { OnOk result (order.new.items ≡ range_with_len 0 (length members.now)) }
-    ensures memory { OnErr result (IsErrOf result Memory) }
+pub(crate) fn fill(members: &[Member<'_>], order: &mut Vec<usize>) -> Result<(), AllocError>
+    ensures { OnOk result (order.new.items ≡ range_with_len 0 (length members.now)) }
 {
     order.clear();
     for i in 0..members.len() {
@@ -64,13 +62,13 @@ pub(crate) fn fill(members: &[Member<'_>], order: &mut Vec<usize>) -> Result<()>
 }
 
 /// Sorts the indices of the members by name. The sort is stable, so of equal names the last stays last.
-pub(crate) fn sort(members: &[Member<'_>], order: &mut Vec<usize>) -> Result<()>
+pub(crate) fn sort(members: &[Member<'_>], order: &mut Vec<usize>) -> Result<(), AllocError>
     ensures sorted { OnOk result (IsSortedByKey (name_in members.now) text_cmp order.new.items) }
     ensures last { (r : ℕ → Tree) (q : List ℕ) → last_of q (rows members.now r order.new.items)
         ≡ last_of q (rows members.now r order.old.items) }
-    ensures memory { OnErr result (IsErrOf result Memory) }
 {
-    Ok(order.sort_by(|a, b| compare(members, *a, *b))?)
+    order.sort_by(|a, b| compare(members, *a, *b))?;
+    Ok(())
 }
 
 // Compares the names at two indices.

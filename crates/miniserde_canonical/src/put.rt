@@ -1,20 +1,18 @@
 //! Writes what does not stand in the input as it is.
-ghost use Rattle.std.specs.Prelude.{◌≡◌, ◌++◌, ◌∷◌, [], ℕ, List, length, true, OnOk, OnErr, IsErrOf};
+ghost use Rattle.std.specs.Prelude.{◌≡◌, ◌++◌, ◌∷◌, [], ℕ, List, length, true, OnOk};
 ghost use Rattle.miniserde_model.specs.Compact.{quoted};
-ghost use Rattle.miniserde_model.specs.declared.error.Error.TheVariants.{Memory};
 ghost use Rattle.miniserde_text.specs.Lexer.{text_of};
 ghost use Rattle.miniserde_canonical.specs.private.Arranging.{gap};
 ghost use Rattle.miniserde_canonical.specs.private.Plain.{TextPlain, NameSpelled, is_plain};
 
-use miniserde_model::error::Result;
 use miniserde_text::escape::escape_str;
 use miniserde_text::json::lex::Text;
+use std::alloc::AllocError;
 
 /// Appends what stands before a child that is the first of its container, or not.
 #[inline(always)]
-pub(crate) fn put_gap(first: bool, out: &mut Vec<u8>) -> Result<()>
-    ensures ok { OnOk result (out.new.items ≡ out.old.items ++ gap first) }
-    ensures memory { OnErr result (IsErrOf result Memory) }
+pub(crate) fn put_gap(first: bool, out: &mut Vec<u8>) -> Result<(), AllocError>
+    ensures { OnOk result (out.new.items ≡ out.old.items ++ gap first) }
 {
     if !first {
         out.push(b',')?;
@@ -29,10 +27,9 @@ pub(crate) fn put_string(
     scratch: &str,
     escaped: &mut String,
     out: &mut Vec<u8>,
-) -> Result<()>
+) -> Result<(), AllocError>
     requires { TextPlain text }
-    ensures ok { OnOk result (out.new.items ≡ out.old.items ++ quoted (text_of text.entry scratch.now)) }
-    ensures memory { OnErr result (IsErrOf result Memory) }
+    ensures { OnOk result (out.new.items ≡ out.old.items ++ quoted (text_of text.entry scratch.now)) }
 {
     match text {
         Text::Input(s) => put_plain(s, out),
@@ -41,20 +38,22 @@ pub(crate) fn put_string(
 }
 
 /// Appends a decoded string.
-pub(crate) fn put_escaped(text: &str, escaped: &mut String, out: &mut Vec<u8>) -> Result<()>
-    ensures ok { OnOk result (out.new.items ≡ out.old.items ++ quoted text.now) }
-    ensures memory { OnErr result (IsErrOf result Memory) }
+pub(crate) fn put_escaped(
+    text: &str,
+    escaped: &mut String,
+    out: &mut Vec<u8>,
+) -> Result<(), AllocError>
+    ensures { OnOk result (out.new.items ≡ out.old.items ++ quoted text.now) }
 {
     escaped.clear();
-    escape_str(text, escaped)?;
-    Ok(out.extend_from_slice(escaped.as_bytes())?)
+    escape_str(text, escaped).map_err(|_| AllocError)?;
+    out.extend_from_slice(escaped.as_bytes())
 }
 
 // Appends a text of which no byte is escaped, between quotes.
-fn put_plain(text: &str, out: &mut Vec<u8>) -> Result<()>
+fn put_plain(text: &str, out: &mut Vec<u8>) -> Result<(), AllocError>
     requires { is_plain text.now ≡ true }
-    ensures ok { OnOk result (out.new.items ≡ out.old.items ++ quoted text.now) }
-    ensures memory { OnErr result (IsErrOf result Memory) }
+    ensures { OnOk result (out.new.items ≡ out.old.items ++ quoted text.now) }
 {
     out.push(b'"')?;
     out.extend_from_slice(text.as_bytes())?;

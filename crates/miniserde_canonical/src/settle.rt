@@ -1,13 +1,12 @@
 //! Puts the members of an object in order.
-ghost use Rattle.std.specs.Prelude.{◌≡◌, ◌<◌, length, IfOk, OnOk, OnErr, IsErrOf};
-ghost use Rattle.miniserde_model.specs.declared.error.Error.TheVariants.{Memory};
+ghost use Rattle.std.specs.Prelude.{◌≡◌, ◌<◌, length, IfOk, OnOk};
 ghost use Rattle.miniserde_canonical.specs.private.Settling.{Settles, Gathers, PutsMember, PutsBack};
 
 use crate::member::Member;
 use crate::members::{fill, repeats, sort, span_of};
 use crate::put::put_gap;
 use crate::spread::{Hole, Place, Span, Spread};
-use miniserde_model::error::Result;
+use std::alloc::AllocError;
 
 /// The longest text of members, in bytes, that comes back when it is in order.
 const SHORT: usize = 1024;
@@ -19,10 +18,9 @@ pub(crate) fn settle(
     order: &mut Vec<usize>,
     out: &mut Spread,
     groups: &mut Spread,
-) -> Result<bool>
+) -> Result<bool, AllocError>
     requires { 0 < length members.now }
-    ensures ok { IfOk result (λ b. Settles members.now out.old out.new groups.old groups.new b) }
-    ensures memory { OnErr result (IsErrOf result Memory) }
+    ensures { IfOk result (λ b. Settles members.now out.old out.new groups.old groups.new b) }
 {
     fill(members, order)?;
     sort(members, order)?;
@@ -39,9 +37,8 @@ fn gather(
     order: &[usize],
     out: &Spread,
     groups: &mut Spread,
-) -> Result<usize>
-    ensures ok { IfOk result (λ n. Gathers members.now order.now out.now groups.old groups.new n) }
-    ensures memory { OnErr result (IsErrOf result Memory) }
+) -> Result<usize, AllocError>
+    ensures { IfOk result (λ n. Gathers members.now order.now out.now groups.old groups.new n) }
 {
     let mut number = 0usize;
     for k in 0..order.len() {
@@ -61,9 +58,8 @@ fn put_member(
     first: bool,
     out: &Spread,
     groups: &mut Spread,
-) -> Result<()>
-    ensures ok { OnOk result (PutsMember members.now i first out.now groups.old groups.new) }
-    ensures memory { OnErr result (IsErrOf result Memory) }
+) -> Result<(), AllocError>
+    ensures { OnOk result (PutsMember members.now i first out.now groups.old groups.new) }
 {
     put_gap(first, &mut groups.bytes)?;
     groups.append(out, span_of(members, i, out.end()))?;
@@ -78,9 +74,8 @@ fn put_back(
     out: &mut Spread,
     groups: &mut Spread,
     longest: usize,
-) -> Result<()>
-    ensures ok { OnOk result (PutsBack place from out.old out.new groups.old groups.new) }
-    ensures memory { OnErr result (IsErrOf result Memory) }
+) -> Result<(), AllocError>
+    ensures { OnOk result (PutsBack place from out.old out.new groups.old groups.new) }
 {
     let to = groups.end();
     out.truncate(place);

@@ -1,10 +1,8 @@
 //! Texts with holes: places where the text of a group belongs.
-ghost use Rattle.std.specs.Prelude.{◌≡◌, ◌≤◌, ◌++◌, [], length, take, map, IfOk, OnOk, OnErr, IsErrOf};
-ghost use Rattle.miniserde_model.specs.declared.error.Error.TheVariants.{Memory};
+ghost use Rattle.std.specs.Prelude.{◌≡◌, ◌≤◌, ◌++◌, [], length, take, map, IfOk, OnOk};
 ghost use Rattle.miniserde_canonical.specs.private.Spreads.{Within, bytes_in, holes_in, between, moved};
 
-use miniserde_model::error::{Error, Result};
-use std::alloc::Global;
+use std::alloc::{AllocError, Global};
 
 /// A place in a text with holes: how many bytes and how many holes stand before it.
 #[derive(Clone, Copy, Drop)]
@@ -68,13 +66,12 @@ impl Spread {
 
     /// Appends a span of another text.
     #[inline(always)]
-    pub(crate) fn append(&mut self, other: &Spread, span: Span) -> Result<()>
+    pub(crate) fn append(&mut self, other: &Spread, span: Span) -> Result<(), AllocError>
         ensures bytes { OnOk result (Within span other.now.bytes.items other.now.holes.items
             → self.new.bytes.items ≡ self.old.bytes.items ++ bytes_in span other.now.bytes.items) }
         ensures holes { OnOk result (Within span other.now.bytes.items other.now.holes.items
             → self.new.holes.items ≡ self.old.holes.items
             ++ map (moved span.from.bytes (length self.old.bytes.items)) (holes_in span other.now.holes.items)) }
-        ensures memory { OnErr result (IsErrOf result Memory) }
     {
         let at = self.bytes.len();
         let bytes = part(other.bytes.as_slice(), span.from.bytes, span.to.bytes);
@@ -87,14 +84,13 @@ impl Spread {
     }
 }
 
-// Returns the hole of a text that began at `from`, where it begins at `at`. Returns `Memory` if no index is so large.
-fn moved(hole: Hole, from: usize, at: usize) -> Result<Hole>
-    ensures ok { IfOk result (λ h. h ≡ moved from at hole) }
-    ensures memory { OnErr result (IsErrOf result Memory) }
+// Returns the hole of a text that began at `from`, where it begins at `at`. Fails if no index is so large.
+fn moved(hole: Hole, from: usize, at: usize) -> Result<Hole, AllocError>
+    ensures { IfOk result (λ h. h ≡ moved from at hole) }
 {
     let behind = hole.at.saturating_sub(from);
     Ok(Hole {
-        at: at.checked_add(behind).ok_or(Error::Memory)?,
+        at: at.checked_add(behind).ok_or(AllocError)?,
         group: hole.group,
     })
 }

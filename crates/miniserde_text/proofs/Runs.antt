@@ -103,3 +103,9 @@ pub blank_of : (s t : List ℕ) → t ≡ after_run is_space s → Blank s t
 blank_of s t e =
     let w = run_split is_space s in
     record { space = w.0; text = w.2 ∙ ap (λ x. w.0 ++ x) (sym e); white = whitespace_of w.0 w.1; stops = subst (λ x. StopsAt is_space x) (sym e) (stops_at is_space (after_run is_space s) (run_stops is_space refl s)) }
+
+above_space : (c : ℕ) → 32 < c → is_space c ≡ false
+above_space c h = grind (arith, nat_tests)
+
+pub blank_none : (s : List ℕ) → 32 < get_or s 0 0 → Blank s s
+blank_none s h = record { space = []; text = refl; white = tt; stops = stops_at is_space s (above_space (get_or s 0 0) h) }

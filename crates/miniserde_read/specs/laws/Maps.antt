@@ -31,7 +31,7 @@ module _ {C : Type 0} (read : Name → Option Key) (code : Key → Key) (of : Tr
         ] refl h.1.0
       ] refl h.0
 
-  taken-given : (m n : Entries C) (ms : Members) → all_members (map_member read code of) m ms ≡ Some n → AllTaken read of ms
+  pub taken-given : (m n : Entries C) (ms : Members) → all_members (map_member read code of) m ms ≡ Some n → AllTaken read of ms
   taken-given m n no_members e = tt
   taken-given m n (member k t ms) e =
       elim (read k) as (λ o. option_and_then (λ r. all_members (map_member read code of) r ms) (option_and_then (λ c. option_map (with_entry code m c) (of t)) o) ≡ Some n → IsSome o × (IsSome (of t) × AllTaken read of ms)) [
@@ -43,7 +43,7 @@ module _ {C : Type 0} (read : Name → Option Key) (code : Key → Key) (of : Tr
       ] e
 
   -- a tree that was met is one of the members'
-  met-taken : (q : Key) (ms : Members) (p : Key × Tree) → AllTaken read of ms → met_at read code q ms ≡ Some p → IsSome (of p.1)
+  pub met-taken : (q : Key) (ms : Members) (p : Key × Tree) → AllTaken read of ms → met_at read code q ms ≡ Some p → IsSome (of p.1)
   met-taken q no_members p h e = absurd (cc)
   met-taken q (member k u ms) p h e =
       elim (key_at code q (read k)) as (λ o. met o u (met_at read code q ms) ≡ Some p → IsSome (of p.1)) [

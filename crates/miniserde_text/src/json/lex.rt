@@ -115,7 +115,11 @@ impl<'a> Lexer<'a> {
         ensures space { Blank self.old.rest self.new.rest }
         ensures kept { self.new.refused ≡ self.old.refused }
     {
-        let (at, _) = after_space(self.text.as_bytes(), self.at);
+        let bytes = self.text.as_bytes();
+        if self.at < bytes.len() && bytes[self.at] > b' ' {
+            return;
+        }
+        let (at, _) = after_space(bytes, self.at);
         self.at = at;
     }
 

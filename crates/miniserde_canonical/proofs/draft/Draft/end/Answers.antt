@@ -8,15 +8,15 @@ use Rattle.miniserde_canonical.proofs.Drafting.{holding_added}
 use Rattle.miniserde_canonical.proofs.Running.{wrote_on}
 use Rattle.miniserde_canonical.proofs.draft.Draft.end.Goals as goal
 
-pub returns-in-Seq-clause-ok : goal.returns-in-Seq-clause-ok
-returns-in-Seq-clause-ok c = λ rest rest' s r e f.
+pub returns-in-Seq : goal.returns-in-Seq
+returns-in-Seq c = λ rest rest' s r e f.
     let t : State = record { entries = s.entries; last = s.last ++ 93 ∷ []; opened = s.opened; first = false; distinct = s.distinct } in
     let bracket : rest ≡ (93 ∷ []) ++ rest' = f ∙ ap (λ k. closing (kind_of k) ∷ rest') c.in-Seq.is in
     (t, subst (λ k. Step (end_token (kind_of k)) s t) (sym c.in-Seq.is) ((refl, refl, refl, refl), refl), record { bytes = r.bytes ++ 93 ∷ []; wrote = wrote_on c.args.self.now rest (93 ∷ []) rest' r.bytes r.wrote bracket; holding = holding_added c.args.self.now r.bytes s t (93 ∷ []) (refl, refl, refl, refl) r.holding })
 
-pub returns-in_ok-close-in-Map-clause-ok : goal.returns-in_ok-close-in-Map-clause-ok
-returns-in_ok-close-in-Map-clause-ok c = λ rest rest' s r e f.
-    let m = c.in_ok-close-in-Map.ensures.ok rest s r e in
+pub returns-in_ok-close-in-Map : goal.returns-in_ok-close-in-Map
+returns-in_ok-close-in-Map c = λ rest rest' s r e f.
+    let m = c.in_ok-close-in-Map.ensures rest s r e in
     let k = m.0 in
     let q = m.2 in
     let t : State = record { entries = k.entries; last = k.last ++ 125 ∷ []; opened = k.opened; first = false; distinct = k.distinct } in

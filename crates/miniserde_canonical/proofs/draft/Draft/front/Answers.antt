@@ -6,8 +6,8 @@ use Rattle.miniserde_canonical.specs.private.Drafts.{Wrote}
 use Rattle.miniserde_canonical.proofs.Drafting.{keep_holding, holding_added, holding_opened, front_adds}
 use Rattle.miniserde_canonical.proofs.draft.Draft.front.Goals as goal
 
-pub returns-in_ok-push-clause-ok : goal.returns-in_ok-push-clause-ok
-returns-in_ok-push-clause-ok c = λ rest part rest' s s' r e f g p h.
+pub returns-in_ok-push : goal.returns-in_ok-push
+returns-in_ok-push c = λ rest part rest' s s' r e f g p h.
     let x = c.args.scratch.now in
     let o = subst (λ z. Step (front_token (front_of z x)) s s') c.in-MapStart.is h in
     let d = c.text.new.self in
@@ -20,13 +20,10 @@ returns-in_ok-push-clause-ok c = λ rest part rest' s s' r e f g p h.
     }
 
 pub returns-in_default : goal.returns-in_default
-returns-in_default c = record {
-  ok = λ rest part rest' s s' r e f g p h.
-      let x = front_text (front_token (front_of c.args.event c.args.scratch.now)) in
-      record {
-        bytes = r.bytes ++ x;
-        wrote = c.in_ok-text.ensures.wrote rest part rest' r.bytes r.wrote e f g p;
-        holding = holding_added c.text.new.self r.bytes s s' x (front_adds c.args.event c.args.scratch.now s s' c.in_default.not-MapStart h) (keep_holding c.args.self.now c.text.new.self r.bytes s c.in_ok-text.ensures.keeps r.holding);
-      };
-  memory = tt;
-}
+returns-in_default c = λ rest part rest' s s' r e f g p h.
+    let x = front_text (front_token (front_of c.args.event c.args.scratch.now)) in
+    record {
+      bytes = r.bytes ++ x;
+      wrote = c.in_ok-text.ensures.wrote rest part rest' r.bytes r.wrote e f g p;
+      holding = holding_added c.text.new.self r.bytes s s' x (front_adds c.args.event c.args.scratch.now s s' c.in_default.not-MapStart h) (keep_holding c.args.self.now c.text.new.self r.bytes s c.in_ok-text.ensures.keeps r.holding);
+    }

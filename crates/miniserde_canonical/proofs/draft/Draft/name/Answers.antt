@@ -8,8 +8,8 @@ use Rattle.miniserde_canonical.proofs.Drafting.{keep_holding, holding_begun}
 use Rattle.miniserde_canonical.proofs.Running.{run_length}
 use Rattle.miniserde_canonical.proofs.draft.Draft.name.Goals as goal
 
-pub returns-clause-ok : goal.returns-clause-ok
-returns-clause-ok c = λ rest part rest' before s s' t h e f g p i a.
+pub returns : goal.returns
+returns c = λ rest part rest' before s s' t h e f g p i a.
     let n = text_of c.args.text c.args.scratch.now in
     let place : c.in_ok-ok_or.field-0 ≡ length c.args.self.now.out.bytes.items + c.saturating_sub-run.result = search rules in
     let holes : c.len-2.result ≡ length c.args.self.now.out.holes.items = search rules in
@@ -17,5 +17,5 @@ returns-clause-ok c = λ rest part rest' before s s' t h e f g p i a.
     record {
       bytes = (before ++ gap s.first) ++ (quoted n ++ 58 ∷ []);
       wrote = c.in_ok-spell.ensures.wrote rest part rest' (before ++ gap s.first) (record { front = t.front; run = t.run; input = t.input; left = t.left; text = t.text }) e f g p;
-      holding = keep_holding _ c.spell.new.self _ s' c.in_ok-spell.ensures.keeps (holding_begun c.args.self.now _ before s s' _ n (quoted n ++ 58 ∷ []) refl refl refl c.in_ok-push.ensures.items refl refl (ap name_of c.new-2.ensures.name ∙ c.in_ok-name.ensures.ok) (c.new-2.ensures.first ∙ sym i) (ap (λ (z : Place). z.bytes) c.new-2.ensures.place ∙ here) (ap (λ (z : Place). z.holes) c.new-2.ensures.place ∙ holes) a.0 a.1 a.2 a.3 h);
+      holding = keep_holding _ c.spell.new.self _ s' c.in_ok-spell.ensures.keeps (holding_begun c.args.self.now _ before s s' _ n (quoted n ++ 58 ∷ []) refl refl refl c.in_ok-push.ensures.items refl refl (ap name_of c.new-2.ensures.name ∙ c.in_ok-name.ensures) (c.new-2.ensures.first ∙ sym i) (ap (λ (z : Place). z.bytes) c.new-2.ensures.place ∙ here) (ap (λ (z : Place). z.holes) c.new-2.ensures.place ∙ holes) a.0 a.1 a.2 a.3 h);
     }

@@ -40,7 +40,7 @@ returns-in_ok-end-in-Close-clause-reads c =
     let d1 = c.skip.new.draft in
     let b = c.in_ok-before.ensures.blank in
     let p : Follows k c.args.first true mid new = subst (λ z. Follows k c.args.first (closes z) mid new) c.in-Close.is c.in_ok-after.ensures.ok.2 in
-    (end_token k ∷ [], reads_finish _ _ _ _ k (between c.args.first) c.requires.inside c.pop.ensures (close_forces _ _ _ _ k c.args.first c.requires.inside (follows_behind k c.args.first true old mid new b p) c.pop.ensures), takes_end (between c.args.first) k old mid new d d1 c.end.new.self (skipped d d1 old mid c.in_ok-before.ensures.wrote c.in_ok-before.ensures.keeps) (λ s r. c.in_ok-end-in-Close.ensures.ok mid new s r c.in_ok-before.ensures.at (closing_at k c.args.first mid new b.stops p)))
+    (end_token k ∷ [], reads_finish _ _ _ _ k (between c.args.first) c.requires.inside c.pop.ensures (close_forces _ _ _ _ k c.args.first c.requires.inside (follows_behind k c.args.first true old mid new b p) c.pop.ensures), takes_end (between c.args.first) k old mid new d d1 c.end.new.self (skipped d d1 old mid c.in_ok-before.ensures.wrote c.in_ok-before.ensures.keeps) (λ s r. c.in_ok-end-in-Close.ensures mid new s r c.in_ok-before.ensures.at (closing_at k c.args.first mid new b.stops p)))
 
 pub returns-in-Seq-clause-reads : goal.returns-in-Seq-clause-reads
 returns-in-Seq-clause-reads c =
@@ -72,7 +72,7 @@ returns-in_ok-name-in-Map-clause-reads c =
     let b2 = c.in_ok-at-in-Map.ensures.blank in
     let q = c.in_ok-text-in-Map.ensures.ok.2 in
     let p : Follows k c.args.first false mid behind = subst (λ z. Follows k c.args.first (closes z) mid behind) c.in-Next.is c.in_ok-after.ensures.ok.2 in
-    let takes = subst (λ z. (before : List ℕ) (s s' : State) → Wrote d2 at (before ++ gap s.first) → Holding d2 before s → s.first ≡ c.args.first → Step (name (text_of text z)) s s' → Represents c.name-in-Map.new.self new s') c.as_str.ensures.value (λ before s s' t h f a. c.in_ok-name-in-Map.ensures.ok at q.part new before s s' t h (at_once at new q b2.stops) c.in_ok-at-in-Map.ensures.at c.left-end.ensures (name_spelled text x at new q c.in_ok-text-in-Map.ensures.text) f a) in
+    let takes = subst (λ z. (before : List ℕ) (s s' : State) → Wrote d2 at (before ++ gap s.first) → Holding d2 before s → s.first ≡ c.args.first → Step (name (text_of text z)) s s' → Represents c.name-in-Map.new.self new s') c.as_str.ensures.value (λ before s s' t h f a. c.in_ok-name-in-Map.ensures at q.part new before s s' t h (at_once at new q b2.stops) c.in_ok-at-in-Map.ensures.at c.left-end.ensures (name_spelled text x at new q c.in_ok-text-in-Map.ensures.text) f a) in
     (name n ∷ [], reads_key (between c.args.first) _ _ _ n (key_forces _ _ _ _ _ k c.args.first c.requires.inside (ap kind_of c.in-Map.is) (follows_behind k c.args.first false old mid behind b p) (names_behind behind at n new b2 q)), takes_name c.args.first n old mid behind at q.part new d d1 d2 c.name-in-Map.new.self (skipped d d1 old mid c.in_ok-before.ensures.wrote c.in_ok-before.ensures.keeps) (comma_at k c.args.first mid behind b.stops p) c.in_ok-at-in-Map.ensures.wrote c.in_ok-at-in-Map.ensures.keeps takes)
 
 pub returns-in_ok-name-in-Map-clause-less : goal.returns-in_ok-name-in-Map-clause-less

@@ -35,5 +35,5 @@ returns-clause-reads c =
     let full = starts_behind old mid e new b s in
     let p = value_forces _ _ _ e c.in_ok-opened.opened _ full o st in
     let spells : Spelled event c.as_str.result.now s.0.part = subst (λ z. Spelled event z s.0.part) (sym c.as_str.ensures.value) (spelled event x mid new s c.in_ok-event.ensures.text) in
-    let takes = subst (λ z. (u u' : State) → Represents d1 mid u → Step (front_token (front_of event z)) u u' → Represents c.front.new.self new u') c.as_str.ensures.value (λ u u' r a. c.in_ok-front.ensures.ok mid s.0.part new u u' r (at_once mid new s.0 b.stops) c.in_ok-at.ensures.at c.left-end.ensures spells a) in
+    let takes = subst (λ z. (u u' : State) → Represents d1 mid u → Step (front_token (front_of event z)) u u' → Represents c.front.new.self new u') c.as_str.ensures.value (λ u u' r a. c.in_ok-front.ensures mid s.0.part new u u' r (at_once mid new s.0 b.stops) c.in_ok-at.ensures.at c.left-end.ensures spells a) in
     (front_token e ∷ [], reads_start _ _ _ e _ _ full st p, takes_front e s.0.part old mid new c.in_ok-opened.opened d d1 c.front.new.self s.0.is_part o (skipped d d1 old mid c.in_ok-at.ensures.wrote c.in_ok-at.ensures.keeps) takes)

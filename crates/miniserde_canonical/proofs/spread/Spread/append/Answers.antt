@@ -13,7 +13,7 @@ loop-hole-preserved c = record {
   bytes = c.loop-hole.invariant.bytes;
   holes =
       c.in_ok-push.ensures.items
-      ∙ ap₂ (λ (x : List Hole) (y : Hole). x ++ y ∷ []) c.loop-hole.invariant.holes c.in_ok-moved.ensures.ok
+      ∙ ap₂ (λ (x : List Hole) (y : Hole). x ++ y ∷ []) c.loop-hole.invariant.holes c.in_ok-moved.ensures
       ∙ append_assoc c.args.self.now.holes.items _ _
       ∙ ap (λ z. c.args.self.now.holes.items ++ z) (sym (map_more (moved c.args.span.from.bytes c.len-at.result) c.part-holes.result.now c.loop-hole.hole-index _ c.loop-hole-test.true));
 }

@@ -1,0 +1,3 @@
+pub mod Types
+pub mod Maps
+pub mod Twice

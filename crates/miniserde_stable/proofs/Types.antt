@@ -1,0 +1,89 @@
+-- A tree with a content has it in normal form too, for each of std's types but maps.
+use Rattle.std.proofs.Common.{◌≡◌, ℕ, ℤ, pos, negsuc, List, ◌∷◌, Option, Some, None, refl, ap, ◌∙◌}
+use Rattle.std.specs.Prelude.{option_map, option_and_then}
+use Rattle.miniserde_model.specs.Tree.{Tree, null, truth, nonneg, neg, num, str, list, members, Trees, no_trees, tree, Members}
+use Rattle.miniserde_model.specs.Normal.{norm, norm_neg, norm_children, norm_members}
+use Rattle.miniserde_read.specs.meaning.Words.{unit_of, boolean_of, string_of}
+use Rattle.miniserde_read.specs.meaning.Integers.{unsigned_of, signed_of}
+use Rattle.miniserde_read.specs.meaning.Lists.{each, list_of}
+use Rattle.miniserde_read.specs.meaning.Arrays.{exactly, array_of}
+use Rattle.miniserde_read.specs.meaning.Options.{option_of}
+use Rattle.miniserde_read.specs.meaning.Pairs.{pair_of}
+use Rattle.miniserde_stable.specs.Stable.{IsStable}
+
+-- what is made of something that stays, stays
+pub bound : {C D : Type 0} (o p : Option C) (g h : C → Option D) (d : D) → ((c : C) → o ≡ Some c → p ≡ Some c) → ((c : C) → g c ≡ Some d → h c ≡ Some d) → option_and_then g o ≡ Some d → option_and_then h p ≡ Some d
+bound None p g h d k l e = absurd (cc)
+bound (Some c) p g h d k l e = ap (option_and_then h) (k c refl) ∙ l c e
+
+pub mapped : {C D : Type 0} (f : C → D) (o p : Option C) (d : D) → ((c : C) → o ≡ Some c → p ≡ Some c) → option_map f o ≡ Some d → option_map f p ≡ Some d
+mapped f None p d k e = absurd (cc)
+mapped f (Some c) p d k e = ap (option_map f) (k c refl) ∙ e
+
+-- the normal form changes nothing but a zero with a minus, lists and members
+pub stable-by : {C : Type 0} (of : Tree → Option C) → ((z : ℤ) (c : C) → of (neg z) ≡ Some c → of (norm_neg z) ≡ Some c) → ((ts : Trees) (c : C) → of (list ts) ≡ Some c → of (list (norm_children ts)) ≡ Some c) → ((ms : Members) (c : C) → of (members ms) ≡ Some c → of (members (norm_members ms)) ≡ Some c) → IsStable of
+stable-by of n l m null c e = e
+stable-by of n l m (truth b) c e = e
+stable-by of n l m (nonneg k) c e = e
+stable-by of n l m (neg z) c e = n z c e
+stable-by of n l m (num x) c e = e
+stable-by of n l m (str s) c e = e
+stable-by of n l m (list ts) c e = l ts c e
+stable-by of n l m (members ms) c e = m ms c e
+
+-- ---- leaves
+
+pub stable-unit : IsStable unit_of
+stable-unit = stable-by unit_of (λ z c e. absurd (cc)) (λ ts c e. e) (λ ms c e. e)
+
+pub stable-boolean : IsStable boolean_of
+stable-boolean = stable-by boolean_of (λ z c e. absurd (cc)) (λ ts c e. e) (λ ms c e. e)
+
+pub stable-string : IsStable string_of
+stable-string = stable-by string_of (λ z c e. absurd (cc)) (λ ts c e. e) (λ ms c e. e)
+
+pub stable-unsigned : (bits : ℕ) → IsStable (unsigned_of bits)
+stable-unsigned bits = stable-by (unsigned_of bits) (λ z c e. absurd (cc)) (λ ts c e. e) (λ ms c e. e)
+
+signed-neg : (bits : ℕ) (z c : ℤ) → signed_of bits (neg z) ≡ Some c → signed_of bits (norm_neg z) ≡ Some c
+signed-neg bits (pos n) c e = e
+signed-neg bits (negsuc n) c e = e
+
+pub stable-signed : (bits : ℕ) → IsStable (signed_of bits)
+stable-signed bits = stable-by (signed_of bits) (signed-neg bits) (λ ts c e. e) (λ ms c e. e)
+
+-- ---- containers, by the law of the type of their values
+
+module _ {C : Type 0} (of : Tree → Option C) (stays : IsStable of) where
+  option-neg : (z : ℤ) (c : Option C) → option_map Some (of (neg z)) ≡ Some c → option_of of (norm_neg z) ≡ Some c
+  option-neg (pos n) c e = mapped Some (of (neg (pos n))) (of (nonneg n)) c (stays (neg (pos n))) e
+  option-neg (negsuc n) c e = e
+
+  pub stable-option : IsStable (option_of of)
+  stable-option = stable-by (option_of of) option-neg
+      (λ ts c e. mapped Some (of (list ts)) (of (list (norm_children ts))) c (stays (list ts)) e)
+      (λ ms c e. mapped Some (of (members ms)) (of (members (norm_members ms))) c (stays (members ms)) e)
+
+  stable-each : (ts : Trees) (cs : List C) → each of ts ≡ Some cs → each of (norm_children ts) ≡ Some cs
+  stable-each no_trees cs e = e
+  stable-each (tree t ts) cs e =
+      bound (of t) (of (norm t)) (λ x. option_and_then (λ xs. Some (x ∷ xs)) (each of ts)) (λ x. option_and_then (λ xs. Some (x ∷ xs)) (each of (norm_children ts))) cs (stays t)
+      (λ x. bound (each of ts) (each of (norm_children ts)) (λ xs. Some (x ∷ xs)) (λ xs. Some (x ∷ xs)) cs (stable-each ts) (λ xs f. f)) e
+
+  pub stable-list : IsStable (list_of of)
+  stable-list = stable-by (list_of of) (λ z c e. absurd (cc)) stable-each (λ ms c e. e)
+
+  pub stable-array : (n : ℕ) → IsStable (array_of n of)
+  stable-array n t cs e = bound (list_of of t) (list_of of (norm t)) (exactly n) (exactly n) cs (stable-list t) (λ xs f. f) e
+
+module _ {A B : Type 0} (f : Tree → Option A) (g : Tree → Option B) (first : IsStable f) (second : IsStable g) where
+  pair-list : (ts : Trees) (c : A × B) → pair_of f g (list ts) ≡ Some c → pair_of f g (list (norm_children ts)) ≡ Some c
+  pair-list no_trees c e = e
+  pair-list (tree t no_trees) c e = e
+  pair-list (tree t (tree u no_trees)) c e =
+      bound (f t) (f (norm t)) (λ a. option_map (λ b. (a, b)) (g u)) (λ a. option_map (λ b. (a, b)) (g (norm u))) c (first t)
+      (λ a. mapped (λ b. (a, b)) (g u) (g (norm u)) c (second u)) e
+  pair-list (tree t (tree u (tree v ts))) c e = e
+
+  pub stable-pair : IsStable (pair_of f g)
+  stable-pair = stable-by (pair_of f g) (λ z c e. absurd (cc)) pair-list (λ ms c e. e)

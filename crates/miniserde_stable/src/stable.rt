@@ -1,0 +1,140 @@
+//! Types that are read from the normal form of a tree as from the tree.
+ghost use Rattle.std.specs.Prelude.{◌≡◌, pos, Some, None};
+ghost use Rattle.miniserde_model.specs.Tree.{Tree, neg};
+ghost use Rattle.miniserde_model.specs.Normal.{norm};
+ghost use Rattle.miniserde_stable.specs.Stable.{IsStable};
+
+use crate::exact::ExactKey;
+use miniserde_keys::MapKey;
+use miniserde_read::{FromJson, Ignored};
+use std::collections::{BTreeMap, HashMap};
+use std::hash::{BuildHasher, Hash};
+
+/// A type that is read from the canonical text of a text as from the text itself.
+pub trait Stable: FromJson {
+    /// Does nothing. It promises that the normal form of a tree has the content of the tree, if the tree has one.
+    fn stable()
+        ensures { IsStable Self.means.from_tree };
+}
+
+/// Does nothing. It promises that a tree that means a value means it in normal form too, and that two trees with one normal
+/// form mean no two values with different contents.
+pub fn means_in_normal_form<T: Stable>()
+    ensures means { (t : Tree) (v : T) → T.means.reads t v → T.means.reads (norm t) v }
+    ensures one { (t u : Tree) (v w : T) → norm t ≡ norm u → T.means.reads t v → T.means.reads u w
+        → T.means.content v ≡ T.means.content w }
+{
+    T::stable()
+}
+
+/// Does nothing. It promises that the converse is false: `-0` is no `u8`, and its normal form is 0. So a program that reads
+/// the canonical text in place of the text accepts more.
+pub fn normal_form_means_more()
+    ensures text { ⟦<u8 as FromJson>⟧.means.from_tree (neg (pos 0)) ≡ None }
+    ensures normal { ⟦<u8 as FromJson>⟧.means.from_tree (norm (neg (pos 0))) ≡ Some (pos 0) }
+{}
+
+/// Does nothing. It promises that a map with integer keys is not `Stable`: `{"1":1,"01":2}` has 2 at 1, and its normal form
+/// `{"01":2,"1":1}` has 1 there.
+pub fn two_names_of_a_key()
+    ensures { IsStable ⟦<BTreeMap<u8, u8> as FromJson>⟧.means.from_tree → ⊥ }
+{}
+
+impl Stable for Ignored {
+    fn stable() {}
+}
+
+impl Stable for () {
+    fn stable() {}
+}
+
+impl Stable for bool {
+    fn stable() {}
+}
+
+impl Stable for String {
+    fn stable() {}
+}
+
+impl Stable for u8 {
+    fn stable() {}
+}
+
+impl Stable for u16 {
+    fn stable() {}
+}
+
+impl Stable for u32 {
+    fn stable() {}
+}
+
+impl Stable for u64 {
+    fn stable() {}
+}
+
+impl Stable for usize {
+    fn stable() {}
+}
+
+impl Stable for i8 {
+    fn stable() {}
+}
+
+impl Stable for i16 {
+    fn stable() {}
+}
+
+impl Stable for i32 {
+    fn stable() {}
+}
+
+impl Stable for i64 {
+    fn stable() {}
+}
+
+impl Stable for isize {
+    fn stable() {}
+}
+
+impl<T: Stable> Stable for Vec<T> {
+    fn stable() {
+        T::stable()
+    }
+}
+
+impl<T: Stable, const N: usize> Stable for [T; N] {
+    fn stable() {
+        T::stable()
+    }
+}
+
+impl<T: Stable> Stable for Box<T> {
+    fn stable() {
+        T::stable()
+    }
+}
+
+impl<T: Stable> Stable for Option<T> {
+    fn stable() {
+        T::stable()
+    }
+}
+
+impl<A: Stable, B: Stable> Stable for (A, B) {
+    fn stable() {
+        A::stable();
+        B::stable();
+    }
+}
+
+impl<K: ExactKey + Ord, V: Stable> Stable for BTreeMap<K, V> {
+    fn stable() {
+        V::stable()
+    }
+}
+
+impl<K: ExactKey + Hash, V: Stable, H: BuildHasher + Default + Drop> Stable for HashMap<K, V, H> {
+    fn stable() {
+        V::stable()
+    }
+}
