@@ -14,6 +14,8 @@ mod numbers;
 #[cfg(test)]
 mod objects;
 #[cfg(test)]
+mod stable;
+#[cfg(test)]
 mod texts;
 #[cfg(test)]
 mod unique;

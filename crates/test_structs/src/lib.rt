@@ -6,6 +6,8 @@ mod hosts;
 #[cfg(test)]
 mod server;
 #[cfg(test)]
+mod stable;
+#[cfg(test)]
 mod structs;
 #[cfg(test)]
 mod users;

@@ -1,21 +1,27 @@
-//! Uses of the library, one after another: settings, a cache, a store of rows, a request's body and a store of requests.
+//! Uses of the library, one after another: settings, a cache, a store of rows, a request's body, a store of requests, a store
+//! keyed by values, a signed body, and the field that is wrong.
 #![tactic(auto)]
 
 mod bodies;
 mod cache;
+mod ledger;
 mod loading;
 mod only;
 mod refused;
 mod request;
 mod requests;
+mod signed;
 mod store;
+mod transfer;
 
 use miniserde::Result;
-use miniserde::json::{from_str, to_string};
+use miniserde::json::{canonical_of, from_str, to_string};
 use request::Request;
+use signed::Known;
 use std::alloc::Global;
 use std::collections::BTreeMap;
 use std::io;
+use transfer::Transfer;
 
 /// Two documents that say the same, the first one cached: what the cache has for the second.
 fn cached(alloc: Global) -> Result<Option<u64>> {
@@ -41,6 +47,50 @@ fn found(alloc: Global, body: &str) -> Result<Option<String>> {
         Some(found) => Ok(Some(to_string(alloc, &found)?)),
         None => Ok(None),
     }
+}
+
+/// Keeps a number for a transfer. Returns the number that is there for another text of the transfer, and the transfer
+/// that its key is read as.
+fn counted(alloc: Global, text: &str, other: &str) -> Result<Option<(u64, String)>> {
+    let transfer: Transfer = from_str(alloc, text)?;
+    let mut numbers = BTreeMap::new(alloc);
+    ledger::set(alloc, &mut numbers, &transfer, 3)?;
+    let other: Transfer = from_str(alloc, other)?;
+    let Some(number) = ledger::number_of(alloc, &numbers, &other)? else {
+        return Ok(None);
+    };
+    let key = canonical_of(alloc, &other)?;
+    let read: Transfer = ledger::value_of(alloc, key.as_str())?;
+    Ok(Some((number, to_string(alloc, &read)?)))
+}
+
+/// Returns the text of the transfer of a body, if the canonical text of the body is the one that was signed.
+fn transferred(alloc: Global, signed: &str, body: &str) -> Result<Option<String>> {
+    let signature = Known {
+        text: String::from_str(alloc, signed)?,
+    };
+    match signed::accepted::<Transfer, Known>(alloc, &signature, body)? {
+        Some(transfer) => Ok(Some(to_string(alloc, &transfer)?)),
+        None => Ok(None),
+    }
+}
+
+/// A transfer, two bodies, and what a client signed: its canonical text.
+const TRANSFER: &str = r#"{"from":"a","to":"b","cents":5}"#;
+const SAME: &str = r#" {"cents": 5, "to": "\u0062", "from": "a"}"#;
+const OTHER: &str = r#"{"from":"a","to":"b","cents":50}"#;
+const SIGNED: &str = r#"{"cents":5,"from":"a","to":"b"}"#;
+
+/// Prints the transfers of bodies whose canonical text was signed.
+fn transfer(rt: &HostRuntime) -> io::Result<()> {
+    for body in [SAME, OTHER] {
+        match transferred(rt.alloc(), SIGNED, body) {
+            Ok(Some(transfer)) => println!(rt; "signed: {transfer}")?,
+            Ok(None) => println!(rt; "signed: nothing")?,
+            Err(error) => println!(rt; "signed: {error}")?,
+        }
+    }
+    Ok(())
 }
 
 /// Settings: five with a field that is refused, good ones, and a text that is no JSON.
@@ -92,5 +142,11 @@ fn main(rt: HostRuntime) -> io::Result<()> {
         Ok(None) => println!(rt; "found: nothing")?,
         Err(error) => println!(rt; "found: {error}")?,
     }
+    match counted(alloc, TRANSFER, SAME) {
+        Ok(Some((number, transfer))) => println!(rt; "ledger: {number} {transfer}")?,
+        Ok(None) => println!(rt; "ledger: nothing")?,
+        Err(error) => println!(rt; "ledger: {error}")?,
+    }
+    transfer(&rt)?;
     tell(&rt)
 }
