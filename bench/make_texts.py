@@ -99,6 +99,7 @@ def texts():
     yield 'numbers', fill(SIZE, lambda: str(r.randint(-10 ** r.randint(1, 18), 10 ** r.randint(1, 18))))
     yield 'options', fill(SIZE, lambda: r.choice(['null', 'true', 'false']))
     yield 'polygons', fill(SIZE, lambda: polygon(r))
+    yield 'tags', fill(SIZE, lambda: r.choice(['"A"', '"renamedB"', '"enum"']))
     yield 'out_of_order', fill(SIZE, lambda: '{"b":' * 100 + '0' + ',"a":1}' * 100)
 
 

@@ -11,6 +11,15 @@ struct Demo {
     message: String,
 }
 
+#[derive(Serialize, Deserialize)]
+enum Tag {
+    A,
+    #[serde(rename = "renamedB")]
+    B,
+    #[serde(rename = "enum")]
+    Enum,
+}
+
 fn put(text: &str) -> bool {
     std::io::stdout().write_all(text.as_bytes()).is_ok()
 }
@@ -48,6 +57,7 @@ fn main() -> ExitCode {
         "cubes" => job::<Vec<Vec<Vec<u64>>>>(mode, &text),
         "map" => job::<BTreeMap<String, u64>>(mode, &text),
         "demos" => job::<Vec<Demo>>(mode, &text),
+        "tags" => job::<Vec<Tag>>(mode, &text),
         "pairs" => job::<Vec<(u64, String)>>(mode, &text),
         "options" => job::<Vec<Option<bool>>>(mode, &text),
         "value" => job::<serde_json::Value>(mode, &text),

@@ -2,7 +2,7 @@
 
 use crate::outcome::Outcome;
 use crate::{calls, places};
-use demo::{Demo, Example, StrictDemo};
+use demo::{Demo, Example, StrictDemo, Tag};
 use miniserde::de::ignore;
 use miniserde::json::{Value, feed, from_str, to_string};
 use miniserde::{FromJson, Result, Serialize};
@@ -55,12 +55,13 @@ fn of_std(alloc: Global, job: &str, depth: Depth, text: &str) -> Option<Result<S
     }
 }
 
-/// Runs the job of a struct.
+/// Runs the job of a struct or an enum.
 fn of_structs(alloc: Global, job: &str, depth: Depth, text: &str) -> Option<Result<String>> {
     match job {
         "demo" => Some(rewrite::<Demo>(alloc, depth, text)),
         "demos" => Some(rewrite::<Vec<Demo>>(alloc, depth, text)),
         "strict-demo" => Some(rewrite::<StrictDemo>(alloc, depth, text)),
+        "tags" => Some(rewrite::<Vec<Tag>>(alloc, depth, text)),
         "example" => Some(rewrite::<Example>(alloc, depth, text)),
         _ => None,
     }

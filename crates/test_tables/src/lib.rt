@@ -4,9 +4,11 @@
 //! where `same` stands for the JSON text itself. A line without ` => ` is a text that is invalid.
 #![tactic(auto)]
 
+mod stable;
 mod table;
 mod wrong;
 
+pub use stable::{expect_canonical_of, expect_one_value, expect_refused, expect_two_values};
 pub use table::{
     expect_prefixes_invalid, expect_read_again, expect_read_itself, expect_table, is_lossless,
     is_right, is_round_trip, text_of,

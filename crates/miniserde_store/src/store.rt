@@ -1,0 +1,69 @@
+//! Typed values and canonical texts.
+ghost use Rattle.std.specs.Prelude.{◌≡◌, ℕ, List, IfOk, OnErr, IsErrOf, Err, string_bytes};
+ghost use Rattle.miniserde_model.specs.Compact.{compact};
+ghost use Rattle.miniserde_model.specs.Normal.{norm};
+ghost use Rattle.miniserde_model.specs.Tree.{Tree};
+ghost use Rattle.miniserde_model.specs.Value.{IsJson};
+ghost use Rattle.miniserde_model.specs.declared.error.Error.TheVariants.{Invalid, Memory};
+
+use miniserde_canonical::canonical;
+use miniserde_model::error::Result;
+use miniserde_model::spelled_is_tree;
+use miniserde_read::from_str;
+use miniserde_round::{Lossless, RoundTrip};
+use miniserde_ser::ser::{Serialize, to_string};
+use miniserde_stable::{Stable, means_in_normal_form};
+use std::alloc::Global;
+
+/// Parses one JSON value that spans the whole text. Returns it with the canonical text of the text. Returns `Invalid` if
+/// the text is no JSON (RFC 8259) or means no value of the type.
+pub fn read_canonical<T: Stable>(alloc: Global, j: &str) -> Result<(T, String)>
+    // The text means the value, and has that canonical text.
+    ensures ok { IfOk result (λ r. (t : Tree) × IsJson j.now t × T.means.reads t r.0
+        × (string_bytes r.1 ≡ compact (norm t))) }
+
+    // The canonical text means the value too.
+    ensures canonical { IfOk result (λ r. (u : Tree) × IsJson (string_bytes r.1) u × T.means.reads u r.0) }
+
+    // Each text with that canonical text means this value or none.
+    ensures one { IfOk result (λ r. (b : List ℕ) (u : Tree) (w : T) → IsJson b u → string_bytes r.1 ≡ compact (norm u)
+        → T.means.reads u w → T.means.content w ≡ T.means.content r.0) }
+
+    // The text means no value.
+    ensures invalid { result ≡ Err Invalid → (t : Tree) → IsJson j.now t → (v : T) → T.means.reads t v → ⊥ }
+{
+    means_in_normal_form::<T>();
+    spelled_is_tree();
+    let value: T = from_str(alloc, j)?;
+    let text = canonical(alloc, j)?;
+    Ok((value, text))
+}
+
+/// Returns the canonical text of a value: the compact text of the normal form of its tree.
+pub fn canonical_of<T: Serialize>(alloc: Global, value: &T) -> Result<String>
+    ensures ok { IfOk result (λ c. string_bytes c ≡ compact (norm (T.tree value.now))) }
+    ensures spells { IfOk result (λ c. IsJson (string_bytes c) (norm (T.tree value.now))) }
+
+    // No tree with another normal form has that canonical text.
+    ensures tells { IfOk result (λ c. (b : List ℕ) (u : Tree) → IsJson b u → string_bytes c ≡ compact (norm u)
+        → norm u ≡ norm (T.tree value.now)) }
+    ensures memory { OnErr result (IsErrOf result Memory) }
+{
+    spelled_is_tree();
+    let text = to_string(alloc, value)?;
+    let canonical = canonical(alloc, text.as_str())?;
+    Ok(canonical)
+}
+
+/// Does nothing. It promises that a text with the canonical text of a value is read as that value, if it is read at all, and
+/// that two values with one canonical text have the same content.
+pub fn sent_itself<T: Stable + Lossless>()
+    ensures itself { (v w : T) (u : Tree) → T.real v → norm u ≡ norm (T.tree v) → T.means.reads u w
+        → T.means.content w ≡ T.means.content v }
+    ensures one { (v w : T) → T.real v → T.real w → norm (T.tree v) ≡ norm (T.tree w)
+        → T.means.content v ≡ T.means.content w }
+{
+    means_in_normal_form::<T>();
+    T::again();
+    T::lossless();
+}
