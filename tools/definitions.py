@@ -2,7 +2,7 @@
 import re
 from dataclasses import dataclass, field
 
-from refusals import NAME, Refused, check_cycles, check_field_name, check_foreign_marks, check_places, check_type, check_written
+from refusals import NAME, Refused, check_cycles, check_field_name, check_foreign_marks, check_places, check_stable, check_type, check_written
 
 
 @dataclass
@@ -39,7 +39,7 @@ class Definition:
 
 USE = re.compile(r"(?:pub )?use [A-Za-z0-9_:{}*, ]+;")
 DERIVE = re.compile(r"#\[derive\(([^)]*)\)\]")
-WORD = r"(?:once|closed|lossless|events)"
+WORD = r"(?:once|closed|lossless|stable|events)"
 WORDS = rf"\s*//\s*({WORD}(?:,\s*{WORD})*)"
 PUBLIC = r"(pub(?:\([a-z ]+\))?\s+)?"
 HEAD = re.compile(rf"{PUBLIC}(struct|enum)\s+({NAME})\s*\{{(?:{WORDS})?")
@@ -194,3 +194,4 @@ def check(found, uses):
             check_type(part.of, known, part.line)
     check_cycles(found)
     check_places(found)
+    check_stable(found, uses)

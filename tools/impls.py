@@ -84,21 +84,25 @@ def printed_for(it):
     return names
 
 
-def lossless_text(it, law):
-    """The impls that tell its values apart by what is written, where they are asked for."""
-    if "lossless" not in it.words:
-        return ""
-    return f"""
-impl Lossless for {it.name} {{
-    fn lossless() {{
-        {law}
+def laws_text(it, kind, types):
+    """The impls of the laws that are asked for, each by the call for its kind of type."""
+
+    def law(word):
+        return f"""
+impl {word.capitalize()} for {it.name} {{
+    fn {word}() {{
+        {kind}_{word}::<{types}>()
     }}
 }}
+"""
 
+    never_null = f"""
 impl NeverNull for {it.name} {{
     fn never_null() {{}}
 }}
 """
+    lossless = law("lossless") + never_null if "lossless" in it.words else ""
+    return lossless + (law("stable") if "stable" in it.words else "")
 
 
 def of(kind, member, each):
@@ -255,7 +259,7 @@ impl RoundTrip for {name} {{
         record_again::<{name}, {fields}>()
     }}
 }}
-{lossless_text(it, f"record_lossless::<{name}, {fields}>()")}{place_text(it)}"""
+{laws_text(it, "record", f"{name}, {fields}")}{place_text(it)}"""
 
 
 def place_text(it):
@@ -376,7 +380,7 @@ impl RoundTrip for {name} {{
         variant_again::<{name}>()
     }}
 }}
-{lossless_text(it, f"variant_lossless::<{name}>()")}{name_place_text(it)}"""
+{laws_text(it, "variant", name)}{name_place_text(it)}"""
 
 
 def name_place_text(it):

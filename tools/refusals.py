@@ -12,8 +12,8 @@ class Refused(Exception):
 NAMED = (
     "AgainFields Closed Deserialize Empty Error Event Field Four FourLent FourSlot Fragment FromJson Given Global Lossless MarkedFour "
     "MarkedSlot NamePlace NeverNull NoField NoSlot Once OnceField OnceFour OnceSlot Parts PlacedRecord Plain Ranged Record RecordPlace "
-    "Result RoundTrip Serialize Slot Slots Source Step Taken4 UnitEnum Variants Visitor WithDefault Writer read_record "
-    "read_variant record_again record_lossless take4 variant_again variant_lossless write_members"
+    "Result RoundTrip Serialize Slot Slots Source Stable Step Taken4 UnitEnum Variants Visitor WithDefault Writer read_record "
+    "read_variant record_again record_lossless record_stable take4 variant_again variant_lossless variant_stable write_members"
 )
 # Names of Rust's prelude and of the clauses, which derived code uses as they are.
 OF_RUST = "Box Err List None Ok Option Self Some String Vec"
@@ -132,3 +132,19 @@ def check_places(found):
             if inner:
                 each = sorted(inner)[0]
                 raise Refused(f"line {part.line}: `{it.name}` has a place, and its field `{part.name}` has none: mark `{each}` with `// events` too")
+
+
+def check_stable(found, uses):
+    """Refuses a `stable` type with a field that is not: a document, a map with integer keys, or a type of the same file without the word."""
+    plain = {it.name for it in found if "stable" not in it.words}
+    foreign = {name for line in uses if re.match(r"(pub )?use (?!miniserde::json)", line) for name in re.findall(NAME, line)} | {it.name for it in found}
+    documents = {"Array", "Number", "Object", "Unique", "Value"} - foreign
+    for it in found:
+        for part in it.parts if "stable" in it.words else []:
+            for name in re.findall(rf"(?:(?<![\w:])|(?<=json::)){NAME}", part.of):
+                if name in documents:
+                    raise Refused(f"line {part.line}: `{name}` is not stable, since it tells `-0` from `0`: write `miniserde::json::Document`: {part.of}")
+                if name in plain:
+                    raise Refused(f"line {part.line}: `{it.name}` is stable, and its field `{part.name}` is not: mark `{name}` with `// stable` too")
+            if re.search(r"\b(?:BTreeMap|HashMap)<\s*[ui](?:8|16|32|64|size)\b", part.of):
+                raise Refused(f"line {part.line}: a map with integer keys is not stable, since `1` and `01` are one key: write `String` keys: {part.of}")

@@ -8,8 +8,8 @@ use crate::tag::Tag;
 use miniserde::derived::{
     AgainFields, Deserialize, Error, Event, Field, Four, FourLent, FourSlot, FromJson, Global,
     Lossless, NeverNull, NoField, NoSlot, Parts, PlacedRecord, Ranged, Record, RecordPlace, Result,
-    RoundTrip, Serialize, Slot, Slots, Source, Step, Taken4, Visitor, Writer, read_record,
-    record_again, record_lossless, take4, write_members,
+    RoundTrip, Serialize, Slot, Slots, Source, Stable, Step, Taken4, Visitor, Writer, read_record,
+    record_again, record_lossless, record_stable, take4, write_members,
 };
 
 /// A struct of two optional fields.
@@ -94,6 +94,12 @@ impl Lossless for Nested {
 
 impl NeverNull for Nested {
     fn never_null() {}
+}
+
+impl Stable for Nested {
+    fn stable() {
+        record_stable::<Nested, NestedFields>()
+    }
 }
 
 /// The place of a `Nested`.
@@ -252,6 +258,12 @@ impl Lossless for Example {
 
 impl NeverNull for Example {
     fn never_null() {}
+}
+
+impl Stable for Example {
+    fn stable() {
+        record_stable::<Example, ExampleFields>()
+    }
 }
 
 /// The place of a `Example`.

@@ -7,7 +7,7 @@ ghost use Rattle.std.specs.Prelude.{refl};
 use miniserde::derived::{
     AgainFields, Deserialize, Error, Event, FromJson, Global, NoField, NoSlot, OnceField, OnceSlot,
     Parts, PlacedRecord, Ranged, Record, RecordPlace, Result, RoundTrip, Serialize, Slots, Source,
-    Step, Visitor, Writer, read_record, record_again, write_members,
+    Stable, Step, Visitor, Writer, read_record, record_again, record_stable, write_members,
 };
 
 /// As `Demo`, and invalid if `code` or `message` is duplicated among its members. Other names may be.
@@ -83,6 +83,12 @@ impl Ranged for StrictDemo {
 impl RoundTrip for StrictDemo {
     fn again() {
         record_again::<StrictDemo, StrictDemoFields>()
+    }
+}
+
+impl Stable for StrictDemo {
+    fn stable() {
+        record_stable::<StrictDemo, StrictDemoFields>()
     }
 }
 

@@ -7,7 +7,7 @@ ghost use Rattle.std.specs.Prelude.{refl};
 use miniserde::derived::{
     AgainFields, Deserialize, Error, Event, Field, FromJson, Global, NoField, NoSlot, Parts,
     PlacedRecord, Ranged, Record, RecordPlace, Result, RoundTrip, Serialize, Slot, Slots, Source,
-    Step, Visitor, Writer, read_record, record_again, write_members,
+    Stable, Step, Visitor, Writer, read_record, record_again, record_stable, write_members,
 };
 
 /// A struct of two fields.
@@ -79,6 +79,12 @@ impl Ranged for Demo {
 impl RoundTrip for Demo {
     fn again() {
         record_again::<Demo, DemoFields>()
+    }
+}
+
+impl Stable for Demo {
+    fn stable() {
+        record_stable::<Demo, DemoFields>()
     }
 }
 
@@ -197,6 +203,12 @@ impl Ranged for Point {
 impl RoundTrip for Point {
     fn again() {
         record_again::<Point, PointFields>()
+    }
+}
+
+impl Stable for Point {
+    fn stable() {
+        record_stable::<Point, PointFields>()
     }
 }
 

@@ -4,8 +4,8 @@ ghost use Rattle.std.specs.Prelude.{true, List, codes, [], ◌∷◌, ⊤, refl}
 
 use miniserde::derived::{
     Deserialize, Event, Fragment, FromJson, Lossless, NamePlace, NeverNull, Ranged, Result,
-    RoundTrip, Serialize, Source, UnitEnum, Variants, Writer, read_variant, variant_again,
-    variant_lossless,
+    RoundTrip, Serialize, Source, Stable, UnitEnum, Variants, Writer, read_variant, variant_again,
+    variant_lossless, variant_stable,
 };
 
 #[derive(Clone, Copy, PartialEq, Eq, Debug, Drop)]
@@ -79,6 +79,12 @@ impl Lossless for Tag {
 
 impl NeverNull for Tag {
     fn never_null() {}
+}
+
+impl Stable for Tag {
+    fn stable() {
+        variant_stable::<Tag>()
+    }
 }
 
 impl Deserialize for Tag {

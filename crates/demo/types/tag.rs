@@ -1,4 +1,4 @@
-pub enum Tag { // lossless, events
+pub enum Tag { // lossless, stable, events
     A,
     B,    // rename "renamedB"
     Enum, // rename "enum"

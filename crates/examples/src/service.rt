@@ -7,8 +7,8 @@ ghost use Rattle.std.specs.Prelude.{true, refl};
 use miniserde::derived::{
     AgainFields, Closed, Empty, Event, FourLent, FromJson, Given, Global, Lossless, MarkedFour,
     MarkedSlot, NeverNull, Once, Parts, Plain, Ranged, Record, Result, RoundTrip, Serialize, Slot,
-    Slots, Source, Taken4, WithDefault, Writer, read_record, record_again, record_lossless, take4,
-    write_members,
+    Slots, Source, Stable, Taken4, WithDefault, Writer, read_record, record_again, record_lossless,
+    record_stable, take4, write_members,
 };
 
 /// A service of a network. An unknown name is invalid.
@@ -176,4 +176,10 @@ impl Lossless for Service {
 
 impl NeverNull for Service {
     fn never_null() {}
+}
+
+impl Stable for Service {
+    fn stable() {
+        record_stable::<Service, ServiceFields>()
+    }
 }

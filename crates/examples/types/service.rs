@@ -1,5 +1,5 @@
 /// A service of a network. An unknown name is invalid.
-pub struct Service { // closed, lossless
+pub struct Service { // closed, lossless, stable
     pub id: u64, // once
     pub host: String, // default "localhost"
     pub port: u16, // default 8080, once

@@ -8,6 +8,7 @@ pub use miniserde_store::{canonical_of, read_canonical};
 pub use miniserde_text::json::lex;
 pub use miniserde_text::json::number::NumberText;
 pub use miniserde_value::json::array::Array;
+pub use miniserde_value::json::document::Document;
 pub use miniserde_value::json::drop;
 pub use miniserde_value::json::number::Number;
 pub use miniserde_value::json::object::Object;
@@ -18,6 +19,12 @@ pub use miniserde_value::json::value::Value;
 pub mod array {
     pub use miniserde_de::documents::ArrayPlace;
     pub use miniserde_value::json::array::Array;
+}
+
+/// Documents that count as what is written of them, their place, and a law of `Value` and `Number`.
+pub mod document {
+    pub use miniserde_de::documents::DocumentPlace;
+    pub use miniserde_value::json::document::{Document, negated_zero};
 }
 
 /// Numbers, those that are kept as their texts, and their place.

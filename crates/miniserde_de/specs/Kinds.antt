@@ -1,7 +1,8 @@
--- What the places of arrays and objects make of events.
-use Rattle.std.specs.Prelude.{Bool, true, false, List, ◌∷◌, Option, None, cond}
+-- What the places of arrays, objects and documents make of events.
+use Rattle.std.specs.Prelude.{Bool, true, false, List, ◌∷◌, Option, None, cond, option_map}
 use Rattle.miniserde_model.specs.Tree.{Tree}
 use Rattle.miniserde_model.specs.Event.{Event, seq, map}
+use Rattle.miniserde_model.specs.Normal.{norm}
 use Rattle.miniserde_value.specs.Hole.{Hole, outside, in_list, in_members, outcome}
 use Rattle.miniserde_value.specs.Kinds.{only_list, only_members}
 
@@ -27,3 +28,7 @@ list_outcome due h es = only_list (cond (is_start due h) (from_seq es (outcome f
 
 abbrev pub members_outcome : Bool → Hole → List Event → Option Tree
 members_outcome due h es = only_members (cond (is_start due h) (from_map es (outcome false due h es)) (outcome false due h es))
+
+-- what the events that are still to come give: the normal form of what a value keeps
+abbrev pub document_outcome : Bool → Hole → List Event → Option Tree
+document_outcome due h es = option_map norm (outcome false due h es)

@@ -1,3 +1,4 @@
 pub mod Due
 pub mod Named
 pub mod Rounds
+pub mod Stables

@@ -7,6 +7,7 @@ mod marks;
 mod members;
 mod names;
 mod slots;
+mod stable;
 mod structs;
 mod taken;
 
@@ -15,7 +16,10 @@ pub use blocks::{FourSlot, MarkedFour};
 pub use lossless::{LosslessFields, record_lossless};
 pub use marks::{Closed, Empty, Given, Mark, Once, Plain, Repeats, WithDefault};
 pub use members::{FourLent, Lent, Members, write_members};
-pub use names::{UnitEnum, Variant, Variants, read_variant, variant_again, variant_lossless};
+pub use names::{
+    UnitEnum, Variant, Variants, read_variant, variant_again, variant_lossless, variant_stable,
+};
 pub use slots::{MarkedSlot, NoSlot, OnceSlot, Slot, Slots, read_record};
+pub use stable::{StableFields, record_stable};
 pub use structs::{Parts, Record};
 pub use taken::{Taken4, take4};

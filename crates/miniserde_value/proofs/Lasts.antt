@@ -1,6 +1,6 @@
 -- The last of a list, which is the first of it reversed.
 use Rattle.std.proofs.Common.{◌≡◌, ℕ, zero, suc, ◌-◌, List, [], ◌∷◌, ◌++◌, Some, slice_get, length, take, set, get_or, reverse, refl, sym, ap, ◌∙◌, subst, arith}
-use Rattle.std.proofs.lemmas.List.{reverse-append}
+use Rattle.std.proofs.lemmas.List.{reverse-append, take-set}
 use Rattle.std.proofs.lemmas.Option.{slice_get_within, get_or_from_slice_get}
 
 split_last : {A : Type 0} → (xs : List A) (k : ℕ) (d : A) → length xs ≡ suc k → xs ≡ take k xs ++ get_or xs k d ∷ []
@@ -42,11 +42,5 @@ pub reverse_set_as : {A : Type 0} → (xs : List A) (k : ℕ) (u y : A) → leng
 reverse_set_as xs k u y h is = reverse_set xs k u h ∙ ap (λ z. z ∷ reverse (take k xs)) is
 
 -- the last was set, and then taken
-take_set : {A : Type 0} → (xs : List A) (k : ℕ) (u : A) → take k (set xs k u) ≡ take k xs
-take_set [] zero u = refl
-take_set [] (suc k) u = refl
-take_set (x ∷ xs) zero u = refl
-take_set (x ∷ xs) (suc k) u = ap (λ l. x ∷ l) (take_set xs k u)
-
 pub reverse_popped : {A : Type 0} → (xs ys : List A) (j k : ℕ) (u : A) → j ≡ k → ys ≡ take j (set xs k u) → reverse ys ≡ reverse (take k xs)
-reverse_popped xs ys j k u e is = ap reverse (subst (λ n. ys ≡ take n (set xs k u)) e is ∙ take_set xs k u)
+reverse_popped xs ys j k u e is = ap reverse (subst (λ n. ys ≡ take n (set xs k u)) e is ∙ take-set xs k u)

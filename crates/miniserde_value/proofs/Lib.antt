@@ -18,6 +18,7 @@ pub mod Frames
 pub mod Walks
 pub mod Written
 pub mod Documents
+pub mod Contents
 pub mod Builds
 pub mod Openings
 pub mod Writes

@@ -2,6 +2,7 @@
 use Rattle.std.specs.Prelude.{◌≡◌, true, Some, string_bytes}
 use Rattle.miniserde_model.specs.Tree.{Tree}
 use Rattle.miniserde_model.specs.Distinct.{distinct}
+use Rattle.miniserde_model.specs.Normal.{norm}
 use Rattle.miniserde_read.specs.Meant.{Meant, meant}
 use Rattle.miniserde_ser.specs.Trees.{trees_of, members_of}
 use Rattle.miniserde_value.specs.declared.json.number.Number.{Number}
@@ -9,11 +10,13 @@ use Rattle.miniserde_value.specs.declared.json.value.Value.{Value}
 use Rattle.miniserde_value.specs.declared.json.array.Array.{Array}
 use Rattle.miniserde_value.specs.declared.json.object.Object.{Object}
 use Rattle.miniserde_value.specs.declared.json.unique.Unique.{Unique}
+use Rattle.miniserde_value.specs.declared.json.document.Document.{Document}
 use Rattle.miniserde_value.specs.Kept.{kept, kept_if}
 use Rattle.miniserde_value.specs.Kinds.{only_list, only_members}
 use Rattle.miniserde_value.specs.Numbers.{number_leaf, number_of, ReadsNumber}
-use Rattle.miniserde_value.specs.Values.{shape, Reads, array_items, object_entries, array_shape, object_shape}
+use Rattle.miniserde_value.specs.Values.{shape, tree_of, Reads, array_items, object_entries, array_shape, object_shape}
 use Rattle.miniserde_value.specs.laws.Numbers.{number-given}
+use Rattle.miniserde_value.specs.laws.Documents.{document-given}
 use Rattle.miniserde_value.specs.laws.Outcomes.{reads-agree, list-agrees, members-agree}
 use Rattle.miniserde_value.specs.laws.Unique.{once-agrees}
 
@@ -44,3 +47,9 @@ ReadsUnique t u = (distinct t ≡ true) × Reads t u.value
 -- a tree in which no name is duplicated means the value, which keeps the tree
 abbrev pub unique_meant : Meant Unique
 unique_meant = meant (λ u. shape u.value) (kept_if true) ReadsUnique (λ t u. once-agrees t (shape u.value))
+
+-- every tree means each document that is written as the tree's normal form
+abbrev pub document_meant : Meant Document
+document_meant =
+    meant (λ d. tree_of d.value) (λ t. Some (norm t)) (λ t d. tree_of d.value ≡ norm t)
+    (λ t d. document-given (norm t) (tree_of d.value))

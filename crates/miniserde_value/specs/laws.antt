@@ -3,3 +3,4 @@ pub mod Numbers
 pub mod Listed
 pub mod Marks
 pub mod Unique
+pub mod Documents

@@ -3,6 +3,7 @@
 pub mod array;
 pub mod builder;
 mod copy;
+pub mod document;
 pub mod drop;
 pub mod number;
 pub mod object;

@@ -7,8 +7,8 @@ ghost use Rattle.std.specs.Prelude.{refl};
 use miniserde::derived::{
     AgainFields, Closed, Event, FourLent, FourSlot, FromJson, Given, Global, Lossless, MarkedFour,
     NeverNull, NoSlot, Once, Parts, Plain, Ranged, Record, Result, RoundTrip, Serialize, Slot,
-    Slots, Source, Taken4, WithDefault, Writer, read_record, record_again, record_lossless, take4,
-    write_members,
+    Slots, Source, Stable, Taken4, WithDefault, Writer, read_record, record_again, record_lossless,
+    record_stable, take4, write_members,
 };
 use std::collections::BTreeMap;
 
@@ -98,6 +98,12 @@ impl Lossless for Listener {
 
 impl NeverNull for Listener {
     fn never_null() {}
+}
+
+impl Stable for Listener {
+    fn stable() {
+        record_stable::<Listener, ListenerFields>()
+    }
 }
 
 /// Thirty settings of a server. An unknown name is invalid.
@@ -532,4 +538,10 @@ impl Lossless for Server {
 
 impl NeverNull for Server {
     fn never_null() {}
+}
+
+impl Stable for Server {
+    fn stable() {
+        record_stable::<Server, ServerFields>()
+    }
 }

@@ -1,13 +1,13 @@
 use std::collections::BTreeMap;
 
 /// Where a server listens.
-pub struct Listener { // lossless
+pub struct Listener { // lossless, stable
     pub address: String,
     pub port: u16,
 }
 
 /// Thirty settings of a server. An unknown name is invalid.
-pub struct Server { // closed, lossless
+pub struct Server { // closed, lossless, stable
     pub name: String,
     pub id: u64,
     pub region: String,

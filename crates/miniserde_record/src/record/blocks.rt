@@ -4,9 +4,11 @@ use super::again::AgainFields;
 use super::lossless::LosslessFields;
 use super::marks::Mark;
 use super::slots::{MarkedSlot, Slot, Slots};
+use super::stable::StableFields;
 use miniserde_model::error::Result;
 use miniserde_read::{FromJson, Source};
 use miniserde_round::{Lossless, RoundTrip};
+use miniserde_stable::Stable;
 use std::alloc::Global;
 
 /// Four fields with their marks, and the fields after them.
@@ -134,6 +136,34 @@ impl<
     }
 }
 
+impl<
+    A: Stable,
+    M: Mark<A>,
+    B: Stable,
+    N: Mark<B>,
+    C: Stable,
+    O: Mark<C>,
+    D: Stable,
+    P: Mark<D>,
+    Z: StableFields,
+> StableFields for MarkedFour<A, M, B, N, C, O, D, P, Z> {
+    type Values = <MarkedSlot<
+        A,
+        M,
+        MarkedSlot<B, N, MarkedSlot<C, O, MarkedSlot<D, P, Z>>>,
+    > as StableFields>::Values;
+
+    ghost meaning = { ⟦<MarkedSlot<A, M, MarkedSlot<B, N, MarkedSlot<C, O, MarkedSlot<D, P, Z>>>> as StableFields>⟧.meaning };
+
+    fn stable() {
+        <MarkedSlot<
+            A,
+            M,
+            MarkedSlot<B, N, MarkedSlot<C, O, MarkedSlot<D, P, Z>>>,
+        > as StableFields>::stable()
+    }
+}
+
 /// Four fields without a mark, and the fields after them. They name no marks, so a check of them takes less time
 /// than one of `MarkedFour`.
 #[derive(Drop)]
@@ -199,5 +229,16 @@ impl<A: Lossless, B: Lossless, C: Lossless, D: Lossless, Z: LosslessFields> Loss
 
     fn lossless() {
         <Slot<A, Slot<B, Slot<C, Slot<D, Z>>>> as LosslessFields>::lossless()
+    }
+}
+
+impl<A: Stable, B: Stable, C: Stable, D: Stable, Z: StableFields> StableFields
+    for FourSlot<A, B, C, D, Z> {
+    type Values = <Slot<A, Slot<B, Slot<C, Slot<D, Z>>>> as StableFields>::Values;
+
+    ghost meaning = { ⟦<Slot<A, Slot<B, Slot<C, Slot<D, Z>>>> as StableFields>⟧.meaning };
+
+    fn stable() {
+        <Slot<A, Slot<B, Slot<C, Slot<D, Z>>>> as StableFields>::stable()
     }
 }

@@ -8,6 +8,7 @@ ghost use Rattle.miniserde_read.specs.Rest.{GivesAt, GivesNoneAt};
 ghost use Rattle.miniserde_read.specs.Step.{IsTreeEvent};
 ghost use Rattle.miniserde_read.specs.meaning.Objects.{Name};
 ghost use Rattle.miniserde_round.specs.RoundTrip.{ReadsAgain};
+ghost use Rattle.miniserde_stable.specs.Stable.{IsStable};
 ghost use Rattle.miniserde_record.specs.Names.{named, variant_of};
 ghost use Rattle.miniserde_record.specs.Variants.{variant_meant};
 
@@ -117,4 +118,9 @@ pub fn variant_again<T: UnitEnum>()
 /// Does nothing. It promises that no two values of a unit enum have one tree, in the form that `Lossless` asks.
 pub fn variant_lossless<T: UnitEnum>()
     ensures { (v w : T) → ⊤ → ⊤ → str (T.name_of v) ≡ str (T.name_of w) → v ≡ w }
+{}
+
+/// Does nothing. It promises that a unit enum is read from the normal form of a tree as from the tree.
+pub fn variant_stable<T: UnitEnum>()
+    ensures { IsStable (variant_of T.name_of T.all) }
 {}

@@ -5,6 +5,7 @@ ghost use Rattle.miniserde_record.specs.FieldsMeant.{closed_end};
 use crate::record::again::AgainFields;
 use crate::record::lossless::LosslessFields;
 use crate::record::slots::Slots;
+use crate::record::stable::StableFields;
 use miniserde_model::error::{Error, Result};
 use miniserde_read::Source;
 use std::alloc::Global;
@@ -62,4 +63,12 @@ impl LosslessFields for Closed {
     ghost trees = { λ _. [] };
 
     fn lossless() {}
+}
+
+impl StableFields for Closed {
+    type Values = ();
+
+    ghost meaning = { closed_end };
+
+    fn stable() {}
 }

@@ -1,0 +1,48 @@
+//! Structs that are read from the normal form of a tree as from the tree.
+ghost use Rattle.miniserde_stable.specs.Stable.{IsStable};
+ghost use Rattle.miniserde_record.specs.FieldsMeant.{FieldsMeant, no_fields, field_and, struct_meant};
+ghost use Rattle.miniserde_record.specs.Stable.{AreStable};
+
+use super::marks::Mark;
+use super::slots::{MarkedSlot, NoSlot};
+use super::structs::{Parts, Record};
+use miniserde_stable::Stable;
+
+/// Fields that are read from the normal form of members as from the members.
+pub trait StableFields {
+    /// The fields' values, in their order.
+    type Values;
+
+    // The meaning of the fields.
+    ghost meaning: { FieldsMeant Self.Values };
+
+    /// Does nothing. It promises that the normal form of members has the content of the members, if they have one.
+    fn stable()
+        ensures { AreStable meaning.from_members };
+}
+
+impl StableFields for NoSlot {
+    type Values = ();
+
+    ghost meaning = { no_fields };
+
+    fn stable() {}
+}
+
+impl<T: Stable, M: Mark<T>, R: StableFields> StableFields for MarkedSlot<T, M, R> {
+    type Values = Parts<T, R::Values>;
+
+    ghost meaning = { field_and M.once M.given T.means T.absent R.meaning };
+
+    fn stable() {
+        T::stable();
+        R::stable();
+    }
+}
+
+/// Does nothing. It promises that a struct is read from the normal form of a tree as from the tree.
+pub fn record_stable<S: Record, F: StableFields<Values = S::Values>>()
+    ensures { IsStable (struct_meant F.meaning S.names S.values).from_tree }
+{
+    F::stable()
+}

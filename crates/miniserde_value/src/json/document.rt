@@ -1,0 +1,71 @@
+//! Documents that count as what is written of them.
+ghost use Rattle.std.specs.Prelude.{⊤};
+ghost use Rattle.miniserde_stable.specs.Stable.{IsStable};
+
+use super::number::Number;
+use super::value::Value;
+use miniserde_keys::Ranged;
+use miniserde_model::error::Result;
+use miniserde_read::{FromJson, Source};
+use miniserde_round::{Lossless, RoundTrip};
+use miniserde_ser::ser::{Serialize, Writer};
+use miniserde_stable::Stable;
+use miniserde_text::json::lex::Event;
+
+/// A document that counts as what is written of it: `-0` counts as 0, and the order of names does not count. So it is
+/// read from a canonical text as from the text, and it is read again as itself.
+#[derive(Debug, Drop)]
+pub struct Document {
+    pub value: Value,
+}
+
+impl FromJson for Document {
+    ghost use Rattle.miniserde_value.specs.Meanings.{document_meant};
+
+    ghost means = { document_meant };
+
+    fn missing() -> Option<Document> {
+        None
+    }
+
+    fn read<'a>(token: Event<'a>, source: &mut Source<'a>) -> Result<Document> {
+        Ok(Document {
+            value: Value::read(token, source)?,
+        })
+    }
+}
+
+impl Serialize for Document {
+    ghost use Rattle.miniserde_value.specs.Values.{tree_of};
+
+    ghost tree = { λ d. tree_of d.value };
+
+    fn begin(&self, w: &mut Writer) -> Result<()> {
+        self.value.begin(w)
+    }
+}
+
+impl Ranged for Document {
+    ghost real = { λ _. ⊤ };
+
+    fn ranged(&self) {}
+}
+
+impl RoundTrip for Document {
+    fn again() {}
+}
+
+impl Lossless for Document {
+    fn lossless() {}
+}
+
+impl Stable for Document {
+    fn stable() {}
+}
+
+/// Does nothing. It promises that `-0` means a number, and a value, that its normal form does not mean. So neither
+/// `Number` nor `Value` is `Stable`.
+pub fn negated_zero()
+    ensures number { IsStable ⟦<Number as FromJson>⟧.means.from_tree → ⊥ }
+    ensures value { IsStable ⟦<Value as FromJson>⟧.means.from_tree → ⊥ }
+{}
