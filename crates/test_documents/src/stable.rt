@@ -2,7 +2,9 @@
 
 use miniserde::de::Deserialize;
 use miniserde::error::Result;
-use miniserde::json::{Document, Number, Value, canonical, canonical_of, feed, from_str, to_string};
+use miniserde::json::{
+    Document, Number, Value, canonical, canonical_of, feed, from_str, to_string,
+};
 use std::alloc::Global;
 use test_tables::{
     Wrong, expect_canonical_of, expect_ok, expect_one_value, expect_read_itself, expect_refused,

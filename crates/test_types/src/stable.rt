@@ -37,7 +37,10 @@ fn containers_are_stable(rt: HostRuntime) -> std::result::Result<(), Wrong> {
         r#"{"b":-0, "a":1, "b":2} => {"a":1,"b":2}
 {"\u0062":1,"a":2,"b":-0} => {"a":2,"b":0}"#,
     )?;
-    expect_one_value::<BTreeMap<char, Tag>>(alloc, r#"{"é":"A","z":"enum"} => {"z":"enum","é":"A"}"#)?;
+    expect_one_value::<BTreeMap<char, Tag>>(
+        alloc,
+        r#"{"é":"A","z":"enum"} => {"z":"enum","é":"A"}"#,
+    )?;
     expect_one_value::<BTreeMap<bool, u8>>(
         alloc,
         r#"{"true":1,"false":2} => {"false":2,"true":1}"#,

@@ -77,12 +77,15 @@ fn transferred(alloc: Global, signed: &str, body: &str) -> Result<Option<String>
 
 /// A transfer, two bodies, and what a client signed: its canonical text.
 const TRANSFER: &str = r#"{"from":"a","to":"b","cents":5}"#;
+
 const SAME: &str = r#" {"cents": 5, "to": "\u0062", "from": "a"}"#;
+
 const OTHER: &str = r#"{"from":"a","to":"b","cents":50}"#;
+
 const SIGNED: &str = r#"{"cents":5,"from":"a","to":"b"}"#;
 
 /// Prints the transfers of bodies whose canonical text was signed.
-fn transfer(rt: &HostRuntime) -> io::Result<()> {
+fn tell_transfers(rt: &HostRuntime) -> io::Result<()> {
     for body in [SAME, OTHER] {
         match transferred(rt.alloc(), SIGNED, body) {
             Ok(Some(transfer)) => println!(rt; "signed: {transfer}")?,
@@ -147,6 +150,6 @@ fn main(rt: HostRuntime) -> io::Result<()> {
         Ok(None) => println!(rt; "ledger: nothing")?,
         Err(error) => println!(rt; "ledger: {error}")?,
     }
-    transfer(&rt)?;
+    tell_transfers(&rt)?;
     tell(&rt)
 }
