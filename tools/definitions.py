@@ -2,7 +2,10 @@
 import re
 from dataclasses import dataclass, field
 
-from refusals import NAME, Refused, check_cycles, check_field_name, check_foreign_marks, check_places, check_stable, check_type, check_written
+from refusals import (
+    NAME, Refused, check_cycles, check_field_name, check_foreign_marks, check_param, check_params, check_places, check_stable,
+    check_type, check_written,
+)
 
 
 @dataclass
@@ -25,7 +28,7 @@ class Part:
 
 @dataclass
 class Definition:
-    """A struct or an enum. `above` are the lines above it, without its derives."""
+    """A struct or an enum. `above` are the lines above it, without its derives, and `params` the names of its parameters."""
 
     kind: str
     name: str
@@ -34,6 +37,7 @@ class Definition:
     derives: list
     public: str
     words: tuple
+    params: tuple = ()
     parts: list = field(default_factory=list)
 
 
@@ -42,8 +46,9 @@ DERIVE = re.compile(r"#\[derive\(([^)]*)\)\]")
 WORD = r"(?:once|closed|lossless|stable|events)"
 WORDS = rf"\s*//\s*({WORD}(?:,\s*{WORD})*)"
 PUBLIC = r"(pub(?:\([a-z ]+\))?\s+)?"
-HEAD = re.compile(rf"{PUBLIC}(struct|enum)\s+({NAME})\s*\{{(?:{WORDS})?")
-ON_ONE_LINE = re.compile(rf"({PUBLIC}(?:struct|enum)\s+{NAME}\s*\{{)([^{{}}]*)\}}({WORDS})?")
+PARAMS = r"(?:<([^{}]*)>)?"
+HEAD = re.compile(rf"{PUBLIC}(struct|enum)\s+({NAME})\s*{PARAMS}\s*\{{(?:{WORDS})?")
+ON_ONE_LINE = re.compile(rf"({PUBLIC}(?:struct|enum)\s+{NAME}\s*{PARAMS}\s*\{{)([^{{}}]*)\}}({WORDS})?")
 MARKS = re.compile(r'//\s*((?:once|default|rename)\b.*)$')
 MARK = re.compile(r'\s*(?:(once)|default(?:\s+(-?\d+|true|false|"[^"\\]*"))?|rename\s+"([^"\\]*)")\s*(?:,|$)')
 INTEGER = re.compile(r"[ui](8|16|32|64|size)")
@@ -122,16 +127,26 @@ def in_range(of, value):
 
 def head_of(bare, line, above):
     """The type that a line begins."""
+    if re.match(rf"{PUBLIC}struct\s+{NAME}\s*<[^{{]*(>$|\bwhere\b)", bare):
+        raise Refused(f"line {line}: each impl has the bounds that it needs: leave out `where`, and write `{{` on this line: {bare}")
     found = HEAD.fullmatch(bare)
     if found:
-        words = tuple(re.findall(r"\w+", found.group(4) or ""))
+        public, kind, name, params, words = found.groups()
         derives = [name for it in above for names in DERIVE.findall(it) for name in re.findall(r"\w+", names)]
-        return Definition(found.group(2), found.group(3), line, [it for it in above if not DERIVE.fullmatch(it)], derives, found.group(1) or "", words)
-    if re.match(rf"{PUBLIC}(struct|enum)\s+{NAME}\s*<", bare):
-        raise Refused(f"line {line}: a type has no parameters and no lifetimes: write it for the types that it is used with: {bare}")
-    if re.match(rf"{PUBLIC}struct\s+{NAME}\s*\(", bare):
+        above = [it for it in above if not DERIVE.fullmatch(it)]
+        words = tuple(re.findall(r"\w+", words or ""))
+        return Definition(kind, name, line, above, derives, public or "", words, params_of(kind, params or "", bare, line))
+    if re.match(rf"{PUBLIC}struct\s+{NAME}\s*(?:<[^{{(]*>)?\s*\(", bare):
         raise Refused(f"line {line}: a newtype is written by hand (docs/BY-HAND.md), or has a named field: {bare}")
     raise Refused(f"line {line}: not the first line of a `struct Name {{` or an `enum Name {{`: {bare}")
+
+
+def params_of(kind, text, bare, line):
+    """The names of a type's parameters."""
+    params = split_at_commas(text)
+    for param in params:
+        check_param(kind, param, bare, line)
+    return tuple(params)
 
 
 def split_at_commas(text):
@@ -152,8 +167,8 @@ def lines_of(text):
         bare = line.strip()
         found = ON_ONE_LINE.fullmatch(bare)
         if found:
-            yield number, found.group(1) + (found.group(4) or "")
-            yield from ((number, f"{it},") for it in split_at_commas(found.group(3)))
+            yield number, found.group(1) + (found.group(5) or "")
+            yield from ((number, f"{it},") for it in split_at_commas(found.group(4)))
             yield number, "}"
         else:
             yield number, bare
@@ -190,6 +205,7 @@ def check(found, uses):
     for it in found:
         check_foreign_marks(it)
         check_written(it)
+        check_params(it, known)
         for part in it.parts:
             check_type(part.of, known, part.line)
     check_cycles(found)

@@ -1,5 +1,7 @@
-"""What `./derive` writes: a type with its impls, and what they import."""
+"""What `./derive` writes: a type with its impls."""
 import re
+
+from places import name_place_text, place_text
 
 # Words that clauses reserve: a field of such a name is quoted there.
 RESERVED = set(
@@ -18,13 +20,6 @@ def nested(items, last, word=""):
     for item in reversed(items):
         text = f"{word}({item}, {text})"
     return text
-
-
-def fields_of(types, once):
-    """The list of fields of a place, four at a time."""
-    if len(types) >= 4:
-        return f"{once}Four<{', '.join(types[:4])}, {fields_of(types[4:], once)}>"
-    return f"{once}Field<{types[0]}, {fields_of(types[1:], once)}>" if types else "NoField"
 
 
 def wrapped(head, text):
@@ -54,6 +49,16 @@ def const_of(name):
     return re.sub(r"(?<=[a-z0-9])(?=[A-Z])", "_", name).upper() + "_NAMES"
 
 
+def typed(it, end=""):
+    """A type with its parameters: `Page<T>`, and `PageFields<T>` with the end `Fields`."""
+    return f"{it.name}{end}<{', '.join(it.params)}>" if it.params else it.name + end
+
+
+def impl_of(it, bound):
+    """The first word of an impl, with a bound of each parameter: `impl<T: FromJson>`."""
+    return f"impl<{', '.join(f'{name}: {bound}' for name in it.params)}>" if it.params else "impl"
+
+
 # What each type derives. An enum without data is small, so it is copied and compared.
 DERIVES = {"struct": ["Drop"], "enum": ["Clone", "Copy", "PartialEq", "Eq", "Debug", "Drop"]}
 # Derives of serde and the original, which the impls stand for.
@@ -63,7 +68,7 @@ STOOD_FOR = ("Serialize", "Deserialize")
 def head_of(it):
     """A type as its user wrote it, with what it derives."""
     own = [name for name in it.derives if name not in STOOD_FOR and name not in DERIVES[it.kind]]
-    lines = [*it.above, f"#[derive({', '.join([*own, *DERIVES[it.kind]])})]", f"{it.public}{it.kind} {it.name} {{"]
+    lines = [*it.above, f"#[derive({', '.join([*own, *DERIVES[it.kind]])})]", f"{it.public}{it.kind} {typed(it)} {{"]
     for part in it.parts:
         lines += [f"    {line}".rstrip() for line in part.above]
         lines.append(f"    {part.public}{part.name}: {part.of}," if it.kind == "struct" else f"    {part.name},")
@@ -87,9 +92,9 @@ def printed_for(it):
 def laws_text(it, kind, types):
     """The impls of the laws that are asked for, each by the call for its kind of type."""
 
-    def law(word):
+    def law(word, bounds):
         return f"""
-impl {word.capitalize()} for {it.name} {{
+{bounds} {word.capitalize()} for {typed(it)} {{
     fn {word}() {{
         {kind}_{word}::<{types}>()
     }}
@@ -97,12 +102,22 @@ impl {word.capitalize()} for {it.name} {{
 """
 
     never_null = f"""
-impl NeverNull for {it.name} {{
+{impl_of(it, "RoundTrip")} NeverNull for {typed(it)} {{
     fn never_null() {{}}
 }}
 """
-    lossless = law("lossless") + never_null if "lossless" in it.words else ""
-    return lossless + (law("stable") if "stable" in it.words else "")
+    lossless = law("lossless", lossless_impl(it)) + never_null if "lossless" in it.words else ""
+    return lossless + (law("stable", impl_of(it, "Stable")) if "stable" in it.words else "")
+
+
+def lossless_impl(it):
+    """The first word of the impl of `Lossless`: a parameter that an `Option` contains is never null besides."""
+
+    def optional(name):
+        return any(re.search(rf"\bOption<\s*(?:Box<\s*)*{name}\b", part.of) for part in it.parts)
+
+    bounds = [f"{name}: Lossless{' + NeverNull' if optional(name) else ''}" for name in it.params]
+    return f"impl<{', '.join(bounds)}>" if bounds else "impl"
 
 
 def of(kind, member, each):
@@ -186,25 +201,24 @@ def lent_of(lent):
 
 def struct_text(it, path):
     """A struct with its impls."""
-    name, const, fields = it.name, const_of(it.name), f"{it.name}Fields"
-    names = [part.name for part in it.parts]
-    chain = chain_of(names)
-    slots = slots_of(it, it.parts)
-    written = ", ".join(f'"{part.written}"' for part in it.parts)
-    meaning = f"struct_meant {of('Slots', 'meaning', fields)} {of('Record', 'names', name)} {of('Record', 'values', name)}"
-    tree = f"record_tree {of('Record', 'names', name)} {of('AgainFields', 'trees', fields)} {of('Record', 'values', name)}"
-    real = f"λ v. {of('AgainFields', 'real', fields)} ({of('Record', 'values', name)} v)"
     return f"""{head_of(it)}
 {given_text(it, path)}
 // Its fields, and their names.
-type {fields} = {slots};
+type {typed(it, "Fields")} = {slots_of(it, it.parts)};
 
-const {const}: &[&str] = &[{written}];
+const {const_of(it.name)}: &[&str] = &[{", ".join(f'"{part.written}"' for part in it.parts)}];
+{record_text(it, path)}{reading_text(it)}{writing_text(it)}{laws_text(it, "record", f"{typed(it)}, {typed(it, 'Fields')}")}{place_text(it)}"""
 
-impl Record for {name} {{
+
+def record_text(it, path):
+    """The impl that takes a struct apart and makes one."""
+    name, const, names = typed(it), const_of(it.name), [part.name for part in it.parts]
+    chain = chain_of(names)
+    return f"""
+{impl_of(it, "FromJson")} Record for {name} {{
     ghost use Rattle.{path}.TheConstants.{{{const}}};
 
-    type Values = <{fields} as Slots>::Values;
+    type Values = <{typed(it, "Fields")} as Slots>::Values;
 
     ghost names = {{ names_of {const} }};
 
@@ -222,11 +236,18 @@ impl Record for {name} {{
 
     fn build({chain}: Self::Values) -> {name} {{
 {chr(10).join(taken_of(names, chain))}
-        {name} {{ {", ".join(names)} }}
+        {it.name} {{ {", ".join(names)} }}
     }}
 }}
+"""
 
-impl FromJson for {name} {{
+
+def reading_text(it):
+    """The impl that reads a struct."""
+    name, fields = typed(it), typed(it, "Fields")
+    meaning = f"struct_meant {of('Slots', 'meaning', fields)} {of('Record', 'names', name)} {of('Record', 'values', name)}"
+    return f"""
+{impl_of(it, "FromJson")} FromJson for {name} {{
 {wrapped("means", meaning)}
 
     fn missing() -> Option<{name}> {{
@@ -237,16 +258,25 @@ impl FromJson for {name} {{
         read_record::<{name}, {fields}>(token, source)
     }}
 }}
+"""
 
-impl Serialize for {name} {{
+
+def writing_text(it):
+    """The impls that write a struct, and say that what was written is read again."""
+    name, fields = typed(it), typed(it, "Fields")
+    names = [part.name for part in it.parts]
+    tree = f"record_tree {of('Record', 'names', name)} {of('AgainFields', 'trees', fields)} {of('Record', 'values', name)}"
+    real = f"λ v. {of('AgainFields', 'real', fields)} ({of('Record', 'values', name)} v)"
+    return f"""
+{impl_of(it, "RoundTrip")} Serialize for {name} {{
 {wrapped("tree", tree)}
 
     fn begin(&self, w: &mut Writer) -> Result<()> {{
-        write_members(w, {const}, &{lent_of([f"&self.{part}" for part in names])})
+        write_members(w, {const_of(it.name)}, &{lent_of([f"&self.{part}" for part in names])})
     }}
 }}
 
-impl Ranged for {name} {{
+{impl_of(it, "RoundTrip")} Ranged for {name} {{
 {wrapped("real", real)}
 
     fn ranged(&self) {{
@@ -254,99 +284,19 @@ impl Ranged for {name} {{
     }}
 }}
 
-impl RoundTrip for {name} {{
+{impl_of(it, "RoundTrip")} RoundTrip for {name} {{
     fn again() {{
         record_again::<{name}, {fields}>()
     }}
-}}
-{laws_text(it, "record", f"{name}, {fields}")}{place_text(it)}"""
-
-
-def place_text(it):
-    """The place of a struct, where its events are to be handed on."""
-    if "events" not in it.words:
-        return ""
-    name, once, further = it.name, "Once" if "once" in it.words else "", ""
-    if once:
-        further = f"""
-
-    // The name of a field that has a value is refused as a key.
-    ghost further = {{ λ old e answer new.
-        ⟦<RecordPlace<{name}> as Visitor>⟧.further old.place e answer new.place }};"""
-    return f"""
-/// The place of a `{name}`.
-#[derive(Drop)]
-{it.public}struct {name}Place {{
-    place: RecordPlace<{name}>,
-}}
-
-impl PlacedRecord for {name} {{
-    type Fields = {fields_of([part.of for part in it.parts], once)};
-}}
-
-impl Visitor for {name}Place {{
-    type Out = {name};
-
-    ghost meaning = {{ inside (λ p. p.place) ⟦<RecordPlace<{name}> as Visitor>⟧.meaning }};{further}
-
-    fn begin(alloc: Global) -> Result<{name}Place> {{
-        Ok({name}Place {{
-            place: <RecordPlace<{name}> as Visitor>::begin(alloc)?,
-        }})
-    }}
-
-    fn step(&mut self, event: Step<'_>) -> Result<()> {{
-        self.place.step(event)
-    }}
-
-    fn refuse(&mut self, error: Error) -> Error {{
-        self.place.refuse(error)
-    }}
-
-    fn is_complete(&self) -> bool {{
-        self.place.is_complete()
-    }}
-
-    fn take(self) -> Result<{name}> {{
-        let {name}Place {{ place }} = self;
-        place.take()
-    }}
-}}
-
-impl Deserialize for {name} {{
-    type Place = {name}Place;
-
-    fn tied() {{}}
 }}
 """
 
 
 def enum_text(it, path):
     """A unit enum with its impls."""
-    name, names = it.name, [part.name for part in it.parts]
-    arms = [f'            {name}::{part.name} => "{part.written}",' for part in it.parts]
+    name = it.name
     return f"""{head_of(it)}
-
-impl UnitEnum for {name} {{
-    ghost use Rattle.{path}.{name}.TheVariants.{{{", ".join(names)}}};
-
-{wrapped("all", " ∷ ".join([*names, "[]"]))}
-
-{wrapped("name_of", "elim [ " + " | ".join(f'{part.name} ↦ codes "{part.written}"' for part in it.parts) + " ]")}
-
-{wrapped("found", "elim [ " + " | ".join(f"{part} ↦ refl" for part in names) + " ]")}
-
-    fn values() -> &'static [{name}] {{
-        &[{", ".join(f"{name}::{part}" for part in names)}]
-    }}
-
-    fn name(&self) -> &'static str {{
-        match self {{
-{chr(10).join(arms)}
-        }}
-    }}
-}}
-
+{unit_text(it, path)}
 impl FromJson for {name} {{
     ghost means = {{ ⟦<{name} as Variants>⟧.meaning }};
 
@@ -368,7 +318,39 @@ impl Serialize for {name} {{
         w.fragment(Fragment::Str(self.name()))
     }}
 }}
+{again_text(name)}{laws_text(it, "variant", name)}{name_place_text(it)}"""
 
+
+def unit_text(it, path):
+    """The impl that lists an enum's values and their names."""
+    name, names = it.name, [part.name for part in it.parts]
+    arms = [f'            {name}::{part.name} => "{part.written}",' for part in it.parts]
+    return f"""
+impl UnitEnum for {name} {{
+    ghost use Rattle.{path}.{name}.TheVariants.{{{", ".join(names)}}};
+
+{wrapped("all", " ∷ ".join([*names, "[]"]))}
+
+{wrapped("name_of", "elim [ " + " | ".join(f'{part.name} ↦ codes "{part.written}"' for part in it.parts) + " ]")}
+
+{wrapped("found", "elim [ " + " | ".join(f"{part} ↦ refl" for part in names) + " ]")}
+
+    fn values() -> &'static [{name}] {{
+        &[{", ".join(f"{name}::{part}" for part in names)}]
+    }}
+
+    fn name(&self) -> &'static str {{
+        match self {{
+{chr(10).join(arms)}
+        }}
+    }}
+}}
+"""
+
+
+def again_text(name):
+    """The impls that say that an enum's written name is read again."""
+    return f"""
 impl Ranged for {name} {{
     ghost real = {{ λ _. ⊤ }};
 
@@ -379,18 +361,5 @@ impl RoundTrip for {name} {{
     fn again() {{
         variant_again::<{name}>()
     }}
-}}
-{laws_text(it, "variant", name)}{name_place_text(it)}"""
-
-
-def name_place_text(it):
-    """The place of a unit enum, where its events are to be handed on."""
-    if "events" not in it.words:
-        return ""
-    return f"""
-impl Deserialize for {it.name} {{
-    type Place = NamePlace<{it.name}>;
-
-    fn tied() {{}}
 }}
 """

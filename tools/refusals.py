@@ -18,6 +18,12 @@ NAMED = (
 # Names of Rust's prelude and of the clauses, which derived code uses as they are.
 OF_RUST = "Box Err List None Ok Option Self Some String Vec"
 
+# Types of other modules that fields often have, by their module.
+IMPORTED = {
+    "std::collections": "BTreeMap HashMap",
+    "miniserde::json": "Array Document Number Object Unique Value",
+}
+
 KEYWORDS = set(
     "as break const continue crate else enum extern false fn for ghost if impl in let loop match mod move mut pub ref return "
     "self static struct super trait true type unsafe use where while async await dyn box yield".split()
@@ -65,6 +71,40 @@ def check_type(of, known, line):
             raise Refused(f"line {line}: `{name}` is not read: {INSTEAD[name]}")
 
 
+def check_param(kind, param, bare, line):
+    """Refuses a parameter that is more than the name of a type."""
+    if kind == "enum":
+        raise Refused(f"line {line}: an enum has no data, and so no parameters: write a struct with the kind as a unit enum, and the data in `Option`s: {bare}")
+    if param[0] == "'":
+        raise Refused(f"line {line}: a value owns what it has, with no lifetime: leave out `{param}`, and write `String` for `&str`: {bare}")
+    if re.match(r"const\b", param):
+        raise Refused(f"line {line}: a parameter is a type, and no constant: write the number in the field, as `[u8; 4]`: {bare}")
+    name = re.match(r"\w*", param).group()
+    if param[len(name) :].strip().startswith("="):
+        raise Refused(f"line {line}: a parameter has no default: write `{name}` for `{param}`: {bare}")
+    if param != name:
+        raise Refused(f"line {line}: each impl has the bounds that it needs: write `{name}` for `{param}`: {bare}")
+    if not re.fullmatch(r"[A-Z][A-Za-z0-9]*", name):
+        raise Refused(f"line {line}: the name of a parameter begins with a capital letter and has no `_`, as `T`: {bare}")
+
+
+def check_params(it, known):
+    """Refuses a parameter that has another type's name, that no field names, or that is a map's key or in an array."""
+    taken = {*known, *INSTEAD, *" ".join([NAMED, OF_RUST, *IMPORTED.values()]).split()}
+    for at, name in enumerate(it.params):
+        if name in taken:
+            raise Refused(f"line {it.line}: `{name}` is the name of a type: call the parameter otherwise, as `T`")
+        if name in it.params[:at]:
+            raise Refused(f"line {it.line}: `{it.name}` has two parameters `{name}`: call one otherwise")
+        if not any(re.search(rf"(?<![\w:]){name}\b", part.of) for part in it.parts):
+            raise Refused(f"line {it.line}: no field of `{it.name}` has a type with `{name}`: leave the parameter out")
+        for part in it.parts:
+            if re.search(rf"\b(?:BTreeMap|HashMap)<\s*{name}\b", part.of):
+                raise Refused(f"line {part.line}: a map's key is no parameter, since not every type can be a key: write the key's type, as `String`: {part.of}")
+            if re.search(rf"\[[^;\]]*(?<![\w:]){name}\b", part.of):
+                raise Refused(f"line {part.line}: an array has no parameter in it, since its size must be known: write a `Vec`: {part.of}")
+
+
 def check_field_name(name, line):
     """Refuses the name of a field that Rattle has no way to write."""
     if name.startswith("r#") or name in KEYWORDS:
@@ -92,8 +132,8 @@ def check_type_names(found, printed_for):
         lines[it.name] = it.line
     for it in found:
         for name in printed_for(it):
-            if name in lines:
-                raise Refused(f"line {lines[name]}: derived code has a type `{name}` for `{it.name}`: call this one otherwise")
+            if name in lines or name in it.params:
+                raise Refused(f"line {lines.get(name, it.line)}: derived code has a type `{name}` for `{it.name}`: call this one otherwise")
 
 
 def check_cycles(found):
@@ -119,18 +159,22 @@ def check_foreign_marks(it):
         raise Refused(f"line {it.line}: `{it.name}` has no field or variant")
     if it.kind == "enum" and {"once", "closed"} & set(it.words):
         raise Refused(f"line {it.line}: `{it.name}` is no struct, and has no members that `once` or `closed` could speak of")
+    if "events" in it.words and it.params:
+        raise Refused(f"line {it.line}: a place has no parameters: leave out `events`, or write `{it.name}` for the types that it is used with")
     if "events" in it.words and ("closed" in it.words or any(part.once or part.default is not None for part in it.parts)):
         raise Refused(f"line {it.line}: `{it.name}` has marks that a place does not know: leave out `events`, `closed` or the fields' marks")
 
 
 def check_places(found):
     """Refuses a struct with a place around a type of the same file without one."""
-    without = {it.name for it in found if "events" not in it.words}
+    without = {it.name: it for it in found if "events" not in it.words}
     for it in found:
         for part in it.parts if "events" in it.words else []:
-            inner = without & set(re.findall(NAME, part.of))
+            inner = without.keys() & set(re.findall(NAME, part.of))
             if inner:
                 each = sorted(inner)[0]
+                if without[each].params:
+                    raise Refused(f"line {part.line}: `{it.name}` has a place, and its field `{part.name}` has parameters and so none: leave out `events`")
                 raise Refused(f"line {part.line}: `{it.name}` has a place, and its field `{part.name}` has none: mark `{each}` with `// events` too")
 
 

@@ -8,6 +8,8 @@ pub mod counter;
 pub mod limits;
 pub mod order;
 pub mod orders;
+pub mod page;
+pub mod pages;
 pub mod percent;
 pub mod rate;
 pub mod rates;

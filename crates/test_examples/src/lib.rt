@@ -6,6 +6,8 @@ mod callers;
 #[cfg(test)]
 mod loading;
 #[cfg(test)]
+mod pages;
+#[cfg(test)]
 mod percents;
 #[cfg(test)]
 mod services;

@@ -1,6 +1,10 @@
-//! Tests of structs in structs, lists and maps, and of thirty fields, as users write them. Nothing here is for users.
+//! Tests of structs in structs, lists and maps, with parameters, and of thirty fields, as users write them. Nothing here is for users.
 #![tactic(auto)]
 
+#[cfg(test)]
+mod generic;
+#[cfg(test)]
+mod generics;
 #[cfg(test)]
 mod hosts;
 #[cfg(test)]

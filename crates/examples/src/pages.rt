@@ -1,0 +1,37 @@
+//! Callers of a generic struct: at one type, and at any.
+ghost use Rattle.std.specs.Prelude.{◌≡◌, IfOk, vec_len};
+ghost use Rattle.miniserde.specs.Tree.{Tree};
+ghost use Rattle.miniserde.specs.Value.{IsJson};
+
+use crate::order::Order;
+use crate::page::Page;
+use miniserde::json::from_str;
+use miniserde::{FromJson, Lossless, Result, read_itself};
+use std::alloc::Global;
+
+/// Reads a page of orders, and returns how many orders it has.
+pub fn count_of(alloc: Global, text: &str) -> Result<usize>
+    ensures { IfOk result (λ n. (t : Tree) × (p : Page Order) × IsJson text.now t
+        × ⟦<Page<Order> as FromJson>⟧.means.reads t p × (n ≡ vec_len p.items)) }
+{
+    let page: Page<Order> = from_str(alloc, text)?;
+    Ok(page.items.len())
+}
+
+/// Reads a page of anything, and returns the name of the next page.
+pub fn next_of<T: FromJson>(alloc: Global, text: &str) -> Result<Option<String>>
+    ensures { IfOk result (λ next. (t : Tree) × (p : Page T) × IsJson text.now t
+        × ⟦<Page<T> as FromJson>⟧.means.reads t p × (next ≡ p.next)) }
+{
+    let page: Page<T> = from_str(alloc, text)?;
+    let Page { items: _, next } = page;
+    Ok(next)
+}
+
+/// Writes a page of anything, reads it again, and returns the page that it was.
+pub fn again<T: Lossless>(alloc: Global, page: &Page<T>) -> Result<Page<T>>
+    ensures { IfOk result (λ p. ⟦<Page<T> as FromJson>⟧.means.content p
+        ≡ ⟦<Page<T> as FromJson>⟧.means.content page.now) }
+{
+    read_itself(alloc, page)
+}

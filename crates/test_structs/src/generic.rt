@@ -1,0 +1,241 @@
+//! The types of `generic.rs`, with the impls that `./derive` writes.
+ghost use Rattle.miniserde.specs.FieldsMeant.{struct_meant};
+ghost use Rattle.miniserde.specs.Structs.{names_of, record_tree};
+ghost use Rattle.miniserde.specs.Tree.{nonneg};
+ghost use Rattle.std.specs.Prelude.{refl};
+
+use miniserde::derived::{
+    AgainFields, Closed, Empty, Event, FourLent, FromJson, Given, Global, Lossless, MarkedFour,
+    MarkedSlot, NeverNull, NoSlot, OnceSlot, Parts, Plain, Ranged, Record, Result, RoundTrip,
+    Serialize, Slot, Slots, Source, Stable, Taken4, WithDefault, Writer, read_record, record_again,
+    record_lossless, record_stable, take4, write_members,
+};
+use std::collections::BTreeMap;
+
+/// Two things of two types. An unknown name is invalid, and so is a duplicate of `one`.
+#[derive(Debug, Drop)]
+pub struct Both<A, B> {
+    pub one: A,
+    pub two: B,
+}
+
+// Its fields, and their names.
+type BothFields<A, B> = OnceSlot<A, Slot<B, Closed>>;
+
+const BOTH_NAMES: &[&str] = &["one", "two"];
+
+impl<A: FromJson, B: FromJson> Record for Both<A, B> {
+    ghost use Rattle.test_structs.specs.declared.generic.TheConstants.{BOTH_NAMES};
+
+    type Values = <BothFields<A, B> as Slots>::Values;
+
+    ghost names = { names_of BOTH_NAMES };
+
+    ghost values = { λ v. (v.one, (v.two, tt)) };
+
+    ghost made = { λ x. record { one = x.0; two = x.1.0 } };
+
+    ghost whole = { (λ v. refl, λ x. refl) };
+
+    ghost named = { refl };
+
+    fn names() -> &'static [&'static str] {
+        BOTH_NAMES
+    }
+
+    fn build(parts: Self::Values) -> Both<A, B> {
+        let Parts(one, Parts(two, ())) = parts;
+        Both { one, two }
+    }
+}
+
+impl<A: FromJson, B: FromJson> FromJson for Both<A, B> {
+    ghost means = { struct_meant ⟦<BothFields<A, B> as Slots>⟧.meaning ⟦<Both<A, B> as Record>⟧.names ⟦<Both<A, B> as Record>⟧.values };
+
+    fn missing() -> Option<Both<A, B>> {
+        None
+    }
+
+    fn read<'a>(token: Event<'a>, source: &mut Source<'a>) -> Result<Both<A, B>> {
+        read_record::<Both<A, B>, BothFields<A, B>>(token, source)
+    }
+}
+
+impl<A: RoundTrip, B: RoundTrip> Serialize for Both<A, B> {
+    ghost tree = { record_tree ⟦<Both<A, B> as Record>⟧.names ⟦<BothFields<A, B> as AgainFields>⟧.trees ⟦<Both<A, B> as Record>⟧.values };
+
+    fn begin(&self, w: &mut Writer) -> Result<()> {
+        write_members(w, BOTH_NAMES, &Parts(&self.one, Parts(&self.two, ())))
+    }
+}
+
+impl<A: RoundTrip, B: RoundTrip> Ranged for Both<A, B> {
+    ghost real = { λ v. ⟦<BothFields<A, B> as AgainFields>⟧.real (⟦<Both<A, B> as Record>⟧.values v) };
+
+    fn ranged(&self) {
+        self.one.ranged();
+        self.two.ranged();
+    }
+}
+
+impl<A: RoundTrip, B: RoundTrip> RoundTrip for Both<A, B> {
+    fn again() {
+        record_again::<Both<A, B>, BothFields<A, B>>()
+    }
+}
+
+impl<A: Lossless, B: Lossless> Lossless for Both<A, B> {
+    fn lossless() {
+        record_lossless::<Both<A, B>, BothFields<A, B>>()
+    }
+}
+
+impl<A: RoundTrip, B: RoundTrip> NeverNull for Both<A, B> {
+    fn never_null() {}
+}
+
+impl<A: Stable, B: Stable> Stable for Both<A, B> {
+    fn stable() {
+        record_stable::<Both<A, B>, BothFields<A, B>>()
+    }
+}
+
+/// An answer: data, or what went wrong, with more of both.
+#[derive(Drop)]
+pub struct Reply<T, E> {
+    pub data: Option<T>,
+    pub error: Option<Box<E>>,
+    pub more: Vec<Both<T, E>>,
+    pub by_name: BTreeMap<String, (T, u8)>,
+    pub pages: u16,
+}
+
+/// The value of a missing `pages`.
+#[derive(Drop)]
+pub struct ReplyPagesDefault {}
+
+impl Given<u16> for ReplyPagesDefault {
+    ghost given = { nonneg 1 };
+
+    fn make(_alloc: Global) -> Result<u16> {
+        Ok(1)
+    }
+}
+
+// Its fields, and their names.
+type ReplyFields<T, E> = MarkedFour<
+    Option<T>,
+    Plain,
+    Option<Box<E>>,
+    Plain,
+    Vec<Both<T, E>>,
+    Plain,
+    BTreeMap<String, (T, u8)>,
+    WithDefault<Empty>,
+    MarkedSlot<u16, WithDefault<ReplyPagesDefault>, NoSlot>,
+>;
+
+const REPLY_NAMES: &[&str] = &["data", "error", "more", "by_name", "of"];
+
+impl<T: FromJson, E: FromJson> Record for Reply<T, E> {
+    ghost use Rattle.test_structs.specs.declared.generic.TheConstants.{REPLY_NAMES};
+
+    type Values = <ReplyFields<T, E> as Slots>::Values;
+
+    ghost names = { names_of REPLY_NAMES };
+
+    ghost values = { λ v. (v.data, (v.error, (v.more, (v.by_name, (v.pages, tt))))) };
+
+    ghost made = { λ x. record {
+      «data» = x.0;
+      error = x.1.0;
+      more = x.1.1.0;
+      by_name = x.1.1.1.0;
+      pages = x.1.1.1.1.0;
+    } };
+
+    ghost whole = { (λ v. refl, λ x. refl) };
+
+    ghost named = { refl };
+
+    fn names() -> &'static [&'static str] {
+        REPLY_NAMES
+    }
+
+    fn build(parts: Self::Values) -> Reply<T, E> {
+        let Taken4(data, error, more, by_name, parts) = take4(parts);
+        let Parts(pages, ()) = parts;
+        Reply {
+            data,
+            error,
+            more,
+            by_name,
+            pages,
+        }
+    }
+}
+
+impl<T: FromJson, E: FromJson> FromJson for Reply<T, E> {
+    ghost means = { struct_meant ⟦<ReplyFields<T, E> as Slots>⟧.meaning ⟦<Reply<T, E> as Record>⟧.names ⟦<Reply<T, E> as Record>⟧.values };
+
+    fn missing() -> Option<Reply<T, E>> {
+        None
+    }
+
+    fn read<'a>(token: Event<'a>, source: &mut Source<'a>) -> Result<Reply<T, E>> {
+        read_record::<Reply<T, E>, ReplyFields<T, E>>(token, source)
+    }
+}
+
+impl<T: RoundTrip, E: RoundTrip> Serialize for Reply<T, E> {
+    ghost tree = { record_tree ⟦<Reply<T, E> as Record>⟧.names ⟦<ReplyFields<T, E> as AgainFields>⟧.trees ⟦<Reply<T, E> as Record>⟧.values };
+
+    fn begin(&self, w: &mut Writer) -> Result<()> {
+        write_members(
+            w,
+            REPLY_NAMES,
+            &FourLent(
+                &self.data,
+                &self.error,
+                &self.more,
+                &self.by_name,
+                Parts(&self.pages, ()),
+            ),
+        )
+    }
+}
+
+impl<T: RoundTrip, E: RoundTrip> Ranged for Reply<T, E> {
+    ghost real = { λ v. ⟦<ReplyFields<T, E> as AgainFields>⟧.real (⟦<Reply<T, E> as Record>⟧.values
+        v) };
+
+    fn ranged(&self) {
+        self.data.ranged();
+        self.error.ranged();
+        self.more.ranged();
+        self.by_name.ranged();
+        self.pages.ranged();
+    }
+}
+
+impl<T: RoundTrip, E: RoundTrip> RoundTrip for Reply<T, E> {
+    fn again() {
+        record_again::<Reply<T, E>, ReplyFields<T, E>>()
+    }
+}
+
+impl<T: Lossless + NeverNull, E: Lossless + NeverNull> Lossless for Reply<T, E> {
+    fn lossless() {
+        record_lossless::<Reply<T, E>, ReplyFields<T, E>>()
+    }
+}
+
+impl<T: RoundTrip, E: RoundTrip> NeverNull for Reply<T, E> {
+    fn never_null() {}
+}
+
+impl<T: Stable, E: Stable> Stable for Reply<T, E> {
+    fn stable() {
+        record_stable::<Reply<T, E>, ReplyFields<T, E>>()
+    }
+}
