@@ -66,8 +66,12 @@ data_and m n = record {
 abbrev pub enum_of : {V : Type 0} (n : CasesMeant V) → List Name → Tree → Option n.Content
 enum_of n names = by_shape external (n.by_case names)
 
+-- the tree means the enum, by the names and the values of its variants
+abbrev pub enum_reads : {V W : Type 0} (n : CasesMeant V) → List Name → (W → V) → Tree → W → Type 0
+enum_reads n names values t v = n.reads external names t (values v)
+
 -- the meaning of an externally tagged enum, by the names and the values of its variants
 abbrev pub enum_meant : {V W : Type 0} (n : CasesMeant V) (names : List Name) → are_distinct names ≡ true → (W → V) → Meant W
-enum_meant n names distinct value =
-    meant (λ w. n.content (value w)) (enum_of n names) (λ t w. n.reads external names t (value w))
-    (λ t w. n.agrees external names distinct t (value w))
+enum_meant n names distinct values =
+    meant (λ v. n.content (values v)) (enum_of n names) (enum_reads n names values)
+    (λ t v. n.agrees external names distinct t (values v))

@@ -5,8 +5,8 @@ ghost use Rattle.miniserde_read.specs.meaning.Objects.{Name};
 ghost use Rattle.miniserde_round.specs.RoundTrip.{ReadsAgain};
 ghost use Rattle.miniserde_record.specs.Structs.{are_names};
 ghost use Rattle.miniserde_enum.specs.Shape.{external};
-ghost use Rattle.miniserde_enum.specs.Cases.{CaseReal, case_tree, unit_tree, data_tree};
-ghost use Rattle.miniserde_enum.specs.CasesMeant.{CasesMeant, no_cases, unit_and, data_and};
+ghost use Rattle.miniserde_enum.specs.Cases.{CaseReal, case_tree, unit_tree, data_tree, enum_tree};
+ghost use Rattle.miniserde_enum.specs.CasesMeant.{CasesMeant, no_cases, unit_and, data_and, enum_reads};
 
 use crate::cases::{DataCase, NoCase, UnitCase};
 use crate::one_of::{Never, OneOf};
@@ -79,8 +79,8 @@ impl<T: RoundTrip, R: AgainCases> AgainCases for DataCase<T, R> {
 pub fn enum_again<E: Tagged, C: AgainCases<Values = E::Values>>()
     requires { length E.names ≡ C.meaning.count }
     ensures { (v : E) → C.real (E.values v)
-        → ReadsAgain (λ v. C.real (E.values v)) (λ v. C.tree E.names (E.values v))
-        (λ t v. C.meaning.reads external E.names t (E.values v)) (C.tree E.names (E.values v)) }
+        → ReadsAgain (λ v. C.real (E.values v)) (enum_tree E.names C.tree E.values)
+        (enum_reads C.meaning E.names E.values) (enum_tree E.names C.tree E.values v) }
 {
     C::again()
 }

@@ -17,4 +17,4 @@ pub use one_of::{Never, OneOf};
 pub use reading::read_enum;
 pub use stable::{StableCases, enum_stable};
 pub use tagged::Tagged;
-pub use writing::write_data;
+pub use writing::{write_data, write_fields};

@@ -3,7 +3,7 @@ ghost use Rattle.std.specs.Prelude.{◌≡◌, true, List, Some, length, ⊤};
 ghost use Rattle.miniserde_model.specs.Tree.{Tree, null};
 ghost use Rattle.miniserde_read.specs.meaning.Objects.{Name};
 ghost use Rattle.miniserde_record.specs.Structs.{are_names, is_new};
-ghost use Rattle.miniserde_enum.specs.Cases.{CaseReal, case_tree, unit_tree, data_tree, tree_name};
+ghost use Rattle.miniserde_enum.specs.Cases.{CaseReal, case_tree, unit_tree, data_tree, enum_tree, tree_name};
 ghost use Rattle.miniserde_enum.specs.CasesMeant.{CasesMeant, no_cases, unit_and, data_and};
 
 use crate::cases::{DataCase, NoCase, UnitCase};
@@ -80,7 +80,7 @@ impl<T: Lossless, R: LosslessCases> LosslessCases for DataCase<T, R> {
 pub fn enum_lossless<E: Tagged, C: LosslessCases<Values = E::Values>>()
     requires { length E.names ≡ C.meaning.count }
     ensures { (v w : E) → C.real (E.values v) → C.real (E.values w)
-        → C.tree E.names (E.values v) ≡ C.tree E.names (E.values w)
+        → enum_tree E.names C.tree E.values v ≡ enum_tree E.names C.tree E.values w
         → C.meaning.content (E.values v) ≡ C.meaning.content (E.values w) }
 {
     C::lossless()

@@ -3,9 +3,9 @@ ghost use Rattle.std.specs.Prelude.{◌≡◌, true, List, map};
 ghost use Rattle.miniserde_read.specs.meaning.Objects.{Name};
 ghost use Rattle.miniserde_record.specs.Structs.{are_distinct};
 
-/// An enum whose variants may have data. Each variant is told by its name.
+/// An enum whose variants may have data, and are told apart by their names.
 pub trait Tagged: Sized + Drop {
-    /// The value of a variant: `OneOf` that of the first and that of a later one.
+    /// The values of the variants: each is the first variant's, or a later one's.
     type Values;
 
     // The variants' names, in their order.
@@ -22,7 +22,7 @@ pub trait Tagged: Sized + Drop {
     fn build(value: Self::Values) -> Self
         ensures { values result ≡ value };
 
-    // Each variant's value is an enum's.
+    // Each value of a variant is an enum's.
     ghost whole: { (x : Self.Values) → (v : Self) × (values v ≡ x) };
 
     // No name is a duplicate.
