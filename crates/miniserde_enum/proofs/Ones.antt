@@ -1,14 +1,13 @@
 -- An enum that is being read: the one member of its object, or its string.
-use Rattle.std.proofs.Common.{◌≡◌, ℕ, true, false, List, Option, Some, None, refl, sym, ap, ◌∙◌, arith}
+use Rattle.std.proofs.Common.{◌≡◌, ℕ, true, false, List, Option, Some, None, refl, sym, ap, ◌∙◌}
 use Rattle.std.specs.Prelude.{option_and_then, option_map}
-use Rattle.miniserde_model.specs.Tree.{Tree, str, members, Members, no_members, member}
-use Rattle.miniserde_model.specs.Event.{Event, string, map}
+use Rattle.miniserde_model.specs.Tree.{Tree, members, Members, no_members, member}
+use Rattle.miniserde_model.specs.Event.{map}
 use Rattle.miniserde_model.specs.Lexing.{in_members, Names, Follows}
 use Rattle.miniserde_read.specs.meaning.Objects.{Name, all_members}
 use Rattle.miniserde_read.specs.Rest.{ValueAt, MembersAt}
 use Rattle.miniserde_read.proofs.Objects.{ObjectGoes, object_begins, object_name_none, opened_object}
 use Rattle.miniserde_read.proofs.Steps.{members_name}
-use Rattle.miniserde_read.proofs.Same.{tag, first_event, value_event}
 use Rattle.miniserde_record.specs.Members.{DueRead, DueRejects}
 use Rattle.miniserde_record.proofs.Due.{due_goes, due_none}
 use Rattle.miniserde_enum.specs.Shape.{by_shape, external}
@@ -48,14 +47,3 @@ module _ {C : Type 0} (f : Name → Option Tree → Option C) where
       let o = l.back ms r p in
       let k = members_name o.0 false s b r h o.1 in
       object_name_none (one_next f) None z false s b k.1 k.0 (Some v) l h k.2 (λ t. refl) ms r p
-
-  -- ---- a string, and what is neither
-
-  pub string_given : (x : Name) (t : Tree) (s r : List ℕ) → ValueAt t (string x) s r → by_shape external f t ≡ f x None
-  string_given x (str y) s r p = let i : x ≡ y = cc in rw i refl
-  string_given x t s r p = let k : 5 ≡ tag (first_event t) = ap tag (value_event t (string x) s r p) in absurd (omega (arith, k))
-
-  pub neither_given : (e : Event) (t : Tree) (s r : List ℕ) → (tag e ≡ 5 → ⊥) → (tag e ≡ 7 → ⊥) → ValueAt t e s r → by_shape external f t ≡ None
-  neither_given e (str y) s r n m p = absurd (n (ap tag p.0))
-  neither_given e (members ms) s r n m p = absurd (m (ap tag p.0))
-  neither_given e t s r n m p = refl

@@ -76,6 +76,14 @@ tree_name _ = None
 
 -- ---- values
 
+-- a value of the first variant
+abbrev pub first_case : {T W : Type 0} → T → OneOf T W
+first_case x = First x
+
+-- a value of a later variant
+abbrev pub later_case : {T W : Type 0} → W → OneOf T W
+later_case w = Later w
+
 -- the variant's value is valid
 abbrev pub CaseReal : {T W : Type 0} → (T → Type 0) → (W → Type 0) → OneOf T W → Type 0
 CaseReal one later (First x) = one x

@@ -113,7 +113,7 @@ impl<R: Cases> Cases for UnitCase<R> {
 
 /// A variant with data, and the variants after it.
 pub struct DataCase<T, R> {
-    data: PhantomData<T>,
+    value: PhantomData<T>,
     rest: PhantomData<R>,
 }
 

@@ -12,9 +12,9 @@ use miniserde_ser::ser::{Serialize, Writer};
 /// Writes a variant with data: an object of one member, whose name is the variant's. Returns `Memory` if the text cannot
 /// grow.
 #[inline(always)]
-pub fn write_data<T: Serialize>(w: &mut Writer, name: &str, data: &T) -> Result<()>
-    ensures ok { OnOk result (w.new.text ≡ w.old.text ++ compact (data_tree T.tree name.now data.now)) }
-    ensures is_tree { OnOk result (IsTree (data_tree T.tree name.now data.now)) }
+pub fn write_data<T: Serialize>(w: &mut Writer, name: &str, value: &T) -> Result<()>
+    ensures ok { OnOk result (w.new.text ≡ w.old.text ++ compact (data_tree T.tree name.now value.now)) }
+    ensures is_tree { OnOk result (IsTree (data_tree T.tree name.now value.now)) }
     ensures first { OnOk result (w.new.first ≡ false) }
     ensures whole { OnOk result (w.new.refused ≡ false) }
     ensures stays { OnOk result (w.old.refused ≡ false) }
@@ -23,7 +23,7 @@ pub fn write_data<T: Serialize>(w: &mut Writer, name: &str, data: &T) -> Result<
 {
     w.map()?;
     w.known_key(name)?;
-    data.begin(w)?;
+    value.begin(w)?;
     w.map_finish()
 }
 
