@@ -1,4 +1,4 @@
--- The variants of an enum read again, and are told apart, one after another, where each has a name of its own.
+-- The round trip of an enum and its injective tree, variant by variant, if no two names are equal.
 use Rattle.std.proofs.Common.{◌≡◌, ℕ, ◌+◌, true, false, ◌&&◌, nat_eq, List, [], ◌∷◌, length, Option, Some, None, refl, sym, ap, subst, ◌∙◌, true≢false}
 use Rattle.std.specs.Prelude.{◌↔◌, bytes_eq, option_and_then, ⊤}
 use Rattle.miniserde_model.specs.Tree.{Tree, members, no_members, member}
@@ -65,7 +65,7 @@ module _ {T W C D : Type 0} (given : Option Tree → Option C) (one : Shape → 
           ],
         )
 
--- ---- told apart
+-- ---- the injective tree
 
 module _ {T W C D : Type 0} (content : T → C) (content_w : W → D) (real : T → Type 0) (tree : Name → T → Tree) (name : (n : Name) (x : T) → tree_name (tree n x) ≡ Some n) (first : (n : Name) (x y : T) → real x → real y → tree n x ≡ tree n y → content x ≡ content y)
     (real_w : W → Type 0) (tree_w : List Name → W → Tree) (count : ℕ) (named : (names : List Name) (w : W) (n : Name) → are_names count names ≡ true → is_new n names ≡ true → tree_name (tree_w names w) ≡ Some n → ⊥) (same : (names : List Name) (v w : W) → are_names count names ≡ true → real_w v → real_w w → tree_w names v ≡ tree_w names w → content_w v ≡ content_w w) where

@@ -2,7 +2,6 @@
 use Rattle.std.specs.Prelude.{cond, List, [], ◌∷◌, Option, Some, None, option_map, option_and_then, bytes_eq}
 use Rattle.miniserde_model.specs.Tree.{Tree, null, str, members, no_members, member}
 use Rattle.miniserde_read.specs.meaning.Objects.{Name}
-use Rattle.miniserde_record.specs.Structs.{with_names}
 use Rattle.miniserde_enum.specs.declared.one_of.OneOf.{OneOf}
 use Rattle.miniserde_enum.specs.declared.one_of.Never.{Never}
 use Rattle.miniserde_enum.specs.declared.one_of.OneOf.TheVariants.{First, Later}
@@ -53,10 +52,6 @@ unit_tree n u = str n
 -- a variant with data is written as an object of one member
 abbrev pub data_tree : {T : Type 0} → (T → Tree) → Name → T → Tree
 data_tree f n x = members (member n (f x) no_members)
-
--- the tree of a variant's fields, by their names and their trees
-abbrev pub fields_tree : {V : Type 0} → List Name → (V → List Tree) → V → Tree
-fields_tree names trees v = members (with_names names (trees v))
 
 -- the tree of the first variant by its name, or of a later one by theirs
 abbrev pub case_tree : {T W : Type 0} → (Name → T → Tree) → (List Name → W → Tree) → List Name → OneOf T W → Tree

@@ -3,13 +3,12 @@ use Rattle.std.specs.Prelude.{◌≡◌, Option, Some, None}
 use Rattle.miniserde_model.specs.Tree.{Tree, str, members, no_members, member}
 use Rattle.miniserde_read.specs.meaning.Objects.{Name}
 
--- the tree is the variant of the name: the string of the name without data, and with data the object of one member, whose
--- name is the variant's and whose value is the data
+-- the tree is the string of the name, or with data the object of one member, which has the name and the data
 abbrev pub IsExternal : Tree → Name → Option Tree → Type 0
 IsExternal t n None = t ≡ str n
 IsExternal t n (Some u) = t ≡ members (member n u no_members)
 
--- the name of the variant that a tree is, and its data if it has any; no other tree is a variant
+-- the name of the variant that the tree is, and its data if it has any; no other tree is a variant
 abbrev pub external_variant : Tree → Option (Name × Option Tree)
 external_variant (str n) = Some (n, None)
 external_variant (members (member n u no_members)) = Some (n, Some u)

@@ -1,4 +1,4 @@
--- The shape of an enum's trees, which tells the name of a variant and its data.
+-- The shape of an enum's trees: where a tree has the name of a variant and its data.
 use Rattle.std.specs.Prelude.{◌≡◌, ◌↔◌, Option, Some, option_and_then}
 use Rattle.miniserde_model.specs.Tree.{Tree}
 use Rattle.miniserde_read.specs.meaning.Objects.{Name}
@@ -8,7 +8,7 @@ use Rattle.miniserde_enum.specs.laws.External.{external-agrees}
 pub record Shape : Type 1 where
   -- the tree is the variant of the name, with the data or with none
   pub Is : Tree → Name → Option Tree → Type 0
-  -- the name of the variant that a tree is, and its data if it has any
+  -- the name of the variant that the tree is, and its data if it has any
   pub variant : Tree → Option (Name × Option Tree)
   pub agrees : (t : Tree) (n : Name) (o : Option Tree) → Is t n o ↔ (variant t ≡ Some (n, o))
 

@@ -21,14 +21,13 @@ pub trait AgainCases {
     // The meaning of the variants.
     ghost meaning: { CasesMeant Self.Values };
 
-    // The value is one that Rust has.
+    // The value is valid.
     ghost real: { Self.Values → Type 0 };
 
     // The tree of a value, by the variants' names.
     ghost tree: { List Name → Self.Values → Tree };
 
-    /// Does nothing. It promises that the tree of a value that Rust has means such a value, and that each such value has
-    /// that tree.
+    /// Does nothing. It promises that the tree of a valid value means a valid value, and that each such value has that tree.
     fn again()
         ensures { (names : List Name) (v : Self.Values) → are_names meaning.count names ≡ true → real v
             → ReadsAgain real (tree names) (meaning.reads external names) (tree names v) };
@@ -75,7 +74,7 @@ impl<T: RoundTrip, R: AgainCases> AgainCases for DataCase<T, R> {
     }
 }
 
-/// Does nothing. It promises an externally tagged enum's round trip.
+/// Does nothing. It promises the round trip of an externally tagged enum.
 pub fn enum_again<E: Tagged, C: AgainCases<Values = E::Values>>()
     requires { length E.names ≡ C.meaning.count }
     ensures { (v : E) → C.real (E.values v)

@@ -1,4 +1,4 @@
-//! Enums whose values are told apart by what is written.
+//! Enums whose tree is injective: values with one tree have one content.
 ghost use Rattle.std.specs.Prelude.{◌≡◌, true, List, Some, length, ⊤};
 ghost use Rattle.miniserde_model.specs.Tree.{Tree, null};
 ghost use Rattle.miniserde_read.specs.meaning.Objects.{Name};
@@ -11,8 +11,8 @@ use crate::one_of::{Never, OneOf};
 use crate::tagged::Tagged;
 use miniserde_round::Lossless;
 
-/// Variants whose values are told apart by what is written. It stands beside `AgainCases` and not above it: else each
-/// link of a chain of variants holds the other chain.
+/// Variants whose tree is injective. It stands beside `AgainCases` and not above it: else each link of a chain of variants
+/// contains the other chain.
 pub trait LosslessCases {
     /// The value of a variant.
     type Values;
@@ -20,14 +20,14 @@ pub trait LosslessCases {
     // The meaning of the variants.
     ghost meaning: { CasesMeant Self.Values };
 
-    // The value is one that Rust has.
+    // The value is valid.
     ghost real: { Self.Values → Type 0 };
 
     // The tree of a value, by the variants' names.
     ghost tree: { List Name → Self.Values → Tree };
 
-    /// Does nothing. It promises that a value's tree has one of the names, and that values that Rust has and that have one
-    /// tree have the same content.
+    /// Does nothing. It promises that the tree of a value has one of the names, and that valid values with one tree have
+    /// one content.
     fn lossless()
         ensures named { (names : List Name) (v : Self.Values) (n : Name) → are_names meaning.count names ≡ true
             → is_new n names ≡ true → tree_name (tree names v) ≡ Some n → ⊥ }
@@ -76,7 +76,7 @@ impl<T: Lossless, R: LosslessCases> LosslessCases for DataCase<T, R> {
     }
 }
 
-/// Does nothing. It promises that enums that Rust has and that have one tree have the same content.
+/// Does nothing. It promises that valid values of an externally tagged enum with one tree have one content.
 pub fn enum_lossless<E: Tagged, C: LosslessCases<Values = E::Values>>()
     requires { length E.names ≡ C.meaning.count }
     ensures { (v w : E) → C.real (E.values v) → C.real (E.values w)

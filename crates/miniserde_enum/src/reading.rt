@@ -14,7 +14,7 @@ use miniserde_model::error::{Error, Result};
 use miniserde_read::Source;
 use miniserde_text::json::lex::{After, Event, Kind, Text};
 
-// Reads the data of the variant of the name, which is the value of a member, after the member's name.
+// Reads the value of a member, after the member's name, as the data of the variant of the name.
 #[inline(always)]
 fn read_due_case<'a, C: Cases>(
     names: &[&str],
@@ -33,7 +33,7 @@ fn read_due_case<'a, C: Cases>(
     C::read_case(names, name, token, source)
 }
 
-// As `read_due_case`, where the name is the one that the source returned last.
+// Reads the data of the variant of the name that the source returned last.
 #[inline(always)]
 fn read_named<'a, C: Cases>(
     names: &[&str],

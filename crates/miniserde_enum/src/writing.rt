@@ -3,7 +3,8 @@ ghost use Rattle.std.specs.Prelude.{◌≡◌, ◌++◌, true, false, map, OnOk,
 ghost use Rattle.miniserde_model.specs.Compact.{compact};
 ghost use Rattle.miniserde_model.specs.IsTree.{IsTree};
 ghost use Rattle.miniserde_model.specs.declared.error.Error.TheVariants.{Memory};
-ghost use Rattle.miniserde_enum.specs.Cases.{data_tree, fields_tree};
+ghost use Rattle.miniserde_record.specs.Structs.{record_tree};
+ghost use Rattle.miniserde_enum.specs.Cases.{data_tree};
 
 use miniserde_model::error::Result;
 use miniserde_record::record::{Members, write_members};
@@ -37,9 +38,9 @@ pub fn write_fields<M: Members>(
     values: &M,
 ) -> Result<()>
     ensures ok { OnOk result (w.new.text ≡ w.old.text
-        ++ compact (data_tree (fields_tree (map (λ n. n.now) names.now) M.trees) name.now values.now)) }
+        ++ compact (data_tree (record_tree (map (λ n. n.now) names.now) M.trees (λ v. v)) name.now values.now)) }
     ensures is_tree { OnOk result (IsTree
-        (data_tree (fields_tree (map (λ n. n.now) names.now) M.trees) name.now values.now)) }
+        (data_tree (record_tree (map (λ n. n.now) names.now) M.trees (λ v. v)) name.now values.now)) }
     ensures first { OnOk result (w.new.first ≡ false) }
     ensures whole { OnOk result (w.new.refused ≡ false) }
     ensures stays { OnOk result (w.old.refused ≡ false) }
