@@ -1,0 +1,85 @@
+-- The round trip of an enum and its injective tree, variant by variant, if no two names are equal.
+use Rattle.std.proofs.Common.{◌≡◌, ℕ, ◌+◌, true, false, ◌&&◌, nat_eq, List, [], ◌∷◌, length, Option, Some, None, refl, sym, ap, subst, ◌∙◌, true≢false}
+use Rattle.std.specs.Prelude.{◌↔◌, bytes_eq, option_and_then, ⊤}
+use Rattle.miniserde_model.specs.Tree.{Tree, members, no_members, member}
+use Rattle.miniserde_read.specs.meaning.Objects.{Name}
+use Rattle.miniserde_round.specs.RoundTrip.{ReadsAgain}
+use Rattle.miniserde_record.specs.Structs.{is_new, are_distinct, are_names}
+use Rattle.miniserde_record.proofs.Rounds.{more_names, no_names}
+use Rattle.miniserde_enum.specs.declared.one_of.OneOf.{OneOf}
+use Rattle.miniserde_enum.specs.declared.one_of.OneOf.TheVariants.{First, Later}
+use Rattle.miniserde_enum.specs.Shape.{Shape, by_shape, external}
+use Rattle.miniserde_enum.specs.Cases.{CaseReads, UnitReads, DataReads, CaseReal, case_tree, unit_tree, data_tree, tree_name, case_content}
+use Rattle.miniserde_enum.specs.laws.Cases.{alone, cond-some, later-none, same-name, new-first}
+
+-- so many names are distinct
+pub names_distinct : (k : ℕ) (ns : List Name) → are_names k ns ≡ true → are_distinct ns ≡ true
+names_distinct k ns h = elim (nat_eq (length ns) k) as (λ b. (b && are_distinct ns) ≡ true → are_distinct ns ≡ true) [ true ↦ λ e. e | false ↦ λ e. absurd (cc) ] h
+
+-- ---- one variant
+
+pub unit-again : (n : Name) (x : Unit {0}) → ⊤ → ReadsAgain (λ (u : Unit {0}). ⊤) (unit_tree n) (UnitReads external n) (unit_tree n x)
+unit-again n x r = ((tt, tt, refl), λ y s e. refl)
+
+module _ {T : Type 0} (real : T → Type 0) (tree : T → Tree) (reads : Tree → T → Type 0) (again : (x : T) → real x → ReadsAgain real tree reads (tree x)) where
+  pub data-again : (n : Name) (x : T) → real x → ReadsAgain real (data_tree tree n) (DataReads reads external n) (data_tree tree n x)
+  data-again n x r =
+      let a = again x r in (
+        (a.0.0, a.0.1, (tree x, refl, a.0.2)),
+        λ y s e. let i : tree x ≡ e.0 = cc (e.1) in ap (λ z. members (member n z no_members)) (a.1 y s (subst (λ z. reads z y) (sym i) e.2)),
+      )
+
+-- ---- variant by variant
+
+shape-apart : {A B : Type 0} (shape : Shape) (f : Name → Option Tree → Option A) (g : Name → Option Tree → Option B) (a : A) (b : B) → ((k : Name) (o : Option Tree) → f k o ≡ Some a → g k o ≡ Some b → ⊥) → (t : Tree) → by_shape shape f t ≡ Some a → by_shape shape g t ≡ Some b → ⊥
+shape-apart {A} {B} shape f g a b h t = elim (shape.variant t) as (λ o. (◌≡◌ {A = Option A} (option_and_then (λ s. f s.0 s.1) o) (Some a)) → (◌≡◌ {A = Option B} (option_and_then (λ s. g s.0 s.1) o) (Some b)) → ⊥) [ None ↦ λ p q. cc | Some s ↦ h s.0 s.1 ]
+
+module _ {T W C D : Type 0} (given : Option Tree → Option C) (one : Shape → Name → Tree → T → Type 0) (content : T → C) (one_agrees : (shape : Shape) (n : Name) (t : Tree) (x : T) → one shape n t x ↔ (by_shape shape (alone given n) t ≡ Some (content x)))
+    (later : List Name → Name → Option Tree → Option D) (reads : Shape → List Name → Tree → W → Type 0) (content_w : W → D) (fresh : (ns : List Name) (n : Name) (o : Option Tree) → is_new n ns ≡ true → later ns n o ≡ None) (agrees : (shape : Shape) (ns : List Name) → are_distinct ns ≡ true → (t : Tree) (w : W) → reads shape ns t w ↔ (by_shape shape (later ns) t ≡ Some (content_w w))) (shape : Shape) where
+  apart : (n : Name) (ns : List Name) (t : Tree) (x : T) (w : W) → is_new n ns ≡ true → are_distinct ns ≡ true → one shape n t x → reads shape ns t w → ⊥
+  apart n ns t x w f d a b =
+      shape-apart shape (alone given n) (later ns) (content x) (content_w w)
+      (λ k o p q. later-none given one content one_agrees later reads content_w fresh agrees n ns w k o f (cond-some (bytes_eq k n) (given o) (content x) p).0 q)
+      t ((one_agrees shape n t x).0 a) ((agrees shape ns d t w).0 b)
+
+  module _ (real : T → Type 0) (tree : Name → T → Tree) (first : (n : Name) (x : T) → real x → ReadsAgain real (tree n) (one shape n) (tree n x))
+      (real_w : W → Type 0) (tree_w : List Name → W → Tree) (count : ℕ) (again : (names : List Name) (w : W) → are_names count names ≡ true → real_w w → ReadsAgain real_w (tree_w names) (reads shape names) (tree_w names w)) where
+    pub case-again : (names : List Name) (v : OneOf T W) → are_names (count + 1) names ≡ true → CaseReal real real_w v → ReadsAgain (CaseReal real real_w) (case_tree tree tree_w names) (CaseReads (one shape) (reads shape) names) (case_tree tree tree_w names v)
+    case-again [] v f r = absurd (no_names count f)
+    case-again (n ∷ ns) (First x) f r =
+        let p = more_names count n ns f in
+        let a = first n x r in (
+          (First a.0.0, a.0.1, a.0.2),
+          λ v. elim v as (λ v. CaseReal real real_w v → CaseReads (one shape) (reads shape) (n ∷ ns) (tree n x) v → case_tree tree tree_w (n ∷ ns) v ≡ tree n x) [
+            | First y ↦ λ s e. a.1 y s e
+            | Later w ↦ λ s e. absurd (apart n ns (tree n x) a.0.0 w p.0 (names_distinct count ns p.1) a.0.2 e)
+          ],
+        )
+    case-again (n ∷ ns) (Later w) f r =
+        let p = more_names count n ns f in
+        let b = again ns w p.1 r in (
+          (Later b.0.0, b.0.1, b.0.2),
+          λ v. elim v as (λ v. CaseReal real real_w v → CaseReads (one shape) (reads shape) (n ∷ ns) (tree_w ns w) v → case_tree tree tree_w (n ∷ ns) v ≡ tree_w ns w) [
+            | First y ↦ λ s e. absurd (apart n ns (tree_w ns w) y b.0.0 p.0 (names_distinct count ns p.1) e b.0.2)
+            | Later u ↦ λ s e. b.1 u s e
+          ],
+        )
+
+-- ---- the injective tree
+
+module _ {T W C D : Type 0} (content : T → C) (content_w : W → D) (real : T → Type 0) (tree : Name → T → Tree) (name : (n : Name) (x : T) → tree_name (tree n x) ≡ Some n) (first : (n : Name) (x y : T) → real x → real y → tree n x ≡ tree n y → content x ≡ content y)
+    (real_w : W → Type 0) (tree_w : List Name → W → Tree) (count : ℕ) (named : (names : List Name) (w : W) (n : Name) → are_names count names ≡ true → is_new n names ≡ true → tree_name (tree_w names w) ≡ Some n → ⊥) (same : (names : List Name) (v w : W) → are_names count names ≡ true → real_w v → real_w w → tree_w names v ≡ tree_w names w → content_w v ≡ content_w w) where
+  pub case-named : (names : List Name) (v : OneOf T W) (n : Name) → are_names (count + 1) names ≡ true → is_new n names ≡ true → tree_name (case_tree tree tree_w names v) ≡ Some n → ⊥
+  case-named [] v n f h e = no_names count f
+  case-named (m ∷ ms) (First x) n f h e =
+      let i : m ≡ n = cc (name m x) in
+      let p = new-first n m ms h in
+      true≢false (sym (same-name n) ∙ ap (bytes_eq n) (sym i) ∙ p.0)
+  case-named (m ∷ ms) (Later w) n f h e = named ms w n (more_names count m ms f).1 (new-first n m ms h).1 e
+
+  pub case-same : (names : List Name) (v w : OneOf T W) → are_names (count + 1) names ≡ true → CaseReal real real_w v → CaseReal real real_w w → case_tree tree tree_w names v ≡ case_tree tree tree_w names w → case_content content content_w v ≡ case_content content content_w w
+  case-same [] v w f r s e = absurd (no_names count f)
+  case-same (n ∷ ns) (First x) (First y) f r s e = ap First (first n x y r s e)
+  case-same (n ∷ ns) (First x) (Later w) f r s e = let p = more_names count n ns f in absurd (named ns w n p.1 p.0 (ap tree_name (sym e) ∙ name n x))
+  case-same (n ∷ ns) (Later v) (First y) f r s e = let p = more_names count n ns f in absurd (named ns v n p.1 p.0 (ap tree_name e ∙ name n y))
+  case-same (n ∷ ns) (Later v) (Later w) f r s e = ap Later (same ns v w (more_names count n ns f).1 r s e)

@@ -1,0 +1,99 @@
+-- An enum, variant by variant, by the names of the variants in their order.
+use Rattle.std.specs.Prelude.{cond, List, [], ◌∷◌, Option, Some, None, option_map, option_and_then, bytes_eq}
+use Rattle.miniserde_model.specs.Tree.{Tree, null, str, members, no_members, member}
+use Rattle.miniserde_read.specs.meaning.Objects.{Name}
+use Rattle.miniserde_enum.specs.declared.one_of.OneOf.{OneOf}
+use Rattle.miniserde_enum.specs.declared.one_of.Never.{Never}
+use Rattle.miniserde_enum.specs.declared.one_of.OneOf.TheVariants.{First, Later}
+use Rattle.miniserde_enum.specs.Shape.{Shape}
+
+-- ---- the content of a variant, by a name and its data
+
+-- the first variant's content if the name is its own, or a later one's
+abbrev pub case_given : {C D : Type 0} → (Option Tree → Option C) → (List Name → Name → Option Tree → Option D) → List Name → Name → Option Tree → Option (OneOf C D)
+case_given given later [] k o = None
+case_given given later (n ∷ ns) k o = cond (bytes_eq k n) (option_map First (given o)) (option_map Later (later ns k o))
+
+-- a variant without data takes none
+abbrev pub unit_given : Option Tree → Option (Unit {0})
+unit_given None = Some tt
+unit_given (Some t) = None
+
+-- a variant with data has the content of the data
+abbrev pub data_given : {C : Type 0} → (Tree → Option C) → Option Tree → Option C
+data_given of o = option_and_then of o
+
+-- the content of a name, by the tree of its data
+abbrev pub with_data : {C : Type 0} → (Option Tree → Option C) → Tree → Option C
+with_data f t = f (Some t)
+
+-- ---- which trees mean which variant
+
+-- the tree means the first variant by its name, or a later one by theirs
+abbrev pub CaseReads : {T W : Type 0} → (Name → Tree → T → Type 0) → (List Name → Tree → W → Type 0) → List Name → Tree → OneOf T W → Type 0
+CaseReads one later [] t v = ⊥
+CaseReads one later (n ∷ ns) t (First x) = one n t x
+CaseReads one later (n ∷ ns) t (Later w) = later ns t w
+
+-- the tree is the variant of the name without data
+abbrev pub UnitReads : Shape → Name → Tree → Unit {0} → Type 0
+UnitReads shape n t u = shape.Is t n None
+
+-- the tree is the variant of the name with data, and the data means the value
+abbrev pub DataReads : {T : Type 0} → (Tree → T → Type 0) → Shape → Name → Tree → T → Type 0
+DataReads reads shape n t x = (u : Tree) × shape.Is t n (Some u) × reads u x
+
+-- ---- the tree of a value of an externally tagged enum
+
+-- a variant without data is written as its name
+abbrev pub unit_tree : Name → Unit {0} → Tree
+unit_tree n u = str n
+
+-- a variant with data is written as an object of one member
+abbrev pub data_tree : {T : Type 0} → (T → Tree) → Name → T → Tree
+data_tree f n x = members (member n (f x) no_members)
+
+-- the tree of the first variant by its name, or of a later one by theirs
+abbrev pub case_tree : {T W : Type 0} → (Name → T → Tree) → (List Name → W → Tree) → List Name → OneOf T W → Tree
+case_tree one later [] v = null
+case_tree one later (n ∷ ns) (First x) = one n x
+case_tree one later (n ∷ ns) (Later w) = later ns w
+
+-- the tree of an enum, by the names of its variants and by the tree of a variant's value
+abbrev pub enum_tree : {V W : Type 0} → List Name → (List Name → V → Tree) → (W → V) → W → Tree
+enum_tree names tree values v = tree names (values v)
+
+-- the name of the variant whose tree it is, if any
+abbrev pub tree_name : Tree → Option Name
+tree_name (str k) = Some k
+tree_name (members (member k t no_members)) = Some k
+tree_name _ = None
+
+-- ---- values
+
+-- a value of the first variant
+abbrev pub first_case : {T W : Type 0} → T → OneOf T W
+first_case x = First x
+
+-- a value of a later variant
+abbrev pub later_case : {T W : Type 0} → W → OneOf T W
+later_case w = Later w
+
+-- the variant's value is valid
+abbrev pub CaseReal : {T W : Type 0} → (T → Type 0) → (W → Type 0) → OneOf T W → Type 0
+CaseReal one later (First x) = one x
+CaseReal one later (Later w) = later w
+
+-- the content of the variant's value
+abbrev pub case_content : {T W C D : Type 0} → (T → C) → (W → D) → OneOf T W → OneOf C D
+case_content f g (First x) = First (f x)
+case_content f g (Later w) = Later (g w)
+
+-- a property of each value of the first variant and of the later ones is one of each value
+pub each_case : {T W : Type 0} (P : OneOf T W → Type 0) → ((x : T) → P (First x)) → ((w : W) → P (Later w)) → (v : OneOf T W) → P v
+each_case P f g (First x) = f x
+each_case P f g (Later w) = g w
+
+-- a value of no variant has any property
+pub no_case : (P : Never → Type 0) → (v : Never) → P v
+no_case P v = elim v [ ]

@@ -1,0 +1,15 @@
+-- Externally tagged enums: `"Ping"` is a variant without data, `{"Text":"a"}` one with data.
+use Rattle.std.specs.Prelude.{◌≡◌, Option, Some, None}
+use Rattle.miniserde_model.specs.Tree.{Tree, str, members, no_members, member}
+use Rattle.miniserde_read.specs.meaning.Objects.{Name}
+
+-- the tree is the string of the name, or with data the object of one member, which has the name and the data
+abbrev pub IsExternal : Tree → Name → Option Tree → Type 0
+IsExternal t n None = t ≡ str n
+IsExternal t n (Some u) = t ≡ members (member n u no_members)
+
+-- the name of the variant that the tree is, and its data if it has any; no other tree is a variant
+abbrev pub external_variant : Tree → Option (Name × Option Tree)
+external_variant (str n) = Some (n, None)
+external_variant (members (member n u no_members)) = Some (n, Some u)
+external_variant _ = None

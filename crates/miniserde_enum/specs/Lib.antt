@@ -1,0 +1,6 @@
+pub mod Cases
+pub mod CasesMeant
+pub mod External
+pub mod Shape
+pub mod Stable
+pub mod laws

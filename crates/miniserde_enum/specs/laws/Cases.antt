@@ -1,0 +1,140 @@
+-- A tree means a variant exactly where it gives the variant's content.
+use Rattle.std.proofs.Common.{◌≡◌, Bool, true, false, cond, not, ◌&&◌, List, [], ◌∷◌, Option, Some, None, refl, sym, ap, subst}
+use Rattle.std.specs.Prelude.{◌↔◌, option_map, option_and_then, bytes_eq}
+use Rattle.std.proofs.lemmas.Slice.Eq.{bytes_eq-Decides}
+use Rattle.miniserde_model.specs.Tree.{Tree}
+use Rattle.miniserde_read.specs.meaning.Objects.{Name}
+use Rattle.miniserde_record.specs.Structs.{is_new, are_distinct}
+use Rattle.miniserde_enum.specs.declared.one_of.OneOf.{OneOf}
+use Rattle.miniserde_enum.specs.declared.one_of.OneOf.TheVariants.{First, Later}
+use Rattle.miniserde_enum.specs.Shape.{Shape, by_shape}
+use Rattle.miniserde_enum.specs.Cases.{case_given, unit_given, data_given, CaseReads, UnitReads, DataReads, case_content}
+
+-- ---- names
+
+pub same-name : (n : Name) → bytes_eq n n ≡ true
+same-name n = (bytes_eq-Decides n n).1 refl
+
+pub is-name : (k n : Name) → bytes_eq k n ≡ true → k ≡ n
+is-name k n e = (bytes_eq-Decides k n).0 e
+
+both : (a b : Bool) → (a && b) ≡ true → (a ≡ true) × (b ≡ true)
+both true b h = (refl, h)
+both false b h = absurd (cc)
+
+pub new-first : (n k : Name) (ks : List Name) → is_new n (k ∷ ks) ≡ true → (bytes_eq n k ≡ false) × (is_new n ks ≡ true)
+new-first n k ks h =
+    let p = both (not (bytes_eq n k)) (is_new n ks) h in
+    (elim (bytes_eq n k) as (λ b. not b ≡ true → b ≡ false) [ true ↦ λ e. absurd (cc) | false ↦ λ e. refl ] p.0, p.1)
+
+pub distinct-first : (n : Name) (ns : List Name) → are_distinct (n ∷ ns) ≡ true → (is_new n ns ≡ true) × (are_distinct ns ≡ true)
+distinct-first n ns h = both (is_new n ns) (are_distinct ns) h
+
+-- ---- tests and options
+
+pub cond-some : {C : Type 0} (b : Bool) (x : Option C) (c : C) → cond b x None ≡ Some c → (b ≡ true) × (x ≡ Some c)
+cond-some true x c e = (refl, e)
+cond-some false x c e = absurd (cc)
+
+-- what the first variant gives alone
+abbrev pub alone : {C : Type 0} → (Option Tree → Option C) → Name → Name → Option Tree → Option C
+alone given n k o = cond (bytes_eq k n) (given o) None
+
+-- ---- by a name and its data
+
+-- two functions that agree at each name and data agree at each tree
+pub shape-iff : {A B : Type 0} (shape : Shape) (f : Name → Option Tree → Option A) (g : Name → Option Tree → Option B) (a : A) (b : B) → ((k : Name) (o : Option Tree) → (f k o ≡ Some a) ↔ (g k o ≡ Some b)) → (t : Tree) → (by_shape shape f t ≡ Some a) ↔ (by_shape shape g t ≡ Some b)
+shape-iff {A} {B} shape f g a b h t = elim (shape.variant t) as (λ o. (◌≡◌ {A = Option A} (option_and_then (λ s. f s.0 s.1) o) (Some a)) ↔ (◌≡◌ {A = Option B} (option_and_then (λ s. g s.0 s.1) o) (Some b))) [ None ↦ (λ e. absurd (cc), λ e. absurd (cc)) | Some s ↦ h s.0 s.1 ]
+
+-- a tree gives no content if no name and data do
+pub shape-none : {A : Type 0} (shape : Shape) (a : A) (t : Tree) → by_shape shape (λ k o. None) t ≡ Some a → ⊥
+shape-none {A} shape a t = elim (shape.variant t) as (λ o. ◌≡◌ {A = Option A} (option_and_then (λ s. None) o) (Some a) → ⊥) [ None ↦ λ e. cc | Some s ↦ λ e. cc ]
+
+-- ---- a variant without data
+
+unit-at : (n k : Name) (o : Option Tree) → (◌≡◌ {A = Option (Name × Option Tree)} (Some (k, o)) (Some (n, None))) ↔ (alone unit_given n k o ≡ Some tt)
+unit-at n k None = (
+  λ e. let i : ◌≡◌ {A = Name × Option Tree} (k, None) (n, None) = cc in rw (ap (λ z. z.0) i, same-name n) refl,
+  λ e. ap (λ z. Some (z, None)) (is-name k n (cond-some (bytes_eq k n) (Some tt) tt e).0),
+)
+unit-at n k (Some t) = (
+  λ e. let i : ◌≡◌ {A = Name × Option Tree} (k, Some t) (n, None) = cc in let j = ap (λ z. z.1) i in absurd (cc),
+  λ e. let p = (cond-some (bytes_eq k n) None tt e).1 in absurd (cc),
+)
+
+unit-found : (n : Name) (o : Option (Name × Option Tree)) → (o ≡ Some (n, None)) ↔ (option_and_then (λ s. alone unit_given n s.0 s.1) o ≡ Some tt)
+unit-found n None = (λ e. absurd (cc), λ e. absurd (cc))
+unit-found n (Some s) = unit-at n s.0 s.1
+
+pub unit-agrees : (shape : Shape) (n : Name) (t : Tree) (u : Unit {0}) → UnitReads shape n t u ↔ (by_shape shape (alone unit_given n) t ≡ Some tt)
+unit-agrees shape n t u =
+    let is = shape.agrees t n None in
+    let found = unit-found n (shape.variant t) in
+    (λ h. found.0 (is.0 h), λ e. is.1 (found.1 e))
+
+-- ---- a variant with data
+
+module _ {T C : Type 0} (reads : Tree → T → Type 0) (of : Tree → Option C) (content : T → C) (agrees : (t : Tree) (x : T) → reads t x ↔ (of t ≡ Some (content x))) where
+  data-at : (n k : Name) (o : Option Tree) (x : T) → ((u : Tree) × (◌≡◌ {A = Option (Name × Option Tree)} (Some (k, o)) (Some (n, Some u))) × reads u x) ↔ (alone (data_given of) n k o ≡ Some (content x))
+  data-at n k None x = (
+    λ h. let i : ◌≡◌ {A = Name × Option Tree} (k, None) (n, Some h.0) = cc (h.1) in let j = ap (λ z. z.1) i in absurd (cc),
+    λ e. let p = (cond-some (bytes_eq k n) None (content x) e).1 in absurd (cc),
+  )
+  data-at n k (Some t) x = (
+    λ h.
+        let i : ◌≡◌ {A = Name × Option Tree} (k, Some t) (n, Some h.0) = cc (h.1) in
+        let j : t ≡ h.0 = cc (ap (λ z. z.1) i) in
+        rw (ap (λ z. z.0) i, same-name n, j) ((agrees h.0 x).0 h.2),
+    λ e.
+        let p = cond-some (bytes_eq k n) (of t) (content x) e in
+        (t, ap (λ z. Some (z, Some t)) (is-name k n p.0), (agrees t x).1 p.1),
+  )
+
+  data-found : (n : Name) (o : Option (Name × Option Tree)) (x : T) → ((u : Tree) × (o ≡ Some (n, Some u)) × reads u x) ↔ (option_and_then (λ s. alone (data_given of) n s.0 s.1) o ≡ Some (content x))
+  data-found n None x = (λ h. let e = h.1 in absurd (cc), λ e. absurd (cc))
+  data-found n (Some s) x = data-at n s.0 s.1 x
+
+  pub data-agrees : (shape : Shape) (n : Name) (t : Tree) (x : T) → DataReads reads shape n t x ↔ (by_shape shape (alone (data_given of) n) t ≡ Some (content x))
+  data-agrees shape n t x =
+      let found = data-found n (shape.variant t) x in (
+        λ h. found.0 (h.0, (shape.agrees t n (Some h.0)).0 h.1, h.2),
+        λ e. let h = found.1 e in (h.0, (shape.agrees t n (Some h.0)).1 h.1, h.2),
+      )
+
+-- ---- variant by variant
+
+module _ {T W C D : Type 0} (given : Option Tree → Option C) (one : Shape → Name → Tree → T → Type 0) (content : T → C) (one_agrees : (shape : Shape) (n : Name) (t : Tree) (x : T) → one shape n t x ↔ (by_shape shape (alone given n) t ≡ Some (content x)))
+    (later : List Name → Name → Option Tree → Option D) (reads : Shape → List Name → Tree → W → Type 0) (content_w : W → D) (fresh : (ns : List Name) (n : Name) (o : Option Tree) → is_new n ns ≡ true → later ns n o ≡ None) (agrees : (shape : Shape) (ns : List Name) → are_distinct ns ≡ true → (t : Tree) (w : W) → reads shape ns t w ↔ (by_shape shape (later ns) t ≡ Some (content_w w))) where
+  pub case-fresh : (ns : List Name) (n : Name) (o : Option Tree) → is_new n ns ≡ true → case_given given later ns n o ≡ None
+  case-fresh [] n o h = refl
+  case-fresh (m ∷ ms) n o h = let p = new-first n m ms h in rw (p.0, fresh ms n o p.1) refl
+
+  first-at : (n : Name) (ns : List Name) (x : T) (k : Name) (o : Option Tree) → (alone given n k o ≡ Some (content x)) ↔ (case_given given later (n ∷ ns) k o ≡ Some (First (content x)))
+  first-at n ns x k o = elim (bytes_eq k n) as (λ b. (cond b (given o) None ≡ Some (content x)) ↔ (cond b (option_map First (given o)) (option_map Later (later ns k o)) ≡ Some (First (content x)))) [
+    | true ↦ elim (given o) as (λ g. (g ≡ Some (content x)) ↔ (◌≡◌ {A = Option (OneOf C D)} (option_map First g) (Some (First (content x))))) [ None ↦ (λ e. absurd (cc), λ e. absurd (cc)) | Some c ↦ (λ e. cc, λ e. cc) ]
+    | false ↦ elim (later ns k o) as (λ g. (◌≡◌ {A = Option C} None (Some (content x))) ↔ (◌≡◌ {A = Option (OneOf C D)} (option_map Later g) (Some (First (content x))))) [ None ↦ (λ e. absurd (cc), λ e. absurd (cc)) | Some c ↦ (λ e. absurd (cc), λ e. absurd (cc)) ]
+  ]
+
+  pub later-none : (n : Name) (ns : List Name) (w : W) (k : Name) (o : Option Tree) → is_new n ns ≡ true → bytes_eq k n ≡ true → later ns k o ≡ Some (content_w w) → ⊥
+  later-none n ns w k o f h e =
+      let i = is-name k n h in
+      let g : later ns k o ≡ None = subst (λ z. later ns z o ≡ None) (sym i) (fresh ns n o f) in
+      cc
+
+  later-at : (n : Name) (ns : List Name) (w : W) → is_new n ns ≡ true → (k : Name) (o : Option Tree) → (later ns k o ≡ Some (content_w w)) ↔ (case_given given later (n ∷ ns) k o ≡ Some (Later (content_w w)))
+  later-at n ns w f k o = elim (bytes_eq k n) as (λ b. bytes_eq k n ≡ b → (later ns k o ≡ Some (content_w w)) ↔ (cond b (option_map First (given o)) (option_map Later (later ns k o)) ≡ Some (Later (content_w w)))) [
+    | true ↦ λ h. (λ e. absurd (later-none n ns w k o f h e), elim (given o) as (λ g. ◌≡◌ {A = Option (OneOf C D)} (option_map First g) (Some (Later (content_w w))) → later ns k o ≡ Some (content_w w)) [ None ↦ λ e. absurd (cc) | Some c ↦ λ e. absurd (cc) ])
+    | false ↦ λ h. elim (later ns k o) as (λ g. (g ≡ Some (content_w w)) ↔ (◌≡◌ {A = Option (OneOf C D)} (option_map Later g) (Some (Later (content_w w))))) [ None ↦ (λ e. absurd (cc), λ e. absurd (cc)) | Some c ↦ (λ e. cc, λ e. cc) ]
+  ] refl
+
+  pub case-agrees : (shape : Shape) (ns : List Name) → are_distinct ns ≡ true → (t : Tree) (v : OneOf T W) → CaseReads (one shape) (reads shape) ns t v ↔ (by_shape shape (case_given given later ns) t ≡ Some (case_content content content_w v))
+  case-agrees shape [] d t v = (λ h. absurd h, λ e. absurd (shape-none shape (case_content content content_w v) t e))
+  case-agrees shape (n ∷ ns) d t (First x) =
+      let p = one_agrees shape n t x in
+      let q = shape-iff shape (alone given n) (case_given given later (n ∷ ns)) (content x) (First (content x)) (first-at n ns x) t in
+      (λ h. q.0 (p.0 h), λ e. p.1 (q.1 e))
+  case-agrees shape (n ∷ ns) d t (Later w) =
+      let f = distinct-first n ns d in
+      let p = agrees shape ns f.1 t w in
+      let q = shape-iff shape (later ns) (case_given given later (n ∷ ns)) (content_w w) (Later (content_w w)) (later-at n ns w f.0) t in
+      (λ h. q.0 (p.0 h), λ e. p.1 (q.1 e))

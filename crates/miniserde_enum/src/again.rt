@@ -1,0 +1,85 @@
+//! The round trip of an enum, by its variants.
+ghost use Rattle.std.specs.Prelude.{◌≡◌, true, List, length, ⊤};
+ghost use Rattle.miniserde_model.specs.Tree.{Tree, null};
+ghost use Rattle.miniserde_read.specs.meaning.Objects.{Name};
+ghost use Rattle.miniserde_round.specs.RoundTrip.{ReadsAgain};
+ghost use Rattle.miniserde_record.specs.Structs.{are_names};
+ghost use Rattle.miniserde_enum.specs.Shape.{external};
+ghost use Rattle.miniserde_enum.specs.Cases.{CaseReal, case_tree, unit_tree, data_tree, enum_tree};
+ghost use Rattle.miniserde_enum.specs.CasesMeant.{CasesMeant, no_cases, unit_and, data_and, enum_reads};
+
+use crate::cases::{DataCase, NoCase, UnitCase};
+use crate::one_of::{Never, OneOf};
+use crate::tagged::Tagged;
+use miniserde_round::RoundTrip;
+
+/// Variants whose values read back as they were written.
+pub trait AgainCases {
+    /// The value of a variant.
+    type Values;
+
+    // The meaning of the variants.
+    ghost meaning: { CasesMeant Self.Values };
+
+    // The value is valid.
+    ghost real: { Self.Values → Type 0 };
+
+    // The tree of a value, by the variants' names.
+    ghost tree: { List Name → Self.Values → Tree };
+
+    /// Does nothing. It promises that the tree of a valid value means a valid value, and that each such value has that tree.
+    fn again()
+        ensures { (names : List Name) (v : Self.Values) → are_names meaning.count names ≡ true → real v
+            → ReadsAgain real (tree names) (meaning.reads external names) (tree names v) };
+}
+
+impl AgainCases for NoCase {
+    type Values = Never;
+
+    ghost meaning = { no_cases };
+
+    ghost real = { λ _. ⊤ };
+
+    ghost tree = { λ names v. null };
+
+    fn again() {}
+}
+
+impl<R: AgainCases> AgainCases for UnitCase<R> {
+    type Values = OneOf<(), R::Values>;
+
+    ghost meaning = { unit_and R.meaning };
+
+    ghost real = { CaseReal (λ u. ⊤) R.real };
+
+    ghost tree = { case_tree unit_tree R.tree };
+
+    fn again() {
+        R::again()
+    }
+}
+
+impl<T: RoundTrip, R: AgainCases> AgainCases for DataCase<T, R> {
+    type Values = OneOf<T, R::Values>;
+
+    ghost meaning = { data_and T.means R.meaning };
+
+    ghost real = { CaseReal T.real R.real };
+
+    ghost tree = { case_tree (data_tree T.tree) R.tree };
+
+    fn again() {
+        T::again();
+        R::again();
+    }
+}
+
+/// Does nothing. It promises the round trip of an externally tagged enum.
+pub fn enum_again<E: Tagged, C: AgainCases<Values = E::Values>>()
+    requires { length E.names ≡ C.meaning.count }
+    ensures { (v : E) → C.real (E.values v)
+        → ReadsAgain (λ v. C.real (E.values v)) (enum_tree E.names C.tree E.values)
+        (enum_reads C.meaning E.names E.values) (enum_tree E.names C.tree E.values v) }
+{
+    C::again()
+}

@@ -1,0 +1,158 @@
+//! The variants of an enum, read by their names.
+ghost use Rattle.std.specs.Prelude.{◌≡◌, None, Err, IfOk, map, option_map};
+ghost use Rattle.miniserde_text.specs.Lexer.{front_of};
+ghost use Rattle.miniserde_model.specs.declared.error.Error.{Error};
+ghost use Rattle.miniserde_read.specs.Rest.{GivesAt, GivesNoneAt};
+ghost use Rattle.miniserde_read.specs.Step.{IsTreeEvent};
+ghost use Rattle.miniserde_enum.specs.Cases.{with_data};
+ghost use Rattle.miniserde_enum.specs.CasesMeant.{CasesMeant, no_cases, unit_and, data_and};
+
+use crate::one_of::{Never, OneOf};
+use miniserde_model::error::{Error, Result};
+use miniserde_read::{FromJson, Source};
+use miniserde_text::json::lex::Event;
+use std::marker::PhantomData;
+
+/// The variants of an enum.
+pub trait Cases {
+    /// The value of a variant.
+    type Values;
+
+    // The meaning of the variants.
+    ghost meaning: { CasesMeant Self.Values };
+
+    /// Returns the variant of the name if it has no data.
+    fn of_name(names: &[&str], name: &str) -> Option<Self::Values>
+        ensures { option_map meaning.content result ≡ meaning.by_case (map (λ n. n.now) names.now) name.now None };
+
+    /// Reads the data of the variant of the name, whose first token is `token`, and no further. Returns `Invalid` if no
+    /// variant with data has the name, or no beginning of the text spells its data.
+    fn read_case<'a>(
+        names: &[&str],
+        name: &str,
+        token: Event<'a>,
+        source: &mut Source<'a>,
+    ) -> Result<Self::Values>
+        requires going { source.old.refused ≡ None }
+        requires event { IsTreeEvent (front_of token source.old.scratch) }
+        ensures going { IfOk result (λ _. source.new.refused ≡ None) }
+        ensures ok { IfOk result (λ v.
+            GivesAt (with_data (meaning.by_case (map (λ n. n.now) names.now) name.now))
+            (front_of token.entry source.old.scratch) source.old.rest source.new.rest (meaning.content v)) }
+        ensures invalid { result ≡ Err Error.Invalid
+            → GivesNoneAt (with_data (meaning.by_case (map (λ n. n.now) names.now) name.now))
+            (front_of token.entry source.old.scratch) source.old.rest };
+}
+
+/// No more variants.
+pub struct NoCase {}
+
+impl Cases for NoCase {
+    type Values = Never;
+
+    ghost meaning = { no_cases };
+
+    fn of_name(_names: &[&str], _name: &str) -> Option<Never> {
+        None
+    }
+
+    fn read_case<'a>(
+        _names: &[&str],
+        _name: &str,
+        _token: Event<'a>,
+        _source: &mut Source<'a>,
+    ) -> Result<Never> {
+        Err(Error::Invalid)
+    }
+}
+
+/// A variant without data, and the variants after it.
+pub struct UnitCase<R> {
+    rest: PhantomData<R>,
+}
+
+impl<R: Cases> Cases for UnitCase<R> {
+    type Values = OneOf<(), R::Values>;
+
+    ghost meaning = { unit_and R.meaning };
+
+    fn of_name(names: &[&str], name: &str) -> Option<OneOf<(), R::Values>> {
+        match names.split_first() {
+            Some((first, more)) => {
+                if name == *first {
+                    Some(OneOf::First(()))
+                } else {
+                    match R::of_name(more, name) {
+                        Some(value) => Some(OneOf::Later(value)),
+                        None => None,
+                    }
+                }
+            }
+            None => None,
+        }
+    }
+
+    fn read_case<'a>(
+        names: &[&str],
+        name: &str,
+        token: Event<'a>,
+        source: &mut Source<'a>,
+    ) -> Result<OneOf<(), R::Values>> {
+        match names.split_first() {
+            Some((first, more)) => {
+                if name == *first {
+                    Err(Error::Invalid)
+                } else {
+                    Ok(OneOf::Later(R::read_case(more, name, token, source)?))
+                }
+            }
+            None => Err(Error::Invalid),
+        }
+    }
+}
+
+/// A variant with data, and the variants after it.
+pub struct DataCase<T, R> {
+    value: PhantomData<T>,
+    rest: PhantomData<R>,
+}
+
+impl<T: FromJson, R: Cases> Cases for DataCase<T, R> {
+    type Values = OneOf<T, R::Values>;
+
+    ghost meaning = { data_and T.means R.meaning };
+
+    fn of_name(names: &[&str], name: &str) -> Option<OneOf<T, R::Values>> {
+        match names.split_first() {
+            Some((first, more)) => {
+                if name == *first {
+                    None
+                } else {
+                    match R::of_name(more, name) {
+                        Some(value) => Some(OneOf::Later(value)),
+                        None => None,
+                    }
+                }
+            }
+            None => None,
+        }
+    }
+
+    fn read_case<'a>(
+        names: &[&str],
+        name: &str,
+        token: Event<'a>,
+        source: &mut Source<'a>,
+    ) -> Result<OneOf<T, R::Values>> {
+        match names.split_first() {
+            Some((first, more)) => {
+                if name == *first {
+                    Ok(OneOf::First(T::read(token, source)?))
+                } else {
+                    Ok(OneOf::Later(R::read_case(more, name, token, source)?))
+                }
+            }
+            None => Err(Error::Invalid),
+        }
+    }
+}

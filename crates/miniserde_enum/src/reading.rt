@@ -1,0 +1,95 @@
+//! Externally tagged enums, read from a text: a name alone, or an object of one member.
+ghost use Rattle.std.specs.Prelude.{◌≡◌, None, Err, IfOk, map};
+ghost use Rattle.miniserde_text.specs.Lexer.{front_of, text_of};
+ghost use Rattle.miniserde_model.specs.declared.error.Error.{Error};
+ghost use Rattle.miniserde_read.specs.Rest.{GivesAt, GivesNoneAt};
+ghost use Rattle.miniserde_read.specs.Step.{IsTreeEvent};
+ghost use Rattle.miniserde_record.specs.Members.{DueRead, DueRejects};
+ghost use Rattle.miniserde_enum.specs.Cases.{with_data};
+ghost use Rattle.miniserde_enum.specs.CasesMeant.{enum_of};
+
+use crate::cases::Cases;
+use crate::tagged::Tagged;
+use miniserde_model::error::{Error, Result};
+use miniserde_read::Source;
+use miniserde_text::json::lex::{After, Event, Kind, Text};
+
+// Reads the value of a member, after the member's name, as the data of the variant of the name.
+#[inline(always)]
+fn read_due_case<'a, C: Cases>(
+    names: &[&str],
+    name: &str,
+    source: &mut Source<'a>,
+) -> Result<C::Values>
+    requires { source.old.refused ≡ None }
+    ensures going { IfOk result (λ _. source.new.refused ≡ None) }
+    ensures ok { IfOk result (λ v.
+        DueRead (with_data (C.meaning.by_case (map (λ n. n.now) names.now) name.now))
+        source.old.rest source.new.rest (C.meaning.content v)) }
+    ensures invalid { result ≡ Err Error.Invalid
+        → DueRejects (with_data (C.meaning.by_case (map (λ n. n.now) names.now) name.now)) source.old.rest }
+{
+    let token = source.token()?;
+    C::read_case(names, name, token, source)
+}
+
+// Reads the data of the variant of the name that the source returned last.
+#[inline(always)]
+fn read_named<'a, C: Cases>(
+    names: &[&str],
+    name: Text<'a>,
+    source: &mut Source<'a>,
+) -> Result<C::Values>
+    requires { source.old.refused ≡ None }
+    ensures going { IfOk result (λ _. source.new.refused ≡ None) }
+    ensures ok { IfOk result (λ v.
+        DueRead (with_data (C.meaning.by_case (map (λ n. n.now) names.now) (text_of name.entry source.old.scratch)))
+        source.old.rest source.new.rest (C.meaning.content v)) }
+    ensures invalid { result ≡ Err Error.Invalid
+        → DueRejects (with_data (C.meaning.by_case (map (λ n. n.now) names.now) (text_of name.entry source.old.scratch)))
+        source.old.rest }
+{
+    match name {
+        Text::Input(name) => read_due_case::<C>(names, name, source),
+        Text::Scratch => {
+            let name = source.take_scratch();
+            read_due_case::<C>(names, name.as_str(), source)
+        }
+    }
+}
+
+/// Reads an externally tagged enum, whose first token is `token`, and no further. A variant without data is the string of
+/// its name, and one with data is an object of one member, whose name is the variant's. Returns `Invalid` if no beginning
+/// of the text spells such a value.
+pub fn read_enum<'a, E: Tagged, C: Cases<Values = E::Values>>(
+    token: Event<'a>,
+    source: &mut Source<'a>,
+) -> Result<E>
+    requires going { source.old.refused ≡ None }
+    requires event { IsTreeEvent (front_of token source.old.scratch) }
+    ensures going { IfOk result (λ _. source.new.refused ≡ None) }
+    ensures ok { IfOk result (λ v. GivesAt (enum_of C.meaning E.names)
+        (front_of token.entry source.old.scratch) source.old.rest source.new.rest
+        (C.meaning.content (E.values v))) }
+    ensures invalid { result ≡ Err Error.Invalid → GivesNoneAt (enum_of C.meaning E.names)
+        (front_of token.entry source.old.scratch) source.old.rest }
+{
+    match token {
+        Event::Str(text) => match C::of_name(E::names(), source.text(text)) {
+            Some(value) => Ok(E::build(value)),
+            None => Err(Error::Invalid),
+        },
+        Event::MapStart => {
+            let Some(name) = source.name(true)? else {
+                return Err(Error::Invalid);
+            };
+            let value = read_named::<C>(E::names(), name, source)?;
+            let built = E::build(value);
+            match source.after(Kind::Map, false)? {
+                After::Close => Ok(built),
+                After::Next => Err(Error::Invalid),
+            }
+        }
+        _ => Err(Error::Invalid),
+    }
+}

@@ -1,0 +1,54 @@
+//! Externally tagged enums that are written.
+ghost use Rattle.std.specs.Prelude.{◌≡◌, ◌++◌, true, false, map, OnOk, OnErr, IsErrOf};
+ghost use Rattle.miniserde_model.specs.Compact.{compact};
+ghost use Rattle.miniserde_model.specs.IsTree.{IsTree};
+ghost use Rattle.miniserde_model.specs.declared.error.Error.TheVariants.{Memory};
+ghost use Rattle.miniserde_record.specs.Structs.{record_tree};
+ghost use Rattle.miniserde_enum.specs.Cases.{data_tree};
+
+use miniserde_model::error::Result;
+use miniserde_record::record::{Members, write_members};
+use miniserde_ser::ser::{Serialize, Writer};
+
+/// Writes a variant with data: an object of one member, whose name is the variant's. Returns `Memory` if the text cannot
+/// grow.
+#[inline(always)]
+pub fn write_data<T: Serialize>(w: &mut Writer, name: &str, value: &T) -> Result<()>
+    ensures ok { OnOk result (w.new.text ≡ w.old.text ++ compact (data_tree T.tree name.now value.now)) }
+    ensures is_tree { OnOk result (IsTree (data_tree T.tree name.now value.now)) }
+    ensures first { OnOk result (w.new.first ≡ false) }
+    ensures whole { OnOk result (w.new.refused ≡ false) }
+    ensures stays { OnOk result (w.old.refused ≡ false) }
+    ensures memory { OnErr result (IsErrOf result Memory) }
+    ensures err { OnErr result (w.new.refused ≡ true) }
+{
+    w.map()?;
+    w.known_key(name)?;
+    value.begin(w)?;
+    w.map_finish()
+}
+
+/// Writes a variant with fields: an object of one member, whose name is the variant's and whose value is the object of
+/// the fields, by their names in their order. Returns `Memory` if the text cannot grow.
+#[inline(always)]
+pub fn write_fields<M: Members>(
+    w: &mut Writer,
+    name: &str,
+    names: &[&str],
+    values: &M,
+) -> Result<()>
+    ensures ok { OnOk result (w.new.text ≡ w.old.text
+        ++ compact (data_tree (record_tree (map (λ n. n.now) names.now) M.trees (λ v. v)) name.now values.now)) }
+    ensures is_tree { OnOk result (IsTree
+        (data_tree (record_tree (map (λ n. n.now) names.now) M.trees (λ v. v)) name.now values.now)) }
+    ensures first { OnOk result (w.new.first ≡ false) }
+    ensures whole { OnOk result (w.new.refused ≡ false) }
+    ensures stays { OnOk result (w.old.refused ≡ false) }
+    ensures memory { OnErr result (IsErrOf result Memory) }
+    ensures err { OnErr result (w.new.refused ≡ true) }
+{
+    w.map()?;
+    w.known_key(name)?;
+    write_members(w, names, values)?;
+    w.map_finish()
+}
