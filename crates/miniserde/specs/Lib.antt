@@ -35,6 +35,7 @@ pub use Rattle.miniserde_read.specs.meaning.Pairs
 pub use Rattle.miniserde_read.specs.meaning.Options
 pub use Rattle.miniserde_read.specs.meaning.Objects
 pub use Rattle.miniserde_read.specs.meaning.Maps
+pub use Rattle.miniserde_stable.specs.Stable
 pub use Rattle.miniserde_place.specs.Place
 pub use Rattle.miniserde_place.specs.Leaf
 pub use Rattle.miniserde_place.specs.LeafPlace
@@ -63,9 +64,14 @@ pub use Rattle.miniserde_record.specs.FieldsMeant
 pub use Rattle.miniserde_record.specs.Marks
 pub use Rattle.miniserde_record.specs.Members
 pub use Rattle.miniserde_record.specs.Names
+pub use Rattle.miniserde_record.specs.Stable as StableFields
 pub use Rattle.miniserde_record.specs.Structs
 pub use Rattle.miniserde_record.specs.Variants
 pub use Rattle.miniserde_record.specs.laws.Said
 pub use Rattle.miniserde_record.specs.laws.Marks as MarkLaws
+pub use Rattle.miniserde_enum.specs.Cases
+pub use Rattle.miniserde_enum.specs.CasesMeant
+pub use Rattle.miniserde_enum.specs.External
+pub use Rattle.miniserde_enum.specs.Shape
 pub use Rattle.miniserde_program.specs.Counts
 pub use Rattle.miniserde_program.specs.Runs

@@ -6,6 +6,7 @@
 #![tactic(auto)]
 
 pub mod derived;
+pub mod enums;
 pub mod json;
 pub mod laws;
 pub mod record;
