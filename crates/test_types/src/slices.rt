@@ -22,7 +22,7 @@ fn expect_slice<T: FromJson + Serialize>(
 }
 
 #[test]
-fn one_value_spans_all_the_bytes(rt: HostRuntime) -> Result<(), Wrong> {
+fn one_value_spans_all_the_bytes(rt: HostRuntime) -> std::result::Result<(), Wrong> {
     let alloc = rt.alloc();
     expect_slice::<Value>(alloc, b"[1, 2]", "[1, 2] => [1,2]")?;
     expect_slice::<Vec<u8>>(alloc, b"[1, 2]", "bytes => [1,2]")?;
@@ -36,7 +36,7 @@ fn one_value_spans_all_the_bytes(rt: HostRuntime) -> Result<(), Wrong> {
 }
 
 #[test]
-fn a_string_in_utf8_is_read(rt: HostRuntime) -> Result<(), Wrong> {
+fn a_string_in_utf8_is_read(rt: HostRuntime) -> std::result::Result<(), Wrong> {
     let alloc = rt.alloc();
     expect_slice::<String>(alloc, b"\"\xc3\xa9\"", "\"é\" => same")?;
     expect_slice::<Value>(alloc, b"\"\xc3\xa9\"", "\"é\" => same")?;
@@ -47,7 +47,7 @@ fn a_string_in_utf8_is_read(rt: HostRuntime) -> Result<(), Wrong> {
 }
 
 #[test]
-fn bytes_that_are_not_utf8_are_invalid(rt: HostRuntime) -> Result<(), Wrong> {
+fn bytes_that_are_not_utf8_are_invalid(rt: HostRuntime) -> std::result::Result<(), Wrong> {
     let alloc = rt.alloc();
     expect_slice::<String>(alloc, b"\"\xff\"", "0xff in a text")?;
     expect_slice::<Value>(alloc, b"\"\xff\"", "0xff in a string")?;
