@@ -1,10 +1,10 @@
 """What `./derive` reads: the types of a file, with their words and marks."""
 import re
-from dataclasses import dataclass, field
+from dataclasses import dataclass, field, replace
 
 from refusals import (
     NAME, Refused, check_cycles, check_field_name, check_foreign_marks, check_param, check_params, check_places, check_stable,
-    check_type, check_written,
+    check_tagged, check_type, check_values, check_written,
 )
 
 
@@ -13,7 +13,8 @@ class Part:
     """A field or a variant: its name and its name in JSON; and a field's type, the `pub` in front of it and its marks.
 
     `above` are the lines of comments and attributes above it. `default` is the text of the value of a missing field, ""
-    for the empty one and None for no such value.
+    for the empty one and None for no such value. A variant with data has `values`, the types in its round brackets, or named
+    `fields`; `of` is the type of its data.
     """
 
     name: str
@@ -24,11 +25,16 @@ class Part:
     public: str = ""
     once: bool = False
     default: str = None
+    values: tuple = ()
+    fields: list = field(default_factory=list)
 
 
 @dataclass
 class Definition:
-    """A struct or an enum. `above` are the lines above it, without its derives, and `params` the names of its parameters."""
+    """A struct, an enum without data, or a tagged enum, whose variants may have data. `above` are the lines above it, without
+    its derives, and `params` the names of its parameters. `shown` is what messages call it: of the struct that is written for
+    a variant's fields the variant.
+    """
 
     kind: str
     name: str
@@ -39,6 +45,11 @@ class Definition:
     words: tuple
     params: tuple = ()
     parts: list = field(default_factory=list)
+    variant: str = ""
+
+    @property
+    def shown(self):
+        return self.variant or self.name
 
 
 USE = re.compile(r"(?:pub )?use [A-Za-z0-9_:{}*, ]+;")
@@ -48,7 +59,8 @@ WORDS = rf"\s*//\s*({WORD}(?:,\s*{WORD})*)"
 PUBLIC = r"(pub(?:\([a-z ]+\))?\s+)?"
 PARAMS = r"(?:<([^{}]*)>)?"
 HEAD = re.compile(rf"{PUBLIC}(struct|enum)\s+({NAME})\s*{PARAMS}\s*\{{(?:{WORDS})?")
-ON_ONE_LINE = re.compile(rf"({PUBLIC}(?:struct|enum)\s+{NAME}\s*{PARAMS}\s*\{{)([^{{}}]*)\}}({WORDS})?")
+ON_ONE_LINE = re.compile(rf"({PUBLIC}(?:struct|enum)\s+{NAME}\s*{PARAMS}\s*\{{)((?:[^{{}}]|\{{[^{{}}]*\}})*)\}}({WORDS})?")
+VARIANT = re.compile(rf"({NAME})\s*(?:\((.*)\)|\{{(.*)\}}|(\{{))?,?")
 MARKS = re.compile(r'//\s*((?:once|default|rename)\b.*)$')
 MARK = re.compile(r'\s*(?:(once)|default(?:\s+(-?\d+|true|false|"[^"\\]*"))?|rename\s+"([^"\\]*)")\s*(?:,|$)')
 INTEGER = re.compile(r"[ui](8|16|32|64|size)")
@@ -80,29 +92,48 @@ def part_of(kind, text, line, above):
     bare = (text[: marks.start()] if marks else text).strip()
     if "//" in bare:
         raise Refused(f"line {line}: a comment that is no mark stands on a line of its own, above the field: {text}")
-    pattern = rf"{PUBLIC}((?:r#)?{NAME})\s*:\s*(.+?),?" if kind == "struct" else rf"()({NAME}),?"
-    found = re.fullmatch(pattern, bare)
-    if not found:
-        raise Refused(f"line {line}: {no_part(kind, bare)}: {bare}")
-    name, of = found.group(2), found.group(3) if kind == "struct" else ""
-    if kind == "struct":
-        check_field_name(name, line)
-        if len(split_at_commas(of)) > 1:
-            raise Refused(f"line {line}: more than one field stands on the line: {text}")
-    elif name == "List":
-        raise Refused(f'line {line}: derived code uses the name `List`: write `Items, // rename "List"`')
+    part = field_of(bare, line, above) if kind == "struct" else variant_of(bare, line, above)
     if default is not None:
-        check_default(of, default, line)
-    return Part(name, rename if rename is not None else name, line, above, of, found.group(1) or "", once, default)
+        check_default(part.of, default, line)
+    part.written, part.once, part.default = rename if rename is not None else part.name, once, default
+    return part
 
 
-def no_part(kind, bare):
-    """Says why a line is no field or no variant."""
-    if kind == "struct":
-        return "not a named field `name: Type`, one a line"
-    if re.match(rf"{NAME}\s*[({{]", bare):
-        return "a variant has no data: write a struct with the kind as a unit enum, and the data in `Option`s"
-    return "not a variant, one a line, with no number"
+def field_of(bare, line, above):
+    """The named field of a line without its marks."""
+    found = re.fullmatch(rf"{PUBLIC}((?:r#)?{NAME})\s*:\s*(.+?),?", bare)
+    if not found:
+        raise Refused(f"line {line}: not a named field `name: Type`, one a line: {bare}")
+    public, name, of = found.groups()
+    check_field_name(name, line)
+    if len(split_at_commas(of)) > 1:
+        raise Refused(f"line {line}: more than one field stands on the line: {bare}")
+    return Part(name, name, line, above, of, public or "")
+
+
+def variant_of(bare, line, above):
+    """The variant of a line without its marks. If its fields are on lines of their own, it has none yet."""
+    found = VARIANT.fullmatch(bare)
+    if not found:
+        raise Refused(f"line {line}: not a variant, one a line, with no number: {bare}")
+    name, values, fields, _ = found.groups()
+    if name == "List":
+        raise Refused(f'line {line}: derived code uses the name `List`: write `Items, // rename "List"`')
+    part = Part(name, name, line, above, values=tuple(split_at_commas(values or "")))
+    part.fields = [variant_field(it, line, []) for it in split_at_commas(fields or "")]
+    check_values(part, bare, values if fields is None else fields)
+    part.of = part.values[0] if len(part.values) == 1 else f"({', '.join(part.values)})" if part.values else ""
+    return part
+
+
+def variant_field(text, line, above):
+    """The field of a variant, on a line."""
+    if re.match(r"\}.*//", text):
+        raise Refused(f"line {line}: a variant's marks stand behind its first line: {text}")
+    part = part_of("struct", text, line, above)
+    if part.public:
+        raise Refused(f"line {line}: a variant's fields are as public as the enum: leave out `{part.public.strip()}`: {text}")
+    return part
 
 
 def check_default(of, default, line):
@@ -127,7 +158,7 @@ def in_range(of, value):
 
 def head_of(bare, line, above):
     """The type that a line begins."""
-    if re.match(rf"{PUBLIC}struct\s+{NAME}\s*<[^{{]*(>$|\bwhere\b)", bare):
+    if re.match(rf"{PUBLIC}(?:struct|enum)\s+{NAME}\s*<[^{{]*(>$|\bwhere\b)", bare):
         raise Refused(f"line {line}: each impl has the bounds that it needs: leave out `where`, and write `{{` on this line: {bare}")
     found = HEAD.fullmatch(bare)
     if found:
@@ -135,17 +166,17 @@ def head_of(bare, line, above):
         derives = [name for it in above for names in DERIVE.findall(it) for name in re.findall(r"\w+", names)]
         above = [it for it in above if not DERIVE.fullmatch(it)]
         words = tuple(re.findall(r"\w+", words or ""))
-        return Definition(kind, name, line, above, derives, public or "", words, params_of(kind, params or "", bare, line))
+        return Definition(kind, name, line, above, derives, public or "", words, params_of(params or "", bare, line))
     if re.match(rf"{PUBLIC}struct\s+{NAME}\s*(?:<[^{{(]*>)?\s*\(", bare):
         raise Refused(f"line {line}: a newtype is written by hand (docs/BY-HAND.md), or has a named field: {bare}")
     raise Refused(f"line {line}: not the first line of a `struct Name {{` or an `enum Name {{`: {bare}")
 
 
-def params_of(kind, text, bare, line):
+def params_of(text, bare, line):
     """The names of a type's parameters."""
     params = split_at_commas(text)
     for param in params:
-        check_param(kind, param, bare, line)
+        check_param(param, bare, line)
     return tuple(params)
 
 
@@ -153,7 +184,7 @@ def split_at_commas(text):
     """The parts of a text between commas that stand in no bracket."""
     parts, depth = [""], 0
     for sign in text:
-        depth += (sign in "([<") - (sign in ")]>")
+        depth += (sign in "([<{") - (sign in ")]>}")
         if sign == "," and depth == 0:
             parts.append("")
         else:
@@ -176,22 +207,46 @@ def lines_of(text):
 
 def definitions_of(text):
     """The types of a file, in order, and its `use` lines; comments and blank lines stay above what they stood above."""
-    found, uses, above, now = [], [], [], None
+    found, uses, above, now, variant = [], [], [], None, None
     for number, bare in lines_of(text):
         if not bare or bare.startswith("//") or bare.startswith("#["):
             above += [bare] if bare or above or now and now.parts else []
+            continue
+        if variant and bare in ("}", "},"):
+            check_values(variant, f"{variant.name} {{ }}", "")
+            variant = None
+        elif variant:
+            variant.fields.append(variant_field(bare, number, above))
         elif now and bare == "}":
-            found, now, above = [*found, now], None, []
+            found, now = [*found, *with_structs(now)], None
         elif now:
             now.parts.append(part_of(now.kind, bare, number, above))
-            above = []
+            variant = now.parts[-1] if re.fullmatch(rf"{NAME}\s*\{{(\s*//.*)?", bare) and now.kind == "enum" else None
         elif USE.fullmatch(bare):
-            uses, above = [*uses, *above, bare], []
+            uses += [*above, bare]
         else:
-            now, above = head_of(bare, number, above), []
+            now = head_of(bare, number, above)
+        above = []
     if now:
         raise Refused(f"line {now.line}: `{now.name}` is not closed")
     return found, uses
+
+
+def with_structs(it):
+    """A type, and before it a struct for the fields of each variant that has named fields."""
+    structs = []
+    for part in it.parts if it.kind == "enum" else []:
+        if part.fields:
+            params = tuple(name for name in it.params if any(re.search(rf"(?<![\w:]){name}\b", each.of) for each in part.fields))
+            words = tuple(word for word in it.words if word in ("lossless", "stable"))
+            made = Definition("struct", it.name + part.name, part.line, [f"/// The fields of `{it.name}::{part.name}`."], [], it.public, words, params)
+            made.variant = f"{it.name}::{part.name}"
+            made.parts = [replace(each, public=it.public, above=[line for line in each.above if line.startswith("//")]) for each in part.fields]
+            part.of = f"{made.name}<{', '.join(params)}>" if params else made.name
+            structs.append(made)
+    if any(part.of for part in it.parts) and it.kind == "enum":
+        it.kind = "tagged"
+    return [*structs, it]
 
 
 def names_known(found, uses):
@@ -204,6 +259,7 @@ def check(found, uses):
     known = names_known(found, uses)
     for it in found:
         check_foreign_marks(it)
+        check_tagged(it)
         check_written(it)
         check_params(it, known)
         for part in it.parts:

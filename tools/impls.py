@@ -60,7 +60,7 @@ def impl_of(it, bound):
 
 
 # What each type derives. An enum without data is small, so it is copied and compared.
-DERIVES = {"struct": ["Drop"], "enum": ["Clone", "Copy", "PartialEq", "Eq", "Debug", "Drop"]}
+DERIVES = {"struct": ["Drop"], "tagged": ["Drop"], "enum": ["Clone", "Copy", "PartialEq", "Eq", "Debug", "Drop"]}
 # Derives of serde and the original, which the impls stand for.
 STOOD_FOR = ("Serialize", "Deserialize")
 
@@ -68,11 +68,20 @@ STOOD_FOR = ("Serialize", "Deserialize")
 def head_of(it):
     """A type as its user wrote it, with what it derives."""
     own = [name for name in it.derives if name not in STOOD_FOR and name not in DERIVES[it.kind]]
-    lines = [*it.above, f"#[derive({', '.join([*own, *DERIVES[it.kind]])})]", f"{it.public}{it.kind} {typed(it)} {{"]
+    word = "struct" if it.kind == "struct" else "enum"
+    lines = [*it.above, f"#[derive({', '.join([*own, *DERIVES[it.kind]])})]", f"{it.public}{word} {typed(it)} {{"]
     for part in it.parts:
         lines += [f"    {line}".rstrip() for line in part.above]
-        lines.append(f"    {part.public}{part.name}: {part.of}," if it.kind == "struct" else f"    {part.name},")
+        lines.append(f"    {part.public}{part.name}: {part.of}," if it.kind == "struct" else f"    {part.name}{data_of(part)},")
     return "\n".join([*lines, "}"])
+
+
+def data_of(part):
+    """The data of a variant as its user wrote it."""
+    if part.values:
+        return f"({', '.join(part.values)})"
+    fields = ["\n".join([*(f"\n{line}" for line in it.above), f"{it.name}: {it.of}"]) for it in part.fields]
+    return f" {{ {', '.join(fields)} }}" if fields else ""
 
 
 def chain_of(names):
@@ -86,6 +95,8 @@ def printed_for(it):
     if it.kind == "struct":
         names.append(f"{it.name}Fields")
         names += [f"{it.name}Place"] if "events" in it.words else []
+    if it.kind == "tagged":
+        names.append(f"{it.name}Cases")
     return names
 
 
@@ -114,7 +125,8 @@ def lossless_impl(it):
     """The first word of the impl of `Lossless`: a parameter that an `Option` contains is never null besides."""
 
     def optional(name):
-        return any(re.search(rf"\bOption<\s*(?:Box<\s*)*{name}\b", part.of) for part in it.parts)
+        types = [each.of for part in it.parts for each in [part, *part.fields]]
+        return any(re.search(rf"\bOption<\s*(?:Box<\s*)*{name}\b", of) for of in types)
 
     bounds = [f"{name}: Lossless{' + NeverNull' if optional(name) else ''}" for name in it.params]
     return f"impl<{', '.join(bounds)}>" if bounds else "impl"

@@ -10,10 +10,12 @@ class Refused(Exception):
 
 # What derived code may name.
 NAMED = (
-    "AgainFields Closed Deserialize Empty Error Event Field Four FourLent FourSlot Fragment FromJson Given Global Lossless MarkedFour "
-    "MarkedSlot NamePlace NeverNull NoField NoSlot Once OnceField OnceFour OnceSlot Parts PlacedRecord Plain Ranged Record RecordPlace "
-    "Result RoundTrip Serialize Slot Slots Source Stable Step Taken4 UnitEnum Variants Visitor WithDefault Writer read_record "
-    "read_variant record_again record_lossless record_stable take4 variant_again variant_lossless variant_stable write_members"
+    "AgainCases AgainFields Cases Closed DataCase Deserialize Empty Error Event Field Four FourLent FourSlot Fragment FromJson "
+    "Given Global Lossless MarkedFour MarkedSlot NamePlace NeverNull NoCase NoField NoSlot Once OnceField OnceFour OnceSlot OneOf "
+    "Parts PlacedRecord Plain Ranged Record RecordPlace Result RoundTrip Serialize Slot Slots Source Stable Step Tagged Taken4 "
+    "UnitCase UnitEnum Variants Visitor WithDefault Writer enum_again enum_lossless enum_stable read_enum read_record "
+    "read_variant record_again record_lossless record_stable take4 variant_again variant_lossless variant_stable write_data "
+    "write_fields write_members"
 )
 # Names of Rust's prelude and of the clauses, which derived code uses as they are.
 OF_RUST = "Box Err List None Ok Option Self Some String Vec"
@@ -71,10 +73,8 @@ def check_type(of, known, line):
             raise Refused(f"line {line}: `{name}` is not read: {INSTEAD[name]}")
 
 
-def check_param(kind, param, bare, line):
+def check_param(param, bare, line):
     """Refuses a parameter that is more than the name of a type."""
-    if kind == "enum":
-        raise Refused(f"line {line}: an enum has no data, and so no parameters: write a struct with the kind as a unit enum, and the data in `Option`s: {bare}")
     if param[0] == "'":
         raise Refused(f"line {line}: a value owns what it has, with no lifetime: leave out `{param}`, and write `String` for `&str`: {bare}")
     if re.match(r"const\b", param):
@@ -97,7 +97,7 @@ def check_params(it, known):
         if name in it.params[:at]:
             raise Refused(f"line {it.line}: `{it.name}` has two parameters `{name}`: call one otherwise")
         if not any(re.search(rf"(?<![\w:]){name}\b", part.of) for part in it.parts):
-            raise Refused(f"line {it.line}: no field of `{it.name}` has a type with `{name}`: leave the parameter out")
+            raise Refused(f"line {it.line}: no {part_word(it)} of `{it.name}` has a type with `{name}`: leave the parameter out")
         for part in it.parts:
             if re.search(rf"\b(?:BTreeMap|HashMap)<\s*{name}\b", part.of):
                 raise Refused(f"line {part.line}: a map's key is no parameter, since not every type can be a key: write the key's type, as `String`: {part.of}")
@@ -127,13 +127,22 @@ def check_type_names(found, printed_for):
     for it in found:
         if it.name in NAMED.split() or it.name in OF_RUST.split():
             raise Refused(f"line {it.line}: derived code uses the name `{it.name}`: call the type otherwise, its JSON stays")
-        if it.name in lines:
+        if it.name in lines and not it.variant:
             raise Refused(f"line {it.line}: line {lines[it.name]} has a type `{it.name}` too")
-        lines[it.name] = it.line
+        lines.update({} if it.variant else {it.name: it.line})
+    for it in found:
+        if it.variant:
+            check_printed(it, it.name, lines)
+            lines[it.name] = it.line
     for it in found:
         for name in printed_for(it):
-            if name in lines or name in it.params:
-                raise Refused(f"line {lines.get(name, it.line)}: derived code has a type `{name}` for `{it.name}`: call this one otherwise")
+            check_printed(it, name, lines)
+
+
+def check_printed(it, name, lines):
+    """Refuses a type or a parameter that has the name of a type that is written for another."""
+    if name in lines or name in it.params:
+        raise Refused(f"line {lines.get(name, it.line)}: derived code has a type `{name}` for `{it.shown}`: call this one otherwise")
 
 
 def check_cycles(found):
@@ -150,13 +159,46 @@ def check_cycles(found):
     for it in found:
         for part, name in inner[it.name]:
             if reaches(name, it.name, frozenset()):
-                raise Refused(f"line {part.line}: `{it.name}` contains itself by `{part.name}`: keep the inner part as a `miniserde::json::Value`")
+                raise Refused(f"line {part.line}: `{it.shown}` contains itself by `{part.name}`: keep the inner part as a `miniserde::json::Value`")
+
+
+def part_word(it):
+    """What the parts of a type are called."""
+    return "field" if it.kind == "struct" else "variant"
+
+
+def check_values(part, bare, inside):
+    """Refuses a variant with brackets and nothing in them, or with more than two values; `inside` is the text in the brackets."""
+    if inside is not None and not part.values and not part.fields:
+        raise Refused(f"line {part.line}: a variant has no empty brackets: write `{part.name}`: {bare}")
+    if len(part.values) > 2:
+        raise Refused(f"line {part.line}: a variant has one value or two: name its fields, as `{part.name} {{ a: A, b: B, c: C }}`: {bare}")
+
+
+def check_tagged(it):
+    """Refuses an enum with data that has an attribute of serde, or a variant whose name is not one of a type."""
+    if it.kind != "tagged":
+        return
+    for part in [it, *it.parts, *(each for part in it.parts for each in part.fields)]:
+        found = [line for line in part.above if re.match(r"#\[serde\b", line)]
+        if found:
+            raise Refused(
+                f'line {part.line}: an enum with data is written as `"Ping"` and `{{"Text":..}}`, which is what serde does without '
+                f'attributes, and `// rename "x"` renames a variant or a field: leave out {found[0]}'
+            )
+    for part in it.parts:
+        if not re.fullmatch(r"[A-Z][A-Za-z0-9]*", part.name):
+            raise Refused(f'line {part.line}: the name of a variant begins with a capital letter and has no `_`: write `Name, // rename "{part.name}"`')
 
 
 def check_foreign_marks(it):
     """Refuses marks that the type or its place does not know."""
     if not it.parts:
         raise Refused(f"line {it.line}: `{it.name}` has no field or variant")
+    if it.kind == "tagged" and "events" in it.words:
+        raise Refused(f"line {it.line}: an enum with data has no place: leave out `events`")
+    if it.kind == "tagged" and {"once", "closed"} & set(it.words):
+        raise Refused(f"line {it.line}: `{it.name}` is no struct: write a struct that is `closed` or `once`, and a variant of it, as `Text(Text)`")
     if it.kind == "enum" and {"once", "closed"} & set(it.words):
         raise Refused(f"line {it.line}: `{it.name}` is no struct, and has no members that `once` or `closed` could speak of")
     if "events" in it.words and it.params:
@@ -173,6 +215,8 @@ def check_places(found):
             inner = without.keys() & set(re.findall(NAME, part.of))
             if inner:
                 each = sorted(inner)[0]
+                if without[each].kind == "tagged":
+                    raise Refused(f"line {part.line}: `{it.name}` has a place, and its field `{part.name}` is an enum with data, which has none: leave out `events`")
                 if without[each].params:
                     raise Refused(f"line {part.line}: `{it.name}` has a place, and its field `{part.name}` has parameters and so none: leave out `events`")
                 raise Refused(f"line {part.line}: `{it.name}` has a place, and its field `{part.name}` has none: mark `{each}` with `// events` too")
@@ -189,6 +233,6 @@ def check_stable(found, uses):
                 if name in documents:
                     raise Refused(f"line {part.line}: `{name}` is not stable, since it tells `-0` from `0`: write `miniserde::json::Document`: {part.of}")
                 if name in plain:
-                    raise Refused(f"line {part.line}: `{it.name}` is stable, and its field `{part.name}` is not: mark `{name}` with `// stable` too")
+                    raise Refused(f"line {part.line}: `{it.shown}` is stable, and its {part_word(it)} `{part.name}` is not: mark `{name}` with `// stable` too")
             if re.search(r"\b(?:BTreeMap|HashMap)<\s*[ui](?:8|16|32|64|size)\b", part.of):
                 raise Refused(f"line {part.line}: a map with integer keys is not stable, since `1` and `01` are one key: write `String` keys: {part.of}")

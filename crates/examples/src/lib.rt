@@ -4,6 +4,8 @@
 pub mod basket;
 pub mod by_events;
 pub mod canonical;
+pub mod command;
+pub mod commands;
 pub mod counter;
 pub mod limits;
 pub mod order;
@@ -14,6 +16,7 @@ pub mod percent;
 pub mod rate;
 pub mod rates;
 pub mod readme;
+pub mod reply;
 pub mod service;
 pub mod services;
 pub mod tasks;

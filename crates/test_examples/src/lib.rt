@@ -4,6 +4,8 @@
 #[cfg(test)]
 mod callers;
 #[cfg(test)]
+mod commands;
+#[cfg(test)]
 mod loading;
 #[cfg(test)]
 mod pages;

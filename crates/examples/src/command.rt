@@ -1,0 +1,219 @@
+//! The types of `command.rs`, with the impls that `./derive` writes.
+ghost use Rattle.miniserde.specs.Cases.{each_case, enum_tree, first_case, later_case, no_case};
+ghost use Rattle.miniserde.specs.CasesMeant.{enum_meant};
+ghost use Rattle.miniserde.specs.FieldsMeant.{struct_meant};
+ghost use Rattle.miniserde.specs.Structs.{names_of, record_tree};
+ghost use Rattle.std.specs.Prelude.{refl};
+
+use miniserde::derived::{
+    AgainCases, AgainFields, Cases, DataCase, Event, Fragment, FromJson, Lossless, NeverNull,
+    NoCase, NoSlot, OneOf, Parts, Ranged, Record, Result, RoundTrip, Serialize, Slot, Slots,
+    Source, Stable, Tagged, UnitCase, Writer, enum_again, enum_lossless, enum_stable, read_enum,
+    read_record, record_again, record_lossless, record_stable, write_data, write_fields,
+    write_members,
+};
+
+/// The fields of `Command::Move`.
+#[derive(Drop)]
+pub struct CommandMove {
+    pub x: i64,
+    pub y: i64,
+}
+
+// Its fields, and their names.
+type CommandMoveFields = Slot<i64, Slot<i64, NoSlot>>;
+
+const COMMAND_MOVE_NAMES: &[&str] = &["x", "y"];
+
+impl Record for CommandMove {
+    ghost use Rattle.examples.specs.declared.command.TheConstants.{COMMAND_MOVE_NAMES};
+
+    type Values = <CommandMoveFields as Slots>::Values;
+
+    ghost names = { names_of COMMAND_MOVE_NAMES };
+
+    ghost values = { λ v. (v.x, (v.y, tt)) };
+
+    ghost made = { λ x. record { x = x.0; y = x.1.0 } };
+
+    ghost whole = { (λ v. refl, λ x. refl) };
+
+    ghost named = { refl };
+
+    fn names() -> &'static [&'static str] {
+        COMMAND_MOVE_NAMES
+    }
+
+    fn build(parts: Self::Values) -> CommandMove {
+        let Parts(x, Parts(y, ())) = parts;
+        CommandMove { x, y }
+    }
+}
+
+impl FromJson for CommandMove {
+    ghost means = { struct_meant ⟦<CommandMoveFields as Slots>⟧.meaning ⟦<CommandMove as Record>⟧.names ⟦<CommandMove as Record>⟧.values };
+
+    fn missing() -> Option<CommandMove> {
+        None
+    }
+
+    fn read<'a>(token: Event<'a>, source: &mut Source<'a>) -> Result<CommandMove> {
+        read_record::<CommandMove, CommandMoveFields>(token, source)
+    }
+}
+
+impl Serialize for CommandMove {
+    ghost tree = { record_tree ⟦<CommandMove as Record>⟧.names ⟦<CommandMoveFields as AgainFields>⟧.trees ⟦<CommandMove as Record>⟧.values };
+
+    fn begin(&self, w: &mut Writer) -> Result<()> {
+        write_members(w, COMMAND_MOVE_NAMES, &Parts(&self.x, Parts(&self.y, ())))
+    }
+}
+
+impl Ranged for CommandMove {
+    ghost real = { λ v. ⟦<CommandMoveFields as AgainFields>⟧.real (⟦<CommandMove as Record>⟧.values
+        v) };
+
+    fn ranged(&self) {
+        self.x.ranged();
+        self.y.ranged();
+    }
+}
+
+impl RoundTrip for CommandMove {
+    fn again() {
+        record_again::<CommandMove, CommandMoveFields>()
+    }
+}
+
+impl Lossless for CommandMove {
+    fn lossless() {
+        record_lossless::<CommandMove, CommandMoveFields>()
+    }
+}
+
+impl NeverNull for CommandMove {
+    fn never_null() {}
+}
+
+impl Stable for CommandMove {
+    fn stable() {
+        record_stable::<CommandMove, CommandMoveFields>()
+    }
+}
+
+/// What a client asks for.
+#[derive(Drop)]
+pub enum Command {
+    Ping,
+    Text(String),
+    Move { x: i64, y: i64 },
+}
+
+// Its variants, and their names.
+type CommandCases = UnitCase<DataCase<String, DataCase<CommandMove, NoCase>>>;
+
+const COMMAND_NAMES: &[&str] = &["Ping", "Text", "Move"];
+
+impl Tagged for Command {
+    ghost use Rattle.examples.specs.declared.command.TheConstants.{COMMAND_NAMES};
+    ghost use Rattle.examples.specs.declared.command.Command.TheVariants.{Ping, Text, Move};
+
+    type Values = <CommandCases as Cases>::Values;
+
+    ghost names = { names_of COMMAND_NAMES };
+
+    ghost values = { elim [
+      | Ping ↦ first_case tt
+      | Text x0 ↦ later_case (first_case x0)
+      | Move x0 x1
+          ↦ later_case (later_case (first_case (record { x = x0; y = x1 })))
+    ] };
+
+    ghost whole = { each_case _ (λ x. (Ping, refl)) (each_case _ (λ x. (Text x, refl)) (each_case _
+        (λ x. (Move x.x x.y, refl)) (no_case _))) };
+
+    ghost named = { refl };
+
+    fn names() -> &'static [&'static str] {
+        COMMAND_NAMES
+    }
+
+    fn build(value: Self::Values) -> Command {
+        match value {
+            OneOf::First(()) => Command::Ping,
+            OneOf::Later(value) => match value {
+                OneOf::First(a) => Command::Text(a),
+                OneOf::Later(value) => match value {
+                    OneOf::First(CommandMove { x, y }) => Command::Move { x, y },
+                    OneOf::Later(value) => match value {},
+                },
+            },
+        }
+    }
+}
+
+impl FromJson for Command {
+    ghost means = { enum_meant ⟦<CommandCases as Cases>⟧.meaning ⟦<Command as Tagged>⟧.names refl
+        ⟦<Command as Tagged>⟧.values };
+
+    fn missing() -> Option<Command> {
+        None
+    }
+
+    fn read<'a>(token: Event<'a>, source: &mut Source<'a>) -> Result<Command> {
+        read_enum::<Command, CommandCases>(token, source)
+    }
+}
+
+impl Serialize for Command {
+    ghost tree = { enum_tree ⟦<Command as Tagged>⟧.names ⟦<CommandCases as AgainCases>⟧.tree
+        ⟦<Command as Tagged>⟧.values };
+
+    fn begin(&self, w: &mut Writer) -> Result<()> {
+        match self {
+            Command::Ping => w.fragment(Fragment::Str("Ping")),
+            Command::Text(a) => write_data(w, "Text", a),
+            Command::Move { x, y } => {
+                write_fields(w, "Move", COMMAND_MOVE_NAMES, &Parts(x, Parts(y, ())))
+            },
+        }
+    }
+}
+
+impl Ranged for Command {
+    ghost real = { λ v. ⟦<CommandCases as AgainCases>⟧.real (⟦<Command as Tagged>⟧.values v) };
+
+    fn ranged(&self) {
+        match self {
+            Command::Ping => {}
+            Command::Text(a) => a.ranged(),
+            Command::Move { x, y } => {
+                x.ranged();
+                y.ranged();
+            },
+        }
+    }
+}
+
+impl RoundTrip for Command {
+    fn again() {
+        enum_again::<Command, CommandCases>()
+    }
+}
+
+impl Lossless for Command {
+    fn lossless() {
+        enum_lossless::<Command, CommandCases>()
+    }
+}
+
+impl NeverNull for Command {
+    fn never_null() {}
+}
+
+impl Stable for Command {
+    fn stable() {
+        enum_stable::<Command, CommandCases>()
+    }
+}

@@ -1,0 +1,179 @@
+"""The impls that `./derive` writes for an enum whose variants may have data."""
+from impls import const_of, head_of, impl_of, laws_text, lent_of, of, quoted, typed, wrapped
+
+
+def cases_of(parts):
+    """The list of variants: the types of their data."""
+    if not parts:
+        return "NoCase"
+    rest = cases_of(parts[1:])
+    return f"DataCase<{parts[0].of}, {rest}>" if parts[0].of else f"UnitCase<{rest}>"
+
+
+def names_in(part):
+    """The names of a variant's values in code: of its fields their own."""
+    return [it.name for it in part.fields] or ["a", "b"][: len(part.values)]
+
+
+def variant_text(it, part):
+    """A variant with its values by their names, as a pattern and as an expression."""
+    names = ", ".join(names_in(part))
+    return f"{it.name}::{part.name}{f' {{ {names} }}' if part.fields else f'({names})' if names else ''}"
+
+
+def data_text(it, part):
+    """The data of a variant with its values by their names, as a pattern."""
+    names = ", ".join(names_in(part))
+    return f"{it.name}{part.name} {{ {names} }}" if part.fields else names if len(part.values) == 1 else f"({names})"
+
+
+def case_clause(at, part):
+    """The line of a clause that takes a variant apart: its data among the variants' values."""
+    names = [f"x{each}" for each in range(len(part.fields) or len(part.values))]
+    data = names[0] if len(part.values) == 1 else f"({', '.join(names)})" if names else "tt"
+    if part.fields:
+        data = f"(record {{ {'; '.join(f'{quoted(field.name)} = {name}' for field, name in zip(part.fields, names))} }})"
+    return f"{' '.join([part.name, *names])} ↦ {'later_case (' * at}first_case {data}{')' * at}"
+
+
+def made_clause(parts):
+    """The clause that makes the enum of each value of a variant."""
+    if not parts:
+        return "no_case _"
+    first = parts[0]
+    data = [f"x.{it.name}" for it in first.fields] or ["x.0", "x.1", "x"][2 * (len(first.values) == 1) :][: len(first.values)]
+    return f"each_case _ (λ x. ({' '.join([first.name, *data])}, refl)) ({made_clause(parts[1:])})"
+
+
+def built_of(it, parts):
+    """The match that builds the enum of a variant's value."""
+    if not parts:
+        return "match value {}"
+    return (
+        f"match value {{ OneOf::First({data_text(it, parts[0])}) => {variant_text(it, parts[0])}, "
+        f"OneOf::Later(value) => {built_of(it, parts[1:])}, }}"
+    )
+
+
+def tagged_text(it, path):
+    """An enum with data with its impls."""
+    return f"""{head_of(it)}
+
+// Its variants, and their names.
+type {typed(it, "Cases")} = {cases_of(it.parts)};
+
+const {const_of(it.name)}: &[&str] = &[{", ".join(f'"{part.written}"' for part in it.parts)}];
+{variants_text(it, path)}{reading_text(it)}{writing_text(it)}{again_text(it)}{laws_text(it, "enum", f"{typed(it)}, {typed(it, 'Cases')}")}"""
+
+
+def variants_text(it, path):
+    """The impl that takes an enum apart and makes one."""
+    name, const = typed(it), const_of(it.name)
+    values = " | ".join(case_clause(at, part) for at, part in enumerate(it.parts))
+    return f"""
+{impl_of(it, "FromJson")} Tagged for {name} {{
+    ghost use Rattle.{path}.TheConstants.{{{const}}};
+    ghost use Rattle.{path}.{it.name}.TheVariants.{{{", ".join(part.name for part in it.parts)}}};
+
+    type Values = <{typed(it, "Cases")} as Cases>::Values;
+
+    ghost names = {{ names_of {const} }};
+
+{wrapped("values", f"elim [ {values} ]")}
+
+{wrapped("whole", made_clause(it.parts))}
+
+    ghost named = {{ refl }};
+
+    fn names() -> &'static [&'static str] {{
+        {const}
+    }}
+
+    fn build(value: Self::Values) -> {name} {{
+        {built_of(it, it.parts)}
+    }}
+}}
+"""
+
+
+def reading_text(it):
+    """The impl that reads an enum."""
+    name, cases = typed(it), typed(it, "Cases")
+    meaning = f"enum_meant {of('Cases', 'meaning', cases)} {of('Tagged', 'names', name)} refl {of('Tagged', 'values', name)}"
+    return f"""
+{impl_of(it, "FromJson")} FromJson for {name} {{
+{wrapped("means", meaning)}
+
+    fn missing() -> Option<{name}> {{
+        None
+    }}
+
+    fn read<'a>(token: Event<'a>, source: &mut Source<'a>) -> Result<{name}> {{
+        read_enum::<{name}, {cases}>(token, source)
+    }}
+}}
+"""
+
+
+def written_of(it, part, writer):
+    """The call that writes a variant."""
+    if part.fields:
+        const = const_of(it.name + part.name)
+        return f'{{ write_fields({writer}, "{part.written}", {const}, &{lent_of(names_in(part))}) }}'
+    if part.values:
+        value = "a" if len(part.values) == 1 else "&(a, b)"
+        return f'write_data({writer}, "{part.written}", {value})'
+    return f'{writer}.fragment(Fragment::Str("{part.written}"))'
+
+
+def arms(it, each):
+    """The arms of a match on an enum, in lines."""
+    return "\n".join(f"            {variant_text(it, part)} => {each(part)}," for part in it.parts).replace(" => {},\n", " => {}\n")
+
+
+def writing_text(it):
+    """The impl that writes an enum. The writer has a name that no field has."""
+    name, cases = typed(it), typed(it, "Cases")
+    fields = {field.name for part in it.parts for field in part.fields}
+    writer = next(word for word in ("w", "writer", "out", "to") if word not in fields)
+    tree = f"enum_tree {of('Tagged', 'names', name)} {of('AgainCases', 'tree', cases)} {of('Tagged', 'values', name)}"
+    return f"""
+{impl_of(it, "RoundTrip")} Serialize for {name} {{
+{wrapped("tree", tree)}
+
+    fn begin(&self, {writer}: &mut Writer) -> Result<()> {{
+        match self {{
+{arms(it, lambda part: written_of(it, part, writer))}
+        }}
+    }}
+}}
+"""
+
+
+def ranged_of(part):
+    """The call that promises that a variant's values are valid."""
+    calls = [f"{name}.ranged()" for name in names_in(part)]
+    return calls[0] if len(part.values) == 1 else f"{{ {' '.join(f'{call};' for call in calls)} }}" if calls else "{}"
+
+
+def again_text(it):
+    """The impls that say that what was written of an enum is read again."""
+    name, cases = typed(it), typed(it, "Cases")
+    real = f"λ v. {of('AgainCases', 'real', cases)} ({of('Tagged', 'values', name)} v)"
+    return f"""
+{impl_of(it, "RoundTrip")} Ranged for {name} {{
+{wrapped("real", real)}
+
+    fn ranged(&self) {{
+        match self {{
+{arms(it, ranged_of)}
+        }}
+    }}
+}}
+
+{impl_of(it, "RoundTrip")} RoundTrip for {name} {{
+    fn again() {{
+        enum_again::<{name}, {cases}>()
+    }}
+}}
+"""
