@@ -33,7 +33,7 @@ def case_clause(at, part):
     data = names[0] if len(part.values) == 1 else f"({', '.join(names)})" if names else "tt"
     if part.fields:
         data = f"(record {{ {'; '.join(f'{quoted(field.name)} = {name}' for field, name in zip(part.fields, names))} }})"
-    return f"{' '.join([part.name, *names])} ↦ {'later_case (' * at}first_case {data}{')' * at}"
+    return f"{' '.join([quoted(part.name), *names])} ↦ {'later_case (' * at}first_case {data}{')' * at}"
 
 
 def made_clause(parts):
@@ -42,7 +42,7 @@ def made_clause(parts):
         return "no_case _"
     first = parts[0]
     data = [f"x.{it.name}" for it in first.fields] or ["x.0", "x.1", "x"][2 * (len(first.values) == 1) :][: len(first.values)]
-    return f"each_case _ (λ x. ({' '.join([first.name, *data])}, refl)) ({made_clause(parts[1:])})"
+    return f"each_case _ (λ x. ({' '.join([quoted(first.name), *data])}, refl)) ({made_clause(parts[1:])})"
 
 
 def built_of(it, parts):
@@ -73,7 +73,7 @@ def variants_text(it, path):
     return f"""
 {impl_of(it, "FromJson")} Tagged for {name} {{
     ghost use Rattle.{path}.TheConstants.{{{const}}};
-    ghost use Rattle.{path}.{it.name}.TheVariants.{{{", ".join(part.name for part in it.parts)}}};
+    ghost use Rattle.{path}.{it.name}.TheVariants.{{{", ".join(quoted(part.name) for part in it.parts)}}};
 
     type Values = <{typed(it, "Cases")} as Cases>::Values;
 

@@ -6,7 +6,7 @@ from places import name_place_text, place_text
 # Words that clauses reserve: a field of such a name is quoted there.
 RESERVED = set(
     "abbrev absurd as axiom cc coe data elim exists forall grind hiding in infix let module mod mutual omega open "
-    "opaque package pub record refl rw simp subst tt unfold unfoldable unfolding use where λ".split()
+    "opaque package pub record refl rw simp subst tt Type unfold unfoldable unfolding use where λ".split()
 )
 
 
