@@ -1,6 +1,6 @@
 -- Trees without duplicate names.
 use Rattle.std.specs.Prelude.{ℕ, Bool, true, not, ◌&&◌, List, is_some}
-use Rattle.miniserde_model.specs.Tree.{Tree, null, truth, nonneg, neg, num, str, list, members, Trees, no_trees, tree, Members, no_members, member}
+use Rattle.miniserde_model.specs.Tree.{Tree, list, members, Trees, no_trees, tree, Members, no_members, member}
 use Rattle.miniserde_model.specs.Normal.{last_of}
 
 -- a member has the name, as decoded text
@@ -10,14 +10,9 @@ has_name name ms = is_some (last_of name ms)
 abbrev mutual
   -- no member list anywhere in the tree has one name twice
   pub distinct : Tree → Bool
-  distinct null = true
-  distinct (truth x) = true
-  distinct (nonneg n) = true
-  distinct (neg z) = true
-  distinct (num x) = true
-  distinct (str s) = true
   distinct (list ts) = distinct_children ts
   distinct (members ms) = distinct_members ms
+  distinct leaf = true
 
   pub distinct_children : Trees → Bool
   distinct_children no_trees = true

@@ -4,7 +4,7 @@ use Rattle.std.specs.Ordering.{nat_cmp}
 use Rattle.std.specs.Cmp.Lexicographic.{slice_cmp}
 use Rattle.std.specs.declared.cmp.Ordering.{Ordering}
 use Rattle.std.specs.declared.cmp.Ordering.TheVariants.{Less, Equal, Greater}
-use Rattle.miniserde_model.specs.Tree.{Tree, null, truth, nonneg, neg, num, str, list, members, Trees, no_trees, tree, Members, no_members, member}
+use Rattle.miniserde_model.specs.Tree.{Tree, nonneg, neg, list, members, Trees, no_trees, tree, Members, no_members, member}
 
 -- the order of texts by their bytes
 abbrev pub text_cmp : List ℕ → List ℕ → Ordering
@@ -26,14 +26,10 @@ norm_neg (negsuc n) = neg (negsuc n)
 
 abbrev mutual
   pub norm : Tree → Tree
-  norm null = null
-  norm (truth x) = truth x
-  norm (nonneg n) = nonneg n
   norm (neg z) = norm_neg z
-  norm (num x) = num x
-  norm (str s) = str s
   norm (list ts) = list (norm_children ts)
   norm (members ms) = members (norm_members ms)
+  norm leaf = leaf
 
   pub norm_children : Trees → Trees
   norm_children no_trees = no_trees

@@ -1,20 +1,15 @@
 -- What a `Value` keeps of a tree.
 use Rattle.std.specs.Prelude.{Bool, not, ◌||◌, cond, Option, Some, None}
-use Rattle.miniserde_model.specs.Tree.{Tree, null, truth, nonneg, neg, num, str, list, members, Trees, no_trees, tree, Members, no_members, member}
+use Rattle.miniserde_model.specs.Tree.{Tree, list, members, Trees, no_trees, tree, Members, no_members, member}
 use Rattle.miniserde_model.specs.Normal.{with_first}
 use Rattle.miniserde_model.specs.Distinct.{distinct}
 
 abbrev mutual
   -- each leaf, the children of each list, and of each name the last tree, in byte order of the names
   pub kept : Tree → Tree
-  kept null = null
-  kept (truth b) = truth b
-  kept (nonneg n) = nonneg n
-  kept (neg z) = neg z
-  kept (num x) = num x
-  kept (str s) = str s
   kept (list ts) = list (kept_children ts)
   kept (members ms) = members (kept_members ms)
+  kept leaf = leaf
 
   pub kept_children : Trees → Trees
   kept_children no_trees = no_trees
