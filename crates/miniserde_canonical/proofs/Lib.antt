@@ -17,4 +17,3 @@ pub mod Drafting
 pub mod Running
 pub mod Filling
 pub mod Taking
-pub mod Utf8

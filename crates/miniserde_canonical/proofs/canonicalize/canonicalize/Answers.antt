@@ -1,10 +1,12 @@
 -- The bytes are the compact text of a tree, so they are UTF-8.
 use Rattle.std.proofs.Common.{rules, IsUtf8, sym, subst}
 use Rattle.std.proofs.lemmas.Result.{err_from_is_err_and}
+use Rattle.miniserde_model.specs.Compact.{compact}
 use Rattle.miniserde_model.specs.Normal.{norm}
 use Rattle.miniserde_model.proofs.Accepted.{json_tree}
 use Rattle.miniserde_model.proofs.Normal.{norm_tree}
-use Rattle.miniserde_canonical.proofs.Utf8.{compact_utf8}
+use Rattle.miniserde_model.proofs.Utf8.{json_utf8}
+use Rattle.miniserde_model.proofs.Written.{written}
 use Rattle.miniserde_canonical.proofs.canonicalize.canonicalize.Goals as goal
 
 pub returns-in_err-bytes-clause-invalid : goal.returns-in_err-bytes-clause-invalid
@@ -15,7 +17,8 @@ returns-in_err-bytes-clause-invalid c = λ e.
 pub from_utf8_unchecked-requires : goal.from_utf8_unchecked-requires
 from_utf8_unchecked-requires c =
     let r = c.in_ok-bytes.ensures.ok in
-    subst IsUtf8 (sym r.2) (compact_utf8 (norm r.0) (norm_tree r.0 (json_tree c.args.j.now r.0 r.1)))
+    let n = norm r.0 in
+    subst IsUtf8 (sym r.2) (json_utf8 (compact n) n (written n (norm_tree r.0 (json_tree c.args.j.now r.0 r.1))))
 
 pub returns-clause-ok : goal.returns-clause-ok
 returns-clause-ok c =
