@@ -62,6 +62,12 @@ def polygon(r):
     return '{"type":"Feature","geometry":{"type":"Polygon","coordinates":[%s]}}' % points
 
 
+def command(r):
+    """A variant without data, one with a text, or one with two fields, each as often."""
+    step = '{"Move":{"x":%d,"y":%d}}' % (r.randint(-1000, 1000), r.randint(-1000, 1000))
+    return r.choice(['"Ping"', '{"Text":"%s"}' % word(r, 3, 30), step])
+
+
 def texts():
     r = random.Random(20261123)
     row = lambda: listed(number(r) for _ in range(10))
@@ -100,6 +106,7 @@ def texts():
     yield 'options', fill(SIZE, lambda: r.choice(['null', 'true', 'false']))
     yield 'polygons', fill(SIZE, lambda: polygon(r))
     yield 'tags', fill(SIZE, lambda: r.choice(['"A"', '"renamedB"', '"enum"']))
+    yield 'commands', fill(SIZE, lambda: command(r))
     yield 'out_of_order', fill(SIZE, lambda: '{"b":' * 100 + '0' + ',"a":1}' * 100)
 
 

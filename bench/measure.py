@@ -27,6 +27,7 @@ JOBS = [
     ('`BTreeMap<String, u64>`', 'map', 'map', 'empty_map'),
     ('`Vec<Demo>`, structs', 'demos', 'structs', 'empty'),
     ('`Vec<Tag>`, unit enums', 'tags', 'tags', 'empty'),
+    ('`Vec<Command>`, enums with data', 'commands', 'commands', 'empty'),
     ('`Vec<(u64, String)>`', 'pairs', 'pairs', 'empty'),
     ('`Vec<Option<bool>>`', 'options', 'options', 'empty'),
     *((f'{what}, {text}', kind, name, 'empty_map' if name == 'names' else 'empty')

@@ -20,6 +20,13 @@ enum Tag {
     Enum,
 }
 
+#[derive(Serialize, Deserialize)]
+enum Command {
+    Ping,
+    Text(String),
+    Move { x: i64, y: i64 },
+}
+
 fn put(text: &str) -> bool {
     std::io::stdout().write_all(text.as_bytes()).is_ok()
 }
@@ -58,6 +65,7 @@ fn main() -> ExitCode {
         "map" => job::<BTreeMap<String, u64>>(mode, &text),
         "demos" => job::<Vec<Demo>>(mode, &text),
         "tags" => job::<Vec<Tag>>(mode, &text),
+        "commands" => job::<Vec<Command>>(mode, &text),
         "pairs" => job::<Vec<(u64, String)>>(mode, &text),
         "options" => job::<Vec<Option<bool>>>(mode, &text),
         "value" => job::<serde_json::Value>(mode, &text),

@@ -3,6 +3,7 @@
 use crate::outcome::Outcome;
 use crate::{calls, places};
 use demo::{Demo, Example, StrictDemo, Tag};
+use examples::command::Command;
 use miniserde::de::ignore;
 use miniserde::json::{Value, feed, from_str, to_string};
 use miniserde::{FromJson, Result, Serialize};
@@ -61,6 +62,7 @@ fn of_structs(alloc: Global, job: &str, depth: Depth, text: &str) -> Option<Resu
         "demo" => Some(rewrite::<Demo>(alloc, depth, text)),
         "demos" => Some(rewrite::<Vec<Demo>>(alloc, depth, text)),
         "strict-demo" => Some(rewrite::<StrictDemo>(alloc, depth, text)),
+        "commands" => Some(rewrite::<Vec<Command>>(alloc, depth, text)),
         "tags" => Some(rewrite::<Vec<Tag>>(alloc, depth, text)),
         "example" => Some(rewrite::<Example>(alloc, depth, text)),
         _ => None,
