@@ -2,7 +2,7 @@
 
 pub use miniserde_canonical::{canonical, canonical_both, canonical_unique};
 pub use miniserde_place::feed;
-pub use miniserde_read::from_str;
+pub use miniserde_read::{from_slice, from_str};
 pub use miniserde_ser::ser::to_string;
 pub use miniserde_store::{canonical_of, read_canonical};
 pub use miniserde_text::json::lex;

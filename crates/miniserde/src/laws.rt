@@ -3,5 +3,6 @@
 pub use miniserde_de::events::{events_give, events_mean};
 pub use miniserde_model::{
     canonical_is_shortest, canonical_tells, compact_spells, events_complete, norm_is_normal,
-    norm_of_distinct, norm_of_members, spelled_is_tree, text_has_one_tree, worked_examples,
+    norm_of_distinct, norm_of_members, spelled_is_tree, spelled_is_utf8, text_has_one_tree,
+    worked_examples,
 };

@@ -17,3 +17,4 @@ pub mod Distinct
 pub mod Forced
 pub mod Examples
 pub mod RefusedExamples
+pub mod Utf8

@@ -1,5 +1,5 @@
 -- Laws over the definitions. Each is the contract of a function of this crate.
-use Rattle.std.specs.Prelude.{◌≡◌, ◌≤◌, ◌↔◌, true, List, ◌++◌, ℕ, [], length, option_map}
+use Rattle.std.specs.Prelude.{◌≡◌, ◌≤◌, ◌↔◌, true, List, ◌++◌, ℕ, [], length, option_map, IsUtf8}
 use Rattle.miniserde_model.specs.Tree.{Tree, Members, no_members}
 use Rattle.miniserde_model.specs.Value.{IsValue, IsJson}
 use Rattle.miniserde_model.specs.IsTree.{IsTree}
@@ -17,6 +17,10 @@ TextHasOneTree = (b : List ℕ) (t u : Tree) → IsJson b t → IsJson b u → t
 -- a spelled tree holds numbers in range and text in UTF-8
 abbrev pub SpelledIsTree : Type 0
 SpelledIsTree = (b : List ℕ) (t : Tree) → IsJson b t → IsTree t
+
+-- a text that spells a tree is UTF-8
+abbrev pub SpelledIsUtf8 : Type 0
+SpelledIsUtf8 = (b : List ℕ) (t : Tree) → IsJson b t → IsUtf8 b
 
 -- the compact text of a tree spells it
 abbrev pub CompactSpells : Type 0

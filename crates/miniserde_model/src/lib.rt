@@ -7,7 +7,7 @@
 ghost use Rattle.miniserde_model.specs.Examples.{NormalForms, RefusedTexts, SpelledTexts};
 ghost use Rattle.miniserde_model.specs.Laws.{CanonicalIsShortest, CanonicalTells, CompactIsValue, CompactSpells, DistinctKeepsSize, EventsComplete};
 ghost use Rattle.miniserde_model.specs.Laws.{NoneBeginsAnother, NormIsDistinct, NormIsNormal, NormIsOnly, NormIsTree};
-ghost use Rattle.miniserde_model.specs.Laws.{NormKeepsLast, NormRises, PutGivesNorm, SpelledIsTree, TextHasOneTree};
+ghost use Rattle.miniserde_model.specs.Laws.{NormKeepsLast, NormRises, PutGivesNorm, SpelledIsTree, SpelledIsUtf8, TextHasOneTree};
 
 pub mod error;
 
@@ -19,6 +19,11 @@ pub fn text_has_one_tree()
 /// A tree that a text spells holds numbers in range and text in UTF-8.
 pub fn spelled_is_tree()
     ensures { SpelledIsTree }
+{}
+
+/// Does nothing. It promises that a text that spells a tree is UTF-8.
+pub fn spelled_is_utf8()
+    ensures { SpelledIsUtf8 }
 {}
 
 /// The compact text of a tree spells it, as a whole text and as a value amid a text, with no whitespace around.

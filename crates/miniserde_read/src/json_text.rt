@@ -1,5 +1,5 @@
 //! Whole texts.
-ghost use Rattle.std.specs.Prelude.{◌≡◌, true, List, ℕ, None, Some, Ok, Err, IfOk};
+ghost use Rattle.std.specs.Prelude.{◌≡◌, true, List, ℕ, None, Some, Ok, Err, IfOk, IsUtf8};
 ghost use Rattle.miniserde_model.specs.Tree.{Tree};
 ghost use Rattle.miniserde_model.specs.Value.{IsJson};
 ghost use Rattle.miniserde_model.specs.declared.error.Error.{Error};
@@ -7,8 +7,9 @@ ghost use Rattle.miniserde_read.specs.Escaped.{HasEscape};
 
 use crate::from_json::FromJson;
 use crate::source::Source;
-use miniserde_model::error::Result;
+use miniserde_model::error::{Error, Result};
 use std::alloc::Global;
+use std::str;
 
 /// Parses one JSON value that spans the whole text (RFC 8259, section 2).
 pub fn from_str<T: FromJson>(alloc: Global, j: &str) -> Result<T>
@@ -33,4 +34,31 @@ pub fn from_str<T: FromJson>(alloc: Global, j: &str) -> Result<T>
     let value = T::read(token, &mut source)?;
     source.end()?;
     Ok(value)
+}
+
+/// Parses one JSON value that spans all the bytes. Returns `Invalid` if they are not UTF-8 (RFC 8259, section 8.1).
+pub fn from_slice<T: FromJson>(alloc: Global, bytes: &[u8]) -> Result<T>
+    // The bytes mean the value.
+    ensures ok { IfOk result (λ v. (t : Tree) × IsJson bytes.now t × T.means.reads t v) }
+    ensures content { IfOk result (λ v.
+        (t : Tree) × IsJson bytes.now t × (T.means.from_tree t ≡ Some (T.means.content v))) }
+
+    // They have no tree, or one that means no value.
+    ensures invalid { result ≡ Err Error.Invalid
+        → (t : Tree) → IsJson bytes.now t → (v : T) → T.means.reads t v → ⊥ }
+    ensures none { result ≡ Err Error.Invalid → (t : Tree) → IsJson bytes.now t → T.means.from_tree t ≡ None }
+
+    // Bytes that are not UTF-8 are `Invalid`, never `Memory`.
+    ensures utf8 { (IsUtf8 bytes.now → ⊥) → result ≡ Err Error.Invalid }
+
+    // Where reading the type never fails to allocate, the value is a string with a backslash.
+    ensures memory { T.read_infallible ≡ true → result ≡ Err Error.Memory → HasEscape bytes.now }
+
+    // No bytes have two trees.
+    ensures one { (t u : Tree) → IsJson bytes.now t → IsJson bytes.now u → t ≡ u }
+{
+    match str::from_utf8(bytes) {
+        Ok(text) => from_str(alloc, text),
+        Err(_) => Err(Error::Invalid),
+    }
 }

@@ -11,7 +11,7 @@ mod step;
 
 pub use from_json::{FromJson, StdLeaf, Table};
 pub use ignored::Ignored;
-pub use json_text::from_str;
+pub use json_text::{from_slice, from_str};
 pub use leaf::{Leaf, read_leaf};
 pub use lookups::{gets_last, gets_last_by_hashed_key, gets_last_by_key};
 #[doc(hidden)]

@@ -13,6 +13,8 @@ mod scalars;
 #[cfg(test)]
 mod shapes;
 #[cfg(test)]
+mod slices;
+#[cfg(test)]
 mod stable;
 #[cfg(test)]
 mod strings;
