@@ -32,8 +32,8 @@ class Part:
 @dataclass
 class Definition:
     """A struct, an enum without data, or a tagged enum, whose variants may have data. `above` are the lines above it, without
-    its derives, and `params` the names of its parameters. `shown` is what messages call it: of the struct that is written for
-    a variant's fields the variant.
+    its derives, and `params` the names of its parameters. `style` is the style of its parts' names in JSON, "" for none.
+    `shown` is what messages call it: of the struct that is written for a variant's fields the variant.
     """
 
     kind: str
@@ -44,6 +44,7 @@ class Definition:
     public: str
     words: tuple
     params: tuple = ()
+    style: str = ""
     parts: list = field(default_factory=list)
     variant: str = ""
 
@@ -54,16 +55,54 @@ class Definition:
 
 USE = re.compile(r"(?:pub )?use [A-Za-z0-9_:{}*, ]+;")
 DERIVE = re.compile(r"#\[derive\(([^)]*)\)\]")
-WORD = r"(?:once|closed|lossless|stable|events)"
+WORD = r'(?:once|closed|lossless|stable|events|rename_all\b(?:"[^"]*"|[^",])*)'
 WORDS = rf"\s*//\s*({WORD}(?:,\s*{WORD})*)"
 PUBLIC = r"(pub(?:\([a-z ]+\))?\s+)?"
 PARAMS = r"(?:<([^{}]*)>)?"
 HEAD = re.compile(rf"{PUBLIC}(struct|enum)\s+({NAME})\s*{PARAMS}\s*\{{(?:{WORDS})?")
 ON_ONE_LINE = re.compile(rf"({PUBLIC}(?:struct|enum)\s+{NAME}\s*{PARAMS}\s*\{{)((?:[^{{}}]|\{{[^{{}}]*\}})*)\}}({WORDS})?")
 VARIANT = re.compile(rf"({NAME})\s*(?:\((.*)\)|\{{(.*)\}}|(\{{))?,?")
-MARKS = re.compile(r'//\s*((?:once|default|rename)\b.*)$')
+MARKS = re.compile(r'//\s*((?:once|default|rename|rename_all)\b.*)$')
 MARK = re.compile(r'\s*(?:(once)|default(?:\s+(-?\d+|true|false|"[^"\\]*"))?|rename\s+"([^"\\]*)")\s*(?:,|$)')
 INTEGER = re.compile(r"[ui](8|16|32|64|size)")
+
+
+def spellings(kind, name):
+    """The name of a field or a variant in each style of `rename_all`, by serde's rules: a field stands in snake_case in Rust,
+    and a variant in PascalCase.
+    """
+    field = kind == "struct"
+    snake = name if field else re.sub("(?<!^)(?=[A-Z])", "_", name).lower()
+    pascal = "".join(word[:1].upper() + word[1:] for word in name.split("_")) if field else name
+    return {
+        "lowercase": name if field else name.lower(),
+        "UPPERCASE": name.upper(),
+        "PascalCase": pascal,
+        "camelCase": pascal[:1].lower() + pascal[1:],
+        "snake_case": snake,
+        "SCREAMING_SNAKE_CASE": snake.upper(),
+        "kebab-case": snake.replace("_", "-"),
+        "SCREAMING-KEBAB-CASE": snake.upper().replace("_", "-"),
+    }
+
+
+def spelled(kind, name, style):
+    """The name of a field or a variant in JSON if it has no `rename`."""
+    return spellings(kind, name)[style] if style else name
+
+
+def style_of(kind, words, line):
+    """The style of the names that the words of a type ask for, "" for none."""
+    style = ""
+    for word in words:
+        found = re.fullmatch(r'rename_all\s+"([^"]*)"', word)
+        if not found or found.group(1) not in spellings(kind, ""):
+            styles = ", ".join(f'"{each}"' for each in spellings(kind, ""))
+            raise Refused(f'line {line}: `rename_all` has a style behind it, one of {styles}: write `rename_all "camelCase"`: {word}')
+        if style:
+            raise Refused(f'line {line}: the names have one style: leave out {word}, or `rename_all "{style}"`')
+        style = found.group(1)
+    return style
 
 
 def marks_of(kind, text, line):
@@ -85,41 +124,43 @@ def marks_of(kind, text, line):
     return once, default, rename
 
 
-def part_of(kind, text, line, above):
-    """The field or variant of a line."""
+def part_of(kind, text, line, above, style):
+    """The field or variant of a line. Without `rename` its name in JSON has the style."""
     marks = MARKS.search(text)
     once, default, rename = marks_of(kind, marks.group(1) if marks else "", line)
     bare = (text[: marks.start()] if marks else text).strip()
     if "//" in bare:
         raise Refused(f"line {line}: a comment that is no mark stands on a line of its own, above the field: {text}")
-    part = field_of(bare, line, above) if kind == "struct" else variant_of(bare, line, above)
+    part = field_of(bare, line, above, style) if kind == "struct" else variant_of(bare, line, above, style)
     if default is not None:
         check_default(part.of, default, line)
-    part.written, part.once, part.default = rename if rename is not None else part.name, once, default
+    part.once, part.default = once, default
+    part.written = part.written if rename is None else rename
     return part
 
 
-def field_of(bare, line, above):
+def field_of(bare, line, above, style):
     """The named field of a line without its marks."""
     found = re.fullmatch(rf"{PUBLIC}((?:r#)?{NAME})\s*:\s*(.+?),?", bare)
     if not found:
         raise Refused(f"line {line}: not a named field `name: Type`, one a line: {bare}")
     public, name, of = found.groups()
-    check_field_name(name, line)
+    check_field_name(name, spelled("struct", name.removeprefix("r#"), style), line)
     if len(split_at_commas(of)) > 1:
         raise Refused(f"line {line}: more than one field stands on the line: {bare}")
-    return Part(name, name, line, above, of, public or "")
+    return Part(name, spelled("struct", name, style), line, above, of, public or "")
 
 
-def variant_of(bare, line, above):
+def variant_of(bare, line, above, style):
     """The variant of a line without its marks. If its fields are on lines of their own, it has none yet."""
     found = VARIANT.fullmatch(bare)
     if not found:
         raise Refused(f"line {line}: not a variant, one a line, with no number: {bare}")
     name, values, fields, _ = found.groups()
+    written = spelled("enum", name, style)
     if name == "List":
-        raise Refused(f'line {line}: derived code uses the name `List`: write `Items, // rename "List"`')
-    part = Part(name, name, line, above, values=tuple(split_at_commas(values or "")))
+        raise Refused(f'line {line}: derived code uses the name `List`: write `Items, // rename "{written}"`')
+    part = Part(name, written, line, above, values=tuple(split_at_commas(values or "")))
     part.fields = [variant_field(it, line, []) for it in split_at_commas(fields or "")]
     check_values(part, bare, values if fields is None else fields)
     part.of = part.values[0] if len(part.values) == 1 else f"({', '.join(part.values)})" if part.values else ""
@@ -130,7 +171,7 @@ def variant_field(text, line, above):
     """The field of a variant, on a line."""
     if re.match(r"\}.*//", text):
         raise Refused(f"line {line}: a variant's marks stand behind its first line: {text}")
-    part = part_of("struct", text, line, above)
+    part = part_of("struct", text, line, above, "")
     if part.public:
         raise Refused(f"line {line}: a variant's fields are as public as the enum: leave out `{part.public.strip()}`: {text}")
     return part
@@ -165,8 +206,11 @@ def head_of(bare, line, above):
         public, kind, name, params, words = found.groups()
         derives = [name for it in above for names in DERIVE.findall(it) for name in re.findall(r"\w+", names)]
         above = [it for it in above if not DERIVE.fullmatch(it)]
-        words = tuple(re.findall(r"\w+", words or ""))
-        return Definition(kind, name, line, above, derives, public or "", words, params_of(params or "", bare, line))
+        words = [word.strip() for word in re.findall(WORD, words or "")]
+        renames = [word for word in words if word.startswith("rename_all")]
+        words = tuple(word for word in words if word not in renames)
+        params, style = params_of(params or "", bare, line), style_of(kind, renames, line)
+        return Definition(kind, name, line, above, derives, public or "", words, params, style)
     if re.match(rf"{PUBLIC}struct\s+{NAME}\s*(?:<[^{{(]*>)?\s*\(", bare):
         raise Refused(f"line {line}: a newtype is written by hand (docs/BY-HAND.md), or has a named field: {bare}")
     raise Refused(f"line {line}: not the first line of a `struct Name {{` or an `enum Name {{`: {bare}")
@@ -220,7 +264,7 @@ def definitions_of(text):
         elif now and bare == "}":
             found, now = [*found, *with_structs(now)], None
         elif now:
-            now.parts.append(part_of(now.kind, bare, number, above))
+            now.parts.append(part_of(now.kind, bare, number, above, now.style))
             variant = now.parts[-1] if re.fullmatch(rf"{NAME}\s*\{{(\s*//.*)?", bare) and now.kind == "enum" else None
         elif USE.fullmatch(bare):
             uses += [*above, bare]

@@ -105,11 +105,10 @@ def check_params(it, known):
                 raise Refused(f"line {part.line}: an array has no parameter in it, since its size must be known: write a `Vec`: {part.of}")
 
 
-def check_field_name(name, line):
-    """Refuses the name of a field that Rattle has no way to write."""
+def check_field_name(name, written, line):
+    """Refuses the name of a field that Rattle has no way to write. `written` is its name in JSON."""
     if name.startswith("r#") or name in KEYWORDS:
-        bare = name.removeprefix("r#")
-        raise Refused(f'line {line}: `{name}` is a word of the language: write `{bare}_: T, // rename "{bare}"`')
+        raise Refused(f'line {line}: `{name}` is a word of the language: write `{name.removeprefix("r#")}_: T, // rename "{written}"`')
 
 
 def check_written(it):
@@ -184,11 +183,11 @@ def check_tagged(it):
         if found:
             raise Refused(
                 f'line {part.line}: an enum with data is written as `"Ping"` and `{{"Text":..}}`, which is what serde does without '
-                f'attributes, and `// rename "x"` renames a variant or a field: leave out {found[0]}'
+                f'attributes; `// rename "x"` renames a variant or a field, and `// rename_all "camelCase"` the variants: leave out {found[0]}'
             )
     for part in it.parts:
         if not re.fullmatch(r"[A-Z][A-Za-z0-9]*", part.name):
-            raise Refused(f'line {part.line}: the name of a variant begins with a capital letter and has no `_`: write `Name, // rename "{part.name}"`')
+            raise Refused(f'line {part.line}: the name of a variant begins with a capital letter and has no `_`: write `Name, // rename "{part.written}"`')
 
 
 def check_foreign_marks(it):

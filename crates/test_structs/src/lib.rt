@@ -1,4 +1,4 @@
-//! Tests of structs in structs, lists and maps, with parameters, and of thirty fields, as users write them. Nothing here is for users.
+//! Tests of structs in structs, lists and maps, with parameters, with names in a style, and of thirty fields, as users write them. Nothing here is for users.
 #![tactic(auto)]
 
 #[cfg(test)]
@@ -7,6 +7,10 @@ mod generic;
 mod generics;
 #[cfg(test)]
 mod hosts;
+#[cfg(test)]
+mod renamed;
+#[cfg(test)]
+mod renames;
 #[cfg(test)]
 mod server;
 #[cfg(test)]

@@ -1,0 +1,396 @@
+//! The types of `renamed.rs`, with the impls that `./derive` writes.
+ghost use Rattle.miniserde.specs.Cases.{each_case, enum_tree, first_case, later_case, no_case};
+ghost use Rattle.miniserde.specs.CasesMeant.{enum_meant};
+ghost use Rattle.miniserde.specs.FieldsMeant.{struct_meant};
+ghost use Rattle.miniserde.specs.Structs.{names_of, record_tree};
+ghost use Rattle.miniserde.specs.Tree.{str};
+ghost use Rattle.std.specs.Prelude.{true, List, codes, [], ◌∷◌, ⊤, refl};
+
+use miniserde::derived::{
+    AgainCases, AgainFields, Cases, DataCase, Event, Fragment, FromJson, Lossless, NeverNull,
+    NoCase, NoSlot, OneOf, Parts, Ranged, Record, Result, RoundTrip, Serialize, Slot, Slots,
+    Source, Tagged, UnitCase, UnitEnum, Variants, Writer, enum_again, enum_lossless, read_enum,
+    read_record, read_variant, record_again, record_lossless, variant_again, variant_lossless,
+    write_data, write_fields, write_members,
+};
+
+/// How far a job is.
+#[derive(Clone, Copy, PartialEq, Eq, Debug, Drop)]
+pub enum Phase {
+    NotBegun,
+    InProgress,
+    Done,
+}
+
+impl UnitEnum for Phase {
+    ghost use Rattle.test_structs.specs.declared.renamed.Phase.TheVariants.{NotBegun, InProgress, Done};
+
+    ghost all = { NotBegun ∷ InProgress ∷ Done ∷ [] };
+
+    ghost name_of = { elim [
+      | NotBegun ↦ codes "NOT_BEGUN"
+      | InProgress ↦ codes "IN_PROGRESS"
+      | Done
+          ↦ codes "done"
+    ] };
+
+    ghost found = { elim [ NotBegun ↦ refl | InProgress ↦ refl | Done ↦ refl ] };
+
+    fn values() -> &'static [Phase] {
+        &[Phase::NotBegun, Phase::InProgress, Phase::Done]
+    }
+
+    fn name(&self) -> &'static str {
+        match self {
+            Phase::NotBegun => "NOT_BEGUN",
+            Phase::InProgress => "IN_PROGRESS",
+            Phase::Done => "done",
+        }
+    }
+}
+
+impl FromJson for Phase {
+    ghost means = { ⟦<Phase as Variants>⟧.meaning };
+
+    ghost read_infallible = { true };
+
+    fn missing() -> Option<Phase> {
+        None
+    }
+
+    fn read<'a>(token: Event<'a>, source: &mut Source<'a>) -> Result<Phase> {
+        read_variant(token, source)
+    }
+}
+
+impl Serialize for Phase {
+    ghost tree = { λ v. str (⟦<Phase as UnitEnum>⟧.name_of v) };
+
+    fn begin(&self, w: &mut Writer) -> Result<()> {
+        w.fragment(Fragment::Str(self.name()))
+    }
+}
+
+impl Ranged for Phase {
+    ghost real = { λ _. ⊤ };
+
+    fn ranged(&self) {}
+}
+
+impl RoundTrip for Phase {
+    fn again() {
+        variant_again::<Phase>()
+    }
+}
+
+impl Lossless for Phase {
+    fn lossless() {
+        variant_lossless::<Phase>()
+    }
+}
+
+impl NeverNull for Phase {
+    fn never_null() {}
+}
+
+/// An account of a site.
+#[derive(Drop)]
+pub struct Account {
+    pub user_id: u64,
+    pub is_admin: bool,
+    pub html_url: Option<String>,
+}
+
+// Its fields, and their names.
+type AccountFields = Slot<u64, Slot<bool, Slot<Option<String>, NoSlot>>>;
+
+const ACCOUNT_NAMES: &[&str] = &["userId", "admin", "htmlUrl"];
+
+impl Record for Account {
+    ghost use Rattle.test_structs.specs.declared.renamed.TheConstants.{ACCOUNT_NAMES};
+
+    type Values = <AccountFields as Slots>::Values;
+
+    ghost names = { names_of ACCOUNT_NAMES };
+
+    ghost values = { λ v. (v.user_id, (v.is_admin, (v.html_url, tt))) };
+
+    ghost made = { λ x. record { user_id = x.0; is_admin = x.1.0; html_url = x.1.1.0 } };
+
+    ghost whole = { (λ v. refl, λ x. refl) };
+
+    ghost named = { refl };
+
+    fn names() -> &'static [&'static str] {
+        ACCOUNT_NAMES
+    }
+
+    fn build(parts: Self::Values) -> Account {
+        let Parts(user_id, Parts(is_admin, Parts(html_url, ()))) = parts;
+        Account {
+            user_id,
+            is_admin,
+            html_url,
+        }
+    }
+}
+
+impl FromJson for Account {
+    ghost means = { struct_meant ⟦<AccountFields as Slots>⟧.meaning ⟦<Account as Record>⟧.names
+        ⟦<Account as Record>⟧.values };
+
+    fn missing() -> Option<Account> {
+        None
+    }
+
+    fn read<'a>(token: Event<'a>, source: &mut Source<'a>) -> Result<Account> {
+        read_record::<Account, AccountFields>(token, source)
+    }
+}
+
+impl Serialize for Account {
+    ghost tree = { record_tree ⟦<Account as Record>⟧.names ⟦<AccountFields as AgainFields>⟧.trees
+        ⟦<Account as Record>⟧.values };
+
+    fn begin(&self, w: &mut Writer) -> Result<()> {
+        write_members(
+            w,
+            ACCOUNT_NAMES,
+            &Parts(
+                &self.user_id,
+                Parts(&self.is_admin, Parts(&self.html_url, ())),
+            ),
+        )
+    }
+}
+
+impl Ranged for Account {
+    ghost real = { λ v. ⟦<AccountFields as AgainFields>⟧.real (⟦<Account as Record>⟧.values v) };
+
+    fn ranged(&self) {
+        self.user_id.ranged();
+        self.is_admin.ranged();
+        self.html_url.ranged();
+    }
+}
+
+impl RoundTrip for Account {
+    fn again() {
+        record_again::<Account, AccountFields>()
+    }
+}
+
+impl Lossless for Account {
+    fn lossless() {
+        record_lossless::<Account, AccountFields>()
+    }
+}
+
+impl NeverNull for Account {
+    fn never_null() {}
+}
+
+/// The fields of `Change::JobPhase`.
+#[derive(Drop)]
+pub struct ChangeJobPhase {
+    pub job_id: u64,
+    pub new_phase: Phase,
+}
+
+// Its fields, and their names.
+type ChangeJobPhaseFields = Slot<u64, Slot<Phase, NoSlot>>;
+
+const CHANGE_JOB_PHASE_NAMES: &[&str] = &["job_id", "new_phase"];
+
+impl Record for ChangeJobPhase {
+    ghost use Rattle.test_structs.specs.declared.renamed.TheConstants.{CHANGE_JOB_PHASE_NAMES};
+
+    type Values = <ChangeJobPhaseFields as Slots>::Values;
+
+    ghost names = { names_of CHANGE_JOB_PHASE_NAMES };
+
+    ghost values = { λ v. (v.job_id, (v.new_phase, tt)) };
+
+    ghost made = { λ x. record { job_id = x.0; new_phase = x.1.0 } };
+
+    ghost whole = { (λ v. refl, λ x. refl) };
+
+    ghost named = { refl };
+
+    fn names() -> &'static [&'static str] {
+        CHANGE_JOB_PHASE_NAMES
+    }
+
+    fn build(parts: Self::Values) -> ChangeJobPhase {
+        let Parts(job_id, Parts(new_phase, ())) = parts;
+        ChangeJobPhase { job_id, new_phase }
+    }
+}
+
+impl FromJson for ChangeJobPhase {
+    ghost means = { struct_meant ⟦<ChangeJobPhaseFields as Slots>⟧.meaning ⟦<ChangeJobPhase as Record>⟧.names ⟦<ChangeJobPhase as Record>⟧.values };
+
+    fn missing() -> Option<ChangeJobPhase> {
+        None
+    }
+
+    fn read<'a>(token: Event<'a>, source: &mut Source<'a>) -> Result<ChangeJobPhase> {
+        read_record::<ChangeJobPhase, ChangeJobPhaseFields>(token, source)
+    }
+}
+
+impl Serialize for ChangeJobPhase {
+    ghost tree = { record_tree ⟦<ChangeJobPhase as Record>⟧.names ⟦<ChangeJobPhaseFields as AgainFields>⟧.trees ⟦<ChangeJobPhase as Record>⟧.values };
+
+    fn begin(&self, w: &mut Writer) -> Result<()> {
+        write_members(
+            w,
+            CHANGE_JOB_PHASE_NAMES,
+            &Parts(&self.job_id, Parts(&self.new_phase, ())),
+        )
+    }
+}
+
+impl Ranged for ChangeJobPhase {
+    ghost real = { λ v. ⟦<ChangeJobPhaseFields as AgainFields>⟧.real (⟦<ChangeJobPhase as Record>⟧.values v) };
+
+    fn ranged(&self) {
+        self.job_id.ranged();
+        self.new_phase.ranged();
+    }
+}
+
+impl RoundTrip for ChangeJobPhase {
+    fn again() {
+        record_again::<ChangeJobPhase, ChangeJobPhaseFields>()
+    }
+}
+
+impl Lossless for ChangeJobPhase {
+    fn lossless() {
+        record_lossless::<ChangeJobPhase, ChangeJobPhaseFields>()
+    }
+}
+
+impl NeverNull for ChangeJobPhase {
+    fn never_null() {}
+}
+
+/// What happens to an account. The fields of a variant keep their names.
+#[derive(Drop)]
+pub enum Change {
+    SignedOut,
+    NewUrl(String),
+    JobPhase { job_id: u64, new_phase: Phase },
+}
+
+// Its variants, and their names.
+type ChangeCases = UnitCase<DataCase<String, DataCase<ChangeJobPhase, NoCase>>>;
+
+const CHANGE_NAMES: &[&str] = &["signed-out", "new-url", "job-phase"];
+
+impl Tagged for Change {
+    ghost use Rattle.test_structs.specs.declared.renamed.TheConstants.{CHANGE_NAMES};
+    ghost use Rattle.test_structs.specs.declared.renamed.Change.TheVariants.{SignedOut, NewUrl, JobPhase};
+
+    type Values = <ChangeCases as Cases>::Values;
+
+    ghost names = { names_of CHANGE_NAMES };
+
+    ghost values = { elim [
+      | SignedOut ↦ first_case tt
+      | NewUrl x0 ↦ later_case (first_case x0)
+      | JobPhase x0 x1 ↦ later_case (later_case (first_case (record {
+        job_id = x0;
+        new_phase = x1;
+      })))
+    ] };
+
+    ghost whole = { each_case _ (λ x. (SignedOut, refl)) (each_case _ (λ x. (NewUrl x, refl))
+        (each_case _ (λ x. (JobPhase x.job_id x.new_phase, refl)) (no_case _))) };
+
+    ghost named = { refl };
+
+    fn names() -> &'static [&'static str] {
+        CHANGE_NAMES
+    }
+
+    fn build(value: Self::Values) -> Change {
+        match value {
+            OneOf::First(()) => Change::SignedOut,
+            OneOf::Later(value) => match value {
+                OneOf::First(a) => Change::NewUrl(a),
+                OneOf::Later(value) => match value {
+                    OneOf::First(ChangeJobPhase { job_id, new_phase }) => Change::JobPhase {
+                        job_id,
+                        new_phase,
+                    },
+                    OneOf::Later(value) => match value {},
+                },
+            },
+        }
+    }
+}
+
+impl FromJson for Change {
+    ghost means = { enum_meant ⟦<ChangeCases as Cases>⟧.meaning ⟦<Change as Tagged>⟧.names refl
+        ⟦<Change as Tagged>⟧.values };
+
+    fn missing() -> Option<Change> {
+        None
+    }
+
+    fn read<'a>(token: Event<'a>, source: &mut Source<'a>) -> Result<Change> {
+        read_enum::<Change, ChangeCases>(token, source)
+    }
+}
+
+impl Serialize for Change {
+    ghost tree = { enum_tree ⟦<Change as Tagged>⟧.names ⟦<ChangeCases as AgainCases>⟧.tree ⟦<Change as Tagged>⟧.values };
+
+    fn begin(&self, w: &mut Writer) -> Result<()> {
+        match self {
+            Change::SignedOut => w.fragment(Fragment::Str("signed-out")),
+            Change::NewUrl(a) => write_data(w, "new-url", a),
+            Change::JobPhase { job_id, new_phase } => {
+                write_fields(
+                    w,
+                    "job-phase",
+                    CHANGE_JOB_PHASE_NAMES,
+                    &Parts(job_id, Parts(new_phase, ())),
+                )
+            },
+        }
+    }
+}
+
+impl Ranged for Change {
+    ghost real = { λ v. ⟦<ChangeCases as AgainCases>⟧.real (⟦<Change as Tagged>⟧.values v) };
+
+    fn ranged(&self) {
+        match self {
+            Change::SignedOut => {}
+            Change::NewUrl(a) => a.ranged(),
+            Change::JobPhase { job_id, new_phase } => {
+                job_id.ranged();
+                new_phase.ranged();
+            },
+        }
+    }
+}
+
+impl RoundTrip for Change {
+    fn again() {
+        enum_again::<Change, ChangeCases>()
+    }
+}
+
+impl Lossless for Change {
+    fn lossless() {
+        enum_lossless::<Change, ChangeCases>()
+    }
+}
+
+impl NeverNull for Change {
+    fn never_null() {}
+}

@@ -1,0 +1,20 @@
+/// How far a job is.
+pub enum Phase { // rename_all "SCREAMING_SNAKE_CASE", lossless
+    NotBegun,
+    InProgress,
+    Done, // rename "done"
+}
+
+/// An account of a site.
+pub struct Account { // lossless, rename_all "camelCase"
+    pub user_id: u64,
+    pub is_admin: bool, // rename "admin"
+    pub html_url: Option<String>,
+}
+
+/// What happens to an account. The fields of a variant keep their names.
+pub enum Change { // rename_all "kebab-case", lossless
+    SignedOut,
+    NewUrl(String),
+    JobPhase { job_id: u64, new_phase: Phase },
+}
