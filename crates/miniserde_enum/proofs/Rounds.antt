@@ -1,15 +1,17 @@
 -- The round trip of an enum and its injective tree, variant by variant, if no two names are equal.
 use Rattle.std.proofs.Common.{◌≡◌, ℕ, ◌+◌, true, false, ◌&&◌, nat_eq, List, [], ◌∷◌, length, Option, Some, None, refl, sym, ap, subst, ◌∙◌, true≢false}
+use Rattle.std.proofs.lemmas.Option.{same_Some}
 use Rattle.std.specs.Prelude.{◌↔◌, bytes_eq, option_and_then, ⊤}
-use Rattle.miniserde_model.specs.Tree.{Tree, members, no_members, member}
+use Rattle.miniserde_model.specs.Tree.{Tree}
 use Rattle.miniserde_read.specs.meaning.Objects.{Name}
 use Rattle.miniserde_round.specs.RoundTrip.{ReadsAgain}
 use Rattle.miniserde_record.specs.Structs.{is_new, are_distinct, are_names}
 use Rattle.miniserde_record.proofs.Rounds.{more_names, no_names}
 use Rattle.miniserde_enum.specs.declared.one_of.OneOf.{OneOf}
 use Rattle.miniserde_enum.specs.declared.one_of.OneOf.TheVariants.{First, Later}
-use Rattle.miniserde_enum.specs.Shape.{Shape, by_shape, external}
-use Rattle.miniserde_enum.specs.Cases.{CaseReads, UnitReads, DataReads, CaseReal, case_tree, unit_tree, data_tree, tree_name, case_content}
+use Rattle.miniserde_enum.specs.Shape.{Shape, case_of, case_written, by_shape}
+use Rattle.miniserde_enum.specs.Cases.{CaseReads, UnitReads, DataReads, CaseReal, case_tree, unit_tree, data_tree, UnitFits, DataFits, case_content}
+use Rattle.miniserde_enum.specs.laws.Shape.{shape-agrees}
 use Rattle.miniserde_enum.specs.laws.Cases.{alone, cond-some, later-none, same-name, new-first}
 
 -- so many names are distinct
@@ -18,21 +20,25 @@ names_distinct k ns h = elim (nat_eq (length ns) k) as (λ b. (b && are_distinct
 
 -- ---- one variant
 
-pub unit-again : (n : Name) (x : Unit {0}) → ⊤ → ReadsAgain (λ (u : Unit {0}). ⊤) (unit_tree n) (UnitReads external n) (unit_tree n x)
-unit-again n x r = ((tt, tt, refl), λ y s e. refl)
+pub unit-again : (shape : Shape) → UnitFits shape → (n : Name) (x : Unit {0}) → ⊤ → ReadsAgain (λ (u : Unit {0}). ⊤) (unit_tree shape n) (UnitReads shape n) (unit_tree shape n x)
+unit-again shape f n x r = ((tt, tt, (shape-agrees shape (case_written shape n None) n None).1 (f n)), λ y s e. refl)
 
-module _ {T : Type 0} (real : T → Type 0) (tree : T → Tree) (reads : Tree → T → Type 0) (again : (x : T) → real x → ReadsAgain real tree reads (tree x)) where
-  pub data-again : (n : Name) (x : T) → real x → ReadsAgain real (data_tree tree n) (DataReads reads external n) (data_tree tree n x)
+module _ {T : Type 0} (real : T → Type 0) (tree : T → Tree) (reads : Tree → T → Type 0) (again : (x : T) → real x → ReadsAgain real tree reads (tree x)) (shape : Shape) (f : DataFits real tree shape) where
+  pub data-again : (n : Name) (x : T) → real x → ReadsAgain real (data_tree shape tree n) (DataReads reads shape n) (data_tree shape tree n x)
   data-again n x r =
-      let a = again x r in (
-        (a.0.0, a.0.1, (tree x, refl, a.0.2)),
-        λ y s e. let i : tree x ≡ e.0 = cc (e.1) in ap (λ z. members (member n z no_members)) (a.1 y s (subst (λ z. reads z y) (sym i) e.2)),
+      let a = again x r in
+      let t = case_written shape n (Some (tree x)) in (
+        (a.0.0, a.0.1, (tree x, (shape-agrees shape t n (Some (tree x))).1 (f n x r), a.0.2)),
+        λ y s e.
+            let i = same_Some _ _ (sym ((shape-agrees shape t n (Some e.0)).0 e.1) ∙ f n x r) in
+            let j = same_Some _ _ (ap (λ z. z.1) i) in
+            ap (λ z. case_written shape n (Some z)) (a.1 y s (subst (λ z. reads z y) j e.2)),
       )
 
 -- ---- variant by variant
 
 shape-apart : {A B : Type 0} (shape : Shape) (f : Name → Option Tree → Option A) (g : Name → Option Tree → Option B) (a : A) (b : B) → ((k : Name) (o : Option Tree) → f k o ≡ Some a → g k o ≡ Some b → ⊥) → (t : Tree) → by_shape shape f t ≡ Some a → by_shape shape g t ≡ Some b → ⊥
-shape-apart {A} {B} shape f g a b h t = elim (shape.variant t) as (λ o. (◌≡◌ {A = Option A} (option_and_then (λ s. f s.0 s.1) o) (Some a)) → (◌≡◌ {A = Option B} (option_and_then (λ s. g s.0 s.1) o) (Some b)) → ⊥) [ None ↦ λ p q. cc | Some s ↦ h s.0 s.1 ]
+shape-apart {A} {B} shape f g a b h t = elim (case_of shape t) as (λ o. (◌≡◌ {A = Option A} (option_and_then (λ s. f s.0 s.1) o) (Some a)) → (◌≡◌ {A = Option B} (option_and_then (λ s. g s.0 s.1) o) (Some b)) → ⊥) [ None ↦ λ p q. cc | Some s ↦ h s.0 s.1 ]
 
 module _ {T W C D : Type 0} (given : Option Tree → Option C) (one : Shape → Name → Tree → T → Type 0) (content : T → C) (one_agrees : (shape : Shape) (n : Name) (t : Tree) (x : T) → one shape n t x ↔ (by_shape shape (alone given n) t ≡ Some (content x)))
     (later : List Name → Name → Option Tree → Option D) (reads : Shape → List Name → Tree → W → Type 0) (content_w : W → D) (fresh : (ns : List Name) (n : Name) (o : Option Tree) → is_new n ns ≡ true → later ns n o ≡ None) (agrees : (shape : Shape) (ns : List Name) → are_distinct ns ≡ true → (t : Tree) (w : W) → reads shape ns t w ↔ (by_shape shape (later ns) t ≡ Some (content_w w))) (shape : Shape) where
@@ -67,19 +73,36 @@ module _ {T W C D : Type 0} (given : Option Tree → Option C) (one : Shape → 
 
 -- ---- the injective tree
 
-module _ {T W C D : Type 0} (content : T → C) (content_w : W → D) (real : T → Type 0) (tree : Name → T → Tree) (name : (n : Name) (x : T) → tree_name (tree n x) ≡ Some n) (first : (n : Name) (x y : T) → real x → real y → tree n x ≡ tree n y → content x ≡ content y)
-    (real_w : W → Type 0) (tree_w : List Name → W → Tree) (count : ℕ) (named : (names : List Name) (w : W) (n : Name) → are_names count names ≡ true → is_new n names ≡ true → tree_name (tree_w names w) ≡ Some n → ⊥) (same : (names : List Name) (v w : W) → are_names count names ≡ true → real_w v → real_w w → tree_w names v ≡ tree_w names w → content_w v ≡ content_w w) where
-  pub case-named : (names : List Name) (v : OneOf T W) (n : Name) → are_names (count + 1) names ≡ true → is_new n names ≡ true → tree_name (case_tree tree tree_w names v) ≡ Some n → ⊥
-  case-named [] v n f h e = no_names count f
-  case-named (m ∷ ms) (First x) n f h e =
-      let i : m ≡ n = cc (name m x) in
+-- data with one tree has one content, if the trees are the variants that they are written for
+pub data-same : {T C : Type 0} (shape : Shape) (real : T → Type 0) (tree : T → Tree) → DataFits real tree shape → (content : T → C) → ((x y : T) → real x → real y → tree x ≡ tree y → content x ≡ content y) → (n : Name) (x y : T) → real x → real y → data_tree shape tree n x ≡ data_tree shape tree n y → content x ≡ content y
+data-same shape real tree f content same n x y r s e =
+    let i = same_Some _ _ (sym (f n x r) ∙ ap (case_of shape) e ∙ f n y s) in
+    same x y r s (same_Some _ _ (ap (λ z. z.1) i))
+
+module _ {T W C D : Type 0} (variant : Tree → Option (Name × Option Tree)) (content : T → C) (content_w : W → D) (real : T → Type 0) (tree : Name → T → Tree) (name : (n : Name) (x : T) → real x → (o : Option Tree) × (variant (tree n x) ≡ Some (n, o))) (first : (n : Name) (x y : T) → real x → real y → tree n x ≡ tree n y → content x ≡ content y)
+    (real_w : W → Type 0) (tree_w : List Name → W → Tree) (count : ℕ) (named : (names : List Name) (w : W) (n : Name) (o : Option Tree) → are_names count names ≡ true → real_w w → is_new n names ≡ true → variant (tree_w names w) ≡ Some (n, o) → ⊥) (same : (names : List Name) (v w : W) → are_names count names ≡ true → real_w v → real_w w → tree_w names v ≡ tree_w names w → content_w v ≡ content_w w) where
+  pub case-named : (names : List Name) (v : OneOf T W) (n : Name) (o : Option Tree) → are_names (count + 1) names ≡ true → CaseReal real real_w v → is_new n names ≡ true → variant (case_tree tree tree_w names v) ≡ Some (n, o) → ⊥
+  case-named [] v n o f r h e = no_names count f
+  case-named (m ∷ ms) (First x) n o f r h e =
+      let i : m ≡ n = ap (λ z. z.0) (same_Some _ _ (sym (name m x r).1 ∙ e)) in
       let p = new-first n m ms h in
       true≢false (sym (same-name n) ∙ ap (bytes_eq n) (sym i) ∙ p.0)
-  case-named (m ∷ ms) (Later w) n f h e = named ms w n (more_names count m ms f).1 (new-first n m ms h).1 e
+  case-named (m ∷ ms) (Later w) n o f r h e = named ms w n o (more_names count m ms f).1 r (new-first n m ms h).1 e
 
   pub case-same : (names : List Name) (v w : OneOf T W) → are_names (count + 1) names ≡ true → CaseReal real real_w v → CaseReal real real_w w → case_tree tree tree_w names v ≡ case_tree tree tree_w names w → case_content content content_w v ≡ case_content content content_w w
   case-same [] v w f r s e = absurd (no_names count f)
   case-same (n ∷ ns) (First x) (First y) f r s e = ap First (first n x y r s e)
-  case-same (n ∷ ns) (First x) (Later w) f r s e = let p = more_names count n ns f in absurd (named ns w n p.1 p.0 (ap tree_name (sym e) ∙ name n x))
-  case-same (n ∷ ns) (Later v) (First y) f r s e = let p = more_names count n ns f in absurd (named ns v n p.1 p.0 (ap tree_name e ∙ name n y))
+  case-same (n ∷ ns) (First x) (Later w) f r s e = let p = more_names count n ns f in let a = name n x r in absurd (named ns w n a.0 p.1 s p.0 (ap variant (sym e) ∙ a.1))
+  case-same (n ∷ ns) (Later v) (First y) f r s e = let p = more_names count n ns f in let a = name n y s in absurd (named ns v n a.0 p.1 r p.0 (ap variant e ∙ a.1))
   case-same (n ∷ ns) (Later v) (Later w) f r s e = ap Later (same ns v w (more_names count n ns f).1 r s e)
+
+-- ---- the enum of a variant's value
+
+-- what holds of the values of the variants holds of the enum
+pub enum-again : {V W : Type 0} (real : V → Type 0) (tree : V → Tree) (reads : Tree → V → Type 0) (values : W → V) → ((x : V) → (v : W) × (values v ≡ x)) → (v : W) → ReadsAgain real tree reads (tree (values v)) → ReadsAgain (λ v. real (values v)) (λ v. tree (values v)) (λ t v. reads t (values v)) (tree (values v))
+enum-again real tree reads values whole v a =
+    let w = whole a.0.0 in
+    let same = sym w.1 in (
+      (w.0, subst real same a.0.1, subst (reads (tree (values v))) same a.0.2),
+      λ w q h. a.1 (values w) q h,
+    )

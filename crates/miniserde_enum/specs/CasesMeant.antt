@@ -6,7 +6,7 @@ use Rattle.miniserde_read.specs.meaning.Objects.{Name}
 use Rattle.miniserde_record.specs.Structs.{is_new, are_distinct}
 use Rattle.miniserde_enum.specs.declared.one_of.OneOf.{OneOf}
 use Rattle.miniserde_enum.specs.declared.one_of.Never.{Never}
-use Rattle.miniserde_enum.specs.Shape.{Shape, by_shape, external}
+use Rattle.miniserde_enum.specs.Shape.{Shape, by_shape, external, internal}
 use Rattle.miniserde_enum.specs.Cases.{case_given, unit_given, data_given, CaseReads, UnitReads, DataReads, case_content}
 use Rattle.miniserde_enum.specs.laws.Cases.{case-fresh, case-agrees, unit-agrees, data-agrees}
 
@@ -75,3 +75,15 @@ abbrev pub enum_meant : {V W : Type 0} (n : CasesMeant V) (names : List Name) �
 enum_meant n names distinct values =
     meant (λ v. n.content (values v)) (enum_of n names) (enum_reads n names values)
     (λ t v. n.agrees external names distinct t (values v))
+
+-- the same three of an internally tagged enum, by the name of its tag
+abbrev pub tagged_of : {V : Type 0} (n : CasesMeant V) → Name → List Name → Tree → Option n.Content
+tagged_of n tag names = by_shape (internal tag) (n.by_case names)
+
+abbrev pub tagged_reads : {V W : Type 0} (n : CasesMeant V) → Name → List Name → (W → V) → Tree → W → Type 0
+tagged_reads n tag names values t v = n.reads (internal tag) names t (values v)
+
+abbrev pub tagged_meant : {V W : Type 0} (n : CasesMeant V) → Name → (names : List Name) → are_distinct names ≡ true → (W → V) → Meant W
+tagged_meant n tag names distinct values =
+    meant (λ v. n.content (values v)) (tagged_of n tag names) (tagged_reads n tag names values)
+    (λ t v. n.agrees (internal tag) names distinct t (values v))

@@ -3,10 +3,15 @@ use Rattle.std.specs.Prelude.{◌≡◌, Option, Some, None}
 use Rattle.miniserde_model.specs.Tree.{Tree, str, members, no_members, member}
 use Rattle.miniserde_read.specs.meaning.Objects.{Name}
 
--- the tree is the string of the name, or with data the object of one member, which has the name and the data
+-- the tree of a variant without data is the string of the name, and with data the object of one member, which has the
+-- name and the data
+abbrev pub external_tree : Name → Option Tree → Tree
+external_tree n None = str n
+external_tree n (Some u) = members (member n u no_members)
+
+-- the tree is that of the variant of the name
 abbrev pub IsExternal : Tree → Name → Option Tree → Type 0
-IsExternal t n None = t ≡ str n
-IsExternal t n (Some u) = t ≡ members (member n u no_members)
+IsExternal t n o = t ≡ external_tree n o
 
 -- the name of the variant that the tree is, and its data if it has any; no other tree is a variant
 abbrev pub external_variant : Tree → Option (Name × Option Tree)

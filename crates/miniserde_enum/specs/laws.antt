@@ -1,2 +1,5 @@
 pub mod Cases
 pub mod External
+pub mod Inside
+pub mod Internal
+pub mod Shape

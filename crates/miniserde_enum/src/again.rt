@@ -4,13 +4,13 @@ ghost use Rattle.miniserde_model.specs.Tree.{Tree, null};
 ghost use Rattle.miniserde_read.specs.meaning.Objects.{Name};
 ghost use Rattle.miniserde_round.specs.RoundTrip.{ReadsAgain};
 ghost use Rattle.miniserde_record.specs.Structs.{are_names};
-ghost use Rattle.miniserde_enum.specs.Shape.{external};
-ghost use Rattle.miniserde_enum.specs.Cases.{CaseReal, case_tree, unit_tree, data_tree, enum_tree};
-ghost use Rattle.miniserde_enum.specs.CasesMeant.{CasesMeant, no_cases, unit_and, data_and, enum_reads};
+ghost use Rattle.miniserde_enum.specs.Shape.{Shape, external, internal};
+ghost use Rattle.miniserde_enum.specs.Cases.{CaseReal, case_tree, unit_tree, data_tree, UnitFits, DataFits, enum_tree, tagged_tree};
+ghost use Rattle.miniserde_enum.specs.CasesMeant.{CasesMeant, no_cases, unit_and, data_and, enum_reads, tagged_reads};
 
 use crate::cases::{DataCase, NoCase, UnitCase};
 use crate::one_of::{Never, OneOf};
-use crate::tagged::Tagged;
+use crate::tagged::{HasTag, Tagged};
 use miniserde_round::RoundTrip;
 
 /// Variants whose values read back as they were written.
@@ -24,13 +24,20 @@ pub trait AgainCases {
     // The value is valid.
     ghost real: { Self.Values → Type 0 };
 
-    // The tree of a value, by the variants' names.
-    ghost tree: { List Name → Self.Values → Tree };
+    // The tree of a value, by its shape and the variants' names.
+    ghost tree: { Shape → List Name → Self.Values → Tree };
 
-    /// Does nothing. It promises that the tree of a valid value means a valid value, and that each such value has that tree.
+    // Trees of the shape, as they are written, are the variants that they are written for.
+    ghost fits: { Shape → Type 0 };
+
+    /// Does nothing. It promises that trees of externally tagged enums are the variants that they are written for, and,
+    /// of each shape that this holds of, that the tree of a valid value means a valid value, and that each such value has
+    /// that tree.
     fn again()
-        ensures { (names : List Name) (v : Self.Values) → are_names meaning.count names ≡ true → real v
-            → ReadsAgain real (tree names) (meaning.reads external names) (tree names v) };
+        ensures external { fits external }
+        ensures again { (shape : Shape) (names : List Name) (v : Self.Values) → fits shape
+            → are_names meaning.count names ≡ true → real v
+            → ReadsAgain real (tree shape names) (meaning.reads shape names) (tree shape names v) };
 }
 
 impl AgainCases for NoCase {
@@ -40,7 +47,9 @@ impl AgainCases for NoCase {
 
     ghost real = { λ _. ⊤ };
 
-    ghost tree = { λ names v. null };
+    ghost tree = { λ shape names v. null };
+
+    ghost fits = { λ shape. ⊤ };
 
     fn again() {}
 }
@@ -52,7 +61,9 @@ impl<R: AgainCases> AgainCases for UnitCase<R> {
 
     ghost real = { CaseReal (λ u. ⊤) R.real };
 
-    ghost tree = { case_tree unit_tree R.tree };
+    ghost tree = { λ shape. case_tree (unit_tree shape) (R.tree shape) };
+
+    ghost fits = { λ shape. UnitFits shape × R.fits shape };
 
     fn again() {
         R::again()
@@ -66,7 +77,9 @@ impl<T: RoundTrip, R: AgainCases> AgainCases for DataCase<T, R> {
 
     ghost real = { CaseReal T.real R.real };
 
-    ghost tree = { case_tree (data_tree T.tree) R.tree };
+    ghost tree = { λ shape. case_tree (data_tree shape T.tree) (R.tree shape) };
+
+    ghost fits = { λ shape. DataFits T.real T.tree shape × R.fits shape };
 
     fn again() {
         T::again();
@@ -80,6 +93,18 @@ pub fn enum_again<E: Tagged, C: AgainCases<Values = E::Values>>()
     ensures { (v : E) → C.real (E.values v)
         → ReadsAgain (λ v. C.real (E.values v)) (enum_tree E.names C.tree E.values)
         (enum_reads C.meaning E.names E.values) (enum_tree E.names C.tree E.values v) }
+{
+    C::again()
+}
+
+/// Does nothing. It promises the round trip of an internally tagged enum, if its trees are the variants that they are
+/// written for.
+pub fn tagged_again<E: Tagged + HasTag, C: AgainCases<Values = E::Values>>()
+    requires count { length E.names ≡ C.meaning.count }
+    requires fits { C.fits (internal E.tag) }
+    ensures { (v : E) → C.real (E.values v)
+        → ReadsAgain (λ v. C.real (E.values v)) (tagged_tree E.tag E.names C.tree E.values)
+        (tagged_reads C.meaning E.tag E.names E.values) (tagged_tree E.tag E.names C.tree E.values v) }
 {
     C::again()
 }

@@ -2,7 +2,10 @@
 #![tactic(auto)]
 
 mod again;
+mod beside;
 mod cases;
+mod inside;
+mod internal;
 mod lossless;
 mod one_of;
 mod reading;
@@ -10,11 +13,14 @@ mod stable;
 mod tagged;
 mod writing;
 
-pub use again::{AgainCases, enum_again};
+pub use again::{AgainCases, enum_again, tagged_again};
+pub use beside::BesideTag;
 pub use cases::{Cases, DataCase, NoCase, UnitCase};
-pub use lossless::{LosslessCases, enum_lossless};
+pub use inside::{Inside, InsideCases, fields_named};
+pub use internal::{read_tagged, tag_fits};
+pub use lossless::{LosslessCases, enum_lossless, tagged_lossless};
 pub use one_of::{Never, OneOf};
 pub use reading::read_enum;
-pub use stable::{StableCases, enum_stable};
-pub use tagged::Tagged;
-pub use writing::{write_data, write_fields};
+pub use stable::{StableCases, enum_stable, tagged_stable};
+pub use tagged::{HasTag, Tagged};
+pub use writing::{write_data, write_fields, write_tagged, write_tagged_fields};

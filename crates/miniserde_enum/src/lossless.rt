@@ -1,14 +1,15 @@
 //! Enums whose tree is injective: values with one tree have one content.
-ghost use Rattle.std.specs.Prelude.{◌≡◌, true, List, Some, length, ⊤};
+ghost use Rattle.std.specs.Prelude.{◌≡◌, true, List, Option, Some, length, ⊤};
 ghost use Rattle.miniserde_model.specs.Tree.{Tree, null};
 ghost use Rattle.miniserde_read.specs.meaning.Objects.{Name};
 ghost use Rattle.miniserde_record.specs.Structs.{are_names, is_new};
-ghost use Rattle.miniserde_enum.specs.Cases.{CaseReal, case_tree, unit_tree, data_tree, enum_tree, tree_name};
+ghost use Rattle.miniserde_enum.specs.Shape.{Shape, external, internal, case_of};
+ghost use Rattle.miniserde_enum.specs.Cases.{CaseReal, case_tree, unit_tree, data_tree, UnitFits, DataFits, enum_tree, tagged_tree};
 ghost use Rattle.miniserde_enum.specs.CasesMeant.{CasesMeant, no_cases, unit_and, data_and};
 
 use crate::cases::{DataCase, NoCase, UnitCase};
 use crate::one_of::{Never, OneOf};
-use crate::tagged::Tagged;
+use crate::tagged::{HasTag, Tagged};
 use miniserde_round::Lossless;
 
 /// Variants whose tree is injective. It stands beside `AgainCases` and not above it: else each link of a chain of variants
@@ -23,16 +24,23 @@ pub trait LosslessCases {
     // The value is valid.
     ghost real: { Self.Values → Type 0 };
 
-    // The tree of a value, by the variants' names.
-    ghost tree: { List Name → Self.Values → Tree };
+    // The tree of a value, by its shape and the variants' names.
+    ghost tree: { Shape → List Name → Self.Values → Tree };
 
-    /// Does nothing. It promises that the tree of a value has one of the names, and that valid values with one tree have
-    /// one content.
+    // Trees of the shape, as they are written, are the variants that they are written for.
+    ghost fits: { Shape → Type 0 };
+
+    /// Does nothing. It promises that trees of externally tagged enums are the variants that they are written for, and,
+    /// of each shape that this holds of, that the tree of a valid value has one of the names, and that valid values with
+    /// one tree have one content.
     fn lossless()
-        ensures named { (names : List Name) (v : Self.Values) (n : Name) → are_names meaning.count names ≡ true
-            → is_new n names ≡ true → tree_name (tree names v) ≡ Some n → ⊥ }
-        ensures same { (names : List Name) (v w : Self.Values) → are_names meaning.count names ≡ true
-            → real v → real w → tree names v ≡ tree names w → meaning.content v ≡ meaning.content w };
+        ensures external { fits external }
+        ensures named { (shape : Shape) (names : List Name) (v : Self.Values) (n : Name) (o : Option Tree) → fits shape
+            → are_names meaning.count names ≡ true → real v → is_new n names ≡ true
+            → case_of shape (tree shape names v) ≡ Some (n, o) → ⊥ }
+        ensures same { (shape : Shape) (names : List Name) (v w : Self.Values) → fits shape
+            → are_names meaning.count names ≡ true → real v → real w → tree shape names v ≡ tree shape names w
+            → meaning.content v ≡ meaning.content w };
 }
 
 impl LosslessCases for NoCase {
@@ -42,7 +50,9 @@ impl LosslessCases for NoCase {
 
     ghost real = { λ _. ⊤ };
 
-    ghost tree = { λ names v. null };
+    ghost tree = { λ shape names v. null };
+
+    ghost fits = { λ shape. ⊤ };
 
     fn lossless() {}
 }
@@ -54,7 +64,9 @@ impl<R: LosslessCases> LosslessCases for UnitCase<R> {
 
     ghost real = { CaseReal (λ u. ⊤) R.real };
 
-    ghost tree = { case_tree unit_tree R.tree };
+    ghost tree = { λ shape. case_tree (unit_tree shape) (R.tree shape) };
+
+    ghost fits = { λ shape. UnitFits shape × R.fits shape };
 
     fn lossless() {
         R::lossless()
@@ -68,7 +80,9 @@ impl<T: Lossless, R: LosslessCases> LosslessCases for DataCase<T, R> {
 
     ghost real = { CaseReal T.real R.real };
 
-    ghost tree = { case_tree (data_tree T.tree) R.tree };
+    ghost tree = { λ shape. case_tree (data_tree shape T.tree) (R.tree shape) };
+
+    ghost fits = { λ shape. DataFits T.real T.tree shape × R.fits shape };
 
     fn lossless() {
         T::lossless();
@@ -81,6 +95,18 @@ pub fn enum_lossless<E: Tagged, C: LosslessCases<Values = E::Values>>()
     requires { length E.names ≡ C.meaning.count }
     ensures { (v w : E) → C.real (E.values v) → C.real (E.values w)
         → enum_tree E.names C.tree E.values v ≡ enum_tree E.names C.tree E.values w
+        → C.meaning.content (E.values v) ≡ C.meaning.content (E.values w) }
+{
+    C::lossless()
+}
+
+/// Does nothing. It promises that valid values of an internally tagged enum with one tree have one content, if its trees
+/// are the variants that they are written for.
+pub fn tagged_lossless<E: Tagged + HasTag, C: LosslessCases<Values = E::Values>>()
+    requires count { length E.names ≡ C.meaning.count }
+    requires fits { C.fits (internal E.tag) }
+    ensures { (v w : E) → C.real (E.values v) → C.real (E.values w)
+        → tagged_tree E.tag E.names C.tree E.values v ≡ tagged_tree E.tag E.names C.tree E.values w
         → C.meaning.content (E.values v) ≡ C.meaning.content (E.values w) }
 {
     C::lossless()

@@ -1,11 +1,11 @@
 //! Enums that are read from the normal form of a tree as from the tree.
 ghost use Rattle.miniserde_stable.specs.Stable.{IsStable};
-ghost use Rattle.miniserde_enum.specs.CasesMeant.{CasesMeant, no_cases, unit_and, data_and, enum_of};
+ghost use Rattle.miniserde_enum.specs.CasesMeant.{CasesMeant, no_cases, unit_and, data_and, enum_of, tagged_of};
 ghost use Rattle.miniserde_enum.specs.Stable.{CasesStable};
 
 use crate::cases::{DataCase, NoCase, UnitCase};
 use crate::one_of::{Never, OneOf};
-use crate::tagged::Tagged;
+use crate::tagged::{HasTag, Tagged};
 use miniserde_stable::Stable;
 
 /// Variants that are read from the normal form of their data as from the data.
@@ -53,6 +53,13 @@ impl<T: Stable, R: StableCases> StableCases for DataCase<T, R> {
 /// Does nothing. It promises that an externally tagged enum is read from the normal form of a tree as from the tree.
 pub fn enum_stable<E: Tagged, C: StableCases<Values = E::Values>>()
     ensures { IsStable (enum_of C.meaning E.names) }
+{
+    C::stable()
+}
+
+/// Does nothing. It promises that an internally tagged enum is read from the normal form of a tree as from the tree.
+pub fn tagged_stable<E: Tagged + HasTag, C: StableCases<Values = E::Values>>()
+    ensures { IsStable (tagged_of C.meaning E.tag E.names) }
 {
     C::stable()
 }

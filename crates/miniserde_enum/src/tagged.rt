@@ -1,5 +1,5 @@
 //! An enum, by its variants.
-ghost use Rattle.std.specs.Prelude.{◌≡◌, true, List, map};
+ghost use Rattle.std.specs.Prelude.{◌≡◌, true, List, [], ◌∷◌, map};
 ghost use Rattle.miniserde_read.specs.meaning.Objects.{Name};
 ghost use Rattle.miniserde_record.specs.Structs.{are_distinct};
 
@@ -27,4 +27,14 @@ pub trait Tagged: Sized + Drop {
 
     // No name is a duplicate.
     ghost named: { are_distinct names ≡ true };
+}
+
+/// An internally tagged enum: a member of its objects, the tag, has the name of the variant.
+pub trait HasTag {
+    // The tag's name.
+    ghost tag: { Name };
+
+    /// Returns a list of one, the tag's name.
+    fn tag() -> &'static [&'static str]
+        ensures { map (λ s. s.now) result.now ≡ tag ∷ [] };
 }

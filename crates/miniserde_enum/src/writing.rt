@@ -4,18 +4,20 @@ ghost use Rattle.miniserde_model.specs.Compact.{compact};
 ghost use Rattle.miniserde_model.specs.IsTree.{IsTree};
 ghost use Rattle.miniserde_model.specs.declared.error.Error.TheVariants.{Memory};
 ghost use Rattle.miniserde_record.specs.Structs.{record_tree};
+ghost use Rattle.miniserde_enum.specs.Shape.{external, internal};
 ghost use Rattle.miniserde_enum.specs.Cases.{data_tree};
 
+use crate::inside::Inside;
 use miniserde_model::error::Result;
 use miniserde_record::record::{Members, write_members};
-use miniserde_ser::ser::{Serialize, Writer};
+use miniserde_ser::ser::{Fragment, Serialize, Writer};
 
 /// Writes a variant with data: an object of one member, whose name is the variant's. Returns `Memory` if the text cannot
 /// grow.
 #[inline(always)]
 pub fn write_data<T: Serialize>(w: &mut Writer, name: &str, value: &T) -> Result<()>
-    ensures ok { OnOk result (w.new.text ≡ w.old.text ++ compact (data_tree T.tree name.now value.now)) }
-    ensures is_tree { OnOk result (IsTree (data_tree T.tree name.now value.now)) }
+    ensures ok { OnOk result (w.new.text ≡ w.old.text ++ compact (data_tree external T.tree name.now value.now)) }
+    ensures is_tree { OnOk result (IsTree (data_tree external T.tree name.now value.now)) }
     ensures first { OnOk result (w.new.first ≡ false) }
     ensures whole { OnOk result (w.new.refused ≡ false) }
     ensures stays { OnOk result (w.old.refused ≡ false) }
@@ -38,9 +40,9 @@ pub fn write_fields<M: Members>(
     values: &M,
 ) -> Result<()>
     ensures ok { OnOk result (w.new.text ≡ w.old.text
-        ++ compact (data_tree (record_tree (map (λ n. n.now) names.now) M.trees (λ v. v)) name.now values.now)) }
+        ++ compact (data_tree external (record_tree (map (λ n. n.now) names.now) M.trees (λ v. v)) name.now values.now)) }
     ensures is_tree { OnOk result (IsTree
-        (data_tree (record_tree (map (λ n. n.now) names.now) M.trees (λ v. v)) name.now values.now)) }
+        (data_tree external (record_tree (map (λ n. n.now) names.now) M.trees (λ v. v)) name.now values.now)) }
     ensures first { OnOk result (w.new.first ≡ false) }
     ensures whole { OnOk result (w.new.refused ≡ false) }
     ensures stays { OnOk result (w.old.refused ≡ false) }
@@ -50,5 +52,51 @@ pub fn write_fields<M: Members>(
     w.map()?;
     w.known_key(name)?;
     write_members(w, names, values)?;
+    w.map_finish()
+}
+
+/// Writes a variant with its tag in front of the members of its data. Returns `Memory` if the text cannot grow.
+#[inline(always)]
+pub fn write_tagged<T: Inside>(w: &mut Writer, tag: &str, name: &str, value: &T) -> Result<()>
+    ensures ok { OnOk result (w.new.text
+        ≡ w.old.text ++ compact (data_tree (internal tag.now) T.tree name.now value.now)) }
+    ensures is_tree { OnOk result (IsTree (data_tree (internal tag.now) T.tree name.now value.now)) }
+    ensures first { OnOk result (w.new.first ≡ false) }
+    ensures whole { OnOk result (w.new.refused ≡ false) }
+    ensures stays { OnOk result (w.old.refused ≡ false) }
+    ensures memory { OnErr result (IsErrOf result Memory) }
+    ensures err { OnErr result (w.new.refused ≡ true) }
+{
+    w.map()?;
+    w.known_key(tag)?;
+    w.fragment(Fragment::Str(name))?;
+    value.write_inside(w)?;
+    w.map_finish()
+}
+
+/// Writes a variant with its tag in front of the members of its fields, by their names in their order. Returns `Memory` if
+/// the text cannot grow.
+#[inline(always)]
+pub fn write_tagged_fields<M: Members>(
+    w: &mut Writer,
+    tag: &str,
+    name: &str,
+    names: &[&str],
+    values: &M,
+) -> Result<()>
+    ensures ok { OnOk result (w.new.text ≡ w.old.text ++ compact
+        (data_tree (internal tag.now) (record_tree (map (λ n. n.now) names.now) M.trees (λ v. v)) name.now values.now)) }
+    ensures is_tree { OnOk result (IsTree
+        (data_tree (internal tag.now) (record_tree (map (λ n. n.now) names.now) M.trees (λ v. v)) name.now values.now)) }
+    ensures first { OnOk result (w.new.first ≡ false) }
+    ensures whole { OnOk result (w.new.refused ≡ false) }
+    ensures stays { OnOk result (w.old.refused ≡ false) }
+    ensures memory { OnErr result (IsErrOf result Memory) }
+    ensures err { OnErr result (w.new.refused ≡ true) }
+{
+    w.map()?;
+    w.known_key(tag)?;
+    w.fragment(Fragment::Str(name))?;
+    values.write(w, names)?;
     w.map_finish()
 }

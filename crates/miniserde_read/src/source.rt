@@ -50,6 +50,18 @@ impl<'a> Source<'a> {
         }
     }
 
+    /// Returns a second source at the same place of the text, with a scratch text of its own. Allocates nothing.
+    pub fn fork(&self) -> Source<'a>
+        ensures rest { result.rest ≡ self.now.rest }
+        ensures refused { result.refused ≡ self.now.refused }
+    {
+        Source {
+            lexer: self.lexer.fork(),
+            scratch: String::new(self.alloc),
+            alloc: self.alloc,
+        }
+    }
+
     /// Returns the allocator for the values that are read.
     #[inline(always)]
     pub fn alloc(&self) -> Global {

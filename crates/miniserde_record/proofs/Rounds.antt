@@ -69,7 +69,7 @@ pub others_own : (n : Name) (t : Tree) (ns : List Name) (ts : List Tree) → is_
 others_own n t ns ts h = rw (same n) (others_new n ns ts h)
 
 -- of a new name no member counts
-count_new : (n : Name) (ns : List Name) (ts : List Tree) → is_new n ns ≡ true → count_named n (with_names ns ts) ≡ 0
+pub count_new : (n : Name) (ns : List Name) (ts : List Tree) → is_new n ns ≡ true → count_named n (with_names ns ts) ≡ 0
 count_new n [] ts h = refl
 count_new n (k ∷ ks) [] h = refl
 count_new n (k ∷ ks) (t ∷ ts) h = let p = apart n k ks h in rw p.0 (count_new n ks ts p.1)

@@ -7,7 +7,8 @@ use Rattle.miniserde_read.specs.meaning.Objects.{Name}
 use Rattle.miniserde_record.specs.Structs.{is_new, are_distinct}
 use Rattle.miniserde_enum.specs.declared.one_of.OneOf.{OneOf}
 use Rattle.miniserde_enum.specs.declared.one_of.OneOf.TheVariants.{First, Later}
-use Rattle.miniserde_enum.specs.Shape.{Shape, by_shape}
+use Rattle.miniserde_enum.specs.Shape.{Shape, IsCase, case_of, by_shape}
+use Rattle.miniserde_enum.specs.laws.Shape.{shape-agrees}
 use Rattle.miniserde_enum.specs.Cases.{case_given, unit_given, data_given, CaseReads, UnitReads, DataReads, case_content}
 
 -- ---- names
@@ -18,7 +19,7 @@ same-name n = (bytes_eq-Decides n n).1 refl
 pub is-name : (k n : Name) → bytes_eq k n ≡ true → k ≡ n
 is-name k n e = (bytes_eq-Decides k n).0 e
 
-both : (a b : Bool) → (a && b) ≡ true → (a ≡ true) × (b ≡ true)
+pub both : (a b : Bool) → (a && b) ≡ true → (a ≡ true) × (b ≡ true)
 both true b h = (refl, h)
 both false b h = absurd (cc)
 
@@ -44,11 +45,11 @@ alone given n k o = cond (bytes_eq k n) (given o) None
 
 -- two functions that agree at each name and data agree at each tree
 pub shape-iff : {A B : Type 0} (shape : Shape) (f : Name → Option Tree → Option A) (g : Name → Option Tree → Option B) (a : A) (b : B) → ((k : Name) (o : Option Tree) → (f k o ≡ Some a) ↔ (g k o ≡ Some b)) → (t : Tree) → (by_shape shape f t ≡ Some a) ↔ (by_shape shape g t ≡ Some b)
-shape-iff {A} {B} shape f g a b h t = elim (shape.variant t) as (λ o. (◌≡◌ {A = Option A} (option_and_then (λ s. f s.0 s.1) o) (Some a)) ↔ (◌≡◌ {A = Option B} (option_and_then (λ s. g s.0 s.1) o) (Some b))) [ None ↦ (λ e. absurd (cc), λ e. absurd (cc)) | Some s ↦ h s.0 s.1 ]
+shape-iff {A} {B} shape f g a b h t = elim (case_of shape t) as (λ o. (◌≡◌ {A = Option A} (option_and_then (λ s. f s.0 s.1) o) (Some a)) ↔ (◌≡◌ {A = Option B} (option_and_then (λ s. g s.0 s.1) o) (Some b))) [ None ↦ (λ e. absurd (cc), λ e. absurd (cc)) | Some s ↦ h s.0 s.1 ]
 
 -- a tree gives no content if no name and data do
 pub shape-none : {A : Type 0} (shape : Shape) (a : A) (t : Tree) → by_shape shape (λ k o. None) t ≡ Some a → ⊥
-shape-none {A} shape a t = elim (shape.variant t) as (λ o. ◌≡◌ {A = Option A} (option_and_then (λ s. None) o) (Some a) → ⊥) [ None ↦ λ e. cc | Some s ↦ λ e. cc ]
+shape-none {A} shape a t = elim (case_of shape t) as (λ o. ◌≡◌ {A = Option A} (option_and_then (λ s. None) o) (Some a) → ⊥) [ None ↦ λ e. cc | Some s ↦ λ e. cc ]
 
 -- ---- a variant without data
 
@@ -68,8 +69,8 @@ unit-found n (Some s) = unit-at n s.0 s.1
 
 pub unit-agrees : (shape : Shape) (n : Name) (t : Tree) (u : Unit {0}) → UnitReads shape n t u ↔ (by_shape shape (alone unit_given n) t ≡ Some tt)
 unit-agrees shape n t u =
-    let is = shape.agrees t n None in
-    let found = unit-found n (shape.variant t) in
+    let is = shape-agrees shape t n None in
+    let found = unit-found n (case_of shape t) in
     (λ h. found.0 (is.0 h), λ e. is.1 (found.1 e))
 
 -- ---- a variant with data
@@ -96,9 +97,9 @@ module _ {T C : Type 0} (reads : Tree → T → Type 0) (of : Tree → Option C)
 
   pub data-agrees : (shape : Shape) (n : Name) (t : Tree) (x : T) → DataReads reads shape n t x ↔ (by_shape shape (alone (data_given of) n) t ≡ Some (content x))
   data-agrees shape n t x =
-      let found = data-found n (shape.variant t) x in (
-        λ h. found.0 (h.0, (shape.agrees t n (Some h.0)).0 h.1, h.2),
-        λ e. let h = found.1 e in (h.0, (shape.agrees t n (Some h.0)).1 h.1, h.2),
+      let found = data-found n (case_of shape t) x in (
+        λ h. found.0 (h.0, (shape-agrees shape t n (Some h.0)).0 h.1, h.2),
+        λ e. let h = found.1 e in (h.0, (shape-agrees shape t n (Some h.0)).1 h.1, h.2),
       )
 
 -- ---- variant by variant

@@ -109,6 +109,17 @@ impl<'a> Lexer<'a> {
         }
     }
 
+    /// Returns a second lexer at the same place.
+    pub fn fork(&self) -> Lexer<'a>
+        ensures { result ≡ self.now }
+    {
+        Lexer {
+            text: self.text,
+            at: self.at,
+            refused: self.refused,
+        }
+    }
+
     /// Takes whitespace.
     #[inline(always)]
     pub fn skip(&mut self)

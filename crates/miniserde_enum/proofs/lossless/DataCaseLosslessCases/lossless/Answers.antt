@@ -1,16 +1,22 @@
-use Rattle.std.proofs.Common.{◌≡◌, refl}
+use Rattle.std.proofs.Common.{◌≡◌, Some, sym, ap, ◌∙◌}
+use Rattle.std.proofs.lemmas.Option.{same_Some}
+use Rattle.miniserde_enum.specs.Shape.{case_of}
 use Rattle.miniserde_enum.specs.Cases.{data_tree}
-use Rattle.miniserde_enum.proofs.Rounds.{case-named, case-same}
+use Rattle.miniserde_enum.proofs.Rounds.{case-named, case-same, data-same}
 use Rattle.miniserde_enum.proofs.lossless.DataCaseLosslessCases.lossless.Goals as goal
 
 pub returns-clause-named : goal.returns-clause-named
-returns-clause-named g c = λ names v n f h e.
+returns-clause-named g c = λ shape names v n o s f r h e.
     let m = g.R.LosslessCases in
     let tree = g.T.Serialize.tree in
-    case-named g.T.FromJson.means.content m.meaning.content g.T.Ranged.real (data_tree tree) (λ n x. refl) (λ n x y r s e. let i : tree x ≡ tree y = cc in c.lossless.ensures x y r s i) m.real m.tree m.meaning.count c.lossless-2.ensures.named c.lossless-2.ensures.same names v n f h e
+    let real = g.T.Ranged.real in
+    case-named (case_of shape) g.T.FromJson.means.content m.meaning.content real (data_tree shape tree) (λ n x r. (Some (tree x), s.0 n x r)) (data-same shape real tree s.0 g.T.FromJson.means.content c.lossless.ensures) m.real (m.tree shape) m.meaning.count
+    (λ ns w k o. c.lossless-2.ensures.named shape ns w k o s.1) (λ ns v w. c.lossless-2.ensures.same shape ns v w s.1) names v n o f r h e
 
 pub returns-clause-same : goal.returns-clause-same
-returns-clause-same g c = λ names v w f r s e.
+returns-clause-same g c = λ shape names v w s f r q e.
     let m = g.R.LosslessCases in
     let tree = g.T.Serialize.tree in
-    case-same g.T.FromJson.means.content m.meaning.content g.T.Ranged.real (data_tree tree) (λ n x. refl) (λ n x y r s e. let i : tree x ≡ tree y = cc in c.lossless.ensures x y r s i) m.real m.tree m.meaning.count c.lossless-2.ensures.named c.lossless-2.ensures.same names v w f r s e
+    let real = g.T.Ranged.real in
+    case-same (case_of shape) g.T.FromJson.means.content m.meaning.content real (data_tree shape tree) (λ n x r. (Some (tree x), s.0 n x r)) (data-same shape real tree s.0 g.T.FromJson.means.content c.lossless.ensures) m.real (m.tree shape) m.meaning.count
+    (λ ns w k o. c.lossless-2.ensures.named shape ns w k o s.1) (λ ns v w. c.lossless-2.ensures.same shape ns v w s.1) names v w f r q e

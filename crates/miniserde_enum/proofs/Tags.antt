@@ -1,0 +1,121 @@
+-- Objects with a tag.
+use Rattle.std.proofs.Common.{◌≡◌, ℕ, suc, Bool, true, false, cond, List, [], ◌∷◌, Option, Some, None, refl, sym, ap, subst, ◌∙◌, arith}
+use Rattle.std.specs.Prelude.{option_map, option_and_then, bytes_eq}
+use Rattle.std.specs.Option.{option_or}
+use Rattle.std.proofs.lemmas.Option.{same_Some}
+use Rattle.miniserde_model.specs.Tree.{Tree, str, members, Members, no_members, member}
+use Rattle.miniserde_model.specs.Event.{Event, map}
+use Rattle.miniserde_model.specs.Normal.{norm, norm_members}
+use Rattle.miniserde_read.specs.meaning.Objects.{Name, object_of}
+use Rattle.miniserde_read.specs.meaning.Words.{string_of}
+use Rattle.miniserde_read.specs.Rest.{ValueAt}
+use Rattle.miniserde_read.proofs.Same.{value_same, tag, first_event, value_event}
+use Rattle.miniserde_stable.specs.Stable.{IsStable}
+use Rattle.miniserde_record.specs.Fields.{beside, others, last_given, field_given, count_named}
+use Rattle.miniserde_record.specs.Stable.{AreStable}
+use Rattle.miniserde_record.proofs.Stables.{stable-field}
+use Rattle.miniserde_enum.specs.Internal.{tag_of, internal_variant, members_of}
+use Rattle.miniserde_enum.specs.Inside.{inside_of}
+use Rattle.miniserde_enum.specs.Shape.{by_shape, internal}
+use Rattle.miniserde_enum.specs.Cases.{with_data, DataFits}
+use Rattle.miniserde_enum.specs.laws.Cases.{same-name}
+
+-- ---- a tag that was read
+
+-- a tag as a struct's field, with what p gives of the name beside it
+abbrev field : {C : Type 0} → (Name → Option C) → Option (Option Name) → Option (Name × C)
+field p o = option_and_then (λ o. option_and_then (λ n. option_map (λ c. (n, c)) (p n)) (option_or o None)) o
+
+field-some : {C : Type 0} (p : Name → Option C) (o : Option (Option Name)) (n : Name) (c : C) → field p o ≡ Some (n, c) → (option_and_then (λ o. o) o ≡ Some n) × (p n ≡ Some c)
+field-some p None n c e = absurd (cc)
+field-some p (Some None) n c e = absurd (cc)
+field-some {C} p (Some (Some k)) n c e = elim (p k) as (λ q. p k ≡ q → ◌≡◌ {A = Option (Name × C)} (option_map (λ c. (k, c)) q) (Some (n, c)) → (Some k ≡ Some n) × (p n ≡ Some c)) [
+  | None ↦ λ f g. absurd (cc)
+  | Some d ↦ λ f g.
+      let i = same_Some _ _ g in
+      let j = ap (λ z. z.0) i in
+      (ap Some j, ap p (sym j) ∙ f ∙ ap (λ z. Some z.1) i)
+] refl e
+
+some-field : {C : Type 0} (p : Name → Option C) (o : Option (Option Name)) (n : Name) (c : C) → option_and_then (λ o. o) o ≡ Some n → p n ≡ Some c → field p o ≡ Some (n, c)
+some-field p None n c e f = absurd (cc)
+some-field p (Some None) n c e f = absurd (cc)
+some-field p (Some (Some k)) n c e f = let i : k ≡ n = same_Some _ _ e in rw (i, f) refl
+
+-- the tag as the one field of an object
+abbrev pub tag_field : Name → Tree → Option (Name × Unit {0})
+tag_field tag = object_of (field_given {S = Unit {0}} false string_of None (λ ns s ms. Some tt) (tag ∷ []) (None, tt))
+
+module _ {C : Type 0} (tag : Name) (f : Name → Option Tree → Option C) where
+  found : (t : Tree) (k : Name) (u : Unit {0}) → tag_field tag t ≡ Some (k, u) → by_shape (internal tag) f t ≡ inside_of tag (with_data (f k)) t
+  found (members ms) k u e = let p = field-some (λ n. Some tt) (last_given false string_of tag None ms) k u e in rw p.0 refl
+  found t k u e = refl
+
+  none : (t : Tree) → tag_field tag t ≡ None → by_shape (internal tag) f t ≡ None
+  none (members ms) e = elim (last_given false string_of tag None ms) as (λ o. field {C = Unit {0}} (λ n. Some tt) o ≡ None → option_and_then (λ (v : Name × Option Tree). f v.0 v.1) (option_map (λ n. (n, Some (members (others tag ms)))) (option_and_then (λ o. o) o)) ≡ None) [
+    | None ↦ λ e. refl
+    | Some o ↦ elim o as (λ o. field {C = Unit {0}} (λ n. Some tt) (Some o) ≡ None → option_and_then (λ (v : Name × Option Tree). f v.0 v.1) (option_map (λ n. (n, Some (members (others tag ms)))) o) ≡ None) [ None ↦ λ e. refl | Some n ↦ λ e. absurd (cc) ]
+  ] e
+  none t e = refl
+
+  -- the tag was read of the tree u, and the data of the same text
+  pub tag_found : (t u : Tree) (k : Name) (v : Unit {0}) (s r x : List ℕ) → ValueAt t map s r → ValueAt u map s x → tag_field tag u ≡ Some (k, v) → by_shape (internal tag) f t ≡ inside_of tag (with_data (f k)) t
+  tag_found t u k v s r x p q e = found t k v (ap (tag_field tag) (value_same t u map s r x p q).0 ∙ e)
+
+  pub tag_none : (t : Tree) → tag_field tag t ≡ None → by_shape (internal tag) f t ≡ None
+  tag_none = none
+
+-- what the data gives, through a function of its content
+pub inside-mapped : {C D : Type 0} (tag : Name) (of : Tree → Option C) (g : C → D) (t : Tree) → inside_of tag (λ u. option_map g (of u)) t ≡ option_map g (inside_of tag of t)
+inside-mapped tag of g (members ms) = refl
+inside-mapped tag of g t = refl
+
+
+-- ---- the normal form
+
+string-stable : IsStable string_of
+string-stable (str s) c e = e
+string-stable t c e = absurd (cc)
+
+module _ {C : Type 0} (tag : Name) (f : Name → Option Tree → Option C) (stable : (n : Name) (o : Option Tree) (c : C) → f n o ≡ Some c → f n (option_map norm o) ≡ Some c) where
+  abbrev beside_it : Name → List Name → Unit {0} → Members → Option C
+  beside_it n ns s ms = f n (Some (members ms))
+
+  given : (o : Option (Option Name)) (u : Option Tree) (c : C) → option_and_then (λ (v : Name × Option Tree). f v.0 v.1) (option_map (λ n. (n, u)) (option_and_then (λ o. o) o)) ≡ Some c → (n : Name) × (option_and_then (λ o. o) o ≡ Some n) × (f n u ≡ Some c)
+  given None u c e = absurd (cc)
+  given (Some None) u c e = absurd (cc)
+  given (Some (Some n)) u c e = (n, refl, e)
+
+  pub tagged-stable : IsStable (by_shape (internal tag) f)
+  tagged-stable (members ms) c e =
+      let o = last_given false string_of tag None ms in
+      let q = last_given false string_of tag None (norm_members ms) in
+      let a = given o (Some (members (others tag ms))) c e in
+      let n = a.0 in
+      let later : AreStable (beside_it n) = λ ns s ms c e. stable n (Some (members ms)) c e in
+      let was = some-field (λ k. f n (Some (members (others tag ms)))) o n c a.1 a.2 in
+      let is = stable-field false string_of string-stable None (beside_it n) later (tag ∷ []) (None, tt) ms (n, c) was in
+      let b = field-some (λ k. f n (Some (members (others tag (norm_members ms))))) q n c is in
+      rw (b.0, b.1) refl
+  tagged-stable t c e = absurd (cc)
+
+-- ---- writing
+
+module _ (tag : Name) where
+  one-more : (b : Bool) (n : ℕ) → cond b (suc n) n ≡ 0 → (b ≡ false) × (n ≡ 0)
+  one-more true n e = absurd (omega (arith, e))
+  one-more false n e = (refl, e)
+
+  lacking : (ms : Members) → count_named tag ms ≡ 0 → others tag ms ≡ ms
+  lacking no_members e = refl
+  lacking (member k t ms) e = let p = one-more (bytes_eq k tag) (count_named tag ms) e in rw p.0 (ap (member k t) (lacking ms p.1))
+
+  last : (d : Option Name) (ms : Members) → count_named tag ms ≡ 0 → last_given false string_of tag d ms ≡ Some d
+  last d no_members e = refl
+  last d (member k t ms) e = let p = one-more (bytes_eq k tag) (count_named tag ms) e in rw p.0 (last d ms p.1)
+
+  written : (n : Name) (ms : Members) → count_named tag ms ≡ 0 → internal_variant tag (members (member tag (str n) ms)) ≡ Some (n, Some (members ms))
+  written n ms e = rw (same-name tag, last (Some n) ms e, lacking ms e) refl
+
+  pub inside-fits : {T : Type 0} (real : T → Type 0) (tree : T → Tree) → ((x : T) → tree x ≡ members (members_of (tree x))) → ((x : T) → count_named tag (members_of (tree x)) ≡ 0) → DataFits real tree (internal tag)
+  inside-fits real tree object named n x r = written n (members_of (tree x)) (named x) ∙ ap (λ t. Some (n, Some t)) (sym (object x))

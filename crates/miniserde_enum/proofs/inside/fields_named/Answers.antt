@@ -1,0 +1,5 @@
+use Rattle.miniserde_record.proofs.Rounds.{count_new}
+use Rattle.miniserde_enum.proofs.inside.fields_named.Goals as goal
+
+pub returns : goal.returns
+returns c = count_new

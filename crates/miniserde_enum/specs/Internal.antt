@@ -1,0 +1,31 @@
+-- Internally tagged enums: of `{"kind":"Move","x":1}` the member `kind` is the tag, and the others are the data.
+use Rattle.std.specs.Prelude.{◌≡◌, false, Option, Some, None, option_map, option_and_then}
+use Rattle.miniserde_model.specs.Tree.{Tree, null, str, members, Members, no_members, member}
+use Rattle.miniserde_read.specs.meaning.Objects.{Name}
+use Rattle.miniserde_read.specs.meaning.Words.{string_of}
+use Rattle.miniserde_record.specs.Fields.{others, last_given, Says}
+
+-- The tree is an object, whose last member of the tag's name has the name, where each member of the tag's name is a string.
+-- The data is the object of the other members.
+abbrev pub IsInternal : Name → Tree → Name → Option Tree → Type 0
+IsInternal tag (members ms) n (Some u) = Says ⊥ (λ t. t ≡ str n) string_of tag ms × (u ≡ members (others tag ms))
+IsInternal tag t n o = ⊥
+
+-- the last string of the tag's name, where each member of the name is a string
+abbrev pub tag_of : Name → Members → Option Name
+tag_of tag ms = option_and_then (λ o. o) (last_given false string_of tag None ms)
+
+-- the name that the tag gives, and the object of the other members
+abbrev pub internal_variant : Name → Tree → Option (Name × Option Tree)
+internal_variant tag (members ms) = option_map (λ n. (n, Some (members (others tag ms)))) (tag_of tag ms)
+internal_variant tag _ = None
+
+-- the members of an object
+abbrev pub members_of : Tree → Members
+members_of (members ms) = ms
+members_of _ = no_members
+
+-- the tag in front of the members of the data
+abbrev pub internal_tree : Name → Name → Option Tree → Tree
+internal_tree tag n None = null
+internal_tree tag n (Some u) = members (member tag (str n) (members_of u))

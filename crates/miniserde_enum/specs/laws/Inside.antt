@@ -1,0 +1,20 @@
+-- Fields that skip the members of a tag's name take the other members.
+use Rattle.std.proofs.Common.{◌≡◌, Bool, true, false, cond, Option, Some, None, refl, ap}
+use Rattle.std.specs.Prelude.{option_and_then, bytes_eq}
+use Rattle.miniserde_model.specs.Tree.{Tree, Members, no_members, member}
+use Rattle.miniserde_read.specs.meaning.Objects.{Name, all_members}
+use Rattle.miniserde_record.specs.Fields.{others}
+
+pub beside-refused : {A : Type 0} (b refuses : Bool) (skipped taken : Option A) → (refuses ≡ true → taken ≡ None) → cond b false refuses ≡ true → cond b skipped taken ≡ None
+beside-refused true refuses skipped taken f h = absurd (cc)
+beside-refused false refuses skipped taken f h = f h
+
+module _ {S D : Type 0} (tag : Name) (next : S → Name → Tree → Option S) (end : S → Option D) where
+  pub beside-apart : (s : S) (ms : Members) → option_and_then end (all_members (λ s k t. cond (bytes_eq k tag) (Some s) (next s k t)) s ms) ≡ option_and_then end (all_members next s (others tag ms))
+  beside-apart s no_members = refl
+  beside-apart s (member k t ms) =
+      let skip : S → Name → Tree → Option S = λ s k t. cond (bytes_eq k tag) (Some s) (next s k t) in
+      elim (bytes_eq k tag) as (λ b. option_and_then end (option_and_then (λ r. all_members skip r ms) (cond b (Some s) (next s k t))) ≡ option_and_then end (all_members next s (cond b (others tag ms) (member k t (others tag ms))))) [
+        | true ↦ beside-apart s ms
+        | false ↦ elim (next s k t) as (λ o. option_and_then end (option_and_then (λ r. all_members skip r ms) o) ≡ option_and_then end (option_and_then (λ r. all_members next r (others tag ms)) o)) [ None ↦ refl | Some r ↦ beside-apart r ms ]
+      ]

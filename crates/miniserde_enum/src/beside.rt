@@ -1,0 +1,63 @@
+//! The fields of a variant, beside the enum's tag.
+ghost use Rattle.miniserde_enum.specs.Inside.{beside_tag};
+
+use crate::tagged::HasTag;
+use miniserde_model::error::Result;
+use miniserde_read::Source;
+use miniserde_record::record::{NoSlot, Slots};
+use std::alloc::Global;
+use std::marker::PhantomData;
+
+/// The fields of a variant of the enum `E`, whose tag stands among their members and is skipped.
+pub struct BesideTag<E, F> {
+    fields: F,
+    tag: PhantomData<E>,
+}
+
+impl<E, F: Drop> Drop for BesideTag<E, F> {
+    fn drop(self) {
+        let BesideTag { fields, tag: _ } = self;
+        drop(fields);
+    }
+}
+
+impl<E: HasTag, F: Slots> Slots for BesideTag<E, F> {
+    type Values = F::Values;
+
+    ghost meaning = { beside_tag E.tag F.meaning };
+
+    ghost state = { λ f. F.state f.fields };
+
+    ghost end_infallible = { F.end_infallible };
+
+    fn new() -> BesideTag<E, F> {
+        BesideTag {
+            fields: F::new(),
+            tag: PhantomData,
+        }
+    }
+
+    #[inline(always)]
+    fn read_member<'a>(
+        &mut self,
+        names: &[&str],
+        name: &str,
+        source: &mut Source<'a>,
+    ) -> Result<()> {
+        match E::tag().split_first() {
+            Some((tag, _)) => {
+                if name == *tag {
+                    NoSlot::new().read_member(names, name, source)
+                } else {
+                    self.fields.read_member(names, name, source)
+                }
+            }
+            None => self.fields.read_member(names, name, source),
+        }
+    }
+
+    fn end(self, alloc: Global) -> Result<F::Values> {
+        let BesideTag { fields, tag: _ } = self;
+        fields.end(alloc)
+    }
+}

@@ -1,0 +1,104 @@
+//! Internally tagged enums, read from a text: an object, of which one member, the tag, names the variant.
+ghost use Rattle.std.specs.Prelude.{◌≡◌, true, None, Err, IfOk, length};
+ghost use Rattle.miniserde_text.specs.Lexer.{front_of};
+ghost use Rattle.miniserde_model.specs.declared.error.Error.{Error};
+ghost use Rattle.miniserde_read.specs.Rest.{GivesAt, GivesNoneAt};
+ghost use Rattle.miniserde_read.specs.Step.{IsTreeEvent};
+ghost use Rattle.miniserde_enum.specs.Shape.{internal};
+ghost use Rattle.miniserde_enum.specs.CasesMeant.{tagged_of};
+
+use crate::inside::InsideCases;
+use crate::tagged::{HasTag, Tagged};
+use miniserde_model::error::{Error, Result};
+use miniserde_read::Source;
+use miniserde_record::record::{NoSlot, Parts, Record, Slot, Slots, read_record};
+use miniserde_text::json::lex::Event;
+use std::marker::PhantomData;
+
+// The tag of an object of the enum `E`.
+struct TagText<E> {
+    name: String,
+    of: PhantomData<E>,
+}
+
+impl<E> Drop for TagText<E> {
+    fn drop(self) {
+        let TagText { name, of: _ } = self;
+        drop(name);
+    }
+}
+
+impl<E> TagText<E> {
+    // Returns the name of the variant.
+    fn name(self) -> String
+        ensures { result ≡ self.name }
+    {
+        let TagText { name, of: _ } = self;
+        name
+    }
+}
+
+// Its one field.
+type TagFields = Slot<String, NoSlot>;
+
+impl<E: HasTag> Record for TagText<E> {
+    ghost use Rattle.std.specs.Prelude.{refl, [], ◌∷◌};
+
+    type Values = <TagFields as Slots>::Values;
+
+    ghost names = { E.tag ∷ [] };
+
+    ghost values = { λ v. (v.name, tt) };
+
+    ghost made = { λ x. record { name = x.0; of = _ } };
+
+    ghost whole = { (λ v. refl, λ x. refl) };
+
+    ghost named = { refl };
+
+    fn names() -> &'static [&'static str] {
+        E::tag()
+    }
+
+    fn build(parts: Self::Values) -> TagText<E> {
+        let Parts(name, ()) = parts;
+        TagText {
+            name,
+            of: PhantomData,
+        }
+    }
+}
+
+/// Reads an internally tagged enum, whose first token is `token`, and no further: an object, of which the last member of
+/// the tag's name is the variant's name, and the other members are the variant's data. Returns `Invalid` if no beginning
+/// of the text spells such a value.
+pub fn read_tagged<'a, E: Tagged + HasTag, C: InsideCases<Values = E::Values>>(
+    token: Event<'a>,
+    source: &mut Source<'a>,
+) -> Result<E>
+    requires going { source.old.refused ≡ None }
+    requires event { IsTreeEvent (front_of token source.old.scratch) }
+    ensures going { IfOk result (λ _. source.new.refused ≡ None) }
+    ensures ok { IfOk result (λ v. GivesAt (tagged_of C.meaning E.tag E.names)
+        (front_of token.entry source.old.scratch) source.old.rest source.new.rest
+        (C.meaning.content (E.values v))) }
+    ensures invalid { result ≡ Err Error.Invalid → GivesNoneAt (tagged_of C.meaning E.tag E.names)
+        (front_of token.entry source.old.scratch) source.old.rest }
+{
+    let Event::MapStart = token else {
+        return Err(Error::Invalid);
+    };
+    let mut ahead = source.fork();
+    let name = read_record::<TagText<E>, TagFields>(token, &mut ahead)?.name();
+    let value = C::read_inside::<E>(E::names(), name.as_str(), token, source)?;
+    Ok(E::build(value))
+}
+
+/// Does nothing. It promises that the trees of an internally tagged enum, as they are written, are the variants that they
+/// are written for, if the tag's name is none of the fields.
+pub fn tag_fits<E: HasTag, C: InsideCases>()
+    requires { C.apart E.tag ≡ true }
+    ensures { C.fits (internal E.tag) }
+{
+    C::fit()
+}
