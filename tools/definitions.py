@@ -3,7 +3,7 @@ import re
 from dataclasses import dataclass, field, replace
 
 from refusals import (
-    NAME, Refused, check_cycles, check_field_name, check_foreign_marks, check_param, check_params, check_places, check_stable,
+    NAME, Refused, check_cycles, check_field_name, check_foreign_marks, check_inside, check_param, check_params, check_places, check_stable,
     check_tagged, check_type, check_values, check_written,
 )
 
@@ -33,7 +33,7 @@ class Part:
 class Definition:
     """A struct, an enum without data, or a tagged enum, whose variants may have data. `above` are the lines above it, without
     its derives, and `params` the names of its parameters. `style` is the style of its parts' names in JSON, "" for none.
-    `shown` is what messages call it: of the struct that is written for a variant's fields the variant.
+    `tag` is the name of the member that names the variant, None for an enum that is externally tagged or a struct. `shown` is what messages call it: of the struct that is written for a variant's fields the variant.
     """
 
     kind: str
@@ -45,6 +45,7 @@ class Definition:
     words: tuple
     params: tuple = ()
     style: str = ""
+    tag: str = None
     parts: list = field(default_factory=list)
     variant: str = ""
 
@@ -55,7 +56,7 @@ class Definition:
 
 USE = re.compile(r"(?:pub )?use [A-Za-z0-9_:{}*, ]+;")
 DERIVE = re.compile(r"#\[derive\(([^)]*)\)\]")
-WORD = r'(?:once|closed|lossless|stable|events|rename_all\b(?:"[^"]*"|[^",])*)'
+WORD = r'(?:once|closed|lossless|stable|events|inside|(?:rename_all|tag)\b(?:"[^"]*"|[^",])*)'
 WORDS = rf"\s*//\s*({WORD}(?:,\s*{WORD})*)"
 PUBLIC = r"(pub(?:\([a-z ]+\))?\s+)?"
 PARAMS = r"(?:<([^{}]*)>)?"
@@ -103,6 +104,16 @@ def style_of(kind, words, line):
             raise Refused(f'line {line}: the names have one style: leave out {word}, or `rename_all "{style}"`')
         style = found.group(1)
     return style
+
+
+def tag_of(kind, words, line):
+    """The name of the tag that the words of a type ask for, None for none."""
+    if not words:
+        return None
+    found = re.fullmatch(r'tag\s+"([^"\\]*)"', words[0])
+    if not found or len(words) > 1 or kind == "struct":
+        raise Refused(f'line {line}: an enum has one tag, and its name stands behind the word: write `tag "kind"`: {", ".join(words)}')
+    return found.group(1)
 
 
 def marks_of(kind, text, line):
@@ -208,9 +219,10 @@ def head_of(bare, line, above):
         above = [it for it in above if not DERIVE.fullmatch(it)]
         words = [word.strip() for word in re.findall(WORD, words or "")]
         renames = [word for word in words if word.startswith("rename_all")]
-        words = tuple(word for word in words if word not in renames)
-        params, style = params_of(params or "", bare, line), style_of(kind, renames, line)
-        return Definition(kind, name, line, above, derives, public or "", words, params, style)
+        tags = [word for word in words if word.startswith("tag")]
+        words = tuple(word for word in words if word not in [*renames, *tags])
+        params, style, tag = params_of(params or "", bare, line), style_of(kind, renames, line), tag_of(kind, tags, line)
+        return Definition(kind, name, line, above, derives, public or "", words, params, style, tag)
     if re.match(rf"{PUBLIC}struct\s+{NAME}\s*(?:<[^{{(]*>)?\s*\(", bare):
         raise Refused(f"line {line}: a newtype is written by hand (docs/BY-HAND.md), or has a named field: {bare}")
     raise Refused(f"line {line}: not the first line of a `struct Name {{` or an `enum Name {{`: {bare}")
@@ -282,15 +294,26 @@ def with_structs(it):
     for part in it.parts if it.kind == "enum" else []:
         if part.fields:
             params = tuple(name for name in it.params if any(re.search(rf"(?<![\w:]){name}\b", each.of) for each in part.fields))
-            words = tuple(word for word in it.words if word in ("lossless", "stable"))
+            words = tuple(word for word in it.words if word in ("lossless", "stable")) + (("inside",) if it.tag is not None else ())
             made = Definition("struct", it.name + part.name, part.line, [f"/// The fields of `{it.name}::{part.name}`."], [], it.public, words, params)
             made.variant = f"{it.name}::{part.name}"
             made.parts = [replace(each, public=it.public, above=[line for line in each.above if line.startswith("//")]) for each in part.fields]
             part.of = f"{made.name}<{', '.join(params)}>" if params else made.name
             structs.append(made)
-    if any(part.of for part in it.parts) and it.kind == "enum":
+    if (it.tag is not None or any(part.of for part in it.parts)) and it.kind == "enum":
         it.kind = "tagged"
     return [*structs, it]
+
+
+def mark_inside(found, known):
+    """Marks the structs that are the data of an internally tagged enum of the file."""
+    for it in found:
+        for part in it.parts if it.tag is not None else []:
+            check_inside(it, part, {each.name: each for each in found}, known)
+    tagged = {re.match(NAME, part.of).group() for it in found if it.tag is not None for part in it.parts if part.of}
+    for it in found:
+        if it.name in tagged and "inside" not in it.words:
+            it.words += ("inside",)
 
 
 def names_known(found, uses):
@@ -301,6 +324,7 @@ def names_known(found, uses):
 def check(found, uses):
     """Refuses types that no impl can be written for."""
     known = names_known(found, uses)
+    mark_inside(found, known)
     for it in found:
         check_foreign_marks(it)
         check_tagged(it)

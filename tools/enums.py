@@ -2,12 +2,23 @@
 from impls import const_of, head_of, impl_of, laws_text, lent_of, of, quoted, typed, wrapped
 
 
-def cases_of(parts):
+def cases_of(it, parts):
     """The list of variants: the types of their data."""
     if not parts:
         return "NoCase"
-    rest = cases_of(parts[1:])
-    return f"DataCase<{parts[0].of}, {rest}>" if parts[0].of else f"UnitCase<{rest}>"
+    rest = cases_of(it, parts[1:])
+    data = parts[0].of or "NoFields" * (it.tag is not None)
+    return f"DataCase<{data}, {rest}>" if data else f"UnitCase<{rest}>"
+
+
+def traits_of(it):
+    """The trait that reads the variants, and what the calls of the enum's kind of tag are called."""
+    return ("Cases", "enum") if it.tag is None else ("InsideCases", "tagged")
+
+
+def tag_word(it):
+    """The tag's name among the words of a clause, if the enum has one."""
+    return "" if it.tag is None else f" {of('HasTag', 'tag', typed(it))}"
 
 
 def names_in(part):
@@ -24,13 +35,15 @@ def variant_text(it, part):
 def data_text(it, part):
     """The data of a variant with its values by their names, as a pattern."""
     names = ", ".join(names_in(part))
+    if it.tag is not None and not part.of:
+        return "NoFields {}"
     return f"{it.name}{part.name} {{ {names} }}" if part.fields else names if len(part.values) == 1 else f"({names})"
 
 
-def case_clause(at, part):
+def case_clause(it, at, part):
     """The line of a clause that takes a variant apart: its data among the variants' values."""
     names = [f"x{each}" for each in range(len(part.fields) or len(part.values))]
-    data = names[0] if len(part.values) == 1 else f"({', '.join(names)})" if names else "tt"
+    data = names[0] if len(part.values) == 1 else f"({', '.join(names)})" if names else "tt" if it.tag is None else "(record { })"
     if part.fields:
         data = f"(record {{ {'; '.join(f'{quoted(field.name)} = {name}' for field, name in zip(part.fields, names))} }})"
     return f"{' '.join([quoted(part.name), *names])} ↦ {'later_case (' * at}first_case {data}{')' * at}"
@@ -60,22 +73,22 @@ def tagged_text(it, path):
     return f"""{head_of(it)}
 
 // Its variants, and their names.
-type {typed(it, "Cases")} = {cases_of(it.parts)};
+type {typed(it, "Cases")} = {cases_of(it, it.parts)};
 
 const {const_of(it.name)}: &[&str] = &[{", ".join(f'"{part.written}"' for part in it.parts)}];
-{variants_text(it, path)}{reading_text(it)}{writing_text(it)}{again_text(it)}{laws_text(it, "enum", f"{typed(it)}, {typed(it, 'Cases')}")}"""
+{variants_text(it, path)}{tag_text(it, path)}{reading_text(it)}{writing_text(it)}{again_text(it)}{laws_text(it, "enum", f"{typed(it)}, {typed(it, 'Cases')}")}"""
 
 
 def variants_text(it, path):
     """The impl that takes an enum apart and makes one."""
     name, const = typed(it), const_of(it.name)
-    values = " | ".join(case_clause(at, part) for at, part in enumerate(it.parts))
+    values = " | ".join(case_clause(it, at, part) for at, part in enumerate(it.parts))
     return f"""
 {impl_of(it, "FromJson")} Tagged for {name} {{
     ghost use Rattle.{path}.TheConstants.{{{const}}};
     ghost use Rattle.{path}.{it.name}.TheVariants.{{{", ".join(quoted(part.name) for part in it.parts)}}};
 
-    type Values = <{typed(it, "Cases")} as Cases>::Values;
+    type Values = <{typed(it, "Cases")} as {traits_of(it)[0]}>::Values;
 
     ghost names = {{ names_of {const} }};
 
@@ -96,10 +109,31 @@ def variants_text(it, path):
 """
 
 
+def tag_text(it, path):
+    """The impl that has the name of an enum's tag."""
+    if it.tag is None:
+        return ""
+    const = const_of(it.name).removesuffix("_NAMES") + "_TAG"
+    return f"""
+const {const}: &[&str] = &["{it.tag}"];
+
+{impl_of(it, "FromJson")} HasTag for {typed(it)} {{
+    ghost use Rattle.{path}.TheConstants.{{{const}}};
+
+    ghost tag = {{ codes "{it.tag}" }};
+
+    fn tag() -> &'static [&'static str] {{
+        {const}
+    }}
+}}
+"""
+
+
 def reading_text(it):
     """The impl that reads an enum."""
     name, cases = typed(it), typed(it, "Cases")
-    meaning = f"enum_meant {of('Cases', 'meaning', cases)} {of('Tagged', 'names', name)} refl {of('Tagged', 'values', name)}"
+    trait, kind = traits_of(it)
+    meaning = f"{kind}_meant {of(trait, 'meaning', cases)}{tag_word(it)} {of('Tagged', 'names', name)} refl {of('Tagged', 'values', name)}"
     return f"""
 {impl_of(it, "FromJson")} FromJson for {name} {{
 {wrapped("means", meaning)}
@@ -109,7 +143,7 @@ def reading_text(it):
     }}
 
     fn read<'a>(token: Event<'a>, source: &mut Source<'a>) -> Result<{name}> {{
-        read_enum::<{name}, {cases}>(token, source)
+        read_{kind}::<{name}, {cases}>(token, source)
     }}
 }}
 """
@@ -117,12 +151,13 @@ def reading_text(it):
 
 def written_of(it, part, writer):
     """The call that writes a variant."""
-    if part.fields:
-        const = const_of(it.name + part.name)
-        return f'{{ write_fields({writer}, "{part.written}", {const}, &{lent_of(names_in(part))}) }}'
+    tag = f'"{it.tag}", ' if it.tag is not None else ""
+    if part.fields or tag and not part.of:
+        const = const_of(it.name + part.name) if part.fields else "&[]"
+        return f'{{ write{"_tagged" * bool(tag)}_fields({writer}, {tag}"{part.written}", {const}, &{lent_of(names_in(part) if part.fields else [])}) }}'
     if part.values:
         value = "a" if len(part.values) == 1 else "&(a, b)"
-        return f'write_data({writer}, "{part.written}", {value})'
+        return f'write_{"tagged" if tag else "data"}({writer}, {tag}"{part.written}", {value})'
     return f'{writer}.fragment(Fragment::Str("{part.written}"))'
 
 
@@ -136,7 +171,7 @@ def writing_text(it):
     name, cases = typed(it), typed(it, "Cases")
     fields = {field.name for part in it.parts for field in part.fields}
     writer = next(word for word in ("w", "writer", "out", "to") if word not in fields)
-    tree = f"enum_tree {of('Tagged', 'names', name)} {of('AgainCases', 'tree', cases)} {of('Tagged', 'values', name)}"
+    tree = f"{traits_of(it)[1]}_tree{tag_word(it)} {of('Tagged', 'names', name)} {of('AgainCases', 'tree', cases)} {of('Tagged', 'values', name)}"
     return f"""
 {impl_of(it, "RoundTrip")} Serialize for {name} {{
 {wrapped("tree", tree)}
@@ -160,6 +195,7 @@ def again_text(it):
     """The impls that say that what was written of an enum is read again."""
     name, cases = typed(it), typed(it, "Cases")
     real = f"λ v. {of('AgainCases', 'real', cases)} ({of('Tagged', 'values', name)} v)"
+    fits = f"tag_fits::<{name}, {cases}>();\n        " if it.tag is not None else ""
     return f"""
 {impl_of(it, "RoundTrip")} Ranged for {name} {{
 {wrapped("real", real)}
@@ -173,7 +209,7 @@ def again_text(it):
 
 {impl_of(it, "RoundTrip")} RoundTrip for {name} {{
     fn again() {{
-        enum_again::<{name}, {cases}>()
+        {fits}{traits_of(it)[1]}_again::<{name}, {cases}>()
     }}
 }}
 """

@@ -103,11 +103,14 @@ def printed_for(it):
 def laws_text(it, kind, types):
     """The impls of the laws that are asked for, each by the call for its kind of type."""
 
+    tagged = it.kind == "tagged" and it.tag is not None
+
     def law(word, bounds):
+        fits = f"tag_fits::<{types}>();\n        " if tagged and word == "lossless" else ""
         return f"""
 {bounds} {word.capitalize()} for {typed(it)} {{
     fn {word}() {{
-        {kind}_{word}::<{types}>()
+        {fits}{"tagged" if tagged else kind}_{word}::<{types}>()
     }}
 }}
 """
@@ -219,7 +222,7 @@ def struct_text(it, path):
 type {typed(it, "Fields")} = {slots_of(it, it.parts)};
 
 const {const_of(it.name)}: &[&str] = &[{", ".join(f'"{part.written}"' for part in it.parts)}];
-{record_text(it, path)}{reading_text(it)}{writing_text(it)}{laws_text(it, "record", f"{typed(it)}, {typed(it, 'Fields')}")}{place_text(it)}"""
+{record_text(it, path)}{reading_text(it)}{writing_text(it)}{laws_text(it, "record", f"{typed(it)}, {typed(it, 'Fields')}")}{inside_text(it)}{place_text(it)}"""
 
 
 def record_text(it, path):
@@ -299,6 +302,30 @@ def writing_text(it):
 {impl_of(it, "RoundTrip")} RoundTrip for {name} {{
     fn again() {{
         record_again::<{name}, {fields}>()
+    }}
+}}
+"""
+
+
+def inside_text(it):
+    """The impl of a struct whose members may stand beside a tag."""
+    if "inside" not in it.words:
+        return ""
+    name = typed(it)
+    return f"""
+{impl_of(it, "RoundTrip")} Inside for {name} {{
+    ghost fields = {{ {of('Record', 'names', name)} }};
+
+    fn read_inside<'a, E: HasTag>(token: Event<'a>, source: &mut Source<'a>) -> Result<{name}> {{
+        read_record::<{name}, BesideTag<E, {typed(it, "Fields")}>>(token, source)
+    }}
+
+    fn write_inside(&self, w: &mut Writer) -> Result<()> {{
+        Members::write(&{lent_of([f"&self.{part.name}" for part in it.parts])}, w, {const_of(it.name)})
+    }}
+
+    fn is_object() {{
+        fields_named()
     }}
 }}
 """

@@ -10,12 +10,13 @@ class Refused(Exception):
 
 # What derived code may name.
 NAMED = (
-    "AgainCases AgainFields Cases Closed DataCase Deserialize Empty Error Event Field Four FourLent FourSlot Fragment FromJson "
-    "Given Global Lossless MarkedFour MarkedSlot NamePlace NeverNull NoCase NoField NoSlot Once OnceField OnceFour OnceSlot OneOf "
+    "AgainCases AgainFields BesideTag Cases Closed DataCase Deserialize Empty Error Event Field Four FourLent FourSlot Fragment FromJson "
+    "Given Global HasTag Inside InsideCases Lossless MarkedFour MarkedSlot Members NamePlace NeverNull NoCase NoField NoFields NoSlot "
+    "Once OnceField OnceFour OnceSlot OneOf "
     "Parts PlacedRecord Plain Ranged Record RecordPlace Result RoundTrip Serialize Slot Slots Source Stable Step Tagged Taken4 "
-    "UnitCase UnitEnum Variants Visitor WithDefault Writer enum_again enum_lossless enum_stable read_enum read_record "
-    "read_variant record_again record_lossless record_stable take4 variant_again variant_lossless variant_stable write_data "
-    "write_fields write_members"
+    "UnitCase UnitEnum Variants Visitor WithDefault Writer enum_again enum_lossless enum_stable fields_named read_enum read_record "
+    "read_tagged read_variant record_again record_lossless record_stable tag_fits tagged_again tagged_lossless tagged_stable take4 "
+    "variant_again variant_lossless variant_stable write_data write_fields write_members write_tagged write_tagged_fields"
 )
 # Names of Rust's prelude and of the clauses, which derived code uses as they are.
 OF_RUST = "Box Err List None Ok Option Self Some String Vec"
@@ -190,6 +191,19 @@ def check_tagged(it):
             raise Refused(f'line {part.line}: the name of a variant begins with a capital letter and has no `_`: write `Name, // rename "{part.written}"`')
 
 
+def check_inside(it, part, found, known):
+    """Refuses a variant whose data cannot stand in one object with the tag: no struct, or one with a field of the tag's name."""
+    fields = f"`{part.name} {{ name: Type }}`"
+    if len(part.values) == 2 or part.of and not re.fullmatch(rf"{NAME}(?:<.*>)?", part.of):
+        raise Refused(f"line {part.line}: beside a tag stand the members of a struct: write {fields}, or a struct with this field: {part.of}")
+    name = part.of.split("<")[0]
+    if name in it.params or part.of and (name not in known or name in found and found[name].kind != "struct"):
+        raise Refused(f"line {part.line}: beside a tag stand the members of a struct, and `{name}` is none: write {fields}, or a struct with this field")
+    for each in found[name].parts if name in found else []:
+        if each.written == it.tag:
+            raise Refused(f'line {each.line}: the tag of `{it.name}` is "{it.tag}" in JSON, and so is the field `{each.name}`: call one otherwise')
+
+
 def check_foreign_marks(it):
     """Refuses marks that the type or its place does not know."""
     if not it.parts:
@@ -200,6 +214,8 @@ def check_foreign_marks(it):
         raise Refused(f"line {it.line}: `{it.name}` is no struct: write a struct that is `closed` or `once`, and a variant of it, as `Text(Text)`")
     if it.kind == "enum" and {"once", "closed"} & set(it.words):
         raise Refused(f"line {it.line}: `{it.name}` is no struct, and has no members that `once` or `closed` could speak of")
+    if it.kind != "struct" and "inside" in it.words:
+        raise Refused(f"line {it.line}: `{it.name}` is no struct, and cannot stand beside a tag: leave out `inside`")
     if "events" in it.words and it.params:
         raise Refused(f"line {it.line}: a place has no parameters: leave out `events`, or write `{it.name}` for the types that it is used with")
     if "events" in it.words and ("closed" in it.words or any(part.once or part.default is not None for part in it.parts)):

@@ -1,6 +1,7 @@
 //! What a user of the library writes, proved: callers with contracts of their own.
 #![tactic(auto)]
 
+pub mod action;
 pub mod basket;
 pub mod by_events;
 pub mod canonical;

@@ -70,7 +70,6 @@ pub inside-mapped : {C D : Type 0} (tag : Name) (of : Tree → Option C) (g : C 
 inside-mapped tag of g (members ms) = refl
 inside-mapped tag of g t = refl
 
-
 -- ---- the normal form
 
 string-stable : IsStable string_of

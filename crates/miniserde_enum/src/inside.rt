@@ -143,9 +143,7 @@ impl<T: Inside, R: InsideCases> InsideCases for DataCase<T, R> {
                 if name == *first {
                     Ok(OneOf::First(T::read_inside::<E>(token, source)?))
                 } else {
-                    Ok(OneOf::Later(R::read_inside::<E>(
-                        more, name, token, source,
-                    )?))
+                    Ok(OneOf::Later(R::read_inside::<E>(more, name, token, source)?))
                 }
             }
             None => Err(Error::Invalid),

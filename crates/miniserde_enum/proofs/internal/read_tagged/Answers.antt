@@ -44,13 +44,12 @@ returns-clause-ok g c =
     let a = c.in_ok-read_record.ensures.ok in
     let y = c.read_record.new.source.rest in
     let k = string_bytes c.in_ok-read_record.field-0.name in
-    let v : ValueAt a.0 event.map s y = subst (λ z. ValueAt a.0 event.map z y) c.fork-ahead.ensures.rest (subst (λ z. ValueAt a.0 (front_of z c.fork-ahead.result.scratch) c.fork-ahead.result.rest y) c.in-MapStart.is a.1) in
-    (
+    let v : ValueAt a.0 event.map s y = subst (λ z. ValueAt a.0 event.map z y) c.fork-ahead.ensures.rest (subst (λ z. ValueAt a.0 (front_of z c.fork-ahead.result.scratch) c.fork-ahead.result.rest y) c.in-MapStart.is a.1) in (
       b.0,
       b.1,
       tag_found tag (by g.E.Tagged.names) b.0 a.0 k tt s r y q v a.2
-      ∙ ap (λ z. inside_of tag (with_data (by z k)) b.0) (sym c.names.ensures)
-      ∙ ap (λ z. inside_of tag (with_data (by (map (λ n. n.now) c.names.result.now) z)) b.0) (sym (c.as_str.ensures.value ∙ ap string_bytes c.name-name.ensures))
-      ∙ b.2
-      ∙ ap (λ z. Some (g.C.InsideCases.meaning.content z)) (sym c.build.ensures),
+          ∙ ap (λ z. inside_of tag (with_data (by z k)) b.0) (sym c.names.ensures)
+          ∙ ap (λ z. inside_of tag (with_data (by (map (λ n. n.now) c.names.result.now) z)) b.0) (sym (c.as_str.ensures.value ∙ ap string_bytes c.name-name.ensures))
+          ∙ b.2
+          ∙ ap (λ z. Some (g.C.InsideCases.meaning.content z)) (sym c.build.ensures),
     )

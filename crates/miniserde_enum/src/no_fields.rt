@@ -1,0 +1,109 @@
+//! The data of an internally tagged variant without data.
+ghost use Rattle.std.specs.Prelude.{refl, []};
+ghost use Rattle.miniserde_record.specs.FieldsMeant.{struct_meant};
+ghost use Rattle.miniserde_record.specs.Structs.{record_tree};
+
+use crate::beside::BesideTag;
+use crate::inside::{Inside, fields_named};
+use crate::tagged::HasTag;
+use miniserde_keys::Ranged;
+use miniserde_model::error::Result;
+use miniserde_read::{FromJson, Source};
+use miniserde_record::record::{
+    AgainFields, LosslessFields, Members, NoSlot, Record, Slots, StableFields, read_record,
+    record_again, record_lossless, record_stable, write_members,
+};
+use miniserde_round::{Lossless, NeverNull, RoundTrip};
+use miniserde_ser::ser::{Serialize, Writer};
+use miniserde_stable::Stable;
+use miniserde_text::json::lex::Event;
+
+/// A struct without fields: it is read from any object, and written as `{}`.
+#[derive(Drop)]
+pub struct NoFields {}
+
+impl Record for NoFields {
+    type Values = <NoSlot as Slots>::Values;
+
+    ghost names = { [] };
+
+    ghost values = { λ v. tt };
+
+    ghost made = { λ x. record {} };
+
+    ghost whole = { (λ v. refl, λ x. refl) };
+
+    ghost named = { refl };
+
+    fn names() -> &'static [&'static str] {
+        &[]
+    }
+
+    fn build(_parts: Self::Values) -> NoFields {
+        NoFields {}
+    }
+}
+
+impl FromJson for NoFields {
+    ghost means = { struct_meant ⟦<NoSlot as Slots>⟧.meaning ⟦<NoFields as Record>⟧.names ⟦<NoFields as Record>⟧.values };
+
+    fn missing() -> Option<NoFields> {
+        None
+    }
+
+    fn read<'a>(token: Event<'a>, source: &mut Source<'a>) -> Result<NoFields> {
+        read_record::<NoFields, NoSlot>(token, source)
+    }
+}
+
+impl Serialize for NoFields {
+    ghost tree = { record_tree ⟦<NoFields as Record>⟧.names ⟦<NoSlot as AgainFields>⟧.trees ⟦<NoFields as Record>⟧.values };
+
+    fn begin(&self, w: &mut Writer) -> Result<()> {
+        write_members(w, &[], &())
+    }
+}
+
+impl Ranged for NoFields {
+    ghost real = { λ v. ⟦<NoSlot as AgainFields>⟧.real (⟦<NoFields as Record>⟧.values v) };
+
+    fn ranged(&self) {}
+}
+
+impl RoundTrip for NoFields {
+    fn again() {
+        record_again::<NoFields, NoSlot>()
+    }
+}
+
+impl Lossless for NoFields {
+    fn lossless() {
+        record_lossless::<NoFields, NoSlot>()
+    }
+}
+
+impl NeverNull for NoFields {
+    fn never_null() {}
+}
+
+impl Stable for NoFields {
+    fn stable() {
+        record_stable::<NoFields, NoSlot>()
+    }
+}
+
+impl Inside for NoFields {
+    ghost fields = { [] };
+
+    fn read_inside<'a, E: HasTag>(token: Event<'a>, source: &mut Source<'a>) -> Result<NoFields> {
+        read_record::<NoFields, BesideTag<E, NoSlot>>(token, source)
+    }
+
+    fn write_inside(&self, w: &mut Writer) -> Result<()> {
+        ().write(w, &[])
+    }
+
+    fn is_object() {
+        fields_named()
+    }
+}
