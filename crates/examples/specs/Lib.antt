@@ -3,6 +3,7 @@ pub mod Elements
 pub mod Counter
 pub mod Percents
 pub mod Rates
+pub mod Actions
 pub mod Commands
 pub mod Services
 pub mod Versions

@@ -2,6 +2,7 @@
 #![tactic(auto)]
 
 pub mod action;
+pub mod actions;
 pub mod basket;
 pub mod by_events;
 pub mod canonical;

@@ -73,5 +73,7 @@ pub use Rattle.miniserde_enum.specs.Cases
 pub use Rattle.miniserde_enum.specs.CasesMeant
 pub use Rattle.miniserde_enum.specs.External
 pub use Rattle.miniserde_enum.specs.Shape
+pub use Rattle.miniserde_enum.specs.Inside
+pub use Rattle.miniserde_enum.specs.Internal
 pub use Rattle.miniserde_program.specs.Counts
 pub use Rattle.miniserde_program.specs.Runs

@@ -2,6 +2,7 @@
 #![tactic(auto)]
 
 #[cfg(test)]
+mod actions;
 mod callers;
 #[cfg(test)]
 mod commands;

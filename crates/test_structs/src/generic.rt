@@ -5,10 +5,11 @@ ghost use Rattle.miniserde.specs.Tree.{nonneg};
 ghost use Rattle.std.specs.Prelude.{refl};
 
 use miniserde::derived::{
-    AgainFields, Closed, Empty, Event, FourLent, FromJson, Given, Global, Lossless, MarkedFour,
-    MarkedSlot, NeverNull, NoSlot, OnceSlot, Parts, Plain, Ranged, Record, Result, RoundTrip,
-    Serialize, Slot, Slots, Source, Stable, Taken4, WithDefault, Writer, read_record, record_again,
-    record_lossless, record_stable, take4, write_members,
+    AgainFields, BesideTag, Closed, Empty, Event, FourLent, FromJson, Given, Global, HasTag,
+    Inside, Lossless, MarkedFour, MarkedSlot, Members, NeverNull, NoSlot, OnceSlot, Parts, Plain,
+    Ranged, Record, Result, RoundTrip, Serialize, Slot, Slots, Source, Stable, Taken4, WithDefault,
+    Writer, fields_named, read_record, record_again, record_lossless, record_stable, take4,
+    write_members,
 };
 use std::collections::BTreeMap;
 
@@ -97,6 +98,22 @@ impl<A: RoundTrip, B: RoundTrip> NeverNull for Both<A, B> {
 impl<A: Stable, B: Stable> Stable for Both<A, B> {
     fn stable() {
         record_stable::<Both<A, B>, BothFields<A, B>>()
+    }
+}
+
+impl<A: RoundTrip, B: RoundTrip> Inside for Both<A, B> {
+    ghost fields = { ⟦<Both<A, B> as Record>⟧.names };
+
+    fn read_inside<'a, E: HasTag>(token: Event<'a>, source: &mut Source<'a>) -> Result<Both<A, B>> {
+        read_record::<Both<A, B>, BesideTag<E, BothFields<A, B>>>(token, source)
+    }
+
+    fn write_inside(&self, w: &mut Writer) -> Result<()> {
+        Members::write(&Parts(&self.one, Parts(&self.two, ())), w, BOTH_NAMES)
+    }
+
+    fn is_object() {
+        fields_named()
     }
 }
 

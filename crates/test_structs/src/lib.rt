@@ -18,6 +18,8 @@ mod stable;
 #[cfg(test)]
 mod structs;
 #[cfg(test)]
+mod tagged;
+mod tags;
 mod users;
 #[cfg(test)]
 mod wide;

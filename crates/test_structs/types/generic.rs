@@ -2,7 +2,7 @@ use std::collections::BTreeMap;
 
 /// Two things of two types. An unknown name is invalid, and so is a duplicate of `one`.
 #[derive(Debug)]
-pub struct Both<A, B> { // closed, lossless, stable
+pub struct Both<A, B> { // inside, closed, lossless, stable
     pub one: A, // once
     pub two: B,
 }

@@ -1,0 +1,116 @@
+//! Actions, an internally tagged enum.
+
+use examples::action::Action;
+use examples::actions::{is_ping, said};
+use miniserde::error::Error;
+use test_tables::{
+    Wrong, expect, expect_one_value, expect_prefixes_invalid, expect_read_itself, expect_refused,
+};
+
+const ACTIONS: &str = r#"{"kind":"Ping"} => same
+ { "kind" : "Ping" }  => {"kind":"Ping"}
+{"\u006bind":"P\u0069ng"} => {"kind":"Ping"}
+{"kind":"Ping","x":[{"kind":7}],"text":null} => {"kind":"Ping"}
+{"x":[{"kind":7}],"text":null,"kind":"Ping"} => {"kind":"Ping"}
+{"kind":"Say","text":"a","to":"b"} => same
+{"kind":"Say","text":"Ping"} => {"kind":"Say","text":"Ping","to":null}
+{"text":"a","kind":"Say","to":null} => {"kind":"Say","text":"a","to":null}
+{"to":"b","text":"\u00e9","kind":"Say"} => {"kind":"Say","text":"é","to":"b"}
+{"text":"a","kind":"Say","x":1,"text":"b"} => {"kind":"Say","text":"b","to":null}
+{"kind":"move","x":-9223372036854775808,"y":9223372036854775807} => same
+{"y":2,"x":1,"kind":"move"} => {"kind":"move","x":1,"y":2}
+{"y":2,"kind":"m\u006fve","x":1} => {"kind":"move","x":1,"y":2}
+{"kind":"Ping","kind":"move","x":1,"y":2} => {"kind":"move","x":1,"y":2}
+{"kind":"move","x":1,"y":2,"k\u0069nd":"Ping"} => {"kind":"Ping"}
+{"kind":"Nope","x":"a","kind":"Ping"} => {"kind":"Ping"}
+
+{}
+{"kind":null}
+{"kind":7}
+{"kind":["Ping"]}
+{"kind":{"Ping":null}}
+{"kind":7,"kind":"Ping"}
+{"kind":"Ping","kind":7}
+{"kind":"Ping","kind":"Nope"}
+{"kind":"Nope"}
+{"kind":""}
+{"kind":"Pin"}
+{"kind":"Pings"}
+{"kind":"ping"}
+{"kind":"Move","x":1,"y":2}
+{"Kind":"Ping"}
+{"kin":"Ping"}
+{"text":"a"}
+{"x":1,"y":2}
+{"kind":"Say"}
+{"kind":"Say","text":7}
+{"kind":"Say","text":null}
+{"kind":"Say","text":"a","text":7}
+{"kind":"Say","text":"a","to":7}
+{"kind":"Say","x":1,"y":2}
+{"kind":"move"}
+{"kind":"move","x":1}
+{"kind":"move","text":"a"}
+{"kind":"move","x":1,"y":"2"}
+{"kind":"move","x":1,"y":9223372036854775808}
+"Ping"
+"Say"
+null
+7
+[]
+["Ping"]
+[{"kind":"Ping"}]
+{"Ping":null}
+{"Say":{"text":"a"}}
+{"kind":"Ping",}
+{"kind":"Ping"]
+{"kind":"Ping"}}
+{"kind":"Ping","x"}
+{"kind":"Ping","x":}
+{"kind":"Ping","x":01}
+{"kind":"Ping" "x":1}
+{"kind":"Ping","x":[1}"#;
+
+#[test]
+fn an_action_is_an_object_whose_kind_says_which(rt: HostRuntime) -> Result<(), Wrong> {
+    expect_read_itself::<Action>(rt.alloc(), ACTIONS)
+}
+
+#[test]
+fn a_prefix_of_an_action_is_invalid(rt: HostRuntime) -> Result<(), Wrong> {
+    expect_prefixes_invalid::<Action>(rt.alloc(), r#"{"kind":"Ping"}"#)?;
+    expect_prefixes_invalid::<Action>(rt.alloc(), r#"{"text":"a","kind":"Say"}"#)?;
+    expect_prefixes_invalid::<Action>(rt.alloc(), r#"{"kind":"move","x":1,"y":2}"#)
+}
+
+const CANONICAL: &str = r#"{"y":2,"x":1,"kind":"move"} => {"kind":"move","x":1,"y":2}
+{"kind":"Nope","kind":"Ping"} => {"kind":"Ping"}
+{"kind":"Ping","b":-0,"a":"\u0061"} => {"a":"a","b":0,"kind":"Ping"} => {"kind":"Ping"}
+{"text":"a","to":null,"kind":"Say"} => {"kind":"Say","text":"a","to":null}"#;
+
+const NOT_ACTIONS: &str = r#"{"kind":"Nope"}
+{"kind":"move","x":1}
+{}"#;
+
+#[test]
+fn an_action_is_stable(rt: HostRuntime) -> Result<(), Wrong> {
+    expect_one_value::<Action>(rt.alloc(), CANONICAL)?;
+    expect_refused::<Action>(rt.alloc(), NOT_ACTIONS)
+}
+
+#[test]
+fn what_is_said_is_the_text(rt: HostRuntime) -> Result<(), Wrong> {
+    let text = r#"{"text":"a","kind":"Say"}"#;
+    expect(
+        matches!(said(rt.alloc(), text), Ok(Some(said)) if said.as_str() == "a"),
+        text,
+    )?;
+    let ping = r#"{"kind":"Ping"}"#;
+    expect(matches!(said(rt.alloc(), ping), Ok(None)), ping)?;
+    expect(matches!(is_ping(rt.alloc(), ping), Ok(true)), ping)?;
+    expect(matches!(is_ping(rt.alloc(), text), Ok(false)), text)?;
+    expect(
+        matches!(said(rt.alloc(), r#"{"kind":1}"#), Err(Error::Invalid)),
+        "a number",
+    )
+}

@@ -1,0 +1,621 @@
+//! A change and what it has, internally tagged, with the impls that `./derive` writes.
+ghost use Rattle.miniserde.specs.Cases.{each_case, first_case, later_case, no_case, tagged_tree};
+ghost use Rattle.miniserde.specs.CasesMeant.{tagged_meant};
+ghost use Rattle.miniserde.specs.FieldsMeant.{struct_meant};
+ghost use Rattle.miniserde.specs.Structs.{names_of, record_tree};
+ghost use Rattle.std.specs.Prelude.{codes, refl};
+
+use crate::generic::Both;
+use miniserde::derived::{
+    AgainCases, AgainFields, BesideTag, Closed, DataCase, Empty, Event, FromJson, HasTag, Inside,
+    InsideCases, Lossless, MarkedSlot, Members, NeverNull, NoCase, NoFields, NoSlot, OnceSlot,
+    OneOf, Parts, Ranged, Record, Result, RoundTrip, Serialize, Slot, Slots, Source, Stable,
+    Tagged, WithDefault, Writer, fields_named, read_record, read_tagged, record_again,
+    record_lossless, record_stable, tag_fits, tagged_again, tagged_lossless, tagged_stable,
+    write_members, write_tagged, write_tagged_fields,
+};
+
+/// A name, and nothing else.
+#[derive(Drop)]
+pub struct Name {
+    pub name: String,
+    pub of: Option<u8>,
+}
+
+// Its fields, and their names.
+type NameFields = OnceSlot<String, MarkedSlot<Option<u8>, WithDefault<Empty>, Closed>>;
+
+const NAME_NAMES: &[&str] = &["name", "of"];
+
+impl Record for Name {
+    ghost use Rattle.test_structs.specs.declared.tagged.TheConstants.{NAME_NAMES};
+
+    type Values = <NameFields as Slots>::Values;
+
+    ghost names = { names_of NAME_NAMES };
+
+    ghost values = { λ v. (v.name, (v.of, tt)) };
+
+    ghost made = { λ x. record { name = x.0; of = x.1.0 } };
+
+    ghost whole = { (λ v. refl, λ x. refl) };
+
+    ghost named = { refl };
+
+    fn names() -> &'static [&'static str] {
+        NAME_NAMES
+    }
+
+    fn build(parts: Self::Values) -> Name {
+        let Parts(name, Parts(of, ())) = parts;
+        Name { name, of }
+    }
+}
+
+impl FromJson for Name {
+    ghost means = { struct_meant ⟦<NameFields as Slots>⟧.meaning ⟦<Name as Record>⟧.names ⟦<Name as Record>⟧.values };
+
+    fn missing() -> Option<Name> {
+        None
+    }
+
+    fn read<'a>(token: Event<'a>, source: &mut Source<'a>) -> Result<Name> {
+        read_record::<Name, NameFields>(token, source)
+    }
+}
+
+impl Serialize for Name {
+    ghost tree = { record_tree ⟦<Name as Record>⟧.names ⟦<NameFields as AgainFields>⟧.trees ⟦<Name as Record>⟧.values };
+
+    fn begin(&self, w: &mut Writer) -> Result<()> {
+        write_members(w, NAME_NAMES, &Parts(&self.name, Parts(&self.of, ())))
+    }
+}
+
+impl Ranged for Name {
+    ghost real = { λ v. ⟦<NameFields as AgainFields>⟧.real (⟦<Name as Record>⟧.values v) };
+
+    fn ranged(&self) {
+        self.name.ranged();
+        self.of.ranged();
+    }
+}
+
+impl RoundTrip for Name {
+    fn again() {
+        record_again::<Name, NameFields>()
+    }
+}
+
+impl Lossless for Name {
+    fn lossless() {
+        record_lossless::<Name, NameFields>()
+    }
+}
+
+impl NeverNull for Name {
+    fn never_null() {}
+}
+
+impl Stable for Name {
+    fn stable() {
+        record_stable::<Name, NameFields>()
+    }
+}
+
+impl Inside for Name {
+    ghost fields = { ⟦<Name as Record>⟧.names };
+
+    fn read_inside<'a, E: HasTag>(token: Event<'a>, source: &mut Source<'a>) -> Result<Name> {
+        read_record::<Name, BesideTag<E, NameFields>>(token, source)
+    }
+
+    fn write_inside(&self, w: &mut Writer) -> Result<()> {
+        Members::write(&Parts(&self.name, Parts(&self.of, ())), w, NAME_NAMES)
+    }
+
+    fn is_object() {
+        fields_named()
+    }
+}
+
+/// The fields of `Inner::Two`.
+#[derive(Drop)]
+pub struct InnerTwo {
+    pub v: u8,
+    pub types: Vec<u8>,
+}
+
+// Its fields, and their names.
+type InnerTwoFields = Slot<u8, Slot<Vec<u8>, NoSlot>>;
+
+const INNER_TWO_NAMES: &[&str] = &["v", "types"];
+
+impl Record for InnerTwo {
+    ghost use Rattle.test_structs.specs.declared.tagged.TheConstants.{INNER_TWO_NAMES};
+
+    type Values = <InnerTwoFields as Slots>::Values;
+
+    ghost names = { names_of INNER_TWO_NAMES };
+
+    ghost values = { λ v. (v.v, (v.types, tt)) };
+
+    ghost made = { λ x. record { v = x.0; types = x.1.0 } };
+
+    ghost whole = { (λ v. refl, λ x. refl) };
+
+    ghost named = { refl };
+
+    fn names() -> &'static [&'static str] {
+        INNER_TWO_NAMES
+    }
+
+    fn build(parts: Self::Values) -> InnerTwo {
+        let Parts(v, Parts(types, ())) = parts;
+        InnerTwo { v, types }
+    }
+}
+
+impl FromJson for InnerTwo {
+    ghost means = { struct_meant ⟦<InnerTwoFields as Slots>⟧.meaning ⟦<InnerTwo as Record>⟧.names
+        ⟦<InnerTwo as Record>⟧.values };
+
+    fn missing() -> Option<InnerTwo> {
+        None
+    }
+
+    fn read<'a>(token: Event<'a>, source: &mut Source<'a>) -> Result<InnerTwo> {
+        read_record::<InnerTwo, InnerTwoFields>(token, source)
+    }
+}
+
+impl Serialize for InnerTwo {
+    ghost tree = { record_tree ⟦<InnerTwo as Record>⟧.names ⟦<InnerTwoFields as AgainFields>⟧.trees
+        ⟦<InnerTwo as Record>⟧.values };
+
+    fn begin(&self, w: &mut Writer) -> Result<()> {
+        write_members(w, INNER_TWO_NAMES, &Parts(&self.v, Parts(&self.types, ())))
+    }
+}
+
+impl Ranged for InnerTwo {
+    ghost real = { λ v. ⟦<InnerTwoFields as AgainFields>⟧.real (⟦<InnerTwo as Record>⟧.values v) };
+
+    fn ranged(&self) {
+        self.v.ranged();
+        self.types.ranged();
+    }
+}
+
+impl RoundTrip for InnerTwo {
+    fn again() {
+        record_again::<InnerTwo, InnerTwoFields>()
+    }
+}
+
+impl Lossless for InnerTwo {
+    fn lossless() {
+        record_lossless::<InnerTwo, InnerTwoFields>()
+    }
+}
+
+impl NeverNull for InnerTwo {
+    fn never_null() {}
+}
+
+impl Stable for InnerTwo {
+    fn stable() {
+        record_stable::<InnerTwo, InnerTwoFields>()
+    }
+}
+
+impl Inside for InnerTwo {
+    ghost fields = { ⟦<InnerTwo as Record>⟧.names };
+
+    fn read_inside<'a, E: HasTag>(token: Event<'a>, source: &mut Source<'a>) -> Result<InnerTwo> {
+        read_record::<InnerTwo, BesideTag<E, InnerTwoFields>>(token, source)
+    }
+
+    fn write_inside(&self, w: &mut Writer) -> Result<()> {
+        Members::write(&Parts(&self.v, Parts(&self.types, ())), w, INNER_TWO_NAMES)
+    }
+
+    fn is_object() {
+        fields_named()
+    }
+}
+
+/// What is inside a change.
+#[derive(Drop)]
+pub enum Inner {
+    Empty,
+    Two { v: u8, types: Vec<u8> },
+}
+
+// Its variants, and their names.
+type InnerCases = DataCase<NoFields, DataCase<InnerTwo, NoCase>>;
+
+const INNER_NAMES: &[&str] = &["Empty", "Two"];
+
+impl Tagged for Inner {
+    ghost use Rattle.test_structs.specs.declared.tagged.TheConstants.{INNER_NAMES};
+    ghost use Rattle.test_structs.specs.declared.tagged.Inner.TheVariants.{Empty, Two};
+
+    type Values = <InnerCases as InsideCases>::Values;
+
+    ghost names = { names_of INNER_NAMES };
+
+    ghost values = { elim [
+      | Empty ↦ first_case (record {})
+      | Two x0 x1 ↦ later_case (first_case
+          (record { v = x0; types = x1 }))
+    ] };
+
+    ghost whole = { each_case _ (λ x. (Empty, refl)) (each_case _ (λ x. (Two x.v x.types, refl))
+        (no_case _)) };
+
+    ghost named = { refl };
+
+    fn names() -> &'static [&'static str] {
+        INNER_NAMES
+    }
+
+    fn build(value: Self::Values) -> Inner {
+        match value {
+            OneOf::First(NoFields {}) => Inner::Empty,
+            OneOf::Later(value) => match value {
+                OneOf::First(InnerTwo { v, types }) => Inner::Two { v, types },
+                OneOf::Later(value) => match value {},
+            },
+        }
+    }
+}
+
+const INNER_TAG: &[&str] = &["type"];
+
+impl HasTag for Inner {
+    ghost use Rattle.test_structs.specs.declared.tagged.TheConstants.{INNER_TAG};
+
+    ghost tag = { codes "type" };
+
+    fn tag() -> &'static [&'static str] {
+        INNER_TAG
+    }
+}
+
+impl FromJson for Inner {
+    ghost means = { tagged_meant ⟦<InnerCases as InsideCases>⟧.meaning ⟦<Inner as HasTag>⟧.tag
+        ⟦<Inner as Tagged>⟧.names refl ⟦<Inner as Tagged>⟧.values };
+
+    fn missing() -> Option<Inner> {
+        None
+    }
+
+    fn read<'a>(token: Event<'a>, source: &mut Source<'a>) -> Result<Inner> {
+        read_tagged::<Inner, InnerCases>(token, source)
+    }
+}
+
+impl Serialize for Inner {
+    ghost tree = { tagged_tree ⟦<Inner as HasTag>⟧.tag ⟦<Inner as Tagged>⟧.names ⟦<InnerCases as AgainCases>⟧.tree ⟦<Inner as Tagged>⟧.values };
+
+    fn begin(&self, w: &mut Writer) -> Result<()> {
+        match self {
+            Inner::Empty => { write_tagged_fields(w, "type", "Empty", &[], &()) },
+            Inner::Two { v, types } => {
+                write_tagged_fields(
+                    w,
+                    "type",
+                    "Two",
+                    INNER_TWO_NAMES,
+                    &Parts(v, Parts(types, ())),
+                )
+            },
+        }
+    }
+}
+
+impl Ranged for Inner {
+    ghost real = { λ v. ⟦<InnerCases as AgainCases>⟧.real (⟦<Inner as Tagged>⟧.values v) };
+
+    fn ranged(&self) {
+        match self {
+            Inner::Empty => {}
+            Inner::Two { v, types } => {
+                v.ranged();
+                types.ranged();
+            },
+        }
+    }
+}
+
+impl RoundTrip for Inner {
+    fn again() {
+        tag_fits::<Inner, InnerCases>();
+        tagged_again::<Inner, InnerCases>()
+    }
+}
+
+impl Lossless for Inner {
+    fn lossless() {
+        tag_fits::<Inner, InnerCases>();
+        tagged_lossless::<Inner, InnerCases>()
+    }
+}
+
+impl NeverNull for Inner {
+    fn never_null() {}
+}
+
+impl Stable for Inner {
+    fn stable() {
+        tagged_stable::<Inner, InnerCases>()
+    }
+}
+
+/// The fields of `Change::Deep`.
+#[derive(Drop)]
+pub struct ChangeDeep {
+    pub inner: Inner,
+    pub list: Vec<Inner>,
+}
+
+// Its fields, and their names.
+type ChangeDeepFields = Slot<Inner, Slot<Vec<Inner>, NoSlot>>;
+
+const CHANGE_DEEP_NAMES: &[&str] = &["inner", "list"];
+
+impl Record for ChangeDeep {
+    ghost use Rattle.test_structs.specs.declared.tagged.TheConstants.{CHANGE_DEEP_NAMES};
+
+    type Values = <ChangeDeepFields as Slots>::Values;
+
+    ghost names = { names_of CHANGE_DEEP_NAMES };
+
+    ghost values = { λ v. (v.inner, (v.list, tt)) };
+
+    ghost made = { λ x. record { inner = x.0; list = x.1.0 } };
+
+    ghost whole = { (λ v. refl, λ x. refl) };
+
+    ghost named = { refl };
+
+    fn names() -> &'static [&'static str] {
+        CHANGE_DEEP_NAMES
+    }
+
+    fn build(parts: Self::Values) -> ChangeDeep {
+        let Parts(inner, Parts(list, ())) = parts;
+        ChangeDeep { inner, list }
+    }
+}
+
+impl FromJson for ChangeDeep {
+    ghost means = { struct_meant ⟦<ChangeDeepFields as Slots>⟧.meaning ⟦<ChangeDeep as Record>⟧.names ⟦<ChangeDeep as Record>⟧.values };
+
+    fn missing() -> Option<ChangeDeep> {
+        None
+    }
+
+    fn read<'a>(token: Event<'a>, source: &mut Source<'a>) -> Result<ChangeDeep> {
+        read_record::<ChangeDeep, ChangeDeepFields>(token, source)
+    }
+}
+
+impl Serialize for ChangeDeep {
+    ghost tree = { record_tree ⟦<ChangeDeep as Record>⟧.names ⟦<ChangeDeepFields as AgainFields>⟧.trees ⟦<ChangeDeep as Record>⟧.values };
+
+    fn begin(&self, w: &mut Writer) -> Result<()> {
+        write_members(
+            w,
+            CHANGE_DEEP_NAMES,
+            &Parts(&self.inner, Parts(&self.list, ())),
+        )
+    }
+}
+
+impl Ranged for ChangeDeep {
+    ghost real = { λ v. ⟦<ChangeDeepFields as AgainFields>⟧.real (⟦<ChangeDeep as Record>⟧.values v) };
+
+    fn ranged(&self) {
+        self.inner.ranged();
+        self.list.ranged();
+    }
+}
+
+impl RoundTrip for ChangeDeep {
+    fn again() {
+        record_again::<ChangeDeep, ChangeDeepFields>()
+    }
+}
+
+impl Lossless for ChangeDeep {
+    fn lossless() {
+        record_lossless::<ChangeDeep, ChangeDeepFields>()
+    }
+}
+
+impl NeverNull for ChangeDeep {
+    fn never_null() {}
+}
+
+impl Stable for ChangeDeep {
+    fn stable() {
+        record_stable::<ChangeDeep, ChangeDeepFields>()
+    }
+}
+
+impl Inside for ChangeDeep {
+    ghost fields = { ⟦<ChangeDeep as Record>⟧.names };
+
+    fn read_inside<'a, E: HasTag>(token: Event<'a>, source: &mut Source<'a>) -> Result<ChangeDeep> {
+        read_record::<ChangeDeep, BesideTag<E, ChangeDeepFields>>(token, source)
+    }
+
+    fn write_inside(&self, w: &mut Writer) -> Result<()> {
+        Members::write(
+            &Parts(&self.inner, Parts(&self.list, ())),
+            w,
+            CHANGE_DEEP_NAMES,
+        )
+    }
+
+    fn is_object() {
+        fields_named()
+    }
+}
+
+/// A change, whose tag has the name of an inner one's.
+#[derive(Drop)]
+pub enum Change {
+    Reset,
+    SetName(Name),
+    BothOf(Both<u8, String>),
+    Deep { inner: Inner, list: Vec<Inner> },
+    Accent,
+}
+
+// Its variants, and their names.
+type ChangeCases = DataCase<
+    NoFields,
+    DataCase<Name, DataCase<Both<u8, String>, DataCase<ChangeDeep, DataCase<NoFields, NoCase>>>>,
+>;
+
+const CHANGE_NAMES: &[&str] = &["reset", "set_name", "both_of", "deep", "é"];
+
+impl Tagged for Change {
+    ghost use Rattle.test_structs.specs.declared.tagged.TheConstants.{CHANGE_NAMES};
+    ghost use Rattle.test_structs.specs.declared.tagged.Change.TheVariants.{Reset, SetName, BothOf, Deep, Accent};
+
+    type Values = <ChangeCases as InsideCases>::Values;
+
+    ghost names = { names_of CHANGE_NAMES };
+
+    ghost values = { elim [
+      | Reset ↦ first_case (record {})
+      | SetName x0 ↦ later_case (first_case
+          x0)
+      | BothOf x0 ↦ later_case (later_case (first_case x0))
+      | Deep x0 x1 ↦ later_case
+          (later_case (later_case (first_case (record { inner = x0; list = x1 }))))
+      | Accent ↦
+          later_case (later_case (later_case (later_case (first_case (record {})))))
+    ] };
+
+    ghost whole = { each_case _ (λ x. (Reset, refl)) (each_case _ (λ x. (SetName x, refl))
+        (each_case _ (λ x. (BothOf x, refl)) (each_case _ (λ x. (Deep x.inner x.list, refl))
+        (each_case _ (λ x. (Accent, refl)) (no_case _))))) };
+
+    ghost named = { refl };
+
+    fn names() -> &'static [&'static str] {
+        CHANGE_NAMES
+    }
+
+    fn build(value: Self::Values) -> Change {
+        match value {
+            OneOf::First(NoFields {}) => Change::Reset,
+            OneOf::Later(value) => match value {
+                OneOf::First(a) => Change::SetName(a),
+                OneOf::Later(value) => match value {
+                    OneOf::First(a) => Change::BothOf(a),
+                    OneOf::Later(value) => match value {
+                        OneOf::First(ChangeDeep { inner, list }) => Change::Deep { inner, list },
+                        OneOf::Later(value) => match value {
+                            OneOf::First(NoFields {}) => Change::Accent,
+                            OneOf::Later(value) => match value {},
+                        },
+                    },
+                },
+            },
+        }
+    }
+}
+
+const CHANGE_TAG: &[&str] = &["type"];
+
+impl HasTag for Change {
+    ghost use Rattle.test_structs.specs.declared.tagged.TheConstants.{CHANGE_TAG};
+
+    ghost tag = { codes "type" };
+
+    fn tag() -> &'static [&'static str] {
+        CHANGE_TAG
+    }
+}
+
+impl FromJson for Change {
+    ghost means = { tagged_meant ⟦<ChangeCases as InsideCases>⟧.meaning ⟦<Change as HasTag>⟧.tag
+        ⟦<Change as Tagged>⟧.names refl ⟦<Change as Tagged>⟧.values };
+
+    fn missing() -> Option<Change> {
+        None
+    }
+
+    fn read<'a>(token: Event<'a>, source: &mut Source<'a>) -> Result<Change> {
+        read_tagged::<Change, ChangeCases>(token, source)
+    }
+}
+
+impl Serialize for Change {
+    ghost tree = { tagged_tree ⟦<Change as HasTag>⟧.tag ⟦<Change as Tagged>⟧.names ⟦<ChangeCases as AgainCases>⟧.tree ⟦<Change as Tagged>⟧.values };
+
+    fn begin(&self, w: &mut Writer) -> Result<()> {
+        match self {
+            Change::Reset => { write_tagged_fields(w, "type", "reset", &[], &()) },
+            Change::SetName(a) => write_tagged(w, "type", "set_name", a),
+            Change::BothOf(a) => write_tagged(w, "type", "both_of", a),
+            Change::Deep { inner, list } => {
+                write_tagged_fields(
+                    w,
+                    "type",
+                    "deep",
+                    CHANGE_DEEP_NAMES,
+                    &Parts(inner, Parts(list, ())),
+                )
+            },
+            Change::Accent => { write_tagged_fields(w, "type", "é", &[], &()) },
+        }
+    }
+}
+
+impl Ranged for Change {
+    ghost real = { λ v. ⟦<ChangeCases as AgainCases>⟧.real (⟦<Change as Tagged>⟧.values v) };
+
+    fn ranged(&self) {
+        match self {
+            Change::Reset => {}
+            Change::SetName(a) => a.ranged(),
+            Change::BothOf(a) => a.ranged(),
+            Change::Deep { inner, list } => {
+                inner.ranged();
+                list.ranged();
+            },
+            Change::Accent => {},
+        }
+    }
+}
+
+impl RoundTrip for Change {
+    fn again() {
+        tag_fits::<Change, ChangeCases>();
+        tagged_again::<Change, ChangeCases>()
+    }
+}
+
+impl Lossless for Change {
+    fn lossless() {
+        tag_fits::<Change, ChangeCases>();
+        tagged_lossless::<Change, ChangeCases>()
+    }
+}
+
+impl NeverNull for Change {
+    fn never_null() {}
+}
+
+impl Stable for Change {
+    fn stable() {
+        tagged_stable::<Change, ChangeCases>()
+    }
+}
