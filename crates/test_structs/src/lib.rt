@@ -19,7 +19,9 @@ mod stable;
 mod structs;
 #[cfg(test)]
 mod tagged;
+#[cfg(test)]
 mod tags;
+#[cfg(test)]
 mod users;
 #[cfg(test)]
 mod wide;

@@ -4,6 +4,8 @@
 
 mod bodies;
 mod cache;
+mod call;
+mod calls;
 mod ledger;
 mod loading;
 mod only;

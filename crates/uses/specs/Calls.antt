@@ -1,0 +1,17 @@
+-- What a counter answers to a call.
+use Rattle.std.specs.Prelude.{◌≡◌, ℕ, ◌+◌, ◌<◌, ◌≤◌, ◌^◌}
+use Rattle.uses.specs.declared.call.Call.{Call}
+use Rattle.uses.specs.declared.call.Call.TheVariants.{Look, Add, Reset}
+use Rattle.uses.specs.declared.call.Answer.{Answer}
+use Rattle.uses.specs.declared.call.Answer.TheVariants.{Count, Full}
+
+-- the count that a call asks for
+abbrev pub asked : ℕ → Call → ℕ
+asked n Look = n
+asked n (Add s) = n + s.by
+asked n (Reset to) = to
+
+-- the counter has the count that is asked for, or it has no room for that and stays
+abbrev pub Counted : ℕ → Call → Answer → ℕ → Type 0
+Counted n c (Count now) after = (now ≡ asked n c) × (after ≡ now)
+Counted n c Full after = (2 ^ 64 ≤ asked n c) × (after ≡ n)

@@ -1,0 +1,576 @@
+//! The types of `call.rs`, with the impls that `./derive` writes.
+ghost use Rattle.miniserde.specs.Cases.{each_case, first_case, later_case, no_case, tagged_tree};
+ghost use Rattle.miniserde.specs.CasesMeant.{tagged_meant};
+ghost use Rattle.miniserde.specs.FieldsMeant.{struct_meant};
+ghost use Rattle.miniserde.specs.Structs.{names_of, record_tree};
+ghost use Rattle.std.specs.Prelude.{codes, refl};
+
+use miniserde::derived::{
+    AgainCases, AgainFields, BesideTag, DataCase, Event, FromJson, HasTag, Inside, InsideCases,
+    Lossless, Members, NeverNull, NoCase, NoFields, NoSlot, OneOf, Parts, Ranged, Record, Result,
+    RoundTrip, Serialize, Slot, Slots, Source, Stable, Tagged, Writer, fields_named, read_record,
+    read_tagged, record_again, record_lossless, record_stable, tag_fits, tagged_again,
+    tagged_lossless, tagged_stable, write_members, write_tagged, write_tagged_fields,
+};
+
+/// What is added to a counter.
+#[derive(Drop)]
+pub struct Addend {
+    pub by: u32,
+    pub note: Option<String>,
+}
+
+// Its fields, and their names.
+type AddendFields = Slot<u32, Slot<Option<String>, NoSlot>>;
+
+const ADDEND_NAMES: &[&str] = &["by", "note"];
+
+impl Record for Addend {
+    ghost use Rattle.uses.specs.declared.call.TheConstants.{ADDEND_NAMES};
+
+    type Values = <AddendFields as Slots>::Values;
+
+    ghost names = { names_of ADDEND_NAMES };
+
+    ghost values = { λ v. (v.by, (v.note, tt)) };
+
+    ghost made = { λ x. record { by = x.0; note = x.1.0 } };
+
+    ghost whole = { (λ v. refl, λ x. refl) };
+
+    ghost named = { refl };
+
+    fn names() -> &'static [&'static str] {
+        ADDEND_NAMES
+    }
+
+    fn build(parts: Self::Values) -> Addend {
+        let Parts(by, Parts(note, ())) = parts;
+        Addend { by, note }
+    }
+}
+
+impl FromJson for Addend {
+    ghost means = { struct_meant ⟦<AddendFields as Slots>⟧.meaning ⟦<Addend as Record>⟧.names
+        ⟦<Addend as Record>⟧.values };
+
+    fn missing() -> Option<Addend> {
+        None
+    }
+
+    fn read<'a>(token: Event<'a>, source: &mut Source<'a>) -> Result<Addend> {
+        read_record::<Addend, AddendFields>(token, source)
+    }
+}
+
+impl Serialize for Addend {
+    ghost tree = { record_tree ⟦<Addend as Record>⟧.names ⟦<AddendFields as AgainFields>⟧.trees
+        ⟦<Addend as Record>⟧.values };
+
+    fn begin(&self, w: &mut Writer) -> Result<()> {
+        write_members(w, ADDEND_NAMES, &Parts(&self.by, Parts(&self.note, ())))
+    }
+}
+
+impl Ranged for Addend {
+    ghost real = { λ v. ⟦<AddendFields as AgainFields>⟧.real (⟦<Addend as Record>⟧.values v) };
+
+    fn ranged(&self) {
+        self.by.ranged();
+        self.note.ranged();
+    }
+}
+
+impl RoundTrip for Addend {
+    fn again() {
+        record_again::<Addend, AddendFields>()
+    }
+}
+
+impl Lossless for Addend {
+    fn lossless() {
+        record_lossless::<Addend, AddendFields>()
+    }
+}
+
+impl NeverNull for Addend {
+    fn never_null() {}
+}
+
+impl Stable for Addend {
+    fn stable() {
+        record_stable::<Addend, AddendFields>()
+    }
+}
+
+impl Inside for Addend {
+    ghost fields = { ⟦<Addend as Record>⟧.names };
+
+    fn read_inside<'a, E: HasTag>(token: Event<'a>, source: &mut Source<'a>) -> Result<Addend> {
+        read_record::<Addend, BesideTag<E, AddendFields>>(token, source)
+    }
+
+    fn write_inside(&self, w: &mut Writer) -> Result<()> {
+        Members::write(&Parts(&self.by, Parts(&self.note, ())), w, ADDEND_NAMES)
+    }
+
+    fn is_object() {
+        fields_named()
+    }
+}
+
+/// The fields of `Call::Reset`.
+#[derive(Drop)]
+pub struct CallReset {
+    pub to: u64,
+}
+
+// Its fields, and their names.
+type CallResetFields = Slot<u64, NoSlot>;
+
+const CALL_RESET_NAMES: &[&str] = &["to"];
+
+impl Record for CallReset {
+    ghost use Rattle.uses.specs.declared.call.TheConstants.{CALL_RESET_NAMES};
+
+    type Values = <CallResetFields as Slots>::Values;
+
+    ghost names = { names_of CALL_RESET_NAMES };
+
+    ghost values = { λ v. (v.to, tt) };
+
+    ghost made = { λ x. record { to = x.0 } };
+
+    ghost whole = { (λ v. refl, λ x. refl) };
+
+    ghost named = { refl };
+
+    fn names() -> &'static [&'static str] {
+        CALL_RESET_NAMES
+    }
+
+    fn build(parts: Self::Values) -> CallReset {
+        let Parts(to, ()) = parts;
+        CallReset { to }
+    }
+}
+
+impl FromJson for CallReset {
+    ghost means = { struct_meant ⟦<CallResetFields as Slots>⟧.meaning ⟦<CallReset as Record>⟧.names
+        ⟦<CallReset as Record>⟧.values };
+
+    fn missing() -> Option<CallReset> {
+        None
+    }
+
+    fn read<'a>(token: Event<'a>, source: &mut Source<'a>) -> Result<CallReset> {
+        read_record::<CallReset, CallResetFields>(token, source)
+    }
+}
+
+impl Serialize for CallReset {
+    ghost tree = { record_tree ⟦<CallReset as Record>⟧.names ⟦<CallResetFields as AgainFields>⟧.trees ⟦<CallReset as Record>⟧.values };
+
+    fn begin(&self, w: &mut Writer) -> Result<()> {
+        write_members(w, CALL_RESET_NAMES, &Parts(&self.to, ()))
+    }
+}
+
+impl Ranged for CallReset {
+    ghost real = { λ v. ⟦<CallResetFields as AgainFields>⟧.real (⟦<CallReset as Record>⟧.values v) };
+
+    fn ranged(&self) {
+        self.to.ranged();
+    }
+}
+
+impl RoundTrip for CallReset {
+    fn again() {
+        record_again::<CallReset, CallResetFields>()
+    }
+}
+
+impl Lossless for CallReset {
+    fn lossless() {
+        record_lossless::<CallReset, CallResetFields>()
+    }
+}
+
+impl NeverNull for CallReset {
+    fn never_null() {}
+}
+
+impl Stable for CallReset {
+    fn stable() {
+        record_stable::<CallReset, CallResetFields>()
+    }
+}
+
+impl Inside for CallReset {
+    ghost fields = { ⟦<CallReset as Record>⟧.names };
+
+    fn read_inside<'a, E: HasTag>(token: Event<'a>, source: &mut Source<'a>) -> Result<CallReset> {
+        read_record::<CallReset, BesideTag<E, CallResetFields>>(token, source)
+    }
+
+    fn write_inside(&self, w: &mut Writer) -> Result<()> {
+        Members::write(&Parts(&self.to, ()), w, CALL_RESET_NAMES)
+    }
+
+    fn is_object() {
+        fields_named()
+    }
+}
+
+/// What a client asks of a counter: an object whose member `call` says what.
+#[derive(Drop)]
+pub enum Call {
+    Look,
+    Add(Addend),
+    Reset { to: u64 },
+}
+
+// Its variants, and their names.
+type CallCases = DataCase<NoFields, DataCase<Addend, DataCase<CallReset, NoCase>>>;
+
+const CALL_NAMES: &[&str] = &["look", "add", "reset"];
+
+impl Tagged for Call {
+    ghost use Rattle.uses.specs.declared.call.TheConstants.{CALL_NAMES};
+    ghost use Rattle.uses.specs.declared.call.Call.TheVariants.{Look, Add, Reset};
+
+    type Values = <CallCases as InsideCases>::Values;
+
+    ghost names = { names_of CALL_NAMES };
+
+    ghost values = { elim [
+      | Look ↦ first_case (record {})
+      | Add x0 ↦ later_case (first_case x0)
+      | Reset x0 ↦ later_case (later_case (first_case (record { to = x0 })))
+    ] };
+
+    ghost whole = { each_case _ (λ x. (Look, refl)) (each_case _ (λ x. (Add x, refl)) (each_case _
+        (λ x. (Reset x.to, refl)) (no_case _))) };
+
+    ghost named = { refl };
+
+    fn names() -> &'static [&'static str] {
+        CALL_NAMES
+    }
+
+    fn build(value: Self::Values) -> Call {
+        match value {
+            OneOf::First(NoFields {}) => Call::Look,
+            OneOf::Later(value) => match value {
+                OneOf::First(a) => Call::Add(a),
+                OneOf::Later(value) => match value {
+                    OneOf::First(CallReset { to }) => Call::Reset { to },
+                    OneOf::Later(value) => match value {},
+                },
+            },
+        }
+    }
+}
+
+const CALL_TAG: &[&str] = &["call"];
+
+impl HasTag for Call {
+    ghost use Rattle.uses.specs.declared.call.TheConstants.{CALL_TAG};
+
+    ghost tag = { codes "call" };
+
+    fn tag() -> &'static [&'static str] {
+        CALL_TAG
+    }
+}
+
+impl FromJson for Call {
+    ghost means = { tagged_meant ⟦<CallCases as InsideCases>⟧.meaning ⟦<Call as HasTag>⟧.tag ⟦<Call as Tagged>⟧.names refl ⟦<Call as Tagged>⟧.values };
+
+    fn missing() -> Option<Call> {
+        None
+    }
+
+    fn read<'a>(token: Event<'a>, source: &mut Source<'a>) -> Result<Call> {
+        read_tagged::<Call, CallCases>(token, source)
+    }
+}
+
+impl Serialize for Call {
+    ghost tree = { tagged_tree ⟦<Call as HasTag>⟧.tag ⟦<Call as Tagged>⟧.names ⟦<CallCases as AgainCases>⟧.tree ⟦<Call as Tagged>⟧.values };
+
+    fn begin(&self, w: &mut Writer) -> Result<()> {
+        match self {
+            Call::Look => { write_tagged_fields(w, "call", "look", &[], &()) },
+            Call::Add(a) => write_tagged(w, "call", "add", a),
+            Call::Reset { to } => {
+                write_tagged_fields(w, "call", "reset", CALL_RESET_NAMES, &Parts(to, ()))
+            },
+        }
+    }
+}
+
+impl Ranged for Call {
+    ghost real = { λ v. ⟦<CallCases as AgainCases>⟧.real (⟦<Call as Tagged>⟧.values v) };
+
+    fn ranged(&self) {
+        match self {
+            Call::Look => {}
+            Call::Add(a) => a.ranged(),
+            Call::Reset { to } => {
+                to.ranged();
+            },
+        }
+    }
+}
+
+impl RoundTrip for Call {
+    fn again() {
+        tag_fits::<Call, CallCases>();
+        tagged_again::<Call, CallCases>()
+    }
+}
+
+impl Lossless for Call {
+    fn lossless() {
+        tag_fits::<Call, CallCases>();
+        tagged_lossless::<Call, CallCases>()
+    }
+}
+
+impl NeverNull for Call {
+    fn never_null() {}
+}
+
+impl Stable for Call {
+    fn stable() {
+        tagged_stable::<Call, CallCases>()
+    }
+}
+
+/// The fields of `Answer::Count`.
+#[derive(Drop)]
+pub struct AnswerCount {
+    pub now: u64,
+}
+
+// Its fields, and their names.
+type AnswerCountFields = Slot<u64, NoSlot>;
+
+const ANSWER_COUNT_NAMES: &[&str] = &["now"];
+
+impl Record for AnswerCount {
+    ghost use Rattle.uses.specs.declared.call.TheConstants.{ANSWER_COUNT_NAMES};
+
+    type Values = <AnswerCountFields as Slots>::Values;
+
+    ghost names = { names_of ANSWER_COUNT_NAMES };
+
+    ghost values = { λ v. (v.now, tt) };
+
+    ghost made = { λ x. record { now = x.0 } };
+
+    ghost whole = { (λ v. refl, λ x. refl) };
+
+    ghost named = { refl };
+
+    fn names() -> &'static [&'static str] {
+        ANSWER_COUNT_NAMES
+    }
+
+    fn build(parts: Self::Values) -> AnswerCount {
+        let Parts(now, ()) = parts;
+        AnswerCount { now }
+    }
+}
+
+impl FromJson for AnswerCount {
+    ghost means = { struct_meant ⟦<AnswerCountFields as Slots>⟧.meaning ⟦<AnswerCount as Record>⟧.names ⟦<AnswerCount as Record>⟧.values };
+
+    fn missing() -> Option<AnswerCount> {
+        None
+    }
+
+    fn read<'a>(token: Event<'a>, source: &mut Source<'a>) -> Result<AnswerCount> {
+        read_record::<AnswerCount, AnswerCountFields>(token, source)
+    }
+}
+
+impl Serialize for AnswerCount {
+    ghost tree = { record_tree ⟦<AnswerCount as Record>⟧.names ⟦<AnswerCountFields as AgainFields>⟧.trees ⟦<AnswerCount as Record>⟧.values };
+
+    fn begin(&self, w: &mut Writer) -> Result<()> {
+        write_members(w, ANSWER_COUNT_NAMES, &Parts(&self.now, ()))
+    }
+}
+
+impl Ranged for AnswerCount {
+    ghost real = { λ v. ⟦<AnswerCountFields as AgainFields>⟧.real (⟦<AnswerCount as Record>⟧.values
+        v) };
+
+    fn ranged(&self) {
+        self.now.ranged();
+    }
+}
+
+impl RoundTrip for AnswerCount {
+    fn again() {
+        record_again::<AnswerCount, AnswerCountFields>()
+    }
+}
+
+impl Lossless for AnswerCount {
+    fn lossless() {
+        record_lossless::<AnswerCount, AnswerCountFields>()
+    }
+}
+
+impl NeverNull for AnswerCount {
+    fn never_null() {}
+}
+
+impl Stable for AnswerCount {
+    fn stable() {
+        record_stable::<AnswerCount, AnswerCountFields>()
+    }
+}
+
+impl Inside for AnswerCount {
+    ghost fields = { ⟦<AnswerCount as Record>⟧.names };
+
+    fn read_inside<'a, E: HasTag>(
+        token: Event<'a>,
+        source: &mut Source<'a>,
+    ) -> Result<AnswerCount> {
+        read_record::<AnswerCount, BesideTag<E, AnswerCountFields>>(token, source)
+    }
+
+    fn write_inside(&self, w: &mut Writer) -> Result<()> {
+        Members::write(&Parts(&self.now, ()), w, ANSWER_COUNT_NAMES)
+    }
+
+    fn is_object() {
+        fields_named()
+    }
+}
+
+/// What the counter answers.
+#[derive(Drop)]
+pub enum Answer {
+    Count { now: u64 },
+    Full,
+}
+
+// Its variants, and their names.
+type AnswerCases = DataCase<AnswerCount, DataCase<NoFields, NoCase>>;
+
+const ANSWER_NAMES: &[&str] = &["count", "full"];
+
+impl Tagged for Answer {
+    ghost use Rattle.uses.specs.declared.call.TheConstants.{ANSWER_NAMES};
+    ghost use Rattle.uses.specs.declared.call.Answer.TheVariants.{Count, Full};
+
+    type Values = <AnswerCases as InsideCases>::Values;
+
+    ghost names = { names_of ANSWER_NAMES };
+
+    ghost values = { elim [
+      | Count x0 ↦ first_case (record { now = x0 })
+      | Full ↦ later_case
+          (first_case (record {}))
+    ] };
+
+    ghost whole = { each_case _ (λ x. (Count x.now, refl)) (each_case _ (λ x. (Full, refl)) (no_case
+        _)) };
+
+    ghost named = { refl };
+
+    fn names() -> &'static [&'static str] {
+        ANSWER_NAMES
+    }
+
+    fn build(value: Self::Values) -> Answer {
+        match value {
+            OneOf::First(AnswerCount { now }) => Answer::Count { now },
+            OneOf::Later(value) => match value {
+                OneOf::First(NoFields {}) => Answer::Full,
+                OneOf::Later(value) => match value {},
+            },
+        }
+    }
+}
+
+const ANSWER_TAG: &[&str] = &["answer"];
+
+impl HasTag for Answer {
+    ghost use Rattle.uses.specs.declared.call.TheConstants.{ANSWER_TAG};
+
+    ghost tag = { codes "answer" };
+
+    fn tag() -> &'static [&'static str] {
+        ANSWER_TAG
+    }
+}
+
+impl FromJson for Answer {
+    ghost means = { tagged_meant ⟦<AnswerCases as InsideCases>⟧.meaning ⟦<Answer as HasTag>⟧.tag
+        ⟦<Answer as Tagged>⟧.names refl ⟦<Answer as Tagged>⟧.values };
+
+    fn missing() -> Option<Answer> {
+        None
+    }
+
+    fn read<'a>(token: Event<'a>, source: &mut Source<'a>) -> Result<Answer> {
+        read_tagged::<Answer, AnswerCases>(token, source)
+    }
+}
+
+impl Serialize for Answer {
+    ghost tree = { tagged_tree ⟦<Answer as HasTag>⟧.tag ⟦<Answer as Tagged>⟧.names ⟦<AnswerCases as AgainCases>⟧.tree ⟦<Answer as Tagged>⟧.values };
+
+    fn begin(&self, w: &mut Writer) -> Result<()> {
+        match self {
+            Answer::Count { now } => {
+                write_tagged_fields(w, "answer", "count", ANSWER_COUNT_NAMES, &Parts(now, ()))
+            },
+            Answer::Full => { write_tagged_fields(w, "answer", "full", &[], &()) },
+        }
+    }
+}
+
+impl Ranged for Answer {
+    ghost real = { λ v. ⟦<AnswerCases as AgainCases>⟧.real (⟦<Answer as Tagged>⟧.values v) };
+
+    fn ranged(&self) {
+        match self {
+            Answer::Count { now } => {
+                now.ranged();
+            },
+            Answer::Full => {},
+        }
+    }
+}
+
+impl RoundTrip for Answer {
+    fn again() {
+        tag_fits::<Answer, AnswerCases>();
+        tagged_again::<Answer, AnswerCases>()
+    }
+}
+
+impl Lossless for Answer {
+    fn lossless() {
+        tag_fits::<Answer, AnswerCases>();
+        tagged_lossless::<Answer, AnswerCases>()
+    }
+}
+
+impl NeverNull for Answer {
+    fn never_null() {}
+}
+
+impl Stable for Answer {
+    fn stable() {
+        tagged_stable::<Answer, AnswerCases>()
+    }
+}
