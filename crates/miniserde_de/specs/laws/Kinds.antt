@@ -1,6 +1,6 @@
 -- The kinds of documents.
 use Rattle.std.proofs.Common.{◌≡◌, Bool, true, false, List, [], ◌∷◌, Option, Some, option_map, refl, ap, ◌∙◌}
-use Rattle.miniserde_model.specs.Tree.{Tree, null, truth, nonneg, neg, num, str, list, members}
+use Rattle.miniserde_model.specs.Tree.{Tree, list, members}
 use Rattle.miniserde_model.specs.Event.{Event, seq, map, events}
 use Rattle.miniserde_model.specs.Normal.{norm}
 use Rattle.miniserde_value.specs.Kept.{kept}
@@ -25,23 +25,11 @@ is_map _ = false
 
 pub list-whole : (t : Tree) → only_list (kind_outcome is_seq true (outside []) (events t)) ≡ only_list (Some (kept t))
 list-whole (list ts) = ap only_list (outcome-whole (list ts))
-list-whole (members ms) = refl
-list-whole null = refl
-list-whole (truth b) = refl
-list-whole (nonneg n) = refl
-list-whole (neg z) = refl
-list-whole (num x) = refl
-list-whole (str s) = refl
+list-whole _ = refl
 
 pub members-whole : (t : Tree) → only_members (kind_outcome is_map true (outside []) (events t)) ≡ only_members (Some (kept t))
-members-whole (list ts) = refl
 members-whole (members ms) = ap only_members (outcome-whole (members ms))
-members-whole null = refl
-members-whole (truth b) = refl
-members-whole (nonneg n) = refl
-members-whole (neg z) = refl
-members-whole (num x) = refl
-members-whole (str s) = refl
+members-whole _ = refl
 
 any_first : (es : List Event) (o : Option Tree) → from_first (λ e. true) es o ≡ o
 any_first [] o = refl
