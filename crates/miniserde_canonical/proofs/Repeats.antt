@@ -6,7 +6,7 @@ use Rattle.std.proofs.lemmas.Slice.Eq.{bytes_eq-Decides}
 use Rattle.std.proofs.lemmas.Bool.{eq-eqb}
 use Rattle.std.proofs.lemmas.Bool.Decides.{nat_tests}
 use Rattle.miniserde_model.specs.Tree.{Tree, Members, no_members, member}
-use Rattle.miniserde_model.specs.Normal.{text_cmp, placed, with_first, norm, norm_members, or_else, last_of, Rise}
+use Rattle.miniserde_model.specs.Normal.{text_cmp, placed, with_first, norm_neg, norm, norm_members, or_else, last_of, Rise}
 use Rattle.miniserde_model.specs.Distinct.{has_name, distinct, distinct_members}
 use Rattle.miniserde_model.proofs.Lookups.{norm_keeps_last, norm_rises}
 use Rattle.miniserde_model.proofs.OneNormal.{absent}
@@ -59,7 +59,7 @@ first_new n t (member other u ms) e = go (text_cmp n other) refl (first_new n t 
 -- ---- all members
 
 norm_has : (n : List ℕ) (ms : Members) → has_name n (norm_members ms) ≡ has_name n ms
-norm_has n ms = ap is_some (norm_keeps_last n ms) ∙ mapped (last_of n ms)
+norm_has n ms = ap is_some (norm_keeps_last norm_neg n ms) ∙ mapped (last_of n ms)
   where
     mapped : (o : Option Tree) → is_some (option_map norm o) ≡ is_some o
     mapped None = refl
@@ -83,7 +83,7 @@ counts_most true a b h = omega (arith, h)
 counts_most false a b h = omega (arith, h)
 
 one_more : (n : List ℕ) (t : Tree) (ms : Members) (p b : Bool) → has_name n ms ≡ b → Counts p (count (norm_members ms)) (count ms) → Counts (not b && p) (count (with_first n t (norm_members ms))) (suc (count ms))
-one_more n t ms p true e h = omega (arith, counts_most p _ _ h, first_there n t (norm_members ms) (norm_rises ms) (norm_has n ms ∙ e))
+one_more n t ms p true e h = omega (arith, counts_most p _ _ h, first_there n t (norm_members ms) (norm_rises norm_neg ms) (norm_has n ms ∙ e))
 one_more n t ms true false e h = first_new n t (norm_members ms) (none_of (last_of n (norm_members ms)) (norm_has n ms ∙ e)) ∙ ap suc h
 one_more n t ms false false e h = omega (arith, h, first_new n t (norm_members ms) (none_of (last_of n (norm_members ms)) (norm_has n ms ∙ e)))
 

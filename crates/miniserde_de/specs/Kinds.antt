@@ -1,10 +1,9 @@
--- What the places of arrays, objects and documents make of events.
-use Rattle.std.specs.Prelude.{Bool, true, false, List, ◌∷◌, Option, None, cond, option_map}
+-- Documents of one kind: what they mean, and what events give them.
+use Rattle.std.specs.Prelude.{◌≡◌, Bool, true, false, List, [], ◌∷◌, Option, None, cond}
 use Rattle.miniserde_model.specs.Tree.{Tree}
-use Rattle.miniserde_model.specs.Event.{Event, seq, map}
-use Rattle.miniserde_model.specs.Normal.{norm}
+use Rattle.miniserde_model.specs.Event.{Event, events}
+use Rattle.miniserde_read.specs.Meant.{Meant}
 use Rattle.miniserde_value.specs.Hole.{Hole, outside, in_list, in_members, outcome}
-use Rattle.miniserde_value.specs.Kinds.{only_list, only_members}
 
 -- no event was taken
 abbrev pub is_start : Bool → Hole → Bool
@@ -13,22 +12,19 @@ is_start true (in_list ts h) = false
 is_start true (in_members ms n h) = false
 is_start false h = false
 
--- what is given, where the first event begins a list, or an object
-abbrev pub from_seq : List Event → Option Tree → Option Tree
-from_seq (seq ∷ es) o = o
-from_seq _ o = None
+-- what is given, where the first event is one of these
+abbrev pub from_first : (Event → Bool) → List Event → Option Tree → Option Tree
+from_first begins [] o = o
+from_first begins (e ∷ es) o = cond (begins e) o None
 
-abbrev pub from_map : List Event → Option Tree → Option Tree
-from_map (map ∷ es) o = o
-from_map _ o = None
+-- what the events that are still to come give, where the first of all is one of these
+abbrev pub kind_outcome : (Event → Bool) → Bool → Hole → List Event → Option Tree
+kind_outcome begins due h es = cond (is_start due h) (from_first begins es (outcome false due h es)) (outcome false due h es)
 
--- what the events that are still to come give: a list, and one from their beginning
-abbrev pub list_outcome : Bool → Hole → List Event → Option Tree
-list_outcome due h es = only_list (cond (is_start due h) (from_seq es (outcome false due h es)) (outcome false due h es))
-
-abbrev pub members_outcome : Bool → Hole → List Event → Option Tree
-members_outcome due h es = only_members (cond (is_start due h) (from_map es (outcome false due h es)) (outcome false due h es))
-
--- what the events that are still to come give: the normal form of what a value keeps
-abbrev pub document_outcome : Bool → Hole → List Event → Option Tree
-document_outcome due h es = option_map norm (outcome false due h es)
+-- documents of one kind: which trees mean which, with which events they begin, and what counts of the tree that is read
+pub record Kind (V : Type 0) : Type 1 where
+  pub meant : Meant V
+  pub begins : Event → Bool
+  pub only : Option Tree → Option meant.Content
+  pub none : only None ≡ None
+  pub whole : (t : Tree) → only (kind_outcome begins true (outside []) (events t)) ≡ meant.from_tree t

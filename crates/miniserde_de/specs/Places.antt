@@ -6,15 +6,10 @@ use Rattle.miniserde_model.specs.declared.error.Error.{Error}
 use Rattle.miniserde_model.specs.declared.error.Error.TheVariants.{Invalid}
 use Rattle.miniserde_place.specs.Place.{Shown, Meaning, placed, first_refusal}
 use Rattle.miniserde_value.specs.declared.json.value.Value.{Value}
-use Rattle.miniserde_value.specs.declared.json.array.Array.{Array}
-use Rattle.miniserde_value.specs.declared.json.object.Object.{Object}
 use Rattle.miniserde_de.specs.declared.documents.value_place.ValuePlace.{ValuePlace}
-use Rattle.miniserde_value.specs.declared.json.document.Document.{Document}
-use Rattle.miniserde_de.specs.declared.documents.document_place.DocumentPlace.{DocumentPlace}
 use Rattle.miniserde_value.specs.declared.json.unique.Unique.{Unique}
 use Rattle.miniserde_de.specs.declared.documents.unique_place.UniquePlace.{UniquePlace}
-use Rattle.miniserde_de.specs.declared.documents.kinds.ArrayPlace.{ArrayPlace}
-use Rattle.miniserde_de.specs.declared.documents.kinds.ObjectPlace.{ObjectPlace}
+use Rattle.miniserde_de.specs.declared.documents.kinds.KindPlace.{KindPlace}
 use Rattle.miniserde_value.specs.Hole.{Hole, outside, depth, took, next, outcome, repeats}
 use Rattle.miniserde_value.specs.Builders.{hole_in}
 use Rattle.miniserde_place.specs.Leaf.{from_one_event, leaf_shows}
@@ -23,10 +18,8 @@ use Rattle.miniserde_place.specs.laws.Leaf.{one-event}
 use Rattle.miniserde_value.specs.declared.json.number.Number.{Number}
 use Rattle.miniserde_de.specs.declared.documents.number_place.NumberPlace.{NumberPlace}
 use Rattle.miniserde_value.specs.Numbers.{number_leaf, number_of}
-use Rattle.miniserde_value.specs.Meanings.{value_meant, document_meant, unique_meant, json_array_meant, json_object_meant, number_meant}
-use Rattle.miniserde_de.specs.Kinds.{list_outcome, members_outcome, document_outcome}
-use Rattle.miniserde_de.specs.laws.Documents.{document-whole}
-use Rattle.miniserde_de.specs.laws.Kinds.{list-whole, members-whole}
+use Rattle.miniserde_value.specs.Meanings.{value_meant, unique_meant, number_meant}
+use Rattle.miniserde_de.specs.Kinds.{Kind, kind_outcome}
 use Rattle.miniserde_value.specs.laws.Unique.{once-whole}
 use Rattle.miniserde_value.specs.laws.Outcomes.{outcome-whole}
 
@@ -67,20 +60,10 @@ abbrev pub unique_meaning : Meaning UniquePlace Unique
 unique_meaning = placed unique_meant (outcome true true (outside [])) once-whole
     (λ p. record { at = (depth (hole_at p.place), due_in p.place); outcome = outcome true (due_in p.place) (hole_at p.place); refused = refusal_of p.place })
 
--- every tree means each document that is written as the tree's normal form
-abbrev pub document_meaning : Meaning DocumentPlace Document
-document_meaning = placed document_meant (document_outcome true (outside [])) document-whole
-    (λ p. record { at = (depth (hole_at p.place), due_in p.place); outcome = document_outcome (due_in p.place) (hole_at p.place); refused = refusal_of p.place })
-
--- the tree means the array: it is a list, whose items the array has as values keep them
-abbrev pub array_meaning : Meaning ArrayPlace Array
-array_meaning = placed json_array_meant (list_outcome true (outside [])) list-whole
-    (λ p. record { at = (depth (hole_at p.place), due_in p.place); outcome = list_outcome (due_in p.place) (hole_at p.place); refused = refusal_of p.place })
-
--- the tree means the object: it has members, which the object has as values keep them
-abbrev pub object_meaning : Meaning ObjectPlace Object
-object_meaning = placed json_object_meant (members_outcome true (outside [])) members-whole
-    (λ p. record { at = (depth (hole_at p.place), due_in p.place); outcome = members_outcome (due_in p.place) (hole_at p.place); refused = refusal_of p.place })
+-- the tree means the document, as the kind says
+abbrev pub kind_meaning : {K V : Type 0} → Kind V → Meaning (KindPlace K) V
+kind_meaning k = placed k.meant (λ es. k.only (kind_outcome k.begins true (outside []) es)) k.whole
+    (λ p. record { at = (depth (hole_at p.place), due_in p.place); outcome = λ es. k.only (kind_outcome k.begins (due_in p.place) (hole_at p.place) es); refused = refusal_of p.place })
 
 -- the tree means the number
 abbrev pub number_meaning : Meaning NumberPlace Number

@@ -57,7 +57,7 @@ mutual
   norm_distinct (num x) = refl
   norm_distinct (str s) = refl
   norm_distinct (list ts) = children_distinct ts
-  norm_distinct (members ms) = rising_distinct (norm_members ms) (norm_rises ms) (members_distinct ms)
+  norm_distinct (members ms) = rising_distinct (norm_members ms) (norm_rises norm_neg ms) (members_distinct ms)
 
   children_distinct : (ts : Trees) → distinct_children (norm_children ts) ≡ true
   children_distinct no_trees = refl
@@ -114,5 +114,5 @@ mutual
   members_size (member name t ms) d =
       let once = first_of (not (has_name name ms)) _ d in
       let rest = second_of (not (has_name name ms)) _ d in
-      size_with_first name (norm t) (norm_members ms) (norm_keeps_last name ms ∙ mapped_none (last_of name ms) once)
+      size_with_first name (norm t) (norm_members ms) (norm_keeps_last norm_neg name ms ∙ mapped_none (last_of name ms) once)
       ∙ ap₂ (λ m n. m + n) (distinct_size t (first_of (distinct t) _ rest)) (members_size ms (second_of (distinct t) _ rest))

@@ -1,11 +1,11 @@
 -- What the normal form of members has at a name.
-use Rattle.std.proofs.Common.{◌≡◌, ℕ, Bool, true, false, List, Option, Some, None, option_map, bytes_eq, cond, refl, sym, ap, ◌∙◌, Ordering, Less, Equal, Greater, true≢false}
+use Rattle.std.proofs.Common.{◌≡◌, ℕ, ℤ, Bool, true, false, List, Option, Some, None, option_map, bytes_eq, cond, refl, sym, ap, ◌∙◌, Ordering, Less, Equal, Greater, true≢false}
 use Rattle.std.specs.Ordering.{ordering_reverse, is_eq}
 use Rattle.std.proofs.lemmas.Cmp.{nat_list_cmp_total, tied_itself}
 use Rattle.std.proofs.lemmas.Map.Lookups.{exact_bytes}
 use Rattle.std.proofs.lemmas.Slice.Eq.{bytes_eq-Decides}
 use Rattle.miniserde_model.specs.Tree.{Tree, Members, no_members, member}
-use Rattle.miniserde_model.specs.Normal.{text_cmp, placed, with_first, norm, norm_members, or_else, last_of, BeginsAbove, Rise}
+use Rattle.miniserde_model.specs.Normal.{text_cmp, placed, with_first, norm_by, norm_members_by, or_else, last_of, BeginsAbove, Rise}
 
 abbrev if_same : List ℕ → List ℕ → Tree → Option Tree
 if_same name q t = cond (bytes_eq name q) (Some t) None
@@ -50,15 +50,15 @@ last_with_first q name t (member other u ms) = go (text_cmp name other) refl (la
         absorbed (bytes_eq other q) (last_of q ms) u t ∙ ap (λ z. or_else (or_else (last_of q ms) (if_same other q u)) (if_same z q t)) (sym same)
     go Greater e more = ap (λ z. or_else z (if_same other q u)) more ∙ swapped (bytes_eq name q) (bytes_eq other q) (last_of q ms) u t (apart name other q e)
 
-pub mapped : (a : Option Tree) (b : Bool) (t : Tree) → or_else (option_map norm a) (cond b (Some (norm t)) None) ≡ option_map norm (or_else a (cond b (Some t) None))
-mapped None true t = refl
-mapped None false t = refl
-mapped (Some v) true t = refl
-mapped (Some v) false t = refl
+pub mapped : (f : ℤ → Tree) (a : Option Tree) (b : Bool) (t : Tree) → or_else (option_map (norm_by f) a) (cond b (Some (norm_by f t)) None) ≡ option_map (norm_by f) (or_else a (cond b (Some t) None))
+mapped f None true t = refl
+mapped f None false t = refl
+mapped f (Some v) true t = refl
+mapped f (Some v) false t = refl
 
-pub norm_keeps_last : (q : List ℕ) (ms : Members) → last_of q (norm_members ms) ≡ option_map norm (last_of q ms)
-norm_keeps_last q no_members = refl
-norm_keeps_last q (member name t ms) = last_with_first q name (norm t) (norm_members ms) ∙ ap (λ z. or_else z (if_same name q (norm t))) (norm_keeps_last q ms) ∙ mapped (last_of q ms) (bytes_eq name q) t
+pub norm_keeps_last : (f : ℤ → Tree) (q : List ℕ) (ms : Members) → last_of q (norm_members_by f ms) ≡ option_map (norm_by f) (last_of q ms)
+norm_keeps_last f q no_members = refl
+norm_keeps_last f q (member name t ms) = last_with_first q name (norm_by f t) (norm_members_by f ms) ∙ ap (λ z. or_else z (if_same name q (norm_by f t))) (norm_keeps_last f q ms) ∙ mapped f (last_of q ms) (bytes_eq name q) t
 
 greater_less : (a b : List ℕ) → text_cmp a b ≡ Greater → text_cmp b a ≡ Less
 greater_less a b e = nat_list_cmp_total.antisymm b a ∙ ap ordering_reverse e
@@ -81,6 +81,6 @@ rise_with_first name t (member other u ms) h = go (text_cmp name other) refl (ri
     go Equal e m = h
     go Greater e m = (above_with_first other name t ms (greater_less name other e) h.0, m)
 
-pub norm_rises : (ms : Members) → Rise (norm_members ms)
-norm_rises no_members = tt
-norm_rises (member name t ms) = rise_with_first name (norm t) (norm_members ms) (norm_rises ms)
+pub norm_rises : (f : ℤ → Tree) (ms : Members) → Rise (norm_members_by f ms)
+norm_rises f no_members = tt
+norm_rises f (member name t ms) = rise_with_first name (norm_by f t) (norm_members_by f ms) (norm_rises f ms)

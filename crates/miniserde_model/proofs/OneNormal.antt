@@ -1,13 +1,13 @@
 -- Members in the order of their names are told by the tree at each name; and members that are put in from the left, where the later
 -- replaces the earlier, are those of the normal form.
-use Rattle.std.proofs.Common.{◌≡◌, ℕ, Bool, true, false, List, Option, Some, None, option_map, bytes_eq, cond, is_some, refl, sym, ap, ap₂, subst, ◌∙◌, Ordering, Less, Equal, Greater, true≢false}
+use Rattle.std.proofs.Common.{◌≡◌, ℕ, ℤ, Bool, true, false, List, Option, Some, None, option_map, bytes_eq, cond, is_some, refl, sym, ap, ap₂, subst, ◌∙◌, Ordering, Less, Equal, Greater, true≢false}
 use Rattle.std.specs.Ordering.{ordering_reverse, is_eq}
 use Rattle.std.proofs.lemmas.Bool.{false_from_ne_true}
 use Rattle.std.proofs.lemmas.Cmp.{nat_list_cmp_total, tied_itself}
 use Rattle.std.proofs.lemmas.Map.Lookups.{exact_bytes}
 use Rattle.std.proofs.lemmas.Slice.Eq.{bytes_eq-Decides}
 use Rattle.miniserde_model.specs.Tree.{Tree, Members, no_members, member}
-use Rattle.miniserde_model.specs.Normal.{text_cmp, norm, norm_members, or_else, last_of, BeginsAbove, Rise, put_placed, put, put_all}
+use Rattle.miniserde_model.specs.Normal.{text_cmp, norm_by, norm_members_by, or_else, last_of, BeginsAbove, Rise, put_placed, put, put_all_by}
 use Rattle.miniserde_model.proofs.Lookups.{norm_keeps_last, norm_rises, mapped}
 
 not_same : (a b : List ℕ) → text_cmp a b ≡ Less → bytes_eq b a ≡ false
@@ -125,22 +125,22 @@ rise_put name t (member other u ms) h = go (text_cmp name other) refl (rise_put 
     go Equal e m = (subst (λ z. BeginsAbove z ms) (sym (exact_bytes name other e)) h.0, h.1)
     go Greater e m = (above_put other name t ms (greater_less name other e) h.0, m)
 
-rise_put_all : (made ms : Members) → Rise made → Rise (put_all made ms)
-rise_put_all made no_members h = h
-rise_put_all made (member name t ms) h = rise_put_all (put name (norm t) made) ms (rise_put name (norm t) made h)
+rise_put_all : (f : ℤ → Tree) (made ms : Members) → Rise made → Rise (put_all_by f made ms)
+rise_put_all f made no_members h = h
+rise_put_all f made (member name t ms) h = rise_put_all f (put name (norm_by f t) made) ms (rise_put name (norm_by f t) made h)
 
-last_put_all : (q : List ℕ) (made ms : Members) → Rise made → last_of q (put_all made ms) ≡ or_else (option_map norm (last_of q ms)) (last_of q made)
-last_put_all q made no_members h = refl
-last_put_all q made (member name t ms) h =
-    last_put_all q (put name (norm t) made) ms (rise_put name (norm t) made h)
-    ∙ ap (or_else (option_map norm (last_of q ms))) (last_put q name (norm t) made h)
-    ∙ sym (or_else_assoc (option_map norm (last_of q ms)) (cond (bytes_eq name q) (Some (norm t)) None) (last_of q made))
-    ∙ ap (λ z. or_else z (last_of q made)) (mapped (last_of q ms) (bytes_eq name q) t)
+last_put_all : (f : ℤ → Tree) (q : List ℕ) (made ms : Members) → Rise made → last_of q (put_all_by f made ms) ≡ or_else (option_map (norm_by f) (last_of q ms)) (last_of q made)
+last_put_all f q made no_members h = refl
+last_put_all f q made (member name t ms) h =
+    last_put_all f q (put name (norm_by f t) made) ms (rise_put name (norm_by f t) made h)
+    ∙ ap (or_else (option_map (norm_by f) (last_of q ms))) (last_put q name (norm_by f t) made h)
+    ∙ sym (or_else_assoc (option_map (norm_by f) (last_of q ms)) (cond (bytes_eq name q) (Some (norm_by f t)) None) (last_of q made))
+    ∙ ap (λ z. or_else z (last_of q made)) (mapped f (last_of q ms) (bytes_eq name q) t)
 
 -- members that are read from the left into a map are those of the normal form
-pub put_all_norm : (ms : Members) → put_all no_members ms ≡ norm_members ms
-put_all_norm ms = one_rising _ _ (rise_put_all no_members ms tt) (norm_rises ms) (λ q. last_put_all q no_members ms tt ∙ or_else_none _ ∙ sym (norm_keeps_last q ms))
+pub put_all_norm : (f : ℤ → Tree) (ms : Members) → put_all_by f no_members ms ≡ norm_members_by f ms
+put_all_norm f ms = one_rising _ _ (rise_put_all f no_members ms tt) (norm_rises f ms) (λ q. last_put_all f q no_members ms tt ∙ or_else_none _ ∙ sym (norm_keeps_last f q ms))
 
 -- members that rise by their names and have at each name the normal form of the last tree are the normal form
-pub norm_only : (ms ns : Members) → Rise ns → ((q : List ℕ) → last_of q ns ≡ option_map norm (last_of q ms)) → ns ≡ norm_members ms
-norm_only ms ns r h = one_rising ns (norm_members ms) r (norm_rises ms) (λ q. h q ∙ sym (norm_keeps_last q ms))
+pub norm_only : (f : ℤ → Tree) (ms ns : Members) → Rise ns → ((q : List ℕ) → last_of q ns ≡ option_map (norm_by f) (last_of q ms)) → ns ≡ norm_members_by f ms
+norm_only f ms ns r h = one_rising ns (norm_members_by f ms) r (norm_rises f ms) (λ q. h q ∙ sym (norm_keeps_last f q ms))

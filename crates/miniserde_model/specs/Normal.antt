@@ -25,20 +25,31 @@ norm_neg (pos n) = nonneg n
 norm_neg (negsuc n) = neg (negsuc n)
 
 abbrev mutual
-  pub norm : Tree → Tree
-  norm (neg z) = norm_neg z
-  norm (list ts) = list (norm_children ts)
-  norm (members ms) = members (norm_members ms)
-  norm leaf = leaf
+  -- each negative number by f
+  pub norm_by : (ℤ → Tree) → Tree → Tree
+  norm_by f (neg z) = f z
+  norm_by f (list ts) = list (norm_children_by f ts)
+  norm_by f (members ms) = members (norm_members_by f ms)
+  norm_by f leaf = leaf
 
-  pub norm_children : Trees → Trees
-  norm_children no_trees = no_trees
-  norm_children (tree t ts) = tree (norm t) (norm_children ts)
+  pub norm_children_by : (ℤ → Tree) → Trees → Trees
+  norm_children_by f no_trees = no_trees
+  norm_children_by f (tree t ts) = tree (norm_by f t) (norm_children_by f ts)
 
   -- of each name the last tree, in the order of the names
-  pub norm_members : Members → Members
-  norm_members no_members = no_members
-  norm_members (member name t ms) = with_first name (norm t) (norm_members ms)
+  pub norm_members_by : (ℤ → Tree) → Members → Members
+  norm_members_by f no_members = no_members
+  norm_members_by f (member name t ms) = with_first name (norm_by f t) (norm_members_by f ms)
+
+-- the normal form, in which no `-0` is left
+abbrev pub norm : Tree → Tree
+norm = norm_by norm_neg
+
+abbrev pub norm_children : Trees → Trees
+norm_children = norm_children_by norm_neg
+
+abbrev pub norm_members : Members → Members
+norm_members = norm_members_by norm_neg
 
 -- ---- what the normal form of members is told by
 
@@ -72,6 +83,9 @@ abbrev pub put : List ℕ → Tree → Members → Members
 put name t no_members = member name t no_members
 put name t (member other u ms) = put_placed (text_cmp name other) name t other u ms (put name t ms)
 
+abbrev pub put_all_by : (ℤ → Tree) → Members → Members → Members
+put_all_by f made no_members = made
+put_all_by f made (member name t ms) = put_all_by f (put name (norm_by f t) made) ms
+
 abbrev pub put_all : Members → Members → Members
-put_all made no_members = made
-put_all made (member name t ms) = put_all (put name (norm t) made) ms
+put_all = put_all_by norm_neg

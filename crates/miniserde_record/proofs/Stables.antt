@@ -5,7 +5,7 @@ use Rattle.std.specs.Option.{option_or}
 use Rattle.std.proofs.lemmas.Cmp.{nat_list_cmp_total}
 use Rattle.std.proofs.lemmas.Slice.Eq.{bytes_eq-Decides}
 use Rattle.miniserde_model.specs.Tree.{Tree, Members, no_members, member}
-use Rattle.miniserde_model.specs.Normal.{text_cmp, placed, with_first, norm, norm_members, last_of, BeginsAbove, Rise}
+use Rattle.miniserde_model.specs.Normal.{text_cmp, placed, with_first, norm_neg, norm, norm_members, last_of, BeginsAbove, Rise}
 use Rattle.miniserde_model.proofs.Lookups.{norm_keeps_last, norm_rises}
 use Rattle.miniserde_model.proofs.OneNormal.{norm_only}
 use Rattle.miniserde_read.specs.meaning.Objects.{Name}
@@ -68,7 +68,7 @@ module _ {C : Type 0} (of : Tree → Option C) (stable : IsStable of) (n : Name)
   repeated d o ms e =
       let all = all-last of n d o ms e in
       last-all of n d (norm_members ms) (named_normal ms all)
-      ∙ ap (λ p. Some (last_or of d p)) (norm_keeps_last n ms)
+      ∙ ap (λ p. Some (last_or of d p)) (norm_keeps_last norm_neg n ms)
       ∙ ap Some (last_normal d (last_of n ms) (λ t f. last-some of n ms t all f))
       ∙ sym (last-all of n d ms all)
       ∙ e
@@ -92,7 +92,7 @@ no_last n (member j t ms) = elim (bytes_eq j n) as (λ b. bytes_eq j n ≡ b →
 others_mapped : (n q : Name) (ms : Members) → last_of q (others n (norm_members ms)) ≡ option_map norm (last_of q (others n ms))
 others_mapped n q ms = elim (bytes_eq n q) as (λ b. bytes_eq n q ≡ b → last_of q (others n (norm_members ms)) ≡ option_map norm (last_of q (others n ms))) [
   | true ↦ λ e. subst (λ q. last_of q (others n (norm_members ms)) ≡ option_map norm (last_of q (others n ms))) ((bytes_eq-Decides n q).0 e) (no_last n (norm_members ms) ∙ ap (option_map norm) (sym (no_last n ms)))
-  | false ↦ λ e. last-apart n q e (norm_members ms) ∙ norm_keeps_last q ms ∙ ap (option_map norm) (sym (last-apart n q e ms))
+  | false ↦ λ e. last-apart n q e (norm_members ms) ∙ norm_keeps_last norm_neg q ms ∙ ap (option_map norm) (sym (last-apart n q e ms))
 ] refl
 
 further : (k j : Name) (ms : Members) → text_cmp k j ≡ Less → BeginsAbove j ms → BeginsAbove k ms
@@ -115,7 +115,7 @@ rise_others n (member j t ms) r = elim (bytes_eq j n) as (λ a. Rise (cond a (ot
 
 -- the members of other names are in normal form those of the normal form
 others_normal : (n : Name) (ms : Members) → others n (norm_members ms) ≡ norm_members (others n ms)
-others_normal n ms = norm_only (others n ms) (others n (norm_members ms)) (rise_others n (norm_members ms) (norm_rises ms)) (λ q. others_mapped n q ms)
+others_normal n ms = norm_only norm_neg (others n ms) (others n (norm_members ms)) (rise_others n (norm_members ms) (norm_rises norm_neg ms)) (λ q. others_mapped n q ms)
 
 -- ---- a field and the later ones
 

@@ -1,6 +1,6 @@
 -- What is built of a tree's fronts is what a value keeps of the tree.
 use Rattle.std.proofs.Common.{◌≡◌, List, [], ◌∷◌, ◌++◌, Some, None, refl, sym, ap, ◌∙◌, append_assoc, append-nil}
-use Rattle.miniserde_model.specs.Tree.{Tree, null, truth, nonneg, neg, num, str, list, members, Trees, no_trees, tree, Members, no_members, member}
+use Rattle.miniserde_model.specs.Tree.{Tree, list, members, Trees, no_trees, tree, Members, no_members, member}
 use Rattle.miniserde_model.specs.Normal.{put as put_member}
 use Rattle.miniserde_value.specs.Kept.{kept, kept_children}
 use Rattle.miniserde_value.specs.Hole.{Hole, in_list, in_members, put}
@@ -9,14 +9,9 @@ use Rattle.miniserde_value.specs.Fronts.{Meets, list_ends, members_end, fronts, 
 
 mutual
   pub built_fronts : (h : Hole) (t : Tree) (rest : List Meets) → built h (fronts t rest) ≡ built (put (kept t) h) rest
-  built_fronts h null rest = refl
-  built_fronts h (truth b) rest = refl
-  built_fronts h (nonneg n) rest = refl
-  built_fronts h (neg z) rest = refl
-  built_fronts h (num x) rest = refl
-  built_fronts h (str s) rest = refl
   built_fronts h (list ts) rest = built_children ts [] h (list_ends ∷ rest) ∙ ap (λ z. built (put (list z) h) rest) (trees_listed (kept_children ts))
   built_fronts h (members ms) rest = built_members ms no_members h (members_end ∷ rest) ∙ ap (λ z. built (put (members z) h) rest) (puts_kept ms)
+  built_fronts h _ rest = refl
 
   pub built_children : (ts : Trees) (us : List Tree) (h : Hole) (rest : List Meets) → built (in_list us h) (child_fronts ts rest) ≡ built (in_list (us ++ listed (kept_children ts)) h) rest
   built_children no_trees us h rest = ap (λ z. built (in_list z h) rest) (sym (append-nil us))

@@ -6,19 +6,15 @@ use Rattle.miniserde_value.specs.declared.json.array.Array.{Array}
 use Rattle.miniserde_value.specs.declared.json.object.Object.{Object}
 use Rattle.miniserde_value.specs.Values.{shape, array_shape, object_shape}
 use Rattle.miniserde_value.specs.Hole.{Hole, outside, in_list, in_members, whole}
-use Rattle.miniserde_value.specs.Fronts.{Meets, leaf, list_begins, element, list_ends, members_begin, name, members_end, fronts, built, IsOrdered}
+use Rattle.miniserde_value.specs.Fronts.{Meets, leaf, list_begins, members_begin, name, fronts, built, IsOrdered}
 use Rattle.miniserde_value.proofs.Built.{built_fronts}
 use Rattle.miniserde_value.proofs.Kepts.{kept_ordered}
 
 -- the first front is built first
 pub built_first : (h : Hole) (f : Meets) (fs : List Meets) → built h (f ∷ fs) ≡ built (built h (f ∷ [])) fs
 built_first h (leaf t) fs = refl
-built_first h list_begins fs = refl
-built_first h element fs = refl
-built_first h list_ends fs = refl
-built_first h members_begin fs = refl
 built_first h (name n) fs = refl
-built_first h members_end fs = refl
+built_first h _ fs = refl
 
 -- the fronts of a tree in order give the tree
 whole_fronts : (t : Tree) → IsOrdered t → whole (built (outside []) (fronts t [])) ≡ Some t

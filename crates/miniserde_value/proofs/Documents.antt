@@ -1,17 +1,15 @@
 -- The tree of a document means a document, and each that it means has that tree.
-use Rattle.std.proofs.Common.{◌≡◌, ℕ, pos, negsuc, List, [], ◌∷◌, length, String, refl, sym, ap, ap₂, ◌∙◌, arith}
+use Rattle.std.proofs.Common.{◌≡◌, pos, negsuc, List, [], ◌∷◌, length, String, refl, sym, ap, ap₂, ◌∙◌, arith}
 use Rattle.std.specs.Prelude.{⊤, string_bytes}
 use Rattle.std.specs.Map.{values_of}
 use Rattle.std.specs.Vec.{with_items as refilled}
 use Rattle.std.specs.declared.alloc.Global.{Global}
-use Rattle.std.specs.declared.cmp.Ordering.{Ordering}
 use Rattle.std.specs.declared.cmp.Ordering.TheVariants.{Less, Equal, Greater}
 use Rattle.std.proofs.lemmas.List.{with_items_is}
 use Rattle.std_collections.specs.Layout.BTreeMap.{with_entries}
-use Rattle.miniserde_model.specs.Tree.{Tree, null, truth, nonneg, neg, num, str, list, members, Trees, no_trees, tree, Members, no_members, member}
+use Rattle.miniserde_model.specs.Tree.{Tree, list, members, tree, Members, member}
 use Rattle.miniserde_model.specs.Normal.{text_cmp, placed, with_first, norm, norm_children, norm_members}
 use Rattle.miniserde_model.proofs.Distinct.{norm_distinct}
-use Rattle.miniserde_model.proofs.Lookups.{norm_rises}
 use Rattle.miniserde_model.proofs.Normal.{norm_twice}
 use Rattle.miniserde_ser.specs.Trees.{trees_of, members_of}
 use Rattle.miniserde_value.specs.declared.json.number.Number.{Number}
@@ -22,11 +20,10 @@ use Rattle.miniserde_value.specs.declared.json.value.Value.TheOpen.{Value-F}
 use Rattle.miniserde_value.specs.declared.json.array.Array.{Array}
 use Rattle.miniserde_value.specs.declared.json.object.Object.{Object}
 use Rattle.miniserde_value.specs.declared.json.unique.Unique.{Unique}
-use Rattle.miniserde_value.specs.Fronts.{IsOrdered, AreOrdered, AreOrderedMembers}
 use Rattle.miniserde_value.specs.Kept.{kept}
 use Rattle.miniserde_value.specs.Numbers.{number_leaf, ReadsNumber}
 use Rattle.miniserde_value.specs.Values.{array_items, object_entries, object_values, with_items, with_members, below, children, shape, array_shape, object_shape, Reads}
-use Rattle.miniserde_value.proofs.Kepts.{norm_kept, kept_ordered}
+use Rattle.miniserde_value.proofs.Kepts.{norm_kept, kept_norm}
 use Rattle.miniserde_value.proofs.Shapes.{level, shape_out, shape_number, shape_array, shape_object}
 use Rattle.miniserde_value.proofs.Trees.{Each, tree_ind}
 use Rattle.miniserde_value.specs.Meanings.{ReadsUnique}
@@ -35,40 +32,6 @@ use Rattle.miniserde_round.specs.RoundTrip.{ReadsAgain}
 -- what is kept of a normal form has that normal form
 same : (s t : Tree) → s ≡ kept (norm t) → norm s ≡ norm t
 same s t e = ap norm e ∙ norm_kept (norm t) ∙ norm_twice t
-
--- ---- a normal form is kept as it is
-
-ordered_placed : (o : Ordering) (name : List ℕ) (t : Tree) (other : List ℕ) (u : Tree) (ms more : Members) → IsOrdered t → IsOrdered u → AreOrderedMembers ms → AreOrderedMembers more → AreOrderedMembers (placed o name t other u ms more)
-ordered_placed Less name t other u ms more p q r s = (p, (q, r))
-ordered_placed Equal name t other u ms more p q r s = (q, r)
-ordered_placed Greater name t other u ms more p q r s = (q, s)
-
-ordered_with_first : (name : List ℕ) (t : Tree) (ms : Members) → IsOrdered t → AreOrderedMembers ms → AreOrderedMembers (with_first name t ms)
-ordered_with_first name t no_members p r = (p, tt)
-ordered_with_first name t (member other u ms) p r = ordered_placed (text_cmp name other) name t other u ms (with_first name t ms) p r.0 r.1 (ordered_with_first name t ms p r.1)
-
-mutual
-  norm_ordered : (t : Tree) → IsOrdered (norm t)
-  norm_ordered null = tt
-  norm_ordered (truth b) = tt
-  norm_ordered (nonneg n) = tt
-  norm_ordered (neg (pos n)) = tt
-  norm_ordered (neg (negsuc n)) = tt
-  norm_ordered (num x) = tt
-  norm_ordered (str s) = tt
-  norm_ordered (list ts) = norm_ordered_children ts
-  norm_ordered (members ms) = (norm_rises ms, norm_ordered_members ms)
-
-  norm_ordered_children : (ts : Trees) → AreOrdered (norm_children ts)
-  norm_ordered_children no_trees = tt
-  norm_ordered_children (tree t ts) = (norm_ordered t, norm_ordered_children ts)
-
-  norm_ordered_members : (ms : Members) → AreOrderedMembers (norm_members ms)
-  norm_ordered_members no_members = tt
-  norm_ordered_members (member name t ms) = ordered_with_first name (norm t) (norm_members ms) (norm_ordered t) (norm_ordered_members ms)
-
-kept_norm : (t : Tree) → norm t ≡ kept (norm t)
-kept_norm t = sym (kept_ordered (norm t) (norm_ordered t))
 
 -- ---- a document of the normal form
 

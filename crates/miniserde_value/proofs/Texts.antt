@@ -1,10 +1,11 @@
 -- The text of a tree's fronts is its compact text, and fronts that may be written are those of a tree in range.
-use Rattle.std.proofs.Common.{◌≡◌, ℕ, Bool, true, false, List, [], ◌∷◌, ◌++◌, IsUtf8, refl, sym, ap, subst, ◌∙◌, append_assoc, append-nil, Ordering, Less, Equal, Greater}
-use Rattle.miniserde_model.specs.Tree.{Tree, null, truth, nonneg, neg, num, str, list, members, Trees, no_trees, tree, Members, no_members, member}
-use Rattle.miniserde_model.specs.Normal.{text_cmp, placed, with_first, norm, norm_children, norm_members, BeginsAbove, Rise}
+use Rattle.std.proofs.Common.{◌≡◌, ℕ, Bool, true, false, List, [], ◌∷◌, ◌++◌, refl, sym, ap, subst, ◌∙◌, append_assoc, append-nil}
+use Rattle.miniserde_model.specs.Tree.{Tree, list, members, Trees, no_trees, tree, Members, no_members, member}
+use Rattle.miniserde_model.specs.Normal.{norm, norm_children, norm_members, BeginsAbove, Rise}
 use Rattle.miniserde_model.specs.IsTree.{IsTree, AreTrees, AreNamedTrees}
 use Rattle.miniserde_model.specs.Compact.{quoted, compact, compact_children, compact_more, compact_members, compact_more_members}
 use Rattle.miniserde_value.specs.Fronts.{Meets, list_ends, members_end, fronts, child_fronts, member_fronts, IsOrdered, AreOrdered, AreOrderedMembers, text_of, AreFronts}
+use Rattle.miniserde_model.proofs.Normal.{trees_with_first}
 use Rattle.miniserde_value.proofs.Kepts.{first_of_all}
 
 -- names above another stay above it where each tree is normal
@@ -29,14 +30,9 @@ closing a rest x = sym (append_assoc a (x ∷ []) rest)
 
 mutual
   pub text_fronts : (t : Tree) → IsOrdered t → (rest : List Meets) → text_of false (fronts t rest) ≡ compact (norm t) ++ text_of false rest
-  text_fronts null h rest = refl
-  text_fronts (truth b) h rest = refl
-  text_fronts (nonneg n) h rest = refl
-  text_fronts (neg z) h rest = refl
-  text_fronts (num x) h rest = refl
-  text_fronts (str s) h rest = refl
   text_fronts (list ts) h rest = ap (λ z. 91 ∷ z) (text_children ts h rest ∙ closing (compact_children (norm_children ts)) (text_of false rest) 93)
   text_fronts (members ms) h rest = ap (λ z. 123 ∷ z) (text_members ms h.0 h.1 rest ∙ closing (compact_members (norm_members ms)) (text_of false rest) 125)
+  text_fronts _ h rest = refl
 
   pub text_children : (ts : Trees) → AreOrdered ts → (rest : List Meets) → text_of true (child_fronts ts (list_ends ∷ rest)) ≡ compact_children (norm_children ts) ++ 93 ∷ text_of false rest
   text_children no_trees h rest = refl
@@ -68,39 +64,20 @@ mutual
 
 -- a value's text has no comma before it
 text_begins : (b : Bool) (t : Tree) → text_of b (fronts t []) ≡ text_of false (fronts t [])
-text_begins b null = refl
-text_begins b (truth x) = refl
-text_begins b (nonneg n) = refl
-text_begins b (neg z) = refl
-text_begins b (num x) = refl
-text_begins b (str s) = refl
 text_begins b (list ts) = refl
 text_begins b (members ms) = refl
+text_begins b _ = refl
 
 pub text_whole : (b : Bool) (t : Tree) → IsOrdered t → text_of b (fronts t []) ≡ compact (norm t)
 text_whole b t h = text_begins b t ∙ text_fronts t h [] ∙ append-nil (compact (norm t))
 
 -- ---- the trees in range
 
-trees_placed : (o : Ordering) (n : List ℕ) (t : Tree) (other : List ℕ) (u : Tree) (ms more : Members) → IsUtf8 n → IsTree t → AreNamedTrees (member other u ms) → AreNamedTrees more → AreNamedTrees (placed o n t other u ms more)
-trees_placed Less n t other u ms more p h k m = (p, h, k)
-trees_placed Equal n t other u ms more p h k m = k
-trees_placed Greater n t other u ms more p h k m = (k.0, k.1, m)
-
-trees_with_first : (n : List ℕ) (t : Tree) (ms : Members) → IsUtf8 n → IsTree t → AreNamedTrees ms → AreNamedTrees (with_first n t ms)
-trees_with_first n t no_members p h k = (p, h, tt)
-trees_with_first n t (member other u ms) p h k = trees_placed (text_cmp n other) n t other u ms _ p h k (trees_with_first n t ms p h k.2)
-
 mutual
   pub fronts_tree : (t : Tree) (rest : List Meets) → AreFronts (fronts t rest) → IsTree (norm t) × AreFronts rest
-  fronts_tree null rest h = h
-  fronts_tree (truth b) rest h = h
-  fronts_tree (nonneg n) rest h = h
-  fronts_tree (neg z) rest h = h
-  fronts_tree (num x) rest h = h
-  fronts_tree (str s) rest h = h
   fronts_tree (list ts) rest h = fronts_trees ts (list_ends ∷ rest) h
   fronts_tree (members ms) rest h = fronts_named ms (members_end ∷ rest) h
+  fronts_tree _ rest h = h
 
   pub fronts_trees : (ts : Trees) (rest : List Meets) → AreFronts (child_fronts ts rest) → AreTrees (norm_children ts) × AreFronts rest
   fronts_trees no_trees rest h = (tt, h)

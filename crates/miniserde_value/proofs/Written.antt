@@ -1,40 +1,27 @@
 -- The text that fronts are written as, one after another and as a whole.
 use Rattle.std.proofs.Common.{◌≡◌, Bool, true, false, List, [], ◌∷◌, Result, Ok, Err, OnOk, refl, ◌∙◌}
-use Rattle.miniserde_model.specs.Tree.{Tree, null, truth, nonneg, neg, num, str, list, members, Trees, no_trees, tree, Members, no_members, member}
-use Rattle.miniserde_value.specs.Fronts.{Meets, leaf, list_begins, element, list_ends, members_begin, name, members_end, fronts, child_fronts, member_fronts, first_after, AreFronts}
+use Rattle.miniserde_model.specs.Tree.{Tree, list, members, Trees, no_trees, tree, Members, no_members, member}
+use Rattle.miniserde_value.specs.Fronts.{Meets, leaf, list_ends, name, members_end, fronts, child_fronts, member_fronts, first_after, AreFronts}
 
 -- ---- one front, and then others
 
 pub fronts_before : (m : Meets) (rest : List Meets) → AreFronts (m ∷ []) → AreFronts rest → AreFronts (m ∷ rest)
 fronts_before (leaf t) rest h r = (h.0, r)
 fronts_before (name n) rest h r = (h.0, r)
-fronts_before list_begins rest h r = r
-fronts_before element rest h r = r
-fronts_before list_ends rest h r = r
-fronts_before members_begin rest h r = r
-fronts_before members_end rest h r = r
+fronts_before _ rest h r = r
 
 pub first_before : (b : Bool) (m : Meets) (rest : List Meets) → first_after (first_after b (m ∷ [])) rest ≡ first_after b (m ∷ rest)
 first_before b (leaf t) rest = refl
 first_before b (name n) rest = refl
-first_before b list_begins rest = refl
-first_before b element rest = refl
-first_before b list_ends rest = refl
-first_before b members_begin rest = refl
-first_before b members_end rest = refl
+first_before b _ rest = refl
 
 -- ---- behind a tree the next element or member is not the first, where it was not before
 
 mutual
   pub first_fronts : (t : Tree) (rest : List Meets) → first_after false (fronts t rest) ≡ first_after false rest
-  first_fronts null rest = refl
-  first_fronts (truth b) rest = refl
-  first_fronts (nonneg n) rest = refl
-  first_fronts (neg z) rest = refl
-  first_fronts (num x) rest = refl
-  first_fronts (str s) rest = refl
   first_fronts (list ts) rest = first_children ts true rest
   first_fronts (members ms) rest = first_members ms true rest
+  first_fronts _ rest = refl
 
   first_children : (ts : Trees) (b : Bool) (rest : List Meets) → first_after b (child_fronts ts (list_ends ∷ rest)) ≡ first_after false rest
   first_children no_trees b rest = refl

@@ -1,6 +1,6 @@
 -- The fronts of a tree: what a walk over it meets, one after another.
 use Rattle.std.specs.Prelude.{ℕ, Bool, true, false, List, [], ◌∷◌, ◌++◌, None, IsUtf8, ⊤}
-use Rattle.miniserde_model.specs.Tree.{Tree, null, truth, nonneg, neg, num, str, list, members, Trees, no_trees, tree, Members, no_members, member}
+use Rattle.miniserde_model.specs.Tree.{Tree, list, members, Trees, no_trees, tree, Members, no_members, member}
 use Rattle.miniserde_model.specs.Compact.{compact, quoted}
 use Rattle.miniserde_model.specs.IsTree.{IsTree}
 use Rattle.miniserde_model.specs.Normal.{norm, Rise}
@@ -20,12 +20,7 @@ abbrev mutual
   pub fronts : Tree → List Meets → List Meets
   fronts (list ts) rest = list_begins ∷ child_fronts ts (list_ends ∷ rest)
   fronts (members ms) rest = members_begin ∷ member_fronts ms (members_end ∷ rest)
-  fronts null rest = leaf null ∷ rest
-  fronts (truth b) rest = leaf (truth b) ∷ rest
-  fronts (nonneg n) rest = leaf (nonneg n) ∷ rest
-  fronts (neg z) rest = leaf (neg z) ∷ rest
-  fronts (num x) rest = leaf (num x) ∷ rest
-  fronts (str s) rest = leaf (str s) ∷ rest
+  fronts t rest = leaf t ∷ rest
 
   pub child_fronts : Trees → List Meets → List Meets
   child_fronts no_trees rest = rest
@@ -40,12 +35,7 @@ abbrev mutual
   pub IsOrdered : Tree → Type 0
   IsOrdered (list ts) = AreOrdered ts
   IsOrdered (members ms) = Rise ms × AreOrderedMembers ms
-  IsOrdered null = ⊤
-  IsOrdered (truth b) = ⊤
-  IsOrdered (nonneg n) = ⊤
-  IsOrdered (neg z) = ⊤
-  IsOrdered (num x) = ⊤
-  IsOrdered (str s) = ⊤
+  IsOrdered _ = ⊤
 
   pub AreOrdered : Trees → Type 0
   AreOrdered no_trees = ⊤
@@ -76,22 +66,15 @@ abbrev pub first_after : Bool → List Meets → Bool
 first_after first [] = first
 first_after first (leaf t ∷ fs) = first_after first fs
 first_after first (list_begins ∷ fs) = first_after true fs
-first_after first (element ∷ fs) = first_after false fs
-first_after first (list_ends ∷ fs) = first_after false fs
 first_after first (members_begin ∷ fs) = first_after true fs
-first_after first (name n ∷ fs) = first_after false fs
-first_after first (members_end ∷ fs) = first_after false fs
+first_after first (_ ∷ fs) = first_after false fs
 
 -- each leaf is in range, and each name is UTF-8
 abbrev pub AreFronts : List Meets → Type 0
 AreFronts [] = ⊤
 AreFronts (leaf t ∷ fs) = IsTree (norm t) × AreFronts fs
 AreFronts (name n ∷ fs) = IsUtf8 n × AreFronts fs
-AreFronts (list_begins ∷ fs) = AreFronts fs
-AreFronts (element ∷ fs) = AreFronts fs
-AreFronts (list_ends ∷ fs) = AreFronts fs
-AreFronts (members_begin ∷ fs) = AreFronts fs
-AreFronts (members_end ∷ fs) = AreFronts fs
+AreFronts (_ ∷ fs) = AreFronts fs
 
 -- ---- fronts as what is built
 

@@ -1,23 +1,18 @@
 -- What a `Value` keeps of a tree.
 use Rattle.std.specs.Prelude.{Bool, not, ◌||◌, cond, Option, Some, None}
-use Rattle.miniserde_model.specs.Tree.{Tree, list, members, Trees, no_trees, tree, Members, no_members, member}
-use Rattle.miniserde_model.specs.Normal.{with_first}
+use Rattle.miniserde_model.specs.Tree.{Tree, neg, Trees, Members}
+use Rattle.miniserde_model.specs.Normal.{norm_by, norm_children_by, norm_members_by}
 use Rattle.miniserde_model.specs.Distinct.{distinct}
 
-abbrev mutual
-  -- each leaf, the children of each list, and of each name the last tree, in byte order of the names
-  pub kept : Tree → Tree
-  kept (list ts) = list (kept_children ts)
-  kept (members ms) = members (kept_members ms)
-  kept leaf = leaf
+-- its normal form, but for the sign of `-0`
+abbrev pub kept : Tree → Tree
+kept = norm_by neg
 
-  pub kept_children : Trees → Trees
-  kept_children no_trees = no_trees
-  kept_children (tree t ts) = tree (kept t) (kept_children ts)
+abbrev pub kept_children : Trees → Trees
+kept_children = norm_children_by neg
 
-  pub kept_members : Members → Members
-  kept_members no_members = no_members
-  kept_members (member name t ms) = with_first name (kept t) (kept_members ms)
+abbrev pub kept_members : Members → Members
+kept_members = norm_members_by neg
 
 -- the same, and nothing of a tree with duplicate names where `once` says that none may be repeated
 abbrev pub kept_if : Bool → Tree → Option Tree

@@ -1,86 +1,78 @@
-//! The places of arrays and of objects.
-ghost use Rattle.std.specs.Prelude.{true};
+//! The places of arrays, of objects, and of documents that count as what is written of them.
+ghost use Rattle.std.specs.Prelude.{◌≡◌, true, Some, option_map};
+ghost use Rattle.miniserde_read.specs.Step.{event_of};
+ghost use Rattle.miniserde_value.specs.Values.{shape};
+ghost use Rattle.miniserde_de.specs.Kinds.{Kind};
+ghost use Rattle.miniserde_de.specs.laws.Kinds.{lists, objects, documents};
 
 use super::value_place::ValuePlace;
 use crate::de::{Deserialize, Step, Visitor};
 use miniserde_model::error::{Error, Result};
 use miniserde_value::json::array::Array;
+use miniserde_value::json::document::Document;
 use miniserde_value::json::object::Object;
+use miniserde_value::json::value::Value;
 use std::alloc::Global;
+use std::marker::PhantomData;
 
 /// The place of an `Array`. It refuses a value that begins otherwise at its first event.
-#[derive(Drop)]
-pub struct ArrayPlace {
-    place: ValuePlace,
-}
-
-impl Visitor for ArrayPlace {
-    type Out = Array;
-
-    ghost use Rattle.miniserde_de.specs.Places.{array_meaning};
-
-    ghost meaning = { array_meaning };
-
-    ghost begins_free = { true };
-
-    ghost takes_free = { true };
-
-    fn begin(alloc: Global) -> Result<ArrayPlace> {
-        Ok(ArrayPlace {
-            place: ValuePlace::begin(alloc)?,
-        })
-    }
-
-    fn step(&mut self, event: Step<'_>) -> Result<()> {
-        match event {
-            Step::Seq => self.place.step(event),
-            _ if self.place.is_fresh() => Err(self.place.refuse(Error::Invalid)),
-            _ => self.place.step(event),
-        }
-    }
-
-    fn refuse(&mut self, error: Error) -> Error {
-        self.place.refuse(error)
-    }
-
-    fn is_complete(&self) -> bool {
-        self.place.is_complete()
-    }
-
-    fn take(self) -> Result<Array> {
-        self.place.take()?.into_array().ok_or(Error::Invalid)
-    }
-}
+pub type ArrayPlace = KindPlace<Arrays>;
 
 /// The place of an `Object`. It refuses a value that begins otherwise at its first event.
-#[derive(Drop)]
-pub struct ObjectPlace {
-    place: ValuePlace,
+pub type ObjectPlace = KindPlace<Objects>;
+
+/// The place of a `Document`.
+pub type DocumentPlace = KindPlace<Documents>;
+
+/// A kind of documents.
+pub trait OfKind: Drop {
+    type Out: Drop;
+
+    // What they mean, and how they begin.
+    ghost kind: { Kind Self.Out };
+
+    /// Returns whether a document of the kind begins with the event.
+    fn begins(event: &Step<'_>) -> bool
+        ensures { result ≡ kind.begins (event_of event.now) };
+
+    /// Returns the value if it is of the kind. Allocates nothing.
+    fn from_value(value: Value) -> Option<Self::Out>
+        ensures { option_map kind.meant.content result ≡ kind.only (Some (shape value)) };
 }
 
-impl Visitor for ObjectPlace {
-    type Out = Object;
+/// The place of a document of one kind.
+#[derive(Drop)]
+pub struct KindPlace<K> {
+    place: ValuePlace,
+    kind: PhantomData<K>,
+}
 
-    ghost use Rattle.miniserde_de.specs.Places.{object_meaning};
+impl<K: OfKind> Visitor for KindPlace<K> {
+    type Out = K::Out;
 
-    ghost meaning = { object_meaning };
+    ghost use Rattle.miniserde_de.specs.Places.{kind_meaning, steps};
+
+    ghost meaning = { kind_meaning K.kind };
 
     ghost begins_free = { true };
 
     ghost takes_free = { true };
 
-    fn begin(alloc: Global) -> Result<ObjectPlace> {
-        Ok(ObjectPlace {
-            place: ValuePlace::begin(alloc)?,
+    // What an event makes of the hole, where the kind begins with it.
+    ghost further = { λ old e answer new. K.kind.begins e ≡ true → steps old.place e answer new.place };
+
+    fn begin(alloc: Global) -> Result<KindPlace<K>> {
+        Ok(KindPlace {
+            place: ValuePlace::new(alloc),
+            kind: PhantomData,
         })
     }
 
     fn step(&mut self, event: Step<'_>) -> Result<()> {
-        match event {
-            Step::Map => self.place.step(event),
-            _ if self.place.is_fresh() => Err(self.place.refuse(Error::Invalid)),
-            _ => self.place.step(event),
+        if self.place.is_fresh() && !K::begins(&event) {
+            return Err(self.place.refuse(Error::Invalid));
         }
+        self.place.step(event)
     }
 
     fn refuse(&mut self, error: Error) -> Error {
@@ -91,8 +83,62 @@ impl Visitor for ObjectPlace {
         self.place.is_complete()
     }
 
-    fn take(self) -> Result<Object> {
-        self.place.take()?.into_object().ok_or(Error::Invalid)
+    fn take(self) -> Result<K::Out> {
+        K::from_value(self.place.take()?).ok_or(Error::Invalid)
+    }
+}
+
+/// Arrays, which begin as lists.
+#[derive(Clone, Copy)]
+pub struct Arrays;
+
+impl OfKind for Arrays {
+    type Out = Array;
+
+    ghost kind = { lists };
+
+    fn begins(event: &Step<'_>) -> bool {
+        matches!(event, Step::Seq)
+    }
+
+    fn from_value(value: Value) -> Option<Array> {
+        value.into_array()
+    }
+}
+
+/// Objects, which begin as maps.
+#[derive(Clone, Copy)]
+pub struct Objects;
+
+impl OfKind for Objects {
+    type Out = Object;
+
+    ghost kind = { objects };
+
+    fn begins(event: &Step<'_>) -> bool {
+        matches!(event, Step::Map)
+    }
+
+    fn from_value(value: Value) -> Option<Object> {
+        value.into_object()
+    }
+}
+
+/// Documents, which begin as any value.
+#[derive(Clone, Copy)]
+pub struct Documents;
+
+impl OfKind for Documents {
+    type Out = Document;
+
+    ghost kind = { documents };
+
+    fn begins(_event: &Step<'_>) -> bool {
+        true
+    }
+
+    fn from_value(value: Value) -> Option<Document> {
+        Some(Document { value })
     }
 }
 
@@ -104,6 +150,12 @@ impl Deserialize for Array {
 
 impl Deserialize for Object {
     type Place = ObjectPlace;
+
+    fn tied() {}
+}
+
+impl Deserialize for Document {
+    type Place = DocumentPlace;
 
     fn tied() {}
 }

@@ -1,15 +1,16 @@
+use Rattle.miniserde_model.specs.Normal.{norm_neg}
 use Rattle.miniserde_model.proofs.Lookups.{norm_keeps_last, norm_rises}
 use Rattle.miniserde_model.proofs.OneNormal.{norm_only, put_all_norm}
 use Rattle.miniserde_model.proofs.norm_of_members.Goals as goal
 
 pub returns-clause-last : goal.returns-clause-last
-returns-clause-last c = norm_keeps_last
+returns-clause-last c = norm_keeps_last norm_neg
 
 pub returns-clause-order : goal.returns-clause-order
-returns-clause-order c = norm_rises
+returns-clause-order c = norm_rises norm_neg
 
 pub returns-clause-only : goal.returns-clause-only
-returns-clause-only c = norm_only
+returns-clause-only c = norm_only norm_neg
 
 pub returns-clause-put : goal.returns-clause-put
-returns-clause-put c = put_all_norm
+returns-clause-put c = put_all_norm norm_neg
