@@ -67,8 +67,8 @@ def check_type(of, known, line):
         raise Refused(f"line {line}: a field has a type of its own, with no `dyn`, no `impl` and no `fn`: {of}")
     if re.search(r"\[[^;\]]*\]", of):
         raise Refused(f"line {line}: a list has a length, as `[T; 4]`, or is a `Vec<T>`: {of}")
-    if widest_tuple(of) > 2:
-        raise Refused(f"line {line}: a tuple has two parts: write a struct, or `(A, (B, C))`: {of}")
+    if widest_tuple(of) > 6:
+        raise Refused(f"line {line}: a tuple has six parts at most: write a struct: {of}")
     for name in re.findall(r"(?<![\w:])" + NAME, of):
         if name in INSTEAD and name not in known:
             raise Refused(f"line {line}: `{name}` is not read: {INSTEAD[name]}")
@@ -227,6 +227,8 @@ def check_places(found):
     without = {it.name: it for it in found if "events" not in it.words}
     for it in found:
         for part in it.parts if "events" in it.words else []:
+            if widest_tuple(part.of) > 2:
+                raise Refused(f"line {part.line}: `{it.name}` has a place, and a tuple of three and more has none: leave out `events`, or write pairs: {part.of}")
             inner = without.keys() & set(re.findall(NAME, part.of))
             if inner:
                 each = sorted(inner)[0]

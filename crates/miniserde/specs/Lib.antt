@@ -20,6 +20,7 @@ pub use Rattle.miniserde_text.specs.Texts
 pub use Rattle.miniserde_keys.specs.Keys
 pub use Rattle.miniserde_keys.specs.Ranged
 pub use Rattle.miniserde_read.specs.Escaped
+pub use Rattle.miniserde_read.specs.Items
 pub use Rattle.miniserde_read.specs.Lacking
 pub use Rattle.miniserde_read.specs.Lookups
 pub use Rattle.miniserde_read.specs.Meant
@@ -32,6 +33,7 @@ pub use Rattle.miniserde_read.specs.meaning.Integers
 pub use Rattle.miniserde_read.specs.meaning.Lists
 pub use Rattle.miniserde_read.specs.meaning.Arrays
 pub use Rattle.miniserde_read.specs.meaning.Pairs
+pub use Rattle.miniserde_read.specs.meaning.Tuples
 pub use Rattle.miniserde_read.specs.meaning.Options
 pub use Rattle.miniserde_read.specs.meaning.Objects
 pub use Rattle.miniserde_read.specs.meaning.Maps

@@ -7,6 +7,8 @@ ghost use Rattle.std.specs.BTreeMap.{IsOrdered};
 ghost use Rattle.std.specs.HashMap.{IsUnique};
 ghost use Rattle.miniserde_keys.specs.Ranged.{OptionReal};
 
+mod tuples;
+
 use std::collections::{BTreeMap, HashMap};
 use std::hash::{BuildHasher, Hash};
 

@@ -15,4 +15,5 @@ pub mod Passed
 pub mod Same
 pub mod Skips
 pub mod Steps
+pub mod Tuples
 pub mod Values

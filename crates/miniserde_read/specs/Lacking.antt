@@ -1,5 +1,6 @@
 -- Where reading a text may return `Memory`.
-use Rattle.std.specs.Prelude.{◌≡◌, ◌⊎◌, ℕ, zero, suc, Bool, true, false, List}
+use Rattle.std.specs.Prelude.{◌≡◌, ◌⊎◌, ℕ, zero, suc, Bool, true, false, List, length}
+use Rattle.std.specs.List.{AllByRecursion}
 use Rattle.miniserde_model.specs.Tree.{Tree}
 use Rattle.miniserde_model.specs.Event.{Event, seq}
 use Rattle.miniserde_model.specs.Lexing.{in_list, in_members, Follows}
@@ -38,3 +39,13 @@ PairLacks a b e old new = a ≡ true → b ≡ true → (e ≡ seq) × EscapedAm
 -- with a backslash, or at most n elements were read, and the list of items failed to grow.
 abbrev pub ArrayLacks : ℕ → Bool → Event → Remaining → Remaining → Type 0
 ArrayLacks n a e old new = a ≡ true → (e ≡ seq) × (EscapedAmong n true old.rest ⊎ SomeElements n true old.rest new.rest)
+
+-- If `read` of no item returns `Memory` (each of the list is true), one of the items that are left begins as a string with
+-- a backslash, and those before it are values.
+abbrev pub ItemsLack : List Bool → Bool → List ℕ → Type 0
+ItemsLack infallible first s = AllByRecursion (λ b. b ≡ true) infallible → EscapedAmong (length infallible) first s
+
+-- If `read` of no item returns `Memory` (each of the list is true), the value is a list, and one of its first items, of as
+-- many as the tuple has, begins as a string with a backslash.
+abbrev pub TupleLacks : List Bool → Event → Remaining → Remaining → Type 0
+TupleLacks infallible e old new = AllByRecursion (λ b. b ≡ true) infallible → (e ≡ seq) × EscapedAmong (length infallible) true old.rest

@@ -1,5 +1,6 @@
 pub mod Children
 pub mod Escaped
+pub mod Items
 pub mod Lacking
 pub mod Lookups
 pub mod Meanings

@@ -4,4 +4,5 @@ pub mod Lists
 pub mod Maps
 pub mod Options
 pub mod Pairs
+pub mod Tuples
 pub mod Words

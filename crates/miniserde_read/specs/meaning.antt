@@ -5,4 +5,5 @@ pub mod Maps
 pub mod Objects
 pub mod Options
 pub mod Pairs
+pub mod Tuples
 pub mod Words

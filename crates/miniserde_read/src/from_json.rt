@@ -15,6 +15,7 @@ mod maps;
 mod options;
 mod pairs;
 mod sequences;
+mod tuples;
 
 use crate::source::Source;
 pub use leaves::StdLeaf;

@@ -3,6 +3,7 @@
 
 mod from_json;
 mod ignored;
+mod items;
 mod json_text;
 mod leaf;
 mod lookups;
@@ -11,6 +12,7 @@ mod step;
 
 pub use from_json::{FromJson, StdLeaf, Table};
 pub use ignored::Ignored;
+pub use items::{Item, Items, NoItem, read_tuple};
 pub use json_text::{from_slice, from_str};
 pub use leaf::{Leaf, read_leaf};
 pub use lookups::{gets_last, gets_last_by_hashed_key, gets_last_by_key};

@@ -4,6 +4,7 @@
 mod lossless;
 mod round_trip;
 mod scalars;
+mod tuples;
 
 pub use lossless::{Lossless, NeverNull, means_itself, read_itself};
 pub use round_trip::{RoundTrip, read_again, read_back};

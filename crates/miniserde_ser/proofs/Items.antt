@@ -4,7 +4,11 @@ use Rattle.std.proofs.lemmas.List.{take_more, append-nil, length-take-le}
 use Rattle.miniserde_model.specs.Tree.{Tree}
 use Rattle.miniserde_model.specs.Compact.{compact, compact_children, compact_more}
 use Rattle.miniserde_model.specs.IsTree.{IsTree, AreTrees}
+use Rattle.std.specs.Prelude.{Result, OnOk}
+use Rattle.std.proofs.lemmas.Result.{on_ok_weaker}
+use Rattle.miniserde_model.specs.declared.error.Error.{Error}
 use Rattle.miniserde_ser.specs.Trees.{trees_of}
+use Rattle.miniserde_ser.specs.Writer.{Writing, Appends, appended, with_first}
 
 compact_more-snoc : {A : Type 0} (f : A → Tree) (xs : List A) (x : A) → compact_more (trees_of f (xs ++ x ∷ [])) ≡ compact_more (trees_of f xs) ++ (44 ∷ []) ++ compact (f x)
 compact_more-snoc f [] x = grind (arith, append_assoc {A = ℕ}, append-nil {A = ℕ})
@@ -32,3 +36,7 @@ compact_children_step f xs i x b pre old mid new h e s n o m w =
 -- the trees of the elements so far are trees
 pub AreTrees_step : {A : Type 0} (f : A → Tree) (xs : List A) (i : ℕ) (x : A) → i < length xs → x ≡ get_or xs i x → AreTrees (trees_of f (take i xs)) → IsTree (f x) → AreTrees (trees_of f (take (i + 1) xs))
 AreTrees_step f xs i x h e a r = rw (took xs i x h e) (AreTrees-snoc f (take i xs) x a r)
+
+-- what a last piece makes of the text of all items before it
+pub appends_text : (old new : Writing) (bs whole : List ℕ) (first : Bool) (r : Result (Unit {0}) Error) → Appends old bs first r new → old.text ++ bs ≡ whole → OnOk r (new.text ≡ whole)
+appends_text old new bs whole first r a h = on_ok_weaker r (λ (e : new ≡ with_first (appended old bs new.capacity) first). ap (λ (w : Writing). w.text) e ∙ h) a.ok

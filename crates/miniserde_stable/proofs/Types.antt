@@ -9,6 +9,7 @@ use Rattle.miniserde_read.specs.meaning.Lists.{each, list_of}
 use Rattle.miniserde_read.specs.meaning.Arrays.{exactly, array_of}
 use Rattle.miniserde_read.specs.meaning.Options.{option_of}
 use Rattle.miniserde_read.specs.meaning.Pairs.{pair_of}
+use Rattle.miniserde_read.specs.meaning.Tuples.{none_of, item_of, tuple_of}
 use Rattle.miniserde_stable.specs.Stable.{IsStable}
 
 -- what is made of something that stays, stays
@@ -87,3 +88,22 @@ module _ {A B : Type 0} (f : Tree → Option A) (g : Tree → Option B) (first :
 
   pub stable-pair : IsStable (pair_of f g)
   stable-pair = stable-by (pair_of f g) (λ z c e. absurd (cc)) pair-list (λ ms c e. e)
+
+-- ---- tuples, by the laws of the types of their items
+
+-- children that give items give them in normal form too
+abbrev pub AreStable : {C : Type 0} → (Trees → Option C) → Type 0
+AreStable {C} of = (ts : Trees) (c : C) → of ts ≡ Some c → of (norm_children ts) ≡ Some c
+
+pub stable-none : AreStable none_of
+stable-none no_trees c e = e
+stable-none (tree t ts) c e = absurd (cc)
+
+pub stable-item : {A B : Type 0} (f : Tree → Option A) (g : Trees → Option B) → IsStable f → AreStable g → AreStable (item_of f g)
+stable-item f g first rest no_trees c e = e
+stable-item f g first rest (tree t ts) c e =
+    bound (f t) (f (norm t)) (λ a. option_map (λ b. (a, b)) (g ts)) (λ a. option_map (λ b. (a, b)) (g (norm_children ts))) c (first t)
+    (λ a. mapped (λ b. (a, b)) (g ts) (g (norm_children ts)) c (rest ts)) e
+
+pub stable-tuple : {C : Type 0} (g : Trees → Option C) → AreStable g → IsStable (tuple_of g)
+stable-tuple g rest = stable-by (tuple_of g) (λ z c e. absurd (cc)) rest (λ ms c e. e)

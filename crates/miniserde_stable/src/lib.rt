@@ -3,6 +3,7 @@
 
 mod exact;
 mod stable;
+mod tuples;
 
 pub use exact::ExactKey;
 pub use stable::{Stable, means_in_normal_form, normal_form_means_more, two_names_of_a_key};

@@ -19,4 +19,6 @@ mod stable;
 #[cfg(test)]
 mod strings;
 #[cfg(test)]
+mod tuples;
+#[cfg(test)]
 mod wrappers;

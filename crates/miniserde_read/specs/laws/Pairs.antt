@@ -6,7 +6,7 @@ use Rattle.miniserde_read.specs.meaning.Pairs.{PairReads, both, pair_of}
 
 module _ {A B : Type 0} where
   -- where the pair is there, each part is
-  both-some : (o : Option A) (p : Option B) (a : A) (b : B) → both (o, p) ≡ Some (a, b) → (o ≡ Some a) × (p ≡ Some b)
+  pub both-some : (o : Option A) (p : Option B) (a : A) (b : B) → both (o, p) ≡ Some (a, b) → (o ≡ Some a) × (p ≡ Some b)
   both-some None p a b e = absurd (cc)
   both-some (Some x) None a b e = absurd (cc)
   both-some (Some x) (Some y) a b e = let same : ◌≡◌ {A = A × B} (x, y) (a, b) = cc in (ap (λ q. Some q.0) same, ap (λ q. Some q.1) same)

@@ -8,4 +8,5 @@ mod pairs;
 mod references;
 mod sequences;
 mod text;
+mod tuples;
 mod words;

@@ -1,0 +1,50 @@
+//! Tuples of three to six.
+
+use super::Ranged;
+
+impl<A: Ranged, B: Ranged, C: Ranged> Ranged for (A, B, C) {
+    ghost real = { λ v. A.real v.0 × B.real v.1 × C.real v.2 };
+
+    fn ranged(&self) {
+        self.0.ranged();
+        self.1.ranged();
+        self.2.ranged();
+    }
+}
+
+impl<A: Ranged, B: Ranged, C: Ranged, D: Ranged> Ranged for (A, B, C, D) {
+    ghost real = { λ v. A.real v.0 × B.real v.1 × C.real v.2 × D.real v.3 };
+
+    fn ranged(&self) {
+        self.0.ranged();
+        self.1.ranged();
+        self.2.ranged();
+        self.3.ranged();
+    }
+}
+
+impl<A: Ranged, B: Ranged, C: Ranged, D: Ranged, E: Ranged> Ranged for (A, B, C, D, E) {
+    ghost real = { λ v. A.real v.0 × B.real v.1 × C.real v.2 × D.real v.3 × E.real v.4 };
+
+    fn ranged(&self) {
+        self.0.ranged();
+        self.1.ranged();
+        self.2.ranged();
+        self.3.ranged();
+        self.4.ranged();
+    }
+}
+
+impl<A: Ranged, B: Ranged, C: Ranged, D: Ranged, E: Ranged, F: Ranged> Ranged
+    for (A, B, C, D, E, F) {
+    ghost real = { λ v. A.real v.0 × B.real v.1 × C.real v.2 × D.real v.3 × E.real v.4 × F.real v.5 };
+
+    fn ranged(&self) {
+        self.0.ranged();
+        self.1.ranged();
+        self.2.ranged();
+        self.3.ranged();
+        self.4.ranged();
+        self.5.ranged();
+    }
+}

@@ -1,0 +1,46 @@
+-- The meaning of a tuple: of its items, which the children of a list mean one by one, and of the whole.
+use Rattle.std.specs.Prelude.{◌≡◌, ◌↔◌, ℕ, Bool, List, Option, Some, None}
+use Rattle.miniserde_model.specs.Tree.{Trees}
+use Rattle.miniserde_read.specs.Meant.{Meant, meant}
+use Rattle.miniserde_read.specs.Rest.{ElementsAt}
+use Rattle.miniserde_read.specs.meaning.Tuples.{NoneReads, none_of, ItemReads, item_of, TupleReads, tuple_of}
+use Rattle.miniserde_read.specs.laws.Tuples.{none-given, item-given, tuple-given}
+
+pub record ItemsMeant (V : Type 0) : Type 1 where
+  -- the content of the items
+  pub Content : Type 0
+  pub content : V → Content
+  -- the content that the children of a list give, if any
+  pub from_trees : Trees → Option Content
+  -- the children mean the items, one by one, and no child is left
+  pub reads : Trees → V → Type 0
+  -- children mean items exactly if they give their content
+  pub reads_agrees : (ts : Trees) (v : V) → reads ts v ↔ (from_trees ts ≡ Some (content v))
+
+-- no items
+abbrev pub no_items : ItemsMeant (Unit {0})
+no_items = record { Content = Unit {0}; content = λ v. tt; from_trees = none_of; reads = NoneReads; reads_agrees = none-given }
+
+-- an item, and those after it
+abbrev pub item_and : {T V : Type 0} → Meant T → ItemsMeant V → ItemsMeant (T × V)
+item_and m n = record {
+  Content = m.Content × n.Content;
+  content = λ v. (m.content v.0, n.content v.1);
+  from_trees = item_of m.from_tree n.from_trees;
+  reads = ItemReads m.reads n.reads;
+  reads_agrees = item-given m.reads n.reads m.from_tree n.from_trees m.content n.content m.reads_agrees n.reads_agrees;
+}
+
+-- a tuple, by its items: a list of exactly so many, of which each child means its item
+abbrev pub tuple_meant : {V W : Type 0} → ItemsMeant V → (W → V) → Meant W
+tuple_meant n items =
+    meant (λ w. n.content (items w)) (tuple_of n.from_trees) (λ t w. TupleReads n.reads t (items w))
+    (λ t w. tuple-given n.reads n.from_trees n.content n.reads_agrees t (items w))
+
+-- from s to r stand elements and the closing bracket, and the elements give c
+abbrev pub ItemsGiveAt : {C : Type 0} → (Trees → Option C) → Bool → List ℕ → List ℕ → C → Type 0
+ItemsGiveAt of first s r c = (ts : Trees) × ElementsAt ts first s r × (of ts ≡ Some c)
+
+-- no elements and closing bracket at the beginning of the text give anything
+abbrev pub ItemsGiveNoneAt : {C : Type 0} → (Trees → Option C) → Bool → List ℕ → Type 0
+ItemsGiveNoneAt of first s = (ts : Trees) (r : List ℕ) → ElementsAt ts first s r → of ts ≡ None

@@ -1,0 +1,101 @@
+//! The items of a tuple, one after another.
+ghost use Rattle.std.specs.Prelude.{◌≡◌, Bool, List, [], ◌∷◌, None, Ok, Err, IfOk};
+ghost use Rattle.miniserde_text.specs.Lexer.{front_of};
+ghost use Rattle.miniserde_model.specs.declared.error.Error.{Error};
+ghost use Rattle.miniserde_read.specs.Rest.{GivesAt, GivesNoneAt};
+ghost use Rattle.miniserde_read.specs.Step.{IsTreeEvent};
+ghost use Rattle.miniserde_read.specs.Items.{ItemsMeant, no_items, item_and, ItemsGiveAt, ItemsGiveNoneAt};
+ghost use Rattle.miniserde_read.specs.Lacking.{ItemsLack, TupleLacks};
+ghost use Rattle.miniserde_read.specs.meaning.Tuples.{tuple_of};
+
+use crate::from_json::FromJson;
+use crate::source::Source;
+use miniserde_model::error::{Error, Result};
+use miniserde_text::json::lex::{After, Event, Kind};
+
+/// The items of a tuple.
+pub trait Items {
+    /// The values of the items, as nested pairs.
+    type Values: Drop;
+
+    // Which children of a list mean which values.
+    ghost meaning: { ItemsMeant Self.Values };
+
+    // Of each item, whether its `read` never returns `Memory`.
+    ghost infallible: { List Bool };
+
+    /// Reads the elements that are left of a list, and its closing bracket. `first` says that the opening bracket was
+    /// just taken. Returns `Invalid` if no beginning of the text spells elements of the items, exactly so many.
+    fn read_items<'a>(source: &mut Source<'a>, first: bool) -> Result<Self::Values>
+        requires { source.old.refused ≡ None }
+        ensures going { IfOk result (λ _. source.new.refused ≡ None) }
+        ensures ok { IfOk result (λ v. ItemsGiveAt meaning.from_trees first source.old.rest source.new.rest
+            (meaning.content v)) }
+        ensures invalid { result ≡ Err Error.Invalid → ItemsGiveNoneAt meaning.from_trees first source.old.rest }
+        ensures memory { result ≡ Err Error.Memory → ItemsLack infallible first source.old.rest };
+}
+
+/// No more items.
+#[derive(Drop)]
+pub struct NoItem {}
+
+impl Items for NoItem {
+    type Values = ();
+
+    ghost meaning = { no_items };
+
+    ghost infallible = { [] };
+
+    #[inline(always)]
+    fn read_items<'a>(source: &mut Source<'a>, first: bool) -> Result<()> {
+        match source.after(Kind::Seq, first)? {
+            After::Close => Ok(()),
+            After::Next => Err(Error::Invalid),
+        }
+    }
+}
+
+/// An item of the type T, and those after it.
+#[derive(Drop)]
+pub struct Item<T, R> {
+    pub item: T,
+    pub rest: R,
+}
+
+impl<T: FromJson, R: Items> Items for Item<T, R> {
+    type Values = (T, R::Values);
+
+    ghost meaning = { item_and T.means R.meaning };
+
+    ghost infallible = { T.read_infallible ∷ R.infallible };
+
+    #[inline(always)]
+    fn read_items<'a>(source: &mut Source<'a>, first: bool) -> Result<(T, R::Values)> {
+        let Some(token) = source.element(first)? else {
+            return Err(Error::Invalid);
+        };
+        let item = T::read(token, source)?;
+        let rest = R::read_items(source, false)?;
+        Ok((item, rest))
+    }
+}
+
+/// Reads the items of a tuple, whose first token is `token`, and no further. Returns `Invalid` if no beginning of the
+/// text spells a list of the items, exactly so many.
+#[inline(always)]
+pub fn read_tuple<'a, I: Items>(token: Event<'a>, source: &mut Source<'a>) -> Result<I::Values>
+    requires going { source.old.refused ≡ None }
+    requires event { IsTreeEvent (front_of token source.old.scratch) }
+    ensures going { IfOk result (λ _. source.new.refused ≡ None) }
+    ensures ok { IfOk result (λ v. GivesAt (tuple_of I.meaning.from_trees) (front_of token.entry source.old.scratch)
+        source.old.rest source.new.rest (I.meaning.content v)) }
+    ensures invalid { result ≡ Err Error.Invalid
+        → GivesNoneAt (tuple_of I.meaning.from_trees) (front_of token.entry source.old.scratch) source.old.rest }
+    ensures memory { result ≡ Err Error.Memory
+        → TupleLacks I.infallible (front_of token.entry source.old.scratch) source.old source.new }
+{
+    let Event::SeqStart = token else {
+        return Err(Error::Invalid);
+    };
+    I::read_items(source, true)
+}

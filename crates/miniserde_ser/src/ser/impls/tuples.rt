@@ -1,0 +1,82 @@
+//! Tuples of three to six.
+ghost use Rattle.std.specs.Prelude.{◌≡◌, ◌++◌, false, true, OnOk, OnErr, IsErrOf};
+ghost use Rattle.miniserde_model.specs.Tree.{list, no_trees, tree};
+ghost use Rattle.miniserde_model.specs.Compact.{compact};
+ghost use Rattle.miniserde_model.specs.IsTree.{IsTree};
+ghost use Rattle.miniserde_model.specs.declared.error.Error.TheVariants.{Memory};
+
+use crate::ser::{Serialize, Writer};
+use miniserde_model::error::Result;
+
+// Writes an item, behind what stands before it.
+#[inline(always)]
+fn write_item<T: Serialize>(item: &T, before: &str, w: &mut Writer) -> Result<()>
+    ensures ok { OnOk result (w.new.text ≡ w.old.text ++ before.now ++ compact (T.tree item.now)) }
+    ensures is_tree { OnOk result (IsTree (T.tree item.now)) }
+    ensures first { OnOk result (w.new.first ≡ false) }
+    ensures whole { OnOk result (w.new.refused ≡ false) }
+    ensures stays { OnOk result (w.old.refused ≡ false) }
+    ensures memory { OnErr result (IsErrOf result Memory) }
+    ensures err { OnErr result (w.new.refused ≡ true) }
+{
+    w.punctuate(before, false)?;
+    item.begin(w)
+}
+
+impl<A: Serialize, B: Serialize, C: Serialize> Serialize for (A, B, C) {
+    ghost tree = { λ v. list (tree (A.tree v.0) (tree (B.tree v.1) (tree (C.tree v.2) no_trees))) };
+
+    fn begin(&self, w: &mut Writer) -> Result<()> {
+        let (a, b, c) = self;
+        write_item(a, "[", w)?;
+        write_item(b, ",", w)?;
+        write_item(c, ",", w)?;
+        w.punctuate("]", false)
+    }
+}
+
+impl<A: Serialize, B: Serialize, C: Serialize, D: Serialize> Serialize for (A, B, C, D) {
+    ghost tree = { λ v. list (tree (A.tree v.0) (tree (B.tree v.1) (tree (C.tree v.2) (tree (D.tree v.3) no_trees)))) };
+
+    fn begin(&self, w: &mut Writer) -> Result<()> {
+        let (a, b, c, d) = self;
+        write_item(a, "[", w)?;
+        write_item(b, ",", w)?;
+        write_item(c, ",", w)?;
+        write_item(d, ",", w)?;
+        w.punctuate("]", false)
+    }
+}
+
+impl<A: Serialize, B: Serialize, C: Serialize, D: Serialize, E: Serialize> Serialize
+    for (A, B, C, D, E) {
+    ghost tree = { λ v. list (tree (A.tree v.0) (tree (B.tree v.1) (tree (C.tree v.2)
+        (tree (D.tree v.3) (tree (E.tree v.4) no_trees))))) };
+
+    fn begin(&self, w: &mut Writer) -> Result<()> {
+        let (a, b, c, d, e) = self;
+        write_item(a, "[", w)?;
+        write_item(b, ",", w)?;
+        write_item(c, ",", w)?;
+        write_item(d, ",", w)?;
+        write_item(e, ",", w)?;
+        w.punctuate("]", false)
+    }
+}
+
+impl<A: Serialize, B: Serialize, C: Serialize, D: Serialize, E: Serialize, F: Serialize> Serialize
+    for (A, B, C, D, E, F) {
+    ghost tree = { λ v. list (tree (A.tree v.0) (tree (B.tree v.1) (tree (C.tree v.2)
+        (tree (D.tree v.3) (tree (E.tree v.4) (tree (F.tree v.5) no_trees)))))) };
+
+    fn begin(&self, w: &mut Writer) -> Result<()> {
+        let (a, b, c, d, e, f) = self;
+        write_item(a, "[", w)?;
+        write_item(b, ",", w)?;
+        write_item(c, ",", w)?;
+        write_item(d, ",", w)?;
+        write_item(e, ",", w)?;
+        write_item(f, ",", w)?;
+        w.punctuate("]", false)
+    }
+}
