@@ -1,20 +1,20 @@
 -- Objects with a tag.
-use Rattle.std.proofs.Common.{◌≡◌, ℕ, suc, Bool, true, false, cond, List, [], ◌∷◌, Option, Some, None, refl, sym, ap, subst, ◌∙◌, arith}
+use Rattle.std.proofs.Common.{◌≡◌, ℕ, suc, Bool, true, false, cond, List, [], ◌∷◌, Option, Some, None, refl, sym, ap, ◌∙◌, arith}
 use Rattle.std.specs.Prelude.{option_map, option_and_then, bytes_eq}
 use Rattle.std.specs.Option.{option_or}
 use Rattle.std.proofs.lemmas.Option.{same_Some}
 use Rattle.miniserde_model.specs.Tree.{Tree, str, members, Members, no_members, member}
-use Rattle.miniserde_model.specs.Event.{Event, map}
+use Rattle.miniserde_model.specs.Event.{map}
 use Rattle.miniserde_model.specs.Normal.{norm, norm_members}
 use Rattle.miniserde_read.specs.meaning.Objects.{Name, object_of}
 use Rattle.miniserde_read.specs.meaning.Words.{string_of}
 use Rattle.miniserde_read.specs.Rest.{ValueAt}
-use Rattle.miniserde_read.proofs.Same.{value_same, tag, first_event, value_event}
+use Rattle.miniserde_read.proofs.Same.{value_same, tag}
 use Rattle.miniserde_stable.specs.Stable.{IsStable}
-use Rattle.miniserde_record.specs.Fields.{beside, others, last_given, field_given, count_named}
+use Rattle.miniserde_record.specs.Fields.{others, last_given, field_given, count_named}
 use Rattle.miniserde_record.specs.Stable.{AreStable}
 use Rattle.miniserde_record.proofs.Stables.{stable-field}
-use Rattle.miniserde_enum.specs.Internal.{tag_of, internal_variant, members_of}
+use Rattle.miniserde_enum.specs.Internal.{internal_variant, object_members}
 use Rattle.miniserde_enum.specs.Inside.{inside_of}
 use Rattle.miniserde_enum.specs.Shape.{by_shape, internal}
 use Rattle.miniserde_enum.specs.Cases.{with_data, DataFits}
@@ -116,5 +116,5 @@ module _ (tag : Name) where
   written : (n : Name) (ms : Members) → count_named tag ms ≡ 0 → internal_variant tag (members (member tag (str n) ms)) ≡ Some (n, Some (members ms))
   written n ms e = rw (same-name tag, last (Some n) ms e, lacking ms e) refl
 
-  pub inside-fits : {T : Type 0} (real : T → Type 0) (tree : T → Tree) → ((x : T) → tree x ≡ members (members_of (tree x))) → ((x : T) → count_named tag (members_of (tree x)) ≡ 0) → DataFits real tree (internal tag)
-  inside-fits real tree object named n x r = written n (members_of (tree x)) (named x) ∙ ap (λ t. Some (n, Some t)) (sym (object x))
+  pub inside-fits : {T : Type 0} (real : T → Type 0) (tree : T → Tree) → ((x : T) → tree x ≡ members (object_members (tree x))) → ((x : T) → count_named tag (object_members (tree x)) ≡ 0) → DataFits real tree (internal tag)
+  inside-fits real tree object named n x r = written n (object_members (tree x)) (named x) ∙ ap (λ t. Some (n, Some t)) (sym (object x))

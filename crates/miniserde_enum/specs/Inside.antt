@@ -1,7 +1,7 @@
 -- Data that stands in one object with a tag: the other members.
 use Rattle.std.proofs.Common.{◌∙◌}
 use Rattle.std.specs.Prelude.{false, cond, Option, Some, bytes_eq}
-use Rattle.miniserde_model.specs.Tree.{Tree, members, Members}
+use Rattle.miniserde_model.specs.Tree.{Tree, members}
 use Rattle.miniserde_read.specs.meaning.Objects.{Name, object_of}
 use Rattle.miniserde_record.specs.Fields.{others}
 use Rattle.miniserde_record.specs.FieldsMeant.{FieldsMeant}

@@ -21,11 +21,11 @@ internal_variant tag (members ms) = option_map (λ n. (n, Some (members (others 
 internal_variant tag _ = None
 
 -- the members of an object
-abbrev pub members_of : Tree → Members
-members_of (members ms) = ms
-members_of _ = no_members
+abbrev pub object_members : Tree → Members
+object_members (members ms) = ms
+object_members _ = no_members
 
 -- the tag in front of the members of the data
 abbrev pub internal_tree : Name → Name → Option Tree → Tree
 internal_tree tag n None = null
-internal_tree tag n (Some u) = members (member tag (str n) (members_of u))
+internal_tree tag n (Some u) = members (member tag (str n) (object_members u))

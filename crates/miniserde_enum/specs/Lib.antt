@@ -3,6 +3,8 @@ pub mod CasesMeant
 pub mod External
 pub mod Inside
 pub mod Internal
+pub mod NoFields
+pub mod Objects
 pub mod Shape
 pub mod Stable
 pub mod laws

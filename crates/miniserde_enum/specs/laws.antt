@@ -2,4 +2,5 @@ pub mod Cases
 pub mod External
 pub mod Inside
 pub mod Internal
+pub mod NoFields
 pub mod Shape

@@ -10,7 +10,7 @@ ghost use Rattle.miniserde_read.specs.Rest.{GivesAt, GivesNoneAt};
 ghost use Rattle.miniserde_read.specs.Step.{IsTreeEvent};
 ghost use Rattle.miniserde_record.specs.Fields.{count_named};
 ghost use Rattle.miniserde_record.specs.Structs.{is_new, with_names, members_text};
-ghost use Rattle.miniserde_enum.specs.Internal.{members_of};
+ghost use Rattle.miniserde_enum.specs.Internal.{object_members};
 ghost use Rattle.miniserde_enum.specs.Inside.{inside_of};
 ghost use Rattle.miniserde_enum.specs.Shape.{Shape, internal};
 ghost use Rattle.miniserde_enum.specs.Cases.{DataFits, with_data};
@@ -44,17 +44,17 @@ pub trait Inside: RoundTrip {
     /// Writes its members. Returns `Memory` if the text cannot grow.
     fn write_inside(&self, w: &mut Writer) -> Result<()>
         ensures ok { OnOk result (w.new.text
-            ≡ w.old.text ++ members_text w.old.first (members_of (Self.tree self.now))) }
-        ensures are_trees { OnOk result (AreNamedTrees (members_of (Self.tree self.now))) }
+            ≡ w.old.text ++ members_text w.old.first (object_members (Self.tree self.now))) }
+        ensures are_trees { OnOk result (AreNamedTrees (object_members (Self.tree self.now))) }
         ensures whole { OnOk result (w.new.refused ≡ w.old.refused) }
         ensures memory { OnErr result (IsErrOf result Memory) }
         ensures err { OnErr result (w.new.refused ≡ true) };
 
     /// Does nothing. It promises that its tree is an object, whose members have no name but those of its fields.
     fn is_object()
-        ensures object { (v : Self) → Self.tree v ≡ members (members_of (Self.tree v)) }
+        ensures object { (v : Self) → Self.tree v ≡ members (object_members (Self.tree v)) }
         ensures named { (k : Name) (v : Self) → is_new k fields ≡ true
-            → count_named k (members_of (Self.tree v)) ≡ 0 };
+            → count_named k (object_members (Self.tree v)) ≡ 0 };
 }
 
 /// Does nothing. It promises that written members have no other names.

@@ -1,7 +1,7 @@
 //! The data of an internally tagged variant without data.
-ghost use Rattle.std.specs.Prelude.{refl, []};
-ghost use Rattle.miniserde_record.specs.FieldsMeant.{struct_meant};
-ghost use Rattle.miniserde_record.specs.Structs.{record_tree};
+ghost use Rattle.std.specs.Prelude.{refl, [], ⊤};
+ghost use Rattle.miniserde_model.specs.Tree.{members, no_members};
+ghost use Rattle.miniserde_enum.specs.NoFields.{any_object};
 
 use crate::beside::BesideTag;
 use crate::inside::{Inside, fields_named};
@@ -9,10 +9,7 @@ use crate::tagged::HasTag;
 use miniserde_keys::Ranged;
 use miniserde_model::error::Result;
 use miniserde_read::{FromJson, Source};
-use miniserde_record::record::{
-    AgainFields, LosslessFields, Members, NoSlot, Record, Slots, StableFields, read_record,
-    record_again, record_lossless, record_stable, write_members,
-};
+use miniserde_record::record::{Members, NoSlot, Record, Slots, read_record, write_members};
 use miniserde_round::{Lossless, NeverNull, RoundTrip};
 use miniserde_ser::ser::{Serialize, Writer};
 use miniserde_stable::Stable;
@@ -45,7 +42,7 @@ impl Record for NoFields {
 }
 
 impl FromJson for NoFields {
-    ghost means = { struct_meant ⟦<NoSlot as Slots>⟧.meaning ⟦<NoFields as Record>⟧.names ⟦<NoFields as Record>⟧.values };
+    ghost means = { any_object };
 
     fn missing() -> Option<NoFields> {
         None
@@ -57,7 +54,7 @@ impl FromJson for NoFields {
 }
 
 impl Serialize for NoFields {
-    ghost tree = { record_tree ⟦<NoFields as Record>⟧.names ⟦<NoSlot as AgainFields>⟧.trees ⟦<NoFields as Record>⟧.values };
+    ghost tree = { λ v. members no_members };
 
     fn begin(&self, w: &mut Writer) -> Result<()> {
         write_members(w, &[], &())
@@ -65,21 +62,17 @@ impl Serialize for NoFields {
 }
 
 impl Ranged for NoFields {
-    ghost real = { λ v. ⟦<NoSlot as AgainFields>⟧.real (⟦<NoFields as Record>⟧.values v) };
+    ghost real = { λ v. ⊤ };
 
     fn ranged(&self) {}
 }
 
 impl RoundTrip for NoFields {
-    fn again() {
-        record_again::<NoFields, NoSlot>()
-    }
+    fn again() {}
 }
 
 impl Lossless for NoFields {
-    fn lossless() {
-        record_lossless::<NoFields, NoSlot>()
-    }
+    fn lossless() {}
 }
 
 impl NeverNull for NoFields {
@@ -87,9 +80,7 @@ impl NeverNull for NoFields {
 }
 
 impl Stable for NoFields {
-    fn stable() {
-        record_stable::<NoFields, NoSlot>()
-    }
+    fn stable() {}
 }
 
 impl Inside for NoFields {

@@ -7,7 +7,7 @@ use Rattle.miniserde_read.specs.meaning.Objects.{Name}
 use Rattle.miniserde_record.specs.Structs.{is_new, are_distinct}
 use Rattle.miniserde_enum.specs.declared.one_of.OneOf.{OneOf}
 use Rattle.miniserde_enum.specs.declared.one_of.OneOf.TheVariants.{First, Later}
-use Rattle.miniserde_enum.specs.Shape.{Shape, IsCase, case_of, by_shape}
+use Rattle.miniserde_enum.specs.Shape.{Shape, case_of, by_shape}
 use Rattle.miniserde_enum.specs.laws.Shape.{shape-agrees}
 use Rattle.miniserde_enum.specs.Cases.{case_given, unit_given, data_given, CaseReads, UnitReads, DataReads, case_content}
 

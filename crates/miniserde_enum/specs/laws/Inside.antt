@@ -1,5 +1,5 @@
 -- Fields that skip the members of a tag's name take the other members.
-use Rattle.std.proofs.Common.{◌≡◌, Bool, true, false, cond, Option, Some, None, refl, ap}
+use Rattle.std.proofs.Common.{◌≡◌, Bool, true, false, cond, Option, Some, None, refl}
 use Rattle.std.specs.Prelude.{option_and_then, bytes_eq}
 use Rattle.miniserde_model.specs.Tree.{Tree, Members, no_members, member}
 use Rattle.miniserde_read.specs.meaning.Objects.{Name, all_members}

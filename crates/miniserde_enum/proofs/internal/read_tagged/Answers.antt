@@ -1,5 +1,5 @@
 -- The tag and the data are read of one text, and so of one tree.
-use Rattle.std.proofs.Common.{◌≡◌, map, Some, sym, ap, subst, ◌∙◌}
+use Rattle.std.proofs.Common.{map, Some, sym, ap, subst, ◌∙◌}
 use Rattle.std.specs.String.{string_bytes}
 use Rattle.std.proofs.lemmas.Result.{err_from_is_err_and}
 use Rattle.miniserde_model.specs.Event as event

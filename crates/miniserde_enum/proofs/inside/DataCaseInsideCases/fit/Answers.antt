@@ -1,4 +1,3 @@
-use Rattle.std.proofs.Common.{◌≡◌}
 use Rattle.miniserde_record.specs.Structs.{is_new}
 use Rattle.miniserde_enum.specs.laws.Cases.{both}
 use Rattle.miniserde_enum.proofs.Tags.{inside-fits}

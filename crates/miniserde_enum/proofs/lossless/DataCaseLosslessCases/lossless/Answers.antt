@@ -1,5 +1,4 @@
-use Rattle.std.proofs.Common.{◌≡◌, Some, sym, ap, ◌∙◌}
-use Rattle.std.proofs.lemmas.Option.{same_Some}
+use Rattle.std.proofs.Common.{Some}
 use Rattle.miniserde_enum.specs.Shape.{case_of}
 use Rattle.miniserde_enum.specs.Cases.{data_tree}
 use Rattle.miniserde_enum.proofs.Rounds.{case-named, case-same, data-same}
