@@ -1,5 +1,5 @@
 -- What a counter answers to a call.
-use Rattle.std.specs.Prelude.{◌≡◌, ℕ, ◌+◌, ◌<◌, ◌≤◌, ◌^◌}
+use Rattle.std.specs.Prelude.{◌≡◌, ℕ, ◌+◌, ◌≤◌, ◌^◌}
 use Rattle.uses.specs.declared.call.Call.{Call}
 use Rattle.uses.specs.declared.call.Call.TheVariants.{Look, Add, Reset}
 use Rattle.uses.specs.declared.call.Answer.{Answer}

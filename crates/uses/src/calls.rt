@@ -1,5 +1,5 @@
 //! A request layer: the body of a request is a call, what answers calls is given, and its answer is the body that goes back.
-ghost use Rattle.std.specs.Prelude.{◌≡◌, IfOk, IfErr, Err, String, string_bytes};
+ghost use Rattle.std.specs.Prelude.{◌≡◌, IfOk, None, Err, String, string_bytes};
 ghost use Rattle.miniserde.specs.Tree.{Tree};
 ghost use Rattle.miniserde.specs.Value.{IsJson};
 ghost use Rattle.uses.specs.Calls.{Counted};
@@ -11,6 +11,9 @@ use std::alloc::Global;
 
 /// What answers calls.
 pub trait Handler {
+    ghost use Rattle.uses.specs.declared.call.Call.{Call};
+    ghost use Rattle.uses.specs.declared.call.Answer.{Answer};
+
     // It answers the call so, and is then as it is at the end.
     ghost Answers: { Self → Call → Answer → Self → Type 0 };
 
@@ -27,16 +30,13 @@ pub fn serve<H: Handler>(alloc: Global, handler: &mut H, body: &str) -> Result<S
         × IsJson (string_bytes j) (⟦<Answer as Serialize>⟧.tree a)) }
 
     // The body means no call, and the handler is as it was.
-    ensures invalid { result ≡ Err Error.Invalid → (handler.new ≡ handler.old)
-        × ((t : Tree) (c : Call) → IsJson body.now t → ⟦<Call as FromJson>⟧.means.reads t c → ⊥) }
+    ensures invalid { result ≡ Err Error.Invalid → (t : Tree) → IsJson body.now t
+        → ⟦<Call as FromJson>⟧.means.from_tree t ≡ None }
+    ensures stays { result ≡ Err Error.Invalid → handler.new ≡ handler.old }
 {
     let call: Call = from_str(alloc, body)?;
     let answer = handler.answer(call);
-    let written = to_string(alloc, &answer);
-    match written {
-        Ok(text) => Ok(text),
-        Err(_) => Err(Error::Memory),
-    }
+    to_string(alloc, &answer)
 }
 
 /// A counter.
