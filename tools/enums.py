@@ -23,7 +23,7 @@ def tag_word(it):
 
 def names_in(part):
     """The names of a variant's values in code: of its fields their own."""
-    return [it.name for it in part.fields] or ["a", "b"][: len(part.values)]
+    return [it.name for it in part.fields] or list("abcdef")[: len(part.values)]
 
 
 def variant_text(it, part):
@@ -54,7 +54,7 @@ def made_clause(parts):
     if not parts:
         return "no_case _"
     first = parts[0]
-    data = [f"x.{it.name}" for it in first.fields] or ["x.0", "x.1", "x"][2 * (len(first.values) == 1) :][: len(first.values)]
+    data = [f"x.{it.name}" for it in first.fields] or (["x"] if len(first.values) == 1 else [f"x.{at}" for at in range(len(first.values))])
     return f"each_case _ (λ x. ({' '.join([quoted(first.name), *data])}, refl)) ({made_clause(parts[1:])})"
 
 
@@ -156,7 +156,7 @@ def written_of(it, part, writer):
         const = const_of(it.name + part.name) if part.fields else "&[]"
         return f'{{ write{"_tagged" * bool(tag)}_fields({writer}, {tag}"{part.written}", {const}, &{lent_of(names_in(part) if part.fields else [])}) }}'
     if part.values:
-        value = "a" if len(part.values) == 1 else "&(a, b)"
+        value = "a" if len(part.values) == 1 else f"&({', '.join(names_in(part))})"
         return f'write_{"tagged" if tag else "data"}({writer}, {tag}"{part.written}", {value})'
     return f'{writer}.fragment(Fragment::Str("{part.written}"))'
 

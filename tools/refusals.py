@@ -168,11 +168,11 @@ def part_word(it):
 
 
 def check_values(part, bare, inside):
-    """Refuses a variant with brackets and nothing in them, or with more than two values; `inside` is the text in the brackets."""
+    """Refuses a variant with brackets and nothing in them, or with more values than a tuple; `inside` is the text in the brackets."""
     if inside is not None and not part.values and not part.fields:
         raise Refused(f"line {part.line}: a variant has no empty brackets: write `{part.name}`: {bare}")
-    if len(part.values) > 2:
-        raise Refused(f"line {part.line}: a variant has one value or two: name its fields, as `{part.name} {{ a: A, b: B, c: C }}`: {bare}")
+    if len(part.values) > 6:
+        raise Refused(f"line {part.line}: a variant has six values at most: name its fields, as `{part.name} {{ a: A, b: B, c: C }}`: {bare}")
 
 
 def check_tagged(it):
@@ -194,7 +194,7 @@ def check_tagged(it):
 def check_inside(it, part, found, known):
     """Refuses a variant whose data cannot stand in one object with the tag: no struct, or one with a field of the tag's name."""
     fields = f"`{part.name} {{ name: Type }}`"
-    if len(part.values) == 2 or part.of and not re.fullmatch(rf"{NAME}(?:<.*>)?", part.of):
+    if len(part.values) >= 2 or part.of and not re.fullmatch(rf"{NAME}(?:<.*>)?", part.of):
         raise Refused(f"line {part.line}: beside a tag stand the members of a struct: write {fields}, or a struct with this field: {part.of}")
     name = part.of.split("<")[0]
     if name in it.params or part.of and (name not in known or name in found and found[name].kind != "struct"):

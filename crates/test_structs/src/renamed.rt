@@ -281,17 +281,20 @@ impl NeverNull for ChangeJobPhase {
 pub enum Change {
     SignedOut,
     NewUrl(String),
+    SeenAt(u64, String, Option<bool>),
     JobPhase { job_id: u64, new_phase: Phase },
 }
 
 // Its variants, and their names.
-type ChangeCases = UnitCase<DataCase<String, DataCase<ChangeJobPhase, NoCase>>>;
+type ChangeCases = UnitCase<
+    DataCase<String, DataCase<(u64, String, Option<bool>), DataCase<ChangeJobPhase, NoCase>>>,
+>;
 
-const CHANGE_NAMES: &[&str] = &["signed-out", "new-url", "job-phase"];
+const CHANGE_NAMES: &[&str] = &["signed-out", "new-url", "seen-at", "job-phase"];
 
 impl Tagged for Change {
     ghost use Rattle.test_structs.specs.declared.renamed.TheConstants.{CHANGE_NAMES};
-    ghost use Rattle.test_structs.specs.declared.renamed.Change.TheVariants.{SignedOut, NewUrl, JobPhase};
+    ghost use Rattle.test_structs.specs.declared.renamed.Change.TheVariants.{SignedOut, NewUrl, SeenAt, JobPhase};
 
     type Values = <ChangeCases as Cases>::Values;
 
@@ -300,14 +303,17 @@ impl Tagged for Change {
     ghost values = { elim [
       | SignedOut ↦ first_case tt
       | NewUrl x0 ↦ later_case (first_case x0)
-      | JobPhase x0 x1 ↦ later_case (later_case (first_case (record {
-        job_id = x0;
-        new_phase = x1;
-      })))
+      | SeenAt x0 x1 x2 ↦ later_case (later_case (first_case (x0, x1, x2)))
+      | JobPhase x0 x1 ↦
+          later_case (later_case (later_case (first_case (record { job_id = x0; new_phase = x1 }))))
     ] };
 
     ghost whole = { each_case _ (λ x. (SignedOut, refl)) (each_case _ (λ x. (NewUrl x, refl))
-        (each_case _ (λ x. (JobPhase x.job_id x.new_phase, refl)) (no_case _))) };
+        (each_case _ (λ x. (SeenAt x.0 x.1 x.2, refl)) (each_case _ (λ x. (
+          JobPhase x.job_id
+              x.new_phase,
+          refl,
+        )) (no_case _)))) };
 
     ghost named = { refl };
 
@@ -321,11 +327,14 @@ impl Tagged for Change {
             OneOf::Later(value) => match value {
                 OneOf::First(a) => Change::NewUrl(a),
                 OneOf::Later(value) => match value {
-                    OneOf::First(ChangeJobPhase { job_id, new_phase }) => Change::JobPhase {
-                        job_id,
-                        new_phase,
+                    OneOf::First((a, b, c)) => Change::SeenAt(a, b, c),
+                    OneOf::Later(value) => match value {
+                        OneOf::First(ChangeJobPhase { job_id, new_phase }) => Change::JobPhase {
+                            job_id,
+                            new_phase,
+                        },
+                        OneOf::Later(value) => match value {},
                     },
-                    OneOf::Later(value) => match value {},
                 },
             },
         }
@@ -352,6 +361,7 @@ impl Serialize for Change {
         match self {
             Change::SignedOut => w.fragment(Fragment::Str("signed-out")),
             Change::NewUrl(a) => write_data(w, "new-url", a),
+            Change::SeenAt(a, b, c) => write_data(w, "seen-at", &(a, b, c)),
             Change::JobPhase { job_id, new_phase } => {
                 write_fields(
                     w,
@@ -371,6 +381,11 @@ impl Ranged for Change {
         match self {
             Change::SignedOut => {}
             Change::NewUrl(a) => a.ranged(),
+            Change::SeenAt(a, b, c) => {
+                a.ranged();
+                b.ranged();
+                c.ranged();
+            },
             Change::JobPhase { job_id, new_phase } => {
                 job_id.ranged();
                 new_phase.ranged();

@@ -45,6 +45,14 @@ fn a_unit_enum_has_its_variants_in_upper_case(rt: HostRuntime) -> Result<(), Wro
 const CHANGES: &str = r#""signed-out" => same
 {"new-url":"u"} => same
 {"job-phase":{"job_id":1,"new_phase":"IN_PROGRESS"}} => same
+{"seen-at":[1,"a",true]} => same
+{"seen-at" : [ 18446744073709551615 , "\u0061" , null ]} => {"seen-at":[18446744073709551615,"a",null]}
+{"seen-at":[1,"a"]}
+{"seen-at":[1,"a",true,0]}
+{"seen-at":["a",1,true]}
+{"seen-at":[]}
+{"seen-at":1}
+{"seen-at":{"0":1,"1":"a","2":true}}
 {"job-phase":{"new_phase":"done","job_id":0,"job-id":1}} => {"job-phase":{"job_id":0,"new_phase":"done"}}
 "SignedOut"
 "signed_out"

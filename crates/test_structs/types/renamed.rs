@@ -16,5 +16,6 @@ pub struct Account { // lossless, rename_all "camelCase"
 pub enum Change { // rename_all "kebab-case", lossless
     SignedOut,
     NewUrl(String),
+    SeenAt(u64, String, Option<bool>),
     JobPhase { job_id: u64, new_phase: Phase },
 }
