@@ -68,6 +68,16 @@ def command(r):
     return r.choice(['"Ping"', '{"Text":"%s"}' % word(r, 3, 30), step])
 
 
+def action(r, at):
+    """An object whose member `kind` names a variant without data or one with two fields, each as often. `at` is where the
+    member stands if there are others: 0 first, 1 in the middle, 2 last."""
+    said = ['"text":"%s"' % word(r, 3, 30), '"to":%s' % r.choice(['null', '"%s"' % word(r, 3, 10)])]
+    step = ['"x":%d' % r.randint(-1000, 1000), '"y":%d' % r.randint(-1000, 1000)]
+    name, members = r.choice([('Ping', []), ('Say', said), ('move', step)])
+    members.insert(at, '"kind":"%s"' % name)
+    return '{%s}' % ','.join(members)
+
+
 def texts():
     r = random.Random(20261123)
     row = lambda: listed(number(r) for _ in range(10))
@@ -108,6 +118,10 @@ def texts():
     yield 'tags', fill(SIZE, lambda: r.choice(['"A"', '"renamedB"', '"enum"']))
     yield 'commands', fill(SIZE, lambda: command(r))
     yield 'out_of_order', fill(SIZE, lambda: '{"b":' * 100 + '0' + ',"a":1}' * 100)
+    for at, name in enumerate(('tag_first', 'tag_middle', 'tag_last')):
+        same = random.Random(20261127)
+        yield name, fill(SIZE, lambda: action(same, at))
+    yield 'triples', fill(SIZE, lambda: '[%d,%d,%d]' % tuple(r.choices(range(256), k=3)))
 
 
 def main():

@@ -28,7 +28,9 @@ JOBS = [
     ('`Vec<Demo>`, structs', 'demos', 'structs', 'empty'),
     ('`Vec<Tag>`, unit enums', 'tags', 'tags', 'empty'),
     ('`Vec<Command>`, enums with data', 'commands', 'commands', 'empty'),
+    *((f'`Vec<Action>`, tag {where}', 'actions', f'tag_{where}', 'empty') for where in ('first', 'middle', 'last')),
     ('`Vec<(u64, String)>`', 'pairs', 'pairs', 'empty'),
+    ('`Vec<(u8, u8, u8)>`', 'triples', 'triples', 'empty'),
     ('`Vec<Option<bool>>`', 'options', 'options', 'empty'),
     *((f'{what}, {text}', kind, name, 'empty_map' if name == 'names' else 'empty')
       for what, kind in (('`Value`', 'value'), ('`canonical`', 'canonical'))

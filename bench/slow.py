@@ -42,6 +42,18 @@ def deep_unknown(size):
     return '{"code":1,"message":"","n":%s}' % ('[' * size + ']' * size)
 
 
+def before_tag(size):
+    return '[{%s,"kind":"Ping"}]' % ','.join('"n%d":%d' % (10 ** 7 + k, k) for k in range(size))
+
+
+def before_tag_deep(size):
+    return '[{"n":%s,"kind":"Ping"}]' % ('[' * size + ']' * size)
+
+
+def tag_last(size):
+    return '[%s]' % ','.join(['{"x":1,"y":-1,"kind":"move"}'] * size)
+
+
 def out_of_order(levels):
     """Objects of that many levels in a list, as many levels in all as asked."""
     tower = '{"b":' * levels + '0' + ',"a":1}' * levels
@@ -49,7 +61,8 @@ def out_of_order(levels):
 
 
 # an empty text of each type
-EMPTY = {'value': '{}', 'canonical': '{}', 'map': '{}', 'hashed': '{}', 'strings': '[]', 'cubes': '[]', 'demo': '{"code":1,"message":""}'}
+EMPTY = {'value': '{}', 'canonical': '{}', 'map': '{}', 'hashed': '{}', 'strings': '[]', 'cubes': '[]', 'demo': '{"code":1,"message":""}',
+         'actions': '[]'}
 
 # the row, the type, the text of a size, the larger size, and whether names are looked up in a tree
 JOBS = [
@@ -74,6 +87,9 @@ JOBS = [
     ('`HashMap<u32, bool>`', 'hashed', numbered, 100000, False),
     ('a struct with 100,000 unknown members', 'demo', unknown, 100000, False),
     ('a struct with an unknown member of 1,000,000 levels', 'demo', deep_unknown, 1000000, False),
+    ('a tagged enum with 100,000 unknown members before the tag', 'actions', before_tag, 100000, False),
+    ('a tagged enum with an unknown member of 1,000,000 levels before the tag', 'actions', before_tag_deep, 1000000, False),
+    ('100,000 tagged enums, tag last', 'actions', tag_last, 100000, False),
     ('`Vec<String>`, a string of 1,000,000 escapes', 'strings', lambda n: '["%s"]' % ('\\n' * n), 1000000, False),
     ('`Vec<Vec<Vec<u64>>>`, 1,000,000 empty lists', 'cubes', lambda n: '[[%s]]' % ','.join(['[]'] * n), 1000000, False),
 ]

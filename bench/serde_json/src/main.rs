@@ -27,6 +27,21 @@ enum Command {
     Move { x: i64, y: i64 },
 }
 
+#[derive(Serialize, Deserialize)]
+struct Say {
+    text: String,
+    to: Option<String>,
+}
+
+#[derive(Serialize, Deserialize)]
+#[serde(tag = "kind")]
+enum Action {
+    Ping,
+    Say(Say),
+    #[serde(rename = "move")]
+    Move { x: i64, y: i64 },
+}
+
 fn put(text: &str) -> bool {
     std::io::stdout().write_all(text.as_bytes()).is_ok()
 }
@@ -66,7 +81,9 @@ fn main() -> ExitCode {
         "demos" => job::<Vec<Demo>>(mode, &text),
         "tags" => job::<Vec<Tag>>(mode, &text),
         "commands" => job::<Vec<Command>>(mode, &text),
+        "actions" => job::<Vec<Action>>(mode, &text),
         "pairs" => job::<Vec<(u64, String)>>(mode, &text),
+        "triples" => job::<Vec<(u8, u8, u8)>>(mode, &text),
         "options" => job::<Vec<Option<bool>>>(mode, &text),
         "value" => job::<serde_json::Value>(mode, &text),
         "canonical" => job::<serde_json::Value>("both", &text),

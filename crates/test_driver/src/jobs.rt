@@ -3,6 +3,7 @@
 use crate::outcome::Outcome;
 use crate::{calls, places};
 use demo::{Demo, Example, StrictDemo, Tag};
+use examples::action::Action;
 use examples::command::Command;
 use miniserde::de::ignore;
 use miniserde::json::{Value, feed, from_str, to_string};
@@ -45,6 +46,7 @@ fn of_std(alloc: Global, job: &str, depth: Depth, text: &str) -> Option<Result<S
         "cubes" => Some(rewrite::<Vec<Vec<Vec<u64>>>>(alloc, depth, text)),
         "map" => Some(rewrite::<BTreeMap<String, u64>>(alloc, depth, text)),
         "pairs" => Some(rewrite::<Vec<(u64, String)>>(alloc, depth, text)),
+        "triples" => Some(rewrite::<Vec<(u8, u8, u8)>>(alloc, depth, text)),
         "options" => Some(rewrite::<Vec<Option<bool>>>(alloc, depth, text)),
         "keys" => Some(rewrite::<BTreeMap<u32, u32>>(alloc, depth, text)),
         "hashed" => Some(rewrite::<HashMap<u32, bool, BuildHasherDefault<DefaultHasher>>>(
@@ -63,6 +65,7 @@ fn of_structs(alloc: Global, job: &str, depth: Depth, text: &str) -> Option<Resu
         "demos" => Some(rewrite::<Vec<Demo>>(alloc, depth, text)),
         "strict-demo" => Some(rewrite::<StrictDemo>(alloc, depth, text)),
         "commands" => Some(rewrite::<Vec<Command>>(alloc, depth, text)),
+        "actions" => Some(rewrite::<Vec<Action>>(alloc, depth, text)),
         "tags" => Some(rewrite::<Vec<Tag>>(alloc, depth, text)),
         "example" => Some(rewrite::<Example>(alloc, depth, text)),
         _ => None,
