@@ -2,9 +2,11 @@
 
 use examples::action::Action;
 use examples::actions::{is_ping, said};
-use miniserde::error::Error;
+use miniserde::error::{Error, Result};
+use std::alloc::Global;
 use test_tables::{
     Wrong, expect, expect_one_value, expect_prefixes_invalid, expect_read_itself, expect_refused,
+    is_right, text_of,
 };
 
 const ACTIONS: &str = r#"{"kind":"Ping"} => same
@@ -72,12 +74,12 @@ null
 {"kind":"Ping","x":[1}"#;
 
 #[test]
-fn an_action_is_an_object_whose_kind_says_which(rt: HostRuntime) -> Result<(), Wrong> {
+fn an_action_is_an_object_whose_kind_says_which(rt: HostRuntime) -> std::result::Result<(), Wrong> {
     expect_read_itself::<Action>(rt.alloc(), ACTIONS)
 }
 
 #[test]
-fn a_prefix_of_an_action_is_invalid(rt: HostRuntime) -> Result<(), Wrong> {
+fn a_prefix_of_an_action_is_invalid(rt: HostRuntime) -> std::result::Result<(), Wrong> {
     expect_prefixes_invalid::<Action>(rt.alloc(), r#"{"kind":"Ping"}"#)?;
     expect_prefixes_invalid::<Action>(rt.alloc(), r#"{"text":"a","kind":"Say"}"#)?;
     expect_prefixes_invalid::<Action>(rt.alloc(), r#"{"kind":"move","x":1,"y":2}"#)
@@ -93,24 +95,46 @@ const NOT_ACTIONS: &str = r#"{"kind":"Nope"}
 {}"#;
 
 #[test]
-fn an_action_is_stable(rt: HostRuntime) -> Result<(), Wrong> {
+fn an_action_is_stable(rt: HostRuntime) -> std::result::Result<(), Wrong> {
     expect_one_value::<Action>(rt.alloc(), CANONICAL)?;
     expect_refused::<Action>(rt.alloc(), NOT_ACTIONS)
 }
 
+const SAID: &str = r#"{"text":"a","kind":"Say"} => a
+{"kind":"Ping"} => nothing
+{"kind":"move","x":1,"y":2,"text":"a"} => nothing
+{"kind":"Say"}
+{"kind":1}"#;
+
+/// Returns what is said in an action, or `nothing`.
+fn heard(alloc: Global, text: &str) -> Result<String> {
+    match said(alloc, text)? {
+        Some(said) => Ok(said),
+        None => Ok(String::from_str(alloc, "nothing")?),
+    }
+}
+
 #[test]
-fn what_is_said_is_the_text(rt: HostRuntime) -> Result<(), Wrong> {
-    let text = r#"{"text":"a","kind":"Say"}"#;
+fn what_is_said_is_the_text(rt: HostRuntime) -> std::result::Result<(), Wrong> {
+    for line in SAID.lines() {
+        expect(is_right(heard(rt.alloc(), text_of(line)), line), line)?;
+    }
+    Ok(())
+}
+
+#[test]
+fn a_ping_is_known_by_its_kind(rt: HostRuntime) -> std::result::Result<(), Wrong> {
+    let alloc = rt.alloc();
     expect(
-        matches!(said(rt.alloc(), text), Ok(Some(said)) if said.as_str() == "a"),
-        text,
+        matches!(is_ping(alloc, r#"{"x":1,"kind":"Ping"}"#), Ok(true)),
+        "a ping",
     )?;
-    let ping = r#"{"kind":"Ping"}"#;
-    expect(matches!(said(rt.alloc(), ping), Ok(None)), ping)?;
-    expect(matches!(is_ping(rt.alloc(), ping), Ok(true)), ping)?;
-    expect(matches!(is_ping(rt.alloc(), text), Ok(false)), text)?;
     expect(
-        matches!(said(rt.alloc(), r#"{"kind":1}"#), Err(Error::Invalid)),
-        "a number",
+        matches!(is_ping(alloc, r#"{"kind":"Say","text":"Ping"}"#), Ok(false)),
+        "a text",
+    )?;
+    expect(
+        matches!(is_ping(alloc, r#""Ping""#), Err(Error::Invalid)),
+        "no action",
     )
 }
