@@ -33,7 +33,8 @@ class Part:
 class Definition:
     """A struct, an enum without data, or a tagged enum, whose variants may have data. `above` are the lines above it, without
     its derives, and `params` the names of its parameters. `style` is the style of its parts' names in JSON, "" for none.
-    `tag` is the name of the member that names the variant, None for an enum that is externally tagged or a struct. `shown` is what messages call it: of the struct that is written for a variant's fields the variant.
+    `tag` is the name of the member that names the variant, None for a struct and for an enum that is externally tagged.
+    `shown` is what messages call it: of the struct that is written for a variant's fields the variant.
     """
 
     kind: str

@@ -308,16 +308,16 @@ def writing_text(it):
 
 
 def inside_text(it):
-    """The impl of a struct whose members may stand beside a tag."""
+    """The impl of a struct whose members may stand beside a tag. The enum is a parameter, of a name that the struct has not."""
     if "inside" not in it.words:
         return ""
-    name = typed(it)
+    name, tagged = typed(it), next(each for each in ("E", "K", "W", "X", "Y") if each not in it.params)
     return f"""
 {impl_of(it, "RoundTrip")} Inside for {name} {{
     ghost fields = {{ {of('Record', 'names', name)} }};
 
-    fn read_inside<'a, E: HasTag>(token: Event<'a>, source: &mut Source<'a>) -> Result<{name}> {{
-        read_record::<{name}, BesideTag<E, {typed(it, "Fields")}>>(token, source)
+    fn read_inside<'a, {tagged}: HasTag>(token: Event<'a>, source: &mut Source<'a>) -> Result<{name}> {{
+        read_record::<{name}, BesideTag<{tagged}, {typed(it, "Fields")}>>(token, source)
     }}
 
     fn write_inside(&self, w: &mut Writer) -> Result<()> {{
