@@ -1,23 +1,26 @@
 -- The fields of a struct read again, one after another, where each has a name of its own.
 use Rattle.std.proofs.Common.{◌≡◌, ℕ, ◌+◌, ◌≤◌, Bool, true, false, not, ◌&&◌, nat_eq, List, [], ◌∷◌, length, Option, Some, None, refl, sym, ap, subst, ◌∙◌, true≢false, arith}
-use Rattle.std.specs.Prelude.{IsSome, MatchOption, bytes_eq, ⊤}
+use Rattle.std.specs.Prelude.{IsSome, MatchOption, option_map, bytes_eq, ⊤, ⊥}
 use Rattle.std.proofs.lemmas.Bool.Decides.{nat_tests}
 use Rattle.std.proofs.lemmas.Slice.Eq.{bytes_eq-Decides}
-use Rattle.miniserde_model.specs.Tree.{Tree, Members, no_members, member}
+use Rattle.miniserde_model.specs.Tree.{Tree, null, Members, no_members, member}
 use Rattle.miniserde_model.specs.Normal.{last_of}
 use Rattle.miniserde_text.proofs.Equal.{bytes_eq-flips}
+use Rattle.miniserde_keys.specs.Ranged.{OptionReal}
+use Rattle.miniserde_ser.specs.Trees.{option_tree}
 use Rattle.miniserde_read.specs.Meant.{Meant}
+use Rattle.miniserde_read.specs.Meanings.{option_meant}
 use Rattle.miniserde_read.specs.meaning.Objects.{Name}
 use Rattle.miniserde_round.specs.RoundTrip.{ReadsAgain}
-use Rattle.miniserde_record.specs.Fields.{others, AllNamed, Says, count_named, OnceAnd, FieldsRead}
+use Rattle.miniserde_record.specs.Fields.{others, AllNamed, Says, count_named, OnceAnd, MissingReads, FieldsRead}
 use Rattle.miniserde_record.specs.Marks.{are_none}
 use Rattle.miniserde_record.specs.Structs.{is_new, are_distinct, are_names}
 use Rattle.miniserde_record.specs.Structs.{with_names, members_text, FieldsAgain}
 
-same : (n : Name) → bytes_eq n n ≡ true
+pub same : (n : Name) → bytes_eq n n ≡ true
 same n = (bytes_eq-Decides n n).1 refl
 
-both : (a b : Bool) → (a && b) ≡ true → (a ≡ true) × (b ≡ true)
+pub both : (a b : Bool) → (a && b) ≡ true → (a ≡ true) × (b ≡ true)
 both true b h = (refl, h)
 both false b h = absurd (cc)
 
@@ -43,39 +46,43 @@ apart n k ks h =
     (bytes_eq-flips k n ∙ elim (bytes_eq n k) as (λ b. not b ≡ true → b ≡ false) [ true ↦ λ e. absurd (cc) | false ↦ λ e. refl ] p.0, p.1)
 
 -- no later member has a new name
-others_new : (n : Name) (ns : List Name) (ts : List Tree) → is_new n ns ≡ true → others n (with_names ns ts) ≡ with_names ns ts
+others_new : (n : Name) (ns : List Name) (ts : List (Option Tree)) → is_new n ns ≡ true → others n (with_names ns ts) ≡ with_names ns ts
 others_new n [] ts h = refl
 others_new n (k ∷ ks) [] h = refl
-others_new n (k ∷ ks) (t ∷ ts) h = let p = apart n k ks h in rw p.0 (ap (member k t) (others_new n ks ts p.1))
+others_new n (k ∷ ks) (None ∷ ts) h = others_new n ks ts (apart n k ks h).1
+others_new n (k ∷ ks) (Some t ∷ ts) h = let p = apart n k ks h in rw p.0 (ap (member k t) (others_new n ks ts p.1))
 
 -- so each one that has it means something
-pub all_new : {C : Type 0} (of : Tree → Option C) (n : Name) (ns : List Name) (ts : List Tree) → is_new n ns ≡ true → AllNamed of n (with_names ns ts)
+pub all_new : {C : Type 0} (of : Tree → Option C) (n : Name) (ns : List Name) (ts : List (Option Tree)) → is_new n ns ≡ true → AllNamed of n (with_names ns ts)
 all_new of n [] ts h = tt
 all_new of n (k ∷ ks) [] h = tt
-all_new of n (k ∷ ks) (t ∷ ts) h = let p = apart n k ks h in (λ e. absurd (true≢false (sym e ∙ p.0)), all_new of n ks ts p.1)
+all_new of n (k ∷ ks) (None ∷ ts) h = all_new of n ks ts (apart n k ks h).1
+all_new of n (k ∷ ks) (Some t ∷ ts) h = let p = apart n k ks h in (λ e. absurd (true≢false (sym e ∙ p.0)), all_new of n ks ts p.1)
 
 -- and there is no last one
-last_new : (n : Name) (ns : List Name) (ts : List Tree) → is_new n ns ≡ true → last_of n (with_names ns ts) ≡ None
+last_new : (n : Name) (ns : List Name) (ts : List (Option Tree)) → is_new n ns ≡ true → last_of n (with_names ns ts) ≡ None
 last_new n [] ts h = refl
 last_new n (k ∷ ks) [] h = refl
-last_new n (k ∷ ks) (t ∷ ts) h = let p = apart n k ks h in rw (p.0, last_new n ks ts p.1) refl
+last_new n (k ∷ ks) (None ∷ ts) h = last_new n ks ts (apart n k ks h).1
+last_new n (k ∷ ks) (Some t ∷ ts) h = let p = apart n k ks h in rw (p.0, last_new n ks ts p.1) refl
 
 -- a new name's own member is its last one
-pub last_own : (n : Name) (t : Tree) (ns : List Name) (ts : List Tree) → is_new n ns ≡ true → last_of n (member n t (with_names ns ts)) ≡ Some t
+pub last_own : (n : Name) (t : Tree) (ns : List Name) (ts : List (Option Tree)) → is_new n ns ≡ true → last_of n (member n t (with_names ns ts)) ≡ Some t
 last_own n t ns ts h = rw (last_new n ns ts h, same n) refl
 
 -- and the others are the later ones
-pub others_own : (n : Name) (t : Tree) (ns : List Name) (ts : List Tree) → is_new n ns ≡ true → others n (member n t (with_names ns ts)) ≡ with_names ns ts
+pub others_own : (n : Name) (t : Tree) (ns : List Name) (ts : List (Option Tree)) → is_new n ns ≡ true → others n (member n t (with_names ns ts)) ≡ with_names ns ts
 others_own n t ns ts h = rw (same n) (others_new n ns ts h)
 
 -- of a new name no member counts
-pub count_new : (n : Name) (ns : List Name) (ts : List Tree) → is_new n ns ≡ true → count_named n (with_names ns ts) ≡ 0
+pub count_new : (n : Name) (ns : List Name) (ts : List (Option Tree)) → is_new n ns ≡ true → count_named n (with_names ns ts) ≡ 0
 count_new n [] ts h = refl
 count_new n (k ∷ ks) [] h = refl
-count_new n (k ∷ ks) (t ∷ ts) h = let p = apart n k ks h in rw p.0 (count_new n ks ts p.1)
+count_new n (k ∷ ks) (None ∷ ts) h = count_new n ks ts (apart n k ks h).1
+count_new n (k ∷ ks) (Some t ∷ ts) h = let p = apart n k ks h in rw p.0 (count_new n ks ts p.1)
 
 -- so its own member is one alone
-count_own : (n : Name) (t : Tree) (ns : List Name) (ts : List Tree) → is_new n ns ≡ true → count_named n (member n t (with_names ns ts)) ≤ 1
+count_own : (n : Name) (t : Tree) (ns : List Name) (ts : List (Option Tree)) → is_new n ns ≡ true → count_named n (member n t (with_names ns ts)) ≤ 1
 count_own n t ns ts h = rw (same n, count_new n ns ts h) (omega (arith))
 
 -- `once`, where one member alone has the name
@@ -88,12 +95,12 @@ once_and false n ms P h = h
 once_and true n ms P h = h.1
 
 module _ {A W : Type 0} (once : Bool) (m : Meant A) (missing : A → Type 0) (real_a : A → Type 0) (tree : A → Tree)
-    (real_r : W → Type 0) (trees : W → List Tree) (count : ℕ) (reads_r : List Name → Members → W → Type 0)
+    (real_r : W → Type 0) (trees : W → List (Option Tree)) (count : ℕ) (reads_r : List Name → Members → W → Type 0)
     (first : (v : A) → real_a v → ReadsAgain real_a tree m.reads (tree v))
     (later : (names : List Name) (v : W) → are_names count names ≡ true → real_r v → FieldsAgain real_r trees reads_r names (trees v)) where
   -- a written field is there, so what a missing one has is not asked for
   pub again-field : (names : List Name) (v : A × W) → are_names (count + 1) names ≡ true → real_a v.0 × real_r v.1
-      → FieldsAgain (λ (v : A × W). real_a v.0 × real_r v.1) (λ v. tree v.0 ∷ trees v.1) (FieldsRead once m.reads m.from_tree missing reads_r) names (tree v.0 ∷ trees v.1)
+      → FieldsAgain (λ (v : A × W). real_a v.0 × real_r v.1) (λ v. Some (tree v.0) ∷ trees v.1) (FieldsRead once m.reads m.from_tree missing reads_r) names (Some (tree v.0) ∷ trees v.1)
   again-field [] v f r = absurd (no_names count f)
   again-field (n ∷ ns) v f r =
       let f = more_names count n ns f in
@@ -117,6 +124,52 @@ module _ {A W : Type 0} (once : Bool) (m : Meant A) (missing : A → Type 0) (re
           b.1 w.1 s.1 (subst (λ ms. reads_r ns ms w.1) rest e.1),
         ) refl,
       )
+
+-- ---- a field that may be left out
+
+module _ {A W : Type 0} (once : Bool) (m : Meant A) (real_a : A → Type 0) (tree : A → Tree)
+    (real_r : W → Type 0) (trees : W → List (Option Tree)) (count : ℕ) (reads_r : List Name → Members → W → Type 0)
+    (first : (v : Option A) → OptionReal real_a v → ReadsAgain (OptionReal real_a) (option_tree tree) (option_meant m).reads (option_tree tree v))
+    (never : (v : A) → real_a v → tree v ≡ null → ⊥)
+    (later : (names : List Name) (v : W) → are_names count names ≡ true → real_r v → FieldsAgain real_r trees reads_r names (trees v)) where
+  -- nothing is written of `None`, which is what a missing field has
+  missing : Option A → Type 0
+  missing v = MissingReads (option_meant m) None (Some None) v
+
+  reads : List Name → Members → Option A × W → Type 0
+  reads ns ms v = FieldsRead once (option_meant m).reads (option_meant m).from_tree missing reads_r ns ms v
+
+  pub again-omitted : (names : List Name) (v : Option A × W) → are_names (count + 1) names ≡ true → OptionReal real_a v.0 × real_r v.1
+      → FieldsAgain (λ (v : Option A × W). OptionReal real_a v.0 × real_r v.1) (λ v. option_map tree v.0 ∷ trees v.1) reads names (option_map tree v.0 ∷ trees v.1)
+  again-omitted [] v f r = absurd (no_names count f)
+  again-omitted (n ∷ ns) (Some x, w) f r =
+      let a = again-field once (option_meant m) missing (OptionReal real_a) (option_tree tree) real_r trees count reads_r first later (n ∷ ns) (Some x, w) f r in
+      (a.0, λ u s e. written u s (a.1 u s e))
+    where
+      written : (u : Option A × W) → OptionReal real_a u.0 × real_r u.1 → Some (option_tree tree u.0) ∷ trees u.1 ≡ Some (tree x) ∷ trees w → option_map tree u.0 ∷ trees u.1 ≡ Some (tree x) ∷ trees w
+      written (None, u) s e = absurd (never x r.0 (sym (cc)))
+      written (Some y, u) s e = e
+  again-omitted (n ∷ ns) (None, w) f r =
+      let f = more_names count n ns f in
+      let b = later ns w f.1 r.1 in
+      let ms = with_names ns (trees w) in
+      let last = last_new n ns (trees w) f.0 in
+      let rest = others_new n ns (trees w) f.0 in
+      (
+        (
+          (None, b.0.0),
+          (tt, b.0.1),
+          (and_once once n ms _ (rw (count_new n ns (trees w) f.0) (omega (arith))) (all_new (option_meant m).from_tree n ns (trees w) f.0, rw last refl), subst (λ ms. reads_r ns ms b.0.0) (sym rest) b.0.2),
+        ),
+        λ u s e. rw (
+          none u.0 (subst (λ o. MatchOption o (missing u.0) (λ t. (option_meant m).reads t u.0)) last (once_and once n ms _ e.0).1),
+          b.1 u.1 s.1 (subst (λ ms. reads_r ns ms u.1) rest e.1),
+        ) refl,
+      )
+    where
+      none : (o : Option A) → missing o → option_map tree o ≡ None
+      none None h = refl
+      none (Some y) h = absurd (cc)
 
 -- ---- writing
 

@@ -6,6 +6,7 @@ mod lossless;
 mod marks;
 mod members;
 mod names;
+mod omit;
 mod slots;
 mod stable;
 mod structs;
@@ -19,6 +20,7 @@ pub use members::{FourLent, Lent, Members, write_members};
 pub use names::{
     UnitEnum, Variant, Variants, read_variant, variant_again, variant_lossless, variant_stable,
 };
+pub use omit::{Omit, OmitSlot, Omitted};
 pub use slots::{MarkedSlot, NoSlot, OnceSlot, Slot, Slots, read_record};
 pub use stable::{StableFields, record_stable};
 pub use structs::{Parts, Record};

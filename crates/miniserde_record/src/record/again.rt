@@ -1,5 +1,5 @@
 //! The round trip of a struct, by its fields.
-ghost use Rattle.std.specs.Prelude.{◌≡◌, true, List, [], ◌∷◌, length, ⊤};
+ghost use Rattle.std.specs.Prelude.{◌≡◌, true, List, [], ◌∷◌, length, Option, Some, ⊤};
 ghost use Rattle.miniserde_model.specs.Tree.{Tree};
 ghost use Rattle.miniserde_read.specs.meaning.Objects.{Name};
 ghost use Rattle.miniserde_round.specs.RoundTrip.{ReadsAgain};
@@ -22,8 +22,8 @@ pub trait AgainFields {
     // The values are ones that Rust has.
     ghost real: { Self.Values → Type 0 };
 
-    // The trees of the values, in their order.
-    ghost trees: { Self.Values → List Tree };
+    // The trees of the values, in their order; none of a value that is not written.
+    ghost trees: { Self.Values → List (Option Tree) };
 
     /// Does nothing. It promises that the values' trees, by the fields' names, mean values that Rust has, and that each
     /// such values have those trees.
@@ -51,7 +51,7 @@ impl<T: RoundTrip, M: Mark<T>, R: AgainFields> AgainFields for MarkedSlot<T, M, 
 
     ghost real = { λ v. T.real v.0 × R.real v.1 };
 
-    ghost trees = { λ v. T.tree v.0 ∷ R.trees v.1 };
+    ghost trees = { λ v. Some (T.tree v.0) ∷ R.trees v.1 };
 
     fn again() {
         T::again();

@@ -1,5 +1,5 @@
 //! Structs whose values are told apart by what is written.
-ghost use Rattle.std.specs.Prelude.{◌≡◌, List, [], ◌∷◌, length, ⊤};
+ghost use Rattle.std.specs.Prelude.{◌≡◌, List, [], ◌∷◌, length, Option, Some, ⊤};
 ghost use Rattle.miniserde_model.specs.Tree.{Tree};
 ghost use Rattle.miniserde_record.specs.FieldsMeant.{FieldsMeant, no_fields, field_and};
 ghost use Rattle.miniserde_record.specs.Structs.{record_tree};
@@ -21,10 +21,10 @@ pub trait LosslessFields {
     // The values are ones that Rust has.
     ghost real: { Self.Values → Type 0 };
 
-    // The trees of the values, in their order.
-    ghost trees: { Self.Values → List Tree };
+    // The trees of the values, in their order; none of a value that is not written.
+    ghost trees: { Self.Values → List (Option Tree) };
 
-    /// Does nothing. It promises that each field has a tree, and that values that Rust has and that have the same trees
+    /// Does nothing. It promises that each field has a place among the trees, and that values that Rust has and that have the same trees
     /// have the same content.
     fn lossless()
         ensures each { (v : Self.Values) → length (trees v) ≡ meaning.count }
@@ -51,7 +51,7 @@ impl<T: Lossless, M: Mark<T>, R: LosslessFields> LosslessFields for MarkedSlot<T
 
     ghost real = { λ v. T.real v.0 × R.real v.1 };
 
-    ghost trees = { λ v. T.tree v.0 ∷ R.trees v.1 };
+    ghost trees = { λ v. Some (T.tree v.0) ∷ R.trees v.1 };
 
     fn lossless() {
         T::lossless();

@@ -1,5 +1,5 @@
 //! Lent values, written as an object's members.
-ghost use Rattle.std.specs.Prelude.{◌≡◌, ◌++◌, true, false, List, [], ◌∷◌, OnOk, OnErr, IsErrOf, map};
+ghost use Rattle.std.specs.Prelude.{◌≡◌, ◌++◌, true, false, List, [], ◌∷◌, Option, Some, OnOk, OnErr, IsErrOf, map};
 ghost use Rattle.miniserde_model.specs.Tree.{Tree, members};
 ghost use Rattle.miniserde_model.specs.Compact.{compact};
 ghost use Rattle.miniserde_model.specs.IsTree.{IsTree, AreNamedTrees};
@@ -12,8 +12,8 @@ use miniserde_ser::ser::{Serialize, Writer};
 
 /// Lent values, to be written as members.
 pub trait Members {
-    // The trees of the values, in their order.
-    ghost trees: { Self → List Tree };
+    // The trees of the values, in their order; none of a value that is not written.
+    ghost trees: { Self → List (Option Tree) };
 
     /// Writes the members by the names. Returns `Memory` if the text cannot grow.
     fn write(&self, w: &mut Writer, names: &[&str]) -> Result<()>
@@ -36,7 +36,7 @@ impl Members for () {
 }
 
 impl<'a, T: Serialize, M: Members> Members for Parts<&'a T, M> {
-    ghost trees = { λ l. T.tree l.0.now ∷ M.trees l.1 };
+    ghost trees = { λ l. Some (T.tree l.0.now) ∷ M.trees l.1 };
 
     #[inline(always)]
     fn write(&self, w: &mut Writer, names: &[&str]) -> Result<()> {
@@ -81,7 +81,8 @@ impl<'a, A, B, C, D, M: Drop> Drop for FourLent<'a, A, B, C, D, M> {
 
 impl<'a, A: Serialize, B: Serialize, C: Serialize, D: Serialize, M: Members> Members
     for FourLent<'a, A, B, C, D, M> {
-    ghost trees = { λ l. A.tree l.0.now ∷ B.tree l.1.now ∷ C.tree l.2.now ∷ D.tree l.3.now ∷ M.trees l.4 };
+    ghost trees = { λ l. Some (A.tree l.0.now) ∷ Some (B.tree l.1.now) ∷ Some (C.tree l.2.now) ∷ Some (D.tree l.3.now)
+        ∷ M.trees l.4 };
 
     #[inline(always)]
     fn write(&self, w: &mut Writer, names: &[&str]) -> Result<()> {

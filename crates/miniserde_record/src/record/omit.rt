@@ -1,0 +1,152 @@
+//! Optional fields that are not written if they are `None`.
+ghost use Rattle.std.specs.Prelude.{◌∷◌, None, option_map};
+ghost use Rattle.miniserde_record.specs.FieldsMeant.{field_and};
+
+use super::again::AgainFields;
+use super::lossless::LosslessFields;
+use super::marks::{Mark, Repeats};
+use super::members::Members;
+use super::slots::{MarkedSlot, Slots};
+use super::stable::StableFields;
+use super::structs::Parts;
+use miniserde_model::error::Result;
+use miniserde_read::{FromJson, Source};
+use miniserde_round::{Lossless, NeverNull, RoundTrip};
+use miniserde_ser::ser::{Serialize, Writer};
+use miniserde_stable::Stable;
+use std::alloc::Global;
+use std::marker::PhantomData;
+
+/// The mark of an optional field that may be left out, which repeats as `M` says. A missing one is `None`.
+pub struct Omit<M> {
+    mark: PhantomData<M>,
+}
+
+impl<M: Repeats> Repeats for Omit<M> {
+    ghost once = { M.once };
+
+    fn is_once() -> bool {
+        M::is_once()
+    }
+}
+
+impl<T: FromJson, M: Repeats> Mark<Option<T>> for Omit<M> {
+    ghost given = { None };
+
+    ghost missing_infallible = { true };
+
+    fn missing(_alloc: Global) -> Result<Option<Option<T>>> {
+        Ok(Some(None))
+    }
+}
+
+/// An optional field that is not written if it is `None`, and the fields after it. It is read as without the mark.
+pub struct OmitSlot<T, M, R> {
+    slot: MarkedSlot<Option<T>, Omit<M>, R>,
+}
+
+impl<T: Drop, M, R: Drop> Drop for OmitSlot<T, M, R> {
+    fn drop(self) {
+        let OmitSlot { slot } = self;
+        drop(slot);
+    }
+}
+
+impl<T: FromJson, M: Repeats, R: Slots> Slots for OmitSlot<T, M, R> {
+    type Values = Parts<Option<T>, R::Values>;
+
+    ghost meaning = { ⟦<MarkedSlot<Option<T>, Omit<M>, R> as Slots>⟧.meaning };
+
+    ghost state = { λ f. ⟦<MarkedSlot<Option<T>, Omit<M>, R> as Slots>⟧.state f.slot };
+
+    ghost end_infallible = { R.end_infallible };
+
+    fn new() -> OmitSlot<T, M, R> {
+        OmitSlot {
+            slot: <MarkedSlot<Option<T>, Omit<M>, R> as Slots>::new(),
+        }
+    }
+
+    #[inline(always)]
+    fn read_member<'a>(
+        &mut self,
+        names: &[&str],
+        name: &str,
+        source: &mut Source<'a>,
+    ) -> Result<()> {
+        self.slot.read_member(names, name, source)
+    }
+
+    fn end(self, alloc: Global) -> Result<Parts<Option<T>, R::Values>> {
+        let OmitSlot { slot } = self;
+        slot.end(alloc)
+    }
+}
+
+impl<T: RoundTrip + NeverNull, M: Repeats, R: AgainFields> AgainFields for OmitSlot<T, M, R> {
+    type Values = Parts<Option<T>, R::Values>;
+
+    ghost meaning = { field_and M.once None ⟦<Option<T> as FromJson>⟧.means ⟦<Option<T> as FromJson>⟧.absent R.meaning };
+
+    ghost real = { λ v. ⟦<Option<T> as Ranged>⟧.real v.0 × R.real v.1 };
+
+    ghost trees = { λ v. option_map T.tree v.0 ∷ R.trees v.1 };
+
+    fn again() {
+        <Option<T> as RoundTrip>::again();
+        T::never_null();
+        R::again();
+    }
+}
+
+impl<T: Lossless + NeverNull, M: Repeats, R: LosslessFields> LosslessFields for OmitSlot<T, M, R> {
+    type Values = Parts<Option<T>, R::Values>;
+
+    ghost meaning = { field_and M.once None ⟦<Option<T> as FromJson>⟧.means ⟦<Option<T> as FromJson>⟧.absent R.meaning };
+
+    ghost real = { λ v. ⟦<Option<T> as Ranged>⟧.real v.0 × R.real v.1 };
+
+    ghost trees = { λ v. option_map T.tree v.0 ∷ R.trees v.1 };
+
+    fn lossless() {
+        T::lossless();
+        R::lossless();
+    }
+}
+
+impl<T: Stable, M: Repeats, R: StableFields> StableFields for OmitSlot<T, M, R> {
+    type Values = Parts<Option<T>, R::Values>;
+
+    ghost meaning = { ⟦<MarkedSlot<Option<T>, Omit<M>, R> as StableFields>⟧.meaning };
+
+    fn stable() {
+        <MarkedSlot<Option<T>, Omit<M>, R> as StableFields>::stable()
+    }
+}
+
+/// A lent optional value, which is not written if it is `None`.
+pub struct Omitted<'a, T>(pub &'a Option<T>);
+
+impl<'a, T> Drop for Omitted<'a, T> {
+    fn drop(self) {
+        let Omitted(_) = self;
+    }
+}
+
+impl<'a, T: Serialize, M: Members> Members for Parts<Omitted<'a, T>, M> {
+    ghost trees = { λ l. option_map T.tree l.0.0.now ∷ M.trees l.1 };
+
+    #[inline(always)]
+    fn write(&self, w: &mut Writer, names: &[&str]) -> Result<()> {
+        match names {
+            [name, more @ ..] => {
+                if let Some(value) = self.0.0 {
+                    w.known_key(name)?;
+                    value.begin(w)?;
+                }
+                self.1.write(w, more)
+            }
+            [] => Ok(()),
+        }
+    }
+}
