@@ -9,6 +9,7 @@ use super::members::Members;
 use super::slots::{MarkedSlot, Slots};
 use super::stable::StableFields;
 use super::structs::Parts;
+use miniserde_keys::Ranged;
 use miniserde_model::error::Result;
 use miniserde_read::{FromJson, Source};
 use miniserde_round::{Lossless, NeverNull, RoundTrip};
