@@ -1,6 +1,6 @@
 -- The fields of a struct read again, one after another, where each has a name of its own.
 use Rattle.std.proofs.Common.{◌≡◌, ℕ, ◌+◌, ◌≤◌, Bool, true, false, not, ◌&&◌, nat_eq, List, [], ◌∷◌, length, Option, Some, None, refl, sym, ap, subst, ◌∙◌, true≢false, arith}
-use Rattle.std.specs.Prelude.{IsSome, MatchOption, option_map, bytes_eq, ⊤, ⊥}
+use Rattle.std.specs.Prelude.{IsSome, MatchOption, option_map, bytes_eq, ⊤}
 use Rattle.std.proofs.lemmas.Bool.Decides.{nat_tests}
 use Rattle.std.proofs.lemmas.Slice.Eq.{bytes_eq-Decides}
 use Rattle.miniserde_model.specs.Tree.{Tree, null, Members, no_members, member}
@@ -133,10 +133,10 @@ module _ {A W : Type 0} (once : Bool) (m : Meant A) (real_a : A → Type 0) (tre
     (never : (v : A) → real_a v → tree v ≡ null → ⊥)
     (later : (names : List Name) (v : W) → are_names count names ≡ true → real_r v → FieldsAgain real_r trees reads_r names (trees v)) where
   -- nothing is written of `None`, which is what a missing field has
-  missing : Option A → Type 0
+  abbrev missing : Option A → Type 0
   missing v = MissingReads (option_meant m) None (Some None) v
 
-  reads : List Name → Members → Option A × W → Type 0
+  abbrev reads : List Name → Members → Option A × W → Type 0
   reads ns ms v = FieldsRead once (option_meant m).reads (option_meant m).from_tree missing reads_r ns ms v
 
   pub again-omitted : (names : List Name) (v : Option A × W) → are_names (count + 1) names ≡ true → OptionReal real_a v.0 × real_r v.1

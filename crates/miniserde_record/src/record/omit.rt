@@ -1,5 +1,5 @@
 //! Optional fields that are not written if they are `None`.
-ghost use Rattle.std.specs.Prelude.{◌∷◌, None, option_map};
+ghost use Rattle.std.specs.Prelude.{◌∷◌, true, None, option_map};
 ghost use Rattle.miniserde_record.specs.FieldsMeant.{field_and};
 
 use super::again::AgainFields;
