@@ -2,9 +2,10 @@
 import re
 from dataclasses import dataclass, field, replace
 
+from omitted import check_omitted, mark_never_null
 from refusals import (
     NAME, Refused, check_cycles, check_field_name, check_foreign_marks, check_inside, check_param, check_params, check_places, check_stable,
-    check_tagged, check_type, check_values, check_written,
+    check_tagged, check_type, check_values, check_written, split_at_commas,
 )
 
 
@@ -13,7 +14,7 @@ class Part:
     """A field or a variant: its name and its name in JSON; and a field's type, the `pub` in front of it and its marks.
 
     `above` are the lines of comments and attributes above it. `default` is the text of the value of a missing field, ""
-    for the empty one and None for no such value. A variant with data has `values`, the types in its round brackets, or named
+    for the empty one and None for no such value; `omit` says that `None` is not written. A variant with data has `values`, the types in its round brackets, or named
     `fields`; `of` is the type of its data.
     """
 
@@ -25,6 +26,7 @@ class Part:
     public: str = ""
     once: bool = False
     default: str = None
+    omit: bool = False
     values: tuple = ()
     fields: list = field(default_factory=list)
 
@@ -34,7 +36,9 @@ class Definition:
     """A struct, an enum without data, or a tagged enum, whose variants may have data. `above` are the lines above it, without
     its derives, and `params` the names of its parameters. `style` is the style of its parts' names in JSON, "" for none.
     `tag` is the name of the member that names the variant, None for a struct and for an enum that is externally tagged.
-    `shown` is what messages call it: of the struct that is written for a variant's fields the variant.
+    `shown` is what messages call it: of the struct that is written for a variant's fields the variant. `never_null` says that
+    a field that may be left out needs the law that the type is not written as `null`, and `bounded` are the parameters of which
+    it does.
     """
 
     kind: str
@@ -49,6 +53,8 @@ class Definition:
     tag: str = None
     parts: list = field(default_factory=list)
     variant: str = ""
+    never_null: bool = False
+    bounded: set = field(default_factory=set)
 
     @property
     def shown(self):
@@ -64,8 +70,8 @@ PARAMS = r"(?:<([^{}]*)>)?"
 HEAD = re.compile(rf"{PUBLIC}(struct|enum)\s+({NAME})\s*{PARAMS}\s*\{{(?:{WORDS})?")
 ON_ONE_LINE = re.compile(rf"({PUBLIC}(?:struct|enum)\s+{NAME}\s*{PARAMS}\s*\{{)((?:[^{{}}]|\{{[^{{}}]*\}})*)\}}({WORDS})?")
 VARIANT = re.compile(rf"({NAME})\s*(?:\((.*)\)|\{{(.*)\}}|(\{{))?,?")
-MARKS = re.compile(r'//\s*((?:once|default|rename|rename_all)\b.*)$')
-MARK = re.compile(r'\s*(?:(once)|default(?:\s+(-?\d+|true|false|"[^"\\]*"))?|rename\s+"([^"\\]*)")\s*(?:,|$)')
+MARKS = re.compile(r'//\s*((?:once|default|omit|rename|rename_all)\b.*)$')
+MARK = re.compile(r'\s*(?:(once|omit)|default(?:\s+(-?\d+|true|false|"[^"\\]*"))?|rename\s+"([^"\\]*)")\s*(?:,|$)')
 INTEGER = re.compile(r"[ui](8|16|32|64|size)")
 
 
@@ -118,35 +124,35 @@ def tag_of(kind, words, line):
 
 
 def marks_of(kind, text, line):
-    """The marks behind a field or a variant: whether it is `once`, its default, and its name in JSON."""
-    once, default, rename = False, None, None
+    """The marks behind a field or a variant: its words `once` and `omit`, its default, and its name in JSON."""
+    words, default, rename = set(), None, None
     while text:
         found = MARK.match(text)
         if not found:
-            raise Refused(f'line {line}: not a mark (`once`, `default VALUE`, `rename "x"`): {text.strip()}')
+            raise Refused(f'line {line}: not a mark (`once`, `default VALUE`, `omit`, `rename "x"`): {text.strip()}')
         if found.group(1):
-            once = True
+            words.add(found.group(1))
         elif found.group(3) is not None:
             rename = found.group(3)
         else:
             default = found.group(2) or ""
         text = text[found.end() :]
-    if kind == "enum" and (once or default is not None):
-        raise Refused(f"line {line}: a variant has no value of its own: `once` and `default` mark fields")
-    return once, default, rename
+    if kind == "enum" and (words or default is not None):
+        raise Refused(f"line {line}: a variant has no value of its own: `once`, `default` and `omit` mark fields")
+    return words, default, rename
 
 
 def part_of(kind, text, line, above, style):
     """The field or variant of a line. Without `rename` its name in JSON has the style."""
     marks = MARKS.search(text)
-    once, default, rename = marks_of(kind, marks.group(1) if marks else "", line)
+    words, default, rename = marks_of(kind, marks.group(1) if marks else "", line)
     bare = (text[: marks.start()] if marks else text).strip()
     if "//" in bare:
         raise Refused(f"line {line}: a comment that is no mark stands on a line of its own, above the field: {text}")
     part = field_of(bare, line, above, style) if kind == "struct" else variant_of(bare, line, above, style)
     if default is not None:
         check_default(part.of, default, line)
-    part.once, part.default = once, default
+    part.once, part.omit, part.default = "once" in words, "omit" in words, default
     part.written = part.written if rename is None else rename
     return part
 
@@ -237,18 +243,6 @@ def params_of(text, bare, line):
     return tuple(params)
 
 
-def split_at_commas(text):
-    """The parts of a text between commas that stand in no bracket."""
-    parts, depth = [""], 0
-    for sign in text:
-        depth += (sign in "([<{") - (sign in ")]>}")
-        if sign == "," and depth == 0:
-            parts.append("")
-        else:
-            parts[-1] += sign
-    return [it.strip() for it in parts if it.strip()]
-
-
 def lines_of(text):
     """The lines of a file with their numbers; a type on one line becomes several of its number."""
     for number, line in enumerate(text.splitlines(), 1):
@@ -334,5 +328,7 @@ def check(found, uses):
         for part in it.parts:
             check_type(part.of, known, part.line)
     check_cycles(found)
+    check_omitted(found, uses)
+    mark_never_null(found)
     check_places(found)
     check_stable(found, uses)

@@ -154,7 +154,7 @@ def written_of(it, part, writer):
     tag = f'"{it.tag}", ' if it.tag is not None else ""
     if part.fields or tag and not part.of:
         const = const_of(it.name + part.name) if part.fields else "&[]"
-        return f'{{ write{"_tagged" * bool(tag)}_fields({writer}, {tag}"{part.written}", {const}, &{lent_of(names_in(part) if part.fields else [])}) }}'
+        return f'{{ write{"_tagged" * bool(tag)}_fields({writer}, {tag}"{part.written}", {const}, &{lent_of(part.fields)}) }}'
     if part.values:
         value = "a" if len(part.values) == 1 else f"&({', '.join(names_in(part))})"
         return f'write_{"tagged" if tag else "data"}({writer}, {tag}"{part.written}", {value})'

@@ -1,7 +1,8 @@
-"""What `./derive` writes: a type with its impls."""
+"""The impls that `./derive` writes for a struct, and what those of each type have."""
 import re
 
-from places import name_place_text, place_text
+from omitted import inner_of
+from places import place_text
 
 # Words that clauses reserve: a field of such a name is quoted there.
 RESERVED = set(
@@ -56,7 +57,8 @@ def typed(it, end=""):
 
 def impl_of(it, bound):
     """The first word of an impl, with a bound of each parameter: `impl<T: FromJson>`."""
-    return f"impl<{', '.join(f'{name}: {bound}' for name in it.params)}>" if it.params else "impl"
+    besides = {name: " + NeverNull" if bound == "RoundTrip" and name in it.bounded else "" for name in it.params}
+    return f"impl<{', '.join(f'{name}: {bound}{besides[name]}' for name in it.params)}>" if it.params else "impl"
 
 
 # What each type derives. An enum without data is small, so it is copied and compared.
@@ -120,8 +122,9 @@ def laws_text(it, kind, types):
     fn never_null() {{}}
 }}
 """
-    lossless = law("lossless", lossless_impl(it)) + never_null if "lossless" in it.words else ""
-    return lossless + (law("stable", impl_of(it, "Stable")) if "stable" in it.words else "")
+    lossless = law("lossless", lossless_impl(it)) if "lossless" in it.words else ""
+    never_null = never_null if "lossless" in it.words or it.never_null else ""
+    return lossless + never_null + (law("stable", impl_of(it, "Stable")) if "stable" in it.words else "")
 
 
 def lossless_impl(it):
@@ -131,7 +134,7 @@ def lossless_impl(it):
         types = [each.of for part in it.parts for each in [part, *part.fields]]
         return any(re.search(rf"\bOption<\s*(?:Box<\s*)*{name}\b", of) for of in types)
 
-    bounds = [f"{name}: Lossless{' + NeverNull' if optional(name) else ''}" for name in it.params]
+    bounds = [f"{name}: Lossless{' + NeverNull' if optional(name) or name in it.bounded else ''}" for name in it.params]
     return f"impl<{', '.join(bounds)}>" if bounds else "impl"
 
 
@@ -150,8 +153,10 @@ def slots_of(it, parts):
     """The list of fields, in blocks of four: a check passes one impl for each block."""
     if not parts:
         return "Closed" if "closed" in it.words else "NoSlot"
-    at = 4 if len(parts) >= 4 else 1
+    at = 4 if len(parts) >= 4 and not any(part.omit for part in parts[:4]) else 1
     marks, rest = [mark_of(it, part) for part in parts[:at]], slots_of(it, parts[at:])
+    if parts[0].omit:
+        return f"OmitSlot<{inner_of(parts[0])}, {marks[0]}, {rest}>"
     short = {"Plain": ["Slot", "FourSlot"], "Once<Plain>": ["OnceSlot"]}.get(marks[0], []) if len(set(marks)) == 1 else []
     if len(short) > at // 4:
         return f"{short[at // 4]}<{', '.join([*(part.of for part in parts[:at]), rest])}>"
@@ -207,11 +212,14 @@ def taken_of(names, chain):
     return [f"        let {nested(names, '()', 'Parts')} = {chain};"] if names else []
 
 
-def lent_of(lent):
-    """The fields' values, lent in blocks of four."""
-    if len(lent) >= 4:
-        return f"FourLent({', '.join(lent[:4])}, {lent_of(lent[4:])})"
-    return nested(lent, "()", "Parts")
+def lent_of(parts, before=""):
+    """The fields' values, lent in blocks of four; `before` stands in front of a field's name."""
+    if not parts:
+        return "()"
+    if len(parts) >= 4 and not any(part.omit for part in parts[:4]):
+        return f"FourLent({', '.join(before + part.name for part in parts[:4])}, {lent_of(parts[4:], before)})"
+    name = before + parts[0].name
+    return f"Parts({f'Omitted({name})' if parts[0].omit else name}, {lent_of(parts[1:], before)})"
 
 
 def struct_text(it, path):
@@ -279,7 +287,6 @@ def reading_text(it):
 def writing_text(it):
     """The impls that write a struct, and say that what was written is read again."""
     name, fields = typed(it), typed(it, "Fields")
-    names = [part.name for part in it.parts]
     tree = f"record_tree {of('Record', 'names', name)} {of('AgainFields', 'trees', fields)} {of('Record', 'values', name)}"
     real = f"λ v. {of('AgainFields', 'real', fields)} ({of('Record', 'values', name)} v)"
     return f"""
@@ -287,7 +294,7 @@ def writing_text(it):
 {wrapped("tree", tree)}
 
     fn begin(&self, w: &mut Writer) -> Result<()> {{
-        write_members(w, {const_of(it.name)}, &{lent_of([f"&self.{part}" for part in names])})
+        write_members(w, {const_of(it.name)}, &{lent_of(it.parts, "&self.")})
     }}
 }}
 
@@ -295,7 +302,7 @@ def writing_text(it):
 {wrapped("real", real)}
 
     fn ranged(&self) {{
-{chr(10).join(f"        self.{part}.ranged();" for part in names)}
+{chr(10).join(f"        self.{part.name}.ranged();" for part in it.parts)}
     }}
 }}
 
@@ -321,84 +328,11 @@ def inside_text(it):
     }}
 
     fn write_inside(&self, w: &mut Writer) -> Result<()> {{
-        Members::write(&{lent_of([f"&self.{part.name}" for part in it.parts])}, w, {const_of(it.name)})
+        Members::write(&{lent_of(it.parts, "&self.")}, w, {const_of(it.name)})
     }}
 
     fn is_object() {{
         fields_named()
-    }}
-}}
-"""
-
-
-def enum_text(it, path):
-    """A unit enum with its impls."""
-    name = it.name
-    return f"""{head_of(it)}
-{unit_text(it, path)}
-impl FromJson for {name} {{
-    ghost means = {{ ⟦<{name} as Variants>⟧.meaning }};
-
-    ghost read_infallible = {{ true }};
-
-    fn missing() -> Option<{name}> {{
-        None
-    }}
-
-    fn read<'a>(token: Event<'a>, source: &mut Source<'a>) -> Result<{name}> {{
-        read_variant(token, source)
-    }}
-}}
-
-impl Serialize for {name} {{
-    ghost tree = {{ λ v. str (⟦<{name} as UnitEnum>⟧.name_of v) }};
-
-    fn begin(&self, w: &mut Writer) -> Result<()> {{
-        w.fragment(Fragment::Str(self.name()))
-    }}
-}}
-{again_text(name)}{laws_text(it, "variant", name)}{name_place_text(it)}"""
-
-
-def unit_text(it, path):
-    """The impl that lists an enum's values and their names."""
-    name, names = it.name, [part.name for part in it.parts]
-    arms = [f'            {name}::{part.name} => "{part.written}",' for part in it.parts]
-    return f"""
-impl UnitEnum for {name} {{
-    ghost use Rattle.{path}.{name}.TheVariants.{{{", ".join(names)}}};
-
-{wrapped("all", " ∷ ".join([*names, "[]"]))}
-
-{wrapped("name_of", "elim [ " + " | ".join(f'{part.name} ↦ codes "{part.written}"' for part in it.parts) + " ]")}
-
-{wrapped("found", "elim [ " + " | ".join(f"{part} ↦ refl" for part in names) + " ]")}
-
-    fn values() -> &'static [{name}] {{
-        &[{", ".join(f"{name}::{part}" for part in names)}]
-    }}
-
-    fn name(&self) -> &'static str {{
-        match self {{
-{chr(10).join(arms)}
-        }}
-    }}
-}}
-"""
-
-
-def again_text(name):
-    """The impls that say that an enum's written name is read again."""
-    return f"""
-impl Ranged for {name} {{
-    ghost real = {{ λ _. ⊤ }};
-
-    fn ranged(&self) {{}}
-}}
-
-impl RoundTrip for {name} {{
-    fn again() {{
-        variant_again::<{name}>()
     }}
 }}
 """

@@ -12,7 +12,7 @@ class Refused(Exception):
 NAMED = (
     "AgainCases AgainFields BesideTag Cases Closed DataCase Deserialize Empty Error Event Field Four FourLent FourSlot Fragment FromJson "
     "Given Global HasTag Inside InsideCases Lossless MarkedFour MarkedSlot Members NamePlace NeverNull NoCase NoField NoFields NoSlot "
-    "Once OnceField OnceFour OnceSlot OneOf "
+    "OmitSlot Omitted Once OnceField OnceFour OnceSlot OneOf "
     "Parts PlacedRecord Plain Ranged Record RecordPlace Result RoundTrip Serialize Slot Slots Source Stable Step Tagged Taken4 "
     "UnitCase UnitEnum Variants Visitor WithDefault Writer enum_again enum_lossless enum_stable fields_named read_enum read_record "
     "read_tagged read_variant record_again record_lossless record_stable tag_fits tagged_again tagged_lossless tagged_stable take4 "
@@ -43,6 +43,18 @@ UNREAD = {
     "Result": "a struct of two `Option`s",
 }
 INSTEAD = {name: instead for names, instead in UNREAD.items() for name in names.split()}
+
+
+def split_at_commas(text):
+    """The parts of a text between commas that stand in no bracket."""
+    parts, depth = [""], 0
+    for sign in text:
+        depth += (sign in "([<{") - (sign in ")]>}")
+        if sign == "," and depth == 0:
+            parts.append("")
+        else:
+            parts[-1] += sign
+    return [it.strip() for it in parts if it.strip()]
 
 
 def widest_tuple(of):
@@ -218,7 +230,7 @@ def check_foreign_marks(it):
         raise Refused(f"line {it.line}: `{it.name}` is no struct, and cannot stand beside a tag: leave out `inside`")
     if "events" in it.words and it.params:
         raise Refused(f"line {it.line}: a place has no parameters: leave out `events`, or write `{it.name}` for the types that it is used with")
-    if "events" in it.words and ("closed" in it.words or any(part.once or part.default is not None for part in it.parts)):
+    if "events" in it.words and ("closed" in it.words or any(part.once or part.omit or part.default is not None for part in it.parts)):
         raise Refused(f"line {it.line}: `{it.name}` has marks that a place does not know: leave out `events`, `closed` or the fields' marks")
 
 

@@ -6,8 +6,8 @@ pub use miniserde_de::structs::{
 };
 pub use miniserde_record::record::{
     AgainFields, Closed, Empty, FourLent, FourSlot, Given, Lent, LosslessFields, Mark, MarkedFour,
-    MarkedSlot, Members, NoSlot, Once, OnceSlot, Parts, Plain, Record, Repeats, Slot, Slots,
-    StableFields, Taken4, UnitEnum, Variant, Variants, WithDefault, read_record, read_variant,
-    record_again, record_lossless, record_stable, take4, variant_again, variant_lossless,
-    variant_stable, write_members,
+    MarkedSlot, Members, NoSlot, Omit, OmitSlot, Omitted, Once, OnceSlot, Parts, Plain, Record,
+    Repeats, Slot, Slots, StableFields, Taken4, UnitEnum, Variant, Variants, WithDefault,
+    read_record, read_variant, record_again, record_lossless, record_stable, take4, variant_again,
+    variant_lossless, variant_stable, write_members,
 };

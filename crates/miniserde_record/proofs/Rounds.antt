@@ -154,8 +154,7 @@ module _ {A W : Type 0} (once : Bool) (m : Meant A) (real_a : A → Type 0) (tre
       let b = later ns w f.1 r.1 in
       let ms = with_names ns (trees w) in
       let last = last_new n ns (trees w) f.0 in
-      let rest = others_new n ns (trees w) f.0 in
-      (
+      let rest = others_new n ns (trees w) f.0 in (
         (
           (None, b.0.0),
           (tt, b.0.1),

@@ -1,0 +1,76 @@
+"""The impls that `./derive` writes for an enum without data."""
+from impls import head_of, laws_text, wrapped
+from places import name_place_text
+
+
+def enum_text(it, path):
+    """A unit enum with its impls."""
+    name = it.name
+    return f"""{head_of(it)}
+{unit_text(it, path)}
+impl FromJson for {name} {{
+    ghost means = {{ ⟦<{name} as Variants>⟧.meaning }};
+
+    ghost read_infallible = {{ true }};
+
+    fn missing() -> Option<{name}> {{
+        None
+    }}
+
+    fn read<'a>(token: Event<'a>, source: &mut Source<'a>) -> Result<{name}> {{
+        read_variant(token, source)
+    }}
+}}
+
+impl Serialize for {name} {{
+    ghost tree = {{ λ v. str (⟦<{name} as UnitEnum>⟧.name_of v) }};
+
+    fn begin(&self, w: &mut Writer) -> Result<()> {{
+        w.fragment(Fragment::Str(self.name()))
+    }}
+}}
+{again_text(name)}{laws_text(it, "variant", name)}{name_place_text(it)}"""
+
+
+def unit_text(it, path):
+    """The impl that lists an enum's values and their names."""
+    name, names = it.name, [part.name for part in it.parts]
+    arms = [f'            {name}::{part.name} => "{part.written}",' for part in it.parts]
+    return f"""
+impl UnitEnum for {name} {{
+    ghost use Rattle.{path}.{name}.TheVariants.{{{", ".join(names)}}};
+
+{wrapped("all", " ∷ ".join([*names, "[]"]))}
+
+{wrapped("name_of", "elim [ " + " | ".join(f'{part.name} ↦ codes "{part.written}"' for part in it.parts) + " ]")}
+
+{wrapped("found", "elim [ " + " | ".join(f"{part} ↦ refl" for part in names) + " ]")}
+
+    fn values() -> &'static [{name}] {{
+        &[{", ".join(f"{name}::{part}" for part in names)}]
+    }}
+
+    fn name(&self) -> &'static str {{
+        match self {{
+{chr(10).join(arms)}
+        }}
+    }}
+}}
+"""
+
+
+def again_text(name):
+    """The impls that say that an enum's written name is read again."""
+    return f"""
+impl Ranged for {name} {{
+    ghost real = {{ λ _. ⊤ }};
+
+    fn ranged(&self) {{}}
+}}
+
+impl RoundTrip for {name} {{
+    fn again() {{
+        variant_again::<{name}>()
+    }}
+}}
+"""
