@@ -1,5 +1,5 @@
 //! Data that stands in one object with a tag.
-ghost use Rattle.std.specs.Prelude.{◌≡◌, ◌++◌, ◌&&◌, Bool, true, List, None, Err, IfOk, OnOk, OnErr, IsErrOf, map, ⊤};
+ghost use Rattle.std.specs.Prelude.{◌≡◌, ◌++◌, ◌&&◌, Bool, true, List, Option, None, Err, IfOk, OnOk, OnErr, IsErrOf, map, ⊤};
 ghost use Rattle.miniserde_text.specs.Lexer.{front_of};
 ghost use Rattle.miniserde_model.specs.Tree.{Tree, members};
 ghost use Rattle.miniserde_model.specs.IsTree.{AreNamedTrees};
@@ -59,7 +59,7 @@ pub trait Inside: RoundTrip {
 
 /// Does nothing. It promises that written members have no other names.
 pub fn fields_named()
-    ensures { (k : Name) (names : List Name) (ts : List Tree) → is_new k names ≡ true
+    ensures { (k : Name) (names : List Name) (ts : List (Option Tree)) → is_new k names ≡ true
         → count_named k (with_names names ts) ≡ 0 }
 {}
 
