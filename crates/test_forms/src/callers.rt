@@ -17,7 +17,7 @@ pub fn count_of(alloc: Global, text: &str) -> Result<usize>
     ensures ok { IfOk result (λ n. (t : Tree) × (p : Page Command) × IsJson text.now t
         × ⟦<Page<Command> as FromJson>⟧.means.reads t p × (n ≡ vec_len p.items)) }
     ensures invalid { result ≡ Err Error.Invalid → (t : Tree) → IsJson text.now t
-        → ⟦<Page<Command> as FromJson>⟧.means.from_tree t ≡ None }
+        → (p : Page Command) → ⟦<Page<Command> as FromJson>⟧.means.reads t p → ⊥ }
 {
     let page: Page<Command> = from_str(alloc, text)?;
     Ok(page.items.len())
