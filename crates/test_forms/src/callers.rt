@@ -12,12 +12,19 @@ use miniserde::json::from_str;
 use miniserde::{Error, FromJson, Result, read_itself};
 use std::alloc::Global;
 
-/// Parses a page of commands, and returns how many there are.
-pub fn count_of(alloc: Global, text: &str) -> Result<usize>
-    ensures ok { IfOk result (λ n. (t : Tree) × (p : Page Command) × IsJson text.now t
-        × ⟦<Page<Command> as FromJson>⟧.means.reads t p × (n ≡ vec_len p.items)) }
+/// Parses a page of commands.
+pub fn page(alloc: Global, text: &str) -> Result<Page<Command>>
+    ensures ok { IfOk result (λ p. (t : Tree) × IsJson text.now t × ⟦<Page<Command> as FromJson>⟧.means.reads t p) }
     ensures invalid { result ≡ Err Error.Invalid → (t : Tree) → IsJson text.now t
         → (p : Page Command) → ⟦<Page<Command> as FromJson>⟧.means.reads t p → ⊥ }
+{
+    from_str(alloc, text)
+}
+
+/// Parses a page of commands, and returns how many there are.
+pub fn count_of(alloc: Global, text: &str) -> Result<usize>
+    ensures { IfOk result (λ n. (t : Tree) × (p : Page Command) × IsJson text.now t
+        × ⟦<Page<Command> as FromJson>⟧.means.reads t p × (n ≡ vec_len p.items)) }
 {
     let page: Page<Command> = from_str(alloc, text)?;
     Ok(page.items.len())
