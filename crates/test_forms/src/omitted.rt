@@ -72,7 +72,7 @@ fn a_parameter_is_left_out(rt: HostRuntime) -> Result<(), Wrong> {
     expect_read_itself::<Entry<u8>>(rt.alloc(), ENTRIES)
 }
 
-const BILLS: &str = r#"{"amount":{"total":1.50,"places":3},"number":-0} => same
+const BILLS: &str = r#"{"amount":{"total":1.50,"places":3},"number":-0.0} => same
 {} => same
 {"number":1e2} => same
 {"amount":{"total":0}} => {"amount":{"total":0,"places":2}}
