@@ -10,6 +10,8 @@ pub mod command;
 pub mod commands;
 pub mod counter;
 pub mod limits;
+pub mod note;
+pub mod notes;
 pub mod order;
 pub mod orders;
 pub mod page;

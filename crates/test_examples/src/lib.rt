@@ -9,6 +9,8 @@ mod commands;
 #[cfg(test)]
 mod loading;
 #[cfg(test)]
+mod notes;
+#[cfg(test)]
 mod pages;
 #[cfg(test)]
 mod percents;
