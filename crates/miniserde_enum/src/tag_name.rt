@@ -11,8 +11,8 @@ use std::marker::PhantomData;
 
 /// The name of a variant of the enum `E`, or `None` for a string that is no variant's name.
 #[derive(Drop)]
-pub struct TagName<E> {
-    pub known: Option<&'static str>,
+pub(crate) struct TagName<E> {
+    pub(crate) known: Option<&'static str>,
     of: PhantomData<E>,
 }
 
