@@ -4,23 +4,21 @@ use Rattle.std.specs.Prelude.{option_map, option_and_then, bytes_eq}
 use Rattle.std.specs.Option.{option_or}
 use Rattle.std.proofs.lemmas.Option.{same_Some}
 use Rattle.miniserde_model.specs.Tree.{Tree, str, members, Members, no_members, member}
-use Rattle.miniserde_model.specs.Event.{map}
 use Rattle.miniserde_model.specs.Normal.{norm, norm_members}
-use Rattle.miniserde_read.specs.meaning.Objects.{Name, object_of}
+use Rattle.miniserde_read.specs.meaning.Objects.{Name}
 use Rattle.miniserde_read.specs.meaning.Words.{string_of}
-use Rattle.miniserde_read.specs.Rest.{ValueAt}
-use Rattle.miniserde_read.proofs.Same.{value_same, tag}
+use Rattle.miniserde_read.proofs.Same.{tag}
 use Rattle.miniserde_stable.specs.Stable.{IsStable}
-use Rattle.miniserde_record.specs.Fields.{others, last_given, field_given, count_named}
+use Rattle.miniserde_record.specs.Fields.{others, last_given, count_named}
 use Rattle.miniserde_record.specs.Stable.{AreStable}
 use Rattle.miniserde_record.proofs.Stables.{stable-field}
 use Rattle.miniserde_enum.specs.Internal.{internal_variant, object_members}
 use Rattle.miniserde_enum.specs.Inside.{inside_of}
 use Rattle.miniserde_enum.specs.Shape.{by_shape, internal}
-use Rattle.miniserde_enum.specs.Cases.{with_data, DataFits}
+use Rattle.miniserde_enum.specs.Cases.{DataFits}
 use Rattle.miniserde_enum.specs.laws.Cases.{same-name}
 
--- ---- a tag that was read
+-- ---- the tag and the data
 
 -- a tag as a struct's field, with what p gives of the name beside it
 abbrev field : {C : Type 0} → (Name → Option C) → Option (Option Name) → Option (Name × C)
@@ -41,29 +39,6 @@ some-field : {C : Type 0} (p : Name → Option C) (o : Option (Option Name)) (n 
 some-field p None n c e f = absurd (cc)
 some-field p (Some None) n c e f = absurd (cc)
 some-field p (Some (Some k)) n c e f = let i : k ≡ n = same_Some _ _ e in rw (i, f) refl
-
--- the tag as the one field of an object
-abbrev pub tag_field : Name → Tree → Option (Name × Unit {0})
-tag_field tag = object_of (field_given {S = Unit {0}} false string_of None (λ ns s ms. Some tt) (tag ∷ []) (None, tt))
-
-module _ {C : Type 0} (tag : Name) (f : Name → Option Tree → Option C) where
-  found : (t : Tree) (k : Name) (u : Unit {0}) → tag_field tag t ≡ Some (k, u) → by_shape (internal tag) f t ≡ inside_of tag (with_data (f k)) t
-  found (members ms) k u e = let p = field-some (λ n. Some tt) (last_given false string_of tag None ms) k u e in rw p.0 refl
-  found t k u e = refl
-
-  none : (t : Tree) → tag_field tag t ≡ None → by_shape (internal tag) f t ≡ None
-  none (members ms) e = elim (last_given false string_of tag None ms) as (λ o. field {C = Unit {0}} (λ n. Some tt) o ≡ None → option_and_then (λ (v : Name × Option Tree). f v.0 v.1) (option_map (λ n. (n, Some (members (others tag ms)))) (option_and_then (λ o. o) o)) ≡ None) [
-    | None ↦ λ e. refl
-    | Some o ↦ elim o as (λ o. field {C = Unit {0}} (λ n. Some tt) (Some o) ≡ None → option_and_then (λ (v : Name × Option Tree). f v.0 v.1) (option_map (λ n. (n, Some (members (others tag ms)))) o) ≡ None) [ None ↦ λ e. refl | Some n ↦ λ e. absurd (cc) ]
-  ] e
-  none t e = refl
-
-  -- the tag was read of the tree u, and the data of the same text
-  pub tag_found : (t u : Tree) (k : Name) (v : Unit {0}) (s r x : List ℕ) → ValueAt t map s r → ValueAt u map s x → tag_field tag u ≡ Some (k, v) → by_shape (internal tag) f t ≡ inside_of tag (with_data (f k)) t
-  tag_found t u k v s r x p q e = found t k v (ap (tag_field tag) (value_same t u map s r x p q).0 ∙ e)
-
-  pub tag_none : (t : Tree) → tag_field tag t ≡ None → by_shape (internal tag) f t ≡ None
-  tag_none = none
 
 -- what the data gives, through a function of its content
 pub inside-mapped : {C D : Type 0} (tag : Name) (of : Tree → Option C) (g : C → D) (t : Tree) → inside_of tag (λ u. option_map g (of u)) t ≡ option_map g (inside_of tag of t)

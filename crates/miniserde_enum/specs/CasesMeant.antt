@@ -76,13 +76,15 @@ enum_meant n names distinct values =
     meant (λ v. n.content (values v)) (enum_of n names) (enum_reads n names values)
     (λ t v. n.agrees external names distinct t (values v))
 
--- the same three of an internally tagged enum, by the name of its tag
+-- the content that a tree gives of an internally tagged enum, by the names of its tag and of its variants
 abbrev pub tagged_of : {V : Type 0} (n : CasesMeant V) → Name → List Name → Tree → Option n.Content
 tagged_of n tag names = by_shape (internal tag) (n.by_case names)
 
+-- the tree means the internally tagged enum, by the names of its tag and of its variants and by the variants' values
 abbrev pub tagged_reads : {V W : Type 0} (n : CasesMeant V) → Name → List Name → (W → V) → Tree → W → Type 0
 tagged_reads n tag names values t v = n.reads (internal tag) names t (values v)
 
+-- the meaning of an internally tagged enum, by the names of its tag and of its variants and by the variants' values
 abbrev pub tagged_meant : {V W : Type 0} (n : CasesMeant V) → Name → (names : List Name) → are_distinct names ≡ true → (W → V) → Meant W
 tagged_meant n tag names distinct values =
     meant (λ v. n.content (values v)) (tagged_of n tag names) (tagged_reads n tag names values)

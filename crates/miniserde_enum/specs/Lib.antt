@@ -7,4 +7,5 @@ pub mod NoFields
 pub mod Objects
 pub mod Shape
 pub mod Stable
+pub mod TagName
 pub mod laws

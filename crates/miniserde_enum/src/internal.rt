@@ -8,49 +8,32 @@ ghost use Rattle.miniserde_enum.specs.Shape.{internal};
 ghost use Rattle.miniserde_enum.specs.CasesMeant.{tagged_of};
 
 use crate::inside::InsideCases;
+use crate::tag_name::TagName;
 use crate::tagged::{HasTag, Tagged};
 use miniserde_model::error::{Error, Result};
 use miniserde_read::Source;
 use miniserde_record::record::{NoSlot, Parts, Record, Slot, Slots, read_record};
 use miniserde_text::json::lex::Event;
-use std::marker::PhantomData;
 
 // The tag of an object of the enum `E`.
-struct TagText<E> {
-    name: String,
-    of: PhantomData<E>,
+#[derive(Drop)]
+struct Tag<E> {
+    name: TagName<E>,
 }
 
-impl<E> Drop for TagText<E> {
-    fn drop(self) {
-        let TagText { name, of: _ } = self;
-        drop(name);
-    }
-}
+// The one field of a `Tag`.
+type TagFields<E> = Slot<TagName<E>, NoSlot>;
 
-impl<E> TagText<E> {
-    // Returns the name of the variant.
-    fn name(self) -> String
-        ensures { result ≡ self.name }
-    {
-        let TagText { name, of: _ } = self;
-        name
-    }
-}
-
-// Its one field.
-type TagFields = Slot<String, NoSlot>;
-
-impl<E: HasTag> Record for TagText<E> {
+impl<E: Tagged + HasTag> Record for Tag<E> {
     ghost use Rattle.std.specs.Prelude.{refl, [], ◌∷◌};
 
-    type Values = <TagFields as Slots>::Values;
+    type Values = <TagFields<E> as Slots>::Values;
 
     ghost names = { E.tag ∷ [] };
 
     ghost values = { λ v. (v.name, tt) };
 
-    ghost made = { λ x. record { name = x.0; of = _ } };
+    ghost made = { λ x. record { name = x.0 } };
 
     ghost whole = { (λ v. refl, λ x. refl) };
 
@@ -60,12 +43,9 @@ impl<E: HasTag> Record for TagText<E> {
         E::tag()
     }
 
-    fn build(parts: Self::Values) -> TagText<E> {
+    fn build(parts: Self::Values) -> Tag<E> {
         let Parts(name, ()) = parts;
-        TagText {
-            name,
-            of: PhantomData,
-        }
+        Tag { name }
     }
 }
 
@@ -89,8 +69,11 @@ pub fn read_tagged<'a, E: Tagged + HasTag, C: InsideCases<Values = E::Values>>(
         return Err(Error::Invalid);
     };
     let mut ahead = source.fork();
-    let name = read_record::<TagText<E>, TagFields>(token, &mut ahead)?.name();
-    let value = C::read_inside::<E>(E::names(), name.as_str(), token, source)?;
+    let tag = read_record::<Tag<E>, TagFields<E>>(token, &mut ahead)?;
+    let Some(name) = tag.name.known else {
+        return Err(Error::Invalid);
+    };
+    let value = C::read_inside::<E>(E::names(), name, token, source)?;
     Ok(E::build(value))
 }
 

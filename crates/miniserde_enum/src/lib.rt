@@ -11,6 +11,7 @@ mod no_fields;
 mod one_of;
 mod reading;
 mod stable;
+mod tag_name;
 mod tagged;
 mod writing;
 

@@ -9,7 +9,7 @@ use crate::tagged::HasTag;
 use miniserde_keys::Ranged;
 use miniserde_model::error::Result;
 use miniserde_read::{FromJson, Source};
-use miniserde_record::record::{Members, NoSlot, Record, Slots, read_record, write_members};
+use miniserde_record::record::{NoSlot, Record, Slots, read_record, write_members};
 use miniserde_round::{Lossless, NeverNull, RoundTrip};
 use miniserde_ser::ser::{Serialize, Writer};
 use miniserde_stable::Stable;
@@ -90,8 +90,8 @@ impl Inside for NoFields {
         read_record::<NoFields, BesideTag<E, NoSlot>>(token, source)
     }
 
-    fn write_inside(&self, w: &mut Writer) -> Result<()> {
-        ().write(w, &[])
+    fn write_inside(&self, _w: &mut Writer) -> Result<()> {
+        Ok(())
     }
 
     fn is_object() {

@@ -1,0 +1,20 @@
+-- The tag of an internally tagged enum: a string, which is the name of a variant or not.
+use Rattle.std.specs.Prelude.{◌≡◌, cond, List, [], ◌∷◌, Option, Some, None, option_map, bytes_eq}
+use Rattle.miniserde_model.specs.Tree.{Tree}
+use Rattle.miniserde_read.specs.Meant.{Meant, meant}
+use Rattle.miniserde_read.specs.meaning.Objects.{Name}
+use Rattle.miniserde_read.specs.meaning.Words.{string_of}
+
+-- the first of the names that is equal to n
+abbrev pub known : List Name → Name → Option Name
+known [] n = None
+known (m ∷ ms) n = cond (bytes_eq n m) (Some m) (known ms n)
+
+-- a string gives the name that is equal to it, or none if there is no such name, and any other tree gives nothing
+abbrev pub tag_name_of : List Name → Tree → Option (Option Name)
+tag_name_of names t = option_map (known names) (string_of t)
+
+-- the meaning of a tag, by the variants' names
+abbrev pub tag_name_meant : {W : Type 0} → List Name → (W → Option Name) → Meant W
+tag_name_meant names name =
+    meant name (tag_name_of names) (λ t w. tag_name_of names t ≡ Some (name w)) (λ t w. (λ e. e, λ e. e))

@@ -1,0 +1,63 @@
+//! The tag of an internally tagged enum, as the name of a variant.
+ghost use Rattle.std.specs.Prelude.{◌≡◌, true, refl, map, option_map};
+ghost use Rattle.miniserde_enum.specs.TagName.{known, tag_name_meant};
+
+use crate::tagged::Tagged;
+use miniserde_model::error::{Error, Result};
+use miniserde_read::{FromJson, Leaf, Source, Step, read_leaf};
+use miniserde_text::json::lex::Event;
+use std::alloc::Global;
+use std::marker::PhantomData;
+
+/// The name of a variant of the enum `E`, or `None` for a string that is no variant's name.
+#[derive(Drop)]
+pub(crate) struct TagName<E> {
+    pub(crate) known: Option<&'static str>,
+    of: PhantomData<E>,
+}
+
+// Returns the first of the names that is equal to `name`.
+fn find_name(names: &'static [&'static str], name: &str) -> Option<&'static str>
+    ensures { option_map (λ n. n.now) result ≡ known (map (λ n. n.now) names.now) name.now }
+{
+    for known in names {
+        if name == *known {
+            return Some(*known);
+        }
+    }
+    None
+}
+
+impl<E: Tagged> Leaf for TagName<E> {
+    ghost means = { tag_name_meant E.names (λ v. option_map (λ n. n.now) v.known) };
+
+    ghost only_leaves = { (λ ts. refl, λ ms. refl) };
+
+    ghost read_infallible = { true };
+
+    #[inline(always)]
+    fn from_step(_alloc: Global, event: Step<'_>) -> Result<TagName<E>> {
+        match event {
+            Step::Str(name) => Ok(TagName {
+                known: find_name(E::names(), name),
+                of: PhantomData,
+            }),
+            _ => Err(Error::Invalid),
+        }
+    }
+}
+
+impl<E: Tagged> FromJson for TagName<E> {
+    ghost means = { tag_name_meant E.names (λ v. option_map (λ n. n.now) v.known) };
+
+    ghost read_infallible = { true };
+
+    fn missing() -> Option<TagName<E>> {
+        None
+    }
+
+    #[inline(always)]
+    fn read<'a>(token: Event<'a>, source: &mut Source<'a>) -> Result<TagName<E>> {
+        read_leaf(token, source)
+    }
+}
