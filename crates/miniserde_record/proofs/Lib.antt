@@ -1,3 +1,4 @@
+pub mod Aliases
 pub mod Due
 pub mod Named
 pub mod Rounds

@@ -1,10 +1,13 @@
 -- The meaning of a struct, by the meanings and the marks of its fields.
+use Rattle.std.proofs.Common.{◌∙◌}
 use Rattle.std.specs.Prelude.{◌≡◌, ◌↔◌, refl, ℕ, ◌+◌, Bool, true, false, cond, List, Option, Some, None, option_and_then, ⊤}
 use Rattle.miniserde_model.specs.Tree.{Tree, Members}
 use Rattle.miniserde_read.specs.Meant.{Meant, meant}
 use Rattle.miniserde_read.specs.meaning.Objects.{Name, object_of, all_members}
+use Rattle.miniserde_record.specs.Aliases.{counts_as, counted_as}
 use Rattle.miniserde_record.specs.Fields.{field_member, field_refuses, field_closed, field_given, missing_content, MissingReads, FieldsRead, StructReads}
 use Rattle.miniserde_record.specs.Marks.{are_none}
+use Rattle.miniserde_record.specs.laws.Aliases.{alias-apart}
 use Rattle.miniserde_record.specs.laws.Fields.{none-refused, field-refused, none-apart, closed-apart, field-apart}
 use Rattle.miniserde_record.specs.laws.Meanings.{none-given, closed-given, missing-agrees, field-given, struct-given}
 
@@ -86,6 +89,24 @@ field_and once given m absent n = record {
   members_agree = field-apart once m.from_tree (missing_content m given absent) n.by_tree n.end n.from_members n.members_agree;
   reads = FieldsRead once m.reads m.from_tree (MissingReads m given absent) n.reads;
   reads_agrees = field-given once m (missing_content m given absent) (MissingReads m given absent) (missing-agrees m given absent) n.reads n.from_members n.content n.empty n.reads_agrees;
+}
+
+-- aliases: a member of an alias counts as one of its field's name
+abbrev pub with_aliases : {V : Type 0} → List (Name × Name) → FieldsMeant V → FieldsMeant V
+with_aliases ps n = record {
+  Content = n.Content;
+  content = n.content;
+  State = n.State;
+  empty = n.empty;
+  count = n.count;
+  by_tree = λ names s k t. n.by_tree names s (counts_as ps k) t;
+  refuses = λ names s k. n.refuses names s (counts_as ps k);
+  refused = λ names s k h t. n.refused names s (counts_as ps k) h t;
+  end = n.end;
+  from_members = λ names s ms. n.from_members names s (counted_as ps ms);
+  members_agree = λ names s ms. alias-apart ps (n.by_tree names) n.end s ms ∙ n.members_agree names s (counted_as ps ms);
+  reads = λ names ms v. n.reads names (counted_as ps ms) v;
+  reads_agrees = λ names ms v. n.reads_agrees names (counted_as ps ms) v;
 }
 
 -- a struct, by the names and the values of its fields

@@ -1,6 +1,7 @@
 //! What a struct or a unit enum says of itself, and how it is read and written by that.
 
 mod again;
+mod aliases;
 mod blocks;
 mod lossless;
 mod marks;
@@ -13,6 +14,7 @@ mod structs;
 mod taken;
 
 pub use again::{AgainFields, record_again};
+pub use aliases::{Aliased, HasAliases, aliased_again};
 pub use blocks::{FourSlot, MarkedFour};
 pub use lossless::{LosslessFields, record_lossless};
 pub use marks::{Closed, Empty, Given, Mark, Once, Plain, Repeats, WithDefault};

@@ -1,0 +1,97 @@
+//! Structs whose fields have other names too, by which they are read.
+ghost use Rattle.std.specs.Prelude.{◌≡◌, true, List, length, map};
+ghost use Rattle.miniserde_read.specs.meaning.Objects.{Name};
+ghost use Rattle.miniserde_round.specs.RoundTrip.{ReadsAgain};
+ghost use Rattle.miniserde_record.specs.Aliases.{counts_as, are_themselves};
+ghost use Rattle.miniserde_record.specs.FieldsMeant.{struct_meant, with_aliases};
+ghost use Rattle.miniserde_record.specs.Structs.{record_tree};
+
+use super::again::{AgainFields, record_again};
+use super::slots::Slots;
+use super::structs::Record;
+use miniserde_model::error::Result;
+use miniserde_read::Source;
+use std::alloc::Global;
+use std::marker::PhantomData;
+
+/// A struct whose fields have aliases.
+pub trait HasAliases: Record {
+    // Each alias, with the name of its field.
+    ghost aliases: { List (Name × Name) };
+
+    /// Returns each alias, with the name of its field.
+    fn aliases() -> &'static [(&'static str, &'static str)]
+        ensures { map (λ p. (p.0.now, p.1.now)) result.now ≡ aliases };
+
+    // Each field's name counts as itself.
+    ghost apart: { are_themselves aliases Self.names ≡ true };
+}
+
+// Returns the name that a member of the name counts by.
+fn counted<'a>(aliases: &[(&'static str, &'static str)], name: &'a str) -> &'a str
+    ensures { result.now ≡ counts_as (map (λ p. (p.0.now, p.1.now)) aliases.now) name.now }
+{
+    for (alias, field) in aliases {
+        if name == *alias {
+            return field;
+        }
+    }
+    name
+}
+
+/// The fields of the struct `S`, which are read by their aliases too: a member of an alias counts as one of the field's
+/// name.
+pub struct Aliased<S, F> {
+    fields: F,
+    of: PhantomData<S>,
+}
+
+impl<S, F: Drop> Drop for Aliased<S, F> {
+    fn drop(self) {
+        let Aliased { fields, of: _ } = self;
+        drop(fields);
+    }
+}
+
+impl<S: HasAliases, F: Slots> Slots for Aliased<S, F> {
+    type Values = F::Values;
+
+    ghost meaning = { with_aliases S.aliases F.meaning };
+
+    ghost state = { λ f. F.state f.fields };
+
+    ghost end_infallible = { F.end_infallible };
+
+    fn new() -> Aliased<S, F> {
+        Aliased {
+            fields: F::new(),
+            of: PhantomData,
+        }
+    }
+
+    #[inline(always)]
+    fn read_member<'a>(
+        &mut self,
+        names: &[&str],
+        name: &str,
+        source: &mut Source<'a>,
+    ) -> Result<()> {
+        self.fields
+            .read_member(names, counted(S::aliases(), name), source)
+    }
+
+    fn end(self, alloc: Global) -> Result<F::Values> {
+        let Aliased { fields, of: _ } = self;
+        fields.end(alloc)
+    }
+}
+
+/// Does nothing. It promises the round trip of a struct with aliases, which is written by its fields' names.
+pub fn aliased_again<S: HasAliases, F: AgainFields<Values = S::Values>>()
+    requires { length S.names ≡ F.meaning.count }
+    ensures { (v : S) → F.real (S.values v)
+        → ReadsAgain (λ v. F.real (S.values v)) (record_tree S.names F.trees S.values)
+        (struct_meant (with_aliases S.aliases F.meaning) S.names S.values).reads (record_tree S.names F.trees S.values v) }
+{
+    record_again::<S, F>()
+}
