@@ -19,27 +19,27 @@ compact_children-snoc : {A : Type 0} (f : A → Tree) (xs : List A) (x : A) (b :
 compact_children-snoc f [] x b s n = rw (s refl) (grind (arith, append-nil {A = ℕ}))
 compact_children-snoc f (y ∷ ys) x b s n = let e : b ≡ false = n (omega arith) in rw e (grind (arith, append_assoc {A = ℕ}, compact_more-snoc f ys x))
 
-pub AreTrees_more : {A : Type 0} (f : A → Tree) (xs : List A) (x : A) → AreTrees (trees_of f xs) → IsTree (f x) → AreTrees (trees_of f (xs ++ x ∷ []))
-AreTrees_more f [] x h r = (r, tt)
-AreTrees_more f (y ∷ ys) x h r = (h.0, AreTrees_more f ys x h.1 r)
+pub AreTrees-snoc : {A : Type 0} (f : A → Tree) (xs : List A) (x : A) → AreTrees (trees_of f xs) → IsTree (f x) → AreTrees (trees_of f (xs ++ x ∷ []))
+AreTrees-snoc f [] x h r = (r, tt)
+AreTrees-snoc f (y ∷ ys) x h r = (h.0, AreTrees-snoc f ys x h.1 r)
 
 pub took : {A : Type 0} (xs : List A) (i : ℕ) (x : A) → i < length xs → x ≡ get_or xs i x → take (i + 1) xs ≡ take i xs ++ x ∷ []
 took xs i x h e = take_more xs i x h ∙ ap (λ y. take i xs ++ y ∷ []) (sym e)
 
 -- what a turn of a loop over a list appends to the text of the n elements so far
-pub compact_children_more : {A : Type 0} (f : A → Tree) (xs : List A) (x : A) (n : ℕ) (b : Bool) (pre old mid new : List ℕ) → length xs ≡ n → (n ≡ 0 → b ≡ true) → (0 < n → b ≡ false) → old ≡ pre ++ compact_children (trees_of f xs) → mid ≡ old ++ cond b [] (44 ∷ []) → new ≡ mid ++ compact (f x) → new ≡ pre ++ compact_children (trees_of f (xs ++ x ∷ []))
-compact_children_more f xs x n b pre old mid new len s l o m w =
+pub compact_children_turn : {A : Type 0} (f : A → Tree) (xs : List A) (x : A) (n : ℕ) (b : Bool) (pre old mid new : List ℕ) → length xs ≡ n → (n ≡ 0 → b ≡ true) → (0 < n → b ≡ false) → old ≡ pre ++ compact_children (trees_of f xs) → mid ≡ old ++ cond b [] (44 ∷ []) → new ≡ mid ++ compact (f x) → new ≡ pre ++ compact_children (trees_of f (xs ++ x ∷ []))
+compact_children_turn f xs x n b pre old mid new len s l o m w =
     let grown = compact_children-snoc f xs x b (λ z. s (sym len ∙ z)) (λ z. l (omega (arith, len))) in
     rw (w, m, o, grown) (simp append_assoc refl)
 
 -- the same by the index of the element
 pub compact_children_step : {A : Type 0} (f : A → Tree) (xs : List A) (i : ℕ) (x : A) (b : Bool) (pre old mid new : List ℕ) → i < length xs → x ≡ get_or xs i x → (i ≡ 0 → b ≡ true) → (0 < i → b ≡ false) → old ≡ pre ++ compact_children (trees_of f (take i xs)) → mid ≡ old ++ cond b [] (44 ∷ []) → new ≡ mid ++ compact (f x) → new ≡ pre ++ compact_children (trees_of f (take (i + 1) xs))
 compact_children_step f xs i x b pre old mid new h e s n o m w =
-    rw (took xs i x h e) (compact_children_more f (take i xs) x i b pre old mid new (length-take-le i xs (omega arith)) s n o m w)
+    rw (took xs i x h e) (compact_children_turn f (take i xs) x i b pre old mid new (length-take-le i xs (omega arith)) s n o m w)
 
 -- the trees of the elements so far are trees
 pub AreTrees_step : {A : Type 0} (f : A → Tree) (xs : List A) (i : ℕ) (x : A) → i < length xs → x ≡ get_or xs i x → AreTrees (trees_of f (take i xs)) → IsTree (f x) → AreTrees (trees_of f (take (i + 1) xs))
-AreTrees_step f xs i x h e a r = rw (took xs i x h e) (AreTrees_more f (take i xs) x a r)
+AreTrees_step f xs i x h e a r = rw (took xs i x h e) (AreTrees-snoc f (take i xs) x a r)
 
 -- what a last piece makes of the text of all items before it
 pub appends_text : (old new : Writing) (bs whole : List ℕ) (first : Bool) (r : Result (Unit {0}) Error) → Appends old bs first r new → old.text ++ bs ≡ whole → OnOk r (new.text ≡ whole)
