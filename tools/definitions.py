@@ -198,7 +198,7 @@ def variant_field(text, line, above):
 def check_default(of, default, line):
     """Refuses a default that is no value of the field's type."""
     if default == "":
-        fits = of in ("bool", "String") or INTEGER.fullmatch(of) or re.match(r"(Vec|BTreeMap|HashMap|Option)<", of)
+        fits = of in ("bool", "String") or INTEGER.fullmatch(of) or re.match(r"(Vec|VecDeque|BTreeMap|HashMap|Option)<", of)
     elif default[0] == '"':
         fits = of == "String"
     elif default in ("true", "false"):
@@ -330,5 +330,5 @@ def check(found, uses):
     check_cycles(found)
     check_omitted(found, uses)
     mark_never_null(found)
-    check_places(found)
+    check_places(found, uses)
     check_stable(found, uses)

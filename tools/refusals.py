@@ -23,7 +23,7 @@ OF_RUST = "Box Err List None Ok Option Self Some String Vec"
 
 # Types of other modules that fields often have, by their module.
 IMPORTED = {
-    "std::collections": "BTreeMap HashMap",
+    "std::collections": "BTreeMap HashMap VecDeque",
     "miniserde::json": "Array Document Number Object Unique Value",
 }
 
@@ -37,7 +37,7 @@ UNREAD = {
     "f32 f64": "`miniserde::json::Number` keeps a fraction as its text",
     "i128 u128": "an integer of 64 bits, or `miniserde::json::Number`, which keeps any number",
     "char str OsString Path PathBuf": "`String`",
-    "BTreeSet BinaryHeap HashSet LinkedList VecDeque": "`Vec`",
+    "BTreeSet BinaryHeap HashSet LinkedList": "`Vec`",
     "Arc Cell Cow Mutex Rc RefCell": "the type in it, or a `Box` of that",
     "Duration Instant SystemTime": "an integer, or a newtype by hand (docs/BY-HAND.md)",
     "Result": "a struct of two `Option`s",
@@ -234,13 +234,21 @@ def check_foreign_marks(it):
         raise Refused(f"line {it.line}: `{it.name}` has marks that a place does not know: leave out `events`, `closed` or the fields' marks")
 
 
-def check_places(found):
-    """Refuses a struct with a place around a type of the same file without one."""
+def names_beside(module, found, uses):
+    """The names that a file defines, or imports from elsewhere than a module."""
+    return {name for line in uses if re.match(rf"(pub )?use (?!{module}\b)", line) for name in re.findall(NAME, line)} | {it.name for it in found}
+
+
+def check_places(found, uses):
+    """Refuses a struct with a place around a type without one: a longer tuple, a queue, or a type of the same file."""
     without = {it.name: it for it in found if "events" not in it.words}
+    foreign = names_beside("std::collections", found, uses)
     for it in found:
         for part in it.parts if "events" in it.words else []:
             if widest_tuple(part.of) > 2:
                 raise Refused(f"line {part.line}: `{it.name}` has a place, and a tuple of three and more has none: leave out `events`, or write pairs: {part.of}")
+            if "VecDeque" not in foreign and re.search(r"(?:(?<![\w:])|(?<=collections::))VecDeque\b", part.of):
+                raise Refused(f"line {part.line}: `{it.name}` has a place, and a `VecDeque` has none: leave out `events`, or write a `Vec`: {part.of}")
             inner = without.keys() & set(re.findall(NAME, part.of))
             if inner:
                 each = sorted(inner)[0]
@@ -254,8 +262,7 @@ def check_places(found):
 def check_stable(found, uses):
     """Refuses a `stable` type with a field that is not: a document, a map with integer keys, or a type of the same file without the word."""
     plain = {it.name for it in found if "stable" not in it.words}
-    foreign = {name for line in uses if re.match(r"(pub )?use (?!miniserde::json)", line) for name in re.findall(NAME, line)} | {it.name for it in found}
-    documents = {"Array", "Number", "Object", "Unique", "Value"} - foreign
+    documents = {"Array", "Number", "Object", "Unique", "Value"} - names_beside("miniserde::json", found, uses)
     for it in found:
         for part in it.parts if "stable" in it.words else []:
             for name in re.findall(rf"(?:(?<![\w:])|(?<=json::)){NAME}", part.of):

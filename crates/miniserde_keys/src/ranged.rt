@@ -9,7 +9,7 @@ ghost use Rattle.miniserde_keys.specs.Ranged.{OptionReal};
 
 mod tuples;
 
-use std::collections::{BTreeMap, HashMap};
+use std::collections::{BTreeMap, HashMap, VecDeque};
 use std::hash::{BuildHasher, Hash};
 
 /// A type with a validity predicate. A clause can name a number out of an integer's range, or a `BTreeMap` whose keys are
@@ -171,6 +171,16 @@ impl<T: Ranged> Ranged for Vec<T> {
 
     fn ranged(&self) {
         ranged_all(self.as_slice())
+    }
+}
+
+impl<T: Ranged> Ranged for VecDeque<T> {
+    ghost real = { λ q. AllByRecursion T.real q.items };
+
+    fn ranged(&self) {
+        for item in self {
+            item.ranged();
+        }
     }
 }
 

@@ -7,7 +7,7 @@ use crate::round_trip::{RoundTrip, read_again};
 use miniserde_keys::{MapKey, WholeKey};
 use miniserde_model::error::Result;
 use std::alloc::Global;
-use std::collections::{BTreeMap, HashMap};
+use std::collections::{BTreeMap, HashMap, VecDeque};
 use std::hash::{BuildHasher, Hash};
 
 /// A type whose values count as the same where they are written alike, so that each is read again as itself.
@@ -57,6 +57,12 @@ impl<T: Lossless> Lossless for Vec<T> {
     }
 }
 
+impl<T: Lossless> Lossless for VecDeque<T> {
+    fn lossless() {
+        T::lossless()
+    }
+}
+
 impl<T: Lossless, const N: usize> Lossless for [T; N] {
     fn lossless() {
         T::lossless()
@@ -97,6 +103,10 @@ impl<K: MapKey + Hash + WholeKey, V: Lossless, H: BuildHasher + Default + Drop> 
 }
 
 impl<T: RoundTrip> NeverNull for Vec<T> {
+    fn never_null() {}
+}
+
+impl<T: RoundTrip> NeverNull for VecDeque<T> {
     fn never_null() {}
 }
 

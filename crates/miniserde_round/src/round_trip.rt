@@ -10,7 +10,7 @@ use miniserde_model::error::{Error, Result};
 use miniserde_read::{FromJson, from_str};
 use miniserde_ser::ser::{Serialize, to_string};
 use std::alloc::Global;
-use std::collections::{BTreeMap, HashMap};
+use std::collections::{BTreeMap, HashMap, VecDeque};
 use std::hash::{BuildHasher, Hash};
 
 /// A type whose values read back as they were written.
@@ -65,6 +65,12 @@ impl RoundTrip for () {
 }
 
 impl<T: RoundTrip> RoundTrip for Vec<T> {
+    fn again() {
+        T::again()
+    }
+}
+
+impl<T: RoundTrip> RoundTrip for VecDeque<T> {
     fn again() {
         T::again()
     }

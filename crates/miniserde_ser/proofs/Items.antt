@@ -19,19 +19,23 @@ compact_children-snoc : {A : Type 0} (f : A → Tree) (xs : List A) (x : A) (b :
 compact_children-snoc f [] x b s n = rw (s refl) (grind (arith, append-nil {A = ℕ}))
 compact_children-snoc f (y ∷ ys) x b s n = let e : b ≡ false = n (omega arith) in rw e (grind (arith, append_assoc {A = ℕ}, compact_more-snoc f ys x))
 
-AreTrees-snoc : {A : Type 0} (f : A → Tree) (xs : List A) (x : A) → AreTrees (trees_of f xs) → IsTree (f x) → AreTrees (trees_of f (xs ++ x ∷ []))
+pub AreTrees-snoc : {A : Type 0} (f : A → Tree) (xs : List A) (x : A) → AreTrees (trees_of f xs) → IsTree (f x) → AreTrees (trees_of f (xs ++ x ∷ []))
 AreTrees-snoc f [] x h r = (r, tt)
 AreTrees-snoc f (y ∷ ys) x h r = (h.0, AreTrees-snoc f ys x h.1 r)
 
 pub took : {A : Type 0} (xs : List A) (i : ℕ) (x : A) → i < length xs → x ≡ get_or xs i x → take (i + 1) xs ≡ take i xs ++ x ∷ []
 took xs i x h e = take_more xs i x h ∙ ap (λ y. take i xs ++ y ∷ []) (sym e)
 
--- what a turn of the loop over a list appends
+-- what a turn of a loop over a list appends to the text of the n elements so far
+pub compact_children_turn : {A : Type 0} (f : A → Tree) (xs : List A) (x : A) (n : ℕ) (b : Bool) (pre old mid new : List ℕ) → length xs ≡ n → (n ≡ 0 → b ≡ true) → (0 < n → b ≡ false) → old ≡ pre ++ compact_children (trees_of f xs) → mid ≡ old ++ cond b [] (44 ∷ []) → new ≡ mid ++ compact (f x) → new ≡ pre ++ compact_children (trees_of f (xs ++ x ∷ []))
+compact_children_turn f xs x n b pre old mid new len s l o m w =
+    let grown = compact_children-snoc f xs x b (λ z. s (sym len ∙ z)) (λ z. l (omega (arith, len))) in
+    rw (w, m, o, grown) (simp append_assoc refl)
+
+-- the same by the index of the element
 pub compact_children_step : {A : Type 0} (f : A → Tree) (xs : List A) (i : ℕ) (x : A) (b : Bool) (pre old mid new : List ℕ) → i < length xs → x ≡ get_or xs i x → (i ≡ 0 → b ≡ true) → (0 < i → b ≡ false) → old ≡ pre ++ compact_children (trees_of f (take i xs)) → mid ≡ old ++ cond b [] (44 ∷ []) → new ≡ mid ++ compact (f x) → new ≡ pre ++ compact_children (trees_of f (take (i + 1) xs))
 compact_children_step f xs i x b pre old mid new h e s n o m w =
-    let len : length (take i xs) ≡ i = length-take-le i xs (omega arith) in
-    let grown = compact_children-snoc f (take i xs) x b (λ z. s (sym len ∙ z)) (λ z. n (omega (arith, len))) in
-    rw (w, m, o, took xs i x h e, grown) (simp append_assoc refl)
+    rw (took xs i x h e) (compact_children_turn f (take i xs) x i b pre old mid new (length-take-le i xs (omega arith)) s n o m w)
 
 -- the trees of the elements so far are trees
 pub AreTrees_step : {A : Type 0} (f : A → Tree) (xs : List A) (i : ℕ) (x : A) → i < length xs → x ≡ get_or xs i x → AreTrees (trees_of f (take i xs)) → IsTree (f x) → AreTrees (trees_of f (take (i + 1) xs))

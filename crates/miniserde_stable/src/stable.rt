@@ -7,7 +7,7 @@ ghost use Rattle.miniserde_stable.specs.Stable.{IsStable};
 use crate::exact::ExactKey;
 use miniserde_keys::MapKey;
 use miniserde_read::{FromJson, Ignored};
-use std::collections::{BTreeMap, HashMap};
+use std::collections::{BTreeMap, HashMap, VecDeque};
 use std::hash::{BuildHasher, Hash};
 
 /// A type that is read from the canonical text of a text as from the text itself.
@@ -97,6 +97,12 @@ impl Stable for isize {
 }
 
 impl<T: Stable> Stable for Vec<T> {
+    fn stable() {
+        T::stable()
+    }
+}
+
+impl<T: Stable> Stable for VecDeque<T> {
     fn stable() {
         T::stable()
     }

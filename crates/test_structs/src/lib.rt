@@ -8,6 +8,10 @@ mod generics;
 #[cfg(test)]
 mod hosts;
 #[cfg(test)]
+mod jobs;
+#[cfg(test)]
+mod queues;
+#[cfg(test)]
 mod renamed;
 #[cfg(test)]
 mod renames;

@@ -9,6 +9,8 @@ mod lists;
 #[cfg(test)]
 mod maps;
 #[cfg(test)]
+mod queues;
+#[cfg(test)]
 mod scalars;
 #[cfg(test)]
 mod shapes;

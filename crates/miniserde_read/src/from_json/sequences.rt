@@ -5,6 +5,7 @@ use super::FromJson;
 use crate::source::Source;
 use miniserde_model::error::{Error, Result};
 use miniserde_text::json::lex::Event;
+use std::collections::VecDeque;
 
 impl<T: FromJson> FromJson for Vec<T> {
     ghost means = { list_meant T.means (λ v. v.items) };
@@ -24,5 +25,18 @@ impl<T: FromJson> FromJson for Vec<T> {
             first = false;
         }
         Ok(items)
+    }
+}
+
+impl<T: FromJson> FromJson for VecDeque<T> {
+    ghost means = { list_meant T.means (λ q. q.items) };
+
+    fn missing() -> Option<VecDeque<T>> {
+        None
+    }
+
+    fn read<'a>(token: Event<'a>, source: &mut Source<'a>) -> Result<VecDeque<T>> {
+        let items = <Vec<T> as FromJson>::read(token, source)?;
+        Ok(VecDeque::from(items))
     }
 }

@@ -7,7 +7,7 @@ use miniserde_keys::MapKey;
 use miniserde_model::error::Result;
 use miniserde_read::FromJson;
 use std::alloc::Global;
-use std::collections::{BTreeMap, HashMap};
+use std::collections::{BTreeMap, HashMap, VecDeque};
 use std::hash::{BuildHasher, Hash};
 
 /// The value of a missing field: `false`, zero, `None`, or an empty text, list or map.
@@ -43,6 +43,14 @@ impl<T: FromJson> Given<Vec<T>> for Empty {
 
     fn make(alloc: Global) -> Result<Vec<T>> {
         Ok(Vec::new(alloc))
+    }
+}
+
+impl<T: FromJson> Given<VecDeque<T>> for Empty {
+    ghost given = { list no_trees };
+
+    fn make(alloc: Global) -> Result<VecDeque<T>> {
+        Ok(VecDeque::new(alloc))
     }
 }
 

@@ -8,6 +8,7 @@ ghost use Rattle.miniserde_ser.specs.Trees.{trees_of};
 
 use crate::ser::{Serialize, Writer};
 use miniserde_model::error::Result;
+use std::collections::VecDeque;
 
 // Writes a list of the values.
 fn begin_all<T: Serialize>(items: &[T], w: &mut Writer) -> Result<()>
@@ -48,5 +49,18 @@ impl<T: Serialize> Serialize for Vec<T> {
 
     fn begin(&self, w: &mut Writer) -> Result<()> {
         begin_all(self.as_slice(), w)
+    }
+}
+
+impl<T: Serialize> Serialize for VecDeque<T> {
+    ghost tree = { λ q. list (trees_of T.tree q.items) };
+
+    fn begin(&self, w: &mut Writer) -> Result<()> {
+        w.seq()?;
+        for x in self {
+            w.element()?;
+            x.begin(w)?;
+        }
+        w.seq_finish()
     }
 }
