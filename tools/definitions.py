@@ -14,7 +14,7 @@ class Part:
     """A field or a variant: its name and its name in JSON; and a field's type, the `pub` in front of it and its marks.
 
     `above` are the lines of comments and attributes above it. `default` is the text of the value of a missing field, ""
-    for the empty one and None for no such value; `omit` says that `None` is not written. A variant with data has `values`, the types in its round brackets, or named
+    for the empty one and None for no such value; `omit` says that `None` is not written, and `aliases` are other names that it is read by. A variant with data has `values`, the types in its round brackets, or named
     `fields`; `of` is the type of its data.
     """
 
@@ -27,6 +27,7 @@ class Part:
     once: bool = False
     default: str = None
     omit: bool = False
+    aliases: tuple = ()
     values: tuple = ()
     fields: list = field(default_factory=list)
 
@@ -70,8 +71,8 @@ PARAMS = r"(?:<([^{}]*)>)?"
 HEAD = re.compile(rf"{PUBLIC}(struct|enum)\s+({NAME})\s*{PARAMS}\s*\{{(?:{WORDS})?")
 ON_ONE_LINE = re.compile(rf"({PUBLIC}(?:struct|enum)\s+{NAME}\s*{PARAMS}\s*\{{)((?:[^{{}}]|\{{[^{{}}]*\}})*)\}}({WORDS})?")
 VARIANT = re.compile(rf"({NAME})\s*(?:\((.*)\)|\{{(.*)\}}|(\{{))?,?")
-MARKS = re.compile(r'//\s*((?:once|default|omit|rename|rename_all)\b.*)$')
-MARK = re.compile(r'\s*(?:(once|omit)|default(?:\s+(-?\d+|true|false|"[^"\\]*"))?|rename\s+"([^"\\]*)")\s*(?:,|$)')
+MARKS = re.compile(r'//\s*((?:once|default|omit|alias|rename|rename_all)\b.*)$')
+MARK = re.compile(r'\s*(?:(once|omit)|default(?:\s+(-?\d+|true|false|"[^"\\]*"))?|(rename|alias)\s+"([^"\\]*)")\s*(?:,|$)')
 INTEGER = re.compile(r"[ui](8|16|32|64|size)")
 
 
@@ -124,35 +125,37 @@ def tag_of(kind, words, line):
 
 
 def marks_of(kind, text, line):
-    """The marks behind a field or a variant: its words `once` and `omit`, its default, and its name in JSON."""
-    words, default, rename = set(), None, None
+    """The marks behind a field or a variant: its words `once` and `omit`, its default, its name in JSON, and its aliases."""
+    words, default, rename, aliases = set(), None, None, ()
     while text:
         found = MARK.match(text)
         if not found:
-            raise Refused(f'line {line}: not a mark (`once`, `default VALUE`, `omit`, `rename "x"`): {text.strip()}')
+            raise Refused(f'line {line}: not a mark (`once`, `default VALUE`, `omit`, `rename "x"`, `alias "x"`): {text.strip()}')
         if found.group(1):
             words.add(found.group(1))
-        elif found.group(3) is not None:
-            rename = found.group(3)
+        elif found.group(3) == "rename":
+            rename = found.group(4)
+        elif found.group(3):
+            aliases += (found.group(4),)
         else:
             default = found.group(2) or ""
         text = text[found.end() :]
-    if kind == "enum" and (words or default is not None):
-        raise Refused(f"line {line}: a variant has no value of its own: `once`, `default` and `omit` mark fields")
-    return words, default, rename
+    if kind == "enum" and (words or default is not None or aliases):
+        raise Refused(f"line {line}: a variant has `rename` alone: `once`, `default`, `omit` and `alias` mark fields")
+    return words, default, rename, aliases
 
 
 def part_of(kind, text, line, above, style):
     """The field or variant of a line. Without `rename` its name in JSON has the style."""
     marks = MARKS.search(text)
-    words, default, rename = marks_of(kind, marks.group(1) if marks else "", line)
+    words, default, rename, aliases = marks_of(kind, marks.group(1) if marks else "", line)
     bare = (text[: marks.start()] if marks else text).strip()
     if "//" in bare:
         raise Refused(f"line {line}: a comment that is no mark stands on a line of its own, above the field: {text}")
     part = field_of(bare, line, above, style) if kind == "struct" else variant_of(bare, line, above, style)
     if default is not None:
         check_default(part.of, default, line)
-    part.once, part.omit, part.default = "once" in words, "omit" in words, default
+    part.once, part.omit, part.default, part.aliases = "once" in words, "omit" in words, default, aliases
     part.written = part.written if rename is None else rename
     return part
 

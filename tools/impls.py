@@ -230,7 +230,7 @@ def struct_text(it, path):
 type {typed(it, "Fields")} = {slots_of(it, it.parts)};
 
 const {const_of(it.name)}: &[&str] = &[{", ".join(f'"{part.written}"' for part in it.parts)}];
-{record_text(it, path)}{reading_text(it)}{writing_text(it)}{laws_text(it, "record", f"{typed(it)}, {typed(it, 'Fields')}")}{inside_text(it)}{place_text(it)}"""
+{record_text(it, path)}{aliases_text(it, path)}{reading_text(it)}{writing_text(it)}{laws_text(it, "record", f"{typed(it)}, {typed(it, 'Fields')}")}{inside_text(it)}{place_text(it)}"""
 
 
 def record_text(it, path):
@@ -265,9 +265,43 @@ def record_text(it, path):
 """
 
 
+def has_aliases(it):
+    """Whether a struct is read by other names too."""
+    return any(part.aliases for part in it.parts)
+
+
+def read_fields(it):
+    """The type that reads a struct's fields."""
+    fields = typed(it, "Fields")
+    return f"Aliased<{typed(it)}, {fields}>" if has_aliases(it) else fields
+
+
+def aliases_text(it, path):
+    """The impl that lists the other names of a struct's fields."""
+    if not has_aliases(it):
+        return ""
+    const = const_of(it.name).removesuffix("_NAMES") + "_ALIASES"
+    pairs = ", ".join(f'("{alias}", "{part.written}")' for part in it.parts for alias in part.aliases)
+    return f"""
+const {const}: &[(&str, &str)] = &[{pairs}];
+
+{impl_of(it, "FromJson")} HasAliases for {typed(it)} {{
+    ghost use Rattle.{path}.TheConstants.{{{const}}};
+
+    ghost aliases = {{ aliases_of {const} }};
+
+    ghost apart = {{ refl }};
+
+    fn aliases() -> &'static [(&'static str, &'static str)] {{
+        {const}
+    }}
+}}
+"""
+
+
 def reading_text(it):
     """The impl that reads a struct."""
-    name, fields = typed(it), typed(it, "Fields")
+    name, fields = typed(it), read_fields(it)
     meaning = f"struct_meant {of('Slots', 'meaning', fields)} {of('Record', 'names', name)} {of('Record', 'values', name)}"
     return f"""
 {impl_of(it, "FromJson")} FromJson for {name} {{
@@ -308,7 +342,7 @@ def writing_text(it):
 
 {impl_of(it, "RoundTrip")} RoundTrip for {name} {{
     fn again() {{
-        record_again::<{name}, {fields}>()
+        {"aliased" if has_aliases(it) else "record"}_again::<{name}, {fields}>()
     }}
 }}
 """
@@ -324,7 +358,7 @@ def inside_text(it):
     ghost fields = {{ {of('Record', 'names', name)} }};
 
     fn read_inside<'a, {tagged}: HasTag>(token: Event<'a>, source: &mut Source<'a>) -> Result<{name}> {{
-        read_record::<{name}, BesideTag<{tagged}, {typed(it, "Fields")}>>(token, source)
+        read_record::<{name}, BesideTag<{tagged}, {read_fields(it)}>>(token, source)
     }}
 
     fn write_inside(&self, w: &mut Writer) -> Result<()> {{

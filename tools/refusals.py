@@ -10,11 +10,11 @@ class Refused(Exception):
 
 # What derived code may name.
 NAMED = (
-    "AgainCases AgainFields BesideTag Cases Closed DataCase Deserialize Empty Error Event Field Four FourLent FourSlot Fragment FromJson "
-    "Given Global HasTag Inside InsideCases Lossless MarkedFour MarkedSlot Members NamePlace NeverNull NoCase NoField NoFields NoSlot "
+    "AgainCases AgainFields Aliased BesideTag Cases Closed DataCase Deserialize Empty Error Event Field Four FourLent FourSlot Fragment FromJson "
+    "Given Global HasAliases HasTag Inside InsideCases Lossless MarkedFour MarkedSlot Members NamePlace NeverNull NoCase NoField NoFields NoSlot "
     "OmitSlot Omitted Once OnceField OnceFour OnceSlot OneOf "
     "Parts PlacedRecord Plain Ranged Record RecordPlace Result RoundTrip Serialize Slot Slots Source Stable Step Tagged Taken4 "
-    "UnitCase UnitEnum Variants Visitor WithDefault Writer enum_again enum_lossless enum_stable fields_named read_enum read_record "
+    "UnitCase UnitEnum Variants Visitor WithDefault Writer aliased_again enum_again enum_lossless enum_stable fields_named read_enum read_record "
     "read_tagged read_variant record_again record_lossless record_stable tag_fits tagged_again tagged_lossless tagged_stable take4 "
     "variant_again variant_lossless variant_stable write_data write_fields write_members write_tagged write_tagged_fields"
 )
@@ -131,6 +131,11 @@ def check_written(it):
         if part.written in seen:
             raise Refused(f'line {part.line}: `{part.name}` is "{part.written}" in JSON, and so is `{seen[part.written].name}` on line {seen[part.written].line}')
         seen[part.written] = part
+    for part in it.parts:
+        for name in part.aliases:
+            if name in seen:
+                raise Refused(f'line {part.line}: "{name}" is a name of `{seen[name].name}` on line {seen[name].line}: leave the alias out')
+            seen[name] = part
 
 
 def check_type_names(found, printed_for):
@@ -212,7 +217,7 @@ def check_inside(it, part, found, known):
     if name in it.params or part.of and (name not in known or name in found and found[name].kind != "struct"):
         raise Refused(f"line {part.line}: beside a tag stand the members of a struct, and `{name}` is none: write {fields}, or a struct with this field")
     for each in found[name].parts if name in found else []:
-        if each.written == it.tag:
+        if it.tag in (each.written, *each.aliases):
             raise Refused(f'line {each.line}: the tag of `{it.name}` is "{it.tag}" in JSON, and so is the field `{each.name}`: call one otherwise')
 
 
@@ -230,7 +235,7 @@ def check_foreign_marks(it):
         raise Refused(f"line {it.line}: `{it.name}` is no struct, and cannot stand beside a tag: leave out `inside`")
     if "events" in it.words and it.params:
         raise Refused(f"line {it.line}: a place has no parameters: leave out `events`, or write `{it.name}` for the types that it is used with")
-    if "events" in it.words and ("closed" in it.words or any(part.once or part.omit or part.default is not None for part in it.parts)):
+    if "events" in it.words and ("closed" in it.words or any(part.once or part.omit or part.default is not None or part.aliases for part in it.parts)):
         raise Refused(f"line {it.line}: `{it.name}` has marks that a place does not know: leave out `events`, `closed` or the fields' marks")
 
 
@@ -265,6 +270,8 @@ def check_stable(found, uses):
     documents = {"Array", "Number", "Object", "Unique", "Value"} - names_beside("miniserde::json", found, uses)
     for it in found:
         for part in it.parts if "stable" in it.words else []:
+            if part.aliases:
+                raise Refused(f"line {part.line}: a struct with an alias is not stable, since sorting two names of a field changes which is the last: leave out `stable`")
             for name in re.findall(rf"(?:(?<![\w:])|(?<=json::)){NAME}", part.of):
                 if name in documents:
                     raise Refused(f"line {part.line}: `{name}` is not stable, since it tells `-0` from `0`: write `miniserde::json::Document`: {part.of}")

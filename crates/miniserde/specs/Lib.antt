@@ -61,6 +61,7 @@ pub use Rattle.miniserde_value.specs.Hole
 pub use Rattle.miniserde_value.specs.Kinds
 pub use Rattle.miniserde_value.specs.Meanings as DocumentMeanings
 pub use Rattle.miniserde_round.specs.RoundTrip
+pub use Rattle.miniserde_record.specs.Aliases
 pub use Rattle.miniserde_record.specs.Fields
 pub use Rattle.miniserde_record.specs.FieldsMeant
 pub use Rattle.miniserde_record.specs.Marks

@@ -5,9 +5,9 @@ pub use miniserde_de::structs::{
     RecordPlace,
 };
 pub use miniserde_record::record::{
-    AgainFields, Closed, Empty, FourLent, FourSlot, Given, Lent, LosslessFields, Mark, MarkedFour,
-    MarkedSlot, Members, NoSlot, Omit, OmitSlot, Omitted, Once, OnceSlot, Parts, Plain, Record,
-    Repeats, Slot, Slots, StableFields, Taken4, UnitEnum, Variant, Variants, WithDefault,
-    read_record, read_variant, record_again, record_lossless, record_stable, take4, variant_again,
-    variant_lossless, variant_stable, write_members,
+    AgainFields, Aliased, Closed, Empty, FourLent, FourSlot, Given, HasAliases, Lent,
+    LosslessFields, Mark, MarkedFour, MarkedSlot, Members, NoSlot, Omit, OmitSlot, Omitted, Once,
+    OnceSlot, Parts, Plain, Record, Repeats, Slot, Slots, StableFields, Taken4, UnitEnum, Variant,
+    Variants, WithDefault, aliased_again, read_record, read_variant, record_again, record_lossless,
+    record_stable, take4, variant_again, variant_lossless, variant_stable, write_members,
 };

@@ -4,6 +4,7 @@ ghost use Rattle.miniserde.specs.Tree.{Tree};
 ghost use Rattle.miniserde.specs.Value.{IsJson};
 ghost use Rattle.test_forms.specs.Parts.{name_in, note_in};
 
+use crate::hosts::Host;
 use crate::keys::Key;
 use crate::notes::{Entry, Note};
 use crate::plans::{Change, Command, Page, Plan};
@@ -100,4 +101,15 @@ pub fn days_of(alloc: Global, text: &str) -> Result<usize>
 {
     let ledger: Ledger = from_str(alloc, text)?;
     Ok(ledger.days.len())
+}
+
+/// Parses a host, by today's names or earlier ones, and returns its port.
+pub fn port_of(alloc: Global, text: &str) -> Result<u16>
+    ensures ok { IfOk result (λ port. (t : Tree) × (h : Host) × IsJson text.now t
+        × ⟦<Host as FromJson>⟧.means.reads t h × (port ≡ h.port)) }
+    ensures invalid { result ≡ Err Error.Invalid → (t : Tree) → IsJson text.now t
+        → (h : Host) → ⟦<Host as FromJson>⟧.means.reads t h → ⊥ }
+{
+    let host: Host = from_str(alloc, text)?;
+    Ok(host.port)
 }

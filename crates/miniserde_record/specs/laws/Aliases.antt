@@ -1,5 +1,5 @@
 -- Members go one by one under the names that they count by as the members by these names do.
-use Rattle.std.proofs.Common.{◌≡◌, List, Option, Some, None, refl, ap, ◌∙◌}
+use Rattle.std.proofs.Common.{◌≡◌, List, Option, Some, None, refl, ap}
 use Rattle.std.specs.Prelude.{option_and_then}
 use Rattle.miniserde_model.specs.Tree.{Tree, Members, no_members, member}
 use Rattle.miniserde_read.specs.meaning.Objects.{Name, all_members}

@@ -1,5 +1,4 @@
-use Rattle.std.proofs.Common.{◌≡◌, sym, subst}
-use Rattle.miniserde_model.specs.Tree.{members}
+use Rattle.std.proofs.Common.{sym, subst}
 use Rattle.miniserde_record.specs.Structs.{with_names}
 use Rattle.miniserde_record.proofs.Aliases.{written_counts}
 use Rattle.miniserde_record.proofs.record.aliases.aliased_again.Goals as goal

@@ -1,0 +1,510 @@
+//! The types of `hosts.rs`, with the impls that `./derive` writes.
+ghost use Rattle.miniserde.specs.Aliases.{aliases_of};
+ghost use Rattle.miniserde.specs.Cases.{each_case, first_case, later_case, no_case, tagged_tree};
+ghost use Rattle.miniserde.specs.CasesMeant.{tagged_meant};
+ghost use Rattle.miniserde.specs.FieldsMeant.{struct_meant};
+ghost use Rattle.miniserde.specs.Structs.{names_of, record_tree};
+ghost use Rattle.miniserde.specs.Tree.{nonneg};
+ghost use Rattle.std.specs.Prelude.{codes, refl};
+
+use miniserde::derived::{
+    AgainCases, AgainFields, Aliased, BesideTag, Closed, DataCase, Event, FromJson, Given, Global,
+    HasAliases, HasTag, Inside, InsideCases, Lossless, MarkedSlot, Members, NeverNull, NoCase,
+    NoSlot, OmitSlot, Omitted, Once, OneOf, Parts, Plain, Ranged, Record, Result, RoundTrip,
+    Serialize, Slot, Slots, Source, Tagged, WithDefault, Writer, aliased_again, fields_named,
+    read_record, read_tagged, record_lossless, tag_fits, tagged_again, tagged_lossless,
+    write_members, write_tagged, write_tagged_fields,
+};
+
+/// A host, which earlier versions named otherwise.
+#[derive(Drop)]
+pub struct Host {
+    pub name: String,
+    pub port: u16,
+    pub note: Option<String>,
+}
+
+/// The value of a missing `port`.
+#[derive(Drop)]
+pub struct HostPortDefault {}
+
+impl Given<u16> for HostPortDefault {
+    ghost given = { nonneg 80 };
+
+    fn make(_alloc: Global) -> Result<u16> {
+        Ok(80)
+    }
+}
+
+// Its fields, and their names.
+type HostFields = Slot<
+    String,
+    MarkedSlot<u16, Once<WithDefault<HostPortDefault>>, OmitSlot<String, Plain, NoSlot>>,
+>;
+
+const HOST_NAMES: &[&str] = &["name", "port", "note"];
+
+impl Record for Host {
+    ghost use Rattle.test_forms.specs.declared.hosts.TheConstants.{HOST_NAMES};
+
+    type Values = <HostFields as Slots>::Values;
+
+    ghost names = { names_of HOST_NAMES };
+
+    ghost values = { λ v. (v.name, (v.port, (v.note, tt))) };
+
+    ghost made = { λ x. record { name = x.0; port = x.1.0; note = x.1.1.0 } };
+
+    ghost whole = { (λ v. refl, λ x. refl) };
+
+    ghost named = { refl };
+
+    fn names() -> &'static [&'static str] {
+        HOST_NAMES
+    }
+
+    fn build(parts: Self::Values) -> Host {
+        let Parts(name, Parts(port, Parts(note, ()))) = parts;
+        Host { name, port, note }
+    }
+}
+
+const HOST_ALIASES: &[(&str, &str)] = &[
+    ("host", "name"),
+    ("hostname", "name"),
+    ("p", "port"),
+    ("remark", "note"),
+];
+
+impl HasAliases for Host {
+    ghost use Rattle.test_forms.specs.declared.hosts.TheConstants.{HOST_ALIASES};
+
+    ghost aliases = { aliases_of HOST_ALIASES };
+
+    ghost apart = { refl };
+
+    fn aliases() -> &'static [(&'static str, &'static str)] {
+        HOST_ALIASES
+    }
+}
+
+impl FromJson for Host {
+    ghost means = { struct_meant ⟦<Aliased<Host, HostFields> as Slots>⟧.meaning ⟦<Host as Record>⟧.names ⟦<Host as Record>⟧.values };
+
+    fn missing() -> Option<Host> {
+        None
+    }
+
+    fn read<'a>(token: Event<'a>, source: &mut Source<'a>) -> Result<Host> {
+        read_record::<Host, Aliased<Host, HostFields>>(token, source)
+    }
+}
+
+impl Serialize for Host {
+    ghost tree = { record_tree ⟦<Host as Record>⟧.names ⟦<HostFields as AgainFields>⟧.trees ⟦<Host as Record>⟧.values };
+
+    fn begin(&self, w: &mut Writer) -> Result<()> {
+        write_members(
+            w,
+            HOST_NAMES,
+            &Parts(
+                &self.name,
+                Parts(&self.port, Parts(Omitted(&self.note), ())),
+            ),
+        )
+    }
+}
+
+impl Ranged for Host {
+    ghost real = { λ v. ⟦<HostFields as AgainFields>⟧.real (⟦<Host as Record>⟧.values v) };
+
+    fn ranged(&self) {
+        self.name.ranged();
+        self.port.ranged();
+        self.note.ranged();
+    }
+}
+
+impl RoundTrip for Host {
+    fn again() {
+        aliased_again::<Host, HostFields>()
+    }
+}
+
+impl Lossless for Host {
+    fn lossless() {
+        record_lossless::<Host, HostFields>()
+    }
+}
+
+impl NeverNull for Host {
+    fn never_null() {}
+}
+
+impl Inside for Host {
+    ghost fields = { ⟦<Host as Record>⟧.names };
+
+    fn read_inside<'a, E: HasTag>(token: Event<'a>, source: &mut Source<'a>) -> Result<Host> {
+        read_record::<Host, BesideTag<E, Aliased<Host, HostFields>>>(token, source)
+    }
+
+    fn write_inside(&self, w: &mut Writer) -> Result<()> {
+        Members::write(
+            &Parts(
+                &self.name,
+                Parts(&self.port, Parts(Omitted(&self.note), ())),
+            ),
+            w,
+            HOST_NAMES,
+        )
+    }
+
+    fn is_object() {
+        fields_named()
+    }
+}
+
+/// A host and nothing else.
+#[derive(Drop)]
+pub struct Only {
+    pub host: Host,
+}
+
+// Its fields, and their names.
+type OnlyFields = Slot<Host, Closed>;
+
+const ONLY_NAMES: &[&str] = &["of"];
+
+impl Record for Only {
+    ghost use Rattle.test_forms.specs.declared.hosts.TheConstants.{ONLY_NAMES};
+
+    type Values = <OnlyFields as Slots>::Values;
+
+    ghost names = { names_of ONLY_NAMES };
+
+    ghost values = { λ v. (v.host, tt) };
+
+    ghost made = { λ x. record { host = x.0 } };
+
+    ghost whole = { (λ v. refl, λ x. refl) };
+
+    ghost named = { refl };
+
+    fn names() -> &'static [&'static str] {
+        ONLY_NAMES
+    }
+
+    fn build(parts: Self::Values) -> Only {
+        let Parts(host, ()) = parts;
+        Only { host }
+    }
+}
+
+const ONLY_ALIASES: &[(&str, &str)] = &[("host", "of")];
+
+impl HasAliases for Only {
+    ghost use Rattle.test_forms.specs.declared.hosts.TheConstants.{ONLY_ALIASES};
+
+    ghost aliases = { aliases_of ONLY_ALIASES };
+
+    ghost apart = { refl };
+
+    fn aliases() -> &'static [(&'static str, &'static str)] {
+        ONLY_ALIASES
+    }
+}
+
+impl FromJson for Only {
+    ghost means = { struct_meant ⟦<Aliased<Only, OnlyFields> as Slots>⟧.meaning ⟦<Only as Record>⟧.names ⟦<Only as Record>⟧.values };
+
+    fn missing() -> Option<Only> {
+        None
+    }
+
+    fn read<'a>(token: Event<'a>, source: &mut Source<'a>) -> Result<Only> {
+        read_record::<Only, Aliased<Only, OnlyFields>>(token, source)
+    }
+}
+
+impl Serialize for Only {
+    ghost tree = { record_tree ⟦<Only as Record>⟧.names ⟦<OnlyFields as AgainFields>⟧.trees ⟦<Only as Record>⟧.values };
+
+    fn begin(&self, w: &mut Writer) -> Result<()> {
+        write_members(w, ONLY_NAMES, &Parts(&self.host, ()))
+    }
+}
+
+impl Ranged for Only {
+    ghost real = { λ v. ⟦<OnlyFields as AgainFields>⟧.real (⟦<Only as Record>⟧.values v) };
+
+    fn ranged(&self) {
+        self.host.ranged();
+    }
+}
+
+impl RoundTrip for Only {
+    fn again() {
+        aliased_again::<Only, OnlyFields>()
+    }
+}
+
+impl Lossless for Only {
+    fn lossless() {
+        record_lossless::<Only, OnlyFields>()
+    }
+}
+
+impl NeverNull for Only {
+    fn never_null() {}
+}
+
+/// The fields of `Renewal::Move`.
+#[derive(Drop)]
+pub struct RenewalMove {
+    pub from: String,
+    pub to: String,
+}
+
+// Its fields, and their names.
+type RenewalMoveFields = Slot<String, Slot<String, NoSlot>>;
+
+const RENEWAL_MOVE_NAMES: &[&str] = &["from", "to"];
+
+impl Record for RenewalMove {
+    ghost use Rattle.test_forms.specs.declared.hosts.TheConstants.{RENEWAL_MOVE_NAMES};
+
+    type Values = <RenewalMoveFields as Slots>::Values;
+
+    ghost names = { names_of RENEWAL_MOVE_NAMES };
+
+    ghost values = { λ v. (v.from, (v.to, tt)) };
+
+    ghost made = { λ x. record { from = x.0; to = x.1.0 } };
+
+    ghost whole = { (λ v. refl, λ x. refl) };
+
+    ghost named = { refl };
+
+    fn names() -> &'static [&'static str] {
+        RENEWAL_MOVE_NAMES
+    }
+
+    fn build(parts: Self::Values) -> RenewalMove {
+        let Parts(from, Parts(to, ())) = parts;
+        RenewalMove { from, to }
+    }
+}
+
+const RENEWAL_MOVE_ALIASES: &[(&str, &str)] = &[("old", "from"), ("new", "to")];
+
+impl HasAliases for RenewalMove {
+    ghost use Rattle.test_forms.specs.declared.hosts.TheConstants.{RENEWAL_MOVE_ALIASES};
+
+    ghost aliases = { aliases_of RENEWAL_MOVE_ALIASES };
+
+    ghost apart = { refl };
+
+    fn aliases() -> &'static [(&'static str, &'static str)] {
+        RENEWAL_MOVE_ALIASES
+    }
+}
+
+impl FromJson for RenewalMove {
+    ghost means = { struct_meant ⟦<Aliased<RenewalMove, RenewalMoveFields> as Slots>⟧.meaning
+        ⟦<RenewalMove as Record>⟧.names ⟦<RenewalMove as Record>⟧.values };
+
+    fn missing() -> Option<RenewalMove> {
+        None
+    }
+
+    fn read<'a>(token: Event<'a>, source: &mut Source<'a>) -> Result<RenewalMove> {
+        read_record::<RenewalMove, Aliased<RenewalMove, RenewalMoveFields>>(token, source)
+    }
+}
+
+impl Serialize for RenewalMove {
+    ghost tree = { record_tree ⟦<RenewalMove as Record>⟧.names ⟦<RenewalMoveFields as AgainFields>⟧.trees ⟦<RenewalMove as Record>⟧.values };
+
+    fn begin(&self, w: &mut Writer) -> Result<()> {
+        write_members(
+            w,
+            RENEWAL_MOVE_NAMES,
+            &Parts(&self.from, Parts(&self.to, ())),
+        )
+    }
+}
+
+impl Ranged for RenewalMove {
+    ghost real = { λ v. ⟦<RenewalMoveFields as AgainFields>⟧.real (⟦<RenewalMove as Record>⟧.values
+        v) };
+
+    fn ranged(&self) {
+        self.from.ranged();
+        self.to.ranged();
+    }
+}
+
+impl RoundTrip for RenewalMove {
+    fn again() {
+        aliased_again::<RenewalMove, RenewalMoveFields>()
+    }
+}
+
+impl Lossless for RenewalMove {
+    fn lossless() {
+        record_lossless::<RenewalMove, RenewalMoveFields>()
+    }
+}
+
+impl NeverNull for RenewalMove {
+    fn never_null() {}
+}
+
+impl Inside for RenewalMove {
+    ghost fields = { ⟦<RenewalMove as Record>⟧.names };
+
+    fn read_inside<'a, E: HasTag>(
+        token: Event<'a>,
+        source: &mut Source<'a>,
+    ) -> Result<RenewalMove> {
+        read_record::<RenewalMove, BesideTag<E, Aliased<RenewalMove, RenewalMoveFields>>>(
+            token, source,
+        )
+    }
+
+    fn write_inside(&self, w: &mut Writer) -> Result<()> {
+        Members::write(
+            &Parts(&self.from, Parts(&self.to, ())),
+            w,
+            RENEWAL_MOVE_NAMES,
+        )
+    }
+
+    fn is_object() {
+        fields_named()
+    }
+}
+
+/// A change of hosts.
+#[derive(Drop)]
+pub enum Renewal {
+    Add(Host),
+    Move { from: String, to: String },
+}
+
+// Its variants, and their names.
+type RenewalCases = DataCase<Host, DataCase<RenewalMove, NoCase>>;
+
+const RENEWAL_NAMES: &[&str] = &["Add", "Move"];
+
+impl Tagged for Renewal {
+    ghost use Rattle.test_forms.specs.declared.hosts.TheConstants.{RENEWAL_NAMES};
+    ghost use Rattle.test_forms.specs.declared.hosts.Renewal.TheVariants.{Add, Move};
+
+    type Values = <RenewalCases as InsideCases>::Values;
+
+    ghost names = { names_of RENEWAL_NAMES };
+
+    ghost values = { elim [
+      | Add x0 ↦ first_case x0
+      | Move x0 x1 ↦ later_case (first_case (record {
+        from = x0;
+        to = x1;
+      }))
+    ] };
+
+    ghost whole = { each_case _ (λ x. (Add x, refl)) (each_case _ (λ x. (Move x.from x.to, refl))
+        (no_case _)) };
+
+    ghost named = { refl };
+
+    fn names() -> &'static [&'static str] {
+        RENEWAL_NAMES
+    }
+
+    fn build(value: Self::Values) -> Renewal {
+        match value {
+            OneOf::First(a) => Renewal::Add(a),
+            OneOf::Later(value) => match value {
+                OneOf::First(RenewalMove { from, to }) => Renewal::Move { from, to },
+                OneOf::Later(value) => match value {},
+            },
+        }
+    }
+}
+
+const RENEWAL_TAG: &[&str] = &["kind"];
+
+impl HasTag for Renewal {
+    ghost use Rattle.test_forms.specs.declared.hosts.TheConstants.{RENEWAL_TAG};
+
+    ghost tag = { codes "kind" };
+
+    fn tag() -> &'static [&'static str] {
+        RENEWAL_TAG
+    }
+}
+
+impl FromJson for Renewal {
+    ghost means = { tagged_meant ⟦<RenewalCases as InsideCases>⟧.meaning ⟦<Renewal as HasTag>⟧.tag
+        ⟦<Renewal as Tagged>⟧.names refl ⟦<Renewal as Tagged>⟧.values };
+
+    fn missing() -> Option<Renewal> {
+        None
+    }
+
+    fn read<'a>(token: Event<'a>, source: &mut Source<'a>) -> Result<Renewal> {
+        read_tagged::<Renewal, RenewalCases>(token, source)
+    }
+}
+
+impl Serialize for Renewal {
+    ghost tree = { tagged_tree ⟦<Renewal as HasTag>⟧.tag ⟦<Renewal as Tagged>⟧.names ⟦<RenewalCases as AgainCases>⟧.tree ⟦<Renewal as Tagged>⟧.values };
+
+    fn begin(&self, w: &mut Writer) -> Result<()> {
+        match self {
+            Renewal::Add(a) => write_tagged(w, "kind", "Add", a),
+            Renewal::Move { from, to } => {
+                write_tagged_fields(
+                    w,
+                    "kind",
+                    "Move",
+                    RENEWAL_MOVE_NAMES,
+                    &Parts(from, Parts(to, ())),
+                )
+            },
+        }
+    }
+}
+
+impl Ranged for Renewal {
+    ghost real = { λ v. ⟦<RenewalCases as AgainCases>⟧.real (⟦<Renewal as Tagged>⟧.values v) };
+
+    fn ranged(&self) {
+        match self {
+            Renewal::Add(a) => a.ranged(),
+            Renewal::Move { from, to } => {
+                from.ranged();
+                to.ranged();
+            },
+        }
+    }
+}
+
+impl RoundTrip for Renewal {
+    fn again() {
+        tag_fits::<Renewal, RenewalCases>();
+        tagged_again::<Renewal, RenewalCases>()
+    }
+}
+
+impl Lossless for Renewal {
+    fn lossless() {
+        tag_fits::<Renewal, RenewalCases>();
+        tagged_lossless::<Renewal, RenewalCases>()
+    }
+}
+
+impl NeverNull for Renewal {
+    fn never_null() {}
+}
