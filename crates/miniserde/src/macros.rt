@@ -3,7 +3,7 @@
 /// Makes a `Value`, as serde_json's `json!` does: `value!(in alloc; {"id": id, "tags": ["a", "b"], "note": null})?`. It is
 /// a `miniserde::Result`, whose only error is `Memory`; nothing behind the first error is evaluated. An expression is of
 /// a type that implements `IntoValue`. A name is a text, or an expression in parentheses; of equal names the last counts.
-/// An object or an array has at most 120 parts.
+/// One call has at most 60 names and items or so; make a larger value by several functions.
 #[macro_export]
 macro_rules! value {
     (in $alloc:expr; $($json:tt)+) => {{
