@@ -69,7 +69,7 @@ impl Array {
         &mut self.items
     }
 
-    /// Adds an item behind the others. Its only error is `Memory`, and leaves the array as it was.
+    /// Appends an item. Returns `Memory` if the array cannot grow, and leaves it unchanged.
     pub fn push(&mut self, item: Value) -> Result<()>
         ensures ok { OnOk result (array_items self.new ≡ array_items self.old ++ item ∷ []) }
         ensures memory { OnErr result (IsErrOf result Memory) }

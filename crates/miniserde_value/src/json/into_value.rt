@@ -16,12 +16,12 @@ use super::value::Value;
 use miniserde_model::error::Result;
 use std::alloc::Global;
 
-/// A type whose values `value!` takes as expressions.
+/// A type of the expressions that `value!` takes.
 pub trait IntoValue {
     // The tree of the `Value`.
     ghost value_tree: { Self → Tree };
 
-    /// Makes a `Value`: copies a text that is borrowed, and moves a value that is owned. Its only error is `Memory`.
+    /// Converts to a `Value`: copies a borrowed text, and moves an owned value. Its only error is `Memory`.
     fn into_value(self, alloc: Global) -> Result<Value>
         ensures ok { IfOk result (λ v. shape v ≡ value_tree self) }
         ensures memory { OnErr result (IsErrOf result Memory) };

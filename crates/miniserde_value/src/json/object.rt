@@ -75,8 +75,8 @@ impl Object {
         &mut self.members
     }
 
-    /// Adds a member; it replaces the value of the same name. Its only error is `Memory`, and leaves the members as they
-    /// were.
+    /// Adds a member, or replaces the value of the same name. Returns `Memory` if it fails to allocate, and leaves the
+    /// members unchanged.
     pub fn put(&mut self, alloc: Global, name: &str, value: Value) -> Result<()>
         ensures ok { OnOk result (object_members self.new ≡ put name.now (shape value) (object_members self.old)) }
         ensures memory { OnErr result (IsErrOf result Memory) }
