@@ -3,6 +3,7 @@
 
 pub mod action;
 pub mod actions;
+pub mod answers;
 pub mod basket;
 pub mod by_events;
 pub mod canonical;

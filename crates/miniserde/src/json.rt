@@ -46,8 +46,9 @@ pub mod unique {
     pub use miniserde_value::json::unique::Unique;
 }
 
-/// Any values, their place, and laws of them.
+/// Any values, their place, laws of them, and what `value!` calls.
 pub mod value {
     pub use miniserde_de::documents::ValuePlace;
+    pub use miniserde_value::json::into_value::{IntoValue, array_value, null_value, object_value};
     pub use miniserde_value::json::value::{Value, read_is_normal, rewritten, size_is_of_tree};
 }

@@ -9,6 +9,7 @@ pub mod derived;
 pub mod enums;
 pub mod json;
 pub mod laws;
+mod macros;
 pub mod record;
 pub mod ser;
 

@@ -70,8 +70,12 @@ shape = fold-Value Tree Trees Members shape_step array_step object_step
 abbrev pub array_shape : Array → Tree
 array_shape a = list (trees_of shape (array_items a))
 
+-- the names of an object with the trees of their values, in the order of the names
+abbrev pub object_members : Object → Members
+object_members o = members_of string_bytes shape (object_entries o)
+
 abbrev pub object_shape : Object → Tree
-object_shape o = members (members_of string_bytes shape (object_entries o))
+object_shape o = members (object_members o)
 
 -- the tree that a value is written as
 abbrev pub tree_of : Value → Tree

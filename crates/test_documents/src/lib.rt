@@ -8,6 +8,8 @@ mod canonical;
 #[cfg(test)]
 mod deep;
 #[cfg(test)]
+mod made;
+#[cfg(test)]
 mod names;
 #[cfg(test)]
 mod numbers;

@@ -1,5 +1,5 @@
 //! Lists of values.
-ghost use Rattle.std.specs.Prelude.{◌≡◌, ◌++◌, ◌∷◌, [], List, MatchOption, IfOk, OnErr, IsErrOf, vec_capacity};
+ghost use Rattle.std.specs.Prelude.{◌≡◌, ◌++◌, ◌∷◌, [], List, MatchOption, IfOk, OnOk, OnErr, IsErrOf, vec_capacity};
 ghost use Rattle.std.specs.Iterator.{IsFinite, Drains};
 ghost use Rattle.miniserde_model.specs.declared.error.Error.TheVariants.{Memory};
 ghost use Rattle.std.specs.Borrow.{Lends, sem};
@@ -67,6 +67,15 @@ impl Array {
         ensures value { result.now ≡ self.old.items }
     {
         &mut self.items
+    }
+
+    /// Appends an item. Returns `Memory` if the array cannot grow, and leaves it unchanged.
+    pub fn push(&mut self, item: Value) -> Result<()>
+        ensures ok { OnOk result (array_items self.new ≡ array_items self.old ++ item ∷ []) }
+        ensures memory { OnErr result (IsErrOf result Memory) }
+        ensures err { OnErr result (array_items self.new ≡ array_items self.old) }
+    {
+        Ok(self.items.push(item)?)
     }
 
     pub(crate) fn into_inner(self) -> Vec<Value>

@@ -1,15 +1,16 @@
 //! Maps of values by name.
-ghost use Rattle.std.specs.Prelude.{◌≡◌, ◌++◌, ◌∷◌, [], List, String, MatchOption, IfOk, OnErr, IsErrOf};
+ghost use Rattle.std.specs.Prelude.{◌≡◌, ◌++◌, ◌∷◌, [], List, String, MatchOption, IfOk, OnOk, OnErr, IsErrOf};
 ghost use Rattle.std.specs.Iterator.{IsFinite, Drains};
 ghost use Rattle.std.specs.declared.alloc.Global.{Global};
 ghost use Rattle.miniserde_model.specs.declared.error.Error.TheVariants.{Memory};
+ghost use Rattle.miniserde_model.specs.Normal.{put};
 ghost use Rattle.std.specs.Borrow.{Lends, sem};
 ghost use Rattle.std.specs.BTreeMap.{keys, IsFromIterResult, IsOrdered};
 ghost use Rattle.std.specs.BTreeMap.IterMut.{IterMutCanStep, iter_mut_rest};
 ghost use Rattle.std.specs.Map.Iter.{GivesInOrder, ShowsInOrder, LendsValuesInOrder, deref_pair};
 ghost use Rattle.std.specs.String.{string_cmp};
 ghost use Rattle.miniserde_value.specs.declared.json.value.Value.{Value as V};
-ghost use Rattle.miniserde_value.specs.Values.{object_entries, object_values, with_members};
+ghost use Rattle.miniserde_value.specs.Values.{object_entries, object_members, object_values, shape, with_members};
 ghost use Rattle.miniserde_value.specs.Looks.{replaces_first};
 
 use super::drop::safely;
@@ -72,6 +73,18 @@ impl Object {
         ensures value { result.now ≡ self.old.members }
     {
         &mut self.members
+    }
+
+    /// Adds a member, or replaces the value of the same name. Returns `Memory` if it fails to allocate, and leaves the
+    /// members unchanged.
+    pub fn put(&mut self, alloc: Global, name: &str, value: Value) -> Result<()>
+        ensures ok { OnOk result (object_members self.new ≡ put name.now (shape value) (object_members self.old)) }
+        ensures memory { OnErr result (IsErrOf result Memory) }
+        ensures err { OnErr result (object_entries self.new ≡ object_entries self.old) }
+    {
+        let name = String::from_str(alloc, name)?;
+        self.members.insert(name, value)?;
+        Ok(())
     }
 
     pub(crate) fn into_inner(self) -> BTreeMap<String, Value>

@@ -9,8 +9,7 @@ returns g c = λ v r.
     let f = g.F.AgainFields in
     let ms = with_names s.names (f.trees (s.values v)) in
     let same = sym (written_counts g.S.HasAliases.aliases s.names (f.trees (s.values v)) g.met.S.HasAliases.apart) in
-    let a = c.record_again.ensures v r in
-    (
+    let a = c.record_again.ensures v r in (
       (a.0.0, a.0.1, subst (λ ms. f.meaning.reads s.names ms (s.values a.0.0)) same a.0.2),
       λ w q h. a.1 w q (subst (λ ms. f.meaning.reads s.names ms (s.values w)) (sym same) h),
     )

@@ -1,0 +1,223 @@
+//! Expressions as values, for `value!`.
+#![tactic(auto, using(crate::proofs::Shapes::shape_null, crate::proofs::Shapes::shape_bool, crate::proofs::Shapes::shape_number, crate::proofs::Shapes::shape_string, crate::proofs::Shapes::shape_array, crate::proofs::Shapes::shape_object))]
+
+ghost use Rattle.std.specs.Prelude.{◌≡◌, IfOk, OnErr, IsErrOf, string_bytes};
+ghost use Rattle.miniserde_model.specs.Tree.{Tree, null, truth, nonneg, str};
+ghost use Rattle.miniserde_model.specs.declared.error.Error.TheVariants.{Memory};
+ghost use Rattle.miniserde_ser.specs.Fragment.{integer};
+ghost use Rattle.miniserde_ser.specs.Trees.{option_tree};
+ghost use Rattle.miniserde_value.specs.Numbers.{number_leaf};
+ghost use Rattle.miniserde_value.specs.Values.{shape, array_shape, object_shape};
+
+use super::array::Array;
+use super::number::Number;
+use super::object::Object;
+use super::value::Value;
+use miniserde_model::error::Result;
+use std::alloc::Global;
+
+/// A type of the expressions that `value!` takes.
+pub trait IntoValue {
+    // The tree of the `Value`.
+    ghost value_tree: { Self → Tree };
+
+    /// Converts to a `Value`: copies a borrowed text, and moves an owned value. Its only error is `Memory`.
+    fn into_value(self, alloc: Global) -> Result<Value>
+        ensures ok { IfOk result (λ v. shape v ≡ value_tree self) }
+        ensures memory { OnErr result (IsErrOf result Memory) };
+}
+
+/// Returns `null`. Allocates nothing.
+pub fn null_value() -> Value
+    ensures { shape result ≡ null }
+{
+    Value::Null
+}
+
+/// Returns the value of an array. Allocates nothing.
+pub fn array_value(array: Array) -> Value
+    ensures { shape result ≡ array_shape array }
+{
+    Value::Array(array)
+}
+
+/// Returns the value of an object. Allocates nothing.
+pub fn object_value(object: Object) -> Value
+    ensures { shape result ≡ object_shape object }
+{
+    Value::Object(object)
+}
+
+// The value of an integer of at least 0.
+fn unsigned(n: u64) -> Value
+    ensures { shape result ≡ nonneg n }
+{
+    Value::Number(Number::U64(n))
+}
+
+// The value of an integer: an `I64` if it is negative, else a `U64`, as a text of it is read.
+fn signed(n: i64) -> Value
+    ensures { shape result ≡ integer n }
+{
+    if n < 0 {
+        Value::Number(Number::I64(n))
+    } else {
+        Value::Number(Number::U64(n as u64))
+    }
+}
+
+impl IntoValue for bool {
+    ghost value_tree = { truth };
+
+    fn into_value(self, _alloc: Global) -> Result<Value> {
+        Ok(Value::Bool(self))
+    }
+}
+
+impl IntoValue for u8 {
+    ghost value_tree = { nonneg };
+
+    fn into_value(self, _alloc: Global) -> Result<Value> {
+        Ok(unsigned(self as u64))
+    }
+}
+
+impl IntoValue for u16 {
+    ghost value_tree = { nonneg };
+
+    fn into_value(self, _alloc: Global) -> Result<Value> {
+        Ok(unsigned(self as u64))
+    }
+}
+
+impl IntoValue for u32 {
+    ghost value_tree = { nonneg };
+
+    fn into_value(self, _alloc: Global) -> Result<Value> {
+        Ok(unsigned(self as u64))
+    }
+}
+
+impl IntoValue for u64 {
+    ghost value_tree = { nonneg };
+
+    fn into_value(self, _alloc: Global) -> Result<Value> {
+        Ok(unsigned(self))
+    }
+}
+
+impl IntoValue for usize {
+    ghost value_tree = { nonneg };
+
+    fn into_value(self, _alloc: Global) -> Result<Value> {
+        Ok(unsigned(self as u64))
+    }
+}
+
+impl IntoValue for i8 {
+    ghost value_tree = { integer };
+
+    fn into_value(self, _alloc: Global) -> Result<Value> {
+        Ok(signed(self as i64))
+    }
+}
+
+impl IntoValue for i16 {
+    ghost value_tree = { integer };
+
+    fn into_value(self, _alloc: Global) -> Result<Value> {
+        Ok(signed(self as i64))
+    }
+}
+
+impl IntoValue for i32 {
+    ghost value_tree = { integer };
+
+    fn into_value(self, _alloc: Global) -> Result<Value> {
+        Ok(signed(self as i64))
+    }
+}
+
+impl IntoValue for i64 {
+    ghost value_tree = { integer };
+
+    fn into_value(self, _alloc: Global) -> Result<Value> {
+        Ok(signed(self))
+    }
+}
+
+impl IntoValue for isize {
+    ghost value_tree = { integer };
+
+    fn into_value(self, _alloc: Global) -> Result<Value> {
+        Ok(signed(self as i64))
+    }
+}
+
+impl IntoValue for &str {
+    ghost value_tree = { λ s. str s.now };
+
+    fn into_value(self, alloc: Global) -> Result<Value> {
+        Ok(Value::String(String::from_str(alloc, self)?))
+    }
+}
+
+impl IntoValue for &String {
+    ghost value_tree = { λ s. str (string_bytes s.now) };
+
+    fn into_value(self, alloc: Global) -> Result<Value> {
+        Ok(Value::String(String::from_str(alloc, self.as_str())?))
+    }
+}
+
+impl IntoValue for String {
+    ghost value_tree = { λ s. str (string_bytes s) };
+
+    fn into_value(self, _alloc: Global) -> Result<Value> {
+        Ok(Value::String(self))
+    }
+}
+
+impl IntoValue for Number {
+    ghost value_tree = { number_leaf };
+
+    fn into_value(self, _alloc: Global) -> Result<Value> {
+        Ok(Value::Number(self))
+    }
+}
+
+impl IntoValue for Array {
+    ghost value_tree = { array_shape };
+
+    fn into_value(self, _alloc: Global) -> Result<Value> {
+        Ok(array_value(self))
+    }
+}
+
+impl IntoValue for Object {
+    ghost value_tree = { object_shape };
+
+    fn into_value(self, _alloc: Global) -> Result<Value> {
+        Ok(object_value(self))
+    }
+}
+
+impl IntoValue for Value {
+    ghost value_tree = { shape };
+
+    fn into_value(self, _alloc: Global) -> Result<Value> {
+        Ok(self)
+    }
+}
+
+/// `None` is `null`.
+impl<T: IntoValue> IntoValue for Option<T> {
+    ghost value_tree = { option_tree T.value_tree };
+
+    fn into_value(self, alloc: Global) -> Result<Value> {
+        match self {
+            Some(value) => value.into_value(alloc),
+            None => Ok(null_value()),
+        }
+    }
+}
