@@ -1,8 +1,9 @@
 //! Callers of types of each form.
-ghost use Rattle.std.specs.Prelude.{◌≡◌, None, IfOk, Err, option_map, string_bytes, vec_len};
+ghost use Rattle.std.specs.Prelude.{◌≡◌, None, Some, IfOk, Err, option_map, string_bytes, vec_len};
 ghost use Rattle.miniserde.specs.Tree.{Tree};
 ghost use Rattle.miniserde.specs.Value.{IsJson};
-ghost use Rattle.test_forms.specs.Parts.{name_in, note_in};
+ghost use Rattle.test_forms.specs.declared.plans.Change.TheVariants.{Clear, Run, Mark};
+ghost use Rattle.test_forms.specs.declared.plans.Plan.TheVariants.{Nothing, OneTask, Tasks, Three};
 
 use crate::hosts::Host;
 use crate::keys::Key;
@@ -34,7 +35,8 @@ pub fn count_of(alloc: Global, text: &str) -> Result<usize>
 /// Parses a plan, and returns the name of its one task, if it has one.
 pub fn task_of(alloc: Global, text: &str) -> Result<Option<String>>
     ensures ok { IfOk result (λ name. (t : Tree) × (p : Plan) × IsJson text.now t
-        × ⟦<Plan as FromJson>⟧.means.reads t p × (option_map string_bytes name ≡ name_in p)) }
+        × ⟦<Plan as FromJson>⟧.means.reads t p × (option_map string_bytes name
+        ≡ elim [ Nothing ↦ None | OneTask task ↦ Some (string_bytes task.name) | Tasks tasks ↦ None | Three a b c ↦ None ] p)) }
     ensures invalid { result ≡ Err Error.Invalid → (t : Tree) → IsJson text.now t
         → ⟦<Plan as FromJson>⟧.means.from_tree t ≡ None }
 {
@@ -48,7 +50,8 @@ pub fn task_of(alloc: Global, text: &str) -> Result<Option<String>>
 /// Parses a change, and returns its note, if it has one.
 pub fn note_of(alloc: Global, text: &str) -> Result<Option<String>>
     ensures ok { IfOk result (λ note. (t : Tree) × (c : Change) × IsJson text.now t
-        × ⟦<Change as FromJson>⟧.means.reads t c × (option_map string_bytes note ≡ note_in c)) }
+        × ⟦<Change as FromJson>⟧.means.reads t c × (option_map string_bytes note
+        ≡ elim [ Clear ↦ None | Run task ↦ None | Mark at note ↦ option_map string_bytes note ] c)) }
     ensures invalid { result ≡ Err Error.Invalid → (t : Tree) → IsJson text.now t
         → ⟦<Change as FromJson>⟧.means.from_tree t ≡ None }
 {

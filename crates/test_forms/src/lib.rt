@@ -3,13 +3,19 @@
 
 #[cfg(test)]
 mod aliases;
-pub mod callers;
-pub mod hosts;
-pub mod keys;
-pub mod notes;
+#[cfg(test)]
+mod callers;
+#[cfg(test)]
+mod hosts;
+#[cfg(test)]
+mod keys;
+#[cfg(test)]
+mod notes;
 #[cfg(test)]
 mod omitted;
-pub mod plans;
-pub mod shop;
+#[cfg(test)]
+mod plans;
+#[cfg(test)]
+mod shop;
 #[cfg(test)]
 mod tables;
