@@ -1,5 +1,5 @@
 //! Callers of types of each form.
-ghost use Rattle.std.specs.Prelude.{◌≡◌, None, Some, IfOk, Err, option_map, string_bytes, vec_len};
+ghost use Rattle.std.specs.Prelude.{◌≡◌, ℕ, List, Option, None, Some, IfOk, Err, option_map, string_bytes, vec_len};
 ghost use Rattle.miniserde.specs.Tree.{Tree};
 ghost use Rattle.miniserde.specs.Value.{IsJson};
 ghost use Rattle.test_forms.specs.declared.plans.Change.TheVariants.{Clear, Run, Mark};
@@ -36,7 +36,7 @@ pub fn count_of(alloc: Global, text: &str) -> Result<usize>
 pub fn task_of(alloc: Global, text: &str) -> Result<Option<String>>
     ensures ok { IfOk result (λ name. (t : Tree) × (p : Plan) × IsJson text.now t
         × ⟦<Plan as FromJson>⟧.means.reads t p × (option_map string_bytes name
-        ≡ elim [ Nothing ↦ None | OneTask task ↦ Some (string_bytes task.name) | Tasks tasks ↦ None | Three a b c ↦ None ] p)) }
+        ≡ elim p as (λ p. Option (List ℕ)) [ Nothing ↦ None | OneTask x ↦ Some (string_bytes x.name) | Tasks xs ↦ None | Three a b c ↦ None ])) }
     ensures invalid { result ≡ Err Error.Invalid → (t : Tree) → IsJson text.now t
         → ⟦<Plan as FromJson>⟧.means.from_tree t ≡ None }
 {
@@ -51,7 +51,7 @@ pub fn task_of(alloc: Global, text: &str) -> Result<Option<String>>
 pub fn note_of(alloc: Global, text: &str) -> Result<Option<String>>
     ensures ok { IfOk result (λ note. (t : Tree) × (c : Change) × IsJson text.now t
         × ⟦<Change as FromJson>⟧.means.reads t c × (option_map string_bytes note
-        ≡ elim [ Clear ↦ None | Run task ↦ None | Mark at note ↦ option_map string_bytes note ] c)) }
+        ≡ elim c as (λ c. Option (List ℕ)) [ Clear ↦ None | Run x ↦ None | Mark at note ↦ option_map string_bytes note ])) }
     ensures invalid { result ≡ Err Error.Invalid → (t : Tree) → IsJson text.now t
         → ⟦<Change as FromJson>⟧.means.from_tree t ≡ None }
 {
