@@ -1,8 +1,11 @@
 #!/usr/bin/env python3
-"""Draws the table of instructions a byte for reading and writing as bars: picture.py [PAGE] [PICTURE].
+"""Draws docs/speed.svg: ten jobs of docs/SPEED.md as bars.
 
-PAGE has the tables as measure.py prints them (docs/SPEED.md, if left out), and the picture goes to PICTURE
-(docs/speed.svg). Shorter bars are better. A job that a program does not do has no bar.
+    bench/picture.py            draws it
+    bench/picture.py --check    compares it with what it would draw
+
+A bar is our figure as a part of serde_json's for the same job, which is the line at 1: instructions, and thinner below it
+time. A mark is the original crate's part, if the page has one and it is on the scale. Shorter is better.
 """
 import pathlib
 import re
@@ -10,63 +13,83 @@ import sys
 from html import escape
 
 DOCS = pathlib.Path(__file__).resolve().parent.parent / "docs"
-TABLE = re.compile(r"### Read and write(?:: instructions a byte)?\n\n((?:\|.*\n)+)")
-COLOURS = ("#1f6feb", "#8c959f", "#d4a72c", "#57ab5a", "#c96198")
-LABELS, BARS, BAR, GAP, TOP = 210, 470, 11, 10, 54
+# The tables with the instructions of a job, and with its times.
+TYPED = "Read and write: instructions a byte", "Read and write: nanoseconds a byte, and peak memory in multiples of the text"
+TEXTS = "Canonical text: instructions a byte", "Canonical text: nanoseconds a byte, and peak memory in multiples of the text"
+# What is drawn: what it is called, its tables, and its row there.
+JOBS = (
+    ("Vec<String>", TYPED, "`Vec<String>`, 3 to 15 letters"),
+    ("BTreeMap<String, u64>", TYPED, "`BTreeMap<String, u64>`"),
+    ("structs", TYPED, "`Vec<Demo>`, structs"),
+    ("enums with data", TYPED, "`Vec<Command>`, enums with data"),
+    ("Vec<Option<bool>>", TYPED, "`Vec<Option<bool>>`"),
+    ("Value: messages", TYPED, "`Value`, messages"),
+    ("Value: records", TYPED, "`Value`, records"),
+    ("Value: distinct names", TYPED, "`Value`, distinct names"),
+    ("canonical: messages", TEXTS, "messages"),
+    ("canonical: records", TEXTS, "records"),
+)
+LEFT, ONE, WIDEST, STEP, TOP = 165, 290, 1.6, 27, 44
 
 
-def table_of(page):
-    """Returns the names of the programs, and of each job its name and its figures, or None where it has none."""
-    heads, _, *rows = [[cell.strip() for cell in line.strip("|").split("|")] for line in TABLE.search(page)[1].splitlines()]
-    chosen = [at for at, head in enumerate(heads) if head.startswith("instructions, ")]
-    chosen = chosen or [at for at, head in enumerate(heads) if at and not head.startswith("to ")]
-    names = [heads[at].removeprefix("instructions, ") for at in chosen]
-    return names, [(row[0].replace("`", ""), [number_of(row[at]) for at in chosen]) for row in rows]
+def tables_of(page):
+    """Returns the tables of a page by their headings: each row by its first cell, its cells by the table's heads."""
+    tables = {}
+    for title, rows in re.findall(r"### (.*)\n\n((?:\|.*\n)+)", page):
+        heads, _, *rows = [[cell.strip() for cell in line.strip("|\n").split("|")] for line in rows.splitlines()]
+        tables[title] = {row[0]: dict(zip(heads, row)) for row in rows}
+    return tables
 
 
-def number_of(cell):
-    return float(cell) if re.fullmatch(r"[\d.]+", cell) else None
+def part_of(row, name, word=""):
+    """Returns a program's figure as a part of serde_json's, or None where one of the two is missing."""
+    ours, theirs = (row.get(word + each, "-") for each in (name, "serde_json"))
+    return None if "-" in (ours, theirs) else float(ours) / float(theirs)
 
 
 def text(x, y, words, anchor="start", weight="normal"):
     return f'<text x="{x:.0f}" y="{y:.0f}" text-anchor="{anchor}" font-weight="{weight}">{escape(words)}</text>'
 
 
-def bars_of(job, figures, y, widest):
-    """Returns the bars of a job, each with its figure behind it."""
-    parts = [text(LABELS - 8, y + BAR * len(figures) / 2 + 4, job, "end")]
-    for at, figure in enumerate(figures):
-        if figure is None:
-            continue
-        width, top = BARS * figure / widest, y + at * BAR
-        parts.append(f'<rect x="{LABELS}" y="{top}" width="{width:.1f}" height="{BAR - 2}" fill="{COLOURS[at]}"/>')
-        parts.append(text(LABELS + width + 5, top + BAR - 2, f"{figure:.1f}"))
-    return parts
+def bar(y, height, part, colour):
+    return f'<rect x="{LEFT}" y="{y}" width="{ONE * part:.1f}" height="{height}" fill="{colour}"/>'
 
 
-def picture(names, jobs):
-    """Returns the picture: a group of bars for each job, as wide as its dearest program allows."""
-    parts = [text(8, 20, "Read and write: instructions a byte of text, shorter is better", weight="bold")]
-    x = LABELS
-    for at, name in enumerate(names):
-        parts.append(f'<rect x="{x}" y="30" width="10" height="10" fill="{COLOURS[at]}"/>')
-        parts.append(text(x + 15, 39, name))
-        x += 30 + 8 * len(name)
-    y = TOP
-    for job, figures in jobs:
-        parts += bars_of(job, figures, y, max(it for it in figures if it is not None))
-        y += BAR * len(figures) + GAP
-    head = f'<svg xmlns="http://www.w3.org/2000/svg" width="{LABELS + BARS + 60}" height="{y + 4}" font-family="sans-serif" font-size="11">'
+def job_of(name, y, figures, times):
+    """Returns the bars of a job, and its figures."""
+    ours, original, time = float(figures["to serde_json"]), part_of(figures, "miniserde 0.1.46"), part_of(times, "ours", "time, ")
+    parts = [text(LEFT - 8, y + 12, name, "end"), bar(y, 11, ours, "#1f6feb")]
+    parts += [bar(y + 12, 5, time, "#a5c7f7")] if time else []
+    if original and original < WIDEST:
+        parts.append(f'<rect x="{LEFT + ONE * original - 1:.1f}" y="{y - 1}" width="3" height="14" fill="#d4a72c"/>')
+    words = f"{ours:.2f}" + (f", time {time:.2f}" if time else "")
+    return [*parts, text(LEFT + ONE * WIDEST + 10, y + 12, words)]
+
+
+def picture(page):
+    """Returns the picture of a page's figures, with the machine and the date that it names."""
+    tables, height = tables_of(page), TOP + STEP * len(JOBS)
+    machine = re.search(r"^.*GHz.*?\d{4}-\d\d-\d\d", page, re.M)
+    parts = [text(8, 16, "Read and write, as a part of serde_json's figure (the line at 1): shorter is better", weight="bold")]
+    for x, colour, name in ((8, "#1f6feb", "instructions"), (110, "#a5c7f7", "time"), (170, "#d4a72c", "instructions of miniserde 0.1.46")):
+        parts += [f'<rect x="{x}" y="24" width="10" height="10" fill="{colour}"/>', text(x + 14, 33, name)]
+    for at, (name, (instructions, times), row) in enumerate(JOBS):
+        parts += job_of(name, TOP + at * STEP, tables[instructions][row], tables.get(times, {}).get(row, {}))
+    parts.append(f'<rect x="{LEFT + ONE}" y="{TOP - 4}" width="1" height="{height - TOP}" fill="#57606a"/>')
+    parts.append(text(8, height + 12, machine.group() if machine else ""))
+    head = f'<svg xmlns="http://www.w3.org/2000/svg" width="740" height="{height + 20}" font-family="sans-serif" font-size="11">'
     return "\n".join([head, '<rect width="100%" height="100%" fill="#ffffff"/>', *parts, "</svg>", ""])
 
 
 def main(words):
-    if words in (["--help"], ["-h"]) or len(words) > 2:
+    if words not in ([], ["--check"]):
         print(__doc__.strip())
-        return 0 if len(words) == 1 else 2
-    page, drawn = [*words, *(str(DOCS / "SPEED.md"), str(DOCS / "speed.svg"))[len(words) :]]
-    names, jobs = table_of(pathlib.Path(page).read_text())
-    pathlib.Path(drawn).write_text(picture(names, jobs))
+        return 0 if words in (["--help"], ["-h"]) else 2
+    drawn = picture((DOCS / "SPEED.md").read_text())
+    if words and (DOCS / "speed.svg").read_text() != drawn:
+        print("picture: docs/speed.svg is not what docs/SPEED.md has: run bench/picture.py", file=sys.stderr)
+        return 1
+    (DOCS / "speed.svg").write_text(drawn)
     return 0
 
 
