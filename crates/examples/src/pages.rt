@@ -1,18 +1,20 @@
 //! Callers of a generic struct: at one type, and at any.
-ghost use Rattle.std.specs.Prelude.{◌≡◌, IfOk, vec_len};
+ghost use Rattle.std.specs.Prelude.{◌≡◌, None, IfOk, Err, vec_len};
 ghost use Rattle.miniserde.specs.Tree.{Tree};
 ghost use Rattle.miniserde.specs.Value.{IsJson};
 
 use crate::order::Order;
 use crate::page::Page;
 use miniserde::json::from_str;
-use miniserde::{FromJson, Lossless, Result, read_itself};
+use miniserde::{Error, FromJson, Lossless, Result, read_itself};
 use std::alloc::Global;
 
 /// Reads a page of orders, and returns how many orders it has.
 pub fn count_of(alloc: Global, text: &str) -> Result<usize>
-    ensures { IfOk result (λ n. (t : Tree) × (p : Page Order) × IsJson text.now t
+    ensures ok { IfOk result (λ n. (t : Tree) × (p : Page Order) × IsJson text.now t
         × ⟦<Page<Order> as FromJson>⟧.means.reads t p × (n ≡ vec_len p.items)) }
+    ensures invalid { result ≡ Err Error.Invalid → (t : Tree) → IsJson text.now t
+        → ⟦<Page<Order> as FromJson>⟧.means.from_tree t ≡ None }
 {
     let page: Page<Order> = from_str(alloc, text)?;
     Ok(page.items.len())
