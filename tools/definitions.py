@@ -4,7 +4,7 @@ from dataclasses import dataclass, field, replace
 
 from omitted import check_omitted, mark_never_null
 from refusals import (
-    NAME, Refused, check_cycles, check_field_name, check_foreign_marks, check_inside, check_param, check_params, check_places, check_stable,
+    NAME, Refused, check_attributes, check_cycles, check_field_name, check_foreign_marks, check_inside, check_param, check_params, check_places, check_stable,
     check_tagged, check_type, check_values, check_written, split_at_commas,
 )
 
@@ -209,7 +209,7 @@ def check_default(of, default, line):
     else:
         fits = INTEGER.fullmatch(of) and in_range(of, int(default))
     if not fits:
-        raise Refused(f"line {line}: `{f'default {default}'.strip()}` gives no value of `{of}`")
+        raise Refused(f"line {line}: `{f'default {default}'.strip()}` gives no value of `{of}`: make the field an `Option`, or write the value that it has")
 
 
 def in_range(of, value):
@@ -233,6 +233,8 @@ def head_of(bare, line, above):
         words = tuple(word for word in words if word not in [*renames, *tags])
         params, style, tag = params_of(params or "", bare, line), style_of(kind, renames, line), tag_of(kind, tags, line)
         return Definition(kind, name, line, above, derives, public or "", words, params, style, tag)
+    if re.match(rf"{PUBLIC}(?:struct|enum)\s+{NAME}\s*{PARAMS}\s*\{{\s*//", bare):
+        raise Refused(f'line {line}: behind a type stand words, with commas between: once, closed, lossless, stable, events, inside, tag "kind", rename_all "camelCase": {bare}')
     if re.match(rf"{PUBLIC}struct\s+{NAME}\s*(?:<[^{{(]*>)?\s*\(", bare):
         raise Refused(f"line {line}: a newtype is written by hand (docs/BY-HAND.md), or has a named field: {bare}")
     raise Refused(f"line {line}: not the first line of a `struct Name {{` or an `enum Name {{`: {bare}")
@@ -324,6 +326,7 @@ def check(found, uses):
     known = names_known(found, uses)
     mark_inside(found, known)
     for it in found:
+        check_attributes(it)
         check_foreign_marks(it)
         check_tagged(it)
         check_written(it)

@@ -42,6 +42,16 @@ UNREAD = {
     "Duration Instant SystemTime": "an integer, or a newtype by hand (docs/BY-HAND.md)",
     "Result": "a struct of two `Option`s",
 }
+# What stands for attributes of serde.
+SERDE = {
+    "rename": '`// rename "x"` behind the field or the variant',
+    "rename_all": '`// rename_all "camelCase"` behind the first line of the type',
+    "alias": '`// alias "x"` behind the field',
+    "default": "`// default`, or `// default VALUE`, behind the field",
+    "skip_serializing_if": "`// omit` behind the field",
+    "deny_unknown_fields": "`// closed` behind the first line of the struct",
+    "tag": '`// tag "kind"` behind the first line of the enum',
+}
 INSTEAD = {name: instead for names, instead in UNREAD.items() for name in names.split()}
 
 
@@ -192,18 +202,22 @@ def check_values(part, bare, inside):
         raise Refused(f"line {part.line}: a variant has six values at most: name its fields, as `{part.name} {{ a: A, b: B, c: C }}`: {bare}")
 
 
-def check_tagged(it):
-    """Refuses an enum with data that has an attribute of serde, or a variant whose name is not one of a type."""
-    if it.kind != "tagged":
-        return
+def check_attributes(it):
+    """Refuses an attribute of serde, which no impl here knows, and one that does not stand on a line of its own."""
     for part in [it, *it.parts, *(each for part in it.parts for each in part.fields)]:
-        found = [line for line in part.above if re.match(r"#\[serde\b", line)]
-        if found:
-            raise Refused(
-                f'line {part.line}: an enum with data is written as `"Ping"` and `{{"Text":..}}`, which is what serde does without '
-                f'attributes; `// rename "x"` renames a variant or a field, and `// rename_all "camelCase"` the variants: leave out {found[0]}'
-            )
-    for part in it.parts:
+        for line in part.above:
+            found = re.match(r"#\[serde\(\s*(\w*)", line)
+            if found and found.group(1) in SERDE:
+                raise Refused(f"line {part.line}: no impl here knows attributes of serde: write {SERDE[found.group(1)]} for {line}")
+            if found:
+                raise Refused(f"line {part.line}: no impl here knows attributes of serde; docs/FROM-SERDE.md says what stands for them: {line}")
+            if line.startswith("#[") and not line.endswith("]"):
+                raise Refused(f"line {part.line}: an attribute stands on a line of its own: {line}")
+
+
+def check_tagged(it):
+    """Refuses a variant with data whose name is not one of a type."""
+    for part in it.parts if it.kind == "tagged" else []:
         if not re.fullmatch(r"[A-Z][A-Za-z0-9]*", part.name):
             raise Refused(f'line {part.line}: the name of a variant begins with a capital letter and has no `_`: write `Name, // rename "{part.written}"`')
 
