@@ -94,9 +94,9 @@ def variants_text(it, path):
 
 {wrapped("values", f"elim [ {values} ]")}
 
-{wrapped("whole", made_clause(it.parts))}
+{wrapped("bijective", made_clause(it.parts))}
 
-    ghost named = {{ refl }};
+    ghost distinct_names = {{ refl }};
 
     fn names() -> &'static [&'static str] {{
         {const}
@@ -133,7 +133,7 @@ def reading_text(it):
     """The impl that reads an enum."""
     name, cases = typed(it), typed(it, "Cases")
     trait, kind = traits_of(it)
-    meaning = f"{kind}_meant {of(trait, 'meaning', cases)}{tag_word(it)} {of('Tagged', 'names', name)} refl {of('Tagged', 'values', name)}"
+    meaning = f"{kind}_meaning {of(trait, 'meaning', cases)}{tag_word(it)} {of('Tagged', 'names', name)} refl {of('Tagged', 'values', name)}"
     return f"""
 {impl_of(it, "FromJson")} FromJson for {name} {{
 {wrapped("means", meaning)}
@@ -171,7 +171,7 @@ def writing_text(it):
     name, cases = typed(it), typed(it, "Cases")
     fields = {field.name for part in it.parts for field in part.fields}
     writer = next(word for word in ("w", "writer", "out", "to") if word not in fields)
-    tree = f"{traits_of(it)[1]}_tree{tag_word(it)} {of('Tagged', 'names', name)} {of('AgainCases', 'tree', cases)} {of('Tagged', 'values', name)}"
+    tree = f"{traits_of(it)[1]}_tree{tag_word(it)} {of('Tagged', 'names', name)} {of('RoundTripCases', 'tree', cases)} {of('Tagged', 'values', name)}"
     return f"""
 {impl_of(it, "RoundTrip")} Serialize for {name} {{
 {wrapped("tree", tree)}
@@ -192,9 +192,9 @@ def ranged_of(part):
 
 
 def again_text(it):
-    """The impls that say that what was written of an enum is read again."""
+    """The impls that say that what was written of an enum is read back."""
     name, cases = typed(it), typed(it, "Cases")
-    real = f"λ v. {of('AgainCases', 'real', cases)} ({of('Tagged', 'values', name)} v)"
+    real = f"λ v. {of('RoundTripCases', 'real', cases)} ({of('Tagged', 'values', name)} v)"
     fits = f"tag_fits::<{name}, {cases}>();\n        " if it.tag is not None else ""
     return f"""
 {impl_of(it, "RoundTrip")} Ranged for {name} {{
@@ -208,8 +208,8 @@ def again_text(it):
 }}
 
 {impl_of(it, "RoundTrip")} RoundTrip for {name} {{
-    fn again() {{
-        {fits}{traits_of(it)[1]}_again::<{name}, {cases}>()
+    fn round_trips() {{
+        {fits}{traits_of(it)[1]}_round_trips::<{name}, {cases}>()
     }}
 }}
 """

@@ -208,7 +208,7 @@ def taken_of(names, chain):
     """The lines that take the fields' values out of their chain."""
     if len(names) >= 4:
         rest = "()" if len(names) == 4 else chain
-        return [f"        let Taken4({', '.join(names[:4])}, {rest}) = take4({chain});", *taken_of(names[4:], chain)]
+        return [f"        let FourParts({', '.join(names[:4])}, {rest}) = take_four({chain});", *taken_of(names[4:], chain)]
     return [f"        let {nested(names, '()', 'Parts')} = {chain};"] if names else []
 
 
@@ -249,9 +249,9 @@ def record_text(it, path):
 
 {made_of(names)}
 
-    ghost whole = {{ (λ v. refl, λ x. refl) }};
+    ghost bijective = {{ (λ v. refl, λ x. refl) }};
 
-    ghost named = {{ refl }};
+    ghost distinct_names = {{ refl }};
 
     fn names() -> &'static [&'static str] {{
         {const}
@@ -302,7 +302,7 @@ const {const}: &[(&str, &str)] = &[{pairs}];
 def reading_text(it):
     """The impl that reads a struct."""
     name, fields = typed(it), read_fields(it)
-    meaning = f"struct_meant {of('Slots', 'meaning', fields)} {of('Record', 'names', name)} {of('Record', 'values', name)}"
+    meaning = f"struct_meaning {of('Slots', 'meaning', fields)} {of('Record', 'names', name)} {of('Record', 'values', name)}"
     return f"""
 {impl_of(it, "FromJson")} FromJson for {name} {{
 {wrapped("means", meaning)}
@@ -319,10 +319,10 @@ def reading_text(it):
 
 
 def writing_text(it):
-    """The impls that write a struct, and say that what was written is read again."""
+    """The impls that write a struct, and say that what was written is read back."""
     name, fields = typed(it), typed(it, "Fields")
-    tree = f"record_tree {of('Record', 'names', name)} {of('AgainFields', 'trees', fields)} {of('Record', 'values', name)}"
-    real = f"λ v. {of('AgainFields', 'real', fields)} ({of('Record', 'values', name)} v)"
+    tree = f"record_tree {of('Record', 'names', name)} {of('RoundTripFields', 'trees', fields)} {of('Record', 'values', name)}"
+    real = f"λ v. {of('RoundTripFields', 'real', fields)} ({of('Record', 'values', name)} v)"
     return f"""
 {impl_of(it, "RoundTrip")} Serialize for {name} {{
 {wrapped("tree", tree)}
@@ -341,8 +341,8 @@ def writing_text(it):
 }}
 
 {impl_of(it, "RoundTrip")} RoundTrip for {name} {{
-    fn again() {{
-        {"aliased" if has_aliases(it) else "record"}_again::<{name}, {fields}>()
+    fn round_trips() {{
+        {"aliased" if has_aliases(it) else "record"}_round_trips::<{name}, {fields}>()
     }}
 }}
 """

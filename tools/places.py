@@ -45,7 +45,7 @@ def visitor_text(name, once):
 impl Visitor for {name}Place {{
     type Out = {name};
 
-    ghost meaning = {{ inside (λ p. p.place) ⟦<RecordPlace<{name}> as Visitor>⟧.meaning }};{further}
+    ghost meaning = {{ wrapper_meaning (λ p. p.place) ⟦<RecordPlace<{name}> as Visitor>⟧.meaning }};{further}
 
     fn begin(alloc: Global) -> Result<{name}Place> {{
         Ok({name}Place {{

@@ -10,13 +10,13 @@ class Refused(Exception):
 
 # What derived code may name.
 NAMED = (
-    "AgainCases AgainFields Aliased BesideTag Cases Closed DataCase Deserialize Empty Error Event Field Four FourLent FourSlot Fragment FromJson "
-    "Given Global HasAliases HasTag Inside InsideCases Lossless MarkedFour MarkedSlot Members NamePlace NeverNull NoCase NoField NoFields NoSlot "
-    "OmitSlot Omitted Once OnceField OnceFour OnceSlot OneOf "
-    "Parts PlacedRecord Plain Ranged Record RecordPlace Result RoundTrip Serialize Slot Slots Source Stable Step Tagged Taken4 "
-    "UnitCase UnitEnum Variants Visitor WithDefault Writer aliased_again enum_again enum_lossless enum_stable fields_named read_enum read_record "
-    "read_tagged read_variant record_again record_lossless record_stable tag_fits tagged_again tagged_lossless tagged_stable take4 "
-    "variant_again variant_lossless variant_stable write_data write_fields write_members write_tagged write_tagged_fields"
+    "Aliased BesideTag Cases Closed DataCase Deserialize Empty Error Event Field Four FourLent FourParts FourSlot Fragment FromJson Given "
+    "Global HasAliases HasTag Inside InsideCases Lossless MarkedFour MarkedSlot Members NamePlace NeverNull NoCase NoField NoFields NoSlot "
+    "OmitSlot Omitted Once OnceField OnceFour OnceSlot OneOf Parts PlacedRecord Plain Ranged Record RecordPlace Result RoundTrip "
+    "RoundTripCases RoundTripFields Serialize Slot Slots Source Stable Step Tagged UnitCase UnitEnum Variants Visitor WithDefault Writer "
+    "aliased_round_trips enum_lossless enum_round_trips enum_stable fields_named read_enum read_record read_tagged read_variant "
+    "record_lossless record_round_trips record_stable tag_fits tagged_lossless tagged_round_trips tagged_stable take_four variant_lossless "
+    "variant_round_trips variant_stable write_data write_fields write_members write_tagged write_tagged_fields"
 )
 # Names of Rust's prelude and of the clauses, which derived code uses as they are.
 OF_RUST = "Box Err List None Ok Option Self Some String Vec"

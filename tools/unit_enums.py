@@ -60,7 +60,7 @@ impl UnitEnum for {name} {{
 
 
 def again_text(name):
-    """The impls that say that an enum's written name is read again."""
+    """The impls that say that an enum's written name is read back."""
     return f"""
 impl Ranged for {name} {{
     ghost real = {{ λ _. ⊤ }};
@@ -69,8 +69,8 @@ impl Ranged for {name} {{
 }}
 
 impl RoundTrip for {name} {{
-    fn again() {{
-        variant_again::<{name}>()
+    fn round_trips() {{
+        variant_round_trips::<{name}>()
     }}
 }}
 """

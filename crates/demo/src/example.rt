@@ -1,15 +1,15 @@
 //! Nested structs with optional, boxed and renamed fields.
-ghost use Rattle.miniserde.specs.FieldsMeant.{struct_meant};
-ghost use Rattle.miniserde.specs.Place.{inside};
+ghost use Rattle.miniserde.specs.FieldsMeaning.{struct_meaning};
+ghost use Rattle.miniserde.specs.Place.{wrapper_meaning};
 ghost use Rattle.miniserde.specs.Structs.{names_of, record_tree};
 ghost use Rattle.std.specs.Prelude.{refl};
 
 use crate::tag::Tag;
 use miniserde::derived::{
-    AgainFields, Deserialize, Error, Event, Field, Four, FourLent, FourSlot, FromJson, Global,
+    Deserialize, Error, Event, Field, Four, FourLent, FourParts, FourSlot, FromJson, Global,
     Lossless, NeverNull, NoField, NoSlot, Parts, PlacedRecord, Ranged, Record, RecordPlace, Result,
-    RoundTrip, Serialize, Slot, Slots, Source, Stable, Step, Taken4, Visitor, Writer, read_record,
-    record_again, record_lossless, record_stable, take4, write_members,
+    RoundTrip, RoundTripFields, Serialize, Slot, Slots, Source, Stable, Step, Visitor, Writer,
+    read_record, record_lossless, record_round_trips, record_stable, take_four, write_members,
 };
 
 /// A struct of two optional fields.
@@ -35,9 +35,9 @@ impl Record for Nested {
 
     ghost made = { λ x. record { y = x.0; z = x.1.0 } };
 
-    ghost whole = { (λ v. refl, λ x. refl) };
+    ghost bijective = { (λ v. refl, λ x. refl) };
 
-    ghost named = { refl };
+    ghost distinct_names = { refl };
 
     fn names() -> &'static [&'static str] {
         NESTED_NAMES
@@ -50,7 +50,7 @@ impl Record for Nested {
 }
 
 impl FromJson for Nested {
-    ghost means = { struct_meant ⟦<NestedFields as Slots>⟧.meaning ⟦<Nested as Record>⟧.names
+    ghost means = { struct_meaning ⟦<NestedFields as Slots>⟧.meaning ⟦<Nested as Record>⟧.names
         ⟦<Nested as Record>⟧.values };
 
     fn missing() -> Option<Nested> {
@@ -63,7 +63,7 @@ impl FromJson for Nested {
 }
 
 impl Serialize for Nested {
-    ghost tree = { record_tree ⟦<Nested as Record>⟧.names ⟦<NestedFields as AgainFields>⟧.trees
+    ghost tree = { record_tree ⟦<Nested as Record>⟧.names ⟦<NestedFields as RoundTripFields>⟧.trees
         ⟦<Nested as Record>⟧.values };
 
     fn begin(&self, w: &mut Writer) -> Result<()> {
@@ -72,7 +72,7 @@ impl Serialize for Nested {
 }
 
 impl Ranged for Nested {
-    ghost real = { λ v. ⟦<NestedFields as AgainFields>⟧.real (⟦<Nested as Record>⟧.values v) };
+    ghost real = { λ v. ⟦<NestedFields as RoundTripFields>⟧.real (⟦<Nested as Record>⟧.values v) };
 
     fn ranged(&self) {
         self.y.ranged();
@@ -81,8 +81,8 @@ impl Ranged for Nested {
 }
 
 impl RoundTrip for Nested {
-    fn again() {
-        record_again::<Nested, NestedFields>()
+    fn round_trips() {
+        record_round_trips::<Nested, NestedFields>()
     }
 }
 
@@ -115,7 +115,7 @@ impl PlacedRecord for Nested {
 impl Visitor for NestedPlace {
     type Out = Nested;
 
-    ghost meaning = { inside (λ p. p.place) ⟦<RecordPlace<Nested> as Visitor>⟧.meaning };
+    ghost meaning = { wrapper_meaning (λ p. p.place) ⟦<RecordPlace<Nested> as Visitor>⟧.meaning };
 
     fn begin(alloc: Global) -> Result<NestedPlace> {
         Ok(NestedPlace {
@@ -179,16 +179,16 @@ impl Record for Example {
       nested = x.1.1.1.1.0;
     } };
 
-    ghost whole = { (λ v. refl, λ x. refl) };
+    ghost bijective = { (λ v. refl, λ x. refl) };
 
-    ghost named = { refl };
+    ghost distinct_names = { refl };
 
     fn names() -> &'static [&'static str] {
         EXAMPLE_NAMES
     }
 
     fn build(parts: Self::Values) -> Example {
-        let Taken4(x, t1, t2, t3, parts) = take4(parts);
+        let FourParts(x, t1, t2, t3, parts) = take_four(parts);
         let Parts(nested, ()) = parts;
         Example {
             x,
@@ -201,7 +201,7 @@ impl Record for Example {
 }
 
 impl FromJson for Example {
-    ghost means = { struct_meant ⟦<ExampleFields as Slots>⟧.meaning ⟦<Example as Record>⟧.names
+    ghost means = { struct_meaning ⟦<ExampleFields as Slots>⟧.meaning ⟦<Example as Record>⟧.names
         ⟦<Example as Record>⟧.values };
 
     fn missing() -> Option<Example> {
@@ -214,8 +214,7 @@ impl FromJson for Example {
 }
 
 impl Serialize for Example {
-    ghost tree = { record_tree ⟦<Example as Record>⟧.names ⟦<ExampleFields as AgainFields>⟧.trees
-        ⟦<Example as Record>⟧.values };
+    ghost tree = { record_tree ⟦<Example as Record>⟧.names ⟦<ExampleFields as RoundTripFields>⟧.trees ⟦<Example as Record>⟧.values };
 
     fn begin(&self, w: &mut Writer) -> Result<()> {
         write_members(
@@ -233,7 +232,7 @@ impl Serialize for Example {
 }
 
 impl Ranged for Example {
-    ghost real = { λ v. ⟦<ExampleFields as AgainFields>⟧.real (⟦<Example as Record>⟧.values v) };
+    ghost real = { λ v. ⟦<ExampleFields as RoundTripFields>⟧.real (⟦<Example as Record>⟧.values v) };
 
     fn ranged(&self) {
         self.x.ranged();
@@ -245,8 +244,8 @@ impl Ranged for Example {
 }
 
 impl RoundTrip for Example {
-    fn again() {
-        record_again::<Example, ExampleFields>()
+    fn round_trips() {
+        record_round_trips::<Example, ExampleFields>()
     }
 }
 
@@ -279,7 +278,7 @@ impl PlacedRecord for Example {
 impl Visitor for ExamplePlace {
     type Out = Example;
 
-    ghost meaning = { inside (λ p. p.place) ⟦<RecordPlace<Example> as Visitor>⟧.meaning };
+    ghost meaning = { wrapper_meaning (λ p. p.place) ⟦<RecordPlace<Example> as Visitor>⟧.meaning };
 
     fn begin(alloc: Global) -> Result<ExamplePlace> {
         Ok(ExamplePlace {

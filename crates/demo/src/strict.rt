@@ -1,13 +1,14 @@
 //! A struct that refuses a repeat of its own names.
-ghost use Rattle.miniserde.specs.FieldsMeant.{struct_meant};
-ghost use Rattle.miniserde.specs.Place.{inside};
+ghost use Rattle.miniserde.specs.FieldsMeaning.{struct_meaning};
+ghost use Rattle.miniserde.specs.Place.{wrapper_meaning};
 ghost use Rattle.miniserde.specs.Structs.{names_of, record_tree};
 ghost use Rattle.std.specs.Prelude.{refl};
 
 use miniserde::derived::{
-    AgainFields, Deserialize, Error, Event, FromJson, Global, NoField, NoSlot, OnceField, OnceSlot,
-    Parts, PlacedRecord, Ranged, Record, RecordPlace, Result, RoundTrip, Serialize, Slots, Source,
-    Stable, Step, Visitor, Writer, read_record, record_again, record_stable, write_members,
+    Deserialize, Error, Event, FromJson, Global, NoField, NoSlot, OnceField, OnceSlot, Parts,
+    PlacedRecord, Ranged, Record, RecordPlace, Result, RoundTrip, RoundTripFields, Serialize,
+    Slots, Source, Stable, Step, Visitor, Writer, read_record, record_round_trips, record_stable,
+    write_members,
 };
 
 /// As `Demo`, and invalid if `code` or `message` is duplicated among its members. Other names may be.
@@ -33,9 +34,9 @@ impl Record for StrictDemo {
 
     ghost made = { λ x. record { code = x.0; message = x.1.0 } };
 
-    ghost whole = { (λ v. refl, λ x. refl) };
+    ghost bijective = { (λ v. refl, λ x. refl) };
 
-    ghost named = { refl };
+    ghost distinct_names = { refl };
 
     fn names() -> &'static [&'static str] {
         STRICT_DEMO_NAMES
@@ -48,7 +49,7 @@ impl Record for StrictDemo {
 }
 
 impl FromJson for StrictDemo {
-    ghost means = { struct_meant ⟦<StrictDemoFields as Slots>⟧.meaning ⟦<StrictDemo as Record>⟧.names ⟦<StrictDemo as Record>⟧.values };
+    ghost means = { struct_meaning ⟦<StrictDemoFields as Slots>⟧.meaning ⟦<StrictDemo as Record>⟧.names ⟦<StrictDemo as Record>⟧.values };
 
     fn missing() -> Option<StrictDemo> {
         None
@@ -60,7 +61,7 @@ impl FromJson for StrictDemo {
 }
 
 impl Serialize for StrictDemo {
-    ghost tree = { record_tree ⟦<StrictDemo as Record>⟧.names ⟦<StrictDemoFields as AgainFields>⟧.trees ⟦<StrictDemo as Record>⟧.values };
+    ghost tree = { record_tree ⟦<StrictDemo as Record>⟧.names ⟦<StrictDemoFields as RoundTripFields>⟧.trees ⟦<StrictDemo as Record>⟧.values };
 
     fn begin(&self, w: &mut Writer) -> Result<()> {
         write_members(
@@ -72,7 +73,7 @@ impl Serialize for StrictDemo {
 }
 
 impl Ranged for StrictDemo {
-    ghost real = { λ v. ⟦<StrictDemoFields as AgainFields>⟧.real (⟦<StrictDemo as Record>⟧.values v) };
+    ghost real = { λ v. ⟦<StrictDemoFields as RoundTripFields>⟧.real (⟦<StrictDemo as Record>⟧.values v) };
 
     fn ranged(&self) {
         self.code.ranged();
@@ -81,8 +82,8 @@ impl Ranged for StrictDemo {
 }
 
 impl RoundTrip for StrictDemo {
-    fn again() {
-        record_again::<StrictDemo, StrictDemoFields>()
+    fn round_trips() {
+        record_round_trips::<StrictDemo, StrictDemoFields>()
     }
 }
 
@@ -105,7 +106,7 @@ impl PlacedRecord for StrictDemo {
 impl Visitor for StrictDemoPlace {
     type Out = StrictDemo;
 
-    ghost meaning = { inside (λ p. p.place) ⟦<RecordPlace<StrictDemo> as Visitor>⟧.meaning };
+    ghost meaning = { wrapper_meaning (λ p. p.place) ⟦<RecordPlace<StrictDemo> as Visitor>⟧.meaning };
 
     // The name of a field that has a value is refused as a key.
     ghost further = { λ old e answer new.

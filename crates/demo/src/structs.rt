@@ -1,13 +1,14 @@
 //! Structs with integer and string fields.
-ghost use Rattle.miniserde.specs.FieldsMeant.{struct_meant};
-ghost use Rattle.miniserde.specs.Place.{inside};
+ghost use Rattle.miniserde.specs.FieldsMeaning.{struct_meaning};
+ghost use Rattle.miniserde.specs.Place.{wrapper_meaning};
 ghost use Rattle.miniserde.specs.Structs.{names_of, record_tree};
 ghost use Rattle.std.specs.Prelude.{refl};
 
 use miniserde::derived::{
-    AgainFields, Deserialize, Error, Event, Field, FromJson, Global, NoField, NoSlot, Parts,
-    PlacedRecord, Ranged, Record, RecordPlace, Result, RoundTrip, Serialize, Slot, Slots, Source,
-    Stable, Step, Visitor, Writer, read_record, record_again, record_stable, write_members,
+    Deserialize, Error, Event, Field, FromJson, Global, NoField, NoSlot, Parts, PlacedRecord,
+    Ranged, Record, RecordPlace, Result, RoundTrip, RoundTripFields, Serialize, Slot, Slots,
+    Source, Stable, Step, Visitor, Writer, read_record, record_round_trips, record_stable,
+    write_members,
 };
 
 /// A struct of two fields.
@@ -33,9 +34,9 @@ impl Record for Demo {
 
     ghost made = { λ x. record { code = x.0; message = x.1.0 } };
 
-    ghost whole = { (λ v. refl, λ x. refl) };
+    ghost bijective = { (λ v. refl, λ x. refl) };
 
-    ghost named = { refl };
+    ghost distinct_names = { refl };
 
     fn names() -> &'static [&'static str] {
         DEMO_NAMES
@@ -48,7 +49,7 @@ impl Record for Demo {
 }
 
 impl FromJson for Demo {
-    ghost means = { struct_meant ⟦<DemoFields as Slots>⟧.meaning ⟦<Demo as Record>⟧.names ⟦<Demo as Record>⟧.values };
+    ghost means = { struct_meaning ⟦<DemoFields as Slots>⟧.meaning ⟦<Demo as Record>⟧.names ⟦<Demo as Record>⟧.values };
 
     fn missing() -> Option<Demo> {
         None
@@ -60,7 +61,8 @@ impl FromJson for Demo {
 }
 
 impl Serialize for Demo {
-    ghost tree = { record_tree ⟦<Demo as Record>⟧.names ⟦<DemoFields as AgainFields>⟧.trees ⟦<Demo as Record>⟧.values };
+    ghost tree = { record_tree ⟦<Demo as Record>⟧.names ⟦<DemoFields as RoundTripFields>⟧.trees
+        ⟦<Demo as Record>⟧.values };
 
     fn begin(&self, w: &mut Writer) -> Result<()> {
         write_members(w, DEMO_NAMES, &Parts(&self.code, Parts(&self.message, ())))
@@ -68,7 +70,7 @@ impl Serialize for Demo {
 }
 
 impl Ranged for Demo {
-    ghost real = { λ v. ⟦<DemoFields as AgainFields>⟧.real (⟦<Demo as Record>⟧.values v) };
+    ghost real = { λ v. ⟦<DemoFields as RoundTripFields>⟧.real (⟦<Demo as Record>⟧.values v) };
 
     fn ranged(&self) {
         self.code.ranged();
@@ -77,8 +79,8 @@ impl Ranged for Demo {
 }
 
 impl RoundTrip for Demo {
-    fn again() {
-        record_again::<Demo, DemoFields>()
+    fn round_trips() {
+        record_round_trips::<Demo, DemoFields>()
     }
 }
 
@@ -101,7 +103,7 @@ impl PlacedRecord for Demo {
 impl Visitor for DemoPlace {
     type Out = Demo;
 
-    ghost meaning = { inside (λ p. p.place) ⟦<RecordPlace<Demo> as Visitor>⟧.meaning };
+    ghost meaning = { wrapper_meaning (λ p. p.place) ⟦<RecordPlace<Demo> as Visitor>⟧.meaning };
 
     fn begin(alloc: Global) -> Result<DemoPlace> {
         Ok(DemoPlace {
@@ -156,9 +158,9 @@ impl Record for Point {
 
     ghost made = { λ x. record { x = x.0; y = x.1.0 } };
 
-    ghost whole = { (λ v. refl, λ x. refl) };
+    ghost bijective = { (λ v. refl, λ x. refl) };
 
-    ghost named = { refl };
+    ghost distinct_names = { refl };
 
     fn names() -> &'static [&'static str] {
         POINT_NAMES
@@ -171,7 +173,8 @@ impl Record for Point {
 }
 
 impl FromJson for Point {
-    ghost means = { struct_meant ⟦<PointFields as Slots>⟧.meaning ⟦<Point as Record>⟧.names ⟦<Point as Record>⟧.values };
+    ghost means = { struct_meaning ⟦<PointFields as Slots>⟧.meaning ⟦<Point as Record>⟧.names
+        ⟦<Point as Record>⟧.values };
 
     fn missing() -> Option<Point> {
         None
@@ -183,7 +186,7 @@ impl FromJson for Point {
 }
 
 impl Serialize for Point {
-    ghost tree = { record_tree ⟦<Point as Record>⟧.names ⟦<PointFields as AgainFields>⟧.trees
+    ghost tree = { record_tree ⟦<Point as Record>⟧.names ⟦<PointFields as RoundTripFields>⟧.trees
         ⟦<Point as Record>⟧.values };
 
     fn begin(&self, w: &mut Writer) -> Result<()> {
@@ -192,7 +195,7 @@ impl Serialize for Point {
 }
 
 impl Ranged for Point {
-    ghost real = { λ v. ⟦<PointFields as AgainFields>⟧.real (⟦<Point as Record>⟧.values v) };
+    ghost real = { λ v. ⟦<PointFields as RoundTripFields>⟧.real (⟦<Point as Record>⟧.values v) };
 
     fn ranged(&self) {
         self.x.ranged();
@@ -201,8 +204,8 @@ impl Ranged for Point {
 }
 
 impl RoundTrip for Point {
-    fn again() {
-        record_again::<Point, PointFields>()
+    fn round_trips() {
+        record_round_trips::<Point, PointFields>()
     }
 }
 
@@ -225,7 +228,7 @@ impl PlacedRecord for Point {
 impl Visitor for PointPlace {
     type Out = Point;
 
-    ghost meaning = { inside (λ p. p.place) ⟦<RecordPlace<Point> as Visitor>⟧.meaning };
+    ghost meaning = { wrapper_meaning (λ p. p.place) ⟦<RecordPlace<Point> as Visitor>⟧.meaning };
 
     fn begin(alloc: Global) -> Result<PointPlace> {
         Ok(PointPlace {

@@ -4,8 +4,8 @@ ghost use Rattle.std.specs.Prelude.{true, List, codes, [], ◌∷◌, ⊤, refl}
 
 use miniserde::derived::{
     Deserialize, Event, Fragment, FromJson, Lossless, NamePlace, NeverNull, Ranged, Result,
-    RoundTrip, Serialize, Source, Stable, UnitEnum, Variants, Writer, read_variant, variant_again,
-    variant_lossless, variant_stable,
+    RoundTrip, Serialize, Source, Stable, UnitEnum, Variants, Writer, read_variant,
+    variant_lossless, variant_round_trips, variant_stable,
 };
 
 #[derive(Clone, Copy, PartialEq, Eq, Debug, Drop)]
@@ -66,8 +66,8 @@ impl Ranged for Tag {
 }
 
 impl RoundTrip for Tag {
-    fn again() {
-        variant_again::<Tag>()
+    fn round_trips() {
+        variant_round_trips::<Tag>()
     }
 }
 

@@ -33,9 +33,9 @@ pub says_missing : {C : Type 0} (missing : Type 0) (Is : Tree → Type 0) (of : 
 says_missing missing Is of n ms e = (λ h. subst (λ o. MatchOption o missing Is) e h.1, λ m. (none_named of n ms e, subst (λ o. MatchOption o missing Is) (sym e) m))
 
 -- each member of a name is accepted by a second word that accepts what the first one does
-all_named : {C D : Type 0} (of : Tree → Option C) (to : Tree → Option D) → ((t : Tree) → IsSome (of t) → IsSome (to t)) → (n : Name) (ms : Members) → AllNamed of n ms → AllNamed to n ms
-all_named of to more n no_members h = tt
-all_named of to more n (member k t ms) h = (λ e. more t (h.0 e), all_named of to more n ms h.1)
+all_among : {C D : Type 0} (of : Tree → Option C) (to : Tree → Option D) → ((t : Tree) → IsSome (of t) → IsSome (to t)) → (n : Name) (ms : Members) → AllNamed of n ms → AllNamed to n ms
+all_among of to more n no_members h = tt
+all_among of to more n (member k t ms) h = (λ e. more t (h.0 e), all_among of to more n ms h.1)
 
 -- the same of a field of an enum, of which each tree means the value of a second enum that `to` gives
 pub other_field : {A B : Type 0} (R : Tree → A → Type 0) (of : Tree → Option A) → ((t : Tree) (v : A) → R t v ↔ (of t ≡ Some v)) → (S : Tree → B → Type 0) (by : Tree → Option B) → ((t : Tree) (w : B) → S t w ↔ (by t ≡ Some w)) → (to : A → B) → ((t : Tree) (v : A) (w : B) → R t v → S t w ↔ (w ≡ to v))
@@ -52,4 +52,4 @@ other_field {A} {B} R of agrees S by gives to law n ms v w r =
       | Some t ↦ λ h. law t v w h
     ] in
     let s = go (last_of n ms) r.1 in
-    (λ h. s.0 h.1, λ q. (all_named of by more n ms r.0, s.1 q))
+    (λ h. s.0 h.1, λ q. (all_among of by more n ms r.0, s.1 q))

@@ -1,7 +1,7 @@
 -- How many elements a list has, by its tree and by its events.
 use Rattle.std.specs.Prelude.{ℕ, ◌+◌, ◌-◌, ◌==◌, if◌then◌else◌, List, [], ◌∷◌, Option, Some, None}
 use Rattle.miniserde.specs.Tree.{Tree, list, Trees, no_trees, tree}
-use Rattle.miniserde.specs.Event.{Event, seq, element, map, finish}
+use Rattle.miniserde.specs.Step.{Step, seq, element, map, finish}
 
 -- how many trees
 abbrev pub number_of : Trees → ℕ
@@ -14,7 +14,7 @@ elements_of (list ts) = Some (number_of ts)
 elements_of _ = None
 
 -- how many elements of the outermost list are still to come, where some containers are open
-abbrev pub more : ℕ → List Event → ℕ
+abbrev pub more : ℕ → List Step → ℕ
 more depth [] = 0
 more depth (seq ∷ es) = more (depth + 1) es
 more depth (map ∷ es) = more (depth + 1) es
@@ -23,6 +23,6 @@ more depth (element ∷ es) = (if depth == 1 then 1 else 0) + more depth es
 more depth (_ ∷ es) = more depth es
 
 -- how many elements the list has whose events these are
-abbrev pub counted : List Event → Option ℕ
+abbrev pub counted : List Step → Option ℕ
 counted (seq ∷ es) = Some (more 1 es)
 counted _ = None

@@ -7,7 +7,7 @@ use Rattle.miniserde.specs.Lists.{ListReads, list_of}
 use Rattle.miniserde.specs.Options.{OptionReads, option_of}
 use Rattle.miniserde.specs.Objects.{Name}
 use Rattle.miniserde.specs.Fields.{Says, count_named}
-use Rattle.miniserde.specs.Marks.{all_named}
+use Rattle.miniserde.specs.Marks.{all_among}
 use Rattle.examples.specs.declared.service.Service.{Service}
 
 -- the tree is a number below the limit
@@ -21,7 +21,7 @@ names = codes "id" ∷ codes "host" ∷ codes "port" ∷ codes "secure" ∷ code
 -- Each member's name is a field's. One member at most is an `id`, and one a `port`. `id` is below 2 ^ 64, and each other
 -- field may be missing: then `host` is `localhost`, `port` 8080 and `secure` true, and `tags` and `note` are empty.
 abbrev pub IsService : Tree → Service → Type 0
-IsService (members ms) s = (all_named names ms ≡ true)
+IsService (members ms) s = (all_among names ms ≡ true)
     × (count_named (codes "id") ms ≤ 1)
     × Says ⊥ (λ t. IsBelow (2 ^ 64) t s.id) (unsigned_of 64) (codes "id") ms
     × Says (string_bytes s.host ≡ codes "localhost") (λ t. t ≡ str (string_bytes s.host)) string_of (codes "host") ms

@@ -1,16 +1,17 @@
 //! The types of `action.rs`, with the impls that `./derive` writes.
 ghost use Rattle.miniserde.specs.Cases.{each_case, first_case, later_case, no_case, tagged_tree};
-ghost use Rattle.miniserde.specs.CasesMeant.{tagged_meant};
-ghost use Rattle.miniserde.specs.FieldsMeant.{struct_meant};
+ghost use Rattle.miniserde.specs.CasesMeaning.{tagged_meaning};
+ghost use Rattle.miniserde.specs.FieldsMeaning.{struct_meaning};
 ghost use Rattle.miniserde.specs.Structs.{names_of, record_tree};
 ghost use Rattle.std.specs.Prelude.{codes, refl};
 
 use miniserde::derived::{
-    AgainCases, AgainFields, BesideTag, DataCase, Event, FromJson, HasTag, Inside, InsideCases,
-    Lossless, Members, NeverNull, NoCase, NoFields, NoSlot, OneOf, Parts, Ranged, Record, Result,
-    RoundTrip, Serialize, Slot, Slots, Source, Stable, Tagged, Writer, fields_named, read_record,
-    read_tagged, record_again, record_lossless, record_stable, tag_fits, tagged_again,
-    tagged_lossless, tagged_stable, write_members, write_tagged, write_tagged_fields,
+    BesideTag, DataCase, Event, FromJson, HasTag, Inside, InsideCases, Lossless, Members,
+    NeverNull, NoCase, NoFields, NoSlot, OneOf, Parts, Ranged, Record, Result, RoundTrip,
+    RoundTripCases, RoundTripFields, Serialize, Slot, Slots, Source, Stable, Tagged, Writer,
+    fields_named, read_record, read_tagged, record_lossless, record_round_trips, record_stable,
+    tag_fits, tagged_lossless, tagged_round_trips, tagged_stable, write_members, write_tagged,
+    write_tagged_fields,
 };
 
 /// What is said.
@@ -36,9 +37,9 @@ impl Record for Say {
 
     ghost made = { λ x. record { text = x.0; to = x.1.0 } };
 
-    ghost whole = { (λ v. refl, λ x. refl) };
+    ghost bijective = { (λ v. refl, λ x. refl) };
 
-    ghost named = { refl };
+    ghost distinct_names = { refl };
 
     fn names() -> &'static [&'static str] {
         SAY_NAMES
@@ -51,7 +52,7 @@ impl Record for Say {
 }
 
 impl FromJson for Say {
-    ghost means = { struct_meant ⟦<SayFields as Slots>⟧.meaning ⟦<Say as Record>⟧.names ⟦<Say as Record>⟧.values };
+    ghost means = { struct_meaning ⟦<SayFields as Slots>⟧.meaning ⟦<Say as Record>⟧.names ⟦<Say as Record>⟧.values };
 
     fn missing() -> Option<Say> {
         None
@@ -63,7 +64,7 @@ impl FromJson for Say {
 }
 
 impl Serialize for Say {
-    ghost tree = { record_tree ⟦<Say as Record>⟧.names ⟦<SayFields as AgainFields>⟧.trees ⟦<Say as Record>⟧.values };
+    ghost tree = { record_tree ⟦<Say as Record>⟧.names ⟦<SayFields as RoundTripFields>⟧.trees ⟦<Say as Record>⟧.values };
 
     fn begin(&self, w: &mut Writer) -> Result<()> {
         write_members(w, SAY_NAMES, &Parts(&self.text, Parts(&self.to, ())))
@@ -71,7 +72,7 @@ impl Serialize for Say {
 }
 
 impl Ranged for Say {
-    ghost real = { λ v. ⟦<SayFields as AgainFields>⟧.real (⟦<Say as Record>⟧.values v) };
+    ghost real = { λ v. ⟦<SayFields as RoundTripFields>⟧.real (⟦<Say as Record>⟧.values v) };
 
     fn ranged(&self) {
         self.text.ranged();
@@ -80,8 +81,8 @@ impl Ranged for Say {
 }
 
 impl RoundTrip for Say {
-    fn again() {
-        record_again::<Say, SayFields>()
+    fn round_trips() {
+        record_round_trips::<Say, SayFields>()
     }
 }
 
@@ -140,9 +141,9 @@ impl Record for ActionMove {
 
     ghost made = { λ x. record { x = x.0; y = x.1.0 } };
 
-    ghost whole = { (λ v. refl, λ x. refl) };
+    ghost bijective = { (λ v. refl, λ x. refl) };
 
-    ghost named = { refl };
+    ghost distinct_names = { refl };
 
     fn names() -> &'static [&'static str] {
         ACTION_MOVE_NAMES
@@ -155,7 +156,7 @@ impl Record for ActionMove {
 }
 
 impl FromJson for ActionMove {
-    ghost means = { struct_meant ⟦<ActionMoveFields as Slots>⟧.meaning ⟦<ActionMove as Record>⟧.names ⟦<ActionMove as Record>⟧.values };
+    ghost means = { struct_meaning ⟦<ActionMoveFields as Slots>⟧.meaning ⟦<ActionMove as Record>⟧.names ⟦<ActionMove as Record>⟧.values };
 
     fn missing() -> Option<ActionMove> {
         None
@@ -167,7 +168,7 @@ impl FromJson for ActionMove {
 }
 
 impl Serialize for ActionMove {
-    ghost tree = { record_tree ⟦<ActionMove as Record>⟧.names ⟦<ActionMoveFields as AgainFields>⟧.trees ⟦<ActionMove as Record>⟧.values };
+    ghost tree = { record_tree ⟦<ActionMove as Record>⟧.names ⟦<ActionMoveFields as RoundTripFields>⟧.trees ⟦<ActionMove as Record>⟧.values };
 
     fn begin(&self, w: &mut Writer) -> Result<()> {
         write_members(w, ACTION_MOVE_NAMES, &Parts(&self.x, Parts(&self.y, ())))
@@ -175,7 +176,7 @@ impl Serialize for ActionMove {
 }
 
 impl Ranged for ActionMove {
-    ghost real = { λ v. ⟦<ActionMoveFields as AgainFields>⟧.real (⟦<ActionMove as Record>⟧.values v) };
+    ghost real = { λ v. ⟦<ActionMoveFields as RoundTripFields>⟧.real (⟦<ActionMove as Record>⟧.values v) };
 
     fn ranged(&self) {
         self.x.ranged();
@@ -184,8 +185,8 @@ impl Ranged for ActionMove {
 }
 
 impl RoundTrip for ActionMove {
-    fn again() {
-        record_again::<ActionMove, ActionMoveFields>()
+    fn round_trips() {
+        record_round_trips::<ActionMove, ActionMoveFields>()
     }
 }
 
@@ -248,10 +249,10 @@ impl Tagged for Action {
       | Move x0 x1 ↦ later_case (later_case (first_case (record { x = x0; y = x1 })))
     ] };
 
-    ghost whole = { each_case _ (λ x. (Ping, refl)) (each_case _ (λ x. (Say x, refl)) (each_case _
-        (λ x. (Move x.x x.y, refl)) (no_case _))) };
+    ghost bijective = { each_case _ (λ x. (Ping, refl)) (each_case _ (λ x. (Say x, refl)) (each_case
+        _ (λ x. (Move x.x x.y, refl)) (no_case _))) };
 
-    ghost named = { refl };
+    ghost distinct_names = { refl };
 
     fn names() -> &'static [&'static str] {
         ACTION_NAMES
@@ -284,7 +285,7 @@ impl HasTag for Action {
 }
 
 impl FromJson for Action {
-    ghost means = { tagged_meant ⟦<ActionCases as InsideCases>⟧.meaning ⟦<Action as HasTag>⟧.tag
+    ghost means = { tagged_meaning ⟦<ActionCases as InsideCases>⟧.meaning ⟦<Action as HasTag>⟧.tag
         ⟦<Action as Tagged>⟧.names refl ⟦<Action as Tagged>⟧.values };
 
     fn missing() -> Option<Action> {
@@ -297,7 +298,7 @@ impl FromJson for Action {
 }
 
 impl Serialize for Action {
-    ghost tree = { tagged_tree ⟦<Action as HasTag>⟧.tag ⟦<Action as Tagged>⟧.names ⟦<ActionCases as AgainCases>⟧.tree ⟦<Action as Tagged>⟧.values };
+    ghost tree = { tagged_tree ⟦<Action as HasTag>⟧.tag ⟦<Action as Tagged>⟧.names ⟦<ActionCases as RoundTripCases>⟧.tree ⟦<Action as Tagged>⟧.values };
 
     fn begin(&self, w: &mut Writer) -> Result<()> {
         match self {
@@ -317,7 +318,7 @@ impl Serialize for Action {
 }
 
 impl Ranged for Action {
-    ghost real = { λ v. ⟦<ActionCases as AgainCases>⟧.real (⟦<Action as Tagged>⟧.values v) };
+    ghost real = { λ v. ⟦<ActionCases as RoundTripCases>⟧.real (⟦<Action as Tagged>⟧.values v) };
 
     fn ranged(&self) {
         match self {
@@ -332,9 +333,9 @@ impl Ranged for Action {
 }
 
 impl RoundTrip for Action {
-    fn again() {
+    fn round_trips() {
         tag_fits::<Action, ActionCases>();
-        tagged_again::<Action, ActionCases>()
+        tagged_round_trips::<Action, ActionCases>()
     }
 }
 

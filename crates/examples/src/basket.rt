@@ -1,11 +1,11 @@
 //! The types of `basket.rs`, with the impls that `./derive` writes.
-ghost use Rattle.miniserde.specs.FieldsMeant.{struct_meant};
+ghost use Rattle.miniserde.specs.FieldsMeaning.{struct_meaning};
 ghost use Rattle.miniserde.specs.Structs.{names_of, record_tree};
 ghost use Rattle.std.specs.Prelude.{refl};
 
 use miniserde::derived::{
-    AgainFields, Event, FromJson, NoSlot, Parts, Ranged, Record, Result, RoundTrip, Serialize,
-    Slot, Slots, Source, Writer, read_record, record_again, write_members,
+    Event, FromJson, NoSlot, Parts, Ranged, Record, Result, RoundTrip, RoundTripFields, Serialize,
+    Slot, Slots, Source, Writer, read_record, record_round_trips, write_members,
 };
 
 /// What somebody buys: the prices, one by one.
@@ -31,9 +31,9 @@ impl Record for Basket {
 
     ghost made = { λ x. record { owner = x.0; prices = x.1.0 } };
 
-    ghost whole = { (λ v. refl, λ x. refl) };
+    ghost bijective = { (λ v. refl, λ x. refl) };
 
-    ghost named = { refl };
+    ghost distinct_names = { refl };
 
     fn names() -> &'static [&'static str] {
         BASKET_NAMES
@@ -46,7 +46,7 @@ impl Record for Basket {
 }
 
 impl FromJson for Basket {
-    ghost means = { struct_meant ⟦<BasketFields as Slots>⟧.meaning ⟦<Basket as Record>⟧.names
+    ghost means = { struct_meaning ⟦<BasketFields as Slots>⟧.meaning ⟦<Basket as Record>⟧.names
         ⟦<Basket as Record>⟧.values };
 
     fn missing() -> Option<Basket> {
@@ -59,7 +59,7 @@ impl FromJson for Basket {
 }
 
 impl Serialize for Basket {
-    ghost tree = { record_tree ⟦<Basket as Record>⟧.names ⟦<BasketFields as AgainFields>⟧.trees
+    ghost tree = { record_tree ⟦<Basket as Record>⟧.names ⟦<BasketFields as RoundTripFields>⟧.trees
         ⟦<Basket as Record>⟧.values };
 
     fn begin(&self, w: &mut Writer) -> Result<()> {
@@ -72,7 +72,7 @@ impl Serialize for Basket {
 }
 
 impl Ranged for Basket {
-    ghost real = { λ v. ⟦<BasketFields as AgainFields>⟧.real (⟦<Basket as Record>⟧.values v) };
+    ghost real = { λ v. ⟦<BasketFields as RoundTripFields>⟧.real (⟦<Basket as Record>⟧.values v) };
 
     fn ranged(&self) {
         self.owner.ranged();
@@ -81,7 +81,7 @@ impl Ranged for Basket {
 }
 
 impl RoundTrip for Basket {
-    fn again() {
-        record_again::<Basket, BasketFields>()
+    fn round_trips() {
+        record_round_trips::<Basket, BasketFields>()
     }
 }

@@ -1,16 +1,16 @@
 //! The types of `command.rs`, with the impls that `./derive` writes.
 ghost use Rattle.miniserde.specs.Cases.{each_case, enum_tree, first_case, later_case, no_case};
-ghost use Rattle.miniserde.specs.CasesMeant.{enum_meant};
-ghost use Rattle.miniserde.specs.FieldsMeant.{struct_meant};
+ghost use Rattle.miniserde.specs.CasesMeaning.{enum_meaning};
+ghost use Rattle.miniserde.specs.FieldsMeaning.{struct_meaning};
 ghost use Rattle.miniserde.specs.Structs.{names_of, record_tree};
 ghost use Rattle.std.specs.Prelude.{refl};
 
 use miniserde::derived::{
-    AgainCases, AgainFields, Cases, DataCase, Event, Fragment, FromJson, Lossless, NeverNull,
-    NoCase, NoSlot, OneOf, Parts, Ranged, Record, Result, RoundTrip, Serialize, Slot, Slots,
-    Source, Stable, Tagged, UnitCase, Writer, enum_again, enum_lossless, enum_stable, read_enum,
-    read_record, record_again, record_lossless, record_stable, write_data, write_fields,
-    write_members,
+    Cases, DataCase, Event, Fragment, FromJson, Lossless, NeverNull, NoCase, NoSlot, OneOf, Parts,
+    Ranged, Record, Result, RoundTrip, RoundTripCases, RoundTripFields, Serialize, Slot, Slots,
+    Source, Stable, Tagged, UnitCase, Writer, enum_lossless, enum_round_trips, enum_stable,
+    read_enum, read_record, record_lossless, record_round_trips, record_stable, write_data,
+    write_fields, write_members,
 };
 
 /// The fields of `Command::Move`.
@@ -36,9 +36,9 @@ impl Record for CommandMove {
 
     ghost made = { λ x. record { x = x.0; y = x.1.0 } };
 
-    ghost whole = { (λ v. refl, λ x. refl) };
+    ghost bijective = { (λ v. refl, λ x. refl) };
 
-    ghost named = { refl };
+    ghost distinct_names = { refl };
 
     fn names() -> &'static [&'static str] {
         COMMAND_MOVE_NAMES
@@ -51,7 +51,7 @@ impl Record for CommandMove {
 }
 
 impl FromJson for CommandMove {
-    ghost means = { struct_meant ⟦<CommandMoveFields as Slots>⟧.meaning ⟦<CommandMove as Record>⟧.names ⟦<CommandMove as Record>⟧.values };
+    ghost means = { struct_meaning ⟦<CommandMoveFields as Slots>⟧.meaning ⟦<CommandMove as Record>⟧.names ⟦<CommandMove as Record>⟧.values };
 
     fn missing() -> Option<CommandMove> {
         None
@@ -63,7 +63,7 @@ impl FromJson for CommandMove {
 }
 
 impl Serialize for CommandMove {
-    ghost tree = { record_tree ⟦<CommandMove as Record>⟧.names ⟦<CommandMoveFields as AgainFields>⟧.trees ⟦<CommandMove as Record>⟧.values };
+    ghost tree = { record_tree ⟦<CommandMove as Record>⟧.names ⟦<CommandMoveFields as RoundTripFields>⟧.trees ⟦<CommandMove as Record>⟧.values };
 
     fn begin(&self, w: &mut Writer) -> Result<()> {
         write_members(w, COMMAND_MOVE_NAMES, &Parts(&self.x, Parts(&self.y, ())))
@@ -71,8 +71,7 @@ impl Serialize for CommandMove {
 }
 
 impl Ranged for CommandMove {
-    ghost real = { λ v. ⟦<CommandMoveFields as AgainFields>⟧.real (⟦<CommandMove as Record>⟧.values
-        v) };
+    ghost real = { λ v. ⟦<CommandMoveFields as RoundTripFields>⟧.real (⟦<CommandMove as Record>⟧.values v) };
 
     fn ranged(&self) {
         self.x.ranged();
@@ -81,8 +80,8 @@ impl Ranged for CommandMove {
 }
 
 impl RoundTrip for CommandMove {
-    fn again() {
-        record_again::<CommandMove, CommandMoveFields>()
+    fn round_trips() {
+        record_round_trips::<CommandMove, CommandMoveFields>()
     }
 }
 
@@ -130,10 +129,10 @@ impl Tagged for Command {
           ↦ later_case (later_case (first_case (record { x = x0; y = x1 })))
     ] };
 
-    ghost whole = { each_case _ (λ x. (Ping, refl)) (each_case _ (λ x. (Text x, refl)) (each_case _
-        (λ x. (Move x.x x.y, refl)) (no_case _))) };
+    ghost bijective = { each_case _ (λ x. (Ping, refl)) (each_case _ (λ x. (Text x, refl))
+        (each_case _ (λ x. (Move x.x x.y, refl)) (no_case _))) };
 
-    ghost named = { refl };
+    ghost distinct_names = { refl };
 
     fn names() -> &'static [&'static str] {
         COMMAND_NAMES
@@ -154,7 +153,7 @@ impl Tagged for Command {
 }
 
 impl FromJson for Command {
-    ghost means = { enum_meant ⟦<CommandCases as Cases>⟧.meaning ⟦<Command as Tagged>⟧.names refl
+    ghost means = { enum_meaning ⟦<CommandCases as Cases>⟧.meaning ⟦<Command as Tagged>⟧.names refl
         ⟦<Command as Tagged>⟧.values };
 
     fn missing() -> Option<Command> {
@@ -167,7 +166,7 @@ impl FromJson for Command {
 }
 
 impl Serialize for Command {
-    ghost tree = { enum_tree ⟦<Command as Tagged>⟧.names ⟦<CommandCases as AgainCases>⟧.tree
+    ghost tree = { enum_tree ⟦<Command as Tagged>⟧.names ⟦<CommandCases as RoundTripCases>⟧.tree
         ⟦<Command as Tagged>⟧.values };
 
     fn begin(&self, w: &mut Writer) -> Result<()> {
@@ -182,7 +181,7 @@ impl Serialize for Command {
 }
 
 impl Ranged for Command {
-    ghost real = { λ v. ⟦<CommandCases as AgainCases>⟧.real (⟦<Command as Tagged>⟧.values v) };
+    ghost real = { λ v. ⟦<CommandCases as RoundTripCases>⟧.real (⟦<Command as Tagged>⟧.values v) };
 
     fn ranged(&self) {
         match self {
@@ -197,8 +196,8 @@ impl Ranged for Command {
 }
 
 impl RoundTrip for Command {
-    fn again() {
-        enum_again::<Command, CommandCases>()
+    fn round_trips() {
+        enum_round_trips::<Command, CommandCases>()
     }
 }
 

@@ -22,7 +22,7 @@ pub struct Counter {
 }
 
 impl Visitor for Counter {
-    ghost use Rattle.examples.specs.Counter.{shown};
+    ghost use Rattle.examples.specs.Counter.{counter_view};
 
     type Out = u64;
 
@@ -34,7 +34,7 @@ impl Visitor for Counter {
       events_agree = events_count;
       reads = λ t n. elements_of t ≡ Some n;
       reads_agrees = λ t n. (λ e. e, λ e. e);
-      shows = shown;
+      view = counter_view;
     } };
 
     fn begin(_alloc: Global) -> Result<Counter> {

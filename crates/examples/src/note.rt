@@ -1,12 +1,12 @@
 //! The types of `note.rs`, with the impls that `./derive` writes.
-ghost use Rattle.miniserde.specs.FieldsMeant.{struct_meant};
+ghost use Rattle.miniserde.specs.FieldsMeaning.{struct_meaning};
 ghost use Rattle.miniserde.specs.Structs.{names_of, record_tree};
 ghost use Rattle.std.specs.Prelude.{refl};
 
 use miniserde::derived::{
-    AgainFields, Event, FromJson, Lossless, NeverNull, NoSlot, OmitSlot, Omitted, Parts, Plain,
-    Ranged, Record, Result, RoundTrip, Serialize, Slot, Slots, Source, Stable, Writer, read_record,
-    record_again, record_lossless, record_stable, write_members,
+    Event, FromJson, Lossless, NeverNull, NoSlot, OmitSlot, Omitted, Parts, Plain, Ranged, Record,
+    Result, RoundTrip, RoundTripFields, Serialize, Slot, Slots, Source, Stable, Writer,
+    read_record, record_lossless, record_round_trips, record_stable, write_members,
 };
 
 /// A note, of which only the title is always written.
@@ -33,9 +33,9 @@ impl Record for Note {
 
     ghost made = { λ x. record { title = x.0; text = x.1.0; stars = x.1.1.0 } };
 
-    ghost whole = { (λ v. refl, λ x. refl) };
+    ghost bijective = { (λ v. refl, λ x. refl) };
 
-    ghost named = { refl };
+    ghost distinct_names = { refl };
 
     fn names() -> &'static [&'static str] {
         NOTE_NAMES
@@ -48,7 +48,7 @@ impl Record for Note {
 }
 
 impl FromJson for Note {
-    ghost means = { struct_meant ⟦<NoteFields as Slots>⟧.meaning ⟦<Note as Record>⟧.names ⟦<Note as Record>⟧.values };
+    ghost means = { struct_meaning ⟦<NoteFields as Slots>⟧.meaning ⟦<Note as Record>⟧.names ⟦<Note as Record>⟧.values };
 
     fn missing() -> Option<Note> {
         None
@@ -60,7 +60,8 @@ impl FromJson for Note {
 }
 
 impl Serialize for Note {
-    ghost tree = { record_tree ⟦<Note as Record>⟧.names ⟦<NoteFields as AgainFields>⟧.trees ⟦<Note as Record>⟧.values };
+    ghost tree = { record_tree ⟦<Note as Record>⟧.names ⟦<NoteFields as RoundTripFields>⟧.trees
+        ⟦<Note as Record>⟧.values };
 
     fn begin(&self, w: &mut Writer) -> Result<()> {
         write_members(
@@ -75,7 +76,7 @@ impl Serialize for Note {
 }
 
 impl Ranged for Note {
-    ghost real = { λ v. ⟦<NoteFields as AgainFields>⟧.real (⟦<Note as Record>⟧.values v) };
+    ghost real = { λ v. ⟦<NoteFields as RoundTripFields>⟧.real (⟦<Note as Record>⟧.values v) };
 
     fn ranged(&self) {
         self.title.ranged();
@@ -85,8 +86,8 @@ impl Ranged for Note {
 }
 
 impl RoundTrip for Note {
-    fn again() {
-        record_again::<Note, NoteFields>()
+    fn round_trips() {
+        record_round_trips::<Note, NoteFields>()
     }
 }
 

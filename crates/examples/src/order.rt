@@ -1,12 +1,12 @@
 //! The types of `order.rs`, with the impls that `./derive` writes.
-ghost use Rattle.miniserde.specs.FieldsMeant.{struct_meant};
+ghost use Rattle.miniserde.specs.FieldsMeaning.{struct_meaning};
 ghost use Rattle.miniserde.specs.Structs.{names_of, record_tree};
 ghost use Rattle.std.specs.Prelude.{refl};
 
 use miniserde::derived::{
-    AgainFields, Event, FourLent, FourSlot, FromJson, Lossless, NeverNull, NoSlot, Ranged, Record,
-    Result, RoundTrip, Serialize, Slots, Source, Taken4, Writer, read_record, record_again,
-    record_lossless, take4, write_members,
+    Event, FourLent, FourParts, FourSlot, FromJson, Lossless, NeverNull, NoSlot, Ranged, Record,
+    Result, RoundTrip, RoundTripFields, Serialize, Slots, Source, Writer, read_record,
+    record_lossless, record_round_trips, take_four, write_members,
 };
 
 /// An order of a shop.
@@ -34,16 +34,16 @@ impl Record for Order {
 
     ghost made = { λ x. record { id = x.0; quantity = x.1.0; paid = x.1.1.0; note = x.1.1.1.0 } };
 
-    ghost whole = { (λ v. refl, λ x. refl) };
+    ghost bijective = { (λ v. refl, λ x. refl) };
 
-    ghost named = { refl };
+    ghost distinct_names = { refl };
 
     fn names() -> &'static [&'static str] {
         ORDER_NAMES
     }
 
     fn build(parts: Self::Values) -> Order {
-        let Taken4(id, quantity, paid, note, ()) = take4(parts);
+        let FourParts(id, quantity, paid, note, ()) = take_four(parts);
         Order {
             id,
             quantity,
@@ -54,7 +54,8 @@ impl Record for Order {
 }
 
 impl FromJson for Order {
-    ghost means = { struct_meant ⟦<OrderFields as Slots>⟧.meaning ⟦<Order as Record>⟧.names ⟦<Order as Record>⟧.values };
+    ghost means = { struct_meaning ⟦<OrderFields as Slots>⟧.meaning ⟦<Order as Record>⟧.names
+        ⟦<Order as Record>⟧.values };
 
     fn missing() -> Option<Order> {
         None
@@ -66,7 +67,7 @@ impl FromJson for Order {
 }
 
 impl Serialize for Order {
-    ghost tree = { record_tree ⟦<Order as Record>⟧.names ⟦<OrderFields as AgainFields>⟧.trees
+    ghost tree = { record_tree ⟦<Order as Record>⟧.names ⟦<OrderFields as RoundTripFields>⟧.trees
         ⟦<Order as Record>⟧.values };
 
     fn begin(&self, w: &mut Writer) -> Result<()> {
@@ -79,7 +80,7 @@ impl Serialize for Order {
 }
 
 impl Ranged for Order {
-    ghost real = { λ v. ⟦<OrderFields as AgainFields>⟧.real (⟦<Order as Record>⟧.values v) };
+    ghost real = { λ v. ⟦<OrderFields as RoundTripFields>⟧.real (⟦<Order as Record>⟧.values v) };
 
     fn ranged(&self) {
         self.id.ranged();
@@ -90,8 +91,8 @@ impl Ranged for Order {
 }
 
 impl RoundTrip for Order {
-    fn again() {
-        record_again::<Order, OrderFields>()
+    fn round_trips() {
+        record_round_trips::<Order, OrderFields>()
     }
 }
 

@@ -1,12 +1,12 @@
 //! The types of `page.rs`, with the impls that `./derive` writes.
-ghost use Rattle.miniserde.specs.FieldsMeant.{struct_meant};
+ghost use Rattle.miniserde.specs.FieldsMeaning.{struct_meaning};
 ghost use Rattle.miniserde.specs.Structs.{names_of, record_tree};
 ghost use Rattle.std.specs.Prelude.{refl};
 
 use miniserde::derived::{
-    AgainFields, Event, FromJson, Lossless, NeverNull, NoSlot, Parts, Ranged, Record, Result,
-    RoundTrip, Serialize, Slot, Slots, Source, Stable, Writer, read_record, record_again,
-    record_lossless, record_stable, write_members,
+    Event, FromJson, Lossless, NeverNull, NoSlot, Parts, Ranged, Record, Result, RoundTrip,
+    RoundTripFields, Serialize, Slot, Slots, Source, Stable, Writer, read_record, record_lossless,
+    record_round_trips, record_stable, write_members,
 };
 
 /// A page of a list, and the name of the next page.
@@ -32,9 +32,9 @@ impl<T: FromJson> Record for Page<T> {
 
     ghost made = { λ x. record { items = x.0; next = x.1.0 } };
 
-    ghost whole = { (λ v. refl, λ x. refl) };
+    ghost bijective = { (λ v. refl, λ x. refl) };
 
-    ghost named = { refl };
+    ghost distinct_names = { refl };
 
     fn names() -> &'static [&'static str] {
         PAGE_NAMES
@@ -47,7 +47,7 @@ impl<T: FromJson> Record for Page<T> {
 }
 
 impl<T: FromJson> FromJson for Page<T> {
-    ghost means = { struct_meant ⟦<PageFields<T> as Slots>⟧.meaning ⟦<Page<T> as Record>⟧.names
+    ghost means = { struct_meaning ⟦<PageFields<T> as Slots>⟧.meaning ⟦<Page<T> as Record>⟧.names
         ⟦<Page<T> as Record>⟧.values };
 
     fn missing() -> Option<Page<T>> {
@@ -60,8 +60,7 @@ impl<T: FromJson> FromJson for Page<T> {
 }
 
 impl<T: RoundTrip> Serialize for Page<T> {
-    ghost tree = { record_tree ⟦<Page<T> as Record>⟧.names ⟦<PageFields<T> as AgainFields>⟧.trees
-        ⟦<Page<T> as Record>⟧.values };
+    ghost tree = { record_tree ⟦<Page<T> as Record>⟧.names ⟦<PageFields<T> as RoundTripFields>⟧.trees ⟦<Page<T> as Record>⟧.values };
 
     fn begin(&self, w: &mut Writer) -> Result<()> {
         write_members(w, PAGE_NAMES, &Parts(&self.items, Parts(&self.next, ())))
@@ -69,7 +68,7 @@ impl<T: RoundTrip> Serialize for Page<T> {
 }
 
 impl<T: RoundTrip> Ranged for Page<T> {
-    ghost real = { λ v. ⟦<PageFields<T> as AgainFields>⟧.real (⟦<Page<T> as Record>⟧.values v) };
+    ghost real = { λ v. ⟦<PageFields<T> as RoundTripFields>⟧.real (⟦<Page<T> as Record>⟧.values v) };
 
     fn ranged(&self) {
         self.items.ranged();
@@ -78,8 +77,8 @@ impl<T: RoundTrip> Ranged for Page<T> {
 }
 
 impl<T: RoundTrip> RoundTrip for Page<T> {
-    fn again() {
-        record_again::<Page<T>, PageFields<T>>()
+    fn round_trips() {
+        record_round_trips::<Page<T>, PageFields<T>>()
     }
 }
 

@@ -1,8 +1,8 @@
 //! A number of its own kind: a check stands between its text and its values.
 ghost use Rattle.std.specs.Prelude.{◌≡◌, ◌≤◌, ◌↔◌, true, refl, IsSome, IfSome};
-ghost use Rattle.miniserde.specs.Meant.{meant};
+ghost use Rattle.miniserde.specs.Meaning.{meant};
 ghost use Rattle.miniserde.specs.Tree.{nonneg};
-ghost use Rattle.miniserde.specs.Place.{inside};
+ghost use Rattle.miniserde.specs.Place.{wrapper_meaning};
 ghost use Rattle.examples.specs.Percents.{percent_of, ReadsPercent};
 ghost use Rattle.examples.specs.laws.Percents.{percent-given};
 
@@ -66,7 +66,7 @@ pub struct PercentPlace {
 impl Visitor for PercentPlace {
     type Out = Percent;
 
-    ghost meaning = { inside (λ p. p.place) ⟦<LeafPlace<Percent> as Visitor>⟧.meaning };
+    ghost meaning = { wrapper_meaning (λ p. p.place) ⟦<LeafPlace<Percent> as Visitor>⟧.meaning };
 
     fn begin(alloc: Global) -> Result<PercentPlace> {
         Ok(PercentPlace {
@@ -129,5 +129,5 @@ impl Ranged for Percent {
 }
 
 impl RoundTrip for Percent {
-    fn again() {}
+    fn round_trips() {}
 }

@@ -1,11 +1,11 @@
 //! The types of `rate.rs`, with the impls that `./derive` writes.
-ghost use Rattle.miniserde.specs.FieldsMeant.{struct_meant};
+ghost use Rattle.miniserde.specs.FieldsMeaning.{struct_meaning};
 ghost use Rattle.miniserde.specs.Structs.{names_of, record_tree};
 ghost use Rattle.std.specs.Prelude.{refl};
 
 use miniserde::derived::{
-    AgainFields, Event, FromJson, NoSlot, Parts, Ranged, Record, Result, RoundTrip, Serialize,
-    Slot, Slots, Source, Writer, read_record, record_again, write_members,
+    Event, FromJson, NoSlot, Parts, Ranged, Record, Result, RoundTrip, RoundTripFields, Serialize,
+    Slot, Slots, Source, Writer, read_record, record_round_trips, write_members,
 };
 
 /// How much of one money another is: its name and a fraction, which keeps its text.
@@ -31,9 +31,9 @@ impl Record for Rate {
 
     ghost made = { λ x. record { currency = x.0; ratio = x.1.0 } };
 
-    ghost whole = { (λ v. refl, λ x. refl) };
+    ghost bijective = { (λ v. refl, λ x. refl) };
 
-    ghost named = { refl };
+    ghost distinct_names = { refl };
 
     fn names() -> &'static [&'static str] {
         RATE_NAMES
@@ -46,7 +46,7 @@ impl Record for Rate {
 }
 
 impl FromJson for Rate {
-    ghost means = { struct_meant ⟦<RateFields as Slots>⟧.meaning ⟦<Rate as Record>⟧.names ⟦<Rate as Record>⟧.values };
+    ghost means = { struct_meaning ⟦<RateFields as Slots>⟧.meaning ⟦<Rate as Record>⟧.names ⟦<Rate as Record>⟧.values };
 
     fn missing() -> Option<Rate> {
         None
@@ -58,7 +58,8 @@ impl FromJson for Rate {
 }
 
 impl Serialize for Rate {
-    ghost tree = { record_tree ⟦<Rate as Record>⟧.names ⟦<RateFields as AgainFields>⟧.trees ⟦<Rate as Record>⟧.values };
+    ghost tree = { record_tree ⟦<Rate as Record>⟧.names ⟦<RateFields as RoundTripFields>⟧.trees
+        ⟦<Rate as Record>⟧.values };
 
     fn begin(&self, w: &mut Writer) -> Result<()> {
         write_members(
@@ -70,7 +71,7 @@ impl Serialize for Rate {
 }
 
 impl Ranged for Rate {
-    ghost real = { λ v. ⟦<RateFields as AgainFields>⟧.real (⟦<Rate as Record>⟧.values v) };
+    ghost real = { λ v. ⟦<RateFields as RoundTripFields>⟧.real (⟦<Rate as Record>⟧.values v) };
 
     fn ranged(&self) {
         self.currency.ranged();
@@ -79,7 +80,7 @@ impl Ranged for Rate {
 }
 
 impl RoundTrip for Rate {
-    fn again() {
-        record_again::<Rate, RateFields>()
+    fn round_trips() {
+        record_round_trips::<Rate, RateFields>()
     }
 }

@@ -1,17 +1,17 @@
 //! The types of `reply.rs`, with the impls that `./derive` writes.
 ghost use Rattle.miniserde.specs.Cases.{each_case, enum_tree, first_case, later_case, no_case};
-ghost use Rattle.miniserde.specs.CasesMeant.{enum_meant};
-ghost use Rattle.miniserde.specs.FieldsMeant.{struct_meant};
+ghost use Rattle.miniserde.specs.CasesMeaning.{enum_meaning};
+ghost use Rattle.miniserde.specs.FieldsMeaning.{struct_meaning};
 ghost use Rattle.miniserde.specs.Structs.{names_of, record_tree};
 ghost use Rattle.miniserde.specs.Tree.{nonneg};
 ghost use Rattle.std.specs.Prelude.{refl};
 
 use miniserde::derived::{
-    AgainCases, AgainFields, Cases, DataCase, Event, Fragment, FromJson, Given, Global, Lossless,
-    MarkedSlot, NeverNull, NoCase, NoSlot, Once, OneOf, Parts, Ranged, Record, Result, RoundTrip,
-    Serialize, Slot, Slots, Source, Stable, Tagged, UnitCase, WithDefault, Writer, enum_again,
-    enum_lossless, enum_stable, read_enum, read_record, record_again, record_lossless,
-    record_stable, write_data, write_fields, write_members,
+    Cases, DataCase, Event, Fragment, FromJson, Given, Global, Lossless, MarkedSlot, NeverNull,
+    NoCase, NoSlot, Once, OneOf, Parts, Ranged, Record, Result, RoundTrip, RoundTripCases,
+    RoundTripFields, Serialize, Slot, Slots, Source, Stable, Tagged, UnitCase, WithDefault, Writer,
+    enum_lossless, enum_round_trips, enum_stable, read_enum, read_record, record_lossless,
+    record_round_trips, record_stable, write_data, write_fields, write_members,
 };
 
 /// The fields of `Reply::Failed`.
@@ -53,9 +53,9 @@ impl Record for ReplyFailed {
 
     ghost made = { λ x. record { code = x.0; why = x.1.0 } };
 
-    ghost whole = { (λ v. refl, λ x. refl) };
+    ghost bijective = { (λ v. refl, λ x. refl) };
 
-    ghost named = { refl };
+    ghost distinct_names = { refl };
 
     fn names() -> &'static [&'static str] {
         REPLY_FAILED_NAMES
@@ -68,7 +68,7 @@ impl Record for ReplyFailed {
 }
 
 impl FromJson for ReplyFailed {
-    ghost means = { struct_meant ⟦<ReplyFailedFields as Slots>⟧.meaning ⟦<ReplyFailed as Record>⟧.names ⟦<ReplyFailed as Record>⟧.values };
+    ghost means = { struct_meaning ⟦<ReplyFailedFields as Slots>⟧.meaning ⟦<ReplyFailed as Record>⟧.names ⟦<ReplyFailed as Record>⟧.values };
 
     fn missing() -> Option<ReplyFailed> {
         None
@@ -80,7 +80,7 @@ impl FromJson for ReplyFailed {
 }
 
 impl Serialize for ReplyFailed {
-    ghost tree = { record_tree ⟦<ReplyFailed as Record>⟧.names ⟦<ReplyFailedFields as AgainFields>⟧.trees ⟦<ReplyFailed as Record>⟧.values };
+    ghost tree = { record_tree ⟦<ReplyFailed as Record>⟧.names ⟦<ReplyFailedFields as RoundTripFields>⟧.trees ⟦<ReplyFailed as Record>⟧.values };
 
     fn begin(&self, w: &mut Writer) -> Result<()> {
         write_members(
@@ -92,8 +92,7 @@ impl Serialize for ReplyFailed {
 }
 
 impl Ranged for ReplyFailed {
-    ghost real = { λ v. ⟦<ReplyFailedFields as AgainFields>⟧.real (⟦<ReplyFailed as Record>⟧.values
-        v) };
+    ghost real = { λ v. ⟦<ReplyFailedFields as RoundTripFields>⟧.real (⟦<ReplyFailed as Record>⟧.values v) };
 
     fn ranged(&self) {
         self.code.ranged();
@@ -102,8 +101,8 @@ impl Ranged for ReplyFailed {
 }
 
 impl RoundTrip for ReplyFailed {
-    fn again() {
-        record_again::<ReplyFailed, ReplyFailedFields>()
+    fn round_trips() {
+        record_round_trips::<ReplyFailed, ReplyFailedFields>()
     }
 }
 
@@ -156,11 +155,13 @@ impl<T: FromJson> Tagged for Reply<T> {
       | Gone ↦ later_case (later_case (later_case (first_case tt)))
     ] };
 
-    ghost whole = { each_case _ (λ x. (Done x, refl)) (each_case _ (λ x. (Between x.0 x.1, refl))
-        (each_case _ (λ x. (Failed x.code x.why, refl)) (each_case _ (λ x. (Gone, refl)) (no_case
-        _)))) };
+    ghost bijective = { each_case _ (λ x. (Done x, refl)) (each_case _ (λ x. (
+      Between x.0 x.1,
+      refl,
+    )) (each_case _ (λ x. (Failed x.code x.why, refl)) (each_case _ (λ x. (Gone, refl))
+        (no_case _)))) };
 
-    ghost named = { refl };
+    ghost distinct_names = { refl };
 
     fn names() -> &'static [&'static str] {
         REPLY_NAMES
@@ -184,8 +185,8 @@ impl<T: FromJson> Tagged for Reply<T> {
 }
 
 impl<T: FromJson> FromJson for Reply<T> {
-    ghost means = { enum_meant ⟦<ReplyCases<T> as Cases>⟧.meaning ⟦<Reply<T> as Tagged>⟧.names refl
-        ⟦<Reply<T> as Tagged>⟧.values };
+    ghost means = { enum_meaning ⟦<ReplyCases<T> as Cases>⟧.meaning ⟦<Reply<T> as Tagged>⟧.names
+        refl ⟦<Reply<T> as Tagged>⟧.values };
 
     fn missing() -> Option<Reply<T>> {
         None
@@ -197,7 +198,7 @@ impl<T: FromJson> FromJson for Reply<T> {
 }
 
 impl<T: RoundTrip> Serialize for Reply<T> {
-    ghost tree = { enum_tree ⟦<Reply<T> as Tagged>⟧.names ⟦<ReplyCases<T> as AgainCases>⟧.tree
+    ghost tree = { enum_tree ⟦<Reply<T> as Tagged>⟧.names ⟦<ReplyCases<T> as RoundTripCases>⟧.tree
         ⟦<Reply<T> as Tagged>⟧.values };
 
     fn begin(&self, w: &mut Writer) -> Result<()> {
@@ -218,7 +219,7 @@ impl<T: RoundTrip> Serialize for Reply<T> {
 }
 
 impl<T: RoundTrip> Ranged for Reply<T> {
-    ghost real = { λ v. ⟦<ReplyCases<T> as AgainCases>⟧.real (⟦<Reply<T> as Tagged>⟧.values v) };
+    ghost real = { λ v. ⟦<ReplyCases<T> as RoundTripCases>⟧.real (⟦<Reply<T> as Tagged>⟧.values v) };
 
     fn ranged(&self) {
         match self {
@@ -237,8 +238,8 @@ impl<T: RoundTrip> Ranged for Reply<T> {
 }
 
 impl<T: RoundTrip> RoundTrip for Reply<T> {
-    fn again() {
-        enum_again::<Reply<T>, ReplyCases<T>>()
+    fn round_trips() {
+        enum_round_trips::<Reply<T>, ReplyCases<T>>()
     }
 }
 

@@ -1,14 +1,14 @@
 //! The types of `service.rs`, with the impls that `./derive` writes.
-ghost use Rattle.miniserde.specs.FieldsMeant.{struct_meant};
+ghost use Rattle.miniserde.specs.FieldsMeaning.{struct_meaning};
 ghost use Rattle.miniserde.specs.Structs.{names_of, record_tree};
 ghost use Rattle.miniserde.specs.Tree.{nonneg, truth, str};
 ghost use Rattle.std.specs.Prelude.{true, refl};
 
 use miniserde::derived::{
-    AgainFields, Closed, Empty, Event, FourLent, FromJson, Given, Global, Lossless, MarkedFour,
-    MarkedSlot, NeverNull, Once, Parts, Plain, Ranged, Record, Result, RoundTrip, Serialize, Slot,
-    Slots, Source, Stable, Taken4, WithDefault, Writer, read_record, record_again, record_lossless,
-    record_stable, take4, write_members,
+    Closed, Empty, Event, FourLent, FourParts, FromJson, Given, Global, Lossless, MarkedFour,
+    MarkedSlot, NeverNull, Once, Parts, Plain, Ranged, Record, Result, RoundTrip, RoundTripFields,
+    Serialize, Slot, Slots, Source, Stable, WithDefault, Writer, read_record, record_lossless,
+    record_round_trips, record_stable, take_four, write_members,
 };
 
 /// A service of a network. An unknown name is invalid.
@@ -95,16 +95,16 @@ impl Record for Service {
       note = x.1.1.1.1.1.0;
     } };
 
-    ghost whole = { (λ v. refl, λ x. refl) };
+    ghost bijective = { (λ v. refl, λ x. refl) };
 
-    ghost named = { refl };
+    ghost distinct_names = { refl };
 
     fn names() -> &'static [&'static str] {
         SERVICE_NAMES
     }
 
     fn build(parts: Self::Values) -> Service {
-        let Taken4(id, host, port, secure, parts) = take4(parts);
+        let FourParts(id, host, port, secure, parts) = take_four(parts);
         let Parts(tags, Parts(note, ())) = parts;
         Service {
             id,
@@ -118,7 +118,7 @@ impl Record for Service {
 }
 
 impl FromJson for Service {
-    ghost means = { struct_meant ⟦<ServiceFields as Slots>⟧.meaning ⟦<Service as Record>⟧.names
+    ghost means = { struct_meaning ⟦<ServiceFields as Slots>⟧.meaning ⟦<Service as Record>⟧.names
         ⟦<Service as Record>⟧.values };
 
     fn missing() -> Option<Service> {
@@ -131,8 +131,7 @@ impl FromJson for Service {
 }
 
 impl Serialize for Service {
-    ghost tree = { record_tree ⟦<Service as Record>⟧.names ⟦<ServiceFields as AgainFields>⟧.trees
-        ⟦<Service as Record>⟧.values };
+    ghost tree = { record_tree ⟦<Service as Record>⟧.names ⟦<ServiceFields as RoundTripFields>⟧.trees ⟦<Service as Record>⟧.values };
 
     fn begin(&self, w: &mut Writer) -> Result<()> {
         write_members(
@@ -150,7 +149,7 @@ impl Serialize for Service {
 }
 
 impl Ranged for Service {
-    ghost real = { λ v. ⟦<ServiceFields as AgainFields>⟧.real (⟦<Service as Record>⟧.values v) };
+    ghost real = { λ v. ⟦<ServiceFields as RoundTripFields>⟧.real (⟦<Service as Record>⟧.values v) };
 
     fn ranged(&self) {
         self.id.ranged();
@@ -163,8 +162,8 @@ impl Ranged for Service {
 }
 
 impl RoundTrip for Service {
-    fn again() {
-        record_again::<Service, ServiceFields>()
+    fn round_trips() {
+        record_round_trips::<Service, ServiceFields>()
     }
 }
 

@@ -1,14 +1,14 @@
 //! The types of `tasks.rs`, with the impls that `./derive` writes.
-ghost use Rattle.miniserde.specs.FieldsMeant.{struct_meant};
+ghost use Rattle.miniserde.specs.FieldsMeaning.{struct_meaning};
 ghost use Rattle.miniserde.specs.Structs.{names_of, record_tree};
 ghost use Rattle.miniserde.specs.Tree.{nonneg, str};
 ghost use Rattle.std.specs.Prelude.{true, List, codes, [], ◌∷◌, ⊤, refl};
 
 use miniserde::derived::{
-    AgainFields, Event, FourLent, FourSlot, Fragment, FromJson, Given, Global, MarkedFour, NoSlot,
-    Parts, Plain, Ranged, Record, Result, RoundTrip, Serialize, Slot, Slots, Source, Taken4,
-    UnitEnum, Variants, WithDefault, Writer, read_record, read_variant, record_again, take4,
-    variant_again, write_members,
+    Event, FourLent, FourParts, FourSlot, Fragment, FromJson, Given, Global, MarkedFour, NoSlot,
+    Parts, Plain, Ranged, Record, Result, RoundTrip, RoundTripFields, Serialize, Slot, Slots,
+    Source, UnitEnum, Variants, WithDefault, Writer, read_record, read_variant, record_round_trips,
+    take_four, variant_round_trips, write_members,
 };
 
 /// How a task of version 1 stands.
@@ -68,8 +68,8 @@ impl Ranged for OldState {
 }
 
 impl RoundTrip for OldState {
-    fn again() {
-        variant_again::<OldState>()
+    fn round_trips() {
+        variant_round_trips::<OldState>()
     }
 }
 
@@ -98,16 +98,16 @@ impl Record for OldTask {
 
     ghost made = { λ x. record { id = x.0; title = x.1.0; state = x.1.1.0; colour = x.1.1.1.0 } };
 
-    ghost whole = { (λ v. refl, λ x. refl) };
+    ghost bijective = { (λ v. refl, λ x. refl) };
 
-    ghost named = { refl };
+    ghost distinct_names = { refl };
 
     fn names() -> &'static [&'static str] {
         OLD_TASK_NAMES
     }
 
     fn build(parts: Self::Values) -> OldTask {
-        let Taken4(id, title, state, colour, ()) = take4(parts);
+        let FourParts(id, title, state, colour, ()) = take_four(parts);
         OldTask {
             id,
             title,
@@ -118,7 +118,7 @@ impl Record for OldTask {
 }
 
 impl FromJson for OldTask {
-    ghost means = { struct_meant ⟦<OldTaskFields as Slots>⟧.meaning ⟦<OldTask as Record>⟧.names
+    ghost means = { struct_meaning ⟦<OldTaskFields as Slots>⟧.meaning ⟦<OldTask as Record>⟧.names
         ⟦<OldTask as Record>⟧.values };
 
     fn missing() -> Option<OldTask> {
@@ -131,8 +131,7 @@ impl FromJson for OldTask {
 }
 
 impl Serialize for OldTask {
-    ghost tree = { record_tree ⟦<OldTask as Record>⟧.names ⟦<OldTaskFields as AgainFields>⟧.trees
-        ⟦<OldTask as Record>⟧.values };
+    ghost tree = { record_tree ⟦<OldTask as Record>⟧.names ⟦<OldTaskFields as RoundTripFields>⟧.trees ⟦<OldTask as Record>⟧.values };
 
     fn begin(&self, w: &mut Writer) -> Result<()> {
         write_members(
@@ -144,7 +143,7 @@ impl Serialize for OldTask {
 }
 
 impl Ranged for OldTask {
-    ghost real = { λ v. ⟦<OldTaskFields as AgainFields>⟧.real (⟦<OldTask as Record>⟧.values v) };
+    ghost real = { λ v. ⟦<OldTaskFields as RoundTripFields>⟧.real (⟦<OldTask as Record>⟧.values v) };
 
     fn ranged(&self) {
         self.id.ranged();
@@ -155,8 +154,8 @@ impl Ranged for OldTask {
 }
 
 impl RoundTrip for OldTask {
-    fn again() {
-        record_again::<OldTask, OldTaskFields>()
+    fn round_trips() {
+        record_round_trips::<OldTask, OldTaskFields>()
     }
 }
 
@@ -219,8 +218,8 @@ impl Ranged for State {
 }
 
 impl RoundTrip for State {
-    fn again() {
-        variant_again::<State>()
+    fn round_trips() {
+        variant_round_trips::<State>()
     }
 }
 
@@ -278,16 +277,16 @@ impl Record for Task {
       note = x.1.1.1.1.0;
     } };
 
-    ghost whole = { (λ v. refl, λ x. refl) };
+    ghost bijective = { (λ v. refl, λ x. refl) };
 
-    ghost named = { refl };
+    ghost distinct_names = { refl };
 
     fn names() -> &'static [&'static str] {
         TASK_NAMES
     }
 
     fn build(parts: Self::Values) -> Task {
-        let Taken4(id, name, state, retries, parts) = take4(parts);
+        let FourParts(id, name, state, retries, parts) = take_four(parts);
         let Parts(note, ()) = parts;
         Task {
             id,
@@ -300,7 +299,7 @@ impl Record for Task {
 }
 
 impl FromJson for Task {
-    ghost means = { struct_meant ⟦<TaskFields as Slots>⟧.meaning ⟦<Task as Record>⟧.names ⟦<Task as Record>⟧.values };
+    ghost means = { struct_meaning ⟦<TaskFields as Slots>⟧.meaning ⟦<Task as Record>⟧.names ⟦<Task as Record>⟧.values };
 
     fn missing() -> Option<Task> {
         None
@@ -312,7 +311,8 @@ impl FromJson for Task {
 }
 
 impl Serialize for Task {
-    ghost tree = { record_tree ⟦<Task as Record>⟧.names ⟦<TaskFields as AgainFields>⟧.trees ⟦<Task as Record>⟧.values };
+    ghost tree = { record_tree ⟦<Task as Record>⟧.names ⟦<TaskFields as RoundTripFields>⟧.trees
+        ⟦<Task as Record>⟧.values };
 
     fn begin(&self, w: &mut Writer) -> Result<()> {
         write_members(
@@ -330,7 +330,7 @@ impl Serialize for Task {
 }
 
 impl Ranged for Task {
-    ghost real = { λ v. ⟦<TaskFields as AgainFields>⟧.real (⟦<Task as Record>⟧.values v) };
+    ghost real = { λ v. ⟦<TaskFields as RoundTripFields>⟧.real (⟦<Task as Record>⟧.values v) };
 
     fn ranged(&self) {
         self.id.ranged();
@@ -342,7 +342,7 @@ impl Ranged for Task {
 }
 
 impl RoundTrip for Task {
-    fn again() {
-        record_again::<Task, TaskFields>()
+    fn round_trips() {
+        record_round_trips::<Task, TaskFields>()
     }
 }

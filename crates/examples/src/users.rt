@@ -1,11 +1,11 @@
 //! The types of `users.rs`, with the impls that `./derive` writes.
-ghost use Rattle.miniserde.specs.FieldsMeant.{struct_meant};
+ghost use Rattle.miniserde.specs.FieldsMeaning.{struct_meaning};
 ghost use Rattle.miniserde.specs.Structs.{names_of, record_tree};
 ghost use Rattle.std.specs.Prelude.{refl};
 
 use miniserde::derived::{
-    AgainFields, Event, FromJson, NoSlot, Parts, Ranged, Record, Result, RoundTrip, Serialize,
-    Slot, Slots, Source, Writer, read_record, record_again, write_members,
+    Event, FromJson, NoSlot, Parts, Ranged, Record, Result, RoundTrip, RoundTripFields, Serialize,
+    Slot, Slots, Source, Writer, read_record, record_round_trips, write_members,
 };
 
 /// A user, as version 1 stores it.
@@ -31,9 +31,9 @@ impl Record for OldUser {
 
     ghost made = { λ x. record { id = x.0; mail = x.1.0 } };
 
-    ghost whole = { (λ v. refl, λ x. refl) };
+    ghost bijective = { (λ v. refl, λ x. refl) };
 
-    ghost named = { refl };
+    ghost distinct_names = { refl };
 
     fn names() -> &'static [&'static str] {
         OLD_USER_NAMES
@@ -46,7 +46,7 @@ impl Record for OldUser {
 }
 
 impl FromJson for OldUser {
-    ghost means = { struct_meant ⟦<OldUserFields as Slots>⟧.meaning ⟦<OldUser as Record>⟧.names
+    ghost means = { struct_meaning ⟦<OldUserFields as Slots>⟧.meaning ⟦<OldUser as Record>⟧.names
         ⟦<OldUser as Record>⟧.values };
 
     fn missing() -> Option<OldUser> {
@@ -59,8 +59,7 @@ impl FromJson for OldUser {
 }
 
 impl Serialize for OldUser {
-    ghost tree = { record_tree ⟦<OldUser as Record>⟧.names ⟦<OldUserFields as AgainFields>⟧.trees
-        ⟦<OldUser as Record>⟧.values };
+    ghost tree = { record_tree ⟦<OldUser as Record>⟧.names ⟦<OldUserFields as RoundTripFields>⟧.trees ⟦<OldUser as Record>⟧.values };
 
     fn begin(&self, w: &mut Writer) -> Result<()> {
         write_members(w, OLD_USER_NAMES, &Parts(&self.id, Parts(&self.mail, ())))
@@ -68,7 +67,7 @@ impl Serialize for OldUser {
 }
 
 impl Ranged for OldUser {
-    ghost real = { λ v. ⟦<OldUserFields as AgainFields>⟧.real (⟦<OldUser as Record>⟧.values v) };
+    ghost real = { λ v. ⟦<OldUserFields as RoundTripFields>⟧.real (⟦<OldUser as Record>⟧.values v) };
 
     fn ranged(&self) {
         self.id.ranged();
@@ -77,8 +76,8 @@ impl Ranged for OldUser {
 }
 
 impl RoundTrip for OldUser {
-    fn again() {
-        record_again::<OldUser, OldUserFields>()
+    fn round_trips() {
+        record_round_trips::<OldUser, OldUserFields>()
     }
 }
 
@@ -105,9 +104,9 @@ impl Record for User {
 
     ghost made = { λ x. record { id = x.0; email = x.1.0 } };
 
-    ghost whole = { (λ v. refl, λ x. refl) };
+    ghost bijective = { (λ v. refl, λ x. refl) };
 
-    ghost named = { refl };
+    ghost distinct_names = { refl };
 
     fn names() -> &'static [&'static str] {
         USER_NAMES
@@ -120,7 +119,7 @@ impl Record for User {
 }
 
 impl FromJson for User {
-    ghost means = { struct_meant ⟦<UserFields as Slots>⟧.meaning ⟦<User as Record>⟧.names ⟦<User as Record>⟧.values };
+    ghost means = { struct_meaning ⟦<UserFields as Slots>⟧.meaning ⟦<User as Record>⟧.names ⟦<User as Record>⟧.values };
 
     fn missing() -> Option<User> {
         None
@@ -132,7 +131,8 @@ impl FromJson for User {
 }
 
 impl Serialize for User {
-    ghost tree = { record_tree ⟦<User as Record>⟧.names ⟦<UserFields as AgainFields>⟧.trees ⟦<User as Record>⟧.values };
+    ghost tree = { record_tree ⟦<User as Record>⟧.names ⟦<UserFields as RoundTripFields>⟧.trees
+        ⟦<User as Record>⟧.values };
 
     fn begin(&self, w: &mut Writer) -> Result<()> {
         write_members(w, USER_NAMES, &Parts(&self.id, Parts(&self.email, ())))
@@ -140,7 +140,7 @@ impl Serialize for User {
 }
 
 impl Ranged for User {
-    ghost real = { λ v. ⟦<UserFields as AgainFields>⟧.real (⟦<User as Record>⟧.values v) };
+    ghost real = { λ v. ⟦<UserFields as RoundTripFields>⟧.real (⟦<User as Record>⟧.values v) };
 
     fn ranged(&self) {
         self.id.ranged();
@@ -149,7 +149,7 @@ impl Ranged for User {
 }
 
 impl RoundTrip for User {
-    fn again() {
-        record_again::<User, UserFields>()
+    fn round_trips() {
+        record_round_trips::<User, UserFields>()
     }
 }

@@ -1,7 +1,7 @@
 pub use Rattle.miniserde_model.specs.Bytes
 pub use Rattle.miniserde_model.specs.Compact
 pub use Rattle.miniserde_model.specs.Distinct
-pub use Rattle.miniserde_model.specs.Event
+pub use Rattle.miniserde_model.specs.Step
 pub use Rattle.miniserde_model.specs.Examples
 pub use Rattle.miniserde_model.specs.IsTree
 pub use Rattle.miniserde_model.specs.Laws
@@ -23,20 +23,20 @@ pub use Rattle.miniserde_read.specs.Escaped
 pub use Rattle.miniserde_read.specs.Items
 pub use Rattle.miniserde_read.specs.Lacking
 pub use Rattle.miniserde_read.specs.Lookups
-pub use Rattle.miniserde_read.specs.Meant
+pub use Rattle.miniserde_read.specs.Meaning
 pub use Rattle.miniserde_read.specs.Rest
 pub use Rattle.miniserde_read.specs.Source
-pub use Rattle.miniserde_read.specs.Step
+pub use Rattle.miniserde_read.specs.Events
 pub use Rattle.miniserde_read.specs.Meanings
-pub use Rattle.miniserde_read.specs.meaning.Words
-pub use Rattle.miniserde_read.specs.meaning.Integers
-pub use Rattle.miniserde_read.specs.meaning.Lists
-pub use Rattle.miniserde_read.specs.meaning.Arrays
-pub use Rattle.miniserde_read.specs.meaning.Pairs
-pub use Rattle.miniserde_read.specs.meaning.Tuples
-pub use Rattle.miniserde_read.specs.meaning.Options
-pub use Rattle.miniserde_read.specs.meaning.Objects
-pub use Rattle.miniserde_read.specs.meaning.Maps
+pub use Rattle.miniserde_read.specs.types.Words
+pub use Rattle.miniserde_read.specs.types.Integers
+pub use Rattle.miniserde_read.specs.types.Lists
+pub use Rattle.miniserde_read.specs.types.Arrays
+pub use Rattle.miniserde_read.specs.types.Pairs
+pub use Rattle.miniserde_read.specs.types.Tuples
+pub use Rattle.miniserde_read.specs.types.Options
+pub use Rattle.miniserde_read.specs.types.Objects
+pub use Rattle.miniserde_read.specs.types.Maps
 pub use Rattle.miniserde_stable.specs.Stable
 pub use Rattle.miniserde_place.specs.Place
 pub use Rattle.miniserde_place.specs.Leaf
@@ -54,7 +54,7 @@ pub use Rattle.miniserde_ser.specs.Fragment
 pub use Rattle.miniserde_ser.specs.Trees
 pub use Rattle.miniserde_ser.specs.Writer
 pub use Rattle.miniserde_value.specs.Numbers
-pub use Rattle.miniserde_value.specs.Kept
+pub use Rattle.miniserde_value.specs.Retained
 pub use Rattle.miniserde_value.specs.Values
 pub use Rattle.miniserde_value.specs.Looks
 pub use Rattle.miniserde_value.specs.Hole
@@ -63,7 +63,7 @@ pub use Rattle.miniserde_value.specs.Meanings as DocumentMeanings
 pub use Rattle.miniserde_round.specs.RoundTrip
 pub use Rattle.miniserde_record.specs.Aliases
 pub use Rattle.miniserde_record.specs.Fields
-pub use Rattle.miniserde_record.specs.FieldsMeant
+pub use Rattle.miniserde_record.specs.FieldsMeaning
 pub use Rattle.miniserde_record.specs.Marks
 pub use Rattle.miniserde_record.specs.Members
 pub use Rattle.miniserde_record.specs.Names
@@ -73,7 +73,7 @@ pub use Rattle.miniserde_record.specs.Variants
 pub use Rattle.miniserde_record.specs.laws.Said
 pub use Rattle.miniserde_record.specs.laws.Marks as MarkLaws
 pub use Rattle.miniserde_enum.specs.Cases
-pub use Rattle.miniserde_enum.specs.CasesMeant
+pub use Rattle.miniserde_enum.specs.CasesMeaning
 pub use Rattle.miniserde_enum.specs.External
 pub use Rattle.miniserde_enum.specs.Shape
 pub use Rattle.miniserde_enum.specs.Inside

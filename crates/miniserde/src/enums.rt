@@ -1,8 +1,8 @@
 //! Enums whose variants may have data: what one says of itself, and how it is read and written by that.
 
 pub use miniserde_enum::{
-    AgainCases, BesideTag, Cases, DataCase, HasTag, Inside, InsideCases, LosslessCases, Never,
-    NoCase, NoFields, OneOf, StableCases, Tagged, UnitCase, enum_again, enum_lossless, enum_stable,
-    fields_named, read_enum, read_tagged, tag_fits, tagged_again, tagged_lossless, tagged_stable,
-    write_data, write_fields, write_tagged, write_tagged_fields,
+    BesideTag, Cases, DataCase, HasTag, Inside, InsideCases, LosslessCases, Never, NoCase,
+    NoFields, OneOf, RoundTripCases, StableCases, Tagged, UnitCase, enum_lossless,
+    enum_round_trips, enum_stable, fields_named, read_enum, read_tagged, tag_fits, tagged_lossless,
+    tagged_round_trips, tagged_stable, write_data, write_fields, write_tagged, write_tagged_fields,
 };

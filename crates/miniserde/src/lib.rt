@@ -21,7 +21,7 @@ pub use miniserde_place::engine::read_by_place;
 pub use miniserde_program::canon;
 pub use miniserde_read::{FromJson, gets_last, gets_last_by_hashed_key, gets_last_by_key};
 pub use miniserde_round::{
-    Lossless, NeverNull, RoundTrip, means_itself, read_again, read_back, read_itself,
+    Lossless, NeverNull, RoundTrip, means_itself, read_back, read_itself, write_and_read,
 };
 pub use miniserde_ser::ser::Serialize;
 pub use miniserde_stable::{

@@ -5,9 +5,10 @@ pub use miniserde_de::structs::{
     RecordPlace,
 };
 pub use miniserde_record::record::{
-    AgainFields, Aliased, Closed, Empty, FourLent, FourSlot, Given, HasAliases, Lent,
-    LosslessFields, Mark, MarkedFour, MarkedSlot, Members, NoSlot, Omit, OmitSlot, Omitted, Once,
-    OnceSlot, Parts, Plain, Record, Repeats, Slot, Slots, StableFields, Taken4, UnitEnum, Variant,
-    Variants, WithDefault, aliased_again, read_record, read_variant, record_again, record_lossless,
-    record_stable, take4, variant_again, variant_lossless, variant_stable, write_members,
+    Aliased, Closed, Empty, FourLent, FourParts, FourSlot, Given, HasAliases, Lent, LosslessFields,
+    Mark, MarkedFour, MarkedSlot, Members, NoSlot, Omit, OmitSlot, Omitted, Once, OnceSlot, Parts,
+    Plain, Record, Repeats, RoundTripFields, Slot, Slots, StableFields, UnitEnum, Variant,
+    Variants, WithDefault, aliased_round_trips, read_record, read_variant, record_lossless,
+    record_round_trips, record_stable, take_four, variant_lossless, variant_round_trips,
+    variant_stable, write_members,
 };

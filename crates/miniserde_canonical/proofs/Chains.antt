@@ -4,8 +4,8 @@ use Rattle.miniserde_canonical.specs.declared.spread.Hole.{Hole}
 use Rattle.miniserde_canonical.specs.declared.member.Member.{Member}
 use Rattle.miniserde_canonical.specs.private.Spreads.{Holds, none}
 use Rattle.miniserde_canonical.specs.private.Names.{name_of}
-use Rattle.miniserde_canonical.specs.private.Arranging.{gap, Entry, whole_text}
-use Rattle.miniserde_canonical.specs.private.Settling.{Seam, Chain}
+use Rattle.miniserde_canonical.specs.private.Arranging.{gap, Entry, entries_text}
+use Rattle.miniserde_canonical.specs.private.Sorting.{Seam, Chain}
 use Rattle.miniserde_canonical.proofs.Spreads.{holds_append, holds_behind, holds_more}
 
 -- the end is as far from a seam as from the begin
@@ -72,21 +72,21 @@ chain_begin [] (f ∷ es) ms gs at k bs hs last n e h t i w p q = absurd h
 chain_begin (m ∷ ns) [] ms gs at k bs hs last n e h t i w p q = absurd h
 
 -- the text of all
-pub chain_whole : (ns : List Member) (es : List Entry) (ms : List ℕ) (gs : List Hole) (at k : ℕ) (bs : List ℕ) (hs : List Hole) (last : List ℕ) → Chain ns es ms gs at k bs hs last → Holds ms gs at bs hs (whole_text es last)
+pub chain_whole : (ns : List Member) (es : List Entry) (ms : List ℕ) (gs : List Hole) (at k : ℕ) (bs : List ℕ) (hs : List Hole) (last : List ℕ) → Chain ns es ms gs at k bs hs last → Holds ms gs at bs hs (entries_text es last)
 chain_whole [] [] ms gs at k bs hs last h = h
 chain_whole (n ∷ ns) (e ∷ es) ms gs at k bs hs last h =
     let s = h.4 in
     let rest = chain_whole ns es ms gs n.place.bytes n.place.holes h.1 h.3 last h.6 in
     let to = at + length h.0 in
     let far : n.place.bytes ≡ to + length (gap e.first) = omega (arith, s.begins, length-append h.0 (gap e.first)) in
-    let behind : Holds ms gs to (gap e.first ++ h.1) h.3 (gap e.first ++ whole_text es last) = holds_behind ms gs to n.place.bytes (gap e.first) h.1 h.3 (whole_text es last) far rest in
-    let all : Holds ms gs at (h.0 ++ (gap e.first ++ h.1)) (h.2 ++ h.3) (e.text ++ (gap e.first ++ whole_text es last)) = holds_append to (gap e.first ++ h.1) h.3 (gap e.first ++ whole_text es last) h.5 refl behind in
-    subst (λ z. Holds ms gs at z hs (e.text ++ (gap e.first ++ whole_text es last))) (sym s.bytes) (subst (λ z. Holds ms gs at (h.0 ++ (gap e.first ++ h.1)) z (e.text ++ (gap e.first ++ whole_text es last))) (sym s.holes) all)
+    let behind : Holds ms gs to (gap e.first ++ h.1) h.3 (gap e.first ++ entries_text es last) = holds_behind ms gs to n.place.bytes (gap e.first) h.1 h.3 (entries_text es last) far rest in
+    let all : Holds ms gs at (h.0 ++ (gap e.first ++ h.1)) (h.2 ++ h.3) (e.text ++ (gap e.first ++ entries_text es last)) = holds_append to (gap e.first ++ h.1) h.3 (gap e.first ++ entries_text es last) h.5 refl behind in
+    subst (λ z. Holds ms gs at z hs (e.text ++ (gap e.first ++ entries_text es last))) (sym s.bytes) (subst (λ z. Holds ms gs at (h.0 ++ (gap e.first ++ h.1)) z (e.text ++ (gap e.first ++ entries_text es last))) (sym s.holes) all)
 chain_whole [] (e ∷ es) ms gs at k bs hs last h = absurd h
 chain_whole (n ∷ ns) [] ms gs at k bs hs last h = absurd h
 
 -- without the last members, whose text stays
-pub chain_merge : (ns0 : List Member) (es0 : List Entry) (ns : List Member) (es : List Entry) (ms : List ℕ) (gs : List Hole) (at k : ℕ) (bs : List ℕ) (hs : List Hole) (last : List ℕ) → length ns0 ≡ length es0 → Chain (ns0 ++ ns) (es0 ++ es) ms gs at k bs hs last → Chain ns0 es0 ms gs at k bs hs (whole_text es last)
+pub chain_merge : (ns0 : List Member) (es0 : List Entry) (ns : List Member) (es : List Entry) (ms : List ℕ) (gs : List Hole) (at k : ℕ) (bs : List ℕ) (hs : List Hole) (last : List ℕ) → length ns0 ≡ length es0 → Chain (ns0 ++ ns) (es0 ++ es) ms gs at k bs hs last → Chain ns0 es0 ms gs at k bs hs (entries_text es last)
 chain_merge [] [] ns es ms gs at k bs hs last l h = chain_whole ns es ms gs at k bs hs last h
 chain_merge (m ∷ ns0) (f ∷ es0) ns es ms gs at k bs hs last l h = (h.0, h.1, h.2, h.3, h.4, h.5, chain_merge ns0 es0 ns es ms gs m.place.bytes m.place.holes h.1 h.3 last (omega (arith, l)) h.6)
 chain_merge [] (f ∷ es0) ns es ms gs at k bs hs last l h = absurd (omega (arith, l))

@@ -3,7 +3,7 @@ use Rattle.std.proofs.Common.{◌≡◌, ◌≤◌, ◌<◌, ◌-◌, ◌+◌, �
 use Rattle.std.proofs.Math.Seq.{take-append_seam}
 use Rattle.std.proofs.lemmas.List.{take-append-drop, length-take-le, length-drop, drop_all, take_all}
 use Rattle.miniserde_model.specs.Normal.{norm_members, Rise}
-use Rattle.miniserde_text.specs.Lexer.{front_of}
+use Rattle.miniserde_text.specs.Lexer.{event_of_token}
 use Rattle.miniserde_text.specs.declared.json.lex.Event as lex
 use Rattle.miniserde_text.specs.declared.json.lex.Event.TheVariants as lexed
 use Rattle.miniserde_canonical.specs.declared.member.Member.{Member}
@@ -11,14 +11,14 @@ use Rattle.miniserde_canonical.specs.declared.draft.Draft.{Draft}
 use Rattle.miniserde_canonical.specs.private.Spreads.{Holds, none, Good}
 use Rattle.miniserde_canonical.specs.private.Names.{name_of}
 use Rattle.miniserde_canonical.specs.private.Members.{NamesRise}
-use Rattle.miniserde_canonical.specs.private.Arranging.{gap, Entry, State, start, ended, spelled, whole_text, once_each, Adds, Sorted, Arranged, Closes, Step, front_text}
-use Rattle.miniserde_canonical.specs.private.Moving.{front_token}
-use Rattle.miniserde_canonical.specs.private.Settling.{Chain, Settles}
-use Rattle.miniserde_canonical.specs.private.Drafts.{Holding, Represents, Keeps}
+use Rattle.miniserde_canonical.specs.private.Arranging.{gap, Entry, State, start, entry_members, members_text, entries_text, once_each, Adds, Sorted, Arranged, Closes, TokenStep, first_token_text}
+use Rattle.miniserde_canonical.specs.private.Moving.{first_token}
+use Rattle.miniserde_canonical.specs.private.Sorting.{Chain, SortsMembers}
+use Rattle.miniserde_canonical.specs.private.Drafts.{Holding, Represents, ChangesOnlyText}
 use Rattle.miniserde_canonical.proofs.Spreads.{holds_plain, holds_behind}
 use Rattle.miniserde_canonical.proofs.Chains.{chain_lengths, chain_add, chain_more, chain_begin, chain_merge, chain_cut}
 use Rattle.miniserde_canonical.proofs.Owning.{chain_agrees, cut_own}
-use Rattle.miniserde_canonical.proofs.Rows.{Agree, rise_all}
+use Rattle.miniserde_canonical.proofs.MemberLists.{Agree, rise_all}
 
 pub draft_starts : (d : Draft) (input : List ℕ) → d.input.now ≡ input → d.left ≡ length input → d.out.bytes.items ≡ [] → d.out.holes.items ≡ [] → d.groups.bytes.items ≡ [] → d.groups.holes.items ≡ [] → d.members.items ≡ [] → d.opened.items ≡ [] → d.is_distinct ≡ true → Represents d input start
 draft_starts d input i l a b e f m o t = record {
@@ -32,7 +32,7 @@ draft_starts d input i l a b e f m o t = record {
   };
 }
 
-pub keep_holding : (d d' : Draft) (bs : List ℕ) (s : State) → Keeps d d' → Holding d bs s → Holding d' bs s
+pub keep_holding : (d d' : Draft) (bs : List ℕ) (s : State) → ChangesOnlyText d d' → Holding d bs s → Holding d' bs s
 keep_holding d d' bs s k h = record {
   chain = rw (k.members, k.groups, k.inner, k.holes) h.chain;
   good = subst (λ z. Good z d'.out.holes.items) (sym k.inner) (subst (λ z. Good d.groups.holes.items z) (sym k.holes) h.good);
@@ -113,13 +113,13 @@ own_part (suc f) (n ∷ ns) (e ∷ es) a = own_part f ns es a.1
 own_part f [] (e ∷ es) a = absurd a
 own_part f (n ∷ ns) [] a = absurd a
 
-pub rises_behind : (d : Draft) (bs : List ℕ) (s : State) (f : ℕ) (ns : List Member) → ns ≡ drop f d.members.items → NamesRise ns → Holding d bs s → Rise (ended (drop f s.entries) s.last)
+pub rises_behind : (d : Draft) (bs : List ℕ) (s : State) (f : ℕ) (ns : List Member) → ns ≡ drop f d.members.items → NamesRise ns → Holding d bs s → Rise (entry_members (drop f s.entries) s.last)
 rises_behind d bs s f ns e h r = rise_all (drop f d.members.items) (drop f s.entries) s.last (own_part f d.members.items s.entries (chain_agrees d.members.items s.entries d.groups.bytes.items d.groups.holes.items 0 0 bs d.out.holes.items s.last r.chain)) (subst NamesRise e h)
 
 -- the names rise
-pub holding_same : (d d' : Draft) (bs : List ℕ) (s : State) (f : ℕ) → f ≤ length d.members.items → d'.out.holes.items ≡ d.out.holes.items → d'.groups.bytes.items ≡ d.groups.bytes.items → d'.groups.holes.items ≡ d.groups.holes.items → d'.members.items ≡ take f d.members.items → d'.is_distinct ≡ d.is_distinct → Holding d bs s → Holding d' bs (record { entries = take f s.entries; last = whole_text (drop f s.entries) s.last; opened = d'.opened.items; first = s.first; distinct = s.distinct })
+pub holding_same : (d d' : Draft) (bs : List ℕ) (s : State) (f : ℕ) → f ≤ length d.members.items → d'.out.holes.items ≡ d.out.holes.items → d'.groups.bytes.items ≡ d.groups.bytes.items → d'.groups.holes.items ≡ d.groups.holes.items → d'.members.items ≡ take f d.members.items → d'.is_distinct ≡ d.is_distinct → Holding d bs s → Holding d' bs (record { entries = take f s.entries; last = entries_text (drop f s.entries) s.last; opened = d'.opened.items; first = s.first; distinct = s.distinct })
 holding_same d d' bs s f l b e g m t r =
-    let c : Chain (take f d.members.items) (take f s.entries) d.groups.bytes.items d.groups.holes.items 0 0 bs d.out.holes.items (whole_text (drop f s.entries) s.last) = chain_merge (take f d.members.items) (take f s.entries) (drop f d.members.items) (drop f s.entries) d.groups.bytes.items d.groups.holes.items 0 0 bs d.out.holes.items s.last (as_many d bs s f r l) (parted d bs s f r) in
+    let c : Chain (take f d.members.items) (take f s.entries) d.groups.bytes.items d.groups.holes.items 0 0 bs d.out.holes.items (entries_text (drop f s.entries) s.last) = chain_merge (take f d.members.items) (take f s.entries) (drop f d.members.items) (drop f s.entries) d.groups.bytes.items d.groups.holes.items 0 0 bs d.out.holes.items s.last (as_many d bs s f r l) (parted d bs s f r) in
     record {
       chain = rw (m, e, g, b) c;
       good = subst (λ z. Good z d'.out.holes.items) (sym g) (subst (λ z. Good d.groups.holes.items z) (sym b) r.good);
@@ -135,7 +135,7 @@ pub record PutInOrder (d d' : Draft) (s : State) (f : ℕ) : Type 0 where
   pub entries : state.entries ≡ take f s.entries
   pub sorted : Sorted (drop f s.entries) s state
 
-ordered_at : (d d' : Draft) (s : State) (f : ℕ) (b : Bool) (n : Member) (ns : List Member) (e : Entry) (es : List Entry) → length (take f d.members.items) ≡ length (take f s.entries) → Good d.groups.holes.items d.out.holes.items → d.is_distinct ≡ s.distinct → Chain (take f d.members.items ++ n ∷ ns) (take f s.entries ++ e ∷ es) d.groups.bytes.items d.groups.holes.items 0 0 d.out.bytes.items d.out.holes.items s.last → Settles (n ∷ ns) d.out d'.out d.groups d'.groups b → d'.members.items ≡ take f d.members.items → d'.is_distinct ≡ (d.is_distinct && b) → drop f s.entries ≡ e ∷ es → PutInOrder d d' s f
+ordered_at : (d d' : Draft) (s : State) (f : ℕ) (b : Bool) (n : Member) (ns : List Member) (e : Entry) (es : List Entry) → length (take f d.members.items) ≡ length (take f s.entries) → Good d.groups.holes.items d.out.holes.items → d.is_distinct ≡ s.distinct → Chain (take f d.members.items ++ n ∷ ns) (take f s.entries ++ e ∷ es) d.groups.bytes.items d.groups.holes.items 0 0 d.out.bytes.items d.out.holes.items s.last → SortsMembers (n ∷ ns) d.out d'.out d.groups d'.groups b → d'.members.items ≡ take f d.members.items → d'.is_distinct ≡ (d.is_distinct && b) → drop f s.entries ≡ e ∷ es → PutInOrder d d' s f
 ordered_at d d' s f b n ns e es same good di chain st m t is =
     let ms = d.groups.bytes.items in
     let gs = d.groups.holes.items in
@@ -144,7 +144,7 @@ ordered_at d d' s f b n ns e es same good di chain st m t is =
     let own = cut_own (take f d.members.items) (take f s.entries) n e ns es ms gs d.out.bytes.items d.out.holes.items s.last c in
     let r = st (e ∷ es) s.last own in
     let p = r.0 in
-    let x = spelled true (norm_members (ended (e ∷ es) s.last)) in
+    let x = members_text true (norm_members (entry_members (e ∷ es) s.last)) in
     let here : n.place.bytes ≡ length (c.before ++ gap e.first) = omega (arith, seam.begins) in
     let front : take n.place.bytes d.out.bytes.items ≡ c.before ++ gap e.first = ap₂ take here (seam.bytes ∙ sym (append_assoc c.before (gap e.first) c.behind)) ∙ take-append_seam (c.before ++ gap e.first) c.behind in
     let holes_front : take n.place.holes d.out.holes.items ≡ c.holes_before = let at : n.place.holes ≡ length c.holes_before = omega (arith, seam.behind) in ap₂ take at seam.holes ∙ take-append_seam c.holes_before c.holes_behind in
@@ -154,7 +154,7 @@ ordered_at d d' s f b n ns e es same good di chain st m t is =
     let out_bytes : d'.out.bytes.items ≡ c.before ++ (gap e.first ++ p.bytes) = p.is_bytes ∙ ap (λ z. z ++ p.bytes) front ∙ append_assoc c.before (gap e.first) p.bytes in
     let out_holes : d'.out.holes.items ≡ c.holes_before ++ p.holes = p.is_holes ∙ ap (λ z. z ++ p.holes) holes_front in
     record {
-      state = record { entries = take f s.entries; last = e.text ++ (gap e.first ++ x); opened = d'.opened.items; first = s.first; distinct = s.distinct && once_each (ended (e ∷ es) s.last) };
+      state = record { entries = take f s.entries; last = e.text ++ (gap e.first ++ x); opened = d'.opened.items; first = s.first; distinct = s.distinct && once_each (entry_members (e ∷ es) s.last) };
       holding = record {
         chain = rw (m, out_bytes, out_holes) new;
         good = p.good good;
@@ -166,10 +166,10 @@ ordered_at d d' s f b n ns e es same good di chain st m t is =
       sorted = rw is (refl, refl);
     }
 
-pub holding_sorted : (d d' : Draft) (s : State) (f : ℕ) (b : Bool) (ns : List Member) → f ≤ length d.members.items → ns ≡ drop f d.members.items → 0 < length ns → Settles ns d.out d'.out d.groups d'.groups b → d'.members.items ≡ take f d.members.items → d'.is_distinct ≡ (d.is_distinct && b) → Holding d d.out.bytes.items s → PutInOrder d d' s f
+pub holding_sorted : (d d' : Draft) (s : State) (f : ℕ) (b : Bool) (ns : List Member) → f ≤ length d.members.items → ns ≡ drop f d.members.items → 0 < length ns → SortsMembers ns d.out d'.out d.groups d'.groups b → d'.members.items ≡ take f d.members.items → d'.is_distinct ≡ (d.is_distinct && b) → Holding d d.out.bytes.items s → PutInOrder d d' s f
 holding_sorted d d' s f b ns l e some st m t r = go ns (drop f s.entries) e refl some st
   where
-    go : (ns : List Member) (es : List Entry) → ns ≡ drop f d.members.items → drop f s.entries ≡ es → 0 < length ns → Settles ns d.out d'.out d.groups d'.groups b → PutInOrder d d' s f
+    go : (ns : List Member) (es : List Entry) → ns ≡ drop f d.members.items → drop f s.entries ≡ es → 0 < length ns → SortsMembers ns d.out d'.out d.groups d'.groups b → PutInOrder d d' s f
     go [] es e h some st = absurd (omega (arith, some))
     go (n ∷ ns) [] e h some st =
         let same = chain_lengths d.members.items s.entries d.groups.bytes.items d.groups.holes.items 0 0 d.out.bytes.items d.out.holes.items s.last r.chain in
@@ -188,7 +188,7 @@ too_few d bs s os before r e l ps f h i =
 pub behind : (xs ys : List Member) (f : ℕ) → ys ≡ xs → take (length ys - f) (drop f ys) ≡ drop f xs
 behind xs ys f e = take_all (length ys - f) (drop f ys) (omega (arith, length-drop f ys)) ∙ ap (drop f) e
 
-pub front_adds : (e : lex.Event) (scratch : List ℕ) (s s' : State) → (e ≡ lexed.MapStart → ⊥) → Step (front_token (front_of e scratch)) s s' → Adds (front_text (front_token (front_of e scratch))) s s'
+pub front_adds : (e : lex.Event) (scratch : List ℕ) (s s' : State) → (e ≡ lexed.MapStart → ⊥) → TokenStep (first_token (event_of_token e scratch)) s s' → Adds (first_token_text (first_token (event_of_token e scratch))) s s'
 front_adds lexed.Null scratch s s' n h = h.0
 front_adds (lexed.Bool b) scratch s s' n h = h.0
 front_adds (lexed.Negative z) scratch s s' n h = h.0
@@ -211,6 +211,6 @@ holds_whole d s r e = go d.members.items s.entries e r.chain
 pub sorted_like : (es : List Entry) (s t m : State) → t.last ≡ s.last → t.distinct ≡ s.distinct → Sorted es t m → Sorted es s m
 sorted_like [] s t m h k p = absurd p
 sorted_like (e ∷ es) s t m h k p = (
-  p.0 ∙ ap (λ z. e.text ++ (gap e.first ++ spelled true (norm_members (ended (e ∷ es) z)))) h,
-  p.1 ∙ ap₂ (λ (x : Bool) (y : List ℕ). x && once_each (ended (e ∷ es) y)) k h,
+  p.0 ∙ ap (λ z. e.text ++ (gap e.first ++ members_text true (norm_members (entry_members (e ∷ es) z)))) h,
+  p.1 ∙ ap₂ (λ (x : Bool) (y : List ℕ). x && once_each (entry_members (e ∷ es) y)) k h,
 )

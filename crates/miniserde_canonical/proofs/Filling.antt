@@ -7,8 +7,8 @@ use Rattle.std.proofs.lemmas.Bool.{cases_lt, eqb-true}
 use Rattle.std.proofs.lemmas.List.{take-append-drop, length-take-le, length-drop}
 use Rattle.miniserde_canonical.specs.declared.spread.Span.{Span}
 use Rattle.miniserde_canonical.specs.declared.spread.Hole.{Hole}
-use Rattle.miniserde_canonical.specs.private.Spreads.{between, bytes_in, holes_in, Holds, Ordered}
-use Rattle.miniserde_canonical.specs.private.Waiting.{SpanHolds, Waits, load, loads}
+use Rattle.miniserde_canonical.specs.private.Spreads.{part_between, bytes_in, holes_in, Holds, Ordered}
+use Rattle.miniserde_canonical.specs.private.Waiting.{SpanHolds, Waits, span_measure, spans_measure}
 use Rattle.miniserde_canonical.proofs.Spreads.{between_mid, between_end, between_none, plain_text, at_hole}
 
 -- ---- spans that wait
@@ -26,17 +26,17 @@ waits_pop ms gs (p ∷ ps) q x w =
 -- ---- the bytes up to a hole and behind it
 
 -- what stands before the bytes of a span, and behind them
-parted : (a b : ℕ) (ms x y : List ℕ) → a ≤ b → b ≤ length ms → between a b ms ≡ x ++ y → (z : List ℕ) × (ms ≡ take a ms ++ (x ++ (y ++ z)))
+parted : (a b : ℕ) (ms x y : List ℕ) → a ≤ b → b ≤ length ms → part_between a b ms ≡ x ++ y → (z : List ℕ) × (ms ≡ take a ms ++ (x ++ (y ++ z)))
 parted a b ms x y h l e =
     let z = drop (b - a) (drop a ms) in
     (z, sym (take-append-drop a ms) ∙ ap (λ w. take a ms ++ w) (sym (take-append-drop (b - a) (drop a ms)) ∙ ap (λ w. w ++ z) e ∙ append_assoc x y z))
 
-pub before_hole : (a b h : ℕ) (ms x y : List ℕ) → a ≤ b → b ≤ length ms → between a b ms ≡ x ++ y → h ≡ a + length x → between a h ms ≡ x
+pub before_hole : (a b h : ℕ) (ms x y : List ℕ) → a ≤ b → b ≤ length ms → part_between a b ms ≡ x ++ y → h ≡ a + length x → part_between a h ms ≡ x
 before_hole a b h ms x y i l e f =
     let t = parted a b ms x y i l e in
     between_mid a h ms (take a ms) x (y ++ t.0) t.1 (sym (length-take-le a ms (omega (arith, i, l)))) f
 
-pub behind_hole : (a b h : ℕ) (ms x y : List ℕ) → a ≤ b → b ≤ length ms → between a b ms ≡ x ++ y → h ≡ a + length x → (h ≤ b) × (between h b ms ≡ y)
+pub behind_hole : (a b h : ℕ) (ms x y : List ℕ) → a ≤ b → b ≤ length ms → part_between a b ms ≡ x ++ y → h ≡ a + length x → (h ≤ b) × (part_between h b ms ≡ y)
 behind_hole a b h ms x y i l e f =
     let t = parted a b ms x y i l e in
     let front = length-take-le a ms (omega (arith, i, l)) in
@@ -46,7 +46,7 @@ behind_hole a b h ms x y i l e f =
       between_mid h b ms (take a ms ++ x) y t.0 text (omega (arith, f, front, length-append (take a ms) x)) (omega (arith, f, wide, i)),
     )
 
-first_hole : (a b : ℕ) (gs : List Hole) (d : Hole) → a < b → a < length gs → between a b gs ≡ get_or gs a d ∷ between (a + 1) b gs
+first_hole : (a b : ℕ) (gs : List Hole) (d : Hole) → a < b → a < length gs → part_between a b gs ≡ get_or gs a d ∷ part_between (a + 1) b gs
 first_hole a b gs d l h =
     let wide : b - a ≡ suc (b - (a + 1)) = omega (arith, l) in
     ap₂ take wide (drop-cons gs a d h) ∙ ap (λ z. get_or gs a d ∷ take (b - (a + 1)) (drop z gs)) (sym (add-one a))
@@ -54,18 +54,18 @@ first_hole a b gs d l h =
 -- ---- one span
 
 -- where a hole stands in a span: the bytes before it, and two spans that wait
-pub span_hole : (ms bs : List ℕ) (gs ks : List Hole) (p q : Span) (hole d : Hole) (out part out' : List ℕ) (later mid later' : List Span) → bs ≡ ms → ks ≡ gs → p.from.holes < p.to.holes → p.from.holes < length ks → hole ≡ get_or ks p.from.holes d → q ≡ record { from = record { bytes = hole.at; holes = p.from.holes + 1 }; to = p.to } → (p.from.bytes ≤ hole.at → hole.at ≤ length bs → part ≡ between p.from.bytes hole.at bs) → out' ≡ out ++ part → mid ≡ later ++ q ∷ [] → later' ≡ mid ++ hole.group ∷ [] → (x y : List ℕ) → SpanHolds ms gs p x → Waits ms gs later y → (z : List ℕ) × Waits ms gs later' z × (out' ++ z ≡ out ++ (x ++ y))
+pub span_hole : (ms bs : List ℕ) (gs ks : List Hole) (p q : Span) (hole d : Hole) (out part out' : List ℕ) (later mid later' : List Span) → bs ≡ ms → ks ≡ gs → p.from.holes < p.to.holes → p.from.holes < length ks → hole ≡ get_or ks p.from.holes d → q ≡ record { from = record { bytes = hole.at; holes = p.from.holes + 1 }; to = p.to } → (p.from.bytes ≤ hole.at → hole.at ≤ length bs → part ≡ part_between p.from.bytes hole.at bs) → out' ≡ out ++ part → mid ≡ later ++ q ∷ [] → later' ≡ mid ++ hole.group ∷ [] → (x y : List ℕ) → SpanHolds ms gs p x → Waits ms gs later y → (z : List ℕ) × Waits ms gs later' z × (out' ++ z ≡ out ++ (x ++ y))
 span_hole ms bs gs ks p q hole d out part out' later mid later' eb ek l below there e f' g j k = λ x y s w.
     let v = s.0 in
     let h : p.from.holes < length gs = subst (λ z. p.from.holes < length z) ek below in
     let i : hole ≡ get_or gs p.from.holes d = there ∙ ap (λ z. get_or z p.from.holes d) ek in
-    let f : p.from.bytes ≤ hole.at → hole.at ≤ length ms → part ≡ between p.from.bytes hole.at ms = λ a b. f' a (subst (λ z. hole.at ≤ length z) (sym eb) b) ∙ ap (between p.from.bytes hole.at) eb in
-    let first : holes_in p gs ≡ hole ∷ between (p.from.holes + 1) p.to.holes gs = first_hole p.from.holes p.to.holes gs d l h ∙ ap (λ z. z ∷ between (p.from.holes + 1) p.to.holes gs) (sym i) in
+    let f : p.from.bytes ≤ hole.at → hole.at ≤ length ms → part ≡ part_between p.from.bytes hole.at ms = λ a b. f' a (subst (λ z. hole.at ≤ length z) (sym eb) b) ∙ ap (part_between p.from.bytes hole.at) eb in
+    let first : holes_in p gs ≡ hole ∷ part_between (p.from.holes + 1) p.to.holes gs = first_hole p.from.holes p.to.holes gs d l h ∙ ap (λ z. z ∷ part_between (p.from.holes + 1) p.to.holes gs) (sym i) in
     let a = at_hole (subst (λ z. Holds ms gs p.from.bytes (bytes_in p ms) z x) first s.1) in
     let behind = behind_hole p.from.bytes p.to.bytes hole.at ms a.before a.behind v.0 v.1 a.bytes a.place in
     let bytes : part ≡ a.before = f (omega (arith, a.place)) (omega (arith, behind.0, v.1)) ∙ before_hole p.from.bytes p.to.bytes hole.at ms a.before a.behind v.0 v.1 a.bytes a.place in
     let r : Span = record { from = record { bytes = hole.at; holes = p.from.holes + 1 }; to = p.to } in
-    let rest : SpanHolds ms gs r a.rest = ((behind.0, v.1, omega (arith, l), v.3), subst (λ z. Holds ms gs hole.at z (between (p.from.holes + 1) p.to.holes gs) a.rest) (sym behind.1) a.after) in
+    let rest : SpanHolds ms gs r a.rest = ((behind.0, v.1, omega (arith, l), v.3), subst (λ z. Holds ms gs hole.at z (part_between (p.from.holes + 1) p.to.holes gs) a.rest) (sym behind.1) a.after) in
     let one : Waits ms gs mid (a.rest ++ y) = subst (λ z. Waits ms gs z (a.rest ++ y)) (sym (j ∙ ap (λ z. later ++ z ∷ []) e)) (waits_push ms gs later r y a.rest w rest) in
     let two : Waits ms gs later' (a.group ++ (a.rest ++ y)) = subst (λ z. Waits ms gs z (a.group ++ (a.rest ++ y))) (sym k) (waits_push ms gs mid hole.group (a.rest ++ y) a.group one (a.within, a.inside)) in
     (a.group ++ (a.rest ++ y), two, ap (λ z. z ++ (a.group ++ (a.rest ++ y))) (g ∙ ap (λ z. out ++ z) bytes) ∙ rejoin out a.before a.group a.rest y ∙ ap (λ z. out ++ (z ++ y)) (sym a.text))
@@ -73,11 +73,11 @@ span_hole ms bs gs ks p q hole d out part out' later mid later' eb ek l below th
     rejoin : (a b c d y : List ℕ) → (a ++ b) ++ (c ++ (d ++ y)) ≡ a ++ ((b ++ (c ++ d)) ++ y)
     rejoin a b c d y = simp append_assoc refl
 
-pub span_plain : (ms bs : List ℕ) (gs ks : List Hole) (p : Span) (out part out' : List ℕ) (later : List Span) → bs ≡ ms → ks ≡ gs → (p.from.holes < p.to.holes → p.from.holes < length ks → ⊥) → (p.from.bytes ≤ p.to.bytes → p.to.bytes ≤ length bs → part ≡ between p.from.bytes p.to.bytes bs) → out' ≡ out ++ part → (x y : List ℕ) → SpanHolds ms gs p x → Waits ms gs later y → (z : List ℕ) × Waits ms gs later z × (out' ++ z ≡ out ++ (x ++ y))
+pub span_plain : (ms bs : List ℕ) (gs ks : List Hole) (p : Span) (out part out' : List ℕ) (later : List Span) → bs ≡ ms → ks ≡ gs → (p.from.holes < p.to.holes → p.from.holes < length ks → ⊥) → (p.from.bytes ≤ p.to.bytes → p.to.bytes ≤ length bs → part ≡ part_between p.from.bytes p.to.bytes bs) → out' ≡ out ++ part → (x y : List ℕ) → SpanHolds ms gs p x → Waits ms gs later y → (z : List ℕ) × Waits ms gs later z × (out' ++ z ≡ out ++ (x ++ y))
 span_plain ms bs gs ks p out part out' later eb ek n' f' g = λ x y s w.
     let v = s.0 in
     let n : p.from.holes < p.to.holes → p.from.holes < length gs → ⊥ = λ a b. n' a (subst (λ z. p.from.holes < length z) (sym ek) b) in
-    let f : p.from.bytes ≤ p.to.bytes → p.to.bytes ≤ length ms → part ≡ between p.from.bytes p.to.bytes ms = λ a b. f' a (subst (λ z. p.to.bytes ≤ length z) (sym eb) b) ∙ ap (between p.from.bytes p.to.bytes) eb in
+    let f : p.from.bytes ≤ p.to.bytes → p.to.bytes ≤ length ms → part ≡ part_between p.from.bytes p.to.bytes ms = λ a b. f' a (subst (λ z. p.to.bytes ≤ length z) (sym eb) b) ∙ ap (part_between p.from.bytes p.to.bytes) eb in
     let empty : holes_in p gs ≡ [] = elim (cases_lt p.from.holes p.to.holes) [
       | inl l ↦ absurd (n l (omega (arith, l, v.3)))
       | inr h ↦ between_none p.from.holes p.to.holes gs h
@@ -92,14 +92,14 @@ ordered_at n i [] d o l = absurd (omega (arith, l))
 ordered_at n zero (h ∷ gs) d o l = omega (arith, o.0)
 ordered_at n (suc i) (h ∷ gs) d o l = omega (arith, ordered_at (suc n) i gs d o.1 (omega (arith, l)))
 
-loads_push : (ps : List Span) (q : Span) → loads (ps ++ q ∷ []) ≡ loads ps + load q
+loads_push : (ps : List Span) (q : Span) → spans_measure (ps ++ q ∷ []) ≡ spans_measure ps + span_measure q
 loads_push [] q = omega arith
 loads_push (p ∷ ps) q = omega (arith, loads_push ps q)
 
 twice : (n : ℕ) → 2 ^ (1 + (n + 1)) ≡ 2 * 2 ^ (1 + n)
 twice n = let next : 1 + (n + 1) ≡ suc (1 + n) = omega arith in ap (λ z. 2 ^ z) next ∙ pow-suc 2 (1 + n) ∙ omega arith
 
-pub less_hole : (gs ks : List Hole) (p q : Span) (hole d : Hole) (later mid later' : List Span) → ks ≡ gs → p.from.holes < p.to.holes → p.from.holes < length ks → hole ≡ get_or ks p.from.holes d → q ≡ record { from = record { bytes = hole.at; holes = p.from.holes + 1 }; to = p.to } → mid ≡ later ++ q ∷ [] → later' ≡ mid ++ hole.group ∷ [] → Ordered 0 gs → loads later' < loads later + load p
+pub less_hole : (gs ks : List Hole) (p q : Span) (hole d : Hole) (later mid later' : List Span) → ks ≡ gs → p.from.holes < p.to.holes → p.from.holes < length ks → hole ≡ get_or ks p.from.holes d → q ≡ record { from = record { bytes = hole.at; holes = p.from.holes + 1 }; to = p.to } → mid ≡ later ++ q ∷ [] → later' ≡ mid ++ hole.group ∷ [] → Ordered 0 gs → spans_measure later' < spans_measure later + span_measure p
 less_hole gs ks p q hole d later mid later' ek l below there e j k o =
     let h : p.from.holes < length gs = subst (λ z. p.from.holes < length z) ek below in
     let i : hole ≡ get_or gs p.from.holes d = there ∙ ap (λ z. get_or z p.from.holes d) ek in
@@ -115,11 +115,11 @@ less_hole gs ks p q hole d later mid later' ek l below there e j k o =
     let least : 2 ^ (1 + 0) ≤ 2 ^ (1 + a) = pow_mono {i = 1 + 0} {j = 1 + a} (omega arith) in
     let high : 2 ≤ 2 ^ (1 + a) = omega (arith, least, two) in
     let double : 2 ^ (1 + (a + 1)) ≡ 2 * 2 ^ (1 + a) = twice a in
-    let all : loads later' ≡ (loads later + load q) + load hole.group = ap loads k ∙ loads_push mid hole.group ∙ ap (λ z. loads z + load hole.group) j ∙ ap (λ z. z + load hole.group) (loads_push later q) in
-    let rest : load q ≡ 1 + (2 ^ (1 + b) - 2 ^ (1 + (a + 1))) = ap load e in
+    let all : spans_measure later' ≡ (spans_measure later + span_measure q) + span_measure hole.group = ap spans_measure k ∙ loads_push mid hole.group ∙ ap (λ z. spans_measure z + span_measure hole.group) j ∙ ap (λ z. z + span_measure hole.group) (loads_push later q) in
+    let rest : span_measure q ≡ 1 + (2 ^ (1 + b) - 2 ^ (1 + (a + 1))) = ap span_measure e in
     omega (arith, all, rest, group, up, one, two, high, double)
 
-pub less_plain : (p : Span) (later : List Span) → loads later < loads later + load p
+pub less_plain : (p : Span) (later : List Span) → spans_measure later < spans_measure later + span_measure p
 less_plain p later = omega arith
 
 -- ---- a group
@@ -136,8 +136,8 @@ group_goes ms gs p q start out out' later rest later' e f g = λ x s.
     let v = g u.0 u.1 u.2 u.3 in
     (v.0, v.1, v.2 ∙ ap (λ z. out ++ z) (sym u.4) ∙ t.2)
 
-pub group_less : (q : Span) (later rest later' : List Span) → later ≡ rest ++ q ∷ [] → loads later' < loads rest + load q → loads later' < loads later
-group_less q later rest later' e h = omega (arith, h, ap loads e ∙ loads_push rest q)
+pub group_less : (q : Span) (later rest later' : List Span) → later ≡ rest ++ q ∷ [] → spans_measure later' < spans_measure rest + span_measure q → spans_measure later' < spans_measure later
+group_less q later rest later' e h = omega (arith, h, ap spans_measure e ∙ loads_push rest q)
 
 pub group_ends : (ms : List ℕ) (gs : List Hole) (p : Span) (start out : List ℕ) (later : List Span) → later ≡ [] → ((x : List ℕ) → SpanHolds ms gs p x → (z : List ℕ) × Waits ms gs later z × (out ++ z ≡ start ++ x)) → (x : List ℕ) → SpanHolds ms gs p x → out ≡ start ++ x
 group_ends ms gs p start out later e f = λ x s.
@@ -154,10 +154,10 @@ Left ms gs bs hs at ks out = (x : List ℕ) → Holds ms gs 0 bs hs x → (y : L
 pub fill_begins : (ms : List ℕ) (gs : List Hole) (bs : List ℕ) (hs ks : List Hole) (out : List ℕ) → out ≡ [] → ks ≡ hs → Left ms gs bs hs 0 ks out
 fill_begins ms gs bs hs ks out e f = λ x u. (x, omega arith, subst (λ z. Holds ms gs 0 bs z x) (sym f) u, ap (λ z. z ++ x) e)
 
-pub fill_goes : (ms : List ℕ) (gs : List Hole) (bs text' : List ℕ) (hs ks : List Hole) (at i : ℕ) (hole d : Hole) (out part mid out' : List ℕ) → text' ≡ bs → i < length ks → hole ≡ get_or ks i d → (at ≤ hole.at → hole.at ≤ length text' → part ≡ between at hole.at text') → mid ≡ out ++ part → ((x : List ℕ) → SpanHolds ms gs hole.group x → out' ≡ mid ++ x) → Left ms gs bs hs at (drop i ks) out → Left ms gs bs hs hole.at (drop (i + 1) ks) out'
+pub fill_goes : (ms : List ℕ) (gs : List Hole) (bs text' : List ℕ) (hs ks : List Hole) (at i : ℕ) (hole d : Hole) (out part mid out' : List ℕ) → text' ≡ bs → i < length ks → hole ≡ get_or ks i d → (at ≤ hole.at → hole.at ≤ length text' → part ≡ part_between at hole.at text') → mid ≡ out ++ part → ((x : List ℕ) → SpanHolds ms gs hole.group x → out' ≡ mid ++ x) → Left ms gs bs hs at (drop i ks) out → Left ms gs bs hs hole.at (drop (i + 1) ks) out'
 fill_goes ms gs bs text' hs ks at i hole d out part mid out' eb l e f' g p left = λ x u.
     let t = left x u in
-    let f : at ≤ hole.at → hole.at ≤ length bs → part ≡ between at hole.at bs = λ a b. f' a (subst (λ z. hole.at ≤ length z) (sym eb) b) ∙ ap (between at hole.at) eb in
+    let f : at ≤ hole.at → hole.at ≤ length bs → part ≡ part_between at hole.at bs = λ a b. f' a (subst (λ z. hole.at ≤ length z) (sym eb) b) ∙ ap (part_between at hole.at) eb in
     let next : drop i ks ≡ hole ∷ drop (i + 1) ks = drop-cons ks i d l ∙ ap₂ (λ (z : Hole) (w : ℕ). z ∷ drop w ks) (sym e) (sym (add-one i)) in
     let a = at_hole (subst (λ z. Holds ms gs at (drop at bs) z t.0) next t.2) in
     let front = length-take-le at bs t.1 in
@@ -175,10 +175,10 @@ fill_goes ms gs bs text' hs ks at i hole d out part mid out' eb l e f' g p left 
     rejoin : (a b c d : List ℕ) → ((a ++ b) ++ c) ++ d ≡ a ++ (b ++ (c ++ d))
     rejoin a b c d = simp append_assoc refl
 
-pub fill_ends : (ms : List ℕ) (gs : List Hole) (bs text' : List ℕ) (hs ks : List Hole) (at end : ℕ) (out part out' : List ℕ) → text' ≡ bs → ks ≡ [] → end ≡ length bs → (at ≤ end → end ≤ length text' → part ≡ between at end text') → out' ≡ out ++ part → Left ms gs bs hs at ks out → (x : List ℕ) → Holds ms gs 0 bs hs x → out' ≡ x
+pub fill_ends : (ms : List ℕ) (gs : List Hole) (bs text' : List ℕ) (hs ks : List Hole) (at end : ℕ) (out part out' : List ℕ) → text' ≡ bs → ks ≡ [] → end ≡ length bs → (at ≤ end → end ≤ length text' → part ≡ part_between at end text') → out' ≡ out ++ part → Left ms gs bs hs at ks out → (x : List ℕ) → Holds ms gs 0 bs hs x → out' ≡ x
 fill_ends ms gs bs text' hs ks at end out part out' eb e i f' g left = λ x u.
     let t = left x u in
-    let f : at ≤ end → end ≤ length bs → part ≡ between at end bs = λ a b. f' a (subst (λ z. end ≤ length z) (sym eb) b) ∙ ap (between at end) eb in
+    let f : at ≤ end → end ≤ length bs → part ≡ part_between at end bs = λ a b. f' a (subst (λ z. end ≤ length z) (sym eb) b) ∙ ap (part_between at end) eb in
     let plain : t.0 ≡ drop at bs = plain_text (subst (λ z. Holds ms gs at (drop at bs) z t.0) e t.2) in
     let bytes : part ≡ drop at bs = f (omega (arith, t.1, i)) (omega (arith, i)) ∙ between_end at end bs (take at bs) (drop at bs) (sym (take-append-drop at bs)) (sym (length-take-le at bs t.1)) i in
     g ∙ ap (λ z. out ++ z) (bytes ∙ sym plain) ∙ t.3

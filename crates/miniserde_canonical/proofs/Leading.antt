@@ -8,12 +8,12 @@ use Rattle.std.proofs.lemmas.Cmp.{nat_list_cmp_total}
 use Rattle.std.proofs.lemmas.Nat.{mul-le}
 use Rattle.std.proofs.Math.Nat.{pow-suc}
 use Rattle.miniserde_model.specs.Normal.{text_cmp}
-use Rattle.miniserde_canonical.specs.private.Names.{lead, IsPrefix}
+use Rattle.miniserde_canonical.specs.private.Names.{leading_number, IsPrefix}
 
 abbrev Small : List ℕ → Type 0
 Small s = (i : ℕ) → get_or s i 0 < 256
 
-lead_small : (n : ℕ) (s : List ℕ) → Small s → lead n s < 256 ^ n
+lead_small : (n : ℕ) (s : List ℕ) → Small s → leading_number n s < 256 ^ n
 lead_small zero s h = omega arith
 lead_small (suc n) [] h = omega (arith, power n)
   where
@@ -25,11 +25,11 @@ lead_small (suc n) (c ∷ s) h =
     let most : c * 256 ^ n ≤ 255 * 256 ^ n = mul-le c (256 ^ n) 255 (256 ^ n) (omega (arith, h 0)) (omega arith) in
     omega (arith, rest, most, pow-suc 256 n)
 
-lead_nil : (n : ℕ) → lead n [] ≡ 0
+lead_nil : (n : ℕ) → leading_number n [] ≡ 0
 lead_nil zero = refl
 lead_nil (suc n) = refl
 
-lead_below : (n : ℕ) (a b : List ℕ) → Small a → Small b → lead n a < lead n b → text_cmp a b ≡ Less
+lead_below : (n : ℕ) (a b : List ℕ) → Small a → Small b → leading_number n a < leading_number n b → text_cmp a b ≡ Less
 lead_below zero a b h k l = absurd (omega (arith, l))
 lead_below (suc n) [] [] h k l = absurd (omega (arith, l))
 lead_below (suc n) [] (d ∷ b) h k l = refl
@@ -38,7 +38,7 @@ lead_below (suc n) (c ∷ a) (d ∷ b) h k l = elim (cases_lt c d) [
   | inl low ↦ ap (λ o. ordering_then o (text_cmp a b)) (sym (nat_cmp_is c d Less low))
   | inr high ↦ elim (cases_eq c d) [
     | inl same ↦
-        let rest : lead n a < lead n b = omega (arith, l, ap (λ z. z * 256 ^ n) same) in
+        let rest : leading_number n a < leading_number n b = omega (arith, l, ap (λ z. z * 256 ^ n) same) in
         ap (λ o. ordering_then o (text_cmp a b)) (sym (nat_cmp_is c d Equal same)) ∙ lead_below n a b (λ i. h (suc i)) (λ i. k (suc i)) rest
     | inr other ↦
         let small = lead_small n b (λ i. k (suc i)) in
@@ -56,7 +56,7 @@ prefix_below p q a b h k l = lead_below 8 a b h.small k.small (omega (arith, h.v
 pub prefix_above : (p q : ℕ) (a b : List ℕ) → IsPrefix p a → IsPrefix q b → q < p → text_cmp a b ≡ Greater
 prefix_above p q a b h k l = nat_list_cmp_total.antisymm a b ∙ ap ordering_reverse (prefix_below q p b a k h l)
 
-pub first_eight : (s : List ℕ) → from_be_bytes w64 (get_or s 0 0 ∷ get_or s 1 0 ∷ get_or s 2 0 ∷ get_or s 3 0 ∷ get_or s 4 0 ∷ get_or s 5 0 ∷ get_or s 6 0 ∷ get_or s 7 0 ∷ []) ≡ lead 8 s
+pub first_eight : (s : List ℕ) → from_be_bytes w64 (get_or s 0 0 ∷ get_or s 1 0 ∷ get_or s 2 0 ∷ get_or s 3 0 ∷ get_or s 4 0 ∷ get_or s 5 0 ∷ get_or s 6 0 ∷ get_or s 7 0 ∷ []) ≡ leading_number 8 s
 first_eight [] = omega arith
 first_eight (a ∷ []) = omega arith
 first_eight (a ∷ b ∷ []) = omega arith
@@ -67,5 +67,5 @@ first_eight (a ∷ b ∷ c ∷ d ∷ e ∷ f ∷ []) = omega arith
 first_eight (a ∷ b ∷ c ∷ d ∷ e ∷ f ∷ g ∷ []) = omega arith
 first_eight (a ∷ b ∷ c ∷ d ∷ e ∷ f ∷ g ∷ h ∷ s) = omega arith
 
-pub eight_of : (s : List ℕ) (a b c d e f g h : ℕ) → a ≡ get_or s 0 0 → b ≡ get_or s 1 0 → c ≡ get_or s 2 0 → d ≡ get_or s 3 0 → e ≡ get_or s 4 0 → f ≡ get_or s 5 0 → g ≡ get_or s 6 0 → h ≡ get_or s 7 0 → from_be_bytes w64 (a ∷ b ∷ c ∷ d ∷ e ∷ f ∷ g ∷ h ∷ []) ≡ lead 8 s
+pub eight_of : (s : List ℕ) (a b c d e f g h : ℕ) → a ≡ get_or s 0 0 → b ≡ get_or s 1 0 → c ≡ get_or s 2 0 → d ≡ get_or s 3 0 → e ≡ get_or s 4 0 → f ≡ get_or s 5 0 → g ≡ get_or s 6 0 → h ≡ get_or s 7 0 → from_be_bytes w64 (a ∷ b ∷ c ∷ d ∷ e ∷ f ∷ g ∷ h ∷ []) ≡ leading_number 8 s
 eight_of s a b c d e f g h i j k l m n o p = omega (arith, i, j, k, l, m, n, o, p, first_eight s)

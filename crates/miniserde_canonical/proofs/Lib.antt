@@ -1,8 +1,8 @@
-pub mod Fronts
+pub mod Tokens
 pub mod Turns
 pub mod Steps
 pub mod Wholes
-pub mod Told
+pub mod IsCanonical
 pub mod Plains
 pub mod Quoting
 pub mod Repeats
@@ -10,9 +10,9 @@ pub mod Growing
 pub mod Spreads
 pub mod Chains
 pub mod Leading
-pub mod Rows
+pub mod MemberLists
 pub mod Owning
-pub mod Settling
+pub mod Sorting
 pub mod Drafting
 pub mod Running
 pub mod Filling

@@ -4,20 +4,20 @@ use Rattle.std.proofs.lemmas.List.{drop_all}
 use Rattle.miniserde_canonical.specs.declared.spread.Place.{Place}
 use Rattle.miniserde_canonical.specs.declared.spread.Hole.{Hole}
 use Rattle.miniserde_canonical.specs.declared.member.Member.{Member}
-use Rattle.miniserde_canonical.specs.private.Spreads.{between, Holds, none}
+use Rattle.miniserde_canonical.specs.private.Spreads.{part_between, Holds, none}
 use Rattle.miniserde_canonical.specs.private.Members.{begin_of, before_comma, end_of}
 use Rattle.miniserde_canonical.specs.private.Arranging.{gap, Entry, next_text}
-use Rattle.miniserde_canonical.specs.private.Settling.{Chain, OwnFrom, Own, text_at}
+use Rattle.miniserde_canonical.specs.private.Sorting.{Chain, OwnFrom, Own, text_at}
 use Rattle.miniserde_canonical.proofs.Spreads.{between_end, between_mid, between_none}
 use Rattle.miniserde_canonical.proofs.Chains.{Cut}
-use Rattle.miniserde_canonical.proofs.Rows.{Agree}
+use Rattle.miniserde_canonical.proofs.MemberLists.{Agree}
 
 -- from a place to another the text holds x
 abbrev pub HoldsBetween : List ℕ → List Hole → List ℕ → List Hole → Place → Place → List ℕ → Type 0
-HoldsBetween ms gs bs hs a b x = ((a.bytes ≤ b.bytes) × (b.bytes ≤ length bs) × (a.holes ≤ b.holes) × (b.holes ≤ length hs)) × Holds ms gs a.bytes (between a.bytes b.bytes bs) (between a.holes b.holes hs) x
+HoldsBetween ms gs bs hs a b x = ((a.bytes ≤ b.bytes) × (b.bytes ≤ length bs) × (a.holes ≤ b.holes) × (b.holes ≤ length hs)) × Holds ms gs a.bytes (part_between a.bytes b.bytes bs) (part_between a.holes b.holes hs) x
 
-holds_between : (ms : List ℕ) (gs : List Hole) (bs : List ℕ) (hs : List Hole) (a b : Place) (x y : List ℕ) (h : List Hole) → (a.bytes ≤ b.bytes) × (b.bytes ≤ length bs) × (a.holes ≤ b.holes) × (b.holes ≤ length hs) → between a.bytes b.bytes bs ≡ y → between a.holes b.holes hs ≡ h → Holds ms gs a.bytes y h x → HoldsBetween ms gs bs hs a b x
-holds_between ms gs bs hs a b x y h w e f u = (w, subst (λ z. Holds ms gs a.bytes z (between a.holes b.holes hs) x) (sym e) (subst (λ z. Holds ms gs a.bytes y z x) (sym f) u))
+holds_between : (ms : List ℕ) (gs : List Hole) (bs : List ℕ) (hs : List Hole) (a b : Place) (x y : List ℕ) (h : List Hole) → (a.bytes ≤ b.bytes) × (b.bytes ≤ length bs) × (a.holes ≤ b.holes) × (b.holes ≤ length hs) → part_between a.bytes b.bytes bs ≡ y → part_between a.holes b.holes hs ≡ h → Holds ms gs a.bytes y h x → HoldsBetween ms gs bs hs a b x
+holds_between ms gs bs hs a b x y h w e f u = (w, subst (λ z. Holds ms gs a.bytes z (part_between a.holes b.holes hs) x) (sym e) (subst (λ z. Holds ms gs a.bytes y z x) (sym f) u))
 
 own_first : (n : Member) (ns : List Member) (e : Entry) (es : List Entry) (ms : List ℕ) (gs : List Hole) (bs : List ℕ) (hs : List Hole) (last : List ℕ) (end : Place) → end.bytes ≡ length bs → end.holes ≡ length hs → OwnFrom n ns e es ms gs bs hs last → HoldsBetween ms gs bs hs n.place (before_comma ns end) (next_text es last)
 own_first n [] e [] ms gs bs hs last end p q o =

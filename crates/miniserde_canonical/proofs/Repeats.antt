@@ -6,8 +6,8 @@ use Rattle.std.proofs.lemmas.Slice.Eq.{bytes_eq-Decides}
 use Rattle.std.proofs.lemmas.Bool.{eq-eqb}
 use Rattle.std.proofs.lemmas.Bool.Decides.{nat_tests}
 use Rattle.miniserde_model.specs.Tree.{Tree, Members, no_members, member}
-use Rattle.miniserde_model.specs.Normal.{text_cmp, placed, with_first, norm_neg, norm, norm_members, or_else, last_of, Rise}
-use Rattle.miniserde_model.specs.Distinct.{has_name, distinct, distinct_members}
+use Rattle.miniserde_model.specs.Normal.{text_cmp, with_first_by, with_first, norm_neg, norm, norm_members, or_else, last_of, Rise}
+use Rattle.miniserde_model.specs.Distinct.{has_name, names_distinct, names_distinct_in_members}
 use Rattle.miniserde_model.proofs.Lookups.{norm_keeps_last, norm_rises}
 use Rattle.miniserde_model.proofs.OneNormal.{absent}
 use Rattle.miniserde_canonical.specs.private.Arranging.{count}
@@ -37,7 +37,7 @@ first_there : (n : List ℕ) (t : Tree) (ms : Members) → Rise ms → has_name 
 first_there n t no_members r h = absurd (true≢false (sym h))
 first_there n t (member other u ms) r h = go (text_cmp n other) refl (first_there n t ms r.1)
   where
-    go : (o : Ordering) → text_cmp n other ≡ o → (has_name n ms ≡ true → count (with_first n t ms) ≡ count ms) → count (placed o n t other u ms (with_first n t ms)) ≡ count (member other u ms)
+    go : (o : Ordering) → text_cmp n other ≡ o → (has_name n ms ≡ true → count (with_first n t ms) ≡ count ms) → count (with_first_by o n t other u ms (with_first n t ms)) ≡ count (member other u ms)
     go Less s more = absurd (true≢false (sym h ∙ ap is_some (absent n (member other u ms) s r)))
     go Equal s more = refl
     go Greater s more =
@@ -48,7 +48,7 @@ first_new : (n : List ℕ) (t : Tree) (ms : Members) → last_of n ms ≡ None �
 first_new n t no_members e = refl
 first_new n t (member other u ms) e = go (text_cmp n other) refl (first_new n t ms (none_there (last_of n ms) _ e).0)
   where
-    go : (o : Ordering) → text_cmp n other ≡ o → count (with_first n t ms) ≡ suc (count ms) → count (placed o n t other u ms (with_first n t ms)) ≡ suc (count (member other u ms))
+    go : (o : Ordering) → text_cmp n other ≡ o → count (with_first n t ms) ≡ suc (count ms) → count (with_first_by o n t other u ms (with_first n t ms)) ≡ suc (count (member other u ms))
     go Less s more = refl
     go Equal s more =
         let same : bytes_eq other n ≡ true = (bytes_eq-Decides other n).1 (sym (exact_bytes n other s)) in
@@ -91,14 +91,14 @@ counts_names : (ms : Members) → Counts (names_once ms) (count (norm_members ms
 counts_names no_members = refl
 counts_names (member n t ms) = one_more n (norm t) ms (names_once ms) (has_name n ms) refl (counts_names ms)
 
-told : (p : Bool) (a b : ℕ) → Counts p a b → nat_eq a b ≡ p
-told true a b h = eq-eqb a b h
-told false a b h = grind (arith, nat_tests, h)
+told_by : (p : Bool) (a b : ℕ) → Counts p a b → nat_eq a b ≡ p
+told_by true a b h = eq-eqb a b h
+told_by false a b h = grind (arith, nat_tests, h)
 
 -- each tree of the members is without duplicate names
 abbrev pub values_distinct : Members → Bool
 values_distinct no_members = true
-values_distinct (member n t ms) = distinct t && values_distinct ms
+values_distinct (member n t ms) = names_distinct t && values_distinct ms
 
 mixed : (h d v n : Bool) → (h && (d && (v && n))) ≡ ((d && v) && (h && n))
 mixed true true v n = refl
@@ -107,9 +107,9 @@ mixed false true true n = refl
 mixed false true false n = refl
 mixed false false v n = refl
 
-distinct_parts : (ms : Members) → distinct_members ms ≡ (values_distinct ms && names_once ms)
+distinct_parts : (ms : Members) → names_distinct_in_members ms ≡ (values_distinct ms && names_once ms)
 distinct_parts no_members = refl
-distinct_parts (member n t ms) = ap (λ z. not (has_name n ms) && (distinct t && z)) (distinct_parts ms) ∙ mixed (not (has_name n ms)) (distinct t) (values_distinct ms) (names_once ms)
+distinct_parts (member n t ms) = ap (λ z. not (has_name n ms) && (names_distinct t && z)) (distinct_parts ms) ∙ mixed (not (has_name n ms)) (names_distinct t) (values_distinct ms) (names_once ms)
 
-pub distinct_counted : (ms : Members) → distinct_members ms ≡ (values_distinct ms && nat_eq (count (norm_members ms)) (count ms))
-distinct_counted ms = distinct_parts ms ∙ ap (λ z. values_distinct ms && z) (sym (told (names_once ms) _ _ (counts_names ms)))
+pub distinct_counted : (ms : Members) → names_distinct_in_members ms ≡ (values_distinct ms && nat_eq (count (norm_members ms)) (count ms))
+distinct_counted ms = distinct_parts ms ∙ ap (λ z. values_distinct ms && z) (sym (told_by (names_once ms) _ _ (counts_names ms)))

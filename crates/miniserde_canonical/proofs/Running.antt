@@ -3,21 +3,21 @@ use Rattle.std.proofs.Common.{◌≡◌, ◌≤◌, ◌-◌, ◌+◌, ℕ, ℤ, 
 use Rattle.std.proofs.lemmas.Int.{ints}
 use Rattle.std.proofs.lemmas.Fmt.{decimal_digit}
 use Rattle.miniserde_model.specs.Tree.{neg, num}
-use Rattle.miniserde_model.specs.Compact.{compact, quoted}
+use Rattle.miniserde_model.specs.Compact.{compact, string_text}
 use Rattle.miniserde_model.specs.Number.{IsNumber}
 use Rattle.miniserde_model.specs.Normal.{norm_neg}
 use Rattle.miniserde_model.proofs.Accepted.{value_tree, tells}
 use Rattle.miniserde_model.proofs.Shortest.{nonneg_text, neg_text}
-use Rattle.miniserde_text.specs.Lexer.{front_of, text_of}
+use Rattle.miniserde_text.specs.Lexer.{event_of_token, text_of}
 use Rattle.miniserde_text.specs.declared.json.lex.Event.{Event}
 use Rattle.miniserde_text.specs.declared.json.lex.Event.TheVariants as event
 use Rattle.miniserde_text.specs.declared.json.lex.Text.{Text}
 use Rattle.miniserde_text.specs.declared.json.lex.Text.TheVariants.{Input, Scratch}
 use Rattle.miniserde_canonical.specs.declared.draft.Draft.{Draft}
-use Rattle.miniserde_canonical.specs.private.Moving.{front_token}
-use Rattle.miniserde_canonical.specs.private.Plain.{TextSpelled, Spelled, NameSpelled}
-use Rattle.miniserde_canonical.specs.private.Arranging.{front_text}
-use Rattle.miniserde_canonical.specs.private.Spreads.{between}
+use Rattle.miniserde_canonical.specs.private.Moving.{first_token}
+use Rattle.miniserde_canonical.specs.private.Plain.{TextSpelled, SpellsToken, NameSpelled}
+use Rattle.miniserde_canonical.specs.private.Arranging.{first_token_text}
+use Rattle.miniserde_canonical.specs.private.Spreads.{part_between}
 use Rattle.miniserde_canonical.specs.private.Drafts.{Wrote}
 use Rattle.miniserde_canonical.proofs.Spreads.{between_mid}
 
@@ -46,7 +46,7 @@ rewound d d' rest w rest' bs y t e i l o = record {
     rejoin : (a b c x : List ℕ) → a ++ (b ++ (c ++ x)) ≡ (a ++ (b ++ c)) ++ x
     rejoin a b c x = simp append_assoc refl
 
-pub flushed : (d d' : Draft) (l all a b : ℕ) (piece text : List ℕ) → a ≡ all - d.left → b ≡ all - l → d'.input.now ≡ d.input.now → d'.left ≡ l → d'.out.bytes.items ≡ d.out.bytes.items ++ piece → text ≡ d.input.now → all ≡ length d.input.now → (a ≤ b → b ≤ length text → piece ≡ between a b text) → (rest bs : List ℕ) → Wrote d rest bs → l ≡ length rest → Wrote d' rest bs × (d'.out.bytes.items ≡ bs)
+pub flushed : (d d' : Draft) (l all a b : ℕ) (piece text : List ℕ) → a ≡ all - d.left → b ≡ all - l → d'.input.now ≡ d.input.now → d'.left ≡ l → d'.out.bytes.items ≡ d.out.bytes.items ++ piece → text ≡ d.input.now → all ≡ length d.input.now → (a ≤ b → b ≤ length text → piece ≡ part_between a b text) → (rest bs : List ℕ) → Wrote d rest bs → l ≡ length rest → Wrote d' rest bs × (d'.out.bytes.items ≡ bs)
 flushed d d' l all a b piece text ea eb i dl o t an f = λ rest bs w e.
     let long = ap length w.input ∙ length-append w.front (w.run ++ rest) in
     let tail = length-append w.run rest in
@@ -73,7 +73,7 @@ as_negative (pos zero) part p n = absurd (n refl)
 as_negative (pos (suc k)) part p n = let low = (value_tree (neg (pos (suc k))) part p).0 in absurd (omega (arith, ints, low))
 as_negative (negsuc k) part p n = sym (neg_text part (negsuc k) p)
 
-pub as_it_is : (e : Event) (scratch part : List ℕ) → Spelled e scratch part → ((z : ℤ) → e ≡ event.Negative z → ⊥) → ((t : Text) → e ≡ event.Str t → ⊥) → part ≡ front_text (front_token (front_of e scratch))
+pub as_it_is : (e : Event) (scratch part : List ℕ) → SpellsToken e scratch part → ((z : ℤ) → e ≡ event.Negative z → ⊥) → ((t : Text) → e ≡ event.Str t → ⊥) → part ≡ first_token_text (first_token (event_of_token e scratch))
 as_it_is event.Null scratch part p n m = p.0
 as_it_is (event.Bool b) scratch part p n m = p.0
 as_it_is (event.Negative z) scratch part p n m = absurd (n z refl)
@@ -83,10 +83,10 @@ as_it_is (event.Str t) scratch part p n m = absurd (m t refl)
 as_it_is event.SeqStart scratch part p n m = p.0
 as_it_is event.MapStart scratch part p n m = p.0
 
-pub name_stands : (t : Text) (scratch part : List ℕ) (len : ℕ) → NameSpelled t part → len ≡ length part → ((x : _) → t ≡ Input x → len ≡ length x.now + 3) → (t ≡ Scratch → ⊥) → part ≡ quoted (text_of t scratch) ++ 58 ∷ []
+pub name_stands : (t : Text) (scratch part : List ℕ) (len : ℕ) → NameSpelled t part → len ≡ length part → ((x : _) → t ≡ Input x → len ≡ length x.now + 3) → (t ≡ Scratch → ⊥) → part ≡ string_text (text_of t scratch) ++ 58 ∷ []
 name_stands (Input x) scratch part len p e f n =
-    let empty : p.space ≡ [] = no_bytes p.space (omega (arith, e, f x refl, ap length p.text, p.long, length-append (quoted x.now) (p.space ++ 58 ∷ []), length-append p.space (58 ∷ []))) in
-    p.text ∙ ap (λ z. quoted x.now ++ (z ++ 58 ∷ [])) empty
+    let empty : p.space ≡ [] = no_bytes p.space (omega (arith, e, f x refl, ap length p.text, p.long, length-append (string_text x.now) (p.space ++ 58 ∷ []), length-append p.space (58 ∷ []))) in
+    p.text ∙ ap (λ z. string_text x.now ++ (z ++ 58 ∷ [])) empty
 name_stands Scratch scratch part len p e f n = absurd (n refl)
 
 -- where the run would end
@@ -94,7 +94,7 @@ pub run_length : (d : Draft) (rest bs : List ℕ) (at place : ℕ) → Wrote d r
 run_length d rest bs at place w e f = omega (arith, e, f, w.left, length-append w.run rest, ap length w.text, length-append d.out.bytes.items w.run)
 
 -- a string that is borrowed stands there as it is written
-pub string_stands : (t : Text) (d : Draft) (scratch rest part rest' bs : List ℕ) → (t ≡ Scratch → ⊥) → Wrote d rest bs → rest ≡ part ++ rest' → TextSpelled t part → Wrote d rest' (bs ++ quoted (text_of t scratch))
+pub string_stands : (t : Text) (d : Draft) (scratch rest part rest' bs : List ℕ) → (t ≡ Scratch → ⊥) → Wrote d rest bs → rest ≡ part ++ rest' → TextSpelled t part → Wrote d rest' (bs ++ string_text (text_of t scratch))
 string_stands (Input x) d scratch rest part rest' bs n w e p = subst (λ z. Wrote d rest' (bs ++ z)) p (wrote_on d rest part rest' bs w e)
 string_stands Scratch d scratch rest part rest' bs n w e p = absurd (n refl)
 

@@ -4,26 +4,26 @@ use Rattle.std.proofs.Math.Seq.{take-append_seam, drop-append_seam}
 use Rattle.std.proofs.lemmas.List.{take-append-le, drop-append-le, length-drop, take_all, drop_all}
 use Rattle.miniserde_canonical.specs.declared.spread.Span.{Span}
 use Rattle.miniserde_canonical.specs.declared.spread.Hole.{Hole}
-use Rattle.miniserde_canonical.specs.private.Spreads.{between, Within, bytes_in, holes_in, moved, Holds, none, byte, hole, Ordered, AllBefore}
+use Rattle.miniserde_canonical.specs.private.Spreads.{part_between, Within, bytes_in, holes_in, shifted_hole, Holds, none, byte, hole, Ordered, AllBefore}
 use Rattle.miniserde_canonical.specs.private.Waiting.{SpanHolds}
 
 -- ---- between two places
 
-pub between_more : {X : Type 0} (a b : ℕ) (xs ys : List X) → a ≤ b → b ≤ length xs → between a b (xs ++ ys) ≡ between a b xs
+pub between_more : {X : Type 0} (a b : ℕ) (xs ys : List X) → a ≤ b → b ≤ length xs → part_between a b (xs ++ ys) ≡ part_between a b xs
 between_more a b xs ys h i = ap (take (b - a)) (drop-append-le a xs ys (omega arith)) ∙ take-append-le (b - a) (drop a xs) ys (omega (arith, length-drop a xs))
 
-pub between_end : {X : Type 0} (a b : ℕ) (all xs ys : List X) → all ≡ xs ++ ys → a ≡ length xs → b ≡ length all → between a b all ≡ ys
+pub between_end : {X : Type 0} (a b : ℕ) (all xs ys : List X) → all ≡ xs ++ ys → a ≡ length xs → b ≡ length all → part_between a b all ≡ ys
 between_end a b all xs ys e f g =
     let at : drop a all ≡ ys = ap₂ drop f e ∙ drop-append_seam xs ys in
     let wide : length ys ≤ b - a = omega (arith, f, g, ap length e, length-append xs ys) in
     ap (take (b - a)) at ∙ take_all (b - a) ys wide
 
-pub between_mid : {X : Type 0} (a b : ℕ) (all xs ys zs : List X) → all ≡ xs ++ (ys ++ zs) → a ≡ length xs → b ≡ a + length ys → between a b all ≡ ys
+pub between_mid : {X : Type 0} (a b : ℕ) (all xs ys zs : List X) → all ≡ xs ++ (ys ++ zs) → a ≡ length xs → b ≡ a + length ys → part_between a b all ≡ ys
 between_mid a b all xs ys zs e f g =
     let wide : b - a ≡ length ys = omega (arith, g) in
     ap₂ take wide (ap₂ drop f e ∙ drop-append_seam xs (ys ++ zs)) ∙ take-append_seam ys zs
 
-pub between_none : {X : Type 0} (a b : ℕ) (xs : List X) → b ≤ a → between a b xs ≡ []
+pub between_none : {X : Type 0} (a b : ℕ) (xs : List X) → b ≤ a → part_between a b xs ≡ []
 between_none a b xs h = let none : b - a ≡ 0 = omega (arith, h) in ap (λ n. take n (drop a xs)) none
 
 -- ---- texts
@@ -59,14 +59,14 @@ holds_more ns ks (hole {ms = ms} {gs = gs} {y = y} h e w u v) =
     hole h e (within_more p ms ns gs ks w) two (holds_more ns ks v)
 
 -- the same text where its bytes begin at another index
-pub holds_moved : {ms : List ℕ} {gs : List Hole} {at : ℕ} {bs : List ℕ} {hs : List Hole} {x : List ℕ} (from to here : ℕ) → from ≤ at → here ≡ to + (at - from) → Holds ms gs at bs hs x → Holds ms gs here bs (map (moved from to) hs) x
+pub holds_moved : {ms : List ℕ} {gs : List Hole} {at : ℕ} {bs : List ℕ} {hs : List Hole} {x : List ℕ} (from to here : ℕ) → from ≤ at → here ≡ to + (at - from) → Holds ms gs at bs hs x → Holds ms gs here bs (map (shifted_hole from to) hs) x
 holds_moved from to here l e none = none
 holds_moved {at = at} from to here l e (byte c u) =
     let next : suc here ≡ to + (suc at - from) = omega (arith, l, e) in
     byte c (holds_moved from to (suc here) (omega (arith, l)) next u)
 holds_moved {at = at} from to here l e (hole h i w u v) =
     let place : to + (h.at - from) ≡ here = ap (λ z. to + (z - from)) i ∙ sym e in
-    hole (moved from to h) place w u (holds_moved from to here l e v)
+    hole (shifted_hole from to h) place w u (holds_moved from to here l e v)
 
 -- the group of what was put at the end
 pub group_holds : (ms b : List ℕ) (gs h : List Hole) (x : List ℕ) (p : Span) → p.from.bytes ≡ length ms → p.from.holes ≡ length gs → p.to.bytes ≡ length (ms ++ b) → p.to.holes ≡ length (gs ++ h) → Holds ms gs (length ms) b h x → SpanHolds (ms ++ b) (gs ++ h) p x
@@ -120,10 +120,10 @@ all_drop n i [] h = subst (λ z. AllBefore n z) (sym (drop_all {X = Hole} i [] (
 all_drop n zero (p ∷ hs) h = h
 all_drop n (suc i) (p ∷ hs) h = all_drop n i hs h.1
 
-pub all_between : (n a b : ℕ) (hs : List Hole) → AllBefore n hs → AllBefore n (between a b hs)
+pub all_between : (n a b : ℕ) (hs : List Hole) → AllBefore n hs → AllBefore n (part_between a b hs)
 all_between n a b hs h = all_take n (b - a) (drop a hs) (all_drop n a hs h)
 
-pub all_moved : (n from to : ℕ) (hs : List Hole) → AllBefore n hs → AllBefore n (map (moved from to) hs)
+pub all_moved : (n from to : ℕ) (hs : List Hole) → AllBefore n hs → AllBefore n (map (shifted_hole from to) hs)
 all_moved n from to [] h = tt
 all_moved n from to (p ∷ hs) h = (h.0, all_moved n from to hs h.1)
 

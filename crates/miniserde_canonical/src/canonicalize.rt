@@ -3,7 +3,7 @@ ghost use Rattle.std.specs.Prelude.{◌≡◌, ◌≤◌, ◌↔◌, ◌⊎◌, 
 ghost use Rattle.miniserde_model.specs.Tree.{Tree};
 ghost use Rattle.miniserde_model.specs.IsTree.{IsTree};
 ghost use Rattle.miniserde_model.specs.Compact.{compact};
-ghost use Rattle.miniserde_model.specs.Distinct.{distinct};
+ghost use Rattle.miniserde_model.specs.Distinct.{names_distinct};
 ghost use Rattle.miniserde_model.specs.Normal.{norm};
 ghost use Rattle.miniserde_model.specs.Size.{size};
 ghost use Rattle.miniserde_model.specs.Value.{IsJson};
@@ -38,7 +38,7 @@ pub fn canonical(alloc: Global, j: &str) -> Result<String>
     ensures one { (t u : Tree) → IsJson j.now t → IsJson j.now u → t ≡ u }
 
     // A canonical text is its own.
-    ensures again { (b : List ℕ) (t : Tree) → IsJson b t → j.now ≡ compact (norm t)
+    ensures idempotent { (b : List ℕ) (t : Tree) → IsJson b t → j.now ≡ compact (norm t)
         → IfOk result (λ c. string_bytes c ≡ j.now) × (result ≡ Err Invalid → ⊥) }
 {
     let (text, _) = canonicalize(alloc, j)?;
@@ -64,15 +64,15 @@ pub fn canonical_unique(alloc: Global, j: &str) -> Result<String>
         → IsJson b u → norm u ≡ norm t → length (string_bytes c) ≤ length b) }
 
     // The text's tree has no duplicate name, so the normal form has as many values.
-    ensures distinct { IfOk result (λ _. (t : Tree) → IsJson j.now t → distinct t ≡ true) }
+    ensures distinct { IfOk result (λ _. (t : Tree) → IsJson j.now t → names_distinct t ≡ true) }
     ensures size { IfOk result (λ _. (t : Tree) → IsJson j.now t → size (norm t) ≡ size t) }
 
     // The text has no tree without duplicate names; and never more than one tree.
-    ensures invalid { result ≡ Err Invalid → (t : Tree) → IsJson j.now t → distinct t ≡ true → ⊥ }
+    ensures invalid { result ≡ Err Invalid → (t : Tree) → IsJson j.now t → names_distinct t ≡ true → ⊥ }
     ensures one { (t u : Tree) → IsJson j.now t → IsJson j.now u → t ≡ u }
 
     // A canonical text is its own.
-    ensures again { (b : List ℕ) (t : Tree) → IsJson b t → j.now ≡ compact (norm t)
+    ensures idempotent { (b : List ℕ) (t : Tree) → IsJson b t → j.now ≡ compact (norm t)
         → IfOk result (λ c. string_bytes c ≡ j.now) × (result ≡ Err Invalid → ⊥) }
 {
     let (text, is_distinct) = canonicalize(alloc, j)?;
@@ -98,7 +98,7 @@ pub fn canonical_both(alloc: Global, a: &str, b: &str) -> Result<(String, String
 // Returns the canonical text, and whether the text's tree has no duplicate name.
 fn canonicalize(alloc: Global, j: &str) -> Result<(String, bool)>
     ensures ok { IfOk result (λ r. (t : Tree) × IsJson j.now t × (string_bytes r.0 ≡ compact (norm t))
-        × (r.1 ≡ distinct t)) }
+        × (r.1 ≡ names_distinct t)) }
     ensures invalid { result ≡ Err Invalid → (t : Tree) → IsJson j.now t → ⊥ }
 {
     let (bytes, is_distinct) = read(alloc, j)?;

@@ -5,26 +5,26 @@
 //! the groups, in the order of their names and without all but the last of equal names. A short text comes back; for
 //! another a hole stays, so no byte of it moves again before the end.
 ghost use Rattle.std.specs.Prelude.{◌≡◌, ◌++◌, ◌∷◌, [], ℕ, List, length, IfOk, OnOk};
-ghost use Rattle.miniserde_model.specs.Compact.{quoted};
+ghost use Rattle.miniserde_model.specs.Compact.{string_text};
 ghost use Rattle.miniserde_model.specs.Lexing.{closing};
-ghost use Rattle.miniserde_text.specs.Lexer.{front_of, text_of, kind_of};
+ghost use Rattle.miniserde_text.specs.Lexer.{event_of_token, text_of};
 ghost use Rattle.miniserde_canonical.specs.Token.{name};
-ghost use Rattle.miniserde_canonical.specs.private.Moving.{front_token, end_token};
-ghost use Rattle.miniserde_canonical.specs.private.Plain.{TextPlain, TextSpelled, Spelled, NameSpelled};
-ghost use Rattle.miniserde_canonical.specs.private.Arranging.{State, Step, Closes, gap, front_text, start};
-ghost use Rattle.miniserde_canonical.specs.private.Drafts.{Wrote, Holding, Keeps, Represents};
+ghost use Rattle.miniserde_canonical.specs.private.Moving.{first_token, end_token};
+ghost use Rattle.miniserde_canonical.specs.private.Plain.{TextPlain, TextSpelled, SpellsToken, NameSpelled};
+ghost use Rattle.miniserde_canonical.specs.private.Arranging.{State, TokenStep, Closes, gap, first_token_text, start};
+ghost use Rattle.miniserde_canonical.specs.private.Drafts.{Wrote, Holding, ChangesOnlyText, Represents};
 
 use crate::member::{Member, Name};
 use crate::members::rises;
-use crate::put::{put_escaped, put_string, stands};
-use crate::settle::settle;
+use crate::put::{is_as_written, put_escaped, put_string};
+use crate::sort_members::sort_members;
 use crate::spread::{Place, Spread, part};
 use miniserde_text::json::lex::{Event, Kind, Text};
 use std::alloc::{AllocError, Global};
 
 /// How many bytes of the input are left where a token begins, and behind it.
 #[derive(Clone, Copy, Drop)]
-pub(crate) struct Token {
+pub(crate) struct TokenSpan {
     pub(crate) at: usize,
     pub(crate) end: usize,
 }
@@ -76,7 +76,7 @@ impl<'a> Draft<'a> {
         ensures wrote { OnOk result ((rest bs : List ℕ) → Wrote self.old rest bs → left ≡ length rest
             → Wrote self.new rest bs × (self.new.out.bytes.items ≡ bs)) }
         ensures left { OnOk result (self.new.left ≡ left) }
-        ensures keeps { OnOk result (Keeps self.old self.new) }
+        ensures only_text { OnOk result (ChangesOnlyText self.old self.new) }
     {
         let all = self.input.len();
         let bytes = self.input.as_bytes();
@@ -92,10 +92,10 @@ impl<'a> Draft<'a> {
 
     /// Takes whitespace, which ends a run.
     #[inline(always)]
-    pub(crate) fn skip(&mut self, space: Token) -> Result<(), AllocError>
+    pub(crate) fn skip(&mut self, space: TokenSpan) -> Result<(), AllocError>
         ensures wrote { OnOk result ((rest w rest' bs : List ℕ) → Wrote self.old rest bs → rest ≡ w ++ rest'
             → space.at ≡ length rest → space.end ≡ length rest' → Wrote self.new rest' bs) }
-        ensures keeps { OnOk result (Keeps self.old self.new) }
+        ensures only_text { OnOk result (ChangesOnlyText self.old self.new) }
     {
         if space.at == space.end {
             return Ok(());
@@ -107,15 +107,15 @@ impl<'a> Draft<'a> {
 
     /// Takes the front of a value.
     #[inline(always)]
-    pub(crate) fn front(
+    pub(crate) fn token(
         &mut self,
         event: Event<'_>,
         scratch: &str,
-        token: Token,
+        token: TokenSpan,
     ) -> Result<(), AllocError>
         ensures { OnOk result ((rest part rest' : List ℕ) (s s' : State) → Represents self.old rest s
             → rest ≡ part ++ rest' → token.at ≡ length rest → token.end ≡ length rest'
-            → Spelled event.entry scratch.now part → Step (front_token (front_of event.entry scratch.now)) s s'
+            → SpellsToken event.entry scratch.now part → TokenStep (first_token (event_of_token event.entry scratch.now)) s s'
             → Represents self.new rest' s') }
     {
         self.text(event, scratch, token)?;
@@ -127,11 +127,11 @@ impl<'a> Draft<'a> {
 
     // Takes the text of the front of a value.
     #[inline(always)]
-    fn text(&mut self, event: Event<'_>, scratch: &str, token: Token) -> Result<(), AllocError>
+    fn text(&mut self, event: Event<'_>, scratch: &str, token: TokenSpan) -> Result<(), AllocError>
         ensures wrote { OnOk result ((rest part rest' bs : List ℕ) → Wrote self.old rest bs → rest ≡ part ++ rest'
-            → token.at ≡ length rest → token.end ≡ length rest' → Spelled event.entry scratch.now part
-            → Wrote self.new rest' (bs ++ front_text (front_token (front_of event.entry scratch.now)))) }
-        ensures keeps { OnOk result (Keeps self.old self.new) }
+            → token.at ≡ length rest → token.end ≡ length rest' → SpellsToken event.entry scratch.now part
+            → Wrote self.new rest' (bs ++ first_token_text (first_token (event_of_token event.entry scratch.now)))) }
+        ensures only_text { OnOk result (ChangesOnlyText self.old self.new) }
     {
         match event {
             Event::Negative(n) => {
@@ -147,10 +147,10 @@ impl<'a> Draft<'a> {
     }
 
     // Takes a negated zero, which is a zero.
-    fn zero(&mut self, token: Token) -> Result<(), AllocError>
+    fn zero(&mut self, token: TokenSpan) -> Result<(), AllocError>
         ensures wrote { OnOk result ((rest part rest' bs : List ℕ) → Wrote self.old rest bs → rest ≡ part ++ rest'
             → token.at ≡ length rest → token.end ≡ length rest' → Wrote self.new rest' (bs ++ 48 ∷ [])) }
-        ensures keeps { OnOk result (Keeps self.old self.new) }
+        ensures only_text { OnOk result (ChangesOnlyText self.old self.new) }
     {
         self.flush(token.at)?;
         self.out.bytes.push(b'0')?;
@@ -160,11 +160,11 @@ impl<'a> Draft<'a> {
 
     // Takes a string. A decoded one is written anew.
     #[inline(always)]
-    fn string(&mut self, text: Text<'_>, scratch: &str, token: Token) -> Result<(), AllocError>
+    fn string(&mut self, text: Text<'_>, scratch: &str, token: TokenSpan) -> Result<(), AllocError>
         ensures wrote { OnOk result ((rest part rest' bs : List ℕ) → Wrote self.old rest bs → rest ≡ part ++ rest'
             → token.at ≡ length rest → token.end ≡ length rest' → TextSpelled text.entry part
-            → Wrote self.new rest' (bs ++ quoted (text_of text.entry scratch.now))) }
-        ensures keeps { OnOk result (Keeps self.old self.new) }
+            → Wrote self.new rest' (bs ++ string_text (text_of text.entry scratch.now))) }
+        ensures only_text { OnOk result (ChangesOnlyText self.old self.new) }
     {
         if let Text::Scratch = text {
             self.flush(token.at)?;
@@ -181,14 +181,14 @@ impl<'a> Draft<'a> {
         text: Text<'a>,
         scratch: &str,
         first: bool,
-        token: Token,
+        token: TokenSpan,
     ) -> Result<(), AllocError>
         requires { TextPlain text }
         ensures { OnOk result ((rest part rest' before : List ℕ) (s s' : State)
             → Wrote self.old rest (before ++ gap s.first) → Holding self.old before s
             → rest ≡ part ++ rest' → token.at ≡ length rest → token.end ≡ length rest'
             → NameSpelled text.entry part → s.first ≡ first
-            → Step (name (text_of text.entry scratch.now)) s s' → Represents self.new rest' s') }
+            → TokenStep (name (text_of text.entry scratch.now)) s s' → Represents self.new rest' s') }
     {
         let run = self.left.saturating_sub(token.at);
         let place = Place {
@@ -203,14 +203,14 @@ impl<'a> Draft<'a> {
 
     // Takes the text of a name, with its colon.
     #[inline(always)]
-    fn spell(&mut self, text: Text<'_>, scratch: &str, token: Token) -> Result<(), AllocError>
+    fn spell(&mut self, text: Text<'_>, scratch: &str, token: TokenSpan) -> Result<(), AllocError>
         requires { TextPlain text }
         ensures wrote { OnOk result ((rest part rest' bs : List ℕ) → Wrote self.old rest bs → rest ≡ part ++ rest'
             → token.at ≡ length rest → token.end ≡ length rest' → NameSpelled text.entry part
-            → Wrote self.new rest' (bs ++ (quoted (text_of text.entry scratch.now) ++ 58 ∷ []))) }
-        ensures keeps { OnOk result (Keeps self.old self.new) }
+            → Wrote self.new rest' (bs ++ (string_text (text_of text.entry scratch.now) ++ 58 ∷ []))) }
+        ensures only_text { OnOk result (ChangesOnlyText self.old self.new) }
     {
-        if stands(text, token.at.saturating_sub(token.end)) {
+        if is_as_written(text, token.at.saturating_sub(token.end)) {
             return Ok(());
         }
         self.flush(token.at)?;
@@ -224,8 +224,8 @@ impl<'a> Draft<'a> {
     #[inline(always)]
     pub(crate) fn end(&mut self, kind: Kind, at: usize) -> Result<(), AllocError>
         ensures { OnOk result ((rest rest' : List ℕ) (s : State) → Represents self.old rest s
-            → at ≡ length rest → rest ≡ closing (kind_of kind) ∷ rest'
-            → (s' : State) × Step (end_token (kind_of kind)) s s' × Represents self.new rest' s') }
+            → at ≡ length rest → rest ≡ closing kind ∷ rest'
+            → (s' : State) × TokenStep (end_token kind) s s' × Represents self.new rest' s') }
     {
         match kind {
             Kind::Seq => {}
@@ -251,7 +251,7 @@ impl<'a> Draft<'a> {
         }
         self.flush(at)?;
         let outermost = self.opened.is_empty();
-        let is_distinct = settle(
+        let is_distinct = sort_members(
             &self.members[before..],
             outermost,
             &mut self.order,

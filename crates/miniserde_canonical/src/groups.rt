@@ -1,7 +1,7 @@
 //! Writes a text with the groups in its holes.
 ghost use Rattle.std.specs.Prelude.{◌≡◌, ◌++◌, ◌+◌, ◌<◌, ℕ, List, IfOk, OnOk};
 ghost use Rattle.miniserde_canonical.specs.private.Spreads.{Holds, Good, Ordered};
-ghost use Rattle.miniserde_canonical.specs.private.Waiting.{SpanHolds, Waits, load, loads};
+ghost use Rattle.miniserde_canonical.specs.private.Waiting.{SpanHolds, Waits, span_measure, spans_measure};
 
 use crate::spread::{Place, Span, Spread, part};
 use std::alloc::{AllocError, Global};
@@ -64,7 +64,7 @@ fn put_span(
         → (z : List ℕ) × Waits groups.now.bytes.items groups.now.holes.items later.new.items z
         × (out.new.items ++ z ≡ out.old.items ++ (x ++ y))) }
     ensures less { OnOk result (Ordered 0 groups.now.holes.items
-        → loads later.new.items < loads later.old.items + load span) }
+        → spans_measure later.new.items < spans_measure later.old.items + span_measure span) }
 {
     let holes = groups.holes.as_slice();
     let next = span.from.holes;

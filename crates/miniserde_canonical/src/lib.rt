@@ -8,7 +8,7 @@ mod member;
 mod members;
 mod put;
 mod read;
-mod settle;
+mod sort_members;
 mod spread;
 
 pub use canonicalize::{canonical, canonical_both, canonical_unique};

@@ -6,7 +6,7 @@ ghost use Rattle.miniserde_model.specs.Tree.{Tree};
 ghost use Rattle.miniserde_model.specs.Normal.{text_cmp, last_of};
 ghost use Rattle.miniserde_canonical.specs.private.Arranging.{gap};
 ghost use Rattle.miniserde_canonical.specs.private.Names.{name_of};
-ghost use Rattle.miniserde_canonical.specs.private.Members.{name_in, rows, heads, begin_of, before_comma, end_of, NamesRise};
+ghost use Rattle.miniserde_canonical.specs.private.Members.{name_in, members_at, begins_with_name, begin_of, before_comma, end_of, NamesRise};
 
 use crate::member::Member;
 use crate::spread::{Place, Span};
@@ -64,8 +64,8 @@ pub(crate) fn fill(members: &[Member<'_>], order: &mut Vec<usize>) -> Result<(),
 /// Sorts the indices of the members by name. The sort is stable, so of equal names the last stays last.
 pub(crate) fn sort(members: &[Member<'_>], order: &mut Vec<usize>) -> Result<(), AllocError>
     ensures sorted { OnOk result (IsSortedByKey (name_in members.now) text_cmp order.new.items) }
-    ensures last { (r : ℕ → Tree) (q : List ℕ) → last_of q (rows members.now r order.new.items)
-        ≡ last_of q (rows members.now r order.old.items) }
+    ensures last { (r : ℕ → Tree) (q : List ℕ) → last_of q (members_at members.now r order.new.items)
+        ≡ last_of q (members_at members.now r order.old.items) }
 {
     order.sort_by(|a, b| compare(members, *a, *b))?;
     Ok(())
@@ -98,8 +98,8 @@ fn name_at<'m>(members: &'m [Member<'_>], i: usize) -> &'m str
 #[inline(always)]
 pub(crate) fn repeats(members: &[Member<'_>], order: &[usize], k: usize) -> bool
     requires { k < length order.now }
-    ensures { (r : ℕ → Tree) (d : ℕ) → result ≡ heads (name_in members.now (slice_index_or order.now k d))
-        (rows members.now r (drop (k + 1) order.now)) }
+    ensures { (r : ℕ → Tree) (d : ℕ) → result ≡ begins_with_name (name_in members.now (slice_index_or order.now k d))
+        (members_at members.now r (drop (k + 1) order.now)) }
 {
     k + 1 < order.len() && name_at(members, order[k]) == name_at(members, order[k + 1])
 }

@@ -1,6 +1,6 @@
 //! Writes what does not stand in the input as it is.
 ghost use Rattle.std.specs.Prelude.{◌≡◌, ◌++◌, ◌∷◌, [], ℕ, List, length, true, OnOk};
-ghost use Rattle.miniserde_model.specs.Compact.{quoted};
+ghost use Rattle.miniserde_model.specs.Compact.{string_text};
 ghost use Rattle.miniserde_text.specs.Lexer.{text_of};
 ghost use Rattle.miniserde_canonical.specs.private.Arranging.{gap};
 ghost use Rattle.miniserde_canonical.specs.private.Plain.{TextPlain, NameSpelled, is_plain};
@@ -25,35 +25,35 @@ pub(crate) fn put_gap(first: bool, out: &mut Vec<u8>) -> Result<(), AllocError>
 pub(crate) fn put_string(
     text: Text<'_>,
     scratch: &str,
-    escaped: &mut String,
+    escape_text: &mut String,
     out: &mut Vec<u8>,
 ) -> Result<(), AllocError>
     requires { TextPlain text }
-    ensures { OnOk result (out.new.items ≡ out.old.items ++ quoted (text_of text.entry scratch.now)) }
+    ensures { OnOk result (out.new.items ≡ out.old.items ++ string_text (text_of text.entry scratch.now)) }
 {
     match text {
         Text::Input(s) => put_plain(s, out),
-        Text::Scratch => put_escaped(scratch, escaped, out),
+        Text::Scratch => put_escaped(scratch, escape_text, out),
     }
 }
 
 /// Appends a decoded string.
 pub(crate) fn put_escaped(
     text: &str,
-    escaped: &mut String,
+    escape_text: &mut String,
     out: &mut Vec<u8>,
 ) -> Result<(), AllocError>
-    ensures { OnOk result (out.new.items ≡ out.old.items ++ quoted text.now) }
+    ensures { OnOk result (out.new.items ≡ out.old.items ++ string_text text.now) }
 {
-    escaped.clear();
-    escape_str(text, escaped).map_err(|_| AllocError)?;
-    out.extend_from_slice(escaped.as_bytes())
+    escape_text.clear();
+    escape_str(text, escape_text).map_err(|_| AllocError)?;
+    out.extend_from_slice(escape_text.as_bytes())
 }
 
 // Appends a text of which no byte is escaped, between quotes.
 fn put_plain(text: &str, out: &mut Vec<u8>) -> Result<(), AllocError>
     requires { is_plain text.now ≡ true }
-    ensures { OnOk result (out.new.items ≡ out.old.items ++ quoted text.now) }
+    ensures { OnOk result (out.new.items ≡ out.old.items ++ string_text text.now) }
 {
     out.push(b'"')?;
     out.extend_from_slice(text.as_bytes())?;
@@ -64,9 +64,9 @@ fn put_plain(text: &str, out: &mut Vec<u8>) -> Result<(), AllocError>
 /// Returns whether a name of that length with its colon stands in the input as it is: its string is not escaped, and no
 /// whitespace stands before the colon.
 #[inline(always)]
-pub(crate) fn stands(text: Text<'_>, len: usize) -> bool
+pub(crate) fn is_as_written(text: Text<'_>, len: usize) -> bool
     ensures { (scratch part : List ℕ) → result ≡ true → len ≡ length part → NameSpelled text.entry part
-        → part ≡ quoted (text_of text.entry scratch) ++ 58 ∷ [] }
+        → part ≡ string_text (text_of text.entry scratch) ++ 58 ∷ [] }
 {
     match text {
         Text::Input(s) => len == s.len() + 3,

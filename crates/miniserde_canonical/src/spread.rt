@@ -1,6 +1,6 @@
 //! Texts with holes: places where the text of a group belongs.
 ghost use Rattle.std.specs.Prelude.{◌≡◌, ◌≤◌, ◌++◌, [], length, take, map, IfOk, OnOk};
-ghost use Rattle.miniserde_canonical.specs.private.Spreads.{Within, bytes_in, holes_in, between, moved};
+ghost use Rattle.miniserde_canonical.specs.private.Spreads.{Within, bytes_in, holes_in, part_between, shifted_hole};
 
 use std::alloc::{AllocError, Global};
 
@@ -71,22 +71,22 @@ impl Spread {
             → self.new.bytes.items ≡ self.old.bytes.items ++ bytes_in span other.now.bytes.items) }
         ensures holes { OnOk result (Within span other.now.bytes.items other.now.holes.items
             → self.new.holes.items ≡ self.old.holes.items
-            ++ map (moved span.from.bytes (length self.old.bytes.items)) (holes_in span other.now.holes.items)) }
+            ++ map (shifted_hole span.from.bytes (length self.old.bytes.items)) (holes_in span other.now.holes.items)) }
     {
         let at = self.bytes.len();
         let bytes = part(other.bytes.as_slice(), span.from.bytes, span.to.bytes);
         let holes = part(other.holes.as_slice(), span.from.holes, span.to.holes);
         self.bytes.extend_from_slice(bytes)?;
         for hole in holes {
-            self.holes.push(moved(*hole, span.from.bytes, at)?)?;
+            self.holes.push(shifted_hole(*hole, span.from.bytes, at)?)?;
         }
         Ok(())
     }
 }
 
 // Returns the hole of a text that began at `from`, where it begins at `at`. Fails if no index is so large.
-fn moved(hole: Hole, from: usize, at: usize) -> Result<Hole, AllocError>
-    ensures { IfOk result (λ h. h ≡ moved from at hole) }
+fn shifted_hole(hole: Hole, from: usize, at: usize) -> Result<Hole, AllocError>
+    ensures { IfOk result (λ h. h ≡ shifted_hole from at hole) }
 {
     let behind = hole.at.saturating_sub(from);
     Ok(Hole {
@@ -97,7 +97,7 @@ fn moved(hole: Hole, from: usize, at: usize) -> Result<Hole, AllocError>
 
 /// Returns the elements from one index up to another, or none where there are no such.
 pub(crate) fn part<T>(xs: &[T], from: usize, to: usize) -> &[T]
-    ensures { from ≤ to → to ≤ length xs.now → result.now ≡ between from to xs.now }
+    ensures { from ≤ to → to ≤ length xs.now → result.now ≡ part_between from to xs.now }
 {
     if from <= to && to <= xs.len() {
         &xs[from..to]

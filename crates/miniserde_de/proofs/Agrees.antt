@@ -2,23 +2,23 @@
 use Rattle.std.proofs.Common.{◌≡◌, ℕ, suc, nat_eq, cond, length, true, false, List, [], ◌∷◌, Option, Some, None, refl, sym, ap, ◌∙◌}
 use Rattle.std.specs.Prelude.{◌&&◌, is_some, IsSome, option_map, option_and_then, ⊤}
 use Rattle.miniserde_model.specs.Tree.{Tree, null, list, members, Trees, no_trees, tree, Members, no_members, member}
-use Rattle.miniserde_read.specs.meaning.Lists.{EachReads, ListReads, each, list_of}
-use Rattle.miniserde_read.specs.meaning.Options.{OptionReads, option_of}
+use Rattle.miniserde_read.specs.types.Lists.{EachReads, ListReads, each, list_of}
+use Rattle.miniserde_read.specs.types.Options.{OptionReads, option_of}
 use Rattle.miniserde_keys.specs.Keys.{Key}
-use Rattle.miniserde_read.specs.meaning.Arrays.{exactly, array_of}
-use Rattle.miniserde_read.specs.meaning.Pairs.{PairReads, pair_of, both}
-use Rattle.miniserde_read.specs.meaning.Objects.{Name, all_members}
-use Rattle.miniserde_read.specs.meaning.Maps.{AllTaken, MapReads, MeansAt, Entries, no_key, with_entry, map_member, map_of}
-use Rattle.miniserde_read.specs.Meant.{Meant}
-use Rattle.miniserde_read.specs.Meanings.{list_meant, array_meant, option_meant, box_meant, pair_meant, map_meant}
+use Rattle.miniserde_read.specs.types.Arrays.{exactly, array_of}
+use Rattle.miniserde_read.specs.types.Pairs.{PairReads, pair_of, both}
+use Rattle.miniserde_read.specs.types.Objects.{Name, all_members}
+use Rattle.miniserde_read.specs.types.Maps.{AllAccepted, MapReads, MeansAt, Entries, no_key, with_entry, map_member, map_of}
+use Rattle.miniserde_read.specs.Meaning.{Meaning}
+use Rattle.miniserde_read.specs.Meanings.{list_meaning, array_meaning, option_meaning, box_meaning, pair_meaning, map_meaning}
 use Rattle.miniserde_de.specs.Tied.{Agree}
 
-pub agree_back : {V : Type 0} (m n : Meant V) → Agree m n → Agree n m
+pub agree_back : {V : Type 0} (m n : Meaning V) → Agree m n → Agree n m
 agree_back m n a = record { same = λ t v. ((a.same t v).1, (a.same t v).0); some = λ t. sym (a.some t) }
 
 -- ---- lists
 
-module _ {V : Type 0} (m n : Meant V) (a : Agree m n) where
+module _ {V : Type 0} (m n : Meaning V) (a : Agree m n) where
   each_to : (ts : Trees) (xs : List V) → EachReads m.reads ts xs → EachReads n.reads ts xs
   each_to no_trees [] h = h
   each_to no_trees (x ∷ xs) h = h
@@ -44,7 +44,7 @@ list_some : {C D : Type 0} (f : Tree → Option C) (g : Tree → Option D) → (
 list_some f g e (list ts) = each_some f g e ts
 list_some f g e t = refl
 
-pub list_agree : {V W : Type 0} (m n : Meant V) (f : W → List V) → Agree m n → Agree (list_meant m f) (list_meant n f)
+pub list_agree : {V W : Type 0} (m n : Meaning V) (f : W → List V) → Agree m n → Agree (list_meaning m f) (list_meaning n f)
 list_agree m n f a = record {
   same = λ t v. (list_to m n a t (f v), list_to n m (agree_back m n a) t (f v));
   some = list_some m.from_tree n.from_tree a.some;
@@ -84,18 +84,18 @@ array_some : {C D : Type 0} (n : ℕ) (f : Tree → Option C) (g : Tree → Opti
 array_some n f g e (list ts) = exact_some n (each f ts) (each g ts) (each_alike f g e ts)
 array_some n f g e t = refl
 
-pub array_agree : {V W : Type 0} (k : ℕ) (m n : Meant V) (f : W → List V) → Agree m n → Agree (array_meant k m f) (array_meant k n f)
+pub array_agree : {V W : Type 0} (k : ℕ) (m n : Meaning V) (f : W → List V) → Agree m n → Agree (array_meaning k m f) (array_meaning k n f)
 array_agree k m n f a = record {
   same = λ t v. (λ h. (list_to m n a t (f v) h.0, h.1), λ h. (list_to n m (agree_back m n a) t (f v) h.0, h.1));
   some = array_some k m.from_tree n.from_tree a.some;
 }
 
-pub box_agree : {V W : Type 0} (m n : Meant V) (f : W → V) → Agree m n → Agree (box_meant m f) (box_meant n f)
+pub box_agree : {V W : Type 0} (m n : Meaning V) (f : W → V) → Agree m n → Agree (box_meaning m f) (box_meaning n f)
 box_agree m n f a = record { same = λ t v. a.same t (f v); some = a.some }
 
 -- ---- optional values
 
-option_to : {V : Type 0} (m n : Meant V) → Agree m n → (t : Tree) (v : Option V) → OptionReads m.reads t v → OptionReads n.reads t v
+option_to : {V : Type 0} (m n : Meaning V) → Agree m n → (t : Tree) (v : Option V) → OptionReads m.reads t v → OptionReads n.reads t v
 option_to m n a t None h = h
 option_to m n a t (Some x) h = (h.0, (a.same t x).0 h.1)
 
@@ -107,7 +107,7 @@ option_some : {C D : Type 0} (f : Tree → Option C) (g : Tree → Option D) →
 option_some f g e null = refl
 option_some f g e t = is_mapped (f t) ∙ e t ∙ sym (is_mapped (g t))
 
-pub option_agree : {V : Type 0} (m n : Meant V) → Agree m n → Agree (option_meant m) (option_meant n)
+pub option_agree : {V : Type 0} (m n : Meaning V) → Agree m n → Agree (option_meaning m) (option_meaning n)
 option_agree m n a = record {
   same = λ t v. (option_to m n a t v, option_to n m (agree_back m n a) t v);
   some = option_some m.from_tree n.from_tree a.some;
@@ -115,12 +115,12 @@ option_agree m n a = record {
 
 -- ---- the same
 
-pub agree_same : {V : Type 0} (m : Meant V) → Agree m m
+pub agree_same : {V : Type 0} (m : Meaning V) → Agree m m
 agree_same m = record { same = λ t v. (λ h. h, λ h. h); some = λ t. refl }
 
 -- ---- pairs
 
-module _ {V U : Type 0} (m m' : Meant V) (n n' : Meant U) (a : Agree m m') (b : Agree n n') where
+module _ {V U : Type 0} (m m' : Meaning V) (n n' : Meaning U) (a : Agree m m') (b : Agree n n') where
   pair_to : (t : Tree) (v : V × U) → PairReads m.reads n.reads t v → PairReads m'.reads n'.reads t v
   pair_to (list (tree t (tree u no_trees))) v h = ((a.same t v.0).0 h.0, (b.same u v.1).0 h.1)
   pair_to t v h = absurd h
@@ -135,7 +135,7 @@ module _ {A B C D : Type 0} (f : Tree → Option A) (f' : Tree → Option C) (g 
   pair_some (list (tree t (tree u no_trees))) = is_both (f t) (g u) ∙ ap (λ z. z && is_some (g u)) (e t) ∙ ap (λ z. is_some (f' t) && z) (k u) ∙ sym (is_both (f' t) (g' u))
   pair_some t = refl
 
-pub pair_agree : {V U W : Type 0} (m m' : Meant V) (n n' : Meant U) (f : W → V) (g : W → U) → Agree m m' → Agree n n' → Agree (pair_meant m n f g) (pair_meant m' n' f g)
+pub pair_agree : {V U W : Type 0} (m m' : Meaning V) (n n' : Meaning U) (f : W → V) (g : W → U) → Agree m m' → Agree n n' → Agree (pair_meaning m n f g) (pair_meaning m' n' f g)
 pair_agree m m' n n' f g a b = record {
   same = λ t v. (pair_to m m' n n' a b t (f v, g v), pair_to m' m n' n (agree_back m m' a) (agree_back n n' b) t (f v, g v));
   some = pair_some m.from_tree m'.from_tree n.from_tree n'.from_tree a.some b.some;
@@ -153,7 +153,7 @@ then_some (Some x) None h p q f g k = absurd (cc)
 then_some (Some x) (Some y) h p q f g k = k (p x) (q y)
 
 module _ {C D : Type 0} (read : Name → Option Key) (code : Key → Key) (f : Tree → Option C) (g : Tree → Option D) (e : (t : Tree) → is_some (f t) ≡ is_some (g t)) where
-  taken_to : (ms : Members) → AllTaken read f ms → AllTaken read g ms
+  taken_to : (ms : Members) → AllAccepted read f ms → AllAccepted read g ms
   taken_to no_members h = h
   taken_to (member k t ms) h = (h.0, (is_too (f t) (g t) (e t) h.1.0, taken_to ms h.1.1))
 
@@ -169,17 +169,17 @@ module _ {C D : Type 0} (read : Name → Option Key) (code : Key → Key) (f : T
   map_some (members ms) = all_some ms no_key no_key
   map_some t = refl
 
-means_to : {K V : Type 0} (m n : Meant V) (a : Agree m n) (content : K → Key) (p : Option (Key × Tree)) (x : Option (K × V)) → MeansAt content m.reads p x → MeansAt content n.reads p x
+means_to : {K V : Type 0} (m n : Meaning V) (a : Agree m n) (content : K → Key) (p : Option (Key × Tree)) (x : Option (K × V)) → MeansAt content m.reads p x → MeansAt content n.reads p x
 means_to m n a content None None h = h
 means_to m n a content None (Some x) h = h
 means_to m n a content (Some p) None h = h
 means_to m n a content (Some p) (Some x) h = (h.0, (a.same p.1 x.1).0 h.1)
 
-map_to : {K V : Type 0} (read : Name → Option Key) (code : Key → Key) (key : K → Key) (m n : Meant V) (a : Agree m n) (t : Tree) (es : List (K × V)) → MapReads read code key m.from_tree m.reads t es → MapReads read code key n.from_tree n.reads t es
+map_to : {K V : Type 0} (read : Name → Option Key) (code : Key → Key) (key : K → Key) (m n : Meaning V) (a : Agree m n) (t : Tree) (es : List (K × V)) → MapReads read code key m.from_tree m.reads t es → MapReads read code key n.from_tree n.reads t es
 map_to read code key m n a (members ms) es h = (taken_to read code m.from_tree n.from_tree a.some ms h.0, λ q. means_to m n a key _ _ (h.1 q))
 map_to read code key m n a t es h = absurd h
 
-pub map_agree : {K V W : Type 0} (read : Name → Option Key) (code : Key → Key) (key : K → Key) (m n : Meant V) (f : W → List (K × V)) → Agree m n → Agree (map_meant read code key m f) (map_meant read code key n f)
+pub map_agree : {K V W : Type 0} (read : Name → Option Key) (code : Key → Key) (key : K → Key) (m n : Meaning V) (f : W → List (K × V)) → Agree m n → Agree (map_meaning read code key m f) (map_meaning read code key n f)
 map_agree read code key m n f a = record {
   same = λ t v. (map_to read code key m n a t (f v), map_to read code key n m (agree_back m n a) t (f v));
   some = map_some read code m.from_tree n.from_tree a.some;

@@ -1,61 +1,61 @@
 -- The meaning of fields that are collected from events, and so of a struct's place.
 use Rattle.std.specs.Prelude.{◌≡◌, refl, Bool, true, false, List, Option, Some, None, option_map}
 use Rattle.miniserde_model.specs.Tree.{Tree}
-use Rattle.miniserde_model.specs.Event.{Event, key, events}
-use Rattle.miniserde_place.specs.Place.{Shown, Meaning}
-use Rattle.miniserde_place.specs.Container.{Gathering, joining}
-use Rattle.miniserde_read.specs.meaning.Objects.{Name}
+use Rattle.miniserde_model.specs.Step.{Step, key, events}
+use Rattle.miniserde_place.specs.Place.{PlaceView, PlaceMeaning}
+use Rattle.miniserde_place.specs.Container.{CollectorMeaning, view_through}
+use Rattle.miniserde_read.specs.types.Objects.{Name}
 use Rattle.miniserde_de.specs.Objects.{object_rules}
 use Rattle.miniserde_de.specs.Tied.{meant_by}
 use Rattle.miniserde_de.specs.laws.Objects.{object-meant}
 use Rattle.miniserde_record.specs.Fields.{field_member}
-use Rattle.miniserde_record.specs.FieldsMeant.{FieldsMeant, no_fields, field_and, struct_meant}
+use Rattle.miniserde_record.specs.FieldsMeaning.{FieldsMeaning, no_fields, field_and, struct_meaning}
 use Rattle.miniserde_record.specs.laws.Fields.{none-refused, field-refused, field-meant}
 
 -- the meaning of fields: F are the fields so far, with the place of the current one, and V the values of all of them
-pub record FieldsMeaning (F V : Type 0) : Type 1 where
+pub record FieldPlacesMeaning (F V : Type 0) : Type 1 where
   -- the meaning without events
-  pub meant : FieldsMeant V
+  pub meant : FieldsMeaning V
   -- the content of the values so far
   pub state : F → meant.State
   -- the state after one more member, by the fields' names, its name and its events
-  pub by_events : List Name → meant.State → Name → List Event → Option meant.State
+  pub by_events : List Name → meant.State → Name → List Step → Option meant.State
   pub events_agree : (names : List Name) (s : meant.State) (k : Name) (t : Tree) → by_events names s k (events t) ≡ meant.by_tree names s k t
   -- a member whose name is refused gives nothing, whatever its events
-  pub refused : (names : List Name) (s : meant.State) (k : Name) → meant.refuses names s k ≡ true → (es : List Event) → by_events names s k es ≡ None
+  pub refused : (names : List Name) (s : meant.State) (k : Name) → meant.refuses names s k ≡ true → (es : List Step) → by_events names s k es ≡ None
   -- the view of the current field's place, with the values so far
-  pub child : F → Shown meant.State
+  pub child : F → PlaceView meant.State
 
 -- no field: members of any names are skipped
-abbrev pub no_field_places : {F : Type 0} → (F → Shown (Unit {0})) → FieldsMeaning F (Unit {0})
+abbrev pub no_field_places : {F : Type 0} → (F → PlaceView (Unit {0})) → FieldPlacesMeaning F (Unit {0})
 no_field_places skipped = record {
   meant = no_fields;
   state = λ _. tt;
   by_events = λ ns s k es. Some tt;
   events_agree = λ ns s k t. refl;
   refused = λ ns s k h es. none-refused (Some tt) h;
-  child = λ f. joining (λ _. Some tt) (skipped f);
+  child = λ f. view_through (λ _. Some tt) (skipped f);
 }
 
 -- the view of the current field's place: the first field's, or a later one's
-abbrev pub field_shows : {P A S : Type 0} → (P → Shown A) → Option A → S → Shown S → Option P → Shown (Option A × S)
-field_shows shows v s later None = joining (λ r. Some (v, r)) later
-field_shows shows v s later (Some p) = joining (λ a. Some (Some a, s)) (shows p)
+abbrev pub field_view : {P A S : Type 0} → (P → PlaceView A) → Option A → S → PlaceView S → Option P → PlaceView (Option A × S)
+field_view view v s later None = view_through (λ r. Some (v, r)) later
+field_view view v s later (Some p) = view_through (λ a. Some (Some a, s)) (view p)
 
 -- a field, which takes one member alone where it is `once`, and the later ones
-abbrev pub field_place_and : {P T F R V : Type 0} → Bool → Meaning P T → Option T → (F → Option T) → (F → Option P) → (F → R) → FieldsMeaning R V → FieldsMeaning F (T × V)
+abbrev pub field_place_and : {P T F R V : Type 0} → Bool → PlaceMeaning P T → Option T → (F → Option T) → (F → Option P) → (F → R) → FieldPlacesMeaning R V → FieldPlacesMeaning F (T × V)
 field_place_and once m absent value child rest n = record {
   meant = field_and once None (meant_by m) absent n.meant;
   state = λ f. (option_map m.content (value f), n.state (rest f));
   by_events = field_member once m.from_events n.by_events;
   events_agree = field-meant once m.from_events m.from_tree n.by_events n.meant.by_tree m.events_agree n.events_agree;
   refused = field-refused once m.from_events n.by_events n.meant.refuses n.refused;
-  child = λ f. field_shows m.shows (option_map m.content (value f)) (n.state (rest f)) (n.child (rest f)) (child f);
+  child = λ f. field_view m.view (option_map m.content (value f)) (n.state (rest f)) (n.child (rest f)) (child f);
 }
 
 -- the meaning of a wrapper around fields
-abbrev pub field_places_inside : {F G V : Type 0} → (G → F) → FieldsMeaning F V → FieldsMeaning G V
-field_places_inside inner n = record {
+abbrev pub wrapper_field_places : {F G V : Type 0} → (G → F) → FieldPlacesMeaning F V → FieldPlacesMeaning G V
+wrapper_field_places inner n = record {
   meant = n.meant;
   state = λ g. n.state (inner g);
   by_events = n.by_events;
@@ -65,14 +65,14 @@ field_places_inside inner n = record {
 }
 
 -- a member is refused by its name
-abbrev pub refuses_member : (Name → Bool) → Event → Bool
+abbrev pub refuses_member : (Name → Bool) → Step → Bool
 refuses_member refuses (key k) = refuses k
 refuses_member refuses _ = false
 
 -- a struct, by the names and the values of its fields
-abbrev pub struct_gathering : {F V C W : Type 0} → FieldsMeaning F V → List Name → (W → V) → (C → F) → Gathering C W
-struct_gathering n names values fields = record {
-  meant = struct_meant n.meant names values;
+abbrev pub struct_collector : {F V C W : Type 0} → FieldPlacesMeaning F V → List Name → (W → V) → (C → F) → CollectorMeaning C W
+struct_collector n names values fields = record {
+  meant = struct_meaning n.meant names values;
   State = n.meant.State;
   state = λ c. n.state (fields c);
   empty = n.meant.empty;

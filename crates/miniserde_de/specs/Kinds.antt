@@ -1,8 +1,8 @@
 -- Documents of one kind: what they mean, and what events give them.
 use Rattle.std.specs.Prelude.{◌≡◌, Bool, true, false, List, [], ◌∷◌, Option, None, cond}
 use Rattle.miniserde_model.specs.Tree.{Tree}
-use Rattle.miniserde_model.specs.Event.{Event, events}
-use Rattle.miniserde_read.specs.Meant.{Meant}
+use Rattle.miniserde_model.specs.Step.{Step, events}
+use Rattle.miniserde_read.specs.Meaning.{Meaning}
 use Rattle.miniserde_value.specs.Hole.{Hole, outside, in_list, in_members, outcome}
 
 -- no event was taken
@@ -13,18 +13,18 @@ is_start true (in_members ms n h) = false
 is_start false h = false
 
 -- what is given, where the first event is one of these
-abbrev pub from_first : (Event → Bool) → List Event → Option Tree → Option Tree
+abbrev pub from_first : (Step → Bool) → List Step → Option Tree → Option Tree
 from_first begins [] o = o
 from_first begins (e ∷ es) o = cond (begins e) o None
 
 -- what the events that are still to come give, where the first of all is one of these
-abbrev pub kind_outcome : (Event → Bool) → Bool → Hole → List Event → Option Tree
+abbrev pub kind_outcome : (Step → Bool) → Bool → Hole → List Step → Option Tree
 kind_outcome begins due h es = cond (is_start due h) (from_first begins es (outcome false due h es)) (outcome false due h es)
 
 -- documents of one kind: which trees mean which, with which events they begin, and what counts of the tree that is read
 pub record Kind (V : Type 0) : Type 1 where
-  pub meant : Meant V
-  pub begins : Event → Bool
+  pub meant : Meaning V
+  pub begins : Step → Bool
   pub only : Option Tree → Option meant.Content
   pub none : only None ≡ None
   pub whole : (t : Tree) → only (kind_outcome begins true (outside []) (events t)) ≡ meant.from_tree t

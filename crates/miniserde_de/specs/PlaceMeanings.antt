@@ -1,12 +1,12 @@
 -- What the places of std's types mean, by what the places of their parts do. P is the place of a part, V what it
 -- reads, C the container so far, and W the whole.
 use Rattle.std.specs.Prelude.{ℕ, false, true, List, [], ◌∷◌, ◌++◌, map, length, nat_le, ◌&&◌, is_some, Option, Some, None, option_map}
-use Rattle.miniserde_model.specs.Event.{Event}
+use Rattle.miniserde_model.specs.Step.{Step}
 use Rattle.miniserde_model.specs.Position.{start, complete}
 use Rattle.miniserde_keys.specs.Keys.{Key}
 use Rattle.miniserde_place.specs.Leaf.{nothing_more}
-use Rattle.miniserde_place.specs.Place.{Shown, Meaning, placed}
-use Rattle.miniserde_place.specs.Container.{Gathering, no_child, joining, child_shows}
+use Rattle.miniserde_place.specs.Place.{PlaceView, PlaceMeaning, place_meaning}
+use Rattle.miniserde_place.specs.Container.{CollectorMeaning, no_child, view_through, child_view}
 use Rattle.miniserde_de.specs.Tied.{meant_by}
 use Rattle.miniserde_de.specs.declared.de.impls.options.OptionPlace.{OptionPlace}
 use Rattle.miniserde_de.specs.declared.de.impls.options.OptionState.{OptionState}
@@ -21,85 +21,85 @@ use Rattle.miniserde_de.specs.Pairs.{pair_rules}
 use Rattle.miniserde_de.specs.laws.Pairs.{pair-meant}
 use Rattle.miniserde_de.specs.Options.{option_mean}
 use Rattle.miniserde_de.specs.laws.Options.{option-meant}
-use Rattle.miniserde_read.specs.meaning.Objects.{Name}
+use Rattle.miniserde_read.specs.types.Objects.{Name}
 use Rattle.miniserde_de.specs.Objects.{object_rules}
-use Rattle.miniserde_read.specs.Meanings.{list_meant, array_meant, pair_meant, option_meant, box_meant, map_meant}
-use Rattle.miniserde_read.specs.meaning.Maps.{map_member, looked, no_key, with_entry}
+use Rattle.miniserde_read.specs.Meanings.{list_meaning, array_meaning, pair_meaning, option_meaning, box_meaning, map_meaning}
+use Rattle.miniserde_read.specs.types.Maps.{map_member, map_content, no_key, with_entry}
 use Rattle.miniserde_de.specs.laws.Maps.{map-meant}
 
 -- a list: its items so far, the place of the current one, and the items of the whole
-abbrev pub list_gathering : {P V C W : Type 0} → Meaning P V → (C → List V) → (C → Option P) → (W → List V) → Gathering C W
-list_gathering m items child whole = record {
-  meant = list_meant (meant_by m) whole;
+abbrev pub list_collector : {P V C W : Type 0} → PlaceMeaning P V → (C → List V) → (C → Option P) → (W → List V) → CollectorMeaning C W
+list_collector m items child whole = record {
+  meant = list_meaning (meant_by m) whole;
   State = List m.Content;
   state = λ c. map m.content (items c);
   empty = [];
   is_object = false;
   rules = list_rules m.from_events;
   events_agree = list-meant m.from_events m.from_tree m.events_agree;
-  child = λ c. child_shows (λ x. Some (map m.content (items c) ++ x ∷ [])) m.shows (child c);
+  child = λ c. child_view (λ x. Some (map m.content (items c) ++ x ∷ [])) m.view (child c);
   refuses = λ _ _. false;
 }
 
 -- an array of n items, which refuses another one behind the last
-abbrev pub array_gathering : {P V C W : Type 0} → ℕ → Meaning P V → (C → List V) → (C → Option P) → (W → List V) → Gathering C W
-array_gathering n m items child whole = record {
-  meant = array_meant n (meant_by m) whole;
+abbrev pub array_collector : {P V C W : Type 0} → ℕ → PlaceMeaning P V → (C → List V) → (C → Option P) → (W → List V) → CollectorMeaning C W
+array_collector n m items child whole = record {
+  meant = array_meaning n (meant_by m) whole;
   State = List m.Content;
   state = λ c. map m.content (items c);
   empty = [];
   is_object = false;
   rules = array_rules n m.from_events;
   events_agree = array-meant n m.from_events m.from_tree m.events_agree;
-  child = λ c. child_shows (λ x. Some (map m.content (items c) ++ x ∷ [])) m.shows (child c);
+  child = λ c. child_view (λ x. Some (map m.content (items c) ++ x ∷ [])) m.view (child c);
   refuses = λ s _. nat_le n (length s);
 }
 
 -- what the place of a pair's current part shows, by the parts so far
-abbrev pub part_shows : {P Q A B : Type 0} → (P → Shown A) → (Q → Shown B) → Option A → Option B → Part P Q → Shown (Option A × Option B)
-part_shows f g a b Neither = no_child
-part_shows f g a b (First p) = joining (λ x. Some (Some x, b)) (f p)
-part_shows f g a b (Second q) = joining (λ y. Some (a, Some y)) (g q)
+abbrev pub part_view : {P Q A B : Type 0} → (P → PlaceView A) → (Q → PlaceView B) → Option A → Option B → Part P Q → PlaceView (Option A × Option B)
+part_view f g a b Neither = no_child
+part_view f g a b (First p) = view_through (λ x. Some (Some x, b)) (f p)
+part_view f g a b (Second q) = view_through (λ y. Some (a, Some y)) (g q)
 
 -- a pair: its parts so far, the place of the current one, and the parts of the whole; it refuses a third
-abbrev pub pair_gathering : {P Q V U C W : Type 0} → Meaning P V → Meaning Q U → (C → Option V) → (C → Option U) → (C → Part P Q) → (W → V) → (W → U) → Gathering C W
-pair_gathering m n first second child one two = record {
-  meant = pair_meant (meant_by m) (meant_by n) one two;
+abbrev pub pair_collector : {P Q V U C W : Type 0} → PlaceMeaning P V → PlaceMeaning Q U → (C → Option V) → (C → Option U) → (C → Part P Q) → (W → V) → (W → U) → CollectorMeaning C W
+pair_collector m n first second child one two = record {
+  meant = pair_meaning (meant_by m) (meant_by n) one two;
   State = Option m.Content × Option n.Content;
   state = λ c. (option_map m.content (first c), option_map n.content (second c));
   empty = (None, None);
   is_object = false;
   rules = pair_rules m.from_events n.from_events;
   events_agree = pair-meant m.from_events n.from_events m.from_tree n.from_tree m.events_agree n.events_agree;
-  child = λ c. part_shows m.shows n.shows (option_map m.content (first c)) (option_map n.content (second c)) (child c);
+  child = λ c. part_view m.view n.view (option_map m.content (first c)) (option_map n.content (second c)) (child c);
   refuses = λ s _. is_some s.0 && is_some s.1;
 }
 
 -- a map: its entries so far, the key and the place of the current value, and the entries of the whole
-abbrev pub map_gathering : {K P V C W : Type 0} → (Name → Option Key) → (Key → Key) → (K → Key) → Meaning P V → (C → List (K × V)) → (C → Option K) → (C → Option P) → (W → List (K × V)) → Gathering C W
-map_gathering read code key m entries pending child whole = record {
-  meant = map_meant read code key (meant_by m) whole;
+abbrev pub map_collector : {K P V C W : Type 0} → (Name → Option Key) → (Key → Key) → (K → Key) → PlaceMeaning P V → (C → List (K × V)) → (C → Option K) → (C → Option P) → (W → List (K × V)) → CollectorMeaning C W
+map_collector read code key m entries pending child whole = record {
+  meant = map_meaning read code key (meant_by m) whole;
   State = Key → Option (Key × m.Content);
-  state = λ c. looked code key m.content (entries c);
+  state = λ c. map_content code key m.content (entries c);
   empty = no_key;
   is_object = true;
   rules = object_rules (map_member read code m.from_events) (λ s. Some s);
   events_agree = map-meant read code m.from_events m.from_tree m.events_agree;
-  child = λ c. child_shows (λ x. option_map (λ k. with_entry code (looked code key m.content (entries c)) (key k) x) (pending c)) m.shows (child c);
+  child = λ c. child_view (λ x. option_map (λ k. with_entry code (map_content code key m.content (entries c)) (key k) x) (pending c)) m.view (child c);
   refuses = λ _ _. false;
 }
 
 -- what the place of an optional value shows
-abbrev pub option_shows : {P A : Type 0} → (List Event → Option A) → (P → Shown A) → OptionState P → Shown (Option A)
-option_shows f shows (Fresh _) = record { at = start; outcome = option_mean f; refused = None }
-option_shows f shows Null = record { at = complete; outcome = nothing_more None; refused = None }
-option_shows f shows (Inner p) = record { at = (shows p).at; outcome = λ es. option_map Some ((shows p).outcome es); refused = (shows p).refused }
-option_shows f shows (Refused r) = record { at = start; outcome = λ _. None; refused = Some r }
+abbrev pub option_view : {P A : Type 0} → (List Step → Option A) → (P → PlaceView A) → OptionState P → PlaceView (Option A)
+option_view f view (Fresh _) = record { at = start; outcome = option_mean f; refused = None }
+option_view f view Null = record { at = complete; outcome = nothing_more None; refused = None }
+option_view f view (Inner p) = record { at = (view p).at; outcome = λ es. option_map Some ((view p).outcome es); refused = (view p).refused }
+option_view f view (Refused r) = record { at = start; outcome = λ _. None; refused = Some r }
 
 -- an optional value
-abbrev pub option_meaning : {P V : Type 0} → Meaning P V → Meaning (OptionPlace P) (Option V)
-option_meaning m = placed (option_meant (meant_by m)) (option_mean m.from_events) (option-meant m.from_events m.from_tree m.events_agree) (λ p. option_shows m.from_events m.shows p.state)
+abbrev pub option_place_meaning : {P V : Type 0} → PlaceMeaning P V → PlaceMeaning (OptionPlace P) (Option V)
+option_place_meaning m = place_meaning (option_meaning (meant_by m)) (option_mean m.from_events) (option-meant m.from_events m.from_tree m.events_agree) (λ p. option_view m.from_events m.view p.state)
 
 -- a value in a box
-abbrev pub box_meaning : {P Q V W : Type 0} → (Q → P) → (W → V) → Meaning P V → Meaning Q W
-box_meaning place value m = placed (box_meant (meant_by m) value) m.from_events m.events_agree (λ q. m.shows (place q))
+abbrev pub box_place_meaning : {P Q V W : Type 0} → (Q → P) → (W → V) → PlaceMeaning P V → PlaceMeaning Q W
+box_place_meaning place value m = place_meaning (box_meaning (meant_by m) value) m.from_events m.events_agree (λ q. m.view (place q))

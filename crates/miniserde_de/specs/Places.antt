@@ -1,24 +1,24 @@
 -- What the places of values mean.
 use Rattle.std.specs.Prelude.{◌≡◌, Bool, true, false, [], Option, Some, None, Result, Err, OnOk, refl}
 use Rattle.miniserde_model.specs.Tree.{Tree}
-use Rattle.miniserde_model.specs.Event.{Event}
+use Rattle.miniserde_model.specs.Step.{Step}
 use Rattle.miniserde_model.specs.declared.error.Error.{Error}
 use Rattle.miniserde_model.specs.declared.error.Error.TheVariants.{Invalid}
-use Rattle.miniserde_place.specs.Place.{Shown, Meaning, placed, first_refusal}
+use Rattle.miniserde_place.specs.Place.{PlaceView, PlaceMeaning, place_meaning, first_refusal}
 use Rattle.miniserde_value.specs.declared.json.value.Value.{Value}
 use Rattle.miniserde_de.specs.declared.documents.value_place.ValuePlace.{ValuePlace}
 use Rattle.miniserde_value.specs.declared.json.unique.Unique.{Unique}
 use Rattle.miniserde_de.specs.declared.documents.unique_place.UniquePlace.{UniquePlace}
 use Rattle.miniserde_de.specs.declared.documents.kinds.KindPlace.{KindPlace}
-use Rattle.miniserde_value.specs.Hole.{Hole, outside, depth, took, next, outcome, repeats}
+use Rattle.miniserde_value.specs.Hole.{Hole, outside, depth, after_step, after_step_once, outcome, repeats}
 use Rattle.miniserde_value.specs.Builders.{hole_in}
-use Rattle.miniserde_place.specs.Leaf.{from_one_event, leaf_shows}
+use Rattle.miniserde_place.specs.Leaf.{from_one_event, leaf_view}
 use Rattle.miniserde_place.specs.LeafPlace.{value_of, refusal_of as leaf_refusal}
 use Rattle.miniserde_place.specs.laws.Leaf.{one-event}
 use Rattle.miniserde_value.specs.declared.json.number.Number.{Number}
 use Rattle.miniserde_de.specs.declared.documents.number_place.NumberPlace.{NumberPlace}
 use Rattle.miniserde_value.specs.Numbers.{number_leaf, number_of}
-use Rattle.miniserde_value.specs.Meanings.{value_meant, unique_meant, number_meant}
+use Rattle.miniserde_value.specs.Meanings.{value_meaning, unique_meaning, number_meaning}
 use Rattle.miniserde_de.specs.Kinds.{Kind, kind_outcome}
 use Rattle.miniserde_value.specs.laws.Unique.{once-whole}
 use Rattle.miniserde_value.specs.laws.Outcomes.{outcome-whole}
@@ -35,37 +35,37 @@ due_in p = p.due
 abbrev pub refusal_of : ValuePlace → Option Error
 refusal_of p = p.refused
 
-abbrev pub value_shows : ValuePlace → Shown Tree
-value_shows p = record { at = (depth (hole_at p), due_in p); outcome = outcome false (due_in p) (hole_at p); refused = refusal_of p }
+abbrev pub value_view : ValuePlace → PlaceView Tree
+value_view p = record { at = (depth (hole_at p), due_in p); outcome = outcome false (due_in p) (hole_at p); refused = refusal_of p }
 
 -- every tree means a value, which keeps of each name the last tree
-abbrev pub value_meaning : Meaning ValuePlace Value
-value_meaning = placed value_meant (outcome false true (outside [])) outcome-whole value_shows
+abbrev pub value_place_meaning : PlaceMeaning ValuePlace Value
+value_place_meaning = place_meaning value_meaning (outcome false true (outside [])) outcome-whole value_view
 
 -- What an event made of the hole, where it was accepted. One that was refused as invalid has no place in it.
-abbrev pub steps : ValuePlace → Event → Result (Unit {0}) Error → ValuePlace → Type 0
+abbrev pub steps : ValuePlace → Step → Result (Unit {0}) Error → ValuePlace → Type 0
 steps old e answer new =
-    OnOk answer (took (due_in old) (hole_at old) e ≡ Some (due_in new, hole_at new))
-    × (answer ≡ Err Invalid → refusal_of old ≡ None → took (due_in old) (hole_at old) e ≡ None)
+    OnOk answer (after_step (due_in old) (hole_at old) e ≡ Some (due_in new, hole_at new))
+    × (answer ≡ Err Invalid → refusal_of old ≡ None → after_step (due_in old) (hole_at old) e ≡ None)
 
 -- The same where no name may be repeated: a name that the innermost open object has is refused as invalid.
-abbrev pub steps_once : UniquePlace → Event → Result (Unit {0}) Error → UniquePlace → Type 0
+abbrev pub steps_once : UniquePlace → Step → Result (Unit {0}) Error → UniquePlace → Type 0
 steps_once old e answer new =
     (repeats e (hole_at old.place) ≡ true → answer ≡ Err (first_refusal (refusal_of old.place) Invalid))
-    × OnOk answer (next true (due_in old.place) (hole_at old.place) e ≡ Some (due_in new.place, hole_at new.place))
-    × (answer ≡ Err Invalid → refusal_of old.place ≡ None → next true (due_in old.place) (hole_at old.place) e ≡ None)
+    × OnOk answer (after_step_once true (due_in old.place) (hole_at old.place) e ≡ Some (due_in new.place, hole_at new.place))
+    × (answer ≡ Err Invalid → refusal_of old.place ≡ None → after_step_once true (due_in old.place) (hole_at old.place) e ≡ None)
 
 -- a tree in which no name is duplicated means the value, which keeps the tree
-abbrev pub unique_meaning : Meaning UniquePlace Unique
-unique_meaning = placed unique_meant (outcome true true (outside [])) once-whole
+abbrev pub unique_place_meaning : PlaceMeaning UniquePlace Unique
+unique_place_meaning = place_meaning unique_meaning (outcome true true (outside [])) once-whole
     (λ p. record { at = (depth (hole_at p.place), due_in p.place); outcome = outcome true (due_in p.place) (hole_at p.place); refused = refusal_of p.place })
 
 -- the tree means the document, as the kind says
-abbrev pub kind_meaning : {K V : Type 0} → Kind V → Meaning (KindPlace K) V
-kind_meaning k = placed k.meant (λ es. k.only (kind_outcome k.begins true (outside []) es)) k.whole
+abbrev pub kind_place_meaning : {K V : Type 0} → Kind V → PlaceMeaning (KindPlace K) V
+kind_place_meaning k = place_meaning k.meant (λ es. k.only (kind_outcome k.begins true (outside []) es)) k.whole
     (λ p. record { at = (depth (hole_at p.place), due_in p.place); outcome = λ es. k.only (kind_outcome k.begins (due_in p.place) (hole_at p.place) es); refused = refusal_of p.place })
 
 -- the tree means the number
-abbrev pub number_meaning : Meaning NumberPlace Number
-number_meaning = placed number_meant (from_one_event number_of) (one-event number_of (λ ts. refl, λ ms. refl))
-    (λ p. leaf_shows number_leaf number_of (value_of p.place) (leaf_refusal p.place))
+abbrev pub number_place_meaning : PlaceMeaning NumberPlace Number
+number_place_meaning = place_meaning number_meaning (from_one_event number_of) (one-event number_of (λ ts. refl, λ ms. refl))
+    (λ p. leaf_view number_leaf number_of (value_of p.place) (leaf_refusal p.place))

@@ -14,7 +14,7 @@ mod impls;
 pub use impls::{
     ArrayPlace, BTreeMapPlace, BoxPlace, HashMapPlace, OptionPlace, PairPlace, VecPlace,
 };
-pub use miniserde_keys::{MapKey, Ranged, WholeKey};
+pub use miniserde_keys::{InjectiveKey, MapKey, Ranged};
 use miniserde_model::error::{Error, Result};
 pub use miniserde_place::de::leaf::{BoolPlace, IntegerPlace, StringPlace, UnitPlace};
 pub use miniserde_place::de::{Ignore, Step, Visitor, container, ignore, leaf};
@@ -38,9 +38,9 @@ pub trait Deserialize: FromJson {
 
     /// A fresh place. Its only error is `Memory`.
     final fn begin(alloc: Global) -> Result<Self::Place>
-        ensures fresh { IfOk result (λ p. IsFresh Self.Place.meaning.from_events (Self.Place.meaning.shows p)) }
+        ensures fresh { IfOk result (λ p. IsFresh Self.Place.meaning.from_events (Self.Place.meaning.view p)) }
         ensures memory { IfErr result (λ r. r ≡ Error.Memory) }
-        ensures free { Self.Place.begins_free ≡ true → IsOk result }
+        ensures infallible { Self.Place.begin_infallible ≡ true → IsOk result }
     {
         <Self::Place as Visitor>::begin(alloc)
     }
@@ -48,15 +48,15 @@ pub trait Deserialize: FromJson {
     /// The value, where it is complete and nothing was refused. A refused place answers its refusal, and an
     /// unfinished one `Invalid`.
     final fn take(place: Self::Place) -> Result<Self>
-        ensures value { IfOk result (λ v. ((Self.Place.meaning.shows place).at ≡ complete)
-            × ((Self.Place.meaning.shows place).outcome [] ≡ Some (Self.Place.meaning.content v))) }
-        ensures invalid { result ≡ Err Error.Invalid → (Self.Place.meaning.shows place).refused ≡ None
-            → (Self.Place.meaning.shows place).at ≡ complete → (Self.Place.meaning.shows place).outcome [] ≡ None }
-        ensures memory { result ≡ Err Error.Memory → (Self.Place.meaning.shows place).refused ≡ None
-            → ((Self.Place.meaning.shows place).at ≡ complete) × ((Self.Place.meaning.shows place).outcome [] ≢ None) }
-        ensures keeps { (r : Error) → (Self.Place.meaning.shows place).refused ≡ Some r → result ≡ Err r }
-        ensures free { Self.Place.takes_free ≡ true → result ≡ Err Error.Memory
-            → (Self.Place.meaning.shows place).refused ≡ Some Error.Memory }
+        ensures value { IfOk result (λ v. ((Self.Place.meaning.view place).at ≡ complete)
+            × ((Self.Place.meaning.view place).outcome [] ≡ Some (Self.Place.meaning.content v))) }
+        ensures invalid { result ≡ Err Error.Invalid → (Self.Place.meaning.view place).refused ≡ None
+            → (Self.Place.meaning.view place).at ≡ complete → (Self.Place.meaning.view place).outcome [] ≡ None }
+        ensures memory { result ≡ Err Error.Memory → (Self.Place.meaning.view place).refused ≡ None
+            → ((Self.Place.meaning.view place).at ≡ complete) × ((Self.Place.meaning.view place).outcome [] ≢ None) }
+        ensures sticky { (r : Error) → (Self.Place.meaning.view place).refused ≡ Some r → result ≡ Err r }
+        ensures infallible { Self.Place.take_infallible ≡ true → result ≡ Err Error.Memory
+            → (Self.Place.meaning.view place).refused ≡ Some Error.Memory }
     {
         place.take()
     }

@@ -2,13 +2,14 @@
 use Rattle.std.proofs.Common.{◌≡◌, ℕ, true, false, List, Option, Some, None, refl, sym, ap, ◌∙◌}
 use Rattle.std.specs.Prelude.{option_and_then, option_map}
 use Rattle.miniserde_model.specs.Tree.{Tree, members, Members, no_members, member}
-use Rattle.miniserde_model.specs.Event.{map}
-use Rattle.miniserde_model.specs.Lexing.{in_members, Names, Follows}
-use Rattle.miniserde_read.specs.meaning.Objects.{Name, all_members}
+use Rattle.miniserde_model.specs.Step.{map}
+use Rattle.miniserde_model.specs.Lexing.{Names, Follows}
+use Rattle.miniserde_model.specs.declared.kind.Kind.TheVariants.{Map}
+use Rattle.miniserde_read.specs.types.Objects.{Name, all_members}
 use Rattle.miniserde_read.specs.Rest.{ValueAt, MembersAt}
 use Rattle.miniserde_read.proofs.Objects.{ObjectGoes, object_begins, object_name_none, opened_object}
 use Rattle.miniserde_read.proofs.Steps.{members_name}
-use Rattle.miniserde_record.specs.Members.{DueRead, DueRejects}
+use Rattle.miniserde_record.specs.Members.{ReadsDue, RejectsDue}
 use Rattle.miniserde_record.proofs.Due.{due_goes, due_none}
 use Rattle.miniserde_enum.specs.Shape.{by_shape, external}
 use Rattle.miniserde_enum.specs.Cases.{with_data}
@@ -33,16 +34,16 @@ module _ {C : Type 0} (f : Name → Option Tree → Option C) where
   one_none t s r m p h n = let o = opened_object t s r p in ap (by_shape external f) o.1 ∙ sym (one_all o.0) ∙ ap last (h o.0 r o.2) ∙ n
 
   -- the object goes on behind its first member
-  pub one_goes : (s b c x : List ℕ) (n : Name) (v : C) → Follows in_members true false s b → Names b n c → DueRead (with_data (f n)) c x v → ObjectGoes (one_next f) None s false x (Some v)
+  pub one_goes : (s b c x : List ℕ) (n : Name) (v : C) → Follows Map true false s b → Names b n c → ReadsDue (with_data (f n)) c x v → ObjectGoes (one_next f) None s false x (Some v)
   one_goes s b c x n v h j p =
       due_goes (one_next f) None s true s b c x n None (Some v) (object_begins (one_next f) None s) h j
       (record { one = p.one; event = p.event; behind = p.behind; starts = p.starts; is_value = p.is_value; gives = ap (option_map Some) p.gives })
 
-  pub one_rejected : (s b c : List ℕ) (n : Name) → Follows in_members true false s b → Names b n c → DueRejects (with_data (f n)) c → (ms : Members) (r : List ℕ) → MembersAt ms true s r → all_members (one_next f) None ms ≡ None
+  pub one_rejected : (s b c : List ℕ) (n : Name) → Follows Map true false s b → Names b n c → RejectsDue (with_data (f n)) c → (ms : Members) (r : List ℕ) → MembersAt ms true s r → all_members (one_next f) None ms ≡ None
   one_rejected s b c n h j d = due_none (one_next f) None s true s b c n None (object_begins (one_next f) None s) h j (λ t e b r p v. ap (option_map Some) (d t e b r p v))
 
   -- a second member gives nothing
-  pub one_full : (z s b : List ℕ) (v : C) → ObjectGoes (one_next f) None z false s (Some v) → Follows in_members false false s b → (ms : Members) (r : List ℕ) → MembersAt ms true z r → all_members (one_next f) None ms ≡ None
+  pub one_full : (z s b : List ℕ) (v : C) → ObjectGoes (one_next f) None z false s (Some v) → Follows Map false false s b → (ms : Members) (r : List ℕ) → MembersAt ms true z r → all_members (one_next f) None ms ≡ None
   one_full z s b v l h ms r p =
       let o = l.back ms r p in
       let k = members_name o.0 false s b r h o.1 in

@@ -3,8 +3,8 @@ use Rattle.std.proofs.Common.{◌≡◌, ℕ, ◌+◌, true, false, ◌&&◌, na
 use Rattle.std.proofs.lemmas.Option.{same_Some}
 use Rattle.std.specs.Prelude.{◌↔◌, bytes_eq, option_and_then, ⊤}
 use Rattle.miniserde_model.specs.Tree.{Tree}
-use Rattle.miniserde_read.specs.meaning.Objects.{Name}
-use Rattle.miniserde_round.specs.RoundTrip.{ReadsAgain}
+use Rattle.miniserde_read.specs.types.Objects.{Name}
+use Rattle.miniserde_round.specs.RoundTrip.{RoundTrips}
 use Rattle.miniserde_record.specs.Structs.{is_new, are_distinct, are_names}
 use Rattle.miniserde_record.proofs.Rounds.{more_names, no_names}
 use Rattle.miniserde_enum.specs.declared.one_of.OneOf.{OneOf}
@@ -20,13 +20,13 @@ names_distinct k ns h = elim (nat_eq (length ns) k) as (λ b. (b && are_distinct
 
 -- ---- one variant
 
-pub unit-again : (shape : Shape) → UnitFits shape → (n : Name) (x : Unit {0}) → ⊤ → ReadsAgain (λ (u : Unit {0}). ⊤) (unit_tree shape n) (UnitReads shape n) (unit_tree shape n x)
-unit-again shape f n x r = ((tt, tt, (shape-agrees shape (case_written shape n None) n None).1 (f n)), λ y s e. refl)
+pub unit-round_trips : (shape : Shape) → UnitFits shape → (n : Name) (x : Unit {0}) → ⊤ → RoundTrips (λ (u : Unit {0}). ⊤) (unit_tree shape n) (UnitReads shape n) (unit_tree shape n x)
+unit-round_trips shape f n x r = ((tt, tt, (shape-agrees shape (case_written shape n None) n None).1 (f n)), λ y s e. refl)
 
-module _ {T : Type 0} (real : T → Type 0) (tree : T → Tree) (reads : Tree → T → Type 0) (again : (x : T) → real x → ReadsAgain real tree reads (tree x)) (shape : Shape) (f : DataFits real tree shape) where
-  pub data-again : (n : Name) (x : T) → real x → ReadsAgain real (data_tree shape tree n) (DataReads reads shape n) (data_tree shape tree n x)
-  data-again n x r =
-      let a = again x r in
+module _ {T : Type 0} (real : T → Type 0) (tree : T → Tree) (reads : Tree → T → Type 0) (round_trips : (x : T) → real x → RoundTrips real tree reads (tree x)) (shape : Shape) (f : DataFits real tree shape) where
+  pub data-round_trips : (n : Name) (x : T) → real x → RoundTrips real (data_tree shape tree n) (DataReads reads shape n) (data_tree shape tree n x)
+  data-round_trips n x r =
+      let a = round_trips x r in
       let t = case_written shape n (Some (tree x)) in (
         (a.0.0, a.0.1, (tree x, (shape-agrees shape t n (Some (tree x))).1 (f n x r), a.0.2)),
         λ y s e.
@@ -48,11 +48,11 @@ module _ {T W C D : Type 0} (given : Option Tree → Option C) (one : Shape → 
       (λ k o p q. later-none given one content one_agrees later reads content_w fresh agrees n ns w k o f (cond-some (bytes_eq k n) (given o) (content x) p).0 q)
       t ((one_agrees shape n t x).0 a) ((agrees shape ns d t w).0 b)
 
-  module _ (real : T → Type 0) (tree : Name → T → Tree) (first : (n : Name) (x : T) → real x → ReadsAgain real (tree n) (one shape n) (tree n x))
-      (real_w : W → Type 0) (tree_w : List Name → W → Tree) (count : ℕ) (again : (names : List Name) (w : W) → are_names count names ≡ true → real_w w → ReadsAgain real_w (tree_w names) (reads shape names) (tree_w names w)) where
-    pub case-again : (names : List Name) (v : OneOf T W) → are_names (count + 1) names ≡ true → CaseReal real real_w v → ReadsAgain (CaseReal real real_w) (case_tree tree tree_w names) (CaseReads (one shape) (reads shape) names) (case_tree tree tree_w names v)
-    case-again [] v f r = absurd (no_names count f)
-    case-again (n ∷ ns) (First x) f r =
+  module _ (real : T → Type 0) (tree : Name → T → Tree) (first : (n : Name) (x : T) → real x → RoundTrips real (tree n) (one shape n) (tree n x))
+      (real_w : W → Type 0) (tree_w : List Name → W → Tree) (count : ℕ) (round_trips : (names : List Name) (w : W) → are_names count names ≡ true → real_w w → RoundTrips real_w (tree_w names) (reads shape names) (tree_w names w)) where
+    pub case-round_trips : (names : List Name) (v : OneOf T W) → are_names (count + 1) names ≡ true → CaseReal real real_w v → RoundTrips (CaseReal real real_w) (case_tree tree tree_w names) (CaseReads (one shape) (reads shape) names) (case_tree tree tree_w names v)
+    case-round_trips [] v f r = absurd (no_names count f)
+    case-round_trips (n ∷ ns) (First x) f r =
         let p = more_names count n ns f in
         let a = first n x r in (
           (First a.0.0, a.0.1, a.0.2),
@@ -61,9 +61,9 @@ module _ {T W C D : Type 0} (given : Option Tree → Option C) (one : Shape → 
             | Later w ↦ λ s e. absurd (apart n ns (tree n x) a.0.0 w p.0 (names_distinct count ns p.1) a.0.2 e)
           ],
         )
-    case-again (n ∷ ns) (Later w) f r =
+    case-round_trips (n ∷ ns) (Later w) f r =
         let p = more_names count n ns f in
-        let b = again ns w p.1 r in (
+        let b = round_trips ns w p.1 r in (
           (Later b.0.0, b.0.1, b.0.2),
           λ v. elim v as (λ v. CaseReal real real_w v → CaseReads (one shape) (reads shape) (n ∷ ns) (tree_w ns w) v → case_tree tree tree_w (n ∷ ns) v ≡ tree_w ns w) [
             | First y ↦ λ s e. absurd (apart n ns (tree_w ns w) y b.0.0 p.0 (names_distinct count ns p.1) e b.0.2)
@@ -99,8 +99,8 @@ module _ {T W C D : Type 0} (variant : Tree → Option (Name × Option Tree)) (c
 -- ---- the enum of a variant's value
 
 -- what holds of the values of the variants holds of the enum
-pub enum-again : {V W : Type 0} (real : V → Type 0) (tree : V → Tree) (reads : Tree → V → Type 0) (values : W → V) → ((x : V) → (v : W) × (values v ≡ x)) → (v : W) → ReadsAgain real tree reads (tree (values v)) → ReadsAgain (λ v. real (values v)) (λ v. tree (values v)) (λ t v. reads t (values v)) (tree (values v))
-enum-again real tree reads values whole v a =
+pub enum-round_trips : {V W : Type 0} (real : V → Type 0) (tree : V → Tree) (reads : Tree → V → Type 0) (values : W → V) → ((x : V) → (v : W) × (values v ≡ x)) → (v : W) → RoundTrips real tree reads (tree (values v)) → RoundTrips (λ v. real (values v)) (λ v. tree (values v)) (λ t v. reads t (values v)) (tree (values v))
+enum-round_trips real tree reads values whole v a =
     let w = whole a.0.0 in
     let same = sym w.1 in (
       (w.0, subst real same a.0.1, subst (reads (tree (values v))) same a.0.2),

@@ -3,19 +3,19 @@ use Rattle.std.proofs.Common.{◌≡◌, ℕ, true, false, cond, not, ◌&&◌, 
 use Rattle.std.specs.Prelude.{option_map, option_and_then, bytes_eq}
 use Rattle.std.specs.Option.{option_or}
 use Rattle.miniserde_model.specs.Tree.{Tree, members, Members, no_members, member}
-use Rattle.miniserde_model.specs.Event.{map}
+use Rattle.miniserde_model.specs.Step.{map}
 use Rattle.miniserde_text.specs.declared.json.lex.Event.{Event}
 use Rattle.miniserde_text.specs.declared.json.lex.Event.TheVariants.{MapStart}
-use Rattle.miniserde_text.specs.Lexer.{front_of}
-use Rattle.miniserde_read.specs.meaning.Objects.{Name, object_of}
-use Rattle.miniserde_read.specs.meaning.Words.{string_of}
+use Rattle.miniserde_text.specs.Lexer.{event_of_token}
+use Rattle.miniserde_read.specs.types.Objects.{Name, object_of}
+use Rattle.miniserde_read.specs.types.Words.{string_of}
 use Rattle.miniserde_read.specs.Rest.{ValueAt, GivesAt, GivesNoneAt}
 use Rattle.miniserde_read.proofs.Same.{value_same}
 use Rattle.miniserde_record.specs.Fields.{beside, others, last_given, field_given}
 use Rattle.miniserde_record.specs.Structs.{is_new}
 use Rattle.miniserde_enum.specs.Inside.{inside_of}
 use Rattle.miniserde_enum.specs.Cases.{with_data}
-use Rattle.miniserde_enum.specs.CasesMeant.{CasesMeant, tagged_of}
+use Rattle.miniserde_enum.specs.CasesMeaning.{CasesMeaning, tagged_of}
 use Rattle.miniserde_enum.specs.TagName.{known, tag_name_of}
 use Rattle.miniserde_enum.specs.laws.Cases.{is-name}
 
@@ -42,7 +42,7 @@ Tag = Option Name × Unit {0}
 abbrev tag_field : List Name → Name → Tree → Option Tag
 tag_field names tag = object_of (field_given {S = Unit {0}} false (tag_name_of names) None (λ ns s ms. Some tt) (tag ∷ []) (None, tt))
 
-module _ {V : Type 0} (m : CasesMeant V) (names : List Name) (tag : Name) where
+module _ {V : Type 0} (m : CasesMeaning V) (names : List Name) (tag : Name) where
   -- the content that the data gives by the name, if there is one
   abbrev by_name : Tree → Option Name → Option m.Content
   by_name t o = option_and_then (λ n. m.by_case names n (Some t)) o
@@ -68,15 +68,15 @@ module _ {V : Type 0} (m : CasesMeant V) (names : List Name) (tag : Name) where
 
   -- the tag and the data are read of one text, and so of one tree
   module _ {token : Event} (x y : List ℕ) {s z : List ℕ} (is : token ≡ MapStart) (rest : z ≡ s) where
-    pub tag_read : {w : List ℕ} {k o : Option Name} → k ≡ o → GivesAt (tag_field names tag) (front_of token y) z w (k, tt) → (t : Tree) (r : List ℕ) → ValueAt t (front_of token x) s r → tagged_of m tag names t ≡ by_tag t o
+    pub tag_read : {w : List ℕ} {k o : Option Name} → k ≡ o → GivesAt (tag_field names tag) (event_of_token token y) z w (k, tt) → (t : Tree) (r : List ℕ) → ValueAt t (event_of_token token x) s r → tagged_of m tag names t ≡ by_tag t o
     tag_read {w} e g t r p =
-        let there : ValueAt t map s r = subst (λ e. ValueAt t (front_of e x) s r) is p in
-        let ahead : ValueAt g.0 map s w = subst (λ a. ValueAt g.0 map a w) rest (subst (λ e. ValueAt g.0 (front_of e y) z w) is g.1) in
+        let there : ValueAt t map s r = subst (λ e. ValueAt t (event_of_token e x) s r) is p in
+        let ahead : ValueAt g.0 map s w = subst (λ a. ValueAt g.0 map a w) rest (subst (λ e. ValueAt g.0 (event_of_token e y) z w) is g.1) in
         let same = (value_same t g.0 map s r w there ahead).0 in
         by-field t ∙ ap (option_and_then (λ v. by_tag t v.0)) (ap (tag_field names tag) same ∙ g.2) ∙ ap (by_tag t) e
 
-    pub tag_none : GivesNoneAt (tag_field names tag) (front_of token y) z → GivesNoneAt (tagged_of m tag names) (front_of token x) s
+    pub tag_none : GivesNoneAt (tag_field names tag) (event_of_token token y) z → GivesNoneAt (tagged_of m tag names) (event_of_token token x) s
     tag_none g t r p =
-        let there : ValueAt t map s r = subst (λ e. ValueAt t (front_of e x) s r) is p in
-        let ahead : ValueAt t (front_of token y) z r = subst (λ e. ValueAt t (front_of e y) z r) (sym is) (subst (λ a. ValueAt t map a r) (sym rest) there) in
+        let there : ValueAt t map s r = subst (λ e. ValueAt t (event_of_token e x) s r) is p in
+        let ahead : ValueAt t (event_of_token token y) z r = subst (λ e. ValueAt t (event_of_token e y) z r) (sym is) (subst (λ a. ValueAt t map a r) (sym rest) there) in
         by-field t ∙ ap (option_and_then (λ v. by_tag t v.0)) (g t r ahead)

@@ -5,8 +5,8 @@ use Rattle.std.specs.Option.{option_or}
 use Rattle.std.proofs.lemmas.Option.{same_Some}
 use Rattle.miniserde_model.specs.Tree.{Tree, str, members, Members, no_members, member}
 use Rattle.miniserde_model.specs.Normal.{norm, norm_members}
-use Rattle.miniserde_read.specs.meaning.Objects.{Name}
-use Rattle.miniserde_read.specs.meaning.Words.{string_of}
+use Rattle.miniserde_read.specs.types.Objects.{Name}
+use Rattle.miniserde_read.specs.types.Words.{string_of}
 use Rattle.miniserde_read.proofs.Same.{tag}
 use Rattle.miniserde_stable.specs.Stable.{IsStable}
 use Rattle.miniserde_record.specs.Fields.{others, last_given, count_named}

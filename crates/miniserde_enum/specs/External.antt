@@ -1,7 +1,7 @@
 -- Externally tagged enums: `"Ping"` is a variant without data, `{"Text":"a"}` one with data.
 use Rattle.std.specs.Prelude.{◌≡◌, Option, Some, None}
 use Rattle.miniserde_model.specs.Tree.{Tree, str, members, no_members, member}
-use Rattle.miniserde_read.specs.meaning.Objects.{Name}
+use Rattle.miniserde_read.specs.types.Objects.{Name}
 
 -- the tree of a variant without data is the string of the name, and with data the object of one member, which has the
 -- name and the data

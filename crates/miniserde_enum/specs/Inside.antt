@@ -2,9 +2,9 @@
 use Rattle.std.proofs.Common.{◌∙◌}
 use Rattle.std.specs.Prelude.{false, cond, Option, Some, bytes_eq}
 use Rattle.miniserde_model.specs.Tree.{Tree, members}
-use Rattle.miniserde_read.specs.meaning.Objects.{Name, object_of}
+use Rattle.miniserde_read.specs.types.Objects.{Name, object_of}
 use Rattle.miniserde_record.specs.Fields.{others}
-use Rattle.miniserde_record.specs.FieldsMeant.{FieldsMeant}
+use Rattle.miniserde_record.specs.FieldsMeaning.{FieldsMeaning}
 use Rattle.miniserde_enum.specs.laws.Inside.{beside-refused, beside-apart}
 
 -- the content that the other members of an object give
@@ -12,7 +12,7 @@ abbrev pub inside_of : {C : Type 0} → Name → (Tree → Option C) → Tree �
 inside_of tag of = object_of (λ ms. of (members (others tag ms)))
 
 -- the meaning of fields that skip the members of the tag's name
-abbrev pub beside_tag : {V : Type 0} → Name → FieldsMeant V → FieldsMeant V
+abbrev pub beside_tag : {V : Type 0} → Name → FieldsMeaning V → FieldsMeaning V
 beside_tag tag n = record {
   Content = n.Content;
   content = n.content;

@@ -1,8 +1,8 @@
 -- Internally tagged enums: of `{"kind":"Move","x":1}` the member `kind` is the tag, and the others are the data.
 use Rattle.std.specs.Prelude.{◌≡◌, false, Option, Some, None, option_map, option_and_then}
 use Rattle.miniserde_model.specs.Tree.{Tree, null, str, members, Members, no_members, member}
-use Rattle.miniserde_read.specs.meaning.Objects.{Name}
-use Rattle.miniserde_read.specs.meaning.Words.{string_of}
+use Rattle.miniserde_read.specs.types.Objects.{Name}
+use Rattle.miniserde_read.specs.types.Words.{string_of}
 use Rattle.miniserde_record.specs.Fields.{others, last_given, Says}
 
 -- The tree is an object, whose last member of the tag's name has the name, where each member of the tag's name is a string.

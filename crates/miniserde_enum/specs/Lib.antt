@@ -1,5 +1,5 @@
 pub mod Cases
-pub mod CasesMeant
+pub mod CasesMeaning
 pub mod External
 pub mod Inside
 pub mod Internal

@@ -1,7 +1,7 @@
 -- The shape of an enum's trees: where a tree has the name of a variant and its data.
 use Rattle.std.specs.Prelude.{Option, option_and_then}
 use Rattle.miniserde_model.specs.Tree.{Tree}
-use Rattle.miniserde_read.specs.meaning.Objects.{Name}
+use Rattle.miniserde_read.specs.types.Objects.{Name}
 use Rattle.miniserde_enum.specs.External.{IsExternal, external_variant, external_tree}
 use Rattle.miniserde_enum.specs.Internal.{IsInternal, internal_variant, internal_tree}
 

@@ -2,7 +2,7 @@
 use Rattle.std.specs.Prelude.{◌≡◌, List, Option, Some, option_map}
 use Rattle.miniserde_model.specs.Tree.{Tree}
 use Rattle.miniserde_model.specs.Normal.{norm}
-use Rattle.miniserde_read.specs.meaning.Objects.{Name}
+use Rattle.miniserde_read.specs.types.Objects.{Name}
 
 -- a name and data that have a content have it with the data in normal form too, by any names of the variants
 abbrev pub CasesStable : {C : Type 0} → (List Name → Name → Option Tree → Option C) → Type 0

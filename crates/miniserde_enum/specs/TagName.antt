@@ -1,9 +1,9 @@
 -- The tag of an internally tagged enum: a string, which is the name of a variant or not.
 use Rattle.std.specs.Prelude.{◌≡◌, cond, List, [], ◌∷◌, Option, Some, None, option_map, bytes_eq}
 use Rattle.miniserde_model.specs.Tree.{Tree}
-use Rattle.miniserde_read.specs.Meant.{Meant, meant}
-use Rattle.miniserde_read.specs.meaning.Objects.{Name}
-use Rattle.miniserde_read.specs.meaning.Words.{string_of}
+use Rattle.miniserde_read.specs.Meaning.{Meaning, meant}
+use Rattle.miniserde_read.specs.types.Objects.{Name}
+use Rattle.miniserde_read.specs.types.Words.{string_of}
 
 -- the first of the names that is equal to n
 abbrev pub known : List Name → Name → Option Name
@@ -15,6 +15,6 @@ abbrev pub tag_name_of : List Name → Tree → Option (Option Name)
 tag_name_of names t = option_map (known names) (string_of t)
 
 -- the meaning of a tag, by the variants' names
-abbrev pub tag_name_meant : {W : Type 0} → List Name → (W → Option Name) → Meant W
-tag_name_meant names name =
+abbrev pub tag_name_meaning : {W : Type 0} → List Name → (W → Option Name) → Meaning W
+tag_name_meaning names name =
     meant name (tag_name_of names) (λ t w. tag_name_of names t ≡ Some (name w)) (λ t w. (λ e. e, λ e. e))

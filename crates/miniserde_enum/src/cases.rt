@@ -1,11 +1,11 @@
 //! The variants of an enum, read by their names.
 ghost use Rattle.std.specs.Prelude.{◌≡◌, None, Err, IfOk, map, option_map};
-ghost use Rattle.miniserde_text.specs.Lexer.{front_of};
+ghost use Rattle.miniserde_text.specs.Lexer.{event_of_token};
 ghost use Rattle.miniserde_model.specs.declared.error.Error.{Error};
 ghost use Rattle.miniserde_read.specs.Rest.{GivesAt, GivesNoneAt};
-ghost use Rattle.miniserde_read.specs.Step.{IsTreeEvent};
+ghost use Rattle.miniserde_read.specs.Events.{IsTreeEvent};
 ghost use Rattle.miniserde_enum.specs.Cases.{with_data};
-ghost use Rattle.miniserde_enum.specs.CasesMeant.{CasesMeant, no_cases, unit_and, data_and};
+ghost use Rattle.miniserde_enum.specs.CasesMeaning.{CasesMeaning, no_cases, unit_and, data_and};
 
 use crate::one_of::{Never, OneOf};
 use miniserde_model::error::{Error, Result};
@@ -19,7 +19,7 @@ pub trait Cases {
     type Values;
 
     // The meaning of the variants.
-    ghost meaning: { CasesMeant Self.Values };
+    ghost meaning: { CasesMeaning Self.Values };
 
     /// Returns the variant of the name if it has no data.
     fn of_name(names: &[&str], name: &str) -> Option<Self::Values>
@@ -34,14 +34,14 @@ pub trait Cases {
         source: &mut Source<'a>,
     ) -> Result<Self::Values>
         requires going { source.old.refused ≡ None }
-        requires event { IsTreeEvent (front_of token source.old.scratch) }
+        requires event { IsTreeEvent (event_of_token token source.old.scratch) }
         ensures going { IfOk result (λ _. source.new.refused ≡ None) }
         ensures ok { IfOk result (λ v.
             GivesAt (with_data (meaning.by_case (map (λ n. n.now) names.now) name.now))
-            (front_of token.entry source.old.scratch) source.old.rest source.new.rest (meaning.content v)) }
+            (event_of_token token.entry source.old.scratch) source.old.rest source.new.rest (meaning.content v)) }
         ensures invalid { result ≡ Err Error.Invalid
             → GivesNoneAt (with_data (meaning.by_case (map (λ n. n.now) names.now) name.now))
-            (front_of token.entry source.old.scratch) source.old.rest };
+            (event_of_token token.entry source.old.scratch) source.old.rest };
 }
 
 /// No more variants.

@@ -1,20 +1,20 @@
 //! Data that stands in one object with a tag.
 ghost use Rattle.std.specs.Prelude.{◌≡◌, ◌++◌, ◌&&◌, Bool, true, List, Option, None, Err, IfOk, OnOk, OnErr, IsErrOf, map, ⊤};
-ghost use Rattle.miniserde_text.specs.Lexer.{front_of};
+ghost use Rattle.miniserde_text.specs.Lexer.{event_of_token};
 ghost use Rattle.miniserde_model.specs.Tree.{Tree, members};
 ghost use Rattle.miniserde_model.specs.IsTree.{AreNamedTrees};
 ghost use Rattle.miniserde_model.specs.declared.error.Error.{Error};
 ghost use Rattle.miniserde_model.specs.declared.error.Error.TheVariants.{Memory};
-ghost use Rattle.miniserde_read.specs.meaning.Objects.{Name};
+ghost use Rattle.miniserde_read.specs.types.Objects.{Name};
 ghost use Rattle.miniserde_read.specs.Rest.{GivesAt, GivesNoneAt};
-ghost use Rattle.miniserde_read.specs.Step.{IsTreeEvent};
+ghost use Rattle.miniserde_read.specs.Events.{IsTreeEvent};
 ghost use Rattle.miniserde_record.specs.Fields.{count_named};
 ghost use Rattle.miniserde_record.specs.Structs.{is_new, with_names, members_text};
 ghost use Rattle.miniserde_enum.specs.Internal.{object_members};
 ghost use Rattle.miniserde_enum.specs.Inside.{inside_of};
 ghost use Rattle.miniserde_enum.specs.Shape.{Shape, internal};
 ghost use Rattle.miniserde_enum.specs.Cases.{DataFits, with_data};
-ghost use Rattle.miniserde_enum.specs.CasesMeant.{CasesMeant, no_cases, data_and};
+ghost use Rattle.miniserde_enum.specs.CasesMeaning.{CasesMeaning, no_cases, data_and};
 
 use crate::cases::{DataCase, NoCase};
 use crate::one_of::{Never, OneOf};
@@ -34,26 +34,26 @@ pub trait Inside: RoundTrip {
     /// beginning of the text spells an object whose other members mean a value.
     fn read_inside<'a, E: HasTag>(token: Event<'a>, source: &mut Source<'a>) -> Result<Self>
         requires going { source.old.refused ≡ None }
-        requires event { IsTreeEvent (front_of token source.old.scratch) }
+        requires event { IsTreeEvent (event_of_token token source.old.scratch) }
         ensures going { IfOk result (λ _. source.new.refused ≡ None) }
         ensures ok { IfOk result (λ v. GivesAt (inside_of E.tag Self.means.from_tree)
-            (front_of token.entry source.old.scratch) source.old.rest source.new.rest (Self.means.content v)) }
+            (event_of_token token.entry source.old.scratch) source.old.rest source.new.rest (Self.means.content v)) }
         ensures invalid { result ≡ Err Error.Invalid → GivesNoneAt (inside_of E.tag Self.means.from_tree)
-            (front_of token.entry source.old.scratch) source.old.rest };
+            (event_of_token token.entry source.old.scratch) source.old.rest };
 
     /// Writes its members. Returns `Memory` if the text cannot grow.
     fn write_inside(&self, w: &mut Writer) -> Result<()>
         ensures ok { OnOk result (w.new.text
             ≡ w.old.text ++ members_text w.old.first (object_members (Self.tree self.now))) }
         ensures are_trees { OnOk result (AreNamedTrees (object_members (Self.tree self.now))) }
-        ensures whole { OnOk result (w.new.refused ≡ w.old.refused) }
+        ensures unrefused { OnOk result (w.new.refused ≡ w.old.refused) }
         ensures memory { OnErr result (IsErrOf result Memory) }
         ensures err { OnErr result (w.new.refused ≡ true) };
 
     /// Does nothing. It promises that its tree is an object, whose members have no name but those of its fields.
     fn is_object()
         ensures object { (v : Self) → Self.tree v ≡ members (object_members (Self.tree v)) }
-        ensures named { (k : Name) (v : Self) → is_new k fields ≡ true
+        ensures distinct_names { (k : Name) (v : Self) → is_new k fields ≡ true
             → count_named k (object_members (Self.tree v)) ≡ 0 };
 }
 
@@ -69,7 +69,7 @@ pub trait InsideCases {
     type Values;
 
     // The meaning of the variants.
-    ghost meaning: { CasesMeant Self.Values };
+    ghost meaning: { CasesMeaning Self.Values };
 
     // Trees of the shape, as they are written, are the variants that they are written for.
     ghost fits: { Shape → Type 0 };
@@ -87,14 +87,14 @@ pub trait InsideCases {
         source: &mut Source<'a>,
     ) -> Result<Self::Values>
         requires going { source.old.refused ≡ None }
-        requires event { IsTreeEvent (front_of token source.old.scratch) }
+        requires event { IsTreeEvent (event_of_token token source.old.scratch) }
         ensures going { IfOk result (λ _. source.new.refused ≡ None) }
         ensures ok { IfOk result (λ v.
             GivesAt (inside_of E.tag (with_data (meaning.by_case (map (λ n. n.now) names.now) name.now)))
-            (front_of token.entry source.old.scratch) source.old.rest source.new.rest (meaning.content v)) }
+            (event_of_token token.entry source.old.scratch) source.old.rest source.new.rest (meaning.content v)) }
         ensures invalid { result ≡ Err Error.Invalid
             → GivesNoneAt (inside_of E.tag (with_data (meaning.by_case (map (λ n. n.now) names.now) name.now)))
-            (front_of token.entry source.old.scratch) source.old.rest };
+            (event_of_token token.entry source.old.scratch) source.old.rest };
 
     /// Does nothing. It promises that the trees of internally tagged enums, as they are written, are the variants that
     /// they are written for, if the tag's name is none of the fields.

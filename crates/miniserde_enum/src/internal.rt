@@ -1,11 +1,11 @@
 //! Internally tagged enums, read from a text: an object, of which one member, the tag, names the variant.
 ghost use Rattle.std.specs.Prelude.{◌≡◌, true, None, Err, IfOk, length};
-ghost use Rattle.miniserde_text.specs.Lexer.{front_of};
+ghost use Rattle.miniserde_text.specs.Lexer.{event_of_token};
 ghost use Rattle.miniserde_model.specs.declared.error.Error.{Error};
 ghost use Rattle.miniserde_read.specs.Rest.{GivesAt, GivesNoneAt};
-ghost use Rattle.miniserde_read.specs.Step.{IsTreeEvent};
+ghost use Rattle.miniserde_read.specs.Events.{IsTreeEvent};
 ghost use Rattle.miniserde_enum.specs.Shape.{internal};
-ghost use Rattle.miniserde_enum.specs.CasesMeant.{tagged_of};
+ghost use Rattle.miniserde_enum.specs.CasesMeaning.{tagged_of};
 
 use crate::inside::InsideCases;
 use crate::tag_name::TagName;
@@ -35,9 +35,9 @@ impl<E: Tagged + HasTag> Record for Tag<E> {
 
     ghost made = { λ x. record { name = x.0 } };
 
-    ghost whole = { (λ v. refl, λ x. refl) };
+    ghost unrefused = { (λ v. refl, λ x. refl) };
 
-    ghost named = { refl };
+    ghost distinct_names = { refl };
 
     fn names() -> &'static [&'static str] {
         E::tag()
@@ -57,13 +57,13 @@ pub fn read_tagged<'a, E: Tagged + HasTag, C: InsideCases<Values = E::Values>>(
     source: &mut Source<'a>,
 ) -> Result<E>
     requires going { source.old.refused ≡ None }
-    requires event { IsTreeEvent (front_of token source.old.scratch) }
+    requires event { IsTreeEvent (event_of_token token source.old.scratch) }
     ensures going { IfOk result (λ _. source.new.refused ≡ None) }
     ensures ok { IfOk result (λ v. GivesAt (tagged_of C.meaning E.tag E.names)
-        (front_of token.entry source.old.scratch) source.old.rest source.new.rest
+        (event_of_token token.entry source.old.scratch) source.old.rest source.new.rest
         (C.meaning.content (E.values v))) }
     ensures invalid { result ≡ Err Error.Invalid → GivesNoneAt (tagged_of C.meaning E.tag E.names)
-        (front_of token.entry source.old.scratch) source.old.rest }
+        (event_of_token token.entry source.old.scratch) source.old.rest }
 {
     let Event::MapStart = token else {
         return Err(Error::Invalid);

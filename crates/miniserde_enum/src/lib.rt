@@ -1,7 +1,6 @@
 //! Enums of a user's own whose variants may have data, read and written by the names of the variants.
 #![tactic(auto)]
 
-mod again;
 mod beside;
 mod cases;
 mod inside;
@@ -10,12 +9,12 @@ mod lossless;
 mod no_fields;
 mod one_of;
 mod reading;
+mod round_trips;
 mod stable;
 mod tag_name;
 mod tagged;
 mod writing;
 
-pub use again::{AgainCases, enum_again, tagged_again};
 pub use beside::BesideTag;
 pub use cases::{Cases, DataCase, NoCase, UnitCase};
 pub use inside::{Inside, InsideCases, fields_named};
@@ -24,6 +23,7 @@ pub use lossless::{LosslessCases, enum_lossless, tagged_lossless};
 pub use no_fields::NoFields;
 pub use one_of::{Never, OneOf};
 pub use reading::read_enum;
+pub use round_trips::{RoundTripCases, enum_round_trips, tagged_round_trips};
 pub use stable::{StableCases, enum_stable, tagged_stable};
 pub use tagged::{HasTag, Tagged};
 pub use writing::{write_data, write_fields, write_tagged, write_tagged_fields};

@@ -1,25 +1,25 @@
 //! Enums whose tree is injective: values with one tree have one content.
 ghost use Rattle.std.specs.Prelude.{◌≡◌, true, List, Option, Some, length, ⊤};
 ghost use Rattle.miniserde_model.specs.Tree.{Tree, null};
-ghost use Rattle.miniserde_read.specs.meaning.Objects.{Name};
+ghost use Rattle.miniserde_read.specs.types.Objects.{Name};
 ghost use Rattle.miniserde_record.specs.Structs.{are_names, is_new};
 ghost use Rattle.miniserde_enum.specs.Shape.{Shape, external, internal, case_of};
 ghost use Rattle.miniserde_enum.specs.Cases.{CaseReal, case_tree, unit_tree, data_tree, UnitFits, DataFits, enum_tree, tagged_tree};
-ghost use Rattle.miniserde_enum.specs.CasesMeant.{CasesMeant, no_cases, unit_and, data_and};
+ghost use Rattle.miniserde_enum.specs.CasesMeaning.{CasesMeaning, no_cases, unit_and, data_and};
 
 use crate::cases::{DataCase, NoCase, UnitCase};
 use crate::one_of::{Never, OneOf};
 use crate::tagged::{HasTag, Tagged};
 use miniserde_round::Lossless;
 
-/// Variants whose tree is injective. It stands beside `AgainCases` and not above it: else each link of a chain of variants
+/// Variants whose tree is injective. It stands beside `RoundTripCases` and not above it: else each link of a chain of variants
 /// contains the other chain.
 pub trait LosslessCases {
     /// The value of a variant.
     type Values;
 
     // The meaning of the variants.
-    ghost meaning: { CasesMeant Self.Values };
+    ghost meaning: { CasesMeaning Self.Values };
 
     // The value is valid.
     ghost real: { Self.Values → Type 0 };
@@ -35,7 +35,7 @@ pub trait LosslessCases {
     /// one tree have one content.
     fn lossless()
         ensures external { fits external }
-        ensures named { (shape : Shape) (names : List Name) (v : Self.Values) (n : Name) (o : Option Tree) → fits shape
+        ensures distinct_names { (shape : Shape) (names : List Name) (v : Self.Values) (n : Name) (o : Option Tree) → fits shape
             → are_names meaning.count names ≡ true → real v → is_new n names ≡ true
             → case_of shape (tree shape names v) ≡ Some (n, o) → ⊥ }
         ensures same { (shape : Shape) (names : List Name) (v w : Self.Values) → fits shape

@@ -28,9 +28,9 @@ impl Record for NoFields {
 
     ghost made = { λ x. record {} };
 
-    ghost whole = { (λ v. refl, λ x. refl) };
+    ghost unrefused = { (λ v. refl, λ x. refl) };
 
-    ghost named = { refl };
+    ghost distinct_names = { refl };
 
     fn names() -> &'static [&'static str] {
         &[]
@@ -68,7 +68,7 @@ impl Ranged for NoFields {
 }
 
 impl RoundTrip for NoFields {
-    fn again() {}
+    fn round_trips() {}
 }
 
 impl Lossless for NoFields {

@@ -1,12 +1,12 @@
 //! Externally tagged enums, read from a text: a name alone, or an object of one member.
 ghost use Rattle.std.specs.Prelude.{◌≡◌, None, Err, IfOk, map};
-ghost use Rattle.miniserde_text.specs.Lexer.{front_of, text_of};
+ghost use Rattle.miniserde_text.specs.Lexer.{event_of_token, text_of};
 ghost use Rattle.miniserde_model.specs.declared.error.Error.{Error};
 ghost use Rattle.miniserde_read.specs.Rest.{GivesAt, GivesNoneAt};
-ghost use Rattle.miniserde_read.specs.Step.{IsTreeEvent};
-ghost use Rattle.miniserde_record.specs.Members.{DueRead, DueRejects};
+ghost use Rattle.miniserde_read.specs.Events.{IsTreeEvent};
+ghost use Rattle.miniserde_record.specs.Members.{ReadsDue, RejectsDue};
 ghost use Rattle.miniserde_enum.specs.Cases.{with_data};
-ghost use Rattle.miniserde_enum.specs.CasesMeant.{enum_of};
+ghost use Rattle.miniserde_enum.specs.CasesMeaning.{enum_of};
 
 use crate::cases::Cases;
 use crate::tagged::Tagged;
@@ -24,10 +24,10 @@ fn read_due_case<'a, C: Cases>(
     requires { source.old.refused ≡ None }
     ensures going { IfOk result (λ _. source.new.refused ≡ None) }
     ensures ok { IfOk result (λ v.
-        DueRead (with_data (C.meaning.by_case (map (λ n. n.now) names.now) name.now))
+        ReadsDue (with_data (C.meaning.by_case (map (λ n. n.now) names.now) name.now))
         source.old.rest source.new.rest (C.meaning.content v)) }
     ensures invalid { result ≡ Err Error.Invalid
-        → DueRejects (with_data (C.meaning.by_case (map (λ n. n.now) names.now) name.now)) source.old.rest }
+        → RejectsDue (with_data (C.meaning.by_case (map (λ n. n.now) names.now) name.now)) source.old.rest }
 {
     let token = source.token()?;
     C::read_case(names, name, token, source)
@@ -43,10 +43,10 @@ fn read_named<'a, C: Cases>(
     requires { source.old.refused ≡ None }
     ensures going { IfOk result (λ _. source.new.refused ≡ None) }
     ensures ok { IfOk result (λ v.
-        DueRead (with_data (C.meaning.by_case (map (λ n. n.now) names.now) (text_of name.entry source.old.scratch)))
+        ReadsDue (with_data (C.meaning.by_case (map (λ n. n.now) names.now) (text_of name.entry source.old.scratch)))
         source.old.rest source.new.rest (C.meaning.content v)) }
     ensures invalid { result ≡ Err Error.Invalid
-        → DueRejects (with_data (C.meaning.by_case (map (λ n. n.now) names.now) (text_of name.entry source.old.scratch)))
+        → RejectsDue (with_data (C.meaning.by_case (map (λ n. n.now) names.now) (text_of name.entry source.old.scratch)))
         source.old.rest }
 {
     match name {
@@ -66,13 +66,13 @@ pub fn read_enum<'a, E: Tagged, C: Cases<Values = E::Values>>(
     source: &mut Source<'a>,
 ) -> Result<E>
     requires going { source.old.refused ≡ None }
-    requires event { IsTreeEvent (front_of token source.old.scratch) }
+    requires event { IsTreeEvent (event_of_token token source.old.scratch) }
     ensures going { IfOk result (λ _. source.new.refused ≡ None) }
     ensures ok { IfOk result (λ v. GivesAt (enum_of C.meaning E.names)
-        (front_of token.entry source.old.scratch) source.old.rest source.new.rest
+        (event_of_token token.entry source.old.scratch) source.old.rest source.new.rest
         (C.meaning.content (E.values v))) }
     ensures invalid { result ≡ Err Error.Invalid → GivesNoneAt (enum_of C.meaning E.names)
-        (front_of token.entry source.old.scratch) source.old.rest }
+        (event_of_token token.entry source.old.scratch) source.old.rest }
 {
     match token {
         Event::Str(text) => match C::of_name(E::names(), source.text(text)) {

@@ -1,6 +1,6 @@
 //! Enums that are read from the normal form of a tree as from the tree.
 ghost use Rattle.miniserde_stable.specs.Stable.{IsStable};
-ghost use Rattle.miniserde_enum.specs.CasesMeant.{CasesMeant, no_cases, unit_and, data_and, enum_of, tagged_of};
+ghost use Rattle.miniserde_enum.specs.CasesMeaning.{CasesMeaning, no_cases, unit_and, data_and, enum_of, tagged_of};
 ghost use Rattle.miniserde_enum.specs.Stable.{CasesStable};
 
 use crate::cases::{DataCase, NoCase, UnitCase};
@@ -14,7 +14,7 @@ pub trait StableCases {
     type Values;
 
     // The meaning of the variants.
-    ghost meaning: { CasesMeant Self.Values };
+    ghost meaning: { CasesMeaning Self.Values };
 
     /// Does nothing. It promises that the normal form of data has the content of the data, if they have one.
     fn stable()

@@ -1,6 +1,6 @@
 //! The tag of an internally tagged enum, as the name of a variant.
 ghost use Rattle.std.specs.Prelude.{◌≡◌, true, refl, map, option_map};
-ghost use Rattle.miniserde_enum.specs.TagName.{known, tag_name_meant};
+ghost use Rattle.miniserde_enum.specs.TagName.{known, tag_name_meaning};
 
 use crate::tagged::Tagged;
 use miniserde_model::error::{Error, Result};
@@ -29,7 +29,7 @@ fn find_name(names: &'static [&'static str], name: &str) -> Option<&'static str>
 }
 
 impl<E: Tagged> Leaf for TagName<E> {
-    ghost means = { tag_name_meant E.names (λ v. option_map (λ n. n.now) v.known) };
+    ghost means = { tag_name_meaning E.names (λ v. option_map (λ n. n.now) v.known) };
 
     ghost only_leaves = { (λ ts. refl, λ ms. refl) };
 
@@ -48,7 +48,7 @@ impl<E: Tagged> Leaf for TagName<E> {
 }
 
 impl<E: Tagged> FromJson for TagName<E> {
-    ghost means = { tag_name_meant E.names (λ v. option_map (λ n. n.now) v.known) };
+    ghost means = { tag_name_meaning E.names (λ v. option_map (λ n. n.now) v.known) };
 
     ghost read_infallible = { true };
 

@@ -1,6 +1,6 @@
 //! An enum, by its variants.
 ghost use Rattle.std.specs.Prelude.{◌≡◌, true, List, [], ◌∷◌, map};
-ghost use Rattle.miniserde_read.specs.meaning.Objects.{Name};
+ghost use Rattle.miniserde_read.specs.types.Objects.{Name};
 ghost use Rattle.miniserde_record.specs.Structs.{are_distinct};
 
 /// An enum whose variants may have data, and are told apart by their names.
@@ -23,10 +23,10 @@ pub trait Tagged: Sized + Drop {
         ensures { values result ≡ value };
 
     // Each value of a variant is an enum's.
-    ghost whole: { (x : Self.Values) → (v : Self) × (values v ≡ x) };
+    ghost unrefused: { (x : Self.Values) → (v : Self) × (values v ≡ x) };
 
     // No name is a duplicate.
-    ghost named: { are_distinct names ≡ true };
+    ghost distinct_names: { are_distinct names ≡ true };
 }
 
 /// An internally tagged enum: a member of its objects, the tag, has the name of the variant.

@@ -19,13 +19,13 @@ pub fn write_data<T: Serialize>(w: &mut Writer, name: &str, value: &T) -> Result
     ensures ok { OnOk result (w.new.text ≡ w.old.text ++ compact (data_tree external T.tree name.now value.now)) }
     ensures is_tree { OnOk result (IsTree (data_tree external T.tree name.now value.now)) }
     ensures first { OnOk result (w.new.first ≡ false) }
-    ensures whole { OnOk result (w.new.refused ≡ false) }
+    ensures unrefused { OnOk result (w.new.refused ≡ false) }
     ensures stays { OnOk result (w.old.refused ≡ false) }
     ensures memory { OnErr result (IsErrOf result Memory) }
     ensures err { OnErr result (w.new.refused ≡ true) }
 {
     w.map()?;
-    w.known_key(name)?;
+    w.key_inline(name)?;
     value.begin(w)?;
     w.map_finish()
 }
@@ -44,13 +44,13 @@ pub fn write_fields<M: Members>(
     ensures is_tree { OnOk result (IsTree
         (data_tree external (record_tree (map (λ n. n.now) names.now) M.trees (λ v. v)) name.now values.now)) }
     ensures first { OnOk result (w.new.first ≡ false) }
-    ensures whole { OnOk result (w.new.refused ≡ false) }
+    ensures unrefused { OnOk result (w.new.refused ≡ false) }
     ensures stays { OnOk result (w.old.refused ≡ false) }
     ensures memory { OnErr result (IsErrOf result Memory) }
     ensures err { OnErr result (w.new.refused ≡ true) }
 {
     w.map()?;
-    w.known_key(name)?;
+    w.key_inline(name)?;
     write_members(w, names, values)?;
     w.map_finish()
 }
@@ -62,13 +62,13 @@ pub fn write_tagged<T: Inside>(w: &mut Writer, tag: &str, name: &str, value: &T)
         ≡ w.old.text ++ compact (data_tree (internal tag.now) T.tree name.now value.now)) }
     ensures is_tree { OnOk result (IsTree (data_tree (internal tag.now) T.tree name.now value.now)) }
     ensures first { OnOk result (w.new.first ≡ false) }
-    ensures whole { OnOk result (w.new.refused ≡ false) }
+    ensures unrefused { OnOk result (w.new.refused ≡ false) }
     ensures stays { OnOk result (w.old.refused ≡ false) }
     ensures memory { OnErr result (IsErrOf result Memory) }
     ensures err { OnErr result (w.new.refused ≡ true) }
 {
     w.map()?;
-    w.known_key(tag)?;
+    w.key_inline(tag)?;
     w.fragment(Fragment::Str(name))?;
     value.write_inside(w)?;
     w.map_finish()
@@ -89,13 +89,13 @@ pub fn write_tagged_fields<M: Members>(
     ensures is_tree { OnOk result (IsTree
         (data_tree (internal tag.now) (record_tree (map (λ n. n.now) names.now) M.trees (λ v. v)) name.now values.now)) }
     ensures first { OnOk result (w.new.first ≡ false) }
-    ensures whole { OnOk result (w.new.refused ≡ false) }
+    ensures unrefused { OnOk result (w.new.refused ≡ false) }
     ensures stays { OnOk result (w.old.refused ≡ false) }
     ensures memory { OnErr result (IsErrOf result Memory) }
     ensures err { OnErr result (w.new.refused ≡ true) }
 {
     w.map()?;
-    w.known_key(tag)?;
+    w.key_inline(tag)?;
     w.fragment(Fragment::Str(name))?;
     values.write(w, names)?;
     w.map_finish()

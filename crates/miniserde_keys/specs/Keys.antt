@@ -33,13 +33,13 @@ read_bool k =
     else (if bytes_eq k (bool_text false) then Some (of_bool false) else None)
 
 -- the content of the character of a list of one
-abbrev pub only : List ℕ → Option Key
-only (c ∷ []) = Some (of_nat c)
-only _ = None
+abbrev pub single_char : List ℕ → Option Key
+single_char (c ∷ []) = Some (of_nat c)
+single_char _ = None
 
 -- the content of the character that a text of one character is parsed as
 unfoldable pub read_char : List ℕ → Option Key
-read_char k = if is_utf8 k then only (chars k) else None
+read_char k = if is_utf8 k then single_char (chars k) else None
 
 -- the list is one digit or more, and their number is below the limit
 abbrev pub are_digits_below : ℕ → List ℕ → Bool

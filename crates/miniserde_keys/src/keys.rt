@@ -7,15 +7,15 @@ ghost use Rattle.miniserde_keys.specs.Keys.{Key};
 ghost use Rattle.miniserde_model.specs.declared.error.Error.{Error};
 ghost use Rattle.miniserde_model.specs.declared.error.Error.TheVariants.{Memory};
 
+mod injective;
 mod integers;
-mod whole;
 mod words;
 
 use crate::ranged::Ranged;
+pub use injective::InjectiveKey;
 use miniserde_model::error::Result;
 use std::alloc::{AllocError, Global};
 use std::result;
-pub use whole::WholeKey;
 
 /// A type whose values are written as the names of an object's members.
 pub trait MapKey: Ranged + Sized + Eq + Drop {
@@ -32,13 +32,13 @@ pub trait MapKey: Ranged + Sized + Eq + Drop {
     ghost text: { Self → List ℕ };
 
     // Whether `from_key` never returns `Memory`.
-    ghost reads_free: { Bool } = { false };
+    ghost from_key_infallible: { Bool } = { false };
 
     /// Parses a key.
     fn from_key(alloc: Global, k: &str) -> Result<Self>
         ensures value { IfOk result (λ v. read k.now ≡ Some (content v)) }
         ensures invalid { result ≡ Err Error.Invalid → read k.now ≡ None }
-        ensures free { reads_free ≡ true → IfErr result (λ e. e ≡ Error.Invalid) };
+        ensures infallible { from_key_infallible ≡ true → IfErr result (λ e. e ≡ Error.Invalid) };
 
     /// Appends the text of the key. Leaves `out` as it was if allocation fails.
     fn to_key(&self, out: &mut String) -> Result<()>

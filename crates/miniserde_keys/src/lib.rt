@@ -4,5 +4,5 @@
 mod keys;
 mod ranged;
 
-pub use keys::{MapKey, WholeKey};
+pub use keys::{InjectiveKey, MapKey};
 pub use ranged::Ranged;

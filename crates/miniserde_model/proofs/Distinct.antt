@@ -3,9 +3,9 @@ use Rattle.std.proofs.Common.{◌≡◌, ℕ, ◌+◌, ℤ, pos, negsuc, Bool, t
 use Rattle.std.specs.Prelude.{not, ◌&&◌}
 use Rattle.std.proofs.lemmas.Map.Lookups.{exact_bytes}
 use Rattle.miniserde_model.specs.Tree.{Tree, null, truth, nonneg, neg, num, str, list, members, Trees, no_trees, tree, Members, no_members, member}
-use Rattle.miniserde_model.specs.Normal.{text_cmp, placed, with_first, norm_neg, norm, norm_children, norm_members, or_else, last_of, Rise}
+use Rattle.miniserde_model.specs.Normal.{text_cmp, with_first_by, with_first, norm_neg, norm, norm_children, norm_members, or_else, last_of, Rise}
 use Rattle.miniserde_model.specs.Size.{size, size_of_children, size_of_members}
-use Rattle.miniserde_model.specs.Distinct.{has_name, distinct, distinct_children, distinct_members}
+use Rattle.miniserde_model.specs.Distinct.{has_name, names_distinct, names_distinct_in_children, names_distinct_in_members}
 use Rattle.miniserde_model.proofs.Lookups.{norm_keeps_last, norm_rises}
 use Rattle.miniserde_model.proofs.OneNormal.{absent, same_itself}
 
@@ -27,29 +27,29 @@ second_of false b e = absurd (cc)
 -- each member's tree has no duplicate name
 abbrev each_distinct : Members → Bool
 each_distinct no_members = true
-each_distinct (member name t ms) = distinct t && each_distinct ms
+each_distinct (member name t ms) = names_distinct t && each_distinct ms
 
-each_with_first : (name : List ℕ) (t : Tree) (ms : Members) → distinct t ≡ true → each_distinct ms ≡ true → each_distinct (with_first name t ms) ≡ true
-each_with_first name t no_members d e = both (distinct t) true d refl
-each_with_first name t (member other u ms) d e = go (text_cmp name other) (each_with_first name t ms d (second_of (distinct u) _ e))
+each_with_first : (name : List ℕ) (t : Tree) (ms : Members) → names_distinct t ≡ true → each_distinct ms ≡ true → each_distinct (with_first name t ms) ≡ true
+each_with_first name t no_members d e = both (names_distinct t) true d refl
+each_with_first name t (member other u ms) d e = go (text_cmp name other) (each_with_first name t ms d (second_of (names_distinct u) _ e))
   where
-    go : (o : Ordering) → each_distinct (with_first name t ms) ≡ true → each_distinct (placed o name t other u ms (with_first name t ms)) ≡ true
-    go Less more = both (distinct t) _ d e
+    go : (o : Ordering) → each_distinct (with_first name t ms) ≡ true → each_distinct (with_first_by o name t other u ms (with_first name t ms)) ≡ true
+    go Less more = both (names_distinct t) _ d e
     go Equal more = e
-    go Greater more = both (distinct u) _ (first_of (distinct u) _ e) more
+    go Greater more = both (names_distinct u) _ (first_of (names_distinct u) _ e) more
 
 -- names that rise stand once
-rising_distinct : (ms : Members) → Rise ms → each_distinct ms ≡ true → distinct_members ms ≡ true
+rising_distinct : (ms : Members) → Rise ms → each_distinct ms ≡ true → names_distinct_in_members ms ≡ true
 rising_distinct no_members r e = refl
 rising_distinct (member name t ms) r e =
-    both _ _ (ap (λ o. not (is_some o)) (absent name ms r.0 r.1)) (both (distinct t) _ (first_of (distinct t) _ e) (rising_distinct ms r.1 (second_of (distinct t) _ e)))
+    both _ _ (ap (λ o. not (is_some o)) (absent name ms r.0 r.1)) (both (names_distinct t) _ (first_of (names_distinct t) _ e) (rising_distinct ms r.1 (second_of (names_distinct t) _ e)))
 
-neg_distinct : (z : ℤ) → distinct (norm_neg z) ≡ true
+neg_distinct : (z : ℤ) → names_distinct (norm_neg z) ≡ true
 neg_distinct (pos n) = refl
 neg_distinct (negsuc n) = refl
 
 mutual
-  pub norm_distinct : (t : Tree) → distinct (norm t) ≡ true
+  pub norm_distinct : (t : Tree) → names_distinct (norm t) ≡ true
   norm_distinct null = refl
   norm_distinct (truth x) = refl
   norm_distinct (nonneg n) = refl
@@ -59,7 +59,7 @@ mutual
   norm_distinct (list ts) = children_distinct ts
   norm_distinct (members ms) = rising_distinct (norm_members ms) (norm_rises norm_neg ms) (members_distinct ms)
 
-  children_distinct : (ts : Trees) → distinct_children (norm_children ts) ≡ true
+  children_distinct : (ts : Trees) → names_distinct_in_children (norm_children ts) ≡ true
   children_distinct no_trees = refl
   children_distinct (tree t ts) = both _ _ (norm_distinct t) (children_distinct ts)
 
@@ -77,7 +77,7 @@ size_with_first : (name : List ℕ) (t : Tree) (ms : Members) → last_of name m
 size_with_first name t no_members e = refl
 size_with_first name t (member other u ms) e = go (text_cmp name other) refl (size_with_first name t ms (none_there (last_of name ms) _ e).0)
   where
-    go : (o : Ordering) → text_cmp name other ≡ o → size_of_members (with_first name t ms) ≡ size t + size_of_members ms → size_of_members (placed o name t other u ms (with_first name t ms)) ≡ size t + (size u + size_of_members ms)
+    go : (o : Ordering) → text_cmp name other ≡ o → size_of_members (with_first name t ms) ≡ size t + size_of_members ms → size_of_members (with_first_by o name t other u ms (with_first name t ms)) ≡ size t + (size u + size_of_members ms)
     go Less s more = refl
     go Equal s more =
         let same : other ≡ name = sym (exact_bytes name other s) in
@@ -95,7 +95,7 @@ neg_size (pos n) = refl
 neg_size (negsuc n) = refl
 
 mutual
-  pub distinct_size : (t : Tree) → distinct t ≡ true → size (norm t) ≡ size t
+  pub distinct_size : (t : Tree) → names_distinct t ≡ true → size (norm t) ≡ size t
   distinct_size null d = refl
   distinct_size (truth x) d = refl
   distinct_size (nonneg n) d = refl
@@ -105,14 +105,14 @@ mutual
   distinct_size (list ts) d = ap (λ n. 1 + n) (children_size ts d)
   distinct_size (members ms) d = ap (λ n. 1 + n) (members_size ms d)
 
-  children_size : (ts : Trees) → distinct_children ts ≡ true → size_of_children (norm_children ts) ≡ size_of_children ts
+  children_size : (ts : Trees) → names_distinct_in_children ts ≡ true → size_of_children (norm_children ts) ≡ size_of_children ts
   children_size no_trees d = refl
-  children_size (tree t ts) d = ap₂ (λ m n. m + n) (distinct_size t (first_of (distinct t) _ d)) (children_size ts (second_of (distinct t) _ d))
+  children_size (tree t ts) d = ap₂ (λ m n. m + n) (distinct_size t (first_of (names_distinct t) _ d)) (children_size ts (second_of (names_distinct t) _ d))
 
-  members_size : (ms : Members) → distinct_members ms ≡ true → size_of_members (norm_members ms) ≡ size_of_members ms
+  members_size : (ms : Members) → names_distinct_in_members ms ≡ true → size_of_members (norm_members ms) ≡ size_of_members ms
   members_size no_members d = refl
   members_size (member name t ms) d =
       let once = first_of (not (has_name name ms)) _ d in
       let rest = second_of (not (has_name name ms)) _ d in
       size_with_first name (norm t) (norm_members ms) (norm_keeps_last norm_neg name ms ∙ mapped_none (last_of name ms) once)
-      ∙ ap₂ (λ m n. m + n) (distinct_size t (first_of (distinct t) _ rest)) (members_size ms (second_of (distinct t) _ rest))
+      ∙ ap₂ (λ m n. m + n) (distinct_size t (first_of (names_distinct t) _ rest)) (members_size ms (second_of (names_distinct t) _ rest))

@@ -6,10 +6,10 @@ use Rattle.std.proofs.lemmas.Bool.Decides.{nat_tests}
 use Rattle.std.proofs.lemmas.Fmt.{decimal_digit}
 use lib.Utf8.{encode}
 use Rattle.miniserde_model.specs.Tree.{null, nonneg, neg, num, str, list, members, no_trees, tree, no_members, member}
-use Rattle.miniserde_model.specs.Number.{IsDigit, IsWhole, IsMinus, IsNumberText, leaf}
+use Rattle.miniserde_model.specs.Number.{IsDigit, IsInt, IsMinus, IsNumberText, leaf}
 use Rattle.miniserde_model.specs.String.{slash, raw, short, unit, pair, IsString}
 use Rattle.miniserde_model.specs.Value.{Spaced, IsValue, IsJson}
-use Rattle.miniserde_model.specs.Compact.{compact, quoted}
+use Rattle.miniserde_model.specs.Compact.{compact, string_text}
 use Rattle.miniserde_model.specs.Examples.{SpelledTexts, NormalForms}
 
 abbrev is_digit : ℕ → Bool
@@ -27,30 +27,30 @@ digits [] h = tt
 digits (c ∷ cs) h = let p = and_parts (is_digit c) (all_digits cs) h in (digit c p.0, digits cs p.1)
 
 -- digits that begin with one of 1 to 9
-pub whole : (c : ℕ) (cs : List ℕ) → 49 ≤ c → c ≤ 57 → all_digits cs ≡ true → IsWhole (c ∷ cs)
-whole c cs low high h = inr ((low, high), digits cs h)
+pub int : (c : ℕ) (cs : List ℕ) → 49 ≤ c → c ≤ 57 → all_digits cs ≡ true → IsInt (c ∷ cs)
+int c cs low high h = inr ((low, high), digits cs h)
 
 -- a number text of whole part w behind m
-plain : (m w : List ℕ) → IsMinus m → IsWhole w → IsNumberText (m ++ w)
-plain m w p q = record { minus = m; whole = w; fraction = []; exponent = []; text = ap (λ z. m ++ z) (sym (append-nil w)); is_minus = p; is_whole = q; is_fraction = inl refl; is_exponent = inl refl }
+plain : (m w : List ℕ) → IsMinus m → IsInt w → IsNumberText (m ++ w)
+plain m w p q = record { minus = m; int = w; fraction = []; exponent = []; text = ap (λ z. m ++ z) (sym (append-nil w)); is_minus = p; is_int = q; is_fraction = inl refl; is_exponent = inl refl }
 
 -- the number texts
 
 pub numeral_1 : IsValue (nonneg 1) (codes "1")
 unfolding leaf
-numeral_1 = (plain [] (codes "1") (inl refl) (whole 49 [] (omega arith) (omega arith) refl), refl)
+numeral_1 = (plain [] (codes "1") (inl refl) (int 49 [] (omega arith) (omega arith) refl), refl)
 
 pub numeral_2 : IsValue (nonneg 2) (codes "2")
 unfolding leaf
-numeral_2 = (plain [] (codes "2") (inl refl) (whole 50 [] (omega arith) (omega arith) refl), refl)
+numeral_2 = (plain [] (codes "2") (inl refl) (int 50 [] (omega arith) (omega arith) refl), refl)
 
 largest : IsValue (nonneg 18446744073709551615) (codes "18446744073709551615")
 unfolding leaf
-largest = (plain [] (codes "18446744073709551615") (inl refl) (whole 49 (codes "8446744073709551615") (omega arith) (omega arith) refl), refl)
+largest = (plain [] (codes "18446744073709551615") (inl refl) (int 49 (codes "8446744073709551615") (omega arith) (omega arith) refl), refl)
 
 above_largest : IsValue (num (codes "18446744073709551616")) (codes "18446744073709551616")
 unfolding leaf
-above_largest = (plain [] (codes "18446744073709551616") (inl refl) (whole 49 (codes "8446744073709551616") (omega arith) (omega arith) refl), refl)
+above_largest = (plain [] (codes "18446744073709551616") (inl refl) (int 49 (codes "8446744073709551616") (omega arith) (omega arith) refl), refl)
 
 negated_zero : IsValue (neg (pos 0)) (codes "-0")
 unfolding leaf
@@ -58,23 +58,23 @@ negated_zero = (plain (codes "-") (codes "0") (inr refl) (inl (refl, refl)), ref
 
 smallest : IsValue (neg (negsuc 9223372036854775807)) (codes "-9223372036854775808")
 unfolding leaf
-smallest = (plain (codes "-") (codes "9223372036854775808") (inr refl) (whole 57 (codes "223372036854775808") (omega arith) (omega arith) refl), refl)
+smallest = (plain (codes "-") (codes "9223372036854775808") (inr refl) (int 57 (codes "223372036854775808") (omega arith) (omega arith) refl), refl)
 
 below_smallest : IsValue (num (codes "-9223372036854775809")) (codes "-9223372036854775809")
 unfolding leaf
-below_smallest = (plain (codes "-") (codes "9223372036854775809") (inr refl) (whole 57 (codes "223372036854775809") (omega arith) (omega arith) refl), refl)
+below_smallest = (plain (codes "-") (codes "9223372036854775809") (inr refl) (int 57 (codes "223372036854775809") (omega arith) (omega arith) refl), refl)
 
 fraction : IsValue (num (codes "1.50")) (codes "1.50")
 unfolding leaf
 fraction = (
   record {
     minus = [];
-    whole = codes "1";
+    int = codes "1";
     fraction = codes ".50";
     exponent = [];
     text = refl;
     is_minus = inl refl;
-    is_whole = whole 49 [] (omega arith) (omega arith) refl;
+    is_int = int 49 [] (omega arith) (omega arith) refl;
     is_fraction = inr (codes "50", refl, (omega arith, digits (codes "50") refl));
     is_exponent = inl refl;
   },
@@ -86,12 +86,12 @@ unfolding leaf
 exponent = (
   record {
     minus = [];
-    whole = codes "1";
+    int = codes "1";
     fraction = [];
     exponent = codes "e400";
     text = refl;
     is_minus = inl refl;
-    is_whole = whole 49 [] (omega arith) (omega arith) refl;
+    is_int = int 49 [] (omega arith) (omega arith) refl;
     is_fraction = inl refl;
     is_exponent = inr (101, [], codes "400", refl, inl refl, inl refl, (omega arith, digits (codes "400") refl));
   },
@@ -219,14 +219,14 @@ spelled_texts = record {
 -- ---- normal forms and compact texts
 
 last_stays_text : compact (members (member (codes "a") (nonneg 2) no_members)) ≡ codes "{\"a\":2}"
-unfolding quoted
+unfolding string_text
 last_stays_text = rw (decimal_digit 2 (omega arith)) refl
 
 list_text : compact (list (tree (nonneg 1) (tree (neg (pos 0)) (tree null no_trees)))) ≡ codes "[1,-0,null]"
 list_text = rw (decimal_digit 1 (omega arith), decimal_digit 0 (omega arith)) refl
 
 escaped_text : compact (str (97 ∷ 34 ∷ 92 ∷ 47 ∷ 10 ∷ 0x1F ∷ 0x7F ∷ [])) ≡ codes "\"a\\\"\\\\/\\n\\u001f" ++ 0x7F ∷ 34 ∷ []
-unfolding quoted
+unfolding string_text
 escaped_text = refl
 
 character_bytes : encode_utf8 0x1F600 ≡ 0xF0 ∷ 0x9F ∷ 0x98 ∷ 0x80 ∷ []

@@ -5,7 +5,7 @@ use Rattle.std.proofs.lemmas.Cmp.{nat_list_cmp_total, tied_itself}
 use Rattle.std.proofs.lemmas.Map.Lookups.{exact_bytes}
 use Rattle.std.proofs.lemmas.Slice.Eq.{bytes_eq-Decides}
 use Rattle.miniserde_model.specs.Tree.{Tree, Members, no_members, member}
-use Rattle.miniserde_model.specs.Normal.{text_cmp, placed, with_first, norm_by, norm_members_by, or_else, last_of, BeginsAbove, Rise}
+use Rattle.miniserde_model.specs.Normal.{text_cmp, with_first_by, with_first, norm_by, norm_members_by, or_else, last_of, BeginsAbove, Rise}
 
 abbrev if_same : List ℕ → List ℕ → Tree → Option Tree
 if_same name q t = cond (bytes_eq name q) (Some t) None
@@ -43,7 +43,7 @@ pub last_with_first : (q name : List ℕ) (t : Tree) (ms : Members) → last_of 
 last_with_first q name t no_members = refl
 last_with_first q name t (member other u ms) = go (text_cmp name other) refl (last_with_first q name t ms)
   where
-    go : (o : Ordering) → text_cmp name other ≡ o → last_of q (with_first name t ms) ≡ or_else (last_of q ms) (if_same name q t) → last_of q (placed o name t other u ms (with_first name t ms)) ≡ or_else (or_else (last_of q ms) (if_same other q u)) (if_same name q t)
+    go : (o : Ordering) → text_cmp name other ≡ o → last_of q (with_first name t ms) ≡ or_else (last_of q ms) (if_same name q t) → last_of q (with_first_by o name t other u ms (with_first name t ms)) ≡ or_else (or_else (last_of q ms) (if_same other q u)) (if_same name q t)
     go Less e more = refl
     go Equal e more =
         let same : name ≡ other = exact_bytes name other e in
@@ -67,7 +67,7 @@ above_with_first : (first name : List ℕ) (t : Tree) (ms : Members) → text_cm
 above_with_first first name t no_members p q = p
 above_with_first first name t (member other u ms) p q = go (text_cmp name other)
   where
-    go : (o : Ordering) → BeginsAbove first (placed o name t other u ms (with_first name t ms))
+    go : (o : Ordering) → BeginsAbove first (with_first_by o name t other u ms (with_first name t ms))
     go Less = p
     go Equal = q
     go Greater = q
@@ -76,7 +76,7 @@ pub rise_with_first : (name : List ℕ) (t : Tree) (ms : Members) → Rise ms �
 rise_with_first name t no_members h = (tt, tt)
 rise_with_first name t (member other u ms) h = go (text_cmp name other) refl (rise_with_first name t ms h.1)
   where
-    go : (o : Ordering) → text_cmp name other ≡ o → Rise (with_first name t ms) → Rise (placed o name t other u ms (with_first name t ms))
+    go : (o : Ordering) → text_cmp name other ≡ o → Rise (with_first name t ms) → Rise (with_first_by o name t other u ms (with_first name t ms))
     go Less e m = (e, h)
     go Equal e m = h
     go Greater e m = (above_with_first other name t ms (greater_less name other e) h.0, m)

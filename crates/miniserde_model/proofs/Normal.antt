@@ -3,7 +3,7 @@ use Rattle.std.proofs.Common.{◌≡◌, ℕ, ◌^◌, ◌≤◌, ℤ, pos, negs
 use Rattle.std.proofs.lemmas.Int.{ints}
 use Rattle.miniserde_model.specs.Tree.{Tree, null, truth, nonneg, neg, num, str, list, members, Trees, no_trees, tree, Members, no_members, member}
 use Rattle.miniserde_model.specs.IsTree.{IsTree, AreTrees, AreNamedTrees}
-use Rattle.miniserde_model.specs.Normal.{text_cmp, placed, with_first, norm_neg, norm_by, norm_children_by, norm_members_by, norm, norm_children, norm_members}
+use Rattle.miniserde_model.specs.Normal.{text_cmp, with_first_by, with_first, norm_neg, norm_by, norm_children_by, norm_members_by, norm, norm_children, norm_members}
 use Rattle.miniserde_model.proofs.Lookups.{last_with_first, norm_keeps_last, norm_rises}
 use Rattle.miniserde_model.proofs.OneNormal.{one_rising}
 
@@ -38,7 +38,7 @@ norm_twice = norm_after norm_neg norm_neg norm_neg neg_twice
 
 -- ---- a tree of Rust's values stays one
 
-trees_placed : (o : Ordering) (name : List ℕ) (t : Tree) (other : List ℕ) (u : Tree) (ms more : Members) → IsUtf8 name → IsTree t → AreNamedTrees (member other u ms) → AreNamedTrees more → AreNamedTrees (placed o name t other u ms more)
+trees_placed : (o : Ordering) (name : List ℕ) (t : Tree) (other : List ℕ) (u : Tree) (ms more : Members) → IsUtf8 name → IsTree t → AreNamedTrees (member other u ms) → AreNamedTrees more → AreNamedTrees (with_first_by o name t other u ms more)
 trees_placed Less name t other u ms more n h k m = (n, h, k)
 trees_placed Equal name t other u ms more n h k m = k
 trees_placed Greater name t other u ms more n h k m = (k.0, k.1, m)

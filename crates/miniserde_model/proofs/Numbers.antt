@@ -3,7 +3,7 @@ use Rattle.std.proofs.Common.{◌≡◌, ℕ, ◌⊎◌, true, List, [], ◌∷�
 use Rattle.std.specs.List.{AllByRecursion}
 use Rattle.std.proofs.lemmas.Bool.Decides.{nat_tests}
 use Rattle.miniserde_model.specs.Tree.{Tree}
-use Rattle.miniserde_model.specs.Number.{IsDigit, IsWhole, IsMinus, IsFraction, IsSign, IsExponent, IsNumberText, IsNumber, leaf}
+use Rattle.miniserde_model.specs.Number.{IsDigit, IsInt, IsMinus, IsFraction, IsSign, IsExponent, IsNumberText, IsNumber, leaf}
 use Rattle.miniserde_model.specs.Bytes.{is_number_byte, StopsAt}
 use Rattle.miniserde_model.proofs.Runs.{AllPass, same_run, pass_append}
 
@@ -14,7 +14,7 @@ digits_pass : (ds : List ℕ) → AllByRecursion IsDigit ds → AllPass is_numbe
 digits_pass [] h = tt
 digits_pass (c ∷ cs) h = (digit_byte c h.0, digits_pass cs h.1)
 
-whole_pass : (x : List ℕ) → IsWhole x → AllPass is_number_byte x
+whole_pass : (x : List ℕ) → IsInt x → AllPass is_number_byte x
 whole_pass [] h = absurd h
 whole_pass (c ∷ cs) (inl h) = rw (h.0, h.1) (refl, tt)
 whole_pass (c ∷ cs) (inr h) = (grind (arith, nat_tests), digits_pass cs h.1)
@@ -43,7 +43,7 @@ exponent_pass x (inr h) = rw h.3 (e_pass h.0 h.4, pass_append is_number_byte h.1
 pub number_pass : (x : List ℕ) → IsNumberText x → AllPass is_number_byte x
 number_pass x n =
     let tail = pass_append is_number_byte n.fraction n.exponent (fraction_pass n.fraction n.is_fraction) (exponent_pass n.exponent n.is_exponent) in
-    let more = pass_append is_number_byte n.whole (n.fraction ++ n.exponent) (whole_pass n.whole n.is_whole) tail in
+    let more = pass_append is_number_byte n.int (n.fraction ++ n.exponent) (whole_pass n.int n.is_int) tail in
     rw n.text (pass_append is_number_byte n.minus _ (minus_pass n.minus n.is_minus) more)
 
 pub same_number : (a b x y : List ℕ) (t u : Tree) → IsNumber a t → IsNumber b u → StopsAt is_number_byte x → StopsAt is_number_byte y → a ++ x ≡ b ++ y → (t ≡ u) × (x ≡ y)

@@ -4,13 +4,16 @@ use Rattle.miniserde_model.specs.Tree.{Tree, null, truth, nonneg, neg, num, str,
 use Rattle.miniserde_model.specs.String.{IsString}
 use Rattle.miniserde_model.specs.Whitespace.{IsWhitespace}
 use Rattle.miniserde_model.specs.Value.{Spaced, Named, IsValue, AreElements, AreMoreElements, AreMembers, AreMoreMembers, IsJson}
-use Rattle.miniserde_model.specs.Event.{Event, nothing, boolean, string, negative, nonnegative, float, seq, element, map, key, finish, events, child_events, member_events}
-use Rattle.miniserde_model.specs.Lexing.{Kind, in_list, in_members, IsName}
+use Rattle.miniserde_model.specs.Step.{Step, boolean, string, negative, nonnegative, float, seq, element, map, key, finish, events, child_events, member_events}
+use Rattle.miniserde_model.specs.Step as step
+use Rattle.miniserde_model.specs.Lexing.{IsName}
+use Rattle.miniserde_model.specs.declared.kind.Kind.{Kind}
+use Rattle.miniserde_model.specs.declared.kind.Kind.TheVariants.{Seq, Map}
 use Rattle.miniserde_model.specs.private.Reading.{due, first, after, Spells}
 
-pub record FoundValue (es : List Event) (st : List Kind) (b : List ℕ) : Type 0 where
+pub record FoundValue (es : List Step) (st : List Kind) (b : List ℕ) : Type 0 where
   pub found : Tree
-  pub left : List Event
+  pub left : List Step
   pub space : List ℕ
   pub value : List ℕ
   pub rest : List ℕ
@@ -20,9 +23,9 @@ pub record FoundValue (es : List Event) (st : List Kind) (b : List ℕ) : Type 0
   pub is_value : IsValue found value
   pub is_rest : Spells after left st rest
 
-pub record FoundElements (es : List Event) (st : List Kind) (b : List ℕ) : Type 0 where
+pub record FoundElements (es : List Step) (st : List Kind) (b : List ℕ) : Type 0 where
   found : Trees
-  left : List Event
+  left : List Step
   inside : List ℕ
   rest : List ℕ
   is : es ≡ child_events found ++ finish ∷ left
@@ -30,9 +33,9 @@ pub record FoundElements (es : List Event) (st : List Kind) (b : List ℕ) : Typ
   is_inside : AreElements found inside
   is_rest : Spells after left st rest
 
-pub record FoundMore (es : List Event) (st : List Kind) (b : List ℕ) : Type 0 where
+pub record FoundMore (es : List Step) (st : List Kind) (b : List ℕ) : Type 0 where
   found : Trees
-  left : List Event
+  left : List Step
   space : List ℕ
   more : List ℕ
   rest : List ℕ
@@ -42,9 +45,9 @@ pub record FoundMore (es : List Event) (st : List Kind) (b : List ℕ) : Type 0 
   is_more : AreMoreElements found more
   is_rest : Spells after left st rest
 
-pub record FoundMembers (es : List Event) (st : List Kind) (b : List ℕ) : Type 0 where
+pub record FoundMembers (es : List Step) (st : List Kind) (b : List ℕ) : Type 0 where
   found : Members
-  left : List Event
+  left : List Step
   inside : List ℕ
   rest : List ℕ
   is : es ≡ member_events found ++ finish ∷ left
@@ -52,9 +55,9 @@ pub record FoundMembers (es : List Event) (st : List Kind) (b : List ℕ) : Type
   is_inside : AreMembers found inside
   is_rest : Spells after left st rest
 
-pub record FoundMoreMembers (es : List Event) (st : List Kind) (b : List ℕ) : Type 0 where
+pub record FoundMoreMembers (es : List Step) (st : List Kind) (b : List ℕ) : Type 0 where
   found : Members
-  left : List Event
+  left : List Step
   space : List ℕ
   more : List ℕ
   rest : List ℕ
@@ -64,7 +67,7 @@ pub record FoundMoreMembers (es : List Event) (st : List Kind) (b : List ℕ) : 
   is_more : AreMoreMembers found more
   is_rest : Spells after left st rest
 
-shorter : (n : ℕ) (es : List Event) (st : List Kind) (b : List ℕ) (v : FoundValue es st b) → length es ≤ n → length v.left ≤ n
+shorter : (n : ℕ) (es : List Step) (st : List Kind) (b : List ℕ) (v : FoundValue es st b) → length es ≤ n → length v.left ≤ n
 shorter n es st b v h = omega (arith, ap length v.is, length-append (events v.found) v.left)
 
 padded : (t : Tree) (x v y : List ℕ) → IsWhitespace x → IsValue t v → IsWhitespace y → Spaced (IsValue t) (x ++ (v ++ y))
@@ -76,7 +79,7 @@ opened c z b space part rest inside more e p r = e ∙ ap (λ x. space ++ (x ++ 
 joined : (z : ℕ) (b x v r y m rest : List ℕ) → b ≡ x ++ (v ++ r) → r ≡ y ++ (m ++ z ∷ rest) → b ≡ ((x ++ (v ++ y)) ++ m) ++ z ∷ rest
 joined z b x v r y m rest e f = e ∙ ap (λ s. x ++ (v ++ s)) f ∙ simp append_assoc
 
-events_joined : (e : Event) (es fs gs hs left : List Event) → es ≡ fs ++ gs → gs ≡ hs ++ finish ∷ left → e ∷ es ≡ (e ∷ (fs ++ hs)) ++ finish ∷ left
+events_joined : (e : Step) (es fs gs hs left : List Step) → es ≡ fs ++ gs → gs ≡ hs ++ finish ∷ left → e ∷ es ≡ (e ∷ (fs ++ hs)) ++ finish ∷ left
 events_joined e es fs gs hs left p q = ap (λ z. e ∷ z) (p ∙ ap (λ z. fs ++ z) q ∙ sym (append_assoc fs hs (finish ∷ left)))
 
 named : {V : List ℕ → Type 0} (name x part y : List ℕ) → IsWhitespace x → IsName name part → Spaced V y → (m : List ℕ) × (Named (λ n. IsString n name) V m) × (m ≡ x ++ (part ++ y))
@@ -97,8 +100,8 @@ comma_text : (b space part rest tail : List ℕ) → b ≡ space ++ (part ++ res
 comma_text b space part rest tail e p r = e ∙ ap (λ z. space ++ (z ++ rest)) p ∙ ap (λ z. space ++ (44 ∷ z)) r
 
 mutual
-  pub find_value : (n : ℕ) (es : List Event) (st : List Kind) (b : List ℕ) → length es ≤ n → Spells due es st b → FoundValue es st b
-  find_value n (nothing ∷ es) st b h p = record { found = null; left = es; space = p.space; value = p.part; rest = p.rest; is = refl; text = p.text; is_space = p.is_space; is_value = p.is_part; is_rest = p.is_rest }
+  pub find_value : (n : ℕ) (es : List Step) (st : List Kind) (b : List ℕ) → length es ≤ n → Spells due es st b → FoundValue es st b
+  find_value n (step.null ∷ es) st b h p = record { found = null; left = es; space = p.space; value = p.part; rest = p.rest; is = refl; text = p.text; is_space = p.is_space; is_value = p.is_part; is_rest = p.is_rest }
   find_value n (boolean x ∷ es) st b h p = record { found = truth x; left = es; space = p.space; value = p.part; rest = p.rest; is = refl; text = p.text; is_space = p.is_space; is_value = p.is_part; is_rest = p.is_rest }
   find_value n (string s ∷ es) st b h p = record { found = str s; left = es; space = p.space; value = p.part; rest = p.rest; is = refl; text = p.text; is_space = p.is_space; is_value = p.is_part; is_rest = p.is_rest }
   find_value n (negative z ∷ es) st b h p = record { found = neg z; left = es; space = p.space; value = p.part; rest = p.rest; is = refl; text = p.text; is_space = p.is_space; is_value = p.is_part; is_rest = p.is_rest }
@@ -114,19 +117,19 @@ mutual
   find_value zero (map ∷ es) st b h p = absurd (omega arith)
   find_value n _ st b h p = absurd p
 
-  find_elements : (n : ℕ) (es : List Event) (st : List Kind) (b : List ℕ) → length es ≤ n → Spells first es (in_list ∷ st) b → FoundElements es st b
+  find_elements : (n : ℕ) (es : List Step) (st : List Kind) (b : List ℕ) → length es ≤ n → Spells first es (Seq ∷ st) b → FoundElements es st b
   find_elements n (finish ∷ es) st b h p = record { found = no_trees; left = es; inside = p.space; rest = p.rest; is = refl; text = p.text ∙ ap (λ z. p.space ++ (z ++ p.rest)) p.is_part; is_inside = p.is_space; is_rest = p.is_rest }
   find_elements (suc n) (element ∷ es) st b h p =
-      let v = find_value n es (in_list ∷ st) b (omega arith) p in
+      let v = find_value n es (Seq ∷ st) b (omega arith) p in
       let m = find_more n v.left st v.rest (shorter n es _ b v (omega arith)) v.is_rest in
       record { found = tree v.found m.found; left = m.left; inside = (v.space ++ (v.value ++ m.space)) ++ m.more; rest = m.rest; is = events_joined element es (events v.found) v.left (child_events m.found) m.left v.is m.is; text = joined 93 b v.space v.value v.rest m.space m.more m.rest v.text m.text; is_inside = record { first = v.space ++ (v.value ++ m.space); rest = m.more; text = refl; is_first = padded v.found v.space v.value m.space v.is_space v.is_value m.is_space; is_rest = m.is_more }; is_rest = m.is_rest }
   find_elements zero (element ∷ es) st b h p = absurd (omega arith)
   find_elements n _ st b h p = absurd p
 
-  find_more : (n : ℕ) (es : List Event) (st : List Kind) (b : List ℕ) → length es ≤ n → Spells after es (in_list ∷ st) b → FoundMore es st b
+  find_more : (n : ℕ) (es : List Step) (st : List Kind) (b : List ℕ) → length es ≤ n → Spells after es (Seq ∷ st) b → FoundMore es st b
   find_more n (finish ∷ es) st b h p = record { found = no_trees; left = es; space = p.space; more = []; rest = p.rest; is = refl; text = p.text ∙ ap (λ z. p.space ++ (z ++ p.rest)) p.is_part; is_space = p.is_space; is_more = refl; is_rest = p.is_rest }
   find_more (suc n) (element ∷ es) st b h p =
-      let v = find_value n es (in_list ∷ st) p.rest (omega arith) p.is_rest in
+      let v = find_value n es (Seq ∷ st) p.rest (omega arith) p.is_rest in
       let m = find_more n v.left st v.rest (shorter n es _ p.rest v (omega arith)) v.is_rest in
       let c = (v.space ++ (v.value ++ m.space)) ++ m.more in
       let tail : p.rest ≡ c ++ 93 ∷ m.rest = joined 93 p.rest v.space v.value v.rest m.space m.more m.rest v.text m.text in
@@ -134,21 +137,21 @@ mutual
   find_more zero (element ∷ es) st b h p = absurd (omega arith)
   find_more n _ st b h p = absurd p
 
-  find_members : (n : ℕ) (es : List Event) (st : List Kind) (b : List ℕ) → length es ≤ n → Spells first es (in_members ∷ st) b → FoundMembers es st b
+  find_members : (n : ℕ) (es : List Step) (st : List Kind) (b : List ℕ) → length es ≤ n → Spells first es (Map ∷ st) b → FoundMembers es st b
   find_members n (finish ∷ es) st b h p = record { found = no_members; left = es; inside = p.space; rest = p.rest; is = refl; text = p.text ∙ ap (λ z. p.space ++ (z ++ p.rest)) p.is_part; is_inside = p.is_space; is_rest = p.is_rest }
   find_members (suc n) (key s ∷ es) st b h p =
-      let v = find_value n es (in_members ∷ st) p.rest (omega arith) p.is_rest in
+      let v = find_value n es (Map ∷ st) p.rest (omega arith) p.is_rest in
       let m = find_more_members n v.left st v.rest (shorter n es _ p.rest v (omega arith)) v.is_rest in
       let d = named s p.space p.part (v.space ++ (v.value ++ m.space)) p.is_space p.is_part (padded v.found v.space v.value m.space v.is_space v.is_value m.is_space) in
       record { found = member s v.found m.found; left = m.left; inside = d.0 ++ m.more; rest = m.rest; is = events_joined (key s) es (events v.found) v.left (member_events m.found) m.left v.is m.is; text = joined_member 125 b p.space p.part p.rest d.0 v.space v.value v.rest m.space m.more m.rest p.text d.2 v.text m.text; is_inside = record { first = d.0; rest = m.more; text = refl; is_first = d.1; is_rest = m.is_more }; is_rest = m.is_rest }
   find_members zero (key s ∷ es) st b h p = absurd (omega arith)
   find_members n _ st b h p = absurd p
 
-  find_more_members : (n : ℕ) (es : List Event) (st : List Kind) (b : List ℕ) → length es ≤ n → Spells after es (in_members ∷ st) b → FoundMoreMembers es st b
+  find_more_members : (n : ℕ) (es : List Step) (st : List Kind) (b : List ℕ) → length es ≤ n → Spells after es (Map ∷ st) b → FoundMoreMembers es st b
   find_more_members n (finish ∷ es) st b h p = record { found = no_members; left = es; space = p.space; more = []; rest = p.rest; is = refl; text = p.text ∙ ap (λ z. p.space ++ (z ++ p.rest)) p.is_part; is_space = p.is_space; is_more = refl; is_rest = p.is_rest }
   find_more_members (suc n) (key s ∷ es) st b h q =
       let p = q.is_rest in
-      let v = find_value n es (in_members ∷ st) p.rest (omega arith) p.is_rest in
+      let v = find_value n es (Map ∷ st) p.rest (omega arith) p.is_rest in
       let m = find_more_members n v.left st v.rest (shorter n es _ p.rest v (omega arith)) v.is_rest in
       let d = named s p.space p.part (v.space ++ (v.value ++ m.space)) p.is_space p.is_part (padded v.found v.space v.value m.space v.is_space v.is_value m.is_space) in
       let tail : q.rest ≡ (d.0 ++ m.more) ++ 125 ∷ m.rest = joined_member 125 q.rest p.space p.part p.rest d.0 v.space v.value v.rest m.space m.more m.rest p.text d.2 v.text m.text in
@@ -156,16 +159,16 @@ mutual
   find_more_members zero (key s ∷ es) st b h p = absurd (omega arith)
   find_more_members n _ st b h p = absurd p
 
-pub nothing_left : (es : List Event) (b : List ℕ) → Spells after es [] b → (es ≡ []) × IsWhitespace b
+pub nothing_left : (es : List Step) (b : List ℕ) → Spells after es [] b → (es ≡ []) × IsWhitespace b
 nothing_left [] b p = (refl, p)
 nothing_left (e ∷ es) b p = absurd (go e p)
   where
-    go : (d : Event) → Spells after (d ∷ es) [] b → ⊥
+    go : (d : Step) → Spells after (d ∷ es) [] b → ⊥
     go element q = q
     go _ q = q
 
 -- what spells a list of events spells a tree, of which they are the events
-pub spells_json : (es : List Event) (b : List ℕ) → Spells due es [] b → (t : Tree) × (es ≡ events t) × IsJson b t
+pub spells_json : (es : List Step) (b : List ℕ) → Spells due es [] b → (t : Tree) × (es ≡ events t) × IsJson b t
 spells_json es b p =
     let v = find_value (length es) es [] b (omega arith) p in
     let end = nothing_left v.left v.rest v.is_rest in

@@ -5,14 +5,16 @@ use Rattle.std.specs.Char.{digit_value}
 use Rattle.std.proofs.lemmas.Str.{char_from_byte}
 use lib.Utf8.{scalar_cases}
 use Rattle.miniserde_model.specs.Tree.{Tree, nonneg, neg, num, str, list}
-use Rattle.miniserde_model.specs.Number.{IsDigit, IsWhole, IsMinus, IsFraction, IsExponent, IsNumberText}
+use Rattle.miniserde_model.specs.Number.{IsDigit, IsInt, IsMinus, IsFraction, IsExponent, IsNumberText}
 use Rattle.miniserde_model.specs.String.{quote, IsShort, IsRaw, IsPiece, raw, short, unit, pair, ArePieces, IsString}
 use Rattle.miniserde_model.specs.Whitespace.{IsWhitespace}
 use Rattle.miniserde_model.specs.Value.{IsValue, IsJson, HasNoTree}
 use Rattle.miniserde_model.specs.Bytes.{is_space, is_number_byte, StopsAt}
-use Rattle.miniserde_model.specs.Event.{Event, element, finish, child_events}
-use Rattle.miniserde_model.specs.Lexing.{Kind, in_list, IsByte}
-use Rattle.miniserde_model.specs.private.Reading.{due, first, after, Front, Spells}
+use Rattle.miniserde_model.specs.Step.{Step, element, finish, child_events}
+use Rattle.miniserde_model.specs.Lexing.{IsByte}
+use Rattle.miniserde_model.specs.declared.kind.Kind.{Kind}
+use Rattle.miniserde_model.specs.declared.kind.Kind.TheVariants.{Seq}
+use Rattle.miniserde_model.specs.private.Reading.{due, first, after, StandsThen, Spells}
 use Rattle.miniserde_model.specs.Examples.{RefusedTexts}
 use Rattle.miniserde_model.proofs.Runs.{AllPass, same_run}
 use Rattle.miniserde_model.proofs.Prefixes.{whitespace_passes, space_ends_number}
@@ -87,15 +89,15 @@ no_digit_behind c r f x (inr h) q d e =
     let same : c ≡ 46 = cc in
     omega arith
 
-zero_whole : (c : ℕ) (r w y : List ℕ) → IsWhole w → 48 ∷ c ∷ r ≡ w ++ y → c ∷ r ≡ y
+zero_whole : (c : ℕ) (r w y : List ℕ) → IsInt w → 48 ∷ c ∷ r ≡ w ++ y → c ∷ r ≡ y
 zero_whole c r [] y p e = absurd p
 zero_whole c r (d ∷ ds) y (inl h) e = let f : c ∷ r ≡ ds ++ y = cc in f ∙ ap (λ z. z ++ y) h.1
 zero_whole c r (d ∷ ds) y (inr h) e = let same : 48 ≡ d = cc in absurd (omega arith)
 
 zero_alone : (c : ℕ) (r : List ℕ) → IsDigit c → IsNumberText (48 ∷ c ∷ r) → ⊥
 zero_alone c r d n =
-    let e = unsigned 48 (c ∷ r) n.minus (n.whole ++ (n.fraction ++ n.exponent)) n.is_minus (λ k. omega arith) n.text in
-    no_digit_behind c r n.fraction n.exponent n.is_fraction n.is_exponent d (zero_whole c r n.whole (n.fraction ++ n.exponent) n.is_whole e)
+    let e = unsigned 48 (c ∷ r) n.minus (n.int ++ (n.fraction ++ n.exponent)) n.is_minus (λ k. omega arith) n.text in
+    no_digit_behind c r n.fraction n.exponent n.is_fraction n.is_exponent d (zero_whole c r n.int (n.fraction ++ n.exponent) n.is_int e)
 
 leading_zero : HasNoTree (codes "01")
 leading_zero t p = zero_alone 49 [] (omega arith, omega arith) (whole_number 48 (codes "1") t refl (refl, (refl, tt)) p)
@@ -114,7 +116,7 @@ point_behind : (ds y : List ℕ) → AllByRecursion IsDigit ds → 46 ∷ [] ≡
 point_behind [] y h e = e
 point_behind (d ∷ ds) y h e = let same : 46 ≡ d = cc in absurd (omega (arith, h.0.0))
 
-one_point : (w y : List ℕ) → IsWhole w → 49 ∷ 46 ∷ [] ≡ w ++ y → 46 ∷ [] ≡ y
+one_point : (w y : List ℕ) → IsInt w → 49 ∷ 46 ∷ [] ≡ w ++ y → 46 ∷ [] ≡ y
 one_point [] y p e = absurd p
 one_point (d ∷ ds) y (inl h) e = let same : ◌≡◌ {A = ℕ} 49 d = cc in absurd (omega arith)
 one_point (d ∷ ds) y (inr h) e = let f : 46 ∷ [] ≡ ds ++ y = cc in point_behind ds y h.1 f
@@ -122,12 +124,12 @@ one_point (d ∷ ds) y (inr h) e = let f : 46 ∷ [] ≡ ds ++ y = cc in point_b
 no_fraction_digits : HasNoTree (codes "1.")
 no_fraction_digits t p =
     let n = whole_number 49 (codes ".") t refl (refl, (refl, tt)) p in
-    let e = unsigned 49 (codes ".") n.minus (n.whole ++ (n.fraction ++ n.exponent)) n.is_minus (λ k. omega arith) n.text in
-    lone_point n.fraction n.exponent n.is_fraction n.is_exponent (one_point n.whole (n.fraction ++ n.exponent) n.is_whole e)
+    let e = unsigned 49 (codes ".") n.minus (n.int ++ (n.fraction ++ n.exponent)) n.is_minus (λ k. omega arith) n.text in
+    lone_point n.fraction n.exponent n.is_fraction n.is_exponent (one_point n.int (n.fraction ++ n.exponent) n.is_int e)
 
 -- lists, one byte or value after another
 
-front_byte : (c d : ℕ) (r : List ℕ) (K : List ℕ → Type 0) → is_space c ≡ false → is_space d ≡ false → Front (IsByte d) K (c ∷ r) → (c ≡ d) × K r
+front_byte : (c d : ℕ) (r : List ℕ) (K : List ℕ → Type 0) → is_space c ≡ false → is_space d ≡ false → StandsThen (IsByte d) K (c ∷ r) → (c ≡ d) × K r
 front_byte c d r K hc hd p =
     let stop : StopsAt is_space (p.part ++ p.rest) = rw (p.is_part) hd in
     let split = same_run is_space [] p.space (c ∷ r) (p.part ++ p.rest) tt (whitespace_passes p.space p.is_space) hc stop p.text in
@@ -135,42 +137,42 @@ front_byte c d r K hc hd p =
     let rest : r ≡ p.rest = cc in
     (cc, subst K (sym rest) p.is_rest)
 
-no_value_due : (c : ℕ) (r : List ℕ) (es : List Event) (st : List Kind) → is_space c ≡ false → kind_of_byte c ≡ 7 → Spells due es st (c ∷ r) → ⊥
+no_value_due : (c : ℕ) (r : List ℕ) (es : List Step) (st : List Kind) → is_space c ≡ false → kind_of_byte c ≡ 7 → Spells due es st (c ∷ r) → ⊥
 no_value_due c r es st s k p =
     let v = find_value (length es) es st (c ∷ r) (omega arith) p in
     let split = same_run is_space [] v.space (c ∷ r) (v.value ++ v.rest) tt (whitespace_passes v.space v.is_space) s ((value_heads v.found).no_space v.value v.rest v.is_value) v.text in
     omega (arith, k, value_kind v.found c r v.value v.rest v.is_value split.1, kind_below v.found)
 
-opened : (r : List ℕ) (t : Tree) → 5 ≡ kind t → IsJson (91 ∷ r) t → (es : List Event) × Spells first es (in_list ∷ []) r
+opened : (r : List ℕ) (t : Tree) → 5 ≡ kind t → IsJson (91 ∷ r) t → (es : List Step) × Spells first es (Seq ∷ []) r
 opened r (list ts) k p = (child_events ts ++ finish ∷ [], (front_byte 91 91 r _ refl refl (json_spells (91 ∷ r) (list ts) p)).1)
 opened r _ k p = absurd (omega arith)
 
 -- behind `[`
-list_opened : (r : List ℕ) (t : Tree) → IsJson (91 ∷ r) t → (es : List Event) × Spells first es (in_list ∷ []) r
+list_opened : (r : List ℕ) (t : Tree) → IsJson (91 ∷ r) t → (es : List Step) × Spells first es (Seq ∷ []) r
 list_opened r t p = opened r t (at_front 91 r t refl p).of_kind p
 
 -- a byte that is no `]` begins an element
-element_first : (c : ℕ) (r : List ℕ) (es : List Event) (st : List Kind) → is_space c ≡ false → (c ≡ 93 → ⊥) → Spells first es (in_list ∷ st) (c ∷ r) → (left : List Event) × Spells due left (in_list ∷ st) (c ∷ r)
+element_first : (c : ℕ) (r : List ℕ) (es : List Step) (st : List Kind) → is_space c ≡ false → (c ≡ 93 → ⊥) → Spells first es (Seq ∷ st) (c ∷ r) → (left : List Step) × Spells due left (Seq ∷ st) (c ∷ r)
 element_first c r (element ∷ es) st s n p = (es, p)
 element_first c r (finish ∷ es) st s n p = absurd (n (front_byte c 93 r _ s refl p).0)
 element_first c r _ st s n p = absurd p
 
-comma_after : (r : List ℕ) (es : List Event) (st : List Kind) → Spells after es (in_list ∷ st) (44 ∷ r) → (left : List Event) × Spells due left (in_list ∷ st) r
+comma_after : (r : List ℕ) (es : List Step) (st : List Kind) → Spells after es (Seq ∷ st) (44 ∷ r) → (left : List Step) × Spells due left (Seq ∷ st) r
 comma_after r (element ∷ es) st p = (es, (front_byte 44 44 r _ refl refl p).1)
 comma_after r (finish ∷ es) st p = let same : ◌≡◌ {A = ℕ} 44 93 = (front_byte 44 93 r _ refl refl p).0 in absurd (omega arith)
 comma_after r _ st p = absurd p
 
 -- a value and a comma
-value_comma : (t : Tree) (b r : List ℕ) (es : List Event) (st : List Kind) → IsValue t b → Spells due es (in_list ∷ st) (b ++ 44 ∷ r) → (left : List Event) × Spells due left (in_list ∷ st) r
+value_comma : (t : Tree) (b r : List ℕ) (es : List Step) (st : List Kind) → IsValue t b → Spells due es (Seq ∷ st) (b ++ 44 ∷ r) → (left : List Step) × Spells due left (Seq ∷ st) r
 value_comma t b r es st v p =
-    let f = forced_value t es (in_list ∷ st) (b ++ 44 ∷ r) (record { space = []; part = b; rest = 44 ∷ r; text = refl; is_space = tt; is_part = v; is_rest = refl }) p in
+    let f = forced_value t es (Seq ∷ st) (b ++ 44 ∷ r) (record { space = []; part = b; rest = 44 ∷ r; text = refl; is_space = tt; is_part = v; is_rest = refl }) p in
     comma_after r f.0 st f.2
 
 wrong_bracket : HasNoTree (codes "[}")
 wrong_bracket t p =
     let inside = list_opened (codes "}") t p in
     let f = element_first 125 [] inside.0 [] refl (λ e. omega arith) inside.1 in
-    no_value_due 125 [] f.0 (in_list ∷ []) refl refl f.1
+    no_value_due 125 [] f.0 (Seq ∷ []) refl refl f.1
 
 last_comma : HasNoTree (codes "[1,2,]")
 last_comma t p =
@@ -178,7 +180,7 @@ last_comma t p =
     let at_1 = element_first 49 (codes ",2,]") inside.0 [] refl (λ e. omega arith) inside.1 in
     let at_2 = value_comma (nonneg 1) (codes "1") (codes "2,]") at_1.0 [] numeral_1 at_1.1 in
     let at_end = value_comma (nonneg 2) (codes "2") (codes "]") at_2.0 [] numeral_2 at_2.1 in
-    no_value_due 93 [] at_end.0 (in_list ∷ []) refl refl at_end.1
+    no_value_due 93 [] at_end.0 (Seq ∷ []) refl refl at_end.1
 
 -- strings
 

@@ -9,11 +9,11 @@ use Rattle.std.proofs.lemmas.List.Concat.{flat_map-append}
 use Rattle.std.proofs.lemmas.Str.{encode_ascii, length-encode, len_utf8_bounds}
 use Rattle.std.proofs.lemmas.Str.Parse.{IsNumeralModel, numerals_by_value}
 use Rattle.miniserde_model.specs.Tree.{Tree, null, truth, nonneg, neg, num, str, list, members, Trees, no_trees, tree, Members, no_members, member}
-use Rattle.miniserde_model.specs.Number.{IsDigit, IsWhole, IsFraction, IsExponent, IsNumberText, IsNumber, is_plain, begins_minus}
+use Rattle.miniserde_model.specs.Number.{IsDigit, IsInt, IsFraction, IsExponent, IsNumberText, IsNumber, is_plain, begins_minus}
 use Rattle.miniserde_model.specs.String.{IsRaw, IsShort, quote, backslash, slash, backspace, form_feed, line_feed, carriage_return, tab, IsPiece, raw, short, unit, pair, ArePieces, IsString}
 use Rattle.miniserde_model.specs.Value.{Spaced, Named, Then, IsValue, AreElements, AreMoreElements, AreMembers, AreMoreMembers, IsJson}
-use Rattle.miniserde_model.specs.Compact.{escaped, quoted, compact, compact_children, compact_more, compact_members, compact_more_members}
-use Rattle.miniserde_model.specs.Normal.{text_cmp, placed, with_first, norm_neg, norm, norm_children, norm_members}
+use Rattle.miniserde_model.specs.Compact.{escape_text, string_text, compact, compact_children, compact_more, compact_members, compact_more_members}
+use Rattle.miniserde_model.specs.Normal.{text_cmp, with_first_by, with_first, norm_neg, norm, norm_children, norm_members}
 use Rattle.miniserde_model.proofs.Accepted.{tells}
 use Rattle.miniserde_model.proofs.Written.{raw_text, high_stays, low_stays}
 
@@ -38,34 +38,34 @@ no_exponent x (inr h) e = absurd (elim h.4 [
   | inr u ↦ true≢false (sym e ∙ ap is_plain (h.3 ∙ ap (λ c. c ∷ (h.1 ++ h.2)) u))
 ])
 
-plain_text : (b : List ℕ) (p : IsNumberText b) → is_plain b ≡ true → b ≡ p.minus ++ p.whole
+plain_text : (b : List ℕ) (p : IsNumberText b) → is_plain b ≡ true → b ≡ p.minus ++ p.int
 plain_text b p e =
-    let tail : is_plain (p.fraction ++ p.exponent) ≡ true = plain_end p.whole _ (plain_end p.minus _ (ap is_plain (sym p.text) ∙ e)) in
+    let tail : is_plain (p.fraction ++ p.exponent) ≡ true = plain_end p.int _ (plain_end p.minus _ (ap is_plain (sym p.text) ∙ e)) in
     let f : p.fraction ≡ [] = no_fraction p.fraction p.is_fraction (plain_front p.fraction p.exponent tail) in
     let x : p.exponent ≡ [] = no_exponent p.exponent p.is_exponent (plain_end p.fraction p.exponent tail) in
-    p.text ∙ ap (λ z. p.minus ++ (p.whole ++ z)) (ap₂ (λ (u v : List ℕ). u ++ v) f x) ∙ ap (λ z. p.minus ++ z) (append-nil p.whole)
+    p.text ∙ ap (λ z. p.minus ++ (p.int ++ z)) (ap₂ (λ (u v : List ℕ). u ++ v) f x) ∙ ap (λ z. p.minus ++ z) (append-nil p.int)
 
 digits_own : IsNumeralModel (AllByRecursion IsDigit) (digits_value 10)
 digits_own = numerals_by_value (AllByRecursion IsDigit) (search rules)
 
-whole_digits : (w : List ℕ) → IsWhole w → AllByRecursion IsDigit w
+whole_digits : (w : List ℕ) → IsInt w → AllByRecursion IsDigit w
 whole_digits [] h = absurd h
 whole_digits (c ∷ cs) (inl h) = rw (h.0, h.1) ((omega arith, omega arith), tt)
 whole_digits (c ∷ cs) (inr h) = ((omega arith, omega arith), h.1)
 
-whole_leads : (w : List ℕ) → IsWhole w → (get_or w 0 0 ≡ 48 → length w ≡ 1)
+whole_leads : (w : List ℕ) → IsInt w → (get_or w 0 0 ≡ 48 → length w ≡ 1)
 whole_leads [] h e = absurd h
 whole_leads (c ∷ cs) (inl h) e = rw (h.1) refl
 whole_leads (c ∷ cs) (inr h) e = absurd (omega arith)
 
-whole_some : (w : List ℕ) → IsWhole w → 0 < length w
+whole_some : (w : List ℕ) → IsInt w → 0 < length w
 whole_some [] h = absurd h
 whole_some (c ∷ cs) h = omega arith
 
-whole_decimal : (w : List ℕ) → IsWhole w → digits_value 10 w < 2 ^ 64 → decimal (digits_value 10 w) ≡ w
+whole_decimal : (w : List ℕ) → IsInt w → digits_value 10 w < 2 ^ 64 → decimal (digits_value 10 w) ≡ w
 whole_decimal w h l = decimal-digits_value digits_own w (whole_digits w h) (whole_some w h) (whole_leads w h) l
 
-whole_no_minus : (w rest : List ℕ) → IsWhole w → begins_minus (w ++ rest) ≡ false
+whole_no_minus : (w rest : List ℕ) → IsInt w → begins_minus (w ++ rest) ≡ false
 whole_no_minus [] rest h = absurd h
 whole_no_minus (c ∷ cs) rest (inl h) = grind (arith, nat_tests)
 whole_no_minus (c ∷ cs) rest (inr h) = grind (arith, nat_tests)
@@ -76,10 +76,10 @@ nonneg_text b n p =
     let t = plain_text b p.0 l.plain in
     elim p.0.is_minus [
       | inl none ↦
-          let w : b ≡ p.0.whole = t ∙ ap (λ z. z ++ p.0.whole) none in
-          let small : digits_value 10 p.0.whole < 2 ^ 64 = omega (arith, l.small, l.value, ap (digits_value 10) w) in
-          ap decimal (l.value ∙ ap (digits_value 10) w) ∙ whole_decimal p.0.whole p.0.is_whole small ∙ sym w
-      | inr sign ↦ absurd (true≢false (sym (ap begins_minus (t ∙ ap (λ z. z ++ p.0.whole) sign)) ∙ l.bare))
+          let w : b ≡ p.0.int = t ∙ ap (λ z. z ++ p.0.int) none in
+          let small : digits_value 10 p.0.int < 2 ^ 64 = omega (arith, l.small, l.value, ap (digits_value 10) w) in
+          ap decimal (l.value ∙ ap (digits_value 10) w) ∙ whole_decimal p.0.int p.0.is_int small ∙ sym w
+      | inr sign ↦ absurd (true≢false (sym (ap begins_minus (t ∙ ap (λ z. z ++ p.0.int) sign)) ∙ l.bare))
     ]
 
 abs_negated : (n : ℕ) → unsigned_abs (neg_ℤ (pos n)) ≡ n
@@ -91,32 +91,32 @@ neg_text b z p =
     let l = tells b (neg z) p in
     let t = plain_text b p.0 l.plain in
     elim p.0.is_minus [
-      | inl none ↦ absurd (true≢false (sym l.minus ∙ ap begins_minus (t ∙ ap (λ y. y ++ p.0.whole) none ∙ sym (append-nil p.0.whole)) ∙ whole_no_minus p.0.whole [] p.0.is_whole))
+      | inl none ↦ absurd (true≢false (sym l.minus ∙ ap begins_minus (t ∙ ap (λ y. y ++ p.0.int) none ∙ sym (append-nil p.0.int)) ∙ whole_no_minus p.0.int [] p.0.is_int))
       | inr sign ↦
-          let w : b ≡ 45 ∷ p.0.whole = t ∙ ap (λ y. y ++ p.0.whole) sign in
-          let v : digits_value 10 (drop 1 b) ≡ digits_value 10 p.0.whole = ap (λ y. digits_value 10 (drop 1 y)) w in
-          let small : digits_value 10 p.0.whole < 2 ^ 64 = omega (arith, l.small, v) in
-          ap (λ y. 45 ∷ decimal y) (ap unsigned_abs l.value ∙ abs_negated _ ∙ v) ∙ ap (λ y. 45 ∷ y) (whole_decimal p.0.whole p.0.is_whole small) ∙ sym w
+          let w : b ≡ 45 ∷ p.0.int = t ∙ ap (λ y. y ++ p.0.int) sign in
+          let v : digits_value 10 (drop 1 b) ≡ digits_value 10 p.0.int = ap (λ y. digits_value 10 (drop 1 y)) w in
+          let small : digits_value 10 p.0.int < 2 ^ 64 = omega (arith, l.small, v) in
+          ap (λ y. 45 ∷ decimal y) (ap unsigned_abs l.value ∙ abs_negated _ ∙ v) ∙ ap (λ y. 45 ∷ y) (whole_decimal p.0.int p.0.is_int small) ∙ sym w
     ]
 
 -- ---- strings
 
-escaped_len : (x : ℕ) → length (escaped x) ≤ 6
+escaped_len : (x : ℕ) → length (escape_text x) ≤ 6
 escaped_len x = grind (arith, nat_tests)
 
-char_len : (c : ℕ) → length (flat_map escaped (encode_utf8 c)) ≤ 6
+char_len : (c : ℕ) → length (flat_map escape_text (encode_utf8 c)) ≤ 6
 char_len c = elim (cases_lt c 128) [
   | inl small ↦ rw (low_stays c small) (escaped_len c)
   | inr big ↦ rw (high_stays c big) (omega (arith, length-encode c, len_utf8_bounds c))
 ]
 
-raw_len : (b : List ℕ) (c : ℕ) → IsRaw b c → length (flat_map escaped (encode_utf8 c)) ≤ length b
+raw_len : (b : List ℕ) (c : ℕ) → IsRaw b c → length (flat_map escape_text (encode_utf8 c)) ≤ length b
 raw_len b c p = elim (cases_lt c 128) [
   | inl small ↦ rw (low_stays c small, raw_text c p.printable p.not_quote p.not_backslash, p.text, encode_ascii c small) (omega arith)
   | inr big ↦ rw (high_stays c big, p.text) (omega arith)
 ]
 
-short_len : (l c : ℕ) → IsShort l c → length (flat_map escaped (encode_utf8 c)) ≤ 2
+short_len : (l c : ℕ) → IsShort l c → length (flat_map escape_text (encode_utf8 c)) ≤ 2
 short_len l c quote = rw (low_stays 34 (omega arith)) (omega arith)
 short_len l c backslash = rw (low_stays 92 (omega arith)) (omega arith)
 short_len l c slash = rw (low_stays 47 (omega arith)) (omega arith)
@@ -126,22 +126,22 @@ short_len l c line_feed = rw (low_stays 10 (omega arith)) (omega arith)
 short_len l c carriage_return = rw (low_stays 13 (omega arith)) (omega arith)
 short_len l c tab = rw (low_stays 9 (omega arith)) (omega arith)
 
-piece_len : (b : List ℕ) (c : ℕ) → IsPiece b c → length (flat_map escaped (encode_utf8 c)) ≤ length b
+piece_len : (b : List ℕ) (c : ℕ) → IsPiece b c → length (flat_map escape_text (encode_utf8 c)) ≤ length b
 piece_len b c (raw p) = raw_len b c p
 piece_len b c (short l s t) = rw t (short_len l c s)
 piece_len b c (unit s p) = rw (p.text) (char_len c)
 piece_len b c (pair p) = omega (arith, char_len c, ap length p.text, length-append p.first p.second, ap length p.is_first.text, ap length p.is_second.text)
 
-pieces_len : (cs b : List ℕ) → ArePieces b cs → length (flat_map escaped (encode_utf8_all cs)) ≤ length b
+pieces_len : (cs b : List ℕ) → ArePieces b cs → length (flat_map escape_text (encode_utf8_all cs)) ≤ length b
 pieces_len [] b p = omega arith
 pieces_len (c ∷ cs) b p =
-    omega (arith, ap length (flat_map-append escaped (encode_utf8 c) (encode_utf8_all cs)), length-append (flat_map escaped (encode_utf8 c)) (flat_map escaped (encode_utf8_all cs)), piece_len p.0 c p.3, pieces_len cs p.1 p.4, ap length p.2, length-append p.0 p.1)
+    omega (arith, ap length (flat_map-append escape_text (encode_utf8 c) (encode_utf8_all cs)), length-append (flat_map escape_text (encode_utf8 c)) (flat_map escape_text (encode_utf8_all cs)), piece_len p.0 c p.3, pieces_len cs p.1 p.4, ap length p.2, length-append p.0 p.1)
 
-string_len : (b s : List ℕ) → IsString b s → length (quoted s) ≤ length b
-unfolding quoted
+string_len : (b s : List ℕ) → IsString b s → length (string_text s) ≤ length b
+unfolding string_text
 string_len b s p =
     let inner = pieces_len p.characters p.inside p.pieces in
-    omega (arith, inner, ap (λ z. length (flat_map escaped z)) p.value, length-append (flat_map escaped s) (34 ∷ []), ap length p.text, length-append p.inside (34 ∷ []))
+    omega (arith, inner, ap (λ z. length (flat_map escape_text z)) p.value, length-append (flat_map escape_text s) (34 ∷ []), ap length p.text, length-append p.inside (34 ∷ []))
 
 -- ---- the compact text is the shortest that spells its tree
 
@@ -178,12 +178,12 @@ mutual
   members_len : (ms : Members) (b : List ℕ) → AreMembers ms b → length (compact_members ms) ≤ length b
   members_len no_members b p = omega arith
   members_len (member s t ms) b p =
-      omega (arith, length-append (quoted s ++ 58 ∷ compact t) (compact_more_members ms), length-append (quoted s) (58 ∷ compact t), string_len p.is_first.is_name.inner s p.is_first.is_name.is_inner, value_len t p.is_first.is_value.inner p.is_first.is_value.is_inner, more_members_len ms p.rest p.is_rest, named_len p.first p.is_first, then_len b p)
+      omega (arith, length-append (string_text s ++ 58 ∷ compact t) (compact_more_members ms), length-append (string_text s) (58 ∷ compact t), string_len p.is_first.is_name.inner s p.is_first.is_name.is_inner, value_len t p.is_first.is_value.inner p.is_first.is_value.is_inner, more_members_len ms p.rest p.is_rest, named_len p.first p.is_first, then_len b p)
 
   more_members_len : (ms : Members) (b : List ℕ) → AreMoreMembers ms b → length (compact_more_members ms) ≤ length b
   more_members_len no_members b p = omega arith
   more_members_len (member s t ms) b p =
-      omega (arith, length-append (quoted s ++ 58 ∷ compact t) (compact_more_members ms), length-append (quoted s) (58 ∷ compact t), string_len p.2.is_first.is_name.inner s p.2.is_first.is_name.is_inner, value_len t p.2.is_first.is_value.inner p.2.is_first.is_value.is_inner, more_members_len ms p.2.rest p.2.is_rest, named_len p.2.first p.2.is_first, then_len p.0 p.2, ap length p.1)
+      omega (arith, length-append (string_text s ++ 58 ∷ compact t) (compact_more_members ms), length-append (string_text s) (58 ∷ compact t), string_len p.2.is_first.is_name.inner s p.2.is_first.is_name.is_inner, value_len t p.2.is_first.is_value.inner p.2.is_first.is_value.is_inner, more_members_len ms p.2.rest p.2.is_rest, named_len p.2.first p.2.is_first, then_len p.0 p.2, ap length p.1)
 
 -- ---- the normal form has no longer text
 
@@ -191,15 +191,15 @@ mutual
 counted : Members → ℕ
 counted ms = length (compact_more_members ms)
 
-counted_cons : (s : List ℕ) (t : Tree) (ms : Members) → counted (member s t ms) ≡ 2 + length (quoted s) + length (compact t) + counted ms
+counted_cons : (s : List ℕ) (t : Tree) (ms : Members) → counted (member s t ms) ≡ 2 + length (string_text s) + length (compact t) + counted ms
 unfolding counted
-counted_cons s t ms = omega (arith, length-append (quoted s ++ 58 ∷ compact t) (compact_more_members ms), length-append (quoted s) (58 ∷ compact t))
+counted_cons s t ms = omega (arith, length-append (string_text s ++ 58 ∷ compact t) (compact_more_members ms), length-append (string_text s) (58 ∷ compact t))
 
 counted_first : (s : List ℕ) (t : Tree) (ms : Members) → counted (member s t ms) ≡ 1 + length (compact_members (member s t ms))
 unfolding counted
 counted_first s t ms = omega arith
 
-counted_placed : (o : Ordering) (s : List ℕ) (t : Tree) (r : List ℕ) (u : Tree) (ms more : Members) → counted more ≤ counted (member s t ms) → counted (placed o s t r u ms more) ≤ counted (member s t (member r u ms))
+counted_placed : (o : Ordering) (s : List ℕ) (t : Tree) (r : List ℕ) (u : Tree) (ms more : Members) → counted more ≤ counted (member s t ms) → counted (with_first_by o s t r u ms more) ≤ counted (member s t (member r u ms))
 counted_placed Less s t r u ms more h = omega arith
 counted_placed Equal s t r u ms more h = omega (arith, counted_cons s t (member r u ms))
 counted_placed Greater s t r u ms more h = omega (arith, counted_cons s t (member r u ms), counted_cons r u ms, counted_cons r u more, counted_cons s t ms)
@@ -212,7 +212,7 @@ abbrev is_some_member : Members → Bool
 is_some_member no_members = false
 is_some_member (member s t ms) = true
 
-some_placed : (o : Ordering) (s : List ℕ) (t : Tree) (r : List ℕ) (u : Tree) (ms more : Members) → is_some_member (placed o s t r u ms more) ≡ true
+some_placed : (o : Ordering) (s : List ℕ) (t : Tree) (r : List ℕ) (u : Tree) (ms more : Members) → is_some_member (with_first_by o s t r u ms more) ≡ true
 some_placed Less s t r u ms more = refl
 some_placed Equal s t r u ms more = refl
 some_placed Greater s t r u ms more = refl

@@ -3,7 +3,7 @@ use Rattle.std.proofs.Common.{◌≡◌, ℕ, ◌<◌, Bool, true, false, ◌==�
 use Rattle.std.proofs.lemmas.Bool.Decides.{nat_tests}
 use Rattle.std.proofs.lemmas.List.{append_cancel_left}
 use Rattle.miniserde_model.specs.Tree.{Tree, null, truth, nonneg, neg, num, str, list, members, Trees, no_trees, tree, Members, no_members, member}
-use Rattle.miniserde_model.specs.Number.{IsWhole, IsMinus, IsNumber}
+use Rattle.miniserde_model.specs.Number.{IsInt, IsMinus, IsNumber}
 use Rattle.miniserde_model.specs.String.{IsString}
 use Rattle.miniserde_model.specs.Whitespace.{IsWhitespace}
 use Rattle.miniserde_model.specs.Value.{Spaced, Named, Then, word, IsValue, AreElements, AreMoreElements, AreMembers, AreMoreMembers, IsJson}
@@ -35,17 +35,17 @@ pub record Head (b : List ℕ) (k : ℕ) : Type 0 where
   pub is : b ≡ byte ∷ rest
   pub of_kind : kind_of_byte byte ≡ k
 
-whole_head : (x rest : List ℕ) → IsWhole x → Head (x ++ rest) 3
+whole_head : (x rest : List ℕ) → IsInt x → Head (x ++ rest) 3
 whole_head [] rest h = absurd h
 whole_head (c ∷ cs) rest (inl h) = record { byte = c; rest = cs ++ rest; is = refl; of_kind = rw (h.0) refl }
 whole_head (c ∷ cs) rest (inr h) = record { byte = c; rest = cs ++ rest; is = refl; of_kind = grind (arith, nat_tests) }
 
-minus_head : (m w rest : List ℕ) → IsMinus m → IsWhole w → Head (m ++ (w ++ rest)) 3
+minus_head : (m w rest : List ℕ) → IsMinus m → IsInt w → Head (m ++ (w ++ rest)) 3
 minus_head m w rest (inl h) p = rw h (whole_head w rest p)
 minus_head m w rest (inr h) p = rw h (record { byte = 45; rest = w ++ rest; is = refl; of_kind = refl })
 
 pub number_head : (b : List ℕ) (t : Tree) → IsNumber b t → Head b 3
-number_head b t p = rw (p.0.text) (minus_head p.0.minus p.0.whole (p.0.fraction ++ p.0.exponent) p.0.is_minus p.0.is_whole)
+number_head b t p = rw (p.0.text) (minus_head p.0.minus p.0.int (p.0.fraction ++ p.0.exponent) p.0.is_minus p.0.is_int)
 
 pub string_head : (b s : List ℕ) → IsString b s → Head b 4
 string_head b s p = record { byte = 34; rest = p.inside ++ 34 ∷ []; is = p.text; of_kind = refl }

@@ -1,16 +1,17 @@
 -- Tests of bytes, and where a longest run of bytes ends.
 use Rattle.std.specs.Prelude.{◌≡◌, ℕ, Bool, false, ◌||◌, ◌&&◌, nat_le, nat_lt, ◌==◌, List, [], ◌∷◌, ⊤}
+use Rattle.miniserde_model.specs.Ascii.{quotation_mark, reverse_solidus, minus_sign, plus_sign, decimal_point, digit_0, digit_9, letter_E, letter_e}
 
 abbrev pub is_space : ℕ → Bool
 is_space c = (c == 32) || (c == 9) || (c == 10) || (c == 13)
 
 -- a digit, `+`, `-`, `.`, `E` or `e`
 abbrev pub is_number_byte : ℕ → Bool
-is_number_byte c = (nat_le 48 c && nat_le c 57) || (c == 43) || (c == 45) || (c == 46) || (c == 69) || (c == 101)
+is_number_byte c = (nat_le digit_0 c && nat_le c digit_9) || (c == plus_sign) || (c == minus_sign) || (c == decimal_point) || (c == letter_E) || (c == letter_e)
 
 -- what may not stand for itself in a string
 abbrev pub is_special : ℕ → Bool
-is_special c = nat_lt c 32 || (c == 34) || (c == 92)
+is_special c = nat_lt c 0x20 || (c == quotation_mark) || (c == reverse_solidus)
 
 -- the text is empty, or begins with a byte that fails the test
 abbrev pub StopsAt : (ℕ → Bool) → List ℕ → Type 0

@@ -1,34 +1,35 @@
 -- The compact text of a tree.
 use Rattle.std.specs.Prelude.{ℕ, ◌/◌, ◌%◌, List, [], ◌∷◌, ◌++◌, codes, decimal, unsigned_abs, ◌==◌, ◌||◌, nat_lt, if◌then◌else◌, flat_map}
 use Rattle.std.specs.Char.{digit_char}
+use Rattle.miniserde_model.specs.Ascii.{begin_array, end_array, begin_object, end_object, name_separator, value_separator, quotation_mark, reverse_solidus, minus_sign, digit_0, letter_b, letter_f, letter_n, letter_r, letter_t, letter_u}
 use Rattle.miniserde_model.specs.Tree.{Tree, null, truth, nonneg, neg, num, str, list, members, Trees, no_trees, tree, Members, no_members, member}
 use Rattle.miniserde_model.specs.Value.{word}
 
 -- what stands in a string for a byte
-abbrev pub escaped : ℕ → List ℕ
-escaped x =
-    if x == 8 then 92 ∷ 98 ∷ [] else
-    if x == 9 then 92 ∷ 116 ∷ [] else
-    if x == 10 then 92 ∷ 110 ∷ [] else
-    if x == 12 then 92 ∷ 102 ∷ [] else
-    if x == 13 then 92 ∷ 114 ∷ [] else
-    if (x == 34) || (x == 92) then 92 ∷ x ∷ [] else
-    if nat_lt x 32 then 92 ∷ 117 ∷ 48 ∷ 48 ∷ digit_char (x / 16) ∷ digit_char (x % 16) ∷ [] else
+abbrev pub escape_text : ℕ → List ℕ
+escape_text x =
+    if x == 0x08 then reverse_solidus ∷ letter_b ∷ [] else
+    if x == 0x09 then reverse_solidus ∷ letter_t ∷ [] else
+    if x == 0x0A then reverse_solidus ∷ letter_n ∷ [] else
+    if x == 0x0C then reverse_solidus ∷ letter_f ∷ [] else
+    if x == 0x0D then reverse_solidus ∷ letter_r ∷ [] else
+    if (x == quotation_mark) || (x == reverse_solidus) then reverse_solidus ∷ x ∷ [] else
+    if nat_lt x 0x20 then reverse_solidus ∷ letter_u ∷ digit_0 ∷ digit_0 ∷ digit_char (x / 16) ∷ digit_char (x % 16) ∷ [] else
     x ∷ []
 
-unfoldable pub quoted : List ℕ → List ℕ
-quoted s = 34 ∷ (flat_map escaped s ++ 34 ∷ [])
+unfoldable pub string_text : List ℕ → List ℕ
+string_text s = quotation_mark ∷ (flat_map escape_text s ++ quotation_mark ∷ [])
 
 abbrev mutual
   pub compact : Tree → List ℕ
   compact null = codes "null"
   compact (truth x) = word x
   compact (nonneg n) = decimal n
-  compact (neg n) = 45 ∷ decimal (unsigned_abs n)
+  compact (neg n) = minus_sign ∷ decimal (unsigned_abs n)
   compact (num x) = x
-  compact (str s) = quoted s
-  compact (list ts) = 91 ∷ (compact_children ts ++ 93 ∷ [])
-  compact (members ms) = 123 ∷ (compact_members ms ++ 125 ∷ [])
+  compact (str s) = string_text s
+  compact (list ts) = begin_array ∷ (compact_children ts ++ end_array ∷ [])
+  compact (members ms) = begin_object ∷ (compact_members ms ++ end_object ∷ [])
 
   pub compact_children : Trees → List ℕ
   compact_children no_trees = []
@@ -36,12 +37,12 @@ abbrev mutual
 
   pub compact_more : Trees → List ℕ
   compact_more no_trees = []
-  compact_more (tree t ts) = 44 ∷ (compact t ++ compact_more ts)
+  compact_more (tree t ts) = value_separator ∷ (compact t ++ compact_more ts)
 
   pub compact_members : Members → List ℕ
   compact_members no_members = []
-  compact_members (member name t ms) = (quoted name ++ 58 ∷ compact t) ++ compact_more_members ms
+  compact_members (member name t ms) = (string_text name ++ name_separator ∷ compact t) ++ compact_more_members ms
 
   pub compact_more_members : Members → List ℕ
   compact_more_members no_members = []
-  compact_more_members (member name t ms) = 44 ∷ ((quoted name ++ 58 ∷ compact t) ++ compact_more_members ms)
+  compact_more_members (member name t ms) = value_separator ∷ ((string_text name ++ name_separator ∷ compact t) ++ compact_more_members ms)

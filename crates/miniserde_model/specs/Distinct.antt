@@ -9,15 +9,15 @@ has_name name ms = is_some (last_of name ms)
 
 abbrev mutual
   -- no member list anywhere in the tree has one name twice
-  pub distinct : Tree → Bool
-  distinct (list ts) = distinct_children ts
-  distinct (members ms) = distinct_members ms
-  distinct leaf = true
+  pub names_distinct : Tree → Bool
+  names_distinct (list ts) = names_distinct_in_children ts
+  names_distinct (members ms) = names_distinct_in_members ms
+  names_distinct leaf = true
 
-  pub distinct_children : Trees → Bool
-  distinct_children no_trees = true
-  distinct_children (tree t ts) = distinct t && distinct_children ts
+  pub names_distinct_in_children : Trees → Bool
+  names_distinct_in_children no_trees = true
+  names_distinct_in_children (tree t ts) = names_distinct t && names_distinct_in_children ts
 
-  pub distinct_members : Members → Bool
-  distinct_members no_members = true
-  distinct_members (member name t ms) = not (has_name name ms) && (distinct t && distinct_members ms)
+  pub names_distinct_in_members : Members → Bool
+  names_distinct_in_members no_members = true
+  names_distinct_in_members (member name t ms) = not (has_name name ms) && (names_distinct t && names_distinct_in_members ms)

@@ -3,10 +3,10 @@ use Rattle.std.specs.Prelude.{◌≡◌, ◌≤◌, ◌↔◌, true, List, ◌++
 use Rattle.miniserde_model.specs.Tree.{Tree, Members, no_members}
 use Rattle.miniserde_model.specs.Value.{IsValue, IsJson}
 use Rattle.miniserde_model.specs.IsTree.{IsTree}
-use Rattle.miniserde_model.specs.Event.{Event, events}
+use Rattle.miniserde_model.specs.Step.{Step, events}
 use Rattle.miniserde_model.specs.Position.{Position, start, Completes}
 use Rattle.miniserde_model.specs.Compact.{compact}
-use Rattle.miniserde_model.specs.Distinct.{distinct}
+use Rattle.miniserde_model.specs.Distinct.{names_distinct}
 use Rattle.miniserde_model.specs.Normal.{norm, norm_members, last_of, Rise, put_all}
 use Rattle.miniserde_model.specs.Size.{size}
 
@@ -56,11 +56,11 @@ PutGivesNorm = (ms : Members) → put_all no_members ms ≡ norm_members ms
 
 -- the normal form of a tree has no duplicate name
 abbrev pub NormIsDistinct : Type 0
-NormIsDistinct = (t : Tree) → distinct (norm t) ≡ true
+NormIsDistinct = (t : Tree) → names_distinct (norm t) ≡ true
 
 -- if no name is duplicated, the normal form has as many values
 abbrev pub DistinctKeepsSize : Type 0
-DistinctKeepsSize = (t : Tree) → distinct t ≡ true → size (norm t) ≡ size t
+DistinctKeepsSize = (t : Tree) → names_distinct t ≡ true → size (norm t) ≡ size t
 
 -- two accepted texts have equal canonical texts exactly where their trees have one normal form
 abbrev pub CanonicalTells : Type 0
@@ -76,4 +76,4 @@ EventsComplete = (t : Tree) → Completes start (events t)
 
 -- no list of events that completes a position begins another that does
 abbrev pub NoneBeginsAnother : Type 0
-NoneBeginsAnother = (es rest : List Event) (p : Position) → Completes p es → Completes p (es ++ rest) → rest ≡ []
+NoneBeginsAnother = (es rest : List Step) (p : Position) → Completes p es → Completes p (es ++ rest) → rest ≡ []

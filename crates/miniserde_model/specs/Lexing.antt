@@ -1,16 +1,15 @@
 -- What each call of a lexer takes off the front of a text, in the words of the grammar.
 use Rattle.std.specs.Prelude.{◌≡◌, ℕ, Bool, true, false, List, [], ◌∷◌, ◌++◌, ⊤}
+use Rattle.miniserde_model.specs.Ascii.{begin_array, end_array, begin_object, end_object, name_separator, value_separator}
 use Rattle.miniserde_model.specs.Tree.{null, truth, nonneg, neg, num, str}
 use Rattle.miniserde_model.specs.String.{IsString}
 use Rattle.miniserde_model.specs.Whitespace.{IsWhitespace}
 use Rattle.miniserde_model.specs.Value.{IsValue}
-use Rattle.miniserde_model.specs.Event.{Event, nothing, boolean, string, negative, nonnegative, float, seq, element, map, key, finish}
+use Rattle.miniserde_model.specs.Step.{Step, boolean, string, negative, nonnegative, float, seq, element, map, key, finish}
+use Rattle.miniserde_model.specs.Step as step
+use Rattle.miniserde_model.specs.declared.kind.Kind.{Kind}
+use Rattle.miniserde_model.specs.declared.kind.Kind.TheVariants.{Seq, Map}
 use Rattle.miniserde_model.specs.Bytes.{is_space, is_number_byte, StopsAt}
-
--- the two kinds of containers
-pub data Kind : Type 0 where
-  in_list : Kind
-  in_members : Kind
 
 abbrev pub IsByte : ℕ → List ℕ → Type 0
 IsByte c part = part ≡ c ∷ []
@@ -19,7 +18,7 @@ IsByte c part = part ≡ c ∷ []
 pub record BeforeColon (P : List ℕ → Type 0) (part : List ℕ) : Type 0 where
   pub spelled : List ℕ
   pub space : List ℕ
-  pub text : part ≡ spelled ++ (space ++ 58 ∷ [])
+  pub text : part ≡ spelled ++ (space ++ name_separator ∷ [])
   pub is_spelled : P spelled
   pub is_space : IsWhitespace space
 
@@ -36,35 +35,35 @@ pub record Stands (P : List ℕ → Type 0) (s r : List ℕ) : Type 0 where
   pub is_part : P part
 
 -- the front of a value, told by its first event
-abbrev pub Piece : Event → List ℕ → Type 0
-Piece nothing b = IsValue null b
+abbrev pub Piece : Step → List ℕ → Type 0
+Piece step.null b = IsValue null b
 Piece (boolean x) b = IsValue (truth x) b
 Piece (string s) b = IsValue (str s) b
 Piece (negative n) b = IsValue (neg n) b
 Piece (nonnegative n) b = IsValue (nonneg n) b
 Piece (float x) b = IsValue (num x) b
-Piece seq b = IsByte 91 b
-Piece map b = IsByte 123 b
+Piece seq b = IsByte begin_array b
+Piece map b = IsByte begin_object b
 Piece element b = ⊥
 Piece (key s) b = ⊥
 Piece finish b = ⊥
 
 -- a number ends where no byte of number texts follows
-abbrev pub Ends : Event → List ℕ → Type 0
+abbrev pub Ends : Step → List ℕ → Type 0
 Ends (negative n) r = StopsAt is_number_byte r
 Ends (nonnegative n) r = StopsAt is_number_byte r
 Ends (float x) r = StopsAt is_number_byte r
 Ends _ r = ⊤
 
-abbrev pub Starts : List ℕ → Event → List ℕ → Type 0
+abbrev pub Starts : List ℕ → Step → List ℕ → Type 0
 Starts s e r = Stands (Piece e) s r × Ends e r
 
 abbrev pub Names : List ℕ → List ℕ → List ℕ → Type 0
 Names s n r = Stands (IsName n) s r
 
 abbrev pub closing : Kind → ℕ
-closing in_list = 93
-closing in_members = 125
+closing Seq = end_array
+closing Map = end_object
 
 -- something stands at the front that is no whitespace and no closing bracket
 pub record Begins (r : List ℕ) : Type 0 where
@@ -72,11 +71,11 @@ pub record Begins (r : List ℕ) : Type 0 where
   pub more : List ℕ
   pub text : r ≡ byte ∷ more
   pub no_space : is_space byte ≡ false
-  pub no_list_end : byte ≡ 93 → ⊥
-  pub no_members_end : byte ≡ 125 → ⊥
+  pub no_list_end : byte ≡ end_array → ⊥
+  pub no_members_end : byte ≡ end_object → ⊥
 
 -- of that kind, behind the opening bracket or not: the closing bracket, or what leads to the next child
 abbrev pub Follows : Kind → Bool → Bool → List ℕ → List ℕ → Type 0
 Follows k first true s r = Stands (IsByte (closing k)) s r
 Follows k true false s r = Stands (λ b. b ≡ []) s r × Begins r
-Follows k false false s r = Stands (IsByte 44) s r
+Follows k false false s r = Stands (IsByte value_separator) s r

@@ -1,8 +1,9 @@
+pub mod Ascii
 pub mod Bytes
 pub mod Compact
 pub mod Distinct
 pub mod Error
-pub mod Event
+pub mod Step
 pub mod Examples
 pub mod IsTree
 pub mod Laws

@@ -10,15 +10,15 @@ use Rattle.miniserde_model.specs.Tree.{Tree, nonneg, neg, list, members, Trees, 
 abbrev pub text_cmp : List ℕ → List ℕ → Ordering
 text_cmp = slice_cmp nat_cmp
 
-abbrev pub placed : Ordering → List ℕ → Tree → List ℕ → Tree → Members → Members → Members
-placed Less name t other u ms more = member name t (member other u ms)
-placed Equal name t other u ms more = member other u ms
-placed Greater name t other u ms more = member other u more
+abbrev pub with_first_by : Ordering → List ℕ → Tree → List ℕ → Tree → Members → Members → Members
+with_first_by Less name t other u ms more = member name t (member other u ms)
+with_first_by Equal name t other u ms more = member other u ms
+with_first_by Greater name t other u ms more = member other u more
 
 -- members in the order of their names, with one more where its name is not among them
 abbrev pub with_first : List ℕ → Tree → Members → Members
 with_first name t no_members = member name t no_members
-with_first name t (member other u ms) = placed (text_cmp name other) name t other u ms (with_first name t ms)
+with_first name t (member other u ms) = with_first_by (text_cmp name other) name t other u ms (with_first name t ms)
 
 abbrev pub norm_neg : ℤ → Tree
 norm_neg (pos n) = nonneg n
@@ -73,15 +73,15 @@ Rise (member name t ms) = BeginsAbove name ms × Rise ms
 
 -- ---- the normal form as a reader makes it, from the left
 
-abbrev pub put_placed : Ordering → List ℕ → Tree → List ℕ → Tree → Members → Members → Members
-put_placed Less name t other u ms more = member name t (member other u ms)
-put_placed Equal name t other u ms more = member name t ms
-put_placed Greater name t other u ms more = member other u more
+abbrev pub put_by : Ordering → List ℕ → Tree → List ℕ → Tree → Members → Members → Members
+put_by Less name t other u ms more = member name t (member other u ms)
+put_by Equal name t other u ms more = member name t ms
+put_by Greater name t other u ms more = member other u more
 
 -- with the tree in the place of the one of that name
 abbrev pub put : List ℕ → Tree → Members → Members
 put name t no_members = member name t no_members
-put name t (member other u ms) = put_placed (text_cmp name other) name t other u ms (put name t ms)
+put name t (member other u ms) = put_by (text_cmp name other) name t other u ms (put name t ms)
 
 abbrev pub put_all_by : (ℤ → Tree) → Members → Members → Members
 put_all_by f made no_members = made

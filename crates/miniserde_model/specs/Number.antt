@@ -3,42 +3,43 @@ use Rattle.std.specs.Prelude.{◌≡◌, ℕ, ◌^◌, ◌<◌, ◌⊎◌, pos, 
 use Rattle.std.specs.Int.{IsInRange}
 use Rattle.std.specs.List.{AllByRecursion}
 use Rattle.std.specs.Str.Parse.{digits_value}
+use Rattle.miniserde_model.specs.Ascii.{minus_sign, plus_sign, decimal_point, digit_0, digit_1, digit_9, letter_E, letter_e}
 use Rattle.miniserde_model.specs.Tree.{Tree, nonneg, neg, num}
 
 -- ---- the shape
 
 abbrev pub IsDigit : ℕ → Type 0
-IsDigit c = IsInRange 48 57 c
+IsDigit c = IsInRange digit_0 digit_9 c
 
 -- one digit or more
 abbrev pub AreDigits : List ℕ → Type 0
 AreDigits ds = (0 < length ds) × AllByRecursion IsDigit ds
 
 -- `0`, or digits that begin with one of 1 to 9
-abbrev pub IsWhole : List ℕ → Type 0
-IsWhole [] = ⊥
-IsWhole (c ∷ cs) = ((c ≡ 48) × (cs ≡ [])) ⊎ (IsInRange 49 57 c × AllByRecursion IsDigit cs)
+abbrev pub IsInt : List ℕ → Type 0
+IsInt [] = ⊥
+IsInt (c ∷ cs) = ((c ≡ digit_0) × (cs ≡ [])) ⊎ (IsInRange digit_1 digit_9 c × AllByRecursion IsDigit cs)
 
 abbrev pub IsMinus : List ℕ → Type 0
-IsMinus x = (x ≡ []) ⊎ (x ≡ 45 ∷ [])
+IsMinus x = (x ≡ []) ⊎ (x ≡ minus_sign ∷ [])
 
 abbrev pub IsFraction : List ℕ → Type 0
-IsFraction x = (x ≡ []) ⊎ ((ds : List ℕ) × (x ≡ 46 ∷ ds) × AreDigits ds)
+IsFraction x = (x ≡ []) ⊎ ((ds : List ℕ) × (x ≡ decimal_point ∷ ds) × AreDigits ds)
 
 abbrev pub IsSign : List ℕ → Type 0
-IsSign x = (x ≡ []) ⊎ ((x ≡ 43 ∷ []) ⊎ (x ≡ 45 ∷ []))
+IsSign x = (x ≡ []) ⊎ ((x ≡ plus_sign ∷ []) ⊎ (x ≡ minus_sign ∷ []))
 
 abbrev pub IsExponent : List ℕ → Type 0
-IsExponent x = (x ≡ []) ⊎ ((e : ℕ) × (sign ds : List ℕ) × (x ≡ e ∷ (sign ++ ds)) × ((e ≡ 101) ⊎ (e ≡ 69)) × IsSign sign × AreDigits ds)
+IsExponent x = (x ≡ []) ⊎ ((e : ℕ) × (sign ds : List ℕ) × (x ≡ e ∷ (sign ++ ds)) × ((e ≡ letter_e) ⊎ (e ≡ letter_E)) × IsSign sign × AreDigits ds)
 
 pub record IsNumberText (x : List ℕ) : Type 0 where
   pub minus : List ℕ
-  pub whole : List ℕ
+  pub int : List ℕ
   pub fraction : List ℕ
   pub exponent : List ℕ
-  pub text : x ≡ minus ++ (whole ++ (fraction ++ exponent))
+  pub text : x ≡ minus ++ (int ++ (fraction ++ exponent))
   pub is_minus : IsMinus minus
-  pub is_whole : IsWhole whole
+  pub is_int : IsInt int
   pub is_fraction : IsFraction fraction
   pub is_exponent : IsExponent exponent
 
@@ -47,10 +48,10 @@ pub record IsNumberText (x : List ℕ) : Type 0 where
 -- with no `.`, `e` or `E`
 abbrev pub is_plain : List ℕ → Bool
 is_plain [] = true
-is_plain (c ∷ cs) = not ((c == 46) || (c == 101) || (c == 69)) && is_plain cs
+is_plain (c ∷ cs) = not ((c == decimal_point) || (c == letter_e) || (c == letter_E)) && is_plain cs
 
 abbrev pub begins_minus : List ℕ → Bool
-begins_minus x = slice_index x 0 == 45
+begins_minus x = slice_index x 0 == minus_sign
 
 -- the leaf of digits, or of the digits behind a minus, where the text is x
 abbrev pub leaf_of_digits : List ℕ → List ℕ → Tree

@@ -1,6 +1,7 @@
 -- Where the events of one value stand, and which lists of events complete it.
 use Rattle.std.specs.Prelude.{◌≡◌, ℕ, ◌+◌, ◌-◌, ◌<◌, Bool, true, false, List, [], ◌∷◌}
-use Rattle.miniserde_model.specs.Event.{Event, nothing, boolean, string, negative, nonnegative, float, seq, element, map, key, finish}
+use Rattle.miniserde_model.specs.Step.{Step, boolean, string, negative, nonnegative, float, seq, element, map, key, finish}
+use Rattle.miniserde_model.specs.Step as step
 
 -- how many containers are open, and whether a value is due
 abbrev pub Position : Type 0
@@ -14,8 +15,8 @@ abbrev pub complete : Position
 complete = (0, false)
 
 -- A value's first event may come where a value is due; a child's and the end, in an open container where none is.
-abbrev pub Allowed : Position → Event → Type 0
-Allowed p nothing = p.1 ≡ true
+abbrev pub Allowed : Position → Step → Type 0
+Allowed p step.null = p.1 ≡ true
 Allowed p (boolean _) = p.1 ≡ true
 Allowed p (string _) = p.1 ≡ true
 Allowed p (negative _) = p.1 ≡ true
@@ -28,8 +29,8 @@ Allowed p (key _) = (p.1 ≡ false) × (0 < p.0)
 Allowed p finish = (p.1 ≡ false) × (0 < p.0)
 
 -- the position that an event leads to
-abbrev pub next : Position → Event → Position
-next p nothing = (p.0, false)
+abbrev pub next : Position → Step → Position
+next p step.null = (p.0, false)
 next p (boolean _) = (p.0, false)
 next p (string _) = (p.0, false)
 next p (negative _) = (p.0, false)
@@ -42,11 +43,11 @@ next p (key _) = (p.0, true)
 next p finish = (p.0 - 1, false)
 
 -- the position that a list of events leads to
-abbrev pub next_by : Position → List Event → Position
+abbrev pub next_by : Position → List Step → Position
 next_by p [] = p
 next_by p (e ∷ es) = next_by (next p e) es
 
 -- the events complete what stands open at the position
-abbrev pub Completes : Position → List Event → Type 0
+abbrev pub Completes : Position → List Step → Type 0
 Completes p [] = p ≡ complete
 Completes p (e ∷ es) = Allowed p e × Completes (next p e) es

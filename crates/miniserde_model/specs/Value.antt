@@ -1,5 +1,6 @@
 -- Values and whole texts (RFC 8259, sections 2 to 5).
 use Rattle.std.specs.Prelude.{◌≡◌, ℕ, Bool, true, false, List, [], ◌∷◌, ◌++◌, codes}
+use Rattle.miniserde_model.specs.Ascii.{begin_array, end_array, begin_object, end_object, name_separator, value_separator}
 use Rattle.miniserde_model.specs.Tree.{Tree, null, truth, nonneg, neg, num, str, list, members, Trees, no_trees, tree, Members, no_members, member}
 use Rattle.miniserde_model.specs.Number.{IsNumber}
 use Rattle.miniserde_model.specs.String.{IsString}
@@ -19,7 +20,7 @@ pub record Spaced (P : List ℕ → Type 0) (b : List ℕ) : Type 0 where
 pub record Named (N V : List ℕ → Type 0) (b : List ℕ) : Type 0 where
   pub name : List ℕ
   pub value : List ℕ
-  pub text : b ≡ name ++ 58 ∷ value
+  pub text : b ≡ name ++ name_separator ∷ value
   pub is_name : Spaced N name
   pub is_value : Spaced V value
 
@@ -50,8 +51,8 @@ abbrev mutual
   IsValue (neg n) b = IsNumber b (neg n)
   IsValue (num x) b = IsNumber b (num x)
   IsValue (str s) b = IsString b s
-  IsValue (list ts) b = Between 91 (AreElements ts) 93 b
-  IsValue (members ms) b = Between 123 (AreMembers ms) 125 b
+  IsValue (list ts) b = Between begin_array (AreElements ts) end_array b
+  IsValue (members ms) b = Between begin_object (AreMembers ms) end_object b
 
   -- whitespace alone, or elements joined by commas
   pub AreElements : Trees → List ℕ → Type 0
@@ -61,7 +62,7 @@ abbrev mutual
   -- a comma before each
   pub AreMoreElements : Trees → List ℕ → Type 0
   AreMoreElements no_trees b = b ≡ []
-  AreMoreElements (tree t ts) b = (c : List ℕ) × (b ≡ 44 ∷ c) × Then (Spaced (IsValue t)) (AreMoreElements ts) c
+  AreMoreElements (tree t ts) b = (c : List ℕ) × (b ≡ value_separator ∷ c) × Then (Spaced (IsValue t)) (AreMoreElements ts) c
 
   pub AreMembers : Members → List ℕ → Type 0
   AreMembers no_members b = IsWhitespace b
@@ -69,7 +70,7 @@ abbrev mutual
 
   pub AreMoreMembers : Members → List ℕ → Type 0
   AreMoreMembers no_members b = b ≡ []
-  AreMoreMembers (member name t ms) b = (c : List ℕ) × (b ≡ 44 ∷ c) × Then (Named (λ n. IsString n name) (IsValue t)) (AreMoreMembers ms) c
+  AreMoreMembers (member name t ms) b = (c : List ℕ) × (b ≡ value_separator ∷ c) × Then (Named (λ n. IsString n name) (IsValue t)) (AreMoreMembers ms) c
 
 -- the whole text spells the tree
 abbrev pub IsJson : List ℕ → Tree → Type 0

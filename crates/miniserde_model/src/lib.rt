@@ -10,6 +10,7 @@ ghost use Rattle.miniserde_model.specs.Laws.{NoneBeginsAnother, NormIsDistinct, 
 ghost use Rattle.miniserde_model.specs.Laws.{NormKeepsLast, NormRises, PutGivesNorm, SpelledIsTree, SpelledIsUtf8, TextHasOneTree};
 
 pub mod error;
+pub mod kind;
 
 /// A text has one tree at most.
 pub fn text_has_one_tree()
@@ -34,7 +35,7 @@ pub fn compact_spells()
 
 /// The normal form of a tree is a tree like it, and its own normal form.
 pub fn norm_is_normal()
-    ensures again { NormIsNormal }
+    ensures idempotent { NormIsNormal }
     ensures tree { NormIsTree }
 {}
 

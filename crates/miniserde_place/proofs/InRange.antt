@@ -2,13 +2,13 @@
 use Rattle.std.proofs.Common.{ℕ, Bool, true, false, List, subst}
 use Rattle.miniserde_model.specs.Tree.{Tree, null, truth, nonneg, neg, num, str, list, members, Trees, no_trees, tree, Members, no_members, member}
 use Rattle.miniserde_model.specs.IsTree.{IsTree, AreTrees, AreNamedTrees}
-use Rattle.miniserde_model.specs.Event.{Event, string, negative, nonnegative, float}
+use Rattle.miniserde_model.specs.Step.{Step, string, negative, nonnegative, float}
 use Rattle.miniserde_model.specs.Lexing.{Starts}
 use Rattle.miniserde_model.proofs.Accepted.{value_tree}
 use Rattle.miniserde_read.specs.Rest.{ValueAt, ElementsAt, MembersAt}
 
 mutual
-  pub value_in_range : (t : Tree) (e : Event) (j s r : List ℕ) → Starts j e s → ValueAt t e s r → IsTree t
+  pub value_in_range : (t : Tree) (e : Step) (j s r : List ℕ) → Starts j e s → ValueAt t e s r → IsTree t
   value_in_range null e j s r k v = tt
   value_in_range (truth b) e j s r k v = tt
   value_in_range (nonneg n) e j s r k v = let p : Starts j (nonnegative n) s = subst (λ z. Starts j z s) v.0 k in value_tree (nonneg n) p.0.part p.0.is_part

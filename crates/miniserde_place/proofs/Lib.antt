@@ -1,5 +1,5 @@
 pub mod Feeds
 pub mod InRange
-pub mod Leads
+pub mod PositionAdvances
 pub mod Moved
 pub mod Spelled

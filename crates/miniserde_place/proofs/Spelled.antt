@@ -3,59 +3,62 @@ use Rattle.std.proofs.Common.{◌≡◌, ℕ, Bool, true, false, Some, is_some, 
 use Rattle.std.specs.Prelude.{⊤}
 use Rattle.miniserde_model.specs.Tree.{Tree}
 use Rattle.miniserde_model.specs.IsTree.{IsTree}
-use Rattle.miniserde_model.specs.Event.{Event, nothing, seq, element, map, key, finish, events}
-use Rattle.miniserde_model.specs.Lexing.{Kind, in_list, in_members, Starts, Names}
+use Rattle.miniserde_model.specs.Step.{Step, seq, element, map, key, finish, events}
+use Rattle.miniserde_model.specs.Step as step
+use Rattle.miniserde_model.specs.Lexing.{Starts, Names}
+use Rattle.miniserde_model.specs.declared.kind.Kind.{Kind}
+use Rattle.miniserde_model.specs.declared.kind.Kind.TheVariants.{Seq, Map}
 use Rattle.miniserde_model.specs.private.Reading.{Moment, due, first, after}
 use Rattle.miniserde_model.proofs.ReadBack.{spells_json, nothing_left}
 use Rattle.miniserde_model.proofs.Accepted.{json_tree}
-use Rattle.miniserde_text.specs.Lexer.{front_of}
+use Rattle.miniserde_text.specs.Lexer.{event_of_token}
 use Rattle.miniserde_text.specs.declared.json.lex.Event as lexed
 use Rattle.miniserde_text.specs.declared.json.lex.Event.TheVariants as variant
-use Rattle.miniserde_text.specs.private.Stack.{pushed, innermost, outer}
-use Rattle.miniserde_text.specs.private.Moving.{opens, between, Live}
+use Rattle.miniserde_text.specs.private.Stack.{with_opened, innermost, outer}
+use Rattle.miniserde_text.specs.private.Moving.{opened_kind, before_child, IsLive}
 use Rattle.miniserde_text.proofs.Stacks.{split_top}
 use Rattle.miniserde_text.proofs.Starting.{front, passes_start}
 use Rattle.miniserde_place.specs.private.Runs.{Spellable}
 
 -- ---- one event before others
 
-with_finish : (k : Kind) (f : Bool) (st : List Kind) (es : List Event) → Spellable after es st → Spellable (between f) (finish ∷ es) (k ∷ st)
-with_finish in_list true st es h = (93 ∷ h.0, front [] (93 ∷ []) h.0 tt refl h.1)
-with_finish in_list false st es h = (93 ∷ h.0, front [] (93 ∷ []) h.0 tt refl h.1)
-with_finish in_members true st es h = (125 ∷ h.0, front [] (125 ∷ []) h.0 tt refl h.1)
-with_finish in_members false st es h = (125 ∷ h.0, front [] (125 ∷ []) h.0 tt refl h.1)
+with_finish : (k : Kind) (f : Bool) (st : List Kind) (es : List Step) → Spellable after es st → Spellable (before_child f) (finish ∷ es) (k ∷ st)
+with_finish Seq true st es h = (93 ∷ h.0, front [] (93 ∷ []) h.0 tt refl h.1)
+with_finish Seq false st es h = (93 ∷ h.0, front [] (93 ∷ []) h.0 tt refl h.1)
+with_finish Map true st es h = (125 ∷ h.0, front [] (125 ∷ []) h.0 tt refl h.1)
+with_finish Map false st es h = (125 ∷ h.0, front [] (125 ∷ []) h.0 tt refl h.1)
 
-with_element : (f : Bool) (st : List Kind) (es : List Event) → Spellable due es (in_list ∷ st) → Spellable (between f) (element ∷ es) (in_list ∷ st)
+with_element : (f : Bool) (st : List Kind) (es : List Step) → Spellable due es (Seq ∷ st) → Spellable (before_child f) (element ∷ es) (Seq ∷ st)
 with_element true st es h = h
 with_element false st es h = (44 ∷ h.0, front [] (44 ∷ []) h.0 tt refl h.1)
 
-with_key : (f : Bool) (st : List Kind) (s r n : List ℕ) → Names s n r → (es : List Event) → Spellable due es (in_members ∷ st) → Spellable (between f) (key n ∷ es) (in_members ∷ st)
+with_key : (f : Bool) (st : List Kind) (s r n : List ℕ) → Names s n r → (es : List Step) → Spellable due es (Map ∷ st) → Spellable (before_child f) (key n ∷ es) (Map ∷ st)
 with_key true st s r n p es h = (p.part ++ h.0, front [] p.part h.0 tt p.is_part h.1)
 with_key false st s r n p es h = (44 ∷ (p.part ++ h.0), front [] (44 ∷ []) (p.part ++ h.0) tt refl (front [] p.part h.0 tt p.is_part h.1))
 
 -- ---- the same by the innermost container
 
-pub close_spellable : (st st' : List Kind) (k : Kind) (f : Bool) → innermost st ≡ Some k → st' ≡ outer st → (es : List Event) → Spellable after es st' → Spellable (between f) (finish ∷ es) st
+pub close_spellable : (st st' : List Kind) (k : Kind) (f : Bool) → innermost st ≡ Some k → st' ≡ outer st → (es : List Step) → Spellable after es st' → Spellable (before_child f) (finish ∷ es) st
 close_spellable st st' k f h q es p =
-    subst (λ z. Spellable (between f) (finish ∷ es) z) (sym (split_top st k h)) (with_finish k f (outer st) es (subst (λ z. Spellable after es z) q p))
+    subst (λ z. Spellable (before_child f) (finish ∷ es) z) (sym (split_top st k h)) (with_finish k f (outer st) es (subst (λ z. Spellable after es z) q p))
 
-pub element_spellable : (st : List Kind) (k : Kind) (f : Bool) → innermost st ≡ Some k → k ≡ in_list → (es : List Event) → Spellable due es st → Spellable (between f) (element ∷ es) st
+pub element_spellable : (st : List Kind) (k : Kind) (f : Bool) → innermost st ≡ Some k → k ≡ Seq → (es : List Step) → Spellable due es st → Spellable (before_child f) (element ∷ es) st
 element_spellable st k f h e es =
-    subst (λ z. Spellable due es z → Spellable (between f) (element ∷ es) z) (sym (split_top st in_list (h ∙ ap Some e))) (with_element f (outer st) es)
+    subst (λ z. Spellable due es z → Spellable (before_child f) (element ∷ es) z) (sym (split_top st Seq (h ∙ ap Some e))) (with_element f (outer st) es)
 
-pub key_spellable : (st : List Kind) (s r n : List ℕ) (k : Kind) (f : Bool) → innermost st ≡ Some k → k ≡ in_members → Names s n r → (es : List Event) → Spellable due es st → Spellable (between f) (key n ∷ es) st
+pub key_spellable : (st : List Kind) (s r n : List ℕ) (k : Kind) (f : Bool) → innermost st ≡ Some k → k ≡ Map → Names s n r → (es : List Step) → Spellable due es st → Spellable (before_child f) (key n ∷ es) st
 key_spellable st s r n k f h e p es =
-    subst (λ z. Spellable due es z → Spellable (between f) (key n ∷ es) z) (sym (split_top st in_members (h ∙ ap Some e))) (with_key f (outer st) s r n p es)
+    subst (λ z. Spellable due es z → Spellable (before_child f) (key n ∷ es) z) (sym (split_top st Map (h ∙ ap Some e))) (with_key f (outer st) s r n p es)
 
-pub start_spellable : (st : List Kind) (s r : List ℕ) (e : Event) (f : Bool) (st' : List Kind) → Starts s e r → f ≡ is_some (opens e) → st' ≡ pushed (opens e) st → (es : List Event) → Spellable (between f) es st' → Spellable due (e ∷ es) st
+pub start_spellable : (st : List Kind) (s r : List ℕ) (e : Step) (f : Bool) (st' : List Kind) → Starts s e r → f ≡ is_some (opened_kind e) → st' ≡ with_opened (opened_kind e) st → (es : List Step) → Spellable (before_child f) es st' → Spellable due (e ∷ es) st
 start_spellable st s r e f st' k p q es h =
     let g = passes_start st s e r k in
-    let i : Spellable (between (is_some (opens e))) es (pushed (opens e) st) = subst (λ z. Spellable (between z) es (pushed (opens e) st)) p (subst (λ z. Spellable (between f) es z) q h) in
+    let i : Spellable (before_child (is_some (opened_kind e))) es (with_opened (opened_kind e) st) = subst (λ z. Spellable (before_child z) es (with_opened (opened_kind e) st)) p (subst (λ z. Spellable (before_child f) es z) q h) in
     (g.taken ++ i.0, g.on es i.0 i.1)
 
 -- ---- every beginning can be completed
 
-closers : (st : List Kind) → (rest : List Event) × Spellable after rest st
+closers : (st : List Kind) → (rest : List Step) × Spellable after rest st
 closers [] = ([], ([], tt))
 closers (k ∷ st) = let r = closers st in (finish ∷ r.0, with_finish k false st r.0 r.1)
 
@@ -64,33 +67,33 @@ abbrev pub Unfinished : Moment → List Kind → Type 0
 Unfinished after [] = ⊥
 Unfinished _ _ = ⊤
 
-pub inside_unfinished : (f : Bool) (st : List Kind) (k : Kind) → innermost st ≡ Some k → Unfinished (between f) st
+pub inside_unfinished : (f : Bool) (st : List Kind) (k : Kind) → innermost st ≡ Some k → Unfinished (before_child f) st
 inside_unfinished f [] k h = absurd (true≢false (ap is_some (sym h)))
 inside_unfinished true (c ∷ st) k h = tt
 inside_unfinished false (c ∷ st) k h = tt
 
 -- what is unfinished can be completed, and by no fewer than one event
-pub more_to_come : (m : Moment) (st : List Kind) → Live m st → Unfinished m st → (e : Event) × (rest : List Event) × Spellable m (e ∷ rest) st
+pub more_to_come : (m : Moment) (st : List Kind) → IsLive m st → Unfinished m st → (e : Step) × (rest : List Step) × Spellable m (e ∷ rest) st
 more_to_come after [] l u = absurd u
 more_to_come after (k ∷ st) l u = let r = closers st in (finish, r.0, with_finish k false st r.0 r.1)
-more_to_come due st l u = let r = closers st in (nothing, r.0, (codes "null" ++ r.1.0, front [] (codes "null") r.1.0 tt refl r.1.1))
+more_to_come due st l u = let r = closers st in (step.null, r.0, (codes "null" ++ r.1.0, front [] (codes "null") r.1.0 tt refl r.1.1))
 more_to_come first [] l u = absurd l
 more_to_come first (k ∷ st) l u = let r = closers st in (finish, r.0, with_finish k true st r.0 r.1)
 
 -- ---- what some text spells is a tree's
 
-pub more_behind : (es : List Event) (e : Event) (rest : List Event) → es ++ e ∷ rest ≡ [] → ⊥
+pub more_behind : (es : List Step) (e : Step) (rest : List Step) → es ++ e ∷ rest ≡ [] → ⊥
 more_behind es e rest h = omega (arith, ap length h, length-append es (e ∷ rest))
 
 -- behind a leaf no event comes
-leaf_ends : {A : Type 0} (es : List Event) → (es ≡ [] → ⊥) → Spellable after es [] → A
+leaf_ends : {A : Type 0} (es : List Step) → (es ≡ [] → ⊥) → Spellable after es [] → A
 leaf_ends es n h = absurd (n (nothing_left es h.0 h.1).0)
 
-spelled_events : (es : List Event) → Spellable due es [] → (u : Tree) × (es ≡ events u) × IsTree u
+spelled_events : (es : List Step) → Spellable due es [] → (u : Tree) × (es ≡ events u) × IsTree u
 spelled_events es h = let t = spells_json es h.0 h.1 in (t.0, t.1, json_tree h.0 t.0 t.2)
 
 -- the events behind a value's first token, where there are some
-pub tree_spelled : (x : lexed.Event) (scratch : List ℕ) (es : List Event) → (es ≡ [] → ⊥) → Spellable (between (is_some (opens (front_of x scratch)))) es (pushed (opens (front_of x scratch)) []) → (t : Tree) × (front_of x scratch ∷ es ≡ events t) × IsTree t
+pub tree_spelled : (x : lexed.Event) (scratch : List ℕ) (es : List Step) → (es ≡ [] → ⊥) → Spellable (before_child (is_some (opened_kind (event_of_token x scratch)))) es (with_opened (opened_kind (event_of_token x scratch)) []) → (t : Tree) × (event_of_token x scratch ∷ es ≡ events t) × IsTree t
 tree_spelled variant.Null scratch es n h = leaf_ends es n h
 tree_spelled (variant.Bool b) scratch es n h = leaf_ends es n h
 tree_spelled (variant.Negative z) scratch es n h = leaf_ends es n h

@@ -6,12 +6,11 @@ ghost use Rattle.std.specs.Prelude.{◌≡◌, ◌≢◌, pos, ◌≤ℤ◌, Boo
 ghost use Rattle.std.specs.Prelude.{Err, [], IfOk, IfErr, ⊤};
 ghost use Rattle.miniserde_model.specs.Tree.{num};
 ghost use Rattle.miniserde_model.specs.Number.{IsNumber};
-ghost use Rattle.miniserde_model.specs.Event.{Event};
-ghost use Rattle.miniserde_model.specs.Event as event;
+ghost use Rattle.miniserde_model.specs.Step as step;
 ghost use Rattle.miniserde_model.specs.Position.{complete};
-ghost use Rattle.miniserde_read.specs.Step.{event_of};
-ghost use Rattle.miniserde_place.specs.Place.{Meaning, Takes, IsFresh, first_refusal};
-ghost use Rattle.miniserde_read.specs.Step.{IsTreeEvent};
+ghost use Rattle.miniserde_read.specs.Events.{event_of};
+ghost use Rattle.miniserde_place.specs.Place.{PlaceMeaning, Takes, IsFresh, first_refusal};
+ghost use Rattle.miniserde_read.specs.Events.{IsTreeEvent};
 ghost use Rattle.miniserde_place.specs.Container.{is_complete};
 ghost use Rattle.miniserde_model.specs.declared.error.Error.{Error};
 
@@ -30,70 +29,70 @@ pub trait Visitor: Drop {
     type Out;
 
     // Which trees mean which values, and what the place shows.
-    ghost meaning: { Meaning Self Self.Out };
+    ghost meaning: { PlaceMeaning Self Self.Out };
 
     // Whether `begin` takes no memory, and whether `take` takes none.
-    ghost begins_free: { Bool } = { false };
+    ghost begin_infallible: { Bool } = { false };
 
-    ghost takes_free: { Bool } = { false };
+    ghost take_infallible: { Bool } = { false };
 
     // What a call that hands on an event promises besides: nothing, where the place does not say otherwise.
-    ghost further: { Self → Event → Result (Unit {0}) Error → Self → Type 0 } = { λ _ _ _ _. ⊤ };
+    ghost further: { Self → step.Step → Result (Unit {0}) Error → Self → Type 0 } = { λ _ _ _ _. ⊤ };
 
     /// A fresh place. Its only error is `Memory`.
     fn begin(alloc: Global) -> Result<Self>
-        ensures fresh { IfOk result (λ p. IsFresh meaning.from_events (meaning.shows p)) }
+        ensures fresh { IfOk result (λ p. IsFresh meaning.from_events (meaning.view p)) }
         ensures memory { IfErr result (λ r. r ≡ Error.Memory) }
-        ensures free { begins_free ≡ true → IsOk result };
+        ensures infallible { begin_infallible ≡ true → IsOk result };
 
     /// Takes one event. An implementation answers `Err(self.refuse(Error::Invalid))` to one that it does not take.
     fn step(&mut self, event: Step<'_>) -> Result<()>
         requires { IsTreeEvent (event_of event) }
-        ensures takes { Takes (meaning.shows self.old) (event_of event.entry) result (meaning.shows self.new) }
+        ensures takes { Takes (meaning.view self.old) (event_of event.entry) result (meaning.view self.new) }
         ensures further { further self.old (event_of event.entry) result self.new };
 
     /// Marks the place as refused, and answers the first refusal that it was marked with.
     fn refuse(&mut self, error: Error) -> Error
-        ensures answer { result ≡ first_refusal (meaning.shows self.old).refused error }
-        ensures marks { (meaning.shows self.new).refused ≡ Some result };
+        ensures answer { result ≡ first_refusal (meaning.view self.old).refused error }
+        ensures marks { (meaning.view self.new).refused ≡ Some result };
 
     /// Whether the value is complete.
     fn is_complete(&self) -> bool
-        ensures { result ≡ is_complete (meaning.shows self.now).at };
+        ensures { result ≡ is_complete (meaning.view self.now).at };
 
     /// The value, where it is complete and nothing was refused. A refused place answers its refusal, and an
     /// unfinished one `Invalid`.
     fn take(self) -> Result<Self::Out>
-        ensures value { IfOk result (λ v. ((meaning.shows self).at ≡ complete)
-            × ((meaning.shows self).outcome [] ≡ Some (meaning.content v))) }
-        ensures invalid { result ≡ Err Error.Invalid → (meaning.shows self).refused ≡ None
-            → (meaning.shows self).at ≡ complete → (meaning.shows self).outcome [] ≡ None }
-        ensures memory { result ≡ Err Error.Memory → (meaning.shows self).refused ≡ None
-            → ((meaning.shows self).at ≡ complete) × ((meaning.shows self).outcome [] ≢ None) }
-        ensures keeps { (r : Error) → (meaning.shows self).refused ≡ Some r → result ≡ Err r }
-        ensures free { takes_free ≡ true → result ≡ Err Error.Memory
-            → (meaning.shows self).refused ≡ Some Error.Memory };
+        ensures value { IfOk result (λ v. ((meaning.view self).at ≡ complete)
+            × ((meaning.view self).outcome [] ≡ Some (meaning.content v))) }
+        ensures invalid { result ≡ Err Error.Invalid → (meaning.view self).refused ≡ None
+            → (meaning.view self).at ≡ complete → (meaning.view self).outcome [] ≡ None }
+        ensures memory { result ≡ Err Error.Memory → (meaning.view self).refused ≡ None
+            → ((meaning.view self).at ≡ complete) × ((meaning.view self).outcome [] ≢ None) }
+        ensures sticky { (r : Error) → (meaning.view self).refused ≡ Some r → result ≡ Err r }
+        ensures infallible { take_infallible ≡ true → result ≡ Err Error.Memory
+            → (meaning.view self).refused ≡ Some Error.Memory };
 
     /// `null`.
     final fn null(&mut self) -> Result<()>
-        ensures takes { Takes (meaning.shows self.old) event.nothing result (meaning.shows self.new) }
-        ensures further { further self.old event.nothing result self.new }
+        ensures takes { Takes (meaning.view self.old) step.null result (meaning.view self.new) }
+        ensures further { further self.old step.null result self.new }
     {
         self.step(Step::Null)
     }
 
     /// `true` or `false`.
     final fn boolean(&mut self, b: bool) -> Result<()>
-        ensures takes { Takes (meaning.shows self.old) (event.boolean b) result (meaning.shows self.new) }
-        ensures further { further self.old (event.boolean b) result self.new }
+        ensures takes { Takes (meaning.view self.old) (step.boolean b) result (meaning.view self.new) }
+        ensures further { further self.old (step.boolean b) result self.new }
     {
         self.step(Step::Bool(b))
     }
 
     /// A string, by its text.
     final fn string(&mut self, s: &str) -> Result<()>
-        ensures takes { Takes (meaning.shows self.old) (event.string s.now) result (meaning.shows self.new) }
-        ensures further { further self.old (event.string s.now) result self.new }
+        ensures takes { Takes (meaning.view self.old) (step.string s.now) result (meaning.view self.new) }
+        ensures further { further self.old (step.string s.now) result self.new }
     {
         self.step(Step::Str(s))
     }
@@ -101,16 +100,16 @@ pub trait Visitor: Drop {
     /// An integer that is written with `-`.
     final fn negative(&mut self, n: i64) -> Result<()>
         requires { n ≤ℤ pos 0 }
-        ensures takes { Takes (meaning.shows self.old) (event.negative n) result (meaning.shows self.new) }
-        ensures further { further self.old (event.negative n) result self.new }
+        ensures takes { Takes (meaning.view self.old) (step.negative n) result (meaning.view self.new) }
+        ensures further { further self.old (step.negative n) result self.new }
     {
         self.step(Step::Negative(n))
     }
 
     /// An integer that is written without `-`.
     final fn nonnegative(&mut self, n: u64) -> Result<()>
-        ensures takes { Takes (meaning.shows self.old) (event.nonnegative n) result (meaning.shows self.new) }
-        ensures further { further self.old (event.nonnegative n) result self.new }
+        ensures takes { Takes (meaning.view self.old) (step.nonnegative n) result (meaning.view self.new) }
+        ensures further { further self.old (step.nonnegative n) result self.new }
     {
         self.step(Step::Nonnegative(n))
     }
@@ -118,48 +117,48 @@ pub trait Visitor: Drop {
     /// Any other number, by its text.
     final fn float(&mut self, t: &str) -> Result<()>
         requires { IsNumber t.now (num t.now) }
-        ensures takes { Takes (meaning.shows self.old) (event.float t.now) result (meaning.shows self.new) }
-        ensures further { further self.old (event.float t.now) result self.new }
+        ensures takes { Takes (meaning.view self.old) (step.float t.now) result (meaning.view self.new) }
+        ensures further { further self.old (step.float t.now) result self.new }
     {
         self.step(Step::Float(t))
     }
 
     /// A list begins.
     final fn seq(&mut self) -> Result<()>
-        ensures takes { Takes (meaning.shows self.old) event.seq result (meaning.shows self.new) }
-        ensures further { further self.old event.seq result self.new }
+        ensures takes { Takes (meaning.view self.old) step.seq result (meaning.view self.new) }
+        ensures further { further self.old step.seq result self.new }
     {
         self.step(Step::Seq)
     }
 
     /// An element of the innermost open list begins.
     final fn element(&mut self) -> Result<()>
-        ensures takes { Takes (meaning.shows self.old) event.element result (meaning.shows self.new) }
-        ensures further { further self.old event.element result self.new }
+        ensures takes { Takes (meaning.view self.old) step.element result (meaning.view self.new) }
+        ensures further { further self.old step.element result self.new }
     {
         self.step(Step::Element)
     }
 
     /// An object begins.
     final fn map(&mut self) -> Result<()>
-        ensures takes { Takes (meaning.shows self.old) event.map result (meaning.shows self.new) }
-        ensures further { further self.old event.map result self.new }
+        ensures takes { Takes (meaning.view self.old) step.map result (meaning.view self.new) }
+        ensures further { further self.old step.map result self.new }
     {
         self.step(Step::Map)
     }
 
     /// A member of the innermost open object begins, by its name.
     final fn key(&mut self, k: &str) -> Result<()>
-        ensures takes { Takes (meaning.shows self.old) (event.key k.now) result (meaning.shows self.new) }
-        ensures further { further self.old (event.key k.now) result self.new }
+        ensures takes { Takes (meaning.view self.old) (step.key k.now) result (meaning.view self.new) }
+        ensures further { further self.old (step.key k.now) result self.new }
     {
         self.step(Step::Key(k))
     }
 
     /// The innermost open list or object ends.
     final fn finish(&mut self) -> Result<()>
-        ensures takes { Takes (meaning.shows self.old) event.finish result (meaning.shows self.new) }
-        ensures further { further self.old event.finish result self.new }
+        ensures takes { Takes (meaning.view self.old) step.finish result (meaning.view self.new) }
+        ensures further { further self.old step.finish result self.new }
     {
         self.step(Step::Finish)
     }

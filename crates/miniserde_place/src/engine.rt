@@ -1,15 +1,15 @@
 //! Reads a value from the middle of a text by its place, without recursion.
 ghost use Rattle.std.specs.Prelude.{◌≡◌, ◌<◌, ◌≤◌, ◌⊎◌, false, Some, None, Ok, Err, List, ℕ, length, IfOk, IfErr, is_some};
 ghost use Rattle.miniserde_model.specs.Tree.{Tree};
-ghost use Rattle.miniserde_model.specs.Event.{events};
+ghost use Rattle.miniserde_model.specs.Step.{events};
 ghost use Rattle.miniserde_model.specs.Position.{start};
-ghost use Rattle.miniserde_text.specs.Lexer.{front_of, kind_of};
+ghost use Rattle.miniserde_text.specs.Lexer.{event_of_token};
 ghost use Rattle.miniserde_model.specs.declared.error.Error.{Error};
 ghost use Rattle.miniserde_read.specs.Rest.{ValueAt, GivesAt, GivesNoneAt};
-ghost use Rattle.miniserde_read.specs.Step.{IsTreeEvent};
-ghost use Rattle.miniserde_text.specs.private.Moving.{between, onward, opens};
-ghost use Rattle.miniserde_text.specs.private.Stack.{innermost, pushed};
-ghost use Rattle.miniserde_place.specs.Place.{LedBy, HasBegun, LedTo, Barred};
+ghost use Rattle.miniserde_read.specs.Events.{IsTreeEvent};
+ghost use Rattle.miniserde_text.specs.private.Moving.{before_child, due_or_after, opened_kind};
+ghost use Rattle.miniserde_text.specs.private.Stack.{innermost, with_opened};
+ghost use Rattle.miniserde_place.specs.Place.{AdvancesBy, BeginsTree, Advances, Rejects};
 ghost use Rattle.miniserde_place.specs.private.Runs.{Moved, RunsBarred};
 
 use crate::de::{Step, Visitor};
@@ -20,12 +20,12 @@ use miniserde_text::json::lex::{After, Event, Kind};
 /// Reads one value, whose first token is `token`, by a fresh place of its own.
 pub fn read_by_place<'a, V: Visitor>(token: Event<'a>, source: &mut Source<'a>) -> Result<V::Out>
     requires going { source.old.refused ≡ None }
-    requires event { IsTreeEvent (front_of token source.old.scratch) }
+    requires event { IsTreeEvent (event_of_token token source.old.scratch) }
     ensures going { IfOk result (λ _. source.new.refused ≡ None) }
-    ensures ok { IfOk result (λ v. GivesAt V.meaning.from_tree (front_of token.entry source.old.scratch)
+    ensures ok { IfOk result (λ v. GivesAt V.meaning.from_tree (event_of_token token.entry source.old.scratch)
         source.old.rest source.new.rest (V.meaning.content v)) }
     ensures invalid { result ≡ Err Error.Invalid
-        → GivesNoneAt V.meaning.from_tree (front_of token.entry source.old.scratch) source.old.rest }
+        → GivesNoneAt V.meaning.from_tree (event_of_token token.entry source.old.scratch) source.old.rest }
 {
     let mut place = V::begin(source.alloc())?;
     feed_from(token, source, &mut place)?;
@@ -39,25 +39,25 @@ pub fn feed_from<'a, V: Visitor>(
     place: &mut V,
 ) -> Result<()>
     requires going { source.old.refused ≡ None }
-    requires event { IsTreeEvent (front_of token source.old.scratch) }
-    requires unrefused { (V.meaning.shows place.old).refused ≡ None }
-    requires fresh { (V.meaning.shows place.old).at ≡ start }
+    requires event { IsTreeEvent (event_of_token token source.old.scratch) }
+    requires unrefused { (V.meaning.view place.old).refused ≡ None }
+    requires fresh { (V.meaning.view place.old).at ≡ start }
     ensures going { IfOk result (λ _. source.new.refused ≡ None) }
-    ensures unrefused { IfOk result (λ _. (V.meaning.shows place.new).refused ≡ None) }
+    ensures unrefused { IfOk result (λ _. (V.meaning.view place.new).refused ≡ None) }
     ensures ok { IfOk result (λ _. (t : Tree)
-        × ValueAt t (front_of token.entry source.old.scratch) source.old.rest source.new.rest
-        × LedBy (V.meaning.shows place.old) (events t) (V.meaning.shows place.new)) }
+        × ValueAt t (event_of_token token.entry source.old.scratch) source.old.rest source.new.rest
+        × AdvancesBy (V.meaning.view place.old) (events t) (V.meaning.view place.new)) }
     ensures invalid { result ≡ Err Error.Invalid → (t : Tree) (r : List ℕ)
-        → ValueAt t (front_of token.entry source.old.scratch) source.old.rest r
-        → (V.meaning.shows place.old).outcome (events t) ≡ None }
-    ensures keeps { IfErr result (λ e. ((V.meaning.shows place.new).refused ≡ Some e)
-        ⊎ (((V.meaning.shows place.new).refused ≡ None)
-        × HasBegun (V.meaning.shows place.old) (V.meaning.shows place.new))) }
+        → ValueAt t (event_of_token token.entry source.old.scratch) source.old.rest r
+        → (V.meaning.view place.old).outcome (events t) ≡ None }
+    ensures sticky { IfErr result (λ e. ((V.meaning.view place.new).refused ≡ Some e)
+        ⊎ (((V.meaning.view place.new).refused ≡ None)
+        × BeginsTree (V.meaning.view place.old) (V.meaning.view place.new))) }
 {
     let mut stack = Stack::new(source.alloc());
     let mut first = enter(token, source, &mut stack, place)?;
     while let Some(kind) = stack.top() {
-        if turn(source, &mut stack, place, kind, first)? {
+        if take_child_or_end(source, &mut stack, place, kind, first)? {
             let token = source.token()?;
             first = enter(token, source, &mut stack, place)?;
         } else {
@@ -76,16 +76,16 @@ fn enter<'a, V: Visitor>(
     stack: &mut Stack,
     place: &mut V,
 ) -> Result<bool>
-    requires event { IsTreeEvent (front_of token source.now.scratch) }
-    requires unrefused { (V.meaning.shows place.old).refused ≡ None }
-    ensures opens { IfOk result (λ b. b ≡ is_some (opens (front_of token.entry source.now.scratch))) }
-    ensures stack { IfOk result (λ _. stack.new ≡ pushed (opens (front_of token.entry source.now.scratch)) stack.old) }
+    requires event { IsTreeEvent (event_of_token token source.now.scratch) }
+    requires unrefused { (V.meaning.view place.old).refused ≡ None }
+    ensures opens { IfOk result (λ b. b ≡ is_some (opened_kind (event_of_token token.entry source.now.scratch))) }
+    ensures stack { IfOk result (λ _. stack.new ≡ with_opened (opened_kind (event_of_token token.entry source.now.scratch)) stack.old) }
     ensures leads { IfOk result (λ _.
-        LedTo (V.meaning.shows place.old) (front_of token.entry source.now.scratch) (V.meaning.shows place.new)) }
-    ensures unrefused { IfOk result (λ _. (V.meaning.shows place.new).refused ≡ None) }
+        Advances (V.meaning.view place.old) (event_of_token token.entry source.now.scratch) (V.meaning.view place.new)) }
+    ensures unrefused { IfOk result (λ _. (V.meaning.view place.new).refused ≡ None) }
     ensures bars { result ≡ Err Error.Invalid
-        → Barred (V.meaning.shows place.old) (front_of token.entry source.now.scratch) }
-    ensures keeps { IfErr result (λ e. ((V.meaning.shows place.new).refused ≡ Some e) ⊎ (place.new ≡ place.old)) }
+        → Rejects (V.meaning.view place.old) (event_of_token token.entry source.now.scratch) }
+    ensures sticky { IfErr result (λ e. ((V.meaning.view place.new).refused ≡ Some e) ⊎ (place.new ≡ place.old)) }
 {
     let opened = stack.enter(token)?;
     place.step(source.step(token))?;
@@ -94,28 +94,28 @@ fn enter<'a, V: Visitor>(
 
 /// Takes the closing bracket of the innermost container, or what leads to its next child, and hands that event to the
 /// place. Returns whether a value is due. `first` says that the opening bracket was just taken.
-fn turn<'a, V: Visitor>(
+fn take_child_or_end<'a, V: Visitor>(
     source: &mut Source<'a>,
     stack: &mut Stack,
     place: &mut V,
     kind: Kind,
     first: bool,
 ) -> Result<bool>
-    requires inside { innermost stack.old ≡ Some (kind_of kind) }
+    requires inside { innermost stack.old ≡ Some kind }
     requires going { source.old.refused ≡ None }
-    requires unrefused { (V.meaning.shows place.old).refused ≡ None }
+    requires unrefused { (V.meaning.view place.old).refused ≡ None }
     ensures going { IfOk result (λ _. source.new.refused ≡ None) }
-    ensures unrefused { IfOk result (λ _. (V.meaning.shows place.new).refused ≡ None) }
+    ensures unrefused { IfOk result (λ _. (V.meaning.view place.new).refused ≡ None) }
     ensures less { IfOk result (λ is_due. (length source.new.rest ≤ length source.old.rest)
         × (is_due ≡ false → length source.new.rest < length source.old.rest)) }
     ensures moved { IfOk result (λ is_due.
-        Moved (between first) stack.old source.old.rest
-        (V.meaning.shows place.old).at (V.meaning.shows place.old).outcome
-        (onward is_due) stack.new source.new.rest (V.meaning.shows place.new).at (V.meaning.shows place.new).outcome) }
+        Moved (before_child first) stack.old source.old.rest
+        (V.meaning.view place.old).at (V.meaning.view place.old).outcome
+        (due_or_after is_due) stack.new source.new.rest (V.meaning.view place.new).at (V.meaning.view place.new).outcome) }
     ensures invalid { result ≡ Err Error.Invalid →
-        RunsBarred (between first) stack.old source.old.rest
-        (V.meaning.shows place.old).outcome (V.meaning.shows place.old).at }
-    ensures keeps { IfErr result (λ e. ((V.meaning.shows place.new).refused ≡ Some e) ⊎ (place.new ≡ place.old)) }
+        RunsBarred (before_child first) stack.old source.old.rest
+        (V.meaning.view place.old).outcome (V.meaning.view place.old).at }
+    ensures sticky { IfErr result (λ e. ((V.meaning.view place.new).refused ≡ Some e) ⊎ (place.new ≡ place.old)) }
 {
     match source.after(kind, first)? {
         After::Close => {

@@ -1,8 +1,8 @@
 //! A place that takes one value of any shape and collects nothing.
 ghost use Rattle.std.specs.Prelude.{◌≡◌, true, Some, None, refl};
 ghost use Rattle.miniserde_model.specs.Position.{start};
-ghost use Rattle.miniserde_read.specs.Meanings.{ignored_meant};
-ghost use Rattle.miniserde_place.specs.Place.{placed};
+ghost use Rattle.miniserde_read.specs.Meanings.{ignored_meaning};
+ghost use Rattle.miniserde_place.specs.Place.{place_meaning};
 
 pub(crate) mod fresh;
 
@@ -38,12 +38,12 @@ impl Visitor for Ignore {
 
     type Out = ();
 
-    ghost meaning = { placed ignored_meant (λ _. Some tt) (λ _. refl)
+    ghost meaning = { place_meaning ignored_meaning (λ _. Some tt) (λ _. refl)
         (λ p. record { at = position_of p; outcome = λ _. Some tt; refused = refusal_of p }) };
 
-    ghost begins_free = { true };
+    ghost begin_infallible = { true };
 
-    ghost takes_free = { true };
+    ghost take_infallible = { true };
 
     ghost further = { IgnoreTakes };
 

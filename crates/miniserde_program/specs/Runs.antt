@@ -5,7 +5,7 @@ use Rattle.std.specs.Io.KnownBytes.{IsAtEnd, Keeps, Appends}
 use Rattle.miniserde_model.specs.Tree.{Tree}
 use Rattle.miniserde_model.specs.Value.{IsJson}
 use Rattle.miniserde_model.specs.Compact.{compact}
-use Rattle.miniserde_model.specs.Distinct.{distinct}
+use Rattle.miniserde_model.specs.Distinct.{names_distinct}
 use Rattle.miniserde_model.specs.Normal.{norm}
 use Rattle.miniserde_model.specs.Size.{size}
 use Rattle.miniserde_model.specs.declared.error.Error.{Error}
@@ -25,11 +25,11 @@ HasNoAnswer xs = (IsUtf8 xs → ⊥) ⊎ ((t : Tree) → IsJson xs t → ⊥)
 
 -- the same, if no name is duplicated in the tree, so that the normal form has as many values
 unfoldable pub IsUniqueAnswer : List ℕ → List ℕ → Type 0
-IsUniqueAnswer xs ys = IsUtf8 xs × ((t : Tree) × IsJson xs t × (distinct t ≡ true) × (size (norm t) ≡ size t) × (ys ≡ compact (norm t)))
+IsUniqueAnswer xs ys = IsUtf8 xs × ((t : Tree) × IsJson xs t × (names_distinct t ≡ true) × (size (norm t) ≡ size t) × (ys ≡ compact (norm t)))
 
 -- the bytes are no UTF-8, or spell no tree without duplicate names
 unfoldable pub HasNoUniqueAnswer : List ℕ → Type 0
-HasNoUniqueAnswer xs = (IsUtf8 xs → ⊥) ⊎ ((t : Tree) → IsJson xs t → distinct t ≡ true → ⊥)
+HasNoUniqueAnswer xs = (IsUtf8 xs → ⊥) ⊎ ((t : Tree) → IsJson xs t → names_distinct t ≡ true → ⊥)
 
 -- ---- the calls
 
@@ -75,25 +75,25 @@ abbrev pub AppendsPart : Option (List ℕ) → Option (List ℕ) → List ℕ �
 AppendsPart old new bs = (front : List ℕ) × (rest : List ℕ) × (bs ≡ front ++ rest) × Appends old new front
 
 -- the answer for xs was appended, and a beginning of it: what an answer is comes first
-abbrev pub Answered : (List ℕ → List ℕ → Type 0) → Option (List ℕ) → Option (List ℕ) → List ℕ → Type 0
-Answered is old new xs = (ys : List ℕ) × is xs ys × Appends old new ys
+abbrev pub AppendsBy : (List ℕ → List ℕ → Type 0) → Option (List ℕ) → Option (List ℕ) → List ℕ → Type 0
+AppendsBy is old new xs = (ys : List ℕ) × is xs ys × Appends old new ys
 
-abbrev pub AnswerBegun : (List ℕ → List ℕ → Type 0) → Option (List ℕ) → Option (List ℕ) → List ℕ → Type 0
-AnswerBegun is old new xs = (ys : List ℕ) × is xs ys × AppendsPart old new ys
+abbrev pub AppendsPartBy : (List ℕ → List ℕ → Type 0) → Option (List ℕ) → Option (List ℕ) → List ℕ → Type 0
+AppendsPartBy is old new xs = (ys : List ℕ) × is xs ys × AppendsPart old new ys
 
 -- the answer of `run`
 abbrev pub AppendsAnswer : Option (List ℕ) → Option (List ℕ) → List ℕ → Type 0
-AppendsAnswer = Answered IsAnswer
+AppendsAnswer = AppendsBy IsAnswer
 
-abbrev pub BeginsAnswer : Option (List ℕ) → Option (List ℕ) → List ℕ → Type 0
-BeginsAnswer = AnswerBegun IsAnswer
+abbrev pub AppendsPartOfAnswer : Option (List ℕ) → Option (List ℕ) → List ℕ → Type 0
+AppendsPartOfAnswer = AppendsPartBy IsAnswer
 
 -- the answer of `run_unique`
-abbrev pub AppendsUnique : Option (List ℕ) → Option (List ℕ) → List ℕ → Type 0
-AppendsUnique = Answered IsUniqueAnswer
+abbrev pub AppendsUniqueAnswer : Option (List ℕ) → Option (List ℕ) → List ℕ → Type 0
+AppendsUniqueAnswer = AppendsBy IsUniqueAnswer
 
-abbrev pub BeginsUnique : Option (List ℕ) → Option (List ℕ) → List ℕ → Type 0
-BeginsUnique = AnswerBegun IsUniqueAnswer
+abbrev pub AppendsPartOfUniqueAnswer : Option (List ℕ) → Option (List ℕ) → List ℕ → Type 0
+AppendsPartOfUniqueAnswer = AppendsPartBy IsUniqueAnswer
 
 -- ---- the program
 
@@ -116,12 +116,12 @@ line_of (Err Write) = codes "canon: write failed"
 -- What a run that answered this did: what an answer is, and a text that has none. Of the reader: the bytes left before and behind, and the failures; of the
 -- writer: the bytes written, the failures and the flushes.
 pub record Ran {T : Type 0} (is : List ℕ → List ℕ → Type 0) (none : List ℕ → Type 0) (answer : Result T Fault) (left left' : Option (List ℕ)) (read_failures read_failures' : ℕ) (written written' : Option (List ℕ)) (write_failures write_failures' flushes flushes' : ℕ) : Type 0 where
-  pub ok : OnOk answer (IfSome left (Answered is written written'))
+  pub ok : OnOk answer (IfSome left (AppendsBy is written written'))
   pub flushed : OnOk answer (flushes' ≡ flushes + 1)
   pub read : IfRead answer (IsAtEnd left')
   pub read_failed : read_failures' ≡ read_failures + read_faults answer
   pub write_failed : write_failures' ≡ write_failures + write_faults answer
   pub invalid : IsErrOf answer Invalid → IfSome left none
   pub silent : IfSilent answer (Keeps written written')
-  pub part : IsErrOf answer Write → IfSome left (AnswerBegun is written written')
-  pub whole : IsErrOf answer Write → flushes < flushes' → IfSome left (Answered is written written')
+  pub part : IsErrOf answer Write → IfSome left (AppendsPartBy is written written')
+  pub all_written : IsErrOf answer Write → flushes < flushes' → IfSome left (AppendsBy is written written')

@@ -7,8 +7,8 @@ ghost use Rattle.std.specs.Io.KnownBytes.{Consumes, IsAtEnd, Keeps, Appends};
 ghost use Rattle.miniserde_program.specs.Counts.{inner_of, failures, flushes};
 ghost use Rattle.miniserde_program.specs.Runs.{IsAnswer, HasNoAnswer, IsUniqueAnswer, HasNoUniqueAnswer};
 ghost use Rattle.miniserde_program.specs.Runs.{fault_of, read_faults, write_faults, IfRead};
-ghost use Rattle.miniserde_program.specs.Runs.{AppendsUnique, BeginsUnique};
-ghost use Rattle.miniserde_program.specs.Runs.{IfSilent, AppendsPart, AppendsAnswer, BeginsAnswer, status_of, line_of};
+ghost use Rattle.miniserde_program.specs.Runs.{AppendsUniqueAnswer, AppendsPartOfUniqueAnswer};
+ghost use Rattle.miniserde_program.specs.Runs.{IfSilent, AppendsPart, AppendsAnswer, AppendsPartOfAnswer, status_of, line_of};
 ghost use Rattle.miniserde_program.specs.Runs.{Ran};
 ghost use Rattle.miniserde_program.specs.declared.canon.Fault.{Fault};
 
@@ -65,8 +65,8 @@ pub fn run<R: Read, W: Write>(
     ensures invalid { IsErrOf result Fault.Invalid → IfSome (R.remaining (inner_of r.old)) HasNoAnswer }
     ensures silent { IfSilent result (Keeps (W.contents (inner_of w.old)) (W.contents (inner_of w.new))) }
     ensures part { IsErrOf result Fault.Write → IfSome (R.remaining (inner_of r.old))
-        (BeginsAnswer (W.contents (inner_of w.old)) (W.contents (inner_of w.new))) }
-    ensures whole { IsErrOf result Fault.Write → flushes w.old < flushes w.new → IfSome (R.remaining (inner_of r.old))
+        (AppendsPartOfAnswer (W.contents (inner_of w.old)) (W.contents (inner_of w.new))) }
+    ensures all_written { IsErrOf result Fault.Write → flushes w.old < flushes w.new → IfSome (R.remaining (inner_of r.old))
         (AppendsAnswer (W.contents (inner_of w.old)) (W.contents (inner_of w.new))) }
 {
     let bytes = read_all(alloc, r)?;
@@ -83,7 +83,7 @@ pub fn run_unique<R: Read, W: Write>(
 ) -> Result<(), Fault>
     // The answer was written, nothing else, and flushed once.
     ensures ok { OnOk result (IfSome (R.remaining (inner_of r.old))
-        (AppendsUnique (W.contents (inner_of w.old)) (W.contents (inner_of w.new)))) }
+        (AppendsUniqueAnswer (W.contents (inner_of w.old)) (W.contents (inner_of w.new)))) }
     ensures flushed { OnOk result (flushes w.new ≡ flushes w.old + 1) }
 
     // The reader was read to its end, and the failures are counted.
@@ -95,9 +95,9 @@ pub fn run_unique<R: Read, W: Write>(
     ensures invalid { IsErrOf result Fault.Invalid → IfSome (R.remaining (inner_of r.old)) HasNoUniqueAnswer }
     ensures silent { IfSilent result (Keeps (W.contents (inner_of w.old)) (W.contents (inner_of w.new))) }
     ensures part { IsErrOf result Fault.Write → IfSome (R.remaining (inner_of r.old))
-        (BeginsUnique (W.contents (inner_of w.old)) (W.contents (inner_of w.new))) }
-    ensures whole { IsErrOf result Fault.Write → flushes w.old < flushes w.new → IfSome (R.remaining (inner_of r.old))
-        (AppendsUnique (W.contents (inner_of w.old)) (W.contents (inner_of w.new))) }
+        (AppendsPartOfUniqueAnswer (W.contents (inner_of w.old)) (W.contents (inner_of w.new))) }
+    ensures all_written { IsErrOf result Fault.Write → flushes w.old < flushes w.new → IfSome (R.remaining (inner_of r.old))
+        (AppendsUniqueAnswer (W.contents (inner_of w.old)) (W.contents (inner_of w.new))) }
 {
     let bytes = read_all(alloc, r)?;
     let text = answer_unique(alloc, bytes.as_slice())?;
@@ -128,14 +128,14 @@ pub fn program<R: Read, W: Write>(
         → (result.0 ≡ 2) × (result.1.now ≡ codes "usage: canon [--unique]") × (r.new ≡ r.old) × (w.new ≡ w.old) }
 {
     match args {
-        [] => told(run(alloc, r, w)),
-        [word] if word.as_str() == "--unique" => told(run_unique(alloc, r, w)),
+        [] => status_and_line(run(alloc, r, w)),
+        [word] if word.as_str() == "--unique" => status_and_line(run_unique(alloc, r, w)),
         _ => (2, "usage: canon [--unique]"),
     }
 }
 
 // What is said of a run's end.
-fn told(answer: Result<(), Fault>) -> (u8, &'static str)
+fn status_and_line(answer: Result<(), Fault>) -> (u8, &'static str)
     ensures status { result.0 ≡ status_of answer }
     ensures line { result.1.now ≡ line_of answer }
 {
@@ -211,7 +211,7 @@ fn write_out<W: Write>(text: String, w: &mut Counted<W>) -> Result<(), Fault>
     ensures only { OnErr result (IsErrOf result Fault.Write) }
     ensures part { OnErr result
         (AppendsPart (W.contents (inner_of w.old)) (W.contents (inner_of w.new)) (string_bytes text)) }
-    ensures whole { OnErr result (flushes w.old < flushes w.new
+    ensures all_written { OnErr result (flushes w.old < flushes w.new
         → Appends (W.contents (inner_of w.old)) (W.contents (inner_of w.new)) (string_bytes text)) }
 {
     put_all(w, text.as_bytes())?;

@@ -11,7 +11,7 @@ use Rattle.std.proofs.lemmas.Map.Keys.{IsDistinct-IsPermutation}
 use Rattle.std.proofs.lemmas.Slice.Eq.{bytes_eq-Decides}
 use Rattle.miniserde_keys.specs.Keys.{Key}
 use Rattle.miniserde_text.proofs.Equal.{bytes_eq-flips}
-use Rattle.miniserde_read.specs.meaning.Maps.{entry_at}
+use Rattle.miniserde_read.specs.types.Maps.{entry_at}
 
 pub same_code : (a b : Key) → bytes_eq a b ≡ true → a ≡ b
 same_code a b h = (bytes_eq-Decides a b).0 h

@@ -5,14 +5,15 @@ use Rattle.std.specs.List.{AllByRecursion}
 use Rattle.std.proofs.lemmas.List.{append_assoc}
 use Rattle.miniserde_model.specs.Bytes.{is_special}
 use Rattle.miniserde_model.specs.Tree.{Tree}
-use Rattle.miniserde_model.specs.Event.{Event}
-use Rattle.miniserde_model.specs.Lexing.{in_list, Starts, Follows}
+use Rattle.miniserde_model.specs.Step.{Step}
+use Rattle.miniserde_model.specs.Lexing.{Starts, Follows}
+use Rattle.miniserde_model.specs.declared.kind.Kind.TheVariants.{Seq}
 use Rattle.miniserde_text.specs.Lexer.{BeginsEscaped}
 use Rattle.miniserde_read.specs.Escaped.{HasEscape}
 use Rattle.miniserde_read.specs.Rest.{ValueAt}
 use Rattle.miniserde_read.specs.Lacking.{EscapedElement, AnElement, EscapedAmong, SomeElements}
 
-pub an_element : (f : Bool) (s b c d : List ℕ) (e : Event) (t : Tree) → Follows in_list f false s b → Starts b e c → ValueAt t e c d → AnElement f s d
+pub an_element : (f : Bool) (s b c d : List ℕ) (e : Step) (t : Tree) → Follows Seq f false s b → Starts b e c → ValueAt t e c d → AnElement f s d
 an_element f s b c d e t h k v = (t, record { begin = b; event = e; behind = c; rest = d; follows = h; starts = k; is_value = v; is_rest = refl })
 
 -- Of n elements, k stand from `begin` to s.

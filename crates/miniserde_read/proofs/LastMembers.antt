@@ -5,21 +5,21 @@ use Rattle.std.specs.Map.{lookup}
 use Rattle.miniserde_model.specs.Tree.{Tree, null, truth, nonneg, neg, num, str, list, members, Members, no_members, member}
 use Rattle.miniserde_model.specs.Normal.{last_of, or_else}
 use Rattle.miniserde_keys.specs.Keys.{Key}
-use Rattle.miniserde_read.specs.meaning.Objects.{Name}
-use Rattle.miniserde_read.specs.meaning.Maps.{met, met_at, entry_at, MeansAt, MapReads}
+use Rattle.miniserde_read.specs.types.Objects.{Name}
+use Rattle.miniserde_read.specs.types.Maps.{first_and_last, first_and_last_at, entry_at, MeansAt, MapReads}
 use Rattle.miniserde_read.specs.Lookups.{last_in, last_at, IsValueOf}
 
 -- ---- the last tree of a name is the last tree of the members whose key it is
 
-last_met : (b : Bool) (k : Name) (t : Tree) (o : Option (Key × Tree)) → option_map (λ e. e.1) (met (cond b (Some k) None) t o) ≡ or_else (option_map (λ e. e.1) o) (cond b (Some t) None)
+last_met : (b : Bool) (k : Name) (t : Tree) (o : Option (Key × Tree)) → option_map (λ e. e.1) (first_and_last (cond b (Some k) None) t o) ≡ or_else (option_map (λ e. e.1) o) (cond b (Some t) None)
 last_met true k t None = refl
 last_met true k t (Some p) = refl
 last_met false k t None = refl
 last_met false k t (Some p) = refl
 
-last_named : (q : Name) (ms : Members) → option_map (λ e. e.1) (met_at (λ k. Some k) (λ c. c) q ms) ≡ last_of q ms
+last_named : (q : Name) (ms : Members) → option_map (λ e. e.1) (first_and_last_at (λ k. Some k) (λ c. c) q ms) ≡ last_of q ms
 last_named q no_members = refl
-last_named q (member k t ms) = last_met (bytes_eq k q) k t (met_at (λ k. Some k) (λ c. c) q ms) ∙ ap (λ o. or_else o (cond (bytes_eq k q) (Some t) None)) (last_named q ms)
+last_named q (member k t ms) = last_met (bytes_eq k q) k t (first_and_last_at (λ k. Some k) (λ c. c) q ms) ∙ ap (λ o. or_else o (cond (bytes_eq k q) (Some t) None)) (last_named q ms)
 
 -- ---- what `get` finds
 
@@ -41,7 +41,7 @@ module _ {K V : Type 0} (content : K → Key) (R : Tree → V → Type 0) where
   module _ {C : Type 0} (read : Name → Option Key) (code : Key → Key) (of : Tree → Option C) where
     pub last_key : (t : Tree) (es : List (K × V)) → MapReads read code content of R t es → (test : K → Bool) (q : Key) → ((k : K) → test k ≡ bytes_eq (code (content k)) q) → IsValueOf R (last_at read code q t) (lookup test es)
     last_key (members ms) es h test q same =
-        subst (IsValueOf R (option_map (λ p. p.1) (met_at read code q ms))) (sym (found_at (λ k. code (content k)) test q same es)) (value_at (met_at read code q ms) (entry_at (λ k. code (content k)) q es) (h.1 q))
+        subst (IsValueOf R (option_map (λ p. p.1) (first_and_last_at read code q ms))) (sym (found_at (λ k. code (content k)) test q same es)) (value_at (first_and_last_at read code q ms) (entry_at (λ k. code (content k)) q es) (h.1 q))
     last_key null es h test q same = absurd h
     last_key (truth b) es h test q same = absurd h
     last_key (nonneg n) es h test q same = absurd h

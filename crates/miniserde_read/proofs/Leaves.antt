@@ -1,13 +1,14 @@
 -- A leaf's tree is told by its event.
 use Rattle.std.proofs.Common.{◌≡◌, ℕ, List, Option, Some, None, refl, subst}
 use Rattle.miniserde_model.specs.Tree.{Tree, null, truth, nonneg, neg, num, str, list, members}
-use Rattle.miniserde_model.specs.Event.{Event, nothing, boolean, string, negative, nonnegative, float, seq, element, map, key, finish}
+use Rattle.miniserde_model.specs.Step.{Step, boolean, string, negative, nonnegative, float, seq, element, map, key, finish}
+use Rattle.miniserde_model.specs.Step as step
 use Rattle.miniserde_read.specs.Rest.{ValueAt}
-use Rattle.miniserde_read.specs.Step.{on_leaf, OnlyLeaves}
+use Rattle.miniserde_read.specs.Events.{on_leaf, OnlyLeaves}
 
 module _ {C : Type 0} (f : Tree → Option C) where
-  pub leaf_given : (e : Event) (s : List ℕ) (c : C) → on_leaf f e ≡ Some c → (t : Tree) × ValueAt t e s s × (f t ≡ Some c)
-  leaf_given nothing s c h = (null, (refl, refl), h)
+  pub leaf_given : (e : Step) (s : List ℕ) (c : C) → on_leaf f e ≡ Some c → (t : Tree) × ValueAt t e s s × (f t ≡ Some c)
+  leaf_given step.null s c h = (null, (refl, refl), h)
   leaf_given (boolean x) s c h = (truth x, (refl, refl), h)
   leaf_given (string x) s c h = (str x, (refl, refl), h)
   leaf_given (negative n) s c h = (neg n, (refl, refl), h)
@@ -20,7 +21,7 @@ module _ {C : Type 0} (f : Tree → Option C) where
   leaf_given finish s c h = absurd (cc)
 
   -- where the event gives nothing, no value that begins with it gives anything
-  pub leaf_none : OnlyLeaves f → (e : Event) (t : Tree) (s r : List ℕ) → on_leaf f e ≡ None → ValueAt t e s r → f t ≡ None
+  pub leaf_none : OnlyLeaves f → (e : Step) (t : Tree) (s r : List ℕ) → on_leaf f e ≡ None → ValueAt t e s r → f t ≡ None
   leaf_none o e null s r h v = subst (λ z. on_leaf f z ≡ None) v.0 h
   leaf_none o e (truth b) s r h v = subst (λ z. on_leaf f z ≡ None) v.0 h
   leaf_none o e (nonneg n) s r h v = subst (λ z. on_leaf f z ≡ None) v.0 h

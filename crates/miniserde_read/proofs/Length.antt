@@ -1,8 +1,10 @@
 -- What is left gets no longer.
 use Rattle.std.proofs.Common.{ℕ, ◌≤◌, ◌++◌, Bool, true, false, List, length, ap, arith, length-append}
 use Rattle.miniserde_model.specs.Tree.{Tree, null, truth, nonneg, neg, num, str, list, members, Trees, no_trees, tree, Members, no_members, member}
-use Rattle.miniserde_model.specs.Event.{Event}
-use Rattle.miniserde_model.specs.Lexing.{Kind, in_list, in_members, Stands, Follows}
+use Rattle.miniserde_model.specs.Step.{Step}
+use Rattle.miniserde_model.specs.Lexing.{Stands, Follows}
+use Rattle.miniserde_model.specs.declared.kind.Kind.{Kind}
+use Rattle.miniserde_model.specs.declared.kind.Kind.TheVariants.{Seq, Map}
 use Rattle.miniserde_text.proofs.Starting.{start_less}
 use Rattle.miniserde_read.specs.Rest.{ValueAt, ElementsAt, MembersAt}
 
@@ -15,7 +17,7 @@ follows_least k true false s r p = stands_least s r p.0
 follows_least k false false s r p = stands_least s r p
 
 mutual
-  pub value_least : (t : Tree) (e : Event) (s r : List ℕ) → ValueAt t e s r → length r ≤ length s
+  pub value_least : (t : Tree) (e : Step) (s r : List ℕ) → ValueAt t e s r → length r ≤ length s
   value_least null e s r p = omega (arith, ap length p.1)
   value_least (truth x) e s r p = omega (arith, ap length p.1)
   value_least (nonneg n) e s r p = omega (arith, ap length p.1)
@@ -26,18 +28,18 @@ mutual
   value_least (members ms) e s r p = members_least ms true s r p.1
 
   pub elements_least : (ts : Trees) (f : Bool) (s r : List ℕ) → ElementsAt ts f s r → length r ≤ length s
-  elements_least no_trees f s r p = follows_least in_list f true s r p
+  elements_least no_trees f s r p = follows_least Seq f true s r p
   elements_least (tree t ts) f s r p =
-      let a = follows_least in_list f false s p.begin p.follows in
+      let a = follows_least Seq f false s p.begin p.follows in
       let b = start_less p.begin p.event p.behind p.starts in
       let c = value_least t p.event p.behind p.rest p.is_value in
       let d = elements_least ts false p.rest r p.is_rest in
       omega (arith, a, b, c, d)
 
   pub members_least : (ms : Members) (f : Bool) (s r : List ℕ) → MembersAt ms f s r → length r ≤ length s
-  members_least no_members f s r p = follows_least in_members f true s r p
+  members_least no_members f s r p = follows_least Map f true s r p
   members_least (member n t ms) f s r p =
-      let a = follows_least in_members f false s p.begin p.follows in
+      let a = follows_least Map f false s p.begin p.follows in
       let g = stands_least p.begin p.named p.names in
       let b = start_less p.named p.event p.behind p.starts in
       let c = value_least t p.event p.behind p.rest p.is_value in

@@ -1,6 +1,6 @@
 pub mod Arrays
 pub mod Entries
-pub mod Fronts
+pub mod Tokens
 pub mod Inserts
 pub mod Json
 pub mod Lacking
@@ -11,7 +11,7 @@ pub mod Lists
 pub mod Maps
 pub mod Objects
 pub mod Pairs
-pub mod Passed
+pub mod Consumes
 pub mod Same
 pub mod Skips
 pub mod Steps

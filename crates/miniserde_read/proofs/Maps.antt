@@ -3,8 +3,8 @@ use Rattle.std.proofs.Common.{◌≡◌, Option, Some, None, refl}
 use Rattle.std.specs.Prelude.{option_and_then, option_map}
 use Rattle.miniserde_model.specs.Tree.{Tree}
 use Rattle.miniserde_keys.specs.Keys.{Key}
-use Rattle.miniserde_read.specs.meaning.Objects.{Name}
-use Rattle.miniserde_read.specs.meaning.Maps.{Entries, with_entry, map_member}
+use Rattle.miniserde_read.specs.types.Objects.{Name}
+use Rattle.miniserde_read.specs.types.Maps.{Entries, with_entry, map_member}
 
 module _ {C : Type 0} (read : Name → Option Key) (code : Key → Key) (of : Tree → Option C) where
   pub entry_some : (m : Entries C) (n : Name) (t : Tree) (c : Key) (d : C) → read n ≡ Some c → of t ≡ Some d → map_member read code of m n t ≡ Some (with_entry code m c d)

@@ -1,9 +1,12 @@
 -- What follows in a text spells one tree at most, and ends in one place.
 use Rattle.std.proofs.Common.{◌≡◌, ℕ, Bool, true, false, List, refl, sym, ap, subst, ◌∙◌, arith}
 use Rattle.miniserde_model.specs.Tree.{Tree, null, truth, nonneg, neg, num, str, list, members, Trees, no_trees, tree, Members, no_members, member}
-use Rattle.miniserde_model.specs.Event.{Event, nothing, boolean, string, negative, nonnegative, float, seq, map}
+use Rattle.miniserde_model.specs.Step.{Step, boolean, string, negative, nonnegative, float, seq, map}
+use Rattle.miniserde_model.specs.Step as step
 use Rattle.miniserde_model.specs.Bytes.{is_space}
-use Rattle.miniserde_model.specs.Lexing.{Kind, in_list, in_members, Begins, Starts, Names, Follows, closing}
+use Rattle.miniserde_model.specs.Lexing.{Begins, Starts, Names, Follows, closing}
+use Rattle.miniserde_model.specs.declared.kind.Kind.{Kind}
+use Rattle.miniserde_model.specs.declared.kind.Kind.TheVariants.{Seq, Map}
 use Rattle.miniserde_model.proofs.Runs.{same_run}
 use Rattle.miniserde_model.proofs.Prefixes.{whitespace_passes}
 use Rattle.miniserde_text.proofs.Starting.{same_first, first_byte, begins_first, same_byte, same_name}
@@ -14,16 +17,16 @@ use Rattle.miniserde_text.proofs.Turning.{bare, begins_stops}
 -- ---- what a lexer finds in a container
 
 closing_no_space : (k : Kind) → is_space (closing k) ≡ false
-closing_no_space in_list = refl
-closing_no_space in_members = refl
+closing_no_space Seq = refl
+closing_no_space Map = refl
 
 closing_no_comma : (k : Kind) → closing k ≡ 44 → ⊥
-closing_no_comma in_list e = omega (arith, e)
-closing_no_comma in_members e = omega (arith, e)
+closing_no_comma Seq e = omega (arith, e)
+closing_no_comma Map e = omega (arith, e)
 
 not_closing : (k : Kind) (r : List ℕ) (b : Begins r) → b.byte ≡ closing k → ⊥
-not_closing in_list r b e = b.no_list_end e
-not_closing in_members r b e = b.no_members_end e
+not_closing Seq r b e = b.no_list_end e
+not_closing Map r b e = b.no_members_end e
 
 pub close_same : (k : Kind) (f : Bool) (s r x : List ℕ) → Follows k f true s r → Follows k f true s x → r ≡ x
 close_same k f s r x p q = (same_byte (closing k) (closing k) s r x (closing_no_space k) (closing_no_space k) p q).1
@@ -39,8 +42,8 @@ close_no_next k false s r x p q = closing_no_comma k (same_byte (closing k) 44 s
 
 -- ---- the first event of a tree
 
-abbrev pub first_event : Tree → Event
-first_event null = nothing
+abbrev pub first_event : Tree → Step
+first_event null = step.null
 first_event (truth x) = boolean x
 first_event (nonneg n) = nonnegative n
 first_event (neg n) = negative n
@@ -49,7 +52,7 @@ first_event (str x) = string x
 first_event (list ts) = seq
 first_event (members ms) = map
 
-pub value_event : (t : Tree) (e : Event) (s r : List ℕ) → ValueAt t e s r → e ≡ first_event t
+pub value_event : (t : Tree) (e : Step) (s r : List ℕ) → ValueAt t e s r → e ≡ first_event t
 value_event null e s r p = p.0
 value_event (truth x) e s r p = p.0
 value_event (nonneg n) e s r p = p.0
@@ -60,8 +63,8 @@ value_event (list ts) e s r p = p.0
 value_event (members ms) e s r p = p.0
 
 -- a number for each kind of tree
-abbrev pub tag : Event → ℕ
-tag nothing = 0
+abbrev pub tag : Step → ℕ
+tag step.null = 0
 tag (boolean x) = 1
 tag (nonnegative n) = 2
 tag (negative n) = 3
@@ -72,7 +75,7 @@ tag map = 7
 tag _ = 8
 
 -- the tree of a leaf's event
-abbrev pub leaf_tree : Event → Tree
+abbrev pub leaf_tree : Step → Tree
 leaf_tree (boolean x) = truth x
 leaf_tree (nonnegative n) = nonneg n
 leaf_tree (negative n) = neg n
@@ -80,13 +83,13 @@ leaf_tree (float x) = num x
 leaf_tree (string x) = str x
 leaf_tree _ = null
 
-same_leaf : (t u : Tree) (e : Event) (s r x : List ℕ) → leaf_tree (first_event t) ≡ t → leaf_tree (first_event u) ≡ u → e ≡ first_event t → e ≡ first_event u → r ≡ s → x ≡ s → (t ≡ u) × (r ≡ x)
+same_leaf : (t u : Tree) (e : Step) (s r x : List ℕ) → leaf_tree (first_event t) ≡ t → leaf_tree (first_event u) ≡ u → e ≡ first_event t → e ≡ first_event u → r ≡ s → x ≡ s → (t ≡ u) × (r ≡ x)
 same_leaf t u e s r x ht hu p q i j = (sym ht ∙ ap leaf_tree (sym p ∙ q) ∙ hu, i ∙ sym j)
 
 -- ---- one tree
 
 mutual
-  pub value_same : (t u : Tree) (e : Event) (s r x : List ℕ) → ValueAt t e s r → ValueAt u e s x → (t ≡ u) × (r ≡ x)
+  pub value_same : (t u : Tree) (e : Step) (s r x : List ℕ) → ValueAt t e s r → ValueAt u e s x → (t ≡ u) × (r ≡ x)
   value_same null null e s r x p q = (refl, p.1 ∙ sym q.1)
   value_same (truth a) (truth b) e s r x p q = same_leaf (truth a) (truth b) e s r x refl refl p.0 q.0 p.1 q.1
   value_same (nonneg a) (nonneg b) e s r x p q = same_leaf (nonneg a) (nonneg b) e s r x refl refl p.0 q.0 p.1 q.1
@@ -98,22 +101,22 @@ mutual
   value_same t u e s r x p q = let k : tag (first_event t) ≡ tag (first_event u) = ap tag (sym (value_event t e s r p) ∙ value_event u e s x q) in absurd (omega (arith, k))
 
   pub elements_same : (ts us : Trees) (f : Bool) (s r x : List ℕ) → ElementsAt ts f s r → ElementsAt us f s x → (ts ≡ us) × (r ≡ x)
-  elements_same no_trees no_trees f s r x p q = (refl, close_same in_list f s r x p q)
-  elements_same no_trees (tree u us) f s r x p q = absurd (close_no_next in_list f s r q.begin p q.follows)
-  elements_same (tree t ts) no_trees f s r x p q = absurd (close_no_next in_list f s x p.begin q p.follows)
+  elements_same no_trees no_trees f s r x p q = (refl, close_same Seq f s r x p q)
+  elements_same no_trees (tree u us) f s r x p q = absurd (close_no_next Seq f s r q.begin p q.follows)
+  elements_same (tree t ts) no_trees f s r x p q = absurd (close_no_next Seq f s x p.begin q p.follows)
   elements_same (tree t ts) (tree u us) f s r x p q =
-      let one = next_same in_list f s p.begin q.begin p.follows q.follows in
+      let one = next_same Seq f s p.begin q.begin p.follows q.follows in
       let two = same_start p.begin p.event q.event p.behind q.behind p.starts (subst (λ z. Starts z q.event q.behind) (sym one) q.starts) in
       let three = value_same t u p.event p.behind p.rest q.rest p.is_value (subst (λ z. ValueAt u z p.behind q.rest) (sym two.0) (subst (λ z. ValueAt u q.event z q.rest) (sym two.1) q.is_value)) in
       let four = elements_same ts us false p.rest r x p.is_rest (subst (λ z. ElementsAt us false z x) (sym three.1) q.is_rest) in
       (ap (λ z. tree z ts) three.0 ∙ ap (tree u) four.0, four.1)
 
   pub members_same : (ms ns : Members) (f : Bool) (s r x : List ℕ) → MembersAt ms f s r → MembersAt ns f s x → (ms ≡ ns) × (r ≡ x)
-  members_same no_members no_members f s r x p q = (refl, close_same in_members f s r x p q)
-  members_same no_members (member n u ns) f s r x p q = absurd (close_no_next in_members f s r q.begin p q.follows)
-  members_same (member m t ms) no_members f s r x p q = absurd (close_no_next in_members f s x p.begin q p.follows)
+  members_same no_members no_members f s r x p q = (refl, close_same Map f s r x p q)
+  members_same no_members (member n u ns) f s r x p q = absurd (close_no_next Map f s r q.begin p q.follows)
+  members_same (member m t ms) no_members f s r x p q = absurd (close_no_next Map f s x p.begin q p.follows)
   members_same (member m t ms) (member n u ns) f s r x p q =
-      let one = next_same in_members f s p.begin q.begin p.follows q.follows in
+      let one = next_same Map f s p.begin q.begin p.follows q.follows in
       let name = same_name p.begin m n p.named q.named p.names (subst (λ z. Names z n q.named) (sym one) q.names) in
       let two = same_start p.named p.event q.event p.behind q.behind p.starts (subst (λ z. Starts z q.event q.behind) (sym name.1) q.starts) in
       let three = value_same t u p.event p.behind p.rest q.rest p.is_value (subst (λ z. ValueAt u z p.behind q.rest) (sym two.0) (subst (λ z. ValueAt u q.event z q.rest) (sym two.1) q.is_value)) in

@@ -1,8 +1,9 @@
 -- Of what stands in a container, what a lexer found there is the front.
 use Rattle.std.proofs.Common.{◌≡◌, ℕ, Bool, true, false, List, refl, ap, subst}
 use Rattle.miniserde_model.specs.Tree.{Tree, Trees, no_trees, tree, Members, no_members, member}
-use Rattle.miniserde_model.specs.Event.{Event}
-use Rattle.miniserde_model.specs.Lexing.{in_list, in_members, Starts, Names, Follows}
+use Rattle.miniserde_model.specs.Step.{Step}
+use Rattle.miniserde_model.specs.Lexing.{Starts, Names, Follows}
+use Rattle.miniserde_model.specs.declared.kind.Kind.TheVariants.{Seq, Map}
 use Rattle.miniserde_text.proofs.Starting.{same_name}
 use Rattle.miniserde_read.specs.Rest.{ValueAt, ElementsAt, MembersAt}
 use Rattle.miniserde_text.proofs.Starting.{same_start}
@@ -10,21 +11,21 @@ use Rattle.miniserde_read.proofs.Same.{close_same, next_same, close_no_next}
 
 -- ---- a list
 
-pub elements_follow : (ts : Trees) (f : Bool) (s r : List ℕ) → ElementsAt ts f s r → (a : Bool) × (b : List ℕ) × Follows in_list f a s b
+pub elements_follow : (ts : Trees) (f : Bool) (s r : List ℕ) → ElementsAt ts f s r → (a : Bool) × (b : List ℕ) × Follows Seq f a s b
 elements_follow no_trees f s r p = (true, r, p)
 elements_follow (tree t ts) f s r p = (false, p.begin, p.follows)
 
 -- no element is there without its first event
-pub elements_start : (ts : Trees) (f : Bool) (s b r : List ℕ) → Follows in_list f false s b → ElementsAt ts f s r → (e : Event) × (c : List ℕ) × Starts b e c
-elements_start no_trees f s b r h p = absurd (close_no_next in_list f s r b p h)
-elements_start (tree t ts) f s b r h p = (p.event, p.behind, subst (λ z. Starts z p.event p.behind) (next_same in_list f s p.begin b p.follows h) p.starts)
+pub elements_start : (ts : Trees) (f : Bool) (s b r : List ℕ) → Follows Seq f false s b → ElementsAt ts f s r → (e : Step) × (c : List ℕ) × Starts b e c
+elements_start no_trees f s b r h p = absurd (close_no_next Seq f s r b p h)
+elements_start (tree t ts) f s b r h p = (p.event, p.behind, subst (λ z. Starts z p.event p.behind) (next_same Seq f s p.begin b p.follows h) p.starts)
 
-pub elements_close : (ts : Trees) (f : Bool) (s b r : List ℕ) → Follows in_list f true s b → ElementsAt ts f s r → (ts ≡ no_trees) × (r ≡ b)
-elements_close no_trees f s b r h p = (refl, close_same in_list f s r b p h)
-elements_close (tree t ts) f s b r h p = absurd (close_no_next in_list f s b p.begin h p.follows)
+pub elements_close : (ts : Trees) (f : Bool) (s b r : List ℕ) → Follows Seq f true s b → ElementsAt ts f s r → (ts ≡ no_trees) × (r ≡ b)
+elements_close no_trees f s b r h p = (refl, close_same Seq f s r b p h)
+elements_close (tree t ts) f s b r h p = absurd (close_no_next Seq f s b p.begin h p.follows)
 
 -- the element whose first event was found, and those behind it
-pub record ElementThere (ts : Trees) (e : Event) (c r : List ℕ) : Type 0 where
+pub record ElementThere (ts : Trees) (e : Step) (c r : List ℕ) : Type 0 where
   pub one : Tree
   pub more : Trees
   pub rest : List ℕ
@@ -32,31 +33,31 @@ pub record ElementThere (ts : Trees) (e : Event) (c r : List ℕ) : Type 0 where
   pub is_value : ValueAt one e c rest
   pub is_rest : ElementsAt more false rest r
 
-pub elements_there : (ts : Trees) (f : Bool) (s b c r : List ℕ) (e : Event) → Follows in_list f false s b → Starts b e c → ElementsAt ts f s r → ElementThere ts e c r
-elements_there no_trees f s b c r e h k p = absurd (close_no_next in_list f s r b p h)
+pub elements_there : (ts : Trees) (f : Bool) (s b c r : List ℕ) (e : Step) → Follows Seq f false s b → Starts b e c → ElementsAt ts f s r → ElementThere ts e c r
+elements_there no_trees f s b c r e h k p = absurd (close_no_next Seq f s r b p h)
 elements_there (tree t ts) f s b c r e h k p =
-    let one = next_same in_list f s p.begin b p.follows h in
+    let one = next_same Seq f s p.begin b p.follows h in
     let two = same_start b p.event e p.behind c (subst (λ z. Starts z p.event p.behind) one p.starts) k in
     record { one = t; more = ts; rest = p.rest; is = refl; is_value = subst (λ z. ValueAt t z c p.rest) two.0 (subst (λ z. ValueAt t p.event z p.rest) two.1 p.is_value); is_rest = p.is_rest }
 
 -- ---- an object
 
-pub members_follow : (ms : Members) (f : Bool) (s r : List ℕ) → MembersAt ms f s r → (a : Bool) × (b : List ℕ) × Follows in_members f a s b
+pub members_follow : (ms : Members) (f : Bool) (s r : List ℕ) → MembersAt ms f s r → (a : Bool) × (b : List ℕ) × Follows Map f a s b
 members_follow no_members f s r p = (true, r, p)
 members_follow (member n t ms) f s r p = (false, p.begin, p.follows)
 
-pub members_name : (ms : Members) (f : Bool) (s b r : List ℕ) → Follows in_members f false s b → MembersAt ms f s r → (n : List ℕ) × (c : List ℕ) × Names b n c
-members_name no_members f s b r h p = absurd (close_no_next in_members f s r b p h)
-members_name (member n t ms) f s b r h p = (n, p.named, subst (λ z. Names z n p.named) (next_same in_members f s p.begin b p.follows h) p.names)
+pub members_name : (ms : Members) (f : Bool) (s b r : List ℕ) → Follows Map f false s b → MembersAt ms f s r → (n : List ℕ) × (c : List ℕ) × Names b n c
+members_name no_members f s b r h p = absurd (close_no_next Map f s r b p h)
+members_name (member n t ms) f s b r h p = (n, p.named, subst (λ z. Names z n p.named) (next_same Map f s p.begin b p.follows h) p.names)
 
-pub members_close : (ms : Members) (f : Bool) (s b r : List ℕ) → Follows in_members f true s b → MembersAt ms f s r → (ms ≡ no_members) × (r ≡ b)
-members_close no_members f s b r h p = (refl, close_same in_members f s r b p h)
-members_close (member n t ms) f s b r h p = absurd (close_no_next in_members f s b p.begin h p.follows)
+pub members_close : (ms : Members) (f : Bool) (s b r : List ℕ) → Follows Map f true s b → MembersAt ms f s r → (ms ≡ no_members) × (r ≡ b)
+members_close no_members f s b r h p = (refl, close_same Map f s r b p h)
+members_close (member n t ms) f s b r h p = absurd (close_no_next Map f s b p.begin h p.follows)
 
 pub record MemberThere (ms : Members) (n : List ℕ) (c r : List ℕ) : Type 0 where
   pub one : Tree
   pub more : Members
-  pub event : Event
+  pub event : Step
   pub behind : List ℕ
   pub rest : List ℕ
   pub is : ms ≡ member n one more
@@ -64,15 +65,15 @@ pub record MemberThere (ms : Members) (n : List ℕ) (c r : List ℕ) : Type 0 w
   pub is_value : ValueAt one event behind rest
   pub is_rest : MembersAt more false rest r
 
-pub members_there : (ms : Members) (f : Bool) (s b c r n : List ℕ) → Follows in_members f false s b → Names b n c → MembersAt ms f s r → MemberThere ms n c r
-members_there no_members f s b c r n h k p = absurd (close_no_next in_members f s r b p h)
+pub members_there : (ms : Members) (f : Bool) (s b c r n : List ℕ) → Follows Map f false s b → Names b n c → MembersAt ms f s r → MemberThere ms n c r
+members_there no_members f s b c r n h k p = absurd (close_no_next Map f s r b p h)
 members_there (member m t ms) f s b c r n h k p =
-    let one = next_same in_members f s p.begin b p.follows h in
+    let one = next_same Map f s p.begin b p.follows h in
     let two = same_name b m n p.named c (subst (λ z. Names z m p.named) one p.names) k in
     record { one = t; more = ms; event = p.event; behind = p.behind; rest = p.rest; is = ap (λ z. member z t ms) two.0; starts = subst (λ z. Starts z p.event p.behind) two.1 p.starts; is_value = p.is_value; is_rest = p.is_rest }
 
 -- the same, once the value's first event was taken too
-pub record ValueThere (ms : Members) (n : List ℕ) (e : Event) (d r : List ℕ) : Type 0 where
+pub record ValueThere (ms : Members) (n : List ℕ) (e : Step) (d r : List ℕ) : Type 0 where
   pub one : Tree
   pub more : Members
   pub rest : List ℕ
@@ -80,7 +81,7 @@ pub record ValueThere (ms : Members) (n : List ℕ) (e : Event) (d r : List ℕ)
   pub is_value : ValueAt one e d rest
   pub is_rest : MembersAt more false rest r
 
-pub value_there : (ms : Members) (n c r : List ℕ) (e : Event) (d : List ℕ) → MemberThere ms n c r → Starts c e d → ValueThere ms n e d r
+pub value_there : (ms : Members) (n c r : List ℕ) (e : Step) (d : List ℕ) → MemberThere ms n c r → Starts c e d → ValueThere ms n e d r
 value_there ms n c r e d p k =
     let two = same_start c p.event e p.behind d p.starts k in
     record { one = p.one; more = p.more; rest = p.rest; is = p.is; is_value = subst (λ z. ValueAt p.one z d p.rest) two.0 (subst (λ z. ValueAt p.one p.event z p.rest) two.1 p.is_value); is_rest = p.is_rest }

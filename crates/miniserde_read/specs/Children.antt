@@ -8,8 +8,8 @@ all_children f s no_trees = Some s
 all_children f s (tree t ts) = option_and_then (λ r. all_children f r ts) (f s t)
 
 -- one more item at the end
-abbrev pub added : {C X : Type 0} → (X → Option C) → List C → X → Option (List C)
-added f xs x = option_and_then (λ c. Some (xs ++ c ∷ [])) (f x)
+abbrev pub with_last : {C X : Type 0} → (X → Option C) → List C → X → Option (List C)
+with_last f xs x = option_and_then (λ c. Some (xs ++ c ∷ [])) (f x)
 
 -- one more part of a pair: the first, then the second, and no third
 abbrev pub pair_next : {A B X : Type 0} → (X → Option A) → (X → Option B) → Option A × Option B → X → Option (Option A × Option B)

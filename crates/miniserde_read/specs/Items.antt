@@ -1,12 +1,12 @@
 -- The meaning of a tuple: of its items, which the children of a list mean one by one, and of the whole.
 use Rattle.std.specs.Prelude.{◌≡◌, ◌↔◌, ℕ, Bool, List, Option, Some, None}
 use Rattle.miniserde_model.specs.Tree.{Trees}
-use Rattle.miniserde_read.specs.Meant.{Meant, meant}
+use Rattle.miniserde_read.specs.Meaning.{Meaning, meant}
 use Rattle.miniserde_read.specs.Rest.{ElementsAt}
-use Rattle.miniserde_read.specs.meaning.Tuples.{NoneReads, none_of, ItemReads, item_of, TupleReads, tuple_of}
+use Rattle.miniserde_read.specs.types.Tuples.{NoneReads, none_of, ItemReads, item_of, TupleReads, tuple_of}
 use Rattle.miniserde_read.specs.laws.Tuples.{none-given, item-given, tuple-given}
 
-pub record ItemsMeant (V : Type 0) : Type 1 where
+pub record ItemsMeaning (V : Type 0) : Type 1 where
   -- the content of the items
   pub Content : Type 0
   pub content : V → Content
@@ -18,11 +18,11 @@ pub record ItemsMeant (V : Type 0) : Type 1 where
   pub reads_agrees : (ts : Trees) (v : V) → reads ts v ↔ (from_trees ts ≡ Some (content v))
 
 -- no items
-abbrev pub no_items : ItemsMeant (Unit {0})
+abbrev pub no_items : ItemsMeaning (Unit {0})
 no_items = record { Content = Unit {0}; content = λ v. tt; from_trees = none_of; reads = NoneReads; reads_agrees = none-given }
 
 -- an item, and those after it
-abbrev pub item_and : {T V : Type 0} → Meant T → ItemsMeant V → ItemsMeant (T × V)
+abbrev pub item_and : {T V : Type 0} → Meaning T → ItemsMeaning V → ItemsMeaning (T × V)
 item_and m n = record {
   Content = m.Content × n.Content;
   content = λ v. (m.content v.0, n.content v.1);
@@ -32,8 +32,8 @@ item_and m n = record {
 }
 
 -- a tuple, by its items: a list of exactly so many, of which each child means its item
-abbrev pub tuple_meant : {V W : Type 0} → ItemsMeant V → (W → V) → Meant W
-tuple_meant n items =
+abbrev pub tuple_meaning : {V W : Type 0} → ItemsMeaning V → (W → V) → Meaning W
+tuple_meaning n items =
     meant (λ w. n.content (items w)) (tuple_of n.from_trees) (λ t w. TupleReads n.reads t (items w))
     (λ t w. tuple-given n.reads n.from_trees n.content n.reads_agrees t (items w))
 

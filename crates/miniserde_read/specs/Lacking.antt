@@ -2,19 +2,20 @@
 use Rattle.std.specs.Prelude.{◌≡◌, ◌⊎◌, ℕ, zero, suc, Bool, true, false, List, length}
 use Rattle.std.specs.List.{AllByRecursion}
 use Rattle.miniserde_model.specs.Tree.{Tree}
-use Rattle.miniserde_model.specs.Event.{Event, seq}
-use Rattle.miniserde_model.specs.Lexing.{in_list, in_members, Follows}
+use Rattle.miniserde_model.specs.Step.{Step, seq}
+use Rattle.miniserde_model.specs.Lexing.{Follows}
+use Rattle.miniserde_model.specs.declared.kind.Kind.TheVariants.{Seq, Map}
 use Rattle.miniserde_text.specs.Lexer.{BeginsEscaped}
 use Rattle.miniserde_read.specs.Rest.{OneElement, ValueAt}
 use Rattle.miniserde_read.specs.Source.{Remaining}
 
 -- The next element begins as a string with a backslash.
 abbrev pub EscapedElement : Bool → List ℕ → Type 0
-EscapedElement first s = (b : List ℕ) × Follows in_list first false s b × BeginsEscaped b
+EscapedElement first s = (b : List ℕ) × Follows Seq first false s b × BeginsEscaped b
 
 -- The next member's name has a backslash.
 abbrev pub EscapedMember : Bool → List ℕ → Type 0
-EscapedMember first s = (b : List ℕ) × Follows in_members first false s b × BeginsEscaped b
+EscapedMember first s = (b : List ℕ) × Follows Map first false s b × BeginsEscaped b
 
 -- From s to r stands one element, with the comma before it.
 abbrev pub AnElement : Bool → List ℕ → List ℕ → Type 0
@@ -32,12 +33,12 @@ SomeElements (suc n) first s r = AnElement first s r ⊎ ((d : List ℕ) × AnEl
 
 -- If `read` of both parts never returns `Memory` (a and b), the value is a list, and one of its first two elements
 -- begins as a string with a backslash.
-abbrev pub PairLacks : Bool → Bool → Event → Remaining → Remaining → Type 0
+abbrev pub PairLacks : Bool → Bool → Step → Remaining → Remaining → Type 0
 PairLacks a b e old new = a ≡ true → b ≡ true → (e ≡ seq) × EscapedAmong 2 true old.rest
 
 -- If `read` of the items never returns `Memory` (a), the value is a list; one of its first n elements begins as a string
 -- with a backslash, or at most n elements were read, and the list of items failed to grow.
-abbrev pub ArrayLacks : ℕ → Bool → Event → Remaining → Remaining → Type 0
+abbrev pub ArrayLacks : ℕ → Bool → Step → Remaining → Remaining → Type 0
 ArrayLacks n a e old new = a ≡ true → (e ≡ seq) × (EscapedAmong n true old.rest ⊎ SomeElements n true old.rest new.rest)
 
 -- If `read` of no item returns `Memory` (each of the list is true), one of the items that are left begins as a string with
@@ -47,5 +48,5 @@ ItemsLack infallible first s = AllByRecursion (λ b. b ≡ true) infallible → 
 
 -- If `read` of no item returns `Memory` (each of the list is true), the value is a list, and one of its first items, of as
 -- many as the tuple has, begins as a string with a backslash.
-abbrev pub TupleLacks : List Bool → Event → Remaining → Remaining → Type 0
+abbrev pub TupleLacks : List Bool → Step → Remaining → Remaining → Type 0
 TupleLacks infallible e old new = AllByRecursion (λ b. b ≡ true) infallible → (e ≡ seq) × EscapedAmong (length infallible) true old.rest

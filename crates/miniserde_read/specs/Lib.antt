@@ -4,10 +4,10 @@ pub mod Items
 pub mod Lacking
 pub mod Lookups
 pub mod Meanings
-pub mod Meant
+pub mod Meaning
 pub mod Rest
 pub mod Source
-pub mod Step
+pub mod Events
 pub mod laws
-pub mod meaning
+pub mod types
 pub mod private

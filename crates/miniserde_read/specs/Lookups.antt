@@ -3,8 +3,8 @@ use Rattle.std.specs.Prelude.{◌≡◌, Option, Some, None, option_map, MatchOp
 use Rattle.miniserde_model.specs.Tree.{Tree, members}
 use Rattle.miniserde_model.specs.Normal.{last_of}
 use Rattle.miniserde_keys.specs.Keys.{Key}
-use Rattle.miniserde_read.specs.meaning.Objects.{Name}
-use Rattle.miniserde_read.specs.meaning.Maps.{met_at}
+use Rattle.miniserde_read.specs.types.Objects.{Name}
+use Rattle.miniserde_read.specs.types.Maps.{first_and_last_at}
 
 -- the tree of the last member of a name, in an object
 abbrev pub last_in : Name → Tree → Option Tree
@@ -13,7 +13,7 @@ last_in name _ = None
 
 -- the tree of the last member whose name is read as a key with the code
 abbrev pub last_at : (Name → Option Key) → (Key → Key) → Key → Tree → Option Tree
-last_at read code q (members ms) = option_map (λ e. e.1) (met_at read code q ms)
+last_at read code q (members ms) = option_map (λ e. e.1) (first_and_last_at read code q ms)
 last_at read code q _ = None
 
 -- There is a value if there is a tree, and the tree means it.

@@ -2,28 +2,30 @@
 -- (`Starts`, `Names` and `Follows`).
 use Rattle.std.specs.Prelude.{◌≡◌, ℕ, Bool, true, false, List, Option, Some, None}
 use Rattle.miniserde_model.specs.Tree.{Tree, null, truth, nonneg, neg, num, str, list, members, Trees, no_trees, tree, Members, no_members, member}
-use Rattle.miniserde_model.specs.Event.{Event, nothing, boolean, string, negative, nonnegative, float, seq, map}
-use Rattle.miniserde_model.specs.Lexing.{in_list, in_members, Starts, Names, Follows}
+use Rattle.miniserde_model.specs.Step.{Step, boolean, string, negative, nonnegative, float, seq, map}
+use Rattle.miniserde_model.specs.Step as step
+use Rattle.miniserde_model.specs.Lexing.{Starts, Names, Follows}
+use Rattle.miniserde_model.specs.declared.kind.Kind.TheVariants.{Seq, Map}
 
 -- What leads to an element, the element's first event, the rest V of the element, and then K.
-pub record OneElement (V : Event → List ℕ → List ℕ → Type 0) (K : List ℕ → List ℕ → Type 0) (first : Bool) (s r : List ℕ) : Type 0 where
+pub record OneElement (V : Step → List ℕ → List ℕ → Type 0) (K : List ℕ → List ℕ → Type 0) (first : Bool) (s r : List ℕ) : Type 0 where
   pub begin : List ℕ
-  pub event : Event
+  pub event : Step
   pub behind : List ℕ
   pub rest : List ℕ
-  pub follows : Follows in_list first false s begin
+  pub follows : Follows Seq first false s begin
   pub starts : Starts begin event behind
   pub is_value : V event behind rest
   pub is_rest : K rest r
 
 -- What leads to a member, its name, its value's first event, the rest V of the value, and then K.
-pub record OneMember (name : List ℕ) (V : Event → List ℕ → List ℕ → Type 0) (K : List ℕ → List ℕ → Type 0) (first : Bool) (s r : List ℕ) : Type 0 where
+pub record OneMember (name : List ℕ) (V : Step → List ℕ → List ℕ → Type 0) (K : List ℕ → List ℕ → Type 0) (first : Bool) (s r : List ℕ) : Type 0 where
   pub begin : List ℕ
   pub named : List ℕ
-  pub event : Event
+  pub event : Step
   pub behind : List ℕ
   pub rest : List ℕ
-  pub follows : Follows in_members first false s begin
+  pub follows : Follows Map first false s begin
   pub names : Names begin name named
   pub starts : Starts named event behind
   pub is_value : V event behind rest
@@ -31,8 +33,8 @@ pub record OneMember (name : List ℕ) (V : Event → List ℕ → List ℕ → 
 
 abbrev mutual
   -- The event and what stands behind it, up to r, spell the tree.
-  pub ValueAt : Tree → Event → List ℕ → List ℕ → Type 0
-  ValueAt null e s r = (e ≡ nothing) × (r ≡ s)
+  pub ValueAt : Tree → Step → List ℕ → List ℕ → Type 0
+  ValueAt null e s r = (e ≡ step.null) × (r ≡ s)
   ValueAt (truth x) e s r = (e ≡ boolean x) × (r ≡ s)
   ValueAt (nonneg n) e s r = (e ≡ nonnegative n) × (r ≡ s)
   ValueAt (neg n) e s r = (e ≡ negative n) × (r ≡ s)
@@ -43,20 +45,20 @@ abbrev mutual
 
   -- What stands in a list, behind its opening bracket or not, up to and with its closing bracket, spells the elements.
   pub ElementsAt : Trees → Bool → List ℕ → List ℕ → Type 0
-  ElementsAt no_trees first s r = Follows in_list first true s r
+  ElementsAt no_trees first s r = Follows Seq first true s r
   ElementsAt (tree t ts) first s r = OneElement (ValueAt t) (ElementsAt ts false) first s r
 
   -- The same of an object.
   pub MembersAt : Members → Bool → List ℕ → List ℕ → Type 0
-  MembersAt no_members first s r = Follows in_members first true s r
+  MembersAt no_members first s r = Follows Map first true s r
   MembersAt (member name t ms) first s r = OneMember name (ValueAt t) (MembersAt ms false) first s r
 
 -- ---- what the value at a token gives, as `of` says of its tree
 
 -- the token e and the text s behind it, up to r, spell a tree that gives c
-abbrev pub GivesAt : {C : Type 0} → (Tree → Option C) → Event → List ℕ → List ℕ → C → Type 0
+abbrev pub GivesAt : {C : Type 0} → (Tree → Option C) → Step → List ℕ → List ℕ → C → Type 0
 GivesAt of e s r c = (t : Tree) × ValueAt t e s r × (of t ≡ Some c)
 
 -- no tree that the token and a beginning of the text spell gives anything
-abbrev pub GivesNoneAt : {C : Type 0} → (Tree → Option C) → Event → List ℕ → Type 0
+abbrev pub GivesNoneAt : {C : Type 0} → (Tree → Option C) → Step → List ℕ → Type 0
 GivesNoneAt of e s = (t : Tree) (r : List ℕ) → ValueAt t e s r → of t ≡ None

@@ -1,7 +1,8 @@
 -- What a contract sees of a source, and what it returns inside a container.
 use Rattle.std.specs.Prelude.{ℕ, Bool, true, false, List, Option, Some, None}
-use Rattle.miniserde_model.specs.Lexing.{in_list, in_members, Starts, Names, Follows}
-use Rattle.miniserde_text.specs.Lexer.{front_of, text_of}
+use Rattle.miniserde_model.specs.Lexing.{Starts, Names, Follows}
+use Rattle.miniserde_model.specs.declared.kind.Kind.TheVariants.{Seq, Map}
+use Rattle.miniserde_text.specs.Lexer.{event_of_token, text_of}
 use Rattle.miniserde_text.specs.declared.json.lex.Text.{Text}
 use Rattle.miniserde_text.specs.declared.json.lex.Event.{Event}
 use Rattle.miniserde_model.specs.declared.error.Error.{Error}
@@ -14,10 +15,10 @@ pub record Remaining : Type 0 where
 
 -- the closing bracket of a list, or what leads to an element and its first token
 abbrev pub ElementFollows : Option Event → List ℕ → Bool → List ℕ → List ℕ → Type 0
-ElementFollows None scratch first s r = Follows in_list first true s r
-ElementFollows (Some e) scratch first s r = (b : List ℕ) × Follows in_list first false s b × Starts b (front_of e scratch) r
+ElementFollows None scratch first s r = Follows Seq first true s r
+ElementFollows (Some e) scratch first s r = (b : List ℕ) × Follows Seq first false s b × Starts b (event_of_token e scratch) r
 
 -- the closing bracket of an object, or what leads to a member and its name
 abbrev pub NameFollows : Option Text → List ℕ → Bool → List ℕ → List ℕ → Type 0
-NameFollows None scratch first s r = Follows in_members first true s r
-NameFollows (Some t) scratch first s r = (b : List ℕ) × Follows in_members first false s b × Names b (text_of t scratch) r
+NameFollows None scratch first s r = Follows Map first true s r
+NameFollows (Some t) scratch first s r = (b : List ℕ) × Follows Map first false s b × Names b (text_of t scratch) r

@@ -1,12 +1,12 @@
 //! Types that read themselves from a JSON text.
 ghost use Rattle.std.specs.Prelude.{◌≡◌, Bool, true, false, Option, None, Err, IfOk, IfErr, ⊤};
-ghost use Rattle.miniserde_model.specs.Event as event;
-ghost use Rattle.miniserde_text.specs.Lexer.{front_of};
+ghost use Rattle.miniserde_model.specs.Step as step;
+ghost use Rattle.miniserde_text.specs.Lexer.{event_of_token};
 ghost use Rattle.miniserde_model.specs.declared.error.Error.{Error};
-ghost use Rattle.miniserde_read.specs.Meant.{Meant};
+ghost use Rattle.miniserde_read.specs.Meaning.{Meaning};
 ghost use Rattle.miniserde_read.specs.Rest.{GivesAt, GivesNoneAt};
 ghost use Rattle.miniserde_read.specs.Source.{Remaining};
-ghost use Rattle.miniserde_read.specs.Step.{IsTreeEvent};
+ghost use Rattle.miniserde_read.specs.Events.{IsTreeEvent};
 
 mod arrays;
 mod boxes;
@@ -26,7 +26,7 @@ use miniserde_text::json::lex::Event;
 /// A type that reads itself from a JSON text (RFC 8259).
 pub trait FromJson: Sized + Drop {
     // Which trees mean which values.
-    ghost means: { Meant Self };
+    ghost means: { Meaning Self };
 
     // The value of a struct's field that is missing.
     ghost absent: { Option Self } = { None };
@@ -35,7 +35,7 @@ pub trait FromJson: Sized + Drop {
     ghost read_infallible: { Bool } = { false };
 
     // Holds if `read` returns `Memory`, of the token's event and of the source before the call and after it.
-    ghost lacking: { event.Event → Remaining → Remaining → Type 0 } = { λ _ _ _. ⊤ };
+    ghost lacking: { step.Step → Remaining → Remaining → Type 0 } = { λ _ _ _. ⊤ };
 
     /// Returns the value of a struct's field that is missing, or `None` if such a struct is invalid.
     fn missing() -> Option<Self>
@@ -45,13 +45,13 @@ pub trait FromJson: Sized + Drop {
     /// spells a value of the type.
     fn read<'a>(token: Event<'a>, source: &mut Source<'a>) -> Result<Self>
         requires going { source.old.refused ≡ None }
-        requires event { IsTreeEvent (front_of token source.old.scratch) }
+        requires event { IsTreeEvent (event_of_token token source.old.scratch) }
         ensures going { IfOk result (λ _. source.new.refused ≡ None) }
-        ensures ok { IfOk result (λ v. GivesAt means.from_tree (front_of token.entry source.old.scratch)
+        ensures ok { IfOk result (λ v. GivesAt means.from_tree (event_of_token token.entry source.old.scratch)
             source.old.rest source.new.rest (means.content v)) }
         ensures invalid { result ≡ Err Error.Invalid
-            → GivesNoneAt means.from_tree (front_of token.entry source.old.scratch) source.old.rest }
+            → GivesNoneAt means.from_tree (event_of_token token.entry source.old.scratch) source.old.rest }
         ensures infallible { read_infallible ≡ true → IfErr result (λ e. e ≡ Error.Invalid) }
         ensures memory { result ≡ Err Error.Memory
-            → lacking (front_of token.entry source.old.scratch) source.old source.new };
+            → lacking (event_of_token token.entry source.old.scratch) source.old source.new };
 }

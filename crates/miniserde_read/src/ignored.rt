@@ -2,12 +2,12 @@
 ghost use Rattle.std.specs.Prelude.{◌≡◌, ◌<◌, List, ℕ, None, Some, Ok, Err, IfOk, length};
 ghost use Rattle.miniserde_model.specs.Tree.{Tree};
 ghost use Rattle.miniserde_model.specs.private.Reading.{due};
-ghost use Rattle.miniserde_text.specs.Lexer.{front_of, kind_of};
+ghost use Rattle.miniserde_text.specs.Lexer.{event_of_token};
 ghost use Rattle.miniserde_model.specs.declared.error.Error.{Error};
-ghost use Rattle.miniserde_read.specs.Meanings.{ignored_meant};
+ghost use Rattle.miniserde_read.specs.Meanings.{ignored_meaning};
 ghost use Rattle.miniserde_read.specs.Rest.{ValueAt};
-ghost use Rattle.miniserde_read.specs.Step.{IsTreeEvent};
-ghost use Rattle.miniserde_text.specs.private.Moving.{between};
+ghost use Rattle.miniserde_read.specs.Events.{IsTreeEvent};
+ghost use Rattle.miniserde_text.specs.private.Moving.{before_child};
 ghost use Rattle.miniserde_read.specs.private.Runs.{Reaches, NeverRuns};
 ghost use Rattle.miniserde_text.specs.private.Stack.{innermost};
 
@@ -23,7 +23,7 @@ use miniserde_text::stack::Stack;
 pub struct Ignored {}
 
 impl FromJson for Ignored {
-    ghost means = { ignored_meant };
+    ghost means = { ignored_meaning };
 
     fn missing() -> Option<Ignored> {
         None
@@ -38,31 +38,36 @@ impl FromJson for Ignored {
 /// Skips one value, whose first token is `token`. Returns `Invalid` if no beginning of the text spells a value.
 fn skip<'a>(token: Event<'a>, source: &mut Source<'a>) -> Result<()>
     requires going { source.old.refused ≡ None }
-    requires event { IsTreeEvent (front_of token source.old.scratch) }
+    requires event { IsTreeEvent (event_of_token token source.old.scratch) }
     ensures going { IfOk result (λ _. source.new.refused ≡ None) }
     ensures ok { IfOk result (λ _. (t : Tree)
-        × ValueAt t (front_of token.entry source.old.scratch) source.old.rest source.new.rest) }
+        × ValueAt t (event_of_token token.entry source.old.scratch) source.old.rest source.new.rest) }
     ensures invalid { result ≡ Err Error.Invalid → (t : Tree) (r : List ℕ)
-        → ValueAt t (front_of token.entry source.old.scratch) source.old.rest r → ⊥ }
+        → ValueAt t (event_of_token token.entry source.old.scratch) source.old.rest r → ⊥ }
 {
     let mut stack = Stack::new(source.alloc());
     let mut first = stack.enter(token)?;
     while let Some(kind) = stack.top() {
-        first = turn(source, &mut stack, kind, first)?;
+        first = take_child_or_end(source, &mut stack, kind, first)?;
     }
     Ok(())
 }
 
 /// Takes the closing bracket of the innermost container, or the tokens up to the first one of its next child. Returns
 /// whether that token opened a container. `first` says that the opening bracket was just taken.
-fn turn<'a>(source: &mut Source<'a>, stack: &mut Stack, kind: Kind, first: bool) -> Result<bool>
-    requires inside { innermost stack.old ≡ Some (kind_of kind) }
+fn take_child_or_end<'a>(
+    source: &mut Source<'a>,
+    stack: &mut Stack,
+    kind: Kind,
+    first: bool,
+) -> Result<bool>
+    requires inside { innermost stack.old ≡ Some kind }
     requires going { source.old.refused ≡ None }
     ensures going { IfOk result (λ _. source.new.refused ≡ None) }
     ensures less { IfOk result (λ _. length source.new.rest < length source.old.rest) }
     ensures reaches { IfOk result (λ opened.
-        Reaches (between first) stack.old source.old.rest (between opened) stack.new source.new.rest) }
-    ensures invalid { result ≡ Err Error.Invalid → NeverRuns (between first) stack.old source.old.rest }
+        Reaches (before_child first) stack.old source.old.rest (before_child opened) stack.new source.new.rest) }
+    ensures invalid { result ≡ Err Error.Invalid → NeverRuns (before_child first) stack.old source.old.rest }
 {
     match source.after(kind, first)? {
         After::Close => {
@@ -86,7 +91,7 @@ fn begin<'a>(source: &mut Source<'a>, stack: &mut Stack) -> Result<bool>
     ensures going { IfOk result (λ _. source.new.refused ≡ None) }
     ensures less { IfOk result (λ _. length source.new.rest < length source.old.rest) }
     ensures reaches { IfOk result (λ opened.
-        Reaches due stack.old source.old.rest (between opened) stack.new source.new.rest) }
+        Reaches due stack.old source.old.rest (before_child opened) stack.new source.new.rest) }
     ensures invalid { result ≡ Err Error.Invalid → NeverRuns due stack.old source.old.rest }
 {
     let token = source.token()?;

@@ -1,12 +1,12 @@
 //! The items of a tuple, one after another.
 ghost use Rattle.std.specs.Prelude.{◌≡◌, Bool, List, [], ◌∷◌, None, Ok, Err, IfOk};
-ghost use Rattle.miniserde_text.specs.Lexer.{front_of};
+ghost use Rattle.miniserde_text.specs.Lexer.{event_of_token};
 ghost use Rattle.miniserde_model.specs.declared.error.Error.{Error};
 ghost use Rattle.miniserde_read.specs.Rest.{GivesAt, GivesNoneAt};
-ghost use Rattle.miniserde_read.specs.Step.{IsTreeEvent};
-ghost use Rattle.miniserde_read.specs.Items.{ItemsMeant, no_items, item_and, ItemsGiveAt, ItemsGiveNoneAt};
+ghost use Rattle.miniserde_read.specs.Events.{IsTreeEvent};
+ghost use Rattle.miniserde_read.specs.Items.{ItemsMeaning, no_items, item_and, ItemsGiveAt, ItemsGiveNoneAt};
 ghost use Rattle.miniserde_read.specs.Lacking.{ItemsLack, TupleLacks};
-ghost use Rattle.miniserde_read.specs.meaning.Tuples.{tuple_of};
+ghost use Rattle.miniserde_read.specs.types.Tuples.{tuple_of};
 
 use crate::from_json::FromJson;
 use crate::source::Source;
@@ -19,7 +19,7 @@ pub trait Items {
     type Values: Drop;
 
     // Which children of a list mean which values.
-    ghost meaning: { ItemsMeant Self.Values };
+    ghost meaning: { ItemsMeaning Self.Values };
 
     // Of each item, whether its `read` never returns `Memory`.
     ghost infallible: { List Bool };
@@ -85,14 +85,14 @@ impl<T: FromJson, R: Items> Items for Item<T, R> {
 #[inline(always)]
 pub fn read_tuple<'a, I: Items>(token: Event<'a>, source: &mut Source<'a>) -> Result<I::Values>
     requires going { source.old.refused ≡ None }
-    requires event { IsTreeEvent (front_of token source.old.scratch) }
+    requires event { IsTreeEvent (event_of_token token source.old.scratch) }
     ensures going { IfOk result (λ _. source.new.refused ≡ None) }
-    ensures ok { IfOk result (λ v. GivesAt (tuple_of I.meaning.from_trees) (front_of token.entry source.old.scratch)
+    ensures ok { IfOk result (λ v. GivesAt (tuple_of I.meaning.from_trees) (event_of_token token.entry source.old.scratch)
         source.old.rest source.new.rest (I.meaning.content v)) }
     ensures invalid { result ≡ Err Error.Invalid
-        → GivesNoneAt (tuple_of I.meaning.from_trees) (front_of token.entry source.old.scratch) source.old.rest }
+        → GivesNoneAt (tuple_of I.meaning.from_trees) (event_of_token token.entry source.old.scratch) source.old.rest }
     ensures memory { result ≡ Err Error.Memory
-        → TupleLacks I.infallible (front_of token.entry source.old.scratch) source.old source.new }
+        → TupleLacks I.infallible (event_of_token token.entry source.old.scratch) source.old source.new }
 {
     let Event::SeqStart = token else {
         return Err(Error::Invalid);

@@ -1,10 +1,10 @@
 //! Types whose values are single tokens.
 ghost use Rattle.std.specs.Prelude.{◌≡◌, Bool, true, false, None, Some, Err, IfOk, IfErr};
-ghost use Rattle.miniserde_text.specs.Lexer.{front_of};
+ghost use Rattle.miniserde_text.specs.Lexer.{event_of_token};
 ghost use Rattle.miniserde_model.specs.declared.error.Error.{Error};
-ghost use Rattle.miniserde_read.specs.Meant.{Meant};
+ghost use Rattle.miniserde_read.specs.Meaning.{Meaning};
 ghost use Rattle.miniserde_read.specs.Rest.{GivesAt, GivesNoneAt};
-ghost use Rattle.miniserde_read.specs.Step.{event_of, IsTreeEvent, on_leaf, OnlyLeaves};
+ghost use Rattle.miniserde_read.specs.Events.{event_of, IsTreeEvent, on_leaf, OnlyLeaves};
 
 mod integers;
 mod words;
@@ -18,7 +18,7 @@ use std::alloc::Global;
 /// A type whose values are `null`, booleans, numbers or strings: one token each.
 pub trait Leaf: Drop {
     // Which trees mean which values.
-    ghost means: { Meant Self };
+    ghost means: { Meaning Self };
 
     // No list and no object means a value.
     ghost only_leaves: { OnlyLeaves means.from_tree };
@@ -37,12 +37,12 @@ pub trait Leaf: Drop {
 /// Reads a value that is one token. Takes nothing more from the source.
 #[inline(always)]
 pub fn read_leaf<'a, T: Leaf>(token: Event<'a>, source: &mut Source<'a>) -> Result<T>
-    requires { IsTreeEvent (front_of token source.old.scratch) }
+    requires { IsTreeEvent (event_of_token token source.old.scratch) }
     ensures stays { source.new ≡ source.old }
-    ensures ok { IfOk result (λ v. GivesAt T.means.from_tree (front_of token.entry source.old.scratch)
+    ensures ok { IfOk result (λ v. GivesAt T.means.from_tree (event_of_token token.entry source.old.scratch)
         source.old.rest source.old.rest (T.means.content v)) }
     ensures invalid { result ≡ Err Error.Invalid
-        → GivesNoneAt T.means.from_tree (front_of token.entry source.old.scratch) source.old.rest }
+        → GivesNoneAt T.means.from_tree (event_of_token token.entry source.old.scratch) source.old.rest }
     ensures infallible { T.read_infallible ≡ true → IfErr result (λ e. e ≡ Error.Invalid) }
 {
     T::from_step(source.alloc(), source.step(token))

@@ -2,12 +2,12 @@
 ghost use Rattle.std.specs.Prelude.{◌≡◌, Bool, List, ℕ, None, Some, Ok, Err, IfOk, IfErr, IfSome};
 ghost use Rattle.std.specs.String.{string_bytes};
 ghost use Rattle.miniserde_model.specs.Tree.{Trees, Members};
-ghost use Rattle.miniserde_model.specs.Event as event;
+ghost use Rattle.miniserde_model.specs.Step as step;
 ghost use Rattle.miniserde_model.specs.Lexing.{Starts, Names, Follows};
 ghost use Rattle.miniserde_model.specs.Whitespace.{IsWhitespace};
-ghost use Rattle.miniserde_text.specs.Lexer.{front_of, text_of, kind_of, closes, BeginsEscaped};
+ghost use Rattle.miniserde_text.specs.Lexer.{event_of_token, text_of, is_close, BeginsEscaped};
 ghost use Rattle.miniserde_model.specs.declared.error.Error.{Error};
-ghost use Rattle.miniserde_read.specs.Step.{event_of};
+ghost use Rattle.miniserde_read.specs.Events.{event_of};
 ghost use Rattle.miniserde_read.specs.Lacking.{EscapedElement, EscapedMember};
 ghost use Rattle.miniserde_read.specs.Rest.{ElementsAt, MembersAt};
 ghost use Rattle.miniserde_read.specs.Source.{ElementFollows, NameFollows};
@@ -72,12 +72,12 @@ impl<'a> Source<'a> {
     #[inline(always)]
     pub fn token(&mut self) -> Result<Event<'a>>
         ensures going { IfOk result (λ _. self.new.refused ≡ None) }
-        ensures ok { IfOk result (λ e. Starts self.old.rest (front_of e self.new.scratch) self.new.rest) }
+        ensures ok { IfOk result (λ e. Starts self.old.rest (event_of_token e self.new.scratch) self.new.rest) }
         ensures invalid { result ≡ Err Error.Invalid → self.old.refused ≡ None
-            → (e : event.Event) (r : List ℕ) → Starts self.old.rest e r → ⊥ }
+            → (e : step.Step) (r : List ℕ) → Starts self.old.rest e r → ⊥ }
         ensures memory { result ≡ Err Error.Memory → self.old.refused ≡ None → BeginsEscaped self.old.rest }
         ensures err { IfErr result (λ e. self.new.refused ≡ Some e) }
-        ensures kept { IfSome self.old.refused (λ e. result ≡ Err e) }
+        ensures sticky { IfSome self.old.refused (λ e. result ≡ Err e) }
     {
         self.lexer.start(&mut self.scratch)
     }
@@ -92,7 +92,7 @@ impl<'a> Source<'a> {
             → (ts : Trees) (r : List ℕ) → ElementsAt ts first self.old.rest r → ⊥ }
         ensures memory { result ≡ Err Error.Memory → self.old.refused ≡ None → EscapedElement first self.old.rest }
         ensures err { IfErr result (λ e. self.new.refused ≡ Some e) }
-        ensures kept { IfSome self.old.refused (λ e. result ≡ Err e) }
+        ensures sticky { IfSome self.old.refused (λ e. result ≡ Err e) }
     {
         match self.lexer.after(Kind::Seq, first)? {
             After::Close => Ok(None),
@@ -110,7 +110,7 @@ impl<'a> Source<'a> {
             → (ms : Members) (r : List ℕ) → MembersAt ms first self.old.rest r → ⊥ }
         ensures memory { result ≡ Err Error.Memory → self.old.refused ≡ None → EscapedMember first self.old.rest }
         ensures err { IfErr result (λ e. self.new.refused ≡ Some e) }
-        ensures kept { IfSome self.old.refused (λ e. result ≡ Err e) }
+        ensures sticky { IfSome self.old.refused (λ e. result ≡ Err e) }
     {
         match self.lexer.after(Kind::Map, first)? {
             After::Close => Ok(None),
@@ -123,13 +123,13 @@ impl<'a> Source<'a> {
     #[inline(always)]
     pub fn after(&mut self, kind: Kind, first: bool) -> Result<After>
         ensures going { IfOk result (λ _. self.new.refused ≡ None) }
-        ensures ok { IfOk result (λ a. Follows (kind_of kind) first (closes a) self.old.rest self.new.rest) }
+        ensures ok { IfOk result (λ a. Follows kind first (is_close a) self.old.rest self.new.rest) }
         ensures scratch { self.new.scratch ≡ self.old.scratch }
         ensures invalid { result ≡ Err Error.Invalid → self.old.refused ≡ None
-            → (a : Bool) (r : List ℕ) → Follows (kind_of kind) first a self.old.rest r → ⊥ }
+            → (a : Bool) (r : List ℕ) → Follows kind first a self.old.rest r → ⊥ }
         ensures only { IfErr result (λ e. self.old.refused ≡ None → e ≡ Error.Invalid) }
         ensures err { IfErr result (λ e. self.new.refused ≡ Some e) }
-        ensures kept { IfSome self.old.refused (λ e. result ≡ Err e) }
+        ensures sticky { IfSome self.old.refused (λ e. result ≡ Err e) }
     {
         self.lexer.after(kind, first)
     }
@@ -143,7 +143,7 @@ impl<'a> Source<'a> {
             → (n r : List ℕ) → Names self.old.rest n r → ⊥ }
         ensures memory { result ≡ Err Error.Memory → self.old.refused ≡ None → BeginsEscaped self.old.rest }
         ensures err { IfErr result (λ e. self.new.refused ≡ Some e) }
-        ensures kept { IfSome self.old.refused (λ e. result ≡ Err e) }
+        ensures sticky { IfSome self.old.refused (λ e. result ≡ Err e) }
     {
         self.lexer.name(&mut self.scratch)
     }
@@ -155,7 +155,7 @@ impl<'a> Source<'a> {
         ensures invalid { result ≡ Err Error.Invalid → self.old.refused ≡ None → IsWhitespace self.old.rest → ⊥ }
         ensures only { IfErr result (λ e. self.old.refused ≡ None → e ≡ Error.Invalid) }
         ensures err { IfErr result (λ e. self.new.refused ≡ Some e) }
-        ensures kept { IfSome self.old.refused (λ e. result ≡ Err e) }
+        ensures sticky { IfSome self.old.refused (λ e. result ≡ Err e) }
     {
         self.lexer.end()
     }
@@ -184,7 +184,7 @@ impl<'a> Source<'a> {
     /// Returns the event of the token that was taken last.
     #[inline(always)]
     pub fn step<'b>(&'b self, token: Event<'b>) -> Step<'b>
-        ensures { event_of result ≡ front_of token.entry self.now.scratch }
+        ensures { event_of result ≡ event_of_token token.entry self.now.scratch }
     {
         match token {
             Event::Null => Step::Null,

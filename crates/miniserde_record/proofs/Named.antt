@@ -1,7 +1,7 @@
 -- Members by the same names are alike only where their trees are, if each tree has a name and no name is a duplicate.
 use Rattle.std.proofs.Common.{◌≡◌, true, List, [], ◌∷◌, length, Option, Some, None, refl, sym, ap, ◌∙◌, arith}
 use Rattle.miniserde_model.specs.Tree.{Tree, Members, member}
-use Rattle.miniserde_read.specs.meaning.Objects.{Name}
+use Rattle.miniserde_read.specs.types.Objects.{Name}
 use Rattle.miniserde_record.specs.Fields.{count_named}
 use Rattle.miniserde_record.specs.Structs.{is_new, are_distinct, with_names}
 use Rattle.miniserde_record.proofs.Rounds.{same, both, count_new}

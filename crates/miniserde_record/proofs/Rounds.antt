@@ -8,14 +8,14 @@ use Rattle.miniserde_model.specs.Normal.{last_of}
 use Rattle.miniserde_text.proofs.Equal.{bytes_eq-flips}
 use Rattle.miniserde_keys.specs.Ranged.{OptionReal}
 use Rattle.miniserde_ser.specs.Trees.{option_tree}
-use Rattle.miniserde_read.specs.Meant.{Meant}
-use Rattle.miniserde_read.specs.Meanings.{option_meant}
-use Rattle.miniserde_read.specs.meaning.Objects.{Name}
-use Rattle.miniserde_round.specs.RoundTrip.{ReadsAgain}
+use Rattle.miniserde_read.specs.Meaning.{Meaning}
+use Rattle.miniserde_read.specs.Meanings.{option_meaning}
+use Rattle.miniserde_read.specs.types.Objects.{Name}
+use Rattle.miniserde_round.specs.RoundTrip.{RoundTrips}
 use Rattle.miniserde_record.specs.Fields.{others, AllNamed, Says, count_named, OnceAnd, MissingReads, FieldsRead}
-use Rattle.miniserde_record.specs.Marks.{are_none}
+use Rattle.miniserde_record.specs.Marks.{has_no_members}
 use Rattle.miniserde_record.specs.Structs.{is_new, are_distinct, are_names}
-use Rattle.miniserde_record.specs.Structs.{with_names, members_text, FieldsAgain}
+use Rattle.miniserde_record.specs.Structs.{with_names, members_text, FieldsRoundTrip}
 
 pub same : (n : Name) → bytes_eq n n ≡ true
 same n = (bytes_eq-Decides n n).1 refl
@@ -94,15 +94,15 @@ once_and : (once : Bool) (n : Name) (ms : Members) (P : Type 0) → OnceAnd once
 once_and false n ms P h = h
 once_and true n ms P h = h.1
 
-module _ {A W : Type 0} (once : Bool) (m : Meant A) (missing : A → Type 0) (real_a : A → Type 0) (tree : A → Tree)
+module _ {A W : Type 0} (once : Bool) (m : Meaning A) (missing : A → Type 0) (real_a : A → Type 0) (tree : A → Tree)
     (real_r : W → Type 0) (trees : W → List (Option Tree)) (count : ℕ) (reads_r : List Name → Members → W → Type 0)
-    (first : (v : A) → real_a v → ReadsAgain real_a tree m.reads (tree v))
-    (later : (names : List Name) (v : W) → are_names count names ≡ true → real_r v → FieldsAgain real_r trees reads_r names (trees v)) where
+    (first : (v : A) → real_a v → RoundTrips real_a tree m.reads (tree v))
+    (later : (names : List Name) (v : W) → are_names count names ≡ true → real_r v → FieldsRoundTrip real_r trees reads_r names (trees v)) where
   -- a written field is there, so what a missing one has is not asked for
-  pub again-field : (names : List Name) (v : A × W) → are_names (count + 1) names ≡ true → real_a v.0 × real_r v.1
-      → FieldsAgain (λ (v : A × W). real_a v.0 × real_r v.1) (λ v. Some (tree v.0) ∷ trees v.1) (FieldsRead once m.reads m.from_tree missing reads_r) names (Some (tree v.0) ∷ trees v.1)
-  again-field [] v f r = absurd (no_names count f)
-  again-field (n ∷ ns) v f r =
+  pub round_trips-field : (names : List Name) (v : A × W) → are_names (count + 1) names ≡ true → real_a v.0 × real_r v.1
+      → FieldsRoundTrip (λ (v : A × W). real_a v.0 × real_r v.1) (λ v. Some (tree v.0) ∷ trees v.1) (FieldsRead once m.reads m.from_tree missing reads_r) names (Some (tree v.0) ∷ trees v.1)
+  round_trips-field [] v f r = absurd (no_names count f)
+  round_trips-field (n ∷ ns) v f r =
       let f = more_names count n ns f in
       let a = first v.0 r.0 in
       let b = later ns v.1 f.1 r.1 in
@@ -127,29 +127,29 @@ module _ {A W : Type 0} (once : Bool) (m : Meant A) (missing : A → Type 0) (re
 
 -- ---- a field that may be left out
 
-module _ {A W : Type 0} (once : Bool) (m : Meant A) (real_a : A → Type 0) (tree : A → Tree)
+module _ {A W : Type 0} (once : Bool) (m : Meaning A) (real_a : A → Type 0) (tree : A → Tree)
     (real_r : W → Type 0) (trees : W → List (Option Tree)) (count : ℕ) (reads_r : List Name → Members → W → Type 0)
-    (first : (v : Option A) → OptionReal real_a v → ReadsAgain (OptionReal real_a) (option_tree tree) (option_meant m).reads (option_tree tree v))
+    (first : (v : Option A) → OptionReal real_a v → RoundTrips (OptionReal real_a) (option_tree tree) (option_meaning m).reads (option_tree tree v))
     (never : (v : A) → real_a v → tree v ≡ null → ⊥)
-    (later : (names : List Name) (v : W) → are_names count names ≡ true → real_r v → FieldsAgain real_r trees reads_r names (trees v)) where
+    (later : (names : List Name) (v : W) → are_names count names ≡ true → real_r v → FieldsRoundTrip real_r trees reads_r names (trees v)) where
   -- nothing is written of `None`, which is what a missing field has
   abbrev missing : Option A → Type 0
-  missing v = MissingReads (option_meant m) None (Some None) v
+  missing v = MissingReads (option_meaning m) None (Some None) v
 
   abbrev reads : List Name → Members → Option A × W → Type 0
-  reads ns ms v = FieldsRead once (option_meant m).reads (option_meant m).from_tree missing reads_r ns ms v
+  reads ns ms v = FieldsRead once (option_meaning m).reads (option_meaning m).from_tree missing reads_r ns ms v
 
-  pub again-omitted : (names : List Name) (v : Option A × W) → are_names (count + 1) names ≡ true → OptionReal real_a v.0 × real_r v.1
-      → FieldsAgain (λ (v : Option A × W). OptionReal real_a v.0 × real_r v.1) (λ v. option_map tree v.0 ∷ trees v.1) reads names (option_map tree v.0 ∷ trees v.1)
-  again-omitted [] v f r = absurd (no_names count f)
-  again-omitted (n ∷ ns) (Some x, w) f r =
-      let a = again-field once (option_meant m) missing (OptionReal real_a) (option_tree tree) real_r trees count reads_r first later (n ∷ ns) (Some x, w) f r in
+  pub round_trips-omitted : (names : List Name) (v : Option A × W) → are_names (count + 1) names ≡ true → OptionReal real_a v.0 × real_r v.1
+      → FieldsRoundTrip (λ (v : Option A × W). OptionReal real_a v.0 × real_r v.1) (λ v. option_map tree v.0 ∷ trees v.1) reads names (option_map tree v.0 ∷ trees v.1)
+  round_trips-omitted [] v f r = absurd (no_names count f)
+  round_trips-omitted (n ∷ ns) (Some x, w) f r =
+      let a = round_trips-field once (option_meaning m) missing (OptionReal real_a) (option_tree tree) real_r trees count reads_r first later (n ∷ ns) (Some x, w) f r in
       (a.0, λ u s e. written u s (a.1 u s e))
     where
       written : (u : Option A × W) → OptionReal real_a u.0 × real_r u.1 → Some (option_tree tree u.0) ∷ trees u.1 ≡ Some (tree x) ∷ trees w → option_map tree u.0 ∷ trees u.1 ≡ Some (tree x) ∷ trees w
       written (None, u) s e = absurd (never x r.0 (sym (cc)))
       written (Some y, u) s e = e
-  again-omitted (n ∷ ns) (None, w) f r =
+  round_trips-omitted (n ∷ ns) (None, w) f r =
       let f = more_names count n ns f in
       let b = later ns w f.1 r.1 in
       let ms = with_names ns (trees w) in
@@ -158,10 +158,10 @@ module _ {A W : Type 0} (once : Bool) (m : Meant A) (real_a : A → Type 0) (tre
         (
           (None, b.0.0),
           (tt, b.0.1),
-          (and_once once n ms _ (rw (count_new n ns (trees w) f.0) (omega (arith))) (all_new (option_meant m).from_tree n ns (trees w) f.0, rw last refl), subst (λ ms. reads_r ns ms b.0.0) (sym rest) b.0.2),
+          (and_once once n ms _ (rw (count_new n ns (trees w) f.0) (omega (arith))) (all_new (option_meaning m).from_tree n ns (trees w) f.0, rw last refl), subst (λ ms. reads_r ns ms b.0.0) (sym rest) b.0.2),
         ),
         λ u s e. rw (
-          none u.0 (subst (λ o. MatchOption o (missing u.0) (λ t. (option_meant m).reads t u.0)) last (once_and once n ms _ e.0).1),
+          none u.0 (subst (λ o. MatchOption o (missing u.0) (λ t. (option_meaning m).reads t u.0)) last (once_and once n ms _ e.0).1),
           b.1 u.1 s.1 (subst (λ ms. reads_r ns ms u.1) rest e.1),
         ) refl,
       )
@@ -181,5 +181,5 @@ no_text true = refl
 no_text false = refl
 
 -- no member is left behind the last field
-pub again-closed : (names : List Name) → FieldsAgain {V = Unit {0}} (λ _. ⊤) (λ _. []) (λ ns ms v. are_none ms ≡ true) names []
-again-closed names = ((tt, tt, ap are_none (with_names_none names)), λ v r e. refl)
+pub round_trips-closed : (names : List Name) → FieldsRoundTrip {V = Unit {0}} (λ _. ⊤) (λ _. []) (λ ns ms v. has_no_members ms ≡ true) names []
+round_trips-closed names = ((tt, tt, ap has_no_members (with_names_none names)), λ v r e. refl)

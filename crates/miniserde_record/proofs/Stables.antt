@@ -5,10 +5,10 @@ use Rattle.std.specs.Option.{option_or}
 use Rattle.std.proofs.lemmas.Cmp.{nat_list_cmp_total}
 use Rattle.std.proofs.lemmas.Slice.Eq.{bytes_eq-Decides}
 use Rattle.miniserde_model.specs.Tree.{Tree, Members, no_members, member}
-use Rattle.miniserde_model.specs.Normal.{text_cmp, placed, with_first, norm_neg, norm, norm_members, last_of, BeginsAbove, Rise}
+use Rattle.miniserde_model.specs.Normal.{text_cmp, with_first_by, with_first, norm_neg, norm, norm_members, last_of, BeginsAbove, Rise}
 use Rattle.miniserde_model.proofs.Lookups.{norm_keeps_last, norm_rises}
 use Rattle.miniserde_model.proofs.OneNormal.{norm_only}
-use Rattle.miniserde_read.specs.meaning.Objects.{Name}
+use Rattle.miniserde_read.specs.types.Objects.{Name}
 use Rattle.miniserde_stable.specs.Stable.{IsStable}
 use Rattle.miniserde_stable.proofs.Types.{bound, mapped}
 use Rattle.miniserde_record.specs.Fields.{beside, others, last_given, field_given, AllNamed, count_named}
@@ -27,7 +27,7 @@ counted false c m n h = h
 -- members in order have no more of a name than with the member in front
 count_first : (n k : Name) (t : Tree) (ms : Members) → count_named n (with_first k t ms) ≤ count_named n (member k t ms)
 count_first n k t no_members = omega (arith)
-count_first n k t (member j u ms) = elim (text_cmp k j) as (λ r. count_named n (placed r k t j u ms (with_first k t ms)) ≤ count_named n (member k t (member j u ms))) [
+count_first n k t (member j u ms) = elim (text_cmp k j) as (λ r. count_named n (with_first_by r k t j u ms (with_first k t ms)) ≤ count_named n (member k t (member j u ms))) [
   | Less ↦ omega (arith)
   | Equal ↦ elim (bytes_eq k n) as (λ b. count_named n (member j u ms) ≤ cond b (suc (count_named n (member j u ms))) (count_named n (member j u ms))) [ true ↦ omega (arith) | false ↦ omega (arith) ]
   | Greater ↦ counted (bytes_eq j n) (bytes_eq k n) (count_named n (with_first k t ms)) (count_named n ms) (count_first n k t ms)
@@ -44,7 +44,7 @@ count_normal n (member k t ms) =
 module _ {C : Type 0} (of : Tree → Option C) (stable : IsStable of) (n : Name) where
   named_first : (k : Name) (t : Tree) (ms : Members) → AllNamed of n (member k t ms) → AllNamed of n (with_first k t ms)
   named_first k t no_members h = h
-  named_first k t (member j u ms) h = elim (text_cmp k j) as (λ r. AllNamed of n (placed r k t j u ms (with_first k t ms))) [
+  named_first k t (member j u ms) h = elim (text_cmp k j) as (λ r. AllNamed of n (with_first_by r k t j u ms (with_first k t ms))) [
     | Less ↦ h
     | Equal ↦ h.1
     | Greater ↦ (h.1.0, named_first k t ms (h.0, h.1.1))

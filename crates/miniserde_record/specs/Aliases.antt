@@ -1,23 +1,23 @@
 -- Aliases: other names of a struct's fields, by which it is read.
 use Rattle.std.specs.Prelude.{◌&&◌, Bool, true, cond, List, [], ◌∷◌, map, bytes_eq}
 use Rattle.miniserde_model.specs.Tree.{Members, no_members, member}
-use Rattle.miniserde_read.specs.meaning.Objects.{Name}
+use Rattle.miniserde_read.specs.types.Objects.{Name}
 
 -- the aliases of a constant, each with the name of its field
 abbrev pub aliases_of : record { now : List (record { now : Name } × record { now : Name }) } → List (Name × Name)
 aliases_of ps = map (λ p. (p.0.now, p.1.now)) ps.now
 
 -- the name that a member counts by: of an alias that of its field, and any other name itself
-abbrev pub counts_as : List (Name × Name) → Name → Name
-counts_as [] k = k
-counts_as (p ∷ ps) k = cond (bytes_eq k p.0) p.1 (counts_as ps k)
+abbrev pub field_name_of : List (Name × Name) → Name → Name
+field_name_of [] k = k
+field_name_of (p ∷ ps) k = cond (bytes_eq k p.0) p.1 (field_name_of ps k)
 
 -- the members, by the names that they count by
-abbrev pub counted_as : List (Name × Name) → Members → Members
-counted_as ps no_members = no_members
-counted_as ps (member k t ms) = member (counts_as ps k) t (counted_as ps ms)
+abbrev pub with_field_names : List (Name × Name) → Members → Members
+with_field_names ps no_members = no_members
+with_field_names ps (member k t ms) = member (field_name_of ps k) t (with_field_names ps ms)
 
 -- each of the names counts as itself
 abbrev pub are_themselves : List (Name × Name) → List Name → Bool
 are_themselves ps [] = true
-are_themselves ps (n ∷ ns) = bytes_eq (counts_as ps n) n && are_themselves ps ns
+are_themselves ps (n ∷ ns) = bytes_eq (field_name_of ps n) n && are_themselves ps ns

@@ -2,7 +2,7 @@
 use Rattle.std.specs.Prelude.{◌≡◌, List, Option, Some}
 use Rattle.miniserde_model.specs.Tree.{Members}
 use Rattle.miniserde_model.specs.Normal.{norm_members}
-use Rattle.miniserde_read.specs.meaning.Objects.{Name}
+use Rattle.miniserde_read.specs.types.Objects.{Name}
 
 -- members that have a content have it in normal form too, by any names and from any state
 abbrev pub AreStable : {S D : Type 0} → (List Name → S → Members → Option D) → Type 0

@@ -3,7 +3,7 @@ use Rattle.std.proofs.Common.{◌≡◌, ℕ, List, Option}
 use Rattle.std.specs.Prelude.{option_map}
 use Rattle.miniserde_model.specs.Tree.{Tree}
 use Rattle.miniserde_keys.specs.Keys.{Key}
-use Rattle.miniserde_read.specs.meaning.Maps.{entry_at}
+use Rattle.miniserde_read.specs.types.Maps.{entry_at}
 
 module _ {K V : Type 0} (code : K → Key) (text : K → List ℕ) (f : V → Tree) where
   -- what is written of an entry

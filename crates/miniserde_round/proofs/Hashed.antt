@@ -8,10 +8,10 @@ use Rattle.std.proofs.lemmas.Option.{same_Some}
 use Rattle.std.proofs.lemmas.List.Elements.{All-contains, All-from_recursion}
 use Rattle.std.proofs.lemmas.Map.Lookups.{exact_bytes}
 use Rattle.miniserde_model.specs.Tree.{Tree, Members, no_members, member}
-use Rattle.miniserde_model.specs.Normal.{text_cmp, placed, with_first, last_of}
+use Rattle.miniserde_model.specs.Normal.{text_cmp, with_first_by, with_first, last_of}
 use Rattle.miniserde_keys.specs.Keys.{Key}
-use Rattle.miniserde_read.specs.meaning.Objects.{Name}
-use Rattle.miniserde_read.specs.meaning.Maps.{key_at, met, met_at, AllTaken, entry_at}
+use Rattle.miniserde_read.specs.types.Objects.{Name}
+use Rattle.miniserde_read.specs.types.Maps.{key_at, first_and_last, first_and_last_at, AllAccepted, entry_at}
 use Rattle.miniserde_read.proofs.Entries.{same, contains-first, contains-later, found, at-contained}
 use Rattle.miniserde_ser.specs.Trees.{members_of, in_order}
 use Rattle.miniserde_ser.proofs.Ordered.{Stands, names, all_stand, in_order_same}
@@ -44,40 +44,40 @@ module _ {K V : Type 0} (code : K → Key) (text : K → List ℕ) (f : V → Tr
 -- ---- members in the order of their names
 
 module _ {C : Type 0} (read : Name → Option Key) (code : Key → Key) (of : Tree → Option C) where
-  taken_first : (n : Name) (t : Tree) (ms : Members) → IsSome (read n) → IsSome (of t) → AllTaken read of ms → AllTaken read of (with_first n t ms)
+  taken_first : (n : Name) (t : Tree) (ms : Members) → IsSome (read n) → IsSome (of t) → AllAccepted read of ms → AllAccepted read of (with_first n t ms)
   taken_first n t no_members r g h = (r, (g, tt))
-  taken_first n t (member o u ms) r g h = elim (text_cmp n o) as (λ c. AllTaken read of (placed c n t o u ms (with_first n t ms))) [
+  taken_first n t (member o u ms) r g h = elim (text_cmp n o) as (λ c. AllAccepted read of (with_first_by c n t o u ms (with_first n t ms))) [
     | Less ↦ (r, (g, h))
     | Equal ↦ h
     | Greater ↦ (h.0, (h.1.0, taken_first n t ms r g h.1.1))
   ]
 
-  pub taken_in_order : (ms : Members) → AllTaken read of ms → AllTaken read of (in_order ms)
+  pub taken_in_order : (ms : Members) → AllAccepted read of ms → AllAccepted read of (in_order ms)
   taken_in_order no_members h = tt
   taken_in_order (member n t ms) h = taken_first n t (in_order ms) h.0 h.1.0 (taken_in_order ms h.1.1)
 
   -- a name at another code changes nothing
-  pub met_other : (q : Key) (n : Name) (t : Tree) (ms : Members) → key_at code q (read n) ≡ None → met_at read code q (with_first n t ms) ≡ met_at read code q ms
+  pub met_other : (q : Key) (n : Name) (t : Tree) (ms : Members) → key_at code q (read n) ≡ None → first_and_last_at read code q (with_first n t ms) ≡ first_and_last_at read code q ms
   met_other q n t no_members k = rw k refl
-  met_other q n t (member o u ms) k = elim (text_cmp n o) as (λ c. met_at read code q (placed c n t o u ms (with_first n t ms)) ≡ met_at read code q (member o u ms)) [
+  met_other q n t (member o u ms) k = elim (text_cmp n o) as (λ c. first_and_last_at read code q (with_first_by c n t o u ms (with_first n t ms)) ≡ first_and_last_at read code q (member o u ms)) [
     | Less ↦ rw k refl
     | Equal ↦ refl
-    | Greater ↦ ap (met (key_at code q (read o)) u) (met_other q n t ms k)
+    | Greater ↦ ap (first_and_last (key_at code q (read o)) u) (met_other q n t ms k)
   ]
 
   -- nothing is met where a member in front is not met, and nothing behind it
-  met_none : (o : Option Key) (t : Tree) (p : Option (Key × Tree)) → met o t p ≡ None → (o ≡ None) × (p ≡ None)
+  met_none : (o : Option Key) (t : Tree) (p : Option (Key × Tree)) → first_and_last o t p ≡ None → (o ≡ None) × (p ≡ None)
   met_none None t p e = (refl, e)
   met_none (Some c) t None e = absurd (cc)
   met_none (Some c) t (Some p) e = absurd (cc)
 
   -- a name at the code, where no other is
-  pub met_first : (q : Key) (n : Name) (t : Tree) (c : Key) (ms : Members) → key_at code q (read n) ≡ Some c → met_at read code q ms ≡ None → met_at read code q (with_first n t ms) ≡ Some (c, t)
+  pub met_first : (q : Key) (n : Name) (t : Tree) (c : Key) (ms : Members) → key_at code q (read n) ≡ Some c → first_and_last_at read code q ms ≡ None → first_and_last_at read code q (with_first n t ms) ≡ Some (c, t)
   met_first q n t c no_members k m = rw k refl
   met_first q n t c (member o u ms) k m =
-      let none = met_none (key_at code q (read o)) u (met_at read code q ms) m in
-      elim (text_cmp n o) as (λ r. text_cmp n o ≡ r → met_at read code q (placed r n t o u ms (with_first n t ms)) ≡ Some (c, t)) [
-        | Less ↦ λ r. ap (met (key_at code q (read n)) t) m ∙ ap (λ z. met z t None) k
+      let none = met_none (key_at code q (read o)) u (first_and_last_at read code q ms) m in
+      elim (text_cmp n o) as (λ r. text_cmp n o ≡ r → first_and_last_at read code q (with_first_by r n t o u ms (with_first n t ms)) ≡ Some (c, t)) [
+        | Less ↦ λ r. ap (first_and_last (key_at code q (read n)) t) m ∙ ap (λ z. first_and_last z t None) k
         | Equal ↦ λ r. let s : n ≡ o = exact_bytes n o r in absurd (cc (sym k ∙ ap (λ z. key_at code q (read z)) s ∙ none.0))
         | Greater ↦ λ r. rw (none.0) (met_first q n t c ms k none.1)
       ] refl

@@ -1,4 +1,4 @@
-pub mod Again
+pub mod RoundTrips
 pub mod Agree
 pub mod Maps
 pub mod Sorted

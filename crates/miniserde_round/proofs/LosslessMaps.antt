@@ -14,8 +14,8 @@ use Rattle.miniserde_model.specs.Normal.{or_else, last_of}
 use Rattle.miniserde_model.proofs.Lookups.{last_with_first}
 use Rattle.miniserde_keys.specs.Keys.{Key}
 use Rattle.miniserde_keys.specs.laws.Keys.{ReadsBack}
-use Rattle.miniserde_read.specs.meaning.Objects.{Name}
-use Rattle.miniserde_read.specs.meaning.Maps.{entry_at, looked}
+use Rattle.miniserde_read.specs.types.Objects.{Name}
+use Rattle.miniserde_read.specs.types.Maps.{entry_at, map_content}
 use Rattle.miniserde_read.proofs.Entries.{same, same_code, code_same, contains-cases, contains-first, contains-later, found, at-contained}
 use Rattle.miniserde_ser.specs.Trees.{members_of, in_order}
 
@@ -30,7 +30,7 @@ either None (Some x) p q = q x refl
 either (Some x) b p q = sym (p x refl)
 
 module _ {K V C : Type 0} (read : Name → Option Key) (code : Key → Key) (content : K → Key) (text : K → Name) (f : V → Tree) (value : V → C) (key_real : K → Type 0) (real : V → Type 0)
-    (back : ReadsBack key_real content code read text) (whole : (a b : K) → code (content a) ≡ code (content b) → content a ≡ content b) (lossless : (v w : V) → real v → real w → f v ≡ f w → value v ≡ value w) where
+    (back : ReadsBack key_real content code read text) (injective : (a b : K) → code (content a) ≡ code (content b) → content a ≡ content b) (lossless : (v w : V) → real v → real w → f v ≡ f w → value v ≡ value w) where
   abbrev pub code_of : K → Key
   code_of k = code (content k)
 
@@ -88,17 +88,17 @@ module _ {K V C : Type 0} (read : Name → Option Key) (code : Key → Key) (con
       let own : o.0 ≡ e = same_Some _ _ (sym (at-contained code_of (code_of e.0) es o.0 d o.1 (one_code o.0.0 e.0 (part es o.0 p o.1).0 r.0 o.2)) ∙ at-contained code_of (code_of e.0) es e d c refl) in
       (g.0, g.1, one_code g.0.0 e.0 there.0 r.0 g.2, lossless g.0.1 e.1 there.1 r.1 (g.3 ∙ sym o.3 ∙ ap (λ z. f z.1) own))
 
-  looked_like : (es fs : List (K × V)) → AllByRecursion Part es → AllByRecursion Part fs → Alone es → Alone fs → Alike es fs → (q : Key) (x : Key × C) → looked code content value es q ≡ Some x → looked code content value fs q ≡ Some x
-  looked_like es fs p r d b a q x s = elim (entry_at code_of q es) as (λ o. entry_at code_of q es ≡ o → option_map {U = Key × C} (λ e. (content e.0, value e.1)) o ≡ Some x → looked code content value fs q ≡ Some x) [
+  looked_like : (es fs : List (K × V)) → AllByRecursion Part es → AllByRecursion Part fs → Alone es → Alone fs → Alike es fs → (q : Key) (x : Key × C) → map_content code content value es q ≡ Some x → map_content code content value fs q ≡ Some x
+  looked_like es fs p r d b a q x s = elim (entry_at code_of q es) as (λ o. entry_at code_of q es ≡ o → option_map {U = Key × C} (λ e. (content e.0, value e.1)) o ≡ Some x → map_content code content value fs q ≡ Some x) [
     | None ↦ λ n s. absurd (cc)
     | Some e ↦ λ n s.
         let m = found code_of q es e n in
         let g = like es fs p r d a e m.0 in
-        rw (at-contained code_of q fs g.0 b g.1 (g.2 ∙ m.1), whole g.0.0 e.0 g.2, g.3) s
+        rw (at-contained code_of q fs g.0 b g.1 (g.2 ∙ m.1), injective g.0.0 e.0 g.2, g.3) s
   ] refl s
 
-  one_looked : (es fs : List (K × V)) → AllByRecursion Part es → AllByRecursion Part fs → Alone es → Alone fs → Alike es fs → looked code content value es ≡ looked code content value fs
-  one_looked es fs p r d b a = λ i q. either (looked code content value es q) (looked code content value fs q) (looked_like es fs p r d b a q) (looked_like fs es r p b d (λ n. sym (a n)) q) i
+  one_looked : (es fs : List (K × V)) → AllByRecursion Part es → AllByRecursion Part fs → Alone es → Alone fs → Alike es fs → map_content code content value es ≡ map_content code content value fs
+  one_looked es fs p r d b a = λ i q. either (map_content code content value es q) (map_content code content value fs q) (looked_like es fs p r d b a q) (looked_like fs es r p b d (λ n. sym (a n)) q) i
 
   -- ---- ordered by their keys
 
@@ -106,7 +106,7 @@ module _ {K V C : Type 0} (read : Name → Option Key) (code : Key → Key) (con
     sorted_alone : (es : List (K × V)) → IsStrictlySortedBy cmp (keys_of es) → Alone es
     sorted_alone es o = subst (λ r. IsDistinct r (keys_of es)) (λ i a b. agrees a b i) (IsDistinct-from_sorted cmp (keys_of es) o)
 
-    pub one_sorted : (es fs : List (K × V)) → IsStrictlySortedBy cmp (keys_of es) × AllByRecursion Part es → IsStrictlySortedBy cmp (keys_of fs) × AllByRecursion Part fs → members (members_of text f es) ≡ members (members_of text f fs) → looked code content value es ≡ looked code content value fs
+    pub one_sorted : (es fs : List (K × V)) → IsStrictlySortedBy cmp (keys_of es) × AllByRecursion Part es → IsStrictlySortedBy cmp (keys_of fs) × AllByRecursion Part fs → members (members_of text f es) ≡ members (members_of text f fs) → map_content code content value es ≡ map_content code content value fs
     one_sorted es fs p q e =
         let same : members_of text f es ≡ members_of text f fs = cc in
         one_looked es fs p.1 q.1 (sorted_alone es p.0) (sorted_alone fs q.0) (λ n. ap (last_of n) same)
@@ -117,7 +117,7 @@ module _ {K V C : Type 0} (read : Name → Option Key) (code : Key → Key) (con
     hashed_alone : (es : List (K × V)) → IsDistinct eq (keys_of es) → Alone es
     hashed_alone es d = subst (λ r. IsDistinct r (keys_of es)) (λ i a b. agrees a b i) d
 
-    pub one_hashed : (es fs : List (K × V)) → IsDistinct eq (keys_of es) × AllByRecursion Part es → IsDistinct eq (keys_of fs) × AllByRecursion Part fs → members (in_order (members_of text f es)) ≡ members (in_order (members_of text f fs)) → looked code content value es ≡ looked code content value fs
+    pub one_hashed : (es fs : List (K × V)) → IsDistinct eq (keys_of es) × AllByRecursion Part es → IsDistinct eq (keys_of fs) × AllByRecursion Part fs → members (in_order (members_of text f es)) ≡ members (in_order (members_of text f fs)) → map_content code content value es ≡ map_content code content value fs
     one_hashed es fs p q e =
         let same : in_order (members_of text f es) ≡ in_order (members_of text f fs) = cc in
         one_looked es fs p.1 q.1 (hashed_alone es p.0) (hashed_alone fs q.0) (λ n. sym (last_in_order n (members_of text f es)) ∙ ap (last_of n) same ∙ last_in_order n (members_of text f fs))

@@ -13,19 +13,19 @@ use Rattle.miniserde_model.specs.Tree.{Tree, members}
 use Rattle.miniserde_model.specs.Normal.{with_first}
 use Rattle.miniserde_keys.specs.Keys.{Key}
 use Rattle.miniserde_keys.specs.laws.Keys.{ReadsBack}
-use Rattle.miniserde_read.specs.meaning.Objects.{Name}
-use Rattle.miniserde_read.specs.meaning.Maps.{met, met_at, AllTaken, entry_at, MeansAt, MapReads}
+use Rattle.miniserde_read.specs.types.Objects.{Name}
+use Rattle.miniserde_read.specs.types.Maps.{first_and_last, first_and_last_at, AllAccepted, entry_at, MeansAt, MapReads}
 use Rattle.miniserde_read.proofs.Entries.{same, same_code, code_same, found}
 use Rattle.miniserde_ser.specs.Trees.{members_of, in_order}
 use Rattle.miniserde_ser.proofs.Names.{distinct_names}
 use Rattle.miniserde_ser.proofs.Ordered.{names}
-use Rattle.miniserde_round.specs.RoundTrip.{ReadsAgain}
+use Rattle.miniserde_round.specs.RoundTrip.{RoundTrips}
 use Rattle.miniserde_round.proofs.Agree.{written, Agree}
 use Rattle.miniserde_round.proofs.Sorted.{sorted_same}
 use Rattle.miniserde_round.proofs.Hashed.{hashed_same, taken_in_order, met_other, met_first}
 
 module _ {K V C : Type 0} (read : Name → Option Key) (code : Key → Key) (content : K → Key) (text : K → List ℕ) (key_real : K → Type 0) (real : V → Type 0) (f : V → Tree) (of : Tree → Option C) (R : Tree → V → Type 0)
-    (gives : (t : Tree) (v : V) → R t v → IsSome (of t)) (back : ReadsBack key_real content code read text) (one_text : (a b : K) → code (content a) ≡ code (content b) → text a ≡ text b) (again : (v : V) → real v → ReadsAgain real f R (f v)) where
+    (gives : (t : Tree) (v : V) → R t v → IsSome (of t)) (back : ReadsBack key_real content code read text) (one_text : (a b : K) → code (content a) ≡ code (content b) → text a ≡ text b) (round_trips : (v : V) → real v → RoundTrips real f R (f v)) where
   abbrev code_of : K → Key
   code_of k = code (content k)
 
@@ -46,11 +46,11 @@ module _ {K V C : Type 0} (read : Name → Option Key) (code : Key → Key) (con
   -- the key and the value that each entry reads as
   abbrev pub read_of : (es : List (K × V)) → Parts es → List (K × V)
   read_of [] h = []
-  read_of (e ∷ es) h = ((back e.0 h.0.0).0, (again e.1 h.0.1).0.0) ∷ read_of es h.1
+  read_of (e ∷ es) h = ((back e.0 h.0.0).0, (round_trips e.1 h.0.1).0.0) ∷ read_of es h.1
 
   parts_read : (es : List (K × V)) (h : Parts es) → Parts (read_of es h)
   parts_read [] h = tt
-  parts_read (e ∷ es) h = (((back e.0 h.0.0).1, (again e.1 h.0.1).0.1), parts_read es h.1)
+  parts_read (e ∷ es) h = (((back e.0 h.0.0).1, (round_trips e.1 h.0.1).0.1), parts_read es h.1)
 
   key_parts : (es : List (K × V)) → Parts es → AllByRecursion (λ e. key_real e.0) es
   key_parts [] h = tt
@@ -64,10 +64,10 @@ module _ {K V C : Type 0} (read : Name → Option Key) (code : Key → Key) (con
   -- ---- what is met at a code
 
   -- every member is taken
-  taken : (es : List (K × V)) → Parts es → AllTaken read of (members_of text f es)
+  taken : (es : List (K × V)) → Parts es → AllAccepted read of (members_of text f es)
   taken [] h = tt
   taken (e ∷ es) h =
-      let v = (again e.1 h.0.1).0 in
+      let v = (round_trips e.1 h.0.1).0 in
       (rw ((back e.0 h.0.0).2) refl, (gives (f e.1) v.0 v.2, taken es h.1))
 
   -- the entries have other codes
@@ -75,7 +75,7 @@ module _ {K V C : Type 0} (read : Name → Option Key) (code : Key → Key) (con
   Apart q es = AllByRecursion (λ k. bytes_eq (code_of k) q ≡ false) (keys_of es)
 
   -- no member is met there
-  none_met : (q : Key) (es : List (K × V)) → Parts es → Apart q es → met_at read code q (members_of text f es) ≡ None
+  none_met : (q : Key) (es : List (K × V)) → Parts es → Apart q es → first_and_last_at read code q (members_of text f es) ≡ None
   none_met q [] h a = refl
   none_met q (e ∷ es) h a = let b = back e.0 h.0.0 in rw (b.2, b.3, a.0) (none_met q es h.1 a.1)
 
@@ -95,13 +95,13 @@ module _ {K V C : Type 0} (read : Name → Option Key) (code : Key → Key) (con
       )
 
   -- the members mean the entries that are read
-  met_read : (q : Key) (es : List (K × V)) (h : Parts es) → Alone es → MeansAt content R (met_at read code q (members_of text f es)) (entry_at code_of q (read_of es h))
+  met_read : (q : Key) (es : List (K × V)) (h : Parts es) → Alone es → MeansAt content R (first_and_last_at read code q (members_of text f es)) (entry_at code_of q (read_of es h))
   unfolding IsDistinct
   met_read q [] h d = tt
   met_read q (e ∷ es) h d =
       let b = back e.0 h.0.0 in
-      let v = (again e.1 h.0.1).0 in
-      rw b.2 (elim (bytes_eq (code_of b.0) q) as (λ c. bytes_eq (code_of b.0) q ≡ c → MeansAt content R (met (cond c (Some (content b.0)) None) (f e.1) (met_at read code q (members_of text f es))) (cond c (Some (b.0, v.0)) (entry_at code_of q (read_of es h.1)))) [
+      let v = (round_trips e.1 h.0.1).0 in
+      rw b.2 (elim (bytes_eq (code_of b.0) q) as (λ c. bytes_eq (code_of b.0) q ≡ c → MeansAt content R (first_and_last (cond c (Some (content b.0)) None) (f e.1) (first_and_last_at read code q (members_of text f es))) (cond c (Some (b.0, v.0)) (entry_at code_of q (read_of es h.1)))) [
         | true ↦ λ c. rw (none_met q es h.1 (others_apart q e es d (sym b.3 ∙ same_code _ _ c))) (refl, v.2)
         | false ↦ λ c. met_read q es h.1 d.1
       ] refl)
@@ -113,16 +113,16 @@ module _ {K V C : Type 0} (read : Name → Option Key) (code : Key → Key) (con
   one_written q e k i at None r m = absurd m
   one_written q e k i at (Some g) r m =
       let own = r g refl in
-      rw (one_text e.0 g.0 (at ∙ sym own.1), (again e.1 i).1 g.1 own.0 m.1) refl
+      rw (one_text e.0 g.0 (at ∙ sym own.1), (round_trips e.1 i).1 g.1 own.0 m.1) refl
 
-  met_written : (q : Key) (es : List (K × V)) → Parts es → Alone es → (o : Option (K × V)) → ((g : K × V) → o ≡ Some g → real g.1 × (code_of g.0 ≡ q)) → MeansAt content R (met_at read code q (members_of text f es)) o → written code_of text f (entry_at code_of q es) ≡ written code_of text f o
+  met_written : (q : Key) (es : List (K × V)) → Parts es → Alone es → (o : Option (K × V)) → ((g : K × V) → o ≡ Some g → real g.1 × (code_of g.0 ≡ q)) → MeansAt content R (first_and_last_at read code q (members_of text f es)) o → written code_of text f (entry_at code_of q es) ≡ written code_of text f o
   unfolding IsDistinct
   met_written q [] h d None r m = refl
   met_written q [] h d (Some g) r m = absurd m
   met_written q (e ∷ es) h d o r m =
       let b = back e.0 h.0.0 in
       let first = ap (λ c. bytes_eq c q) (sym b.3) in
-      rw first (elim (bytes_eq (code_of b.0) q) as (λ c. bytes_eq (code_of b.0) q ≡ c → MeansAt content R (met (cond c (Some (content b.0)) None) (f e.1) (met_at read code q (members_of text f es))) o → written code_of text f (cond c (Some e) (entry_at code_of q es)) ≡ written code_of text f o) [
+      rw first (elim (bytes_eq (code_of b.0) q) as (λ c. bytes_eq (code_of b.0) q ≡ c → MeansAt content R (first_and_last (cond c (Some (content b.0)) None) (f e.1) (first_and_last_at read code q (members_of text f es))) o → written code_of text f (cond c (Some e) (entry_at code_of q es)) ≡ written code_of text f o) [
         | true ↦ λ c n.
             let at : code_of e.0 ≡ q = sym b.3 ∙ same_code _ _ c in
             one_written q e (content b.0) h.0.1 at o r (rw (none_met q es h.1 (others_apart q e es d at)) at n)
@@ -131,7 +131,7 @@ module _ {K V C : Type 0} (read : Name → Option Key) (code : Key → Key) (con
 
   -- entries of which each, at its code, was met
   abbrev Met : List (K × V) → List (K × V) → Type 0
-  Met es fs = (q : Key) → MeansAt content R (met_at read code q (members_of text f es)) (entry_at code_of q fs)
+  Met es fs = (q : Key) → MeansAt content R (first_and_last_at read code q (members_of text f es)) (entry_at code_of q fs)
 
   met_agree : (es fs : List (K × V)) → Parts es → Alone es → Parts fs → Met es fs → Agree code_of text f es fs
   met_agree es fs h d p m q = met_written q es h d (entry_at code_of q fs) go (m q)
@@ -167,9 +167,9 @@ module _ {K V C : Type 0} (read : Name → Option Key) (code : Key → Key) (con
     distinct_codes : (es : List (K × V)) → InOrder es → Alone es
     distinct_codes es o = subst (λ r. IsDistinct r (keys_of es)) (λ i a b. agrees a b i) (IsDistinct-from_sorted cmp (keys_of es) o)
 
-    pub again-sorted : {M : Type 0} (entries : M → List (K × V)) (with : M → List (K × V) → M) → ((m : M) (es : List (K × V)) → entries (with m es) ≡ es) → (m : M) → InOrder (entries m) × Parts (entries m)
-        → ReadsAgain (λ w. InOrder (entries w) × Parts (entries w)) (λ w. members (members_of text f (entries w))) (λ t w. Reads t (entries w)) (members (members_of text f (entries m)))
-    again-sorted entries with same m r =
+    pub round_trips-sorted : {M : Type 0} (entries : M → List (K × V)) (with : M → List (K × V) → M) → ((m : M) (es : List (K × V)) → entries (with m es) ≡ es) → (m : M) → InOrder (entries m) × Parts (entries m)
+        → RoundTrips (λ w. InOrder (entries w) × Parts (entries w)) (λ w. members (members_of text f (entries w))) (λ t w. Reads t (entries w)) (members (members_of text f (entries m)))
+    round_trips-sorted entries with same m r =
         let es = entries m in
         let d = distinct_codes es r.0 in
         let s = sym (same m (read_of es r.1)) in
@@ -185,17 +185,17 @@ module _ {K V C : Type 0} (read : Name → Option Key) (code : Key → Key) (con
   -- ---- hashed maps
 
   -- what is met in order is what is met
-  met_in_order : (q : Key) (es : List (K × V)) → Parts es → Alone es → met_at read code q (in_order (members_of text f es)) ≡ met_at read code q (members_of text f es)
+  met_in_order : (q : Key) (es : List (K × V)) → Parts es → Alone es → first_and_last_at read code q (in_order (members_of text f es)) ≡ first_and_last_at read code q (members_of text f es)
   unfolding IsDistinct
   met_in_order q [] h d = refl
   met_in_order q (e ∷ es) h d =
       let b = back e.0 h.0.0 in
       let rest = met_in_order q es h.1 d.1 in
-      elim (bytes_eq (code_of b.0) q) as (λ c. bytes_eq (code_of b.0) q ≡ c → met_at read code q (with_first (text e.0) (f e.1) (in_order (members_of text f es))) ≡ met (cond c (Some (content b.0)) None) (f e.1) (met_at read code q (members_of text f es))) [
+      elim (bytes_eq (code_of b.0) q) as (λ c. bytes_eq (code_of b.0) q ≡ c → first_and_last_at read code q (with_first (text e.0) (f e.1) (in_order (members_of text f es))) ≡ first_and_last (cond c (Some (content b.0)) None) (f e.1) (first_and_last_at read code q (members_of text f es))) [
         | false ↦ λ c. met_other read code of q (text e.0) (f e.1) (in_order (members_of text f es)) (rw (b.2, c) refl) ∙ rest
         | true ↦ λ c.
             let none = none_met q es h.1 (others_apart q e es d (sym b.3 ∙ same_code _ _ c)) in
-            met_first read code of q (text e.0) (f e.1) (content b.0) (in_order (members_of text f es)) (rw (b.2, c) refl) (rest ∙ none) ∙ ap (met (Some (content b.0)) (f e.1)) (sym none)
+            met_first read code of q (text e.0) (f e.1) (content b.0) (in_order (members_of text f es)) (rw (b.2, c) refl) (rest ∙ none) ∙ ap (first_and_last (Some (content b.0)) (f e.1)) (sym none)
       ] refl ∙ rw b.2 refl
 
   module _ (eq : K → K → Bool) (alike : (a b : K) → eq a b ≡ bytes_eq (code_of a) (code_of b)) where
@@ -219,9 +219,9 @@ module _ {K V C : Type 0} (read : Name → Option Key) (code : Key → Key) (con
     names_apart : (es : List (K × V)) → Unique es × Parts es → IsDistinct bytes_eq (names text f es)
     names_apart es r = distinct_names eq key_real content code read text alike back es (key_parts es r.1) r.0
 
-    pub again-hashed : {M : Type 0} (entries : M → List (K × V)) (with : M → List (K × V) → M) → ((m : M) (es : List (K × V)) → entries (with m es) ≡ es) → (m : M) → Unique (entries m) × Parts (entries m)
-        → ReadsAgain (λ w. Unique (entries w) × Parts (entries w)) (λ w. members (in_order (members_of text f (entries w)))) (λ t w. Reads t (entries w)) (members (in_order (members_of text f (entries m))))
-    again-hashed entries with same m r =
+    pub round_trips-hashed : {M : Type 0} (entries : M → List (K × V)) (with : M → List (K × V) → M) → ((m : M) (es : List (K × V)) → entries (with m es) ≡ es) → (m : M) → Unique (entries m) × Parts (entries m)
+        → RoundTrips (λ w. Unique (entries w) × Parts (entries w)) (λ w. members (in_order (members_of text f (entries w)))) (λ t w. Reads t (entries w)) (members (in_order (members_of text f (entries m))))
+    round_trips-hashed entries with same m r =
         let es = entries m in
         let d = alone es r.0 in
         let s = sym (same m (read_of es r.1)) in

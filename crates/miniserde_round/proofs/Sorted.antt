@@ -13,7 +13,7 @@ use Rattle.std.proofs.lemmas.Map.Keys.{sorted_head, sorted_tail}
 use Rattle.miniserde_model.specs.Tree.{Tree}
 use Rattle.miniserde_keys.specs.Keys.{Key}
 use Rattle.miniserde_text.proofs.Equal.{bytes_eq-flips}
-use Rattle.miniserde_read.specs.meaning.Maps.{entry_at}
+use Rattle.miniserde_read.specs.types.Maps.{entry_at}
 use Rattle.miniserde_read.proofs.Entries.{same_code, code_same}
 use Rattle.miniserde_read.proofs.Inserts.{absent-below}
 use Rattle.miniserde_ser.specs.Trees.{members_of}

@@ -7,4 +7,4 @@ mod scalars;
 mod tuples;
 
 pub use lossless::{Lossless, NeverNull, means_itself, read_itself};
-pub use round_trip::{RoundTrip, read_again, read_back};
+pub use round_trip::{RoundTrip, read_back, write_and_read};

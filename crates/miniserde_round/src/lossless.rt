@@ -3,8 +3,8 @@ ghost use Rattle.std.specs.Prelude.{◌≡◌, IfOk, Err};
 ghost use Rattle.miniserde_model.specs.Tree.{null};
 ghost use Rattle.miniserde_model.specs.declared.error.Error.{Error};
 
-use crate::round_trip::{RoundTrip, read_again};
-use miniserde_keys::{MapKey, WholeKey};
+use crate::round_trip::{RoundTrip, write_and_read};
+use miniserde_keys::{InjectiveKey, MapKey};
 use miniserde_model::error::Result;
 use std::alloc::Global;
 use std::collections::{BTreeMap, HashMap, VecDeque};
@@ -33,7 +33,7 @@ pub fn means_itself<T: Lossless>(value: &T)
         → T.means.content v ≡ T.means.content value.now }
 {
     value.ranged();
-    T::again();
+    T::round_trips();
     T::lossless();
 }
 
@@ -44,7 +44,7 @@ pub fn read_itself<T: Lossless>(alloc: Global, value: &T) -> Result<T>
 {
     T::lossless();
     value.ranged();
-    read_again(alloc, value)
+    write_and_read(alloc, value)
 }
 
 impl Lossless for () {
@@ -89,13 +89,13 @@ impl<A: Lossless, B: Lossless> Lossless for (A, B) {
     }
 }
 
-impl<K: MapKey + Ord + WholeKey, V: Lossless> Lossless for BTreeMap<K, V> {
+impl<K: MapKey + Ord + InjectiveKey, V: Lossless> Lossless for BTreeMap<K, V> {
     fn lossless() {
         V::lossless()
     }
 }
 
-impl<K: MapKey + Hash + WholeKey, V: Lossless, H: BuildHasher + Default + Drop> Lossless
+impl<K: MapKey + Hash + InjectiveKey, V: Lossless, H: BuildHasher + Default + Drop> Lossless
     for HashMap<K, V, H> {
     fn lossless() {
         V::lossless()

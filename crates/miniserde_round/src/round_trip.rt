@@ -2,7 +2,7 @@
 ghost use Rattle.std.specs.Prelude.{◌≡◌, IfOk, Ok, Err};
 ghost use Rattle.miniserde_model.specs.Tree.{Tree};
 ghost use Rattle.miniserde_model.specs.Value.{IsJson};
-ghost use Rattle.miniserde_round.specs.RoundTrip.{ReadsAgain};
+ghost use Rattle.miniserde_round.specs.RoundTrip.{RoundTrips};
 ghost use Rattle.miniserde_model.specs.declared.error.Error.{Error};
 
 use miniserde_keys::{MapKey, Ranged};
@@ -17,9 +17,9 @@ use std::hash::{BuildHasher, Hash};
 pub trait RoundTrip: Ranged + Serialize + FromJson {
     /// Does nothing. It promises that the tree of each value that Rust has means a value that Rust has, and that each
     /// such value has that tree.
-    fn again()
+    fn round_trips()
         ensures { (v : Self) → Self.real v
-            → ReadsAgain Self.real Self.tree Self.means.reads (Self.tree v) };
+            → RoundTrips Self.real Self.tree Self.means.reads (Self.tree v) };
 }
 
 /// Parses one JSON value that spans the whole text, as `from_str` does (RFC 8259, section 2). If the text spells the
@@ -40,14 +40,14 @@ pub fn read_back<T: RoundTrip>(alloc: Global, text: &str) -> Result<T>
     ensures invalid { result ≡ Err Error.Invalid → (t : Tree) → IsJson text.now t
         → (v : T) → T.means.reads t v → ⊥ }
 {
-    T::again();
+    T::round_trips();
     let read: T = from_str(alloc, text)?;
     read.ranged();
     Ok(read)
 }
 
 /// Writes a value and parses it: the result has the same tree.
-pub fn read_again<T: RoundTrip>(alloc: Global, value: &T) -> Result<T>
+pub fn write_and_read<T: RoundTrip>(alloc: Global, value: &T) -> Result<T>
     ensures same { IfOk result (λ v. T.tree v ≡ T.tree value.now) }
     ensures itself { ((v : T) → T.real v → T.tree v ≡ T.tree value.now
         → T.means.content v ≡ T.means.content value.now)
@@ -56,60 +56,60 @@ pub fn read_again<T: RoundTrip>(alloc: Global, value: &T) -> Result<T>
 {
     value.ranged();
     let text = to_string(alloc, value)?;
-    let again: T = read_back(alloc, text.as_str())?;
-    Ok(again)
+    let round_trips: T = read_back(alloc, text.as_str())?;
+    Ok(round_trips)
 }
 
 impl RoundTrip for () {
-    fn again() {}
+    fn round_trips() {}
 }
 
 impl<T: RoundTrip> RoundTrip for Vec<T> {
-    fn again() {
-        T::again()
+    fn round_trips() {
+        T::round_trips()
     }
 }
 
 impl<T: RoundTrip> RoundTrip for VecDeque<T> {
-    fn again() {
-        T::again()
+    fn round_trips() {
+        T::round_trips()
     }
 }
 
 impl<T: RoundTrip, const N: usize> RoundTrip for [T; N] {
-    fn again() {
-        T::again()
+    fn round_trips() {
+        T::round_trips()
     }
 }
 
 impl<T: RoundTrip> RoundTrip for Box<T> {
-    fn again() {
-        T::again()
+    fn round_trips() {
+        T::round_trips()
     }
 }
 
 impl<T: RoundTrip> RoundTrip for Option<T> {
-    fn again() {
-        T::again()
+    fn round_trips() {
+        T::round_trips()
     }
 }
 
 impl<A: RoundTrip, B: RoundTrip> RoundTrip for (A, B) {
-    fn again() {
-        A::again();
-        B::again();
+    fn round_trips() {
+        A::round_trips();
+        B::round_trips();
     }
 }
 
 impl<K: MapKey + Ord, V: RoundTrip> RoundTrip for BTreeMap<K, V> {
-    fn again() {
-        V::again()
+    fn round_trips() {
+        V::round_trips()
     }
 }
 
 impl<K: MapKey + Hash, V: RoundTrip, H: BuildHasher + Default + Drop> RoundTrip
     for HashMap<K, V, H> {
-    fn again() {
-        V::again()
+    fn round_trips() {
+        V::round_trips()
     }
 }

@@ -1,7 +1,7 @@
 //! Booleans, integers and texts: no two values have one tree.
 ghost use Rattle.std.specs.Prelude.{◌≡◌};
 ghost use Rattle.miniserde_model.specs.Tree.{null};
-ghost use Rattle.miniserde_round.specs.RoundTrip.{ReadsAgain};
+ghost use Rattle.miniserde_round.specs.RoundTrip.{RoundTrips};
 
 use crate::lossless::{Lossless, NeverNull};
 use crate::round_trip::RoundTrip;
@@ -13,8 +13,8 @@ use miniserde_ser::ser::Serialize;
 pub trait Scalar: Ranged + Serialize + FromJson {
     /// Does nothing. It promises what `RoundTrip`, `Lossless` and `NeverNull` do.
     fn scalar()
-        ensures again { (v : Self) → Self.real v
-            → ReadsAgain Self.real Self.tree Self.means.reads (Self.tree v) }
+        ensures round_trips { (v : Self) → Self.real v
+            → RoundTrips Self.real Self.tree Self.means.reads (Self.tree v) }
         ensures same { (v w : Self) → Self.real v → Self.real w → Self.tree v ≡ Self.tree w
             → Self.means.content v ≡ Self.means.content w }
         ensures not_null { (v : Self) → Self.real v → Self.tree v ≡ null → ⊥ };
@@ -69,7 +69,7 @@ impl Scalar for String {
 }
 
 impl<T: Scalar> RoundTrip for T {
-    fn again() {
+    fn round_trips() {
         T::scalar()
     }
 }

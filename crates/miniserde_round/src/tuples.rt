@@ -4,10 +4,10 @@ use crate::lossless::{Lossless, NeverNull};
 use crate::round_trip::RoundTrip;
 
 impl<A: RoundTrip, B: RoundTrip, C: RoundTrip> RoundTrip for (A, B, C) {
-    fn again() {
-        A::again();
-        B::again();
-        C::again();
+    fn round_trips() {
+        A::round_trips();
+        B::round_trips();
+        C::round_trips();
     }
 }
 
@@ -24,11 +24,11 @@ impl<A: RoundTrip, B: RoundTrip, C: RoundTrip> NeverNull for (A, B, C) {
 }
 
 impl<A: RoundTrip, B: RoundTrip, C: RoundTrip, D: RoundTrip> RoundTrip for (A, B, C, D) {
-    fn again() {
-        A::again();
-        B::again();
-        C::again();
-        D::again();
+    fn round_trips() {
+        A::round_trips();
+        B::round_trips();
+        C::round_trips();
+        D::round_trips();
     }
 }
 
@@ -47,12 +47,12 @@ impl<A: RoundTrip, B: RoundTrip, C: RoundTrip, D: RoundTrip> NeverNull for (A, B
 
 impl<A: RoundTrip, B: RoundTrip, C: RoundTrip, D: RoundTrip, E: RoundTrip> RoundTrip
     for (A, B, C, D, E) {
-    fn again() {
-        A::again();
-        B::again();
-        C::again();
-        D::again();
-        E::again();
+    fn round_trips() {
+        A::round_trips();
+        B::round_trips();
+        C::round_trips();
+        D::round_trips();
+        E::round_trips();
     }
 }
 
@@ -73,13 +73,13 @@ impl<A: RoundTrip, B: RoundTrip, C: RoundTrip, D: RoundTrip, E: RoundTrip> Never
 
 impl<A: RoundTrip, B: RoundTrip, C: RoundTrip, D: RoundTrip, E: RoundTrip, F: RoundTrip> RoundTrip
     for (A, B, C, D, E, F) {
-    fn again() {
-        A::again();
-        B::again();
-        C::again();
-        D::again();
-        E::again();
-        F::again();
+    fn round_trips() {
+        A::round_trips();
+        B::round_trips();
+        C::round_trips();
+        D::round_trips();
+        E::round_trips();
+        F::round_trips();
     }
 }
 

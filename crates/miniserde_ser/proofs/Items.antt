@@ -8,7 +8,7 @@ use Rattle.std.specs.Prelude.{Result, OnOk}
 use Rattle.std.proofs.lemmas.Result.{on_ok_weaker}
 use Rattle.miniserde_model.specs.declared.error.Error.{Error}
 use Rattle.miniserde_ser.specs.Trees.{trees_of}
-use Rattle.miniserde_ser.specs.Writer.{Writing, Appends, appended, with_first}
+use Rattle.miniserde_ser.specs.Writer.{Writing, Appends, after_append, with_first_flag}
 
 compact_more-snoc : {A : Type 0} (f : A → Tree) (xs : List A) (x : A) → compact_more (trees_of f (xs ++ x ∷ [])) ≡ compact_more (trees_of f xs) ++ (44 ∷ []) ++ compact (f x)
 compact_more-snoc f [] x = grind (arith, append_assoc {A = ℕ}, append-nil {A = ℕ})
@@ -43,4 +43,4 @@ AreTrees_step f xs i x h e a r = rw (took xs i x h e) (AreTrees-snoc f (take i x
 
 -- what a last piece makes of the text of all items before it
 pub appends_text : (old new : Writing) (bs whole : List ℕ) (first : Bool) (r : Result (Unit {0}) Error) → Appends old bs first r new → old.text ++ bs ≡ whole → OnOk r (new.text ≡ whole)
-appends_text old new bs whole first r a h = on_ok_weaker r (λ (e : new ≡ with_first (appended old bs new.capacity) first). ap (λ (w : Writing). w.text) e ∙ h) a.ok
+appends_text old new bs whole first r a h = on_ok_weaker r (λ (e : new ≡ with_first_flag (after_append old bs new.capacity) first). ap (λ (w : Writing). w.text) e ∙ h) a.ok

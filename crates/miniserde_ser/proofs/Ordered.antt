@@ -39,15 +39,15 @@ module _ {K V : Type 0} (text : K → List ℕ) (f : V → Tree) where
   none_of q [] h = refl
   none_of q (e ∷ es) h = rw (none_of q es h.1, bytes_eq-flips (text e.0) q, h.0) refl
 
-  kept : (ms : Members) (d : K × V) (es : List (K × V)) → AllByRecursion (Stands ms) es → AllByRecursion (Stands (member (text d.0) (f d.1) ms)) es
-  kept ms d [] h = tt
-  kept ms d (e ∷ es) h = (ap (λ o. or_else o (cond (bytes_eq (text d.0) (text e.0)) (Some (f d.1)) None)) h.0, kept ms d es h.1)
+  stands_later : (ms : Members) (d : K × V) (es : List (K × V)) → AllByRecursion (Stands ms) es → AllByRecursion (Stands (member (text d.0) (f d.1) ms)) es
+  stands_later ms d [] h = tt
+  stands_later ms d (e ∷ es) h = (ap (λ o. or_else o (cond (bytes_eq (text d.0) (text e.0)) (Some (f d.1)) None)) h.0, stands_later ms d es h.1)
 
   pub all_stand : (es : List (K × V)) → IsDistinct bytes_eq (names es) → AllByRecursion (Stands (members_of text f es)) es
   all_stand [] h = tt
   all_stand (e ∷ es) h = (
     rw (none_of (text e.0) es (IsDistinct-head bytes_eq _ _ h), (bytes_eq-Decides (text e.0) (text e.0)).1 refl) refl,
-    kept (members_of text f es) e es (all_stand es (IsDistinct-tail bytes_eq _ _ h)),
+    stands_later (members_of text f es) e es (all_stand es (IsDistinct-tail bytes_eq _ _ h)),
   )
 
   -- what members have, ms has

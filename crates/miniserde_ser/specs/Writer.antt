@@ -15,12 +15,12 @@ pub record Writing : Type 0 where
   pub capacity : ℕ
 
 -- the writer after these bytes were appended, with room for n bytes
-abbrev pub appended : Writing → List ℕ → ℕ → Writing
-appended w bs n = record w { text = w.text ++ bs; capacity = n }
+abbrev pub after_append : Writing → List ℕ → ℕ → Writing
+after_append w bs n = record w { text = w.text ++ bs; capacity = n }
 
 -- the writer with this flag for the first element or member
-abbrev pub with_first : Writing → Bool → Writing
-with_first w b = record w { first = b }
+abbrev pub with_first_flag : Writing → Bool → Writing
+with_first_flag w b = record w { first = b }
 
 -- the writer after a refusal
 abbrev pub with_refused : Writing → Writing
@@ -33,7 +33,7 @@ LacksRoom w bs = w.refused ≡ false → w.capacity < length w.text + length bs
 -- What a call of the writer does that appends these bytes and leaves this flag: exactly that, or a refusal for memory,
 -- after which text and room are as before.
 pub record Appends (old : Writing) (bs : List ℕ) (first : Bool) (answer : Result (Unit {0}) Error) (new : Writing) : Type 0 where
-  pub ok : OnOk answer (new ≡ with_first (appended old bs new.capacity) first)
+  pub ok : OnOk answer (new ≡ with_first_flag (after_append old bs new.capacity) first)
   pub stays : OnOk answer (old.refused ≡ false)
   pub memory : OnErr answer (IsErrOf answer Memory)
   pub err : OnErr answer (new ≡ with_refused old)

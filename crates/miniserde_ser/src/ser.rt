@@ -75,7 +75,7 @@ fn push_growing(out: &mut String, text: &str) -> result::Result<(), AllocError>
 impl Writer {
     ghost use Rattle.std.specs.Prelude.{◌≡◌, [], ◌++◌, true, false, OnOk, OnErr, IfOk, IsErrOf, IsUtf8, string_bytes};
     ghost use Rattle.std.specs.Prelude.{string_capacity, ◌≤◌, if◌then◌else◌, codes, decimal};
-    ghost use Rattle.miniserde_model.specs.Compact.{compact, quoted};
+    ghost use Rattle.miniserde_model.specs.Compact.{compact, string_text};
     ghost use Rattle.miniserde_model.specs.declared.error.Error.TheVariants.{Memory};
     ghost use Rattle.miniserde_ser.specs.Writer.{Appends, with_refused};
     ghost use Rattle.miniserde_ser.specs.Fragment.{fragment_tree};
@@ -141,7 +141,7 @@ impl Writer {
     // Appends a text as a string.
     #[inline(always)]
     fn append_quoted(&mut self, text: &str) -> Result<()>
-        ensures { Appends self.old (quoted text.now) self.old.first result self.new }
+        ensures { Appends self.old (string_text text.now) self.old.first result self.new }
     {
         self.check()?;
         match escape_str(text, &mut self.text) {
@@ -213,17 +213,17 @@ impl Writer {
     /// Goes before each member of an object, and gives its name.
     pub fn key(&mut self, k: &str) -> Result<()>
         ensures appends { Appends self.old
-            ((if self.old.first then [] else codes ",") ++ quoted k.now ++ codes ":") false result self.new }
+            ((if self.old.first then [] else codes ",") ++ string_text k.now ++ codes ":") false result self.new }
         ensures utf8 { OnOk result (IsUtf8 k.now) }
     {
-        self.known_key(k)
+        self.key_inline(k)
     }
 
     /// Appends a member's name as `key` does, and is inlined into its caller.
     #[inline(always)]
-    pub fn known_key(&mut self, k: &str) -> Result<()>
+    pub fn key_inline(&mut self, k: &str) -> Result<()>
         ensures appends { Appends self.old
-            ((if self.old.first then [] else codes ",") ++ quoted k.now ++ codes ":") false result self.new }
+            ((if self.old.first then [] else codes ",") ++ string_text k.now ++ codes ":") false result self.new }
         ensures utf8 { OnOk result (IsUtf8 k.now) }
     {
         self.check()?;
@@ -283,7 +283,7 @@ pub trait Serialize {
         ensures ok { OnOk result (w.new.text ≡ w.old.text ++ compact (tree self.now)) }
         ensures is_tree { OnOk result (IsTree (tree self.now)) }
         ensures first { OnOk result (w.old.first ≡ false → w.new.first ≡ false) }
-        ensures whole { OnOk result (w.new.refused ≡ false) }
+        ensures unrefused { OnOk result (w.new.refused ≡ false) }
         ensures stays { OnOk result (w.old.refused ≡ false) }
         ensures memory { OnErr result (IsErrOf result Memory) }
         ensures err { OnErr result (w.new.refused ≡ true) };

@@ -7,10 +7,10 @@ use Rattle.std.proofs.lemmas.Option.{same_Some}
 use Rattle.std.proofs.lemmas.Map.Lookups.{exact_bytes}
 use Rattle.std.proofs.lemmas.Slice.Eq.{bytes_eq-Decides}
 use Rattle.miniserde_model.specs.Tree.{Tree, members, Members, no_members, member}
-use Rattle.miniserde_model.specs.Normal.{text_cmp, placed, with_first, norm, norm_members}
+use Rattle.miniserde_model.specs.Normal.{text_cmp, with_first_by, with_first, norm, norm_members}
 use Rattle.miniserde_keys.specs.Keys.{Key}
-use Rattle.miniserde_read.specs.meaning.Objects.{Name}
-use Rattle.miniserde_read.specs.meaning.Maps.{key_at, met, met_at, AllTaken, Entries, no_key, map_of}
+use Rattle.miniserde_read.specs.types.Objects.{Name}
+use Rattle.miniserde_read.specs.types.Maps.{key_at, first_and_last, first_and_last_at, AllAccepted, Entries, no_key, map_of}
 use Rattle.miniserde_read.specs.laws.Maps.{given_at, taken-given, met-taken, map-taken}
 use Rattle.miniserde_stable.specs.Stable.{IsStable}
 use Rattle.miniserde_stable.proofs.Types.{stable-by}
@@ -23,17 +23,17 @@ apart a b g same =
 
 -- ---- what is met
 
-met_twice : (o : Option Key) (t u : Tree) (p : Option (Key × Tree)) → met o t (met o u p) ≡ met o u p
+met_twice : (o : Option Key) (t u : Tree) (p : Option (Key × Tree)) → first_and_last o t (first_and_last o u p) ≡ first_and_last o u p
 met_twice None t u p = refl
 met_twice (Some c) t u None = refl
 met_twice (Some c) t u (Some p) = refl
 
-met_swapped : (o r : Option Key) (t u : Tree) (p : Option (Key × Tree)) → ((c d : Key) → o ≡ Some c → r ≡ Some d → ⊥) → met r u (met o t p) ≡ met o t (met r u p)
+met_swapped : (o r : Option Key) (t u : Tree) (p : Option (Key × Tree)) → ((c d : Key) → o ≡ Some c → r ≡ Some d → ⊥) → first_and_last r u (first_and_last o t p) ≡ first_and_last o t (first_and_last r u p)
 met_swapped None r t u p h = refl
 met_swapped (Some c) None t u p h = refl
 met_swapped (Some c) (Some d) t u p h = absurd (h c d refl refl)
 
-met_norm : (o : Option Key) (t : Tree) (p : Option (Key × Tree)) → met o (norm t) (option_map (λ p. (p.0, norm p.1)) p) ≡ option_map (λ p. (p.0, norm p.1)) (met o t p)
+met_norm : (o : Option Key) (t : Tree) (p : Option (Key × Tree)) → first_and_last o (norm t) (option_map (λ p. (p.0, norm p.1)) p) ≡ option_map (λ p. (p.0, norm p.1)) (first_and_last o t p)
 met_norm None t p = refl
 met_norm (Some c) t None = refl
 met_norm (Some c) t (Some p) = refl
@@ -49,9 +49,9 @@ at_code code q (Some d) c e = elim (bytes_eq (code d) q) as (λ b. bytes_eq (cod
 -- ---- what is taken
 
 module _ {C : Type 0} (read : Name → Option Key) (code : Key → Key) (of : Tree → Option C) where
-  pub taken_first : (n : Name) (t : Tree) (ms : Members) → IsSome (read n) → IsSome (of t) → AllTaken read of ms → AllTaken read of (with_first n t ms)
+  pub taken_first : (n : Name) (t : Tree) (ms : Members) → IsSome (read n) → IsSome (of t) → AllAccepted read of ms → AllAccepted read of (with_first n t ms)
   taken_first n t no_members r g h = (r, (g, tt))
-  taken_first n t (member o u ms) r g h = elim (text_cmp n o) as (λ c. AllTaken read of (placed c n t o u ms (with_first n t ms))) [
+  taken_first n t (member o u ms) r g h = elim (text_cmp n o) as (λ c. AllAccepted read of (with_first_by c n t o u ms (with_first n t ms))) [
     | Less ↦ (r, (g, h))
     | Equal ↦ h
     | Greater ↦ (h.0, (h.1.0, taken_first n t ms r g h.1.1))
@@ -61,27 +61,27 @@ module _ {C : Type 0} (read : Name → Option Key) (code : Key → Key) (of : Tr
 
 module _ (read : Name → Option Key) (code : Key → Key) (one_name : (n m : Name) (c d : Key) → read n ≡ Some c → read m ≡ Some d → code c ≡ code d → n ≡ m) where
   -- a member in its place is met as one in front is
-  met_first : (q : Key) (n : Name) (t : Tree) (ms : Members) → met_at read code q (with_first n t ms) ≡ met (key_at code q (read n)) t (met_at read code q ms)
+  met_first : (q : Key) (n : Name) (t : Tree) (ms : Members) → first_and_last_at read code q (with_first n t ms) ≡ first_and_last (key_at code q (read n)) t (first_and_last_at read code q ms)
   met_first q n t no_members = refl
-  met_first q n t (member o u ms) = elim (text_cmp n o) as (λ r. text_cmp n o ≡ r → met_at read code q (placed r n t o u ms (with_first n t ms)) ≡ met (key_at code q (read n)) t (met (key_at code q (read o)) u (met_at read code q ms))) [
+  met_first q n t (member o u ms) = elim (text_cmp n o) as (λ r. text_cmp n o ≡ r → first_and_last_at read code q (with_first_by r n t o u ms (with_first n t ms)) ≡ first_and_last (key_at code q (read n)) t (first_and_last (key_at code q (read o)) u (first_and_last_at read code q ms))) [
     | Less ↦ λ r. refl
     | Equal ↦ λ r.
         let same : n ≡ o = exact_bytes n o r in
-        subst (λ k. met (key_at code q (read o)) u (met_at read code q ms) ≡ met (key_at code q (read k)) t (met (key_at code q (read o)) u (met_at read code q ms))) (sym same) (sym (met_twice (key_at code q (read o)) t u (met_at read code q ms)))
+        subst (λ k. first_and_last (key_at code q (read o)) u (first_and_last_at read code q ms) ≡ first_and_last (key_at code q (read k)) t (first_and_last (key_at code q (read o)) u (first_and_last_at read code q ms))) (sym same) (sym (met_twice (key_at code q (read o)) t u (first_and_last_at read code q ms)))
     | Greater ↦ λ r.
-        ap (met (key_at code q (read o)) u) (met_first q n t ms)
-        ∙ met_swapped (key_at code q (read n)) (key_at code q (read o)) t u (met_at read code q ms) (λ c d e f.
+        ap (first_and_last (key_at code q (read o)) u) (met_first q n t ms)
+        ∙ met_swapped (key_at code q (read n)) (key_at code q (read o)) t u (first_and_last_at read code q ms) (λ c d e f.
         let a = at_code code q (read n) c e in
         let b = at_code code q (read o) d f in
         apart n o r (one_name n o c d a.0 b.0 (a.1 ∙ sym b.1)))
   ] refl
 
-  pub met_normal : (q : Key) (ms : Members) → met_at read code q (norm_members ms) ≡ option_map (λ p. (p.0, norm p.1)) (met_at read code q ms)
+  pub met_normal : (q : Key) (ms : Members) → first_and_last_at read code q (norm_members ms) ≡ option_map (λ p. (p.0, norm p.1)) (first_and_last_at read code q ms)
   met_normal q no_members = refl
   met_normal q (member n t ms) =
       met_first q n (norm t) (norm_members ms)
-      ∙ ap (met (key_at code q (read n)) (norm t)) (met_normal q ms)
-      ∙ met_norm (key_at code q (read n)) t (met_at read code q ms)
+      ∙ ap (first_and_last (key_at code q (read n)) (norm t)) (met_normal q ms)
+      ∙ met_norm (key_at code q (read n)) t (first_and_last_at read code q ms)
 
 -- ---- what is given
 
@@ -92,7 +92,7 @@ module _ {C : Type 0} (read : Name → Option Key) (code : Key → Key) (of : Tr
     | Some c ↦ λ e s. rw (stays t c e) refl
   ] refl s
 
-  taken_normal : (ms : Members) → AllTaken read of ms → AllTaken read of (norm_members ms)
+  taken_normal : (ms : Members) → AllAccepted read of ms → AllAccepted read of (norm_members ms)
   taken_normal no_members h = tt
   taken_normal (member n t ms) h = taken_first read code of n (norm t) (norm_members ms) h.0 (some_stays t h.1.0) (taken_normal ms h.1.1)
 
@@ -106,7 +106,7 @@ module _ {C : Type 0} (read : Name → Option Key) (code : Key → Key) (of : Tr
   members-stay : (ms : Members) (c : Entries C) → map_of read code of (members ms) ≡ Some c → map_of read code of (members (norm_members ms)) ≡ Some c
   members-stay ms c e =
       let taken = taken-given read code of no_key c ms e in
-      let same : (λ q. given_at of None (met_at read code q (norm_members ms))) ≡ (λ q. given_at of None (met_at read code q ms)) = λ i q. (ap (given_at of None) (met_normal read code one_name q ms) ∙ given_normal (met_at read code q ms) (λ p f. met-taken read code of q ms p taken f)) i in
+      let same : (λ q. given_at of None (first_and_last_at read code q (norm_members ms))) ≡ (λ q. given_at of None (first_and_last_at read code q ms)) = λ i q. (ap (given_at of None) (met_normal read code one_name q ms) ∙ given_normal (first_and_last_at read code q ms) (λ p f. met-taken read code of q ms p taken f)) i in
       map-taken read code of (norm_members ms) (taken_normal ms taken) ∙ ap Some same ∙ sym (map-taken read code of ms taken) ∙ e
 
   pub stable-map : IsStable (map_of read code of)

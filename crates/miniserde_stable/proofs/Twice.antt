@@ -5,8 +5,8 @@ use Rattle.std.proofs.lemmas.Option.{same_Some}
 use Rattle.miniserde_model.specs.Tree.{Tree, nonneg, Members, members, no_members, member}
 use Rattle.miniserde_model.specs.Normal.{norm}
 use Rattle.miniserde_keys.specs.Keys.{Key, of_nat, read_unsigned}
-use Rattle.miniserde_read.specs.meaning.Integers.{unsigned_of}
-use Rattle.miniserde_read.specs.meaning.Maps.{Entries, map_of}
+use Rattle.miniserde_read.specs.types.Integers.{unsigned_of}
+use Rattle.miniserde_read.specs.types.Maps.{Entries, map_of}
 use Rattle.miniserde_stable.specs.Stable.{IsStable}
 
 -- `1` and `01`

@@ -3,13 +3,13 @@ use Rattle.std.proofs.Common.{◌≡◌, ℕ, ℤ, pos, negsuc, List, ◌∷◌,
 use Rattle.std.specs.Prelude.{option_map, option_and_then}
 use Rattle.miniserde_model.specs.Tree.{Tree, null, truth, nonneg, neg, num, str, list, members, Trees, no_trees, tree, Members}
 use Rattle.miniserde_model.specs.Normal.{norm, norm_neg, norm_children, norm_members}
-use Rattle.miniserde_read.specs.meaning.Words.{unit_of, boolean_of, string_of}
-use Rattle.miniserde_read.specs.meaning.Integers.{unsigned_of, signed_of}
-use Rattle.miniserde_read.specs.meaning.Lists.{each, list_of}
-use Rattle.miniserde_read.specs.meaning.Arrays.{exactly, array_of}
-use Rattle.miniserde_read.specs.meaning.Options.{option_of}
-use Rattle.miniserde_read.specs.meaning.Pairs.{pair_of}
-use Rattle.miniserde_read.specs.meaning.Tuples.{none_of, item_of, tuple_of}
+use Rattle.miniserde_read.specs.types.Words.{unit_of, boolean_of, string_of}
+use Rattle.miniserde_read.specs.types.Integers.{unsigned_of, signed_of}
+use Rattle.miniserde_read.specs.types.Lists.{each, list_of}
+use Rattle.miniserde_read.specs.types.Arrays.{exactly, array_of}
+use Rattle.miniserde_read.specs.types.Options.{option_of}
+use Rattle.miniserde_read.specs.types.Pairs.{pair_of}
+use Rattle.miniserde_read.specs.types.Tuples.{none_of, item_of, tuple_of}
 use Rattle.miniserde_stable.specs.Stable.{IsStable}
 
 -- what is made of something that stays, stays

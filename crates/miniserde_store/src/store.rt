@@ -64,6 +64,6 @@ pub fn sent_itself<T: Stable + Lossless>()
         → T.means.content v ≡ T.means.content w }
 {
     means_in_normal_form::<T>();
-    T::again();
+    T::round_trips();
     T::lossless();
 }

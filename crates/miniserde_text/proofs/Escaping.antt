@@ -4,7 +4,7 @@ use Rattle.std.proofs.lemmas.Grind.{flat_map-append}
 use Rattle.std.proofs.lemmas.List.{take_more, append-nil, take-append-drop, length-take, get_or-take, get_or-drop}
 use Rattle.std.proofs.lemmas.Bool.Decides.{nat_tests}
 use Rattle.miniserde_model.specs.Bytes.{is_special}
-use Rattle.miniserde_model.specs.Compact.{quoted}
+use Rattle.miniserde_model.specs.Compact.{string_text}
 use Rattle.miniserde_text.specs.private.Escape.{escape, escapes}
 
 -- a byte that may stand for itself does
@@ -91,14 +91,14 @@ length_escapes_six (x ∷ xs) =
     rw escapes-cons (omega (arith, length-append (escape x) (escapes xs), length_escape_le x, length_escapes_six xs))
 
 -- the words of a string, and the model's
-pub quoted_escapes : (s : List ℕ) → quoted s ≡ 34 ∷ (escapes s ++ 34 ∷ [])
-unfolding quoted escapes escape
+pub quoted_escapes : (s : List ℕ) → string_text s ≡ 34 ∷ (escapes s ++ 34 ∷ [])
+unfolding string_text escapes escape
 quoted_escapes s = refl
 
 -- a quote, what stands between the quotes, and a quote
-pub between_quotes : (old mid a b new v : List ℕ) → mid ≡ old → a ≡ mid ++ 34 ∷ [] → b ≡ a ++ escapes v → new ≡ b ++ 34 ∷ [] → new ≡ old ++ quoted v
+pub between_quotes : (old mid a b new v : List ℕ) → mid ≡ old → a ≡ mid ++ 34 ∷ [] → b ≡ a ++ escapes v → new ≡ b ++ 34 ∷ [] → new ≡ old ++ string_text v
 between_quotes old mid a b new v h i j k = rw (k, j, i, h, quoted_escapes v) (simp append_assoc refl)
 
 -- how long that is
-pub length_quoted : (v : List ℕ) → length (quoted v) ≡ 2 + length (escapes v)
+pub length_quoted : (v : List ℕ) → length (string_text v) ≡ 2 + length (escapes v)
 length_quoted v = rw quoted_escapes (omega (arith, length-append (escapes v) (34 ∷ [])))

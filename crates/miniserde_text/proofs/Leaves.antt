@@ -6,16 +6,17 @@ use Rattle.std.specs.Str.Parse.{digits_value}
 use Rattle.std.proofs.lemmas.Bool.Decides.{nat_tests}
 use Rattle.std.proofs.lemmas.List.{append-nil}
 use Rattle.miniserde_model.specs.Tree.{Tree, null, truth, nonneg, neg, num, str, list, members}
-use Rattle.miniserde_model.specs.Event.{Event, nothing, boolean, string, negative, nonnegative, float, seq, map}
-use Rattle.miniserde_model.specs.Number.{IsDigit, IsWhole, IsFraction, IsExponent, IsNumberText, is_plain, begins_minus, leaf_of_digits, leaf_of_negated, leaf}
+use Rattle.miniserde_model.specs.Step.{Step, boolean, string, negative, nonnegative, float, seq, map}
+use Rattle.miniserde_model.specs.Step as step
+use Rattle.miniserde_model.specs.Number.{IsDigit, IsInt, IsFraction, IsExponent, IsNumberText, is_plain, begins_minus, leaf_of_digits, leaf_of_negated, leaf}
 use Rattle.miniserde_model.specs.Bytes.{is_number_byte, StopsAt}
 use Rattle.miniserde_model.specs.Lexing.{Piece, Ends}
 use Rattle.miniserde_text.specs.private.Reading.{event_of_parts}
 use Rattle.miniserde_text.proofs.Options.{if_cases}
 
 -- the first event of a tree
-abbrev pub event_of : Tree → Event
-event_of null = nothing
+abbrev pub event_of : Tree → Step
+event_of null = step.null
 event_of (truth x) = boolean x
 event_of (nonneg n) = nonnegative n
 event_of (neg z) = negative z
@@ -40,7 +41,7 @@ leaf_of_float b x = leaf_cases b (λ t. event_of t ≡ float x → t ≡ num b) 
 
 -- ---- the leaf of the parts
 
-pub whole_digits : (w : List ℕ) → IsWhole w → AllByRecursion IsDigit w
+pub whole_digits : (w : List ℕ) → IsInt w → AllByRecursion IsDigit w
 whole_digits [] h = absurd h
 whole_digits (c ∷ cs) (inl h) = rw (h.0, h.1) ((omega arith, omega arith), tt)
 whole_digits (c ∷ cs) (inr h) = ((omega arith, h.0.1), h.1)
@@ -51,7 +52,7 @@ sign_of m = if m then 45 ∷ [] else []
 digit_no_minus : (c : ℕ) → IsDigit c → (c == 45) ≡ false
 digit_no_minus c h = grind (arith, nat_tests)
 
-pub whole_first : (w r : List ℕ) → IsWhole w → (slice_index (w ++ r) 0 == 45) ≡ false
+pub whole_first : (w r : List ℕ) → IsInt w → (slice_index (w ++ r) 0 == 45) ≡ false
 whole_first [] r h = absurd h
 whole_first (c ∷ cs) r h = digit_no_minus c (whole_digits (c ∷ cs) h).0
 
@@ -62,7 +63,7 @@ digits_plain : (w t : List ℕ) → AllByRecursion IsDigit w → is_plain (w ++ 
 digits_plain [] t h = refl
 digits_plain (c ∷ w) t h = ap (λ b. b && is_plain (w ++ t)) (digit_plain c h.0) ∙ digits_plain w t h.1
 
-parts_plain : (m : Bool) (w t : List ℕ) → IsWhole w → is_plain (sign_of m ++ (w ++ t)) ≡ is_plain t
+parts_plain : (m : Bool) (w t : List ℕ) → IsInt w → is_plain (sign_of m ++ (w ++ t)) ≡ is_plain t
 parts_plain true w t h = digits_plain w t (whole_digits w h)
 parts_plain false w t h = digits_plain w t (whole_digits w h)
 
@@ -91,7 +92,7 @@ event_if : (v : Bool) (t u : Tree) → event_of (cond v t u) ≡ cond v (event_o
 event_if true t u = refl
 event_if false t u = refl
 
-by_tail : (m : Bool) (w t : List ℕ) → IsWhole w → is_plain t ≡ is_nil t → event_of_parts (sign_of m ++ (w ++ t)) m w t ≡ event_of (leaf (sign_of m ++ (w ++ t)))
+by_tail : (m : Bool) (w t : List ℕ) → IsInt w → is_plain t ≡ is_nil t → event_of_parts (sign_of m ++ (w ++ t)) m w t ≡ event_of (leaf (sign_of m ++ (w ++ t)))
 by_tail m w (c ∷ cs) h p = sym (ap event_of (leaf_other _ (parts_plain m w (c ∷ cs) h ∙ p)))
 by_tail true w [] h p =
     let b : List ℕ = 45 ∷ (w ++ []) in
@@ -100,6 +101,6 @@ by_tail false w [] h p =
     let b : List ℕ = w ++ [] in
     sym (ap event_of (leaf_plain b (parts_plain false w [] h) ∙ ap (λ v. cond v (leaf_of_negated (drop 1 b) b) (leaf_of_digits b b)) (whole_first w [] h) ∙ ap (λ ds. leaf_of_digits ds b) (append-nil w)) ∙ event_if (nat_lt (digits_value 10 w) (2 ^ 64)) _ _)
 
-pub event_of_text : (m : Bool) (w f e : List ℕ) → IsWhole w → IsFraction f → IsExponent e
+pub event_of_text : (m : Bool) (w f e : List ℕ) → IsInt w → IsFraction f → IsExponent e
     → event_of_parts (sign_of m ++ (w ++ (f ++ e))) m w (f ++ e) ≡ event_of (leaf (sign_of m ++ (w ++ (f ++ e))))
 event_of_text m w f e h k l = by_tail m w (f ++ e) h (tail_plain f e k l)

@@ -8,9 +8,9 @@ pub mod Indices
 pub mod Escapes
 pub mod Strings
 pub mod Steps
-pub mod Fronts
+pub mod Tokens
 pub mod Names
-pub mod Kept
+pub mod Scratch
 pub mod Equal
 pub mod Tables
 pub mod Escaping

@@ -7,12 +7,12 @@ use Rattle.std.proofs.lemmas.List.{take-append-drop, length-take-le, get_or-drop
 use Rattle.std.proofs.lemmas.List.Sums.{prefix_len-le-length, prefix_len_passes}
 use Rattle.std.proofs.lemmas.Bool.Decides.{nat_tests}
 use Rattle.std.proofs.lemmas.Bool.{true≢false}
-use Rattle.miniserde_model.specs.Event.{Event}
-use Rattle.miniserde_model.specs.Number.{IsDigit, AreDigits, IsWhole, IsMinus, IsFraction, IsSign, IsExponent, IsNumberText, leaf}
+use Rattle.miniserde_model.specs.Step.{Step}
+use Rattle.miniserde_model.specs.Number.{IsDigit, AreDigits, IsInt, IsMinus, IsFraction, IsSign, IsExponent, IsNumberText, leaf}
 use Rattle.miniserde_model.specs.Bytes.{is_number_byte, StopsAt}
 use Rattle.miniserde_model.proofs.Runs.{AllPass}
-use Rattle.miniserde_text.specs.private.Reading.{after_run, is_digit, is_sign, is_exponent_letter, after_digits, after_minus, after_whole, after_fraction, after_sign, after_exponent, after_tail, before, event_of_parts, event_at, number_at}
-use Rattle.miniserde_text.specs.private.Inside.{Leads}
+use Rattle.miniserde_text.specs.private.Reading.{after_run, is_digit, is_sign, is_exponent_letter, after_digits, after_minus, after_int, after_fraction, after_sign, after_exponent, after_tail, before, event_of_parts, event_at, number_at}
+use Rattle.miniserde_text.specs.private.Inside.{BeginsWith}
 use Rattle.miniserde_text.proofs.Runs.{run_split, run_only, stops_at, stops_of, or_true}
 use Rattle.std.proofs.lemmas.Option.{cond_some, same_Some}
 use Rattle.miniserde_text.proofs.Options.{chosen, none_if, bind_some, first_byte, first_of_test, before_append, before_is}
@@ -34,7 +34,7 @@ digits_pass (c ∷ w) h = (digit_passes c h.0, digits_pass w h.1)
 
 -- ---- what is read
 
-digits_takes : (t r : List ℕ) → after_digits t ≡ Some r → Leads AreDigits t r
+digits_takes : (t r : List ℕ) → after_digits t ≡ Some r → BeginsWith AreDigits t r
 digits_takes [] r e = cc
 digits_takes (x ∷ xs) r e =
     let q = cond_some (is_digit x) (after_run is_digit (x ∷ xs)) r e in
@@ -42,20 +42,20 @@ digits_takes (x ∷ xs) r e =
     let rest : after_run is_digit xs ≡ r = sym (ap (λ b. cond b (after_run is_digit xs) (x ∷ xs)) q.0) ∙ q.1 in
     (x ∷ w.0, (omega arith, (digit_of x q.0, digits_of w.0 w.1)), ap (λ t. x ∷ t) (w.2 ∙ ap (λ t. w.0 ++ t) rest))
 
-whole_of_digits : (t r w : List ℕ) → t ≡ w ++ r → (slice_index t 0 == 48) ≡ false → AreDigits w → IsWhole w
+whole_of_digits : (t r w : List ℕ) → t ≡ w ++ r → (slice_index t 0 == 48) ≡ false → AreDigits w → IsInt w
 whole_of_digits t r [] j e h = absurd (omega arith)
 whole_of_digits t r (c ∷ cs) j e h =
     let away : c ≢ 48 = λ z. true≢false (sym (eq-eqb _ 48 (ap (λ x. slice_index x 0) j ∙ z)) ∙ e) in
     inr ((omega arith, h.1.0.1), h.1.1)
 
-pub whole_takes : (t r : List ℕ) → after_whole t ≡ Some r → Leads IsWhole t r
+pub whole_takes : (t r : List ℕ) → after_int t ≡ Some r → BeginsWith IsInt t r
 whole_takes t r e =
     elim (chosen (slice_index t 0 == 48) _ _ _ e) [
       | inl p ↦ (48 ∷ [], inl (refl, refl), first_byte t 47 (eqb-true _ 48 p.0) ∙ ap (λ x. 48 ∷ x) (same_Some _ _ p.1))
       | inr p ↦ let d = digits_takes t r p.1 in (d.0, whole_of_digits t r d.0 d.2 p.0 d.1, d.2)
     ]
 
-fraction_takes : (t r : List ℕ) → after_fraction t ≡ Some r → Leads IsFraction t r
+fraction_takes : (t r : List ℕ) → after_fraction t ≡ Some r → BeginsWith IsFraction t r
 fraction_takes t r e =
     elim (chosen (slice_index t 0 == 46) _ _ _ e) [
       | inl p ↦ let d = digits_takes (drop 1 t) r p.1 in (46 ∷ d.0, inr (d.0, refl, d.1), first_byte t 45 (eqb-true _ 46 p.0) ∙ ap (λ x. 46 ∷ x) d.2)
@@ -88,7 +88,7 @@ signed_cases t r true s e =
     record { sign = slice_index t 0 ∷ []; digits = d.0; is_sign = sign_is _ s; are_digits = d.1; text = first_of_test is_sign t refl s ∙ ap (λ x. slice_index t 0 ∷ x) d.2 }
 signed_cases t r false s e = let d = digits_takes t r e in record { sign = []; digits = d.0; is_sign = inl refl; are_digits = d.1; text = d.2 }
 
-exponent_takes : (t r : List ℕ) → after_exponent t ≡ Some r → Leads IsExponent t r
+exponent_takes : (t r : List ℕ) → after_exponent t ≡ Some r → BeginsWith IsExponent t r
 exponent_takes t r e =
     elim (chosen (is_exponent_letter (slice_index t 0)) _ _ _ e) [
       | inl p ↦
@@ -116,7 +116,7 @@ minus_is false = inl refl
 abbrev pub IsTail : List ℕ → Type 0
 IsTail b = (f e : List ℕ) × IsFraction f × IsExponent e × (b ≡ f ++ e)
 
-pub tail_takes : (w r : List ℕ) → after_tail w ≡ Some r → Leads IsTail w r
+pub tail_takes : (w r : List ℕ) → after_tail w ≡ Some r → BeginsWith IsTail w r
 tail_takes w r h =
     let v = bind_some after_exponent (after_fraction w) r h in
     let f = fraction_takes w v.0 v.1 in
@@ -124,43 +124,43 @@ tail_takes w r h =
     (f.0 ++ e.0, (f.0, e.0, f.1, e.1, refl), f.2 ∙ ap (λ x. f.0 ++ x) e.2 ∙ sym (append_assoc f.0 e.0 r))
 
 -- a number text in front, its event, and where it ends
-pub record Numbered (t : List ℕ) (e : Event) (r : List ℕ) : Type 0 where
+pub record Numbered (t : List ℕ) (e : Step) (r : List ℕ) : Type 0 where
   pub number : List ℕ
   pub is_number : IsNumberText number
   pub event : event_of (leaf number) ≡ e
   pub text : t ≡ number ++ r
   pub ends : is_number_byte (slice_index r 0) ≡ false
 
-number_of : (t w r : List ℕ) → Leads IsWhole (after_minus t) w → Leads IsTail w r → is_number_byte (slice_index r 0) ≡ false
+number_of : (t w r : List ℕ) → BeginsWith IsInt (after_minus t) w → BeginsWith IsTail w r → is_number_byte (slice_index r 0) ≡ false
     → Numbered t (event_of_parts (before t r) (slice_index t 0 == 45) (before (after_minus t) w) (before w r)) r
-number_of t w r (whole, is_whole, jw) (tail, (fraction, exponent, is_fraction, is_exponent, jt), jr) ends =
+number_of t w r (int, is_int, jw) (tail, (fraction, exponent, is_fraction, is_exponent, jt), jr) ends =
     let m : Bool = slice_index t 0 == 45 in
     let sign : List ℕ = sign_of m in
-    let b : List ℕ = sign ++ (whole ++ (fraction ++ exponent)) in
+    let b : List ℕ = sign ++ (int ++ (fraction ++ exponent)) in
     let joined : t ≡ b ++ r =
-    minus_takes t ∙ ap (λ x. sign ++ x) (jw ∙ ap (λ x. whole ++ x) (jr ∙ ap (λ x. x ++ r) jt) ∙ sym (append_assoc whole (fraction ++ exponent) r)) ∙ sym (append_assoc sign (whole ++ (fraction ++ exponent)) r) in
-    let n : IsNumberText b = record { minus = sign; whole = whole; fraction = fraction; exponent = exponent; text = refl; is_minus = minus_is m; is_whole = is_whole; is_fraction = is_fraction; is_exponent = is_exponent } in
+    minus_takes t ∙ ap (λ x. sign ++ x) (jw ∙ ap (λ x. int ++ x) (jr ∙ ap (λ x. x ++ r) jt) ∙ sym (append_assoc int (fraction ++ exponent) r)) ∙ sym (append_assoc sign (int ++ (fraction ++ exponent)) r) in
+    let n : IsNumberText b = record { minus = sign; int = int; fraction = fraction; exponent = exponent; text = refl; is_minus = minus_is m; is_int = is_int; is_fraction = is_fraction; is_exponent = is_exponent } in
     let e1 : before t r ≡ b = before_is t b r joined in
-    let e2 : before (after_minus t) w ≡ whole = before_is _ whole w jw in
+    let e2 : before (after_minus t) w ≡ int = before_is _ int w jw in
     let e3 : before w r ≡ fraction ++ exponent = before_is w _ r jr ∙ jt in
-    record { number = b; is_number = n; event = rw (e1, e2, e3) (sym (event_of_text m whole fraction exponent is_whole is_fraction is_exponent)); text = joined; ends = ends }
+    record { number = b; is_number = n; event = rw (e1, e2, e3) (sym (event_of_text m int fraction exponent is_int is_fraction is_exponent)); text = joined; ends = ends }
 
-pub number_takes : (t : List ℕ) (e : Event) (r : List ℕ) → number_at t ≡ Some (e, r) → Numbered t e r
+pub number_takes : (t : List ℕ) (e : Step) (r : List ℕ) → number_at t ≡ Some (e, r) → Numbered t e r
 unfolding number_at
 number_takes t e r h =
-    let w = bind_some _ (after_whole (after_minus t)) (e, r) h in
+    let w = bind_some _ (after_int (after_minus t)) (e, r) h in
     let q = bind_some _ (after_tail w.0) (e, r) w.2 in
     let one = none_if _ _ _ q.2 in
     subst (λ x. Numbered t x.0 x.1) (same_Some _ _ one.1) (number_of t w.0 q.0 (whole_takes (after_minus t) w.0 w.1) (tail_takes w.0 q.0 q.1) one.0)
 
-pub splits_at : (t w r : List ℕ) → after_whole (after_minus t) ≡ Some w → after_tail w ≡ Some r → (b : List ℕ) × (t ≡ b ++ r)
+pub splits_at : (t w r : List ℕ) → after_int (after_minus t) ≡ Some w → after_tail w ≡ Some r → (b : List ℕ) × (t ≡ b ++ r)
 splits_at t w r h k =
     let p = whole_takes (after_minus t) w h in
     let q = tail_takes w r k in
     let sign : List ℕ = sign_of (slice_index t 0 == 45) in
     (sign ++ (p.0 ++ q.0), minus_takes t ∙ ap (λ x. sign ++ x) (p.2 ∙ ap (λ x. p.0 ++ x) q.2 ∙ sym (append_assoc p.0 q.0 r)) ∙ sym (append_assoc sign (p.0 ++ q.0) r))
 
-pub whole_before : (t r w : List ℕ) → after_whole t ≡ Some r → w ≡ before t r → AllByRecursion IsDigit w
+pub whole_before : (t r w : List ℕ) → after_int t ≡ Some r → w ≡ before t r → AllByRecursion IsDigit w
 whole_before t r w h e =
     let p = whole_takes t r h in
     subst (AllByRecursion IsDigit) (sym (e ∙ before_is t p.0 r p.2)) (whole_digits p.0 p.1)
@@ -181,7 +181,7 @@ digits_only (c ∷ cs) r h stop =
 large_no_zero : (c : ℕ) → 49 ≤ c → (c == 48) ≡ false
 large_no_zero c h = grind (arith, nat_tests)
 
-whole_only : (d r : List ℕ) → IsWhole d → is_digit (slice_index r 0) ≡ false → after_whole (d ++ r) ≡ Some r
+whole_only : (d r : List ℕ) → IsInt d → is_digit (slice_index r 0) ≡ false → after_int (d ++ r) ≡ Some r
 whole_only [] r h stop = absurd h
 whole_only (c ∷ cs) r (inl h) stop = rw (h.0, h.1) refl
 whole_only (c ∷ cs) r (inr h) stop =
@@ -225,26 +225,26 @@ sign_only : (m : Bool) (t : List ℕ) → (slice_index t 0 == 45) ≡ false → 
 sign_only true t h = (refl, refl)
 sign_only false t h = (h, ap (λ b. cond b (drop 1 t) t) h)
 
-read_parts : (m : Bool) (w f e r : List ℕ) → IsWhole w → IsFraction f → IsExponent e → is_number_byte (slice_index r 0) ≡ false
+read_parts : (m : Bool) (w f e r : List ℕ) → IsInt w → IsFraction f → IsExponent e → is_number_byte (slice_index r 0) ≡ false
     → number_at (sign_of m ++ (w ++ (f ++ (e ++ r)))) ≡ Some (event_of_parts (sign_of m ++ (w ++ (f ++ e))) m w (f ++ e), r)
 unfolding number_at
-read_parts m w f e r is_whole is_fraction is_exponent ends =
+read_parts m w f e r is_int is_fraction is_exponent ends =
     let rest : List ℕ = w ++ (f ++ (e ++ r)) in
     let t : List ℕ = sign_of m ++ rest in
-    let s = sign_only m rest (whole_first w _ is_whole) in
+    let s = sign_only m rest (whole_first w _ is_int) in
     let parts = number_byte_parts (slice_index r 0) ends in
     let at_e = before_exponent e r is_exponent ends in
-    let first : after_whole (after_minus t) ≡ Some (f ++ (e ++ r)) = ap after_whole s.1 ∙ whole_only w _ is_whole (before_fraction f e r is_fraction is_exponent ends) in
+    let first : after_int (after_minus t) ≡ Some (f ++ (e ++ r)) = ap after_int s.1 ∙ whole_only w _ is_int (before_fraction f e r is_fraction is_exponent ends) in
     let last : after_tail (f ++ (e ++ r)) ≡ Some r = ap (option_and_then after_exponent) (fraction_only f (e ++ r) is_fraction at_e.0 at_e.1) ∙ exponent_only e r is_exponent parts.0 parts.2 in
     let text : before t r ≡ sign_of m ++ (w ++ (f ++ e)) =
     before_is t _ r (ap (λ x. sign_of m ++ x) (ap (λ x. w ++ x) (sym (append_assoc f e r)) ∙ sym (append_assoc w (f ++ e) r)) ∙ sym (append_assoc (sign_of m) (w ++ (f ++ e)) r)) in
-    let whole : before (after_minus t) (f ++ (e ++ r)) ≡ w = ap (λ x. before x (f ++ (e ++ r))) s.1 ∙ before_append w _ in
+    let int : before (after_minus t) (f ++ (e ++ r)) ≡ w = ap (λ x. before x (f ++ (e ++ r))) s.1 ∙ before_append w _ in
     let tail : before (f ++ (e ++ r)) r ≡ f ++ e = before_is _ (f ++ e) r (sym (append_assoc f e r)) in
     let event : event_at t (f ++ (e ++ r)) r ≡ Some (event_of_parts (sign_of m ++ (w ++ (f ++ e))) m w (f ++ e), r) =
     ap (λ b. cond b None (Some (event_of_parts (before t r) (slice_index t 0 == 45) (before (after_minus t) (f ++ (e ++ r))) (before (f ++ (e ++ r)) r), r))) ends
     ∙ ap (λ x. Some (event_of_parts x (slice_index t 0 == 45) (before (after_minus t) (f ++ (e ++ r))) (before (f ++ (e ++ r)) r), r)) text
     ∙ ap (λ x. Some (event_of_parts (sign_of m ++ (w ++ (f ++ e))) x (before (after_minus t) (f ++ (e ++ r))) (before (f ++ (e ++ r)) r), r)) s.0
-    ∙ ap (λ x. Some (event_of_parts (sign_of m ++ (w ++ (f ++ e))) m x (before (f ++ (e ++ r)) r), r)) whole
+    ∙ ap (λ x. Some (event_of_parts (sign_of m ++ (w ++ (f ++ e))) m x (before (f ++ (e ++ r)) r), r)) int
     ∙ ap (λ x. Some (event_of_parts (sign_of m ++ (w ++ (f ++ e))) m w x, r)) tail in
     ap (option_and_then (λ x. option_and_then (λ y. event_at t x y) (after_tail x))) first ∙ ap (option_and_then (λ y. event_at t (f ++ (e ++ r)) y)) last ∙ event
 
@@ -257,11 +257,11 @@ number_only b r n stops =
     let ends = stops_of is_number_byte refl r stops in
     let sign = minus_of n.minus n.is_minus in
     let m : Bool = sign.0 in
-    let text : b ≡ sign_of m ++ (n.whole ++ (n.fraction ++ n.exponent)) = n.text ∙ ap (λ x. x ++ (n.whole ++ (n.fraction ++ n.exponent))) sign.1 in
+    let text : b ≡ sign_of m ++ (n.int ++ (n.fraction ++ n.exponent)) = n.text ∙ ap (λ x. x ++ (n.int ++ (n.fraction ++ n.exponent))) sign.1 in
     ap (λ x. number_at (x ++ r)) text
-    ∙ ap number_at (append_assoc (sign_of m) _ r ∙ ap (λ x. sign_of m ++ x) (append_assoc n.whole _ r ∙ ap (λ x. n.whole ++ x) (append_assoc n.fraction n.exponent r)))
-    ∙ read_parts m n.whole n.fraction n.exponent r n.is_whole n.is_fraction n.is_exponent ends
-    ∙ ap (λ x. Some (x, r)) (event_of_text m n.whole n.fraction n.exponent n.is_whole n.is_fraction n.is_exponent ∙ ap (λ x. event_of (leaf x)) (sym text))
+    ∙ ap number_at (append_assoc (sign_of m) _ r ∙ ap (λ x. sign_of m ++ x) (append_assoc n.int _ r ∙ ap (λ x. n.int ++ x) (append_assoc n.fraction n.exponent r)))
+    ∙ read_parts m n.int n.fraction n.exponent r n.is_int n.is_fraction n.is_exponent ends
+    ∙ ap (λ x. Some (x, r)) (event_of_text m n.int n.fraction n.exponent n.is_int n.is_fraction n.is_exponent ∙ ap (λ x. event_of (leaf x)) (sym text))
 
 -- ---- a number of digits alone
 
@@ -278,25 +278,25 @@ front_digits (suc k) (c ∷ cs) h = front_step (is_digit c) c k cs refl h (front
 pub last_digit : (s : List ℕ) (n : ℕ) → 0 < n → n ≤ prefix_len is_digit s → IsDigit (slice_index s (n - 1))
 last_digit s n some h = digit_of (slice_index s (n - 1)) (prefix_len_passes is_digit s (n - 1) 0 (omega arith))
 
-one_digit : (b : Bool) (c : ℕ) → (c == 48) ≡ b → IsDigit c → IsWhole (c ∷ [])
+one_digit : (b : Bool) (c : ℕ) → (c == 48) ≡ b → IsDigit c → IsInt (c ∷ [])
 one_digit true c e h = inl (eqb-true c 48 e, refl)
 one_digit false c e h = whole_of_digits (c ∷ []) [] (c ∷ []) refl e (omega arith, (h, tt))
 
-whole_of : (w r : List ℕ) → AreDigits w → (1 < length w → (slice_index (w ++ r) 0 == 48) ≡ false) → IsWhole w
+whole_of : (w r : List ℕ) → AreDigits w → (1 < length w → (slice_index (w ++ r) 0 == 48) ≡ false) → IsInt w
 whole_of [] r h z = absurd (omega arith)
 whole_of (c ∷ []) r h z = one_digit (c == 48) c refl h.1.0
 whole_of (c ∷ d ∷ cs) r h z = whole_of_digits (c ∷ d ∷ (cs ++ r)) r (c ∷ d ∷ cs) refl (z (omega arith)) h
 
-pub short_read : (s t : List ℕ) (n v : ℕ) (e : Event) → t ≡ after_minus s → 0 < n → n ≤ prefix_len is_digit t → (1 < n → (slice_index t 0 == 48) ≡ false) → is_number_byte (slice_index t n) ≡ false
-    → v ≡ digits_value 10 (take n t) → ((text whole : List ℕ) → digits_value 10 whole ≡ v → event_of_parts text (slice_index s 0 == 45) whole [] ≡ e) → number_at s ≡ Some (e, drop n t)
+pub short_read : (s t : List ℕ) (n v : ℕ) (e : Step) → t ≡ after_minus s → 0 < n → n ≤ prefix_len is_digit t → (1 < n → (slice_index t 0 == 48) ≡ false) → is_number_byte (slice_index t n) ≡ false
+    → v ≡ digits_value 10 (take n t) → ((text int : List ℕ) → digits_value 10 int ≡ v → event_of_parts text (slice_index s 0 == 45) int [] ≡ e) → number_at s ≡ Some (e, drop n t)
 short_read s t n v e behind some digits away ends value event =
     let m : Bool = slice_index s 0 == 45 in
     let w : List ℕ = take n t in
     let r : List ℕ = drop n t in
     let j : w ++ r ≡ t = take-append-drop n t in
     let long : length w ≡ n = length-take-le n t (omega (arith, digits, prefix_len-le-length is_digit t)) in
-    let whole : IsWhole w = whole_of w r (omega (arith, long), front_digits n t digits) (λ many. ap (λ x. slice_index x 0 == 48) j ∙ away (omega (arith, long))) in
+    let int : IsInt w = whole_of w r (omega (arith, long), front_digits n t digits) (λ many. ap (λ x. slice_index x 0 == 48) j ∙ away (omega (arith, long))) in
     let here : n + 0 ≡ n = omega arith in
     let stop : is_number_byte (slice_index r 0) ≡ false = ap is_number_byte (get_or-drop n t 0 0 ∙ ap (λ k. slice_index t k) here) ∙ ends in
-    let read : number_at (sign_of m ++ (w ++ r)) ≡ Some (event_of_parts (sign_of m ++ (w ++ [])) m w [], r) = read_parts m w [] [] r whole (inl refl) (inl refl) stop in
+    let read : number_at (sign_of m ++ (w ++ r)) ≡ Some (event_of_parts (sign_of m ++ (w ++ [])) m w [], r) = read_parts m w [] [] r int (inl refl) (inl refl) stop in
     ap number_at (minus_takes s ∙ ap (λ x. sign_of m ++ x) (sym (j ∙ behind))) ∙ read ∙ ap (λ x. Some (x, r)) (event (sign_of m ++ (w ++ [])) w (sym value))

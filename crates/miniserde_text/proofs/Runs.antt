@@ -9,7 +9,7 @@ use Rattle.miniserde_model.specs.Lexing.{Stands}
 use Rattle.miniserde_model.proofs.Runs.{AllPass}
 use Rattle.miniserde_model.proofs.Prefixes.{whitespace_passes}
 use Rattle.miniserde_text.specs.private.Reading.{after_run, is_digit}
-use Rattle.miniserde_text.specs.private.Inside.{Leads}
+use Rattle.miniserde_text.specs.private.Inside.{BeginsWith}
 use Rattle.miniserde_text.specs.Lexer.{Blank}
 
 pub space_ascii : (c : ℕ) → is_space c ≡ true → c < 128
@@ -90,12 +90,12 @@ whitespace_of (c ∷ w) h = (space_of c h.0, whitespace_of w h.1)
 pub run_only_space : (w t : List ℕ) → IsWhitespace w → StopsAt is_space t → after_run is_space (w ++ t) ≡ t
 run_only_space w t h k = run_only is_space w t (whitespace_passes w h) k
 
-pub stands_of : (P : List ℕ → Type 0) (s t r : List ℕ) → t ≡ after_run is_space s → Leads P t r → Stands P s r
+pub stands_of : (P : List ℕ → Type 0) (s t r : List ℕ) → t ≡ after_run is_space s → BeginsWith P t r → Stands P s r
 stands_of P s t r e h =
     let w = run_split is_space s in
     record { space = w.0; part = h.0; text = w.2 ∙ ap (λ x. w.0 ++ x) (sym e ∙ h.2); is_space = whitespace_of w.0 w.1; is_part = h.1 }
 
-pub stands_only : (P : List ℕ → Type 0) (s t r : List ℕ) → ((b : List ℕ) → P b → StopsAt is_space (b ++ r)) → t ≡ after_run is_space s → Stands P s r → Leads P t r
+pub stands_only : (P : List ℕ → Type 0) (s t r : List ℕ) → ((b : List ℕ) → P b → StopsAt is_space (b ++ r)) → t ≡ after_run is_space s → Stands P s r → BeginsWith P t r
 stands_only P s t r heads e h =
     (h.part, h.is_part, e ∙ ap (after_run is_space) h.text ∙ run_only_space h.space (h.part ++ r) h.is_space (heads h.part h.is_part))
 

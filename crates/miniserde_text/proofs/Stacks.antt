@@ -6,7 +6,8 @@ use Rattle.std.proofs.lemmas.List.{get_or-set_same, get_or-set_other, get_or_def
 use Rattle.std.proofs.lemmas.Grind.{get_or-set_at}
 use Rattle.std.proofs.lemmas.Nat.{and_mask}
 use Rattle.std.proofs.lemmas.Nat.Bits.{shr_and_one}
-use Rattle.miniserde_model.specs.Lexing.{Kind, in_list, in_members}
+use Rattle.miniserde_model.specs.declared.kind.Kind.{Kind}
+use Rattle.miniserde_model.specs.declared.kind.Kind.TheVariants.{Seq, Map}
 use Rattle.miniserde_text.specs.private.Stack.{bit_of, kind_by, kind_at, stack_of, innermost, outer}
 
 -- of the words only the kinds at the levels count
@@ -18,8 +19,8 @@ same_kinds ws vs (suc n) h =
     ap (λ k. k ∷ stack_of ws n) here ∙ ap (λ st. kind_at vs n ∷ st) rest
 
 kind_of_bit : (k : Kind) → kind_by (bit_of k) ≡ k
-kind_of_bit in_list = refl
-kind_of_bit in_members = refl
+kind_of_bit Seq = refl
+kind_of_bit Map = refl
 
 -- `&` with 63 is the remainder by 64
 place : (n : ℕ) → bit_and n 63 ≡ n % 64

@@ -2,23 +2,25 @@
 use Rattle.std.proofs.Common.{◌≡◌, ℕ, ◌<◌, false, Option, Some, None, is_some, List, [], ◌∷◌, ◌++◌, length, codes, refl, sym, ap, ◌∙◌, append_assoc, arith, length-append}
 use Rattle.miniserde_model.specs.Tree.{Tree, null, truth, nonneg, neg, num, str}
 use Rattle.miniserde_model.specs.Whitespace.{IsWhitespace}
-use Rattle.miniserde_model.specs.Event.{Event, nothing, boolean, string, negative, nonnegative, float, seq, element, map, key, finish}
+use Rattle.miniserde_model.specs.Step.{Step, boolean, string, negative, nonnegative, float, seq, element, map, key, finish}
+use Rattle.miniserde_model.specs.Step as step
 use Rattle.miniserde_model.specs.Bytes.{StopsAt}
-use Rattle.miniserde_model.specs.Lexing.{Kind, IsByte, IsName, Stands, Piece, Ends, Starts, Names, Begins}
-use Rattle.miniserde_model.specs.private.Reading.{due, Front, Spells}
+use Rattle.miniserde_model.specs.Lexing.{IsByte, IsName, Stands, Piece, Ends, Starts, Names, Begins}
+use Rattle.miniserde_model.specs.declared.kind.Kind.{Kind}
+use Rattle.miniserde_model.specs.private.Reading.{due, StandsThen, Spells}
 use Rattle.miniserde_model.proofs.Runs.{same_run}
 use Rattle.miniserde_model.proofs.Numbers.{same_number}
 use Rattle.miniserde_model.proofs.Strings.{same_string}
 use Rattle.miniserde_model.specs.Bytes.{is_space}
 use Rattle.miniserde_model.proofs.Prefixes.{whitespace_passes}
 use Rattle.miniserde_model.proofs.Unique.{kind_of_byte, Head, value_head, head_no_space, string_head, same_word, same_truth}
-use Rattle.miniserde_text.specs.private.Stack.{pushed}
-use Rattle.miniserde_text.specs.private.Moving.{opens, between, Live, Passes}
+use Rattle.miniserde_text.specs.private.Stack.{with_opened}
+use Rattle.miniserde_text.specs.private.Moving.{opened_kind, before_child, IsLive, Passes}
 
 -- ---- the first byte
 
-abbrev pub class : Event → ℕ
-class nothing = 0
+abbrev pub class : Step → ℕ
+class step.null = 0
 class (boolean x) = 1
 class (negative n) = 3
 class (nonnegative n) = 3
@@ -30,8 +32,8 @@ class element = 7
 class (key s) = 7
 class finish = 7
 
-pub piece_head : (e : Event) (b : List ℕ) → Piece e b → Head b (class e)
-piece_head nothing b p = value_head null b p
+pub piece_head : (e : Step) (b : List ℕ) → Piece e b → Head b (class e)
+piece_head step.null b p = value_head null b p
 piece_head (boolean x) b p = value_head (truth x) b p
 piece_head (negative n) b p = value_head (neg n) b p
 piece_head (nonnegative n) b p = value_head (nonneg n) b p
@@ -43,8 +45,8 @@ piece_head element b p = absurd p
 piece_head (key s) b p = absurd p
 piece_head finish b p = absurd p
 
-pub class_below : (e : Event) (b : List ℕ) → Piece e b → class e < 7
-class_below nothing b p = omega arith
+pub class_below : (e : Step) (b : List ℕ) → Piece e b → class e < 7
+class_below step.null b p = omega arith
 class_below (boolean x) b p = omega arith
 class_below (negative n) b p = omega arith
 class_below (nonnegative n) b p = omega arith
@@ -56,7 +58,7 @@ class_below element b p = absurd p
 class_below (key s) b p = absurd p
 class_below finish b p = absurd p
 
-pub piece_no_space : (e : Event) (b r : List ℕ) → Piece e b → StopsAt is_space (b ++ r)
+pub piece_no_space : (e : Step) (b r : List ℕ) → Piece e b → StopsAt is_space (b ++ r)
 piece_no_space e b r p = head_no_space b r (class e) (class_below e b p) (piece_head e b p)
 
 pub name_head : (n b : List ℕ) → IsName n b → Head b 4
@@ -89,7 +91,7 @@ begins_first s r p b = record { space = p.space; more = b.more; text = p.text �
 
 -- ---- one front
 
-same_class : (e f : Event) (a b x y : List ℕ) → Piece e a → Piece f b → a ++ x ≡ b ++ y → class e ≡ class f
+same_class : (e f : Step) (a b x y : List ℕ) → Piece e a → Piece f b → a ++ x ≡ b ++ y → class e ≡ class f
 same_class e f a b x y p q h =
     let u = piece_head e a p in
     let v = piece_head f b q in
@@ -97,14 +99,14 @@ same_class e f a b x y p q h =
     let same : u.byte ≡ v.byte = cc in
     sym u.of_kind ∙ ap kind_of_byte same ∙ v.of_kind
 
-abbrev leaf_event : Tree → Event
+abbrev leaf_event : Tree → Step
 leaf_event (nonneg n) = nonnegative n
 leaf_event (neg n) = negative n
 leaf_event (num x) = float x
-leaf_event _ = nothing
+leaf_event _ = step.null
 
-same_piece : (e f : Event) (a b x y : List ℕ) → Piece e a → Piece f b → Ends e x → Ends f y → a ++ x ≡ b ++ y → (e ≡ f) × (x ≡ y)
-same_piece nothing nothing a b x y p q sx sy h = (refl, same_word (codes "null") a b x y p q h)
+same_piece : (e f : Step) (a b x y : List ℕ) → Piece e a → Piece f b → Ends e x → Ends f y → a ++ x ≡ b ++ y → (e ≡ f) × (x ≡ y)
+same_piece step.null step.null a b x y p q sx sy h = (refl, same_word (codes "null") a b x y p q h)
 same_piece (boolean v) (boolean w) a b x y p q sx sy h = let both = same_truth v w a b x y p q h in (ap boolean both.0, both.1)
 same_piece (string s) (string r) a b x y p q sx sy h = let both = same_string a b x y s r p q h in (ap string both.0, both.1)
 same_piece (negative n) (negative m) a b x y p q sx sy h = let both = same_number a b x y (neg n) (neg m) p q sx sy h in (ap leaf_event both.0, both.1)
@@ -123,7 +125,7 @@ same_piece (key s) f a b x y p q sx sy h = absurd p
 same_piece finish f a b x y p q sx sy h = absurd p
 same_piece e f a b x y p q sx sy h = let k : class e ≡ class f = same_class e f a b x y p q h in absurd (omega arith)
 
-pub same_start : (s : List ℕ) (e f : Event) (r x : List ℕ) → Starts s e r → Starts s f x → (e ≡ f) × (r ≡ x)
+pub same_start : (s : List ℕ) (e f : Step) (r x : List ℕ) → Starts s e r → Starts s f x → (e ≡ f) × (r ≡ x)
 same_start s e f r x p q =
     let a = p.0 in let b = q.0 in
     let one = same_run is_space a.space b.space (a.part ++ r) (b.part ++ x) (whitespace_passes a.space a.is_space) (whitespace_passes b.space b.is_space) (piece_no_space e a.part r a.is_part) (piece_no_space f b.part x b.is_part) (sym a.text ∙ b.text) in
@@ -149,14 +151,14 @@ same_name s n m r x p q =
 
 -- ---- what spells a value that is due
 
-pub stands : {P K : List ℕ → Type 0} (b : List ℕ) (p : Front P K b) → Stands P b p.rest
+pub stands : {P K : List ℕ → Type 0} (b : List ℕ) (p : StandsThen P K b) → Stands P b p.rest
 stands b p = record { space = p.space; part = p.part; text = p.text; is_space = p.is_space; is_part = p.is_part }
 
-pub front : {P K : List ℕ → Type 0} (space part r : List ℕ) → IsWhitespace space → P part → K r → Front P K ((space ++ part) ++ r)
+pub front : {P K : List ℕ → Type 0} (space part r : List ℕ) → IsWhitespace space → P part → K r → StandsThen P K ((space ++ part) ++ r)
 front space part r w p k = record { space = space; part = part; rest = r; text = append_assoc space part r; is_space = w; is_part = p; is_rest = k }
 
-pub starts_on : (e : Event) (st : List Kind) (space part : List ℕ) → IsWhitespace space → Piece e part → (rest : List Event) (r : List ℕ) → Spells (between (is_some (opens e))) rest (pushed (opens e) st) r → Spells due (e ∷ rest) st ((space ++ part) ++ r)
-starts_on nothing st space part w p rest r k = front space part r w p k
+pub starts_on : (e : Step) (st : List Kind) (space part : List ℕ) → IsWhitespace space → Piece e part → (rest : List Step) (r : List ℕ) → Spells (before_child (is_some (opened_kind e))) rest (with_opened (opened_kind e) st) r → Spells due (e ∷ rest) st ((space ++ part) ++ r)
+starts_on step.null st space part w p rest r k = front space part r w p k
 starts_on (boolean x) st space part w p rest r k = front space part r w p k
 starts_on (string x) st space part w p rest r k = front space part r w p k
 starts_on (negative n) st space part w p rest r k = front space part r w p k
@@ -168,11 +170,11 @@ starts_on element st space part w p rest r k = absurd p
 starts_on (key s) st space part w p rest r k = absurd p
 starts_on finish st space part w p rest r k = absurd p
 
-pub live_at : (o : Option Kind) (st : List Kind) → Live (between (is_some o)) (pushed o st)
+pub live_at : (o : Option Kind) (st : List Kind) → IsLive (before_child (is_some o)) (with_opened o st)
 live_at None st = tt
 live_at (Some k) st = tt
 
-pub passes_start : (st : List Kind) (s : List ℕ) (e : Event) (r : List ℕ) → Starts s e r → Passes due st s (e ∷ []) (between (is_some (opens e))) (pushed (opens e) st) r
+pub passes_start : (st : List Kind) (s : List ℕ) (e : Step) (r : List ℕ) → Starts s e r → Passes due st s (e ∷ []) (before_child (is_some (opened_kind e))) (with_opened (opened_kind e) st) r
 passes_start st s e r p = record {
   taken = p.0.space ++ p.0.part;
   text = p.0.text ∙ sym (append_assoc p.0.space p.0.part r);
@@ -182,7 +184,7 @@ passes_start st s e r p = record {
 head_length : (b r : List ℕ) (k : ℕ) → Head b k → length r < length (b ++ r)
 head_length b r k h = let l : length (b ++ r) ≡ length ((h.byte ∷ h.rest) ++ r) = ap (λ z. length (z ++ r)) h.is in omega (arith, l, length-append h.rest r)
 
-pub start_less : (s : List ℕ) (e : Event) (r : List ℕ) → Starts s e r → length r < length s
+pub start_less : (s : List ℕ) (e : Step) (r : List ℕ) → Starts s e r → length r < length s
 start_less s e r p =
     let l = head_length p.0.part r (class e) (piece_head e p.0.part p.0.is_part) in
     omega (arith, l, ap length p.0.text, length-append p.0.space (p.0.part ++ r))

@@ -7,18 +7,20 @@ use Rattle.std.proofs.lemmas.List.{drop_all}
 use Rattle.std.proofs.lemmas.Bool.Decides.{nat_tests}
 use Rattle.miniserde_model.specs.Bytes.{is_space, StopsAt}
 use Rattle.miniserde_model.specs.Whitespace.{IsWhitespace}
-use Rattle.miniserde_model.specs.Lexing.{Kind, in_list, in_members, IsByte, closing, Begins, Follows}
+use Rattle.miniserde_model.specs.Lexing.{IsByte, closing, Begins, Follows}
+use Rattle.miniserde_model.specs.declared.kind.Kind.{Kind}
+use Rattle.miniserde_model.specs.declared.kind.Kind.TheVariants.{Seq, Map}
 use Rattle.miniserde_text.specs.private.Reading.{after_run, is_closing, begins, step_at}
-use Rattle.miniserde_text.specs.private.Inside.{Leads}
+use Rattle.miniserde_text.specs.private.Inside.{BeginsWith}
 use Rattle.miniserde_text.proofs.Runs.{run_split, run_only_space, run_stops, Stops, whitespace_of, stands_of, stands_only}
 use Rattle.std.proofs.lemmas.Option.{cond_some, same_Some}
 use Rattle.miniserde_text.proofs.Options.{chosen, first_byte}
 
 -- what follows, behind whitespace
 abbrev Goes : Kind → Bool → Bool → List ℕ → List ℕ → Type 0
-Goes k first true t r = Leads (IsByte (closing k)) t r
-Goes k true false t r = Leads (λ b. b ≡ []) t r × Begins r
-Goes k false false t r = Leads (IsByte 44) t r
+Goes k first true t r = BeginsWith (IsByte (closing k)) t r
+Goes k true false t r = BeginsWith (λ b. b ≡ []) t r × Begins r
+Goes k false false t r = BeginsWith (IsByte 44) t r
 
 not_true : (b : Bool) → not b ≡ true → b ≡ false
 not_true true h = sym h
@@ -31,8 +33,8 @@ begins_is (c ∷ cs) s h =
     record { byte = c; more = cs; text = refl; no_space = s; no_list_end = λ e. true≢false (sym (ap is_closing e) ∙ away); no_members_end = λ e. true≢false (sym (ap is_closing e) ∙ away) }
 
 closing_first : (k : Kind) (t : List ℕ) → slice_index t 0 ≡ closing k → t ≡ closing k ∷ drop 1 t
-closing_first in_members t e = first_byte t 124 e
-closing_first in_list t e = first_byte t 92 e
+closing_first Map t e = first_byte t 124 e
+closing_first Seq t e = first_byte t 92 e
 
 other : (k : Kind) (first : Bool) (t : List ℕ) (a : Bool) (r : List ℕ) → Stops is_space t
     → cond {A = Option (Bool × List ℕ)} first (cond (begins t) (Some (false, t)) None) (cond (slice_index t 0 == 44) (Some (false, drop 1 t)) None) ≡ Some (a, r) → Goes k first a t r
@@ -65,17 +67,17 @@ begins_first : (r b : List ℕ) → Begins r → b ≡ [] → StopsAt is_space (
 begins_first r b h e = rw (e, h.text) h.no_space
 
 closing_no_space : (k : Kind) → is_space (closing k) ≡ false
-closing_no_space in_list = refl
-closing_no_space in_members = refl
+closing_no_space Seq = refl
+closing_no_space Map = refl
 
 close_step : (k : Kind) (first : Bool) (t r b : List ℕ) → IsByte (closing k) b → t ≡ b ++ r → step_at k first t ≡ Some (true, r)
 unfolding step_at
-close_step in_list first t r b h e = rw (e, h) refl
-close_step in_members first t r b h e = rw (e, h) refl
+close_step Seq first t r b h e = rw (e, h) refl
+close_step Map first t r b h e = rw (e, h) refl
 
 no_close : (k : Kind) (c : ℕ) → (c ≡ 93 → ⊥) → (c ≡ 125 → ⊥) → (is_closing c ≡ false) × ((c == closing k) ≡ false)
-no_close in_list c h g = (grind (arith, nat_tests), grind (arith, nat_tests))
-no_close in_members c h g = (grind (arith, nat_tests), grind (arith, nat_tests))
+no_close Seq c h g = (grind (arith, nat_tests), grind (arith, nat_tests))
+no_close Map c h g = (grind (arith, nat_tests), grind (arith, nat_tests))
 
 first_step : (k : Kind) (t r b : List ℕ) → b ≡ [] → t ≡ b ++ r → Begins r → step_at k true t ≡ Some (false, r)
 unfolding step_at
@@ -88,8 +90,8 @@ first_step k t r b h e g =
 
 comma_step : (k : Kind) (t r b : List ℕ) → IsByte 44 b → t ≡ b ++ r → step_at k false t ≡ Some (false, r)
 unfolding step_at
-comma_step in_list t r b h e = rw (e, h) refl
-comma_step in_members t r b h e = rw (e, h) refl
+comma_step Seq t r b h e = rw (e, h) refl
+comma_step Map t r b h e = rw (e, h) refl
 
 follows_only : (k : Kind) (first : Bool) (s t : List ℕ) (a : Bool) (r : List ℕ) → t ≡ after_run is_space s → Follows k first a s r → step_at k first t ≡ Some (a, r)
 follows_only k first s t true r e h =

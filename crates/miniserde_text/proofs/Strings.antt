@@ -17,7 +17,7 @@ use Rattle.miniserde_model.proofs.Runs.{AllPass}
 use Rattle.miniserde_model.proofs.Strings.{same_piece}
 use Rattle.miniserde_text.specs.Lexer.{HasBackslash}
 use Rattle.miniserde_text.specs.private.Reading.{after_run, before, is_unescaped, escape_at}
-use Rattle.miniserde_text.specs.private.Inside.{Chars, Passes, Adds, Leads}
+use Rattle.miniserde_text.specs.private.Inside.{Chars, Passes, Adds, BeginsWith}
 use Rattle.miniserde_text.proofs.Runs.{run_split, run_stops}
 use Rattle.miniserde_text.proofs.Options.{first_byte, none_is_some, and_parts, before_is}
 use Rattle.miniserde_text.proofs.Escapes.{piece_cases, escape_takes}
@@ -211,7 +211,7 @@ chars_of : (cs inside r : List ℕ) → ArePieces inside cs → Chars cs (inside
 chars_of [] inside r h = ap (λ x. x ++ 34 ∷ r) h
 chars_of (c ∷ cs) inside r (p, b, e, h, k) = (p, b ++ 34 ∷ r, h, ap (λ x. x ++ 34 ∷ r) e ∙ append_assoc p b (34 ∷ r), chars_of cs b r k)
 
-pub string_leads : (cs t s r : List ℕ) → slice_index t 0 ≡ 34 → Chars cs (drop 1 t) r → s ≡ encode_utf8_all cs → Leads (λ b. IsString b s) t r
+pub string_leads : (cs t s r : List ℕ) → slice_index t 0 ≡ 34 → Chars cs (drop 1 t) r → s ≡ encode_utf8_all cs → BeginsWith (λ b. IsString b s) t r
 string_leads cs t s r at h e =
     let q = pieces_of cs (drop 1 t) r h in (
       34 ∷ (q.0 ++ 34 ∷ []),

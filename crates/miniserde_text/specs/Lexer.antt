@@ -4,17 +4,14 @@ use Rattle.std.specs.List.{AllByRecursion}
 use Rattle.miniserde_model.specs.Bytes.{is_special, is_space, StopsAt}
 use Rattle.miniserde_model.specs.Whitespace.{IsWhitespace}
 use Rattle.miniserde_model.specs.Value.{Between}
-use Rattle.miniserde_model.specs.Event.{nothing, boolean, string, negative, nonnegative, float, seq, map}
-use Rattle.miniserde_model.specs.Event as tree
-use Rattle.miniserde_model.specs.Lexing.{in_list, in_members, Stands, BeforeColon}
-use Rattle.miniserde_model.specs.Lexing as grammar
+use Rattle.miniserde_model.specs.Step.{boolean, string, negative, nonnegative, float, seq, map}
+use Rattle.miniserde_model.specs.Step as step
+use Rattle.miniserde_model.specs.Lexing.{Stands, BeforeColon}
 use Rattle.miniserde_model.specs.declared.error.Error.{Error}
 use Rattle.miniserde_text.specs.declared.json.lex.Text.{Text}
 use Rattle.miniserde_text.specs.declared.json.lex.Text.TheVariants.{Input, Scratch}
 use Rattle.miniserde_text.specs.declared.json.lex.Event.{Event}
 use Rattle.miniserde_text.specs.declared.json.lex.Event.TheVariants as event
-use Rattle.miniserde_text.specs.declared.json.lex.Kind.{Kind}
-use Rattle.miniserde_text.specs.declared.json.lex.Kind.TheVariants as kind
 use Rattle.miniserde_text.specs.declared.json.lex.After.{After}
 use Rattle.miniserde_text.specs.declared.json.lex.After.TheVariants as after
 
@@ -29,25 +26,20 @@ text_of (Input s) scratch = s.now
 text_of Scratch scratch = scratch
 
 -- the event of a tree that an answer of `start` is
-abbrev pub front_of : Event → List ℕ → tree.Event
-front_of event.Null scratch = nothing
-front_of (event.Bool b) scratch = boolean b
-front_of (event.Negative n) scratch = negative n
-front_of (event.Nonnegative n) scratch = nonnegative n
-front_of (event.Number x) scratch = float x.now
-front_of (event.Str t) scratch = string (text_of t scratch)
-front_of event.SeqStart scratch = seq
-front_of event.MapStart scratch = map
-
--- the kind of a container in the grammar
-abbrev pub kind_of : Kind → grammar.Kind
-kind_of kind.Seq = in_list
-kind_of kind.Map = in_members
+abbrev pub event_of_token : Event → List ℕ → step.Step
+event_of_token event.Null scratch = step.null
+event_of_token (event.Bool b) scratch = boolean b
+event_of_token (event.Negative n) scratch = negative n
+event_of_token (event.Nonnegative n) scratch = nonnegative n
+event_of_token (event.Number x) scratch = float x.now
+event_of_token (event.Str t) scratch = string (text_of t scratch)
+event_of_token event.SeqStart scratch = seq
+event_of_token event.MapStart scratch = map
 
 -- whether a container was closed
-abbrev pub closes : After → Bool
-closes after.Close = true
-closes after.Next = false
+abbrev pub is_close : After → Bool
+is_close after.Close = true
+is_close after.Next = false
 
 -- ---- what is borrowed, and what takes memory
 
@@ -70,14 +62,14 @@ abbrev pub NameStandsFor : Text → List ℕ → List ℕ → Type 0
 NameStandsFor t s r = Stands (BeforeColon (Between 34 (StandsFor t) 34)) s r
 
 -- a borrowed text leaves the scratch text as it was, with its capacity
-abbrev pub KeepsScratch : {S : Type 0} → Text → S → S → Type 0
-KeepsScratch (Input x) old new = new ≡ old
-KeepsScratch Scratch old new = ⊤
+abbrev pub LeavesScratch : {S : Type 0} → Text → S → S → Type 0
+LeavesScratch (Input x) old new = new ≡ old
+LeavesScratch Scratch old new = ⊤
 
 -- so does each event that is no string
-abbrev pub EventKeepsScratch : {S : Type 0} → Event → S → S → Type 0
-EventKeepsScratch (event.Str t) old new = KeepsScratch t old new
-EventKeepsScratch _ old new = new ≡ old
+abbrev pub EventLeavesScratch : {S : Type 0} → Event → S → S → Type 0
+EventLeavesScratch (event.Str t) old new = LeavesScratch t old new
+EventLeavesScratch _ old new = new ≡ old
 
 -- a string begins behind whitespace, and a backslash stands in it
 abbrev pub BeginsEscaped : List ℕ → Type 0

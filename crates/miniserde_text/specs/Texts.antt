@@ -7,7 +7,7 @@ pub record Extends {E : Type 0} (old : String Global) (bs : List ℕ) (answer : 
   pub ok : OnOk answer (string_bytes new ≡ string_bytes old ++ bs)
   pub room : OnErr answer (string_capacity old < string_len old + length bs)
   pub err : OnErr answer (string_bytes new ≡ string_bytes old)
-  pub kept : OnErr answer (string_capacity new ≡ string_capacity old)
+  pub unchanged : OnErr answer (string_capacity new ≡ string_capacity old)
   pub capacity : string_capacity old ≤ string_capacity new
 
 -- what a call does that makes room for n bytes more, and leaves the text as it is
@@ -16,5 +16,5 @@ pub record MakesRoom {E : Type 0} (old : String Global) (n : ℕ) (answer : Resu
   pub room : OnErr answer (string_capacity old < string_len old + n)
   pub bytes : string_bytes new ≡ string_bytes old
   pub len : string_len new ≡ string_len old
-  pub kept : OnErr answer (string_capacity new ≡ string_capacity old)
+  pub unchanged : OnErr answer (string_capacity new ≡ string_capacity old)
   pub capacity : string_capacity old ≤ string_capacity new

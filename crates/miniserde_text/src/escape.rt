@@ -5,7 +5,7 @@ ghost use Rattle.std.specs.Prelude.{string_capacity};
 ghost use Rattle.std.specs.Char.{digit_char};
 ghost use Rattle.std.specs.Str.{IsAscii, IsCharBoundary};
 ghost use Rattle.miniserde_model.specs.Bytes as bytes;
-ghost use Rattle.miniserde_model.specs.Compact.{quoted};
+ghost use Rattle.miniserde_model.specs.Compact.{string_text};
 ghost use Rattle.miniserde_model.specs.declared.error.Error.TheVariants.{Memory};
 ghost use Rattle.miniserde_text.specs.Texts.{Extends, MakesRoom};
 ghost use Rattle.miniserde_text.specs.private.Escape.{escape, escapes};
@@ -217,7 +217,7 @@ fn make_room(value: &str, marks: usize, out: &mut String) -> result::Result<(), 
 
 // Appends the quote before a member's name, behind a comma where the member is not the first, where there is room for it.
 #[inline(always)]
-fn put_front(first: bool, out: &mut String)
+fn put_name_start(first: bool, out: &mut String)
     requires { string_len out.old + 2 ≤ string_capacity out.old }
     ensures bytes { string_bytes out.new ≡ string_bytes out.old ++ ((if first then [] else codes ",") ++ codes "\"") }
     ensures len { string_len out.new ≡ string_len out.old + (if first then 1 else 2) }
@@ -244,11 +244,11 @@ fn marks_of(first: bool) -> usize
 #[inline(always)]
 pub fn put_name(first: bool, name: &str, out: &mut String) -> Result<()>
     ensures appends { Extends out.old
-        ((if first then [] else codes ",") ++ quoted name.now ++ codes ":") result out.new }
+        ((if first then [] else codes ",") ++ string_text name.now ++ codes ":") result out.new }
     ensures memory { OnErr result (IsErrOf result Memory) }
 {
     make_room(name, marks_of(first), out)?;
-    put_front(first, out);
+    put_name_start(first, out);
     put_text(name, out);
     out.push_str("\":").unwrap();
     Ok(())
@@ -259,7 +259,7 @@ pub fn put_name(first: bool, name: &str, out: &mut String) -> Result<()>
 fn put_plain(value: &str, out: &mut String) -> result::Result<(), AllocError>
     requires plain { escapes value.now ≡ value.now }
     requires short { length value.now < 32 }
-    ensures { Extends out.old (quoted value.now) result out.new }
+    ensures { Extends out.old (string_text value.now) result out.new }
 {
     out.reserve(value.len() + 2)?;
     out.push_str("\"").unwrap();
@@ -270,7 +270,7 @@ fn put_plain(value: &str, out: &mut String) -> result::Result<(), AllocError>
 
 // Appends any other text as a string.
 fn put_other(value: &str, out: &mut String) -> result::Result<(), AllocError>
-    ensures { Extends out.old (quoted value.now) result out.new }
+    ensures { Extends out.old (string_text value.now) result out.new }
 {
     make_room(value, 2, out)?;
     out.push_str("\"").unwrap();
@@ -281,7 +281,7 @@ fn put_other(value: &str, out: &mut String) -> result::Result<(), AllocError>
 
 /// Appends a text as a string of JSON: between quotes, by the escape rule. A call that refuses leaves `out` as it was.
 pub fn escape_str(value: &str, out: &mut String) -> Result<()>
-    ensures appends { Extends out.old (quoted value.now) result out.new }
+    ensures appends { Extends out.old (string_text value.now) result out.new }
     ensures memory { OnErr result (IsErrOf result Memory) }
 {
     if is_short_and_plain(value.as_bytes()) {

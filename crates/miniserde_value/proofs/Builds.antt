@@ -3,29 +3,30 @@ use Rattle.std.proofs.Common.{cond, ◌≡◌, ℕ, Bool, true, false, Option, S
 use Rattle.std.proofs.Math.Bool.{and-false}
 use Rattle.std.specs.Prelude.{◌&&◌, option_and_then, Result, Ok, Err, IfOk, OnOk}
 use Rattle.miniserde_model.specs.Tree.{Tree, no_members}
-use Rattle.miniserde_model.specs.Event.{Event, nothing, boolean, string, negative, nonnegative, float, seq, element, map, key, finish}
+use Rattle.miniserde_model.specs.Step.{Step, boolean, string, negative, nonnegative, float, seq, element, map, key, finish}
+use Rattle.miniserde_model.specs.Step as step
 use Rattle.miniserde_model.specs.Lexing.{Starts, Names, Follows}
 use Rattle.miniserde_model.specs.private.Reading.{Moment, due, after}
-use Rattle.miniserde_text.specs.Lexer.{front_of, kind_of}
-use Rattle.miniserde_text.specs.declared.json.lex.Kind as lexed
-use Rattle.miniserde_text.specs.declared.json.lex.Kind.TheVariants as kind
+use Rattle.miniserde_text.specs.Lexer.{event_of_token}
+use Rattle.miniserde_model.specs.declared.kind.Kind.{Kind}
+use Rattle.miniserde_model.specs.declared.kind.Kind.TheVariants as kind
 use Rattle.miniserde_text.specs.declared.json.lex.Event as token
 use Rattle.miniserde_text.specs.declared.json.lex.Event.TheVariants as variant
-use Rattle.miniserde_text.specs.private.Stack.{pushed, outer, innermost as innermost_kind}
-use Rattle.miniserde_text.specs.private.Moving.{opens, between, Live}
+use Rattle.miniserde_text.specs.private.Stack.{with_opened, outer, innermost as innermost_kind}
+use Rattle.miniserde_text.specs.private.Moving.{opened_kind, before_child, IsLive}
 use Rattle.miniserde_read.specs.Rest.{ValueAt}
-use Rattle.miniserde_read.specs.private.Runs.{Runs, Passed, NeverRuns}
-use Rattle.miniserde_read.proofs.Passed.{Passed-none, Passed-append, close_passed, element_passed, key_passed, value_passed, live_opened}
+use Rattle.miniserde_read.specs.private.Runs.{Runs, Consumes, NeverRuns}
+use Rattle.miniserde_read.proofs.Consumes.{Consumes-none, Consumes-append, close_passed, element_passed, key_passed, value_passed, live_opened}
 use Rattle.miniserde_read.proofs.Values.{value_later, whole_at}
-use Rattle.miniserde_value.specs.Hole.{Hole, outside, in_list, in_members, has_member, put, named, closed, whole, begun, took, repeats, outcome}
-use Rattle.miniserde_value.specs.Kept.{kept, kept_if}
+use Rattle.miniserde_value.specs.Hole.{Hole, outside, in_list, in_members, has_member, put, with_name, after_close, complete_tree, after_begin, after_step, repeats, outcome}
+use Rattle.miniserde_value.specs.Retained.{retained_tree, retained_if}
 use Rattle.miniserde_value.specs.Marks.{innermost}
 use Rattle.miniserde_value.specs.laws.Unique.{gives-kept}
 use Rattle.miniserde_value.specs.private.Builds.{Builds, Makes, NeverGives, kinds, is_due}
 
 -- ---- the open containers
 
-pub kinds_innermost : (h : Hole) → innermost_kind (kinds h) ≡ option_map kind_of (innermost h)
+pub kinds_innermost : (h : Hole) → innermost_kind (kinds h) ≡ (innermost h)
 kinds_innermost (outside ts) = refl
 kinds_innermost (in_list ts h) = refl
 kinds_innermost (in_members ms n h) = refl
@@ -36,7 +37,7 @@ kinds_put t (in_list ts h) = refl
 kinds_put t (in_members ms None h) = refl
 kinds_put t (in_members ms (Some n) h) = refl
 
-kinds_closed : (h : Hole) → kinds (closed h) ≡ outer (kinds h)
+kinds_closed : (h : Hole) → kinds (after_close h) ≡ outer (kinds h)
 kinds_closed (outside ts) = refl
 kinds_closed (in_list ts h) = kinds_put _ h
 kinds_closed (in_members ms n h) = kinds_put _ h
@@ -44,8 +45,8 @@ kinds_closed (in_members ms n h) = kinds_put _ h
 kinds_some : (t : Tree) (h g : Hole) → ◌≡◌ {A = Option Hole} (Some (put t h)) (Some g) → kinds g ≡ kinds h
 kinds_some t h g e = let i : g ≡ put t h = cc in ap kinds i ∙ kinds_put t h
 
-kinds_begun : (e : Event) (h g : Hole) → begun e h ≡ Some g → kinds g ≡ pushed (opens e) (kinds h)
-kinds_begun nothing h g b = kinds_some _ h g b
+kinds_begun : (e : Step) (h g : Hole) → after_begin e h ≡ Some g → kinds g ≡ with_opened (opened_kind e) (kinds h)
+kinds_begun step.null h g b = kinds_some _ h g b
 kinds_begun (boolean x) h g b = kinds_some _ h g b
 kinds_begun (string x) h g b = kinds_some _ h g b
 kinds_begun (negative x) h g b = kinds_some _ h g b
@@ -58,7 +59,7 @@ kinds_begun (key k) h g b = absurd (cc)
 kinds_begun finish h g b = absurd (cc)
 
 -- each token begins a value
-pub begins : (x : token.Event) (scratch : List ℕ) (h : Hole) → begun (front_of x scratch) h ≡ None → ⊥
+pub begins : (x : token.Event) (scratch : List ℕ) (h : Hole) → after_begin (event_of_token x scratch) h ≡ None → ⊥
 begins variant.Null scratch h e = absurd (cc)
 begins (variant.Bool b) scratch h e = absurd (cc)
 begins (variant.Negative n) scratch h e = absurd (cc)
@@ -70,77 +71,77 @@ begins variant.MapStart scratch h e = absurd (cc)
 
 -- ---- one step
 
-not_due : (f : Bool) → is_due (between f) ≡ false
+not_due : (f : Bool) → is_due (before_child f) ≡ false
 not_due true = refl
 not_due false = refl
 
 -- an event is taken that repeats no name
-goes_on : (once due : Bool) (h : Hole) (e : Event) (d : Bool) (g : Hole) → (once && repeats e h) ≡ false → took due h e ≡ Some (d, g) → (es : List Event) → outcome once due h (e ∷ es) ≡ outcome once d g es
+goes_on : (once due : Bool) (h : Hole) (e : Step) (d : Bool) (g : Hole) → (once && repeats e h) ≡ false → after_step due h e ≡ Some (d, g) → (es : List Step) → outcome once due h (e ∷ es) ≡ outcome once d g es
 goes_on once true h e d g n t es =
     let rest : Bool × Hole → Option Tree = λ s. outcome once s.0 s.1 es in
-    ap (λ z. option_and_then rest (cond z None (took true h e))) n ∙ ap (option_and_then rest) t
+    ap (λ z. option_and_then rest (cond z None (after_step true h e))) n ∙ ap (option_and_then rest) t
 goes_on once false h e d g n t es =
     let rest : Bool × Hole → Option Tree = λ s. outcome once s.0 s.1 es in
-    ap (λ z. option_and_then rest (cond z None (took false h e))) n ∙ ap (option_and_then rest) t
+    ap (λ z. option_and_then rest (cond z None (after_step false h e))) n ∙ ap (option_and_then rest) t
 
-closes_hole : (once : Bool) (h : Hole) (k : lexed.Kind) → innermost h ≡ Some k → (es : List Event) → outcome once false h (finish ∷ es) ≡ outcome once false (closed h) es
+closes_hole : (once : Bool) (h : Hole) (k : Kind) → innermost h ≡ Some k → (es : List Step) → outcome once false h (finish ∷ es) ≡ outcome once false (after_close h) es
 closes_hole once (outside ts) k i es = absurd (cc)
-closes_hole once (in_list ts h) k i es = goes_on once false (in_list ts h) finish false (closed (in_list ts h)) (and-false once) refl es
-closes_hole once (in_members ms n h) k i es = goes_on once false (in_members ms n h) finish false (closed (in_members ms n h)) (and-false once) refl es
+closes_hole once (in_list ts h) k i es = goes_on once false (in_list ts h) finish false (after_close (in_list ts h)) (and-false once) refl es
+closes_hole once (in_members ms n h) k i es = goes_on once false (in_members ms n h) finish false (after_close (in_members ms n h)) (and-false once) refl es
 
-close_makes : (once : Bool) (h g : Hole) (k : lexed.Kind) (f : Bool) → innermost h ≡ Some k → g ≡ closed h → Makes once (between f) h (finish ∷ []) after g
+close_makes : (once : Bool) (h g : Hole) (k : Kind) (f : Bool) → innermost h ≡ Some k → g ≡ after_close h → Makes once (before_child f) h (finish ∷ []) after g
 close_makes once h g k f i c = λ es. ap (λ z. outcome once z h (finish ∷ es)) (not_due f) ∙ closes_hole once h k i es ∙ ap (λ z. outcome once false z es) (sym c)
 
-pub close_builds : (once : Bool) (h g : Hole) (s r : List ℕ) (k : lexed.Kind) (f : Bool) → innermost h ≡ Some k → Follows (kind_of k) f true s r → g ≡ closed h → Builds once (between f) h s after g r
+pub close_builds : (once : Bool) (h g : Hole) (s r : List ℕ) (k : Kind) (f : Bool) → innermost h ≡ Some k → Follows k f true s r → g ≡ after_close h → Builds once (before_child f) h s after g r
 close_builds once h g s r k f i p c = record {
   done = finish ∷ [];
-  passed = close_passed (kinds h) (kinds g) s r (kind_of k) f (kinds_innermost h ∙ ap (option_map kind_of) i) p (ap kinds c ∙ kinds_closed h);
+  passed = close_passed (kinds h) (kinds g) s r k f (kinds_innermost h ∙ i) p (ap kinds c ∙ kinds_closed h);
   makes = close_makes false h g k f i c;
   repeats_none = close_makes once h g k f i c;
 }
 
-goes_to_element : (once : Bool) (h : Hole) (k : lexed.Kind) → innermost h ≡ Some k → k ≡ kind.Seq → (es : List Event) → outcome once false h (element ∷ es) ≡ outcome once true h es
+goes_to_element : (once : Bool) (h : Hole) (k : Kind) → innermost h ≡ Some k → k ≡ kind.Seq → (es : List Step) → outcome once false h (element ∷ es) ≡ outcome once true h es
 goes_to_element once (outside ts) k i q es = absurd (cc)
 goes_to_element once (in_list ts h) k i q es = goes_on once false (in_list ts h) element true (in_list ts h) (and-false once) refl es
 goes_to_element once (in_members ms n h) k i q es = absurd (cc)
 
-element_makes : (once : Bool) (h g : Hole) (k : lexed.Kind) (f : Bool) → innermost h ≡ Some k → k ≡ kind.Seq → g ≡ h → Makes once (between f) h (element ∷ []) due g
+element_makes : (once : Bool) (h g : Hole) (k : Kind) (f : Bool) → innermost h ≡ Some k → k ≡ kind.Seq → g ≡ h → Makes once (before_child f) h (element ∷ []) due g
 element_makes once h g k f i q e = λ es. ap (λ z. outcome once z h (element ∷ es)) (not_due f) ∙ goes_to_element once h k i q es ∙ ap (λ z. outcome once true z es) (sym e)
 
-pub element_builds : (once : Bool) (h g : Hole) (s u r : List ℕ) (k : lexed.Kind) (f : Bool) → innermost h ≡ Some k → k ≡ kind.Seq → Follows (kind_of k) f false s u → r ≡ u → g ≡ h → Builds once (between f) h s due g r
+pub element_builds : (once : Bool) (h g : Hole) (s u r : List ℕ) (k : Kind) (f : Bool) → innermost h ≡ Some k → k ≡ kind.Seq → Follows k f false s u → r ≡ u → g ≡ h → Builds once (before_child f) h s due g r
 element_builds once h g s u r k f i q p d e = record {
   done = element ∷ [];
-  passed = subst (λ z. Passed (between f) (kinds h) s (element ∷ []) due (kinds z) r) (sym e) (subst (λ z. Passed (between f) (kinds h) s (element ∷ []) due (kinds h) z) (sym d) (element_passed (kinds h) s u (kind_of k) f (kinds_innermost h ∙ ap (option_map kind_of) i) (ap kind_of q) p));
+  passed = subst (λ z. Consumes (before_child f) (kinds h) s (element ∷ []) due (kinds z) r) (sym e) (subst (λ z. Consumes (before_child f) (kinds h) s (element ∷ []) due (kinds h) z) (sym d) (element_passed (kinds h) s u k f (kinds_innermost h ∙ i) q p));
   makes = element_makes false h g k f i q e;
   repeats_none = element_makes once h g k f i q e;
 }
 
-goes_to_member : (once : Bool) (h : Hole) (n : List ℕ) (k : lexed.Kind) → innermost h ≡ Some k → k ≡ kind.Map → (once && has_member n h) ≡ false → (es : List Event) → outcome once false h (key n ∷ es) ≡ outcome once true (named n h) es
+goes_to_member : (once : Bool) (h : Hole) (n : List ℕ) (k : Kind) → innermost h ≡ Some k → k ≡ kind.Map → (once && has_member n h) ≡ false → (es : List Step) → outcome once false h (key n ∷ es) ≡ outcome once true (with_name n h) es
 goes_to_member once (outside ts) n k i q l es = absurd (cc)
 goes_to_member once (in_list ts h) n k i q l es = absurd (cc)
 goes_to_member once (in_members ms m h) n k i q l es = goes_on once false (in_members ms m h) (key n) true (in_members ms (Some n) h) l refl es
 
-key_makes : (once : Bool) (h g : Hole) (n : List ℕ) (k : lexed.Kind) (f : Bool) → innermost h ≡ Some k → k ≡ kind.Map → (once && has_member n h) ≡ false → g ≡ named n h → Makes once (between f) h (key n ∷ []) due g
+key_makes : (once : Bool) (h g : Hole) (n : List ℕ) (k : Kind) (f : Bool) → innermost h ≡ Some k → k ≡ kind.Map → (once && has_member n h) ≡ false → g ≡ with_name n h → Makes once (before_child f) h (key n ∷ []) due g
 key_makes once h g n k f i q l e = λ es. ap (λ z. outcome once z h (key n ∷ es)) (not_due f) ∙ goes_to_member once h n k i q l es ∙ ap (λ z. outcome once true z es) (sym e)
 
-kinds_named : (h : Hole) (n : List ℕ) → kinds (named n h) ≡ kinds h
+kinds_named : (h : Hole) (n : List ℕ) → kinds (with_name n h) ≡ kinds h
 kinds_named (outside ts) n = refl
 kinds_named (in_list ts h) n = refl
 kinds_named (in_members ms m h) n = refl
 
-key_done : (h : Hole) (s b n u : List ℕ) (k : lexed.Kind) (f : Bool) → innermost h ≡ Some k → k ≡ kind.Map → Follows (kind_of k) f false s b → Names b n u → Passed (between f) (kinds h) s (key n ∷ []) due (kinds h) u
-key_done h s b n u k f i q p w = key_passed (kinds h) s b n u (kind_of k) f (kinds_innermost h ∙ ap (option_map kind_of) i) (ap kind_of q) p w
+key_done : (h : Hole) (s b n u : List ℕ) (k : Kind) (f : Bool) → innermost h ≡ Some k → k ≡ kind.Map → Follows k f false s b → Names b n u → Consumes (before_child f) (kinds h) s (key n ∷ []) due (kinds h) u
+key_done h s b n u k f i q p w = key_passed (kinds h) s b n u k f (kinds_innermost h ∙ i) q p w
 
-pub key_builds : (once : Bool) (h g : Hole) (s b n u r : List ℕ) (k : lexed.Kind) (f : Bool) → innermost h ≡ Some k → k ≡ kind.Map → Follows (kind_of k) f false s b → Names b n u → (once && has_member n h) ≡ false → r ≡ u → g ≡ named n h → Builds once (between f) h s due g r
+pub key_builds : (once : Bool) (h g : Hole) (s b n u r : List ℕ) (k : Kind) (f : Bool) → innermost h ≡ Some k → k ≡ kind.Map → Follows k f false s b → Names b n u → (once && has_member n h) ≡ false → r ≡ u → g ≡ with_name n h → Builds once (before_child f) h s due g r
 key_builds once h g s b n u r k f i q p w l d e = record {
   done = key n ∷ [];
-  passed = subst (λ z. Passed (between f) (kinds h) s (key n ∷ []) due z r) (sym (ap kinds e ∙ kinds_named h n)) (subst (λ z. Passed (between f) (kinds h) s (key n ∷ []) due (kinds h) z) (sym d) (key_done h s b n u k f i q p w));
+  passed = subst (λ z. Consumes (before_child f) (kinds h) s (key n ∷ []) due z r) (sym (ap kinds e ∙ kinds_named h n)) (subst (λ z. Consumes (before_child f) (kinds h) s (key n ∷ []) due (kinds h) z) (sym d) (key_done h s b n u k f i q p w));
   makes = key_makes false h g n k f i q refl e;
   repeats_none = key_makes once h g n k f i q l e;
 }
 
-start_new : (once : Bool) (e : Event) (h g : Hole) → begun e h ≡ Some g → (once && repeats e h) ≡ false
-start_new once nothing h g b = and-false once
+start_new : (once : Bool) (e : Step) (h g : Hole) → after_begin e h ≡ Some g → (once && repeats e h) ≡ false
+start_new once step.null h g b = and-false once
 start_new once (boolean x) h g b = and-false once
 start_new once (string x) h g b = and-false once
 start_new once (negative x) h g b = and-false once
@@ -152,10 +153,10 @@ start_new once element h g b = absurd (cc)
 start_new once (key k) h g b = absurd (cc)
 start_new once finish h g b = absurd (cc)
 
-start_makes : (once : Bool) (e : Event) (h g : Hole) → begun e h ≡ Some g → (es : List Event) → outcome once true h (e ∷ es) ≡ outcome once false g es
+start_makes : (once : Bool) (e : Step) (h g : Hole) → after_begin e h ≡ Some g → (es : List Step) → outcome once true h (e ∷ es) ≡ outcome once false g es
 start_makes once e h g b es = goes_on once true h e false g (start_new once e h g b) (ap (option_map (λ (z : Hole). (false, z))) b) es
 
-pub start_builds : (once : Bool) (h g : Hole) (s r : List ℕ) (e : Event) (f : Bool) → Starts s e r → f ≡ is_some (opens e) → begun e h ≡ Some g → Builds once due h s (between f) g r
+pub start_builds : (once : Bool) (h g : Hole) (s r : List ℕ) (e : Step) (f : Bool) → Starts s e r → f ≡ is_some (opened_kind e) → after_begin e h ≡ Some g → Builds once due h s (before_child f) g r
 start_builds once h g s r e f p q b = record {
   done = e ∷ [];
   passed = value_passed (kinds h) s r e f (kinds g) p q (kinds_begun e h g b);
@@ -163,7 +164,7 @@ start_builds once h g s r e f p q b = record {
   repeats_none = λ es. start_makes once e h g b es ∙ ap (λ z. outcome once z g es) (sym (not_due f));
 }
 
-pub entered : {E : Type 0} (once : Bool) (r : Result Bool E) (h g : Hole) (s u : List ℕ) (e : Event) → Starts s e u → IfOk r (λ o. o ≡ is_some (opens e)) → OnOk r (begun e h ≡ Some g) → IfOk r (λ o. Builds once due h s (between o) g u)
+pub entered : {E : Type 0} (once : Bool) (r : Result Bool E) (h g : Hole) (s u : List ℕ) (e : Step) → Starts s e u → IfOk r (λ o. o ≡ is_some (opened_kind e)) → OnOk r (after_begin e h ≡ Some g) → IfOk r (λ o. Builds once due h s (before_child o) g u)
 entered once (Ok o) h g s u e p q b = start_builds once h g s u e o p q b
 entered once (Err x) h g s u e p q b = tt
 
@@ -172,7 +173,7 @@ entered once (Err x) h g s u e p q b = tt
 pub Builds-append : (once : Bool) (m : Moment) (h : Hole) (s : List ℕ) (n : Moment) (g : Hole) (u : List ℕ) (m' : Moment) (h' : Hole) (s' : List ℕ) → Builds once m h s n g u → Builds once n g u m' h' s' → Builds once m h s m' h' s'
 Builds-append once m h s n g u m' h' s' p q = record {
   done = p.done ++ q.done;
-  passed = Passed-append m (kinds h) s p.done n (kinds g) u q.done m' (kinds h') s' p.passed q.passed;
+  passed = Consumes-append m (kinds h) s p.done n (kinds g) u q.done m' (kinds h') s' p.passed q.passed;
   makes = λ es. ap (outcome false (is_due m) h) (append_assoc p.done q.done es) ∙ p.makes (q.done ++ es) ∙ q.makes es;
   repeats_none = λ es. ap (outcome once (is_due m) h) (append_assoc p.done q.done es) ∙ p.repeats_none (q.done ++ es) ∙ q.repeats_none es;
 }
@@ -188,38 +189,38 @@ never_behind once m h s m' h' s' p n es r g =
     ap (outcome once (is_due m) h) a.1 ∙ p.repeats_none a.0 ∙ n a.0 r a.2
 
 -- a name that the object has, where none may be repeated
-pub repeat_gives : (once : Bool) (h : Hole) (s b n u : List ℕ) (k : lexed.Kind) (f : Bool) → innermost h ≡ Some k → k ≡ kind.Map → Follows (kind_of k) f false s b → Names b n u → (once && has_member n h) ≡ true → NeverGives once (between f) h s
+pub repeat_gives : (once : Bool) (h : Hole) (s b n u : List ℕ) (k : Kind) (f : Bool) → innermost h ≡ Some k → k ≡ kind.Map → Follows k f false s b → Names b n u → (once && has_member n h) ≡ true → NeverGives once (before_child f) h s
 repeat_gives once h s b n u k f i q p w l es r g =
     let a = (key_done h s b n u k f i q p w).back es r g in
     let rest : Bool × Hole → Option Tree = λ x. outcome once x.0 x.1 a.0 in
-    ap (λ z. outcome once z h es) (not_due f) ∙ ap (outcome once false h) a.1 ∙ ap (λ z. option_and_then rest (cond z None (took false h (key n)))) l
+    ap (λ z. outcome once z h es) (not_due f) ∙ ap (outcome once false h) a.1 ∙ ap (λ z. option_and_then rest (cond z None (after_step false h (key n)))) l
 
 -- ---- a whole value
 
 -- its first token was taken
-pub builds_init : (once : Bool) (e : Event) (h : Hole) (f : Bool) (s : List ℕ) → f ≡ is_some (opens e) → begun e (outside []) ≡ Some h → Builds once (between (is_some (opens e))) h s (between f) h s
+pub builds_init : (once : Bool) (e : Step) (h : Hole) (f : Bool) (s : List ℕ) → f ≡ is_some (opened_kind e) → after_begin e (outside []) ≡ Some h → Builds once (before_child (is_some (opened_kind e))) h s (before_child f) h s
 builds_init once e h f s q b =
-    subst (λ z. Builds once (between (is_some (opens e))) h s (between z) h s) (sym q)
-    (record { done = []; passed = Passed-none (between (is_some (opens e))) (kinds h) s (subst (λ z. Live (between (is_some (opens e))) z) (sym (kinds_begun e (outside []) h b)) (live_opened e)); makes = λ es. refl; repeats_none = λ es. refl })
+    subst (λ z. Builds once (before_child (is_some (opened_kind e))) h s (before_child z) h s) (sym q)
+    (record { done = []; passed = Consumes-none (before_child (is_some (opened_kind e))) (kinds h) s (subst (λ z. IsLive (before_child (is_some (opened_kind e))) z) (sym (kinds_begun e (outside []) h b)) (live_opened e)); makes = λ es. refl; repeats_none = λ es. refl })
 
 -- no container is left open
-pub read_ok : (once : Bool) (x : token.Event) (scratch s s' : List ℕ) (h : Hole) (f : Bool) (g : Hole) → begun (front_of x scratch) (outside []) ≡ Some h → innermost g ≡ None → Builds once (between (is_some (opens (front_of x scratch)))) h s (between f) g s' → (t : Tree) × ValueAt t (front_of x scratch) s s' × (whole g ≡ Some (kept t)) × (whole g ≡ kept_if once t)
+pub read_ok : (once : Bool) (x : token.Event) (scratch s s' : List ℕ) (h : Hole) (f : Bool) (g : Hole) → after_begin (event_of_token x scratch) (outside []) ≡ Some h → innermost g ≡ None → Builds once (before_child (is_some (opened_kind (event_of_token x scratch)))) h s (before_child f) g s' → (t : Tree) × ValueAt t (event_of_token x scratch) s s' × (complete_tree g ≡ Some (retained_tree t)) × (complete_tree g ≡ retained_if once t)
 read_ok once x scratch s s' h true (outside ts) b i p = absurd p.passed.live
 read_ok once x scratch s s' h false (outside ts) b i p =
-    let e = front_of x scratch in
-    let m = between (is_some (opens e)) in
-    let runs : Runs m p.done (pushed (opens e) []) s s' = subst (λ z. Runs m p.done z s s') (kinds_begun e (outside []) h b) (subst (λ z. Runs m z (kinds h) s s') (append-nil p.done) (p.passed.on [] s' refl)) in
+    let e = event_of_token x scratch in
+    let m = before_child (is_some (opened_kind e)) in
+    let runs : Runs m p.done (with_opened (opened_kind e) []) s s' = subst (λ z. Runs m p.done z s s') (kinds_begun e (outside []) h b) (subst (λ z. Runs m z (kinds h) s s') (append-nil p.done) (p.passed.on [] s' refl)) in
     let w = whole_at x scratch p.done s s' runs in
-    let ends : (o : Bool) → Makes o m h p.done after (outside ts) → whole (outside ts) ≡ kept_if o w.whole = λ o makes.
-    sym (makes []) ∙ ap (λ z. outcome o z h (p.done ++ [])) (not_due (is_some (opens e))) ∙ ap (outcome o false h) (append-nil p.done)
-    ∙ sym (start_makes o e (outside []) h b p.done) ∙ ap (outcome o true (outside [])) w.is ∙ gives-kept o w.whole in
-    (w.whole, w.is_value, ends false p.makes, ends once p.repeats_none)
+    let ends : (o : Bool) → Makes o m h p.done after (outside ts) → complete_tree (outside ts) ≡ retained_if o w.tree = λ o makes.
+    sym (makes []) ∙ ap (λ z. outcome o z h (p.done ++ [])) (not_due (is_some (opened_kind e))) ∙ ap (outcome o false h) (append-nil p.done)
+    ∙ sym (start_makes o e (outside []) h b p.done) ∙ ap (outcome o true (outside [])) w.is ∙ gives-kept o w.tree in
+    (w.tree, w.is_value, ends false p.makes, ends once p.repeats_none)
 read_ok once x scratch s s' h f (in_list ts g) b i p = absurd (cc)
 read_ok once x scratch s s' h f (in_members ms n g) b i p = absurd (cc)
 
 -- no tree that the text spells is kept
-pub read_none : (once : Bool) (e : Event) (h : Hole) (s : List ℕ) → begun e (outside []) ≡ Some h → NeverGives once (between (is_some (opens e))) h s → (t : Tree) (r : List ℕ) → ValueAt t e s r → kept_if once t ≡ None
+pub read_none : (once : Bool) (e : Step) (h : Hole) (s : List ℕ) → after_begin e (outside []) ≡ Some h → NeverGives once (before_child (is_some (opened_kind e))) h s → (t : Tree) (r : List ℕ) → ValueAt t e s r → retained_if once t ≡ None
 read_none once e h s b n t r v =
     let l = value_later t e s r v in
-    let none = n l.later r (subst (λ z. Runs (between (is_some (opens e))) l.later z s r) (sym (kinds_begun e (outside []) h b)) l.runs) in
-    sym (gives-kept once t) ∙ ap (outcome once true (outside [])) l.is ∙ start_makes once e (outside []) h b l.later ∙ ap (λ z. outcome once z h l.later) (sym (not_due (is_some (opens e)))) ∙ none
+    let none = n l.later r (subst (λ z. Runs (before_child (is_some (opened_kind e))) l.later z s r) (sym (kinds_begun e (outside []) h b)) l.runs) in
+    sym (gives-kept once t) ∙ ap (outcome once true (outside [])) l.is ∙ start_makes once e (outside []) h b l.later ∙ ap (λ z. outcome once z h l.later) (sym (not_due (is_some (opened_kind e)))) ∙ none

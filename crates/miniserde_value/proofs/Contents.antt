@@ -4,10 +4,10 @@ use Rattle.std.specs.Prelude.{⊤}
 use Rattle.miniserde_model.specs.Tree.{Tree, neg}
 use Rattle.miniserde_model.specs.Normal.{norm}
 use Rattle.miniserde_model.proofs.Normal.{norm_twice}
-use Rattle.miniserde_round.specs.RoundTrip.{ReadsAgain}
+use Rattle.miniserde_round.specs.RoundTrip.{RoundTrips}
 use Rattle.miniserde_stable.specs.Stable.{IsStable}
 use Rattle.miniserde_value.specs.declared.json.document.Document.{Document}
-use Rattle.miniserde_value.specs.Kept.{kept}
+use Rattle.miniserde_value.specs.Retained.{retained_tree}
 use Rattle.miniserde_value.specs.Numbers.{number_of}
 use Rattle.miniserde_value.specs.Values.{tree_of}
 
@@ -15,12 +15,12 @@ use Rattle.miniserde_value.specs.Values.{tree_of}
 pub stable-document : IsStable (λ t. Some (norm t))
 stable-document t c e = ap (λ (z : Tree). Some z) (norm_twice t) ∙ e
 
-pub again-document : (d : Document) → ReadsAgain {T = Document} (λ _. ⊤) (λ d. tree_of d.value) (λ t d. tree_of d.value ≡ norm t) (tree_of d.value)
-again-document d = ((d, tt, sym (norm_twice _)), λ w r e. e ∙ norm_twice _)
+pub round_trips-document : (d : Document) → RoundTrips {T = Document} (λ _. ⊤) (λ d. tree_of d.value) (λ t d. tree_of d.value ≡ norm t) (tree_of d.value)
+round_trips-document d = ((d, tt, sym (norm_twice _)), λ w r e. e ∙ norm_twice _)
 
 -- `-0` and its normal form 0 are two numbers
 pub unstable-number : IsStable number_of → ⊥
 unstable-number stable = let e = stable (neg (pos 0)) (neg (pos 0)) refl in absurd (cc)
 
-pub unstable-value : IsStable (λ t. Some (kept t)) → ⊥
+pub unstable-value : IsStable (λ t. Some (retained_tree t)) → ⊥
 unstable-value stable = let e = stable (neg (pos 0)) (neg (pos 0)) refl in absurd (cc)

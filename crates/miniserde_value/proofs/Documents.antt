@@ -8,7 +8,7 @@ use Rattle.std.specs.declared.cmp.Ordering.TheVariants.{Less, Equal, Greater}
 use Rattle.std.proofs.lemmas.List.{with_items_is}
 use Rattle.std_collections.specs.Layout.BTreeMap.{with_entries}
 use Rattle.miniserde_model.specs.Tree.{Tree, list, members, tree, Members, member}
-use Rattle.miniserde_model.specs.Normal.{text_cmp, placed, with_first, norm, norm_children, norm_members}
+use Rattle.miniserde_model.specs.Normal.{text_cmp, with_first_by, with_first, norm, norm_children, norm_members}
 use Rattle.miniserde_model.proofs.Distinct.{norm_distinct}
 use Rattle.miniserde_model.proofs.Normal.{norm_twice}
 use Rattle.miniserde_ser.specs.Trees.{trees_of, members_of}
@@ -20,17 +20,17 @@ use Rattle.miniserde_value.specs.declared.json.value.Value.TheOpen.{Value-F}
 use Rattle.miniserde_value.specs.declared.json.array.Array.{Array}
 use Rattle.miniserde_value.specs.declared.json.object.Object.{Object}
 use Rattle.miniserde_value.specs.declared.json.unique.Unique.{Unique}
-use Rattle.miniserde_value.specs.Kept.{kept}
+use Rattle.miniserde_value.specs.Retained.{retained_tree}
 use Rattle.miniserde_value.specs.Numbers.{number_leaf, ReadsNumber}
-use Rattle.miniserde_value.specs.Values.{array_items, object_entries, object_values, with_items, with_members, below, children, shape, array_shape, object_shape, Reads}
-use Rattle.miniserde_value.proofs.Kepts.{norm_kept, kept_norm}
+use Rattle.miniserde_value.specs.Values.{array_items, object_entries, object_values, with_items, with_members, below, children, shape, array_shape, object_shape, ReadsValue}
+use Rattle.miniserde_value.proofs.RetainedTrees.{norm_kept, kept_norm}
 use Rattle.miniserde_value.proofs.Shapes.{level, shape_out, shape_number, shape_array, shape_object}
 use Rattle.miniserde_value.proofs.Trees.{Each, tree_ind}
 use Rattle.miniserde_value.specs.Meanings.{ReadsUnique}
-use Rattle.miniserde_round.specs.RoundTrip.{ReadsAgain}
+use Rattle.miniserde_round.specs.RoundTrip.{RoundTrips}
 
 -- what is kept of a normal form has that normal form
-same : (s t : Tree) → s ≡ kept (norm t) → norm s ≡ norm t
+same : (s t : Tree) → s ≡ retained_tree (norm t) → norm s ≡ norm t
 same s t e = ap norm e ∙ norm_kept (norm t) ∙ norm_twice t
 
 -- ---- a document of the normal form
@@ -63,7 +63,7 @@ shown es = members_of string_bytes shape es
 -- one more entry in the place of its name
 placed_entry : (e : String Global × Value) (es : Entries) → (fs : Entries) × (shown fs ≡ with_first (string_bytes e.0) (shape e.1) (shown es))
 placed_entry e [] = (e ∷ [], refl)
-placed_entry e (g ∷ es) = elim (text_cmp (string_bytes e.0) (string_bytes g.0)) as (λ o. (fs : Entries) × (shown fs ≡ placed o (string_bytes e.0) (shape e.1) (string_bytes g.0) (shape g.1) (shown es) (with_first (string_bytes e.0) (shape e.1) (shown es)))) [
+placed_entry e (g ∷ es) = elim (text_cmp (string_bytes e.0) (string_bytes g.0)) as (λ o. (fs : Entries) × (shown fs ≡ with_first_by o (string_bytes e.0) (shape e.1) (string_bytes g.0) (shape g.1) (shown es) (with_first (string_bytes e.0) (shape e.1) (shown es)))) [
   | Less ↦ (e ∷ g ∷ es, refl)
   | Equal ↦ (g ∷ es, refl)
   | Greater ↦ let r = placed_entry e es in (g ∷ r.0, ap (member (string_bytes g.0) (shape g.1)) r.1)
@@ -103,29 +103,29 @@ all_normal (v ∷ vs) = (normal v, all_normal vs)
 
 -- ---- documents
 
-pub again-number : (n : Number) → ReadsAgain (λ _. ⊤) (λ n. norm (number_leaf n)) ReadsNumber (norm (number_leaf n))
-again-number (U64 n) = ((U64 n, tt, refl), λ w r e. rw e refl)
-again-number (I64 (pos n)) = ((U64 n, tt, refl), λ w r e. rw e refl)
-again-number (I64 (negsuc n)) = ((I64 (negsuc n), tt, refl), λ w r e. rw e refl)
-again-number (Text x) = ((Text x, tt, refl), λ w r e. rw e refl)
+pub round_trips-number : (n : Number) → RoundTrips (λ _. ⊤) (λ n. norm (number_leaf n)) ReadsNumber (norm (number_leaf n))
+round_trips-number (U64 n) = ((U64 n, tt, refl), λ w r e. rw e refl)
+round_trips-number (I64 (pos n)) = ((U64 n, tt, refl), λ w r e. rw e refl)
+round_trips-number (I64 (negsuc n)) = ((I64 (negsuc n), tt, refl), λ w r e. rw e refl)
+round_trips-number (Text x) = ((Text x, tt, refl), λ w r e. rw e refl)
 
-pub again-value : (v : Value) → ReadsAgain (λ _. ⊤) (λ v. norm (shape v)) Reads (norm (shape v))
-again-value v =
+pub round_trips-value : (v : Value) → RoundTrips (λ _. ⊤) (λ v. norm (shape v)) ReadsValue (norm (shape v))
+round_trips-value v =
     let n = normal v in
     ((n.0, tt, n.1 ∙ kept_norm (shape v)), λ w r e. same (shape w) (shape v) e)
 
-pub again-array : (a : Array) → ReadsAgain (λ _. ⊤) (λ a. norm (array_shape a)) (λ t a. array_shape a ≡ kept t) (norm (array_shape a))
-again-array a =
+pub round_trips-array : (a : Array) → RoundTrips (λ _. ⊤) (λ a. norm (array_shape a)) (λ t a. array_shape a ≡ retained_tree t) (norm (array_shape a))
+round_trips-array a =
     let n = normal_array a (all_normal (array_items a)) in
     ((n.0, tt, n.1 ∙ kept_norm (array_shape a)), λ w r e. same (array_shape w) (array_shape a) e)
 
-pub again-object : (o : Object) → ReadsAgain (λ _. ⊤) (λ o. norm (object_shape o)) (λ t o. object_shape o ≡ kept t) (norm (object_shape o))
-again-object o =
+pub round_trips-object : (o : Object) → RoundTrips (λ _. ⊤) (λ o. norm (object_shape o)) (λ t o. object_shape o ≡ retained_tree t) (norm (object_shape o))
+round_trips-object o =
     let n = normal_object o (all_normal (object_values o)) in
     ((n.0, tt, n.1 ∙ kept_norm (object_shape o)), λ w r e. same (object_shape w) (object_shape o) e)
 
 -- a normal form has no duplicate name
-pub again-unique : (u : Unique) → ReadsAgain (λ _. ⊤) (λ u. norm (shape u.value)) ReadsUnique (norm (shape u.value))
-again-unique u =
+pub round_trips-unique : (u : Unique) → RoundTrips (λ _. ⊤) (λ u. norm (shape u.value)) ReadsUnique (norm (shape u.value))
+round_trips-unique u =
     let n = normal u.value in
     ((record { value = n.0 }, tt, (norm_distinct (shape u.value), n.1 ∙ kept_norm (shape u.value))), λ w r e. same (shape w.value) (shape u.value) e.1)

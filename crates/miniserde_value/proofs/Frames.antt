@@ -9,7 +9,7 @@ use Rattle.miniserde_value.specs.declared.json.value.Value.{Value}
 use Rattle.miniserde_value.specs.declared.json.walk.frames.Frame.{Frame}
 use Rattle.miniserde_value.specs.declared.json.walk.frames.Frame.TheVariants as frame
 use Rattle.miniserde_value.specs.Values.{shape}
-use Rattle.miniserde_value.specs.Fronts.{element, list_ends, name, members_end, fronts, child_fronts, member_fronts, IsOrdered, AreOrdered, AreOrderedMembers}
+use Rattle.miniserde_value.specs.Visits.{element, list_ends, name, members_end, visits, child_visits, member_visits, IsOrdered, AreOrdered, AreOrderedMembers}
 use Rattle.miniserde_value.specs.Walks.{stack_left, StackOrdered}
 
 -- ---- the innermost container gave a child
@@ -24,12 +24,12 @@ pub record GaveItem (frames then : List Frame) (it next : Iter Value) (item : Va
   pub after : reverse then ≡ frame.Array next ∷ others
   pub gave : iter_rest it ≡ item ∷ iter_rest next
 
-pub item_left : (frames then : List Frame) (objects : List Entries) (it next : Iter Value) (item : Value) → GaveItem frames then it next item → stack_left (reverse frames) objects ≡ element ∷ fronts (shape item) (stack_left (reverse then) objects)
+pub item_left : (frames then : List Frame) (objects : List Entries) (it next : Iter Value) (item : Value) → GaveItem frames then it next item → stack_left (reverse frames) objects ≡ element ∷ visits (shape item) (stack_left (reverse then) objects)
 item_left frames then objects it next item g =
     let rest = stack_left g.others objects in
     ap (λ (x : List Frame). stack_left x objects) g.before
-    ∙ ap (λ (xs : List Value). child_fronts (trees_of shape xs) (list_ends ∷ rest)) g.gave
-    ∙ ap (λ (x : List Frame). element ∷ fronts (shape item) (stack_left x objects)) (sym g.after)
+    ∙ ap (λ (xs : List Value). child_visits (trees_of shape xs) (list_ends ∷ rest)) g.gave
+    ∙ ap (λ (x : List Frame). element ∷ visits (shape item) (stack_left x objects)) (sym g.after)
 
 pub item_ordered : (frames then : List Frame) (objects : List Entries) (it next : Iter Value) (item : Value) → GaveItem frames then it next item → IsOrdered (shape item) → StackOrdered (reverse then) objects → StackOrdered (reverse frames) objects
 item_ordered frames then objects it next item g o p =
@@ -49,15 +49,15 @@ pub record GaveMember (frames also : List Frame) (objects then : List Entries) (
   pub gave : ms ≡ (key, value) ∷ next
   pub named : text ≡ string_bytes key
 
-pub member_left : (frames also : List Frame) (objects then : List Entries) (ms next : Entries) (text : List ℕ) (value : Value) → GaveMember frames also objects then ms next text value → stack_left (reverse frames) (reverse objects) ≡ name text ∷ fronts (shape value) (stack_left (reverse also) (reverse then))
+pub member_left : (frames also : List Frame) (objects then : List Entries) (ms next : Entries) (text : List ℕ) (value : Value) → GaveMember frames also objects then ms next text value → stack_left (reverse frames) (reverse objects) ≡ name text ∷ visits (shape value) (stack_left (reverse also) (reverse then))
 member_left frames also objects then ms next text value g =
     let rest = stack_left g.below g.others in
     ap (λ (x : List Frame). stack_left x (reverse objects)) g.is_object
     ∙ ap (λ (x : List Entries). stack_left (frame.Object ∷ g.below) x) g.before
-    ∙ ap (λ (xs : Entries). member_fronts (members_of string_bytes shape xs) (members_end ∷ rest)) g.gave
-    ∙ ap (λ (t : List ℕ). name t ∷ fronts (shape value) (stack_left (frame.Object ∷ g.below) (next ∷ g.others))) (sym g.named)
-    ∙ ap (λ (x : List Entries). name text ∷ fronts (shape value) (stack_left (frame.Object ∷ g.below) x)) (sym g.after)
-    ∙ ap (λ (x : List Frame). name text ∷ fronts (shape value) (stack_left x (reverse then))) (sym g.is_still)
+    ∙ ap (λ (xs : Entries). member_visits (members_of string_bytes shape xs) (members_end ∷ rest)) g.gave
+    ∙ ap (λ (t : List ℕ). name t ∷ visits (shape value) (stack_left (frame.Object ∷ g.below) (next ∷ g.others))) (sym g.named)
+    ∙ ap (λ (x : List Entries). name text ∷ visits (shape value) (stack_left (frame.Object ∷ g.below) x)) (sym g.after)
+    ∙ ap (λ (x : List Frame). name text ∷ visits (shape value) (stack_left x (reverse then))) (sym g.is_still)
 
 pub member_ordered : (frames also : List Frame) (objects then : List Entries) (ms next : Entries) (text : List ℕ) (value : Value) → GaveMember frames also objects then ms next text value → IsOrdered (shape value) → StackOrdered (reverse also) (reverse then) → StackOrdered (reverse frames) (reverse objects)
 member_ordered frames also objects then ms next text value g o p =

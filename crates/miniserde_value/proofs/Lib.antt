@@ -1,4 +1,4 @@
-pub mod Kepts
+pub mod RetainedTrees
 pub mod Sizes
 pub mod Texts
 pub mod Built
@@ -11,7 +11,7 @@ pub mod Parked
 pub mod Lasts
 pub mod Marks
 pub mod Builders
-pub mod Begun
+pub mod AfterBegin
 pub mod Copies
 pub mod Variants
 pub mod Frames

@@ -7,15 +7,15 @@ use Rattle.miniserde_value.specs.declared.json.value.Value.{Value}
 use Rattle.miniserde_value.specs.declared.json.builder.OpenObject.{OpenObject}
 use Rattle.miniserde_value.specs.declared.json.builder.Mark.{Mark}
 use Rattle.miniserde_value.specs.declared.json.builder.Mark.TheVariants as mark
-use Rattle.miniserde_value.specs.Hole.{Hole, whole}
-use Rattle.miniserde_value.specs.Marks.{opened, others, hole_of, Fits}
+use Rattle.miniserde_value.specs.Hole.{Hole, complete_tree}
+use Rattle.miniserde_value.specs.Marks.{with_open_object, outer_objects, hole_of, Fits}
 use Rattle.miniserde_value.proofs.Lasts.{reverse_added, reverse_last, reverse_set, reverse_ends}
 
 -- marks that fit still fit where there are more values
 pub fits_longer : (n k : ℕ) (os : List OpenObject) (ms : List Mark) → n ≤ k → Fits n os ms → Fits k os ms
 fits_longer n k os [] h f = tt
 fits_longer n k os (mark.Array v ∷ ms) h f = (omega (arith, h, f.0), f.1)
-fits_longer n k os (mark.Object ∷ ms) h f = (f.0, fits_longer n k (others os) ms h f.1)
+fits_longer n k os (mark.Object ∷ ms) h f = (f.0, fits_longer n k (outer_objects os) ms h f.1)
 
 -- and where one more object is open
 pub fits_more : (n : ℕ) (o : OpenObject) (os : List OpenObject) (ms : List Mark) → Fits n os ms → Fits n (o ∷ os) ms
@@ -56,7 +56,7 @@ fits_split (Err u) old new v os ms a b f =
 
 -- ---- where an object is the innermost container, it alone changes
 
-pub object_changed : (f : Hole → Hole) (vs : List Tree) (os : List OpenObject) (k : ℕ) (o p : OpenObject) (ms below : List Mark) → length os ≡ suc k → o ≡ get_or os k o → reverse ms ≡ mark.Object ∷ below → ((h : Hole) → opened p h ≡ f (opened o h)) → hole_of vs (reverse (set os k p)) (reverse ms) ≡ f (hole_of vs (reverse os) (reverse ms))
+pub object_changed : (f : Hole → Hole) (vs : List Tree) (os : List OpenObject) (k : ℕ) (o p : OpenObject) (ms below : List Mark) → length os ≡ suc k → o ≡ get_or os k o → reverse ms ≡ mark.Object ∷ below → ((h : Hole) → with_open_object p h ≡ f (with_open_object o h)) → hole_of vs (reverse (set os k p)) (reverse ms) ≡ f (hole_of vs (reverse os) (reverse ms))
 object_changed f vs os k o p ms below len is top h =
     ap (hole_of vs (reverse (set os k p))) top
     ∙ ap (λ (qs : List OpenObject). hole_of vs qs (mark.Object ∷ below)) (reverse_set os k p len)
@@ -66,10 +66,10 @@ object_changed f vs os k o p ms below len is top h =
 
 -- ---- the value that is whole
 
-open_has_none : (vs : List Tree) (os : List OpenObject) (ms : List Mark) → 0 < length ms → None ≡ whole (hole_of vs os ms)
+open_has_none : (vs : List Tree) (os : List OpenObject) (ms : List Mark) → 0 < length ms → None ≡ complete_tree (hole_of vs os ms)
 open_has_none vs os [] h = absurd (omega (arith, h))
 open_has_none vs os (mark.Array v ∷ ms) h = refl
 open_has_none vs os (mark.Object ∷ ms) h = refl
 
-pub whole_open : (vs : List Tree) (os : List OpenObject) (ms : List Mark) → 0 < length ms → None ≡ whole (hole_of vs os (reverse ms))
+pub whole_open : (vs : List Tree) (os : List OpenObject) (ms : List Mark) → 0 < length ms → None ≡ complete_tree (hole_of vs os (reverse ms))
 whole_open vs os ms h = open_has_none vs os (reverse ms) (omega (arith, h, length-reverse ms))

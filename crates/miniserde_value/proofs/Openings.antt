@@ -1,15 +1,15 @@
 -- What a value's first token says of its tree.
 use Rattle.std.proofs.Common.{◌≡◌, ℕ, List, Some, None, refl}
 use Rattle.miniserde_model.specs.Tree.{Tree, null, truth, nonneg, neg, num, str, list, members}
-use Rattle.miniserde_model.specs.Event.{seq, map}
-use Rattle.miniserde_text.specs.Lexer.{front_of}
+use Rattle.miniserde_model.specs.Step.{seq, map}
+use Rattle.miniserde_text.specs.Lexer.{event_of_token}
 use Rattle.miniserde_text.specs.declared.json.lex.Event.{Event}
 use Rattle.miniserde_text.specs.declared.json.lex.Event.TheVariants as token
 use Rattle.miniserde_read.specs.Rest.{ValueAt}
-use Rattle.miniserde_value.specs.Kept.{kept}
+use Rattle.miniserde_value.specs.Retained.{retained_tree}
 use Rattle.miniserde_value.specs.Kinds.{only_list, only_members}
 
-opens_list : (x : Event) (scratch : List ℕ) → front_of x scratch ≡ seq → x ≡ token.SeqStart
+opens_list : (x : Event) (scratch : List ℕ) → event_of_token x scratch ≡ seq → x ≡ token.SeqStart
 opens_list token.SeqStart scratch e = refl
 opens_list token.MapStart scratch e = absurd (cc)
 opens_list token.Null scratch e = absurd (cc)
@@ -19,7 +19,7 @@ opens_list (token.Nonnegative n) scratch e = absurd (cc)
 opens_list (token.Number x) scratch e = absurd (cc)
 opens_list (token.Str t) scratch e = absurd (cc)
 
-opens_members : (x : Event) (scratch : List ℕ) → front_of x scratch ≡ map → x ≡ token.MapStart
+opens_members : (x : Event) (scratch : List ℕ) → event_of_token x scratch ≡ map → x ≡ token.MapStart
 opens_members token.MapStart scratch e = refl
 opens_members token.SeqStart scratch e = absurd (cc)
 opens_members token.Null scratch e = absurd (cc)
@@ -29,7 +29,7 @@ opens_members (token.Nonnegative n) scratch e = absurd (cc)
 opens_members (token.Number x) scratch e = absurd (cc)
 opens_members (token.Str t) scratch e = absurd (cc)
 
-pub no_list : (t : Tree) (x : Event) (scratch s r : List ℕ) → (x ≡ token.SeqStart → ⊥) → ValueAt t (front_of x scratch) s r → only_list (Some (kept t)) ≡ None
+pub no_list : (t : Tree) (x : Event) (scratch s r : List ℕ) → (x ≡ token.SeqStart → ⊥) → ValueAt t (event_of_token x scratch) s r → only_list (Some (retained_tree t)) ≡ None
 no_list (list ts) x scratch s r n v = absurd (n (opens_list x scratch v.0))
 no_list (members ms) x scratch s r n v = refl
 no_list null x scratch s r n v = refl
@@ -39,7 +39,7 @@ no_list (neg i) x scratch s r n v = refl
 no_list (num i) x scratch s r n v = refl
 no_list (str i) x scratch s r n v = refl
 
-pub no_members : (t : Tree) (x : Event) (scratch s r : List ℕ) → (x ≡ token.MapStart → ⊥) → ValueAt t (front_of x scratch) s r → only_members (Some (kept t)) ≡ None
+pub no_members : (t : Tree) (x : Event) (scratch s r : List ℕ) → (x ≡ token.MapStart → ⊥) → ValueAt t (event_of_token x scratch) s r → only_members (Some (retained_tree t)) ≡ None
 no_members (members ms) x scratch s r n v = absurd (n (opens_members x scratch v.0))
 no_members (list ts) x scratch s r n v = refl
 no_members null x scratch s r n v = refl

@@ -5,8 +5,8 @@ use Rattle.std.specs.declared.cmp.Ordering.{Ordering}
 use Rattle.std.specs.declared.cmp.Ordering.TheVariants.{Less, Equal, Greater}
 use Rattle.miniserde_model.specs.Tree.{Tree, null, truth, nonneg, neg, num, str, list, members, Trees, no_trees, tree, Members, no_members, member}
 use Rattle.miniserde_model.specs.Size.{size, size_of_children, size_of_members}
-use Rattle.miniserde_model.specs.Normal.{placed, with_first, norm, norm_children, norm_members, norm_neg, text_cmp}
-use Rattle.miniserde_value.specs.Kept.{kept, kept_children, kept_members}
+use Rattle.miniserde_model.specs.Normal.{with_first_by, with_first, norm, norm_children, norm_members, norm_neg, text_cmp}
+use Rattle.miniserde_value.specs.Retained.{retained_tree, retained_children, retained_members}
 
 -- the same names in the same order, each with as many values
 abbrev Alike : Members → Members → Type 0
@@ -14,7 +14,7 @@ Alike no_members no_members = ⊤
 Alike (member n t ms) (member o u ns) = (n ≡ o) × (size t ≡ size u) × Alike ms ns
 Alike _ _ = ⊥
 
-placed_alike : (o : Ordering) (name : List ℕ) (t t' : Tree) (other : List ℕ) (u u' : Tree) (ms ms' more more' : Members) → size t ≡ size t' → size u ≡ size u' → Alike ms ms' → Alike more more' → Alike (placed o name t other u ms more) (placed o name t' other u' ms' more')
+placed_alike : (o : Ordering) (name : List ℕ) (t t' : Tree) (other : List ℕ) (u u' : Tree) (ms ms' more more' : Members) → size t ≡ size t' → size u ≡ size u' → Alike ms ms' → Alike more more' → Alike (with_first_by o name t other u ms more) (with_first_by o name t' other u' ms' more')
 placed_alike Less name t t' other u u' ms ms' more more' p q r s = (refl, p, (refl, q, r))
 placed_alike Equal name t t' other u u' ms ms' more more' p q r s = (refl, q, r)
 placed_alike Greater name t t' other u u' ms ms' more more' p q r s = (refl, q, s)
@@ -37,7 +37,7 @@ neg_size (pos n) = refl
 neg_size (negsuc n) = refl
 
 mutual
-  pub kept_size : (t : Tree) → size (kept t) ≡ size (norm t)
+  pub kept_size : (t : Tree) → size (retained_tree t) ≡ size (norm t)
   kept_size null = refl
   kept_size (truth b) = refl
   kept_size (nonneg n) = refl
@@ -45,12 +45,12 @@ mutual
   kept_size (num x) = refl
   kept_size (str s) = refl
   kept_size (list ts) = ap (λ (n : ℕ). 1 + n) (kept_children_size ts)
-  kept_size (members ms) = ap (λ (n : ℕ). 1 + n) (members_alike (kept_members ms) (norm_members ms) (kept_members_alike ms))
+  kept_size (members ms) = ap (λ (n : ℕ). 1 + n) (members_alike (retained_members ms) (norm_members ms) (kept_members_alike ms))
 
-  kept_children_size : (ts : Trees) → size_of_children (kept_children ts) ≡ size_of_children (norm_children ts)
+  kept_children_size : (ts : Trees) → size_of_children (retained_children ts) ≡ size_of_children (norm_children ts)
   kept_children_size no_trees = refl
   kept_children_size (tree t ts) = ap₂ (λ (a b : ℕ). a + b) (kept_size t) (kept_children_size ts)
 
-  kept_members_alike : (ms : Members) → Alike (kept_members ms) (norm_members ms)
+  kept_members_alike : (ms : Members) → Alike (retained_members ms) (norm_members ms)
   kept_members_alike no_members = tt
-  kept_members_alike (member name t ms) = with_first_alike name (kept t) (norm t) (kept_members ms) (norm_members ms) (kept_size t) (kept_members_alike ms)
+  kept_members_alike (member name t ms) = with_first_alike name (retained_tree t) (norm t) (retained_members ms) (norm_members ms) (kept_size t) (kept_members_alike ms)

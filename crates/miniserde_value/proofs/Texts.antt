@@ -3,10 +3,10 @@ use Rattle.std.proofs.Common.{◌≡◌, ℕ, Bool, true, false, List, [], ◌�
 use Rattle.miniserde_model.specs.Tree.{Tree, list, members, Trees, no_trees, tree, Members, no_members, member}
 use Rattle.miniserde_model.specs.Normal.{norm, norm_children, norm_members, BeginsAbove, Rise}
 use Rattle.miniserde_model.specs.IsTree.{IsTree, AreTrees, AreNamedTrees}
-use Rattle.miniserde_model.specs.Compact.{quoted, compact, compact_children, compact_more, compact_members, compact_more_members}
-use Rattle.miniserde_value.specs.Fronts.{Meets, list_ends, members_end, fronts, child_fronts, member_fronts, IsOrdered, AreOrdered, AreOrderedMembers, text_of, AreFronts}
+use Rattle.miniserde_model.specs.Compact.{string_text, compact, compact_children, compact_more, compact_members, compact_more_members}
+use Rattle.miniserde_value.specs.Visits.{TreeVisit, list_ends, members_end, visits, child_visits, member_visits, IsOrdered, AreOrdered, AreOrderedMembers, visits_text, AreVisits}
 use Rattle.miniserde_model.proofs.Normal.{trees_with_first}
-use Rattle.miniserde_value.proofs.Kepts.{first_of_all}
+use Rattle.miniserde_value.proofs.RetainedTrees.{first_of_all}
 
 -- names above another stay above it where each tree is normal
 norm_above : (first : List ℕ) (ms : Members) → Rise ms → BeginsAbove first ms → BeginsAbove first (norm_members ms)
@@ -29,66 +29,66 @@ closing : (a rest : List ℕ) (x : ℕ) → a ++ x ∷ rest ≡ (a ++ x ∷ []) 
 closing a rest x = sym (append_assoc a (x ∷ []) rest)
 
 mutual
-  pub text_fronts : (t : Tree) → IsOrdered t → (rest : List Meets) → text_of false (fronts t rest) ≡ compact (norm t) ++ text_of false rest
-  text_fronts (list ts) h rest = ap (λ z. 91 ∷ z) (text_children ts h rest ∙ closing (compact_children (norm_children ts)) (text_of false rest) 93)
-  text_fronts (members ms) h rest = ap (λ z. 123 ∷ z) (text_members ms h.0 h.1 rest ∙ closing (compact_members (norm_members ms)) (text_of false rest) 125)
+  pub text_fronts : (t : Tree) → IsOrdered t → (rest : List TreeVisit) → visits_text false (visits t rest) ≡ compact (norm t) ++ visits_text false rest
+  text_fronts (list ts) h rest = ap (λ z. 91 ∷ z) (text_children ts h rest ∙ closing (compact_children (norm_children ts)) (visits_text false rest) 93)
+  text_fronts (members ms) h rest = ap (λ z. 123 ∷ z) (text_members ms h.0 h.1 rest ∙ closing (compact_members (norm_members ms)) (visits_text false rest) 125)
   text_fronts _ h rest = refl
 
-  pub text_children : (ts : Trees) → AreOrdered ts → (rest : List Meets) → text_of true (child_fronts ts (list_ends ∷ rest)) ≡ compact_children (norm_children ts) ++ 93 ∷ text_of false rest
+  pub text_children : (ts : Trees) → AreOrdered ts → (rest : List TreeVisit) → visits_text true (child_visits ts (list_ends ∷ rest)) ≡ compact_children (norm_children ts) ++ 93 ∷ visits_text false rest
   text_children no_trees h rest = refl
   text_children (tree t ts) h rest =
-      text_fronts t h.0 (child_fronts ts (list_ends ∷ rest))
+      text_fronts t h.0 (child_visits ts (list_ends ∷ rest))
       ∙ ap (λ z. compact (norm t) ++ z) (text_more ts h.1 (list_ends ∷ rest))
-      ∙ sym (append_assoc (compact (norm t)) (compact_more (norm_children ts)) (93 ∷ text_of false rest))
+      ∙ sym (append_assoc (compact (norm t)) (compact_more (norm_children ts)) (93 ∷ visits_text false rest))
 
-  pub text_more : (ts : Trees) → AreOrdered ts → (rest : List Meets) → text_of false (child_fronts ts rest) ≡ compact_more (norm_children ts) ++ text_of false rest
+  pub text_more : (ts : Trees) → AreOrdered ts → (rest : List TreeVisit) → visits_text false (child_visits ts rest) ≡ compact_more (norm_children ts) ++ visits_text false rest
   text_more no_trees h rest = refl
   text_more (tree t ts) h rest =
-      ap (λ z. 44 ∷ z) (text_fronts t h.0 (child_fronts ts rest)
+      ap (λ z. 44 ∷ z) (text_fronts t h.0 (child_visits ts rest)
       ∙ ap (λ z. compact (norm t) ++ z) (text_more ts h.1 rest)
-      ∙ sym (append_assoc (compact (norm t)) (compact_more (norm_children ts)) (text_of false rest)))
+      ∙ sym (append_assoc (compact (norm t)) (compact_more (norm_children ts)) (visits_text false rest)))
 
-  pub text_members : (ms : Members) → Rise ms → AreOrderedMembers ms → (rest : List Meets) → text_of true (member_fronts ms (members_end ∷ rest)) ≡ compact_members (norm_members ms) ++ 125 ∷ text_of false rest
+  pub text_members : (ms : Members) → Rise ms → AreOrderedMembers ms → (rest : List TreeVisit) → visits_text true (member_visits ms (members_end ∷ rest)) ≡ compact_members (norm_members ms) ++ 125 ∷ visits_text false rest
   text_members no_members r h rest = refl
   text_members (member n t ms) r h rest =
-      ap (λ z. (quoted n ++ 58 ∷ []) ++ z) (text_fronts t h.0 (member_fronts ms (members_end ∷ rest)) ∙ ap (λ z. compact (norm t) ++ z) (text_more_members ms r.1 h.1 (members_end ∷ rest)))
-      ∙ named_text (quoted n) (compact (norm t)) (compact_more_members (norm_members ms)) (125 ∷ text_of false rest)
-      ∙ ap (λ z. compact_members z ++ 125 ∷ text_of false rest) (sym (norm_first n t ms r))
+      ap (λ z. (string_text n ++ 58 ∷ []) ++ z) (text_fronts t h.0 (member_visits ms (members_end ∷ rest)) ∙ ap (λ z. compact (norm t) ++ z) (text_more_members ms r.1 h.1 (members_end ∷ rest)))
+      ∙ named_text (string_text n) (compact (norm t)) (compact_more_members (norm_members ms)) (125 ∷ visits_text false rest)
+      ∙ ap (λ z. compact_members z ++ 125 ∷ visits_text false rest) (sym (norm_first n t ms r))
 
-  pub text_more_members : (ms : Members) → Rise ms → AreOrderedMembers ms → (rest : List Meets) → text_of false (member_fronts ms rest) ≡ compact_more_members (norm_members ms) ++ text_of false rest
+  pub text_more_members : (ms : Members) → Rise ms → AreOrderedMembers ms → (rest : List TreeVisit) → visits_text false (member_visits ms rest) ≡ compact_more_members (norm_members ms) ++ visits_text false rest
   text_more_members no_members r h rest = refl
   text_more_members (member n t ms) r h rest =
-      ap (λ z. 44 ∷ ((quoted n ++ 58 ∷ []) ++ z)) (text_fronts t h.0 (member_fronts ms rest) ∙ ap (λ z. compact (norm t) ++ z) (text_more_members ms r.1 h.1 rest))
-      ∙ ap (λ z. 44 ∷ z) (named_text (quoted n) (compact (norm t)) (compact_more_members (norm_members ms)) (text_of false rest))
-      ∙ ap (λ z. compact_more_members z ++ text_of false rest) (sym (norm_first n t ms r))
+      ap (λ z. 44 ∷ ((string_text n ++ 58 ∷ []) ++ z)) (text_fronts t h.0 (member_visits ms rest) ∙ ap (λ z. compact (norm t) ++ z) (text_more_members ms r.1 h.1 rest))
+      ∙ ap (λ z. 44 ∷ z) (named_text (string_text n) (compact (norm t)) (compact_more_members (norm_members ms)) (visits_text false rest))
+      ∙ ap (λ z. compact_more_members z ++ visits_text false rest) (sym (norm_first n t ms r))
 
 -- a value's text has no comma before it
-text_begins : (b : Bool) (t : Tree) → text_of b (fronts t []) ≡ text_of false (fronts t [])
+text_begins : (b : Bool) (t : Tree) → visits_text b (visits t []) ≡ visits_text false (visits t [])
 text_begins b (list ts) = refl
 text_begins b (members ms) = refl
 text_begins b _ = refl
 
-pub text_whole : (b : Bool) (t : Tree) → IsOrdered t → text_of b (fronts t []) ≡ compact (norm t)
+pub text_whole : (b : Bool) (t : Tree) → IsOrdered t → visits_text b (visits t []) ≡ compact (norm t)
 text_whole b t h = text_begins b t ∙ text_fronts t h [] ∙ append-nil (compact (norm t))
 
 -- ---- the trees in range
 
 mutual
-  pub fronts_tree : (t : Tree) (rest : List Meets) → AreFronts (fronts t rest) → IsTree (norm t) × AreFronts rest
+  pub fronts_tree : (t : Tree) (rest : List TreeVisit) → AreVisits (visits t rest) → IsTree (norm t) × AreVisits rest
   fronts_tree (list ts) rest h = fronts_trees ts (list_ends ∷ rest) h
   fronts_tree (members ms) rest h = fronts_named ms (members_end ∷ rest) h
   fronts_tree _ rest h = h
 
-  pub fronts_trees : (ts : Trees) (rest : List Meets) → AreFronts (child_fronts ts rest) → AreTrees (norm_children ts) × AreFronts rest
+  pub fronts_trees : (ts : Trees) (rest : List TreeVisit) → AreVisits (child_visits ts rest) → AreTrees (norm_children ts) × AreVisits rest
   fronts_trees no_trees rest h = (tt, h)
   fronts_trees (tree t ts) rest h =
-      let one = fronts_tree t (child_fronts ts rest) h in
+      let one = fronts_tree t (child_visits ts rest) h in
       let more = fronts_trees ts rest one.1 in
       ((one.0, more.0), more.1)
 
-  pub fronts_named : (ms : Members) (rest : List Meets) → AreFronts (member_fronts ms rest) → AreNamedTrees (norm_members ms) × AreFronts rest
+  pub fronts_named : (ms : Members) (rest : List TreeVisit) → AreVisits (member_visits ms rest) → AreNamedTrees (norm_members ms) × AreVisits rest
   fronts_named no_members rest h = (tt, h)
   fronts_named (member n t ms) rest h =
-      let one = fronts_tree t (member_fronts ms rest) h.1 in
+      let one = fronts_tree t (member_visits ms rest) h.1 in
       let more = fronts_named ms rest one.1 in
       (trees_with_first n (norm t) (norm_members ms) h.0 one.0 more.0, more.1)

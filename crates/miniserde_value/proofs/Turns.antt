@@ -3,7 +3,7 @@ use Rattle.std.proofs.Common.{◌≡◌, suc, ◌+◌, List, [], ◌∷◌, ◌+
 use Rattle.std.specs.Prelude.{IsTrue, false}
 use Rattle.miniserde_value.specs.declared.json.value.Value.{Value}
 use Rattle.miniserde_value.specs.Values.{children, IsBare}
-use Rattle.miniserde_value.specs.Looks.{value_size, replaces_first}
+use Rattle.miniserde_value.specs.Looks.{value_size, ReplacesFirst}
 use Rattle.miniserde_value.proofs.Shapes.{sizes, size_children, sizes_append}
 use Rattle.miniserde_value.proofs.Costs.{Cost, cost_of, cost, looks_left, looks_from, cost_out, besides_append}
 
@@ -45,13 +45,13 @@ pub taken_looks : (c d last : Value) → children c ≡ children d ++ last ∷ [
 taken_looks c d last e = ap (λ (k : Cost). k.alone) (cost_out c ∙ ap (λ (ws : List Value). cost_of (map cost ws)) e) ∙ taken_from (children d) d last refl
 
 -- the value p is parked in h, which is then d, and x stood there
-pub parked_size : (p x h d : Value) → replaces_first p x (children h) (children d) → value_size d + value_size x ≡ value_size p + value_size h
+pub parked_size : (p x h d : Value) → ReplacesFirst p x (children h) (children d) → value_size d + value_size x ≡ value_size p + value_size h
 parked_size p x h d r =
     let a = ap sizes r.1 in
     let b = ap sizes r.2 in
     omega (arith, a, b, size_children h, size_children d)
 
-pub parked_looks : (p x h d : Value) → replaces_first p x (children h) (children d) → (cost p).alone + (cost h).beside ≡ suc (looks_left d x)
+pub parked_looks : (p x h d : Value) → ReplacesFirst p x (children h) (children d) → (cost p).alone + (cost h).beside ≡ suc (looks_left d x)
 parked_looks p x h d r =
     let a = ap (λ (k : Cost). k.beside) (cost_out h ∙ ap (λ (ws : List Value). cost_of (map cost ws)) r.1) in
     let b = ap (λ (k : Cost). k.alone) (cost_out d ∙ ap (λ (ws : List Value). cost_of (map cost ws)) r.2) in
@@ -73,7 +73,7 @@ pub turn_over : (c h d last : Value) → IsBare c → children h ≡ children d 
 turn_over c h d last b e = omega (arith, left_bare c h b, taken_looks h d last e)
 
 -- the current one was parked in the one in hand
-pub turn_park : (c h d x : Value) → (IsBare c → ⊥) → replaces_first c x (children h) (children d) → looks_left c h ≡ suc (looks_left d x)
+pub turn_park : (c h d x : Value) → (IsBare c → ⊥) → ReplacesFirst c x (children h) (children d) → looks_left c h ≡ suc (looks_left d x)
 turn_park c h d x n r = omega (arith, left_full c h n, parked_looks c x h d r)
 
 -- both were let go

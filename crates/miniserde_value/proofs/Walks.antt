@@ -18,14 +18,14 @@ use Rattle.miniserde_value.specs.declared.json.number.Number.{Number}
 use Rattle.miniserde_value.specs.declared.json.number.Number.TheVariants as number
 use Rattle.miniserde_value.specs.Numbers.{number_leaf}
 use Rattle.miniserde_value.specs.Values.{array_items, object_entries, array_shape, object_shape, shape}
-use Rattle.miniserde_value.specs.Fronts.{Meets, leaf, list_begins, list_ends, members_begin, members_end, fronts, child_fronts, member_fronts, IsOrdered, AreOrdered, AreOrderedMembers}
+use Rattle.miniserde_value.specs.Visits.{TreeVisit, leaf, list_begins, list_ends, members_begin, members_end, visits, child_visits, member_visits, IsOrdered, AreOrdered, AreOrderedMembers}
 use Rattle.miniserde_value.specs.Walks.{items_left, members_left, ItemsOrdered, MembersOrdered}
 use Rattle.miniserde_value.proofs.Shapes.{shape_null, shape_bool, shape_number, shape_string, shape_array, shape_object}
 use Rattle.miniserde_value.proofs.Ordered.{ordered_rises}
 
 -- ---- the first front of a value
 
-number_fronts : (n : Number) (rest : List Meets) → fronts (number_leaf n) rest ≡ leaf (number_leaf n) ∷ rest
+number_fronts : (n : Number) (rest : List TreeVisit) → visits (number_leaf n) rest ≡ leaf (number_leaf n) ∷ rest
 number_fronts (number.U64 n) rest = refl
 number_fronts (number.I64 z) rest = refl
 number_fronts (number.Text x) rest = refl
@@ -36,19 +36,19 @@ number_ordered (number.I64 z) = tt
 number_ordered (number.Text x) = tt
 
 -- a value of this shape
-shaped : (v : Value) (t : Tree) (rest more : List Meets) → shape v ≡ t → fronts t rest ≡ more → fronts (shape v) rest ≡ more
-shaped v t rest more e h = ap (λ (x : Tree). fronts x rest) e ∙ h
+shaped : (v : Value) (t : Tree) (rest more : List TreeVisit) → shape v ≡ t → visits t rest ≡ more → visits (shape v) rest ≡ more
+shaped v t rest more e h = ap (λ (x : Tree). visits x rest) e ∙ h
 
-pub begin_null : (v : Value) (rest : List Meets) → v ≡ value.Null → fronts (shape v) rest ≡ leaf null ∷ rest
+pub begin_null : (v : Value) (rest : List TreeVisit) → v ≡ value.Null → visits (shape v) rest ≡ leaf null ∷ rest
 begin_null v rest e = shaped v null rest _ (ap shape e ∙ shape_null) refl
 
-pub begin_bool : (v : Value) (b : Bool) (rest : List Meets) → v ≡ value.Bool b → fronts (shape v) rest ≡ leaf (truth b) ∷ rest
+pub begin_bool : (v : Value) (b : Bool) (rest : List TreeVisit) → v ≡ value.Bool b → visits (shape v) rest ≡ leaf (truth b) ∷ rest
 begin_bool v b rest e = shaped v (truth b) rest _ (ap shape e ∙ shape_bool b) refl
 
-pub begin_number : (v : Value) (n : Number) (rest : List Meets) → v ≡ value.Number n → fronts (shape v) rest ≡ leaf (number_leaf n) ∷ rest
+pub begin_number : (v : Value) (n : Number) (rest : List TreeVisit) → v ≡ value.Number n → visits (shape v) rest ≡ leaf (number_leaf n) ∷ rest
 begin_number v n rest e = shaped v (number_leaf n) rest _ (ap shape e ∙ shape_number n) (number_fronts n rest)
 
-pub begin_string : (v : Value) (s : String Global) (rest : List Meets) → v ≡ value.String s → fronts (shape v) rest ≡ leaf (str (string_bytes s)) ∷ rest
+pub begin_string : (v : Value) (s : String Global) (rest : List TreeVisit) → v ≡ value.String s → visits (shape v) rest ≡ leaf (str (string_bytes s)) ∷ rest
 begin_string v s rest e = shaped v (str (string_bytes s)) rest _ (ap shape e ∙ shape_string s) refl
 
 pub ordered_null : (v : Value) → v ≡ value.Null → IsOrdered (shape v)
@@ -65,17 +65,17 @@ ordered_string v s e = subst IsOrdered (sym (ap shape e ∙ shape_string s)) tt
 
 -- ---- a container is opened
 
-pub begin_array : (v : Value) (a : Array) (it : Iter Value) (rest more : List Meets) → v ≡ value.Array a → iter_rest it ≡ array_items a → more ≡ items_left it rest → fronts (shape v) rest ≡ list_begins ∷ more
+pub begin_array : (v : Value) (a : Array) (it : Iter Value) (rest more : List TreeVisit) → v ≡ value.Array a → iter_rest it ≡ array_items a → more ≡ items_left it rest → visits (shape v) rest ≡ list_begins ∷ more
 begin_array v a it rest more e i m =
     shaped v (array_shape a) rest _ (ap shape e ∙ shape_array a)
-    (ap (λ (xs : List Value). list_begins ∷ child_fronts (trees_of shape xs) (list_ends ∷ rest)) (sym i)
-    ∙ ap (λ (x : List Meets). list_begins ∷ x) (sym m))
+    (ap (λ (xs : List Value). list_begins ∷ child_visits (trees_of shape xs) (list_ends ∷ rest)) (sym i)
+    ∙ ap (λ (x : List TreeVisit). list_begins ∷ x) (sym m))
 
-pub begin_object : (v : Value) (o : Object) (it : List (String Global × Value)) (rest more : List Meets) → v ≡ value.Object o → it ≡ object_entries o → more ≡ members_left it rest → fronts (shape v) rest ≡ members_begin ∷ more
+pub begin_object : (v : Value) (o : Object) (it : List (String Global × Value)) (rest more : List TreeVisit) → v ≡ value.Object o → it ≡ object_entries o → more ≡ members_left it rest → visits (shape v) rest ≡ members_begin ∷ more
 begin_object v o it rest more e i m =
     shaped v (object_shape o) rest _ (ap shape e ∙ shape_object o)
-    (ap (λ (xs : List (String Global × Value)). members_begin ∷ member_fronts (members_of string_bytes shape xs) (members_end ∷ rest)) (sym i)
-    ∙ ap (λ (x : List Meets). members_begin ∷ x) (sym m))
+    (ap (λ (xs : List (String Global × Value)). members_begin ∷ member_visits (members_of string_bytes shape xs) (members_end ∷ rest)) (sym i)
+    ∙ ap (λ (x : List TreeVisit). members_begin ∷ x) (sym m))
 
 pub ordered_array : (v : Value) (a : Array) (it : Iter Value) → v ≡ value.Array a → iter_rest it ≡ array_items a → ItemsOrdered it → IsOrdered (shape v)
 ordered_array v a it e i o =

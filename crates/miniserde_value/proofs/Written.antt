@@ -1,16 +1,16 @@
 -- The text that fronts are written as, one after another and as a whole.
 use Rattle.std.proofs.Common.{◌≡◌, Bool, true, false, List, [], ◌∷◌, Result, Ok, Err, OnOk, refl, ◌∙◌}
 use Rattle.miniserde_model.specs.Tree.{Tree, list, members, Trees, no_trees, tree, Members, no_members, member}
-use Rattle.miniserde_value.specs.Fronts.{Meets, leaf, list_ends, name, members_end, fronts, child_fronts, member_fronts, first_after, AreFronts}
+use Rattle.miniserde_value.specs.Visits.{TreeVisit, leaf, list_ends, name, members_end, visits, child_visits, member_visits, first_flag_after, AreVisits}
 
 -- ---- one front, and then others
 
-pub fronts_before : (m : Meets) (rest : List Meets) → AreFronts (m ∷ []) → AreFronts rest → AreFronts (m ∷ rest)
+pub fronts_before : (m : TreeVisit) (rest : List TreeVisit) → AreVisits (m ∷ []) → AreVisits rest → AreVisits (m ∷ rest)
 fronts_before (leaf t) rest h r = (h.0, r)
 fronts_before (name n) rest h r = (h.0, r)
 fronts_before _ rest h r = r
 
-pub first_before : (b : Bool) (m : Meets) (rest : List Meets) → first_after (first_after b (m ∷ [])) rest ≡ first_after b (m ∷ rest)
+pub first_before : (b : Bool) (m : TreeVisit) (rest : List TreeVisit) → first_flag_after (first_flag_after b (m ∷ [])) rest ≡ first_flag_after b (m ∷ rest)
 first_before b (leaf t) rest = refl
 first_before b (name n) rest = refl
 first_before b _ rest = refl
@@ -18,18 +18,18 @@ first_before b _ rest = refl
 -- ---- behind a tree the next element or member is not the first, where it was not before
 
 mutual
-  pub first_fronts : (t : Tree) (rest : List Meets) → first_after false (fronts t rest) ≡ first_after false rest
+  pub first_fronts : (t : Tree) (rest : List TreeVisit) → first_flag_after false (visits t rest) ≡ first_flag_after false rest
   first_fronts (list ts) rest = first_children ts true rest
   first_fronts (members ms) rest = first_members ms true rest
   first_fronts _ rest = refl
 
-  first_children : (ts : Trees) (b : Bool) (rest : List Meets) → first_after b (child_fronts ts (list_ends ∷ rest)) ≡ first_after false rest
+  first_children : (ts : Trees) (b : Bool) (rest : List TreeVisit) → first_flag_after b (child_visits ts (list_ends ∷ rest)) ≡ first_flag_after false rest
   first_children no_trees b rest = refl
-  first_children (tree t ts) b rest = first_fronts t (child_fronts ts (list_ends ∷ rest)) ∙ first_children ts false rest
+  first_children (tree t ts) b rest = first_fronts t (child_visits ts (list_ends ∷ rest)) ∙ first_children ts false rest
 
-  first_members : (ms : Members) (b : Bool) (rest : List Meets) → first_after b (member_fronts ms (members_end ∷ rest)) ≡ first_after false rest
+  first_members : (ms : Members) (b : Bool) (rest : List TreeVisit) → first_flag_after b (member_visits ms (members_end ∷ rest)) ≡ first_flag_after false rest
   first_members no_members b rest = refl
-  first_members (member n t ms) b rest = first_fronts t (member_fronts ms (members_end ∷ rest)) ∙ first_members ms false rest
+  first_members (member n t ms) b rest = first_fronts t (member_visits ms (members_end ∷ rest)) ∙ first_members ms false rest
 
 -- two facts of an `Ok` make a third
 pub on_ok_both : {T E P R Q : Type 0} (r : Result T E) → (P → R → Q) → OnOk r P → OnOk r R → OnOk r Q

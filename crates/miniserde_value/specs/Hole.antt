@@ -1,7 +1,8 @@
 -- A tree with a hole, which the open containers are.
 use Rattle.std.specs.Prelude.{ℕ, ◌+◌, ◌&&◌, Bool, true, false, cond, List, [], ◌∷◌, ◌++◌, Option, Some, None, option_map, option_and_then, is_some}
 use Rattle.miniserde_model.specs.Tree.{Tree, null, truth, nonneg, neg, num, str, list, members, Members, no_members}
-use Rattle.miniserde_model.specs.Event.{Event, nothing, boolean, string, negative, nonnegative, float, seq, element, map, key, finish}
+use Rattle.miniserde_model.specs.Step.{Step, boolean, string, negative, nonnegative, float, seq, element, map, key, finish}
+use Rattle.miniserde_model.specs.Step as step
 use Rattle.miniserde_model.specs.Normal.{last_of, put as put_member}
 use Rattle.miniserde_ser.specs.Trees.{trees_of}
 
@@ -22,10 +23,10 @@ put t (in_members ms None h) = in_members ms None h
 put t (in_members ms (Some n) h) = in_members (put_member n t ms) None h
 
 -- with the name of the next value, where an object is the innermost open container
-abbrev pub named : List ℕ → Hole → Hole
-named n (outside ts) = outside ts
-named n (in_list ts h) = in_list ts h
-named n (in_members ms k h) = in_members ms (Some n) h
+abbrev pub with_name : List ℕ → Hole → Hole
+with_name n (outside ts) = outside ts
+with_name n (in_list ts h) = in_list ts h
+with_name n (in_members ms k h) = in_members ms (Some n) h
 
 -- whether the innermost open container is an object that has a member of the name
 abbrev pub has_member : List ℕ → Hole → Bool
@@ -34,10 +35,10 @@ has_member n (in_list ts h) = false
 has_member n (in_members ms k h) = is_some (last_of n ms)
 
 -- with the innermost open container closed
-abbrev pub closed : Hole → Hole
-closed (outside ts) = outside ts
-closed (in_list ts h) = put (list (trees_of (λ t. t) ts)) h
-closed (in_members ms n h) = put (members ms) h
+abbrev pub after_close : Hole → Hole
+after_close (outside ts) = outside ts
+after_close (in_list ts h) = put (list (trees_of (λ t. t) ts)) h
+after_close (in_members ms n h) = put (members ms) h
 
 -- how many containers are open
 abbrev pub depth : Hole → ℕ
@@ -46,56 +47,56 @@ depth (in_list ts h) = depth h + 1
 depth (in_members ms n h) = depth h + 1
 
 -- the value, where it is whole
-abbrev pub only : List Tree → Option Tree
-only [] = None
-only (t ∷ []) = Some t
-only (t ∷ (u ∷ us)) = None
+abbrev pub single : List Tree → Option Tree
+single [] = None
+single (t ∷ []) = Some t
+single (t ∷ (u ∷ us)) = None
 
-abbrev pub whole : Hole → Option Tree
-whole (outside ts) = only ts
-whole (in_list ts h) = None
-whole (in_members ms n h) = None
+abbrev pub complete_tree : Hole → Option Tree
+complete_tree (outside ts) = single ts
+complete_tree (in_list ts h) = None
+complete_tree (in_members ms n h) = None
 
 -- ---- what events make of it
 
 -- a value's first event
-abbrev pub begun : Event → Hole → Option Hole
-begun nothing h = Some (put null h)
-begun (boolean b) h = Some (put (truth b) h)
-begun (string s) h = Some (put (str s) h)
-begun (negative z) h = Some (put (neg z) h)
-begun (nonnegative n) h = Some (put (nonneg n) h)
-begun (float x) h = Some (put (num x) h)
-begun seq h = Some (in_list [] h)
-begun map h = Some (in_members no_members None h)
-begun element h = None
-begun (key k) h = None
-begun finish h = None
+abbrev pub after_begin : Step → Hole → Option Hole
+after_begin step.null h = Some (put null h)
+after_begin (boolean b) h = Some (put (truth b) h)
+after_begin (string s) h = Some (put (str s) h)
+after_begin (negative z) h = Some (put (neg z) h)
+after_begin (nonnegative n) h = Some (put (nonneg n) h)
+after_begin (float x) h = Some (put (num x) h)
+after_begin seq h = Some (in_list [] h)
+after_begin map h = Some (in_members no_members None h)
+after_begin element h = None
+after_begin (key k) h = None
+after_begin finish h = None
 
 -- an event where no value is due: whether one is due then, and the hole
-abbrev pub resumed : Event → Hole → Option (Bool × Hole)
-resumed element (in_list ts h) = Some (true, in_list ts h)
-resumed (key k) (in_members ms n h) = Some (true, in_members ms (Some k) h)
-resumed finish (in_list ts h) = Some (false, closed (in_list ts h))
-resumed finish (in_members ms n h) = Some (false, closed (in_members ms n h))
-resumed _ _ = None
+abbrev pub after_resume : Step → Hole → Option (Bool × Hole)
+after_resume element (in_list ts h) = Some (true, in_list ts h)
+after_resume (key k) (in_members ms n h) = Some (true, in_members ms (Some k) h)
+after_resume finish (in_list ts h) = Some (false, after_close (in_list ts h))
+after_resume finish (in_members ms n h) = Some (false, after_close (in_members ms n h))
+after_resume _ _ = None
 
 -- one event, where a value is due or none is
-abbrev pub took : Bool → Hole → Event → Option (Bool × Hole)
-took true h e = option_map (λ g. (false, g)) (begun e h)
-took false h e = resumed e h
+abbrev pub after_step : Bool → Hole → Step → Option (Bool × Hole)
+after_step true h e = option_map (λ g. (false, g)) (after_begin e h)
+after_step false h e = after_resume e h
 
 -- the event is a name that the innermost open object has
-abbrev pub repeats : Event → Hole → Bool
+abbrev pub repeats : Step → Hole → Bool
 repeats (key k) h = has_member k h
 repeats _ h = false
 
 -- the same, where `once` says that no name may be repeated
-abbrev pub next : Bool → Bool → Hole → Event → Option (Bool × Hole)
-next once due h e = cond (once && repeats e h) None (took due h e)
+abbrev pub after_step_once : Bool → Bool → Hole → Step → Option (Bool × Hole)
+after_step_once once due h e = cond (once && repeats e h) None (after_step due h e)
 
 -- what the events that are still to come give
-abbrev pub outcome : Bool → Bool → Hole → List Event → Option Tree
+abbrev pub outcome : Bool → Bool → Hole → List Step → Option Tree
 outcome once true h [] = None
-outcome once false h [] = whole h
-outcome once due h (e ∷ es) = option_and_then (λ s. outcome once s.0 s.1 es) (next once due h e)
+outcome once false h [] = complete_tree h
+outcome once due h (e ∷ es) = option_and_then (λ s. outcome once s.0 s.1 es) (after_step_once once due h e)

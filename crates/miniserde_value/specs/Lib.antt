@@ -1,10 +1,10 @@
 pub mod Numbers
-pub mod Kept
+pub mod Retained
 pub mod Values
 pub mod Rows
 pub mod Looks
 pub mod Hole
-pub mod Fronts
+pub mod Visits
 pub mod Marks
 pub mod Builders
 pub mod Walks

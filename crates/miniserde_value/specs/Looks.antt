@@ -9,5 +9,5 @@ abbrev pub value_size : Value → ℕ
 value_size v = size (shape v)
 
 -- the first of the list was x, and is v
-abbrev pub replaces_first : Value → Value → List Value → List Value → Type 0
-replaces_first v x old new = (rest : List Value) × (old ≡ x ∷ rest) × (new ≡ v ∷ rest)
+abbrev pub ReplacesFirst : Value → Value → List Value → List Value → Type 0
+ReplacesFirst v x old new = (rest : List Value) × (old ≡ x ∷ rest) × (new ≡ v ∷ rest)

@@ -2,8 +2,8 @@
 use Rattle.std.specs.Prelude.{ℕ, ◌≤◌, List, [], ◌∷◌, Option, Some, None, option_map, string_bytes, reverse, take, drop, length, ⊤}
 use Rattle.miniserde_model.specs.Tree.{Tree, Members, no_members}
 use Rattle.miniserde_ser.specs.Trees.{members_of}
-use Rattle.miniserde_text.specs.declared.json.lex.Kind.{Kind}
-use Rattle.miniserde_text.specs.declared.json.lex.Kind.TheVariants as kind
+use Rattle.miniserde_model.specs.declared.kind.Kind.{Kind}
+use Rattle.miniserde_model.specs.declared.kind.Kind.TheVariants as kind
 use Rattle.miniserde_value.specs.declared.json.value.Value.{Value}
 use Rattle.miniserde_value.specs.declared.json.builder.OpenObject.{OpenObject}
 use Rattle.miniserde_value.specs.declared.json.builder.Mark.{Mark}
@@ -20,8 +20,8 @@ abbrev pub next_name : OpenObject → Option (List ℕ)
 next_name o = option_map string_bytes o.name
 
 -- an open object in what stands around it
-abbrev pub opened : OpenObject → Hole → Hole
-opened o h = in_members (made_members o) (next_name o) h
+abbrev pub with_open_object : OpenObject → Hole → Hole
+with_open_object o h = in_members (made_members o) (next_name o) h
 
 -- the members and the name of the innermost of open objects, which is the first here, and the others
 abbrev pub first_members : List OpenObject → Members
@@ -32,22 +32,22 @@ abbrev pub first_name : List OpenObject → Option (List ℕ)
 first_name [] = None
 first_name (o ∷ os) = next_name o
 
-abbrev pub others : List OpenObject → List OpenObject
-others [] = []
-others (o ∷ os) = os
+abbrev pub outer_objects : List OpenObject → List OpenObject
+outer_objects [] = []
+outer_objects (o ∷ os) = os
 
 -- The hole that the open containers are, by the marks from the innermost on: an array has the values from its mark on,
 -- and what stands before them belongs to those around it; an object is the first of the open objects.
 abbrev pub hole_of : List Tree → List OpenObject → List Mark → Hole
 hole_of vs os [] = outside vs
 hole_of vs os (mark.Array v ∷ ms) = in_list (drop v vs) (hole_of (take v vs) os ms)
-hole_of vs os (mark.Object ∷ ms) = in_members (first_members os) (first_name os) (hole_of vs (others os) ms)
+hole_of vs os (mark.Object ∷ ms) = in_members (first_members os) (first_name os) (hole_of vs (outer_objects os) ms)
 
 -- each mark of an array stands within so many values, and each of an object has one
 abbrev pub Fits : ℕ → List OpenObject → List Mark → Type 0
 Fits n os [] = ⊤
 Fits n os (mark.Array v ∷ ms) = (v ≤ n) × Fits v os ms
-Fits n os (mark.Object ∷ ms) = (1 ≤ length os) × Fits n (others os) ms
+Fits n os (mark.Object ∷ ms) = (1 ≤ length os) × Fits n (outer_objects os) ms
 
 -- the marks of a builder fit what it has
 abbrev pub MarksFit : List Value → List OpenObject → List Mark → Type 0

@@ -1,9 +1,9 @@
 -- What documents mean: which trees mean which of their values.
 use Rattle.std.specs.Prelude.{◌≡◌, true, Some, string_bytes}
 use Rattle.miniserde_model.specs.Tree.{Tree}
-use Rattle.miniserde_model.specs.Distinct.{distinct}
+use Rattle.miniserde_model.specs.Distinct.{names_distinct}
 use Rattle.miniserde_model.specs.Normal.{norm}
-use Rattle.miniserde_read.specs.Meant.{Meant, meant}
+use Rattle.miniserde_read.specs.Meaning.{Meaning, meant}
 use Rattle.miniserde_ser.specs.Trees.{trees_of, members_of}
 use Rattle.miniserde_value.specs.declared.json.number.Number.{Number}
 use Rattle.miniserde_value.specs.declared.json.value.Value.{Value}
@@ -11,45 +11,45 @@ use Rattle.miniserde_value.specs.declared.json.array.Array.{Array}
 use Rattle.miniserde_value.specs.declared.json.object.Object.{Object}
 use Rattle.miniserde_value.specs.declared.json.unique.Unique.{Unique}
 use Rattle.miniserde_value.specs.declared.json.document.Document.{Document}
-use Rattle.miniserde_value.specs.Kept.{kept, kept_if}
+use Rattle.miniserde_value.specs.Retained.{retained_tree, retained_if}
 use Rattle.miniserde_value.specs.Kinds.{only_list, only_members}
 use Rattle.miniserde_value.specs.Numbers.{number_leaf, number_of, ReadsNumber}
-use Rattle.miniserde_value.specs.Values.{shape, tree_of, Reads, array_items, object_entries, array_shape, object_shape}
+use Rattle.miniserde_value.specs.Values.{shape, tree_of, ReadsValue, array_items, object_entries, array_shape, object_shape}
 use Rattle.miniserde_value.specs.laws.Numbers.{number-given}
 use Rattle.miniserde_value.specs.laws.Documents.{document-given}
 use Rattle.miniserde_value.specs.laws.Outcomes.{reads-agree, list-agrees, members-agree}
 use Rattle.miniserde_value.specs.laws.Unique.{once-agrees}
 
 -- a number's leaf means the number
-abbrev pub number_meant : Meant Number
-number_meant = meant number_leaf number_of ReadsNumber number-given
+abbrev pub number_meaning : Meaning Number
+number_meaning = meant number_leaf number_of ReadsNumber number-given
 
 -- every tree means a value, which keeps of each name the last tree
-abbrev pub value_meant : Meant Value
-value_meant = meant shape (λ t. Some (kept t)) Reads (λ t v. reads-agree t (shape v))
+abbrev pub value_meaning : Meaning Value
+value_meaning = meant shape (λ t. Some (retained_tree t)) ReadsValue (λ t v. reads-agree t (shape v))
 
 -- the tree means the array: it is a list, whose items the array has as values keep them
-abbrev pub json_array_meant : Meant Array
-json_array_meant =
-    meant array_shape (λ t. only_list (Some (kept t))) (λ t a. array_shape a ≡ kept t)
+abbrev pub json_array_meaning : Meaning Array
+json_array_meaning =
+    meant array_shape (λ t. only_list (Some (retained_tree t))) (λ t a. array_shape a ≡ retained_tree t)
     (λ t a. list-agrees t (trees_of shape (array_items a)))
 
 -- the tree means the object: it has members, which the object has as values keep them
-abbrev pub json_object_meant : Meant Object
-json_object_meant =
-    meant object_shape (λ t. only_members (Some (kept t))) (λ t o. object_shape o ≡ kept t)
+abbrev pub json_object_meaning : Meaning Object
+json_object_meaning =
+    meant object_shape (λ t. only_members (Some (retained_tree t))) (λ t o. object_shape o ≡ retained_tree t)
     (λ t o. members-agree t (members_of string_bytes shape (object_entries o)))
 
 -- the tree means the value inside, and no name is duplicated in it
 abbrev pub ReadsUnique : Tree → Unique → Type 0
-ReadsUnique t u = (distinct t ≡ true) × Reads t u.value
+ReadsUnique t u = (names_distinct t ≡ true) × ReadsValue t u.value
 
 -- a tree in which no name is duplicated means the value, which keeps the tree
-abbrev pub unique_meant : Meant Unique
-unique_meant = meant (λ u. shape u.value) (kept_if true) ReadsUnique (λ t u. once-agrees t (shape u.value))
+abbrev pub unique_meaning : Meaning Unique
+unique_meaning = meant (λ u. shape u.value) (retained_if true) ReadsUnique (λ t u. once-agrees t (shape u.value))
 
 -- every tree means each document that is written as the tree's normal form
-abbrev pub document_meant : Meant Document
-document_meant =
+abbrev pub document_meaning : Meaning Document
+document_meaning =
     meant (λ d. tree_of d.value) (λ t. Some (norm t)) (λ t d. tree_of d.value ≡ norm t)
     (λ t d. document-given (norm t) (tree_of d.value))

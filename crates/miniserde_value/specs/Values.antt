@@ -11,7 +11,7 @@ use Rattle.miniserde_value.specs.declared.json.value.Value.TheOpen.{Value-F, Arr
 use Rattle.miniserde_value.specs.declared.json.array.Array.{Array}
 use Rattle.miniserde_value.specs.declared.json.object.Object.{Object}
 use Rattle.miniserde_value.specs.Numbers.{number_leaf}
-use Rattle.miniserde_value.specs.Kept.{kept}
+use Rattle.miniserde_value.specs.Retained.{retained_tree}
 
 -- ---- what stands in a value
 
@@ -82,5 +82,5 @@ abbrev pub tree_of : Value → Tree
 tree_of v = norm (shape v)
 
 -- the tree means the value: the value has what a value keeps of the tree
-abbrev pub Reads : Tree → Value → Type 0
-Reads t v = shape v ≡ kept t
+abbrev pub ReadsValue : Tree → Value → Type 0
+ReadsValue t v = shape v ≡ retained_tree t

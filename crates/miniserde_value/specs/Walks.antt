@@ -7,54 +7,54 @@ use Rattle.std.specs.declared.slice.Iter.{Iter}
 use Rattle.miniserde_model.specs.Tree.{null, truth, str}
 use Rattle.miniserde_ser.specs.Trees.{trees_of, members_of}
 use Rattle.miniserde_value.specs.declared.json.value.Value.{Value}
-use Rattle.miniserde_value.specs.declared.json.walk.Front.{Front}
-use Rattle.miniserde_value.specs.declared.json.walk.Front.TheVariants as front
+use Rattle.miniserde_value.specs.declared.json.walk.Visit.{Visit}
+use Rattle.miniserde_value.specs.declared.json.walk.Visit.TheVariants as visit
 use Rattle.miniserde_value.specs.declared.json.walk.frames.Frame.{Frame}
 use Rattle.miniserde_value.specs.declared.json.walk.frames.Frame.TheVariants as frame
 use Rattle.miniserde_value.specs.declared.json.walk.frames.Frames.{Frames}
 use Rattle.miniserde_value.specs.declared.json.walk.Walk.{Walk}
 use Rattle.miniserde_value.specs.Numbers.{number_leaf}
 use Rattle.miniserde_value.specs.Values.{shape}
-use Rattle.miniserde_value.specs.Fronts.{Meets, leaf, list_begins, element, list_ends, members_begin, name, members_end, fronts, child_fronts, member_fronts, IsOrdered, AreOrdered, AreOrderedMembers}
+use Rattle.miniserde_value.specs.Visits.{TreeVisit, leaf, list_begins, element, list_ends, members_begin, name, members_end, visits, child_visits, member_visits, IsOrdered, AreOrdered, AreOrderedMembers}
 
 -- a front, without what it borrows
-abbrev pub meets : Front → Meets
-meets front.Null = leaf null
-meets (front.Bool b) = leaf (truth b)
-meets (front.Number n) = leaf (number_leaf n.now)
-meets (front.String s) = leaf (str s.now)
-meets front.Array = list_begins
-meets front.Element = element
-meets front.ArrayEnd = list_ends
-meets front.Object = members_begin
-meets (front.Name n) = name n.now
-meets front.ObjectEnd = members_end
+abbrev pub visit_of : Visit → TreeVisit
+visit_of visit.Null = leaf null
+visit_of (visit.Bool b) = leaf (truth b)
+visit_of (visit.Number n) = leaf (number_leaf n.now)
+visit_of (visit.String s) = leaf (str s.now)
+visit_of visit.Array = list_begins
+visit_of visit.Element = element
+visit_of visit.ArrayEnd = list_ends
+visit_of visit.Object = members_begin
+visit_of (visit.Name n) = name n.now
+visit_of visit.ObjectEnd = members_end
 
 -- what an open array has left, and then others
-abbrev pub items_left : Iter Value → List Meets → List Meets
-items_left it rest = child_fronts (trees_of shape (iter_rest it)) (list_ends ∷ rest)
+abbrev pub items_left : Iter Value → List TreeVisit → List TreeVisit
+items_left it rest = child_visits (trees_of shape (iter_rest it)) (list_ends ∷ rest)
 
 -- what an open object has left, and then others
-abbrev pub members_left : List (String Global × Value) → List Meets → List Meets
-members_left ms rest = member_fronts (members_of string_bytes shape ms) (members_end ∷ rest)
+abbrev pub members_left : List (String Global × Value) → List TreeVisit → List TreeVisit
+members_left ms rest = member_visits (members_of string_bytes shape ms) (members_end ∷ rest)
 
 -- of all open containers, in lists with the innermost first. Each object takes the first of its own list
-abbrev pub stack_left : List Frame → List (List (String Global × Value)) → List Meets
+abbrev pub stack_left : List Frame → List (List (String Global × Value)) → List TreeVisit
 stack_left [] objects = []
 stack_left (frame.Array a ∷ frames) objects = items_left a (stack_left frames objects)
 stack_left (frame.Object ∷ frames) [] = []
 stack_left (frame.Object ∷ frames) (o ∷ objects) = members_left o (stack_left frames objects)
 
-abbrev pub frames_left : Frames → List Meets
+abbrev pub frames_left : Frames → List TreeVisit
 frames_left f = stack_left (reverse f.open.items) (reverse f.objects.items)
 
 -- the fronts of a child that is due, and then others
-abbrev pub due_left : Option (Bor Value) → List Meets → List Meets
+abbrev pub due_left : Option (Bor Value) → List TreeVisit → List TreeVisit
 due_left None rest = rest
-due_left (Some v) rest = fronts (shape v.now) rest
+due_left (Some v) rest = visits (shape v.now) rest
 
 -- all that a walk has still to meet
-abbrev pub left : Walk → List Meets
+abbrev pub left : Walk → List TreeVisit
 left w = due_left w.due (frames_left w.frames)
 
 -- ---- the order of names in what is left

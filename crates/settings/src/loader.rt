@@ -2,7 +2,7 @@
 ghost use Rattle.std.specs.Prelude.{◌≡◌, ◌↔◌, IfOk, Err, string_bytes};
 ghost use Rattle.miniserde.specs.Tree.{Tree};
 ghost use Rattle.miniserde.specs.Value.{IsJson};
-ghost use Rattle.settings.specs.Meant.{AreSame, IsHost, IsTls, IsSettings};
+ghost use Rattle.settings.specs.Meaning.{AreSame, IsHost, IsTls, IsSettings};
 
 use crate::parts::{Host, Tls};
 use crate::types::Settings;

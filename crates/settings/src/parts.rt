@@ -1,14 +1,14 @@
 //! The parts of settings, with the impls that `./derive` writes.
-ghost use Rattle.miniserde.specs.FieldsMeant.{struct_meant};
-ghost use Rattle.miniserde.specs.Place.{inside};
+ghost use Rattle.miniserde.specs.FieldsMeaning.{struct_meaning};
+ghost use Rattle.miniserde.specs.Place.{wrapper_meaning};
 ghost use Rattle.miniserde.specs.Structs.{names_of, record_tree};
 ghost use Rattle.std.specs.Prelude.{refl};
 
 use miniserde::derived::{
-    AgainFields, Deserialize, Error, Event, Field, FromJson, Global, Lossless, NeverNull, NoField,
-    NoSlot, Parts, PlacedRecord, Ranged, Record, RecordPlace, Result, RoundTrip, Serialize, Slot,
-    Slots, Source, Step, Visitor, Writer, read_record, record_again, record_lossless,
-    write_members,
+    Deserialize, Error, Event, Field, FromJson, Global, Lossless, NeverNull, NoField, NoSlot,
+    Parts, PlacedRecord, Ranged, Record, RecordPlace, Result, RoundTrip, RoundTripFields,
+    Serialize, Slot, Slots, Source, Step, Visitor, Writer, read_record, record_lossless,
+    record_round_trips, write_members,
 };
 
 /// A host, and how much of the work it gets.
@@ -34,9 +34,9 @@ impl Record for Host {
 
     ghost made = { λ x. record { host = x.0; weight = x.1.0 } };
 
-    ghost whole = { (λ v. refl, λ x. refl) };
+    ghost bijective = { (λ v. refl, λ x. refl) };
 
-    ghost named = { refl };
+    ghost distinct_names = { refl };
 
     fn names() -> &'static [&'static str] {
         HOST_NAMES
@@ -49,7 +49,7 @@ impl Record for Host {
 }
 
 impl FromJson for Host {
-    ghost means = { struct_meant ⟦<HostFields as Slots>⟧.meaning ⟦<Host as Record>⟧.names ⟦<Host as Record>⟧.values };
+    ghost means = { struct_meaning ⟦<HostFields as Slots>⟧.meaning ⟦<Host as Record>⟧.names ⟦<Host as Record>⟧.values };
 
     fn missing() -> Option<Host> {
         None
@@ -61,7 +61,8 @@ impl FromJson for Host {
 }
 
 impl Serialize for Host {
-    ghost tree = { record_tree ⟦<Host as Record>⟧.names ⟦<HostFields as AgainFields>⟧.trees ⟦<Host as Record>⟧.values };
+    ghost tree = { record_tree ⟦<Host as Record>⟧.names ⟦<HostFields as RoundTripFields>⟧.trees
+        ⟦<Host as Record>⟧.values };
 
     fn begin(&self, w: &mut Writer) -> Result<()> {
         write_members(w, HOST_NAMES, &Parts(&self.host, Parts(&self.weight, ())))
@@ -69,7 +70,7 @@ impl Serialize for Host {
 }
 
 impl Ranged for Host {
-    ghost real = { λ v. ⟦<HostFields as AgainFields>⟧.real (⟦<Host as Record>⟧.values v) };
+    ghost real = { λ v. ⟦<HostFields as RoundTripFields>⟧.real (⟦<Host as Record>⟧.values v) };
 
     fn ranged(&self) {
         self.host.ranged();
@@ -78,8 +79,8 @@ impl Ranged for Host {
 }
 
 impl RoundTrip for Host {
-    fn again() {
-        record_again::<Host, HostFields>()
+    fn round_trips() {
+        record_round_trips::<Host, HostFields>()
     }
 }
 
@@ -106,7 +107,7 @@ impl PlacedRecord for Host {
 impl Visitor for HostPlace {
     type Out = Host;
 
-    ghost meaning = { inside (λ p. p.place) ⟦<RecordPlace<Host> as Visitor>⟧.meaning };
+    ghost meaning = { wrapper_meaning (λ p. p.place) ⟦<RecordPlace<Host> as Visitor>⟧.meaning };
 
     fn begin(alloc: Global) -> Result<HostPlace> {
         Ok(HostPlace {
@@ -161,9 +162,9 @@ impl Record for Tls {
 
     ghost made = { λ x. record { cert = x.0; verify = x.1.0 } };
 
-    ghost whole = { (λ v. refl, λ x. refl) };
+    ghost bijective = { (λ v. refl, λ x. refl) };
 
-    ghost named = { refl };
+    ghost distinct_names = { refl };
 
     fn names() -> &'static [&'static str] {
         TLS_NAMES
@@ -176,7 +177,7 @@ impl Record for Tls {
 }
 
 impl FromJson for Tls {
-    ghost means = { struct_meant ⟦<TlsFields as Slots>⟧.meaning ⟦<Tls as Record>⟧.names ⟦<Tls as Record>⟧.values };
+    ghost means = { struct_meaning ⟦<TlsFields as Slots>⟧.meaning ⟦<Tls as Record>⟧.names ⟦<Tls as Record>⟧.values };
 
     fn missing() -> Option<Tls> {
         None
@@ -188,7 +189,7 @@ impl FromJson for Tls {
 }
 
 impl Serialize for Tls {
-    ghost tree = { record_tree ⟦<Tls as Record>⟧.names ⟦<TlsFields as AgainFields>⟧.trees ⟦<Tls as Record>⟧.values };
+    ghost tree = { record_tree ⟦<Tls as Record>⟧.names ⟦<TlsFields as RoundTripFields>⟧.trees ⟦<Tls as Record>⟧.values };
 
     fn begin(&self, w: &mut Writer) -> Result<()> {
         write_members(w, TLS_NAMES, &Parts(&self.cert, Parts(&self.verify, ())))
@@ -196,7 +197,7 @@ impl Serialize for Tls {
 }
 
 impl Ranged for Tls {
-    ghost real = { λ v. ⟦<TlsFields as AgainFields>⟧.real (⟦<Tls as Record>⟧.values v) };
+    ghost real = { λ v. ⟦<TlsFields as RoundTripFields>⟧.real (⟦<Tls as Record>⟧.values v) };
 
     fn ranged(&self) {
         self.cert.ranged();
@@ -205,8 +206,8 @@ impl Ranged for Tls {
 }
 
 impl RoundTrip for Tls {
-    fn again() {
-        record_again::<Tls, TlsFields>()
+    fn round_trips() {
+        record_round_trips::<Tls, TlsFields>()
     }
 }
 
@@ -233,7 +234,7 @@ impl PlacedRecord for Tls {
 impl Visitor for TlsPlace {
     type Out = Tls;
 
-    ghost meaning = { inside (λ p. p.place) ⟦<RecordPlace<Tls> as Visitor>⟧.meaning };
+    ghost meaning = { wrapper_meaning (λ p. p.place) ⟦<RecordPlace<Tls> as Visitor>⟧.meaning };
 
     fn begin(alloc: Global) -> Result<TlsPlace> {
         Ok(TlsPlace {

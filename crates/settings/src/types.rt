@@ -1,15 +1,15 @@
 //! The types of `types.rs`, with the impls that `./derive` writes.
-ghost use Rattle.miniserde.specs.FieldsMeant.{struct_meant};
-ghost use Rattle.miniserde.specs.Place.{inside};
+ghost use Rattle.miniserde.specs.FieldsMeaning.{struct_meaning};
+ghost use Rattle.miniserde.specs.Place.{wrapper_meaning};
 ghost use Rattle.miniserde.specs.Structs.{names_of, record_tree};
 ghost use Rattle.std.specs.Prelude.{refl};
 
 use crate::parts::{Host, Tls};
 use miniserde::derived::{
-    AgainFields, Deserialize, Error, Event, Field, Four, FourLent, FourSlot, FromJson, Global,
+    Deserialize, Error, Event, Field, Four, FourLent, FourParts, FourSlot, FromJson, Global,
     Lossless, NeverNull, NoField, NoSlot, Parts, PlacedRecord, Ranged, Record, RecordPlace, Result,
-    RoundTrip, Serialize, Slot, Slots, Source, Step, Taken4, Visitor, Writer, read_record,
-    record_again, record_lossless, take4, write_members,
+    RoundTrip, RoundTripFields, Serialize, Slot, Slots, Source, Step, Visitor, Writer, read_record,
+    record_lossless, record_round_trips, take_four, write_members,
 };
 use std::collections::BTreeMap;
 
@@ -51,16 +51,16 @@ impl Record for Settings {
       limits = x.1.1.1.1.0;
     } };
 
-    ghost whole = { (λ v. refl, λ x. refl) };
+    ghost bijective = { (λ v. refl, λ x. refl) };
 
-    ghost named = { refl };
+    ghost distinct_names = { refl };
 
     fn names() -> &'static [&'static str] {
         SETTINGS_NAMES
     }
 
     fn build(parts: Self::Values) -> Settings {
-        let Taken4(name, port, tls, hosts, parts) = take4(parts);
+        let FourParts(name, port, tls, hosts, parts) = take_four(parts);
         let Parts(limits, ()) = parts;
         Settings {
             name,
@@ -73,7 +73,7 @@ impl Record for Settings {
 }
 
 impl FromJson for Settings {
-    ghost means = { struct_meant ⟦<SettingsFields as Slots>⟧.meaning ⟦<Settings as Record>⟧.names
+    ghost means = { struct_meaning ⟦<SettingsFields as Slots>⟧.meaning ⟦<Settings as Record>⟧.names
         ⟦<Settings as Record>⟧.values };
 
     fn missing() -> Option<Settings> {
@@ -86,8 +86,7 @@ impl FromJson for Settings {
 }
 
 impl Serialize for Settings {
-    ghost tree = { record_tree ⟦<Settings as Record>⟧.names ⟦<SettingsFields as AgainFields>⟧.trees
-        ⟦<Settings as Record>⟧.values };
+    ghost tree = { record_tree ⟦<Settings as Record>⟧.names ⟦<SettingsFields as RoundTripFields>⟧.trees ⟦<Settings as Record>⟧.values };
 
     fn begin(&self, w: &mut Writer) -> Result<()> {
         write_members(
@@ -105,7 +104,7 @@ impl Serialize for Settings {
 }
 
 impl Ranged for Settings {
-    ghost real = { λ v. ⟦<SettingsFields as AgainFields>⟧.real (⟦<Settings as Record>⟧.values v) };
+    ghost real = { λ v. ⟦<SettingsFields as RoundTripFields>⟧.real (⟦<Settings as Record>⟧.values v) };
 
     fn ranged(&self) {
         self.name.ranged();
@@ -117,8 +116,8 @@ impl Ranged for Settings {
 }
 
 impl RoundTrip for Settings {
-    fn again() {
-        record_again::<Settings, SettingsFields>()
+    fn round_trips() {
+        record_round_trips::<Settings, SettingsFields>()
     }
 }
 
@@ -145,7 +144,7 @@ impl PlacedRecord for Settings {
 impl Visitor for SettingsPlace {
     type Out = Settings;
 
-    ghost meaning = { inside (λ p. p.place) ⟦<RecordPlace<Settings> as Visitor>⟧.meaning };
+    ghost meaning = { wrapper_meaning (λ p. p.place) ⟦<RecordPlace<Settings> as Visitor>⟧.meaning };
 
     fn begin(alloc: Global) -> Result<SettingsPlace> {
         Ok(SettingsPlace {

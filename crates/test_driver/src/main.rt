@@ -1,5 +1,5 @@
 //! Runs one job of the library on a text of standard input, for scripts that make the texts and judge the answers:
-//! `tools/seeded_texts`, `hostile/run` and `bench/run`.
+//! `tools/seeded_texts`, `oom/run` and `bench/run`.
 //!
 //! The first argument names the job (`jobs.rt`), the second the mode:
 //! - `read` reads the text as the job's type and drops the value; `both` writes the text that the job makes.

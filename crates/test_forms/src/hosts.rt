@@ -1,19 +1,19 @@
 //! The types of `hosts.rs`, with the impls that `./derive` writes.
 ghost use Rattle.miniserde.specs.Aliases.{aliases_of};
 ghost use Rattle.miniserde.specs.Cases.{each_case, first_case, later_case, no_case, tagged_tree};
-ghost use Rattle.miniserde.specs.CasesMeant.{tagged_meant};
-ghost use Rattle.miniserde.specs.FieldsMeant.{struct_meant};
+ghost use Rattle.miniserde.specs.CasesMeaning.{tagged_meaning};
+ghost use Rattle.miniserde.specs.FieldsMeaning.{struct_meaning};
 ghost use Rattle.miniserde.specs.Structs.{names_of, record_tree};
 ghost use Rattle.miniserde.specs.Tree.{nonneg};
 ghost use Rattle.std.specs.Prelude.{codes, refl};
 
 use miniserde::derived::{
-    AgainCases, AgainFields, Aliased, BesideTag, Closed, DataCase, Event, FromJson, Given, Global,
-    HasAliases, HasTag, Inside, InsideCases, Lossless, MarkedSlot, Members, NeverNull, NoCase,
-    NoSlot, OmitSlot, Omitted, Once, OneOf, Parts, Plain, Ranged, Record, Result, RoundTrip,
-    Serialize, Slot, Slots, Source, Tagged, WithDefault, Writer, aliased_again, fields_named,
-    read_record, read_tagged, record_lossless, tag_fits, tagged_again, tagged_lossless,
-    write_members, write_tagged, write_tagged_fields,
+    Aliased, BesideTag, Closed, DataCase, Event, FromJson, Given, Global, HasAliases, HasTag,
+    Inside, InsideCases, Lossless, MarkedSlot, Members, NeverNull, NoCase, NoSlot, OmitSlot,
+    Omitted, Once, OneOf, Parts, Plain, Ranged, Record, Result, RoundTrip, RoundTripCases,
+    RoundTripFields, Serialize, Slot, Slots, Source, Tagged, WithDefault, Writer,
+    aliased_round_trips, fields_named, read_record, read_tagged, record_lossless, tag_fits,
+    tagged_lossless, tagged_round_trips, write_members, write_tagged, write_tagged_fields,
 };
 
 /// A host, which earlier versions named otherwise.
@@ -55,9 +55,9 @@ impl Record for Host {
 
     ghost made = { λ x. record { name = x.0; port = x.1.0; note = x.1.1.0 } };
 
-    ghost whole = { (λ v. refl, λ x. refl) };
+    ghost bijective = { (λ v. refl, λ x. refl) };
 
-    ghost named = { refl };
+    ghost distinct_names = { refl };
 
     fn names() -> &'static [&'static str] {
         HOST_NAMES
@@ -89,7 +89,7 @@ impl HasAliases for Host {
 }
 
 impl FromJson for Host {
-    ghost means = { struct_meant ⟦<Aliased<Host, HostFields> as Slots>⟧.meaning ⟦<Host as Record>⟧.names ⟦<Host as Record>⟧.values };
+    ghost means = { struct_meaning ⟦<Aliased<Host, HostFields> as Slots>⟧.meaning ⟦<Host as Record>⟧.names ⟦<Host as Record>⟧.values };
 
     fn missing() -> Option<Host> {
         None
@@ -101,7 +101,8 @@ impl FromJson for Host {
 }
 
 impl Serialize for Host {
-    ghost tree = { record_tree ⟦<Host as Record>⟧.names ⟦<HostFields as AgainFields>⟧.trees ⟦<Host as Record>⟧.values };
+    ghost tree = { record_tree ⟦<Host as Record>⟧.names ⟦<HostFields as RoundTripFields>⟧.trees
+        ⟦<Host as Record>⟧.values };
 
     fn begin(&self, w: &mut Writer) -> Result<()> {
         write_members(
@@ -116,7 +117,7 @@ impl Serialize for Host {
 }
 
 impl Ranged for Host {
-    ghost real = { λ v. ⟦<HostFields as AgainFields>⟧.real (⟦<Host as Record>⟧.values v) };
+    ghost real = { λ v. ⟦<HostFields as RoundTripFields>⟧.real (⟦<Host as Record>⟧.values v) };
 
     fn ranged(&self) {
         self.name.ranged();
@@ -126,8 +127,8 @@ impl Ranged for Host {
 }
 
 impl RoundTrip for Host {
-    fn again() {
-        aliased_again::<Host, HostFields>()
+    fn round_trips() {
+        aliased_round_trips::<Host, HostFields>()
     }
 }
 
@@ -186,9 +187,9 @@ impl Record for Only {
 
     ghost made = { λ x. record { host = x.0 } };
 
-    ghost whole = { (λ v. refl, λ x. refl) };
+    ghost bijective = { (λ v. refl, λ x. refl) };
 
-    ghost named = { refl };
+    ghost distinct_names = { refl };
 
     fn names() -> &'static [&'static str] {
         ONLY_NAMES
@@ -215,7 +216,7 @@ impl HasAliases for Only {
 }
 
 impl FromJson for Only {
-    ghost means = { struct_meant ⟦<Aliased<Only, OnlyFields> as Slots>⟧.meaning ⟦<Only as Record>⟧.names ⟦<Only as Record>⟧.values };
+    ghost means = { struct_meaning ⟦<Aliased<Only, OnlyFields> as Slots>⟧.meaning ⟦<Only as Record>⟧.names ⟦<Only as Record>⟧.values };
 
     fn missing() -> Option<Only> {
         None
@@ -227,7 +228,8 @@ impl FromJson for Only {
 }
 
 impl Serialize for Only {
-    ghost tree = { record_tree ⟦<Only as Record>⟧.names ⟦<OnlyFields as AgainFields>⟧.trees ⟦<Only as Record>⟧.values };
+    ghost tree = { record_tree ⟦<Only as Record>⟧.names ⟦<OnlyFields as RoundTripFields>⟧.trees
+        ⟦<Only as Record>⟧.values };
 
     fn begin(&self, w: &mut Writer) -> Result<()> {
         write_members(w, ONLY_NAMES, &Parts(&self.host, ()))
@@ -235,7 +237,7 @@ impl Serialize for Only {
 }
 
 impl Ranged for Only {
-    ghost real = { λ v. ⟦<OnlyFields as AgainFields>⟧.real (⟦<Only as Record>⟧.values v) };
+    ghost real = { λ v. ⟦<OnlyFields as RoundTripFields>⟧.real (⟦<Only as Record>⟧.values v) };
 
     fn ranged(&self) {
         self.host.ranged();
@@ -243,8 +245,8 @@ impl Ranged for Only {
 }
 
 impl RoundTrip for Only {
-    fn again() {
-        aliased_again::<Only, OnlyFields>()
+    fn round_trips() {
+        aliased_round_trips::<Only, OnlyFields>()
     }
 }
 
@@ -281,9 +283,9 @@ impl Record for RenewalMove {
 
     ghost made = { λ x. record { from = x.0; to = x.1.0 } };
 
-    ghost whole = { (λ v. refl, λ x. refl) };
+    ghost bijective = { (λ v. refl, λ x. refl) };
 
-    ghost named = { refl };
+    ghost distinct_names = { refl };
 
     fn names() -> &'static [&'static str] {
         RENEWAL_MOVE_NAMES
@@ -310,7 +312,7 @@ impl HasAliases for RenewalMove {
 }
 
 impl FromJson for RenewalMove {
-    ghost means = { struct_meant ⟦<Aliased<RenewalMove, RenewalMoveFields> as Slots>⟧.meaning
+    ghost means = { struct_meaning ⟦<Aliased<RenewalMove, RenewalMoveFields> as Slots>⟧.meaning
         ⟦<RenewalMove as Record>⟧.names ⟦<RenewalMove as Record>⟧.values };
 
     fn missing() -> Option<RenewalMove> {
@@ -323,7 +325,7 @@ impl FromJson for RenewalMove {
 }
 
 impl Serialize for RenewalMove {
-    ghost tree = { record_tree ⟦<RenewalMove as Record>⟧.names ⟦<RenewalMoveFields as AgainFields>⟧.trees ⟦<RenewalMove as Record>⟧.values };
+    ghost tree = { record_tree ⟦<RenewalMove as Record>⟧.names ⟦<RenewalMoveFields as RoundTripFields>⟧.trees ⟦<RenewalMove as Record>⟧.values };
 
     fn begin(&self, w: &mut Writer) -> Result<()> {
         write_members(
@@ -335,8 +337,7 @@ impl Serialize for RenewalMove {
 }
 
 impl Ranged for RenewalMove {
-    ghost real = { λ v. ⟦<RenewalMoveFields as AgainFields>⟧.real (⟦<RenewalMove as Record>⟧.values
-        v) };
+    ghost real = { λ v. ⟦<RenewalMoveFields as RoundTripFields>⟧.real (⟦<RenewalMove as Record>⟧.values v) };
 
     fn ranged(&self) {
         self.from.ranged();
@@ -345,8 +346,8 @@ impl Ranged for RenewalMove {
 }
 
 impl RoundTrip for RenewalMove {
-    fn again() {
-        aliased_again::<RenewalMove, RenewalMoveFields>()
+    fn round_trips() {
+        aliased_round_trips::<RenewalMove, RenewalMoveFields>()
     }
 }
 
@@ -413,10 +414,12 @@ impl Tagged for Renewal {
       }))
     ] };
 
-    ghost whole = { each_case _ (λ x. (Add x, refl)) (each_case _ (λ x. (Move x.from x.to, refl))
-        (no_case _)) };
+    ghost bijective = { each_case _ (λ x. (Add x, refl)) (each_case _ (λ x. (
+      Move x.from x.to,
+      refl,
+    )) (no_case _)) };
 
-    ghost named = { refl };
+    ghost distinct_names = { refl };
 
     fn names() -> &'static [&'static str] {
         RENEWAL_NAMES
@@ -446,7 +449,7 @@ impl HasTag for Renewal {
 }
 
 impl FromJson for Renewal {
-    ghost means = { tagged_meant ⟦<RenewalCases as InsideCases>⟧.meaning ⟦<Renewal as HasTag>⟧.tag
+    ghost means = { tagged_meaning ⟦<RenewalCases as InsideCases>⟧.meaning ⟦<Renewal as HasTag>⟧.tag
         ⟦<Renewal as Tagged>⟧.names refl ⟦<Renewal as Tagged>⟧.values };
 
     fn missing() -> Option<Renewal> {
@@ -459,7 +462,7 @@ impl FromJson for Renewal {
 }
 
 impl Serialize for Renewal {
-    ghost tree = { tagged_tree ⟦<Renewal as HasTag>⟧.tag ⟦<Renewal as Tagged>⟧.names ⟦<RenewalCases as AgainCases>⟧.tree ⟦<Renewal as Tagged>⟧.values };
+    ghost tree = { tagged_tree ⟦<Renewal as HasTag>⟧.tag ⟦<Renewal as Tagged>⟧.names ⟦<RenewalCases as RoundTripCases>⟧.tree ⟦<Renewal as Tagged>⟧.values };
 
     fn begin(&self, w: &mut Writer) -> Result<()> {
         match self {
@@ -478,7 +481,7 @@ impl Serialize for Renewal {
 }
 
 impl Ranged for Renewal {
-    ghost real = { λ v. ⟦<RenewalCases as AgainCases>⟧.real (⟦<Renewal as Tagged>⟧.values v) };
+    ghost real = { λ v. ⟦<RenewalCases as RoundTripCases>⟧.real (⟦<Renewal as Tagged>⟧.values v) };
 
     fn ranged(&self) {
         match self {
@@ -492,9 +495,9 @@ impl Ranged for Renewal {
 }
 
 impl RoundTrip for Renewal {
-    fn again() {
+    fn round_trips() {
         tag_fits::<Renewal, RenewalCases>();
-        tagged_again::<Renewal, RenewalCases>()
+        tagged_round_trips::<Renewal, RenewalCases>()
     }
 }
 

@@ -1,13 +1,13 @@
 //! The types of `keys.rs`, with the impls that `./derive` writes.
 ghost use Rattle.miniserde.specs.Cases.{each_case, enum_tree, first_case, later_case, no_case};
-ghost use Rattle.miniserde.specs.CasesMeant.{enum_meant};
+ghost use Rattle.miniserde.specs.CasesMeaning.{enum_meaning};
 ghost use Rattle.miniserde.specs.Structs.{names_of};
 ghost use Rattle.std.specs.Prelude.{refl};
 
 use miniserde::derived::{
-    AgainCases, Cases, DataCase, Event, Fragment, FromJson, Lossless, NeverNull, NoCase, OneOf,
-    Ranged, Result, RoundTrip, Serialize, Source, Stable, Tagged, UnitCase, Writer, enum_again,
-    enum_lossless, enum_stable, read_enum, write_data,
+    Cases, DataCase, Event, Fragment, FromJson, Lossless, NeverNull, NoCase, OneOf, Ranged, Result,
+    RoundTrip, RoundTripCases, Serialize, Source, Stable, Tagged, UnitCase, Writer, enum_lossless,
+    enum_round_trips, enum_stable, read_enum, write_data,
 };
 
 /// An enum of sixteen.
@@ -125,8 +125,8 @@ impl Tagged for Key {
           x0)))))))))))))))
     ] };
 
-    ghost whole = { each_case _ (λ x. (Up, refl)) (each_case _ (λ x. (Down, refl)) (each_case _ (λ
-        x. (Left, refl)) (each_case _ (λ x. (Right, refl)) (each_case _ (λ x. (Enter, refl))
+    ghost bijective = { each_case _ (λ x. (Up, refl)) (each_case _ (λ x. (Down, refl)) (each_case _
+        (λ x. (Left, refl)) (each_case _ (λ x. (Right, refl)) (each_case _ (λ x. (Enter, refl))
         (each_case _ (λ x. (Escape, refl)) (each_case _ (λ x. (Tab, refl)) (each_case _ (λ x.
         (Delete, refl)) (each_case _ (λ x. (Letter x, refl)) (each_case _ (λ x. (Digit x, refl))
         (each_case _ (λ x. (Function x, refl)) (each_case _ (λ x. (Pasted x, refl)) (each_case _ (λ
@@ -135,7 +135,7 @@ impl Tagged for Key {
           refl,
         )) (each_case _ (λ x. (Other x, refl)) (no_case _)))))))))))))))) };
 
-    ghost named = { refl };
+    ghost distinct_names = { refl };
 
     fn names() -> &'static [&'static str] {
         KEY_NAMES
@@ -202,7 +202,7 @@ impl Tagged for Key {
 }
 
 impl FromJson for Key {
-    ghost means = { enum_meant ⟦<KeyCases as Cases>⟧.meaning ⟦<Key as Tagged>⟧.names refl ⟦<Key as Tagged>⟧.values };
+    ghost means = { enum_meaning ⟦<KeyCases as Cases>⟧.meaning ⟦<Key as Tagged>⟧.names refl ⟦<Key as Tagged>⟧.values };
 
     fn missing() -> Option<Key> {
         None
@@ -214,7 +214,7 @@ impl FromJson for Key {
 }
 
 impl Serialize for Key {
-    ghost tree = { enum_tree ⟦<Key as Tagged>⟧.names ⟦<KeyCases as AgainCases>⟧.tree ⟦<Key as Tagged>⟧.values };
+    ghost tree = { enum_tree ⟦<Key as Tagged>⟧.names ⟦<KeyCases as RoundTripCases>⟧.tree ⟦<Key as Tagged>⟧.values };
 
     fn begin(&self, w: &mut Writer) -> Result<()> {
         match self {
@@ -239,7 +239,7 @@ impl Serialize for Key {
 }
 
 impl Ranged for Key {
-    ghost real = { λ v. ⟦<KeyCases as AgainCases>⟧.real (⟦<Key as Tagged>⟧.values v) };
+    ghost real = { λ v. ⟦<KeyCases as RoundTripCases>⟧.real (⟦<Key as Tagged>⟧.values v) };
 
     fn ranged(&self) {
         match self {
@@ -267,8 +267,8 @@ impl Ranged for Key {
 }
 
 impl RoundTrip for Key {
-    fn again() {
-        enum_again::<Key, KeyCases>()
+    fn round_trips() {
+        enum_round_trips::<Key, KeyCases>()
     }
 }
 

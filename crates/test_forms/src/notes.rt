@@ -1,19 +1,19 @@
 //! The types of `notes.rs`, with the impls that `./derive` writes.
 ghost use Rattle.miniserde.specs.Cases.{each_case, enum_tree, first_case, later_case, no_case};
-ghost use Rattle.miniserde.specs.CasesMeant.{enum_meant};
-ghost use Rattle.miniserde.specs.FieldsMeant.{struct_meant};
+ghost use Rattle.miniserde.specs.CasesMeaning.{enum_meaning};
+ghost use Rattle.miniserde.specs.FieldsMeaning.{struct_meaning};
 ghost use Rattle.miniserde.specs.Structs.{names_of, record_tree};
 ghost use Rattle.miniserde.specs.Tree.{nonneg};
 ghost use Rattle.std.specs.Prelude.{refl};
 
 use crate::plans::Task;
 use miniserde::derived::{
-    AgainCases, AgainFields, Cases, Closed, DataCase, Event, FourLent, FourSlot, Fragment,
-    FromJson, Given, Global, Lossless, MarkedSlot, NeverNull, NoCase, NoSlot, OmitSlot, Omitted,
-    Once, OneOf, Parts, Plain, Ranged, Record, Result, RoundTrip, Serialize, Slot, Slots, Source,
-    Stable, Tagged, Taken4, UnitCase, WithDefault, Writer, enum_again, enum_lossless, enum_stable,
-    read_enum, read_record, record_again, record_lossless, record_stable, take4, write_fields,
-    write_members,
+    Cases, Closed, DataCase, Event, FourLent, FourParts, FourSlot, Fragment, FromJson, Given,
+    Global, Lossless, MarkedSlot, NeverNull, NoCase, NoSlot, OmitSlot, Omitted, Once, OneOf, Parts,
+    Plain, Ranged, Record, Result, RoundTrip, RoundTripCases, RoundTripFields, Serialize, Slot,
+    Slots, Source, Stable, Tagged, UnitCase, WithDefault, Writer, enum_lossless, enum_round_trips,
+    enum_stable, read_enum, read_record, record_lossless, record_round_trips, record_stable,
+    take_four, write_fields, write_members,
 };
 use miniserde::json::Number;
 
@@ -99,17 +99,17 @@ impl Record for Note {
       task = x.1.1.1.1.1.1.1.1.0;
     } };
 
-    ghost whole = { (λ v. refl, λ x. refl) };
+    ghost bijective = { (λ v. refl, λ x. refl) };
 
-    ghost named = { refl };
+    ghost distinct_names = { refl };
 
     fn names() -> &'static [&'static str] {
         NOTE_NAMES
     }
 
     fn build(parts: Self::Values) -> Note {
-        let Taken4(text, name, stars, points, parts) = take4(parts);
-        let Taken4(a, b, c, d, parts) = take4(parts);
+        let FourParts(text, name, stars, points, parts) = take_four(parts);
+        let FourParts(a, b, c, d, parts) = take_four(parts);
         let Parts(task, ()) = parts;
         Note {
             text,
@@ -126,7 +126,7 @@ impl Record for Note {
 }
 
 impl FromJson for Note {
-    ghost means = { struct_meant ⟦<NoteFields as Slots>⟧.meaning ⟦<Note as Record>⟧.names ⟦<Note as Record>⟧.values };
+    ghost means = { struct_meaning ⟦<NoteFields as Slots>⟧.meaning ⟦<Note as Record>⟧.names ⟦<Note as Record>⟧.values };
 
     fn missing() -> Option<Note> {
         None
@@ -138,7 +138,8 @@ impl FromJson for Note {
 }
 
 impl Serialize for Note {
-    ghost tree = { record_tree ⟦<Note as Record>⟧.names ⟦<NoteFields as AgainFields>⟧.trees ⟦<Note as Record>⟧.values };
+    ghost tree = { record_tree ⟦<Note as Record>⟧.names ⟦<NoteFields as RoundTripFields>⟧.trees
+        ⟦<Note as Record>⟧.values };
 
     fn begin(&self, w: &mut Writer) -> Result<()> {
         write_members(
@@ -168,7 +169,7 @@ impl Serialize for Note {
 }
 
 impl Ranged for Note {
-    ghost real = { λ v. ⟦<NoteFields as AgainFields>⟧.real (⟦<Note as Record>⟧.values v) };
+    ghost real = { λ v. ⟦<NoteFields as RoundTripFields>⟧.real (⟦<Note as Record>⟧.values v) };
 
     fn ranged(&self) {
         self.text.ranged();
@@ -184,8 +185,8 @@ impl Ranged for Note {
 }
 
 impl RoundTrip for Note {
-    fn again() {
-        record_again::<Note, NoteFields>()
+    fn round_trips() {
+        record_round_trips::<Note, NoteFields>()
     }
 }
 
@@ -228,9 +229,9 @@ impl Record for Bare {
 
     ghost made = { λ x. record { one = x.0; two = x.1.0 } };
 
-    ghost whole = { (λ v. refl, λ x. refl) };
+    ghost bijective = { (λ v. refl, λ x. refl) };
 
-    ghost named = { refl };
+    ghost distinct_names = { refl };
 
     fn names() -> &'static [&'static str] {
         BARE_NAMES
@@ -243,7 +244,7 @@ impl Record for Bare {
 }
 
 impl FromJson for Bare {
-    ghost means = { struct_meant ⟦<BareFields as Slots>⟧.meaning ⟦<Bare as Record>⟧.names ⟦<Bare as Record>⟧.values };
+    ghost means = { struct_meaning ⟦<BareFields as Slots>⟧.meaning ⟦<Bare as Record>⟧.names ⟦<Bare as Record>⟧.values };
 
     fn missing() -> Option<Bare> {
         None
@@ -255,7 +256,8 @@ impl FromJson for Bare {
 }
 
 impl Serialize for Bare {
-    ghost tree = { record_tree ⟦<Bare as Record>⟧.names ⟦<BareFields as AgainFields>⟧.trees ⟦<Bare as Record>⟧.values };
+    ghost tree = { record_tree ⟦<Bare as Record>⟧.names ⟦<BareFields as RoundTripFields>⟧.trees
+        ⟦<Bare as Record>⟧.values };
 
     fn begin(&self, w: &mut Writer) -> Result<()> {
         write_members(
@@ -267,7 +269,7 @@ impl Serialize for Bare {
 }
 
 impl Ranged for Bare {
-    ghost real = { λ v. ⟦<BareFields as AgainFields>⟧.real (⟦<Bare as Record>⟧.values v) };
+    ghost real = { λ v. ⟦<BareFields as RoundTripFields>⟧.real (⟦<Bare as Record>⟧.values v) };
 
     fn ranged(&self) {
         self.one.ranged();
@@ -276,8 +278,8 @@ impl Ranged for Bare {
 }
 
 impl RoundTrip for Bare {
-    fn again() {
-        record_again::<Bare, BareFields>()
+    fn round_trips() {
+        record_round_trips::<Bare, BareFields>()
     }
 }
 
@@ -320,9 +322,9 @@ impl<T: FromJson> Record for Slip<T> {
 
     ghost made = { λ x. record { of = x.0; by = x.1.0 } };
 
-    ghost whole = { (λ v. refl, λ x. refl) };
+    ghost bijective = { (λ v. refl, λ x. refl) };
 
-    ghost named = { refl };
+    ghost distinct_names = { refl };
 
     fn names() -> &'static [&'static str] {
         SLIP_NAMES
@@ -335,7 +337,7 @@ impl<T: FromJson> Record for Slip<T> {
 }
 
 impl<T: FromJson> FromJson for Slip<T> {
-    ghost means = { struct_meant ⟦<SlipFields<T> as Slots>⟧.meaning ⟦<Slip<T> as Record>⟧.names
+    ghost means = { struct_meaning ⟦<SlipFields<T> as Slots>⟧.meaning ⟦<Slip<T> as Record>⟧.names
         ⟦<Slip<T> as Record>⟧.values };
 
     fn missing() -> Option<Slip<T>> {
@@ -348,8 +350,7 @@ impl<T: FromJson> FromJson for Slip<T> {
 }
 
 impl<T: RoundTrip + NeverNull> Serialize for Slip<T> {
-    ghost tree = { record_tree ⟦<Slip<T> as Record>⟧.names ⟦<SlipFields<T> as AgainFields>⟧.trees
-        ⟦<Slip<T> as Record>⟧.values };
+    ghost tree = { record_tree ⟦<Slip<T> as Record>⟧.names ⟦<SlipFields<T> as RoundTripFields>⟧.trees ⟦<Slip<T> as Record>⟧.values };
 
     fn begin(&self, w: &mut Writer) -> Result<()> {
         write_members(
@@ -361,7 +362,7 @@ impl<T: RoundTrip + NeverNull> Serialize for Slip<T> {
 }
 
 impl<T: RoundTrip + NeverNull> Ranged for Slip<T> {
-    ghost real = { λ v. ⟦<SlipFields<T> as AgainFields>⟧.real (⟦<Slip<T> as Record>⟧.values v) };
+    ghost real = { λ v. ⟦<SlipFields<T> as RoundTripFields>⟧.real (⟦<Slip<T> as Record>⟧.values v) };
 
     fn ranged(&self) {
         self.of.ranged();
@@ -370,8 +371,8 @@ impl<T: RoundTrip + NeverNull> Ranged for Slip<T> {
 }
 
 impl<T: RoundTrip + NeverNull> RoundTrip for Slip<T> {
-    fn again() {
-        record_again::<Slip<T>, SlipFields<T>>()
+    fn round_trips() {
+        record_round_trips::<Slip<T>, SlipFields<T>>()
     }
 }
 
@@ -415,9 +416,9 @@ impl<T: FromJson> Record for EntryLog<T> {
 
     ghost made = { λ x. record { level = x.0; of = x.1.0; slip = x.1.1.0 } };
 
-    ghost whole = { (λ v. refl, λ x. refl) };
+    ghost bijective = { (λ v. refl, λ x. refl) };
 
-    ghost named = { refl };
+    ghost distinct_names = { refl };
 
     fn names() -> &'static [&'static str] {
         ENTRY_LOG_NAMES
@@ -430,7 +431,7 @@ impl<T: FromJson> Record for EntryLog<T> {
 }
 
 impl<T: FromJson> FromJson for EntryLog<T> {
-    ghost means = { struct_meant ⟦<EntryLogFields<T> as Slots>⟧.meaning ⟦<EntryLog<T> as Record>⟧.names ⟦<EntryLog<T> as Record>⟧.values };
+    ghost means = { struct_meaning ⟦<EntryLogFields<T> as Slots>⟧.meaning ⟦<EntryLog<T> as Record>⟧.names ⟦<EntryLog<T> as Record>⟧.values };
 
     fn missing() -> Option<EntryLog<T>> {
         None
@@ -442,7 +443,7 @@ impl<T: FromJson> FromJson for EntryLog<T> {
 }
 
 impl<T: RoundTrip + NeverNull> Serialize for EntryLog<T> {
-    ghost tree = { record_tree ⟦<EntryLog<T> as Record>⟧.names ⟦<EntryLogFields<T> as AgainFields>⟧.trees ⟦<EntryLog<T> as Record>⟧.values };
+    ghost tree = { record_tree ⟦<EntryLog<T> as Record>⟧.names ⟦<EntryLogFields<T> as RoundTripFields>⟧.trees ⟦<EntryLog<T> as Record>⟧.values };
 
     fn begin(&self, w: &mut Writer) -> Result<()> {
         write_members(
@@ -457,8 +458,7 @@ impl<T: RoundTrip + NeverNull> Serialize for EntryLog<T> {
 }
 
 impl<T: RoundTrip + NeverNull> Ranged for EntryLog<T> {
-    ghost real = { λ v. ⟦<EntryLogFields<T> as AgainFields>⟧.real (⟦<EntryLog<T> as Record>⟧.values
-        v) };
+    ghost real = { λ v. ⟦<EntryLogFields<T> as RoundTripFields>⟧.real (⟦<EntryLog<T> as Record>⟧.values v) };
 
     fn ranged(&self) {
         self.level.ranged();
@@ -468,8 +468,8 @@ impl<T: RoundTrip + NeverNull> Ranged for EntryLog<T> {
 }
 
 impl<T: RoundTrip + NeverNull> RoundTrip for EntryLog<T> {
-    fn again() {
-        record_again::<EntryLog<T>, EntryLogFields<T>>()
+    fn round_trips() {
+        record_round_trips::<EntryLog<T>, EntryLogFields<T>>()
     }
 }
 
@@ -519,12 +519,13 @@ impl<T: FromJson> Tagged for Entry<T> {
           { level = x0; of = x1; slip = x2 }))
     ] };
 
-    ghost whole = { each_case _ (λ x. (Silence, refl)) (each_case _ (λ x. (
-      Log x.level x.of x.slip,
+    ghost bijective = { each_case _ (λ x. (Silence, refl)) (each_case _ (λ x. (
+      Log x.level x.of
+          x.slip,
       refl,
     )) (no_case _)) };
 
-    ghost named = { refl };
+    ghost distinct_names = { refl };
 
     fn names() -> &'static [&'static str] {
         ENTRY_NAMES
@@ -542,8 +543,8 @@ impl<T: FromJson> Tagged for Entry<T> {
 }
 
 impl<T: FromJson> FromJson for Entry<T> {
-    ghost means = { enum_meant ⟦<EntryCases<T> as Cases>⟧.meaning ⟦<Entry<T> as Tagged>⟧.names refl
-        ⟦<Entry<T> as Tagged>⟧.values };
+    ghost means = { enum_meaning ⟦<EntryCases<T> as Cases>⟧.meaning ⟦<Entry<T> as Tagged>⟧.names
+        refl ⟦<Entry<T> as Tagged>⟧.values };
 
     fn missing() -> Option<Entry<T>> {
         None
@@ -555,7 +556,7 @@ impl<T: FromJson> FromJson for Entry<T> {
 }
 
 impl<T: RoundTrip + NeverNull> Serialize for Entry<T> {
-    ghost tree = { enum_tree ⟦<Entry<T> as Tagged>⟧.names ⟦<EntryCases<T> as AgainCases>⟧.tree
+    ghost tree = { enum_tree ⟦<Entry<T> as Tagged>⟧.names ⟦<EntryCases<T> as RoundTripCases>⟧.tree
         ⟦<Entry<T> as Tagged>⟧.values };
 
     fn begin(&self, w: &mut Writer) -> Result<()> {
@@ -574,7 +575,7 @@ impl<T: RoundTrip + NeverNull> Serialize for Entry<T> {
 }
 
 impl<T: RoundTrip + NeverNull> Ranged for Entry<T> {
-    ghost real = { λ v. ⟦<EntryCases<T> as AgainCases>⟧.real (⟦<Entry<T> as Tagged>⟧.values v) };
+    ghost real = { λ v. ⟦<EntryCases<T> as RoundTripCases>⟧.real (⟦<Entry<T> as Tagged>⟧.values v) };
 
     fn ranged(&self) {
         match self {
@@ -589,8 +590,8 @@ impl<T: RoundTrip + NeverNull> Ranged for Entry<T> {
 }
 
 impl<T: RoundTrip + NeverNull> RoundTrip for Entry<T> {
-    fn again() {
-        enum_again::<Entry<T>, EntryCases<T>>()
+    fn round_trips() {
+        enum_round_trips::<Entry<T>, EntryCases<T>>()
     }
 }
 
@@ -645,9 +646,9 @@ impl Record for Amount {
 
     ghost made = { λ x. record { total = x.0; places = x.1.0 } };
 
-    ghost whole = { (λ v. refl, λ x. refl) };
+    ghost bijective = { (λ v. refl, λ x. refl) };
 
-    ghost named = { refl };
+    ghost distinct_names = { refl };
 
     fn names() -> &'static [&'static str] {
         AMOUNT_NAMES
@@ -660,7 +661,7 @@ impl Record for Amount {
 }
 
 impl FromJson for Amount {
-    ghost means = { struct_meant ⟦<AmountFields as Slots>⟧.meaning ⟦<Amount as Record>⟧.names
+    ghost means = { struct_meaning ⟦<AmountFields as Slots>⟧.meaning ⟦<Amount as Record>⟧.names
         ⟦<Amount as Record>⟧.values };
 
     fn missing() -> Option<Amount> {
@@ -673,7 +674,7 @@ impl FromJson for Amount {
 }
 
 impl Serialize for Amount {
-    ghost tree = { record_tree ⟦<Amount as Record>⟧.names ⟦<AmountFields as AgainFields>⟧.trees
+    ghost tree = { record_tree ⟦<Amount as Record>⟧.names ⟦<AmountFields as RoundTripFields>⟧.trees
         ⟦<Amount as Record>⟧.values };
 
     fn begin(&self, w: &mut Writer) -> Result<()> {
@@ -686,7 +687,7 @@ impl Serialize for Amount {
 }
 
 impl Ranged for Amount {
-    ghost real = { λ v. ⟦<AmountFields as AgainFields>⟧.real (⟦<Amount as Record>⟧.values v) };
+    ghost real = { λ v. ⟦<AmountFields as RoundTripFields>⟧.real (⟦<Amount as Record>⟧.values v) };
 
     fn ranged(&self) {
         self.total.ranged();
@@ -695,8 +696,8 @@ impl Ranged for Amount {
 }
 
 impl RoundTrip for Amount {
-    fn again() {
-        record_again::<Amount, AmountFields>()
+    fn round_trips() {
+        record_round_trips::<Amount, AmountFields>()
     }
 }
 
@@ -727,9 +728,9 @@ impl Record for Bill {
 
     ghost made = { λ x. record { amount = x.0; number = x.1.0 } };
 
-    ghost whole = { (λ v. refl, λ x. refl) };
+    ghost bijective = { (λ v. refl, λ x. refl) };
 
-    ghost named = { refl };
+    ghost distinct_names = { refl };
 
     fn names() -> &'static [&'static str] {
         BILL_NAMES
@@ -742,7 +743,7 @@ impl Record for Bill {
 }
 
 impl FromJson for Bill {
-    ghost means = { struct_meant ⟦<BillFields as Slots>⟧.meaning ⟦<Bill as Record>⟧.names ⟦<Bill as Record>⟧.values };
+    ghost means = { struct_meaning ⟦<BillFields as Slots>⟧.meaning ⟦<Bill as Record>⟧.names ⟦<Bill as Record>⟧.values };
 
     fn missing() -> Option<Bill> {
         None
@@ -754,7 +755,8 @@ impl FromJson for Bill {
 }
 
 impl Serialize for Bill {
-    ghost tree = { record_tree ⟦<Bill as Record>⟧.names ⟦<BillFields as AgainFields>⟧.trees ⟦<Bill as Record>⟧.values };
+    ghost tree = { record_tree ⟦<Bill as Record>⟧.names ⟦<BillFields as RoundTripFields>⟧.trees
+        ⟦<Bill as Record>⟧.values };
 
     fn begin(&self, w: &mut Writer) -> Result<()> {
         write_members(
@@ -766,7 +768,7 @@ impl Serialize for Bill {
 }
 
 impl Ranged for Bill {
-    ghost real = { λ v. ⟦<BillFields as AgainFields>⟧.real (⟦<Bill as Record>⟧.values v) };
+    ghost real = { λ v. ⟦<BillFields as RoundTripFields>⟧.real (⟦<Bill as Record>⟧.values v) };
 
     fn ranged(&self) {
         self.amount.ranged();
@@ -775,7 +777,7 @@ impl Ranged for Bill {
 }
 
 impl RoundTrip for Bill {
-    fn again() {
-        record_again::<Bill, BillFields>()
+    fn round_trips() {
+        record_round_trips::<Bill, BillFields>()
     }
 }

@@ -1,18 +1,18 @@
 //! The types of `plans.rs`, with the impls that `./derive` writes.
 ghost use Rattle.miniserde.specs.Cases.{each_case, enum_tree, first_case, later_case, no_case, tagged_tree};
-ghost use Rattle.miniserde.specs.CasesMeant.{enum_meant, tagged_meant};
-ghost use Rattle.miniserde.specs.FieldsMeant.{struct_meant};
+ghost use Rattle.miniserde.specs.CasesMeaning.{enum_meaning, tagged_meaning};
+ghost use Rattle.miniserde.specs.FieldsMeaning.{struct_meaning};
 ghost use Rattle.miniserde.specs.Structs.{names_of, record_tree};
 ghost use Rattle.std.specs.Prelude.{codes, refl};
 
 use miniserde::derived::{
-    AgainCases, AgainFields, BesideTag, Cases, DataCase, Event, Fragment, FromJson, HasTag, Inside,
-    InsideCases, Lossless, Members, NeverNull, NoCase, NoFields, NoSlot, OmitSlot, Omitted, OneOf,
-    Parts, Plain, Ranged, Record, Result, RoundTrip, Serialize, Slot, Slots, Source, Stable,
-    Tagged, UnitCase, Writer, enum_again, enum_lossless, enum_stable, fields_named, read_enum,
-    read_record, read_tagged, record_again, record_lossless, record_stable, tag_fits, tagged_again,
-    tagged_lossless, tagged_stable, write_data, write_fields, write_members, write_tagged,
-    write_tagged_fields,
+    BesideTag, Cases, DataCase, Event, Fragment, FromJson, HasTag, Inside, InsideCases, Lossless,
+    Members, NeverNull, NoCase, NoFields, NoSlot, OmitSlot, Omitted, OneOf, Parts, Plain, Ranged,
+    Record, Result, RoundTrip, RoundTripCases, RoundTripFields, Serialize, Slot, Slots, Source,
+    Stable, Tagged, UnitCase, Writer, enum_lossless, enum_round_trips, enum_stable, fields_named,
+    read_enum, read_record, read_tagged, record_lossless, record_round_trips, record_stable,
+    tag_fits, tagged_lossless, tagged_round_trips, tagged_stable, write_data, write_fields,
+    write_members, write_tagged, write_tagged_fields,
 };
 
 /// The fields of `Command::Move`.
@@ -38,9 +38,9 @@ impl Record for CommandMove {
 
     ghost made = { λ x. record { x = x.0; y = x.1.0 } };
 
-    ghost whole = { (λ v. refl, λ x. refl) };
+    ghost bijective = { (λ v. refl, λ x. refl) };
 
-    ghost named = { refl };
+    ghost distinct_names = { refl };
 
     fn names() -> &'static [&'static str] {
         COMMAND_MOVE_NAMES
@@ -53,7 +53,7 @@ impl Record for CommandMove {
 }
 
 impl FromJson for CommandMove {
-    ghost means = { struct_meant ⟦<CommandMoveFields as Slots>⟧.meaning ⟦<CommandMove as Record>⟧.names ⟦<CommandMove as Record>⟧.values };
+    ghost means = { struct_meaning ⟦<CommandMoveFields as Slots>⟧.meaning ⟦<CommandMove as Record>⟧.names ⟦<CommandMove as Record>⟧.values };
 
     fn missing() -> Option<CommandMove> {
         None
@@ -65,7 +65,7 @@ impl FromJson for CommandMove {
 }
 
 impl Serialize for CommandMove {
-    ghost tree = { record_tree ⟦<CommandMove as Record>⟧.names ⟦<CommandMoveFields as AgainFields>⟧.trees ⟦<CommandMove as Record>⟧.values };
+    ghost tree = { record_tree ⟦<CommandMove as Record>⟧.names ⟦<CommandMoveFields as RoundTripFields>⟧.trees ⟦<CommandMove as Record>⟧.values };
 
     fn begin(&self, w: &mut Writer) -> Result<()> {
         write_members(w, COMMAND_MOVE_NAMES, &Parts(&self.x, Parts(&self.y, ())))
@@ -73,8 +73,7 @@ impl Serialize for CommandMove {
 }
 
 impl Ranged for CommandMove {
-    ghost real = { λ v. ⟦<CommandMoveFields as AgainFields>⟧.real (⟦<CommandMove as Record>⟧.values
-        v) };
+    ghost real = { λ v. ⟦<CommandMoveFields as RoundTripFields>⟧.real (⟦<CommandMove as Record>⟧.values v) };
 
     fn ranged(&self) {
         self.x.ranged();
@@ -83,8 +82,8 @@ impl Ranged for CommandMove {
 }
 
 impl RoundTrip for CommandMove {
-    fn again() {
-        record_again::<CommandMove, CommandMoveFields>()
+    fn round_trips() {
+        record_round_trips::<CommandMove, CommandMoveFields>()
     }
 }
 
@@ -132,10 +131,10 @@ impl Tagged for Command {
           ↦ later_case (later_case (first_case (record { x = x0; y = x1 })))
     ] };
 
-    ghost whole = { each_case _ (λ x. (Ping, refl)) (each_case _ (λ x. (Text x, refl)) (each_case _
-        (λ x. (Move x.x x.y, refl)) (no_case _))) };
+    ghost bijective = { each_case _ (λ x. (Ping, refl)) (each_case _ (λ x. (Text x, refl))
+        (each_case _ (λ x. (Move x.x x.y, refl)) (no_case _))) };
 
-    ghost named = { refl };
+    ghost distinct_names = { refl };
 
     fn names() -> &'static [&'static str] {
         COMMAND_NAMES
@@ -156,7 +155,7 @@ impl Tagged for Command {
 }
 
 impl FromJson for Command {
-    ghost means = { enum_meant ⟦<CommandCases as Cases>⟧.meaning ⟦<Command as Tagged>⟧.names refl
+    ghost means = { enum_meaning ⟦<CommandCases as Cases>⟧.meaning ⟦<Command as Tagged>⟧.names refl
         ⟦<Command as Tagged>⟧.values };
 
     fn missing() -> Option<Command> {
@@ -169,7 +168,7 @@ impl FromJson for Command {
 }
 
 impl Serialize for Command {
-    ghost tree = { enum_tree ⟦<Command as Tagged>⟧.names ⟦<CommandCases as AgainCases>⟧.tree
+    ghost tree = { enum_tree ⟦<Command as Tagged>⟧.names ⟦<CommandCases as RoundTripCases>⟧.tree
         ⟦<Command as Tagged>⟧.values };
 
     fn begin(&self, w: &mut Writer) -> Result<()> {
@@ -184,7 +183,7 @@ impl Serialize for Command {
 }
 
 impl Ranged for Command {
-    ghost real = { λ v. ⟦<CommandCases as AgainCases>⟧.real (⟦<Command as Tagged>⟧.values v) };
+    ghost real = { λ v. ⟦<CommandCases as RoundTripCases>⟧.real (⟦<Command as Tagged>⟧.values v) };
 
     fn ranged(&self) {
         match self {
@@ -199,8 +198,8 @@ impl Ranged for Command {
 }
 
 impl RoundTrip for Command {
-    fn again() {
-        enum_again::<Command, CommandCases>()
+    fn round_trips() {
+        enum_round_trips::<Command, CommandCases>()
     }
 }
 
@@ -243,9 +242,9 @@ impl Record for Task {
 
     ghost made = { λ x. record { name = x.0; command = x.1.0 } };
 
-    ghost whole = { (λ v. refl, λ x. refl) };
+    ghost bijective = { (λ v. refl, λ x. refl) };
 
-    ghost named = { refl };
+    ghost distinct_names = { refl };
 
     fn names() -> &'static [&'static str] {
         TASK_NAMES
@@ -258,7 +257,7 @@ impl Record for Task {
 }
 
 impl FromJson for Task {
-    ghost means = { struct_meant ⟦<TaskFields as Slots>⟧.meaning ⟦<Task as Record>⟧.names ⟦<Task as Record>⟧.values };
+    ghost means = { struct_meaning ⟦<TaskFields as Slots>⟧.meaning ⟦<Task as Record>⟧.names ⟦<Task as Record>⟧.values };
 
     fn missing() -> Option<Task> {
         None
@@ -270,7 +269,8 @@ impl FromJson for Task {
 }
 
 impl Serialize for Task {
-    ghost tree = { record_tree ⟦<Task as Record>⟧.names ⟦<TaskFields as AgainFields>⟧.trees ⟦<Task as Record>⟧.values };
+    ghost tree = { record_tree ⟦<Task as Record>⟧.names ⟦<TaskFields as RoundTripFields>⟧.trees
+        ⟦<Task as Record>⟧.values };
 
     fn begin(&self, w: &mut Writer) -> Result<()> {
         write_members(w, TASK_NAMES, &Parts(&self.name, Parts(&self.command, ())))
@@ -278,7 +278,7 @@ impl Serialize for Task {
 }
 
 impl Ranged for Task {
-    ghost real = { λ v. ⟦<TaskFields as AgainFields>⟧.real (⟦<Task as Record>⟧.values v) };
+    ghost real = { λ v. ⟦<TaskFields as RoundTripFields>⟧.real (⟦<Task as Record>⟧.values v) };
 
     fn ranged(&self) {
         self.name.ranged();
@@ -287,8 +287,8 @@ impl Ranged for Task {
 }
 
 impl RoundTrip for Task {
-    fn again() {
-        record_again::<Task, TaskFields>()
+    fn round_trips() {
+        record_round_trips::<Task, TaskFields>()
     }
 }
 
@@ -354,11 +354,11 @@ impl Tagged for Plan {
           (later_case (first_case (x0, x1, x2))))
     ] };
 
-    ghost whole = { each_case _ (λ x. (Nothing, refl)) (each_case _ (λ x. (OneTask x, refl))
+    ghost bijective = { each_case _ (λ x. (Nothing, refl)) (each_case _ (λ x. (OneTask x, refl))
         (each_case _ (λ x. (Tasks x, refl)) (each_case _ (λ x. (Three x.0 x.1 x.2, refl)) (no_case
         _)))) };
 
-    ghost named = { refl };
+    ghost distinct_names = { refl };
 
     fn names() -> &'static [&'static str] {
         PLAN_NAMES
@@ -382,7 +382,7 @@ impl Tagged for Plan {
 }
 
 impl FromJson for Plan {
-    ghost means = { enum_meant ⟦<PlanCases as Cases>⟧.meaning ⟦<Plan as Tagged>⟧.names refl ⟦<Plan as Tagged>⟧.values };
+    ghost means = { enum_meaning ⟦<PlanCases as Cases>⟧.meaning ⟦<Plan as Tagged>⟧.names refl ⟦<Plan as Tagged>⟧.values };
 
     fn missing() -> Option<Plan> {
         None
@@ -394,7 +394,7 @@ impl FromJson for Plan {
 }
 
 impl Serialize for Plan {
-    ghost tree = { enum_tree ⟦<Plan as Tagged>⟧.names ⟦<PlanCases as AgainCases>⟧.tree ⟦<Plan as Tagged>⟧.values };
+    ghost tree = { enum_tree ⟦<Plan as Tagged>⟧.names ⟦<PlanCases as RoundTripCases>⟧.tree ⟦<Plan as Tagged>⟧.values };
 
     fn begin(&self, w: &mut Writer) -> Result<()> {
         match self {
@@ -407,7 +407,7 @@ impl Serialize for Plan {
 }
 
 impl Ranged for Plan {
-    ghost real = { λ v. ⟦<PlanCases as AgainCases>⟧.real (⟦<Plan as Tagged>⟧.values v) };
+    ghost real = { λ v. ⟦<PlanCases as RoundTripCases>⟧.real (⟦<Plan as Tagged>⟧.values v) };
 
     fn ranged(&self) {
         match self {
@@ -424,8 +424,8 @@ impl Ranged for Plan {
 }
 
 impl RoundTrip for Plan {
-    fn again() {
-        enum_again::<Plan, PlanCases>()
+    fn round_trips() {
+        enum_round_trips::<Plan, PlanCases>()
     }
 }
 
@@ -468,9 +468,9 @@ impl<T: FromJson> Record for Page<T> {
 
     ghost made = { λ x. record { items = x.0; next = x.1.0 } };
 
-    ghost whole = { (λ v. refl, λ x. refl) };
+    ghost bijective = { (λ v. refl, λ x. refl) };
 
-    ghost named = { refl };
+    ghost distinct_names = { refl };
 
     fn names() -> &'static [&'static str] {
         PAGE_NAMES
@@ -483,7 +483,7 @@ impl<T: FromJson> Record for Page<T> {
 }
 
 impl<T: FromJson> FromJson for Page<T> {
-    ghost means = { struct_meant ⟦<PageFields<T> as Slots>⟧.meaning ⟦<Page<T> as Record>⟧.names
+    ghost means = { struct_meaning ⟦<PageFields<T> as Slots>⟧.meaning ⟦<Page<T> as Record>⟧.names
         ⟦<Page<T> as Record>⟧.values };
 
     fn missing() -> Option<Page<T>> {
@@ -496,8 +496,7 @@ impl<T: FromJson> FromJson for Page<T> {
 }
 
 impl<T: RoundTrip> Serialize for Page<T> {
-    ghost tree = { record_tree ⟦<Page<T> as Record>⟧.names ⟦<PageFields<T> as AgainFields>⟧.trees
-        ⟦<Page<T> as Record>⟧.values };
+    ghost tree = { record_tree ⟦<Page<T> as Record>⟧.names ⟦<PageFields<T> as RoundTripFields>⟧.trees ⟦<Page<T> as Record>⟧.values };
 
     fn begin(&self, w: &mut Writer) -> Result<()> {
         write_members(
@@ -509,7 +508,7 @@ impl<T: RoundTrip> Serialize for Page<T> {
 }
 
 impl<T: RoundTrip> Ranged for Page<T> {
-    ghost real = { λ v. ⟦<PageFields<T> as AgainFields>⟧.real (⟦<Page<T> as Record>⟧.values v) };
+    ghost real = { λ v. ⟦<PageFields<T> as RoundTripFields>⟧.real (⟦<Page<T> as Record>⟧.values v) };
 
     fn ranged(&self) {
         self.items.ranged();
@@ -518,8 +517,8 @@ impl<T: RoundTrip> Ranged for Page<T> {
 }
 
 impl<T: RoundTrip> RoundTrip for Page<T> {
-    fn again() {
-        record_again::<Page<T>, PageFields<T>>()
+    fn round_trips() {
+        record_round_trips::<Page<T>, PageFields<T>>()
     }
 }
 
@@ -562,9 +561,9 @@ impl Record for ChangeMark {
 
     ghost made = { λ x. record { at = x.0; note = x.1.0 } };
 
-    ghost whole = { (λ v. refl, λ x. refl) };
+    ghost bijective = { (λ v. refl, λ x. refl) };
 
-    ghost named = { refl };
+    ghost distinct_names = { refl };
 
     fn names() -> &'static [&'static str] {
         CHANGE_MARK_NAMES
@@ -577,7 +576,7 @@ impl Record for ChangeMark {
 }
 
 impl FromJson for ChangeMark {
-    ghost means = { struct_meant ⟦<ChangeMarkFields as Slots>⟧.meaning ⟦<ChangeMark as Record>⟧.names ⟦<ChangeMark as Record>⟧.values };
+    ghost means = { struct_meaning ⟦<ChangeMarkFields as Slots>⟧.meaning ⟦<ChangeMark as Record>⟧.names ⟦<ChangeMark as Record>⟧.values };
 
     fn missing() -> Option<ChangeMark> {
         None
@@ -589,7 +588,7 @@ impl FromJson for ChangeMark {
 }
 
 impl Serialize for ChangeMark {
-    ghost tree = { record_tree ⟦<ChangeMark as Record>⟧.names ⟦<ChangeMarkFields as AgainFields>⟧.trees ⟦<ChangeMark as Record>⟧.values };
+    ghost tree = { record_tree ⟦<ChangeMark as Record>⟧.names ⟦<ChangeMarkFields as RoundTripFields>⟧.trees ⟦<ChangeMark as Record>⟧.values };
 
     fn begin(&self, w: &mut Writer) -> Result<()> {
         write_members(
@@ -601,7 +600,7 @@ impl Serialize for ChangeMark {
 }
 
 impl Ranged for ChangeMark {
-    ghost real = { λ v. ⟦<ChangeMarkFields as AgainFields>⟧.real (⟦<ChangeMark as Record>⟧.values v) };
+    ghost real = { λ v. ⟦<ChangeMarkFields as RoundTripFields>⟧.real (⟦<ChangeMark as Record>⟧.values v) };
 
     fn ranged(&self) {
         self.at.ranged();
@@ -610,8 +609,8 @@ impl Ranged for ChangeMark {
 }
 
 impl RoundTrip for ChangeMark {
-    fn again() {
-        record_again::<ChangeMark, ChangeMarkFields>()
+    fn round_trips() {
+        record_round_trips::<ChangeMark, ChangeMarkFields>()
     }
 }
 
@@ -681,10 +680,10 @@ impl Tagged for Change {
       | Mark x0 x1 ↦ later_case (later_case (first_case (record { at = x0; note = x1 })))
     ] };
 
-    ghost whole = { each_case _ (λ x. (Clear, refl)) (each_case _ (λ x. (Run x, refl)) (each_case _
-        (λ x. (Mark x.at x.note, refl)) (no_case _))) };
+    ghost bijective = { each_case _ (λ x. (Clear, refl)) (each_case _ (λ x. (Run x, refl))
+        (each_case _ (λ x. (Mark x.at x.note, refl)) (no_case _))) };
 
-    ghost named = { refl };
+    ghost distinct_names = { refl };
 
     fn names() -> &'static [&'static str] {
         CHANGE_NAMES
@@ -717,7 +716,7 @@ impl HasTag for Change {
 }
 
 impl FromJson for Change {
-    ghost means = { tagged_meant ⟦<ChangeCases as InsideCases>⟧.meaning ⟦<Change as HasTag>⟧.tag
+    ghost means = { tagged_meaning ⟦<ChangeCases as InsideCases>⟧.meaning ⟦<Change as HasTag>⟧.tag
         ⟦<Change as Tagged>⟧.names refl ⟦<Change as Tagged>⟧.values };
 
     fn missing() -> Option<Change> {
@@ -730,7 +729,7 @@ impl FromJson for Change {
 }
 
 impl Serialize for Change {
-    ghost tree = { tagged_tree ⟦<Change as HasTag>⟧.tag ⟦<Change as Tagged>⟧.names ⟦<ChangeCases as AgainCases>⟧.tree ⟦<Change as Tagged>⟧.values };
+    ghost tree = { tagged_tree ⟦<Change as HasTag>⟧.tag ⟦<Change as Tagged>⟧.names ⟦<ChangeCases as RoundTripCases>⟧.tree ⟦<Change as Tagged>⟧.values };
 
     fn begin(&self, w: &mut Writer) -> Result<()> {
         match self {
@@ -750,7 +749,7 @@ impl Serialize for Change {
 }
 
 impl Ranged for Change {
-    ghost real = { λ v. ⟦<ChangeCases as AgainCases>⟧.real (⟦<Change as Tagged>⟧.values v) };
+    ghost real = { λ v. ⟦<ChangeCases as RoundTripCases>⟧.real (⟦<Change as Tagged>⟧.values v) };
 
     fn ranged(&self) {
         match self {
@@ -765,9 +764,9 @@ impl Ranged for Change {
 }
 
 impl RoundTrip for Change {
-    fn again() {
+    fn round_trips() {
         tag_fits::<Change, ChangeCases>();
-        tagged_again::<Change, ChangeCases>()
+        tagged_round_trips::<Change, ChangeCases>()
     }
 }
 

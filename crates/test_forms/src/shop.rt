@@ -1,14 +1,14 @@
 //! The types of `shop.rs`, with the impls that `./derive` writes.
-ghost use Rattle.miniserde.specs.FieldsMeant.{struct_meant};
+ghost use Rattle.miniserde.specs.FieldsMeaning.{struct_meaning};
 ghost use Rattle.miniserde.specs.Structs.{names_of, record_tree};
 ghost use Rattle.miniserde.specs.Tree.{nonneg, str};
 ghost use Rattle.std.specs.Prelude.{true, List, codes, [], ◌∷◌, ⊤, refl};
 
 use miniserde::derived::{
-    AgainFields, Closed, Event, FourLent, FourSlot, Fragment, FromJson, Given, Global, MarkedFour,
-    NoSlot, Once, Parts, Plain, Ranged, Record, Result, RoundTrip, Serialize, Slot, Slots, Source,
-    Taken4, UnitEnum, Variants, WithDefault, Writer, read_record, read_variant, record_again,
-    take4, variant_again, write_members,
+    Closed, Event, FourLent, FourParts, FourSlot, Fragment, FromJson, Given, Global, MarkedFour,
+    NoSlot, Once, Parts, Plain, Ranged, Record, Result, RoundTrip, RoundTripFields, Serialize,
+    Slot, Slots, Source, UnitEnum, Variants, WithDefault, Writer, read_record, read_variant,
+    record_round_trips, take_four, variant_round_trips, write_members,
 };
 use miniserde::json::{Number, Value};
 use std::collections::BTreeMap;
@@ -64,16 +64,16 @@ impl Record for Address {
 
     ghost made = { λ x. record { street = x.0; city = x.1.0; zip = x.1.1.0; country = x.1.1.1.0 } };
 
-    ghost whole = { (λ v. refl, λ x. refl) };
+    ghost bijective = { (λ v. refl, λ x. refl) };
 
-    ghost named = { refl };
+    ghost distinct_names = { refl };
 
     fn names() -> &'static [&'static str] {
         ADDRESS_NAMES
     }
 
     fn build(parts: Self::Values) -> Address {
-        let Taken4(street, city, zip, country, ()) = take4(parts);
+        let FourParts(street, city, zip, country, ()) = take_four(parts);
         Address {
             street,
             city,
@@ -84,7 +84,7 @@ impl Record for Address {
 }
 
 impl FromJson for Address {
-    ghost means = { struct_meant ⟦<AddressFields as Slots>⟧.meaning ⟦<Address as Record>⟧.names
+    ghost means = { struct_meaning ⟦<AddressFields as Slots>⟧.meaning ⟦<Address as Record>⟧.names
         ⟦<Address as Record>⟧.values };
 
     fn missing() -> Option<Address> {
@@ -97,8 +97,7 @@ impl FromJson for Address {
 }
 
 impl Serialize for Address {
-    ghost tree = { record_tree ⟦<Address as Record>⟧.names ⟦<AddressFields as AgainFields>⟧.trees
-        ⟦<Address as Record>⟧.values };
+    ghost tree = { record_tree ⟦<Address as Record>⟧.names ⟦<AddressFields as RoundTripFields>⟧.trees ⟦<Address as Record>⟧.values };
 
     fn begin(&self, w: &mut Writer) -> Result<()> {
         write_members(
@@ -110,7 +109,7 @@ impl Serialize for Address {
 }
 
 impl Ranged for Address {
-    ghost real = { λ v. ⟦<AddressFields as AgainFields>⟧.real (⟦<Address as Record>⟧.values v) };
+    ghost real = { λ v. ⟦<AddressFields as RoundTripFields>⟧.real (⟦<Address as Record>⟧.values v) };
 
     fn ranged(&self) {
         self.street.ranged();
@@ -121,8 +120,8 @@ impl Ranged for Address {
 }
 
 impl RoundTrip for Address {
-    fn again() {
-        record_again::<Address, AddressFields>()
+    fn round_trips() {
+        record_round_trips::<Address, AddressFields>()
     }
 }
 
@@ -185,8 +184,8 @@ impl Ranged for State {
 }
 
 impl RoundTrip for State {
-    fn again() {
-        variant_again::<State>()
+    fn round_trips() {
+        variant_round_trips::<State>()
     }
 }
 
@@ -237,16 +236,16 @@ impl Record for Item {
 
     ghost made = { λ x. record { sku = x.0; count = x.1.0; cents = x.1.1.0; notes = x.1.1.1.0 } };
 
-    ghost whole = { (λ v. refl, λ x. refl) };
+    ghost bijective = { (λ v. refl, λ x. refl) };
 
-    ghost named = { refl };
+    ghost distinct_names = { refl };
 
     fn names() -> &'static [&'static str] {
         ITEM_NAMES
     }
 
     fn build(parts: Self::Values) -> Item {
-        let Taken4(sku, count, cents, notes, ()) = take4(parts);
+        let FourParts(sku, count, cents, notes, ()) = take_four(parts);
         Item {
             sku,
             count,
@@ -257,7 +256,7 @@ impl Record for Item {
 }
 
 impl FromJson for Item {
-    ghost means = { struct_meant ⟦<ItemFields as Slots>⟧.meaning ⟦<Item as Record>⟧.names ⟦<Item as Record>⟧.values };
+    ghost means = { struct_meaning ⟦<ItemFields as Slots>⟧.meaning ⟦<Item as Record>⟧.names ⟦<Item as Record>⟧.values };
 
     fn missing() -> Option<Item> {
         None
@@ -269,7 +268,8 @@ impl FromJson for Item {
 }
 
 impl Serialize for Item {
-    ghost tree = { record_tree ⟦<Item as Record>⟧.names ⟦<ItemFields as AgainFields>⟧.trees ⟦<Item as Record>⟧.values };
+    ghost tree = { record_tree ⟦<Item as Record>⟧.names ⟦<ItemFields as RoundTripFields>⟧.trees
+        ⟦<Item as Record>⟧.values };
 
     fn begin(&self, w: &mut Writer) -> Result<()> {
         write_members(
@@ -281,7 +281,7 @@ impl Serialize for Item {
 }
 
 impl Ranged for Item {
-    ghost real = { λ v. ⟦<ItemFields as AgainFields>⟧.real (⟦<Item as Record>⟧.values v) };
+    ghost real = { λ v. ⟦<ItemFields as RoundTripFields>⟧.real (⟦<Item as Record>⟧.values v) };
 
     fn ranged(&self) {
         self.sku.ranged();
@@ -292,8 +292,8 @@ impl Ranged for Item {
 }
 
 impl RoundTrip for Item {
-    fn again() {
-        record_again::<Item, ItemFields>()
+    fn round_trips() {
+        record_round_trips::<Item, ItemFields>()
     }
 }
 
@@ -322,16 +322,16 @@ impl Record for Customer {
 
     ghost made = { λ x. record { id = x.0; name = x.1.0; addresses = x.1.1.0; flags = x.1.1.1.0 } };
 
-    ghost whole = { (λ v. refl, λ x. refl) };
+    ghost bijective = { (λ v. refl, λ x. refl) };
 
-    ghost named = { refl };
+    ghost distinct_names = { refl };
 
     fn names() -> &'static [&'static str] {
         CUSTOMER_NAMES
     }
 
     fn build(parts: Self::Values) -> Customer {
-        let Taken4(id, name, addresses, flags, ()) = take4(parts);
+        let FourParts(id, name, addresses, flags, ()) = take_four(parts);
         Customer {
             id,
             name,
@@ -342,7 +342,7 @@ impl Record for Customer {
 }
 
 impl FromJson for Customer {
-    ghost means = { struct_meant ⟦<CustomerFields as Slots>⟧.meaning ⟦<Customer as Record>⟧.names
+    ghost means = { struct_meaning ⟦<CustomerFields as Slots>⟧.meaning ⟦<Customer as Record>⟧.names
         ⟦<Customer as Record>⟧.values };
 
     fn missing() -> Option<Customer> {
@@ -355,8 +355,7 @@ impl FromJson for Customer {
 }
 
 impl Serialize for Customer {
-    ghost tree = { record_tree ⟦<Customer as Record>⟧.names ⟦<CustomerFields as AgainFields>⟧.trees
-        ⟦<Customer as Record>⟧.values };
+    ghost tree = { record_tree ⟦<Customer as Record>⟧.names ⟦<CustomerFields as RoundTripFields>⟧.trees ⟦<Customer as Record>⟧.values };
 
     fn begin(&self, w: &mut Writer) -> Result<()> {
         write_members(
@@ -368,7 +367,7 @@ impl Serialize for Customer {
 }
 
 impl Ranged for Customer {
-    ghost real = { λ v. ⟦<CustomerFields as AgainFields>⟧.real (⟦<Customer as Record>⟧.values v) };
+    ghost real = { λ v. ⟦<CustomerFields as RoundTripFields>⟧.real (⟦<Customer as Record>⟧.values v) };
 
     fn ranged(&self) {
         self.id.ranged();
@@ -379,8 +378,8 @@ impl Ranged for Customer {
 }
 
 impl RoundTrip for Customer {
-    fn again() {
-        record_again::<Customer, CustomerFields>()
+    fn round_trips() {
+        record_round_trips::<Customer, CustomerFields>()
     }
 }
 
@@ -450,16 +449,16 @@ impl Record for Order {
       extra = x.1.1.1.1.1.1.0;
     } };
 
-    ghost whole = { (λ v. refl, λ x. refl) };
+    ghost bijective = { (λ v. refl, λ x. refl) };
 
-    ghost named = { refl };
+    ghost distinct_names = { refl };
 
     fn names() -> &'static [&'static str] {
         ORDER_NAMES
     }
 
     fn build(parts: Self::Values) -> Order {
-        let Taken4(number, customer, items, state, parts) = take4(parts);
+        let FourParts(number, customer, items, state, parts) = take_four(parts);
         let Parts(discount, Parts(kind, Parts(extra, ()))) = parts;
         Order {
             number,
@@ -474,7 +473,8 @@ impl Record for Order {
 }
 
 impl FromJson for Order {
-    ghost means = { struct_meant ⟦<OrderFields as Slots>⟧.meaning ⟦<Order as Record>⟧.names ⟦<Order as Record>⟧.values };
+    ghost means = { struct_meaning ⟦<OrderFields as Slots>⟧.meaning ⟦<Order as Record>⟧.names
+        ⟦<Order as Record>⟧.values };
 
     fn missing() -> Option<Order> {
         None
@@ -486,7 +486,7 @@ impl FromJson for Order {
 }
 
 impl Serialize for Order {
-    ghost tree = { record_tree ⟦<Order as Record>⟧.names ⟦<OrderFields as AgainFields>⟧.trees
+    ghost tree = { record_tree ⟦<Order as Record>⟧.names ⟦<OrderFields as RoundTripFields>⟧.trees
         ⟦<Order as Record>⟧.values };
 
     fn begin(&self, w: &mut Writer) -> Result<()> {
@@ -505,7 +505,7 @@ impl Serialize for Order {
 }
 
 impl Ranged for Order {
-    ghost real = { λ v. ⟦<OrderFields as AgainFields>⟧.real (⟦<Order as Record>⟧.values v) };
+    ghost real = { λ v. ⟦<OrderFields as RoundTripFields>⟧.real (⟦<Order as Record>⟧.values v) };
 
     fn ranged(&self) {
         self.number.ranged();
@@ -519,8 +519,8 @@ impl Ranged for Order {
 }
 
 impl RoundTrip for Order {
-    fn again() {
-        record_again::<Order, OrderFields>()
+    fn round_trips() {
+        record_round_trips::<Order, OrderFields>()
     }
 }
 
@@ -548,9 +548,9 @@ impl Record for Day {
 
     ghost made = { λ x. record { date = x.0; orders = x.1.0; by_country = x.1.1.0 } };
 
-    ghost whole = { (λ v. refl, λ x. refl) };
+    ghost bijective = { (λ v. refl, λ x. refl) };
 
-    ghost named = { refl };
+    ghost distinct_names = { refl };
 
     fn names() -> &'static [&'static str] {
         DAY_NAMES
@@ -567,7 +567,7 @@ impl Record for Day {
 }
 
 impl FromJson for Day {
-    ghost means = { struct_meant ⟦<DayFields as Slots>⟧.meaning ⟦<Day as Record>⟧.names ⟦<Day as Record>⟧.values };
+    ghost means = { struct_meaning ⟦<DayFields as Slots>⟧.meaning ⟦<Day as Record>⟧.names ⟦<Day as Record>⟧.values };
 
     fn missing() -> Option<Day> {
         None
@@ -579,7 +579,7 @@ impl FromJson for Day {
 }
 
 impl Serialize for Day {
-    ghost tree = { record_tree ⟦<Day as Record>⟧.names ⟦<DayFields as AgainFields>⟧.trees ⟦<Day as Record>⟧.values };
+    ghost tree = { record_tree ⟦<Day as Record>⟧.names ⟦<DayFields as RoundTripFields>⟧.trees ⟦<Day as Record>⟧.values };
 
     fn begin(&self, w: &mut Writer) -> Result<()> {
         write_members(
@@ -591,7 +591,7 @@ impl Serialize for Day {
 }
 
 impl Ranged for Day {
-    ghost real = { λ v. ⟦<DayFields as AgainFields>⟧.real (⟦<Day as Record>⟧.values v) };
+    ghost real = { λ v. ⟦<DayFields as RoundTripFields>⟧.real (⟦<Day as Record>⟧.values v) };
 
     fn ranged(&self) {
         self.date.ranged();
@@ -601,8 +601,8 @@ impl Ranged for Day {
 }
 
 impl RoundTrip for Day {
-    fn again() {
-        record_again::<Day, DayFields>()
+    fn round_trips() {
+        record_round_trips::<Day, DayFields>()
     }
 }
 
@@ -630,9 +630,9 @@ impl Record for Ledger {
 
     ghost made = { λ x. record { days = x.0; next = x.1.0; rates = x.1.1.0 } };
 
-    ghost whole = { (λ v. refl, λ x. refl) };
+    ghost bijective = { (λ v. refl, λ x. refl) };
 
-    ghost named = { refl };
+    ghost distinct_names = { refl };
 
     fn names() -> &'static [&'static str] {
         LEDGER_NAMES
@@ -645,7 +645,7 @@ impl Record for Ledger {
 }
 
 impl FromJson for Ledger {
-    ghost means = { struct_meant ⟦<LedgerFields as Slots>⟧.meaning ⟦<Ledger as Record>⟧.names
+    ghost means = { struct_meaning ⟦<LedgerFields as Slots>⟧.meaning ⟦<Ledger as Record>⟧.names
         ⟦<Ledger as Record>⟧.values };
 
     fn missing() -> Option<Ledger> {
@@ -658,7 +658,7 @@ impl FromJson for Ledger {
 }
 
 impl Serialize for Ledger {
-    ghost tree = { record_tree ⟦<Ledger as Record>⟧.names ⟦<LedgerFields as AgainFields>⟧.trees
+    ghost tree = { record_tree ⟦<Ledger as Record>⟧.names ⟦<LedgerFields as RoundTripFields>⟧.trees
         ⟦<Ledger as Record>⟧.values };
 
     fn begin(&self, w: &mut Writer) -> Result<()> {
@@ -671,7 +671,7 @@ impl Serialize for Ledger {
 }
 
 impl Ranged for Ledger {
-    ghost real = { λ v. ⟦<LedgerFields as AgainFields>⟧.real (⟦<Ledger as Record>⟧.values v) };
+    ghost real = { λ v. ⟦<LedgerFields as RoundTripFields>⟧.real (⟦<Ledger as Record>⟧.values v) };
 
     fn ranged(&self) {
         self.days.ranged();
@@ -681,7 +681,7 @@ impl Ranged for Ledger {
 }
 
 impl RoundTrip for Ledger {
-    fn again() {
-        record_again::<Ledger, LedgerFields>()
+    fn round_trips() {
+        record_round_trips::<Ledger, LedgerFields>()
     }
 }

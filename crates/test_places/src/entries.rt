@@ -2,8 +2,8 @@
 //! trip.
 ghost use Rattle.std.specs.Prelude.{◌≡◌, ◌<◌, ◌^◌, List, Option, None, Some, Ok, Err, IfOk, ℕ};
 ghost use Rattle.std.specs.String.{string_bytes};
-ghost use Rattle.miniserde.specs.Meanings.{pair_meant};
-ghost use Rattle.miniserde.specs.PlaceMeanings.{box_meaning};
+ghost use Rattle.miniserde.specs.Meanings.{pair_meaning};
+ghost use Rattle.miniserde.specs.PlaceMeanings.{box_place_meaning};
 ghost use Rattle.miniserde.specs.Tree.{list, tree, no_trees, nonneg, str};
 
 use miniserde::de::{Deserialize, FromJson, PairPlace, Ranged, Source, Step, Visitor};
@@ -28,7 +28,7 @@ pub struct EntryPlace {
 impl Visitor for EntryPlace {
     type Out = Entry;
 
-    ghost meaning = { box_meaning (λ p. p.pair) (λ v. (v.code, v.message))
+    ghost meaning = { box_place_meaning (λ p. p.pair) (λ v. (v.code, v.message))
         ⟦<PairPlace<u32, String> as Visitor>⟧.meaning };
 
     fn begin(alloc: Global) -> Result<EntryPlace> {
@@ -57,7 +57,7 @@ impl Visitor for EntryPlace {
 }
 
 impl FromJson for Entry {
-    ghost means = { pair_meant ⟦<u32 as FromJson>⟧.means ⟦<String as FromJson>⟧.means (λ v. v.code) (λ v. v.message) };
+    ghost means = { pair_meaning ⟦<u32 as FromJson>⟧.means ⟦<String as FromJson>⟧.means (λ v. v.code) (λ v. v.message) };
 
     fn missing() -> Option<Entry> {
         None
@@ -97,8 +97,8 @@ impl Ranged for Entry {
 }
 
 impl RoundTrip for Entry {
-    fn again() {
-        <(u32, String) as RoundTrip>::again()
+    fn round_trips() {
+        <(u32, String) as RoundTrip>::round_trips()
     }
 }
 

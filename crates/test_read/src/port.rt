@@ -1,6 +1,6 @@
 //! A type of a user's own that reads itself and has no place.
 ghost use Rattle.miniserde_model.specs.Tree.{nonneg};
-ghost use Rattle.miniserde_read.specs.Meanings.{box_meant};
+ghost use Rattle.miniserde_read.specs.Meanings.{box_meaning};
 
 use miniserde_model::error::Result;
 use miniserde_read::{FromJson, Source};
@@ -14,7 +14,7 @@ pub struct Port {
 }
 
 impl FromJson for Port {
-    ghost means = { box_meant ⟦<u16 as FromJson>⟧.means (λ p. p.number) };
+    ghost means = { box_meaning ⟦<u16 as FromJson>⟧.means (λ p. p.number) };
 
     fn missing() -> Option<Port> {
         None

@@ -1,15 +1,15 @@
 //! The types of `generic.rs`, with the impls that `./derive` writes.
-ghost use Rattle.miniserde.specs.FieldsMeant.{struct_meant};
+ghost use Rattle.miniserde.specs.FieldsMeaning.{struct_meaning};
 ghost use Rattle.miniserde.specs.Structs.{names_of, record_tree};
 ghost use Rattle.miniserde.specs.Tree.{nonneg};
 ghost use Rattle.std.specs.Prelude.{refl};
 
 use miniserde::derived::{
-    AgainFields, BesideTag, Closed, Empty, Event, FourLent, FromJson, Given, Global, HasTag,
-    Inside, Lossless, MarkedFour, MarkedSlot, Members, NeverNull, NoSlot, OnceSlot, Parts, Plain,
-    Ranged, Record, Result, RoundTrip, Serialize, Slot, Slots, Source, Stable, Taken4, WithDefault,
-    Writer, fields_named, read_record, record_again, record_lossless, record_stable, take4,
-    write_members,
+    BesideTag, Closed, Empty, Event, FourLent, FourParts, FromJson, Given, Global, HasTag, Inside,
+    Lossless, MarkedFour, MarkedSlot, Members, NeverNull, NoSlot, OnceSlot, Parts, Plain, Ranged,
+    Record, Result, RoundTrip, RoundTripFields, Serialize, Slot, Slots, Source, Stable,
+    WithDefault, Writer, fields_named, read_record, record_lossless, record_round_trips,
+    record_stable, take_four, write_members,
 };
 use std::collections::BTreeMap;
 
@@ -36,9 +36,9 @@ impl<A: FromJson, B: FromJson> Record for Both<A, B> {
 
     ghost made = { λ x. record { one = x.0; two = x.1.0 } };
 
-    ghost whole = { (λ v. refl, λ x. refl) };
+    ghost bijective = { (λ v. refl, λ x. refl) };
 
-    ghost named = { refl };
+    ghost distinct_names = { refl };
 
     fn names() -> &'static [&'static str] {
         BOTH_NAMES
@@ -51,7 +51,7 @@ impl<A: FromJson, B: FromJson> Record for Both<A, B> {
 }
 
 impl<A: FromJson, B: FromJson> FromJson for Both<A, B> {
-    ghost means = { struct_meant ⟦<BothFields<A, B> as Slots>⟧.meaning ⟦<Both<A, B> as Record>⟧.names ⟦<Both<A, B> as Record>⟧.values };
+    ghost means = { struct_meaning ⟦<BothFields<A, B> as Slots>⟧.meaning ⟦<Both<A, B> as Record>⟧.names ⟦<Both<A, B> as Record>⟧.values };
 
     fn missing() -> Option<Both<A, B>> {
         None
@@ -63,7 +63,7 @@ impl<A: FromJson, B: FromJson> FromJson for Both<A, B> {
 }
 
 impl<A: RoundTrip, B: RoundTrip> Serialize for Both<A, B> {
-    ghost tree = { record_tree ⟦<Both<A, B> as Record>⟧.names ⟦<BothFields<A, B> as AgainFields>⟧.trees ⟦<Both<A, B> as Record>⟧.values };
+    ghost tree = { record_tree ⟦<Both<A, B> as Record>⟧.names ⟦<BothFields<A, B> as RoundTripFields>⟧.trees ⟦<Both<A, B> as Record>⟧.values };
 
     fn begin(&self, w: &mut Writer) -> Result<()> {
         write_members(w, BOTH_NAMES, &Parts(&self.one, Parts(&self.two, ())))
@@ -71,7 +71,7 @@ impl<A: RoundTrip, B: RoundTrip> Serialize for Both<A, B> {
 }
 
 impl<A: RoundTrip, B: RoundTrip> Ranged for Both<A, B> {
-    ghost real = { λ v. ⟦<BothFields<A, B> as AgainFields>⟧.real (⟦<Both<A, B> as Record>⟧.values v) };
+    ghost real = { λ v. ⟦<BothFields<A, B> as RoundTripFields>⟧.real (⟦<Both<A, B> as Record>⟧.values v) };
 
     fn ranged(&self) {
         self.one.ranged();
@@ -80,8 +80,8 @@ impl<A: RoundTrip, B: RoundTrip> Ranged for Both<A, B> {
 }
 
 impl<A: RoundTrip, B: RoundTrip> RoundTrip for Both<A, B> {
-    fn again() {
-        record_again::<Both<A, B>, BothFields<A, B>>()
+    fn round_trips() {
+        record_round_trips::<Both<A, B>, BothFields<A, B>>()
     }
 }
 
@@ -171,16 +171,16 @@ impl<T: FromJson, E: FromJson> Record for Reply<T, E> {
       pages = x.1.1.1.1.0;
     } };
 
-    ghost whole = { (λ v. refl, λ x. refl) };
+    ghost bijective = { (λ v. refl, λ x. refl) };
 
-    ghost named = { refl };
+    ghost distinct_names = { refl };
 
     fn names() -> &'static [&'static str] {
         REPLY_NAMES
     }
 
     fn build(parts: Self::Values) -> Reply<T, E> {
-        let Taken4(data, error, more, by_name, parts) = take4(parts);
+        let FourParts(data, error, more, by_name, parts) = take_four(parts);
         let Parts(pages, ()) = parts;
         Reply {
             data,
@@ -193,7 +193,7 @@ impl<T: FromJson, E: FromJson> Record for Reply<T, E> {
 }
 
 impl<T: FromJson, E: FromJson> FromJson for Reply<T, E> {
-    ghost means = { struct_meant ⟦<ReplyFields<T, E> as Slots>⟧.meaning ⟦<Reply<T, E> as Record>⟧.names ⟦<Reply<T, E> as Record>⟧.values };
+    ghost means = { struct_meaning ⟦<ReplyFields<T, E> as Slots>⟧.meaning ⟦<Reply<T, E> as Record>⟧.names ⟦<Reply<T, E> as Record>⟧.values };
 
     fn missing() -> Option<Reply<T, E>> {
         None
@@ -205,7 +205,7 @@ impl<T: FromJson, E: FromJson> FromJson for Reply<T, E> {
 }
 
 impl<T: RoundTrip, E: RoundTrip> Serialize for Reply<T, E> {
-    ghost tree = { record_tree ⟦<Reply<T, E> as Record>⟧.names ⟦<ReplyFields<T, E> as AgainFields>⟧.trees ⟦<Reply<T, E> as Record>⟧.values };
+    ghost tree = { record_tree ⟦<Reply<T, E> as Record>⟧.names ⟦<ReplyFields<T, E> as RoundTripFields>⟧.trees ⟦<Reply<T, E> as Record>⟧.values };
 
     fn begin(&self, w: &mut Writer) -> Result<()> {
         write_members(
@@ -223,8 +223,7 @@ impl<T: RoundTrip, E: RoundTrip> Serialize for Reply<T, E> {
 }
 
 impl<T: RoundTrip, E: RoundTrip> Ranged for Reply<T, E> {
-    ghost real = { λ v. ⟦<ReplyFields<T, E> as AgainFields>⟧.real (⟦<Reply<T, E> as Record>⟧.values
-        v) };
+    ghost real = { λ v. ⟦<ReplyFields<T, E> as RoundTripFields>⟧.real (⟦<Reply<T, E> as Record>⟧.values v) };
 
     fn ranged(&self) {
         self.data.ranged();
@@ -236,8 +235,8 @@ impl<T: RoundTrip, E: RoundTrip> Ranged for Reply<T, E> {
 }
 
 impl<T: RoundTrip, E: RoundTrip> RoundTrip for Reply<T, E> {
-    fn again() {
-        record_again::<Reply<T, E>, ReplyFields<T, E>>()
+    fn round_trips() {
+        record_round_trips::<Reply<T, E>, ReplyFields<T, E>>()
     }
 }
 

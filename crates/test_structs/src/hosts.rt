@@ -1,12 +1,12 @@
 //! Structs in lists in structs.
-ghost use Rattle.miniserde.specs.FieldsMeant.{struct_meant};
+ghost use Rattle.miniserde.specs.FieldsMeaning.{struct_meaning};
 ghost use Rattle.miniserde.specs.Structs.{names_of, record_tree};
 ghost use Rattle.std.specs.Prelude.{refl};
 
 use miniserde::derived::{
-    AgainFields, Event, FourLent, FourSlot, FromJson, NoSlot, Parts, Ranged, Record, Result,
-    RoundTrip, Serialize, Slot, Slots, Source, Taken4, Writer, read_record, record_again, take4,
-    write_members,
+    Event, FourLent, FourParts, FourSlot, FromJson, NoSlot, Parts, Ranged, Record, Result,
+    RoundTrip, RoundTripFields, Serialize, Slot, Slots, Source, Writer, read_record,
+    record_round_trips, take_four, write_members,
 };
 use std::collections::BTreeMap;
 
@@ -33,9 +33,9 @@ impl Record for Port {
 
     ghost made = { λ x. record { number = x.0; «open» = x.1.0 } };
 
-    ghost whole = { (λ v. refl, λ x. refl) };
+    ghost bijective = { (λ v. refl, λ x. refl) };
 
-    ghost named = { refl };
+    ghost distinct_names = { refl };
 
     fn names() -> &'static [&'static str] {
         PORT_NAMES
@@ -48,7 +48,7 @@ impl Record for Port {
 }
 
 impl FromJson for Port {
-    ghost means = { struct_meant ⟦<PortFields as Slots>⟧.meaning ⟦<Port as Record>⟧.names ⟦<Port as Record>⟧.values };
+    ghost means = { struct_meaning ⟦<PortFields as Slots>⟧.meaning ⟦<Port as Record>⟧.names ⟦<Port as Record>⟧.values };
 
     fn missing() -> Option<Port> {
         None
@@ -60,7 +60,8 @@ impl FromJson for Port {
 }
 
 impl Serialize for Port {
-    ghost tree = { record_tree ⟦<Port as Record>⟧.names ⟦<PortFields as AgainFields>⟧.trees ⟦<Port as Record>⟧.values };
+    ghost tree = { record_tree ⟦<Port as Record>⟧.names ⟦<PortFields as RoundTripFields>⟧.trees
+        ⟦<Port as Record>⟧.values };
 
     fn begin(&self, w: &mut Writer) -> Result<()> {
         write_members(w, PORT_NAMES, &Parts(&self.number, Parts(&self.open, ())))
@@ -68,7 +69,7 @@ impl Serialize for Port {
 }
 
 impl Ranged for Port {
-    ghost real = { λ v. ⟦<PortFields as AgainFields>⟧.real (⟦<Port as Record>⟧.values v) };
+    ghost real = { λ v. ⟦<PortFields as RoundTripFields>⟧.real (⟦<Port as Record>⟧.values v) };
 
     fn ranged(&self) {
         self.number.ranged();
@@ -77,8 +78,8 @@ impl Ranged for Port {
 }
 
 impl RoundTrip for Port {
-    fn again() {
-        record_again::<Port, PortFields>()
+    fn round_trips() {
+        record_round_trips::<Port, PortFields>()
     }
 }
 
@@ -106,9 +107,9 @@ impl Record for Host {
 
     ghost made = { λ x. record { name = x.0; ports = x.1.0; weight = x.1.1.0 } };
 
-    ghost whole = { (λ v. refl, λ x. refl) };
+    ghost bijective = { (λ v. refl, λ x. refl) };
 
-    ghost named = { refl };
+    ghost distinct_names = { refl };
 
     fn names() -> &'static [&'static str] {
         HOST_NAMES
@@ -125,7 +126,7 @@ impl Record for Host {
 }
 
 impl FromJson for Host {
-    ghost means = { struct_meant ⟦<HostFields as Slots>⟧.meaning ⟦<Host as Record>⟧.names ⟦<Host as Record>⟧.values };
+    ghost means = { struct_meaning ⟦<HostFields as Slots>⟧.meaning ⟦<Host as Record>⟧.names ⟦<Host as Record>⟧.values };
 
     fn missing() -> Option<Host> {
         None
@@ -137,7 +138,8 @@ impl FromJson for Host {
 }
 
 impl Serialize for Host {
-    ghost tree = { record_tree ⟦<Host as Record>⟧.names ⟦<HostFields as AgainFields>⟧.trees ⟦<Host as Record>⟧.values };
+    ghost tree = { record_tree ⟦<Host as Record>⟧.names ⟦<HostFields as RoundTripFields>⟧.trees
+        ⟦<Host as Record>⟧.values };
 
     fn begin(&self, w: &mut Writer) -> Result<()> {
         write_members(
@@ -149,7 +151,7 @@ impl Serialize for Host {
 }
 
 impl Ranged for Host {
-    ghost real = { λ v. ⟦<HostFields as AgainFields>⟧.real (⟦<Host as Record>⟧.values v) };
+    ghost real = { λ v. ⟦<HostFields as RoundTripFields>⟧.real (⟦<Host as Record>⟧.values v) };
 
     fn ranged(&self) {
         self.name.ranged();
@@ -159,8 +161,8 @@ impl Ranged for Host {
 }
 
 impl RoundTrip for Host {
-    fn again() {
-        record_again::<Host, HostFields>()
+    fn round_trips() {
+        record_round_trips::<Host, HostFields>()
     }
 }
 
@@ -194,16 +196,16 @@ impl Record for Config {
       limits = x.1.1.1.0;
     } };
 
-    ghost whole = { (λ v. refl, λ x. refl) };
+    ghost bijective = { (λ v. refl, λ x. refl) };
 
-    ghost named = { refl };
+    ghost distinct_names = { refl };
 
     fn names() -> &'static [&'static str] {
         CONFIG_NAMES
     }
 
     fn build(parts: Self::Values) -> Config {
-        let Taken4(hosts, main, backup, limits, ()) = take4(parts);
+        let FourParts(hosts, main, backup, limits, ()) = take_four(parts);
         Config {
             hosts,
             main,
@@ -214,7 +216,7 @@ impl Record for Config {
 }
 
 impl FromJson for Config {
-    ghost means = { struct_meant ⟦<ConfigFields as Slots>⟧.meaning ⟦<Config as Record>⟧.names
+    ghost means = { struct_meaning ⟦<ConfigFields as Slots>⟧.meaning ⟦<Config as Record>⟧.names
         ⟦<Config as Record>⟧.values };
 
     fn missing() -> Option<Config> {
@@ -227,7 +229,7 @@ impl FromJson for Config {
 }
 
 impl Serialize for Config {
-    ghost tree = { record_tree ⟦<Config as Record>⟧.names ⟦<ConfigFields as AgainFields>⟧.trees
+    ghost tree = { record_tree ⟦<Config as Record>⟧.names ⟦<ConfigFields as RoundTripFields>⟧.trees
         ⟦<Config as Record>⟧.values };
 
     fn begin(&self, w: &mut Writer) -> Result<()> {
@@ -240,7 +242,7 @@ impl Serialize for Config {
 }
 
 impl Ranged for Config {
-    ghost real = { λ v. ⟦<ConfigFields as AgainFields>⟧.real (⟦<Config as Record>⟧.values v) };
+    ghost real = { λ v. ⟦<ConfigFields as RoundTripFields>⟧.real (⟦<Config as Record>⟧.values v) };
 
     fn ranged(&self) {
         self.hosts.ranged();
@@ -251,7 +253,7 @@ impl Ranged for Config {
 }
 
 impl RoundTrip for Config {
-    fn again() {
-        record_again::<Config, ConfigFields>()
+    fn round_trips() {
+        record_round_trips::<Config, ConfigFields>()
     }
 }

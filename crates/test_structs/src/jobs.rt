@@ -1,12 +1,13 @@
 //! The types of `jobs.rs`, with the impls that `./derive` writes.
-ghost use Rattle.miniserde.specs.FieldsMeant.{struct_meant};
+ghost use Rattle.miniserde.specs.FieldsMeaning.{struct_meaning};
 ghost use Rattle.miniserde.specs.Structs.{names_of, record_tree};
 ghost use Rattle.std.specs.Prelude.{refl};
 
 use miniserde::derived::{
-    AgainFields, Empty, Event, FromJson, Lossless, MarkedSlot, NeverNull, NoSlot, OnceSlot, Parts,
-    Ranged, Record, Result, RoundTrip, Serialize, Slot, Slots, Source, Stable, WithDefault, Writer,
-    read_record, record_again, record_lossless, record_stable, write_members,
+    Empty, Event, FromJson, Lossless, MarkedSlot, NeverNull, NoSlot, OnceSlot, Parts, Ranged,
+    Record, Result, RoundTrip, RoundTripFields, Serialize, Slot, Slots, Source, Stable,
+    WithDefault, Writer, read_record, record_lossless, record_round_trips, record_stable,
+    write_members,
 };
 use std::collections::VecDeque;
 
@@ -37,9 +38,9 @@ impl<T: FromJson> Record for Jobs<T> {
 
     ghost made = { λ x. record { waiting = x.0; late = x.1.0; done = x.1.1.0 } };
 
-    ghost whole = { (λ v. refl, λ x. refl) };
+    ghost bijective = { (λ v. refl, λ x. refl) };
 
-    ghost named = { refl };
+    ghost distinct_names = { refl };
 
     fn names() -> &'static [&'static str] {
         JOBS_NAMES
@@ -56,7 +57,7 @@ impl<T: FromJson> Record for Jobs<T> {
 }
 
 impl<T: FromJson> FromJson for Jobs<T> {
-    ghost means = { struct_meant ⟦<JobsFields<T> as Slots>⟧.meaning ⟦<Jobs<T> as Record>⟧.names
+    ghost means = { struct_meaning ⟦<JobsFields<T> as Slots>⟧.meaning ⟦<Jobs<T> as Record>⟧.names
         ⟦<Jobs<T> as Record>⟧.values };
 
     fn missing() -> Option<Jobs<T>> {
@@ -69,8 +70,7 @@ impl<T: FromJson> FromJson for Jobs<T> {
 }
 
 impl<T: RoundTrip> Serialize for Jobs<T> {
-    ghost tree = { record_tree ⟦<Jobs<T> as Record>⟧.names ⟦<JobsFields<T> as AgainFields>⟧.trees
-        ⟦<Jobs<T> as Record>⟧.values };
+    ghost tree = { record_tree ⟦<Jobs<T> as Record>⟧.names ⟦<JobsFields<T> as RoundTripFields>⟧.trees ⟦<Jobs<T> as Record>⟧.values };
 
     fn begin(&self, w: &mut Writer) -> Result<()> {
         write_members(
@@ -82,7 +82,7 @@ impl<T: RoundTrip> Serialize for Jobs<T> {
 }
 
 impl<T: RoundTrip> Ranged for Jobs<T> {
-    ghost real = { λ v. ⟦<JobsFields<T> as AgainFields>⟧.real (⟦<Jobs<T> as Record>⟧.values v) };
+    ghost real = { λ v. ⟦<JobsFields<T> as RoundTripFields>⟧.real (⟦<Jobs<T> as Record>⟧.values v) };
 
     fn ranged(&self) {
         self.waiting.ranged();
@@ -92,8 +92,8 @@ impl<T: RoundTrip> Ranged for Jobs<T> {
 }
 
 impl<T: RoundTrip> RoundTrip for Jobs<T> {
-    fn again() {
-        record_again::<Jobs<T>, JobsFields<T>>()
+    fn round_trips() {
+        record_round_trips::<Jobs<T>, JobsFields<T>>()
     }
 }
 

@@ -1,17 +1,17 @@
 //! The types of `renamed.rs`, with the impls that `./derive` writes.
 ghost use Rattle.miniserde.specs.Cases.{each_case, enum_tree, first_case, later_case, no_case};
-ghost use Rattle.miniserde.specs.CasesMeant.{enum_meant};
-ghost use Rattle.miniserde.specs.FieldsMeant.{struct_meant};
+ghost use Rattle.miniserde.specs.CasesMeaning.{enum_meaning};
+ghost use Rattle.miniserde.specs.FieldsMeaning.{struct_meaning};
 ghost use Rattle.miniserde.specs.Structs.{names_of, record_tree};
 ghost use Rattle.miniserde.specs.Tree.{str};
 ghost use Rattle.std.specs.Prelude.{true, List, codes, [], ◌∷◌, ⊤, refl};
 
 use miniserde::derived::{
-    AgainCases, AgainFields, Cases, DataCase, Event, Fragment, FromJson, Lossless, NeverNull,
-    NoCase, NoSlot, OneOf, Parts, Ranged, Record, Result, RoundTrip, Serialize, Slot, Slots,
-    Source, Tagged, UnitCase, UnitEnum, Variants, Writer, enum_again, enum_lossless, read_enum,
-    read_record, read_variant, record_again, record_lossless, variant_again, variant_lossless,
-    write_data, write_fields, write_members,
+    Cases, DataCase, Event, Fragment, FromJson, Lossless, NeverNull, NoCase, NoSlot, OneOf, Parts,
+    Ranged, Record, Result, RoundTrip, RoundTripCases, RoundTripFields, Serialize, Slot, Slots,
+    Source, Tagged, UnitCase, UnitEnum, Variants, Writer, enum_lossless, enum_round_trips,
+    read_enum, read_record, read_variant, record_lossless, record_round_trips, variant_lossless,
+    variant_round_trips, write_data, write_fields, write_members,
 };
 
 /// How far a job is.
@@ -78,8 +78,8 @@ impl Ranged for Phase {
 }
 
 impl RoundTrip for Phase {
-    fn again() {
-        variant_again::<Phase>()
+    fn round_trips() {
+        variant_round_trips::<Phase>()
     }
 }
 
@@ -117,9 +117,9 @@ impl Record for Account {
 
     ghost made = { λ x. record { user_id = x.0; is_admin = x.1.0; html_url = x.1.1.0 } };
 
-    ghost whole = { (λ v. refl, λ x. refl) };
+    ghost bijective = { (λ v. refl, λ x. refl) };
 
-    ghost named = { refl };
+    ghost distinct_names = { refl };
 
     fn names() -> &'static [&'static str] {
         ACCOUNT_NAMES
@@ -136,7 +136,7 @@ impl Record for Account {
 }
 
 impl FromJson for Account {
-    ghost means = { struct_meant ⟦<AccountFields as Slots>⟧.meaning ⟦<Account as Record>⟧.names
+    ghost means = { struct_meaning ⟦<AccountFields as Slots>⟧.meaning ⟦<Account as Record>⟧.names
         ⟦<Account as Record>⟧.values };
 
     fn missing() -> Option<Account> {
@@ -149,8 +149,7 @@ impl FromJson for Account {
 }
 
 impl Serialize for Account {
-    ghost tree = { record_tree ⟦<Account as Record>⟧.names ⟦<AccountFields as AgainFields>⟧.trees
-        ⟦<Account as Record>⟧.values };
+    ghost tree = { record_tree ⟦<Account as Record>⟧.names ⟦<AccountFields as RoundTripFields>⟧.trees ⟦<Account as Record>⟧.values };
 
     fn begin(&self, w: &mut Writer) -> Result<()> {
         write_members(
@@ -165,7 +164,7 @@ impl Serialize for Account {
 }
 
 impl Ranged for Account {
-    ghost real = { λ v. ⟦<AccountFields as AgainFields>⟧.real (⟦<Account as Record>⟧.values v) };
+    ghost real = { λ v. ⟦<AccountFields as RoundTripFields>⟧.real (⟦<Account as Record>⟧.values v) };
 
     fn ranged(&self) {
         self.user_id.ranged();
@@ -175,8 +174,8 @@ impl Ranged for Account {
 }
 
 impl RoundTrip for Account {
-    fn again() {
-        record_again::<Account, AccountFields>()
+    fn round_trips() {
+        record_round_trips::<Account, AccountFields>()
     }
 }
 
@@ -213,9 +212,9 @@ impl Record for ChangeJobPhase {
 
     ghost made = { λ x. record { job_id = x.0; new_phase = x.1.0 } };
 
-    ghost whole = { (λ v. refl, λ x. refl) };
+    ghost bijective = { (λ v. refl, λ x. refl) };
 
-    ghost named = { refl };
+    ghost distinct_names = { refl };
 
     fn names() -> &'static [&'static str] {
         CHANGE_JOB_PHASE_NAMES
@@ -228,7 +227,7 @@ impl Record for ChangeJobPhase {
 }
 
 impl FromJson for ChangeJobPhase {
-    ghost means = { struct_meant ⟦<ChangeJobPhaseFields as Slots>⟧.meaning ⟦<ChangeJobPhase as Record>⟧.names ⟦<ChangeJobPhase as Record>⟧.values };
+    ghost means = { struct_meaning ⟦<ChangeJobPhaseFields as Slots>⟧.meaning ⟦<ChangeJobPhase as Record>⟧.names ⟦<ChangeJobPhase as Record>⟧.values };
 
     fn missing() -> Option<ChangeJobPhase> {
         None
@@ -240,7 +239,7 @@ impl FromJson for ChangeJobPhase {
 }
 
 impl Serialize for ChangeJobPhase {
-    ghost tree = { record_tree ⟦<ChangeJobPhase as Record>⟧.names ⟦<ChangeJobPhaseFields as AgainFields>⟧.trees ⟦<ChangeJobPhase as Record>⟧.values };
+    ghost tree = { record_tree ⟦<ChangeJobPhase as Record>⟧.names ⟦<ChangeJobPhaseFields as RoundTripFields>⟧.trees ⟦<ChangeJobPhase as Record>⟧.values };
 
     fn begin(&self, w: &mut Writer) -> Result<()> {
         write_members(
@@ -252,7 +251,7 @@ impl Serialize for ChangeJobPhase {
 }
 
 impl Ranged for ChangeJobPhase {
-    ghost real = { λ v. ⟦<ChangeJobPhaseFields as AgainFields>⟧.real (⟦<ChangeJobPhase as Record>⟧.values v) };
+    ghost real = { λ v. ⟦<ChangeJobPhaseFields as RoundTripFields>⟧.real (⟦<ChangeJobPhase as Record>⟧.values v) };
 
     fn ranged(&self) {
         self.job_id.ranged();
@@ -261,8 +260,8 @@ impl Ranged for ChangeJobPhase {
 }
 
 impl RoundTrip for ChangeJobPhase {
-    fn again() {
-        record_again::<ChangeJobPhase, ChangeJobPhaseFields>()
+    fn round_trips() {
+        record_round_trips::<ChangeJobPhase, ChangeJobPhaseFields>()
     }
 }
 
@@ -308,14 +307,14 @@ impl Tagged for Change {
           later_case (later_case (later_case (first_case (record { job_id = x0; new_phase = x1 }))))
     ] };
 
-    ghost whole = { each_case _ (λ x. (SignedOut, refl)) (each_case _ (λ x. (NewUrl x, refl))
+    ghost bijective = { each_case _ (λ x. (SignedOut, refl)) (each_case _ (λ x. (NewUrl x, refl))
         (each_case _ (λ x. (SeenAt x.0 x.1 x.2, refl)) (each_case _ (λ x. (
           JobPhase x.job_id
               x.new_phase,
           refl,
         )) (no_case _)))) };
 
-    ghost named = { refl };
+    ghost distinct_names = { refl };
 
     fn names() -> &'static [&'static str] {
         CHANGE_NAMES
@@ -342,7 +341,7 @@ impl Tagged for Change {
 }
 
 impl FromJson for Change {
-    ghost means = { enum_meant ⟦<ChangeCases as Cases>⟧.meaning ⟦<Change as Tagged>⟧.names refl
+    ghost means = { enum_meaning ⟦<ChangeCases as Cases>⟧.meaning ⟦<Change as Tagged>⟧.names refl
         ⟦<Change as Tagged>⟧.values };
 
     fn missing() -> Option<Change> {
@@ -355,7 +354,8 @@ impl FromJson for Change {
 }
 
 impl Serialize for Change {
-    ghost tree = { enum_tree ⟦<Change as Tagged>⟧.names ⟦<ChangeCases as AgainCases>⟧.tree ⟦<Change as Tagged>⟧.values };
+    ghost tree = { enum_tree ⟦<Change as Tagged>⟧.names ⟦<ChangeCases as RoundTripCases>⟧.tree
+        ⟦<Change as Tagged>⟧.values };
 
     fn begin(&self, w: &mut Writer) -> Result<()> {
         match self {
@@ -375,7 +375,7 @@ impl Serialize for Change {
 }
 
 impl Ranged for Change {
-    ghost real = { λ v. ⟦<ChangeCases as AgainCases>⟧.real (⟦<Change as Tagged>⟧.values v) };
+    ghost real = { λ v. ⟦<ChangeCases as RoundTripCases>⟧.real (⟦<Change as Tagged>⟧.values v) };
 
     fn ranged(&self) {
         match self {
@@ -395,8 +395,8 @@ impl Ranged for Change {
 }
 
 impl RoundTrip for Change {
-    fn again() {
-        enum_again::<Change, ChangeCases>()
+    fn round_trips() {
+        enum_round_trips::<Change, ChangeCases>()
     }
 }
 

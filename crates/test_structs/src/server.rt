@@ -1,14 +1,14 @@
 //! Thirty fields of many types, with marks.
-ghost use Rattle.miniserde.specs.FieldsMeant.{struct_meant};
+ghost use Rattle.miniserde.specs.FieldsMeaning.{struct_meaning};
 ghost use Rattle.miniserde.specs.Structs.{names_of, record_tree};
 ghost use Rattle.miniserde.specs.Tree.{nonneg};
 ghost use Rattle.std.specs.Prelude.{refl};
 
 use miniserde::derived::{
-    AgainFields, Closed, Event, FourLent, FourSlot, FromJson, Given, Global, Lossless, MarkedFour,
-    NeverNull, NoSlot, Once, Parts, Plain, Ranged, Record, Result, RoundTrip, Serialize, Slot,
-    Slots, Source, Stable, Taken4, WithDefault, Writer, read_record, record_again, record_lossless,
-    record_stable, take4, write_members,
+    Closed, Event, FourLent, FourParts, FourSlot, FromJson, Given, Global, Lossless, MarkedFour,
+    NeverNull, NoSlot, Once, Parts, Plain, Ranged, Record, Result, RoundTrip, RoundTripFields,
+    Serialize, Slot, Slots, Source, Stable, WithDefault, Writer, read_record, record_lossless,
+    record_round_trips, record_stable, take_four, write_members,
 };
 use std::collections::BTreeMap;
 
@@ -35,9 +35,9 @@ impl Record for Listener {
 
     ghost made = { λ x. record { address = x.0; port = x.1.0 } };
 
-    ghost whole = { (λ v. refl, λ x. refl) };
+    ghost bijective = { (λ v. refl, λ x. refl) };
 
-    ghost named = { refl };
+    ghost distinct_names = { refl };
 
     fn names() -> &'static [&'static str] {
         LISTENER_NAMES
@@ -50,7 +50,7 @@ impl Record for Listener {
 }
 
 impl FromJson for Listener {
-    ghost means = { struct_meant ⟦<ListenerFields as Slots>⟧.meaning ⟦<Listener as Record>⟧.names
+    ghost means = { struct_meaning ⟦<ListenerFields as Slots>⟧.meaning ⟦<Listener as Record>⟧.names
         ⟦<Listener as Record>⟧.values };
 
     fn missing() -> Option<Listener> {
@@ -63,8 +63,7 @@ impl FromJson for Listener {
 }
 
 impl Serialize for Listener {
-    ghost tree = { record_tree ⟦<Listener as Record>⟧.names ⟦<ListenerFields as AgainFields>⟧.trees
-        ⟦<Listener as Record>⟧.values };
+    ghost tree = { record_tree ⟦<Listener as Record>⟧.names ⟦<ListenerFields as RoundTripFields>⟧.trees ⟦<Listener as Record>⟧.values };
 
     fn begin(&self, w: &mut Writer) -> Result<()> {
         write_members(
@@ -76,7 +75,7 @@ impl Serialize for Listener {
 }
 
 impl Ranged for Listener {
-    ghost real = { λ v. ⟦<ListenerFields as AgainFields>⟧.real (⟦<Listener as Record>⟧.values v) };
+    ghost real = { λ v. ⟦<ListenerFields as RoundTripFields>⟧.real (⟦<Listener as Record>⟧.values v) };
 
     fn ranged(&self) {
         self.address.ranged();
@@ -85,8 +84,8 @@ impl Ranged for Listener {
 }
 
 impl RoundTrip for Listener {
-    fn again() {
-        record_again::<Listener, ListenerFields>()
+    fn round_trips() {
+        record_round_trips::<Listener, ListenerFields>()
     }
 }
 
@@ -367,22 +366,22 @@ impl Record for Server {
       note = x.1.1.1.1.1.1.1.1.1.1.1.1.1.1.1.1.1.1.1.1.1.1.1.1.1.1.1.1.1.0;
     } };
 
-    ghost whole = { (λ v. refl, λ x. refl) };
+    ghost bijective = { (λ v. refl, λ x. refl) };
 
-    ghost named = { refl };
+    ghost distinct_names = { refl };
 
     fn names() -> &'static [&'static str] {
         SERVER_NAMES
     }
 
     fn build(parts: Self::Values) -> Server {
-        let Taken4(name, id, region, zone, parts) = take4(parts);
-        let Taken4(version, active, owner, aliases, parts) = take4(parts);
-        let Taken4(weights, listener, more_listeners, backup, parts) = take4(parts);
-        let Taken4(by_zone, limits, labels, memory, parts) = take4(parts);
-        let Taken4(processors, nice, offset, window, parts) = take4(parts);
-        let Taken4(cache, log, verbose, retries, parts) = take4(parts);
-        let Taken4(timeout, proxy, secret, tags, parts) = take4(parts);
+        let FourParts(name, id, region, zone, parts) = take_four(parts);
+        let FourParts(version, active, owner, aliases, parts) = take_four(parts);
+        let FourParts(weights, listener, more_listeners, backup, parts) = take_four(parts);
+        let FourParts(by_zone, limits, labels, memory, parts) = take_four(parts);
+        let FourParts(processors, nice, offset, window, parts) = take_four(parts);
+        let FourParts(cache, log, verbose, retries, parts) = take_four(parts);
+        let FourParts(timeout, proxy, secret, tags, parts) = take_four(parts);
         let Parts(flags, Parts(note, ())) = parts;
         Server {
             name,
@@ -420,7 +419,7 @@ impl Record for Server {
 }
 
 impl FromJson for Server {
-    ghost means = { struct_meant ⟦<ServerFields as Slots>⟧.meaning ⟦<Server as Record>⟧.names
+    ghost means = { struct_meaning ⟦<ServerFields as Slots>⟧.meaning ⟦<Server as Record>⟧.names
         ⟦<Server as Record>⟧.values };
 
     fn missing() -> Option<Server> {
@@ -433,7 +432,7 @@ impl FromJson for Server {
 }
 
 impl Serialize for Server {
-    ghost tree = { record_tree ⟦<Server as Record>⟧.names ⟦<ServerFields as AgainFields>⟧.trees
+    ghost tree = { record_tree ⟦<Server as Record>⟧.names ⟦<ServerFields as RoundTripFields>⟧.trees
         ⟦<Server as Record>⟧.values };
 
     fn begin(&self, w: &mut Writer) -> Result<()> {
@@ -488,7 +487,7 @@ impl Serialize for Server {
 }
 
 impl Ranged for Server {
-    ghost real = { λ v. ⟦<ServerFields as AgainFields>⟧.real (⟦<Server as Record>⟧.values v) };
+    ghost real = { λ v. ⟦<ServerFields as RoundTripFields>⟧.real (⟦<Server as Record>⟧.values v) };
 
     fn ranged(&self) {
         self.name.ranged();
@@ -525,8 +524,8 @@ impl Ranged for Server {
 }
 
 impl RoundTrip for Server {
-    fn again() {
-        record_again::<Server, ServerFields>()
+    fn round_trips() {
+        record_round_trips::<Server, ServerFields>()
     }
 }
 

@@ -1,18 +1,18 @@
 //! A change and what it has, internally tagged, with the impls that `./derive` writes.
 ghost use Rattle.miniserde.specs.Cases.{each_case, first_case, later_case, no_case, tagged_tree};
-ghost use Rattle.miniserde.specs.CasesMeant.{tagged_meant};
-ghost use Rattle.miniserde.specs.FieldsMeant.{struct_meant};
+ghost use Rattle.miniserde.specs.CasesMeaning.{tagged_meaning};
+ghost use Rattle.miniserde.specs.FieldsMeaning.{struct_meaning};
 ghost use Rattle.miniserde.specs.Structs.{names_of, record_tree};
 ghost use Rattle.std.specs.Prelude.{codes, refl};
 
 use crate::generic::Both;
 use miniserde::derived::{
-    AgainCases, AgainFields, BesideTag, Closed, DataCase, Empty, Event, FromJson, HasTag, Inside,
-    InsideCases, Lossless, MarkedSlot, Members, NeverNull, NoCase, NoFields, NoSlot, OnceSlot,
-    OneOf, Parts, Ranged, Record, Result, RoundTrip, Serialize, Slot, Slots, Source, Stable,
-    Tagged, WithDefault, Writer, fields_named, read_record, read_tagged, record_again,
-    record_lossless, record_stable, tag_fits, tagged_again, tagged_lossless, tagged_stable,
-    write_members, write_tagged, write_tagged_fields,
+    BesideTag, Closed, DataCase, Empty, Event, FromJson, HasTag, Inside, InsideCases, Lossless,
+    MarkedSlot, Members, NeverNull, NoCase, NoFields, NoSlot, OnceSlot, OneOf, Parts, Ranged,
+    Record, Result, RoundTrip, RoundTripCases, RoundTripFields, Serialize, Slot, Slots, Source,
+    Stable, Tagged, WithDefault, Writer, fields_named, read_record, read_tagged, record_lossless,
+    record_round_trips, record_stable, tag_fits, tagged_lossless, tagged_round_trips,
+    tagged_stable, write_members, write_tagged, write_tagged_fields,
 };
 
 /// A name, and nothing else.
@@ -38,9 +38,9 @@ impl Record for Name {
 
     ghost made = { λ x. record { name = x.0; of = x.1.0 } };
 
-    ghost whole = { (λ v. refl, λ x. refl) };
+    ghost bijective = { (λ v. refl, λ x. refl) };
 
-    ghost named = { refl };
+    ghost distinct_names = { refl };
 
     fn names() -> &'static [&'static str] {
         NAME_NAMES
@@ -53,7 +53,7 @@ impl Record for Name {
 }
 
 impl FromJson for Name {
-    ghost means = { struct_meant ⟦<NameFields as Slots>⟧.meaning ⟦<Name as Record>⟧.names ⟦<Name as Record>⟧.values };
+    ghost means = { struct_meaning ⟦<NameFields as Slots>⟧.meaning ⟦<Name as Record>⟧.names ⟦<Name as Record>⟧.values };
 
     fn missing() -> Option<Name> {
         None
@@ -65,7 +65,8 @@ impl FromJson for Name {
 }
 
 impl Serialize for Name {
-    ghost tree = { record_tree ⟦<Name as Record>⟧.names ⟦<NameFields as AgainFields>⟧.trees ⟦<Name as Record>⟧.values };
+    ghost tree = { record_tree ⟦<Name as Record>⟧.names ⟦<NameFields as RoundTripFields>⟧.trees
+        ⟦<Name as Record>⟧.values };
 
     fn begin(&self, w: &mut Writer) -> Result<()> {
         write_members(w, NAME_NAMES, &Parts(&self.name, Parts(&self.of, ())))
@@ -73,7 +74,7 @@ impl Serialize for Name {
 }
 
 impl Ranged for Name {
-    ghost real = { λ v. ⟦<NameFields as AgainFields>⟧.real (⟦<Name as Record>⟧.values v) };
+    ghost real = { λ v. ⟦<NameFields as RoundTripFields>⟧.real (⟦<Name as Record>⟧.values v) };
 
     fn ranged(&self) {
         self.name.ranged();
@@ -82,8 +83,8 @@ impl Ranged for Name {
 }
 
 impl RoundTrip for Name {
-    fn again() {
-        record_again::<Name, NameFields>()
+    fn round_trips() {
+        record_round_trips::<Name, NameFields>()
     }
 }
 
@@ -142,9 +143,9 @@ impl Record for InnerTwo {
 
     ghost made = { λ x. record { v = x.0; types = x.1.0 } };
 
-    ghost whole = { (λ v. refl, λ x. refl) };
+    ghost bijective = { (λ v. refl, λ x. refl) };
 
-    ghost named = { refl };
+    ghost distinct_names = { refl };
 
     fn names() -> &'static [&'static str] {
         INNER_TWO_NAMES
@@ -157,7 +158,7 @@ impl Record for InnerTwo {
 }
 
 impl FromJson for InnerTwo {
-    ghost means = { struct_meant ⟦<InnerTwoFields as Slots>⟧.meaning ⟦<InnerTwo as Record>⟧.names
+    ghost means = { struct_meaning ⟦<InnerTwoFields as Slots>⟧.meaning ⟦<InnerTwo as Record>⟧.names
         ⟦<InnerTwo as Record>⟧.values };
 
     fn missing() -> Option<InnerTwo> {
@@ -170,8 +171,7 @@ impl FromJson for InnerTwo {
 }
 
 impl Serialize for InnerTwo {
-    ghost tree = { record_tree ⟦<InnerTwo as Record>⟧.names ⟦<InnerTwoFields as AgainFields>⟧.trees
-        ⟦<InnerTwo as Record>⟧.values };
+    ghost tree = { record_tree ⟦<InnerTwo as Record>⟧.names ⟦<InnerTwoFields as RoundTripFields>⟧.trees ⟦<InnerTwo as Record>⟧.values };
 
     fn begin(&self, w: &mut Writer) -> Result<()> {
         write_members(w, INNER_TWO_NAMES, &Parts(&self.v, Parts(&self.types, ())))
@@ -179,7 +179,7 @@ impl Serialize for InnerTwo {
 }
 
 impl Ranged for InnerTwo {
-    ghost real = { λ v. ⟦<InnerTwoFields as AgainFields>⟧.real (⟦<InnerTwo as Record>⟧.values v) };
+    ghost real = { λ v. ⟦<InnerTwoFields as RoundTripFields>⟧.real (⟦<InnerTwo as Record>⟧.values v) };
 
     fn ranged(&self) {
         self.v.ranged();
@@ -188,8 +188,8 @@ impl Ranged for InnerTwo {
 }
 
 impl RoundTrip for InnerTwo {
-    fn again() {
-        record_again::<InnerTwo, InnerTwoFields>()
+    fn round_trips() {
+        record_round_trips::<InnerTwo, InnerTwoFields>()
     }
 }
 
@@ -251,10 +251,10 @@ impl Tagged for Inner {
           (record { v = x0; types = x1 }))
     ] };
 
-    ghost whole = { each_case _ (λ x. (Empty, refl)) (each_case _ (λ x. (Two x.v x.types, refl))
+    ghost bijective = { each_case _ (λ x. (Empty, refl)) (each_case _ (λ x. (Two x.v x.types, refl))
         (no_case _)) };
 
-    ghost named = { refl };
+    ghost distinct_names = { refl };
 
     fn names() -> &'static [&'static str] {
         INNER_NAMES
@@ -284,7 +284,7 @@ impl HasTag for Inner {
 }
 
 impl FromJson for Inner {
-    ghost means = { tagged_meant ⟦<InnerCases as InsideCases>⟧.meaning ⟦<Inner as HasTag>⟧.tag
+    ghost means = { tagged_meaning ⟦<InnerCases as InsideCases>⟧.meaning ⟦<Inner as HasTag>⟧.tag
         ⟦<Inner as Tagged>⟧.names refl ⟦<Inner as Tagged>⟧.values };
 
     fn missing() -> Option<Inner> {
@@ -297,7 +297,7 @@ impl FromJson for Inner {
 }
 
 impl Serialize for Inner {
-    ghost tree = { tagged_tree ⟦<Inner as HasTag>⟧.tag ⟦<Inner as Tagged>⟧.names ⟦<InnerCases as AgainCases>⟧.tree ⟦<Inner as Tagged>⟧.values };
+    ghost tree = { tagged_tree ⟦<Inner as HasTag>⟧.tag ⟦<Inner as Tagged>⟧.names ⟦<InnerCases as RoundTripCases>⟧.tree ⟦<Inner as Tagged>⟧.values };
 
     fn begin(&self, w: &mut Writer) -> Result<()> {
         match self {
@@ -316,7 +316,7 @@ impl Serialize for Inner {
 }
 
 impl Ranged for Inner {
-    ghost real = { λ v. ⟦<InnerCases as AgainCases>⟧.real (⟦<Inner as Tagged>⟧.values v) };
+    ghost real = { λ v. ⟦<InnerCases as RoundTripCases>⟧.real (⟦<Inner as Tagged>⟧.values v) };
 
     fn ranged(&self) {
         match self {
@@ -330,9 +330,9 @@ impl Ranged for Inner {
 }
 
 impl RoundTrip for Inner {
-    fn again() {
+    fn round_trips() {
         tag_fits::<Inner, InnerCases>();
-        tagged_again::<Inner, InnerCases>()
+        tagged_round_trips::<Inner, InnerCases>()
     }
 }
 
@@ -376,9 +376,9 @@ impl Record for ChangeDeep {
 
     ghost made = { λ x. record { inner = x.0; list = x.1.0 } };
 
-    ghost whole = { (λ v. refl, λ x. refl) };
+    ghost bijective = { (λ v. refl, λ x. refl) };
 
-    ghost named = { refl };
+    ghost distinct_names = { refl };
 
     fn names() -> &'static [&'static str] {
         CHANGE_DEEP_NAMES
@@ -391,7 +391,7 @@ impl Record for ChangeDeep {
 }
 
 impl FromJson for ChangeDeep {
-    ghost means = { struct_meant ⟦<ChangeDeepFields as Slots>⟧.meaning ⟦<ChangeDeep as Record>⟧.names ⟦<ChangeDeep as Record>⟧.values };
+    ghost means = { struct_meaning ⟦<ChangeDeepFields as Slots>⟧.meaning ⟦<ChangeDeep as Record>⟧.names ⟦<ChangeDeep as Record>⟧.values };
 
     fn missing() -> Option<ChangeDeep> {
         None
@@ -403,7 +403,7 @@ impl FromJson for ChangeDeep {
 }
 
 impl Serialize for ChangeDeep {
-    ghost tree = { record_tree ⟦<ChangeDeep as Record>⟧.names ⟦<ChangeDeepFields as AgainFields>⟧.trees ⟦<ChangeDeep as Record>⟧.values };
+    ghost tree = { record_tree ⟦<ChangeDeep as Record>⟧.names ⟦<ChangeDeepFields as RoundTripFields>⟧.trees ⟦<ChangeDeep as Record>⟧.values };
 
     fn begin(&self, w: &mut Writer) -> Result<()> {
         write_members(
@@ -415,7 +415,7 @@ impl Serialize for ChangeDeep {
 }
 
 impl Ranged for ChangeDeep {
-    ghost real = { λ v. ⟦<ChangeDeepFields as AgainFields>⟧.real (⟦<ChangeDeep as Record>⟧.values v) };
+    ghost real = { λ v. ⟦<ChangeDeepFields as RoundTripFields>⟧.real (⟦<ChangeDeep as Record>⟧.values v) };
 
     fn ranged(&self) {
         self.inner.ranged();
@@ -424,8 +424,8 @@ impl Ranged for ChangeDeep {
 }
 
 impl RoundTrip for ChangeDeep {
-    fn again() {
-        record_again::<ChangeDeep, ChangeDeepFields>()
+    fn round_trips() {
+        record_round_trips::<ChangeDeep, ChangeDeepFields>()
     }
 }
 
@@ -502,11 +502,11 @@ impl Tagged for Change {
           later_case (later_case (later_case (later_case (first_case (record {})))))
     ] };
 
-    ghost whole = { each_case _ (λ x. (Reset, refl)) (each_case _ (λ x. (SetName x, refl))
+    ghost bijective = { each_case _ (λ x. (Reset, refl)) (each_case _ (λ x. (SetName x, refl))
         (each_case _ (λ x. (BothOf x, refl)) (each_case _ (λ x. (Deep x.inner x.list, refl))
         (each_case _ (λ x. (Accent, refl)) (no_case _))))) };
 
-    ghost named = { refl };
+    ghost distinct_names = { refl };
 
     fn names() -> &'static [&'static str] {
         CHANGE_NAMES
@@ -545,7 +545,7 @@ impl HasTag for Change {
 }
 
 impl FromJson for Change {
-    ghost means = { tagged_meant ⟦<ChangeCases as InsideCases>⟧.meaning ⟦<Change as HasTag>⟧.tag
+    ghost means = { tagged_meaning ⟦<ChangeCases as InsideCases>⟧.meaning ⟦<Change as HasTag>⟧.tag
         ⟦<Change as Tagged>⟧.names refl ⟦<Change as Tagged>⟧.values };
 
     fn missing() -> Option<Change> {
@@ -558,7 +558,7 @@ impl FromJson for Change {
 }
 
 impl Serialize for Change {
-    ghost tree = { tagged_tree ⟦<Change as HasTag>⟧.tag ⟦<Change as Tagged>⟧.names ⟦<ChangeCases as AgainCases>⟧.tree ⟦<Change as Tagged>⟧.values };
+    ghost tree = { tagged_tree ⟦<Change as HasTag>⟧.tag ⟦<Change as Tagged>⟧.names ⟦<ChangeCases as RoundTripCases>⟧.tree ⟦<Change as Tagged>⟧.values };
 
     fn begin(&self, w: &mut Writer) -> Result<()> {
         match self {
@@ -580,7 +580,7 @@ impl Serialize for Change {
 }
 
 impl Ranged for Change {
-    ghost real = { λ v. ⟦<ChangeCases as AgainCases>⟧.real (⟦<Change as Tagged>⟧.values v) };
+    ghost real = { λ v. ⟦<ChangeCases as RoundTripCases>⟧.real (⟦<Change as Tagged>⟧.values v) };
 
     fn ranged(&self) {
         match self {
@@ -597,9 +597,9 @@ impl Ranged for Change {
 }
 
 impl RoundTrip for Change {
-    fn again() {
+    fn round_trips() {
         tag_fits::<Change, ChangeCases>();
-        tagged_again::<Change, ChangeCases>()
+        tagged_round_trips::<Change, ChangeCases>()
     }
 }
 

@@ -1,11 +1,12 @@
 //! A struct of twelve fields.
-ghost use Rattle.miniserde.specs.FieldsMeant.{struct_meant};
+ghost use Rattle.miniserde.specs.FieldsMeaning.{struct_meaning};
 ghost use Rattle.miniserde.specs.Structs.{names_of, record_tree};
 ghost use Rattle.std.specs.Prelude.{refl};
 
 use miniserde::derived::{
-    AgainFields, Event, FourLent, FourSlot, FromJson, NoSlot, Ranged, Record, Result, RoundTrip,
-    Serialize, Slots, Source, Taken4, Writer, read_record, record_again, take4, write_members,
+    Event, FourLent, FourParts, FourSlot, FromJson, NoSlot, Ranged, Record, Result, RoundTrip,
+    RoundTripFields, Serialize, Slots, Source, Writer, read_record, record_round_trips, take_four,
+    write_members,
 };
 
 /// Twelve fields of six kinds.
@@ -93,18 +94,18 @@ impl Record for User {
       live = x.1.1.1.1.1.1.1.1.1.1.1.0;
     } };
 
-    ghost whole = { (λ v. refl, λ x. refl) };
+    ghost bijective = { (λ v. refl, λ x. refl) };
 
-    ghost named = { refl };
+    ghost distinct_names = { refl };
 
     fn names() -> &'static [&'static str] {
         USER_NAMES
     }
 
     fn build(parts: Self::Values) -> User {
-        let Taken4(id, name, age, admin, parts) = take4(parts);
-        let Taken4(score, tags, email, shift, parts) = take4(parts);
-        let Taken4(groups, note, size, live, ()) = take4(parts);
+        let FourParts(id, name, age, admin, parts) = take_four(parts);
+        let FourParts(score, tags, email, shift, parts) = take_four(parts);
+        let FourParts(groups, note, size, live, ()) = take_four(parts);
         User {
             id,
             name,
@@ -123,7 +124,7 @@ impl Record for User {
 }
 
 impl FromJson for User {
-    ghost means = { struct_meant ⟦<UserFields as Slots>⟧.meaning ⟦<User as Record>⟧.names ⟦<User as Record>⟧.values };
+    ghost means = { struct_meaning ⟦<UserFields as Slots>⟧.meaning ⟦<User as Record>⟧.names ⟦<User as Record>⟧.values };
 
     fn missing() -> Option<User> {
         None
@@ -135,7 +136,8 @@ impl FromJson for User {
 }
 
 impl Serialize for User {
-    ghost tree = { record_tree ⟦<User as Record>⟧.names ⟦<UserFields as AgainFields>⟧.trees ⟦<User as Record>⟧.values };
+    ghost tree = { record_tree ⟦<User as Record>⟧.names ⟦<UserFields as RoundTripFields>⟧.trees
+        ⟦<User as Record>⟧.values };
 
     fn begin(&self, w: &mut Writer) -> Result<()> {
         write_members(
@@ -159,7 +161,7 @@ impl Serialize for User {
 }
 
 impl Ranged for User {
-    ghost real = { λ v. ⟦<UserFields as AgainFields>⟧.real (⟦<User as Record>⟧.values v) };
+    ghost real = { λ v. ⟦<UserFields as RoundTripFields>⟧.real (⟦<User as Record>⟧.values v) };
 
     fn ranged(&self) {
         self.id.ranged();
@@ -178,7 +180,7 @@ impl Ranged for User {
 }
 
 impl RoundTrip for User {
-    fn again() {
-        record_again::<User, UserFields>()
+    fn round_trips() {
+        record_round_trips::<User, UserFields>()
     }
 }

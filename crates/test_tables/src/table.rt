@@ -3,7 +3,7 @@
 use crate::wrong::{Wrong, expect};
 use miniserde::error::{Error, Result};
 use miniserde::json::{from_str, to_string};
-use miniserde::{FromJson, Lossless, RoundTrip, Serialize, read_again, read_itself};
+use miniserde::{FromJson, Lossless, RoundTrip, Serialize, read_itself, write_and_read};
 use std::alloc::Global;
 
 /// Returns whether what came of a text is what its line expects.
@@ -44,7 +44,7 @@ pub fn expect_table<T: FromJson + Serialize>(
 /// Returns the text that the value of a text is written as, after it was written and read again.
 fn written_again<T: RoundTrip>(alloc: Global, text: &str) -> Result<String> {
     let value: T = from_str(alloc, text)?;
-    to_string(alloc, &read_again(alloc, &value)?)
+    to_string(alloc, &write_and_read(alloc, &value)?)
 }
 
 /// Fails with the first line of a table that is wrong for a type whose values are read again, if any.

@@ -10,7 +10,7 @@ use std::alloc::Global;
 use std::fmt::Display;
 
 /// Returns the key that is read from the name of a key.
-fn read_again<K: MapKey>(alloc: Global, key: &K) -> Result<K>
+fn write_and_read<K: MapKey>(alloc: Global, key: &K) -> Result<K>
     ensures equal { IfOk result (λ again. K.eq again key.now ≡ true) }
     ensures never { result ≡ Err Invalid → ⊥ }
 {
@@ -30,7 +30,7 @@ fn is_written<K: MapKey>(alloc: Global, key: &K, text: &str) -> Result<bool> {
 /// Returns whether a name is read as the key that prints as a text, is written so, and is read again as an equal key.
 fn is_key<K: MapKey + Display>(alloc: Global, name: &str, text: &str) -> Result<bool> {
     let key = K::from_key(alloc, name)?;
-    let is_same = read_again(alloc, &key)? == key;
+    let is_same = write_and_read(alloc, &key)? == key;
     Ok(is_same & is_displayed(alloc, &key, text)? & is_written(alloc, &key, text)?)
 }
 

@@ -2,7 +2,7 @@
 
 use miniserde::error::Result;
 use miniserde::json::{from_slice, from_str, to_string};
-use miniserde::{Lossless, NeverNull, means_itself, read_again, read_back};
+use miniserde::{Lossless, NeverNull, means_itself, read_back, write_and_read};
 use std::alloc::Global;
 use std::collections::{BTreeMap, VecDeque};
 use test_tables::{
@@ -112,7 +112,7 @@ fn is_taken<T: Lossless + NeverNull>(alloc: Global, text: &str) -> Result<bool> 
     let of_bytes: VecDeque<T> = from_slice(alloc, text.as_bytes())?;
     let back: Option<VecDeque<T>> = read_back(alloc, text)?;
     means_itself(&Some(of_bytes));
-    let again = read_again(alloc, &queue)?;
+    let again = write_and_read(alloc, &queue)?;
     Ok(to_string(alloc, &back)?.as_str() == text && to_string(alloc, &again)?.as_str() == text)
 }
 
@@ -155,7 +155,7 @@ fn is_in_order(alloc: Global) -> Result<bool> {
     let queue = wrapped(alloc)?;
     let (front, back) = queue.as_slices();
     let is_wrapped = front.len() == 2 && back.len() == 2;
-    let again = read_again(alloc, &queue)?;
+    let again = write_and_read(alloc, &queue)?;
     Ok(
         is_wrapped
             && to_string(alloc, &queue)?.as_str() == "[3,4,5,6]"

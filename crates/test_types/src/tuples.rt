@@ -5,7 +5,7 @@ ghost use Rattle.miniserde.specs.Value.{IsJson};
 
 use miniserde::error::Result;
 use miniserde::json::{from_slice, from_str, to_string};
-use miniserde::{Lossless, Stable, means_itself, read_again, read_back, read_itself};
+use miniserde::{Lossless, Stable, means_itself, read_back, read_itself, write_and_read};
 use std::alloc::Global;
 use test_tables::{
     Wrong, expect_ok, expect_one_value, expect_prefixes_invalid, expect_read_again,
@@ -175,7 +175,7 @@ fn is_taken<T: Lossless + Stable>(alloc: Global, text: &str) -> Result<bool> {
     let of_bytes: T = from_slice(alloc, text.as_bytes())?;
     let back: T = read_back(alloc, text)?;
     means_itself(&value);
-    let again = read_again(alloc, &value)?;
+    let again = write_and_read(alloc, &value)?;
     Ok(
         to_string(alloc, &value)?.as_str() == text
             && to_string(alloc, &of_bytes)?.as_str() == text

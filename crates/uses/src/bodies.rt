@@ -10,7 +10,7 @@ use miniserde::{Error, FromJson, Result, Serialize};
 use std::alloc::Global;
 
 /// The request of a body with a note, as text again.
-pub fn noted(alloc: Global, body: &str, note: &str) -> Result<String>
+pub fn add_note(alloc: Global, body: &str, note: &str) -> Result<String>
     // The body means a request, and the answer spells it with that note, and with all else as it was.
     ensures ok { IfOk result (λ j. (t : Tree) × (v : Request) × (n : String Global) × IsJson body.now t
         × ⟦<Request as FromJson>⟧.means.reads t v × (string_bytes n ≡ note.now)

@@ -12,7 +12,7 @@ use std::alloc::Global;
 use std::collections::BTreeMap;
 
 /// Keeps the answer for a document.
-pub fn keep(
+pub fn insert(
     alloc: Global,
     answers: &mut BTreeMap<String, u64>,
     text: &str,
@@ -31,7 +31,7 @@ pub fn keep(
 }
 
 /// The answer that is kept for a document, in whatever spelling.
-pub fn kept(alloc: Global, answers: &BTreeMap<String, u64>, text: &str) -> Result<Option<u64>>
+pub fn find(alloc: Global, answers: &BTreeMap<String, u64>, text: &str) -> Result<Option<u64>>
     // It is what stands at the text of the document's normal form, which all its spellings share.
     ensures ok { IfOk result (λ answer. (t : Tree) × IsJson text.now t × (answer ≡ get_by_text answers.now (compact (norm t)))) }
 

@@ -1,16 +1,17 @@
 //! The types of `call.rs`, with the impls that `./derive` writes.
 ghost use Rattle.miniserde.specs.Cases.{each_case, first_case, later_case, no_case, tagged_tree};
-ghost use Rattle.miniserde.specs.CasesMeant.{tagged_meant};
-ghost use Rattle.miniserde.specs.FieldsMeant.{struct_meant};
+ghost use Rattle.miniserde.specs.CasesMeaning.{tagged_meaning};
+ghost use Rattle.miniserde.specs.FieldsMeaning.{struct_meaning};
 ghost use Rattle.miniserde.specs.Structs.{names_of, record_tree};
 ghost use Rattle.std.specs.Prelude.{codes, refl};
 
 use miniserde::derived::{
-    AgainCases, AgainFields, BesideTag, DataCase, Event, FromJson, HasTag, Inside, InsideCases,
-    Lossless, Members, NeverNull, NoCase, NoFields, NoSlot, OneOf, Parts, Ranged, Record, Result,
-    RoundTrip, Serialize, Slot, Slots, Source, Stable, Tagged, Writer, fields_named, read_record,
-    read_tagged, record_again, record_lossless, record_stable, tag_fits, tagged_again,
-    tagged_lossless, tagged_stable, write_members, write_tagged, write_tagged_fields,
+    BesideTag, DataCase, Event, FromJson, HasTag, Inside, InsideCases, Lossless, Members,
+    NeverNull, NoCase, NoFields, NoSlot, OneOf, Parts, Ranged, Record, Result, RoundTrip,
+    RoundTripCases, RoundTripFields, Serialize, Slot, Slots, Source, Stable, Tagged, Writer,
+    fields_named, read_record, read_tagged, record_lossless, record_round_trips, record_stable,
+    tag_fits, tagged_lossless, tagged_round_trips, tagged_stable, write_members, write_tagged,
+    write_tagged_fields,
 };
 
 /// What is added to a counter.
@@ -36,9 +37,9 @@ impl Record for Addend {
 
     ghost made = { λ x. record { by = x.0; note = x.1.0 } };
 
-    ghost whole = { (λ v. refl, λ x. refl) };
+    ghost bijective = { (λ v. refl, λ x. refl) };
 
-    ghost named = { refl };
+    ghost distinct_names = { refl };
 
     fn names() -> &'static [&'static str] {
         ADDEND_NAMES
@@ -51,7 +52,7 @@ impl Record for Addend {
 }
 
 impl FromJson for Addend {
-    ghost means = { struct_meant ⟦<AddendFields as Slots>⟧.meaning ⟦<Addend as Record>⟧.names
+    ghost means = { struct_meaning ⟦<AddendFields as Slots>⟧.meaning ⟦<Addend as Record>⟧.names
         ⟦<Addend as Record>⟧.values };
 
     fn missing() -> Option<Addend> {
@@ -64,7 +65,7 @@ impl FromJson for Addend {
 }
 
 impl Serialize for Addend {
-    ghost tree = { record_tree ⟦<Addend as Record>⟧.names ⟦<AddendFields as AgainFields>⟧.trees
+    ghost tree = { record_tree ⟦<Addend as Record>⟧.names ⟦<AddendFields as RoundTripFields>⟧.trees
         ⟦<Addend as Record>⟧.values };
 
     fn begin(&self, w: &mut Writer) -> Result<()> {
@@ -73,7 +74,7 @@ impl Serialize for Addend {
 }
 
 impl Ranged for Addend {
-    ghost real = { λ v. ⟦<AddendFields as AgainFields>⟧.real (⟦<Addend as Record>⟧.values v) };
+    ghost real = { λ v. ⟦<AddendFields as RoundTripFields>⟧.real (⟦<Addend as Record>⟧.values v) };
 
     fn ranged(&self) {
         self.by.ranged();
@@ -82,8 +83,8 @@ impl Ranged for Addend {
 }
 
 impl RoundTrip for Addend {
-    fn again() {
-        record_again::<Addend, AddendFields>()
+    fn round_trips() {
+        record_round_trips::<Addend, AddendFields>()
     }
 }
 
@@ -141,9 +142,9 @@ impl Record for CallReset {
 
     ghost made = { λ x. record { to = x.0 } };
 
-    ghost whole = { (λ v. refl, λ x. refl) };
+    ghost bijective = { (λ v. refl, λ x. refl) };
 
-    ghost named = { refl };
+    ghost distinct_names = { refl };
 
     fn names() -> &'static [&'static str] {
         CALL_RESET_NAMES
@@ -156,8 +157,7 @@ impl Record for CallReset {
 }
 
 impl FromJson for CallReset {
-    ghost means = { struct_meant ⟦<CallResetFields as Slots>⟧.meaning ⟦<CallReset as Record>⟧.names
-        ⟦<CallReset as Record>⟧.values };
+    ghost means = { struct_meaning ⟦<CallResetFields as Slots>⟧.meaning ⟦<CallReset as Record>⟧.names ⟦<CallReset as Record>⟧.values };
 
     fn missing() -> Option<CallReset> {
         None
@@ -169,7 +169,7 @@ impl FromJson for CallReset {
 }
 
 impl Serialize for CallReset {
-    ghost tree = { record_tree ⟦<CallReset as Record>⟧.names ⟦<CallResetFields as AgainFields>⟧.trees ⟦<CallReset as Record>⟧.values };
+    ghost tree = { record_tree ⟦<CallReset as Record>⟧.names ⟦<CallResetFields as RoundTripFields>⟧.trees ⟦<CallReset as Record>⟧.values };
 
     fn begin(&self, w: &mut Writer) -> Result<()> {
         write_members(w, CALL_RESET_NAMES, &Parts(&self.to, ()))
@@ -177,7 +177,8 @@ impl Serialize for CallReset {
 }
 
 impl Ranged for CallReset {
-    ghost real = { λ v. ⟦<CallResetFields as AgainFields>⟧.real (⟦<CallReset as Record>⟧.values v) };
+    ghost real = { λ v. ⟦<CallResetFields as RoundTripFields>⟧.real (⟦<CallReset as Record>⟧.values
+        v) };
 
     fn ranged(&self) {
         self.to.ranged();
@@ -185,8 +186,8 @@ impl Ranged for CallReset {
 }
 
 impl RoundTrip for CallReset {
-    fn again() {
-        record_again::<CallReset, CallResetFields>()
+    fn round_trips() {
+        record_round_trips::<CallReset, CallResetFields>()
     }
 }
 
@@ -249,10 +250,10 @@ impl Tagged for Call {
       | Reset x0 ↦ later_case (later_case (first_case (record { to = x0 })))
     ] };
 
-    ghost whole = { each_case _ (λ x. (Look, refl)) (each_case _ (λ x. (Add x, refl)) (each_case _
-        (λ x. (Reset x.to, refl)) (no_case _))) };
+    ghost bijective = { each_case _ (λ x. (Look, refl)) (each_case _ (λ x. (Add x, refl)) (each_case
+        _ (λ x. (Reset x.to, refl)) (no_case _))) };
 
-    ghost named = { refl };
+    ghost distinct_names = { refl };
 
     fn names() -> &'static [&'static str] {
         CALL_NAMES
@@ -285,7 +286,8 @@ impl HasTag for Call {
 }
 
 impl FromJson for Call {
-    ghost means = { tagged_meant ⟦<CallCases as InsideCases>⟧.meaning ⟦<Call as HasTag>⟧.tag ⟦<Call as Tagged>⟧.names refl ⟦<Call as Tagged>⟧.values };
+    ghost means = { tagged_meaning ⟦<CallCases as InsideCases>⟧.meaning ⟦<Call as HasTag>⟧.tag
+        ⟦<Call as Tagged>⟧.names refl ⟦<Call as Tagged>⟧.values };
 
     fn missing() -> Option<Call> {
         None
@@ -297,7 +299,7 @@ impl FromJson for Call {
 }
 
 impl Serialize for Call {
-    ghost tree = { tagged_tree ⟦<Call as HasTag>⟧.tag ⟦<Call as Tagged>⟧.names ⟦<CallCases as AgainCases>⟧.tree ⟦<Call as Tagged>⟧.values };
+    ghost tree = { tagged_tree ⟦<Call as HasTag>⟧.tag ⟦<Call as Tagged>⟧.names ⟦<CallCases as RoundTripCases>⟧.tree ⟦<Call as Tagged>⟧.values };
 
     fn begin(&self, w: &mut Writer) -> Result<()> {
         match self {
@@ -311,7 +313,7 @@ impl Serialize for Call {
 }
 
 impl Ranged for Call {
-    ghost real = { λ v. ⟦<CallCases as AgainCases>⟧.real (⟦<Call as Tagged>⟧.values v) };
+    ghost real = { λ v. ⟦<CallCases as RoundTripCases>⟧.real (⟦<Call as Tagged>⟧.values v) };
 
     fn ranged(&self) {
         match self {
@@ -325,9 +327,9 @@ impl Ranged for Call {
 }
 
 impl RoundTrip for Call {
-    fn again() {
+    fn round_trips() {
         tag_fits::<Call, CallCases>();
-        tagged_again::<Call, CallCases>()
+        tagged_round_trips::<Call, CallCases>()
     }
 }
 
@@ -370,9 +372,9 @@ impl Record for AnswerCount {
 
     ghost made = { λ x. record { now = x.0 } };
 
-    ghost whole = { (λ v. refl, λ x. refl) };
+    ghost bijective = { (λ v. refl, λ x. refl) };
 
-    ghost named = { refl };
+    ghost distinct_names = { refl };
 
     fn names() -> &'static [&'static str] {
         ANSWER_COUNT_NAMES
@@ -385,7 +387,7 @@ impl Record for AnswerCount {
 }
 
 impl FromJson for AnswerCount {
-    ghost means = { struct_meant ⟦<AnswerCountFields as Slots>⟧.meaning ⟦<AnswerCount as Record>⟧.names ⟦<AnswerCount as Record>⟧.values };
+    ghost means = { struct_meaning ⟦<AnswerCountFields as Slots>⟧.meaning ⟦<AnswerCount as Record>⟧.names ⟦<AnswerCount as Record>⟧.values };
 
     fn missing() -> Option<AnswerCount> {
         None
@@ -397,7 +399,7 @@ impl FromJson for AnswerCount {
 }
 
 impl Serialize for AnswerCount {
-    ghost tree = { record_tree ⟦<AnswerCount as Record>⟧.names ⟦<AnswerCountFields as AgainFields>⟧.trees ⟦<AnswerCount as Record>⟧.values };
+    ghost tree = { record_tree ⟦<AnswerCount as Record>⟧.names ⟦<AnswerCountFields as RoundTripFields>⟧.trees ⟦<AnswerCount as Record>⟧.values };
 
     fn begin(&self, w: &mut Writer) -> Result<()> {
         write_members(w, ANSWER_COUNT_NAMES, &Parts(&self.now, ()))
@@ -405,8 +407,7 @@ impl Serialize for AnswerCount {
 }
 
 impl Ranged for AnswerCount {
-    ghost real = { λ v. ⟦<AnswerCountFields as AgainFields>⟧.real (⟦<AnswerCount as Record>⟧.values
-        v) };
+    ghost real = { λ v. ⟦<AnswerCountFields as RoundTripFields>⟧.real (⟦<AnswerCount as Record>⟧.values v) };
 
     fn ranged(&self) {
         self.now.ranged();
@@ -414,8 +415,8 @@ impl Ranged for AnswerCount {
 }
 
 impl RoundTrip for AnswerCount {
-    fn again() {
-        record_again::<AnswerCount, AnswerCountFields>()
+    fn round_trips() {
+        record_round_trips::<AnswerCount, AnswerCountFields>()
     }
 }
 
@@ -480,10 +481,10 @@ impl Tagged for Answer {
           (first_case (record {}))
     ] };
 
-    ghost whole = { each_case _ (λ x. (Count x.now, refl)) (each_case _ (λ x. (Full, refl)) (no_case
-        _)) };
+    ghost bijective = { each_case _ (λ x. (Count x.now, refl)) (each_case _ (λ x. (Full, refl))
+        (no_case _)) };
 
-    ghost named = { refl };
+    ghost distinct_names = { refl };
 
     fn names() -> &'static [&'static str] {
         ANSWER_NAMES
@@ -513,7 +514,7 @@ impl HasTag for Answer {
 }
 
 impl FromJson for Answer {
-    ghost means = { tagged_meant ⟦<AnswerCases as InsideCases>⟧.meaning ⟦<Answer as HasTag>⟧.tag
+    ghost means = { tagged_meaning ⟦<AnswerCases as InsideCases>⟧.meaning ⟦<Answer as HasTag>⟧.tag
         ⟦<Answer as Tagged>⟧.names refl ⟦<Answer as Tagged>⟧.values };
 
     fn missing() -> Option<Answer> {
@@ -526,7 +527,7 @@ impl FromJson for Answer {
 }
 
 impl Serialize for Answer {
-    ghost tree = { tagged_tree ⟦<Answer as HasTag>⟧.tag ⟦<Answer as Tagged>⟧.names ⟦<AnswerCases as AgainCases>⟧.tree ⟦<Answer as Tagged>⟧.values };
+    ghost tree = { tagged_tree ⟦<Answer as HasTag>⟧.tag ⟦<Answer as Tagged>⟧.names ⟦<AnswerCases as RoundTripCases>⟧.tree ⟦<Answer as Tagged>⟧.values };
 
     fn begin(&self, w: &mut Writer) -> Result<()> {
         match self {
@@ -539,7 +540,7 @@ impl Serialize for Answer {
 }
 
 impl Ranged for Answer {
-    ghost real = { λ v. ⟦<AnswerCases as AgainCases>⟧.real (⟦<Answer as Tagged>⟧.values v) };
+    ghost real = { λ v. ⟦<AnswerCases as RoundTripCases>⟧.real (⟦<Answer as Tagged>⟧.values v) };
 
     fn ranged(&self) {
         match self {
@@ -552,9 +553,9 @@ impl Ranged for Answer {
 }
 
 impl RoundTrip for Answer {
-    fn again() {
+    fn round_trips() {
         tag_fits::<Answer, AnswerCases>();
-        tagged_again::<Answer, AnswerCases>()
+        tagged_round_trips::<Answer, AnswerCases>()
     }
 }
 

@@ -55,7 +55,7 @@ pub fn value_of<T: Stable + Lossless>(alloc: Global, key: &str) -> Result<T>
     // The key is the canonical text of no value.
     ensures invalid { result ≡ Err Error.Invalid → (v : T) → T.real v → IsJson key.now (norm (T.tree v)) → ⊥ }
 {
-    T::again();
+    T::round_trips();
     means_in_normal_form::<T>();
     norm_is_normal();
     sent_itself::<T>();

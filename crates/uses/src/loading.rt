@@ -10,7 +10,7 @@ use settings::types::Settings;
 use std::alloc::Global;
 
 /// The settings of a text at another port, as text again.
-pub fn moved(alloc: Global, text: &str, port: u16) -> Result<String>
+pub fn set_port(alloc: Global, text: &str, port: u16) -> Result<String>
     // The text means settings, and the answer spells these at that port.
     ensures ok { IfOk result (λ j. (t : Tree) × (s : Settings) × IsJson text.now t
         × ⟦<Settings as FromJson>⟧.means.reads t s

@@ -27,14 +27,14 @@ use std::io;
 use transfer::Transfer;
 
 /// Two documents that say the same, the first one cached: what the cache has for the second.
-fn cached(alloc: Global) -> Result<Option<u64>> {
+fn run_cache(alloc: Global) -> Result<Option<u64>> {
     let mut answers = BTreeMap::new(alloc);
-    cache::keep(alloc, &mut answers, "{\"b\": 2, \"a\": \"\\u0061\"}", 7)?;
-    cache::kept(alloc, &answers, " {\"a\":\"a\",\"b\":2}")
+    cache::insert(alloc, &mut answers, "{\"b\": 2, \"a\": \"\\u0061\"}", 7)?;
+    cache::find(alloc, &answers, " {\"a\":\"a\",\"b\":2}")
 }
 
 /// Returns whether a row that is put in the place of another says what its text says.
-fn stored(alloc: Global) -> Result<bool> {
+fn run_store(alloc: Global) -> Result<bool> {
     let mut rows = BTreeMap::new(alloc);
     store::put(alloc, &mut rows, 1, "[2]")?;
     store::put(alloc, &mut rows, 1, "[1, {\"x\": -0}]")?;
@@ -68,7 +68,7 @@ fn counted(alloc: Global, text: &str, other: &str) -> Result<Option<(u64, String
 }
 
 /// Returns the text of the transfer of a body, if the canonical text of the body is the one that was signed.
-fn transferred(alloc: Global, signed: &str, body: &str) -> Result<Option<String>> {
+fn run_transfer(alloc: Global, signed: &str, body: &str) -> Result<Option<String>> {
     let signature = Known {
         text: String::from_str(alloc, signed)?,
     };
@@ -110,7 +110,7 @@ const SIGNED: &str = r#"{"cents":5,"from":"a","to":"b"}"#;
 /// Prints the transfers of bodies whose canonical text was signed.
 fn tell_transfers(rt: &HostRuntime) -> io::Result<()> {
     for body in [SAME, OTHER] {
-        match transferred(rt.alloc(), SIGNED, body) {
+        match run_transfer(rt.alloc(), SIGNED, body) {
             Ok(Some(transfer)) => println!(rt; "signed: {transfer}")?,
             Ok(None) => println!(rt; "signed: nothing")?,
             Err(error) => println!(rt; "signed: {error}")?,
@@ -144,23 +144,23 @@ fn main(rt: HostRuntime) -> io::Result<()> {
     let alloc = rt.alloc();
     let text =
         "{\"port\":80,\"name\":\"a\",\"hosts\":[{\"host\":\"h\",\"weight\":1}],\"limits\":{\"x\":5}}";
-    match loading::moved(alloc, text, 8080) {
-        Ok(moved) => println!(rt; "settings: {moved}")?,
+    match loading::set_port(alloc, text, 8080) {
+        Ok(set_port) => println!(rt; "settings: {moved}")?,
         Err(error) => println!(rt; "settings: {error}")?,
     }
-    match cached(alloc) {
+    match run_cache(alloc) {
         Ok(Some(answer)) => println!(rt; "cache: {answer}")?,
         Ok(None) => println!(rt; "cache: nothing")?,
         Err(error) => println!(rt; "cache: {error}")?,
     }
-    match stored(alloc) {
+    match run_store(alloc) {
         Ok(same) => println!(rt; "store: {same}")?,
         Err(error) => println!(rt; "store: {error}")?,
     }
     let body =
         "{\"besides\":{\"b\":[1.50],\"a\":null},\"items\":[{\"goods\":\"nails\",\"count\":100}],\"client\":\"c\"}";
-    match bodies::noted(alloc, body, "by noon") {
-        Ok(noted) => println!(rt; "request: {noted}")?,
+    match bodies::add_note(alloc, body, "by noon") {
+        Ok(add_note) => println!(rt; "request: {noted}")?,
         Err(error) => println!(rt; "request: {error}")?,
     }
     match found(alloc, body) {

@@ -1,11 +1,11 @@
 //! The types of `only.rs`, with the impls that `./derive` writes.
-ghost use Rattle.miniserde.specs.FieldsMeant.{struct_meant};
+ghost use Rattle.miniserde.specs.FieldsMeaning.{struct_meaning};
 ghost use Rattle.miniserde.specs.Structs.{names_of, record_tree};
 ghost use Rattle.std.specs.Prelude.{refl};
 
 use miniserde::derived::{
-    AgainFields, Event, FromJson, NoSlot, Parts, Ranged, Record, Result, RoundTrip, Serialize,
-    Slot, Slots, Source, Writer, read_record, record_again, write_members,
+    Event, FromJson, NoSlot, Parts, Ranged, Record, Result, RoundTrip, RoundTripFields, Serialize,
+    Slot, Slots, Source, Writer, read_record, record_round_trips, write_members,
 };
 use settings::parts::{Host, Tls};
 use std::collections::BTreeMap;
@@ -32,9 +32,9 @@ impl Record for OnlyName {
 
     ghost made = { λ x. record { name = x.0 } };
 
-    ghost whole = { (λ v. refl, λ x. refl) };
+    ghost bijective = { (λ v. refl, λ x. refl) };
 
-    ghost named = { refl };
+    ghost distinct_names = { refl };
 
     fn names() -> &'static [&'static str] {
         ONLY_NAME_NAMES
@@ -47,7 +47,7 @@ impl Record for OnlyName {
 }
 
 impl FromJson for OnlyName {
-    ghost means = { struct_meant ⟦<OnlyNameFields as Slots>⟧.meaning ⟦<OnlyName as Record>⟧.names
+    ghost means = { struct_meaning ⟦<OnlyNameFields as Slots>⟧.meaning ⟦<OnlyName as Record>⟧.names
         ⟦<OnlyName as Record>⟧.values };
 
     fn missing() -> Option<OnlyName> {
@@ -60,8 +60,7 @@ impl FromJson for OnlyName {
 }
 
 impl Serialize for OnlyName {
-    ghost tree = { record_tree ⟦<OnlyName as Record>⟧.names ⟦<OnlyNameFields as AgainFields>⟧.trees
-        ⟦<OnlyName as Record>⟧.values };
+    ghost tree = { record_tree ⟦<OnlyName as Record>⟧.names ⟦<OnlyNameFields as RoundTripFields>⟧.trees ⟦<OnlyName as Record>⟧.values };
 
     fn begin(&self, w: &mut Writer) -> Result<()> {
         write_members(w, ONLY_NAME_NAMES, &Parts(&self.name, ()))
@@ -69,7 +68,7 @@ impl Serialize for OnlyName {
 }
 
 impl Ranged for OnlyName {
-    ghost real = { λ v. ⟦<OnlyNameFields as AgainFields>⟧.real (⟦<OnlyName as Record>⟧.values v) };
+    ghost real = { λ v. ⟦<OnlyNameFields as RoundTripFields>⟧.real (⟦<OnlyName as Record>⟧.values v) };
 
     fn ranged(&self) {
         self.name.ranged();
@@ -77,8 +76,8 @@ impl Ranged for OnlyName {
 }
 
 impl RoundTrip for OnlyName {
-    fn again() {
-        record_again::<OnlyName, OnlyNameFields>()
+    fn round_trips() {
+        record_round_trips::<OnlyName, OnlyNameFields>()
     }
 }
 
@@ -104,9 +103,9 @@ impl Record for OnlyPort {
 
     ghost made = { λ x. record { port = x.0 } };
 
-    ghost whole = { (λ v. refl, λ x. refl) };
+    ghost bijective = { (λ v. refl, λ x. refl) };
 
-    ghost named = { refl };
+    ghost distinct_names = { refl };
 
     fn names() -> &'static [&'static str] {
         ONLY_PORT_NAMES
@@ -119,7 +118,7 @@ impl Record for OnlyPort {
 }
 
 impl FromJson for OnlyPort {
-    ghost means = { struct_meant ⟦<OnlyPortFields as Slots>⟧.meaning ⟦<OnlyPort as Record>⟧.names
+    ghost means = { struct_meaning ⟦<OnlyPortFields as Slots>⟧.meaning ⟦<OnlyPort as Record>⟧.names
         ⟦<OnlyPort as Record>⟧.values };
 
     fn missing() -> Option<OnlyPort> {
@@ -132,8 +131,7 @@ impl FromJson for OnlyPort {
 }
 
 impl Serialize for OnlyPort {
-    ghost tree = { record_tree ⟦<OnlyPort as Record>⟧.names ⟦<OnlyPortFields as AgainFields>⟧.trees
-        ⟦<OnlyPort as Record>⟧.values };
+    ghost tree = { record_tree ⟦<OnlyPort as Record>⟧.names ⟦<OnlyPortFields as RoundTripFields>⟧.trees ⟦<OnlyPort as Record>⟧.values };
 
     fn begin(&self, w: &mut Writer) -> Result<()> {
         write_members(w, ONLY_PORT_NAMES, &Parts(&self.port, ()))
@@ -141,7 +139,7 @@ impl Serialize for OnlyPort {
 }
 
 impl Ranged for OnlyPort {
-    ghost real = { λ v. ⟦<OnlyPortFields as AgainFields>⟧.real (⟦<OnlyPort as Record>⟧.values v) };
+    ghost real = { λ v. ⟦<OnlyPortFields as RoundTripFields>⟧.real (⟦<OnlyPort as Record>⟧.values v) };
 
     fn ranged(&self) {
         self.port.ranged();
@@ -149,8 +147,8 @@ impl Ranged for OnlyPort {
 }
 
 impl RoundTrip for OnlyPort {
-    fn again() {
-        record_again::<OnlyPort, OnlyPortFields>()
+    fn round_trips() {
+        record_round_trips::<OnlyPort, OnlyPortFields>()
     }
 }
 
@@ -176,9 +174,9 @@ impl Record for OnlyTls {
 
     ghost made = { λ x. record { tls = x.0 } };
 
-    ghost whole = { (λ v. refl, λ x. refl) };
+    ghost bijective = { (λ v. refl, λ x. refl) };
 
-    ghost named = { refl };
+    ghost distinct_names = { refl };
 
     fn names() -> &'static [&'static str] {
         ONLY_TLS_NAMES
@@ -191,7 +189,7 @@ impl Record for OnlyTls {
 }
 
 impl FromJson for OnlyTls {
-    ghost means = { struct_meant ⟦<OnlyTlsFields as Slots>⟧.meaning ⟦<OnlyTls as Record>⟧.names
+    ghost means = { struct_meaning ⟦<OnlyTlsFields as Slots>⟧.meaning ⟦<OnlyTls as Record>⟧.names
         ⟦<OnlyTls as Record>⟧.values };
 
     fn missing() -> Option<OnlyTls> {
@@ -204,8 +202,7 @@ impl FromJson for OnlyTls {
 }
 
 impl Serialize for OnlyTls {
-    ghost tree = { record_tree ⟦<OnlyTls as Record>⟧.names ⟦<OnlyTlsFields as AgainFields>⟧.trees
-        ⟦<OnlyTls as Record>⟧.values };
+    ghost tree = { record_tree ⟦<OnlyTls as Record>⟧.names ⟦<OnlyTlsFields as RoundTripFields>⟧.trees ⟦<OnlyTls as Record>⟧.values };
 
     fn begin(&self, w: &mut Writer) -> Result<()> {
         write_members(w, ONLY_TLS_NAMES, &Parts(&self.tls, ()))
@@ -213,7 +210,7 @@ impl Serialize for OnlyTls {
 }
 
 impl Ranged for OnlyTls {
-    ghost real = { λ v. ⟦<OnlyTlsFields as AgainFields>⟧.real (⟦<OnlyTls as Record>⟧.values v) };
+    ghost real = { λ v. ⟦<OnlyTlsFields as RoundTripFields>⟧.real (⟦<OnlyTls as Record>⟧.values v) };
 
     fn ranged(&self) {
         self.tls.ranged();
@@ -221,8 +218,8 @@ impl Ranged for OnlyTls {
 }
 
 impl RoundTrip for OnlyTls {
-    fn again() {
-        record_again::<OnlyTls, OnlyTlsFields>()
+    fn round_trips() {
+        record_round_trips::<OnlyTls, OnlyTlsFields>()
     }
 }
 
@@ -248,9 +245,9 @@ impl Record for OnlyHosts {
 
     ghost made = { λ x. record { hosts = x.0 } };
 
-    ghost whole = { (λ v. refl, λ x. refl) };
+    ghost bijective = { (λ v. refl, λ x. refl) };
 
-    ghost named = { refl };
+    ghost distinct_names = { refl };
 
     fn names() -> &'static [&'static str] {
         ONLY_HOSTS_NAMES
@@ -263,8 +260,7 @@ impl Record for OnlyHosts {
 }
 
 impl FromJson for OnlyHosts {
-    ghost means = { struct_meant ⟦<OnlyHostsFields as Slots>⟧.meaning ⟦<OnlyHosts as Record>⟧.names
-        ⟦<OnlyHosts as Record>⟧.values };
+    ghost means = { struct_meaning ⟦<OnlyHostsFields as Slots>⟧.meaning ⟦<OnlyHosts as Record>⟧.names ⟦<OnlyHosts as Record>⟧.values };
 
     fn missing() -> Option<OnlyHosts> {
         None
@@ -276,7 +272,7 @@ impl FromJson for OnlyHosts {
 }
 
 impl Serialize for OnlyHosts {
-    ghost tree = { record_tree ⟦<OnlyHosts as Record>⟧.names ⟦<OnlyHostsFields as AgainFields>⟧.trees ⟦<OnlyHosts as Record>⟧.values };
+    ghost tree = { record_tree ⟦<OnlyHosts as Record>⟧.names ⟦<OnlyHostsFields as RoundTripFields>⟧.trees ⟦<OnlyHosts as Record>⟧.values };
 
     fn begin(&self, w: &mut Writer) -> Result<()> {
         write_members(w, ONLY_HOSTS_NAMES, &Parts(&self.hosts, ()))
@@ -284,7 +280,8 @@ impl Serialize for OnlyHosts {
 }
 
 impl Ranged for OnlyHosts {
-    ghost real = { λ v. ⟦<OnlyHostsFields as AgainFields>⟧.real (⟦<OnlyHosts as Record>⟧.values v) };
+    ghost real = { λ v. ⟦<OnlyHostsFields as RoundTripFields>⟧.real (⟦<OnlyHosts as Record>⟧.values
+        v) };
 
     fn ranged(&self) {
         self.hosts.ranged();
@@ -292,8 +289,8 @@ impl Ranged for OnlyHosts {
 }
 
 impl RoundTrip for OnlyHosts {
-    fn again() {
-        record_again::<OnlyHosts, OnlyHostsFields>()
+    fn round_trips() {
+        record_round_trips::<OnlyHosts, OnlyHostsFields>()
     }
 }
 
@@ -319,9 +316,9 @@ impl Record for OnlyLimits {
 
     ghost made = { λ x. record { limits = x.0 } };
 
-    ghost whole = { (λ v. refl, λ x. refl) };
+    ghost bijective = { (λ v. refl, λ x. refl) };
 
-    ghost named = { refl };
+    ghost distinct_names = { refl };
 
     fn names() -> &'static [&'static str] {
         ONLY_LIMITS_NAMES
@@ -334,7 +331,7 @@ impl Record for OnlyLimits {
 }
 
 impl FromJson for OnlyLimits {
-    ghost means = { struct_meant ⟦<OnlyLimitsFields as Slots>⟧.meaning ⟦<OnlyLimits as Record>⟧.names ⟦<OnlyLimits as Record>⟧.values };
+    ghost means = { struct_meaning ⟦<OnlyLimitsFields as Slots>⟧.meaning ⟦<OnlyLimits as Record>⟧.names ⟦<OnlyLimits as Record>⟧.values };
 
     fn missing() -> Option<OnlyLimits> {
         None
@@ -346,7 +343,7 @@ impl FromJson for OnlyLimits {
 }
 
 impl Serialize for OnlyLimits {
-    ghost tree = { record_tree ⟦<OnlyLimits as Record>⟧.names ⟦<OnlyLimitsFields as AgainFields>⟧.trees ⟦<OnlyLimits as Record>⟧.values };
+    ghost tree = { record_tree ⟦<OnlyLimits as Record>⟧.names ⟦<OnlyLimitsFields as RoundTripFields>⟧.trees ⟦<OnlyLimits as Record>⟧.values };
 
     fn begin(&self, w: &mut Writer) -> Result<()> {
         write_members(w, ONLY_LIMITS_NAMES, &Parts(&self.limits, ()))
@@ -354,7 +351,7 @@ impl Serialize for OnlyLimits {
 }
 
 impl Ranged for OnlyLimits {
-    ghost real = { λ v. ⟦<OnlyLimitsFields as AgainFields>⟧.real (⟦<OnlyLimits as Record>⟧.values v) };
+    ghost real = { λ v. ⟦<OnlyLimitsFields as RoundTripFields>⟧.real (⟦<OnlyLimits as Record>⟧.values v) };
 
     fn ranged(&self) {
         self.limits.ranged();
@@ -362,7 +359,7 @@ impl Ranged for OnlyLimits {
 }
 
 impl RoundTrip for OnlyLimits {
-    fn again() {
-        record_again::<OnlyLimits, OnlyLimitsFields>()
+    fn round_trips() {
+        record_round_trips::<OnlyLimits, OnlyLimitsFields>()
     }
 }

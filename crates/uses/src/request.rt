@@ -1,12 +1,12 @@
 //! The types of `request.rs`, with the impls that `./derive` writes.
-ghost use Rattle.miniserde.specs.FieldsMeant.{struct_meant};
+ghost use Rattle.miniserde.specs.FieldsMeaning.{struct_meaning};
 ghost use Rattle.miniserde.specs.Structs.{names_of, record_tree};
 ghost use Rattle.std.specs.Prelude.{refl};
 
 use miniserde::derived::{
-    AgainFields, Event, FourLent, FourSlot, FromJson, NoSlot, Parts, Ranged, Record, Result,
-    RoundTrip, Serialize, Slot, Slots, Source, Taken4, Writer, read_record, record_again, take4,
-    write_members,
+    Event, FourLent, FourParts, FourSlot, FromJson, NoSlot, Parts, Ranged, Record, Result,
+    RoundTrip, RoundTripFields, Serialize, Slot, Slots, Source, Writer, read_record,
+    record_round_trips, take_four, write_members,
 };
 use miniserde::json::Value;
 
@@ -33,9 +33,9 @@ impl Record for Item {
 
     ghost made = { λ x. record { goods = x.0; count = x.1.0 } };
 
-    ghost whole = { (λ v. refl, λ x. refl) };
+    ghost bijective = { (λ v. refl, λ x. refl) };
 
-    ghost named = { refl };
+    ghost distinct_names = { refl };
 
     fn names() -> &'static [&'static str] {
         ITEM_NAMES
@@ -48,7 +48,7 @@ impl Record for Item {
 }
 
 impl FromJson for Item {
-    ghost means = { struct_meant ⟦<ItemFields as Slots>⟧.meaning ⟦<Item as Record>⟧.names ⟦<Item as Record>⟧.values };
+    ghost means = { struct_meaning ⟦<ItemFields as Slots>⟧.meaning ⟦<Item as Record>⟧.names ⟦<Item as Record>⟧.values };
 
     fn missing() -> Option<Item> {
         None
@@ -60,7 +60,8 @@ impl FromJson for Item {
 }
 
 impl Serialize for Item {
-    ghost tree = { record_tree ⟦<Item as Record>⟧.names ⟦<ItemFields as AgainFields>⟧.trees ⟦<Item as Record>⟧.values };
+    ghost tree = { record_tree ⟦<Item as Record>⟧.names ⟦<ItemFields as RoundTripFields>⟧.trees
+        ⟦<Item as Record>⟧.values };
 
     fn begin(&self, w: &mut Writer) -> Result<()> {
         write_members(w, ITEM_NAMES, &Parts(&self.goods, Parts(&self.count, ())))
@@ -68,7 +69,7 @@ impl Serialize for Item {
 }
 
 impl Ranged for Item {
-    ghost real = { λ v. ⟦<ItemFields as AgainFields>⟧.real (⟦<Item as Record>⟧.values v) };
+    ghost real = { λ v. ⟦<ItemFields as RoundTripFields>⟧.real (⟦<Item as Record>⟧.values v) };
 
     fn ranged(&self) {
         self.goods.ranged();
@@ -77,8 +78,8 @@ impl Ranged for Item {
 }
 
 impl RoundTrip for Item {
-    fn again() {
-        record_again::<Item, ItemFields>()
+    fn round_trips() {
+        record_round_trips::<Item, ItemFields>()
     }
 }
 
@@ -112,16 +113,16 @@ impl Record for Request {
       besides = x.1.1.1.0;
     } };
 
-    ghost whole = { (λ v. refl, λ x. refl) };
+    ghost bijective = { (λ v. refl, λ x. refl) };
 
-    ghost named = { refl };
+    ghost distinct_names = { refl };
 
     fn names() -> &'static [&'static str] {
         REQUEST_NAMES
     }
 
     fn build(parts: Self::Values) -> Request {
-        let Taken4(client, note, items, besides, ()) = take4(parts);
+        let FourParts(client, note, items, besides, ()) = take_four(parts);
         Request {
             client,
             note,
@@ -132,7 +133,7 @@ impl Record for Request {
 }
 
 impl FromJson for Request {
-    ghost means = { struct_meant ⟦<RequestFields as Slots>⟧.meaning ⟦<Request as Record>⟧.names
+    ghost means = { struct_meaning ⟦<RequestFields as Slots>⟧.meaning ⟦<Request as Record>⟧.names
         ⟦<Request as Record>⟧.values };
 
     fn missing() -> Option<Request> {
@@ -145,8 +146,7 @@ impl FromJson for Request {
 }
 
 impl Serialize for Request {
-    ghost tree = { record_tree ⟦<Request as Record>⟧.names ⟦<RequestFields as AgainFields>⟧.trees
-        ⟦<Request as Record>⟧.values };
+    ghost tree = { record_tree ⟦<Request as Record>⟧.names ⟦<RequestFields as RoundTripFields>⟧.trees ⟦<Request as Record>⟧.values };
 
     fn begin(&self, w: &mut Writer) -> Result<()> {
         write_members(
@@ -158,7 +158,7 @@ impl Serialize for Request {
 }
 
 impl Ranged for Request {
-    ghost real = { λ v. ⟦<RequestFields as AgainFields>⟧.real (⟦<Request as Record>⟧.values v) };
+    ghost real = { λ v. ⟦<RequestFields as RoundTripFields>⟧.real (⟦<Request as Record>⟧.values v) };
 
     fn ranged(&self) {
         self.client.ranged();
@@ -169,7 +169,7 @@ impl Ranged for Request {
 }
 
 impl RoundTrip for Request {
-    fn again() {
-        record_again::<Request, RequestFields>()
+    fn round_trips() {
+        record_round_trips::<Request, RequestFields>()
     }
 }

@@ -1,12 +1,12 @@
 //! The types of `transfer.rs`, with the impls that `./derive` writes.
-ghost use Rattle.miniserde.specs.FieldsMeant.{struct_meant};
+ghost use Rattle.miniserde.specs.FieldsMeaning.{struct_meaning};
 ghost use Rattle.miniserde.specs.Structs.{names_of, record_tree};
 ghost use Rattle.std.specs.Prelude.{refl};
 
 use miniserde::derived::{
-    AgainFields, Event, FromJson, Lossless, NeverNull, NoSlot, Parts, Ranged, Record, Result,
-    RoundTrip, Serialize, Slot, Slots, Source, Stable, Writer, read_record, record_again,
-    record_lossless, record_stable, write_members,
+    Event, FromJson, Lossless, NeverNull, NoSlot, Parts, Ranged, Record, Result, RoundTrip,
+    RoundTripFields, Serialize, Slot, Slots, Source, Stable, Writer, read_record, record_lossless,
+    record_round_trips, record_stable, write_members,
 };
 
 /// Money that one account sends to another.
@@ -33,9 +33,9 @@ impl Record for Transfer {
 
     ghost made = { λ x. record { from = x.0; to = x.1.0; cents = x.1.1.0 } };
 
-    ghost whole = { (λ v. refl, λ x. refl) };
+    ghost bijective = { (λ v. refl, λ x. refl) };
 
-    ghost named = { refl };
+    ghost distinct_names = { refl };
 
     fn names() -> &'static [&'static str] {
         TRANSFER_NAMES
@@ -48,7 +48,7 @@ impl Record for Transfer {
 }
 
 impl FromJson for Transfer {
-    ghost means = { struct_meant ⟦<TransferFields as Slots>⟧.meaning ⟦<Transfer as Record>⟧.names
+    ghost means = { struct_meaning ⟦<TransferFields as Slots>⟧.meaning ⟦<Transfer as Record>⟧.names
         ⟦<Transfer as Record>⟧.values };
 
     fn missing() -> Option<Transfer> {
@@ -61,8 +61,7 @@ impl FromJson for Transfer {
 }
 
 impl Serialize for Transfer {
-    ghost tree = { record_tree ⟦<Transfer as Record>⟧.names ⟦<TransferFields as AgainFields>⟧.trees
-        ⟦<Transfer as Record>⟧.values };
+    ghost tree = { record_tree ⟦<Transfer as Record>⟧.names ⟦<TransferFields as RoundTripFields>⟧.trees ⟦<Transfer as Record>⟧.values };
 
     fn begin(&self, w: &mut Writer) -> Result<()> {
         write_members(
@@ -74,7 +73,7 @@ impl Serialize for Transfer {
 }
 
 impl Ranged for Transfer {
-    ghost real = { λ v. ⟦<TransferFields as AgainFields>⟧.real (⟦<Transfer as Record>⟧.values v) };
+    ghost real = { λ v. ⟦<TransferFields as RoundTripFields>⟧.real (⟦<Transfer as Record>⟧.values v) };
 
     fn ranged(&self) {
         self.from.ranged();
@@ -84,8 +83,8 @@ impl Ranged for Transfer {
 }
 
 impl RoundTrip for Transfer {
-    fn again() {
-        record_again::<Transfer, TransferFields>()
+    fn round_trips() {
+        record_round_trips::<Transfer, TransferFields>()
     }
 }
 

@@ -2,24 +2,24 @@
 use Rattle.std.specs.Prelude.{◌≡◌, ℕ, ◌+◌, ◌-◌, List, [], ◌∷◌, ◌++◌, Some, refl}
 use Rattle.std.proofs.Common.{◌∙◌, ap, sym, append_assoc, arith}
 use Rattle.miniserde.specs.Tree.{Tree, list, members, Trees, no_trees, tree, Members, no_members, member}
-use Rattle.miniserde.specs.Event.{Event, element, finish, events, child_events, member_events}
+use Rattle.miniserde.specs.Step.{Step, element, finish, events, child_events, member_events}
 use Rattle.examples.specs.Elements.{number_of, elements_of, more, counted}
 
 -- a container inside an element closes
-back : (d : ℕ) (es : List Event) → more (d + 2) (finish ∷ es) ≡ more (d + 1) es
+back : (d : ℕ) (es : List Step) → more (d + 2) (finish ∷ es) ≡ more (d + 1) es
 back d es = let e : d + 2 - 1 ≡ d + 1 = omega arith in ap (λ n. more n es) e
 
 -- numbers do not compute beside a variable
-deeper : (d : ℕ) (es : List Event) → more (d + 1 + 1) es ≡ more (d + 2) es
+deeper : (d : ℕ) (es : List Step) → more (d + 1 + 1) es ≡ more (d + 2) es
 deeper d es = let e : d + 1 + 1 ≡ d + 2 = omega arith in ap (λ n. more n es) e
 
 -- an element of a list inside an element is not counted
-within : (d : ℕ) (es : List Event) → more (d + 2) (element ∷ es) ≡ more (d + 2) es
+within : (d : ℕ) (es : List Step) → more (d + 2) (element ∷ es) ≡ more (d + 2) es
 within d es = grind arith
 
 mutual
   -- inside an element nothing counts
-  value_skips : (t : Tree) (d : ℕ) (es : List Event) → more (d + 1) (events t ++ es) ≡ more (d + 1) es
+  value_skips : (t : Tree) (d : ℕ) (es : List Step) → more (d + 1) (events t ++ es) ≡ more (d + 1) es
   value_skips (list ts) d es =
       ap (λ r. more (d + 1 + 1) r) (append_assoc (child_events ts) (finish ∷ []) es)
       ∙ deeper d (child_events ts ++ finish ∷ es)
@@ -32,7 +32,7 @@ mutual
       ∙ back d es
   value_skips t d es = refl
 
-  children_skip : (ts : Trees) (d : ℕ) (es : List Event) → more (d + 2) (child_events ts ++ es) ≡ more (d + 2) es
+  children_skip : (ts : Trees) (d : ℕ) (es : List Step) → more (d + 2) (child_events ts ++ es) ≡ more (d + 2) es
   children_skip no_trees d es = refl
   children_skip (tree t ts) d es =
       within d ((events t ++ child_events ts) ++ es)
@@ -42,7 +42,7 @@ mutual
       ∙ deeper d (child_events ts ++ es)
       ∙ children_skip ts d es
 
-  members_skip : (ms : Members) (d : ℕ) (es : List Event) → more (d + 2) (member_events ms ++ es) ≡ more (d + 2) es
+  members_skip : (ms : Members) (d : ℕ) (es : List Step) → more (d + 2) (member_events ms ++ es) ≡ more (d + 2) es
   members_skip no_members d es = refl
   members_skip (member name t ms) d es =
       ap (λ r. more (d + 2) r) (append_assoc (events t) (member_events ms) es)
@@ -52,7 +52,7 @@ mutual
       ∙ members_skip ms d es
 
 -- each child of the list itself counts one
-children_count : (ts : Trees) (es : List Event) → more 1 (child_events ts ++ es) ≡ number_of ts + more 1 es
+children_count : (ts : Trees) (es : List Step) → more 1 (child_events ts ++ es) ≡ number_of ts + more 1 es
 children_count no_trees es = omega arith
 children_count (tree t ts) es =
     let a : more 1 ((events t ++ child_events ts) ++ es) ≡ more 1 (child_events ts ++ es) =

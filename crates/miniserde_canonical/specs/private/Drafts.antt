@@ -4,7 +4,7 @@ use Rattle.miniserde_model.specs.private.Reading.{Moment, due, first, after}
 use Rattle.miniserde_canonical.specs.Token.{Token}
 use Rattle.miniserde_canonical.specs.declared.draft.Draft.{Draft}
 use Rattle.miniserde_canonical.specs.private.Spreads.{Good}
-use Rattle.miniserde_canonical.specs.private.Settling.{Chain}
+use Rattle.miniserde_canonical.specs.private.Sorting.{Chain}
 use Rattle.miniserde_canonical.specs.private.Arranging.{State, Run}
 
 -- where rest is left of the input, the text and the run are bs
@@ -28,7 +28,7 @@ pub record Represents (d : Draft) (rest : List ℕ) (s : State) : Type 0 where
   pub holding : Holding d bytes s
 
 -- nothing changes but the bytes of the text and the run
-pub record Keeps (d d' : Draft) : Type 0 where
+pub record ChangesOnlyText (d d' : Draft) : Type 0 where
   pub holes : d'.out.holes.items ≡ d.out.holes.items
   pub groups : d'.groups.bytes.items ≡ d.groups.bytes.items
   pub inner : d'.groups.holes.items ≡ d.groups.holes.items

@@ -37,20 +37,20 @@ end_of (m ∷ ms) end = before_comma ms end
 -- ---- rows
 
 -- members by their names and their trees
-abbrev pub rows_by : {X : Type 0} → (X → List ℕ) → (X → Tree) → List X → Members
-rows_by n r [] = no_members
-rows_by n r (x ∷ xs) = member (n x) (r x) (rows_by n r xs)
+abbrev pub named_members : {X : Type 0} → (X → List ℕ) → (X → Tree) → List X → Members
+named_members n r [] = no_members
+named_members n r (x ∷ xs) = member (n x) (r x) (named_members n r xs)
 
 -- the names at those indices, with trees
-abbrev pub rows : List Member → (ℕ → Tree) → List ℕ → Members
-rows ms r order = rows_by (name_in ms) r order
+abbrev pub members_at : List Member → (ℕ → Tree) → List ℕ → Members
+members_at ms r order = named_members (name_in ms) r order
 
 -- the first of the members has that name
-abbrev pub heads : List ℕ → Members → Bool
-heads n no_members = false
-heads n (member m t ms) = bytes_eq n m
+abbrev pub begins_with_name : List ℕ → Members → Bool
+begins_with_name n no_members = false
+begins_with_name n (member m t ms) = bytes_eq n m
 
 -- without each that the next one repeats
-abbrev pub kept : Members → Members
-kept no_members = no_members
-kept (member n t ms) = cond (heads n ms) (kept ms) (member n t (kept ms))
+abbrev pub without_repeats : Members → Members
+without_repeats no_members = no_members
+without_repeats (member n t ms) = cond (begins_with_name n ms) (without_repeats ms) (member n t (without_repeats ms))

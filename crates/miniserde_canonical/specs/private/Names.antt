@@ -8,11 +8,11 @@ name_of (Input s) = s.now
 name_of (Decoded s) = string_bytes s.value
 
 -- the first n bytes as a number, the first the highest; missing ones are 0
-abbrev pub lead : ℕ → List ℕ → ℕ
-lead zero s = 0
-lead (suc n) [] = 0
-lead (suc n) (c ∷ s) = c * 256 ^ n + lead n s
+abbrev pub leading_number : ℕ → List ℕ → ℕ
+leading_number zero s = 0
+leading_number (suc n) [] = 0
+leading_number (suc n) (c ∷ s) = c * 256 ^ n + leading_number n s
 
 pub record IsPrefix (p : ℕ) (s : List ℕ) : Type 0 where
-  pub value : p ≡ lead 8 s
+  pub value : p ≡ leading_number 8 s
   pub small : (i : ℕ) → get_or s i 0 < 256

@@ -3,22 +3,22 @@ use Rattle.std.specs.Prelude.{◌≡◌, ◌≤◌, ◌-◌, ◌+◌, ℕ, suc, 
 use Rattle.miniserde_canonical.specs.declared.spread.Span.{Span}
 use Rattle.miniserde_canonical.specs.declared.spread.Hole.{Hole}
 
-abbrev pub between : {X : Type 0} → ℕ → ℕ → List X → List X
-between a b xs = take (b - a) (drop a xs)
+abbrev pub part_between : {X : Type 0} → ℕ → ℕ → List X → List X
+part_between a b xs = take (b - a) (drop a xs)
 
 -- the span lies within the bytes and the holes
 abbrev pub Within : Span → List ℕ → List Hole → Type 0
 Within p bs hs = (p.from.bytes ≤ p.to.bytes) × (p.to.bytes ≤ length bs) × (p.from.holes ≤ p.to.holes) × (p.to.holes ≤ length hs)
 
 abbrev pub bytes_in : Span → List ℕ → List ℕ
-bytes_in p bs = between p.from.bytes p.to.bytes bs
+bytes_in p bs = part_between p.from.bytes p.to.bytes bs
 
 abbrev pub holes_in : Span → List Hole → List Hole
-holes_in p hs = between p.from.holes p.to.holes hs
+holes_in p hs = part_between p.from.holes p.to.holes hs
 
 -- the hole where its text begins at another index
-abbrev pub moved : ℕ → ℕ → Hole → Hole
-moved from at h = record { at = at + (h.at - from); group = h.group }
+abbrev pub shifted_hole : ℕ → ℕ → Hole → Hole
+shifted_hole from at h = record { at = at + (h.at - from); group = h.group }
 
 -- Over the groups ms and gs the bytes from an index on, with the holes, hold the text.
 pub data Holds : List ℕ → List Hole → ℕ → List ℕ → List Hole → List ℕ → Type 0 where

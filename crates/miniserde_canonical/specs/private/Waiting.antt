@@ -13,9 +13,9 @@ Waits ms gs [] x = x ≡ []
 Waits ms gs (p ∷ ps) x = (y z : List ℕ) × Waits ms gs ps y × SpanHolds ms gs p z × (x ≡ y ++ z)
 
 -- More than what its holes take, where each takes more than all that stand before it.
-abbrev pub load : Span → ℕ
-load p = 1 + (2 ^ (1 + p.to.holes) - 2 ^ (1 + p.from.holes))
+abbrev pub span_measure : Span → ℕ
+span_measure p = 1 + (2 ^ (1 + p.to.holes) - 2 ^ (1 + p.from.holes))
 
-abbrev pub loads : List Span → ℕ
-loads [] = 0
-loads (p ∷ ps) = load p + loads ps
+abbrev pub spans_measure : List Span → ℕ
+spans_measure [] = 0
+spans_measure (p ∷ ps) = span_measure p + spans_measure ps

@@ -1,6 +1,6 @@
 //! The places of arrays, of objects, and of documents that count as what is written of them.
 ghost use Rattle.std.specs.Prelude.{◌≡◌, true, Some, option_map};
-ghost use Rattle.miniserde_read.specs.Step.{event_of};
+ghost use Rattle.miniserde_read.specs.Events.{event_of};
 ghost use Rattle.miniserde_value.specs.Values.{shape};
 ghost use Rattle.miniserde_de.specs.Kinds.{Kind};
 ghost use Rattle.miniserde_de.specs.laws.Kinds.{lists, objects, documents};
@@ -50,13 +50,13 @@ pub struct KindPlace<K> {
 impl<K: OfKind> Visitor for KindPlace<K> {
     type Out = K::Out;
 
-    ghost use Rattle.miniserde_de.specs.Places.{kind_meaning, steps};
+    ghost use Rattle.miniserde_de.specs.Places.{kind_place_meaning, steps};
 
-    ghost meaning = { kind_meaning K.kind };
+    ghost meaning = { kind_place_meaning K.kind };
 
-    ghost begins_free = { true };
+    ghost begin_infallible = { true };
 
-    ghost takes_free = { true };
+    ghost take_infallible = { true };
 
     // What an event makes of the hole, where the kind begins with it.
     ghost further = { λ old e answer new. K.kind.begins e ≡ true → steps old.place e answer new.place };

@@ -16,13 +16,13 @@ pub struct NumberPlace {
 impl Visitor for NumberPlace {
     type Out = Number;
 
-    ghost use Rattle.miniserde_de.specs.Places.{number_meaning};
+    ghost use Rattle.miniserde_de.specs.Places.{number_place_meaning};
 
-    ghost meaning = { number_meaning };
+    ghost meaning = { number_place_meaning };
 
-    ghost begins_free = { true };
+    ghost begin_infallible = { true };
 
-    ghost takes_free = { true };
+    ghost take_infallible = { true };
 
     fn begin(alloc: Global) -> Result<NumberPlace> {
         Ok(NumberPlace {

@@ -16,13 +16,13 @@ pub struct UniquePlace {
 impl Visitor for UniquePlace {
     type Out = Unique;
 
-    ghost use Rattle.miniserde_de.specs.Places.{unique_meaning, steps_once};
+    ghost use Rattle.miniserde_de.specs.Places.{unique_place_meaning, steps_once};
 
-    ghost meaning = { unique_meaning };
+    ghost meaning = { unique_place_meaning };
 
-    ghost begins_free = { true };
+    ghost begin_infallible = { true };
 
-    ghost takes_free = { true };
+    ghost take_infallible = { true };
 
     // What an event makes of the hole: one that repeats a name is refused.
     ghost further = { steps_once };

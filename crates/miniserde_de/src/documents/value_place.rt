@@ -1,9 +1,9 @@
 //! The place of a document of any depth, without recursion.
 ghost use Rattle.std.specs.Prelude.{◌≡◌, true, [], Option, Some, None, Err, IfOk, OnOk};
 ghost use Rattle.miniserde_model.specs.declared.error.Error.TheVariants.{Invalid};
-ghost use Rattle.miniserde_read.specs.Step.{event_of};
-ghost use Rattle.miniserde_read.specs.Step.{IsTreeEvent};
-ghost use Rattle.miniserde_value.specs.Hole.{outside, resumed, took};
+ghost use Rattle.miniserde_read.specs.Events.{event_of};
+ghost use Rattle.miniserde_read.specs.Events.{IsTreeEvent};
+ghost use Rattle.miniserde_value.specs.Hole.{outside, after_resume, after_step};
 ghost use Rattle.miniserde_value.specs.Hole.{repeats};
 ghost use Rattle.miniserde_de.specs.Kinds.{is_start};
 
@@ -45,8 +45,8 @@ impl ValuePlace {
     #[inline(always)]
     fn resume(&mut self, event: Step<'_>) -> Result<bool>
         ensures ok { IfOk result (λ due.
-            resumed (event_of event.entry) (hole_at self.old) ≡ Some (due, hole_at self.new)) }
-        ensures invalid { result ≡ Err Invalid → resumed (event_of event.entry) (hole_at self.old) ≡ None }
+            after_resume (event_of event.entry) (hole_at self.old) ≡ Some (due, hole_at self.new)) }
+        ensures invalid { result ≡ Err Invalid → after_resume (event_of event.entry) (hole_at self.old) ≡ None }
         ensures refused { refusal_of self.new ≡ refusal_of self.old }
     {
         match (event, self.builder.innermost()) {
@@ -67,10 +67,10 @@ impl ValuePlace {
     #[inline(always)]
     fn accept(&mut self, event: Step<'_>) -> Result<()>
         requires { IsTreeEvent (event_of event) }
-        ensures ok { OnOk result (took (due_in self.old) (hole_at self.old) (event_of event.entry)
+        ensures ok { OnOk result (after_step (due_in self.old) (hole_at self.old) (event_of event.entry)
             ≡ Some (due_in self.new, hole_at self.new)) }
         ensures invalid { result ≡ Err Invalid
-            → took (due_in self.old) (hole_at self.old) (event_of event.entry) ≡ None }
+            → after_step (due_in self.old) (hole_at self.old) (event_of event.entry) ≡ None }
         ensures refused { refusal_of self.new ≡ refusal_of self.old }
     {
         if self.due {
@@ -103,13 +103,13 @@ impl ValuePlace {
 impl Visitor for ValuePlace {
     type Out = Value;
 
-    ghost use Rattle.miniserde_de.specs.Places.{value_meaning, steps};
+    ghost use Rattle.miniserde_de.specs.Places.{value_place_meaning, steps};
 
-    ghost meaning = { value_meaning };
+    ghost meaning = { value_place_meaning };
 
-    ghost begins_free = { true };
+    ghost begin_infallible = { true };
 
-    ghost takes_free = { true };
+    ghost take_infallible = { true };
 
     // What an event makes of the hole.
     ghost further = { steps };

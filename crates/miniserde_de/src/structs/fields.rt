@@ -2,11 +2,11 @@
 ghost use Rattle.std.specs.Prelude.{◌≡◌, ◌&&◌, Bool, true, false, Option, None, Some, Ok, Err, [], IfOk, option_map, is_some, map};
 ghost use Rattle.miniserde_model.specs.Position.{complete};
 ghost use Rattle.miniserde_model.specs.declared.error.Error.{Error};
-ghost use Rattle.miniserde_read.specs.Step.{event_of};
+ghost use Rattle.miniserde_read.specs.Events.{event_of};
 ghost use Rattle.miniserde_place.specs.Place.{Takes, IsFresh, first_refusal};
-ghost use Rattle.miniserde_read.specs.Step.{IsTreeEvent};
+ghost use Rattle.miniserde_read.specs.Events.{IsTreeEvent};
 ghost use Rattle.miniserde_place.specs.Container.{is_complete};
-ghost use Rattle.miniserde_de.specs.FieldPlaces.{FieldsMeaning, no_field_places, field_place_and};
+ghost use Rattle.miniserde_de.specs.FieldPlaces.{FieldPlacesMeaning, no_field_places, field_place_and};
 
 use crate::de::Deserialize;
 use miniserde_model::error::{Error, Result};
@@ -22,7 +22,7 @@ pub trait Fields: Drop {
     type Values;
 
     // The meaning of the fields, and the view of the current one's place.
-    ghost meaning: { FieldsMeaning Self Self.Values };
+    ghost meaning: { FieldPlacesMeaning Self Self.Values };
 
     // `join` returns `Memory` only if the current value was refused with it before.
     ghost join_infallible: { Bool } = { false };
@@ -62,10 +62,10 @@ pub trait Fields: Drop {
             → (meaning.child self.old).at ≡ complete → (meaning.child self.old).outcome [] ≡ None }
         ensures infallible { join_infallible ≡ true → result ≡ Err Error.Memory
             → (meaning.child self.old).refused ≡ Some Error.Memory }
-        ensures keeps { (r : Error) → (meaning.child self.old).refused ≡ Some r → result ≡ Err r };
+        ensures sticky { (r : Error) → (meaning.child self.old).refused ≡ Some r → result ≡ Err r };
 
     /// Returns whether each field has a value or a default.
-    fn are_whole(&self) -> bool
+    fn can_end(&self) -> bool
         ensures { result ≡ is_some (meaning.meant.end (meaning.state self.now)) };
 
     /// Returns the values of the fields, if each has one or a default.
@@ -82,7 +82,7 @@ pub struct NoField {
 impl Fields for NoField {
     type Values = ();
 
-    ghost meaning = { no_field_places (λ f. ⟦<Ignore as Visitor>⟧.meaning.shows f.skipped) };
+    ghost meaning = { no_field_places (λ f. ⟦<Ignore as Visitor>⟧.meaning.view f.skipped) };
 
     ghost join_infallible = { true };
 
@@ -111,7 +111,7 @@ impl Fields for NoField {
         mem::replace(&mut self.skipped, ignore()).take()
     }
 
-    fn are_whole(&self) -> bool {
+    fn can_end(&self) -> bool {
         true
     }
 
@@ -155,7 +155,7 @@ impl<T: Deserialize, O: Repeats, R: Fields> Fields for FieldOf<T::Place, T, O, R
     ghost meaning = { field_place_and O.once T.Place.meaning T.absent (λ f. f.value) (λ f. f.child) (λ f. f.rest) R.meaning };
 
     // `join` moves the value out of its place, and allocates nothing itself.
-    ghost join_infallible = { T.Place.takes_free && R.join_infallible };
+    ghost join_infallible = { T.Place.take_infallible && R.join_infallible };
 
     fn new() -> FieldOf<T::Place, T, O, R> {
         FieldOf {
@@ -220,8 +220,8 @@ impl<T: Deserialize, O: Repeats, R: Fields> Fields for FieldOf<T::Place, T, O, R
         }
     }
 
-    fn are_whole(&self) -> bool {
-        (self.value.is_some() || T::missing().is_some()) && self.rest.are_whole()
+    fn can_end(&self) -> bool {
+        (self.value.is_some() || T::missing().is_some()) && self.rest.can_end()
     }
 
     fn end(self) -> Option<Parts<T, R::Values>> {

@@ -1,5 +1,5 @@
 //! Four fields at once, for structs of many fields.
-ghost use Rattle.miniserde_de.specs.FieldPlaces.{field_places_inside};
+ghost use Rattle.miniserde_de.specs.FieldPlaces.{wrapper_field_places};
 
 use super::fields::{FieldOf, Fields};
 use crate::de::Deserialize;
@@ -54,7 +54,7 @@ impl<A: Deserialize, B: Deserialize, C: Deserialize, D: Deserialize, O: Repeats,
     for FourOf<A::Place, A, B::Place, B, C::Place, C, D::Place, D, O, R> {
     type Values = Parts<A, Parts<B, Parts<C, Parts<D, R::Values>>>>;
 
-    ghost meaning = { field_places_inside (λ f. f.fields) ⟦<FieldOf<A::Place, A, O, FieldOf<B::Place, B, O, FieldOf<C::Place, C, O, FieldOf<D::Place, D, O, R>>>> as Fields>⟧.meaning };
+    ghost meaning = { wrapper_field_places (λ f. f.fields) ⟦<FieldOf<A::Place, A, O, FieldOf<B::Place, B, O, FieldOf<C::Place, C, O, FieldOf<D::Place, D, O, R>>>> as Fields>⟧.meaning };
 
     ghost join_infallible = { ⟦<FieldOf<A::Place, A, O, FieldOf<B::Place, B, O, FieldOf<C::Place, C, O, FieldOf<D::Place, D, O, R>>>> as Fields>⟧.join_infallible };
 
@@ -89,8 +89,8 @@ impl<A: Deserialize, B: Deserialize, C: Deserialize, D: Deserialize, O: Repeats,
         self.fields.join()
     }
 
-    fn are_whole(&self) -> bool {
-        self.fields.are_whole()
+    fn can_end(&self) -> bool {
+        self.fields.can_end()
     }
 
     fn end(self) -> Option<Parts<A, Parts<B, Parts<C, Parts<D, R::Values>>>>> {

@@ -1,11 +1,11 @@
 //! The place of a unit enum.
 ghost use Rattle.std.specs.Prelude.{◌≡◌, true, Some, Err, refl};
 ghost use Rattle.miniserde_model.specs.declared.error.Error.{Error};
-ghost use Rattle.miniserde_place.specs.Place.{placed};
+ghost use Rattle.miniserde_place.specs.Place.{place_meaning};
 ghost use Rattle.miniserde_place.specs.Leaf.{from_one_event};
 ghost use Rattle.miniserde_place.specs.laws.Leaf.{one-event};
 ghost use Rattle.miniserde_record.specs.Names.{variant_of};
-ghost use Rattle.miniserde_record.specs.Variants.{variant_meant};
+ghost use Rattle.miniserde_record.specs.Variants.{variant_meaning};
 
 use miniserde_model::error::{Error, Result};
 use miniserde_place::de::leaf::LeafPlace;
@@ -22,16 +22,16 @@ pub struct NamePlace<T> {
 impl<T: UnitEnum + 'static> Visitor for NamePlace<T> {
     type Out = T;
 
-    ghost meaning = { placed (variant_meant T.name_of T.all T.found (λ v. v)) (from_one_event (variant_of T.name_of T.all))
+    ghost meaning = { place_meaning (variant_meaning T.name_of T.all T.found (λ v. v)) (from_one_event (variant_of T.name_of T.all))
         (one-event (variant_of T.name_of T.all) (λ ts. refl, λ ms. refl))
-        (λ p. ⟦<LeafPlace<Variant<T>> as Visitor>⟧.meaning.shows p.place) };
+        (λ p. ⟦<LeafPlace<Variant<T>> as Visitor>⟧.meaning.view p.place) };
 
-    ghost begins_free = { true };
+    ghost begin_infallible = { true };
 
-    ghost takes_free = { true };
+    ghost take_infallible = { true };
 
     ghost further = { λ old e answer new. answer ≡ Err Error.Memory
-        → (⟦<LeafPlace<Variant<T>> as Visitor>⟧.meaning.shows old.place).refused ≡ Some Error.Memory };
+        → (⟦<LeafPlace<Variant<T>> as Visitor>⟧.meaning.view old.place).refused ≡ Some Error.Memory };
 
     fn begin(alloc: Global) -> Result<NamePlace<T>> {
         Ok(NamePlace {

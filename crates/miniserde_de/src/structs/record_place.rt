@@ -1,5 +1,5 @@
 //! The place of a struct.
-ghost use Rattle.miniserde_de.specs.FieldPlaces.{struct_gathering};
+ghost use Rattle.miniserde_de.specs.FieldPlaces.{struct_collector};
 
 use super::fields::Fields;
 use miniserde_model::error::{Error, Result};
@@ -28,7 +28,7 @@ pub type RecordPlace<S> = ContainerPlace<RecordOf<S, <S as PlacedRecord>::Fields
 impl<S: PlacedRecord + 'static> Collect for RecordOf<S, S::Fields> {
     type Out = S;
 
-    ghost gathering = { struct_gathering S.Fields.meaning S.names S.values (λ c. c.fields) };
+    ghost collector_meaning = { struct_collector S.Fields.meaning S.names S.values (λ c. c.fields) };
 
     ghost join_infallible = { S.Fields.join_infallible };
 
@@ -67,8 +67,8 @@ impl<S: PlacedRecord + 'static> Collect for RecordOf<S, S::Fields> {
         self.fields.join()
     }
 
-    fn is_whole(&self) -> bool {
-        self.fields.are_whole()
+    fn can_end(&self) -> bool {
+        self.fields.can_end()
     }
 
     fn end(self) -> Option<S> {

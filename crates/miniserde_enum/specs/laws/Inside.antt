@@ -2,7 +2,7 @@
 use Rattle.std.proofs.Common.{◌≡◌, Bool, true, false, cond, Option, Some, None, refl}
 use Rattle.std.specs.Prelude.{option_and_then, bytes_eq}
 use Rattle.miniserde_model.specs.Tree.{Tree, Members, no_members, member}
-use Rattle.miniserde_read.specs.meaning.Objects.{Name, all_members}
+use Rattle.miniserde_read.specs.types.Objects.{Name, all_members}
 use Rattle.miniserde_record.specs.Fields.{others}
 
 pub beside-refused : {A : Type 0} (b refuses : Bool) (skipped taken : Option A) → (refuses ≡ true → taken ≡ None) → cond b false refuses ≡ true → cond b skipped taken ≡ None

@@ -4,10 +4,10 @@ use Rattle.std.specs.Prelude.{◌↔◌, ℕ, option_map, option_and_then}
 use Rattle.std.specs.Option.{option_or}
 use Rattle.std.proofs.lemmas.Option.{same_Some}
 use Rattle.miniserde_model.specs.Tree.{Tree, str, members, Members}
-use Rattle.miniserde_read.specs.Meant.{Meant}
-use Rattle.miniserde_read.specs.Meanings.{string_meant}
-use Rattle.miniserde_read.specs.meaning.Objects.{Name}
-use Rattle.miniserde_read.specs.meaning.Words.{string_of}
+use Rattle.miniserde_read.specs.Meaning.{Meaning}
+use Rattle.miniserde_read.specs.Meanings.{string_meaning}
+use Rattle.miniserde_read.specs.types.Objects.{Name}
+use Rattle.miniserde_read.specs.types.Words.{string_of}
 use Rattle.miniserde_record.specs.Fields.{others, last_given, Says}
 use Rattle.miniserde_record.specs.laws.Meanings.{read-given, given-read}
 use Rattle.miniserde_enum.specs.Internal.{IsInternal, tag_of, internal_variant}
@@ -15,8 +15,8 @@ use Rattle.miniserde_enum.specs.Internal.{IsInternal, tag_of, internal_variant}
 abbrev Found : Type 0
 Found = Name × Option Tree
 
-abbrev names : Meant (List ℕ)
-names = string_meant (λ s. s)
+abbrev names : Meaning (List ℕ)
+names = string_meaning (λ s. s)
 
 no-default : (n : Name) → ⊥ ↔ (◌≡◌ {A = Option Name} None (Some n))
 no-default n = (λ h. absurd h, λ e. absurd (cc))

@@ -2,7 +2,7 @@
 use Rattle.std.proofs.Common.{◌≡◌, Some, refl}
 use Rattle.std.specs.Prelude.{◌↔◌}
 use Rattle.miniserde_model.specs.Tree.{Tree, members}
-use Rattle.miniserde_read.specs.meaning.Objects.{object_of}
+use Rattle.miniserde_read.specs.types.Objects.{object_of}
 use Rattle.miniserde_enum.specs.Objects.{IsObject}
 
 pub any-object : (t : Tree) → IsObject t ↔ (object_of (λ ms. Some (tt {0})) t ≡ Some tt)

@@ -1,7 +1,7 @@
 -- A tree is a variant by the words exactly where it has the variant's name and data.
 use Rattle.std.specs.Prelude.{◌≡◌, ◌↔◌, Option, Some}
 use Rattle.miniserde_model.specs.Tree.{Tree}
-use Rattle.miniserde_read.specs.meaning.Objects.{Name}
+use Rattle.miniserde_read.specs.types.Objects.{Name}
 use Rattle.miniserde_enum.specs.Shape.{Shape, external, internal, IsCase, case_of}
 use Rattle.miniserde_enum.specs.laws.External.{external-agrees}
 use Rattle.miniserde_enum.specs.laws.Internal.{internal-agrees}

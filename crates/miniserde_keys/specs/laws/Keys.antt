@@ -20,7 +20,7 @@ use Rattle.std.proofs.lemmas.Str.Parse.{IsNumeralModel, numerals_by_value, tells
 use lib.Utf8.{scalars}
 use mir.Syntax.{Width, w8, w16, w32, w64, w128}
 use mir.Val.{hbits}
-use Rattle.miniserde_keys.specs.Keys.{Key, of_nat, of_int, of_bool, bool_text, read_bool, only, read_char, are_digits_below, read_digits, read_unsigned, read_signed}
+use Rattle.miniserde_keys.specs.Keys.{Key, of_nat, of_int, of_bool, bool_text, read_bool, single_char, read_char, are_digits_below, read_digits, read_unsigned, read_signed}
 
 -- the law of a type of keys: the text of a valid key is parsed as an equal key that is valid
 abbrev pub ReadsBack : {K : Type 0} → (K → Type 0) → (K → Key) → (Key → Key) → (List ℕ → Option Key) → (K → List ℕ) → Type 0
@@ -80,17 +80,17 @@ digits_decide limit ds =
     (Decides-and _ _ (λ e. e, λ e. e) (Decides-ltb (digits_value 10 ds) limit)))
 
 -- k is the code where P holds, and otherwise nothing
-abbrev Reads : Type 0 → Option (List ℕ) → List ℕ → Type 0
-Reads P k code = (P × (k ≡ Some code)) ⊎ (¬ P × (k ≡ None))
+abbrev ReadsIf : Type 0 → Option (List ℕ) → List ℕ → Type 0
+ReadsIf P k code = (P × (k ≡ Some code)) ⊎ (¬ P × (k ≡ None))
 
-reads_if : {P : Type 0} (b : Bool) (code : List ℕ) → Decides b P → Reads P (cond b (Some code) None) code
+reads_if : {P : Type 0} (b : Bool) (code : List ℕ) → Decides b P → ReadsIf P (cond b (Some code) None) code
 reads_if true code d = inl (d.0 refl, refl)
 reads_if false code d = inr (λ p. true≢false (sym (d.1 p)), refl)
 
 -- the range R of the number is told by the limit
 digits_read : (limit : ℕ) (code : ℕ → List ℕ) (ds : List ℕ) (R : Type 0) → (R → digits_value 10 ds < limit)
     → (digits_value 10 ds < limit → R)
-    → Reads (IsNumeral 10 ds × R) (read_digits limit code ds) (code (digits_value 10 ds))
+    → ReadsIf (IsNumeral 10 ds × R) (read_digits limit code ds) (code (digits_value 10 ds))
 digits_read limit code ds R to from =
     reads_if (are_digits_below limit ds) _
     (Decides-like _ (λ d. (d.0, from d.1)) (λ d. (d.0, to d.1)) (digits_decide limit ds))
@@ -116,7 +116,7 @@ no_minus n h = let other = first_digit n 45 h (λ r. absurd (omega (arith, r.0))
 -- ---- unsigned integers
 
 pub unsigned_reads : (bits : ℕ) (bs : List ℕ)
-    → Reads (IsNumeral 10 (without_leading_plus bs) × (digits_value 10 (without_leading_plus bs) < 2 ^ bits))
+    → ReadsIf (IsNumeral 10 (without_leading_plus bs) × (digits_value 10 (without_leading_plus bs) < 2 ^ bits))
     (read_unsigned bits bs) (of_nat (digits_value 10 (without_leading_plus bs)))
 unfolding read_unsigned
 unsigned_reads bits bs = digits_read (2 ^ bits) of_nat (without_leading_plus bs) _ (λ h. h) (λ h. h)
@@ -153,7 +153,7 @@ read_by w minus ds ps =
     (read_digits (2 ^ hbits w) (λ n. of_int (pos n)) ps)
 
 reads_by : (w : Width) (minus : Bool) (ds ps : List ℕ)
-    → Reads (IsNumeral 10 (cond minus ds ps) × FitsSigned w (signed_by minus (cond minus ds ps)))
+    → ReadsIf (IsNumeral 10 (cond minus ds ps) × FitsSigned w (signed_by minus (cond minus ds ps)))
     (read_by w minus ds ps) (of_int (signed_by minus (cond minus ds ps)))
 reads_by w true ds ps =
     digits_read (2 ^ hbits w + 1) (λ n. of_int (neg_ℤ (pos n))) ds _ (fits_negated w _) (negated_fits w _)
@@ -162,7 +162,7 @@ reads_by w false ds ps =
 
 abbrev ReadsSigned : ℕ → Width → List ℕ → Type 0
 ReadsSigned bits w bs =
-    Reads (IsNumeral 10 (without_leading_sign bs) × FitsSigned w (signed_digits_value 10 bs))
+    ReadsIf (IsNumeral 10 (without_leading_sign bs) × FitsSigned w (signed_digits_value 10 bs))
     (read_signed bits bs) (of_int (signed_digits_value 10 bs))
 
 signed_reads : (bits : ℕ) (w : Width) → hbits w ≡ bits - 1 → (bs : List ℕ) → ReadsSigned bits w bs
@@ -212,14 +212,14 @@ pub char-back : ReadsBack IsScalar of_nat (λ c. c) read_char encode_utf8
 char-back c s = (c, s, char_some c s, refl)
 
 only_none : (bs cs : List ℕ) → scalars cs ≡ true → encode_utf8_all cs ≡ bs
-    → ((c : ℕ) → IsScalar c → bs ≢ encode_utf8 c) → only cs ≡ None
+    → ((c : ℕ) → IsScalar c → bs ≢ encode_utf8 c) → single_char cs ≡ None
 only_none bs [] s e h = refl
 only_none bs (c ∷ []) s e h = absurd (h c (grind (arith, s)) (sym e ∙ append-nil (encode_utf8 c)))
 only_none bs (c ∷ d ∷ cs) s e h = refl
 
 pub char_none : (bs : List ℕ) → ((c : ℕ) → IsScalar c → bs ≢ encode_utf8 c) → read_char bs ≡ None
 unfolding read_char
-char_none bs h = elim (is_utf8 bs) as (λ b. is_utf8 bs ≡ b → cond b (only (chars bs)) None ≡ None) [
+char_none bs h = elim (is_utf8 bs) as (λ b. is_utf8 bs ≡ b → cond b (single_char (chars bs)) None ≡ None) [
   | true ↦ λ t. let u = IsUtf8-from_is_utf8 bs t in only_none bs (chars bs) (scalars-chars bs u) (encodes-chars bs u) h
   | false ↦ λ t. refl
 ] refl

@@ -31,7 +31,7 @@ impl MapKey for u8 {
 
     ghost text = { decimal };
 
-    ghost reads_free = { true };
+    ghost from_key_infallible = { true };
 
     ghost alike = { nat-alike };
 
@@ -58,7 +58,7 @@ impl MapKey for u16 {
 
     ghost text = { decimal };
 
-    ghost reads_free = { true };
+    ghost from_key_infallible = { true };
 
     ghost alike = { nat-alike };
 
@@ -85,7 +85,7 @@ impl MapKey for u32 {
 
     ghost text = { decimal };
 
-    ghost reads_free = { true };
+    ghost from_key_infallible = { true };
 
     ghost alike = { nat-alike };
 
@@ -112,7 +112,7 @@ impl MapKey for u64 {
 
     ghost text = { decimal };
 
-    ghost reads_free = { true };
+    ghost from_key_infallible = { true };
 
     ghost alike = { nat-alike };
 
@@ -139,7 +139,7 @@ impl MapKey for usize {
 
     ghost text = { decimal };
 
-    ghost reads_free = { true };
+    ghost from_key_infallible = { true };
 
     ghost alike = { nat-alike };
 
@@ -166,7 +166,7 @@ impl MapKey for i8 {
 
     ghost text = { signed_decimal };
 
-    ghost reads_free = { true };
+    ghost from_key_infallible = { true };
 
     ghost alike = { int-alike };
 
@@ -193,7 +193,7 @@ impl MapKey for i16 {
 
     ghost text = { signed_decimal };
 
-    ghost reads_free = { true };
+    ghost from_key_infallible = { true };
 
     ghost alike = { int-alike };
 
@@ -220,7 +220,7 @@ impl MapKey for i32 {
 
     ghost text = { signed_decimal };
 
-    ghost reads_free = { true };
+    ghost from_key_infallible = { true };
 
     ghost alike = { int-alike };
 
@@ -247,7 +247,7 @@ impl MapKey for i64 {
 
     ghost text = { signed_decimal };
 
-    ghost reads_free = { true };
+    ghost from_key_infallible = { true };
 
     ghost alike = { int-alike };
 
@@ -274,7 +274,7 @@ impl MapKey for isize {
 
     ghost text = { signed_decimal };
 
-    ghost reads_free = { true };
+    ghost from_key_infallible = { true };
 
     ghost alike = { int-alike };
 

@@ -37,7 +37,7 @@ impl MapKey for bool {
 
     ghost text = { bool_text };
 
-    ghost reads_free = { true };
+    ghost from_key_infallible = { true };
 
     ghost alike = { bool-alike };
 
@@ -65,7 +65,7 @@ impl MapKey for char {
 
     ghost text = { encode_utf8 };
 
-    ghost reads_free = { true };
+    ghost from_key_infallible = { true };
 
     ghost alike = { nat-alike };
 

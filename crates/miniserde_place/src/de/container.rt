@@ -1,9 +1,9 @@
 //! The place of any container.
 ghost use Rattle.std.specs.Prelude.{◌≡◌, true, Some, None, Ok, Err, IfOk};
 ghost use Rattle.miniserde_model.specs.Position.{complete};
-ghost use Rattle.miniserde_read.specs.Step.{event_of};
-ghost use Rattle.miniserde_place.specs.Place.{LedTo, Barred, IsFresh};
-ghost use Rattle.miniserde_read.specs.Step.{IsTreeEvent};
+ghost use Rattle.miniserde_read.specs.Events.{event_of};
+ghost use Rattle.miniserde_place.specs.Place.{Advances, Rejects, IsFresh};
+ghost use Rattle.miniserde_read.specs.Events.{IsTreeEvent};
 ghost use Rattle.miniserde_model.specs.declared.error.Error.{Error};
 
 mod collect;
@@ -37,26 +37,26 @@ pub struct ContainerPlace<C> {
 }
 
 impl<C: Collect> ContainerPlace<C> {
-    ghost use Rattle.miniserde_place.specs.Stage.{shown, shown_between, children, RefusesChild};
+    ghost use Rattle.miniserde_place.specs.Stage.{container_view, view_between, children, RefusesChild};
     ghost use Rattle.miniserde_place.specs.Container.{BeginsChild};
 
     // An event that no open child takes.
     #[inline(never)]
-    fn turn(&mut self, event: Step<'_>) -> Result<()>
+    fn step_between_children(&mut self, event: Step<'_>) -> Result<()>
         requires tree { IsTreeEvent (event_of event) }
-        requires whole { self.old.stage ≡ Stage.Child → (C.gathering.child self.old.collector).at ≡ complete }
+        requires complete { self.old.stage ≡ Stage.Child → (C.collector_meaning.child self.old.collector).at ≡ complete }
         ensures leads { IfOk result (λ _.
-            LedTo (shown C.gathering self.old) (event_of event.entry) (shown C.gathering self.new)) }
-        ensures unrefused { IfOk result (λ _. (shown C.gathering self.new).refused ≡ None) }
-        ensures bars { result ≡ Err Error.Invalid → (shown C.gathering self.old).refused ≡ None
-            → Barred (shown C.gathering self.old) (event_of event.entry) }
-        ensures keeps { (r : Error) → (shown C.gathering self.old).refused ≡ Some r → result ≡ Err r }
+            Advances (container_view C.collector_meaning self.old) (event_of event.entry) (container_view C.collector_meaning self.new)) }
+        ensures unrefused { IfOk result (λ _. (container_view C.collector_meaning self.new).refused ≡ None) }
+        ensures bars { result ≡ Err Error.Invalid → (container_view C.collector_meaning self.old).refused ≡ None
+            → Rejects (container_view C.collector_meaning self.old) (event_of event.entry) }
+        ensures sticky { (r : Error) → (container_view C.collector_meaning self.old).refused ≡ Some r → result ≡ Err r }
         ensures opens { IfOk result (λ _. self.old.stage ≡ Stage.Fresh
-            → children C.gathering self.new ≡ Some C.gathering.empty) }
-        ensures begins { IfOk result (λ _. (s : C.gathering.State) → children C.gathering self.old ≡ Some s
+            → children C.collector_meaning self.new ≡ Some C.collector_meaning.empty) }
+        ensures begins { IfOk result (λ _. (s : C.collector_meaning.State) → children C.collector_meaning self.old ≡ Some s
             → BeginsChild (event_of event.entry) → (self.new.stage ≡ Stage.Child)
-            × IsFresh (C.gathering.rules.child s (event_of event.entry)) (C.gathering.child self.new.collector)) }
-        ensures refuses { RefusesChild C.gathering C.join_infallible self.old (event_of event.entry) result self.new }
+            × IsFresh (C.collector_meaning.rules.child s (event_of event.entry)) (C.collector_meaning.child self.new.collector)) }
+        ensures refuses { RefusesChild C.collector_meaning C.join_infallible self.old (event_of event.entry) result self.new }
     {
         match self.stage {
             Stage::Fresh => {
@@ -81,15 +81,15 @@ impl<C: Collect> ContainerPlace<C> {
     // An event between two children: the next one begins, or the container ends.
     fn go_on(&mut self, event: Step<'_>) -> Result<()>
         ensures leads { IfOk result (λ _.
-            LedTo (shown_between C.gathering self.old.collector) (event_of event.entry) (shown C.gathering self.new)) }
-        ensures unrefused { IfOk result (λ _. (shown C.gathering self.new).refused ≡ None) }
+            Advances (view_between C.collector_meaning self.old.collector) (event_of event.entry) (container_view C.collector_meaning self.new)) }
+        ensures unrefused { IfOk result (λ _. (container_view C.collector_meaning self.new).refused ≡ None) }
         ensures bars { result ≡ Err Error.Invalid
-            → Barred (shown_between C.gathering self.old.collector) (event_of event.entry) }
+            → Rejects (view_between C.collector_meaning self.old.collector) (event_of event.entry) }
         ensures begins { IfOk result (λ _. BeginsChild (event_of event.entry) → (self.new.stage ≡ Stage.Child)
-            × IsFresh (C.gathering.rules.child (C.gathering.state self.old.collector) (event_of event.entry))
-            (C.gathering.child self.new.collector)) }
+            × IsFresh (C.collector_meaning.rules.child (C.collector_meaning.state self.old.collector) (event_of event.entry))
+            (C.collector_meaning.child self.new.collector)) }
         ensures refuses { BeginsChild (event_of event.entry)
-            → C.gathering.refuses (C.gathering.state self.old.collector) (event_of event.entry) ≡ true
+            → C.collector_meaning.refuses (C.collector_meaning.state self.old.collector) (event_of event.entry) ≡ true
             → result ≡ Err Error.Invalid }
     {
         match event {
@@ -99,7 +99,7 @@ impl<C: Collect> ContainerPlace<C> {
                 Ok(())
             }
             Step::Finish => {
-                if !self.collector.is_whole() {
+                if !self.collector.can_end() {
                     return Err(Error::Invalid);
                 }
                 self.stage = Stage::Done;
@@ -115,14 +115,14 @@ impl<C: Collect> Visitor for ContainerPlace<C> {
 
     type Out = C::Out;
 
-    ghost meaning = { place_of C.gathering };
+    ghost meaning = { place_of C.collector_meaning };
 
-    ghost begins_free = { true };
+    ghost begin_infallible = { true };
 
-    ghost takes_free = { true };
+    ghost take_infallible = { true };
 
     // What each event does to the children: one whose child the container refuses by the event is refused at once.
-    ghost further = { ContainerSteps C.gathering C.join_infallible };
+    ghost further = { ContainerSteps C.collector_meaning C.join_infallible };
 
     fn begin(alloc: Global) -> Result<ContainerPlace<C>> {
         Ok(ContainerPlace {
@@ -138,7 +138,7 @@ impl<C: Collect> Visitor for ContainerPlace<C> {
                 return self.collector.step(event);
             }
         }
-        match self.turn(event) {
+        match self.step_between_children(event) {
             Ok(()) => Ok(()),
             Err(error) => {
                 self.stage = Stage::Refused(error);

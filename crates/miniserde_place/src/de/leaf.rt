@@ -1,7 +1,7 @@
 //! The one place of all types whose values are single tokens.
 ghost use Rattle.std.specs.Prelude.{◌≡◌, Bool, true, Option, Some, Err, List};
-ghost use Rattle.miniserde_place.specs.Place.{placed};
-ghost use Rattle.miniserde_place.specs.Leaf.{from_one_event, leaf_shows};
+ghost use Rattle.miniserde_place.specs.Place.{place_meaning};
+ghost use Rattle.miniserde_place.specs.Leaf.{from_one_event, leaf_view};
 ghost use Rattle.miniserde_place.specs.laws.Leaf.{one-event};
 ghost use Rattle.miniserde_model.specs.declared.error.Error.{Error};
 
@@ -35,12 +35,12 @@ impl<T: Leaf> Visitor for LeafPlace<T> {
 
     ghost use Rattle.miniserde_place.specs.LeafPlace.{value_of, refusal_of};
 
-    ghost meaning = { placed T.means (from_one_event T.means.from_tree) (one-event T.means.from_tree T.only_leaves)
-        (λ p. leaf_shows T.means.content T.means.from_tree (value_of p) (refusal_of p)) };
+    ghost meaning = { place_meaning T.means (from_one_event T.means.from_tree) (one-event T.means.from_tree T.only_leaves)
+        (λ p. leaf_view T.means.content T.means.from_tree (value_of p) (refusal_of p)) };
 
-    ghost begins_free = { true };
+    ghost begin_infallible = { true };
 
-    ghost takes_free = { true };
+    ghost take_infallible = { true };
 
     // `Memory` comes only where it was refused with before, where reading an event takes none.
     ghost further = { λ old e answer new.

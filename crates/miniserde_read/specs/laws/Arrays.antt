@@ -4,9 +4,9 @@ use Rattle.std.specs.Prelude.{◌↔◌, option_and_then}
 use Rattle.std.proofs.lemmas.Bool.Decides.{nat_tests}
 use Rattle.std.proofs.lemmas.List.{length-map}
 use Rattle.miniserde_model.specs.Tree.{Tree}
-use Rattle.miniserde_read.specs.meaning.Lists.{list_of}
+use Rattle.miniserde_read.specs.types.Lists.{list_of}
 use Rattle.miniserde_read.specs.laws.Lists.{list-given}
-use Rattle.miniserde_read.specs.meaning.Arrays.{ArrayReads, exactly, array_of}
+use Rattle.miniserde_read.specs.types.Arrays.{ArrayReads, exactly, array_of}
 
 module _ {C : Type 0} (n : ℕ) where
   -- exactly n items are themselves, and any other number is nothing

@@ -3,7 +3,7 @@ use Rattle.std.proofs.Common.{◌≡◌, ◌<◌, ◌^◌, ℕ, ℤ, pos, Bool, 
 use Rattle.std.specs.Prelude.{◌↔◌}
 use Rattle.std.proofs.lemmas.Bool.Decides.{nat_tests}
 use Rattle.miniserde_model.specs.Tree.{Tree, null, truth, nonneg, neg, num, str, list, members}
-use Rattle.miniserde_read.specs.meaning.Integers.{fits_signed, unsigned_of, signed_of, ReadsUnsigned, ReadsSigned}
+use Rattle.miniserde_read.specs.types.Integers.{fits_signed, unsigned_of, signed_of, ReadsUnsigned, ReadsSigned}
 
 some_if : (b : Bool) (x y : ℤ) → cond b (Some x) None ≡ Some y → (b ≡ true) × (x ≡ y)
 some_if true x y e = (refl, cc)

@@ -2,7 +2,7 @@
 use Rattle.std.proofs.Common.{◌≡◌, List, [], ◌∷◌, Option, Some, None, refl, ap, ◌∙◌, map}
 use Rattle.std.specs.Prelude.{◌↔◌, option_and_then}
 use Rattle.miniserde_model.specs.Tree.{Tree, null, truth, nonneg, neg, num, str, list, members, Trees, no_trees, tree}
-use Rattle.miniserde_read.specs.meaning.Lists.{EachReads, ListReads, each, list_of}
+use Rattle.miniserde_read.specs.types.Lists.{EachReads, ListReads, each, list_of}
 
 module _ {T C : Type 0} (R : Tree → T → Type 0) (of : Tree → Option C) (content : T → C) (given : (t : Tree) (v : T) → R t v ↔ (of t ≡ Some (content v))) where
   each-given : (ts : Trees) (xs : List T) → EachReads R ts xs → each of ts ≡ Some (map content xs)

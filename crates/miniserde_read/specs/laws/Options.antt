@@ -2,7 +2,7 @@
 use Rattle.std.proofs.Common.{◌≡◌, Option, Some, None, refl, ap}
 use Rattle.std.specs.Prelude.{◌≢◌, ◌↔◌, option_map}
 use Rattle.miniserde_model.specs.Tree.{Tree, null}
-use Rattle.miniserde_read.specs.meaning.Options.{OptionReads, option_of}
+use Rattle.miniserde_read.specs.types.Options.{OptionReads, option_of}
 
 -- a tree that is not null gives some value, and it is the one that the inner place gives
 module _ {T C : Type 0} (content : T → C) where

@@ -2,7 +2,7 @@
 use Rattle.std.proofs.Common.{◌≡◌, Option, Some, None, refl, ap}
 use Rattle.std.specs.Prelude.{◌↔◌}
 use Rattle.miniserde_model.specs.Tree.{Tree, list, no_trees, tree}
-use Rattle.miniserde_read.specs.meaning.Pairs.{PairReads, both, pair_of}
+use Rattle.miniserde_read.specs.types.Pairs.{PairReads, both, pair_of}
 
 module _ {A B : Type 0} where
   -- where the pair is there, each part is

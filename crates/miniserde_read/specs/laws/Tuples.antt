@@ -3,7 +3,7 @@ use Rattle.std.proofs.Common.{◌≡◌, Option, Some, refl}
 use Rattle.std.specs.Prelude.{◌↔◌}
 use Rattle.miniserde_model.specs.Tree.{Tree, list, Trees, no_trees, tree}
 use Rattle.miniserde_read.specs.laws.Pairs.{both-some}
-use Rattle.miniserde_read.specs.meaning.Tuples.{NoneReads, none_of, ItemReads, item_of, TupleReads, tuple_of}
+use Rattle.miniserde_read.specs.types.Tuples.{NoneReads, none_of, ItemReads, item_of, TupleReads, tuple_of}
 
 pub none-given : (ts : Trees) (v : Unit {0}) → NoneReads ts v ↔ (none_of ts ≡ Some tt)
 none-given no_trees v = (λ h. refl, λ e. tt)

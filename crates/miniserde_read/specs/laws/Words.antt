@@ -2,7 +2,7 @@
 use Rattle.std.proofs.Common.{◌≡◌, ℕ, Bool, List, Some, refl, ap}
 use Rattle.std.specs.Prelude.{◌↔◌}
 use Rattle.miniserde_model.specs.Tree.{Tree, null, truth, nonneg, neg, num, str, list, members}
-use Rattle.miniserde_read.specs.meaning.Words.{unit_of, boolean_of, string_of}
+use Rattle.miniserde_read.specs.types.Words.{unit_of, boolean_of, string_of}
 
 unit_reads : (t : Tree) → unit_of t ≡ Some tt → t ≡ null
 unit_reads null e = refl

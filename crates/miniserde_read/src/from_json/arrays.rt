@@ -2,7 +2,7 @@
 ghost use Rattle.std.specs.Prelude.{◌≡◌, length, Ok, Err, IfOk, IfErr};
 ghost use Rattle.miniserde_model.specs.declared.error.Error.{Error};
 ghost use Rattle.miniserde_read.specs.Lacking.{ArrayLacks};
-ghost use Rattle.miniserde_read.specs.Meanings.{array_meant};
+ghost use Rattle.miniserde_read.specs.Meanings.{array_meaning};
 
 use super::FromJson;
 use crate::source::Source;
@@ -10,7 +10,7 @@ use miniserde_model::error::{Error, Result};
 use miniserde_text::json::lex::{After, Event, Kind};
 
 impl<T: FromJson, const N: usize> FromJson for [T; N] {
-    ghost means = { array_meant N T.means (λ v. v) };
+    ghost means = { array_meaning N T.means (λ v. v) };
 
     ghost lacking = { ArrayLacks N T.read_infallible };
 

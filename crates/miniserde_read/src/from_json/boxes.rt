@@ -1,5 +1,5 @@
 //! Boxed values.
-ghost use Rattle.miniserde_read.specs.Meanings.{box_meant};
+ghost use Rattle.miniserde_read.specs.Meanings.{box_meaning};
 
 use super::FromJson;
 use crate::source::Source;
@@ -7,7 +7,7 @@ use miniserde_model::error::Result;
 use miniserde_text::json::lex::Event;
 
 impl<T: FromJson> FromJson for Box<T> {
-    ghost means = { box_meant T.means (λ b. b.value) };
+    ghost means = { box_meaning T.means (λ b. b.value) };
 
     fn missing() -> Option<Box<T>> {
         None

@@ -1,12 +1,12 @@
 //! Maps, ordered by their keys or hashed.
 ghost use Rattle.std.specs.Prelude.{◌≡◌, [], List, None, Some, Ok, Err, IfOk, OnErr, IsErrOf};
-ghost use Rattle.miniserde_text.specs.Lexer.{front_of};
+ghost use Rattle.miniserde_text.specs.Lexer.{event_of_token};
 ghost use Rattle.miniserde_model.specs.declared.error.Error.{Error};
 ghost use Rattle.miniserde_model.specs.declared.error.Error.TheVariants.{Memory};
-ghost use Rattle.miniserde_read.specs.Meanings.{map_meant};
+ghost use Rattle.miniserde_read.specs.Meanings.{map_meaning};
 ghost use Rattle.miniserde_read.specs.Rest.{GivesAt, GivesNoneAt};
-ghost use Rattle.miniserde_read.specs.Step.{IsTreeEvent};
-ghost use Rattle.miniserde_read.specs.meaning.Maps.{looked, with_entry};
+ghost use Rattle.miniserde_read.specs.Events.{IsTreeEvent};
+ghost use Rattle.miniserde_read.specs.types.Maps.{map_content, with_entry};
 
 use super::FromJson;
 use crate::source::Source;
@@ -34,8 +34,8 @@ pub trait Table: Drop {
     /// cannot grow.
     fn put(&mut self, key: Self::Key, value: Self::Value) -> Result<()>
         ensures put { IfOk result (λ _.
-            looked Self.Key.code Self.Key.content (λ v. v) (entries self.new) ≡ with_entry Self.Key.code
-            (looked Self.Key.code Self.Key.content (λ v. v) (entries self.old)) (Self.Key.content key) value) }
+            map_content Self.Key.code Self.Key.content (λ v. v) (entries self.new) ≡ with_entry Self.Key.code
+            (map_content Self.Key.code Self.Key.content (λ v. v) (entries self.old)) (Self.Key.content key) value) }
         ensures memory { OnErr result (IsErrOf result Memory) };
 }
 
@@ -82,15 +82,15 @@ fn read_table<'a, V: FromJson, M: Table<Value = V>>(
     source: &mut Source<'a>,
 ) -> Result<M>
     requires going { source.old.refused ≡ None }
-    requires event { IsTreeEvent (front_of token source.old.scratch) }
+    requires event { IsTreeEvent (event_of_token token source.old.scratch) }
     ensures going { IfOk result (λ _. source.new.refused ≡ None) }
     ensures ok { IfOk result (λ v.
-        GivesAt (map_meant M.Key.read M.Key.code M.Key.content V.means M.entries).from_tree
-        (front_of token.entry source.old.scratch) source.old.rest source.new.rest
-        ((map_meant M.Key.read M.Key.code M.Key.content V.means M.entries).content v)) }
+        GivesAt (map_meaning M.Key.read M.Key.code M.Key.content V.means M.entries).from_tree
+        (event_of_token token.entry source.old.scratch) source.old.rest source.new.rest
+        ((map_meaning M.Key.read M.Key.code M.Key.content V.means M.entries).content v)) }
     ensures invalid { result ≡ Err Error.Invalid
-        → GivesNoneAt (map_meant M.Key.read M.Key.code M.Key.content V.means M.entries).from_tree
-        (front_of token.entry source.old.scratch) source.old.rest }
+        → GivesNoneAt (map_meaning M.Key.read M.Key.code M.Key.content V.means M.entries).from_tree
+        (event_of_token token.entry source.old.scratch) source.old.rest }
 {
     let Event::MapStart = token else {
         return Err(Error::Invalid);
@@ -108,7 +108,7 @@ fn read_table<'a, V: FromJson, M: Table<Value = V>>(
 }
 
 impl<K: MapKey + Ord, V: FromJson> FromJson for BTreeMap<K, V> {
-    ghost means = { map_meant K.read K.code K.content V.means (λ v. v.entries) };
+    ghost means = { map_meaning K.read K.code K.content V.means (λ v. v.entries) };
 
     fn missing() -> Option<BTreeMap<K, V>> {
         None
@@ -120,7 +120,7 @@ impl<K: MapKey + Ord, V: FromJson> FromJson for BTreeMap<K, V> {
 }
 
 impl<K: MapKey + Hash, V: FromJson, H: BuildHasher + Default + Drop> FromJson for HashMap<K, V, H> {
-    ghost means = { map_meant K.read K.code K.content V.means (λ v. v.entries) };
+    ghost means = { map_meaning K.read K.code K.content V.means (λ v. v.entries) };
 
     fn missing() -> Option<HashMap<K, V, H>> {
         None

@@ -1,6 +1,6 @@
 //! Optional values.
 ghost use Rattle.std.specs.Prelude.{Some, None};
-ghost use Rattle.miniserde_read.specs.Meanings.{option_meant};
+ghost use Rattle.miniserde_read.specs.Meanings.{option_meaning};
 
 use super::FromJson;
 use crate::source::Source;
@@ -8,7 +8,7 @@ use miniserde_model::error::Result;
 use miniserde_text::json::lex::Event;
 
 impl<T: FromJson> FromJson for Option<T> {
-    ghost means = { option_meant T.means };
+    ghost means = { option_meaning T.means };
 
     ghost absent = { Some None };
 

@@ -1,6 +1,6 @@
 //! Pairs.
 ghost use Rattle.miniserde_read.specs.Lacking.{PairLacks};
-ghost use Rattle.miniserde_read.specs.Meanings.{pair_meant};
+ghost use Rattle.miniserde_read.specs.Meanings.{pair_meaning};
 
 use super::FromJson;
 use crate::source::Source;
@@ -8,7 +8,7 @@ use miniserde_model::error::{Error, Result};
 use miniserde_text::json::lex::{After, Event, Kind};
 
 impl<A: FromJson, B: FromJson> FromJson for (A, B) {
-    ghost means = { pair_meant A.means B.means (λ v. v.0) (λ v. v.1) };
+    ghost means = { pair_meaning A.means B.means (λ v. v.0) (λ v. v.1) };
 
     ghost lacking = { PairLacks A.read_infallible B.read_infallible };
 

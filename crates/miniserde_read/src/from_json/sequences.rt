@@ -1,5 +1,5 @@
 //! Lists.
-ghost use Rattle.miniserde_read.specs.Meanings.{list_meant};
+ghost use Rattle.miniserde_read.specs.Meanings.{list_meaning};
 
 use super::FromJson;
 use crate::source::Source;
@@ -8,7 +8,7 @@ use miniserde_text::json::lex::Event;
 use std::collections::VecDeque;
 
 impl<T: FromJson> FromJson for Vec<T> {
-    ghost means = { list_meant T.means (λ v. v.items) };
+    ghost means = { list_meaning T.means (λ v. v.items) };
 
     fn missing() -> Option<Vec<T>> {
         None
@@ -29,7 +29,7 @@ impl<T: FromJson> FromJson for Vec<T> {
 }
 
 impl<T: FromJson> FromJson for VecDeque<T> {
-    ghost means = { list_meant T.means (λ q. q.items) };
+    ghost means = { list_meaning T.means (λ q. q.items) };
 
     fn missing() -> Option<VecDeque<T>> {
         None

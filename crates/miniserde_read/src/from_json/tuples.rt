@@ -1,6 +1,6 @@
 //! Tuples of three to six.
 ghost use Rattle.std.specs.Prelude.{[], ◌∷◌};
-ghost use Rattle.miniserde_read.specs.Items.{tuple_meant, no_items, item_and};
+ghost use Rattle.miniserde_read.specs.Items.{tuple_meaning, no_items, item_and};
 ghost use Rattle.miniserde_read.specs.Lacking.{TupleLacks};
 
 use super::FromJson;
@@ -10,7 +10,7 @@ use miniserde_model::error::Result;
 use miniserde_text::json::lex::Event;
 
 impl<A: FromJson, B: FromJson, C: FromJson> FromJson for (A, B, C) {
-    ghost means = { tuple_meant (item_and A.means (item_and B.means (item_and C.means no_items)))
+    ghost means = { tuple_meaning (item_and A.means (item_and B.means (item_and C.means no_items)))
         (λ v. (v.0, (v.1, (v.2, tt)))) };
 
     ghost lacking = { TupleLacks (A.read_infallible ∷ B.read_infallible ∷ C.read_infallible ∷ []) };
@@ -26,7 +26,7 @@ impl<A: FromJson, B: FromJson, C: FromJson> FromJson for (A, B, C) {
 }
 
 impl<A: FromJson, B: FromJson, C: FromJson, D: FromJson> FromJson for (A, B, C, D) {
-    ghost means = { tuple_meant (item_and A.means (item_and B.means (item_and C.means (item_and D.means no_items))))
+    ghost means = { tuple_meaning (item_and A.means (item_and B.means (item_and C.means (item_and D.means no_items))))
         (λ v. (v.0, (v.1, (v.2, (v.3, tt))))) };
 
     ghost lacking = { TupleLacks (A.read_infallible ∷ B.read_infallible ∷ C.read_infallible
@@ -45,7 +45,7 @@ impl<A: FromJson, B: FromJson, C: FromJson, D: FromJson> FromJson for (A, B, C, 
 }
 
 impl<A: FromJson, B: FromJson, C: FromJson, D: FromJson, E: FromJson> FromJson for (A, B, C, D, E) {
-    ghost means = { tuple_meant (item_and A.means (item_and B.means (item_and C.means
+    ghost means = { tuple_meaning (item_and A.means (item_and B.means (item_and C.means
         (item_and D.means (item_and E.means no_items)))))
         (λ v. (v.0, (v.1, (v.2, (v.3, (v.4, tt)))))) };
 
@@ -66,7 +66,7 @@ impl<A: FromJson, B: FromJson, C: FromJson, D: FromJson, E: FromJson> FromJson f
 
 impl<A: FromJson, B: FromJson, C: FromJson, D: FromJson, E: FromJson, F: FromJson> FromJson
     for (A, B, C, D, E, F) {
-    ghost means = { tuple_meant (item_and A.means (item_and B.means (item_and C.means
+    ghost means = { tuple_meaning (item_and A.means (item_and B.means (item_and C.means
         (item_and D.means (item_and E.means (item_and F.means no_items))))))
         (λ v. (v.0, (v.1, (v.2, (v.3, (v.4, (v.5, tt))))))) };
 

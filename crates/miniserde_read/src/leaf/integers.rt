@@ -1,6 +1,6 @@
 //! Integers, as single tokens. `usize` and `isize` have 64 bits.
 ghost use Rattle.std.specs.Prelude.{◌≡◌, true, refl};
-ghost use Rattle.miniserde_read.specs.Meanings.{unsigned_meant, signed_meant};
+ghost use Rattle.miniserde_read.specs.Meanings.{unsigned_meaning, signed_meaning};
 
 use super::Leaf;
 use crate::step::Step;
@@ -8,7 +8,7 @@ use miniserde_model::error::{Error, Result};
 use std::alloc::Global;
 
 impl Leaf for u8 {
-    ghost means = { unsigned_meant 8 };
+    ghost means = { unsigned_meaning 8 };
 
     ghost only_leaves = { (λ ts. refl, λ ms. refl) };
 
@@ -24,7 +24,7 @@ impl Leaf for u8 {
 }
 
 impl Leaf for u16 {
-    ghost means = { unsigned_meant 16 };
+    ghost means = { unsigned_meaning 16 };
 
     ghost only_leaves = { (λ ts. refl, λ ms. refl) };
 
@@ -40,7 +40,7 @@ impl Leaf for u16 {
 }
 
 impl Leaf for u32 {
-    ghost means = { unsigned_meant 32 };
+    ghost means = { unsigned_meaning 32 };
 
     ghost only_leaves = { (λ ts. refl, λ ms. refl) };
 
@@ -56,7 +56,7 @@ impl Leaf for u32 {
 }
 
 impl Leaf for u64 {
-    ghost means = { unsigned_meant 64 };
+    ghost means = { unsigned_meaning 64 };
 
     ghost only_leaves = { (λ ts. refl, λ ms. refl) };
 
@@ -72,7 +72,7 @@ impl Leaf for u64 {
 }
 
 impl Leaf for usize {
-    ghost means = { unsigned_meant 64 };
+    ghost means = { unsigned_meaning 64 };
 
     ghost only_leaves = { (λ ts. refl, λ ms. refl) };
 
@@ -88,7 +88,7 @@ impl Leaf for usize {
 }
 
 impl Leaf for i8 {
-    ghost means = { signed_meant 8 };
+    ghost means = { signed_meaning 8 };
 
     ghost only_leaves = { (λ ts. refl, λ ms. refl) };
 
@@ -105,7 +105,7 @@ impl Leaf for i8 {
 }
 
 impl Leaf for i16 {
-    ghost means = { signed_meant 16 };
+    ghost means = { signed_meaning 16 };
 
     ghost only_leaves = { (λ ts. refl, λ ms. refl) };
 
@@ -122,7 +122,7 @@ impl Leaf for i16 {
 }
 
 impl Leaf for i32 {
-    ghost means = { signed_meant 32 };
+    ghost means = { signed_meaning 32 };
 
     ghost only_leaves = { (λ ts. refl, λ ms. refl) };
 
@@ -139,7 +139,7 @@ impl Leaf for i32 {
 }
 
 impl Leaf for i64 {
-    ghost means = { signed_meant 64 };
+    ghost means = { signed_meaning 64 };
 
     ghost only_leaves = { (λ ts. refl, λ ms. refl) };
 
@@ -156,7 +156,7 @@ impl Leaf for i64 {
 }
 
 impl Leaf for isize {
-    ghost means = { signed_meant 64 };
+    ghost means = { signed_meaning 64 };
 
     ghost only_leaves = { (λ ts. refl, λ ms. refl) };
 

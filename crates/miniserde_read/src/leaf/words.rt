@@ -1,6 +1,6 @@
 //! `()`, `bool` and `String`, as single tokens.
 ghost use Rattle.std.specs.Prelude.{◌≡◌, true, refl, string_bytes};
-ghost use Rattle.miniserde_read.specs.Meanings.{unit_meant, boolean_meant, string_meant};
+ghost use Rattle.miniserde_read.specs.Meanings.{unit_meaning, boolean_meaning, string_meaning};
 
 use super::Leaf;
 use crate::step::Step;
@@ -8,7 +8,7 @@ use miniserde_model::error::{Error, Result};
 use std::alloc::Global;
 
 impl Leaf for () {
-    ghost means = { unit_meant };
+    ghost means = { unit_meaning };
 
     ghost only_leaves = { (λ ts. refl, λ ms. refl) };
 
@@ -24,7 +24,7 @@ impl Leaf for () {
 }
 
 impl Leaf for bool {
-    ghost means = { boolean_meant };
+    ghost means = { boolean_meaning };
 
     ghost only_leaves = { (λ ts. refl, λ ms. refl) };
 
@@ -40,7 +40,7 @@ impl Leaf for bool {
 }
 
 impl Leaf for String {
-    ghost means = { string_meant string_bytes };
+    ghost means = { string_meaning string_bytes };
 
     ghost only_leaves = { (λ ts. refl, λ ms. refl) };
 

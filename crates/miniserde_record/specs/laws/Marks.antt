@@ -4,11 +4,11 @@ use Rattle.std.specs.Prelude.{◌↔◌, bytes_eq}
 use Rattle.std.proofs.lemmas.Slice.Eq.{bytes_eq-Decides}
 use Rattle.miniserde_model.specs.Tree.{Tree, Members, no_members, member}
 use Rattle.miniserde_model.specs.Normal.{or_else, last_of}
-use Rattle.miniserde_read.specs.Meant.{Meant}
-use Rattle.miniserde_read.specs.meaning.Objects.{Name}
+use Rattle.miniserde_read.specs.Meaning.{Meaning}
+use Rattle.miniserde_read.specs.types.Objects.{Name}
 use Rattle.miniserde_record.specs.Fields.{others, Says, count_named, OnceAnd, MissingReads, FieldsRead}
 use Rattle.miniserde_record.specs.laws.Said.{left, is_other}
-use Rattle.miniserde_record.specs.Marks.{are_none, is_named, all_named}
+use Rattle.miniserde_record.specs.Marks.{has_no_members, is_among, all_among}
 
 -- ---- once
 
@@ -33,19 +33,19 @@ once-says k ns d ms = let c = count-left k ns d ms in (λ e. subst (λ m. m ≤ 
 
 -- ---- closed
 
-all-named-more : (n : Name) (ns : List Name) (ms : Members) → all_named ns (others n ms) ≡ all_named (n ∷ ns) ms
+all-named-more : (n : Name) (ns : List Name) (ms : Members) → all_among ns (others n ms) ≡ all_among (n ∷ ns) ms
 all-named-more n ns no_members = refl
-all-named-more n ns (member k t ms) = elim (bytes_eq k n) as (λ b. all_named ns (cond b (others n ms) (member k t (others n ms))) ≡ ((b || is_named ns k) && all_named (n ∷ ns) ms)) [
+all-named-more n ns (member k t ms) = elim (bytes_eq k n) as (λ b. all_among ns (cond b (others n ms) (member k t (others n ms))) ≡ ((b || is_among ns k) && all_among (n ∷ ns) ms)) [
   | true ↦ all-named-more n ns ms
-  | false ↦ ap (λ b. is_named ns k && b) (all-named-more n ns ms)
+  | false ↦ ap (λ b. is_among ns k && b) (all-named-more n ns ms)
 ]
 
-none-named : (ms : Members) → are_none ms ≡ all_named [] ms
+none-named : (ms : Members) → has_no_members ms ≡ all_among [] ms
 none-named no_members = refl
 none-named (member k t ms) = refl
 
 -- `closed`: no member is left behind the last field exactly if each member's name is a field's
-pub closed-named : (ns : List Name) (ms : Members) → are_none (left ns ms) ≡ all_named ns ms
+pub closed-named : (ns : List Name) (ms : Members) → has_no_members (left ns ms) ≡ all_among ns ms
 closed-named [] ms = none-named ms
 closed-named (n ∷ ns) ms = closed-named ns (others n ms) ∙ all-named-more n ns ms
 
@@ -59,7 +59,7 @@ none-zero n (member k t ms) h = elim (bytes_eq k n) as (λ b. or_else (last_of n
   | false ↦ λ e. none-zero n ms (elim (last_of n ms) as (λ o. or_else o None ≡ None → o ≡ None) [ None ↦ λ f. f | Some u ↦ λ f. f ] e)
 ] h
 
-module _ {A V : Type 0} (once : Bool) (m : Meant A) (given : Tree) (absent : Option A) (rest : List Name → Members → V → Type 0) (n : Name) (ns : List Name) (ms : Members) (v : A × V) where
+module _ {A V : Type 0} (once : Bool) (m : Meaning A) (given : Tree) (absent : Option A) (rest : List Name → Members → V → Type 0) (n : Name) (ns : List Name) (ms : Members) (v : A × V) where
   -- the field's meaning, with the given tree for a missing field, and without
   abbrev Given : Members → Type 0
   Given ms = FieldsRead once m.reads m.from_tree (MissingReads m (Some given) absent) rest (n ∷ ns) ms v

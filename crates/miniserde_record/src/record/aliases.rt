@@ -1,12 +1,12 @@
 //! Structs whose fields have other names too, by which they are read.
 ghost use Rattle.std.specs.Prelude.{◌≡◌, true, List, length, map};
-ghost use Rattle.miniserde_read.specs.meaning.Objects.{Name};
-ghost use Rattle.miniserde_round.specs.RoundTrip.{ReadsAgain};
-ghost use Rattle.miniserde_record.specs.Aliases.{counts_as, are_themselves};
-ghost use Rattle.miniserde_record.specs.FieldsMeant.{struct_meant, with_aliases};
+ghost use Rattle.miniserde_read.specs.types.Objects.{Name};
+ghost use Rattle.miniserde_round.specs.RoundTrip.{RoundTrips};
+ghost use Rattle.miniserde_record.specs.Aliases.{field_name_of, are_themselves};
+ghost use Rattle.miniserde_record.specs.FieldsMeaning.{struct_meaning, with_aliases};
 ghost use Rattle.miniserde_record.specs.Structs.{record_tree};
 
-use super::again::{AgainFields, record_again};
+use super::round_trips::{RoundTripFields, record_round_trips};
 use super::slots::Slots;
 use super::structs::Record;
 use miniserde_model::error::Result;
@@ -28,8 +28,8 @@ pub trait HasAliases: Record {
 }
 
 // Returns the name that a member of the name counts by.
-fn counted<'a>(aliases: &[(&'static str, &'static str)], name: &'a str) -> &'a str
-    ensures { result.now ≡ counts_as (map (λ p. (p.0.now, p.1.now)) aliases.now) name.now }
+fn field_name<'a>(aliases: &[(&'static str, &'static str)], name: &'a str) -> &'a str
+    ensures { result.now ≡ field_name_of (map (λ p. (p.0.now, p.1.now)) aliases.now) name.now }
 {
     for (alias, field) in aliases {
         if name == *alias {
@@ -77,7 +77,7 @@ impl<S: HasAliases, F: Slots> Slots for Aliased<S, F> {
         source: &mut Source<'a>,
     ) -> Result<()> {
         self.fields
-            .read_member(names, counted(S::aliases(), name), source)
+            .read_member(names, field_name(S::aliases(), name), source)
     }
 
     fn end(self, alloc: Global) -> Result<F::Values> {
@@ -87,11 +87,11 @@ impl<S: HasAliases, F: Slots> Slots for Aliased<S, F> {
 }
 
 /// Does nothing. It promises the round trip of a struct with aliases, which is written by its fields' names.
-pub fn aliased_again<S: HasAliases, F: AgainFields<Values = S::Values>>()
+pub fn aliased_round_trips<S: HasAliases, F: RoundTripFields<Values = S::Values>>()
     requires { length S.names ≡ F.meaning.count }
     ensures { (v : S) → F.real (S.values v)
-        → ReadsAgain (λ v. F.real (S.values v)) (record_tree S.names F.trees S.values)
-        (struct_meant (with_aliases S.aliases F.meaning) S.names S.values).reads (record_tree S.names F.trees S.values v) }
+        → RoundTrips (λ v. F.real (S.values v)) (record_tree S.names F.trees S.values)
+        (struct_meaning (with_aliases S.aliases F.meaning) S.names S.values).reads (record_tree S.names F.trees S.values v) }
 {
-    record_again::<S, F>()
+    record_round_trips::<S, F>()
 }

@@ -1,8 +1,8 @@
 //! Fields of a struct in blocks of four. A check of nested slots takes time for each slot that it passes, and for each
 //! block here.
-use super::again::AgainFields;
 use super::lossless::LosslessFields;
 use super::marks::Mark;
+use super::round_trips::RoundTripFields;
 use super::slots::{MarkedSlot, Slot, Slots};
 use super::stable::StableFields;
 use miniserde_model::error::Result;
@@ -81,26 +81,26 @@ impl<
     O: Mark<C>,
     D: RoundTrip,
     P: Mark<D>,
-    Z: AgainFields,
-> AgainFields for MarkedFour<A, M, B, N, C, O, D, P, Z> {
+    Z: RoundTripFields,
+> RoundTripFields for MarkedFour<A, M, B, N, C, O, D, P, Z> {
     type Values = <MarkedSlot<
         A,
         M,
         MarkedSlot<B, N, MarkedSlot<C, O, MarkedSlot<D, P, Z>>>,
-    > as AgainFields>::Values;
+    > as RoundTripFields>::Values;
 
-    ghost meaning = { ⟦<MarkedSlot<A, M, MarkedSlot<B, N, MarkedSlot<C, O, MarkedSlot<D, P, Z>>>> as AgainFields>⟧.meaning };
+    ghost meaning = { ⟦<MarkedSlot<A, M, MarkedSlot<B, N, MarkedSlot<C, O, MarkedSlot<D, P, Z>>>> as RoundTripFields>⟧.meaning };
 
-    ghost real = { ⟦<MarkedSlot<A, M, MarkedSlot<B, N, MarkedSlot<C, O, MarkedSlot<D, P, Z>>>> as AgainFields>⟧.real };
+    ghost real = { ⟦<MarkedSlot<A, M, MarkedSlot<B, N, MarkedSlot<C, O, MarkedSlot<D, P, Z>>>> as RoundTripFields>⟧.real };
 
-    ghost trees = { ⟦<MarkedSlot<A, M, MarkedSlot<B, N, MarkedSlot<C, O, MarkedSlot<D, P, Z>>>> as AgainFields>⟧.trees };
+    ghost trees = { ⟦<MarkedSlot<A, M, MarkedSlot<B, N, MarkedSlot<C, O, MarkedSlot<D, P, Z>>>> as RoundTripFields>⟧.trees };
 
-    fn again() {
+    fn round_trips() {
         <MarkedSlot<
             A,
             M,
             MarkedSlot<B, N, MarkedSlot<C, O, MarkedSlot<D, P, Z>>>,
-        > as AgainFields>::again()
+        > as RoundTripFields>::round_trips()
     }
 }
 
@@ -202,18 +202,18 @@ impl<A: FromJson, B: FromJson, C: FromJson, D: FromJson, Z: Slots> Slots
     }
 }
 
-impl<A: RoundTrip, B: RoundTrip, C: RoundTrip, D: RoundTrip, Z: AgainFields> AgainFields
+impl<A: RoundTrip, B: RoundTrip, C: RoundTrip, D: RoundTrip, Z: RoundTripFields> RoundTripFields
     for FourSlot<A, B, C, D, Z> {
-    type Values = <Slot<A, Slot<B, Slot<C, Slot<D, Z>>>> as AgainFields>::Values;
+    type Values = <Slot<A, Slot<B, Slot<C, Slot<D, Z>>>> as RoundTripFields>::Values;
 
-    ghost meaning = { ⟦<Slot<A, Slot<B, Slot<C, Slot<D, Z>>>> as AgainFields>⟧.meaning };
+    ghost meaning = { ⟦<Slot<A, Slot<B, Slot<C, Slot<D, Z>>>> as RoundTripFields>⟧.meaning };
 
-    ghost real = { ⟦<Slot<A, Slot<B, Slot<C, Slot<D, Z>>>> as AgainFields>⟧.real };
+    ghost real = { ⟦<Slot<A, Slot<B, Slot<C, Slot<D, Z>>>> as RoundTripFields>⟧.real };
 
-    ghost trees = { ⟦<Slot<A, Slot<B, Slot<C, Slot<D, Z>>>> as AgainFields>⟧.trees };
+    ghost trees = { ⟦<Slot<A, Slot<B, Slot<C, Slot<D, Z>>>> as RoundTripFields>⟧.trees };
 
-    fn again() {
-        <Slot<A, Slot<B, Slot<C, Slot<D, Z>>>> as AgainFields>::again()
+    fn round_trips() {
+        <Slot<A, Slot<B, Slot<C, Slot<D, Z>>>> as RoundTripFields>::round_trips()
     }
 }
 

@@ -1,7 +1,7 @@
 //! Structs whose values are told apart by what is written.
 ghost use Rattle.std.specs.Prelude.{◌≡◌, List, [], ◌∷◌, length, Option, Some, ⊤};
 ghost use Rattle.miniserde_model.specs.Tree.{Tree};
-ghost use Rattle.miniserde_record.specs.FieldsMeant.{FieldsMeant, no_fields, field_and};
+ghost use Rattle.miniserde_record.specs.FieldsMeaning.{FieldsMeaning, no_fields, field_and};
 ghost use Rattle.miniserde_record.specs.Structs.{record_tree};
 
 use super::marks::Mark;
@@ -9,14 +9,14 @@ use super::slots::{MarkedSlot, NoSlot};
 use super::structs::{Parts, Record};
 use miniserde_round::Lossless;
 
-/// Fields whose values are told apart by what is written. It stands beside `AgainFields` and not above it: else each
+/// Fields whose values are told apart by what is written. It stands beside `RoundTripFields` and not above it: else each
 /// link of a chain of fields holds the other chain.
 pub trait LosslessFields {
     /// The fields' values, in their order.
     type Values;
 
     // The meaning of the fields.
-    ghost meaning: { FieldsMeant Self.Values };
+    ghost meaning: { FieldsMeaning Self.Values };
 
     // The values are ones that Rust has.
     ghost real: { Self.Values → Type 0 };

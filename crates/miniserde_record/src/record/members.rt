@@ -21,7 +21,7 @@ pub trait Members {
             ++ members_text w.old.first (with_names (map (λ n. n.now) names.now) (trees self.now))) }
         ensures are_trees { OnOk result (AreNamedTrees
             (with_names (map (λ n. n.now) names.now) (trees self.now))) }
-        ensures whole { OnOk result (w.new.refused ≡ w.old.refused) }
+        ensures unrefused { OnOk result (w.new.refused ≡ w.old.refused) }
         ensures memory { OnErr result (IsErrOf result Memory) }
         ensures err { OnErr result (w.new.refused ≡ true) };
 }
@@ -42,7 +42,7 @@ impl<'a, T: Serialize, M: Members> Members for Parts<&'a T, M> {
     fn write(&self, w: &mut Writer, names: &[&str]) -> Result<()> {
         match names {
             [name, more @ ..] => {
-                w.known_key(name)?;
+                w.key_inline(name)?;
                 self.0.begin(w)?;
                 self.1.write(w, more)
             }
@@ -102,7 +102,7 @@ pub fn write_members<M: Members>(w: &mut Writer, names: &[&str], values: &M) -> 
     ensures is_tree { OnOk result (IsTree
         (members (with_names (map (λ n. n.now) names.now) (M.trees values.now)))) }
     ensures first { OnOk result (w.new.first ≡ false) }
-    ensures whole { OnOk result (w.new.refused ≡ false) }
+    ensures unrefused { OnOk result (w.new.refused ≡ false) }
     ensures stays { OnOk result (w.old.refused ≡ false) }
     ensures memory { OnErr result (IsErrOf result Memory) }
     ensures err { OnErr result (w.new.refused ≡ true) }

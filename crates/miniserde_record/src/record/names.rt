@@ -1,16 +1,16 @@
 //! Unit enums, whose values are strings: their names.
 ghost use Rattle.std.specs.Prelude.{◌≡◌, true, Option, None, Some, Ok, Err, List, IfOk, IfErr, ⊤, refl};
 ghost use Rattle.miniserde_model.specs.Tree.{str};
-ghost use Rattle.miniserde_text.specs.Lexer.{front_of};
+ghost use Rattle.miniserde_text.specs.Lexer.{event_of_token};
 ghost use Rattle.miniserde_model.specs.declared.error.Error.{Error};
-ghost use Rattle.miniserde_read.specs.Meant.{Meant};
+ghost use Rattle.miniserde_read.specs.Meaning.{Meaning};
 ghost use Rattle.miniserde_read.specs.Rest.{GivesAt, GivesNoneAt};
-ghost use Rattle.miniserde_read.specs.Step.{IsTreeEvent};
-ghost use Rattle.miniserde_read.specs.meaning.Objects.{Name};
-ghost use Rattle.miniserde_round.specs.RoundTrip.{ReadsAgain};
+ghost use Rattle.miniserde_read.specs.Events.{IsTreeEvent};
+ghost use Rattle.miniserde_read.specs.types.Objects.{Name};
+ghost use Rattle.miniserde_round.specs.RoundTrip.{RoundTrips};
 ghost use Rattle.miniserde_stable.specs.Stable.{IsStable};
-ghost use Rattle.miniserde_record.specs.Names.{named, variant_of};
-ghost use Rattle.miniserde_record.specs.Variants.{variant_meant};
+ghost use Rattle.miniserde_record.specs.Names.{find_variant, variant_of};
+ghost use Rattle.miniserde_record.specs.Variants.{variant_meaning};
 
 use miniserde_model::error::{Error, Result};
 use miniserde_read::{Leaf, Source, Step, read_leaf};
@@ -26,7 +26,7 @@ pub trait UnitEnum: Copy {
     ghost name_of: { Self → Name };
 
     // Each value is the first that has its name: all are listed, and no two have one name.
-    ghost found: { (v : Self) → named name_of all (name_of v) ≡ Some v };
+    ghost found: { (v : Self) → find_variant name_of all (name_of v) ≡ Some v };
 
     /// Returns its values.
     fn values() -> &'static [Self]
@@ -39,23 +39,23 @@ pub trait UnitEnum: Copy {
 
 /// A unit enum with its meaning: a string means the value of that name. Each unit enum is one.
 pub trait Variants: UnitEnum {
-    ghost meaning: { Meant Self };
+    ghost meaning: { Meaning Self };
 }
 
 impl<T: UnitEnum> Variants for T {
-    ghost meaning = { variant_meant T.name_of T.all T.found (λ v. v) };
+    ghost meaning = { variant_meaning T.name_of T.all T.found (λ v. v) };
 }
 
 // Returns the first of a unit enum's values that has the name.
 fn find<T: UnitEnum + 'static>(name: &str) -> Option<T>
-    ensures { result ≡ named T.name_of T.all name.now }
+    ensures { result ≡ find_variant T.name_of T.all name.now }
 {
     find_among(T::values(), name)
 }
 
 // Returns the first of the values that has the name.
 fn find_among<T: UnitEnum>(values: &[T], name: &str) -> Option<T>
-    ensures { result ≡ named T.name_of values.now name.now }
+    ensures { result ≡ find_variant T.name_of values.now name.now }
 {
     for value in values {
         if value.name() == name {
@@ -72,7 +72,7 @@ pub struct Variant<T> {
 }
 
 impl<T: UnitEnum + 'static> Leaf for Variant<T> {
-    ghost means = { variant_meant T.name_of T.all T.found (λ v. v.value) };
+    ghost means = { variant_meaning T.name_of T.all T.found (λ v. v.value) };
 
     ghost only_leaves = { (λ ts. refl, λ ms. refl) };
 
@@ -95,12 +95,12 @@ pub fn read_variant<'a, T: UnitEnum + 'static>(
     token: Event<'a>,
     source: &mut Source<'a>,
 ) -> Result<T>
-    requires { IsTreeEvent (front_of token source.old.scratch) }
+    requires { IsTreeEvent (event_of_token token source.old.scratch) }
     ensures stays { source.new ≡ source.old }
     ensures ok { IfOk result (λ v. GivesAt (variant_of T.name_of T.all)
-        (front_of token.entry source.old.scratch) source.old.rest source.old.rest v) }
+        (event_of_token token.entry source.old.scratch) source.old.rest source.old.rest v) }
     ensures invalid { result ≡ Err Error.Invalid → GivesNoneAt (variant_of T.name_of T.all)
-        (front_of token.entry source.old.scratch) source.old.rest }
+        (event_of_token token.entry source.old.scratch) source.old.rest }
     ensures infallible { IfErr result (λ e. e ≡ Error.Invalid) }
 {
     match read_leaf::<Variant<T>>(token, source) {
@@ -110,9 +110,9 @@ pub fn read_variant<'a, T: UnitEnum + 'static>(
 }
 
 /// Does nothing. It promises a unit enum's round trip, in the form that `RoundTrip` asks: Rust has each of its values.
-pub fn variant_again<T: UnitEnum>()
+pub fn variant_round_trips<T: UnitEnum>()
     ensures { (v : T) → ⊤
-        → ReadsAgain (λ _. ⊤) (λ v. str (T.name_of v)) (λ t v. t ≡ str (T.name_of v)) (str (T.name_of v)) }
+        → RoundTrips (λ _. ⊤) (λ v. str (T.name_of v)) (λ t v. t ≡ str (T.name_of v)) (str (T.name_of v)) }
 {}
 
 /// Does nothing. It promises that no two values of a unit enum have one tree, in the form that `Lossless` asks.

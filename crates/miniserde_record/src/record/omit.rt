@@ -1,11 +1,11 @@
 //! Optional fields that are not written if they are `None`.
 ghost use Rattle.std.specs.Prelude.{◌∷◌, true, None, option_map};
-ghost use Rattle.miniserde_record.specs.FieldsMeant.{field_and};
+ghost use Rattle.miniserde_record.specs.FieldsMeaning.{field_and};
 
-use super::again::AgainFields;
 use super::lossless::LosslessFields;
 use super::marks::{Mark, Repeats};
 use super::members::Members;
+use super::round_trips::RoundTripFields;
 use super::slots::{MarkedSlot, Slots};
 use super::stable::StableFields;
 use super::structs::Parts;
@@ -84,7 +84,8 @@ impl<T: FromJson, M: Repeats, R: Slots> Slots for OmitSlot<T, M, R> {
     }
 }
 
-impl<T: RoundTrip + NeverNull, M: Repeats, R: AgainFields> AgainFields for OmitSlot<T, M, R> {
+impl<T: RoundTrip + NeverNull, M: Repeats, R: RoundTripFields> RoundTripFields
+    for OmitSlot<T, M, R> {
     type Values = Parts<Option<T>, R::Values>;
 
     ghost meaning = { field_and M.once None ⟦<Option<T> as FromJson>⟧.means ⟦<Option<T> as FromJson>⟧.absent R.meaning };
@@ -93,10 +94,10 @@ impl<T: RoundTrip + NeverNull, M: Repeats, R: AgainFields> AgainFields for OmitS
 
     ghost trees = { λ v. option_map T.tree v.0 ∷ R.trees v.1 };
 
-    fn again() {
-        <Option<T> as RoundTrip>::again();
+    fn round_trips() {
+        <Option<T> as RoundTrip>::round_trips();
         T::never_null();
-        R::again();
+        R::round_trips();
     }
 }
 
@@ -142,7 +143,7 @@ impl<'a, T: Serialize, M: Members> Members for Parts<Omitted<'a, T>, M> {
         match names {
             [name, more @ ..] => {
                 if let Some(value) = self.0.0 {
-                    w.known_key(name)?;
+                    w.key_inline(name)?;
                     value.begin(w)?;
                 }
                 self.1.write(w, more)

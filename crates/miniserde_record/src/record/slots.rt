@@ -1,11 +1,11 @@
 //! Structs that are read from a text, field by field.
 ghost use Rattle.std.specs.Prelude.{◌≡◌, ◌&&◌, Bool, true, false, None, Some, Ok, Err, IfOk, IfErr, map, Option};
-ghost use Rattle.miniserde_text.specs.Lexer.{front_of};
+ghost use Rattle.miniserde_text.specs.Lexer.{event_of_token};
 ghost use Rattle.miniserde_model.specs.declared.error.Error.{Error};
 ghost use Rattle.miniserde_read.specs.Rest.{GivesAt, GivesNoneAt};
-ghost use Rattle.miniserde_read.specs.Step.{IsTreeEvent};
-ghost use Rattle.miniserde_record.specs.FieldsMeant.{FieldsMeant, no_fields, field_and, struct_meant};
-ghost use Rattle.miniserde_record.specs.Members.{DueRead, DueRejects};
+ghost use Rattle.miniserde_read.specs.Events.{IsTreeEvent};
+ghost use Rattle.miniserde_record.specs.FieldsMeaning.{FieldsMeaning, no_fields, field_and, struct_meaning};
+ghost use Rattle.miniserde_record.specs.Members.{ReadsDue, RejectsDue};
 
 use super::marks::{Mark, Once, Plain};
 use super::structs::{Parts, Record};
@@ -21,8 +21,8 @@ pub(crate) fn read_due<'a, T: FromJson>(source: &mut Source<'a>) -> Result<T>
     requires { source.old.refused ≡ None }
     ensures going { IfOk result (λ _. source.new.refused ≡ None) }
     ensures ok { IfOk result (λ v.
-        DueRead T.means.from_tree source.old.rest source.new.rest (T.means.content v)) }
-    ensures invalid { result ≡ Err Error.Invalid → DueRejects T.means.from_tree source.old.rest }
+        ReadsDue T.means.from_tree source.old.rest source.new.rest (T.means.content v)) }
+    ensures invalid { result ≡ Err Error.Invalid → RejectsDue T.means.from_tree source.old.rest }
 {
     let token = source.token()?;
     T::read(token, source)
@@ -34,7 +34,7 @@ pub trait Slots: Drop {
     type Values;
 
     // The meaning of the fields.
-    ghost meaning: { FieldsMeant Self.Values };
+    ghost meaning: { FieldsMeaning Self.Values };
 
     // The content of the values so far.
     ghost state: { Self → meaning.State };
@@ -52,10 +52,10 @@ pub trait Slots: Drop {
         requires { source.old.refused ≡ None }
         ensures going { IfOk result (λ _. source.new.refused ≡ None) }
         ensures ok { IfOk result (λ _.
-            DueRead (meaning.by_tree (map (λ n. n.now) names.now) (state self.old) name.now)
+            ReadsDue (meaning.by_tree (map (λ n. n.now) names.now) (state self.old) name.now)
             source.old.rest source.new.rest (state self.new)) }
         ensures invalid { result ≡ Err Error.Invalid
-            → DueRejects (meaning.by_tree (map (λ n. n.now) names.now) (state self.old) name.now) source.old.rest }
+            → RejectsDue (meaning.by_tree (map (λ n. n.now) names.now) (state self.old) name.now) source.old.rest }
         ensures refuses { meaning.refuses (map (λ n. n.now) names.now) (state self.old) name.now ≡ true
             → (result ≡ Err Error.Invalid) × (source.new ≡ source.old) };
 
@@ -110,10 +110,10 @@ fn read_unnamed<'a, R: Slots>(
     requires { source.old.refused ≡ None }
     ensures going { IfOk result (λ _. source.new.refused ≡ None) }
     ensures ok { IfOk result (λ _.
-        DueRead (R.meaning.by_tree (map (λ n. n.now) names.now) (R.state rest.old) name.now)
+        ReadsDue (R.meaning.by_tree (map (λ n. n.now) names.now) (R.state rest.old) name.now)
         source.old.rest source.new.rest (R.state rest.new)) }
     ensures invalid { result ≡ Err Error.Invalid
-        → DueRejects (R.meaning.by_tree (map (λ n. n.now) names.now) (R.state rest.old) name.now) source.old.rest }
+        → RejectsDue (R.meaning.by_tree (map (λ n. n.now) names.now) (R.state rest.old) name.now) source.old.rest }
     ensures refuses { R.meaning.refuses (map (λ n. n.now) names.now) (R.state rest.old) name.now ≡ true
         → (result ≡ Err Error.Invalid) × (source.new ≡ source.old) }
 {
@@ -210,13 +210,13 @@ pub fn read_record<'a, S: Record, F: Slots<Values = S::Values>>(
     source: &mut Source<'a>,
 ) -> Result<S>
     requires going { source.old.refused ≡ None }
-    requires event { IsTreeEvent (front_of token source.old.scratch) }
+    requires event { IsTreeEvent (event_of_token token source.old.scratch) }
     ensures going { IfOk result (λ _. source.new.refused ≡ None) }
-    ensures ok { IfOk result (λ v. GivesAt (struct_meant F.meaning S.names S.values).from_tree
-        (front_of token.entry source.old.scratch) source.old.rest source.new.rest
-        ((struct_meant F.meaning S.names S.values).content v)) }
-    ensures invalid { result ≡ Err Error.Invalid → GivesNoneAt (struct_meant F.meaning S.names S.values).from_tree
-        (front_of token.entry source.old.scratch) source.old.rest }
+    ensures ok { IfOk result (λ v. GivesAt (struct_meaning F.meaning S.names S.values).from_tree
+        (event_of_token token.entry source.old.scratch) source.old.rest source.new.rest
+        ((struct_meaning F.meaning S.names S.values).content v)) }
+    ensures invalid { result ≡ Err Error.Invalid → GivesNoneAt (struct_meaning F.meaning S.names S.values).from_tree
+        (event_of_token token.entry source.old.scratch) source.old.rest }
 {
     let Event::MapStart = token else {
         return Err(Error::Invalid);

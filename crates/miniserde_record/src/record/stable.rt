@@ -1,6 +1,6 @@
 //! Structs that are read from the normal form of a tree as from the tree.
 ghost use Rattle.miniserde_stable.specs.Stable.{IsStable};
-ghost use Rattle.miniserde_record.specs.FieldsMeant.{FieldsMeant, no_fields, field_and, struct_meant};
+ghost use Rattle.miniserde_record.specs.FieldsMeaning.{FieldsMeaning, no_fields, field_and, struct_meaning};
 ghost use Rattle.miniserde_record.specs.Stable.{AreStable};
 
 use super::marks::Mark;
@@ -14,7 +14,7 @@ pub trait StableFields {
     type Values;
 
     // The meaning of the fields.
-    ghost meaning: { FieldsMeant Self.Values };
+    ghost meaning: { FieldsMeaning Self.Values };
 
     /// Does nothing. It promises that the normal form of members has the content of the members, if they have one.
     fn stable()
@@ -42,7 +42,7 @@ impl<T: Stable, M: Mark<T>, R: StableFields> StableFields for MarkedSlot<T, M, R
 
 /// Does nothing. It promises that a struct is read from the normal form of a tree as from the tree.
 pub fn record_stable<S: Record, F: StableFields<Values = S::Values>>()
-    ensures { IsStable (struct_meant F.meaning S.names S.values).from_tree }
+    ensures { IsStable (struct_meaning F.meaning S.names S.values).from_tree }
 {
     F::stable()
 }

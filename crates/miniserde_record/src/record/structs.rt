@@ -1,6 +1,6 @@
 //! A struct, by its fields.
 ghost use Rattle.std.specs.Prelude.{◌≡◌, true, List, map};
-ghost use Rattle.miniserde_read.specs.meaning.Objects.{Name};
+ghost use Rattle.miniserde_read.specs.types.Objects.{Name};
 ghost use Rattle.miniserde_record.specs.Structs.{are_distinct};
 
 use std::marker::Model;
@@ -27,10 +27,10 @@ pub trait Record: Sized + Drop {
         ensures { values result ≡ parts };
 
     // A struct is its fields' values, no more and no less.
-    ghost whole: { ((v : Self) → made (values v) ≡ v) × ((x : Self.Values) → values (made x) ≡ x) };
+    ghost unrefused: { ((v : Self) → made (values v) ≡ v) × ((x : Self.Values) → values (made x) ≡ x) };
 
     // No name is a duplicate.
-    ghost named: { are_distinct names ≡ true };
+    ghost distinct_names: { are_distinct names ≡ true };
 }
 
 /// The value of a field, and those of the fields after it. A contract sees a pair.

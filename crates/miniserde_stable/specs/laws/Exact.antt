@@ -5,7 +5,7 @@ use Rattle.std.specs.Char.{encode_utf8}
 use Rattle.std.specs.Str.{chars, encode_utf8_all, is_utf8}
 use Rattle.std.proofs.lemmas.Slice.Eq.{bytes_eq-Decides}
 use Rattle.std.proofs.lemmas.Str.{IsUtf8-from_is_utf8, encodes-chars}
-use Rattle.miniserde_keys.specs.Keys.{Key, of_nat, of_bool, bool_text, read_bool, only, read_char}
+use Rattle.miniserde_keys.specs.Keys.{Key, of_nat, of_bool, bool_text, read_bool, single_char, read_char}
 use Rattle.miniserde_keys.specs.laws.Keys.{bool-text, nat-text}
 
 pub text-exact : (n m : List ℕ) (c d : Key) → ◌≡◌ {A = Option Key} (Some n) (Some c) → ◌≡◌ {A = Option Key} (Some m) (Some d) → c ≡ d → n ≡ m
@@ -26,14 +26,14 @@ bool-exact n m c d p q e =
     let b = bool-named m d q in
     a.1 ∙ bool-text a.0 b.0 (sym a.2 ∙ e ∙ b.2) ∙ sym b.1
 
-only-named : (bs cs : List ℕ) (c : Key) → encode_utf8_all cs ≡ bs → only cs ≡ Some c → (x : ℕ) × (bs ≡ encode_utf8 x) × (c ≡ of_nat x)
+only-named : (bs cs : List ℕ) (c : Key) → encode_utf8_all cs ≡ bs → single_char cs ≡ Some c → (x : ℕ) × (bs ≡ encode_utf8 x) × (c ≡ of_nat x)
 only-named bs [] c s e = absurd (cc)
 only-named bs (x ∷ []) c s e = let same : of_nat x ≡ c = cc in (x, sym s ∙ append-nil (encode_utf8 x), sym same)
 only-named bs (x ∷ y ∷ xs) c s e = absurd (cc)
 
 char-named : (n : List ℕ) (c : Key) → read_char n ≡ Some c → (x : ℕ) × (n ≡ encode_utf8 x) × (c ≡ of_nat x)
 unfolding read_char
-char-named n c e = elim (is_utf8 n) as (λ b. is_utf8 n ≡ b → cond b (only (chars n)) None ≡ Some c → (x : ℕ) × (n ≡ encode_utf8 x) × (c ≡ of_nat x)) [
+char-named n c e = elim (is_utf8 n) as (λ b. is_utf8 n ≡ b → cond b (single_char (chars n)) None ≡ Some c → (x : ℕ) × (n ≡ encode_utf8 x) × (c ≡ of_nat x)) [
   | true ↦ λ b f. only-named n (chars n) c (encodes-chars n (IsUtf8-from_is_utf8 n b)) f
   | false ↦ λ b f. absurd (cc)
 ] refl e

@@ -5,7 +5,7 @@ use Rattle.std.specs.Str.{encode_utf8_all}
 use Rattle.miniserde_model.specs.Bytes.{is_special}
 use Rattle.miniserde_model.specs.String.{IsPiece}
 use Rattle.miniserde_model.specs.Value.{Between}
-use Rattle.miniserde_model.specs.Event as tree
+use Rattle.miniserde_model.specs.Step as tree
 use Rattle.miniserde_model.specs.Lexing.{Piece, Ends, IsName, BeforeColon}
 use Rattle.miniserde_text.specs.declared.json.lex.Text.{Text}
 use Rattle.miniserde_text.specs.declared.json.lex.Event.{Event}
@@ -27,23 +27,23 @@ abbrev pub Adds : List ℕ → List ℕ → List ℕ → List ℕ → Type 0
 Adds old new t t' = (ds : List ℕ) × Passes ds t t' × (new ≡ old ++ encode_utf8_all ds)
 
 -- the text begins with P's piece, and r is the rest
-abbrev pub Leads : (List ℕ → Type 0) → List ℕ → List ℕ → Type 0
-Leads P t r = (b : List ℕ) × P b × (t ≡ b ++ r)
+abbrev pub BeginsWith : (List ℕ → Type 0) → List ℕ → List ℕ → Type 0
+BeginsWith P t r = (b : List ℕ) × P b × (t ≡ b ++ r)
 
 -- ---- behind whitespace
 
-abbrev pub Taken : List ℕ → tree.Event → List ℕ → Type 0
-Taken t e r = Leads (Piece e) t r × Ends e r
+abbrev pub TakesToken : List ℕ → tree.Step → List ℕ → Type 0
+TakesToken t e r = BeginsWith (Piece e) t r × Ends e r
 
-abbrev pub NameTaken : List ℕ → List ℕ → List ℕ → Type 0
-NameTaken t n r = Leads (IsName n) t r
+abbrev pub TakesName : List ℕ → List ℕ → List ℕ → Type 0
+TakesName t n r = BeginsWith (IsName n) t r
 
 abbrev pub EventTakesText : Event → List ℕ → List ℕ → Type 0
-EventTakesText (event.Str x) t r = Leads (Between 34 (StandsFor x) 34) t r
+EventTakesText (event.Str x) t r = BeginsWith (Between 34 (StandsFor x) 34) t r
 EventTakesText _ t r = ⊤
 
 abbrev pub NameTakesText : Text → List ℕ → List ℕ → Type 0
-NameTakesText x t r = Leads (BeforeColon (Between 34 (StandsFor x) 34)) t r
+NameTakesText x t r = BeginsWith (BeforeColon (Between 34 (StandsFor x) 34)) t r
 
 -- ---- behind a quote
 

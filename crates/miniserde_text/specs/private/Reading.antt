@@ -5,8 +5,10 @@ use Rattle.std.specs.List.{starts_with}
 use Rattle.std.specs.Char.{digit_value}
 use Rattle.std.specs.Str.Parse.{digits_value}
 use Rattle.miniserde_model.specs.Bytes.{is_number_byte, is_special}
-use Rattle.miniserde_model.specs.Event.{Event, nothing, boolean, negative, nonnegative, float, seq, map}
-use Rattle.miniserde_model.specs.Lexing.{Kind, closing}
+use Rattle.miniserde_model.specs.Step.{Step, boolean, negative, nonnegative, float, seq, map}
+use Rattle.miniserde_model.specs.Step as step
+use Rattle.miniserde_model.specs.Lexing.{closing}
+use Rattle.miniserde_model.specs.declared.kind.Kind.{Kind}
 
 -- ---- tests of bytes
 
@@ -50,8 +52,8 @@ abbrev pub FollowsAscii : List ℕ → ℕ → Type 0
 FollowsAscii s i = (0 < i) × (i ≤ length s) × (slice_index s (i - 1) < 128)
 
 -- the suffix of s from an index, if there is one
-abbrev pub left : List ℕ → Option ℕ → Option (List ℕ)
-left s r = option_map (λ i. drop i s) r
+abbrev pub suffix_at : List ℕ → Option ℕ → Option (List ℕ)
+suffix_at s r = option_map (λ i. drop i s) r
 
 abbrev pub before : List ℕ → List ℕ → List ℕ
 before s r = take (length s - length r) s
@@ -64,8 +66,8 @@ after_digits s = cond (is_digit (slice_index s 0)) (Some (after_run is_digit s))
 abbrev pub after_minus : List ℕ → List ℕ
 after_minus s = cond (slice_index s 0 == 45) (drop 1 s) s
 
-abbrev pub after_whole : List ℕ → Option (List ℕ)
-after_whole s = cond (slice_index s 0 == 48) (Some (drop 1 s)) (after_digits s)
+abbrev pub after_int : List ℕ → Option (List ℕ)
+after_int s = cond (slice_index s 0 == 48) (Some (drop 1 s)) (after_digits s)
 
 abbrev pub after_fraction : List ℕ → Option (List ℕ)
 after_fraction s = cond (slice_index s 0 == 46) (after_digits (drop 1 s)) (Some s)
@@ -80,35 +82,35 @@ abbrev pub after_tail : List ℕ → Option (List ℕ)
 after_tail s = option_and_then after_exponent (after_fraction s)
 
 -- of a text: its minus, its whole part, and what stands behind that
-abbrev pub event_of_parts : List ℕ → Bool → List ℕ → List ℕ → Event
-event_of_parts b minus whole [] =
+abbrev pub event_of_parts : List ℕ → Bool → List ℕ → List ℕ → Step
+event_of_parts b minus int [] =
     if minus then
-    (if nat_le (digits_value 10 whole) (2 ^ 63) then negative (neg_ℤ (pos (digits_value 10 whole))) else float b)
-    else (if nat_lt (digits_value 10 whole) (2 ^ 64) then nonnegative (digits_value 10 whole) else float b)
-event_of_parts b minus whole (c ∷ cs) = float b
+    (if nat_le (digits_value 10 int) (2 ^ 63) then negative (neg_ℤ (pos (digits_value 10 int))) else float b)
+    else (if nat_lt (digits_value 10 int) (2 ^ 64) then nonnegative (digits_value 10 int) else float b)
+event_of_parts b minus int (c ∷ cs) = float b
 
-abbrev pub event_at : List ℕ → List ℕ → List ℕ → Option (Event × List ℕ)
+abbrev pub event_at : List ℕ → List ℕ → List ℕ → Option (Step × List ℕ)
 event_at s w r =
     cond (is_number_byte (slice_index r 0)) None
     (Some (event_of_parts (before s r) (slice_index s 0 == 45) (before (after_minus s) w) (before w r), r))
 
-unfoldable pub number_at : List ℕ → Option (Event × List ℕ)
-number_at s = option_and_then (λ w. option_and_then (λ r. event_at s w r) (after_tail w)) (after_whole (after_minus s))
+unfoldable pub number_at : List ℕ → Option (Step × List ℕ)
+number_at s = option_and_then (λ w. option_and_then (λ r. event_at s w r) (after_tail w)) (after_int (after_minus s))
 
 -- ---- the front of a value that is no string
 
-unfoldable pub word_at : List ℕ → Event → List ℕ → Option (Event × List ℕ)
+unfoldable pub word_at : List ℕ → Step → List ℕ → Option (Step × List ℕ)
 word_at w e s = cond (starts_with nat_eq s w) (Some (e, drop (length w) s)) None
 
-unfoldable pub front_by : ℕ → List ℕ → Option (Event × List ℕ)
-front_by c s =
-    cond (c == 110) (word_at (codes "null") nothing s)
+unfoldable pub token_by : ℕ → List ℕ → Option (Step × List ℕ)
+token_by c s =
+    cond (c == 110) (word_at (codes "null") step.null s)
     (cond (c == 116) (word_at (codes "true") (boolean true) s)
     (cond (c == 102) (word_at (codes "false") (boolean false) s)
     (cond (c == 91) (Some (seq, drop 1 s)) (cond (c == 123) (Some (map, drop 1 s)) (number_at s)))))
 
-abbrev pub front_at : List ℕ → Option (Event × List ℕ)
-front_at s = front_by (slice_index s 0) s
+abbrev pub token_at : List ℕ → Option (Step × List ℕ)
+token_at s = token_by (slice_index s 0) s
 
 -- ---- steps
 
@@ -125,8 +127,8 @@ step_at kind first t =
 -- ---- escapes, behind the backslash
 
 -- a number, and the suffix of s from an index
-abbrev pub found : List ℕ → Option (ℕ × ℕ) → Option (ℕ × List ℕ)
-found s r = option_map (λ x. (x.0, drop x.1 s)) r
+abbrev pub with_suffix : List ℕ → Option (ℕ × ℕ) → Option (ℕ × List ℕ)
+with_suffix s r = option_map (λ x. (x.0, drop x.1 s)) r
 
 abbrev pub begins_unit : List ℕ → Bool
 begins_unit s =

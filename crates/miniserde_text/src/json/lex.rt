@@ -13,25 +13,26 @@
 ghost use Rattle.std.specs.Prelude.{◌≡◌, ◌≤◌, length, List, ℕ, Bool, None, Some, Err, IfOk, IfErr, IfSome};
 ghost use Rattle.std.specs.String.{string_bytes};
 ghost use Rattle.miniserde_model.specs.Whitespace.{IsWhitespace};
-ghost use Rattle.miniserde_model.specs.Event as event;
+ghost use Rattle.miniserde_model.specs.Step as step;
 ghost use Rattle.miniserde_model.specs.Lexing.{Starts, Names, Follows};
-ghost use Rattle.miniserde_text.specs.Lexer.{front_of, text_of, kind_of, closes, EventStandsFor, NameStandsFor, Blank};
-ghost use Rattle.miniserde_text.specs.Lexer.{KeepsScratch, EventKeepsScratch, BeginsEscaped};
+ghost use Rattle.miniserde_text.specs.Lexer.{event_of_token, text_of, is_close, EventStandsFor, NameStandsFor, Blank};
+ghost use Rattle.miniserde_text.specs.Lexer.{LeavesScratch, EventLeavesScratch, BeginsEscaped};
 ghost use Rattle.miniserde_model.specs.declared.error.Error.{Error};
 
 mod bytes;
 mod escape;
-mod front;
 pub(super) mod number;
 mod space;
 mod step;
 mod string;
 mod tables;
+mod token;
 
-use self::front::{take_front, take_name};
 use self::space::after_space;
 use self::step::take_step;
+use self::token::{take_name, take_token};
 use miniserde_model::error::{Error, Result};
+pub use miniserde_model::kind::Kind;
 use std::marker::Model;
 
 /// The text of a string: borrowed from the input, or decoded into the scratch text.
@@ -59,13 +60,6 @@ pub enum Event<'a> {
     SeqStart,
     /// `{`
     MapStart,
-}
-
-/// The kind of a container.
-#[derive(Clone, Copy, Debug, Drop)]
-pub enum Kind {
-    Seq,
-    Map,
 }
 
 /// What follows in a container.
@@ -124,7 +118,7 @@ impl<'a> Lexer<'a> {
     #[inline(always)]
     pub fn skip(&mut self)
         ensures space { Blank self.old.rest self.new.rest }
-        ensures kept { self.new.refused ≡ self.old.refused }
+        ensures sticky { self.new.refused ≡ self.old.refused }
     {
         let bytes = self.text.as_bytes();
         if self.at < bytes.len() && bytes[self.at] > b' ' {
@@ -146,20 +140,20 @@ impl<'a> Lexer<'a> {
     #[inline(always)]
     pub fn start(&mut self, scratch: &mut String) -> Result<Event<'a>>
         ensures ok { IfOk result (λ event. (self.old.refused ≡ None) × (self.new.refused ≡ None)
-            × Starts self.old.rest (front_of event (string_bytes scratch.new)) self.new.rest) }
+            × Starts self.old.rest (event_of_token event (string_bytes scratch.new)) self.new.rest) }
         ensures text { IfOk result (λ event. EventStandsFor event self.old.rest self.new.rest) }
-        ensures scratch { IfOk result (λ event. EventKeepsScratch event scratch.old scratch.new) }
+        ensures scratch { IfOk result (λ event. EventLeavesScratch event scratch.old scratch.new) }
         ensures invalid { result ≡ Err Error.Invalid → self.old.refused ≡ None
-            → (e : event.Event) (r : List ℕ) → Starts self.old.rest e r → ⊥ }
+            → (e : step.Step) (r : List ℕ) → Starts self.old.rest e r → ⊥ }
         ensures memory { result ≡ Err Error.Memory → self.old.refused ≡ None → BeginsEscaped self.old.rest }
         ensures err { IfErr result (λ e. self.new.refused ≡ Some e) }
-        ensures kept { IfSome self.old.refused (λ e. (result ≡ Err e) × (self.new ≡ self.old)) }
+        ensures sticky { IfSome self.old.refused (λ e. (result ≡ Err e) × (self.new ≡ self.old)) }
     {
         if let Some(e) = self.refused {
             return Err(e);
         }
         let (at, first) = after_space(self.text.as_bytes(), self.at);
-        match take_front(self.text, at, first, scratch) {
+        match take_token(self.text, at, first, scratch) {
             Ok((event, end)) => {
                 self.at = end;
                 Ok(event)
@@ -174,12 +168,12 @@ impl<'a> Lexer<'a> {
         ensures ok { IfOk result (λ t. (self.old.refused ≡ None) × (self.new.refused ≡ None)
             × Names self.old.rest (text_of t (string_bytes scratch.new)) self.new.rest) }
         ensures text { IfOk result (λ t. NameStandsFor t self.old.rest self.new.rest) }
-        ensures scratch { IfOk result (λ t. KeepsScratch t scratch.old scratch.new) }
+        ensures scratch { IfOk result (λ t. LeavesScratch t scratch.old scratch.new) }
         ensures invalid { result ≡ Err Error.Invalid → self.old.refused ≡ None
             → (n r : List ℕ) → Names self.old.rest n r → ⊥ }
         ensures memory { result ≡ Err Error.Memory → self.old.refused ≡ None → BeginsEscaped self.old.rest }
         ensures err { IfErr result (λ e. self.new.refused ≡ Some e) }
-        ensures kept { IfSome self.old.refused (λ e. (result ≡ Err e) × (self.new ≡ self.old)) }
+        ensures sticky { IfSome self.old.refused (λ e. (result ≡ Err e) × (self.new ≡ self.old)) }
     {
         if let Some(e) = self.refused {
             return Err(e);
@@ -199,12 +193,12 @@ impl<'a> Lexer<'a> {
     #[inline(always)]
     pub fn after(&mut self, kind: Kind, first: bool) -> Result<After>
         ensures ok { IfOk result (λ a. (self.old.refused ≡ None) × (self.new.refused ≡ None)
-            × Follows (kind_of kind) first (closes a) self.old.rest self.new.rest) }
+            × Follows kind first (is_close a) self.old.rest self.new.rest) }
         ensures invalid { result ≡ Err Error.Invalid → self.old.refused ≡ None
-            → (a : Bool) (r : List ℕ) → Follows (kind_of kind) first a self.old.rest r → ⊥ }
+            → (a : Bool) (r : List ℕ) → Follows kind first a self.old.rest r → ⊥ }
         ensures only { IfErr result (λ e. self.old.refused ≡ None → e ≡ Error.Invalid) }
         ensures err { IfErr result (λ e. self.new.refused ≡ Some e) }
-        ensures kept { IfSome self.old.refused (λ e. (result ≡ Err e) × (self.new ≡ self.old)) }
+        ensures sticky { IfSome self.old.refused (λ e. (result ≡ Err e) × (self.new ≡ self.old)) }
     {
         if let Some(e) = self.refused {
             return Err(e);
@@ -227,7 +221,7 @@ impl<'a> Lexer<'a> {
         ensures invalid { result ≡ Err Error.Invalid → self.old.refused ≡ None → IsWhitespace self.old.rest → ⊥ }
         ensures only { IfErr result (λ e. self.old.refused ≡ None → e ≡ Error.Invalid) }
         ensures err { IfErr result (λ e. self.new.refused ≡ Some e) }
-        ensures kept { IfSome self.old.refused (λ e. (result ≡ Err e) × (self.new ≡ self.old)) }
+        ensures sticky { IfSome self.old.refused (λ e. (result ≡ Err e) × (self.new ≡ self.old)) }
     {
         if let Some(e) = self.refused {
             return Err(e);
@@ -243,7 +237,7 @@ impl<'a> Lexer<'a> {
     // Keeps a refusal, and answers it.
     fn refuse<T>(&mut self, e: Error) -> Result<T>
         ensures answer { result ≡ Err e }
-        ensures kept { self.new ≡ record { rest = self.old.rest; refused = Some e } }
+        ensures sticky { self.new ≡ record { rest = self.old.rest; refused = Some e } }
     {
         self.refused = Some(e);
         Err(e)

@@ -4,7 +4,7 @@ use Rattle.miniserde_model.specs.Tree.{Tree, neg, Trees, no_trees, tree, Members
 use Rattle.miniserde_model.specs.Normal.{put_all_by}
 use Rattle.miniserde_model.proofs.OneNormal.{put_all_norm}
 use Rattle.miniserde_ser.specs.Trees.{trees_of}
-use Rattle.miniserde_value.specs.Kept.{kept_members}
+use Rattle.miniserde_value.specs.Retained.{retained_members}
 
 -- trees as a list of them
 abbrev pub listed : Trees → List Tree
@@ -18,9 +18,9 @@ trees_listed (tree t ts) = ap (tree t) (trees_listed ts)
 -- ---- members that are put one after another
 
 -- with what a value keeps of each
-abbrev pub put_kept : Members → Members → Members
-put_kept = put_all_by neg
+abbrev pub put_retained : Members → Members → Members
+put_retained = put_all_by neg
 
 -- from nothing they are what a value keeps of all
-pub puts_kept : (ms : Members) → put_kept no_members ms ≡ kept_members ms
-puts_kept = put_all_norm neg
+pub puts_retained : (ms : Members) → put_retained no_members ms ≡ retained_members ms
+puts_retained = put_all_norm neg

@@ -22,15 +22,15 @@ number_reads (str s) v e = absurd (cc)
 number_reads (list ts) v e = absurd (cc)
 number_reads (members ms) v e = absurd (cc)
 
-number_meant : (t : Tree) (v : Number) → ReadsNumber t v → number_of t ≡ Some (number_leaf v)
-number_meant null v e = absurd e
-number_meant (truth b) v e = absurd e
-number_meant (nonneg n) v e = ap (λ (x : Tree). Some x) (ap number_leaf (sym e))
-number_meant (neg z) v e = ap (λ (x : Tree). Some x) (ap number_leaf (sym e))
-number_meant (num x) v e = ap (λ (x : Tree). Some x) (ap number_leaf (sym e))
-number_meant (str s) v e = absurd e
-number_meant (list ts) v e = absurd e
-number_meant (members ms) v e = absurd e
+number_meaning : (t : Tree) (v : Number) → ReadsNumber t v → number_of t ≡ Some (number_leaf v)
+number_meaning null v e = absurd e
+number_meaning (truth b) v e = absurd e
+number_meaning (nonneg n) v e = ap (λ (x : Tree). Some x) (ap number_leaf (sym e))
+number_meaning (neg z) v e = ap (λ (x : Tree). Some x) (ap number_leaf (sym e))
+number_meaning (num x) v e = ap (λ (x : Tree). Some x) (ap number_leaf (sym e))
+number_meaning (str s) v e = absurd e
+number_meaning (list ts) v e = absurd e
+number_meaning (members ms) v e = absurd e
 
 pub number-given : (t : Tree) (v : Number) → ReadsNumber t v ↔ (number_of t ≡ Some (number_leaf v))
-number-given t v = (number_meant t v, number_reads t v)
+number-given t v = (number_meaning t v, number_reads t v)

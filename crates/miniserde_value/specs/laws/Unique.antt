@@ -4,13 +4,13 @@ use Rattle.std.specs.Prelude.{◌↔◌, ◌&&◌, ◌||◌, not, option_and_the
 use Rattle.std.proofs.lemmas.Map.Lookups.{exact_bytes}
 use Rattle.miniserde_text.proofs.Equal.{bytes_eq-flips}
 use Rattle.miniserde_model.specs.Tree.{Tree, null, truth, nonneg, neg, num, str, list, members, Trees, no_trees, tree, Members, no_members, member}
-use Rattle.miniserde_model.specs.Event.{Event, finish, events, child_events, member_events}
-use Rattle.miniserde_model.specs.Distinct.{has_name, distinct, distinct_children, distinct_members}
-use Rattle.miniserde_model.specs.Normal.{text_cmp, or_else, last_of, put as put_member, put_placed}
-use Rattle.miniserde_value.specs.Kept.{kept, kept_children, kept_if}
+use Rattle.miniserde_model.specs.Step.{Step, finish, events, child_events, member_events}
+use Rattle.miniserde_model.specs.Distinct.{has_name, names_distinct, names_distinct_in_children, names_distinct_in_members}
+use Rattle.miniserde_model.specs.Normal.{text_cmp, or_else, last_of, put as put_member, put_by}
+use Rattle.miniserde_value.specs.Retained.{retained_tree, retained_children, retained_if}
 use Rattle.miniserde_value.specs.Hole.{Hole, outside, in_list, in_members, put, outcome}
 use Rattle.miniserde_value.specs.laws.Outcomes.{outcome-whole}
-use Rattle.miniserde_value.specs.laws.Listed.{listed, put_kept, trees_listed, puts_kept}
+use Rattle.miniserde_value.specs.laws.Listed.{listed, put_retained, trees_listed, puts_retained}
 
 -- ---- which names members have, with one more put in
 
@@ -40,7 +40,7 @@ has_put : (q name : List ℕ) (t : Tree) (ms : Members) → has_name q (put_memb
 has_put q name t no_members = has_member_first q name t no_members
 has_put q name t (member other u ms) = go (text_cmp name other) refl (has_put q name t ms)
   where
-    go : (o : Ordering) → text_cmp name other ≡ o → has_name q (put_member name t ms) ≡ (bytes_eq name q || has_name q ms) → has_name q (put_placed o name t other u ms (put_member name t ms)) ≡ (bytes_eq name q || has_name q (member other u ms))
+    go : (o : Ordering) → text_cmp name other ≡ o → has_name q (put_member name t ms) ≡ (bytes_eq name q || has_name q ms) → has_name q (put_by o name t other u ms (put_member name t ms)) ≡ (bytes_eq name q || has_name q (member other u ms))
     go Less e more = has_member_first q name t (member other u ms)
     go Equal e more = has_member_first q name t ms ∙ twice (bytes_eq name q) (has_name q ms) ∙ ap (λ n. bytes_eq name q || (bytes_eq n q || has_name q ms)) (exact_bytes name other e) ∙ ap (λ b. bytes_eq name q || b) (sym (has_member_first q other u ms))
     go Greater e more = has_member_first q other u (put_member name t ms) ∙ ap (λ b. bytes_eq other q || b) more ∙ swapped (bytes_eq other q) (bytes_eq name q) (has_name q ms) ∙ ap (λ b. bytes_eq name q || b) (sym (has_member_first q other u ms))
@@ -94,7 +94,7 @@ repeated true x f = refl
 repeated false x f = refl
 
 mutual
-  pub once_events : (h : Hole) (t : Tree) (rest : List Event) → outcome true true h (events t ++ rest) ≡ if_so (distinct t) (outcome true false (put (kept t) h) rest)
+  pub once_events : (h : Hole) (t : Tree) (rest : List Step) → outcome true true h (events t ++ rest) ≡ if_so (names_distinct t) (outcome true false (put (retained_tree t) h) rest)
   once_events h null rest = refl
   once_events h (truth b) rest = refl
   once_events h (nonneg n) rest = refl
@@ -104,45 +104,45 @@ mutual
   once_events h (list ts) rest =
       ap (outcome true false (in_list [] h)) (append_assoc (child_events ts) (finish ∷ []) rest)
       ∙ once_children ts [] h (finish ∷ rest)
-      ∙ ap (λ z. if_so (distinct_children ts) (outcome true false (put (list z) h) rest)) (trees_listed (kept_children ts))
+      ∙ ap (λ z. if_so (names_distinct_in_children ts) (outcome true false (put (list z) h) rest)) (trees_listed (retained_children ts))
   once_events h (members ms) rest =
       ap (outcome true false (in_members no_members None h)) (append_assoc (member_events ms) (finish ∷ []) rest)
       ∙ once_members ms no_members h (finish ∷ rest)
-      ∙ ap₂ (λ b z. if_so b (outcome true false (put (members z) h) rest)) (all_fresh (distinct_members ms) ms) (puts_kept ms)
+      ∙ ap₂ (λ b z. if_so b (outcome true false (put (members z) h) rest)) (all_fresh (names_distinct_in_members ms) ms) (puts_retained ms)
 
-  pub once_children : (ts : Trees) (us : List Tree) (h : Hole) (rest : List Event) → outcome true false (in_list us h) (child_events ts ++ rest) ≡ if_so (distinct_children ts) (outcome true false (in_list (us ++ listed (kept_children ts)) h) rest)
+  pub once_children : (ts : Trees) (us : List Tree) (h : Hole) (rest : List Step) → outcome true false (in_list us h) (child_events ts ++ rest) ≡ if_so (names_distinct_in_children ts) (outcome true false (in_list (us ++ listed (retained_children ts)) h) rest)
   once_children no_trees us h rest = ap (λ z. outcome true false (in_list z h) rest) (sym (append-nil us))
   once_children (tree t ts) us h rest =
       ap (outcome true true (in_list us h)) (append_assoc (events t) (child_events ts) rest)
       ∙ once_events (in_list us h) t (child_events ts ++ rest)
-      ∙ ap (if_so (distinct t)) (once_children ts (us ++ kept t ∷ []) h rest)
-      ∙ both_so (distinct t) (distinct_children ts) _
-      ∙ ap (λ z. if_so (distinct t && distinct_children ts) (outcome true false (in_list z h) rest)) (append_assoc us (kept t ∷ []) (listed (kept_children ts)))
+      ∙ ap (if_so (names_distinct t)) (once_children ts (us ++ retained_tree t ∷ []) h rest)
+      ∙ both_so (names_distinct t) (names_distinct_in_children ts) _
+      ∙ ap (λ z. if_so (names_distinct t && names_distinct_in_children ts) (outcome true false (in_list z h) rest)) (append_assoc us (retained_tree t ∷ []) (listed (retained_children ts)))
 
-  pub once_members : (ms made : Members) (h : Hole) (rest : List Event) → outcome true false (in_members made None h) (member_events ms ++ rest) ≡ if_so (distinct_members ms && all_new made ms) (outcome true false (in_members (put_kept made ms) None h) rest)
+  pub once_members : (ms made : Members) (h : Hole) (rest : List Step) → outcome true false (in_members made None h) (member_events ms ++ rest) ≡ if_so (names_distinct_in_members ms && all_new made ms) (outcome true false (in_members (put_retained made ms) None h) rest)
   once_members no_members made h rest = refl
   once_members (member n t ms) made h rest =
       repeated (has_name n made) (true, in_members made (Some n) h) (λ s. outcome true s.0 s.1 ((events t ++ member_events ms) ++ rest))
       ∙ ap (if_so (not (has_name n made)))
       (ap (outcome true true (in_members made (Some n) h)) (append_assoc (events t) (member_events ms) rest)
       ∙ once_events (in_members made (Some n) h) t (member_events ms ++ rest)
-      ∙ ap (if_so (distinct t)) (once_members ms (put_member n (kept t) made) h rest ∙ ap (λ b. if_so (distinct_members ms && b) (outcome true false (in_members (put_kept (put_member n (kept t) made) ms) None h) rest)) (all_new_put n (kept t) made ms)))
-      ∙ regrouped (not (has_name n made)) (distinct t) (distinct_members ms) (not (has_name n ms)) (all_new made ms) _
+      ∙ ap (if_so (names_distinct t)) (once_members ms (put_member n (retained_tree t) made) h rest ∙ ap (λ b. if_so (names_distinct_in_members ms && b) (outcome true false (in_members (put_retained (put_member n (retained_tree t) made) ms) None h) rest)) (all_new_put n (retained_tree t) made ms)))
+      ∙ regrouped (not (has_name n made)) (names_distinct t) (names_distinct_in_members ms) (not (has_name n ms)) (all_new made ms) _
 
   all_fresh : (b : Bool) (ms : Members) → (b && all_new no_members ms) ≡ b
   all_fresh true no_members = refl
   all_fresh true (member n t ms) = all_fresh true ms
   all_fresh false ms = refl
 
-pub once-whole : (t : Tree) → outcome true true (outside []) (events t) ≡ kept_if true t
+pub once-whole : (t : Tree) → outcome true true (outside []) (events t) ≡ retained_if true t
 once-whole t = ap (outcome true true (outside [])) (sym (append-nil (events t))) ∙ once_events (outside []) t []
 
-pub gives-kept : (once : Bool) (t : Tree) → outcome once true (outside []) (events t) ≡ kept_if once t
+pub gives-kept : (once : Bool) (t : Tree) → outcome once true (outside []) (events t) ≡ retained_if once t
 gives-kept true t = once-whole t
 gives-kept false t = outcome-whole t
 
-pub once-agrees : (t u : Tree) → ((distinct t ≡ true) × (u ≡ kept t)) ↔ (kept_if true t ≡ Some u)
-once-agrees t u = elim (distinct t) as (λ b. ((b ≡ true) × (u ≡ kept t)) ↔ (cond b (Some (kept t)) None ≡ Some u)) [
+pub once-agrees : (t u : Tree) → ((names_distinct t ≡ true) × (u ≡ retained_tree t)) ↔ (retained_if true t ≡ Some u)
+once-agrees t u = elim (names_distinct t) as (λ b. ((b ≡ true) × (u ≡ retained_tree t)) ↔ (cond b (Some (retained_tree t)) None ≡ Some u)) [
   | true ↦ (λ e. ap (λ (x : Tree). Some x) (sym e.1), λ e. (refl, cc))
   | false ↦ (λ e. absurd (cc), λ e. absurd (cc))
 ]

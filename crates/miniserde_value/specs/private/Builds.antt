@@ -1,18 +1,18 @@
 -- How a text goes on event by event, with what is built of it. m, h and s: the moment, the tree with a hole, and the
 -- rest of the text.
 use Rattle.std.specs.Prelude.{◌≡◌, ℕ, Bool, true, false, List, [], ◌∷◌, ◌++◌, None}
-use Rattle.miniserde_model.specs.Event.{Event}
-use Rattle.miniserde_model.specs.Lexing.{Kind}
-use Rattle.miniserde_model.specs.Lexing as kind
+use Rattle.miniserde_model.specs.Step.{Step}
+use Rattle.miniserde_model.specs.declared.kind.Kind.{Kind}
+use Rattle.miniserde_model.specs.declared.kind.Kind.TheVariants.{Seq, Map}
 use Rattle.miniserde_model.specs.private.Reading.{Moment, due, first, after}
-use Rattle.miniserde_read.specs.private.Runs.{Runs, Passed}
+use Rattle.miniserde_read.specs.private.Runs.{Runs, Consumes}
 use Rattle.miniserde_value.specs.Hole.{Hole, outside, in_list, in_members, outcome}
 
 -- the kinds of the open containers, innermost first
 abbrev pub kinds : Hole → List Kind
 kinds (outside ts) = []
-kinds (in_list ts h) = kind.in_list ∷ kinds h
-kinds (in_members ms n h) = kind.in_members ∷ kinds h
+kinds (in_list ts h) = Seq ∷ kinds h
+kinds (in_members ms n h) = Map ∷ kinds h
 
 -- whether a value is due
 abbrev pub is_due : Moment → Bool
@@ -21,16 +21,16 @@ is_due first = false
 is_due after = false
 
 -- The events done make the second hole of the first, whatever follows; where `once` says so, none repeats a name.
-abbrev pub Makes : Bool → Moment → Hole → List Event → Moment → Hole → Type 0
-Makes once m h done m' h' = (es : List Event) → outcome once (is_due m) h (done ++ es) ≡ outcome once (is_due m') h' es
+abbrev pub Makes : Bool → Moment → Hole → List Step → Moment → Hole → Type 0
+Makes once m h done m' h' = (es : List Step) → outcome once (is_due m) h (done ++ es) ≡ outcome once (is_due m') h' es
 
 -- Some events are passed in the text, and no others begin what it spells. They make the second hole of the first.
 pub record Builds (once : Bool) (m : Moment) (h : Hole) (s : List ℕ) (m' : Moment) (h' : Hole) (s' : List ℕ) : Type 0 where
-  pub done : List Event
-  pub passed : Passed m (kinds h) s done m' (kinds h') s'
+  pub done : List Step
+  pub passed : Consumes m (kinds h) s done m' (kinds h') s'
   pub makes : Makes false m h done m' h'
   pub repeats_none : Makes once m h done m' h'
 
 -- No events that a beginning of the text spells give a value.
 abbrev pub NeverGives : Bool → Moment → Hole → List ℕ → Type 0
-NeverGives once m h s = (es : List Event) (r : List ℕ) → Runs m es (kinds h) s r → outcome once (is_due m) h es ≡ None
+NeverGives once m h s = (es : List Step) (r : List ℕ) → Runs m es (kinds h) s r → outcome once (is_due m) h es ≡ None

@@ -9,7 +9,7 @@ ghost use Rattle.std.specs.Slice.Iter.{iter_rest, iter_steps, iter_mut_rest, ite
 ghost use Rattle.std.specs.Vec.Iter.{into_iter_items, into_iter_steps};
 ghost use Rattle.miniserde_value.specs.declared.json.value.Value.{Value as V};
 ghost use Rattle.miniserde_value.specs.Values.{array_items, with_items};
-ghost use Rattle.miniserde_value.specs.Looks.{replaces_first};
+ghost use Rattle.miniserde_value.specs.Looks.{ReplacesFirst};
 
 use super::drop::safely;
 use super::value::Value;
@@ -86,9 +86,9 @@ impl Array {
     }
 
     /// Replaces the first item by a value, and returns that item.
-    pub(crate) fn park(&mut self, value: Value) -> Value
+    pub(crate) fn replace_first(&mut self, value: Value) -> Value
         requires { array_items self.old ≡ [] → ⊥ }
-        ensures { replaces_first value result (array_items self.old) (array_items self.new) }
+        ensures { ReplacesFirst value result (array_items self.old) (array_items self.new) }
     {
         mem::replace(&mut self.items[0], value)
     }

@@ -5,11 +5,11 @@ ghost use Rattle.miniserde_model.specs.declared.error.Error.TheVariants.{Invalid
 ghost use Rattle.miniserde_model.specs.Number.{IsNumber};
 ghost use Rattle.miniserde_model.specs.Tree.{no_members, num, str};
 ghost use Rattle.miniserde_model.specs.Normal.{last_of};
-ghost use Rattle.miniserde_text.specs.private.Moving.{opens};
-ghost use Rattle.miniserde_read.specs.Step.{event_of, IsTreeEvent};
-ghost use Rattle.miniserde_value.specs.Hole.{Hole, outside, in_list, in_members, put, named, closed, whole, has_member, begun};
+ghost use Rattle.miniserde_text.specs.private.Moving.{opened_kind};
+ghost use Rattle.miniserde_read.specs.Events.{event_of, IsTreeEvent};
+ghost use Rattle.miniserde_value.specs.Hole.{Hole, outside, in_list, in_members, put, with_name, after_close, complete_tree, has_member, after_begin};
 ghost use Rattle.miniserde_value.specs.Values.{shape};
-ghost use Rattle.miniserde_value.specs.Marks.{MarksFit, innermost, made_members, next_name, opened};
+ghost use Rattle.miniserde_value.specs.Marks.{MarksFit, innermost, made_members, next_name, with_open_object};
 ghost use Rattle.miniserde_value.specs.laws.Marks.{marks-fit-once};
 
 use super::array::Array;
@@ -60,7 +60,7 @@ impl OpenObject {
 
     /// Puts a value under its name; it replaces the value of a duplicate. Drops a value that has no name.
     pub(crate) fn put(&mut self, value: Value) -> result::Result<(), AllocError>
-        ensures { OnOk result ((h : Hole) → opened self.new h ≡ put (shape value) (opened self.old h)) }
+        ensures { OnOk result ((h : Hole) → with_open_object self.new h ≡ put (shape value) (with_open_object self.old h)) }
     {
         if let Some(name) = self.name.take() {
             self.members.insert(name, value)?;
@@ -204,9 +204,9 @@ impl Builder {
     #[inline(always)]
     pub fn begin(&mut self, event: Step<'_>) -> Result<bool>
         requires { IsTreeEvent (event_of event) }
-        ensures opens { IfOk result (λ opened. opened ≡ is_some (opens (event_of event.entry))) }
-        ensures ok { OnOk result (begun (event_of event.entry) (hole_in self.old) ≡ Some (hole_in self.new)) }
-        ensures invalid { result ≡ Err Invalid → begun (event_of event.entry) (hole_in self.old) ≡ None }
+        ensures opens { IfOk result (λ with_open_object. with_open_object ≡ is_some (opened_kind (event_of event.entry))) }
+        ensures ok { OnOk result (after_begin (event_of event.entry) (hole_in self.old) ≡ Some (hole_in self.new)) }
+        ensures invalid { result ≡ Err Invalid → after_begin (event_of event.entry) (hole_in self.old) ≡ None }
     {
         match event {
             Step::Null => self.put(Value::Null)?,
@@ -231,7 +231,7 @@ impl Builder {
     /// Names the next value of the innermost container if that is an object.
     #[inline(always)]
     pub fn name(&mut self, name: &str) -> Result<()>
-        ensures ok { OnOk result (hole_in self.new ≡ named name.now (hole_in self.old)) }
+        ensures ok { OnOk result (hole_in self.new ≡ with_name name.now (hole_in self.old)) }
         ensures memory { OnErr result (IsErrOf result Memory) }
     {
         if let Some(Mark::Object) = self.marks.last() {
@@ -247,7 +247,7 @@ impl Builder {
     /// Closes the innermost open container: its values become one, in the hole of what it stands in.
     #[inline(always)]
     pub fn close(&mut self) -> Result<()>
-        ensures ok { OnOk result (hole_in self.new ≡ closed (hole_in self.old)) }
+        ensures ok { OnOk result (hole_in self.new ≡ after_close (hole_in self.old)) }
         ensures memory { OnErr result (IsErrOf result Memory) }
     {
         match self.marks.pop() {
@@ -269,7 +269,7 @@ impl Builder {
 
     /// Returns the value if it is complete.
     pub fn into_value(self) -> Option<Value>
-        ensures { option_map shape result ≡ whole (hole_in self) }
+        ensures { option_map shape result ≡ complete_tree (hole_in self) }
     {
         let Builder {
             alloc: _,

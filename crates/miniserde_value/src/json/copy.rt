@@ -3,45 +3,45 @@ ghost use Rattle.std.specs.Prelude.{◌≡◌, ◌∷◌, [], IfOk, OnOk, OnErr,
 ghost use Rattle.miniserde_model.specs.declared.error.Error.TheVariants.{Memory};
 ghost use Rattle.miniserde_value.specs.Values.{shape, array_shape, object_shape};
 ghost use Rattle.miniserde_value.specs.Builders.{hole_in};
-ghost use Rattle.miniserde_value.specs.Fronts.{built};
-ghost use Rattle.miniserde_value.specs.Walks.{meets, left, LeftOrdered};
+ghost use Rattle.miniserde_value.specs.Visits.{hole_after};
+ghost use Rattle.miniserde_value.specs.Walks.{visit_of, left, LeftOrdered};
 
 use super::array::Array;
 use super::builder::Builder;
 use super::number::Number;
 use super::object::Object;
 use super::value::Value;
-use super::walk::{Front, Walk};
+use super::walk::{Visit, Walk};
 use miniserde_model::error::Result;
 use std::alloc::Global;
 
 // Builds what a front says.
-fn add(alloc: Global, front: Front<'_>, builder: &mut Builder) -> Result<()>
-    ensures built { OnOk result (hole_in builder.new ≡ built (hole_in builder.old) (meets front.entry ∷ [])) }
+fn add(alloc: Global, visit: Visit<'_>, builder: &mut Builder) -> Result<()>
+    ensures built { OnOk result (hole_in builder.new ≡ hole_after (hole_in builder.old) (visit_of visit.entry ∷ [])) }
     ensures memory { OnErr result (IsErrOf result Memory) }
 {
-    match front {
-        Front::Null => builder.put(Value::Null)?,
-        Front::Bool(b) => builder.put(Value::Bool(b))?,
-        Front::Number(number) => builder.put(Value::Number(number.try_clone(alloc)?))?,
-        Front::String(text) => builder.put(Value::String(String::from_str(alloc, text)?))?,
-        Front::Array => builder.open_array()?,
-        Front::Object => builder.open_object()?,
-        Front::Element => (),
-        Front::Name(name) => builder.name(name)?,
-        Front::ArrayEnd | Front::ObjectEnd => builder.close()?,
+    match visit {
+        Visit::Null => builder.put(Value::Null)?,
+        Visit::Bool(b) => builder.put(Value::Bool(b))?,
+        Visit::Number(number) => builder.put(Value::Number(number.try_clone(alloc)?))?,
+        Visit::String(text) => builder.put(Value::String(String::from_str(alloc, text)?))?,
+        Visit::Array => builder.open_array()?,
+        Visit::Object => builder.open_object()?,
+        Visit::Element => (),
+        Visit::Name(name) => builder.name(name)?,
+        Visit::ArrayEnd | Visit::ObjectEnd => builder.close()?,
     }
     Ok(())
 }
 
 // Builds all that a walk meets.
 fn add_all(alloc: Global, mut walk: Walk<'_>, builder: &mut Builder) -> Result<()>
-    ensures built { OnOk result (hole_in builder.new ≡ built (hole_in builder.old) (left walk.entry)) }
+    ensures built { OnOk result (hole_in builder.new ≡ hole_after (hole_in builder.old) (left walk.entry)) }
     ensures ordered { OnOk result (LeftOrdered walk.entry) }
     ensures memory { OnErr result (IsErrOf result Memory) }
 {
-    while let Some(front) = walk.next()? {
-        add(alloc, front, builder)?;
+    while let Some(visit) = walk.next()? {
+        add(alloc, visit, builder)?;
     }
     Ok(())
 }

@@ -20,9 +20,9 @@ pub struct Document {
 }
 
 impl FromJson for Document {
-    ghost use Rattle.miniserde_value.specs.Meanings.{document_meant};
+    ghost use Rattle.miniserde_value.specs.Meanings.{document_meaning};
 
-    ghost means = { document_meant };
+    ghost means = { document_meaning };
 
     fn missing() -> Option<Document> {
         None
@@ -52,7 +52,7 @@ impl Ranged for Document {
 }
 
 impl RoundTrip for Document {
-    fn again() {}
+    fn round_trips() {}
 }
 
 impl Lossless for Document {

@@ -1,7 +1,7 @@
 //! Drops documents without recursion and without allocation.
 ghost use Rattle.std.specs.Prelude.{◌≡◌, ◌+◌, ◌*◌, ◌≤◌, ◌++◌, ◌∷◌, [], ◌↔◌, IsTrue, MatchOption};
 ghost use Rattle.miniserde_value.specs.Values.{children, IsBare};
-ghost use Rattle.miniserde_value.specs.Looks.{value_size, replaces_first};
+ghost use Rattle.miniserde_value.specs.Looks.{value_size, ReplacesFirst};
 
 mod looks;
 
@@ -26,9 +26,9 @@ fn is_bare(value: &Value) -> bool
 fn take_last(value: &mut Value, looks: &mut Looks) -> Option<Value>
     ensures taken { MatchOption result (IsBare value.old × IsBare value.new)
         (λ last. children value.old ≡ children value.new ++ last ∷ []) }
-    ensures looked { MatchOption result (looks.new.looked ≡ looks.old.looked)
-        (λ _. looks.new.looked ≡ looks.old.looked + 1) }
-    ensures gone { looks.new.gone ≡ looks.old.gone }
+    ensures visited { MatchOption result (looks.new.visited ≡ looks.old.visited)
+        (λ _. looks.new.visited ≡ looks.old.visited + 1) }
+    ensures released { looks.new.released ≡ looks.old.released }
 {
     let last = match value {
         Value::Array(array) => array.take_last(),
@@ -41,25 +41,25 @@ fn take_last(value: &mut Value, looks: &mut Looks) -> Option<Value>
 
 /// Replaces the first child by a value, and returns that child.
 #[inline(always)]
-fn park(value: &mut Value, parent: Value, looks: &mut Looks) -> Value
+fn replace_first(value: &mut Value, parent: Value, looks: &mut Looks) -> Value
     requires { children value.old ≡ [] → ⊥ }
-    ensures parked { replaces_first parent result (children value.old) (children value.new) }
-    ensures looked { looks.new.looked ≡ looks.old.looked + 1 }
-    ensures gone { looks.new.gone ≡ looks.old.gone }
+    ensures parked { ReplacesFirst parent result (children value.old) (children value.new) }
+    ensures visited { looks.new.visited ≡ looks.old.visited + 1 }
+    ensures released { looks.new.released ≡ looks.old.released }
 {
     looks.look();
     match value {
-        Value::Array(array) => array.park(parent),
-        Value::Object(object) => object.park(parent),
+        Value::Array(array) => array.replace_first(parent),
+        Value::Object(object) => object.replace_first(parent),
         _ => unreachable!(),
     }
 }
 
 /// Drops a value, and counts how often a value was looked at and how many were dropped. Allocates nothing.
 pub fn counted(value: Value, looks: &mut Looks)
-    ensures gone { looks.new.gone ≡ looks.old.gone + value_size value }
-    ensures at_least { looks.old.looked + value_size value ≤ looks.new.looked }
-    ensures at_most { looks.new.looked ≤ looks.old.looked + 2 * value_size value }
+    ensures released { looks.new.released ≡ looks.old.released + value_size value }
+    ensures at_least { looks.old.visited + value_size value ≤ looks.new.visited }
+    ensures at_most { looks.new.visited ≤ looks.old.visited + 2 * value_size value }
 {
     looks.look();
     let mut current = value;
@@ -82,7 +82,7 @@ pub fn counted(value: Value, looks: &mut Looks)
                 Some(last) => hand = last,
             }
         } else {
-            let first = park(&mut hand, current, looks);
+            let first = replace_first(&mut hand, current, looks);
             current = hand;
             hand = first;
         }

@@ -11,7 +11,7 @@ ghost use Rattle.std.specs.Map.Iter.{GivesInOrder, ShowsInOrder, LendsValuesInOr
 ghost use Rattle.std.specs.String.{string_cmp};
 ghost use Rattle.miniserde_value.specs.declared.json.value.Value.{Value as V};
 ghost use Rattle.miniserde_value.specs.Values.{object_entries, object_members, object_values, shape, with_members};
-ghost use Rattle.miniserde_value.specs.Looks.{replaces_first};
+ghost use Rattle.miniserde_value.specs.Looks.{ReplacesFirst};
 
 use super::drop::safely;
 use super::value::Value;
@@ -95,9 +95,9 @@ impl Object {
     }
 
     /// Puts a value under the first name, and answers the one that stood there.
-    pub(crate) fn park(&mut self, value: Value) -> Value
+    pub(crate) fn replace_first(&mut self, value: Value) -> Value
         requires { object_values self.old ≡ [] → ⊥ }
-        ensures parked { replaces_first value result (object_values self.old) (object_values self.new) }
+        ensures parked { ReplacesFirst value result (object_values self.old) (object_values self.new) }
         ensures names { keys self.new.members ≡ keys self.old.members }
     {
         match self.members.first_entry() {

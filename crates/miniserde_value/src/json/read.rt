@@ -16,9 +16,9 @@ use std::alloc::Global;
 
 impl Leaf for Number {
     ghost use Rattle.std.specs.Prelude.{refl};
-    ghost use Rattle.miniserde_value.specs.Meanings.{number_meant};
+    ghost use Rattle.miniserde_value.specs.Meanings.{number_meaning};
 
-    ghost means = { number_meant };
+    ghost means = { number_meaning };
 
     ghost only_leaves = { (λ ts. refl, λ ms. refl) };
 
@@ -33,9 +33,9 @@ impl Leaf for Number {
 }
 
 impl FromJson for Number {
-    ghost use Rattle.miniserde_value.specs.Meanings.{number_meant};
+    ghost use Rattle.miniserde_value.specs.Meanings.{number_meaning};
 
-    ghost means = { number_meant };
+    ghost means = { number_meaning };
 
     fn missing() -> Option<Number> {
         None
@@ -48,9 +48,9 @@ impl FromJson for Number {
 }
 
 impl FromJson for Value {
-    ghost use Rattle.miniserde_value.specs.Meanings.{value_meant};
+    ghost use Rattle.miniserde_value.specs.Meanings.{value_meaning};
 
-    ghost means = { value_meant };
+    ghost means = { value_meaning };
 
     fn missing() -> Option<Value> {
         None
@@ -62,9 +62,9 @@ impl FromJson for Value {
 }
 
 impl FromJson for Array {
-    ghost use Rattle.miniserde_value.specs.Meanings.{json_array_meant};
+    ghost use Rattle.miniserde_value.specs.Meanings.{json_array_meaning};
 
-    ghost means = { json_array_meant };
+    ghost means = { json_array_meaning };
 
     fn missing() -> Option<Array> {
         None
@@ -82,9 +82,9 @@ impl FromJson for Array {
 }
 
 impl FromJson for Object {
-    ghost use Rattle.miniserde_value.specs.Meanings.{json_object_meant};
+    ghost use Rattle.miniserde_value.specs.Meanings.{json_object_meaning};
 
-    ghost means = { json_object_meant };
+    ghost means = { json_object_meaning };
 
     fn missing() -> Option<Object> {
         None
@@ -102,9 +102,9 @@ impl FromJson for Object {
 }
 
 impl FromJson for Unique {
-    ghost use Rattle.miniserde_value.specs.Meanings.{unique_meant};
+    ghost use Rattle.miniserde_value.specs.Meanings.{unique_meaning};
 
-    ghost means = { unique_meant };
+    ghost means = { unique_meaning };
 
     fn missing() -> Option<Unique> {
         None

@@ -2,15 +2,15 @@
 ghost use Rattle.std.specs.Prelude.{◌≡◌, ◌<◌, ◌&&◌, true, false, Bool, None, Some, Err, IfOk, OnOk, length};
 ghost use Rattle.miniserde_model.specs.private.Reading.{due};
 ghost use Rattle.miniserde_model.specs.declared.error.Error.TheVariants.{Invalid, Memory};
-ghost use Rattle.miniserde_text.specs.Lexer.{front_of};
-ghost use Rattle.miniserde_text.specs.private.Moving.{between, opens};
+ghost use Rattle.miniserde_text.specs.Lexer.{event_of_token};
+ghost use Rattle.miniserde_text.specs.private.Moving.{before_child, opened_kind};
 ghost use Rattle.miniserde_read.specs.Rest.{GivesAt, GivesNoneAt};
-ghost use Rattle.miniserde_read.specs.Step.{IsTreeEvent};
+ghost use Rattle.miniserde_read.specs.Events.{IsTreeEvent};
 ghost use Rattle.miniserde_read.specs.private.Runs.{NeverRuns};
 ghost use Rattle.miniserde_value.specs.Builders.{hole_in};
-ghost use Rattle.miniserde_value.specs.Hole.{begun, has_member, named};
+ghost use Rattle.miniserde_value.specs.Hole.{after_begin, has_member, with_name};
 ghost use Rattle.miniserde_value.specs.Marks.{innermost};
-ghost use Rattle.miniserde_value.specs.Kept.{kept_if};
+ghost use Rattle.miniserde_value.specs.Retained.{retained_if};
 ghost use Rattle.miniserde_value.specs.Values.{shape};
 ghost use Rattle.miniserde_value.specs.private.Builds.{Builds, NeverGives, kinds};
 
@@ -24,17 +24,17 @@ use miniserde_text::json::lex::{After, Event, Kind};
 /// an object in it has one name twice where `once` says that none may.
 pub(crate) fn read_value<'a>(token: Event<'a>, source: &mut Source<'a>, once: bool) -> Result<Value>
     requires going { source.old.refused ≡ None }
-    requires event { IsTreeEvent (front_of token source.old.scratch) }
+    requires event { IsTreeEvent (event_of_token token source.old.scratch) }
     ensures going { IfOk result (λ _. source.new.refused ≡ None) }
-    ensures ok { IfOk result (λ v. GivesAt (kept_if once) (front_of token.entry source.old.scratch)
+    ensures ok { IfOk result (λ v. GivesAt (retained_if once) (event_of_token token.entry source.old.scratch)
         source.old.rest source.new.rest (shape v)) }
     ensures invalid { result ≡ Err Invalid
-        → GivesNoneAt (kept_if once) (front_of token.entry source.old.scratch) source.old.rest }
+        → GivesNoneAt (retained_if once) (event_of_token token.entry source.old.scratch) source.old.rest }
 {
     let mut builder = Builder::new(source.alloc());
     let mut first = builder.begin(source.step(token))?;
     while let Some(kind) = builder.innermost() {
-        first = turn(source, &mut builder, kind, first, once)?;
+        first = take_child_or_end(source, &mut builder, kind, first, once)?;
     }
     match builder.into_value() {
         Some(value) => Ok(value),
@@ -45,7 +45,7 @@ pub(crate) fn read_value<'a>(token: Event<'a>, source: &mut Source<'a>, once: bo
 /// Takes the closing bracket of the innermost container, or the tokens up to the first one of its next child. Returns
 /// whether that token opened a container. `first` says that the opening bracket was just taken.
 #[inline(always)]
-fn turn<'a>(
+fn take_child_or_end<'a>(
     source: &mut Source<'a>,
     builder: &mut Builder,
     kind: Kind,
@@ -56,9 +56,9 @@ fn turn<'a>(
     requires going { source.old.refused ≡ None }
     ensures going { IfOk result (λ _. source.new.refused ≡ None) }
     ensures less { IfOk result (λ _. length source.new.rest < length source.old.rest) }
-    ensures builds { IfOk result (λ opened. Builds once (between first) (hole_in builder.old) source.old.rest
-        (between opened) (hole_in builder.new) source.new.rest) }
-    ensures invalid { result ≡ Err Invalid → NeverGives once (between first) (hole_in builder.old) source.old.rest }
+    ensures builds { IfOk result (λ opened. Builds once (before_child first) (hole_in builder.old) source.old.rest
+        (before_child opened) (hole_in builder.new) source.new.rest) }
+    ensures invalid { result ≡ Err Invalid → NeverGives once (before_child first) (hole_in builder.old) source.old.rest }
 {
     match source.after(kind, first)? {
         After::Close => {
@@ -79,7 +79,7 @@ fn turn<'a>(
 /// none may be repeated.
 #[inline(always)]
 fn name_next(builder: &mut Builder, name: &str, once: bool) -> Result<()>
-    ensures ok { OnOk result (hole_in builder.new ≡ named name.now (hole_in builder.old)) }
+    ensures ok { OnOk result (hole_in builder.new ≡ with_name name.now (hole_in builder.old)) }
     ensures new { OnOk result ((once && has_member name.now (hole_in builder.old)) ≡ false) }
     ensures invalid { result ≡ Err Invalid → (once && has_member name.now (hole_in builder.old)) ≡ true }
 {
@@ -98,7 +98,7 @@ fn begin<'a>(source: &mut Source<'a>, builder: &mut Builder) -> Result<bool>
     ensures going { IfOk result (λ _. source.new.refused ≡ None) }
     ensures less { IfOk result (λ _. length source.new.rest < length source.old.rest) }
     ensures builds { (once : Bool) → IfOk result (λ opened. Builds once due (hole_in builder.old) source.old.rest
-        (between opened) (hole_in builder.new) source.new.rest) }
+        (before_child opened) (hole_in builder.new) source.new.rest) }
     ensures invalid { result ≡ Err Invalid → NeverRuns due (kinds (hole_in builder.old)) source.old.rest }
 {
     let token = source.token()?;

@@ -9,23 +9,23 @@ use miniserde_round::{NeverNull, RoundTrip};
 
 // An `I64` of at least 0 is written as the `U64` of that number, and reads back as one.
 impl RoundTrip for Number {
-    fn again() {}
+    fn round_trips() {}
 }
 
 impl RoundTrip for Value {
-    fn again() {}
+    fn round_trips() {}
 }
 
 impl RoundTrip for Array {
-    fn again() {}
+    fn round_trips() {}
 }
 
 impl RoundTrip for Object {
-    fn again() {}
+    fn round_trips() {}
 }
 
 impl RoundTrip for Unique {
-    fn again() {}
+    fn round_trips() {}
 }
 
 impl NeverNull for Number {

@@ -3,7 +3,7 @@
 use super::array::Array;
 use super::object::Object;
 use super::value::Value;
-use super::walk::{Front, Walk};
+use super::walk::{Visit, Walk};
 use std::fmt::{Debug, Error, Formatter, Result, Write};
 
 // How far a walk is shown: how many containers are open, and whether the innermost has no part yet.
@@ -45,32 +45,32 @@ fn end<W: Write>(f: &mut Formatter<W>, shown: Shown, bracket: &str) -> Result {
 }
 
 // Writes what a front says.
-fn show<W: Write>(f: &mut Formatter<W>, front: Front<'_>, shown: Shown) -> Result {
-    match front {
-        Front::Null => f.write_str("Null"),
-        Front::Bool(b) => write!(f, "Bool({b})"),
-        Front::Number(number) => write!(f, "{number:?}"),
-        Front::String(text) => write!(f, "String({text:?})"),
-        Front::Array => f.write_str("Array ["),
-        Front::Object => f.write_str("Object {"),
-        Front::Element => begin_part(f, shown),
-        Front::Name(name) => {
+fn show<W: Write>(f: &mut Formatter<W>, visit: Visit<'_>, shown: Shown) -> Result {
+    match visit {
+        Visit::Null => f.write_str("Null"),
+        Visit::Bool(b) => write!(f, "Bool({b})"),
+        Visit::Number(number) => write!(f, "{number:?}"),
+        Visit::String(text) => write!(f, "String({text:?})"),
+        Visit::Array => f.write_str("Array ["),
+        Visit::Object => f.write_str("Object {"),
+        Visit::Element => begin_part(f, shown),
+        Visit::Name(name) => {
             begin_part(f, shown)?;
             write!(f, "{name:?}: ")
         }
-        Front::ArrayEnd => end(f, shown, "]"),
-        Front::ObjectEnd => end(f, shown, "}"),
+        Visit::ArrayEnd => end(f, shown, "]"),
+        Visit::ObjectEnd => end(f, shown, "}"),
     }
 }
 
 // Returns how far the walk is shown once a front is.
-fn after(front: Front<'_>, shown: Shown) -> Shown {
-    match front {
-        Front::Array | Front::Object => Shown {
+fn after(visit: Visit<'_>, shown: Shown) -> Shown {
+    match visit {
+        Visit::Array | Visit::Object => Shown {
             levels: shown.levels.saturating_add(1),
             first: true,
         },
-        Front::ArrayEnd | Front::ObjectEnd => Shown {
+        Visit::ArrayEnd | Visit::ObjectEnd => Shown {
             levels: shown.levels.saturating_sub(1),
             first: false,
         },
@@ -87,9 +87,9 @@ fn show_all<W: Write>(mut walk: Walk<'_>, f: &mut Formatter<W>) -> Result {
         levels: 1,
         first: true,
     };
-    while let Some(front) = walk.next().map_err(|_| Error)? {
-        show(f, front, shown)?;
-        shown = after(front, shown);
+    while let Some(visit) = walk.next().map_err(|_| Error)? {
+        show(f, visit, shown)?;
+        shown = after(visit, shown);
     }
     Ok(())
 }

@@ -2,14 +2,14 @@
 ghost use Rattle.std.specs.Prelude.{◌≡◌, true, Err, IfOk, string_bytes};
 ghost use Rattle.miniserde_model.specs.Tree.{Tree};
 ghost use Rattle.miniserde_model.specs.Compact.{compact};
-ghost use Rattle.miniserde_model.specs.Distinct.{distinct};
+ghost use Rattle.miniserde_model.specs.Distinct.{names_distinct};
 ghost use Rattle.miniserde_model.specs.Normal.{norm};
 ghost use Rattle.miniserde_model.specs.Size.{size};
 ghost use Rattle.miniserde_model.specs.Value.{IsJson};
 ghost use Rattle.miniserde_model.specs.declared.error.Error.TheVariants.{Invalid};
 ghost use Rattle.miniserde_value.specs.declared.json.value.Value.{Value as V};
 ghost use Rattle.miniserde_value.specs.Looks.{value_size};
-ghost use Rattle.miniserde_value.specs.Values.{Reads, shape, tree_of};
+ghost use Rattle.miniserde_value.specs.Values.{ReadsValue, shape, tree_of};
 
 use super::array::Array;
 use super::number::Number;
@@ -69,13 +69,13 @@ impl Default for Value {
 
 /// Does nothing. What a tree means as a `Value` has the tree's normal form for its tree, and as many values as that.
 pub fn read_is_normal()
-    ensures tree { (t : Tree) (v : V) → Reads t v → tree_of v ≡ norm t }
-    ensures size { (t : Tree) (v : V) → Reads t v → value_size v ≡ size (norm t) }
+    ensures tree { (t : Tree) (v : V) → ReadsValue t v → tree_of v ≡ norm t }
+    ensures size { (t : Tree) (v : V) → ReadsValue t v → value_size v ≡ size (norm t) }
 {}
 
 /// Does nothing. A value has as many values as its tree, if no object of it has a duplicate name, as no map has.
 pub fn size_is_of_tree()
-    ensures { (v : V) → distinct (shape v) ≡ true → size (tree_of v) ≡ value_size v }
+    ensures { (v : V) → names_distinct (shape v) ≡ true → size (tree_of v) ≡ value_size v }
 {}
 
 /// Parses a JSON text as a `Value`, and writes that: the text's canonical text, which `canonical` returns too. Returns

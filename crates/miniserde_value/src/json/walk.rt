@@ -1,8 +1,8 @@
 //! The one walk over a value that stands elsewhere.
 ghost use Rattle.std.specs.Prelude.{◌≡◌, ◌∷◌, [], None, IfOk, OnOk, MatchOption};
 ghost use Rattle.miniserde_value.specs.Values.{shape, array_shape, object_shape};
-ghost use Rattle.miniserde_value.specs.Fronts.{fronts, list_begins, members_begin, IsOrdered};
-ghost use Rattle.miniserde_value.specs.Walks.{meets, left, LeftOrdered};
+ghost use Rattle.miniserde_value.specs.Visits.{visits, list_begins, members_begin, IsOrdered};
+ghost use Rattle.miniserde_value.specs.Walks.{visit_of, left, LeftOrdered};
 
 mod frames;
 
@@ -16,7 +16,7 @@ use std::result;
 
 /// What a walk meets next.
 #[derive(Clone, Copy, Drop)]
-pub(crate) enum Front<'a> {
+pub(crate) enum Visit<'a> {
     Null,
     Bool(bool),
     Number(&'a Number),
@@ -41,7 +41,7 @@ pub(crate) struct Walk<'a> {
 impl<'a> Walk<'a> {
     /// Over the items of an array, and its end.
     pub(crate) fn array(alloc: Global, array: &'a Array) -> result::Result<Walk<'a>, AllocError>
-        ensures left { IfOk result (λ w. list_begins ∷ left w ≡ fronts (array_shape array.entry.now) []) }
+        ensures left { IfOk result (λ w. list_begins ∷ left w ≡ visits (array_shape array.entry.now) []) }
         ensures ordered { IfOk result (λ w. LeftOrdered w → IsOrdered (array_shape array.entry.now)) }
     {
         let mut frames = Frames::new(alloc);
@@ -51,7 +51,7 @@ impl<'a> Walk<'a> {
 
     /// Over the members of an object, and its end.
     pub(crate) fn object(alloc: Global, object: &'a Object) -> result::Result<Walk<'a>, AllocError>
-        ensures left { IfOk result (λ w. members_begin ∷ left w ≡ fronts (object_shape object.entry.now) []) }
+        ensures left { IfOk result (λ w. members_begin ∷ left w ≡ visits (object_shape object.entry.now) []) }
         ensures ordered { IfOk result (λ w. LeftOrdered w → IsOrdered (object_shape object.entry.now)) }
     {
         let mut frames = Frames::new(alloc);
@@ -60,9 +60,9 @@ impl<'a> Walk<'a> {
     }
 
     /// What comes next, where anything does.
-    pub(crate) fn next(&mut self) -> result::Result<Option<Front<'a>>, AllocError>
+    pub(crate) fn next(&mut self) -> result::Result<Option<Visit<'a>>, AllocError>
         ensures left { IfOk result (λ next. MatchOption next (left self.old ≡ [])
-            (λ f. left self.old ≡ meets f ∷ left self.new)) }
+            (λ f. left self.old ≡ visit_of f ∷ left self.new)) }
         ensures ordered { IfOk result (λ next. MatchOption next (LeftOrdered self.old)
             (λ _. LeftOrdered self.new → LeftOrdered self.old)) }
     {
@@ -76,37 +76,37 @@ impl<'a> Walk<'a> {
     }
 
     // The first front of a value.
-    fn begin(&mut self, value: &'a Value) -> result::Result<Front<'a>, AllocError>
+    fn begin(&mut self, value: &'a Value) -> result::Result<Visit<'a>, AllocError>
         requires { self.old.due ≡ None }
-        ensures left { IfOk result (λ f. fronts (shape value.entry.now) (left self.old) ≡ meets f ∷ left self.new) }
+        ensures left { IfOk result (λ f. visits (shape value.entry.now) (left self.old) ≡ visit_of f ∷ left self.new) }
         ensures ordered { OnOk result (LeftOrdered self.new
             → IsOrdered (shape value.entry.now) × LeftOrdered self.old) }
     {
         match value {
-            Value::Null => Ok(Front::Null),
-            Value::Bool(b) => Ok(Front::Bool(*b)),
-            Value::Number(number) => Ok(Front::Number(number)),
-            Value::String(text) => Ok(Front::String(text.as_str())),
+            Value::Null => Ok(Visit::Null),
+            Value::Bool(b) => Ok(Visit::Bool(*b)),
+            Value::Number(number) => Ok(Visit::Number(number)),
+            Value::String(text) => Ok(Visit::String(text.as_str())),
             Value::Array(array) => {
                 self.frames.push_array(array.inner().iter())?;
-                Ok(Front::Array)
+                Ok(Visit::Array)
             }
             Value::Object(object) => {
                 self.frames.push_object(object.inner().iter())?;
-                Ok(Front::Object)
+                Ok(Visit::Object)
             }
         }
     }
 
     // What comes next in the innermost open container.
-    fn resume(&mut self) -> Option<Front<'a>>
+    fn resume(&mut self) -> Option<Visit<'a>>
         requires { self.old.due ≡ None }
-        ensures left { MatchOption result (left self.old ≡ []) (λ f. left self.old ≡ meets f ∷ left self.new) }
+        ensures left { MatchOption result (left self.old ≡ []) (λ f. left self.old ≡ visit_of f ∷ left self.new) }
         ensures ordered { MatchOption result (LeftOrdered self.old)
             (λ _. LeftOrdered self.new → LeftOrdered self.old) }
     {
-        let (front, child) = self.frames.next()?;
+        let (visit, child) = self.frames.next()?;
         self.due = child;
-        Some(front)
+        Some(visit)
     }
 }

@@ -6,15 +6,15 @@ ghost use Rattle.miniserde_model.specs.declared.error.Error.TheVariants.{Memory}
 ghost use Rattle.miniserde_ser.specs.Fragment.{fragment_tree};
 ghost use Rattle.miniserde_value.specs.Numbers.{number_leaf};
 ghost use Rattle.miniserde_value.specs.Values.{shape, array_shape, object_shape};
-ghost use Rattle.miniserde_value.specs.Fronts.{Meets, fronts, text_of, first_after, AreFronts, IsOrdered};
-ghost use Rattle.miniserde_value.specs.Walks.{meets, frames_left, FramesOrdered};
+ghost use Rattle.miniserde_value.specs.Visits.{TreeVisit, visits, visits_text, first_flag_after, AreVisits, IsOrdered};
+ghost use Rattle.miniserde_value.specs.Walks.{visit_of, frames_left, FramesOrdered};
 ghost use Rattle.miniserde_value.specs.Writes.{Writes};
 
 use super::array::Array;
 use super::number::Number;
 use super::object::Object;
 use super::value::Value;
-use super::walk::{Frames, Front};
+use super::walk::{Frames, Visit};
 use miniserde_model::error::Result;
 use miniserde_ser::ser::{Fragment, Serialize, Writer};
 
@@ -38,34 +38,34 @@ impl Number {
 
 // Writes what a front says.
 #[inline(always)]
-fn put(front: Front<'_>, w: &mut Writer) -> Result<()>
-    ensures ok { OnOk result ((rest : List Meets) → w.new.text ++ text_of w.new.first rest
-        ≡ w.old.text ++ text_of w.old.first (meets front.entry ∷ rest)) }
-    ensures is_tree { OnOk result (AreFronts (meets front.entry ∷ [])) }
-    ensures first { OnOk result (w.new.first ≡ first_after w.old.first (meets front.entry ∷ [])) }
+fn put(visit: Visit<'_>, w: &mut Writer) -> Result<()>
+    ensures ok { OnOk result ((rest : List TreeVisit) → w.new.text ++ visits_text w.new.first rest
+        ≡ w.old.text ++ visits_text w.old.first (visit_of visit.entry ∷ rest)) }
+    ensures is_tree { OnOk result (AreVisits (visit_of visit.entry ∷ [])) }
+    ensures first { OnOk result (w.new.first ≡ first_flag_after w.old.first (visit_of visit.entry ∷ [])) }
     ensures stays { OnOk result (w.old.refused ≡ false) }
-    ensures whole { OnOk result (w.new.refused ≡ false) }
+    ensures unrefused { OnOk result (w.new.refused ≡ false) }
     ensures memory { OnErr result (IsErrOf result Memory) }
     ensures err { OnErr result (w.new.refused ≡ true) }
 {
-    match front {
-        Front::Null => w.fragment(Fragment::Null),
-        Front::Bool(b) => w.fragment(Fragment::Bool(b)),
-        Front::Number(number) => w.fragment(number.fragment()),
-        Front::String(text) => w.fragment(Fragment::Str(text)),
-        Front::Array => w.seq(),
-        Front::Element => w.element(),
-        Front::ArrayEnd => w.seq_finish(),
-        Front::Object => w.map(),
-        Front::Name(name) => w.known_key(name),
-        Front::ObjectEnd => w.map_finish(),
+    match visit {
+        Visit::Null => w.fragment(Fragment::Null),
+        Visit::Bool(b) => w.fragment(Fragment::Bool(b)),
+        Visit::Number(number) => w.fragment(number.fragment()),
+        Visit::String(text) => w.fragment(Fragment::Str(text)),
+        Visit::Array => w.seq(),
+        Visit::Element => w.element(),
+        Visit::ArrayEnd => w.seq_finish(),
+        Visit::Object => w.map(),
+        Visit::Name(name) => w.key_inline(name),
+        Visit::ObjectEnd => w.map_finish(),
     }
 }
 
 // Writes what opens an array.
 #[inline(always)]
 fn put_array<'a>(array: &'a Array, frames: &mut Frames<'a>, w: &mut Writer) -> Result<()>
-    ensures ok { OnOk result (Writes w.old (fronts (array_shape array.entry.now) (frames_left frames.old))
+    ensures ok { OnOk result (Writes w.old (visits (array_shape array.entry.now) (frames_left frames.old))
         w.new (frames_left frames.new)) }
     ensures ordered { OnOk result (FramesOrdered frames.new
         → IsOrdered (array_shape array.entry.now) × FramesOrdered frames.old) }
@@ -81,7 +81,7 @@ fn put_array<'a>(array: &'a Array, frames: &mut Frames<'a>, w: &mut Writer) -> R
 // Writes what opens an object.
 #[inline(always)]
 fn put_object<'a>(object: &'a Object, frames: &mut Frames<'a>, w: &mut Writer) -> Result<()>
-    ensures ok { OnOk result (Writes w.old (fronts (object_shape object.entry.now) (frames_left frames.old))
+    ensures ok { OnOk result (Writes w.old (visits (object_shape object.entry.now) (frames_left frames.old))
         w.new (frames_left frames.new)) }
     ensures ordered { OnOk result (FramesOrdered frames.new
         → IsOrdered (object_shape object.entry.now) × FramesOrdered frames.old) }
@@ -97,7 +97,7 @@ fn put_object<'a>(object: &'a Object, frames: &mut Frames<'a>, w: &mut Writer) -
 // Writes a leaf, or what opens a container.
 #[inline(always)]
 fn put_value<'a>(value: &'a Value, frames: &mut Frames<'a>, w: &mut Writer) -> Result<()>
-    ensures ok { OnOk result (Writes w.old (fronts (shape value.entry.now) (frames_left frames.old))
+    ensures ok { OnOk result (Writes w.old (visits (shape value.entry.now) (frames_left frames.old))
         w.new (frames_left frames.new)) }
     ensures ordered { OnOk result (FramesOrdered frames.new
         → IsOrdered (shape value.entry.now) × FramesOrdered frames.old) }
@@ -122,8 +122,8 @@ fn put_all(mut frames: Frames<'_>, w: &mut Writer) -> Result<()>
     ensures memory { OnErr result (IsErrOf result Memory) }
     ensures err { OnErr result (w.new.refused ≡ true) }
 {
-    while let Some((front, child)) = frames.next() {
-        put(front, w)?;
+    while let Some((visit, child)) = frames.next() {
+        put(visit, w)?;
         if let Some(value) = child {
             put_value(value, &mut frames, w)?;
         }

@@ -6,7 +6,7 @@ use Rattle.miniserde.specs.Words.{string_of}
 use Rattle.miniserde.specs.Integers.{unsigned_of, ReadsUnsigned}
 use Rattle.miniserde.specs.Lists.{EachReads}
 use Rattle.miniserde.specs.Options.{OptionReads, option_of}
-use Rattle.miniserde.specs.Meanings.{boolean_meant, string_meant, list_meant}
+use Rattle.miniserde.specs.Meanings.{boolean_meaning, string_meaning, list_meaning}
 use Rattle.miniserde.specs.Said.{needs, says, none_counts}
 use Rattle.miniserde.specs.MarkLaws.{once-says, closed-named}
 use Rattle.examples.specs.Services.{names}
@@ -36,8 +36,8 @@ returns c (members ms) s =
     let n4 = codes "secure" in
     let n5 = codes "tags" in
     let n6 = codes "note" in
-    let text = string_meant string_bytes in
-    let tags = list_meant text (λ v. v.items) in
+    let text = string_meaning string_bytes in
+    let tags = list_meaning text (λ v. v.items) in
     let o1 = once-says n1 [] refl ms in
     let r1 = needs (unsigned_of 64) (pos s.id) (λ t. ReadsUnsigned 64 t s.id) n1 [] refl ms in
     let host : Tree → Type 0 = λ t. text.reads t s.host in
@@ -45,8 +45,8 @@ returns c (members ms) s =
     let o3 = once-says n3 (n1 ∷ n2 ∷ []) refl ms in
     let port : Tree → Type 0 = λ t. ReadsUnsigned 16 t s.port in
     let r3 = says (unsigned_of 16) (port (nonneg 8080)) (s.port ≡ 8080) port port (same port) (http s.port) n3 (n1 ∷ n2 ∷ []) refl ms in
-    let secure : Tree → Type 0 = λ t. boolean_meant.reads t s.secure in
-    let r4 = says boolean_meant.from_tree (secure (truth true)) (s.secure ≡ true) secure secure (same secure) (yes s.secure) n4 (n1 ∷ n2 ∷ n3 ∷ []) refl ms in
+    let secure : Tree → Type 0 = λ t. boolean_meaning.reads t s.secure in
+    let r4 = says boolean_meaning.from_tree (secure (truth true)) (s.secure ≡ true) secure secure (same secure) (yes s.secure) n4 (n1 ∷ n2 ∷ n3 ∷ []) refl ms in
     let has : Tree → Type 0 = λ t. tags.reads t s.tags in
     let r5 = says tags.from_tree (has (list no_trees)) (s.tags.items ≡ []) has has (same has) (nothing text.reads s.tags.items) n5 (n1 ∷ n2 ∷ n3 ∷ n4 ∷ []) refl ms in
     let note : Tree → Type 0 = λ t. OptionReads text.reads t s.note in

@@ -5,7 +5,7 @@ use Rattle.miniserde.specs.Tree.{members, nonneg}
 use Rattle.miniserde.specs.Words.{string_of}
 use Rattle.miniserde.specs.Integers.{ReadsUnsigned}
 use Rattle.miniserde.specs.Options.{OptionReads, option_of}
-use Rattle.miniserde.specs.Meanings.{unsigned_meant, string_meant}
+use Rattle.miniserde.specs.Meanings.{unsigned_meaning, string_meaning}
 use Rattle.miniserde.specs.Fields.{others}
 use Rattle.miniserde.specs.Said.{says, none_counts}
 use Rattle.examples.specs.Versions.{state_of}
@@ -24,9 +24,9 @@ returns c (members ms) v w r no_retries no_note =
     let n3 = codes "state" in
     let n4 = codes "retries" in
     let n5 = codes "note" in
-    let u64 = unsigned_meant 64 in
-    let u32 = unsigned_meant 32 in
-    let text = string_meant string_bytes in
+    let u64 = unsigned_meaning 64 in
+    let u32 = unsigned_meaning 32 in
+    let text = string_meaning string_bytes in
     let ms2 = others n1 ms in
     let ms3 = others n2 ms2 in
     let f1 = same_field u64.reads u64.from_tree u64.content u64.reads_agrees n1 ms v.id w.id r.0 in

@@ -5,7 +5,7 @@ use Rattle.std.proofs.lemmas.Result.{err_from_is_err_and}
 use Rattle.miniserde_model.specs.Normal.{norm}
 use Rattle.miniserde_model.proofs.Normal.{norm_twice}
 use Rattle.miniserde_model.proofs.Unique.{one_tree}
-use Rattle.miniserde_canonical.proofs.Told.{canonical_text, canonical_spelled, canonical_told, canonical_least, canonical_again, its_own}
+use Rattle.miniserde_canonical.proofs.IsCanonical.{canonical_text, canonical_spelled, canonical_told, canonical_least, canonical_again, its_own}
 use Rattle.miniserde_canonical.proofs.canonicalize.canonical.Goals as goal
 
 pub returns-in_err-text-clause-invalid : goal.returns-in_err-text-clause-invalid
@@ -16,8 +16,8 @@ returns-in_err-text-clause-invalid c = λ e.
 pub returns-in_err-text-clause-one : goal.returns-in_err-text-clause-one
 returns-in_err-text-clause-one c = one_tree c.args.j.now
 
-pub returns-in_err-text-clause-again : goal.returns-in_err-text-clause-again
-returns-in_err-text-clause-again c = λ b t h e.
+pub returns-in_err-text-clause-idempotent : goal.returns-in_err-text-clause-idempotent
+returns-in_err-text-clause-idempotent c = λ b t h e.
     let w = err_from_is_err_and c.from_residual.result c.from_residual.ensures.1 in
     (subst (λ r. IfOk r (λ s. string_bytes s ≡ c.args.j.now)) (sym w.1) tt, λ i. returns-in_err-text-clause-invalid c i (norm t) (its_own c.args.j.now b t h e))
 
@@ -42,5 +42,5 @@ returns-clause-shortest c = canonical_least c.args.j.now _ (returns-clause-ok c)
 pub returns-clause-one : goal.returns-clause-one
 returns-clause-one c = one_tree c.args.j.now
 
-pub returns-clause-again : goal.returns-clause-again
-returns-clause-again c = λ b t h e. (canonical_again c.args.j.now _ b (returns-clause-ok c) t h e, λ i. absurd (cc))
+pub returns-clause-idempotent : goal.returns-clause-idempotent
+returns-clause-idempotent c = λ b t h e. (canonical_again c.args.j.now _ b (returns-clause-ok c) t h e, λ i. absurd (cc))

@@ -2,7 +2,7 @@
 use Rattle.std.proofs.Common.{inl, inr}
 use Rattle.std.specs.String.{string_bytes}
 use Rattle.std.proofs.lemmas.Result.{err_from_is_err_and}
-use Rattle.miniserde_canonical.proofs.Told.{both_told}
+use Rattle.miniserde_canonical.proofs.IsCanonical.{both_told}
 use Rattle.miniserde_canonical.proofs.canonicalize.canonical_both.Goals as goal
 
 pub returns-in_err-canonical-clause-invalid : goal.returns-in_err-canonical-clause-invalid

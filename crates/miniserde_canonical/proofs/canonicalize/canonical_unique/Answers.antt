@@ -3,11 +3,11 @@ use Rattle.std.proofs.Common.{◌≡◌, true, sym, ap, subst, ◌∙◌, string
 use Rattle.std.specs.Prelude.{IfOk}
 use Rattle.std.proofs.lemmas.Result.{err_from_is_err_and}
 use Rattle.miniserde_model.specs.Normal.{norm}
-use Rattle.miniserde_model.specs.Distinct.{distinct}
+use Rattle.miniserde_model.specs.Distinct.{names_distinct}
 use Rattle.miniserde_model.proofs.Distinct.{norm_distinct, distinct_size}
 use Rattle.miniserde_model.proofs.Normal.{norm_twice}
 use Rattle.miniserde_model.proofs.Unique.{one_tree}
-use Rattle.miniserde_canonical.proofs.Told.{canonical_text, canonical_spelled, canonical_told, canonical_least, canonical_again, its_own}
+use Rattle.miniserde_canonical.proofs.IsCanonical.{canonical_text, canonical_spelled, canonical_told, canonical_least, canonical_again, its_own}
 use Rattle.miniserde_canonical.proofs.canonicalize.canonical_unique.Goals as goal
 
 -- ---- no text
@@ -20,8 +20,8 @@ returns-in_err-text-clause-invalid c = λ e t p d.
 pub returns-in_err-text-clause-one : goal.returns-in_err-text-clause-one
 returns-in_err-text-clause-one c = one_tree c.args.j.now
 
-pub returns-in_err-text-clause-again : goal.returns-in_err-text-clause-again
-returns-in_err-text-clause-again c = λ b t h e.
+pub returns-in_err-text-clause-idempotent : goal.returns-in_err-text-clause-idempotent
+returns-in_err-text-clause-idempotent c = λ b t h e.
     let w = err_from_is_err_and c.from_residual.result c.from_residual.ensures.1 in
     (subst (λ r. IfOk r (λ s. string_bytes s ≡ c.args.j.now)) (sym w.1) tt, λ i. returns-in_err-text-clause-invalid c i (norm t) (its_own c.args.j.now b t h e) (norm_distinct t))
 
@@ -45,7 +45,7 @@ returns-then-is_distinct-clause-shortest c = canonical_least c.args.j.now _ (let
 pub returns-then-is_distinct-clause-distinct : goal.returns-then-is_distinct-clause-distinct
 returns-then-is_distinct-clause-distinct c = λ t p.
     let r = c.in_ok-text.ensures.ok in
-    subst (λ z. distinct z ≡ true) (one_tree c.args.j.now r.0 t r.1 p) (sym r.3 ∙ c.if-is_distinct.true)
+    subst (λ z. names_distinct z ≡ true) (one_tree c.args.j.now r.0 t r.1 p) (sym r.3 ∙ c.if-is_distinct.true)
 
 pub returns-then-is_distinct-clause-size : goal.returns-then-is_distinct-clause-size
 returns-then-is_distinct-clause-size c = λ t p. distinct_size t (returns-then-is_distinct-clause-distinct c t p)
@@ -53,8 +53,8 @@ returns-then-is_distinct-clause-size c = λ t p. distinct_size t (returns-then-i
 pub returns-then-is_distinct-clause-one : goal.returns-then-is_distinct-clause-one
 returns-then-is_distinct-clause-one c = one_tree c.args.j.now
 
-pub returns-then-is_distinct-clause-again : goal.returns-then-is_distinct-clause-again
-returns-then-is_distinct-clause-again c = λ b t h e.
+pub returns-then-is_distinct-clause-idempotent : goal.returns-then-is_distinct-clause-idempotent
+returns-then-is_distinct-clause-idempotent c = λ b t h e.
     let r = c.in_ok-text.ensures.ok in
     (canonical_again c.args.j.now _ b (r.0, r.1, r.2) t h e, λ i. absurd (cc))
 
@@ -63,11 +63,11 @@ returns-then-is_distinct-clause-again c = λ b t h e.
 pub returns-else-is_distinct-clause-invalid : goal.returns-else-is_distinct-clause-invalid
 returns-else-is_distinct-clause-invalid c = λ e t p d.
     let r = c.in_ok-text.ensures.ok in
-    true≢false (sym d ∙ ap distinct (one_tree c.args.j.now t r.0 p r.1) ∙ sym r.3 ∙ c.if-is_distinct.false)
+    true≢false (sym d ∙ ap names_distinct (one_tree c.args.j.now t r.0 p r.1) ∙ sym r.3 ∙ c.if-is_distinct.false)
 
 pub returns-else-is_distinct-clause-one : goal.returns-else-is_distinct-clause-one
 returns-else-is_distinct-clause-one c = one_tree c.args.j.now
 
-pub returns-else-is_distinct-clause-again : goal.returns-else-is_distinct-clause-again
-returns-else-is_distinct-clause-again c = λ b t h e.
+pub returns-else-is_distinct-clause-idempotent : goal.returns-else-is_distinct-clause-idempotent
+returns-else-is_distinct-clause-idempotent c = λ b t h e.
     (tt, λ i. returns-else-is_distinct-clause-invalid c i (norm t) (its_own c.args.j.now b t h e) (norm_distinct t))

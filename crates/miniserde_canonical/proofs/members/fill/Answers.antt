@@ -1,6 +1,6 @@
 use Rattle.std.proofs.Common.{◌≡◌, ◌++◌, ◌∷◌, [], ◌+◌, sym, ap, ◌∙◌, arith}
 use Rattle.std.specs.List.{range_with_len}
-use Rattle.miniserde_canonical.proofs.Rows.{numbers_more}
+use Rattle.miniserde_canonical.proofs.MemberLists.{numbers_more}
 use Rattle.miniserde_canonical.proofs.members.fill.Goals as goal
 
 pub loop-i-preserved : goal.loop-i-preserved

@@ -5,7 +5,7 @@ use Rattle.std.proofs.lemmas.Fn.{always_returns_same}
 use Rattle.std.specs.Cmp.Lexicographic.{nat_list_cmp_total}
 use Rattle.miniserde_model.specs.Normal.{text_cmp}
 use Rattle.miniserde_canonical.specs.private.Members.{name_in}
-use Rattle.miniserde_canonical.proofs.Rows.{stable_last}
+use Rattle.miniserde_canonical.proofs.MemberLists.{stable_last}
 use Rattle.miniserde_canonical.proofs.members.sort.Goals as goal
 
 pub returns-clause-sorted : goal.returns-clause-sorted

@@ -1,5 +1,5 @@
 use Rattle.std.proofs.Common.{[]}
-use Rattle.miniserde_model.specs.Event.{events}
+use Rattle.miniserde_model.specs.Step.{events}
 use Rattle.miniserde_de.proofs.Fed.{given_reads, none_reads}
 use Rattle.miniserde_de.proofs.events.events_mean.Goals as goal
 

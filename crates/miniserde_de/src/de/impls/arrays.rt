@@ -1,6 +1,6 @@
 //! Arrays.
 ghost use Rattle.std.specs.Prelude.{Option, None};
-ghost use Rattle.miniserde_de.specs.PlaceMeanings.{array_gathering};
+ghost use Rattle.miniserde_de.specs.PlaceMeanings.{array_collector};
 
 use super::super::{Deserialize, Step, Visitor};
 use super::sequences::ListOf;
@@ -23,7 +23,7 @@ where
 {
     type Out = [P::Out; N];
 
-    ghost gathering = { array_gathering N P.meaning (λ c. c.list.items.items) (λ c. c.list.child) (λ v. v) };
+    ghost collector_meaning = { array_collector N P.meaning (λ c. c.list.items.items) (λ c. c.list.child) (λ v. v) };
 
     fn new(alloc: Global) -> ArrayOf<P, P::Out, N> {
         ArrayOf {
@@ -59,7 +59,7 @@ where
         self.list.join()
     }
 
-    fn is_whole(&self) -> bool {
+    fn can_end(&self) -> bool {
         self.list.len() == N
     }
 

@@ -1,6 +1,6 @@
 //! Boxed values.
 ghost use Rattle.std.specs.Prelude.{◌≡◌, Option, None};
-ghost use Rattle.miniserde_de.specs.PlaceMeanings.{box_meaning};
+ghost use Rattle.miniserde_de.specs.PlaceMeanings.{box_place_meaning};
 
 use super::super::{Deserialize, Step, Visitor};
 use miniserde_model::error::{Error, Result};
@@ -19,9 +19,9 @@ where
 {
     type Out = Box<P::Out>;
 
-    ghost meaning = { box_meaning (λ p. p.place) (λ b. b.value) P.meaning };
+    ghost meaning = { box_place_meaning (λ p. p.place) (λ b. b.value) P.meaning };
 
-    ghost begins_free = { P.begins_free };
+    ghost begin_infallible = { P.begin_infallible };
 
     ghost further = { λ old e answer new. P.further old.place e answer new.place };
 

@@ -1,8 +1,8 @@
 //! Maps, ordered by their keys or hashed.
 ghost use Rattle.std.specs.Prelude.{◌≡◌, [], List, Option, None, Ok, IfOk, OnErr, IsErrOf};
 ghost use Rattle.miniserde_model.specs.declared.error.Error.TheVariants.{Memory};
-ghost use Rattle.miniserde_read.specs.meaning.Maps.{looked, with_entry};
-ghost use Rattle.miniserde_de.specs.PlaceMeanings.{map_gathering};
+ghost use Rattle.miniserde_read.specs.types.Maps.{map_content, with_entry};
+ghost use Rattle.miniserde_de.specs.PlaceMeanings.{map_collector};
 
 use super::super::{Deserialize, MapKey, Step, Visitor};
 use miniserde_model::error::{Error, Result};
@@ -31,7 +31,7 @@ pub type HashMapPlace<K, V, H> = ContainerPlace<
 impl<P: Visitor, M: Table<Value = P::Out>> Collect for MapOf<M, M::Key, P> {
     type Out = M;
 
-    ghost gathering = { map_gathering M.Key.read M.Key.code M.Key.content P.meaning
+    ghost collector_meaning = { map_collector M.Key.read M.Key.code M.Key.content P.meaning
         (λ c. M.entries c.table) (λ c. c.key) (λ c. c.child) M.entries };
 
     fn new(alloc: Global) -> MapOf<M, M::Key, P> {
@@ -92,7 +92,7 @@ impl<P: Visitor, M: Table<Value = P::Out>> Collect for MapOf<M, M::Key, P> {
         }
     }
 
-    fn is_whole(&self) -> bool {
+    fn can_end(&self) -> bool {
         true
     }
 

@@ -24,15 +24,15 @@ pub struct OptionPlace<P> {
 }
 
 impl<P: Visitor> Visitor for OptionPlace<P> {
-    ghost use Rattle.miniserde_de.specs.PlaceMeanings.{option_meaning};
+    ghost use Rattle.miniserde_de.specs.PlaceMeanings.{option_place_meaning};
 
     type Out = Option<P::Out>;
 
-    ghost meaning = { option_meaning P.meaning };
+    ghost meaning = { option_place_meaning P.meaning };
 
-    ghost begins_free = { true };
+    ghost begin_infallible = { true };
 
-    ghost takes_free = { P.takes_free };
+    ghost take_infallible = { P.take_infallible };
 
     fn begin(alloc: Global) -> Result<OptionPlace<P>> {
         Ok(OptionPlace {

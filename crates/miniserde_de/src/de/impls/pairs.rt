@@ -1,6 +1,6 @@
 //! Pairs.
 ghost use Rattle.std.specs.Prelude.{Option, None, ◌&&◌};
-ghost use Rattle.miniserde_de.specs.PlaceMeanings.{pair_gathering};
+ghost use Rattle.miniserde_de.specs.PlaceMeanings.{pair_collector};
 
 use super::super::{Deserialize, Step, Visitor};
 use miniserde_model::error::{Error, Result};
@@ -36,11 +36,11 @@ where
 {
     type Out = (P::Out, Q::Out);
 
-    ghost gathering = { pair_gathering P.meaning Q.meaning
+    ghost collector_meaning = { pair_collector P.meaning Q.meaning
         (λ c. c.first) (λ c. c.second) (λ c. c.child) (λ v. v.0) (λ v. v.1) };
 
     // `join` moves a part, and allocates nothing itself.
-    ghost join_infallible = { P.takes_free && Q.takes_free };
+    ghost join_infallible = { P.take_infallible && Q.take_infallible };
 
     fn new(_alloc: Global) -> PairOf<P, P::Out, Q, Q::Out> {
         PairOf {
@@ -111,7 +111,7 @@ where
         }
     }
 
-    fn is_whole(&self) -> bool {
+    fn can_end(&self) -> bool {
         self.first.is_some() && self.second.is_some()
     }
 

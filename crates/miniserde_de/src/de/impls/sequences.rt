@@ -1,6 +1,6 @@
 //! Lists.
 ghost use Rattle.std.specs.Prelude.{◌≡◌, length, Option, None};
-ghost use Rattle.miniserde_de.specs.PlaceMeanings.{list_gathering};
+ghost use Rattle.miniserde_de.specs.PlaceMeanings.{list_collector};
 
 use super::super::{Deserialize, Step, Visitor};
 use miniserde_model::error::{Error, Result};
@@ -32,7 +32,7 @@ where
 {
     type Out = Vec<P::Out>;
 
-    ghost gathering = { list_gathering P.meaning (λ c. c.items.items) (λ c. c.child) (λ v. v.items) };
+    ghost collector_meaning = { list_collector P.meaning (λ c. c.items.items) (λ c. c.child) (λ v. v.items) };
 
     fn new(alloc: Global) -> ListOf<P, P::Out> {
         ListOf {
@@ -88,7 +88,7 @@ where
         }
     }
 
-    fn is_whole(&self) -> bool {
+    fn can_end(&self) -> bool {
         true
     }
 

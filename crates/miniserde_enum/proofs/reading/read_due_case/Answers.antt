@@ -1,5 +1,5 @@
-use Rattle.miniserde_text.specs.Lexer.{front_of}
-use Rattle.miniserde_read.proofs.Fronts.{start_event}
+use Rattle.miniserde_text.specs.Lexer.{event_of_token}
+use Rattle.miniserde_read.proofs.Tokens.{start_event}
 use Rattle.miniserde_record.proofs.Due.{due_front}
 use Rattle.miniserde_enum.proofs.reading.read_due_case.Goals as goal
 
@@ -8,4 +8,4 @@ read_case-requires-clause-event g c = start_event _ _ _ c.in_ok-token.ensures.ok
 
 pub returns-clause-invalid : goal.returns-clause-invalid
 returns-clause-invalid g c = λ e t d b r h v.
-    due_front c.args.source.now.rest b c.token.new.self.rest r d (front_of c.in_ok-token.token c.token.new.self.scratch) t c.in_ok-token.ensures.ok h v (λ u. c.read_case.ensures.invalid e t r u)
+    due_front c.args.source.now.rest b c.token.new.self.rest r d (event_of_token c.in_ok-token.token c.token.new.self.scratch) t c.in_ok-token.ensures.ok h v (λ u. c.read_case.ensures.invalid e t r u)

@@ -3,10 +3,10 @@ use Rattle.std.proofs.Common.{◌≡◌, [], Some, None, sym, ap, ◌∙◌}
 use Rattle.std.proofs.lemmas.Result.{err_from_is_err_and, IfOk-weaker}
 use Rattle.miniserde_model.proofs.Events.{events_complete}
 use Rattle.miniserde_model.specs.Tree.{Tree}
-use Rattle.miniserde_model.specs.Event.{events}
+use Rattle.miniserde_model.specs.Step.{events}
 use Rattle.miniserde_model.specs.Position.{complete}
-use Rattle.miniserde_text.specs.Lexer.{front_of}
-use Rattle.miniserde_place.proofs.Leads.{mean_leads}
+use Rattle.miniserde_text.specs.Lexer.{event_of_token}
+use Rattle.miniserde_place.proofs.PositionAdvances.{mean_leads}
 use Rattle.miniserde_read.specs.Rest.{ValueAt}
 use Rattle.miniserde_read.proofs.Same.{value_same}
 use Rattle.miniserde_place.proofs.engine.read_by_place.Goals as goal
@@ -21,20 +21,20 @@ pub returns-clause-ok : goal.returns-clause-ok
 returns-clause-ok g c =
     let f = c.in_ok-place.ensures.fresh in
     let v = g.V.Visitor.meaning in
-    let ev = front_of c.args.token c.args.source.now.scratch in
+    let ev = event_of_token c.args.token c.args.source.now.scratch in
     let s = c.args.source.now.rest in
     let r = c.in_ok-feed_from.ensures.ok in
-    let l = mean_leads v.from_events (v.shows c.in_ok-place.place).at (v.shows c.in_ok-place.place).outcome (v.shows c.feed_from.new.place).at (v.shows c.feed_from.new.place).outcome r.0 f.fresh f.outcome r.2 in
-    IfOk-weaker c.take.result (λ x. ((v.shows c.feed_from.new.place).at ≡ complete) × ((v.shows c.feed_from.new.place).outcome [] ≡ Some (v.content x))) (λ x. (t : Tree) × ValueAt t ev s c.feed_from.new.source.rest × (v.from_tree t ≡ Some (v.content x)))
+    let l = mean_leads v.from_events (v.view c.in_ok-place.place).at (v.view c.in_ok-place.place).outcome (v.view c.feed_from.new.place).at (v.view c.feed_from.new.place).outcome r.0 f.fresh f.outcome r.2 in
+    IfOk-weaker c.take.result (λ x. ((v.view c.feed_from.new.place).at ≡ complete) × ((v.view c.feed_from.new.place).outcome [] ≡ Some (v.content x))) (λ x. (t : Tree) × ValueAt t ev s c.feed_from.new.source.rest × (v.from_tree t ≡ Some (v.content x)))
     (λ x h. (r.0, r.1, sym (v.events_agree r.0) ∙ sym l.1 ∙ h.1)) c.take.ensures.value
 
 pub returns-clause-invalid : goal.returns-clause-invalid
 returns-clause-invalid g c = λ e t x p.
     let f = c.in_ok-place.ensures.fresh in
     let v = g.V.Visitor.meaning in
-    let ev = front_of c.args.token c.args.source.now.scratch in
+    let ev = event_of_token c.args.token c.args.source.now.scratch in
     let s = c.args.source.now.rest in
     let r = c.in_ok-feed_from.ensures.ok in
-    let l = mean_leads v.from_events (v.shows c.in_ok-place.place).at (v.shows c.in_ok-place.place).outcome (v.shows c.feed_from.new.place).at (v.shows c.feed_from.new.place).outcome r.0 f.fresh f.outcome r.2 in
-    let o : (v.shows c.feed_from.new.place).outcome [] ≡ None = c.take.ensures.invalid e c.in_ok-feed_from.ensures.unrefused l.0 in
+    let l = mean_leads v.from_events (v.view c.in_ok-place.place).at (v.view c.in_ok-place.place).outcome (v.view c.feed_from.new.place).at (v.view c.feed_from.new.place).outcome r.0 f.fresh f.outcome r.2 in
+    let o : (v.view c.feed_from.new.place).outcome [] ≡ None = c.take.ensures.invalid e c.in_ok-feed_from.ensures.unrefused l.0 in
     ap v.from_tree (value_same t r.0 ev s x c.feed_from.new.source.rest p r.1).0 ∙ sym (v.events_agree r.0) ∙ sym l.1 ∙ o

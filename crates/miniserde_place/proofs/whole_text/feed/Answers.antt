@@ -5,13 +5,13 @@ use Rattle.miniserde_model.proofs.Unique.{one_tree}
 use Rattle.miniserde_model.specs.Tree.{Tree}
 use Rattle.miniserde_model.specs.Whitespace.{IsWhitespace}
 use Rattle.miniserde_model.specs.Value.{IsJson}
-use Rattle.miniserde_model.specs.Event.{events}
+use Rattle.miniserde_model.specs.Step.{events}
 use Rattle.miniserde_model.specs.Lexing.{Starts}
-use Rattle.miniserde_text.specs.Lexer.{front_of}
-use Rattle.miniserde_read.proofs.Fronts.{start_event}
+use Rattle.miniserde_text.specs.Lexer.{event_of_token}
+use Rattle.miniserde_read.proofs.Tokens.{start_event}
 use Rattle.miniserde_read.proofs.Same.{value_same}
 use Rattle.miniserde_read.proofs.Json.{json_at, json_front, at_json}
-use Rattle.miniserde_place.specs.Place.{LeadsBy, Begun}
+use Rattle.miniserde_place.specs.Place.{PositionAdvancesBy, PositionBeginsTree}
 use Rattle.miniserde_place.proofs.InRange.{value_in_range}
 use Rattle.miniserde_place.proofs.Feeds.{begun_none, begun_whole, if_err}
 use Rattle.miniserde_place.proofs.whole_text.feed.Goals as goal
@@ -33,10 +33,10 @@ returns-in_err-token-clause-invalid g c = λ e t h.
     let a = json_at c.args.j.now t h in
     absurd (c.in_err-token.ensures.invalid (cc (w.1, w.2, e)) c.new-source.ensures.going a.event a.behind (subst (λ z. Starts z a.event a.behind) (sym c.new-source.ensures.rest) a.starts))
 
-pub returns-in_err-token-clause-keeps : goal.returns-in_err-token-clause-keeps
-returns-in_err-token-clause-keeps g c =
-    let v = g.V.Visitor.meaning.shows in
-    if_err c.from_residual.result (λ e. ((v c.args.place.now).refused ≡ Some e) ⊎ (((v c.args.place.now).refused ≡ None) × Begun (v c.args.place.now).at (v c.args.place.now).outcome (v c.args.place.now).at (v c.args.place.now).outcome))
+pub returns-in_err-token-clause-sticky : goal.returns-in_err-token-clause-sticky
+returns-in_err-token-clause-sticky g c =
+    let v = g.V.Visitor.meaning.view in
+    if_err c.from_residual.result (λ e. ((v c.args.place.now).refused ≡ Some e) ⊎ (((v c.args.place.now).refused ≡ None) × PositionBeginsTree (v c.args.place.now).at (v c.args.place.now).outcome (v c.args.place.now).at (v c.args.place.now).outcome))
     (λ e. inr (c.requires.unrefused, begun_none (v c.args.place.now).at (v c.args.place.now).outcome))
 
 -- ---- the value is refused
@@ -47,7 +47,7 @@ feed_from-requires-clause-event g c = start_event _ _ _ c.in_ok-token.ensures.ok
 pub returns-in_err-feed_from-clause-invalid : goal.returns-in_err-feed_from-clause-invalid
 returns-in_err-feed_from-clause-invalid g c = λ e t h.
     let w = err_from_is_err_and c.from_residual-in_err-feed_from.result c.from_residual-in_err-feed_from.ensures.1 in
-    let ev = front_of c.in_ok-token.token c.token.new.self.scratch in
+    let ev = event_of_token c.in_ok-token.token c.token.new.self.scratch in
     let s = c.token.new.self.rest in
     let k : Starts c.args.j.now ev s = subst (λ z. Starts z ev s) c.new-source.ensures.rest c.in_ok-token.ensures.ok in
     let f = json_front c.args.j.now t ev s h k in
@@ -57,17 +57,17 @@ returns-in_err-feed_from-clause-invalid g c = λ e t h.
 
 pub returns-clause-ok : goal.returns-clause-ok
 returns-clause-ok g c =
-    let v = g.V.Visitor.meaning.shows in
-    let ev = front_of c.in_ok-token.token c.token.new.self.scratch in
+    let v = g.V.Visitor.meaning.view in
+    let ev = event_of_token c.in_ok-token.token c.token.new.self.scratch in
     let s = c.token.new.self.rest in
     let k : Starts c.args.j.now ev s = subst (λ z. Starts z ev s) c.new-source.ensures.rest c.in_ok-token.ensures.ok in
     let r = c.in_ok-feed_from.ensures.ok in
-    IfOk-weaker c.end.result (λ _. IsWhitespace c.feed_from.new.source.rest) (λ _. (t : Tree) × IsJson c.args.j.now t × LeadsBy (v c.args.place.now).at (v c.args.place.now).outcome (events t) (v c.feed_from.new.place).at (v c.feed_from.new.place).outcome)
+    IfOk-weaker c.end.result (λ _. IsWhitespace c.feed_from.new.source.rest) (λ _. (t : Tree) × IsJson c.args.j.now t × PositionAdvancesBy (v c.args.place.now).at (v c.args.place.now).outcome (events t) (v c.feed_from.new.place).at (v c.feed_from.new.place).outcome)
     (λ _ w. (r.0, at_json c.args.j.now r.0 ev s c.feed_from.new.source.rest k r.1 w, r.2)) c.end.ensures.ok
 
 pub returns-clause-invalid : goal.returns-clause-invalid
 returns-clause-invalid g c = λ e t h.
-    let ev = front_of c.in_ok-token.token c.token.new.self.scratch in
+    let ev = event_of_token c.in_ok-token.token c.token.new.self.scratch in
     let s = c.token.new.self.rest in
     let k : Starts c.args.j.now ev s = subst (λ z. Starts z ev s) c.new-source.ensures.rest c.in_ok-token.ensures.ok in
     let f = json_front c.args.j.now t ev s h k in
@@ -75,13 +75,13 @@ returns-clause-invalid g c = λ e t h.
     let same = value_same t r.0 ev s f.0 c.feed_from.new.source.rest f.1 r.1 in
     absurd (c.end.ensures.invalid e c.in_ok-feed_from.ensures.going (subst IsWhitespace same.1 f.2))
 
-pub returns-clause-keeps : goal.returns-clause-keeps
-returns-clause-keeps g c =
-    let v = g.V.Visitor.meaning.shows in
-    let ev = front_of c.in_ok-token.token c.token.new.self.scratch in
+pub returns-clause-sticky : goal.returns-clause-sticky
+returns-clause-sticky g c =
+    let v = g.V.Visitor.meaning.view in
+    let ev = event_of_token c.in_ok-token.token c.token.new.self.scratch in
     let s = c.token.new.self.rest in
     let k : Starts c.args.j.now ev s = subst (λ z. Starts z ev s) c.new-source.ensures.rest c.in_ok-token.ensures.ok in
     let r = c.in_ok-feed_from.ensures.ok in
     let i = value_in_range r.0 ev c.args.j.now s c.feed_from.new.source.rest k r.1 in
-    if_err c.end.result (λ e. ((v c.feed_from.new.place).refused ≡ Some e) ⊎ (((v c.feed_from.new.place).refused ≡ None) × Begun (v c.args.place.now).at (v c.args.place.now).outcome (v c.feed_from.new.place).at (v c.feed_from.new.place).outcome))
+    if_err c.end.result (λ e. ((v c.feed_from.new.place).refused ≡ Some e) ⊎ (((v c.feed_from.new.place).refused ≡ None) × PositionBeginsTree (v c.args.place.now).at (v c.args.place.now).outcome (v c.feed_from.new.place).at (v c.feed_from.new.place).outcome))
     (λ e. inr (c.in_ok-feed_from.ensures.unrefused, begun_whole (v c.args.place.now).at (v c.args.place.now).outcome r.0 (v c.feed_from.new.place).at (v c.feed_from.new.place).outcome i r.2))

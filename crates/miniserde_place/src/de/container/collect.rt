@@ -1,12 +1,12 @@
 //! What a container says of itself, so that one place serves them all.
 ghost use Rattle.std.specs.Prelude.{◌≡◌, ◌↔◌, Bool, true, false, IsTrue, Option, Some, None, Ok, Err, List, []};
 ghost use Rattle.std.specs.Prelude.{IfOk, IfErr, MatchOption, is_some};
-ghost use Rattle.miniserde_model.specs.Event.{Event};
+ghost use Rattle.miniserde_model.specs.Step as step;
 ghost use Rattle.miniserde_model.specs.Position.{complete};
-ghost use Rattle.miniserde_read.specs.Step.{event_of};
+ghost use Rattle.miniserde_read.specs.Events.{event_of};
 ghost use Rattle.miniserde_place.specs.Place.{Takes, IsFresh, first_refusal};
-ghost use Rattle.miniserde_read.specs.Step.{IsTreeEvent};
-ghost use Rattle.miniserde_place.specs.Container.{Gathering, BeginsChild, opening_event, is_complete};
+ghost use Rattle.miniserde_read.specs.Events.{IsTreeEvent};
+ghost use Rattle.miniserde_place.specs.Container.{CollectorMeaning, BeginsChild, opening_event, is_complete};
 ghost use Rattle.miniserde_model.specs.declared.error.Error.{Error};
 
 use super::super::Step;
@@ -18,59 +18,59 @@ pub trait Collect: Drop {
     type Out;
 
     // What the container means, and what the place of its current child shows.
-    ghost gathering: { Gathering Self Self.Out };
+    ghost collector_meaning: { CollectorMeaning Self Self.Out };
 
     // `join` returns `Memory` only if the current child was refused with it before.
     ghost join_infallible: { Bool } = { false };
 
     /// No children yet. It takes no memory.
     fn new(alloc: Global) -> Self
-        ensures { gathering.state result ≡ gathering.empty };
+        ensures { collector_meaning.state result ≡ collector_meaning.empty };
 
     /// Whether the event opens such a container.
     fn opens(event: &Step<'_>) -> bool
-        ensures { IsTrue result ↔ (event_of event.now ≡ opening_event gathering.is_object) };
+        ensures { IsTrue result ↔ (event_of event.now ≡ opening_event collector_meaning.is_object) };
 
     /// Begins the child that the event begins.
     fn begin_child(&mut self, alloc: Global, event: Step<'_>) -> Result<()>
         requires { BeginsChild (event_of event) }
         ensures fresh { IfOk result (λ _. IsFresh
-            (gathering.rules.child (gathering.state self.old) (event_of event.entry))
-            (gathering.child self.new)) }
+            (collector_meaning.rules.child (collector_meaning.state self.old) (event_of event.entry))
+            (collector_meaning.child self.new)) }
         ensures invalid { result ≡ Err Error.Invalid
-            → (es : List Event) → gathering.rules.child (gathering.state self.old) (event_of event.entry) es ≡ None }
-        ensures refuses { gathering.refuses (gathering.state self.old) (event_of event.entry) ≡ true
+            → (es : List step.Step) → collector_meaning.rules.child (collector_meaning.state self.old) (event_of event.entry) es ≡ None }
+        ensures refuses { collector_meaning.refuses (collector_meaning.state self.old) (event_of event.entry) ≡ true
             → result ≡ Err Error.Invalid };
 
     /// The current child takes an event.
     fn step(&mut self, event: Step<'_>) -> Result<()>
         requires { IsTreeEvent (event_of event) }
-        ensures { Takes (gathering.child self.old) (event_of event.entry) result (gathering.child self.new) };
+        ensures { Takes (collector_meaning.child self.old) (event_of event.entry) result (collector_meaning.child self.new) };
 
     /// Marks the current child as refused, and answers its first refusal.
     fn refuse(&mut self, error: Error) -> Error
-        ensures answer { result ≡ first_refusal (gathering.child self.old).refused error }
-        ensures marks { (gathering.child self.new).refused ≡ Some result };
+        ensures answer { result ≡ first_refusal (collector_meaning.child self.old).refused error }
+        ensures marks { (collector_meaning.child self.new).refused ≡ Some result };
 
     /// Whether the current child is complete.
     fn is_child_complete(&self) -> bool
-        ensures { result ≡ is_complete (gathering.child self.now).at };
+        ensures { result ≡ is_complete (collector_meaning.child self.now).at };
 
     /// The current child, which is complete, joins the children so far.
     fn join(&mut self) -> Result<()>
-        ensures joined { IfOk result (λ _. (gathering.child self.old).outcome [] ≡ Some (gathering.state self.new)) }
-        ensures invalid { result ≡ Err Error.Invalid → (gathering.child self.old).refused ≡ None
-            → (gathering.child self.old).at ≡ complete → (gathering.child self.old).outcome [] ≡ None }
+        ensures joined { IfOk result (λ _. (collector_meaning.child self.old).outcome [] ≡ Some (collector_meaning.state self.new)) }
+        ensures invalid { result ≡ Err Error.Invalid → (collector_meaning.child self.old).refused ≡ None
+            → (collector_meaning.child self.old).at ≡ complete → (collector_meaning.child self.old).outcome [] ≡ None }
         ensures infallible { join_infallible ≡ true → result ≡ Err Error.Memory
-            → (gathering.child self.old).refused ≡ Some Error.Memory }
-        ensures keeps { (r : Error) → (gathering.child self.old).refused ≡ Some r → result ≡ Err r };
+            → (collector_meaning.child self.old).refused ≡ Some Error.Memory }
+        ensures sticky { (r : Error) → (collector_meaning.child self.old).refused ≡ Some r → result ≡ Err r };
 
     /// Whether the children so far make a whole.
-    fn is_whole(&self) -> bool
-        ensures { result ≡ is_some (gathering.rules.end (gathering.state self.now)) };
+    fn can_end(&self) -> bool
+        ensures { result ≡ is_some (collector_meaning.rules.end (collector_meaning.state self.now)) };
 
     /// The whole, where the children make one.
     fn end(self) -> Option<Self::Out>
-        ensures { MatchOption result (gathering.rules.end (gathering.state self) ≡ None)
-            (λ v. gathering.rules.end (gathering.state self) ≡ Some (gathering.meant.content v)) };
+        ensures { MatchOption result (collector_meaning.rules.end (collector_meaning.state self) ≡ None)
+            (λ v. collector_meaning.rules.end (collector_meaning.state self) ≡ Some (collector_meaning.meant.content v)) };
 }

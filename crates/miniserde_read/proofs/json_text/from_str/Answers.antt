@@ -5,8 +5,8 @@ use Rattle.miniserde_model.proofs.Unique.{one_tree}
 use Rattle.miniserde_model.specs.Tree.{Tree}
 use Rattle.miniserde_model.specs.Whitespace.{IsWhitespace}
 use Rattle.miniserde_model.specs.Lexing.{Starts}
-use Rattle.miniserde_text.specs.Lexer.{front_of, BeginsEscaped}
-use Rattle.miniserde_read.proofs.Fronts.{start_event}
+use Rattle.miniserde_text.specs.Lexer.{event_of_token, BeginsEscaped}
+use Rattle.miniserde_read.proofs.Tokens.{start_event}
 use Rattle.miniserde_read.proofs.Same.{value_same}
 use Rattle.miniserde_read.proofs.Json.{json_at, json_front, at_json}
 use Rattle.miniserde_read.proofs.Lacking.{has_escape}
@@ -53,7 +53,7 @@ read-requires-clause-event g c = start_event _ _ _ c.in_ok-token.ensures.ok
 pub returns-in_err-value-clause-none : goal.returns-in_err-value-clause-none
 returns-in_err-value-clause-none g c = λ e t h.
     let w = err_from_is_err_and c.from_residual-in_err-value.result c.from_residual-in_err-value.ensures.1 in
-    let ev = front_of c.in_ok-token.token c.token.new.self.scratch in
+    let ev = event_of_token c.in_ok-token.token c.token.new.self.scratch in
     let s = c.token.new.self.rest in
     let k : Starts c.args.j.now ev s = subst (λ z. Starts z ev s) c.new-source.ensures.rest c.in_ok-token.ensures.ok in
     let f = json_front c.args.j.now t ev s h k in
@@ -67,7 +67,7 @@ returns-in_err-value-clause-invalid g c = λ e t h. nothing_meant g t (returns-i
 pub returns-in_err-end-clause-none : goal.returns-in_err-end-clause-none
 returns-in_err-end-clause-none g c = λ e t h.
     let w = err_from_is_err_and c.from_residual-in_err-end.result c.from_residual-in_err-end.ensures.1 in
-    let ev = front_of c.in_ok-token.token c.token.new.self.scratch in
+    let ev = event_of_token c.in_ok-token.token c.token.new.self.scratch in
     let s = c.token.new.self.rest in
     let k : Starts c.args.j.now ev s = subst (λ z. Starts z ev s) c.new-source.ensures.rest c.in_ok-token.ensures.ok in
     let f = json_front c.args.j.now t ev s h k in
@@ -82,7 +82,7 @@ returns-in_err-end-clause-invalid g c = λ e t h. nothing_meant g t (returns-in_
 
 pub returns-clause-content : goal.returns-clause-content
 returns-clause-content g c =
-    let ev = front_of c.in_ok-token.token c.token.new.self.scratch in
+    let ev = event_of_token c.in_ok-token.token c.token.new.self.scratch in
     let s = c.token.new.self.rest in
     let k : Starts c.args.j.now ev s = subst (λ z. Starts z ev s) c.new-source.ensures.rest c.in_ok-token.ensures.ok in
     let v = c.in_ok-value.ensures.ok in

@@ -1,9 +1,9 @@
 //! Structs that refuse unknown names.
 ghost use Rattle.std.specs.Prelude.{true, [], ⊤};
-ghost use Rattle.miniserde_record.specs.FieldsMeant.{closed_end};
+ghost use Rattle.miniserde_record.specs.FieldsMeaning.{closed_end};
 
-use crate::record::again::AgainFields;
 use crate::record::lossless::LosslessFields;
+use crate::record::round_trips::RoundTripFields;
 use crate::record::slots::Slots;
 use crate::record::stable::StableFields;
 use miniserde_model::error::{Error, Result};
@@ -41,7 +41,7 @@ impl Slots for Closed {
     }
 }
 
-impl AgainFields for Closed {
+impl RoundTripFields for Closed {
     type Values = ();
 
     ghost meaning = { closed_end };
@@ -50,7 +50,7 @@ impl AgainFields for Closed {
 
     ghost trees = { λ _. [] };
 
-    fn again() {}
+    fn round_trips() {}
 }
 
 impl LosslessFields for Closed {

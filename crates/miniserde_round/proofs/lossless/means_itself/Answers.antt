@@ -7,7 +7,7 @@ returns-clause-means g c =
     let m = g.T.FromJson.means in
     let v = c.args.value.now in
     let t = g.T.Serialize.tree v in
-    let a = c.again.ensures v c.ranged.ensures in
+    let a = c.round_trips.ensures v c.ranged.ensures in
     let same = c.lossless.ensures a.0.0 v a.0.1 c.ranged.ensures (a.1 a.0.0 a.0.1 a.0.2) in
     (m.reads_agrees t v).1 ((m.reads_agrees t a.0.0).0 a.0.2 ∙ ap Some same)
 

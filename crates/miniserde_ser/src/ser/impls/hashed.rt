@@ -31,46 +31,46 @@ fn name_of<K: MapKey>(alloc: Global, key: &K) -> Result<String>
 }
 
 // The names of a map's members beside its values, in the order of the map's walk. No two names are alike.
-fn rows_of<'a, K: MapKey + Hash, V: Serialize, H: BuildHasher>(
+fn entries_of<'a, K: MapKey + Hash, V: Serialize, H: BuildHasher>(
     alloc: Global,
     table: &'a HashMap<K, V, H>,
 ) -> Result<Vec<(String, &'a V)>>
-    ensures ok { IfOk result (λ rows. members_of string_bytes (λ v. V.tree v.now) rows.items
+    ensures ok { IfOk result (λ entries. members_of string_bytes (λ v. V.tree v.now) entries.items
         ≡ members_of K.text V.tree table.entry.now.entries) }
-    ensures distinct { IfOk result (λ rows. IsDistinct bytes_eq (map (λ r. string_bytes r.0) rows.items)) }
+    ensures distinct { IfOk result (λ entries. IsDistinct bytes_eq (map (λ r. string_bytes r.0) entries.items)) }
     ensures memory { OnErr result (IsErrOf result Memory) }
 {
-    let mut rows: Vec<(String, &'a V)> = Vec::new(alloc);
+    let mut entries: Vec<(String, &'a V)> = Vec::new(alloc);
     for (key, value) in table {
         let name = name_of(alloc, key)?;
-        rows.push((name, value))?;
+        entries.push((name, value))?;
     }
-    Ok(rows)
+    Ok(entries)
 }
 
 // Sorts by the bytes of the names.
-fn sort_rows<V>(rows: &mut Vec<(String, &V)>) -> result::Result<(), AllocError>
-    ensures sorted { OnOk result (IsSortedByKey (λ r. string_bytes r.0) text_cmp rows.new.items) }
-    ensures permutation { IsPermutation rows.old.items rows.new.items }
+fn sort_entries<V>(entries: &mut Vec<(String, &V)>) -> result::Result<(), AllocError>
+    ensures sorted { OnOk result (IsSortedByKey (λ r. string_bytes r.0) text_cmp entries.new.items) }
+    ensures permutation { IsPermutation entries.old.items entries.new.items }
 {
-    Ok(rows.sort_by(|a, b| a.0.cmp(&b.0))?)
+    Ok(entries.sort_by(|a, b| a.0.cmp(&b.0))?)
 }
 
 // Writes an object whose members are the rows.
-fn put_rows<V: Serialize>(rows: &[(String, &V)], w: &mut Writer) -> Result<()>
+fn write_entries<V: Serialize>(entries: &[(String, &V)], w: &mut Writer) -> Result<()>
     ensures ok { OnOk result (w.new.text ≡ w.old.text
-        ++ compact (members (members_of string_bytes (λ v. V.tree v.now) rows.entry.now))) }
-    ensures is_tree { OnOk result (IsTree (members (members_of string_bytes (λ v. V.tree v.now) rows.entry.now))) }
+        ++ compact (members (members_of string_bytes (λ v. V.tree v.now) entries.entry.now))) }
+    ensures is_tree { OnOk result (IsTree (members (members_of string_bytes (λ v. V.tree v.now) entries.entry.now))) }
     ensures first { OnOk result (w.new.first ≡ false) }
-    ensures whole { OnOk result (w.new.refused ≡ false) }
+    ensures unrefused { OnOk result (w.new.refused ≡ false) }
     ensures stays { OnOk result (w.old.refused ≡ false) }
     ensures memory { OnErr result (IsErrOf result Memory) }
     ensures err { OnErr result (w.new.refused ≡ true) }
 {
     w.map()?;
-    for row in rows {
-        w.key(row.0.as_str())?;
-        row.1.begin(w)?;
+    for entry in entries {
+        w.key(entry.0.as_str())?;
+        entry.1.begin(w)?;
     }
     w.map_finish()
 }
@@ -79,12 +79,12 @@ impl<K: MapKey + Hash, V: Serialize, H: BuildHasher> Serialize for HashMap<K, V,
     ghost tree = { λ m. members (in_order (members_of K.text V.tree m.entries)) };
 
     fn begin(&self, w: &mut Writer) -> Result<()> {
-        let Ok(mut rows) = rows_of(w.alloc(), self) else {
+        let Ok(mut entries) = entries_of(w.alloc(), self) else {
             return Err(w.refuse());
         };
-        if sort_rows(&mut rows).is_err() {
+        if sort_entries(&mut entries).is_err() {
             return Err(w.refuse());
         }
-        put_rows(rows.as_slice(), w)
+        write_entries(entries.as_slice(), w)
     }
 }

@@ -15,7 +15,7 @@ fn begin_all<T: Serialize>(items: &[T], w: &mut Writer) -> Result<()>
     ensures ok { OnOk result (w.new.text ≡ w.old.text ++ compact (list (trees_of T.tree items.now))) }
     ensures is_tree { OnOk result (IsTree (list (trees_of T.tree items.now))) }
     ensures first { OnOk result (w.new.first ≡ false) }
-    ensures whole { OnOk result (w.new.refused ≡ false) }
+    ensures unrefused { OnOk result (w.new.refused ≡ false) }
     ensures stays { OnOk result (w.old.refused ≡ false) }
     ensures memory { OnErr result (IsErrOf result Memory) }
     ensures err { OnErr result (w.new.refused ≡ true) }

@@ -14,7 +14,7 @@ fn write_item<T: Serialize>(item: &T, before: &str, w: &mut Writer) -> Result<()
     ensures ok { OnOk result (w.new.text ≡ w.old.text ++ before.now ++ compact (T.tree item.now)) }
     ensures is_tree { OnOk result (IsTree (T.tree item.now)) }
     ensures first { OnOk result (w.new.first ≡ false) }
-    ensures whole { OnOk result (w.new.refused ≡ false) }
+    ensures unrefused { OnOk result (w.new.refused ≡ false) }
     ensures stays { OnOk result (w.old.refused ≡ false) }
     ensures memory { OnErr result (IsErrOf result Memory) }
     ensures err { OnErr result (w.new.refused ≡ true) }

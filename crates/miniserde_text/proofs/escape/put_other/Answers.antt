@@ -1,6 +1,6 @@
 -- The pieces that are pushed make the answer, and its length is what the call makes room for.
 use Rattle.std.proofs.Common.{◌≡◌, ◌+◌, ◌<◌, Ok, arith, length, rules, string_capacity, string_len}
-use Rattle.miniserde_model.specs.Compact.{quoted}
+use Rattle.miniserde_model.specs.Compact.{string_text}
 use Rattle.miniserde_text.proofs.Escaping.{between_quotes, length_quoted}
 use Rattle.miniserde_text.proofs.escape.put_other.Goals as goal
 
@@ -17,5 +17,5 @@ pub returns-in_err-make_room : goal.returns-in_err-make_room
 returns-in_err-make_room c =
     let out = c.args.out.now in
     let full = c.in_err-make_room.ensures.room in
-    let lacks : string_capacity out < string_len out + length (quoted c.args.value.now) = omega (arith, full, length_quoted c.args.value.now) in
+    let lacks : string_capacity out < string_len out + length (string_text c.args.value.now) = omega (arith, full, length_quoted c.args.value.now) in
     search (rules, lacks)

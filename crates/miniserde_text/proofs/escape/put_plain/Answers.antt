@@ -1,6 +1,6 @@
 -- As in `put_other`, with a text that is its own escapes.
 use Rattle.std.proofs.Common.{◌≡◌, ◌+◌, ◌<◌, Ok, ap, arith, length, rules, string_capacity, string_len}
-use Rattle.miniserde_model.specs.Compact.{quoted}
+use Rattle.miniserde_model.specs.Compact.{string_text}
 use Rattle.miniserde_text.proofs.Escaping.{between_quotes, length_quoted}
 use Rattle.miniserde_text.proofs.escape.put_plain.Goals as goal
 
@@ -19,5 +19,5 @@ pub returns-in_err-reserve : goal.returns-in_err-reserve
 returns-in_err-reserve c =
     let out = c.args.out.now in
     let full = c.in_err-reserve.ensures.full in
-    let lacks : string_capacity out < string_len out + length (quoted c.args.value.now) = omega (arith, full, length_quoted c.args.value.now, ap length c.requires.plain) in
+    let lacks : string_capacity out < string_len out + length (string_text c.args.value.now) = omega (arith, full, length_quoted c.args.value.now, ap length c.requires.plain) in
     search (rules, lacks)

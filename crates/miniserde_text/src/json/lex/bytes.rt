@@ -81,7 +81,7 @@ pub(super) fn part(bytes: &[u8], from: usize, to: usize) -> &[u8]
 }
 
 /// Returns the text between two indices, which are character boundaries.
-pub(super) fn between<'a>(text: &'a str, from: usize, to: usize) -> &'a str
+pub(super) fn text_between<'a>(text: &'a str, from: usize, to: usize) -> &'a str
     requires order { from ≤ to }
     requires from { IsCharBoundary text.now from }
     requires to { IsCharBoundary text.now to }

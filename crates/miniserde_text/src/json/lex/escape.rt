@@ -1,7 +1,7 @@
 //! Escapes of strings.
 ghost use Rattle.std.specs.Prelude.{◌≡◌, ◌<◌, ◌≤◌, true, drop, length, IfSome};
 ghost use Rattle.std.specs.Char.{digit_value};
-ghost use Rattle.miniserde_text.specs.private.Reading.{found, unit_at, is_high, is_low};
+ghost use Rattle.miniserde_text.specs.private.Reading.{with_suffix, unit_at, is_high, is_low};
 ghost use Rattle.miniserde_text.specs.private.Reading.{begins_escape, pair_of, low_at, unicode_at, short_at};
 ghost use Rattle.miniserde_text.specs.private.Reading.{escape_at, FollowsAscii};
 
@@ -20,7 +20,7 @@ fn hex(c: u8) -> u32
 // Four hexadecimal digits.
 fn unit(bytes: &[u8], at: usize) -> Option<(u32, usize)>
     requires { at ≤ length bytes.now }
-    ensures value { found bytes.now result ≡ unit_at (drop at bytes.now) }
+    ensures value { with_suffix bytes.now result ≡ unit_at (drop at bytes.now) }
     ensures small { IfSome result (λ x. x.0 < 65536) }
     ensures follows { IfSome result (λ x. FollowsAscii bytes.now x.1) }
 {
@@ -69,7 +69,7 @@ fn pair(high: u32, low: u32) -> char
 fn low(high: u32, bytes: &[u8], at: usize) -> Option<(char, usize)>
     requires high { is_high high ≡ true }
     requires within { at ≤ length bytes.now }
-    ensures value { found bytes.now result ≡ low_at high (drop at bytes.now) }
+    ensures value { with_suffix bytes.now result ≡ low_at high (drop at bytes.now) }
     ensures follows { IfSome result (λ x. FollowsAscii bytes.now x.1) }
 {
     if !begins_escape(bytes, at) {
@@ -86,7 +86,7 @@ fn low(high: u32, bytes: &[u8], at: usize) -> Option<(char, usize)>
 #[tactic(auto, unfolding(crate::specs::private::Reading::unicode_at))]
 fn unicode(bytes: &[u8], at: usize) -> Option<(char, usize)>
     requires { at ≤ length bytes.now }
-    ensures value { found bytes.now result ≡ unicode_at (drop at bytes.now) }
+    ensures value { with_suffix bytes.now result ≡ unicode_at (drop at bytes.now) }
     ensures follows { IfSome result (λ x. FollowsAscii bytes.now x.1) }
 {
     let (code, end) = unit(bytes, at)?;
@@ -110,7 +110,7 @@ fn short(letter: u8) -> Option<char>
 /// Takes an escape, behind its backslash, and returns its character.
 #[tactic(auto, unfolding(crate::specs::private::Reading::escape_at))]
 pub(super) fn take_escape(bytes: &[u8], at: usize) -> Option<(char, usize)>
-    ensures value { found bytes.now result ≡ escape_at (drop at bytes.now) }
+    ensures value { with_suffix bytes.now result ≡ escape_at (drop at bytes.now) }
     ensures follows { IfSome result (λ x. FollowsAscii bytes.now x.1) }
 {
     let letter = byte_at(bytes, at);

@@ -4,14 +4,14 @@ ghost use Rattle.std.specs.Prelude.{option_map, nat_lt, slice_index, if◌then�
 ghost use Rattle.std.specs.List.{AllByRecursion, prefix_len};
 ghost use Rattle.std.specs.Str.Parse.{digits_value};
 ghost use Rattle.miniserde_model.specs.Number.{IsDigit};
-ghost use Rattle.miniserde_model.specs.Event.{float};
-ghost use Rattle.miniserde_text.specs.Lexer.{front_of};
-ghost use Rattle.miniserde_text.specs.private.Reading.{after_run, is_digit, after_digits, after_whole};
+ghost use Rattle.miniserde_model.specs.Step.{float};
+ghost use Rattle.miniserde_text.specs.Lexer.{event_of_token};
+ghost use Rattle.miniserde_text.specs.private.Reading.{after_run, is_digit, after_digits, after_int};
 ghost use Rattle.miniserde_text.specs.private.Reading.{after_fraction, after_sign, after_exponent, after_minus};
-ghost use Rattle.miniserde_text.specs.private.Reading.{after_tail, event_of_parts, number_at, left, FollowsAscii};
+ghost use Rattle.miniserde_text.specs.private.Reading.{after_tail, event_of_parts, number_at, suffix_at, FollowsAscii};
 
 use super::Event;
-use super::bytes::{between, byte_at, is_digit, is_exponent_letter, is_sign, part, skip};
+use super::bytes::{byte_at, is_digit, is_exponent_letter, is_sign, part, skip, text_between};
 use super::tables::is_number_byte;
 
 fn after_run_of_digits(bytes: &[u8], at: usize) -> usize
@@ -28,7 +28,7 @@ fn after_run_of_digits(bytes: &[u8], at: usize) -> usize
 
 // One digit or more.
 fn after_digits(bytes: &[u8], at: usize) -> Option<usize>
-    ensures value { left bytes.now result ≡ after_digits (drop at bytes.now) }
+    ensures value { suffix_at bytes.now result ≡ after_digits (drop at bytes.now) }
     ensures follows { IfSome result (λ r. FollowsAscii bytes.now r) }
 {
     if is_digit(byte_at(bytes, at)) {
@@ -52,8 +52,8 @@ fn after_minus(bytes: &[u8], at: usize, first: u8) -> usize
     }
 }
 
-fn after_whole(bytes: &[u8], at: usize) -> Option<usize>
-    ensures value { left bytes.now result ≡ after_whole (drop at bytes.now) }
+fn after_int(bytes: &[u8], at: usize) -> Option<usize>
+    ensures value { suffix_at bytes.now result ≡ after_int (drop at bytes.now) }
     ensures follows { IfSome result (λ r. FollowsAscii bytes.now r) }
 {
     if byte_at(bytes, at) == b'0' {
@@ -65,7 +65,7 @@ fn after_whole(bytes: &[u8], at: usize) -> Option<usize>
 
 fn after_fraction(bytes: &[u8], at: usize) -> Option<usize>
     requires { FollowsAscii bytes.now at }
-    ensures value { left bytes.now result ≡ after_fraction (drop at bytes.now) }
+    ensures value { suffix_at bytes.now result ≡ after_fraction (drop at bytes.now) }
     ensures follows { IfSome result (λ r. FollowsAscii bytes.now r) }
 {
     if byte_at(bytes, at) == b'.' {
@@ -87,7 +87,7 @@ fn after_sign(bytes: &[u8], at: usize) -> usize
 
 fn after_exponent(bytes: &[u8], at: usize) -> Option<usize>
     requires { FollowsAscii bytes.now at }
-    ensures value { left bytes.now result ≡ after_exponent (drop at bytes.now) }
+    ensures value { suffix_at bytes.now result ≡ after_exponent (drop at bytes.now) }
     ensures follows { IfSome result (λ r. FollowsAscii bytes.now r) }
 {
     if is_exponent_letter(byte_at(bytes, at)) {
@@ -100,7 +100,7 @@ fn after_exponent(bytes: &[u8], at: usize) -> Option<usize>
 // A fraction and an exponent, of which each may be missing.
 fn after_tail(bytes: &[u8], at: usize) -> Option<usize>
     requires { FollowsAscii bytes.now at }
-    ensures value { left bytes.now result ≡ after_tail (drop at bytes.now) }
+    ensures value { suffix_at bytes.now result ≡ after_tail (drop at bytes.now) }
     ensures follows { IfSome result (λ r. FollowsAscii bytes.now r) }
 {
     after_exponent(bytes, after_fraction(bytes, at)?)
@@ -137,10 +137,10 @@ fn integer(digits: &[u8]) -> Option<u64>
 
 // The event of an integer that is written with or without a minus, unless it is below -2^63.
 fn integer_event<'a>(minus: bool, n: u64) -> Option<Event<'a>>
-    ensures some { IfSome result (λ event. (text whole : List ℕ) → digits_value 10 whole ≡ n
-        → event_of_parts text minus whole [] ≡ front_of event []) }
-    ensures none { IfNone result ((text whole : List ℕ) → digits_value 10 whole ≡ n
-        → event_of_parts text minus whole [] ≡ float text) }
+    ensures some { IfSome result (λ event. (text int : List ℕ) → digits_value 10 int ≡ n
+        → event_of_parts text minus int [] ≡ event_of_token event []) }
+    ensures none { IfNone result ((text int : List ℕ) → digits_value 10 int ≡ n
+        → event_of_parts text minus int [] ≡ float text) }
 {
     if !minus {
         Some(Event::Nonnegative(n))
@@ -152,12 +152,12 @@ fn integer_event<'a>(minus: bool, n: u64) -> Option<Event<'a>>
 }
 
 // The event of a number by its minus, its whole part and what stands behind that.
-fn event<'a>(text: &'a str, minus: bool, whole: &[u8], tail: &[u8]) -> Event<'a>
-    requires { AllByRecursion IsDigit whole.now }
-    ensures { front_of result [] ≡ event_of_parts text.now minus whole.now tail.now }
+fn event<'a>(text: &'a str, minus: bool, int: &[u8], tail: &[u8]) -> Event<'a>
+    requires { AllByRecursion IsDigit int.now }
+    ensures { event_of_token result [] ≡ event_of_parts text.now minus int.now tail.now }
 {
     if tail.is_empty() {
-        if let Some(n) = integer(whole) {
+        if let Some(n) = integer(int) {
             if let Some(event) = integer_event(minus, n) {
                 return event;
             }
@@ -189,7 +189,7 @@ fn short_number<'a>(bytes: &[u8], at: usize, first: u8) -> Option<(Event<'a>, us
     requires within { at ≤ length bytes.now }
     requires first { first ≡ slice_index (drop at bytes.now) 0 }
     ensures value { IfSome result (λ x.
-        number_at (drop at bytes.now) ≡ Some (front_of x.0 [], drop x.1 bytes.now)) }
+        number_at (drop at bytes.now) ≡ Some (event_of_token x.0 [], drop x.1 bytes.now)) }
     ensures within { IfSome result (λ x. x.1 ≤ length bytes.now) }
 {
     let start = after_minus(bytes, at, first);
@@ -210,20 +210,20 @@ fn short_number<'a>(bytes: &[u8], at: usize, first: u8) -> Option<(Event<'a>, us
 #[tactic(auto, unfolding(crate::specs::private::Reading::number_at))]
 pub(crate) fn take_any_number<'a>(text: &'a str, at: usize) -> Option<(Event<'a>, usize)>
     requires { at ≤ length text.now }
-    ensures value { option_map (λ x. (front_of x.0 [], drop x.1 text.now)) result
+    ensures value { option_map (λ x. (event_of_token x.0 [], drop x.1 text.now)) result
         ≡ number_at (drop at text.now) }
     ensures within { IfSome result (λ x. x.1 ≤ length text.now) }
 {
     let bytes = text.as_bytes();
     let first = byte_at(bytes, at);
     let digits = after_minus(bytes, at, first);
-    let tail = after_whole(bytes, digits)?;
+    let tail = after_int(bytes, digits)?;
     let end = after_tail(bytes, tail)?;
     if is_number_byte(byte_at(bytes, end)) {
         return None;
     }
     let event = event(
-        between(text, at, end),
+        text_between(text, at, end),
         first == b'-',
         part(bytes, digits, tail),
         part(bytes, tail, end),
@@ -235,7 +235,7 @@ pub(crate) fn take_any_number<'a>(text: &'a str, at: usize) -> Option<(Event<'a>
 #[inline(always)]
 fn take_long_number<'a>(text: &'a str, at: usize) -> Option<(Event<'a>, usize)>
     requires { at ≤ length text.now }
-    ensures value { option_map (λ x. (front_of x.0 [], drop x.1 text.now)) result
+    ensures value { option_map (λ x. (event_of_token x.0 [], drop x.1 text.now)) result
         ≡ number_at (drop at text.now) }
     ensures within { IfSome result (λ x. x.1 ≤ length text.now) }
 {
@@ -250,7 +250,7 @@ fn take_long_number<'a>(text: &'a str, at: usize) -> Option<(Event<'a>, usize)>
 pub(super) fn take_number<'a>(text: &'a str, at: usize, first: u8) -> Option<(Event<'a>, usize)>
     requires within { at ≤ length text.now }
     requires first { first ≡ slice_index (drop at text.now) 0 }
-    ensures value { option_map (λ x. (front_of x.0 [], drop x.1 text.now)) result
+    ensures value { option_map (λ x. (event_of_token x.0 [], drop x.1 text.now)) result
         ≡ number_at (drop at text.now) }
     ensures within { IfSome result (λ x. x.1 ≤ length text.now) }
 {

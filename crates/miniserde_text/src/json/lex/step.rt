@@ -1,7 +1,7 @@
 //! What stands between the children of a container.
 ghost use Rattle.std.specs.Prelude.{◌≡◌, ◌<◌, ◌≤◌, drop, length, option_map, slice_index, IfSome};
 ghost use Rattle.miniserde_model.specs.Lexing.{closing};
-ghost use Rattle.miniserde_text.specs.Lexer.{kind_of, closes};
+ghost use Rattle.miniserde_text.specs.Lexer.{is_close};
 ghost use Rattle.miniserde_text.specs.private.Reading.{is_closing, begins, step_at};
 
 use super::bytes::skip;
@@ -14,7 +14,7 @@ fn is_closing(c: u8) -> bool
 }
 
 fn closing(kind: Kind) -> u8
-    ensures value { result ≡ closing (kind_of kind) }
+    ensures value { result ≡ closing kind }
     ensures ascii { (0 < result) × (result < 128) }
 {
     match kind {
@@ -42,8 +42,8 @@ pub(super) fn take_step(
 ) -> Option<(After, usize)>
     requires within { at ≤ length bytes.now }
     requires byte { byte ≡ slice_index (drop at bytes.now) 0 }
-    ensures value { option_map (λ x. (closes x.0, drop x.1 bytes.now)) result
-        ≡ step_at (kind_of kind) first (drop at bytes.now) }
+    ensures value { option_map (λ x. (is_close x.0, drop x.1 bytes.now)) result
+        ≡ step_at kind first (drop at bytes.now) }
     ensures within { IfSome result (λ x. x.1 ≤ length bytes.now) }
 {
     if byte == closing(kind) {

@@ -3,12 +3,12 @@ ghost use Rattle.std.specs.Prelude.{◌≡◌, ◌++◌, ◌∷◌, ◌≤◌, d
 ghost use Rattle.std.specs.Prelude.{slice_index};
 ghost use Rattle.std.specs.Str.{encode_utf8_all, IsCharBoundary};
 ghost use Rattle.std.specs.String.{string_bytes};
-ghost use Rattle.miniserde_text.specs.Lexer.{text_of, KeepsScratch};
+ghost use Rattle.miniserde_text.specs.Lexer.{text_of, LeavesScratch};
 ghost use Rattle.miniserde_text.specs.private.Reading.{after_run, before, is_unescaped, FollowsAscii};
 ghost use Rattle.miniserde_text.specs.private.Inside.{Chars, Adds, TakesText, ReachesBackslash};
 
 use super::Text;
-use super::bytes::{between, byte_at, skip};
+use super::bytes::{byte_at, skip, text_between};
 use super::escape::take_escape;
 use crate::scan::{special, special_in_lanes};
 use miniserde_model::error::{Error, Result};
@@ -61,7 +61,7 @@ fn take_run(text: &str, at: usize, scratch: &mut String) -> Result<usize>
     };
     let next = after_more(text, rest);
     scratch.push(c)?;
-    push_run(scratch, between(text, rest, next))?;
+    push_run(scratch, text_between(text, rest, next))?;
     Ok(next)
 }
 
@@ -85,7 +85,7 @@ fn take_escaped(text: &str, at: usize, scratch: &mut String) -> Result<usize>
     }
 }
 
-// Takes a string from the backslash at `tail` on, where its run at the front is `between(text, at, tail)`.
+// Takes a string from the backslash at `tail` on, where its run at the front is `text_between(text, at, tail)`.
 #[inline(never)]
 fn decode(text: &str, at: usize, tail: usize, scratch: &mut String) -> Result<usize>
     requires follows { FollowsAscii text.now at }
@@ -98,7 +98,7 @@ fn decode(text: &str, at: usize, tail: usize, scratch: &mut String) -> Result<us
     ensures invalid { result ≡ Err Error.Invalid → (cs r : List ℕ) → Chars cs (drop tail text.now) r → ⊥ }
 {
     scratch.clear();
-    scratch.push_str(between(text, at, tail))?;
+    scratch.push_str(text_between(text, at, tail))?;
     take_escaped(text, tail, scratch)
 }
 
@@ -132,14 +132,17 @@ pub(super) fn take_string<'a>(
         × (text_of x.0 (string_bytes scratch.new) ≡ encode_utf8_all cs)) }
     ensures text { IfOk result (λ x. TakesText x.0 (drop at text.now) (drop x.1 text.now)) }
     ensures within { IfOk result (λ x. x.1 ≤ length text.now) }
-    ensures kept { IfOk result (λ x. KeepsScratch x.0 scratch.old scratch.new) }
+    ensures unchanged { IfOk result (λ x. LeavesScratch x.0 scratch.old scratch.new) }
     ensures memory { result ≡ Err Error.Memory → ReachesBackslash (drop at text.now) }
     ensures invalid { result ≡ Err Error.Invalid → (cs r : List ℕ) → Chars cs (drop at text.now) r → ⊥ }
 {
     let tail = after_unescaped(text, at);
     let bytes = text.as_bytes();
     match byte_at(bytes, tail) {
-        b'"' => Ok((Text::Input(between(text, at, tail)), skip(bytes, tail, 1))),
+        b'"' => Ok((
+            Text::Input(text_between(text, at, tail)),
+            skip(bytes, tail, 1),
+        )),
         b'\\' => {
             let end = take_decoded(text, at, tail, scratch)?;
             Ok((Text::Scratch, end))

@@ -10,8 +10,8 @@ use std::marker::{Model, PhantomData};
 #[derive(Drop)]
 pub struct Looks {
     marker: PhantomData<u8>,
-    pub ghost looked: { ℕ },
-    pub ghost gone: { ℕ },
+    pub ghost visited: { ℕ },
+    pub ghost released: { ℕ },
 }
 
 impl Model for Looks {
@@ -21,7 +21,7 @@ impl Model for Looks {
 impl Looks {
     /// Counts that stand at 0.
     pub fn new() -> Looks
-        ensures { (result.looked ≡ 0) × (result.gone ≡ 0) }
+        ensures { (result.visited ≡ 0) × (result.released ≡ 0) }
     {
         Looks {
             marker: PhantomData,
@@ -30,12 +30,12 @@ impl Looks {
 
     // One look.
     pub(crate) fn look(&mut self)
-        ensures { (self.new.looked ≡ self.old.looked + 1) × (self.new.gone ≡ self.old.gone) }
+        ensures { (self.new.visited ≡ self.old.visited + 1) × (self.new.released ≡ self.old.released) }
     {}
 
     // One value dropped.
     fn release(&mut self)
-        ensures { (self.new.looked ≡ self.old.looked) × (self.new.gone ≡ self.old.gone + 1) }
+        ensures { (self.new.visited ≡ self.old.visited) × (self.new.released ≡ self.old.released + 1) }
     {}
 }
 
@@ -44,8 +44,8 @@ impl Looks {
 #[inline(always)]
 pub(crate) fn drop_bare(value: Value, looks: &mut Looks)
     requires { IsBare value }
-    ensures looked { looks.new.looked ≡ looks.old.looked }
-    ensures gone { looks.new.gone ≡ looks.old.gone + 1 }
+    ensures visited { looks.new.visited ≡ looks.old.visited }
+    ensures released { looks.new.released ≡ looks.old.released + 1 }
 {
     looks.release();
     match value {

@@ -1,11 +1,11 @@
 //! The open containers of a walk, and what is left of each.
 ghost use Rattle.std.specs.Prelude.{◌≡◌, ◌∷◌, [], OnOk, MatchOption};
 ghost use Rattle.std.specs.Slice.Iter.{iter_rest};
-ghost use Rattle.miniserde_value.specs.Walks.{meets, items_left, members_left, ItemsOrdered, MembersOrdered};
+ghost use Rattle.miniserde_value.specs.Walks.{visit_of, items_left, members_left, ItemsOrdered, MembersOrdered};
 ghost use Rattle.miniserde_value.specs.Walks.{frames_left, due_left, FramesOrdered, DueOrdered};
 
 use super::super::value::Value;
-use super::Front;
+use super::Visit;
 use std::alloc::{AllocError, Global};
 use std::collections::btree_map;
 use std::{result, slice};
@@ -63,26 +63,26 @@ impl<'a> Frames<'a> {
 
     /// What comes next in the innermost open container: a child, or its end, and then it is no longer open.
     #[inline(always)]
-    pub(crate) fn next(&mut self) -> Option<(Front<'a>, Option<&'a Value>)>
+    pub(crate) fn next(&mut self) -> Option<(Visit<'a>, Option<&'a Value>)>
         ensures left { MatchOption result (frames_left self.old ≡ [])
-            (λ next. frames_left self.old ≡ meets next.0 ∷ due_left next.1 (frames_left self.new)) }
+            (λ next. frames_left self.old ≡ visit_of next.0 ∷ due_left next.1 (frames_left self.new)) }
         ensures ordered { MatchOption result (FramesOrdered self.old)
             (λ next. DueOrdered next.1 → FramesOrdered self.new → FramesOrdered self.old) }
     {
         match self.open.last_mut()? {
             Frame::Array(items) => match items.next() {
-                Some(item) => Some((Front::Element, Some(item))),
+                Some(item) => Some((Visit::Element, Some(item))),
                 None => {
                     self.open.pop();
-                    Some((Front::ArrayEnd, None))
+                    Some((Visit::ArrayEnd, None))
                 }
             },
             Frame::Object => match self.objects.last_mut()?.next() {
-                Some((name, value)) => Some((Front::Name(name.as_str()), Some(value))),
+                Some((name, value)) => Some((Visit::Name(name.as_str()), Some(value))),
                 None => {
                     self.objects.pop();
                     self.open.pop();
-                    Some((Front::ObjectEnd, None))
+                    Some((Visit::ObjectEnd, None))
                 }
             },
         }

@@ -4,7 +4,7 @@ use Rattle.std.specs.Prelude.{unsigned_abs}
 use Rattle.miniserde.specs.Maps.{entry_at}
 use Rattle.std.proofs.lemmas.Result.{IfOk-weaker}
 use Rattle.miniserde.specs.Value.{IsJson}
-use Rattle.settings.specs.Meant.{AreSame}
+use Rattle.settings.specs.Meaning.{AreSame}
 use Rattle.settings.specs.declared.types.Settings.{Settings}
 use Rattle.settings.specs.contracts.parts.HostPlaceVisitor.TheImpl as host
 use Rattle.settings.specs.contracts.parts.TlsPlaceVisitor.TheImpl as tls

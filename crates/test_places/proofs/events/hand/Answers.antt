@@ -6,12 +6,12 @@ use Rattle.test_places.proofs.events.hand.Goals as goal
 one_and_a_half : IsNumberText (49 ∷ 46 ∷ 53 ∷ [])
 one_and_a_half = record {
   minus = [];
-  whole = 49 ∷ [];
+  int = 49 ∷ [];
   fraction = 46 ∷ 53 ∷ [];
   exponent = [];
   text = refl;
   is_minus = inl refl;
-  is_whole = inr ((omega arith, omega arith), tt);
+  is_int = inr ((omega arith, omega arith), tt);
   is_fraction = inr (53 ∷ [], refl, (omega arith, ((omega arith, omega arith), tt)));
   is_exponent = inl refl;
 }

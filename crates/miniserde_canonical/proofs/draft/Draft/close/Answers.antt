@@ -1,6 +1,6 @@
 -- The innermost object's own members are those behind the mark that was kept for it.
 use Rattle.std.proofs.Common.{rules, ◌≡◌, ◌≤◌, ◌<◌, [], length, take, drop, refl, sym, ap, subst, ◌∙◌, inl, inr, arith}
-use Rattle.miniserde_canonical.specs.private.Arranging.{State, whole_text}
+use Rattle.miniserde_canonical.specs.private.Arranging.{State, entries_text}
 use Rattle.miniserde_canonical.specs.private.Drafts.{Holding}
 use Rattle.miniserde_canonical.proofs.Drafting.{behind, too_few, closes, rises_behind, keep_holding, holding_same, holding_sorted, sorted_like}
 use Rattle.miniserde_canonical.proofs.Running.{rewound}
@@ -20,7 +20,7 @@ returns-then-rises c = λ rest s r at.
     let f = c.in-Some.before in
     let w = r.wrote in
     let within : f ≤ length d.members.items = let number : c.len.result ≡ length d.members.items = search rules in omega (arith, number, c.if-len-before.false) in
-    let m : State = record { entries = take f s.entries; last = whole_text (drop f s.entries) s.last; opened = c.pop.new.self.items; first = s.first; distinct = s.distinct } in
+    let m : State = record { entries = take f s.entries; last = entries_text (drop f s.entries) s.last; opened = c.pop.new.self.items; first = s.first; distinct = s.distinct } in
     let rise = rises_behind d r.bytes s f _ (behind d.members.items c.deref.result.now f c.deref.ensures.value) (c.rises.ensures.rises c.if-rises.true) r.holding in
     (m, closes s m c.pop.new.self.items f (sym r.holding.opened ∙ c.in-Some.ensures.items) refl refl (inl (rise, refl, refl)), record { bytes = r.bytes; wrote = record { front = w.front; run = w.run; input = w.input; left = w.left; text = w.text }; holding = holding_same d _ r.bytes s f within refl refl refl c.truncate.ensures.items refl r.holding })
 
@@ -29,7 +29,7 @@ returns c = λ rest s r at.
     let d = c.args.self.now in
     let e = c.flush.new.self in
     let f = c.in-Some.before in
-    let k = c.in_ok-flush.ensures.keeps in
+    let k = c.in_ok-flush.ensures.only_text in
     let w = r.wrote in
     let h = r.holding in
     let q = c.in_ok-flush.ensures.wrote rest r.bytes (record { front = w.front; run = w.run; input = w.input; left = w.left; text = w.text }) at in
@@ -41,4 +41,4 @@ returns c = λ rest s r at.
     let second = behind e.members.items c.deref-2.result.now f c.deref-2.ensures.value in
     let some = subst (λ z. 0 < length z) (first ∙ ap (drop f) (sym k.members) ∙ sym second) (c.rises.ensures.some c.if-rises.false) in
     let o = holding_sorted e _ t f c.in_ok-is_distinct.is_distinct _ within second some c.in_ok-is_distinct.ensures c.truncate-2.ensures.items refl whole in
-    (o.state, closes s o.state c.pop.new.self.items f (sym h.opened ∙ c.in-Some.ensures.items) (o.opened ∙ k.opened) o.entries (inr (sorted_like (drop f s.entries) s t o.state refl refl o.sorted)), record { bytes = c.settle.new.out.bytes.items; wrote = rewound e _ rest [] rest r.bytes _ q.0 refl refl (c.in_ok-flush.ensures.left ∙ at) refl; holding = o.holding })
+    (o.state, closes s o.state c.pop.new.self.items f (sym h.opened ∙ c.in-Some.ensures.items) (o.opened ∙ k.opened) o.entries (inr (sorted_like (drop f s.entries) s t o.state refl refl o.sorted)), record { bytes = c.sort_members.new.out.bytes.items; wrote = rewound e _ rest [] rest r.bytes _ q.0 refl refl (c.in_ok-flush.ensures.left ∙ at) refl; holding = o.holding })

@@ -1,5 +1,5 @@
 use Rattle.std.proofs.Common.{[], ◌∷◌, ◌++◌, refl, ap, ◌∙◌, append_assoc}
-use Rattle.miniserde_model.specs.Compact.{quoted}
+use Rattle.miniserde_model.specs.Compact.{string_text}
 use Rattle.miniserde_text.specs.Lexer.{text_of}
 use Rattle.miniserde_canonical.proofs.Running.{rewound}
 use Rattle.miniserde_canonical.proofs.draft.Draft.spell.Goals as goal
@@ -7,5 +7,5 @@ use Rattle.miniserde_canonical.proofs.draft.Draft.spell.Goals as goal
 pub returns-clause-wrote : goal.returns-clause-wrote
 returns-clause-wrote c = λ rest part rest' bs t e f g p.
     let q = c.in_ok-flush.ensures.wrote rest bs t f in
-    let n = quoted (text_of c.args.text c.args.scratch.now) in
+    let n = string_text (text_of c.args.text c.args.scratch.now) in
     rewound c.flush.new.self _ rest part rest' bs _ q.0 e refl g (c.in_ok-push.ensures.items ∙ ap (λ z. z ++ 58 ∷ []) (c.in_ok-put_string.ensures ∙ ap (λ z. z ++ n) q.1) ∙ append_assoc bs n (58 ∷ []))

@@ -2,11 +2,11 @@
 use Rattle.std.proofs.Common.{◌∷◌, [], subst, sym, ◌∙◌}
 use Rattle.std.proofs.lemmas.Result.{err_from_is_err_and}
 use Rattle.std.specs.String.{string_bytes}
-use Rattle.miniserde_text.specs.Lexer.{front_of}
-use Rattle.miniserde_canonical.specs.private.Arranging.{State, Step}
+use Rattle.miniserde_text.specs.Lexer.{event_of_token}
+use Rattle.miniserde_canonical.specs.private.Arranging.{State, TokenStep}
 use Rattle.miniserde_canonical.specs.private.Drafts.{Represents}
-use Rattle.miniserde_canonical.specs.private.Moving.{front_token}
-use Rattle.miniserde_canonical.specs.private.Plain.{Spelled}
+use Rattle.miniserde_canonical.specs.private.Moving.{first_token}
+use Rattle.miniserde_canonical.specs.private.Plain.{SpellsToken}
 use Rattle.miniserde_canonical.proofs.Steps.{value_forces, start_barred}
 use Rattle.miniserde_canonical.proofs.Wholes.{reads_start}
 use Rattle.miniserde_canonical.proofs.Plains.{spelled, at_once}
@@ -22,7 +22,7 @@ pub returns-clause-reads : goal.returns-clause-reads
 returns-clause-reads c =
     let x = string_bytes c.start.new.scratch in
     let event = c.in_ok-event.event in
-    let e = front_of event x in
+    let e = event_of_token event x in
     let old = c.args.self.now.lexer.rest in
     let mid = c.skip.new.lexer.rest in
     let new = c.start.new.self.rest in
@@ -34,6 +34,6 @@ returns-clause-reads c =
     let s = c.in_ok-event.ensures.ok.2 in
     let full = starts_behind old mid e new b s in
     let p = value_forces _ _ _ e c.in_ok-opened.opened _ full o st in
-    let spells : Spelled event c.as_str.result.now s.0.part = subst (λ z. Spelled event z s.0.part) (sym c.as_str.ensures.value) (spelled event x mid new s c.in_ok-event.ensures.text) in
-    let takes = subst (λ z. (u u' : State) → Represents d1 mid u → Step (front_token (front_of event z)) u u' → Represents c.front.new.self new u') c.as_str.ensures.value (λ u u' r a. c.in_ok-front.ensures mid s.0.part new u u' r (at_once mid new s.0 b.stops) c.in_ok-at.ensures.at c.left-end.ensures spells a) in
-    (front_token e ∷ [], reads_start _ _ _ e _ _ full st p, takes_front e s.0.part old mid new c.in_ok-opened.opened d d1 c.front.new.self s.0.is_part o (skipped d d1 old mid c.in_ok-at.ensures.wrote c.in_ok-at.ensures.keeps) takes)
+    let spells : SpellsToken event c.as_str.result.now s.0.part = subst (λ z. SpellsToken event z s.0.part) (sym c.as_str.ensures.value) (spelled event x mid new s c.in_ok-event.ensures.text) in
+    let takes = subst (λ z. (u u' : State) → Represents d1 mid u → TokenStep (first_token (event_of_token event z)) u u' → Represents c.token.new.self new u') c.as_str.ensures.value (λ u u' r a. c.in_ok-token.ensures mid s.0.part new u u' r (at_once mid new s.0 b.stops) c.in_ok-at.ensures.at c.left-end.ensures spells a) in
+    (first_token e ∷ [], reads_start _ _ _ e _ _ full st p, takes_front e s.0.part old mid new c.in_ok-opened.opened d d1 c.token.new.self s.0.is_part o (skipped d d1 old mid c.in_ok-at.ensures.wrote c.in_ok-at.ensures.only_text) takes)

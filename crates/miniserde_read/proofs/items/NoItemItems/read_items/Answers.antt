@@ -1,8 +1,9 @@
 use Rattle.std.proofs.Common.{subst, refl}
 use Rattle.std.proofs.lemmas.Result.{err_from_is_err_and}
 use Rattle.miniserde_model.specs.Tree.{no_trees}
-use Rattle.miniserde_model.specs.Lexing.{in_list, Follows}
-use Rattle.miniserde_text.specs.Lexer.{closes}
+use Rattle.miniserde_model.specs.Lexing.{Follows}
+use Rattle.miniserde_model.specs.declared.kind.Kind.TheVariants.{Seq}
+use Rattle.miniserde_text.specs.Lexer.{is_close}
 use Rattle.miniserde_read.proofs.Steps.{elements_follow}
 use Rattle.miniserde_read.proofs.Tuples.{one_left}
 use Rattle.miniserde_read.proofs.items.NoItemItems.read_items.Goals as goal
@@ -14,10 +15,10 @@ returns-in_err-after-clause-invalid c = λ e ts r p.
     absurd (c.in_err-after.ensures.invalid (cc (w.1, w.2, e)) c.requires m.0 m.1 m.2)
 
 pub returns-in-Close-clause-ok : goal.returns-in-Close-clause-ok
-returns-in-Close-clause-ok c = (no_trees, subst (λ z. Follows in_list c.args.first (closes z) c.args.source.now.rest c.after.new.self.rest) c.in-Close.is c.in_ok-after.ensures.ok, refl)
+returns-in-Close-clause-ok c = (no_trees, subst (λ z. Follows Seq c.args.first (is_close z) c.args.source.now.rest c.after.new.self.rest) c.in-Close.is c.in_ok-after.ensures.ok, refl)
 
 pub returns-in-Next-clause-invalid : goal.returns-in-Next-clause-invalid
 returns-in-Next-clause-invalid c = λ e ts r p.
     let s = c.args.source.now.rest in
     let b = c.after.new.self.rest in
-    one_left ts c.args.first s b r (subst (λ z. Follows in_list c.args.first (closes z) s b) c.in-Next.is c.in_ok-after.ensures.ok) p
+    one_left ts c.args.first s b r (subst (λ z. Follows Seq c.args.first (is_close z) s b) c.in-Next.is c.in_ok-after.ensures.ok) p

@@ -1,7 +1,7 @@
 -- The values that are left have the name as all of them do.
 use Rattle.std.proofs.Common.{◌≡◌, drop}
-use Rattle.miniserde_record.specs.Names.{named}
+use Rattle.miniserde_record.specs.Names.{find_variant}
 use Rattle.miniserde_record.proofs.record.names.find_among.Given as goal
 
 abbrev pub invariant-loop-value : goal.invariant-loop-value
-invariant-loop-value g l = named g.T.UnitEnum.name_of (drop l.value-index l.fn.values) l.fn.name ≡ named g.T.UnitEnum.name_of l.fn.values l.fn.name
+invariant-loop-value g l = find_variant g.T.UnitEnum.name_of (drop l.value-index l.fn.values) l.fn.name ≡ find_variant g.T.UnitEnum.name_of l.fn.values l.fn.name

@@ -1,5 +1,4 @@
 use Rattle.std.proofs.Common.{◌≡◌, ◌+◌, ◌/◌, ◌<◌, length, rules, refl, ap, ◌∙◌}
-use Rattle.miniserde_text.specs.Lexer.{kind_of}
 use Rattle.miniserde_text.specs.private.Stack.{stack_of}
 use Rattle.miniserde_text.proofs.Stacks.{stack_opened, stack_grown}
 use Rattle.miniserde_text.proofs.stack.Stack.push.Goals as goal
@@ -13,4 +12,4 @@ returns-after-place-len-clause-ok c =
       | then-place-len+in_ok-push w ↦ rw (w.self-inside-is) (ap (λ z. stack_of z c.self.inside.levels) w.in_ok-push.ensures.items ∙ stack_grown c.self.inside.bits.items c.self.inside.levels)
       | else-place-len w ↦ rw (w.self-inside-is) refl
     ] in
-    rw (c.in-Some.is) (stack_opened c.if-place-len.self-inside.1.0.items c.self.inside.levels c.in_ok-levels.levels c.index.result.now c.with_kind.result (kind_of c.in-Some.kind) c.args.self.now next within c.index.ensures c.with_kind.ensures.here c.with_kind.ensures.others (stays ∙ c.self.view_is))
+    rw (c.in-Some.is) (stack_opened c.if-place-len.self-inside.1.0.items c.self.inside.levels c.in_ok-levels.levels c.index.result.now c.with_kind.result c.in-Some.kind c.args.self.now next within c.index.ensures c.with_kind.ensures.here c.with_kind.ensures.others (stays ∙ c.self.view_is))

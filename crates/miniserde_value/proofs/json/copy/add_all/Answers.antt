@@ -1,7 +1,7 @@
 use Rattle.std.proofs.Common.{◌≡◌, [], ◌∷◌, refl, sym, ap, ◌∙◌, arith, rules}
 use Rattle.miniserde_value.specs.Builders.{hole_in}
-use Rattle.miniserde_value.specs.Fronts.{built}
-use Rattle.miniserde_value.specs.Walks.{meets, left}
+use Rattle.miniserde_value.specs.Visits.{hole_after}
+use Rattle.miniserde_value.specs.Walks.{visit_of, left}
 use Rattle.miniserde_value.proofs.Copies.{built_first}
 use Rattle.miniserde_value.proofs.json.copy.add_all.Goals as goal
 
@@ -10,24 +10,24 @@ loop-walk-init c = record { same = refl; ordered = λ h. h }
 
 pub loop-walk-smaller : goal.loop-walk-smaller
 loop-walk-smaller c =
-    let e : left c.loop-walk.walk ≡ meets c.in-Some.front ∷ left c.next.new.self = rw c.in-Some.is at (c.in_ok-front.ensures).left in
+    let e : left c.loop-walk.walk ≡ visit_of c.in-Some.visit ∷ left c.next.new.self = rw c.in-Some.is at (c.in_ok-visit.ensures).left in
     rw e (omega arith)
 
 pub loop-walk-preserved : goal.loop-walk-preserved
 loop-walk-preserved c =
-    let e : left c.loop-walk.walk ≡ meets c.in-Some.front ∷ left c.next.new.self = rw c.in-Some.is at (c.in_ok-front.ensures).left in
+    let e : left c.loop-walk.walk ≡ visit_of c.in-Some.visit ∷ left c.next.new.self = rw c.in-Some.is at (c.in_ok-visit.ensures).left in
     record {
-      same = ap (λ h. built h (left c.next.new.self)) (c.in_ok-add.ensures).built
-          ∙ sym (built_first (hole_in c.loop-walk.builder) (meets c.in-Some.front) (left c.next.new.self))
-          ∙ ap (built (hole_in c.loop-walk.builder)) (sym e)
+      same = ap (λ h. hole_after h (left c.next.new.self)) (c.in_ok-add.ensures).built
+          ∙ sym (built_first (hole_in c.loop-walk.builder) (visit_of c.in-Some.visit) (left c.next.new.self))
+          ∙ ap (hole_after (hole_in c.loop-walk.builder)) (sym e)
           ∙ c.loop-walk.invariant.same;
-      ordered = λ h. c.loop-walk.invariant.ordered ((rw c.in-Some.is at (c.in_ok-front.ensures).ordered) h);
+      ordered = λ h. c.loop-walk.invariant.ordered ((rw c.in-Some.is at (c.in_ok-visit.ensures).ordered) h);
     }
 
 pub returns-clause-built : goal.returns-clause-built
 returns-clause-built c =
     let e : left c.loop-walk.walk ≡ [] = search rules in
-    ap (built (hole_in c.loop-walk.builder)) (sym e) ∙ c.loop-walk.invariant.same
+    ap (hole_after (hole_in c.loop-walk.builder)) (sym e) ∙ c.loop-walk.invariant.same
 
 pub returns-clause-ordered : goal.returns-clause-ordered
 returns-clause-ordered c = c.loop-walk.invariant.ordered (search rules)

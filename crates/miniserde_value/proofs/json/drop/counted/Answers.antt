@@ -3,32 +3,32 @@ use Rattle.miniserde_value.proofs.Costs.{between}
 use Rattle.miniserde_value.proofs.Turns.{bare_size, taken_size, taken_looks, parked_size, turn_next, turn_over, turn_park, turn_last, false_true}
 use Rattle.miniserde_value.proofs.json.drop.counted.Goals as goal
 
-pub returns-in-None-clause-gone : goal.returns-in-None-clause-gone
-returns-in-None-clause-gone c = omega (arith, bare_size _ c.in-None.ensures.taken.0, c.in-None.ensures.looked)
+pub returns-in-None-clause-released : goal.returns-in-None-clause-released
+returns-in-None-clause-released c = omega (arith, bare_size _ c.in-None.ensures.taken.0, c.in-None.ensures.visited)
 
 pub returns-in-None-clause-at_least : goal.returns-in-None-clause-at_least
-returns-in-None-clause-at_least c = omega (arith, bare_size _ c.in-None.ensures.taken.0, c.in-None.ensures.looked)
+returns-in-None-clause-at_least c = omega (arith, bare_size _ c.in-None.ensures.taken.0, c.in-None.ensures.visited)
 
 pub returns-in-None-clause-at_most : goal.returns-in-None-clause-at_most
-returns-in-None-clause-at_most c = omega (arith, bare_size _ c.in-None.ensures.taken.0, c.in-None.ensures.looked)
+returns-in-None-clause-at_most c = omega (arith, bare_size _ c.in-None.ensures.taken.0, c.in-None.ensures.visited)
 
 pub loop-hand-init : goal.loop-hand-init
 loop-hand-init c =
     let s = taken_size _ _ _ c.in-Some.ensures.taken in
     let l = taken_looks _ _ _ c.in-Some.ensures.taken in
-    record { gone = omega (arith, s, c.in-Some.ensures.gone); looked = omega (arith, l, c.in-Some.ensures.looked) }
+    record { released = omega (arith, s, c.in-Some.ensures.released); visited = omega (arith, l, c.in-Some.ensures.visited) }
 
-pub returns-in-None-take_last-clause-gone : goal.returns-in-None-take_last-clause-gone
-returns-in-None-take_last-clause-gone c =
+pub returns-in-None-take_last-clause-released : goal.returns-in-None-take_last-clause-released
+returns-in-None-take_last-clause-released c =
     omega (arith, bare_size _ c.in-None-take_last.ensures.taken.0, bare_size _ (c.if-is_bare.ensures.0 refl))
 
 pub returns-in-None-take_last-clause-at_least : goal.returns-in-None-take_last-clause-at_least
 returns-in-None-take_last-clause-at_least c =
-    omega (arith, (between c.args.value).0, turn_last _ _ c.in-None-take_last.ensures.taken.0 (c.if-is_bare.ensures.0 refl), c.in-None-take_last.ensures.looked)
+    omega (arith, (between c.args.value).0, turn_last _ _ c.in-None-take_last.ensures.taken.0 (c.if-is_bare.ensures.0 refl), c.in-None-take_last.ensures.visited)
 
 pub returns-in-None-take_last-clause-at_most : goal.returns-in-None-take_last-clause-at_most
 returns-in-None-take_last-clause-at_most c =
-    omega (arith, (between c.args.value).2, (between c.args.value).3, turn_last _ _ c.in-None-take_last.ensures.taken.0 (c.if-is_bare.ensures.0 refl), c.in-None-take_last.ensures.looked)
+    omega (arith, (between c.args.value).2, (between c.args.value).3, turn_last _ _ c.in-None-take_last.ensures.taken.0 (c.if-is_bare.ensures.0 refl), c.in-None-take_last.ensures.visited)
 
 pub loop-hand-smaller-in-Some-take_last : goal.loop-hand-smaller-in-Some-take_last
 loop-hand-smaller-in-Some-take_last c = omega (arith, turn_next _ _ _ _ (c.if-is_bare.ensures.0 refl) c.in-Some-take_last.ensures.taken)
@@ -37,8 +37,8 @@ pub loop-hand-preserved-in-Some-take_last : goal.loop-hand-preserved-in-Some-tak
 loop-hand-preserved-in-Some-take_last c =
     let e = c.in-Some-take_last.ensures in
     record {
-      gone = omega (arith, e.gone, taken_size _ _ _ e.taken, bare_size _ (c.if-is_bare.ensures.0 refl));
-      looked = omega (arith, e.looked, turn_next _ _ _ _ (c.if-is_bare.ensures.0 refl) e.taken);
+      released = omega (arith, e.released, taken_size _ _ _ e.taken, bare_size _ (c.if-is_bare.ensures.0 refl));
+      visited = omega (arith, e.visited, turn_next _ _ _ _ (c.if-is_bare.ensures.0 refl) e.taken);
     }
 
 pub loop-hand-smaller-in-Some-take_last-2 : goal.loop-hand-smaller-in-Some-take_last-2
@@ -48,17 +48,17 @@ pub loop-hand-preserved-in-Some-take_last-2 : goal.loop-hand-preserved-in-Some-t
 loop-hand-preserved-in-Some-take_last-2 c =
     let e = c.in-Some-take_last-2.ensures in
     record {
-      gone = omega (arith, e.gone, taken_size _ _ _ e.taken, bare_size _ (c.if-is_bare-2.ensures.0 refl));
-      looked = omega (arith, e.looked, turn_over _ _ _ _ (c.if-is_bare-2.ensures.0 refl) e.taken);
+      released = omega (arith, e.released, taken_size _ _ _ e.taken, bare_size _ (c.if-is_bare-2.ensures.0 refl));
+      visited = omega (arith, e.visited, turn_over _ _ _ _ (c.if-is_bare-2.ensures.0 refl) e.taken);
     }
 
 pub loop-hand-smaller : goal.loop-hand-smaller
-loop-hand-smaller c = omega (arith, turn_park _ _ _ _ (λ b. false_true (c.if-is_bare-2.ensures.1 b)) c.park-first.ensures.parked)
+loop-hand-smaller c = omega (arith, turn_park _ _ _ _ (λ b. false_true (c.if-is_bare-2.ensures.1 b)) c.replace_first-first.ensures.parked)
 
 pub loop-hand-preserved : goal.loop-hand-preserved
 loop-hand-preserved c =
-    let e = c.park-first.ensures in
+    let e = c.replace_first-first.ensures in
     record {
-      gone = omega (arith, e.gone, parked_size _ _ _ _ e.parked);
-      looked = omega (arith, e.looked, turn_park _ _ _ _ (λ b. false_true (c.if-is_bare-2.ensures.1 b)) e.parked);
+      released = omega (arith, e.released, parked_size _ _ _ _ e.parked);
+      visited = omega (arith, e.visited, turn_park _ _ _ _ (λ b. false_true (c.if-is_bare-2.ensures.1 b)) e.parked);
     }

@@ -1,6 +1,6 @@
 use Rattle.std.proofs.Common.{◌≡◌, None, is_some, length}
-use Rattle.miniserde_text.specs.Lexer.{front_of}
-use Rattle.miniserde_text.specs.private.Moving.{between, opens}
+use Rattle.miniserde_text.specs.Lexer.{event_of_token}
+use Rattle.miniserde_text.specs.private.Moving.{before_child, opened_kind}
 use Rattle.miniserde_value.specs.Builders.{hole_in}
 use Rattle.miniserde_value.specs.private.Builds.{Builds}
 use Rattle.miniserde_value.proofs.json.reader.read_value.Given as goal
@@ -8,7 +8,7 @@ use Rattle.miniserde_value.proofs.json.reader.read_value.Given as goal
 abbrev pub invariant-loop-kind : goal.invariant-loop-kind
 invariant-loop-kind l = record {
   going : l.source.refused ≡ None;
-  builds : Builds l.fn.once (between (is_some (opens (front_of l.fn.token l.fn.source.scratch)))) (hole_in l.initial.builder) l.fn.source.rest (between l.first) (hole_in l.builder) l.source.rest;
+  builds : Builds l.fn.once (before_child (is_some (opened_kind (event_of_token l.fn.token l.fn.source.scratch)))) (hole_in l.initial.builder) l.fn.source.rest (before_child l.first) (hole_in l.builder) l.source.rest;
 }
 
 abbrev pub decreases-loop-kind : goal.decreases-loop-kind

@@ -1,7 +1,7 @@
 use Rattle.std.proofs.Common.{ap, ◌∙◌}
 use Rattle.miniserde_model.specs.Normal.{norm}
 use Rattle.miniserde_model.specs.Size.{size}
-use Rattle.miniserde_value.proofs.Kepts.{norm_kept}
+use Rattle.miniserde_value.proofs.RetainedTrees.{norm_kept}
 use Rattle.miniserde_value.proofs.Sizes.{kept_size}
 use Rattle.miniserde_value.proofs.json.value.read_is_normal.Goals as goal
 

@@ -7,14 +7,14 @@ use Rattle.miniserde_model.specs.Value.{IsJson}
 use Rattle.miniserde_model.specs.Compact.{compact}
 use Rattle.miniserde_model.specs.Normal.{norm}
 use Rattle.miniserde_model.proofs.Unique.{one_tree}
-use Rattle.miniserde_value.specs.Kept.{kept}
+use Rattle.miniserde_value.specs.Retained.{retained_tree}
 use Rattle.miniserde_value.specs.Values.{tree_of}
 use Rattle.miniserde_value.proofs.json.value.rewritten.Goals as goal
 
 pub returns-in_err-document-clause-invalid : goal.returns-in_err-document-clause-invalid
 returns-in_err-document-clause-invalid c = λ e t p.
     let w = err_from_is_err_and c.from_residual.result c.from_residual.ensures.1 in
-    let n : Some (kept t) ≡ None = c.in_err-document.ensures.none (cc (w.1, w.2, e)) t p in
+    let n : Some (retained_tree t) ≡ None = c.in_err-document.ensures.none (cc (w.1, w.2, e)) t p in
     absurd (cc)
 
 pub returns-clause-text : goal.returns-clause-text

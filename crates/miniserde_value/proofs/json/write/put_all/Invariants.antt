@@ -3,11 +3,11 @@ use Rattle.miniserde_value.specs.Walks.{frames_left, FramesOrdered}
 use Rattle.miniserde_value.specs.Writes.{Writes}
 use Rattle.miniserde_value.proofs.json.write.put_all.Given as goal
 
-abbrev pub invariant-loop-front : goal.invariant-loop-front
-invariant-loop-front l = record {
+abbrev pub invariant-loop-visit : goal.invariant-loop-visit
+invariant-loop-visit l = record {
   writes : Writes l.fn.w (frames_left l.fn.frames) l.w (frames_left l.frames);
   ordered : FramesOrdered l.frames → FramesOrdered l.fn.frames;
 }
 
-abbrev pub decreases-loop-front : goal.decreases-loop-front
-decreases-loop-front l = length (frames_left l.frames)
+abbrev pub decreases-loop-visit : goal.decreases-loop-visit
+decreases-loop-visit l = length (frames_left l.frames)

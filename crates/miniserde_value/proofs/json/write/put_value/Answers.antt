@@ -3,7 +3,7 @@ use Rattle.std.proofs.lemmas.Result.{on_ok_weaker}
 use Rattle.miniserde_model.specs.Tree.{str}
 use Rattle.miniserde_model.specs.IsTree.{IsTree}
 use Rattle.miniserde_value.specs.Values.{shape, array_shape, object_shape}
-use Rattle.miniserde_value.specs.Fronts.{leaf}
+use Rattle.miniserde_value.specs.Visits.{leaf}
 use Rattle.miniserde_value.specs.Walks.{frames_left}
 use Rattle.miniserde_value.proofs.Walks.{begin_null, begin_bool, begin_number, begin_string, ordered_null, ordered_bool, ordered_number, ordered_string}
 use Rattle.miniserde_value.proofs.Shapes.{shape_array, shape_object}

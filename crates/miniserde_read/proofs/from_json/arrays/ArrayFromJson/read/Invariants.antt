@@ -1,5 +1,5 @@
 use Rattle.std.proofs.Common.{◌≡◌, ◌≤◌, None, [], length, map}
-use Rattle.miniserde_read.specs.Children.{added}
+use Rattle.miniserde_read.specs.Children.{with_last}
 use Rattle.miniserde_read.proofs.Lists.{ListGoes}
 use Rattle.miniserde_read.proofs.Lacking.{AmongGoes}
 use Rattle.miniserde_read.proofs.from_json.arrays.ArrayFromJson.read.Given as goal
@@ -7,7 +7,7 @@ use Rattle.miniserde_read.proofs.from_json.arrays.ArrayFromJson.read.Given as go
 abbrev pub invariant-loop-items : goal.invariant-loop-items
 invariant-loop-items g l = record {
   going : l.source.refused ≡ None;
-  goes : ListGoes (added g.T.FromJson.means.from_tree) [] l.fn.source.rest l.first l.source.rest (map g.T.FromJson.means.content l.items.items);
+  goes : ListGoes (with_last g.T.FromJson.means.from_tree) [] l.fn.source.rest l.first l.source.rest (map g.T.FromJson.means.content l.items.items);
   few : length l.items.items ≤ g.row.N;
   among : AmongGoes g.row.N l.fn.source.rest l.first l.source.rest (length l.items.items);
 }

@@ -15,6 +15,6 @@ loop-x-preserved g c =
       are_trees = AreTrees_step f xs i x (omega arith) c.x-item.is inv.are_trees c.in_ok-begin.ensures.is_tree;
       start = λ e. absurd (omega arith);
       later = λ _. c.in_ok-begin.ensures.first (ap (λ s. s.first) e);
-      whole = c.in_ok-begin.ensures.whole;
+      unrefused = c.in_ok-begin.ensures.unrefused;
       stays = inv.stays;
     }

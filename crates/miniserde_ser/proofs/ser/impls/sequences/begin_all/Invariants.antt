@@ -10,6 +10,6 @@ invariant-loop-x g l = record {
   are_trees : AreTrees (trees_of g.T.Serialize.tree (take l.x-index l.items));
   start : l.x-index ≡ 0 → l.w.first ≡ true;
   later : 0 < l.x-index → l.w.first ≡ false;
-  whole : l.w.refused ≡ false;
+  unrefused : l.w.refused ≡ false;
   stays : l.fn.w.refused ≡ false;
 }

@@ -7,7 +7,7 @@ use Rattle.miniserde_model.specs.declared.error.Error.TheVariants.{Invalid, Memo
 use Rattle.miniserde_text.specs.Lexer.{StandsFor}
 use Rattle.miniserde_text.specs.private.Reading.{after_run}
 use Rattle.miniserde_text.proofs.Runs.{stands_of}
-use Rattle.miniserde_text.proofs.Fronts.{backslash_behind}
+use Rattle.miniserde_text.proofs.Tokens.{backslash_behind}
 use Rattle.miniserde_text.proofs.Names.{names_of, names_only}
 use Rattle.miniserde_text.proofs.json.lex.Lexer.name.Goals as goal
 

@@ -2,7 +2,7 @@ use Rattle.std.proofs.Common.{◌≡◌, Err, drop, ap, arith}
 use Rattle.miniserde_model.specs.Bytes.{is_space}
 use Rattle.miniserde_model.specs.declared.error.Error.TheVariants.{Invalid, Memory}
 use Rattle.miniserde_text.specs.private.Reading.{after_run}
-use Rattle.miniserde_text.proofs.Fronts.{start_takes, start_only, text_behind, backslash_behind}
+use Rattle.miniserde_text.proofs.Tokens.{start_takes, start_only, text_behind, backslash_behind}
 use Rattle.miniserde_text.proofs.json.lex.Lexer.start.Goals as goal
 
 pub returns-in-Ok-clause-ok : goal.returns-in-Ok-clause-ok

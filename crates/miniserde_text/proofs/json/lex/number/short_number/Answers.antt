@@ -6,7 +6,7 @@ use Rattle.std.proofs.lemmas.Bool.Decides.{nat_tests}
 use Rattle.std.proofs.lemmas.List.{take_rest, drop-drop, get_or-drop}
 use Rattle.miniserde_model.specs.Bytes.{is_number_byte}
 use Rattle.miniserde_text.specs.private.Reading.{is_digit, event_of_parts}
-use Rattle.miniserde_text.specs.Lexer.{front_of}
+use Rattle.miniserde_text.specs.Lexer.{event_of_token}
 use Rattle.miniserde_text.proofs.Numbers.{short_read}
 use Rattle.miniserde_text.proofs.json.lex.number.short_number.Goals as goal
 
@@ -24,8 +24,8 @@ returns-clause-value c =
     let stop : is_number_byte (slice_index (drop n t) 0) ≡ false = grind arith in
     let here : n + 0 ≡ n = omega arith in
     let ends : is_number_byte (slice_index t n) ≡ false = sym (ap is_number_byte (get_or-drop n t 0 0 ∙ ap (slice_index t) here)) ∙ stop in
-    let e = front_of c.in_ok-event.event [] in
-    let event = subst (λ x. (text whole : List ℕ) → digits_value 10 whole ≡ v → event_of_parts text (x == 45) whole [] ≡ e) c.requires.first c.in_ok-event.ensures.some in
+    let e = event_of_token c.in_ok-event.event [] in
+    let event = subst (λ x. (text int : List ℕ) → digits_value 10 int ≡ v → event_of_parts text (x == 45) int [] ≡ e) c.requires.first c.in_ok-event.ensures.some in
     let read = short_read s t n v e (rest ∙ c.after_minus-start.ensures.value) (omega arith) digits away ends (c.leading_digits-count.ensures.value (omega arith)) event in
     let behind : drop n t ≡ drop (d + n) b = ap (drop n) rest ∙ drop-drop n d b in
     rw (← behind) read

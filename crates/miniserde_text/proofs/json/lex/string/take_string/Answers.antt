@@ -14,8 +14,8 @@ use Rattle.miniserde_text.proofs.json.lex.string.take_string.Goals as goal
 pub take_decoded-requires-clause-stops : goal.take_decoded-requires-clause-stops
 take_decoded-requires-clause-stops c = run_special (drop c.args.at c.args.text.now) (drop c.after_unescaped-tail.result c.args.text.now) c.after_unescaped-tail.ensures.value
 
-pub between-requires-clause-from : goal.between-requires-clause-from
-between-requires-clause-from c = follows_boundary c.args.text.now c.args.at c.utf8.text c.requires
+pub text_between-requires-clause-from : goal.text_between-requires-clause-from
+text_between-requires-clause-from c = follows_boundary c.args.text.now c.args.at c.utf8.text c.requires
 
 module _ (text : List ℕ) (at tail : ℕ) (utf8 : IsUtf8 text) (follows : FollowsAscii text at) (value : drop tail text ≡ after_run is_unescaped (drop at text)) (boundary : IsCharBoundary text tail) where
   run : (ds : List ℕ) × Passes ds (drop at text) (drop tail text) × (before (drop at text) (drop tail text) ≡ encode_utf8_all ds)
@@ -30,7 +30,7 @@ returns-in-34-clause-ok c =
     let p = run text c.args.at tail.result c.utf8.text c.requires tail.ensures.value tail.ensures.boundary in
     let at : slice_index t 0 ≡ 34 = grind arith in
     let next : drop c.skip.result text ≡ drop 1 t = grind arith in
-    (p.0, subst (λ x. Chars p.0 s x) (sym next) (quote_ends p.0 s t p.1 at), c.between.ensures ∙ p.2)
+    (p.0, subst (λ x. Chars p.0 s x) (sym next) (quote_ends p.0 s t p.1 at), c.text_between.ensures ∙ p.2)
 
 pub returns-in_ok-end-in-92-clause-ok : goal.returns-in_ok-end-in-92-clause-ok
 returns-in_ok-end-in-92-clause-ok c =
@@ -64,7 +64,7 @@ returns-in-34-clause-text c =
     let t = drop c.after_unescaped-tail.result text in
     let at : slice_index t 0 ≡ 34 = grind arith in
     let next : drop c.skip.result text ≡ drop 1 t = grind arith in
-    let q = run_inside (drop c.args.at text) t c.between.result.now (drop c.skip.result text) c.after_unescaped-tail.ensures.value at c.between.ensures next in
+    let q = run_inside (drop c.args.at text) t c.text_between.result.now (drop c.skip.result text) c.after_unescaped-tail.ensures.value at c.text_between.ensures next in
     (q.0, q.1, (q.2, q.3))
 
 pub returns-in_ok-end-in-92-clause-text : goal.returns-in_ok-end-in-92-clause-text

@@ -1,10 +1,10 @@
 use Rattle.std.proofs.Common.{◌≡◌, Some, None, [], drop, ap, sym, ◌∙◌, arith}
-use Rattle.miniserde_model.specs.Event.{float}
-use Rattle.miniserde_text.specs.Lexer.{front_of}
+use Rattle.miniserde_model.specs.Step.{float}
+use Rattle.miniserde_text.specs.Lexer.{event_of_token}
 use Rattle.miniserde_text.specs.private.Reading.{number_at}
 use Rattle.std.proofs.lemmas.Option.{same_Some}
 use Rattle.miniserde_text.proofs.Options.{none_is_some}
-use Rattle.miniserde_text.proofs.Kept.{kept_read, kept_where, no_kept, number_of_float}
+use Rattle.miniserde_text.proofs.Scratch.{kept_read, kept_where, no_kept, number_of_float}
 use Rattle.miniserde_text.proofs.json.number.NumberText.is_text.Goals as goal
 
 pub returns-in_default : goal.returns-in_default
@@ -19,5 +19,5 @@ returns-in-Number c =
 
 pub returns-in_default-event : goal.returns-in_default-event
 returns-in_default-event c =
-    let read : number_at c.args.t.now ≡ Some (front_of c.in-Some.event [], drop c.in-Some.end c.args.t.now) = grind arith in
+    let read : number_at c.args.t.now ≡ Some (event_of_token c.in-Some.event [], drop c.in-Some.end c.args.t.now) = grind arith in
     no_kept _ (λ n. let y = number_of_float c.in-Some.event _ (ap (λ q. q.0) (same_Some _ _ (sym read ∙ kept_read _ n))) in c.in_default-event.not-Number y.0 y.1)

@@ -3,7 +3,7 @@ use Rattle.std.proofs.Common.{Some, sym, ap, ◌∙◌}
 use Rattle.std.proofs.lemmas.Option.{same_Some}
 use Rattle.miniserde_model.specs.Normal.{norm}
 use Rattle.miniserde_model.specs.Tree.{Tree}
-use Rattle.miniserde_value.proofs.Kepts.{norm_kept}
+use Rattle.miniserde_value.proofs.RetainedTrees.{norm_kept}
 use Rattle.miniserde_value.proofs.json.document.DocumentFromJson.read.Goals as goal
 
 pub returns-clause-ok : goal.returns-clause-ok

@@ -1,9 +1,9 @@
 -- The first token says whether the tree is a list, and the text has one tree.
 use Rattle.std.proofs.Common.{Some, option_map, sym, ap, ◌∙◌}
 use Rattle.miniserde_model.specs.Tree.{Tree}
-use Rattle.miniserde_text.specs.Lexer.{front_of}
+use Rattle.miniserde_text.specs.Lexer.{event_of_token}
 use Rattle.miniserde_read.proofs.Same.{value_same}
-use Rattle.miniserde_value.specs.Kept.{kept}
+use Rattle.miniserde_value.specs.Retained.{retained_tree}
 use Rattle.miniserde_value.specs.Kinds.{only_list}
 use Rattle.miniserde_value.specs.Values.{array_shape}
 use Rattle.miniserde_value.proofs.Openings.{no_list}
@@ -21,5 +21,5 @@ returns-in_default c = record {
 pub returns-in-None-clause-invalid : goal.returns-in-None-clause-invalid
 returns-in-None-clause-invalid c = λ e t r v.
     let read = c.in_ok-read_value-in-SeqStart.ensures.ok in
-    let same = value_same t read.0 (front_of c.args.token c.args.source.now.scratch) c.args.source.now.rest r _ v read.1 in
-    ap (λ (u : Tree). only_list (Some (kept u))) same.0 ∙ ap only_list read.2 ∙ sym c.into_array.ensures ∙ ap (option_map array_shape) c.in-None.is
+    let same = value_same t read.0 (event_of_token c.args.token c.args.source.now.scratch) c.args.source.now.rest r _ v read.1 in
+    ap (λ (u : Tree). only_list (Some (retained_tree u))) same.0 ∙ ap only_list read.2 ∙ sym c.into_array.ensures ∙ ap (option_map array_shape) c.in-None.is

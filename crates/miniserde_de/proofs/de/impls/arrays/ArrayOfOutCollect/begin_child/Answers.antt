@@ -1,5 +1,5 @@
 use Rattle.std.proofs.Common.{map}
-use Rattle.miniserde_read.specs.Step.{event_of}
+use Rattle.miniserde_read.specs.Events.{event_of}
 use Rattle.miniserde_de.specs.laws.Arrays.{no_item}
 use Rattle.miniserde_de.proofs.de.impls.arrays.ArrayOfOutCollect.begin_child.Goals as goal
 

@@ -18,6 +18,6 @@ loop-key-preserved g c =
       are_trees = AreNamedTrees_step text f (map deref_pair done) (c.in-Some.key.now, c.in-Some.value.now) inv.are_trees utf8 c.in_ok-begin.ensures.is_tree;
       start = λ z. absurd (omega (arith, length-append done ((c.in-Some.key, c.in-Some.value) ∷ []), z));
       later = λ _. c.in_ok-begin.ensures.first (ap (λ s. s.first) at);
-      whole = c.in_ok-begin.ensures.whole;
+      unrefused = c.in_ok-begin.ensures.unrefused;
       stays = inv.stays;
     })

@@ -11,6 +11,6 @@ invariant-loop-key g l = record {
   are_trees : AreNamedTrees (members_of g.K.MapKey.text g.V.Serialize.tree (map deref_pair l.yielded));
   start : length l.yielded ≡ 0 → l.w.first ≡ true;
   later : 0 < length l.yielded → l.w.first ≡ false;
-  whole : l.w.refused ≡ false;
+  unrefused : l.w.refused ≡ false;
   stays : l.fn.w.refused ≡ false;
 }

@@ -15,6 +15,6 @@ loop-x-preserved g c =
       are_trees = AreTrees-snoc f so_far c.in-Some.x.now inv.are_trees c.in_ok-begin.ensures.is_tree;
       start = λ z. absurd (omega (arith, length-append done (c.in-Some.x ∷ []), z));
       later = λ _. c.in_ok-begin.ensures.first (ap (λ s. s.first) e);
-      whole = c.in_ok-begin.ensures.whole;
+      unrefused = c.in_ok-begin.ensures.unrefused;
       stays = inv.stays;
     })

@@ -10,6 +10,6 @@ invariant-loop-x g l = record {
   are_trees : AreTrees (trees_of g.T.Serialize.tree (map (λ x. x.now) l.yielded));
   start : length l.yielded ≡ 0 → l.w.first ≡ true;
   later : 0 < length l.yielded → l.w.first ≡ false;
-  whole : l.w.refused ≡ false;
+  unrefused : l.w.refused ≡ false;
   stays : l.fn.w.refused ≡ false;
 }

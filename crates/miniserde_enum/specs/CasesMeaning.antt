@@ -1,0 +1,91 @@
+-- The meaning of an enum, by the meanings of its variants' data.
+use Rattle.std.specs.Prelude.{◌≡◌, ◌↔◌, refl, ℕ, ◌+◌, true, List, Option, Some, None}
+use Rattle.miniserde_model.specs.Tree.{Tree}
+use Rattle.miniserde_read.specs.Meaning.{Meaning, meant}
+use Rattle.miniserde_read.specs.types.Objects.{Name}
+use Rattle.miniserde_record.specs.Structs.{is_new, are_distinct}
+use Rattle.miniserde_enum.specs.declared.one_of.OneOf.{OneOf}
+use Rattle.miniserde_enum.specs.declared.one_of.Never.{Never}
+use Rattle.miniserde_enum.specs.Shape.{Shape, by_shape, external, internal}
+use Rattle.miniserde_enum.specs.Cases.{case_given, unit_given, data_given, CaseReads, UnitReads, DataReads, case_content}
+use Rattle.miniserde_enum.specs.laws.Cases.{case-fresh, case-agrees, unit-agrees, data-agrees}
+
+-- the meaning of variants: V has the values of all of them
+pub record CasesMeaning (V : Type 0) : Type 1 where
+  -- the content of a value: two values are equal here if their contents are
+  pub Content : Type 0
+  pub content : V → Content
+  -- the number of variants
+  pub count : ℕ
+  -- the content that a name and its data give, by the variants' names
+  pub by_case : List Name → Name → Option Tree → Option Content
+  -- a name that is none of these gives no content
+  pub fresh : (names : List Name) (n : Name) (o : Option Tree) → is_new n names ≡ true → by_case names n o ≡ None
+  -- the tree means the value, by its shape and the variants' names
+  pub reads : Shape → List Name → Tree → V → Type 0
+  -- a tree means a value exactly if it gives the value's content
+  pub agrees : (shape : Shape) (names : List Name) → are_distinct names ≡ true → (t : Tree) (v : V) → reads shape names t v ↔ (by_shape shape (by_case names) t ≡ Some (content v))
+
+-- no variants: no tree means a value
+abbrev pub no_cases : CasesMeaning Never
+no_cases = record {
+  Content = Never;
+  content = λ v. v;
+  count = 0;
+  by_case = λ ns k o. None;
+  fresh = λ ns n o h. refl;
+  reads = λ shape ns t v. ⊥;
+  agrees = λ shape ns d t v. elim v [ ];
+}
+
+-- a variant without data, and the later ones
+abbrev pub unit_and : {V : Type 0} → CasesMeaning V → CasesMeaning (OneOf (Unit {0}) V)
+unit_and n = record {
+  Content = OneOf (Unit {0}) n.Content;
+  content = case_content (λ u. u) n.content;
+  count = n.count + 1;
+  by_case = case_given unit_given n.by_case;
+  fresh = case-fresh unit_given UnitReads (λ u. u) unit-agrees n.by_case n.reads n.content n.fresh n.agrees;
+  reads = λ shape. CaseReads (UnitReads shape) (n.reads shape);
+  agrees = case-agrees unit_given UnitReads (λ u. u) unit-agrees n.by_case n.reads n.content n.fresh n.agrees;
+}
+
+-- a variant with data, by the meaning of the data, and the later ones
+abbrev pub data_and : {T V : Type 0} → Meaning T → CasesMeaning V → CasesMeaning (OneOf T V)
+data_and m n = record {
+  Content = OneOf m.Content n.Content;
+  content = case_content m.content n.content;
+  count = n.count + 1;
+  by_case = case_given (data_given m.from_tree) n.by_case;
+  fresh = case-fresh (data_given m.from_tree) (DataReads m.reads) m.content (data-agrees m.reads m.from_tree m.content m.reads_agrees) n.by_case n.reads n.content n.fresh n.agrees;
+  reads = λ shape. CaseReads (DataReads m.reads shape) (n.reads shape);
+  agrees = case-agrees (data_given m.from_tree) (DataReads m.reads) m.content (data-agrees m.reads m.from_tree m.content m.reads_agrees) n.by_case n.reads n.content n.fresh n.agrees;
+}
+
+-- the content that a tree gives of an externally tagged enum, by the names of its variants
+abbrev pub enum_of : {V : Type 0} (n : CasesMeaning V) → List Name → Tree → Option n.Content
+enum_of n names = by_shape external (n.by_case names)
+
+-- the tree means the enum, by the names and the values of its variants
+abbrev pub enum_reads : {V W : Type 0} (n : CasesMeaning V) → List Name → (W → V) → Tree → W → Type 0
+enum_reads n names values t v = n.reads external names t (values v)
+
+-- the meaning of an externally tagged enum, by the names and the values of its variants
+abbrev pub enum_meaning : {V W : Type 0} (n : CasesMeaning V) (names : List Name) → are_distinct names ≡ true → (W → V) → Meaning W
+enum_meaning n names distinct values =
+    meant (λ v. n.content (values v)) (enum_of n names) (enum_reads n names values)
+    (λ t v. n.agrees external names distinct t (values v))
+
+-- the content that a tree gives of an internally tagged enum, by the names of its tag and of its variants
+abbrev pub tagged_of : {V : Type 0} (n : CasesMeaning V) → Name → List Name → Tree → Option n.Content
+tagged_of n tag names = by_shape (internal tag) (n.by_case names)
+
+-- the tree means the internally tagged enum, by the names of its tag and of its variants and by the variants' values
+abbrev pub tagged_reads : {V W : Type 0} (n : CasesMeaning V) → Name → List Name → (W → V) → Tree → W → Type 0
+tagged_reads n tag names values t v = n.reads (internal tag) names t (values v)
+
+-- the meaning of an internally tagged enum, by the names of its tag and of its variants and by the variants' values
+abbrev pub tagged_meaning : {V W : Type 0} (n : CasesMeaning V) → Name → (names : List Name) → are_distinct names ≡ true → (W → V) → Meaning W
+tagged_meaning n tag names distinct values =
+    meant (λ v. n.content (values v)) (tagged_of n tag names) (tagged_reads n tag names values)
+    (λ t v. n.agrees (internal tag) names distinct t (values v))

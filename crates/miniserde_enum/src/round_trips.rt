@@ -1,0 +1,110 @@
+//! The round trip of an enum, by its variants.
+ghost use Rattle.std.specs.Prelude.{◌≡◌, true, List, length, ⊤};
+ghost use Rattle.miniserde_model.specs.Tree.{Tree, null};
+ghost use Rattle.miniserde_read.specs.types.Objects.{Name};
+ghost use Rattle.miniserde_round.specs.RoundTrip.{RoundTrips};
+ghost use Rattle.miniserde_record.specs.Structs.{are_names};
+ghost use Rattle.miniserde_enum.specs.Shape.{Shape, external, internal};
+ghost use Rattle.miniserde_enum.specs.Cases.{CaseReal, case_tree, unit_tree, data_tree, UnitFits, DataFits, enum_tree, tagged_tree};
+ghost use Rattle.miniserde_enum.specs.CasesMeaning.{CasesMeaning, no_cases, unit_and, data_and, enum_reads, tagged_reads};
+
+use crate::cases::{DataCase, NoCase, UnitCase};
+use crate::one_of::{Never, OneOf};
+use crate::tagged::{HasTag, Tagged};
+use miniserde_round::RoundTrip;
+
+/// Variants whose values read back as they were written.
+pub trait RoundTripCases {
+    /// The value of a variant.
+    type Values;
+
+    // The meaning of the variants.
+    ghost meaning: { CasesMeaning Self.Values };
+
+    // The value is valid.
+    ghost real: { Self.Values → Type 0 };
+
+    // The tree of a value, by its shape and the variants' names.
+    ghost tree: { Shape → List Name → Self.Values → Tree };
+
+    // Trees of the shape, as they are written, are the variants that they are written for.
+    ghost fits: { Shape → Type 0 };
+
+    /// Does nothing. It promises that trees of externally tagged enums are the variants that they are written for, and,
+    /// of each shape that this holds of, that the tree of a valid value means a valid value, and that each such value has
+    /// that tree.
+    fn round_trips()
+        ensures external { fits external }
+        ensures round_trips { (shape : Shape) (names : List Name) (v : Self.Values) → fits shape
+            → are_names meaning.count names ≡ true → real v
+            → RoundTrips real (tree shape names) (meaning.reads shape names) (tree shape names v) };
+}
+
+impl RoundTripCases for NoCase {
+    type Values = Never;
+
+    ghost meaning = { no_cases };
+
+    ghost real = { λ _. ⊤ };
+
+    ghost tree = { λ shape names v. null };
+
+    ghost fits = { λ shape. ⊤ };
+
+    fn round_trips() {}
+}
+
+impl<R: RoundTripCases> RoundTripCases for UnitCase<R> {
+    type Values = OneOf<(), R::Values>;
+
+    ghost meaning = { unit_and R.meaning };
+
+    ghost real = { CaseReal (λ u. ⊤) R.real };
+
+    ghost tree = { λ shape. case_tree (unit_tree shape) (R.tree shape) };
+
+    ghost fits = { λ shape. UnitFits shape × R.fits shape };
+
+    fn round_trips() {
+        R::round_trips()
+    }
+}
+
+impl<T: RoundTrip, R: RoundTripCases> RoundTripCases for DataCase<T, R> {
+    type Values = OneOf<T, R::Values>;
+
+    ghost meaning = { data_and T.means R.meaning };
+
+    ghost real = { CaseReal T.real R.real };
+
+    ghost tree = { λ shape. case_tree (data_tree shape T.tree) (R.tree shape) };
+
+    ghost fits = { λ shape. DataFits T.real T.tree shape × R.fits shape };
+
+    fn round_trips() {
+        T::round_trips();
+        R::round_trips();
+    }
+}
+
+/// Does nothing. It promises the round trip of an externally tagged enum.
+pub fn enum_round_trips<E: Tagged, C: RoundTripCases<Values = E::Values>>()
+    requires { length E.names ≡ C.meaning.count }
+    ensures { (v : E) → C.real (E.values v)
+        → RoundTrips (λ v. C.real (E.values v)) (enum_tree E.names C.tree E.values)
+        (enum_reads C.meaning E.names E.values) (enum_tree E.names C.tree E.values v) }
+{
+    C::round_trips()
+}
+
+/// Does nothing. It promises the round trip of an internally tagged enum, if its trees are the variants that they are
+/// written for.
+pub fn tagged_round_trips<E: Tagged + HasTag, C: RoundTripCases<Values = E::Values>>()
+    requires count { length E.names ≡ C.meaning.count }
+    requires fits { C.fits (internal E.tag) }
+    ensures { (v : E) → C.real (E.values v)
+        → RoundTrips (λ v. C.real (E.values v)) (tagged_tree E.tag E.names C.tree E.values)
+        (tagged_reads C.meaning E.tag E.names E.values) (tagged_tree E.tag E.names C.tree E.values v) }
+{
+    C::round_trips()
+}

@@ -1,0 +1,36 @@
+-- The events of a tree: what a reader of its text meets, one after another.
+use Rattle.std.specs.Prelude.{ℕ, ℤ, Bool, List, [], ◌∷◌, ◌++◌}
+use Rattle.miniserde_model.specs.Tree.{Tree, truth, nonneg, neg, num, str, list, members, Trees, no_trees, tree, Members, no_members, member}
+use Rattle.miniserde_model.specs.Tree as trees
+
+pub data Step : Type 0 where
+  null : Step
+  boolean : Bool → Step
+  string : List ℕ → Step
+  negative : ℤ → Step
+  nonnegative : ℕ → Step
+  float : List ℕ → Step
+  seq : Step
+  element : Step
+  map : Step
+  key : List ℕ → Step
+  finish : Step
+
+abbrev mutual
+  pub events : Tree → List Step
+  events trees.null = null ∷ []
+  events (truth x) = boolean x ∷ []
+  events (nonneg n) = nonnegative n ∷ []
+  events (neg n) = negative n ∷ []
+  events (num x) = float x ∷ []
+  events (str s) = string s ∷ []
+  events (list ts) = seq ∷ (child_events ts ++ finish ∷ [])
+  events (members ms) = map ∷ (member_events ms ++ finish ∷ [])
+
+  pub child_events : Trees → List Step
+  child_events no_trees = []
+  child_events (tree t ts) = element ∷ (events t ++ child_events ts)
+
+  pub member_events : Members → List Step
+  member_events no_members = []
+  member_events (member name t ms) = key name ∷ (events t ++ member_events ms)

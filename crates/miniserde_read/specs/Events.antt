@@ -1,0 +1,45 @@
+-- The event that a step is, and the events that trees have.
+use Rattle.std.specs.Prelude.{◌≡◌, Option, Some, None, option_and_then, ⊤, pos, ◌≤ℤ◌}
+use Rattle.miniserde_model.specs.Tree.{Tree, null, truth, nonneg, neg, num, str, list, members, Trees, Members}
+use Rattle.miniserde_model.specs.Number.{IsNumber}
+use Rattle.miniserde_model.specs.Step.{boolean, string, negative, nonnegative, float, seq, element, map, key, finish}
+use Rattle.miniserde_model.specs.Step as model
+use Rattle.miniserde_read.specs.declared.step.Step.{Step}
+use Rattle.miniserde_read.specs.declared.step.Step.TheVariants as step
+
+abbrev pub event_of : Step → model.Step
+event_of step.Null = model.null
+event_of (step.Bool b) = boolean b
+event_of (step.Str s) = string s.now
+event_of (step.Negative n) = negative n
+event_of (step.Nonnegative n) = nonnegative n
+event_of (step.Float t) = float t.now
+event_of step.Seq = seq
+event_of step.Element = element
+event_of step.Map = map
+event_of (step.Key k) = key k.now
+event_of step.Finish = finish
+
+-- a tree can have the event: a negative integer is at most 0, and a kept number has no other leaf
+abbrev pub IsTreeEvent : model.Step → Type 0
+IsTreeEvent (negative n) = n ≤ℤ pos 0
+IsTreeEvent (float x) = IsNumber x (num x)
+IsTreeEvent _ = ⊤
+
+-- the leaf whose one event it is
+abbrev pub leaf_of : model.Step → Option Tree
+leaf_of model.null = Some null
+leaf_of (boolean b) = Some (truth b)
+leaf_of (string s) = Some (str s)
+leaf_of (negative n) = Some (neg n)
+leaf_of (nonnegative n) = Some (nonneg n)
+leaf_of (float x) = Some (num x)
+leaf_of _ = None
+
+-- what the leaf of an event gives
+abbrev pub on_leaf : {C : Type 0} → (Tree → Option C) → model.Step → Option C
+on_leaf f e = option_and_then f (leaf_of e)
+
+-- no list and no object gives anything
+abbrev pub OnlyLeaves : {C : Type 0} → (Tree → Option C) → Type 0
+OnlyLeaves f = ((ts : Trees) → f (list ts) ≡ None) × ((ms : Members) → f (members ms) ≡ None)

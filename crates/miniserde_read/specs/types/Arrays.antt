@@ -1,0 +1,17 @@
+-- What an array of n items makes of trees.
+use Rattle.std.specs.Prelude.{◌≡◌, ℕ, List, length, nat_eq, if◌then◌else◌, Option, Some, None, option_and_then}
+use Rattle.miniserde_model.specs.Tree.{Tree}
+use Rattle.miniserde_read.specs.types.Lists.{ListReads, list_of}
+
+-- the tree is a list of exactly n, and each child means the item in its place
+abbrev pub ArrayReads : {T : Type 0} → ℕ → (Tree → T → Type 0) → Tree → List T → Type 0
+ArrayReads n R t xs = ListReads R t xs × (length xs ≡ n)
+
+module _ {C : Type 0} (n : ℕ) where
+  -- the items, if there are exactly n
+  abbrev pub exactly : List C → Option (List C)
+  exactly xs = if nat_eq (length xs) n then Some xs else None
+
+  -- what a list of exactly n gives
+  abbrev pub array_of : (Tree → Option C) → Tree → Option (List C)
+  array_of f t = option_and_then exactly (list_of f t)

@@ -1,0 +1,75 @@
+-- Maps, and what a map's tree means. What equality looks at of a key is its code; content is all that counts of it.
+use Rattle.std.specs.Prelude.{cond, List, [], ◌∷◌, Option, Some, None, option_and_then, option_map, IsSome, bytes_eq, ◌≡◌, ⊤}
+use Rattle.miniserde_model.specs.Tree.{Tree, members, Members, no_members, member}
+use Rattle.miniserde_keys.specs.Keys.{Key}
+use Rattle.miniserde_read.specs.types.Objects.{Name, object_of, all_members}
+
+-- ---- what a map's tree means
+
+-- the key that a name is read as, where it has the code
+abbrev pub key_at : (Key → Key) → Key → Option Key → Option Key
+key_at code q None = None
+key_at code q (Some c) = cond (bytes_eq (code c) q) (Some c) None
+
+-- with one more member in front: the first key stands, and the last tree
+abbrev pub first_and_last : Option Key → Tree → Option (Key × Tree) → Option (Key × Tree)
+first_and_last None t o = o
+first_and_last (Some c) t None = Some (c, t)
+first_and_last (Some c) t (Some p) = Some (c, p.1)
+
+-- of the members whose keys have the code, the first one's key and the last one's tree
+abbrev pub first_and_last_at : (Name → Option Key) → (Key → Key) → Key → Members → Option (Key × Tree)
+first_and_last_at read code q no_members = None
+first_and_last_at read code q (member k t ms) = first_and_last (key_at code q (read k)) t (first_and_last_at read code q ms)
+
+-- each member's name is read as a key, and its tree gives a value
+abbrev pub AllAccepted : {C : Type 0} → (Name → Option Key) → (Tree → Option C) → Members → Type 0
+AllAccepted read of no_members = ⊤
+AllAccepted read of (member k t ms) = IsSome (read k) × (IsSome (of t) × AllAccepted read of ms)
+
+-- the entry whose key has the code
+abbrev pub entry_at : {K V : Type 0} → (K → Key) → Key → List (K × V) → Option (K × V)
+entry_at code q [] = None
+entry_at code q (e ∷ es) = cond (bytes_eq (code e.0) q) (Some e) (entry_at code q es)
+
+-- there is an entry where members were met: its key is the one that stands, and the tree means its value
+abbrev pub MeansAt : {K V : Type 0} → (K → Key) → (Tree → V → Type 0) → Option (Key × Tree) → Option (K × V) → Type 0
+MeansAt content R None None = ⊤
+MeansAt content R None (Some e) = ⊥
+MeansAt content R (Some p) None = ⊥
+MeansAt content R (Some p) (Some e) = (content e.0 ≡ p.0) × R p.1 e.1
+
+-- the tree has members, each of which is taken; and at each code the first one's key stands with the value that the last one means
+abbrev pub MapReads : {K V C : Type 0} → (Name → Option Key) → (Key → Key) → (K → Key) → (Tree → Option C) → (Tree → V → Type 0) → Tree → List (K × V) → Type 0
+MapReads read code content of R (members ms) es = AllAccepted read of ms × ((q : Key) → MeansAt content R (first_and_last_at read code q ms) (entry_at (λ k. code (content k)) q es))
+MapReads read code content of R _ es = ⊥
+
+-- ---- the same, member by member
+
+-- what counts of a map: the key and the value at each code
+abbrev pub Entries : Type 0 → Type 0
+Entries C = Key → Option (Key × C)
+
+abbrev pub no_key : {C : Type 0} → Entries C
+no_key q = None
+
+-- the key that is there stays
+abbrev pub present_key_or : {C : Type 0} → Option (Key × C) → Key → Key
+present_key_or None c = c
+present_key_or (Some e) c = e.0
+
+-- the map with one more key, or with another value at a key that is there
+abbrev pub with_entry : {C : Type 0} → (Key → Key) → Entries C → Key → C → Entries C
+with_entry code m c d q = cond (bytes_eq (code c) q) (Some (present_key_or (m q) c, d)) (m q)
+
+-- what counts of the entry at each code
+abbrev pub map_content : {K V C : Type 0} → (Key → Key) → (K → Key) → (V → C) → List (K × V) → Entries C
+map_content code content value es q = option_map (λ e. (content e.0, value e.1)) (entry_at (λ k. code (content k)) q es)
+
+-- one more member: its name is read as a key, and f says what the value is
+abbrev pub map_member : {C X : Type 0} → (Name → Option Key) → (Key → Key) → (X → Option C) → Entries C → Name → X → Option (Entries C)
+map_member read code f m k x = option_and_then (λ c. option_map (with_entry code m c) (f x)) (read k)
+
+-- what a map's tree gives
+abbrev pub map_of : {C : Type 0} → (Name → Option Key) → (Key → Key) → (Tree → Option C) → Tree → Option (Entries C)
+map_of read code of = object_of (all_members (map_member read code of) no_key)

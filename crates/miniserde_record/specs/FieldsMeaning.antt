@@ -1,0 +1,116 @@
+-- The meaning of a struct, by the meanings and the marks of its fields.
+use Rattle.std.proofs.Common.{◌∙◌}
+use Rattle.std.specs.Prelude.{◌≡◌, ◌↔◌, refl, ℕ, ◌+◌, Bool, true, false, cond, List, Option, Some, None, option_and_then, ⊤}
+use Rattle.miniserde_model.specs.Tree.{Tree, Members}
+use Rattle.miniserde_read.specs.Meaning.{Meaning, meant}
+use Rattle.miniserde_read.specs.types.Objects.{Name, object_of, all_members}
+use Rattle.miniserde_record.specs.Aliases.{field_name_of, with_field_names}
+use Rattle.miniserde_record.specs.Fields.{field_member, field_refuses, field_end, field_given, missing_content, MissingReads, FieldsRead, StructReads}
+use Rattle.miniserde_record.specs.Marks.{has_no_members}
+use Rattle.miniserde_record.specs.laws.Aliases.{alias-apart}
+use Rattle.miniserde_record.specs.laws.Fields.{none-refused, field-refused, none-apart, closed-apart, field-apart}
+use Rattle.miniserde_record.specs.laws.Meanings.{none-given, closed-given, missing-agrees, field-given, struct-given}
+
+-- the meaning of fields: V are the values of all of them
+pub record FieldsMeaning (V : Type 0) : Type 1 where
+  -- the content of the values
+  pub Content : Type 0
+  pub content : V → Content
+  -- the content of the values so far
+  pub State : Type 0
+  pub empty : State
+  -- the number of fields
+  pub count : ℕ
+  -- the state after one more member, by the fields' names, its name and its tree
+  pub by_tree : List Name → State → Name → Tree → Option State
+  -- a member of the name is refused before its value, whatever that is
+  pub refuses : List Name → State → Name → Bool
+  pub refused : (names : List Name) (s : State) (k : Name) → refuses names s k ≡ true → (t : Tree) → by_tree names s k t ≡ None
+  -- the content at the end of the members
+  pub end : State → Option Content
+  -- the content that the members give from a state, field by field
+  pub from_members : List Name → State → Members → Option Content
+  pub members_agree : (names : List Name) (s : State) (ms : Members) → option_and_then end (all_members (by_tree names) s ms) ≡ from_members names s ms
+  -- the members mean the values: they give the content of these
+  pub reads : List Name → Members → V → Type 0
+  pub reads_agrees : (names : List Name) (ms : Members) (v : V) → reads names ms v ↔ (from_members names empty ms ≡ Some (content v))
+
+-- no field: members of any names are skipped
+abbrev pub no_fields : FieldsMeaning (Unit {0})
+no_fields = record {
+  Content = Unit {0};
+  content = λ _. tt;
+  State = Unit {0};
+  empty = tt;
+  count = 0;
+  by_tree = λ ns s k t. Some tt;
+  refuses = λ ns s k. false;
+  refused = λ ns s k h t. none-refused (Some tt) h;
+  end = λ s. Some tt;
+  from_members = λ ns s ms. Some tt;
+  members_agree = λ ns s ms. none-apart ms;
+  reads = λ ns ms v. ⊤;
+  reads_agrees = λ ns ms v. none-given v;
+}
+
+-- `closed`: behind the last field no member is left, so each member's name is a field's (`closed-named`)
+abbrev pub closed_end : FieldsMeaning (Unit {0})
+closed_end = record {
+  Content = Unit {0};
+  content = λ _. tt;
+  State = Unit {0};
+  empty = tt;
+  count = 0;
+  by_tree = λ ns s k t. None;
+  refuses = λ ns s k. true;
+  refused = λ ns s k h t. refl;
+  end = λ s. Some tt;
+  from_members = λ ns s ms. cond (has_no_members ms) (Some tt) None;
+  members_agree = λ ns s ms. closed-apart s ms;
+  reads = λ ns ms v. has_no_members ms ≡ true;
+  reads_agrees = λ ns ms v. closed-given ms v;
+}
+
+-- A field, by its mark and its type's meaning, and the later fields. `once`: at most one member has its name. `default`:
+-- members with the name mean what they do without the mark (`given-present`), and those without it what they would beside
+-- a member of that name with the given tree (`given-missing`).
+abbrev pub field_and : {T V : Type 0} → Bool → Option Tree → Meaning T → Option T → FieldsMeaning V → FieldsMeaning (T × V)
+field_and once given m absent n = record {
+  Content = m.Content × n.Content;
+  content = λ v. (m.content v.0, n.content v.1);
+  State = Option m.Content × n.State;
+  empty = (None, n.empty);
+  count = n.count + 1;
+  by_tree = field_member once m.from_tree n.by_tree;
+  refuses = field_refuses once n.refuses;
+  refused = field-refused once m.from_tree n.by_tree n.refuses n.refused;
+  end = field_end (missing_content m given absent) n.end;
+  from_members = field_given once m.from_tree (missing_content m given absent) n.from_members;
+  members_agree = field-apart once m.from_tree (missing_content m given absent) n.by_tree n.end n.from_members n.members_agree;
+  reads = FieldsRead once m.reads m.from_tree (MissingReads m given absent) n.reads;
+  reads_agrees = field-given once m (missing_content m given absent) (MissingReads m given absent) (missing-agrees m given absent) n.reads n.from_members n.content n.empty n.reads_agrees;
+}
+
+-- aliases: a member of an alias counts as one of its field's name
+abbrev pub with_aliases : {V : Type 0} → List (Name × Name) → FieldsMeaning V → FieldsMeaning V
+with_aliases ps n = record {
+  Content = n.Content;
+  content = n.content;
+  State = n.State;
+  empty = n.empty;
+  count = n.count;
+  by_tree = λ names s k t. n.by_tree names s (field_name_of ps k) t;
+  refuses = λ names s k. n.refuses names s (field_name_of ps k);
+  refused = λ names s k h t. n.refused names s (field_name_of ps k) h t;
+  end = n.end;
+  from_members = λ names s ms. n.from_members names s (with_field_names ps ms);
+  members_agree = λ names s ms. alias-apart ps (n.by_tree names) n.end s ms ∙ n.members_agree names s (with_field_names ps ms);
+  reads = λ names ms v. n.reads names (with_field_names ps ms) v;
+  reads_agrees = λ names ms v. n.reads_agrees names (with_field_names ps ms) v;
+}
+
+-- a struct, by the names and the values of its fields
+abbrev pub struct_meaning : {V W : Type 0} → FieldsMeaning V → List Name → (W → V) → Meaning W
+struct_meaning n names values =
+    meant (λ w. n.content (values w)) (object_of (n.from_members names n.empty)) (StructReads (n.reads names) values)
+    (struct-given (n.reads names) values (n.from_members names n.empty) n.content (n.reads_agrees names))

@@ -1,0 +1,70 @@
+//! The round trip of a struct, by its fields.
+ghost use Rattle.std.specs.Prelude.{◌≡◌, true, List, [], ◌∷◌, length, Option, Some, ⊤};
+ghost use Rattle.miniserde_model.specs.Tree.{Tree};
+ghost use Rattle.miniserde_read.specs.types.Objects.{Name};
+ghost use Rattle.miniserde_round.specs.RoundTrip.{RoundTrips};
+ghost use Rattle.miniserde_record.specs.FieldsMeaning.{FieldsMeaning, no_fields, field_and, struct_meaning};
+ghost use Rattle.miniserde_record.specs.Structs.{FieldsRoundTrip, are_names, record_tree};
+
+use super::marks::Mark;
+use super::slots::{MarkedSlot, NoSlot};
+use super::structs::{Parts, Record};
+use miniserde_round::RoundTrip;
+
+/// Fields whose values read back as they were written.
+pub trait RoundTripFields {
+    /// The fields' values, in their order.
+    type Values;
+
+    // The meaning of the fields.
+    ghost meaning: { FieldsMeaning Self.Values };
+
+    // The values are ones that Rust has.
+    ghost real: { Self.Values → Type 0 };
+
+    // The trees of the values, in their order; none of a value that is not written.
+    ghost trees: { Self.Values → List (Option Tree) };
+
+    /// Does nothing. It promises that the values' trees, by the fields' names, mean values that Rust has, and that each
+    /// such values have those trees.
+    fn round_trips()
+        ensures { (names : List Name) (v : Self.Values) → are_names meaning.count names ≡ true → real v
+            → FieldsRoundTrip real trees meaning.reads names (trees v) };
+}
+
+impl RoundTripFields for NoSlot {
+    type Values = ();
+
+    ghost meaning = { no_fields };
+
+    ghost real = { λ _. ⊤ };
+
+    ghost trees = { λ _. [] };
+
+    fn round_trips() {}
+}
+
+impl<T: RoundTrip, M: Mark<T>, R: RoundTripFields> RoundTripFields for MarkedSlot<T, M, R> {
+    type Values = Parts<T, R::Values>;
+
+    ghost meaning = { field_and M.once M.given T.means T.absent R.meaning };
+
+    ghost real = { λ v. T.real v.0 × R.real v.1 };
+
+    ghost trees = { λ v. Some (T.tree v.0) ∷ R.trees v.1 };
+
+    fn round_trips() {
+        T::round_trips();
+        R::round_trips();
+    }
+}
+
+/// Does nothing. It promises a struct's round trip.
+pub fn record_round_trips<S: Record, F: RoundTripFields<Values = S::Values>>()
+    requires { length S.names ≡ F.meaning.count }
+    ensures { (v : S) → F.real (S.values v)
+        → RoundTrips (λ v. F.real (S.values v)) (record_tree S.names F.trees S.values)
+        (struct_meaning F.meaning S.names S.values).reads (record_tree S.names F.trees S.values v) }
+{
+    F::round_trips()
+}

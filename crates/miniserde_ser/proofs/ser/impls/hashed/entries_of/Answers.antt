@@ -1,0 +1,30 @@
+use Rattle.std.proofs.Common.{◌≡◌, ◌∷◌, [], rules, refl, map, string_bytes}
+use Rattle.std.specs.Map.Iter.{deref_pair}
+use Rattle.std.proofs.lemmas.List.{map-append}
+use Rattle.std.proofs.lemmas.Map.Iter.{iter_end}
+use Rattle.miniserde_ser.proofs.Names.{all_more, distinct_names, map_more, members_same}
+use Rattle.miniserde_ser.proofs.ser.impls.hashed.entries_of.Goals as goal
+
+pub loop-key-preserved : goal.loop-key-preserved
+loop-key-preserved g c =
+    let done = map deref_pair c.loop-key.yielded in
+    let inv = c.loop-key.invariant in
+    let items = c.in_ok-push.ensures.items in
+    rw (map-append deref_pair c.loop-key.yielded ((c.in-Some.key, c.in-Some.value) ∷ [])) (record {
+      names = map_more (λ r. string_bytes r.0) (λ e. g.K.MapKey.text e.0) _ _ _ done _ items inv.names c.in_ok-name.ensures.text;
+      trees = map_more (λ r. g.V.Serialize.tree r.1.now) (λ e. g.V.Serialize.tree e.1) _ _ _ done _ items inv.trees refl;
+      real = all_more (λ e. g.K.Ranged.real e.0) done _ inv.real c.name_of.ensures.real;
+    })
+
+pub returns-clause-ok : goal.returns-clause-ok
+returns-clause-ok g c =
+    let e : map deref_pair c.loop-key.yielded ≡ c.args.table.now.entries = search (rules, iter_end) in
+    let inv = c.loop-key.invariant in
+    members_same string_bytes g.K.MapKey.text (λ v. g.V.Serialize.tree v.now) g.V.Serialize.tree _ _ (rw e at inv.names) (rw e at inv.trees)
+
+pub returns-clause-distinct : goal.returns-clause-distinct
+returns-clause-distinct g c =
+    let e : map deref_pair c.loop-key.yielded ≡ c.args.table.now.entries = search (rules, iter_end) in
+    let inv = c.loop-key.invariant in
+    let key = g.met.K.MapKey in
+    rw (inv.names, e) (distinct_names g.K.PartialEq.eq g.K.Ranged.real g.K.MapKey.content g.K.MapKey.code g.K.MapKey.read g.K.MapKey.text key.alike key.back c.args.table.now.entries (rw e at inv.real) c.into_iter-key-iterator.ensures.into_iter_gives.4)

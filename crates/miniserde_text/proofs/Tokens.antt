@@ -1,0 +1,228 @@
+-- The front of a value: what a function on lists reads is a piece of the grammar, and the piece of each event is read
+-- so. A string goes by its first quote.
+use Rattle.std.proofs.Common.{◌≡◌, ◌≢◌, ℕ, ◌==◌, Bool, true, false, cond, List, [], ◌∷◌, ◌++◌, length, drop, Option, Some, None, refl, ap, sym, subst, ◌∙◌, inl, inr, arith, eqb-true, ne_eqb, append_assoc}
+use Rattle.std.specs.Prelude.{codes, slice_index, nat_eq}
+use Rattle.std.specs.List.{starts_with, AllByRecursion}
+use Rattle.std.proofs.lemmas.Slice.Eq.{starts_is}
+use Rattle.std.proofs.lemmas.Bool.Decides.{Decides-eqb, nat_tests}
+use Rattle.std.proofs.lemmas.Bool.{true≢false}
+use Rattle.std.proofs.lemmas.List.Prefix.{front_rest}
+use Rattle.std.specs.Str.{encode_utf8_all}
+use Rattle.miniserde_model.specs.Tree.{Tree, null, truth, neg, nonneg, num, str}
+use Rattle.miniserde_model.specs.Bytes.{is_space, is_number_byte, is_special, StopsAt}
+use Rattle.miniserde_model.specs.Number.{IsNumber}
+use Rattle.miniserde_model.specs.Value.{Between}
+use Rattle.miniserde_model.specs.Step.{Step, boolean, string, negative, nonnegative, float, seq, element, map, key, finish}
+use Rattle.miniserde_model.specs.Step as step
+use Rattle.miniserde_model.specs.Lexing.{Piece, Ends, Starts}
+use Rattle.miniserde_model.proofs.Runs.{AllPass}
+use Rattle.miniserde_model.proofs.Numbers.{number_pass}
+use Rattle.miniserde_model.proofs.Unique.{Head, value_head, value_heads, number_head, kind_of_byte}
+use Rattle.miniserde_text.specs.declared.json.lex.Event as answer
+use Rattle.miniserde_text.specs.declared.json.lex.Event.TheVariants as event
+use Rattle.miniserde_text.specs.declared.json.lex.Text.{Text}
+use Rattle.miniserde_text.specs.declared.json.lex.Text.TheVariants as text
+use Rattle.miniserde_text.specs.Lexer.{event_of_token, StandsFor, EventStandsFor, EventLeavesScratch, BeginsEscaped}
+use Rattle.miniserde_text.specs.private.Reading.{after_run, number_at, word_at, token_by, token_at}
+use Rattle.miniserde_text.specs.private.Inside.{Chars, BeginsWith, TakesToken, EventTakesText, TakesText, ReachesBackslash}
+use Rattle.miniserde_text.proofs.Runs.{stops_at, stands_of, stands_only}
+use Rattle.std.proofs.lemmas.Option.{cond_some, same_Some}
+use Rattle.miniserde_text.proofs.Options.{chosen, first_byte, none_is_some}
+use Rattle.miniserde_text.proofs.Leaves.{event_of, number_piece}
+use Rattle.miniserde_text.proofs.Numbers.{Numbered, number_takes, number_only}
+use Rattle.miniserde_text.proofs.Strings.{string_leads, string_chars}
+
+-- ---- words
+
+word_takes : (w : List ℕ) (e g : Step) (t r : List ℕ) → word_at w e t ≡ Some (g, r) → (e ≡ g) × (t ≡ w ++ r)
+unfolding word_at
+word_takes w e g t r h =
+    let p = cond_some (starts_with nat_eq t w) (e, drop (length w) t) (g, r) h in
+    let j : t ≡ w ++ drop (length w) t = (starts_is Decides-eqb t w _ refl).0 p.0 in
+    (ap (λ q. q.0) p.1, j ∙ ap (λ q. w ++ q.1) p.1)
+
+word_only : (w : List ℕ) (e : Step) (t r : List ℕ) → t ≡ w ++ r → word_at w e t ≡ Some (e, r)
+unfolding word_at
+word_only w e t r j =
+    ap (λ b. cond b (Some (e, drop (length w) t)) None) ((starts_is Decides-eqb t w _ refl).1 r j) ∙ ap (λ q. Some (e, q)) (front_rest t w r j)
+
+-- ---- what is read
+
+as_word : (w : List ℕ) (e g : Step) (t r : List ℕ) → Piece e w → Ends e r → word_at w e t ≡ Some (g, r) → TakesToken t g r
+as_word w e g t r h k f = let q = word_takes w e g t r f in subst (λ x. TakesToken t x r) q.0 ((w, h, q.1), k)
+
+as_byte : (c : ℕ) (e g : Step) (t u r : List ℕ) → Piece e (c ∷ []) → Ends e r → t ≡ c ∷ u → ◌≡◌ {A = Option (Step × List ℕ)} (Some (e, u)) (Some (g, r)) → TakesToken t g r
+as_byte c e g t u r h k j f =
+    let q = same_Some _ _ f in
+    subst (λ x. TakesToken t x r) (ap (λ x. x.0) q) ((c ∷ [], h, j ∙ ap (λ x. c ∷ x.1) q), k)
+
+as_number : (t r : List ℕ) (e : Step) → Numbered t e r → TakesToken t e r
+as_number t r e n =
+    let p = number_piece n.number r n.is_number (stops_at is_number_byte r n.ends) in
+    subst (λ x. TakesToken t x r) n.event ((n.number, p.0, n.text), p.1)
+
+front_takes : (t : List ℕ) (e : Step) (r : List ℕ) → token_at t ≡ Some (e, r) → TakesToken t e r
+unfolding token_by
+front_takes t e r h =
+    elim (chosen (slice_index t 0 == 110) _ _ _ h) [
+      | inl p ↦ as_word (codes "null") step.null e t r refl tt p.1
+      | inr p ↦ elim (chosen (slice_index t 0 == 116) _ _ _ p.1) [
+        | inl p ↦ as_word (codes "true") (boolean true) e t r refl tt p.1
+        | inr p ↦ elim (chosen (slice_index t 0 == 102) _ _ _ p.1) [
+          | inl p ↦ as_word (codes "false") (boolean false) e t r refl tt p.1
+          | inr p ↦ elim (chosen (slice_index t 0 == 91) _ _ _ p.1) [
+            | inl p ↦ as_byte 91 seq e t (drop 1 t) r refl tt (first_byte t 90 (eqb-true _ 91 p.0)) p.1
+            | inr p ↦ elim (chosen (slice_index t 0 == 123) _ _ _ p.1) [
+              | inl p ↦ as_byte 123 map e t (drop 1 t) r refl tt (first_byte t 122 (eqb-true _ 123 p.0)) p.1
+              | inr p ↦ as_number t r e (number_takes t e r p.1)
+            ]
+          ]
+        ]
+      ]
+    ]
+
+-- ---- what the grammar has is read
+
+pass_head : (p : ℕ → Bool) (b r : List ℕ) (k : ℕ) (h : Head b k) → AllPass p b → p (slice_index (b ++ r) 0) ≡ true
+pass_head p b r k h a = let int = subst (AllPass p) h.is a in ap (λ x. p (slice_index (x ++ r) 0)) h.is ∙ int.0
+
+number_first : (b r : List ℕ) (t : Tree) → IsNumber b t → is_number_byte (slice_index (b ++ r) 0) ≡ true
+number_first b r t p = pass_head is_number_byte b r 3 (number_head b t p) (number_pass b p.0)
+
+no_word : (c : ℕ) → is_number_byte c ≡ true → ((c == 110) ≡ false) × ((c == 116) ≡ false) × ((c == 102) ≡ false) × ((c == 91) ≡ false) × ((c == 123) ≡ false)
+no_word c h = (grind (arith, nat_tests), grind (arith, nat_tests), grind (arith, nat_tests), grind (arith, nat_tests), grind (arith, nat_tests))
+
+by_number : (t : List ℕ) → is_number_byte (slice_index t 0) ≡ true → token_at t ≡ number_at t
+unfolding token_by
+by_number t h = let n = no_word (slice_index t 0) h in rw (n.0, n.1, n.2, n.3, n.4) refl
+
+numbers_only : (b r : List ℕ) (t : Tree) → IsNumber b t → StopsAt is_number_byte r → token_at (b ++ r) ≡ Some (event_of t, r)
+numbers_only b r t p s = by_number _ (number_first b r t p) ∙ number_only b r p.0 s ∙ ap (λ x. Some (event_of x, r)) p.1
+
+front_only : (b : List ℕ) (e : Step) (r : List ℕ) → Piece e b → Ends e r → (slice_index (b ++ r) 0 == 34) ≡ false → token_at (b ++ r) ≡ Some (e, r)
+unfolding token_by
+front_only b step.null r h k away = rw h (word_only (codes "null") step.null _ r refl)
+front_only b (boolean true) r h k away = rw h (word_only (codes "true") (boolean true) _ r refl)
+front_only b (boolean false) r h k away = rw h (word_only (codes "false") (boolean false) _ r refl)
+front_only b (negative n) r h k away = numbers_only b r (neg n) h k
+front_only b (nonnegative n) r h k away = numbers_only b r (nonneg n) h k
+front_only b (float x) r h k away = numbers_only b r (num x) h k
+front_only b (string s) r h k away = absurd (true≢false (sym (ap (λ x. slice_index (x ++ r) 0 == 34) h.text) ∙ away))
+front_only b seq r h k away = rw h refl
+front_only b map r h k away = rw h refl
+front_only b element r h k away = absurd h
+front_only b (key s) r h k away = absurd h
+front_only b finish r h k away = absurd h
+
+pub front_refused : (t : List ℕ) → slice_index t 0 ≢ 34 → token_at t ≡ None → (e : Step) (r : List ℕ) → TakesToken t e r → ⊥
+front_refused t away none e r ((b, h, j), k) =
+    none_is_some (token_at t) (e, r) none (ap token_at j ∙ front_only b e r h k (sym (ap (λ x. slice_index x 0 == 34) j) ∙ ne_eqb _ 34 away))
+
+-- ---- behind whitespace
+
+piece_first : (e : Step) (r b : List ℕ) → Piece e b → StopsAt is_space (b ++ r)
+piece_first step.null r b h = (value_heads null).no_space b r h
+piece_first (boolean x) r b h = (value_heads (truth x)).no_space b r h
+piece_first (string s) r b h = (value_heads (str s)).no_space b r h
+piece_first (negative n) r b h = (value_heads (neg n)).no_space b r h
+piece_first (nonnegative n) r b h = (value_heads (nonneg n)).no_space b r h
+piece_first (float x) r b h = (value_heads (num x)).no_space b r h
+piece_first seq r b h = rw h refl
+piece_first map r b h = rw h refl
+piece_first element r b h = absurd h
+piece_first (key s) r b h = absurd h
+piece_first finish r b h = absurd h
+
+pub start_takes : (s t : List ℕ) (e : Step) (r : List ℕ) → t ≡ after_run is_space s → TakesToken t e r → Starts s e r
+start_takes s t e r j h = (stands_of (Piece e) s t r j h.0, h.1)
+
+pub start_only : (s t : List ℕ) (e : Step) (r : List ℕ) → t ≡ after_run is_space s → Starts s e r → TakesToken t e r
+start_only s t e r j h = (stands_only (Piece e) s t r (piece_first e r) j h.0, h.1)
+
+-- ---- strings
+
+pub string_taken : (cs t s r : List ℕ) → slice_index t 0 ≡ 34 → Chars cs (drop 1 t) r → s ≡ encode_utf8_all cs → TakesToken t (string s) r
+string_taken cs t s r at h e = (string_leads cs t s r at h e, tt)
+
+no_quote : (b t r : List ℕ) (k : ℕ) → Head b k → (k ≡ 4 → ⊥) → slice_index t 0 ≡ 34 → t ≡ b ++ r → ⊥
+no_quote b t r k h away at j =
+    let first : h.byte ≡ 34 = sym (ap (λ x. slice_index x 0) (j ∙ ap (λ x. x ++ r) h.is)) ∙ at in
+    away (sym h.of_kind ∙ ap kind_of_byte first)
+
+no_byte : (b t r : List ℕ) (c : ℕ) → b ≡ c ∷ [] → (c ≡ 34 → ⊥) → slice_index t 0 ≡ 34 → t ≡ b ++ r → ⊥
+no_byte b t r c h away at j = away (sym (ap (λ x. slice_index x 0) (j ∙ ap (λ x. x ++ r) h)) ∙ at)
+
+pub string_refused : (t : List ℕ) → slice_index t 0 ≡ 34 → ((cs r : List ℕ) → Chars cs (drop 1 t) r → ⊥) → (e : Step) (r : List ℕ) → TakesToken t e r → ⊥
+string_refused t at never step.null r ((b, h, j), k) = no_quote b t r 0 (value_head null b h) (λ n. omega arith) at j
+string_refused t at never (boolean x) r ((b, h, j), k) = no_quote b t r 1 (value_head (truth x) b h) (λ n. omega arith) at j
+string_refused t at never (negative n) r ((b, h, j), k) = no_quote b t r 3 (value_head (neg n) b h) (λ n. omega arith) at j
+string_refused t at never (nonnegative n) r ((b, h, j), k) = no_quote b t r 3 (value_head (nonneg n) b h) (λ n. omega arith) at j
+string_refused t at never (float x) r ((b, h, j), k) = no_quote b t r 3 (value_head (num x) b h) (λ n. omega arith) at j
+string_refused t at never (string s) r ((b, h, j), k) = never h.characters r (string_chars b s t r h j)
+string_refused t at never seq r ((b, h, j), k) = no_byte b t r 91 h (λ n. omega arith) at j
+string_refused t at never map r ((b, h, j), k) = no_byte b t r 123 h (λ n. omega arith) at j
+string_refused t at never element r ((b, h, j), k) = h
+string_refused t at never (key s) r ((b, h, j), k) = h
+string_refused t at never finish r ((b, h, j), k) = h
+
+-- ---- an answer without a string
+
+plain_taken : (t u : List ℕ) (e : answer.Event) (r : List ℕ) → slice_index t 0 ≢ 34 → TakesToken t (event_of_token e []) r → TakesToken t (event_of_token e u) r
+plain_taken t u event.Null r away h = h
+plain_taken t u (event.Bool b) r away h = h
+plain_taken t u (event.Negative n) r away h = h
+plain_taken t u (event.Nonnegative n) r away h = h
+plain_taken t u (event.Number x) r away h = h
+plain_taken t u (event.Str (text.Input x)) r away h = h
+plain_taken t u (event.Str text.Scratch) r away ((b, h, j), k) = absurd (away (ap (λ x. slice_index x 0) (j ∙ ap (λ x. x ++ r) h.text)))
+plain_taken t u event.SeqStart r away h = h
+plain_taken t u event.MapStart r away h = h
+
+pub read_taken : (t u : List ℕ) (e : answer.Event) (r : List ℕ) → slice_index t 0 ≢ 34 → token_at t ≡ Some (event_of_token e [], r) → TakesToken t (event_of_token e u) r
+read_taken t u e r away h = plain_taken t u e r away (front_takes t (event_of_token e []) r h)
+
+no_string : (t x r : List ℕ) → slice_index t 0 ≢ 34 → TakesToken t (string x) r → ⊥
+no_string t x r away ((b, h, j), k) = away (ap (λ l. slice_index l 0) (j ∙ ap (λ l. l ++ r) h.text))
+
+pub read_text : (t u : List ℕ) (e : answer.Event) (r : List ℕ) → slice_index t 0 ≢ 34 → TakesToken t (event_of_token e u) r → EventTakesText e t r
+read_text t u event.Null r away h = tt
+read_text t u (event.Bool b) r away h = tt
+read_text t u (event.Negative n) r away h = tt
+read_text t u (event.Nonnegative n) r away h = tt
+read_text t u (event.Number x) r away h = tt
+read_text t u (event.Str x) r away h = absurd (no_string t _ r away h)
+read_text t u event.SeqStart r away h = tt
+read_text t u event.MapStart r away h = tt
+
+pub keeps : {S : Type 0} (e : answer.Event) (x : S) → EventLeavesScratch e x x
+keeps event.Null x = refl
+keeps (event.Bool b) x = refl
+keeps (event.Negative n) x = refl
+keeps (event.Nonnegative n) x = refl
+keeps (event.Number y) x = refl
+keeps (event.Str (text.Input y)) x = refl
+keeps (event.Str text.Scratch) x = tt
+keeps event.SeqStart x = refl
+keeps event.MapStart x = refl
+
+-- ---- what is borrowed
+
+pub string_text : (x : Text) (t s r : List ℕ) → slice_index t 0 ≡ 34 → s ≡ drop 1 t → TakesText x s r → BeginsWith (Between 34 (StandsFor x) 34) t r
+string_text x t s r at e (inside, j, h) =
+    (34 ∷ (inside ++ 34 ∷ []), record { inside = inside; text = refl; is_inside = h }, first_byte t 33 at ∙ ap (λ y. 34 ∷ y) (sym e ∙ j ∙ sym (append_assoc inside (34 ∷ []) r)))
+
+pub text_behind : (s t : List ℕ) (e : answer.Event) (r : List ℕ) → t ≡ after_run is_space s → EventTakesText e t r → EventStandsFor e s r
+text_behind s t event.Null r j h = tt
+text_behind s t (event.Bool b) r j h = tt
+text_behind s t (event.Negative n) r j h = tt
+text_behind s t (event.Nonnegative n) r j h = tt
+text_behind s t (event.Number y) r j h = tt
+text_behind s t (event.Str x) r j h = stands_of (Between 34 (StandsFor x) 34) s t r j h
+text_behind s t event.SeqStart r j h = tt
+text_behind s t event.MapStart r j h = tt
+
+pub backslash_behind : (s t : List ℕ) → t ≡ after_run is_space s → slice_index t 0 ≡ 34 → ReachesBackslash (drop 1 t) → BeginsEscaped s
+backslash_behind s t j at (p, q, h, e) =
+    let b : List ℕ = 34 ∷ (p ++ 92 ∷ []) in
+    let one : Between 34 (AllByRecursion (λ c. is_special c ≡ false)) 92 b = record { inside = p; text = refl; is_inside = h } in
+    (q, stands_of (Between 34 (AllByRecursion (λ c. is_special c ≡ false)) 92) s t q j (b, one, first_byte t 33 at ∙ ap (λ y. 34 ∷ y) (e ∙ sym (append_assoc p (92 ∷ []) q))))

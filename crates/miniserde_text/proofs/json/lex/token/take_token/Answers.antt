@@ -1,0 +1,67 @@
+-- Behind a quote each fact is one of `take_string`. Elsewhere the functions on lists tell what is read, and that it is
+-- no string.
+use Rattle.std.proofs.Common.{◌≡◌, ◌≢◌, Err, Some, None, ℕ, List, [], drop, slice_index, ap, subst, arith}
+use Rattle.std.proofs.lemmas.Result.{err_from_is_err_and}
+use Rattle.miniserde_model.specs.declared.error.Error.TheVariants.{Invalid, Memory}
+use Rattle.miniserde_text.specs.Lexer.{event_of_token}
+use Rattle.miniserde_text.specs.private.Reading.{token_at}
+use Rattle.miniserde_text.specs.private.Inside.{Chars, ReachesBackslash}
+use Rattle.miniserde_text.proofs.Tokens.{string_taken, string_refused, read_taken, front_refused, read_text, keeps, string_text}
+use Rattle.miniserde_text.proofs.json.lex.token.take_token.Goals as goal
+
+pub returns-in_err-text-clause-invalid : goal.returns-in_err-text-clause-invalid
+returns-in_err-text-clause-invalid c is e r h =
+    let s = drop c.args.at c.args.text.now in
+    let next : drop c.skip.result c.args.text.now ≡ drop 1 s = grind arith in
+    let q = err_from_is_err_and c.from_residual.result c.from_residual.ensures.1 in
+    let v : c.in_err-text.field-0.0 ≡ Invalid = cc (q.1, q.2) in
+    let at : slice_index s 0 ≡ 34 = grind arith in
+    string_refused s at (subst (λ x. (cs r : List ℕ) → Chars cs x r → ⊥) next (c.in_err-text.ensures.invalid (ap Err v))) e r h
+
+pub returns-in_err-text-clause-memory : goal.returns-in_err-text-clause-memory
+returns-in_err-text-clause-memory c is =
+    let s = drop c.args.at c.args.text.now in
+    let next : drop c.skip.result c.args.text.now ≡ drop 1 s = grind arith in
+    let q = err_from_is_err_and c.from_residual.result c.from_residual.ensures.1 in
+    let v : c.in_err-text.field-0.0 ≡ Memory = cc (q.1, q.2) in
+    let at : slice_index s 0 ≡ 34 = grind arith in
+    (at, subst ReachesBackslash next (c.in_err-text.ensures.memory (ap Err v)))
+
+pub returns-then-first-eq34-clause-ok : goal.returns-then-first-eq34-clause-ok
+returns-then-first-eq34-clause-ok c =
+    let s = drop c.args.at c.args.text.now in
+    let next : drop c.skip.result c.args.text.now ≡ drop 1 s = grind arith in
+    let at : slice_index s 0 ≡ 34 = grind arith in
+    let q = c.in_ok-text.ensures.ok in
+    string_taken q.0 s _ (drop c.in_ok-text.end c.args.text.now) at (subst (λ x. Chars q.0 x (drop c.in_ok-text.end c.args.text.now)) next q.1) q.2
+
+pub returns-then-first-eq34-clause-text : goal.returns-then-first-eq34-clause-text
+returns-then-first-eq34-clause-text c =
+    let s = drop c.args.at c.args.text.now in
+    let next : drop c.skip.result c.args.text.now ≡ drop 1 s = grind arith in
+    let at : slice_index s 0 ≡ 34 = grind arith in
+    string_text c.in_ok-text.text s (drop c.skip.result c.args.text.now) (drop c.in_ok-text.end c.args.text.now) at next c.in_ok-text.ensures.text
+
+pub returns-in-Some-clause-ok : goal.returns-in-Some-clause-ok
+returns-in-Some-clause-ok c =
+    let s = drop c.args.at c.args.text.now in
+    let away : slice_index s 0 ≢ 34 = λ e. grind arith in
+    let read : token_at s ≡ Some (event_of_token c.in-Some.taken.0 [], drop c.in-Some.taken.1 c.args.text.now) = grind arith in
+    read_taken s _ c.in-Some.taken.0 _ away read
+
+pub returns-in-Some-clause-text : goal.returns-in-Some-clause-text
+returns-in-Some-clause-text c =
+    let s = drop c.args.at c.args.text.now in
+    let away : slice_index s 0 ≢ 34 = λ e. grind arith in
+    let read : token_at s ≡ Some (event_of_token c.in-Some.taken.0 [], drop c.in-Some.taken.1 c.args.text.now) = grind arith in
+    read_text s [] c.in-Some.taken.0 _ away (read_taken s [] c.in-Some.taken.0 _ away read)
+
+pub returns-in-Some-clause-unchanged : goal.returns-in-Some-clause-unchanged
+returns-in-Some-clause-unchanged c = keeps c.in-Some.taken.0 _
+
+pub returns-in-None-clause-invalid : goal.returns-in-None-clause-invalid
+returns-in-None-clause-invalid c is e r h =
+    let s = drop c.args.at c.args.text.now in
+    let away : slice_index s 0 ≢ 34 = λ e. grind arith in
+    let read : token_at s ≡ None = grind arith in
+    front_refused s away read e r h

@@ -1,0 +1,120 @@
+//! The front of a value, and the name of a member.
+ghost use Rattle.std.specs.Prelude.{◌≡◌, ◌-◌, ◌<◌, ◌≤◌, [], drop, length, ℕ, List, Err, IfOk, IfSome};
+ghost use Rattle.std.specs.Prelude.{option_map, slice_index};
+ghost use Rattle.std.specs.String.{string_bytes};
+ghost use Rattle.miniserde_model.specs.Step as step;
+ghost use Rattle.miniserde_text.specs.Lexer.{event_of_token, text_of, LeavesScratch, EventLeavesScratch};
+ghost use Rattle.miniserde_text.specs.private.Reading.{word_at, token_by};
+ghost use Rattle.miniserde_text.specs.private.Inside.{TakesToken, TakesName, EventTakesText, NameTakesText};
+ghost use Rattle.miniserde_text.specs.private.Inside.{ReachesBackslash};
+
+use super::bytes::skip;
+use super::number::take_number;
+use super::space::after_space;
+use super::string::take_string;
+use super::{Event, Text};
+use miniserde_model::error::{Error, Result};
+
+// Takes a word, which ends with an ASCII byte.
+#[tactic(auto, unfolding(crate::specs::private::Reading::word_at))]
+fn take_word<'a>(
+    bytes: &[u8],
+    at: usize,
+    word: &[u8],
+    event: Event<'a>,
+) -> Option<(Event<'a>, usize)>
+    requires within { at ≤ length bytes.now }
+    requires some { 0 < length word.now }
+    requires there { 0 < slice_index word.now (length word.now - 1) }
+    requires ascii { slice_index word.now (length word.now - 1) < 128 }
+    ensures value { option_map (λ x. (event_of_token x.0 [], drop x.1 bytes.now)) result
+        ≡ word_at word.now (event_of_token event.entry []) (drop at bytes.now) }
+    ensures within { IfSome result (λ x. x.1 ≤ length bytes.now) }
+{
+    if bytes[at..].starts_with(word) {
+        Some((event, skip(bytes, at, word.len())))
+    } else {
+        None
+    }
+}
+
+// Takes the front of a value that is no string.
+#[inline(always)]
+#[tactic(auto, unfolding(crate::specs::private::Reading::token_by))]
+fn take_plain<'a>(text: &'a str, at: usize, first: u8) -> Option<(Event<'a>, usize)>
+    requires within { at ≤ length text.now }
+    requires first { first ≡ slice_index (drop at text.now) 0 }
+    ensures value { option_map (λ x. (event_of_token x.0 [], drop x.1 text.now)) result
+        ≡ token_by first (drop at text.now) }
+    ensures within { IfSome result (λ x. x.1 ≤ length text.now) }
+{
+    let bytes = text.as_bytes();
+    match first {
+        b'n' => take_word(bytes, at, b"null", Event::Null),
+        b't' => take_word(bytes, at, b"true", Event::Bool(true)),
+        b'f' => take_word(bytes, at, b"false", Event::Bool(false)),
+        b'[' => Some((Event::SeqStart, skip(bytes, at, 1))),
+        b'{' => Some((Event::MapStart, skip(bytes, at, 1))),
+        _ => take_number(text, at, first),
+    }
+}
+
+/// Takes the front of a value. `first` is the byte at `at`.
+#[inline(always)]
+pub(super) fn take_token<'a>(
+    text: &'a str,
+    at: usize,
+    first: u8,
+    scratch: &mut String,
+) -> Result<(Event<'a>, usize)>
+    requires within { at ≤ length text.now }
+    requires first { first ≡ slice_index (drop at text.now) 0 }
+    ensures ok { IfOk result (λ x.
+        TakesToken (drop at text.now) (event_of_token x.0 (string_bytes scratch.new)) (drop x.1 text.now)) }
+    ensures text { IfOk result (λ x. EventTakesText x.0 (drop at text.now) (drop x.1 text.now)) }
+    ensures within { IfOk result (λ x. x.1 ≤ length text.now) }
+    ensures unchanged { IfOk result (λ x. EventLeavesScratch x.0 scratch.old scratch.new) }
+    ensures memory { result ≡ Err Error.Memory
+        → (slice_index (drop at text.now) 0 ≡ 34) × ReachesBackslash (drop 1 (drop at text.now)) }
+    ensures invalid { result ≡ Err Error.Invalid
+        → (e : step.Step) (r : List ℕ) → TakesToken (drop at text.now) e r → ⊥ }
+{
+    if first == b'"' {
+        let (text, end) = take_string(text, skip(text.as_bytes(), at, 1), scratch)?;
+        return Ok((Event::Str(text), end));
+    }
+    match take_plain(text, at, first) {
+        Some(taken) => Ok(taken),
+        None => Err(Error::Invalid),
+    }
+}
+
+/// Takes a string, whitespace and a colon. `first` is the byte at `at`.
+pub(super) fn take_name<'a>(
+    text: &'a str,
+    at: usize,
+    first: u8,
+    scratch: &mut String,
+) -> Result<(Text<'a>, usize)>
+    requires { first ≡ slice_index (drop at text.now) 0 }
+    ensures ok { IfOk result (λ x.
+        TakesName (drop at text.now) (text_of x.0 (string_bytes scratch.new)) (drop x.1 text.now)) }
+    ensures text { IfOk result (λ x. NameTakesText x.0 (drop at text.now) (drop x.1 text.now)) }
+    ensures within { IfOk result (λ x. x.1 ≤ length text.now) }
+    ensures unchanged { IfOk result (λ x. LeavesScratch x.0 scratch.old scratch.new) }
+    ensures memory { result ≡ Err Error.Memory
+        → (slice_index (drop at text.now) 0 ≡ 34) × ReachesBackslash (drop 1 (drop at text.now)) }
+    ensures invalid { result ≡ Err Error.Invalid
+        → (n r : List ℕ) → TakesName (drop at text.now) n r → ⊥ }
+{
+    if first != b'"' {
+        return Err(Error::Invalid);
+    }
+    let bytes = text.as_bytes();
+    let (name, end) = take_string(text, skip(bytes, at, 1), scratch)?;
+    let (colon, byte) = after_space(bytes, end);
+    if byte != b':' {
+        return Err(Error::Invalid);
+    }
+    Ok((name, skip(bytes, colon, 1)))
+}

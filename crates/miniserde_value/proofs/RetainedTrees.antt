@@ -1,0 +1,37 @@
+-- What a value keeps of a tree has the tree's normal form, and is the tree where names are in order.
+use Rattle.std.proofs.Common.{◌≡◌, ℕ, ℤ, pos, negsuc, List, sym, refl, ap, ap₂, ◌∙◌}
+use Rattle.miniserde_model.specs.Tree.{Tree, neg, list, members, Trees, no_trees, tree, Members, no_members, member}
+use Rattle.miniserde_model.specs.Normal.{with_first_by, with_first, norm_neg, norm, BeginsAbove, Rise}
+use Rattle.miniserde_model.proofs.Normal.{norm_after}
+use Rattle.miniserde_value.specs.Retained.{retained_tree, retained_children, retained_members}
+use Rattle.miniserde_value.specs.Visits.{IsOrdered, AreOrdered, AreOrderedMembers}
+
+pub norm_kept : (t : Tree) → norm (retained_tree t) ≡ norm t
+norm_kept = norm_after norm_neg neg norm_neg (λ z. refl)
+
+neg_kept : (z : ℤ) → retained_tree (norm_neg z) ≡ norm_neg z
+neg_kept (pos n) = refl
+neg_kept (negsuc n) = refl
+
+-- a normal form is kept as it is
+pub kept_norm : (t : Tree) → norm t ≡ retained_tree (norm t)
+kept_norm t = sym (norm_after neg norm_neg norm_neg neg_kept t)
+
+-- a name below all others stands first
+pub first_of_all : (name : List ℕ) (t : Tree) (ms : Members) → BeginsAbove name ms → with_first name t ms ≡ member name t ms
+first_of_all name t no_members b = refl
+first_of_all name t (member other u ms) b = ap (λ o. with_first_by o name t other u ms (with_first name t ms)) b
+
+mutual
+  pub kept_ordered : (t : Tree) → IsOrdered t → retained_tree t ≡ t
+  kept_ordered (list ts) h = ap list (kept_children_ordered ts h)
+  kept_ordered (members ms) h = ap members (kept_members_ordered ms h.0 h.1)
+  kept_ordered _ h = refl
+
+  pub kept_children_ordered : (ts : Trees) → AreOrdered ts → retained_children ts ≡ ts
+  kept_children_ordered no_trees h = refl
+  kept_children_ordered (tree t ts) h = ap₂ tree (kept_ordered t h.0) (kept_children_ordered ts h.1)
+
+  pub kept_members_ordered : (ms : Members) → Rise ms → AreOrderedMembers ms → retained_members ms ≡ ms
+  kept_members_ordered no_members r h = refl
+  kept_members_ordered (member name t ms) r h = ap₂ (with_first name) (kept_ordered t h.0) (kept_members_ordered ms r.1 h.1) ∙ first_of_all name t ms r.0
