@@ -35,7 +35,7 @@ impl<E: Tagged + HasTag> Record for Tag<E> {
 
     ghost made = { λ x. record { name = x.0 } };
 
-    ghost unrefused = { (λ v. refl, λ x. refl) };
+    ghost bijective = { (λ v. refl, λ x. refl) };
 
     ghost distinct_names = { refl };
 

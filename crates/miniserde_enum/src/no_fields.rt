@@ -28,7 +28,7 @@ impl Record for NoFields {
 
     ghost made = { λ x. record {} };
 
-    ghost unrefused = { (λ v. refl, λ x. refl) };
+    ghost bijective = { (λ v. refl, λ x. refl) };
 
     ghost distinct_names = { refl };
 

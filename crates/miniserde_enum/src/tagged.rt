@@ -23,7 +23,7 @@ pub trait Tagged: Sized + Drop {
         ensures { values result ≡ value };
 
     // Each value of a variant is an enum's.
-    ghost unrefused: { (x : Self.Values) → (v : Self) × (values v ≡ x) };
+    ghost bijective: { (x : Self.Values) → (v : Self) × (values v ≡ x) };
 
     // No name is a duplicate.
     ghost distinct_names: { are_distinct names ≡ true };

@@ -145,7 +145,7 @@ fn main(rt: HostRuntime) -> io::Result<()> {
     let text =
         "{\"port\":80,\"name\":\"a\",\"hosts\":[{\"host\":\"h\",\"weight\":1}],\"limits\":{\"x\":5}}";
     match loading::set_port(alloc, text, 8080) {
-        Ok(set_port) => println!(rt; "settings: {moved}")?,
+        Ok(settings) => println!(rt; "settings: {settings}")?,
         Err(error) => println!(rt; "settings: {error}")?,
     }
     match run_cache(alloc) {
@@ -160,7 +160,7 @@ fn main(rt: HostRuntime) -> io::Result<()> {
     let body =
         "{\"besides\":{\"b\":[1.50],\"a\":null},\"items\":[{\"goods\":\"nails\",\"count\":100}],\"client\":\"c\"}";
     match bodies::add_note(alloc, body, "by noon") {
-        Ok(add_note) => println!(rt; "request: {noted}")?,
+        Ok(request) => println!(rt; "request: {request}")?,
         Err(error) => println!(rt; "request: {error}")?,
     }
     match found(alloc, body) {

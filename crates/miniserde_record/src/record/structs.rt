@@ -27,7 +27,7 @@ pub trait Record: Sized + Drop {
         ensures { values result ≡ parts };
 
     // A struct is its fields' values, no more and no less.
-    ghost unrefused: { ((v : Self) → made (values v) ≡ v) × ((x : Self.Values) → values (made x) ≡ x) };
+    ghost bijective: { ((v : Self) → made (values v) ≡ v) × ((x : Self.Values) → values (made x) ≡ x) };
 
     // No name is a duplicate.
     ghost distinct_names: { are_distinct names ≡ true };

@@ -9,5 +9,5 @@ returns g c = λ v r.
     let s = g.E.Tagged in
     let f = g.C.RoundTripCases in
     let shape = external in
-    enum-round_trips f.real (f.tree shape s.names) (f.meaning.reads shape s.names) s.values g.met.E.Tagged.unrefused v
+    enum-round_trips f.real (f.tree shape s.names) (f.meaning.reads shape s.names) s.values g.met.E.Tagged.bijective v
     (c.round_trips.ensures.round_trips shape s.names (s.values v) c.round_trips.ensures.external (distinct_names f.meaning.count s.names c.requires g.met.E.Tagged.distinct_names) r)

@@ -10,7 +10,7 @@ returns g c = λ v r.
     let s = g.S.Record in
     let f = g.F.RoundTripFields in
     let a = c.round_trips.ensures s.names (s.values v) (distinct_names f.meaning.count s.names c.requires g.met.S.Record.distinct_names) r in
-    let same = sym (g.met.S.Record.unrefused.1 a.0.0) in (
+    let same = sym (g.met.S.Record.bijective.1 a.0.0) in (
       (
         s.made a.0.0,
         subst f.real same a.0.1,
