@@ -1,4 +1,5 @@
--- The text of a draft, cut before each member.
+-- The text of a draft, cut before each member, is a chain of the members' texts, and each step of a draft keeps the
+-- chain. By induction over the members: the seam before a member has its comma, its place and its name.
 use Rattle.std.proofs.Common.{◌≡◌, ◌+◌, ℕ, suc, List, [], ◌∷◌, ◌++◌, length, refl, sym, ap, subst, ◌∙◌, append_assoc, append-nil, arith, length-append}
 use Rattle.miniserde_canonical.specs.declared.spread.Hole.{Hole}
 use Rattle.miniserde_canonical.specs.declared.member.Member.{Member}

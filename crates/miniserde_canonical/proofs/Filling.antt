@@ -1,4 +1,5 @@
--- The groups are written in the place of their holes.
+-- `fill_holes` writes the text that a draft and its groups hold, and its loops end. The invariant is that the bytes
+-- written and the text of the waiting spans make the whole text, while the measure of these spans decreases.
 use Rattle.std.proofs.Common.{◌≡◌, ◌≤◌, ◌<◌, ◌-◌, ◌+◌, ◌*◌, ◌^◌, ℕ, zero, suc, true, nat_eq, List, [], ◌∷◌, ◌++◌, length, take, drop, get_or, refl, sym, ap, ap₂, subst, ◌∙◌, append_assoc, append-nil, arith, length-append, drop-cons, add-one, inl, inr}
 use Rattle.std.proofs.Math.Pow.{pow_mono}
 use Rattle.std.proofs.Math.Nat.{pow-suc}

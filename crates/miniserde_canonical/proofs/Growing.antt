@@ -1,4 +1,5 @@
--- A run over the tokens of a tree makes the compact text of its normal form.
+-- A run over the tokens of a tree makes the compact text of its normal form. By recursion over the tree: a leaf adds
+-- its text, and the end of an object arranges the texts of its members by name.
 use Rattle.std.proofs.Common.{◌≡◌, ◌≤◌, ℕ, suc, Bool, true, false, ◌&&◌, nat_eq, List, [], ◌∷◌, ◌++◌, length, take, drop, refl, sym, ap, ap₂, subst, ◌∙◌, append_assoc, append-nil, arith, Ordering, Less, Equal, Greater, inl, inr, length-append}
 use Rattle.std.proofs.Math.Bool.{and-true, and_assoc}
 use Rattle.std.proofs.Math.Seq.{take-append_seam, drop-append_seam}

@@ -1,4 +1,5 @@
--- What is so of a text's canonical text.
+-- The canonical text of a text spells the normal form of its tree, is the shortest to do so, and is its own canonical
+-- text. A text has one tree (`one_tree`), so each is a fact of the compact text of that tree's normal form.
 use Rattle.std.proofs.Common.{◌≡◌, ◌≤◌, ◌↔◌, ℕ, List, length, sym, ap, subst, ◌∙◌}
 use Rattle.miniserde_model.specs.Tree.{Tree}
 use Rattle.miniserde_model.specs.Value.{IsJson}

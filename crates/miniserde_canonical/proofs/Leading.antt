@@ -1,4 +1,5 @@
--- Names whose first eight bytes are below others are below them.
+-- If the first eight bytes of a name are below those of another as a number, the name is below the other. By
+-- induction over the bytes: the first bytes differ and decide, or they are equal and the rest decides.
 use Rattle.std.proofs.Common.{◌≡◌, ◌<◌, ◌≤◌, ◌+◌, ◌*◌, ◌^◌, ℕ, zero, suc, List, [], ◌∷◌, get_or, refl, sym, ap, ◌∙◌, arith, Less, Equal, Greater, inl, inr}
 use Rattle.std.specs.Int.{from_be_bytes, w64}
 use Rattle.std.specs.Ordering.{ordering_then, ordering_reverse}

@@ -1,4 +1,5 @@
--- Members of an object as rows: sorted, and without repeats.
+-- The members of an object, sorted by name and reduced to the last of equal names, are its normal form. Their names
+-- rise, each name has its last tree, and by `norm_only` no other members have both properties.
 use Rattle.std.proofs.Common.{◌≡◌, ◌<◌, ℕ, zero, suc, ◌+◌, List, [], ◌∷◌, ◌++◌, length, drop, get_or, refl, sym, ap, ap₂, subst, ◌∙◌, arith, drop-cons, add-one, Ordering, Less, Equal, Greater, bytes_eq, Bool, true, false, cond, not, ◌&&◌, Option, Some, None, option_map, is_some, is_lt, filter, true≢false, IsSortedByKey}
 use Rattle.std.specs.Ordering.{ordering_reverse}
 use Rattle.std.specs.List.{range_with_len}

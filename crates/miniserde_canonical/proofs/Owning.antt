@@ -1,4 +1,5 @@
--- The span of each member of an object holds its text.
+-- The span of each member of an object holds its text. By recursion over the index: `own_tail` removes the first
+-- member until `own_first` reads the span of the member asked for.
 use Rattle.std.proofs.Common.{◌≡◌, ◌≤◌, ◌-◌, ◌+◌, ℕ, zero, suc, List, [], ◌∷◌, ◌++◌, length, drop, refl, sym, ap, subst, ◌∙◌, append_assoc, arith, length-append}
 use Rattle.std.proofs.lemmas.List.{drop_all}
 use Rattle.miniserde_canonical.specs.declared.spread.Place.{Place}

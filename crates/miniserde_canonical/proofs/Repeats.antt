@@ -1,4 +1,5 @@
--- A normal form has as many members as its object if no name is duplicated, and else fewer.
+-- A normal form has as many members as its object if no name is duplicated, and else fewer. By induction over the
+-- members: `with_first` adds a member if its name is new, and adds none otherwise.
 use Rattle.std.proofs.Common.{◌≡◌, ◌≤◌, ◌<◌, ℕ, suc, nat_eq, Bool, true, false, not, ◌&&◌, List, Option, Some, None, option_map, bytes_eq, cond, is_some, refl, sym, ap, ◌∙◌, arith, Ordering, Less, Equal, Greater, true≢false}
 use Rattle.std.proofs.lemmas.Cmp.{nat_list_cmp_total, tied_itself}
 use Rattle.std.proofs.lemmas.Map.Lookups.{exact_bytes}

@@ -1,4 +1,5 @@
--- Runs of the input that go to the text of a draft.
+-- Each step of a draft extends its run of the input, flushes it, or begins a new run. The invariant `Wrote` splits
+-- the input into a front, the run and the rest, and each lemma moves bytes from one part to the next.
 use Rattle.std.proofs.Common.{◌≡◌, ◌≤◌, ◌-◌, ◌+◌, ℕ, ℤ, pos, negsuc, zero, suc, decimal, List, [], ◌∷◌, ◌++◌, length, refl, sym, ap, subst, ◌∙◌, append_assoc, append-nil, arith, length-append}
 use Rattle.std.proofs.lemmas.Int.{ints}
 use Rattle.std.proofs.lemmas.Fmt.{decimal_digit}

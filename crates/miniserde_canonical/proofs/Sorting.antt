@@ -1,4 +1,5 @@
--- The members of an object are put in order.
+-- `sort_members` puts the members of an object in the order of their names, each name once. `put_members` has the
+-- members put so far as its invariant (`CollectorMeaning`), and `put_back` has two cases: a short text or a hole.
 use Rattle.std.proofs.Common.{◌≡◌, ◌≤◌, ◌<◌, ◌+◌, ℕ, suc, Bool, true, false, nat_eq, List, [], ◌∷◌, ◌++◌, map, length, take, drop, get_or, refl, sym, ap, ap₂, subst, ◌∙◌, append_assoc, append-nil, arith, length-append, IsSortedByKey}
 use Rattle.std.specs.List.{range_with_len}
 use Rattle.std.proofs.Math.Seq.{take-append_seam}

@@ -1,4 +1,5 @@
--- Texts with holes: how they are joined, moved and cut.
+-- A text with holes holds its text also after it is joined with another, moved, or given more groups. By induction
+-- over `Holds` (the end, a byte, a hole), and over the list of holes for the order of the groups.
 use Rattle.std.proofs.Common.{◌≡◌, ◌≤◌, ◌-◌, ◌+◌, ℕ, zero, suc, List, [], ◌∷◌, ◌++◌, map, length, take, drop, refl, sym, ap, ap₂, subst, ◌∙◌, append_assoc, append-nil, arith, length-append}
 use Rattle.std.proofs.Math.Seq.{take-append_seam, drop-append_seam}
 use Rattle.std.proofs.lemmas.List.{take-append-le, drop-append-le, length-drop, take_all, drop_all}

@@ -1,4 +1,5 @@
--- A reader takes tokens, and its draft with it.
+-- The draft of a reader takes each token that the reader takes. `Taken` is the invariant of the reader's loop: the
+-- tokens so far, a run over them from the start, and a draft that represents the state of the run.
 use Rattle.std.proofs.Common.{◌≡◌, ◌≤◌, ℕ, Bool, true, false, None, is_some, List, [], ◌∷◌, ◌++◌, length, refl, sym, ap, subst, ◌∙◌, arith, length-append, append_assoc}
 use Rattle.miniserde_model.specs.Tree.{Tree}
 use Rattle.miniserde_model.specs.Value.{IsJson}

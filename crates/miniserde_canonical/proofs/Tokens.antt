@@ -1,4 +1,5 @@
--- What spells a value that is due begins with its front.
+-- If a value is due, all events that the text spells begin with the event of the lexer's token. By cases of the first
+-- event (`spells_start`), and because two events at the front of one text are equal (`same_start`).
 use Rattle.std.proofs.Common.{◌≡◌, ℕ, ◌<◌, is_some, List, [], ◌∷◌, ◌++◌, refl, sym, ap, subst, ◌∙◌, arith}
 use Rattle.miniserde_model.specs.Whitespace.{IsWhitespace}
 use Rattle.miniserde_model.specs.Step.{Step, boolean, string, negative, nonnegative, float, seq, map}

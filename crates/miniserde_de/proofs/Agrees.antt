@@ -1,4 +1,6 @@
--- Parts whose meanings agree make wholes whose meanings agree.
+-- If the meanings of the parts agree, the meanings of lists, arrays, boxes, options, pairs and maps agree. For each
+-- type one lemma compares the values that a tree means and one whether it means any, by recursion over the tree's
+-- children.
 use Rattle.std.proofs.Common.{◌≡◌, ℕ, suc, nat_eq, cond, length, true, false, List, [], ◌∷◌, Option, Some, None, refl, sym, ap, ◌∙◌}
 use Rattle.std.specs.Prelude.{◌&&◌, is_some, IsSome, option_map, option_and_then, ⊤}
 use Rattle.miniserde_model.specs.Tree.{Tree, null, list, members, Trees, no_trees, tree, Members, no_members, member}

@@ -1,4 +1,5 @@
--- What a place has once it was fed the events of a whole tree.
+-- A place that was fed the events of a tree is complete, and its outcome is the content of the tree. The events of a
+-- tree complete a fresh place (`EventsComplete`), whose outcome agrees with `from_tree`.
 use Rattle.std.proofs.Common.{◌≡◌, List, [], ◌∷◌, Option, Some, None, true≢false, sym, ◌∙◌, ap, subst, append-nil}
 use Rattle.std.specs.Prelude.{is_some}
 use Rattle.miniserde_model.specs.Tree.{Tree}

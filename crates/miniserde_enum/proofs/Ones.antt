@@ -1,4 +1,5 @@
--- An enum that is being read: the one member of its object, or its string.
+-- The members of an object, read one by one, give the variant that the object is, and with a second member they give
+-- none. By cases of the members (none, one, more), and by `due_goes` for the value of the first.
 use Rattle.std.proofs.Common.{◌≡◌, ℕ, true, false, List, Option, Some, None, refl, sym, ap, ◌∙◌}
 use Rattle.std.specs.Prelude.{option_and_then, option_map}
 use Rattle.miniserde_model.specs.Tree.{Tree, members, Members, no_members, member}

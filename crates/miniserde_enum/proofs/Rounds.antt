@@ -1,4 +1,5 @@
--- The round trip of an enum and its injective tree, variant by variant, if no two names are equal.
+-- If no two names are equal, an enum has its round trip and its tree is injective. Each lemma is one step of the
+-- recursion over the variants: the first name differs from the later ones, so no tree is read as two variants.
 use Rattle.std.proofs.Common.{◌≡◌, ℕ, ◌+◌, true, false, ◌&&◌, nat_eq, List, [], ◌∷◌, length, Option, Some, None, refl, sym, ap, subst, ◌∙◌, true≢false}
 use Rattle.std.proofs.lemmas.Option.{same_Some}
 use Rattle.std.specs.Prelude.{◌↔◌, bytes_eq, option_and_then, ⊤}

@@ -1,4 +1,5 @@
--- The tag of an object, read as the name of a variant.
+-- The tag, read as a field of its object, gives the same content as the meaning of the enum. By recursion over the
+-- members the last tag is the same in both, and the tag and the data have one tree (`value_same`).
 use Rattle.std.proofs.Common.{◌≡◌, ℕ, true, false, cond, not, ◌&&◌, List, [], ◌∷◌, Option, Some, None, refl, sym, ap, subst, ◌∙◌}
 use Rattle.std.specs.Prelude.{option_map, option_and_then, bytes_eq}
 use Rattle.std.specs.Option.{option_or}

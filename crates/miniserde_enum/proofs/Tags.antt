@@ -1,4 +1,6 @@
--- Objects with a tag.
+-- An internally tagged enum reads from the normal form of a tree the content that it reads from the tree, and its
+-- tree is read back. The tag is a field (`stable-field`), and by recursion over the members no other member has its
+-- name.
 use Rattle.std.proofs.Common.{◌≡◌, ℕ, suc, Bool, true, false, cond, List, [], ◌∷◌, Option, Some, None, refl, sym, ap, ◌∙◌, arith}
 use Rattle.std.specs.Prelude.{option_map, option_and_then, bytes_eq}
 use Rattle.std.specs.Option.{option_or}

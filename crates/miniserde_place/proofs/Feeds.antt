@@ -1,4 +1,5 @@
--- What the engine answers at each of its ends, in plain variables.
+-- Each exit of `feed_from` fulfils its contract: success, `Invalid`, and the state of the place after an error. The
+-- moves so far (`Moved`) follow the first event, and together they are all events of a tree, or the first of them.
 use Rattle.std.proofs.Common.{◌≡◌, ℕ, Bool, true, false, Option, Some, None, is_some, Result, Ok, Err, IfErr, inl, inr, ◌⊎◌, List, [], ◌∷◌, ◌++◌, append-nil, refl, sym, ap, subst, ◌∙◌, true≢false}
 use Rattle.miniserde_model.proofs.Events.{events_complete}
 use Rattle.miniserde_model.specs.Tree.{Tree, null}

@@ -1,4 +1,5 @@
--- Where the text is moved on with the place, or ends the value.
+-- Moves compose, and if the rest of a text bars every value, the whole text does. Each lemma appends the events of
+-- two moves, or carries a bar back over the events of a move.
 use Rattle.std.proofs.Common.{ℕ, Option, List, [], ◌∷◌, ◌++◌, refl, sym, ap, subst, ◌∙◌, append_assoc}
 use Rattle.miniserde_model.specs.Step.{Step}
 use Rattle.miniserde_model.specs.Position.{Position, Completes}

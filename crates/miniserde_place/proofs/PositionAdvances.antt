@@ -1,4 +1,5 @@
--- What the events of a place lead to, several of them.
+-- If two lists of events advance a place one after the other, the appended list does, and the events of a tree
+-- complete a fresh place. By induction over the first list (`next_by-append`, `completes_on`).
 use Rattle.std.proofs.Common.{◌≡◌, Option, List, [], ◌∷◌, ◌++◌, refl, sym, ap, subst, ◌∙◌, append_assoc, append-nil}
 use Rattle.miniserde_model.specs.Tree.{Tree}
 use Rattle.miniserde_model.specs.Step.{Step, events}

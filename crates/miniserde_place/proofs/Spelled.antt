@@ -1,4 +1,5 @@
--- Which events some text spells, and that what has begun can be completed.
+-- Some text spells the events that the engine hands on, and events that begin a value can be completed. By cases of
+-- the event, each with a text, and by recursion over the open containers, which are closed one by one.
 use Rattle.std.proofs.Common.{◌≡◌, ℕ, Bool, true, false, Some, is_some, List, [], ◌∷◌, ◌++◌, length, codes, refl, sym, ap, subst, ◌∙◌, true≢false, arith, length-append}
 use Rattle.std.specs.Prelude.{⊤}
 use Rattle.miniserde_model.specs.Tree.{Tree}

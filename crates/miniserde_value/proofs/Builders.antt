@@ -1,4 +1,5 @@
--- What each call makes of a builder's hole.
+-- A closed container is put into the hole around it, and a value put into an open object stands under its name. By
+-- the equations of the builder's lists: an array takes the values after its mark, an object the last open object.
 use Rattle.std.proofs.Common.{◌≡◌, ℕ, List, [], ◌∷◌, Option, Some, None, option_map, map, take, drop, String, BTreeMap, Global, string_bytes, string_cmp, refl, sym, ap, ap₂, ◌∙◌}
 use Rattle.std.proofs.lemmas.List.{take-map, drop-map}
 use Rattle.std.specs.BTreeMap.{insert_entry}

@@ -1,4 +1,5 @@
--- What each step of the reader builds, and what it gives at its end.
+-- Each step of the reader passes events of the text, and makes the next hole of them. By cases of the event (first
+-- token, element, name, end); `Builds-append` joins the steps, and `read_ok` and `read_none` are the two ends.
 use Rattle.std.proofs.Common.{cond, ◌≡◌, ℕ, Bool, true, false, Option, Some, None, is_some, option_map, List, [], ◌∷◌, ◌++◌, append_assoc, append-nil, refl, sym, ap, subst, ◌∙◌}
 use Rattle.std.proofs.Math.Bool.{and-false}
 use Rattle.std.specs.Prelude.{◌&&◌, option_and_then, Result, Ok, Err, IfOk, OnOk}

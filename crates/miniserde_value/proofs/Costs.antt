@@ -1,4 +1,5 @@
--- How often values are still to be taken in hand.
+-- The looks that dropping a value takes are at least as many as its values, and at most twice as many. By induction
+-- over the value (`tree_ind`): its cost is computed from the costs of its children.
 use Rattle.std.proofs.Common.{◌≡◌, ℕ, suc, ◌+◌, ◌*◌, ◌≤◌, List, [], ◌∷◌, ◌++◌, map, ap, arith}
 use Rattle.miniserde_value.specs.declared.json.value.Value.{Value}
 use Rattle.miniserde_value.specs.Values.{children}

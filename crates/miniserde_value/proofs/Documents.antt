@@ -1,4 +1,5 @@
--- The tree of a document means a document, and each that it means has that tree.
+-- The normal form of a document's tree means a document, and each document that it means has this normal form. By
+-- induction over the value (`tree_ind`): a value of the normal form is made of those of its children.
 use Rattle.std.proofs.Common.{◌≡◌, pos, negsuc, List, [], ◌∷◌, length, String, refl, sym, ap, ap₂, ◌∙◌, arith}
 use Rattle.std.specs.Prelude.{⊤, string_bytes}
 use Rattle.std.specs.Map.{values_of}

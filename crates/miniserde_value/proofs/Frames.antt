@@ -1,4 +1,5 @@
--- What is left of open containers, as one is opened or the innermost is gone on with.
+-- If the innermost container gives an item, a member or its end, that is the first visit that was left. Each lemma
+-- rewrites the lists of open containers by the equations of the step (`GaveItem`, `GaveMember`, `Ended`).
 use Rattle.std.proofs.Common.{◌≡◌, ℕ, List, [], ◌∷◌, reverse, sym, ap, ◌∙◌, subst}
 use Rattle.std.specs.Prelude.{String, string_bytes}
 use Rattle.std.specs.Slice.Iter.{iter_rest}

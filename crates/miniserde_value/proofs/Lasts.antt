@@ -1,4 +1,5 @@
--- The last of a list, which is the first of it reversed.
+-- The last element of a list is the first of the reversed list, also after it was set or removed. By induction over
+-- the list: a list of `k + 1` elements is its first `k` and one more.
 use Rattle.std.proofs.Common.{◌≡◌, ℕ, zero, suc, ◌-◌, List, [], ◌∷◌, ◌++◌, Some, slice_get, length, take, set, get_or, reverse, refl, sym, ap, ◌∙◌, subst, arith}
 use Rattle.std.proofs.lemmas.List.{reverse-append, take-set}
 use Rattle.std.proofs.lemmas.Option.{slice_get_within, get_or_from_slice_get}

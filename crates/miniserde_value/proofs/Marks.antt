@@ -1,4 +1,5 @@
--- What a builder's marks make of its values and open objects.
+-- The marks of a builder still fit its values and open objects after a call that changes them. By induction over the
+-- marks from the innermost on, and by cases of whether the call fails to allocate.
 use Rattle.std.proofs.Common.{◌≡◌, ◌<◌, ◌≤◌, ℕ, suc, List, [], ◌∷◌, ◌++◌, None, Result, Ok, Err, is_ok, Vec, Global, length, take, set, get_or, reverse, refl, sym, ap, ◌∙◌, subst, arith}
 use Rattle.std.specs.Prelude.{if◌then◌else◌, OnOk, OnErr}
 use Rattle.std.proofs.lemmas.List.{length-reverse, length-take}

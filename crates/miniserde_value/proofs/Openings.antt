@@ -1,4 +1,5 @@
--- What a value's first token says of its tree.
+-- The tree of a value is a list only if the first token is `[`, and an object only if it is `{`. By cases of the
+-- tree: only a list begins with the event `seq`, and only an object with `map`.
 use Rattle.std.proofs.Common.{◌≡◌, ℕ, List, Some, None, refl}
 use Rattle.miniserde_model.specs.Tree.{Tree, null, truth, nonneg, neg, num, str, list, members}
 use Rattle.miniserde_model.specs.Step.{seq, map}

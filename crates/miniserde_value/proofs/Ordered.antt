@@ -1,4 +1,5 @@
--- The members of a map: their names rise, an entry that is inserted is put under its name, and a name is found there.
+-- The names of a map's members rise, an inserted entry is put under its name, and a lookup finds a name exactly if a
+-- member has it. By induction over the sorted entries, and by cases of the order of two names.
 use Rattle.std.proofs.Common.{◌≡◌, ℕ, Bool, true, false, cond, List, [], ◌∷◌, Option, Some, None, is_some, bytes_eq, refl, sym, ap, ◌∙◌, String, BTreeMap, Global, string_bytes, string_cmp, Ordering, Less, Equal, Greater}
 use Rattle.std.specs.Ordering.{match_ordering}
 use Rattle.std.specs.Cmp.Lexicographic.{texts_ties}

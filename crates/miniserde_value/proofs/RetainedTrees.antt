@@ -1,4 +1,5 @@
--- What a value keeps of a tree has the tree's normal form, and is the tree where names are in order.
+-- The tree that a value keeps has the normal form of the tree that was read, and is that tree if its names are in
+-- order. The first is `norm_after`, the second is by recursion over the tree: a name below all others stays first.
 use Rattle.std.proofs.Common.{◌≡◌, ℕ, ℤ, pos, negsuc, List, sym, refl, ap, ap₂, ◌∙◌}
 use Rattle.miniserde_model.specs.Tree.{Tree, neg, list, members, Trees, no_trees, tree, Members, no_members, member}
 use Rattle.miniserde_model.specs.Normal.{with_first_by, with_first, norm_neg, norm, BeginsAbove, Rise}

@@ -1,4 +1,5 @@
--- The shape of a value, one level at a time.
+-- The tree of a value is made of the trees of its children, and its size is one more than their sizes. The fold that
+-- defines it is unfolded once (`fold_out-Value`), by cases of the variant.
 use Rattle.std.proofs.Common.{◌≡◌, ℕ, ◌+◌, List, [], ◌∷◌, ◌++◌, map, String, refl, ap, ◌∙◌, arith}
 use Rattle.std.specs.Prelude.{Bool, string_bytes}
 use Rattle.std.specs.Map.{values_of}

@@ -1,4 +1,5 @@
--- What a value keeps of a tree has as many values as the tree's normal form.
+-- The tree that a value keeps has as many values as the normal form of the tree that was read. By recursion over the
+-- tree: the members of both have the same names in the same order, with trees of equal size (`Alike`).
 use Rattle.std.proofs.Common.{◌≡◌, ℕ, ◌+◌, List, refl, ap, ap₂}
 use Rattle.std.specs.Prelude.{⊤, ℤ, pos, negsuc}
 use Rattle.std.specs.declared.cmp.Ordering.{Ordering}

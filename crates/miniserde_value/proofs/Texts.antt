@@ -1,4 +1,5 @@
--- The text of a tree's fronts is its compact text, and fronts that may be written are those of a tree in range.
+-- The visits of a tree with names in order have the compact text of its normal form, and if they are in range, so is
+-- that form. By recursion over the tree, its children and its members, whose names rise.
 use Rattle.std.proofs.Common.{◌≡◌, ℕ, Bool, true, false, List, [], ◌∷◌, ◌++◌, refl, sym, ap, subst, ◌∙◌, append_assoc, append-nil}
 use Rattle.miniserde_model.specs.Tree.{Tree, list, members, Trees, no_trees, tree, Members, no_members, member}
 use Rattle.miniserde_model.specs.Normal.{norm, norm_children, norm_members, BeginsAbove, Rise}

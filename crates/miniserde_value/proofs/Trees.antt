@@ -1,4 +1,5 @@
--- Recursion and induction over values by their children.
+-- Values have a fold and an induction principle over the list of their children. Both are instances of the generated
+-- `fold-Value` and `ind-Value`, in which an array and an object are the list of their values.
 use Rattle.std.proofs.Common.{◌≡◌, List, [], ◌∷◌, map, refl, sym, ap, ◌∙◌, subst}
 use Rattle.std.specs.Map.{values_of}
 use Rattle.miniserde_value.specs.declared.json.value.Value.{Value, out-Value, roll-Value, out-roll-Value, fold-Value, fold_out-Value, ind-Value, map-Value}

@@ -1,4 +1,6 @@
--- What one turn of the walk does to the counts.
+-- Each turn of the loop in `counted` lowers the number of looks left by one, and the sizes of the values add up. By
+-- cases: the value in hand has no child, the current value has none, or the current value is parked in the one in
+-- hand.
 use Rattle.std.proofs.Common.{◌≡◌, suc, ◌+◌, List, [], ◌∷◌, ◌++◌, map, refl, sym, ap, ◌∙◌, arith}
 use Rattle.std.specs.Prelude.{IsTrue, false}
 use Rattle.miniserde_value.specs.declared.json.value.Value.{Value}

@@ -1,4 +1,5 @@
--- The variant of a value, by its tree.
+-- A value is an array exactly if its tree is a list, and an object exactly if its tree has members. By cases of the
+-- variant, whose tree is a lemma of `Shapes.antt`.
 use Rattle.std.proofs.Common.{◌≡◌, Option, Some, None, refl, sym, ap, subst, ◌∙◌}
 use Rattle.miniserde_model.specs.Tree.{Tree}
 use Rattle.miniserde_value.specs.declared.json.value.Value.{Value, out-Value, roll-Value, roll-out-Value}

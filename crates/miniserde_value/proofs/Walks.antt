@@ -1,4 +1,5 @@
--- How a walk begins, at each kind of value.
+-- The first visit of a value is its leaf or the opening of its container, and the visits of the children are left. By
+-- cases of the variant, whose tree is a lemma of `Shapes.antt`.
 use Rattle.std.proofs.Common.{◌≡◌, Bool, List, ◌∷◌, refl, sym, ap, ◌∙◌, subst}
 use Rattle.std.specs.Prelude.{String, string_bytes}
 use Rattle.std.specs.BTreeMap.{BTreeMap}

@@ -1,4 +1,6 @@
--- One front is written, and then others.
+-- If the visits of a tree with names in order are written one after another, the writer adds the compact text of its
+-- normal form. The predicate `Writes` holds of the first visit and of those left, and `text_whole` says that the
+-- visits together have that text.
 use Rattle.std.proofs.Common.{◌≡◌, ℕ, false, List, [], ◌∷◌, ◌++◌, Result, Ok, Err, OnOk, length, sym, ap, subst, ◌∙◌, arith, append-nil, append_assoc, refl}
 use Rattle.miniserde_model.specs.Tree.{Tree}
 use Rattle.miniserde_model.specs.IsTree.{IsTree}

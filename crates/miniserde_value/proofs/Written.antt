@@ -1,4 +1,6 @@
--- The text that fronts are written as, one after another and as a whole.
+-- If the next element or member is not the first before the visits of a tree, it is not the first after them. By
+-- recursion over the tree, its children and its members: an opening sets the flag, and the end of its container
+-- unsets it.
 use Rattle.std.proofs.Common.{◌≡◌, Bool, true, false, List, [], ◌∷◌, Result, Ok, Err, OnOk, refl, ◌∙◌}
 use Rattle.miniserde_model.specs.Tree.{Tree, list, members, Trees, no_trees, tree, Members, no_members, member}
 use Rattle.miniserde_value.specs.Visits.{TreeVisit, leaf, list_ends, name, members_end, visits, child_visits, member_visits, first_flag_after, AreVisits}

@@ -1,4 +1,5 @@
--- Each clause but the first is a fact of canonical texts.
+-- `canonical` returns the canonical text of a text, or `Invalid` if the text is no JSON. The clauses `ok` and
+-- `invalid` are those of `canonicalize`, and each other clause is a lemma of `IsCanonical.antt` or of the model.
 use Rattle.std.proofs.Common.{◌≡◌, sym, subst, string_bytes}
 use Rattle.std.specs.Prelude.{IfOk}
 use Rattle.std.proofs.lemmas.Result.{err_from_is_err_and}

@@ -1,4 +1,6 @@
--- Each clause is a fact of canonical texts, or of trees without duplicate names.
+-- `canonical_unique` returns the canonical text of a text without duplicate names, and `Invalid` for every other
+-- text. By cases of the flag that `canonicalize` returns, with the lemmas of `IsCanonical.antt` for the canonical
+-- text.
 use Rattle.std.proofs.Common.{◌≡◌, true, sym, ap, subst, ◌∙◌, string_bytes, true≢false}
 use Rattle.std.specs.Prelude.{IfOk}
 use Rattle.std.proofs.lemmas.Result.{err_from_is_err_and}

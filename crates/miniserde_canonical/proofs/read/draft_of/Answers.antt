@@ -1,4 +1,5 @@
--- The tokens so far are the invariant; each exit is a lemma over plain variables.
+-- `draft_of` returns the draft of the text's tree, or `Invalid` if the text has no tree. The tokens so far are the
+-- invariant (`Taken`), and each exit is a lemma over plain variables of `Wholes.antt` or `Taking.antt`.
 use Rattle.std.proofs.Common.{◌≡◌, option_map, None, length, sym, ap, subst, ◌∙◌}
 use Rattle.std.proofs.lemmas.Result.{err_from_is_err_and}
 use Rattle.miniserde_model.specs.private.Reading.{due, after}

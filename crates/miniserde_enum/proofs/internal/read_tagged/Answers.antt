@@ -1,4 +1,5 @@
--- The tag and the data are read of one text, and so of one tree.
+-- `read_tagged` returns the variant that the tag names, with its data from the other members. The tag and the data
+-- are read from one text, and so from one tree (`tag_read`, `tag_none`).
 use Rattle.std.proofs.Common.{Some, sym, ap, ◌∙◌}
 use Rattle.std.specs.Prelude.{option_map}
 use Rattle.std.proofs.lemmas.Result.{err_from_is_err_and}

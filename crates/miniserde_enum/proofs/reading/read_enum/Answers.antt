@@ -1,4 +1,5 @@
--- The one member's name chooses the variant, and its value is the data; a string is a variant without data.
+-- The one member's name chooses the variant, and its value is the data; a string is a variant without data. By cases
+-- of the token; an object with no member, one or a second is a lemma of `Ones.antt`.
 use Rattle.std.proofs.Common.{map, true, false, None, Some, sym, ap, subst, ◌∙◌, refl}
 use Rattle.std.specs.Prelude.{option_map}
 use Rattle.std.proofs.lemmas.Result.{err_from_is_err_and}

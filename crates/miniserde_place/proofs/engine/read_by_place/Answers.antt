@@ -1,4 +1,5 @@
--- The place is fresh, the engine gave it the events of the one tree, and `take` gives what they left.
+-- `read_by_place` returns the value that the tree of the text means. The place is fresh, `feed_from` hands it the
+-- events of the one tree, and `take` returns the value that they give (`mean_leads`).
 use Rattle.std.proofs.Common.{◌≡◌, [], Some, None, sym, ap, ◌∙◌}
 use Rattle.std.proofs.lemmas.Result.{err_from_is_err_and, IfOk-weaker}
 use Rattle.miniserde_model.proofs.Events.{events_complete}

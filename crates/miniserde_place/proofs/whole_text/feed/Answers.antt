@@ -1,4 +1,5 @@
--- The text is whitespace, the first event, what the place was handed behind it, and whitespace.
+-- `feed` hands a fresh place the events of the one tree of a text. The text is whitespace, the first token, the rest
+-- of the value and whitespace, so its tree is the tree that `feed_from` read (`json_front`, `at_json`).
 use Rattle.std.proofs.Common.{◌≡◌, ◌⊎◌, inr, Some, None, sym, subst}
 use Rattle.std.proofs.lemmas.Result.{err_from_is_err_and, IfOk-weaker}
 use Rattle.miniserde_model.proofs.Unique.{one_tree}

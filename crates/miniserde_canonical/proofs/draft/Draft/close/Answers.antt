@@ -1,4 +1,6 @@
--- The innermost object's own members are those behind the mark that was kept for it.
+-- `close` removes the members of the innermost object from the list and leaves their text in the order of their
+-- names, each name once. By cases: fewer members than the mark is impossible, names that rise leave the text as it
+-- is, and all others are sorted.
 use Rattle.std.proofs.Common.{rules, ◌≡◌, ◌≤◌, ◌<◌, [], length, take, drop, refl, sym, ap, subst, ◌∙◌, inl, inr, arith}
 use Rattle.miniserde_canonical.specs.private.Arranging.{State, entries_text}
 use Rattle.miniserde_canonical.specs.private.Drafts.{Holding}

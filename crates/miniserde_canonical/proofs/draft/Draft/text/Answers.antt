@@ -1,4 +1,5 @@
--- All but a negated zero and a decoded string stands in the input as it is written.
+-- `text` adds the text of a leaf or of an opening bracket to the draft. By cases of the token: `-0` and a decoded
+-- string are written anew, and every other token extends the run of the input.
 use Rattle.std.proofs.Common.{rules, ◌≡◌, pos, ◌++◌, ◌∷◌, [], refl, sym, ap, subst, ◌∙◌}
 use Rattle.miniserde_model.specs.Compact.{compact}
 use Rattle.miniserde_model.specs.Normal.{norm_neg}

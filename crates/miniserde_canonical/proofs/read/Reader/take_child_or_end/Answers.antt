@@ -1,4 +1,6 @@
--- In a container, behind whitespace, the lexer answers its end or the next child, by kind.
+-- `take_child_or_end` reads the token of an end, an element or a name, and the draft takes the same token. By cases
+-- of the lexer's result and of the kind, each with a lemma of `Steps.antt` for the text and one of `Taking.antt` for
+-- the draft.
 use Rattle.std.proofs.Common.{◌≡◌, ℕ, List, true, false, ◌∷◌, [], ◌++◌, ap, subst, ◌∙◌, arith}
 use Rattle.std.proofs.lemmas.Result.{err_from_is_err_and}
 use Rattle.std.specs.String.{string_bytes}

@@ -1,4 +1,5 @@
--- Behind whitespace, the lexer's answer is the front of a value, and its token is the draft's.
+-- `value` reads the first token of a value, and the draft takes the same token. Whitespace is skipped first, then
+-- `value_forces` is the lemma for the text and `takes_front` the lemma for the draft.
 use Rattle.std.proofs.Common.{◌∷◌, [], subst, sym, ◌∙◌}
 use Rattle.std.proofs.lemmas.Result.{err_from_is_err_and}
 use Rattle.std.specs.String.{string_bytes}

@@ -1,4 +1,5 @@
--- Each hole is moved, and the holes of the span are all.
+-- `append` adds the bytes of a span, and its holes moved to their new indices. The loop invariant says that the holes
+-- pushed so far are the first holes of the span, moved; at the end they are all of them.
 use Rattle.std.proofs.Common.{rules, ◌≡◌, ◌++◌, ◌∷◌, [], List, map, length, refl, sym, ap, ap₂, ◌∙◌, append-nil, append_assoc}
 use Rattle.std.proofs.lemmas.List.{map_more, take_all}
 use Rattle.miniserde_canonical.specs.declared.spread.Hole.{Hole}

@@ -1,3 +1,5 @@
+-- `add_all` builds all visits that a walk has left, and their names are in order. The loop invariant is that the hole
+-- after all visits still left is the hole after all visits; each turn takes one visit.
 use Rattle.std.proofs.Common.{◌≡◌, [], ◌∷◌, refl, sym, ap, ◌∙◌, arith, rules}
 use Rattle.miniserde_value.specs.Builders.{hole_in}
 use Rattle.miniserde_value.specs.Visits.{hole_after}

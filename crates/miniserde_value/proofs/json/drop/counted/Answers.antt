@@ -1,3 +1,5 @@
+-- `counted` drops every value of a document, with at least as many looks as values and at most twice as many. The
+-- invariant counts the values dropped and left and the looks done and left, and each turn is a lemma of `Turns.antt`.
 use Rattle.std.proofs.Common.{refl, arith}
 use Rattle.miniserde_value.proofs.Costs.{between}
 use Rattle.miniserde_value.proofs.Turns.{bare_size, taken_size, taken_looks, parked_size, turn_next, turn_over, turn_park, turn_last, false_true}

@@ -1,4 +1,6 @@
--- What is built so far is the invariant; each end is a lemma over plain variables (`proofs/Builds.antt`).
+-- `read_value` returns the value kept of the tree that begins with `token`, or `Invalid` if no such tree is kept. The
+-- hole built so far is the invariant (`Builds`), and each exit is a lemma over plain variables
+-- (`proofs/Builds.antt`).
 use Rattle.std.proofs.Common.{◌≡◌, None, Some, is_some, option_map, sym, ap, ◌∙◌}
 use Rattle.std.proofs.lemmas.Result.{err_from_is_err_and}
 use Rattle.miniserde_text.specs.Lexer.{event_of_token}

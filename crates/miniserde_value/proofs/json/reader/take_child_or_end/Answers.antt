@@ -1,4 +1,5 @@
--- In a container the source returns its end or the way to the next child, by kind.
+-- `take_child_or_end` builds exactly the events that it passes: an end, or the events up to the first token of a
+-- child. By cases of the source's result and of the kind, each with a lemma of `Builds.antt`.
 use Rattle.std.proofs.Common.{true, false, option_map, sym, ap, subst, ◌∙◌}
 use Rattle.std.specs.Prelude.{◌&&◌}
 use Rattle.std.proofs.lemmas.Result.{err_from_is_err_and, IfOk-weaker}

@@ -1,3 +1,5 @@
+-- `put_value` writes the first visit of a value, and leaves the other visits to the frames. By cases of the variant:
+-- a leaf is `on_leaf`, an array is `put_array` and an object is `put_object`.
 use Rattle.std.proofs.Common.{◌≡◌, ℕ, List, ◌∷◌, refl, sym, ap, subst, ◌∙◌}
 use Rattle.std.proofs.lemmas.Result.{on_ok_weaker}
 use Rattle.miniserde_model.specs.Tree.{str}

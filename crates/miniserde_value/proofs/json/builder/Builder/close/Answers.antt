@@ -1,3 +1,5 @@
+-- `close` puts the innermost container, as a value, into the hole around it. By cases of the last mark: an array
+-- takes the values after it (`closed_array`), an object is the last open one (`closed_object`).
 use Rattle.std.proofs.Common.{rules, ◌≡◌, List, [], ◌∷◌, ◌++◌, map, length, reverse, ap, subst, ◌∙◌}
 use Rattle.miniserde_value.specs.declared.json.builder.Mark.{Mark}
 use Rattle.miniserde_value.specs.declared.json.builder.Mark.TheVariants as mark

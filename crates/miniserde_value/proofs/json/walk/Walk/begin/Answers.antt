@@ -1,3 +1,5 @@
+-- `begin` returns the first visit of a value, and the walk has the other visits of the value left. By cases of the
+-- variant, each with a lemma of `Walks.antt`.
 use Rattle.std.proofs.Common.{rules, ◌≡◌, ℕ, List, ◌∷◌, Option, sym, ap, ◌∙◌}
 use Rattle.std.specs.Prelude.{Vec}
 use Rattle.std.specs.declared.alloc.Global.{Global}

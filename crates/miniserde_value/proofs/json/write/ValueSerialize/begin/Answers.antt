@@ -1,4 +1,5 @@
--- What opens it was written, and then what is left.
+-- `begin` writes the compact text of the value's normal form. `put_value` writes the first visit, `put_all` writes
+-- the visits left, and `text_wrote` joins both.
 use Rattle.std.proofs.Common.{[], subst}
 use Rattle.std.proofs.lemmas.Result.{on_ok_weaker}
 use Rattle.miniserde_value.specs.Visits.{visits}

@@ -1,4 +1,5 @@
--- `new` makes a value of no bytes, with both counts at 0.
+-- `new` makes a value of no bytes, with both counts at 0. By steps through the compiled body: its locals are
+-- allocated, set, returned and freed, and the ghost counts are chosen as 0.
 use mathlib.Core.Path.{refl}
 use mathlib.Core.List.{[], ◌∷◌}
 use seplogic.Ra.Ura.{Ura}
