@@ -1,4 +1,6 @@
--- What a field of one type's tree means as the same field of another type.
+-- If the members give a field the value `v`, they give a second field of that name the value `w` exactly if `w` has
+-- the content of `v`, or is its image in a second type (`same_field`, `other_field`). By cases on the last member of
+-- the name; if there is none, the field is missing (`says_missing`).
 use Rattle.std.proofs.Common.{◌≡◌, cond, Bool, true, false, Option, Some, None, refl, sym, ap, ◌∙◌, subst}
 use Rattle.std.specs.Prelude.{◌↔◌, bytes_eq, IsSome, MatchOption}
 use Rattle.miniserde.specs.Tree.{Tree, Members, no_members, member}

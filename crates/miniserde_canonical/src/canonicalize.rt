@@ -14,8 +14,9 @@ use miniserde_model::error::{Error, Result};
 use std::alloc::Global;
 
 /// Returns the canonical text of a JSON text: the compact text of its normal form, whatever the order of members, the
-/// spelling of strings and the whitespace. No text with that normal form is shorter. Of equal names the last stands.
-/// Numbers that are no integers of 64 bits keep their texts. Returns `Invalid` if the text is no JSON (RFC 8259).
+/// spelling of strings and the whitespace. No text with that normal form is shorter. The last member of a duplicate
+/// name stays. Numbers that are no integers of 64 bits keep their texts. Returns `Invalid` if the text is no JSON
+/// (RFC 8259).
 pub fn canonical(alloc: Global, j: &str) -> Result<String>
     // It is the compact text of the normal form of the text's tree.
     ensures ok { IfOk result (λ c. (t : Tree) × IsJson j.now t × (string_bytes c ≡ compact (norm t))) }

@@ -52,7 +52,7 @@ pub(crate) struct Draft<'a> {
 }
 
 impl<'a> Draft<'a> {
-    /// Returns a draft of nothing.
+    /// Returns an empty draft.
     pub(crate) fn new(alloc: Global, input: &'a str) -> Draft<'a>
         ensures { Represents result input.now start }
     {
@@ -70,7 +70,7 @@ impl<'a> Draft<'a> {
         }
     }
 
-    /// Ends the run where that many bytes are left.
+    /// Ends the run of input at the place where `left` bytes of input are left, and appends it to the text.
     #[inline(always)]
     pub(crate) fn flush(&mut self, left: usize) -> Result<(), AllocError>
         ensures wrote { OnOk result ((rest bs : List ℕ) → Wrote self.old rest bs → left ≡ length rest
@@ -105,7 +105,7 @@ impl<'a> Draft<'a> {
         Ok(())
     }
 
-    /// Takes the front of a value.
+    /// Takes the first token of a value.
     #[inline(always)]
     pub(crate) fn token(
         &mut self,
@@ -125,7 +125,7 @@ impl<'a> Draft<'a> {
         Ok(())
     }
 
-    // Takes the text of the front of a value.
+    // Takes the text of the first token of a value.
     #[inline(always)]
     fn text(&mut self, event: Event<'_>, scratch: &str, token: TokenSpan) -> Result<(), AllocError>
         ensures wrote { OnOk result ((rest part rest' bs : List ℕ) → Wrote self.old rest bs → rest ≡ part ++ rest'
@@ -146,7 +146,7 @@ impl<'a> Draft<'a> {
         Ok(())
     }
 
-    // Takes a negated zero, which is a zero.
+    // Takes a negated zero, and writes `0` for it.
     fn zero(&mut self, token: TokenSpan) -> Result<(), AllocError>
         ensures wrote { OnOk result ((rest part rest' bs : List ℕ) → Wrote self.old rest bs → rest ≡ part ++ rest'
             → token.at ≡ length rest → token.end ≡ length rest' → Wrote self.new rest' (bs ++ 48 ∷ [])) }
@@ -158,7 +158,7 @@ impl<'a> Draft<'a> {
         Ok(())
     }
 
-    // Takes a string. A decoded one is written anew.
+    // Takes a string, and escapes a decoded one anew.
     #[inline(always)]
     fn string(&mut self, text: Text<'_>, scratch: &str, token: TokenSpan) -> Result<(), AllocError>
         ensures wrote { OnOk result ((rest part rest' bs : List ℕ) → Wrote self.old rest bs → rest ≡ part ++ rest'
@@ -201,7 +201,7 @@ impl<'a> Draft<'a> {
         Ok(())
     }
 
-    // Takes the text of a name, with its colon.
+    // Writes a name with its colon, unless the input has both as they are to be written.
     #[inline(always)]
     fn spell(&mut self, text: Text<'_>, scratch: &str, token: TokenSpan) -> Result<(), AllocError>
         requires { TextPlain text }
@@ -220,7 +220,7 @@ impl<'a> Draft<'a> {
         Ok(())
     }
 
-    /// Takes the closing bracket of a container. That many bytes are left before it.
+    /// Takes the closing bracket of a container, which is the first of the last `at` bytes of the input.
     #[inline(always)]
     pub(crate) fn end(&mut self, kind: Kind, at: usize) -> Result<(), AllocError>
         ensures { OnOk result ((rest rest' : List ℕ) (s : State) → Represents self.old rest s
@@ -234,7 +234,7 @@ impl<'a> Draft<'a> {
         Ok(())
     }
 
-    // Closes the innermost object, up to its bracket.
+    // Closes the innermost object, before its bracket.
     fn close(&mut self, at: usize) -> Result<(), AllocError>
         ensures { OnOk result ((rest : List ℕ) (s : State) → Represents self.old rest s → at ≡ length rest
             → (m : State) × Closes s m × Represents self.new rest m) }

@@ -6,7 +6,7 @@ ghost use Rattle.miniserde_canonical.specs.private.Waiting.{SpanHolds, Waits, sp
 use crate::spread::{Place, Span, Spread, part};
 use std::alloc::{AllocError, Global};
 
-/// Returns the whole text.
+/// Returns the whole text: each hole is filled with its group.
 pub(crate) fn fill_holes(
     alloc: Global,
     text: Spread,

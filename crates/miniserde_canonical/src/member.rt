@@ -15,7 +15,7 @@ pub(crate) enum Name<'a> {
 }
 
 impl<'a> Name<'a> {
-    /// Returns the name that a text is.
+    /// Returns the name of a lexer's text: borrowed from the input, or copied from the scratch text.
     #[inline(always)]
     pub(crate) fn new(alloc: Global, text: Text<'a>, scratch: &str) -> Result<Name<'a>, AllocError>
         ensures { IfOk result (λ n. name_of n ≡ text_of text.entry scratch.now) }
@@ -58,7 +58,7 @@ pub(crate) struct Member<'a> {
 }
 
 impl<'a> Member<'a> {
-    /// Returns a member.
+    /// Returns a member, with the prefix of its name.
     #[inline(always)]
     pub(crate) fn new(name: Name<'a>, place: Place, first: bool) -> Member<'a>
         ensures name { result.name ≡ name.entry }
@@ -96,6 +96,7 @@ fn prefix(name: &str) -> u64
     ])
 }
 
+// Returns the byte at an index, or 0 past the end.
 #[inline(always)]
 fn byte(b: &[u8], i: usize) -> u8
     ensures { result ≡ get_or b.now i 0 }

@@ -13,7 +13,7 @@ use crate::spread::{Place, Span};
 use std::alloc::AllocError;
 use std::cmp::Ordering;
 
-/// Returns whether the names strictly rise.
+/// Returns `true` only if the names strictly ascend.
 pub(crate) fn rises(members: &[Member<'_>]) -> bool
     ensures rises { result ≡ true → NamesRise members.now }
     ensures some { result ≡ false → 0 < length members.now }
@@ -26,6 +26,7 @@ pub(crate) fn rises(members: &[Member<'_>]) -> bool
     true
 }
 
+// Returns `true` only if the name of `a` is below the name of `b`.
 #[inline(always)]
 fn below(a: &Member<'_>, b: &Member<'_>) -> bool
     ensures { result ≡ true → text_cmp (name_of a.now.name) (name_of b.now.name) ≡ Less }

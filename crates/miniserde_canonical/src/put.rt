@@ -9,7 +9,7 @@ use miniserde_text::escape::escape_str;
 use miniserde_text::json::lex::Text;
 use std::alloc::AllocError;
 
-/// Appends what stands before a child that is the first of its container, or not.
+/// Appends a comma, unless the child that follows is the first of its container.
 #[inline(always)]
 pub(crate) fn put_gap(first: bool, out: &mut Vec<u8>) -> Result<(), AllocError>
     ensures { OnOk result (out.new.items ≡ out.old.items ++ gap first) }
@@ -50,7 +50,7 @@ pub(crate) fn put_escaped(
     out.extend_from_slice(escape_text.as_bytes())
 }
 
-// Appends a text of which no byte is escaped, between quotes.
+// Appends a text between quotes. It contains no byte that must be escaped.
 fn put_plain(text: &str, out: &mut Vec<u8>) -> Result<(), AllocError>
     requires { is_plain text.now ≡ true }
     ensures { OnOk result (out.new.items ≡ out.old.items ++ string_text text.now) }

@@ -11,7 +11,8 @@ use std::alloc::AllocError;
 /// The longest text of members, in bytes, that comes back when it is in order.
 const SHORT: usize = 1024;
 
-/// Puts the members of an object in order. Returns whether their names differ. Of the outermost object, all come back.
+/// Puts the members of an object in order. Returns whether their names are distinct. A text longer than `SHORT`
+/// becomes a hole, unless the object is the outermost.
 pub(crate) fn sort_members(
     members: &[Member<'_>],
     outermost: bool,
@@ -66,8 +67,7 @@ fn put_member(
     Ok(())
 }
 
-// Ends the text at a place, and puts there what stands in the groups from a place on: the text, if it is short, or a
-// hole.
+// Truncates the text at `place`, and appends the groups behind `from`: as text if they are short, else as a hole.
 fn put_back(
     place: Place,
     from: Place,

@@ -55,7 +55,7 @@ impl Spread {
         }
     }
 
-    /// Takes off what stands behind a place.
+    /// Removes the text behind a place.
     pub(crate) fn truncate(&mut self, place: Place)
         ensures bytes { self.new.bytes.items ≡ take place.bytes self.old.bytes.items }
         ensures holes { self.new.holes.items ≡ take place.holes self.old.holes.items }
@@ -84,7 +84,7 @@ impl Spread {
     }
 }
 
-// Returns the hole of a text that began at `from`, where it begins at `at`. Fails if no index is so large.
+// Returns a hole of a text that is moved from the index `from` to the index `at`. Fails if no index is so large.
 fn shifted_hole(hole: Hole, from: usize, at: usize) -> Result<Hole, AllocError>
     ensures { IfOk result (λ h. h ≡ shifted_hole from at hole) }
 {
@@ -95,7 +95,7 @@ fn shifted_hole(hole: Hole, from: usize, at: usize) -> Result<Hole, AllocError>
     })
 }
 
-/// Returns the elements from one index up to another, or none where there are no such.
+/// Returns the elements from one index up to another, or none if the indices are out of order or range.
 pub(crate) fn part<T>(xs: &[T], from: usize, to: usize) -> &[T]
     ensures { from ≤ to → to ≤ length xs.now → result.now ≡ part_between from to xs.now }
 {

@@ -25,7 +25,7 @@ use std::alloc::Global;
 pub trait Deserialize: FromJson {
     type Place: Visitor<Out = Self>;
 
-    /// Does nothing. Promises that the place means what the type does: the same trees mean the same values.
+    /// Does nothing. It promises that the place means what the type does: the same trees mean the same values.
     fn tied()
         ensures { Agree (meant_by Self.Place.meaning) Self.means };
 
@@ -36,7 +36,7 @@ pub trait Deserialize: FromJson {
         Self::missing()
     }
 
-    /// A fresh place. Its only error is `Memory`.
+    /// Returns a fresh place. Its only error is `Memory`.
     final fn begin(alloc: Global) -> Result<Self::Place>
         ensures fresh { IfOk result (λ p. IsFresh Self.Place.meaning.from_events (Self.Place.meaning.view p)) }
         ensures memory { IfErr result (λ r. r ≡ Error.Memory) }
@@ -45,8 +45,8 @@ pub trait Deserialize: FromJson {
         <Self::Place as Visitor>::begin(alloc)
     }
 
-    /// The value, where it is complete and nothing was refused. A refused place answers its refusal, and an
-    /// unfinished one `Invalid`.
+    /// Returns the value if it is complete and the place keeps no error. Returns the error that the place keeps, or
+    /// `Invalid` for an incomplete value.
     final fn take(place: Self::Place) -> Result<Self>
         ensures value { IfOk result (λ v. ((Self.Place.meaning.view place).at ≡ complete)
             × ((Self.Place.meaning.view place).outcome [] ≡ Some (Self.Place.meaning.content v))) }

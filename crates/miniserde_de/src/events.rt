@@ -10,8 +10,8 @@ use crate::de::Deserialize;
 use miniserde_model::events_complete;
 use miniserde_place::de::Visitor;
 
-/// The events of a tree complete a fresh place, and give what the tree gives: `feed`, then `Visitor::take`, means what
-/// the place does.
+/// Does nothing. It promises that the events of a tree complete a fresh place, whose outcome is then that of the
+/// tree. So `feed`, then `Visitor::take`, has the meaning of the place.
 pub fn events_give<V: Visitor>()
     // The place that `feed` is handed, so that its clause `invalid` speaks of the tree.
     ensures fresh { (p : PlaceView V.meaning.Content) → IsFresh V.meaning.from_events p → (t : Tree)
@@ -25,8 +25,8 @@ pub fn events_give<V: Visitor>()
     events_complete();
 }
 
-/// The events of a tree complete a fresh place of a type, and give what the tree means: `feed`, then
-/// `Deserialize::take`, means what the type does.
+/// Does nothing. It promises that the events of a tree complete a fresh place of a type, whose value is then one that
+/// the tree means. So `feed`, then `Deserialize::take`, has the meaning of the type.
 pub fn events_mean<T: Deserialize>()
     // The place is complete, and `take` returns a value that the tree means.
     ensures complete { (t : Tree) (p : PlaceView T.Place.meaning.Content) → IsFed T.Place.meaning t p → p.at ≡ complete }

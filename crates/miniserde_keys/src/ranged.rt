@@ -38,7 +38,7 @@ impl Ranged for bool {
 impl Ranged for char {
     ghost real = { IsScalar };
 
-    // Here and below: the read tells the proof that the value is in the range of its type.
+    // Reads the value, which tells the proof that it is in the range of its type. The impls for integers do so too.
     fn ranged(&self) {
         let _value = *self;
     }

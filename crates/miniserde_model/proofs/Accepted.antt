@@ -1,4 +1,5 @@
--- What a text spells is a tree of Rust's values.
+-- If a text spells a tree, the numbers of the tree are in range and its strings are UTF-8 (`IsTree`). By recursion
+-- over the tree, with `tells` for the range of a number and `piece_scalar` for the characters of a string.
 use Rattle.std.proofs.Common.{◌≡◌, ℕ, zero, suc, ◌^◌, ◌<◌, ◌≤◌, ℤ, pos, neg_ℤ, unsigned_abs, ◌≤ℤ◌, Bool, true, false, cond, nat_lt, nat_le, List, [], ◌∷◌, drop, IsUtf8, refl, sym, subst, arith, ltb-true, leb-true}
 use Rattle.std.specs.Char.{IsScalar}
 use Rattle.std.specs.Str.Parse.{digits_value}

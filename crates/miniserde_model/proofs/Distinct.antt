@@ -1,4 +1,6 @@
--- A normal form has no duplicate name; and it has as many values as a tree that has none.
+-- A normal form has no duplicate name, and it has as many values as its tree if that has no duplicate name. By
+-- recursion over the tree: the names of the normal form strictly ascend (`norm_rises`), and a member with a new name
+-- adds its own size (`size_with_first`).
 use Rattle.std.proofs.Common.{◌≡◌, ℕ, ◌+◌, ℤ, pos, negsuc, Bool, true, false, List, Option, Some, None, option_map, bytes_eq, cond, is_some, refl, sym, ap, ap₂, ◌∙◌, arith, Ordering, Less, Equal, Greater, true≢false}
 use Rattle.std.specs.Prelude.{not, ◌&&◌}
 use Rattle.std.proofs.lemmas.Map.Lookups.{exact_bytes}

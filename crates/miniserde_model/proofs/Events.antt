@@ -1,4 +1,6 @@
--- The events of a tree complete a value, and no list that completes one begins another.
+-- The events of a tree complete a value, and no list of events that completes a value is a proper prefix of another.
+-- The first is by recursion over the tree, with the later events as a parameter (`goes`); the second is by recursion
+-- over the events, as no event is allowed behind a complete value (`none_allowed`).
 use Rattle.std.proofs.Common.{◌≡◌, ℕ, ◌+◌, ◌-◌, true, false, List, [], ◌∷◌, ◌++◌, refl, sym, subst, append_assoc, append-nil, arith, true≢false}
 use Rattle.miniserde_model.specs.Tree.{Tree, null, truth, nonneg, neg, num, str, list, members, Trees, no_trees, tree, Members, no_members, member}
 use Rattle.miniserde_model.specs.Step.{Step, boolean, string, negative, nonnegative, float, seq, element, map, key, finish, events, child_events, member_events}

@@ -1,4 +1,5 @@
--- Texts with their trees, normal forms and compact texts, worked out.
+-- The examples of texts with their trees, and of normal forms with their compact texts, hold. For each text the proof
+-- builds a derivation of the grammar; each normal form and each compact text is computed.
 use Rattle.std.proofs.Common.{◌≡◌, ℕ, ◌≤◌, pos, negsuc, Bool, true, ◌&&◌, nat_le, List, [], ◌∷◌, ◌++◌, codes, encode_utf8, refl, sym, ap, append-nil, arith, inl, inr}
 use Rattle.std.specs.List.{AllByRecursion}
 use Rattle.std.proofs.lemmas.Bool.{and_parts}

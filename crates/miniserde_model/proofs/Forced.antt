@@ -1,4 +1,6 @@
--- What stands at the front of a text forces the events that the text can spell.
+-- If a value stands at the front of a text, every list of events that the text spells begins with the events of that
+-- value. By `find_value` the list begins with the events of some tree, and by `same_value` that is the tree of the
+-- value, since no number goes on behind it (`after_stops`).
 use Rattle.std.proofs.Common.{◌≡◌, ℕ, List, [], ◌∷◌, ◌++◌, length, refl, sym, ap, subst, ◌∙◌, arith, false}
 use Rattle.miniserde_model.specs.Tree.{Tree}
 use Rattle.miniserde_model.specs.Whitespace.{IsWhitespace}

@@ -1,4 +1,6 @@
--- What the normal form of members has at a name.
+-- The normal form of members has at each name the normal form of the last tree of that name, and its names strictly
+-- ascend. By recursion over the members: `with_first` puts one member in its place, unless a later member has its
+-- name.
 use Rattle.std.proofs.Common.{◌≡◌, ℕ, ℤ, Bool, true, false, List, Option, Some, None, option_map, bytes_eq, cond, refl, sym, ap, ◌∙◌, Ordering, Less, Equal, Greater, true≢false}
 use Rattle.std.specs.Ordering.{ordering_reverse, is_eq}
 use Rattle.std.proofs.lemmas.Cmp.{nat_list_cmp_total, tied_itself}

@@ -1,4 +1,6 @@
--- The normal form: it is its own normal form, and a tree of a value of Rust where the tree is.
+-- The normal form is idempotent, and it keeps numbers in range and strings in UTF-8 (`IsTree`). By recursion over the
+-- tree; two lists of members are equal if their names ascend and they have the same last tree at each name
+-- (`one_rising`).
 use Rattle.std.proofs.Common.{◌≡◌, ℕ, ◌^◌, ◌≤◌, ℤ, pos, negsuc, unsigned_abs, ◌≤ℤ◌, List, IsUtf8, option_map, refl, sym, ap, ap₂, ◌∙◌, arith, Ordering, Less, Equal, Greater}
 use Rattle.std.proofs.lemmas.Int.{ints}
 use Rattle.miniserde_model.specs.Tree.{Tree, null, truth, nonneg, neg, num, str, list, members, Trees, no_trees, tree, Members, no_members, member}

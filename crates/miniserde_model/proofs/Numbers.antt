@@ -1,4 +1,5 @@
--- A text has one number at most, where it ends.
+-- A text begins with at most one number, if no byte of number texts follows it. Each part of a number consists of
+-- such bytes, so the number is the longest prefix of them (`same_run`).
 use Rattle.std.proofs.Common.{◌≡◌, ℕ, ◌⊎◌, true, List, [], ◌∷◌, ◌++◌, refl, sym, ap, ◌∙◌, arith, inl, inr}
 use Rattle.std.specs.List.{AllByRecursion}
 use Rattle.std.proofs.lemmas.Bool.Decides.{nat_tests}

@@ -1,5 +1,6 @@
--- Members in the order of their names are told by the tree at each name; and members that are put in from the left, where the later
--- replaces the earlier, are those of the normal form.
+-- Members whose names strictly ascend are determined by the last tree at each name, and putting members into a map
+-- one by one, from the left, gives their normal form. By recursion over both lists of members (`one_rising`): the map
+-- and the normal form ascend, and they have the same last tree at each name (`last_put_all`, `norm_keeps_last`).
 use Rattle.std.proofs.Common.{◌≡◌, ℕ, ℤ, Bool, true, false, List, Option, Some, None, option_map, bytes_eq, cond, is_some, refl, sym, ap, ap₂, subst, ◌∙◌, Ordering, Less, Equal, Greater, true≢false}
 use Rattle.std.specs.Ordering.{ordering_reverse, is_eq}
 use Rattle.std.proofs.lemmas.Bool.{false_from_ne_true}

@@ -1,4 +1,6 @@
--- Where two texts that begin alike are read in one grammar, what was read is the same and so is the rest.
+-- If a text splits in two ways into a part that the grammar derives and a rest, both parts stand for the same value
+-- and both rests are equal. `Prefix` states this for two predicates, and one lemma carries it through each construct:
+-- surrounding whitespace, a name with its colon, a sequence, and a pair of brackets.
 use Rattle.std.proofs.Common.{◌≡◌, ℕ, Bool, true, false, ◌||◌, List, [], ◌∷◌, ◌++◌, refl, sym, ap, ◌∙◌, append_assoc, arith, inl, inr, true≢false}
 use Rattle.std.proofs.lemmas.Bool.Decides.{nat_tests}
 use Rattle.miniserde_model.specs.Whitespace.{IsSpace, IsWhitespace}

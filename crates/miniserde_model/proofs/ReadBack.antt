@@ -1,4 +1,6 @@
--- What spells the events that are left spells a tree at its front.
+-- If a text spells a list of events, the list begins with the events of a tree, and the text begins with a spelling
+-- of that tree. By recursion over the number of events: `find_value`, `find_elements` and `find_members` each find
+-- one construct, and the events and the text that it leaves.
 use Rattle.std.proofs.Common.{◌≡◌, ℕ, zero, suc, ◌≤◌, List, [], ◌∷◌, ◌++◌, length, refl, sym, ap, ◌∙◌, append_assoc, append-nil, arith, length-append}
 use Rattle.miniserde_model.specs.Tree.{Tree, null, truth, nonneg, neg, num, str, list, members, Trees, no_trees, tree, Members, no_members, member}
 use Rattle.miniserde_model.specs.String.{IsString}

@@ -1,4 +1,5 @@
--- A text spells a tree exactly where it spells its events, one after another.
+-- A text that spells a tree spells the events of the tree, one after another. By recursion over the tree, with the
+-- later events as a parameter; whitespace before an event belongs to that event (`due_space`, `after_space`).
 use Rattle.std.proofs.Common.{◌≡◌, ℕ, List, [], ◌∷◌, ◌++◌, refl, sym, ap, subst, ◌∙◌, append_assoc, append-nil}
 use Rattle.miniserde_model.specs.Tree.{Tree, null, truth, nonneg, neg, num, str, list, members, Trees, no_trees, tree, Members, no_members, member}
 use Rattle.miniserde_model.specs.String.{IsString}

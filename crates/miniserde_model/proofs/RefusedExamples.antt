@@ -1,4 +1,6 @@
--- Texts with no tree, worked out.
+-- Each of the examples of invalid texts has no tree. The proof takes the text apart up to the byte that no rule
+-- allows: the first byte of a value (`at_front`), a byte of a number (`whole_number`), the start of an element
+-- (`element_first`), or the first character of a string (`behind_quote`).
 use Rattle.std.proofs.Common.{◌≡◌, ℕ, ◌+◌, ◌*◌, ◌<◌, false, List, [], ◌∷◌, ◌++◌, codes, length, length-append, refl, sym, ap, subst, ◌∙◌, append_assoc, append-nil, arith, inl, inr}
 use Rattle.std.specs.List.{AllByRecursion}
 use Rattle.std.specs.Char.{digit_value}

@@ -1,4 +1,6 @@
--- No text with the same normal form is shorter than the compact text of that form.
+-- No text with the same normal form is shorter than the compact text of that form. By recursion over the tree: its
+-- compact text is no longer than any text that spells it (`value_len`), and the compact text of its normal form is no
+-- longer than its own (`norm_len`).
 use Rattle.std.proofs.Common.{◌≡◌, ℕ, zero, suc, ◌+◌, ◌^◌, ◌<◌, ◌≤◌, ℤ, pos, negsuc, neg_ℤ, unsigned_abs, Bool, true, false, not, ◌||◌, ◌==◌, List, [], ◌∷◌, ◌++◌, length, get_or, drop, decimal, flat_map, encode_utf8, encode_utf8_all, refl, sym, ap, ap₂, ◌∙◌, append-nil, arith, inl, inr, length-append, rules, Ordering, Less, Equal, Greater, true≢false}
 use Rattle.std.specs.List.{AllByRecursion}
 use Rattle.std.specs.Str.Parse.{digits_value}

@@ -1,4 +1,5 @@
--- A text spells one string at most.
+-- A text begins with at most one string. By recursion over the characters: `same_piece` compares the two pieces at
+-- the front, by their kinds, and no piece begins with a quote (`piece_no_quote`).
 use Rattle.std.proofs.Common.{◌≡◌, ℕ, List, [], ◌∷◌, ◌++◌, refl, sym, ap, subst, ◌∙◌, append_assoc, arith, inl, inr}
 use Rattle.std.specs.Char.{IsScalar}
 use Rattle.std.proofs.lemmas.Str.{encode_same, char_from_byte}

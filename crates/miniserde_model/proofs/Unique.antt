@@ -1,4 +1,6 @@
--- A text has one tree at most.
+-- A text has one tree at most. By recursion over both trees: the first byte determines the kind of a value
+-- (`same_kind`), and `same_value`, `same_elements` and `same_members` show that both readings of a construct end at
+-- the same byte.
 use Rattle.std.proofs.Common.{◌≡◌, ℕ, ◌<◌, Bool, true, false, ◌==◌, ◌||◌, ◌&&◌, nat_le, cond, List, [], ◌∷◌, ◌++◌, codes, refl, sym, ap, ap₂, ◌∙◌, append_assoc, append-nil, arith, inl, inr}
 use Rattle.std.proofs.lemmas.Bool.Decides.{nat_tests}
 use Rattle.std.proofs.lemmas.List.{append_cancel_left}

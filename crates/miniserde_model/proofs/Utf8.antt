@@ -1,4 +1,5 @@
--- A text that spells a tree is UTF-8.
+-- A text that spells a tree is UTF-8. By recursion over the tree: each byte outside of strings is ASCII, and each
+-- piece of a string is ASCII or an encoded character (`piece_utf8`).
 use Rattle.std.proofs.Common.{◌≡◌, ℕ, ◌<◌, Bool, true, false, List, [], ◌∷◌, ◌++◌, IsUtf8, sym, subst, arith}
 use Rattle.std.specs.Char.{digit_value}
 use Rattle.std.specs.Str.{IsAscii}

@@ -1,4 +1,5 @@
--- The compact text of a tree spells it.
+-- The compact text of a tree spells the tree. By recursion over the tree, from the numbers (`written_nonneg`,
+-- `written_neg`) and the strings (`written_string`), where each escape is a piece of the grammar (`piece_of`).
 use Rattle.std.proofs.Common.{◌≡◌, ◌≢◌, ℕ, zero, suc, ◌/◌, ◌%◌, ◌^◌, ◌<◌, ◌≤◌, ℤ, pos, negsuc, neg_ℤ, unsigned_abs, ◌≤ℤ◌, true, false, not, ◌==◌, ◌||◌, List, [], ◌∷◌, ◌++◌, length, get_or, slice_index, decimal, flat_map, IsUtf8, encode_utf8, encode_utf8_all, refl, sym, ap, ap₂, subst, ◌∙◌, append-nil, arith, inl, inr, ◌⊎◌, lt-ltb, le-leb}
 use Rattle.std.specs.List.{AllByRecursion}
 use Rattle.std.specs.Char.{IsScalar, digit_char, digit_value}

@@ -12,12 +12,13 @@ ghost use Rattle.miniserde_model.specs.Laws.{NormKeepsLast, NormRises, PutGivesN
 pub mod error;
 pub mod kind;
 
-/// A text has one tree at most.
+/// Does nothing. It promises that a text has one tree at most.
 pub fn text_has_one_tree()
     ensures { TextHasOneTree }
 {}
 
-/// A tree that a text spells holds numbers in range and text in UTF-8.
+/// Does nothing. It promises that the numbers of a tree that a text spells are in range, and that its strings are
+/// UTF-8.
 pub fn spelled_is_tree()
     ensures { SpelledIsTree }
 {}
@@ -27,20 +28,22 @@ pub fn spelled_is_utf8()
     ensures { SpelledIsUtf8 }
 {}
 
-/// The compact text of a tree spells it, as a whole text and as a value amid a text, with no whitespace around.
+/// Does nothing. It promises that the compact text of a tree spells it, as a whole text and as a value within a text,
+/// without surrounding whitespace.
 pub fn compact_spells()
     ensures text { CompactSpells }
     ensures value { CompactIsValue }
 {}
 
-/// The normal form of a tree is a tree like it, and its own normal form.
+/// Does nothing. It promises that the normal form is idempotent, and that it keeps numbers in range and strings in
+/// UTF-8.
 pub fn norm_is_normal()
     ensures idempotent { NormIsNormal }
     ensures tree { NormIsTree }
 {}
 
-/// The normal form of members: of each name the last tree, in rising byte order of the names, which
-/// filling a map from the left gives too.
+/// Does nothing. It promises that the normal form of members has for each name the normal form of its last tree, in
+/// ascending byte order of the names. Putting the members into a map from the left gives it too.
 pub fn norm_of_members()
     ensures last { NormKeepsLast }
     ensures order { NormRises }
@@ -48,29 +51,32 @@ pub fn norm_of_members()
     ensures put { PutGivesNorm }
 {}
 
-/// The normal form of a tree has no duplicate name; and if the tree has none, its normal form has as many values.
+/// Does nothing. It promises that a normal form has no duplicate name, and that it has as many values as its tree if
+/// that has no duplicate name.
 pub fn norm_of_distinct()
     ensures distinct { NormIsDistinct }
     ensures size { DistinctKeepsSize }
 {}
 
-/// Canonical texts are equal exactly where the normal forms are.
+/// Does nothing. It promises that canonical texts are equal exactly if the normal forms are equal.
 pub fn canonical_tells()
     ensures { CanonicalTells }
 {}
 
-/// No text with the same normal form is shorter than the canonical one.
+/// Does nothing. It promises that no text with the same normal form is shorter than the canonical text.
 pub fn canonical_is_shortest()
     ensures { CanonicalIsShortest }
 {}
 
-/// The events of a tree complete a value, and no list of events that completes one begins another.
+/// Does nothing. It promises that the events of a tree complete a value, and that no list of events that completes a
+/// value is a proper prefix of another one.
 pub fn events_complete()
     ensures one { EventsComplete }
     ensures only { NoneBeginsAnother }
 {}
 
-/// Worked examples: texts with their trees, normal forms with their compact texts, and texts with no tree.
+/// Does nothing. It promises worked examples: texts with their trees, normal forms with their compact texts, and
+/// texts without a tree.
 pub fn worked_examples()
     ensures spelled { SpelledTexts }
     ensures normal { NormalForms }

@@ -39,29 +39,29 @@ pub trait Visitor: Drop {
     // What a call that hands on an event promises besides: nothing, where the place does not say otherwise.
     ghost further: { Self → step.Step → Result (Unit {0}) Error → Self → Type 0 } = { λ _ _ _ _. ⊤ };
 
-    /// A fresh place. Its only error is `Memory`.
+    /// Returns a fresh place. Its only error is `Memory`.
     fn begin(alloc: Global) -> Result<Self>
         ensures fresh { IfOk result (λ p. IsFresh meaning.from_events (meaning.view p)) }
         ensures memory { IfErr result (λ r. r ≡ Error.Memory) }
         ensures infallible { begin_infallible ≡ true → IsOk result };
 
-    /// Takes one event. An implementation answers `Err(self.refuse(Error::Invalid))` to one that it does not take.
+    /// Takes one event. An implementation returns `Err(self.refuse(Error::Invalid))` for an event that it rejects.
     fn step(&mut self, event: Step<'_>) -> Result<()>
         requires { IsTreeEvent (event_of event) }
         ensures takes { Takes (meaning.view self.old) (event_of event.entry) result (meaning.view self.new) }
         ensures further { further self.old (event_of event.entry) result self.new };
 
-    /// Marks the place as refused, and answers the first refusal that it was marked with.
+    /// Keeps an error, unless the place has one already. Returns the first error of the place.
     fn refuse(&mut self, error: Error) -> Error
         ensures answer { result ≡ first_refusal (meaning.view self.old).refused error }
         ensures marks { (meaning.view self.new).refused ≡ Some result };
 
-    /// Whether the value is complete.
+    /// Returns whether the value is complete.
     fn is_complete(&self) -> bool
         ensures { result ≡ is_complete (meaning.view self.now).at };
 
-    /// The value, where it is complete and nothing was refused. A refused place answers its refusal, and an
-    /// unfinished one `Invalid`.
+    /// Returns the value if it is complete and the place keeps no error. Returns the error that the place keeps, or
+    /// `Invalid` for an incomplete value.
     fn take(self) -> Result<Self::Out>
         ensures value { IfOk result (λ v. ((meaning.view self).at ≡ complete)
             × ((meaning.view self).outcome [] ≡ Some (meaning.content v))) }
@@ -73,7 +73,7 @@ pub trait Visitor: Drop {
         ensures infallible { take_infallible ≡ true → result ≡ Err Error.Memory
             → (meaning.view self).refused ≡ Some Error.Memory };
 
-    /// `null`.
+    /// Takes `null`.
     final fn null(&mut self) -> Result<()>
         ensures takes { Takes (meaning.view self.old) step.null result (meaning.view self.new) }
         ensures further { further self.old step.null result self.new }
@@ -81,7 +81,7 @@ pub trait Visitor: Drop {
         self.step(Step::Null)
     }
 
-    /// `true` or `false`.
+    /// Takes `true` or `false`.
     final fn boolean(&mut self, b: bool) -> Result<()>
         ensures takes { Takes (meaning.view self.old) (step.boolean b) result (meaning.view self.new) }
         ensures further { further self.old (step.boolean b) result self.new }
@@ -89,7 +89,7 @@ pub trait Visitor: Drop {
         self.step(Step::Bool(b))
     }
 
-    /// A string, by its text.
+    /// Takes a string, by its text.
     final fn string(&mut self, s: &str) -> Result<()>
         ensures takes { Takes (meaning.view self.old) (step.string s.now) result (meaning.view self.new) }
         ensures further { further self.old (step.string s.now) result self.new }
@@ -97,7 +97,7 @@ pub trait Visitor: Drop {
         self.step(Step::Str(s))
     }
 
-    /// An integer that is written with `-`.
+    /// Takes an integer that is written with `-`.
     final fn negative(&mut self, n: i64) -> Result<()>
         requires { n ≤ℤ pos 0 }
         ensures takes { Takes (meaning.view self.old) (step.negative n) result (meaning.view self.new) }
@@ -106,7 +106,7 @@ pub trait Visitor: Drop {
         self.step(Step::Negative(n))
     }
 
-    /// An integer that is written without `-`.
+    /// Takes an integer that is written without `-`.
     final fn nonnegative(&mut self, n: u64) -> Result<()>
         ensures takes { Takes (meaning.view self.old) (step.nonnegative n) result (meaning.view self.new) }
         ensures further { further self.old (step.nonnegative n) result self.new }
@@ -114,7 +114,7 @@ pub trait Visitor: Drop {
         self.step(Step::Nonnegative(n))
     }
 
-    /// Any other number, by its text.
+    /// Takes any other number, by its text.
     final fn float(&mut self, t: &str) -> Result<()>
         requires { IsNumber t.now (num t.now) }
         ensures takes { Takes (meaning.view self.old) (step.float t.now) result (meaning.view self.new) }
@@ -123,7 +123,7 @@ pub trait Visitor: Drop {
         self.step(Step::Float(t))
     }
 
-    /// A list begins.
+    /// Takes the beginning of a list.
     final fn seq(&mut self) -> Result<()>
         ensures takes { Takes (meaning.view self.old) step.seq result (meaning.view self.new) }
         ensures further { further self.old step.seq result self.new }
@@ -131,7 +131,7 @@ pub trait Visitor: Drop {
         self.step(Step::Seq)
     }
 
-    /// An element of the innermost open list begins.
+    /// Takes the beginning of an element of the innermost open list.
     final fn element(&mut self) -> Result<()>
         ensures takes { Takes (meaning.view self.old) step.element result (meaning.view self.new) }
         ensures further { further self.old step.element result self.new }
@@ -139,7 +139,7 @@ pub trait Visitor: Drop {
         self.step(Step::Element)
     }
 
-    /// An object begins.
+    /// Takes the beginning of an object.
     final fn map(&mut self) -> Result<()>
         ensures takes { Takes (meaning.view self.old) step.map result (meaning.view self.new) }
         ensures further { further self.old step.map result self.new }
@@ -147,7 +147,7 @@ pub trait Visitor: Drop {
         self.step(Step::Map)
     }
 
-    /// A member of the innermost open object begins, by its name.
+    /// Takes the beginning of a member of the innermost open object, by its name.
     final fn key(&mut self, k: &str) -> Result<()>
         ensures takes { Takes (meaning.view self.old) (step.key k.now) result (meaning.view self.new) }
         ensures further { further self.old (step.key k.now) result self.new }
@@ -155,7 +155,7 @@ pub trait Visitor: Drop {
         self.step(Step::Key(k))
     }
 
-    /// The innermost open list or object ends.
+    /// Takes the end of the innermost open list or object.
     final fn finish(&mut self) -> Result<()>
         ensures takes { Takes (meaning.view self.old) step.finish result (meaning.view self.new) }
         ensures further { further self.old step.finish result self.new }

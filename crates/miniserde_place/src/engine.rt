@@ -92,8 +92,8 @@ fn enter<'a, V: Visitor>(
     Ok(opened)
 }
 
-/// Takes the closing bracket of the innermost container, or what leads to its next child, and hands that event to the
-/// place. Returns whether a value is due. `first` says that the opening bracket was just taken.
+/// Takes the closing bracket of the innermost container, or the tokens before its next child, and hands the event to
+/// the place. Returns whether a value is due. `first` says that the opening bracket was just taken.
 fn take_child_or_end<'a, V: Visitor>(
     source: &mut Source<'a>,
     stack: &mut Stack,

@@ -21,6 +21,7 @@ pub struct Ignore {
 impl Ignore {
     ghost use Rattle.miniserde_place.specs.Ignore.{position_of, refusal_of};
 
+    // Returns a place that took no event. Allocates nothing.
     pub(crate) fn new() -> Ignore
         ensures at { position_of result ≡ start }
         ensures refused { refusal_of result ≡ None }
@@ -51,7 +52,7 @@ impl Visitor for Ignore {
         Ok(Ignore::new())
     }
 
-    /// Takes any event: it refuses where it was refused before, and where 2^64 containers would be open.
+    /// Takes any event. Fails if the place keeps an error, and with `Memory` if 2^64 containers would be open.
     fn step(&mut self, event: Step<'_>) -> Result<()> {
         if let Some(error) = self.refused {
             return Err(error);

@@ -13,7 +13,7 @@ use miniserde_model::error::{Error, Result};
 use miniserde_read::Source;
 use std::alloc::Global;
 
-/// Hands a fresh place the events of a whole text, in order, until the text ends or something is refused.
+/// Hands a fresh place the events of a whole text, in order, until the text ends or a step fails.
 pub fn feed<V: Visitor>(alloc: Global, j: &str, place: &mut V) -> Result<()>
     requires unrefused { (V.meaning.view place.old).refused ≡ None }
     requires fresh { (V.meaning.view place.old).at ≡ start }

@@ -21,7 +21,7 @@ use miniserde_model::error::Error;
 use std::alloc::Global;
 use std::io::{Read, Write};
 
-/// Why a run was refused.
+/// Why a run failed.
 #[derive(Clone, Copy, Debug, PartialEq, Eq)]
 pub enum Fault {
     /// What was read is no JSON text in UTF-8.
@@ -74,8 +74,8 @@ pub fn run<R: Read, W: Write>(
     write_out(text, w)
 }
 
-/// Reads a text to its end, writes its canonical text and flushes once, where no object of it has one name
-/// twice. A call that failed is not made again.
+/// Reads a text to its end, writes its canonical text and flushes once. Fails if an object has a duplicate name. A
+/// call that failed is not made again.
 pub fn run_unique<R: Read, W: Write>(
     alloc: Global,
     r: &mut Counted<R>,
@@ -104,8 +104,8 @@ pub fn run_unique<R: Read, W: Write>(
     write_out(text, w)
 }
 
-/// Runs as the words after the program's name ask: `run` without any, `run_unique` for `--unique`. Answers the status,
-/// and the line on standard error, which is empty for none.
+/// Runs the program by its arguments: `run` without any, `run_unique` for `--unique`. Returns the exit status, and
+/// the line for standard error, which is empty if there is none.
 pub fn program<R: Read, W: Write>(
     alloc: Global,
     args: &[String],
@@ -134,7 +134,7 @@ pub fn program<R: Read, W: Write>(
     }
 }
 
-// What is said of a run's end.
+// Returns the exit status of a run, and its line for standard error.
 fn status_and_line(answer: Result<(), Fault>) -> (u8, &'static str)
     ensures status { result.0 ≡ status_of answer }
     ensures line { result.1.now ≡ line_of answer }
@@ -148,7 +148,7 @@ fn status_and_line(answer: Result<(), Fault>) -> (u8, &'static str)
     }
 }
 
-/// All that the reader has left.
+/// Reads all bytes that the reader has left.
 fn read_all<R: Read>(alloc: Global, r: &mut Counted<R>) -> Result<Vec<u8>, Fault>
     ensures given { IfOk result (λ v.
         Consumes (R.remaining (inner_of r.old)) (R.remaining (inner_of r.new)) v.items) }
@@ -181,7 +181,7 @@ fn answer(alloc: Global, bytes: &[u8]) -> Result<String, Fault>
     Ok(canonical(alloc, text)?)
 }
 
-// Returns the canonical text of the bytes, if no object has one name twice.
+// Returns the canonical text of the bytes, if no object has a duplicate name.
 fn answer_unique(alloc: Global, bytes: &[u8]) -> Result<String, Fault>
     ensures ok { IfOk result (λ s. IsUniqueAnswer bytes.now (string_bytes s)) }
     ensures invalid { IsErrOf result Fault.Invalid → HasNoUniqueAnswer bytes.now }
@@ -191,7 +191,7 @@ fn answer_unique(alloc: Global, bytes: &[u8]) -> Result<String, Fault>
     Ok(canonical_unique(alloc, text)?)
 }
 
-// Returns the bytes as a text, or `Invalid` if they are no UTF-8.
+// Returns the bytes as a text, or `Invalid` if they are not UTF-8.
 fn text_of(bytes: &[u8]) -> Result<&str, Fault>
     ensures ok { IfOk result (λ s. (s.now ≡ bytes.now) × IsUtf8 s.now) }
     ensures invalid { OnErr result (IsUtf8 bytes.now → ⊥) }
@@ -221,7 +221,7 @@ fn write_out<W: Write>(text: String, w: &mut Counted<W>) -> Result<(), Fault>
     }
 }
 
-/// Writes all the bytes, and tries no write again that failed.
+/// Writes all the bytes. A write that failed is not made again.
 fn put_all<W: Write>(w: &mut Counted<W>, bytes: &[u8]) -> Result<(), Fault>
     ensures ok { OnOk result
         (Appends (W.contents (inner_of w.old)) (W.contents (inner_of w.new)) bytes.now) }

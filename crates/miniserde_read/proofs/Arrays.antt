@@ -1,4 +1,6 @@
--- A list that is being read for an array of n: items beyond n make it none.
+-- A list gives an array of n items exactly if it gives n items. `too_long` shows by recursion over the children that
+-- more items never become n; `array_full` applies this to the state of the loop (`ListGoes`) if another child follows
+-- n items.
 use Rattle.std.proofs.Common.{◌≡◌, ℕ, Bool, true, false, List, [], ◌∷◌, ◌++◌, length, nat_eq, nat_lt, Option, Some, None, refl, sym, ap, ◌∙◌, arith}
 use Rattle.std.specs.Prelude.{option_and_then}
 use Rattle.std.proofs.lemmas.Bool.Decides.{nat_tests}

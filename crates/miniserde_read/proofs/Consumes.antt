@@ -1,4 +1,6 @@
--- One event of an engine, and several of them.
+-- A token taken from the text consumes its event: every list of events on which the text goes on begins with that
+-- event. One lemma for each event (`passed_start`, `passed_close`, `passed_element`, `passed_key`), by cases on the
+-- container and on whether it was just opened; `Consumes-append` composes them.
 use Rattle.std.proofs.Common.{◌≡◌, ℕ, Bool, true, false, Some, is_some, List, [], ◌∷◌, ◌++◌, refl, sym, ap, subst, ◌∙◌, append_assoc}
 use Rattle.miniserde_model.specs.Step.{Step, element, key, finish}
 use Rattle.miniserde_model.specs.Lexing.{Starts, Names, Follows}

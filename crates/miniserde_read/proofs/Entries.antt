@@ -1,4 +1,6 @@
--- The entry at a code, in entries whose keys have distinct codes.
+-- If the keys of some entries have distinct codes, the entry at a code is the only one with that code, whatever the
+-- order of the entries. By recursion over the entries (`found`, `at-contained`), which together give the result for a
+-- permutation (`at-permuted`).
 use Rattle.std.proofs.Common.{◌≡◌, zero, suc, Bool, true, false, cond, List, [], ◌∷◌, Some, None, refl, sym, ap, ◌∙◌, subst, inl, inr, arith}
 use Rattle.std.specs.Prelude.{◌⊎◌, bytes_eq, Contains}
 use Rattle.std.specs.Map.{keys_of}

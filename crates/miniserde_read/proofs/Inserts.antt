@@ -1,4 +1,6 @@
--- What counts of a map after an entry was inserted.
+-- Inserting an entry into a map changes the content of the map at the code of the key, and nowhere else. By recursion
+-- over the entries, for entries in the order of their keys (`map_content-inserted`) and for entries in any order
+-- (`map_content-put`).
 use Rattle.std.proofs.Common.{◌≡◌, Bool, true, false, cond, List, [], ◌∷◌, Option, Some, None, refl, sym, ap, ◌∙◌, subst}
 use Rattle.std.specs.Prelude.{bytes_eq, option_map, option_and_then}
 use Rattle.std.specs.Map.{keys_of, lookup, set_value}

@@ -1,4 +1,6 @@
--- A whole text spells a tree exactly where its first event and what stands behind it do, and whitespace is left.
+-- A whole text spells a tree exactly if it begins with the first event of the tree, the text behind that gives the
+-- tree, and only whitespace is left. By recursion over the tree, from the events that the text spells (`value_at`)
+-- and back to them (`value_spells`).
 use Rattle.std.proofs.Common.{ℕ, ◌<◌, Bool, true, false, is_some, List, [], ◌∷◌, ◌++◌, refl, sym, ap, subst, arith, append_assoc, append-nil}
 use Rattle.miniserde_model.specs.Tree.{Tree, null, truth, nonneg, neg, num, str, list, members, Trees, no_trees, tree, Members, no_members, member}
 use Rattle.miniserde_model.specs.Whitespace.{IsWhitespace}

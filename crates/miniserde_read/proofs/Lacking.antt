@@ -1,4 +1,6 @@
--- Elements that are read one by one: what stands among the next ones stands among those of the whole list.
+-- A string with a backslash that is found behind k elements of a list, for k below n, is among the first n elements
+-- of the whole list. The loop keeps the invariant `AmongGoes`, which `among_goes` carries over one element;
+-- `has_escape` carries the fact over to a whole text.
 use Rattle.std.proofs.Common.{◌≡◌, ℕ, suc, ◌+◌, ◌-◌, ◌<◌, Bool, true, false, List, [], ◌∷◌, ◌++◌, refl, ap, ◌∙◌, subst, arith, inl, inr}
 use Rattle.std.specs.Prelude.{◌≢◌}
 use Rattle.std.specs.List.{AllByRecursion}

@@ -1,4 +1,6 @@
--- What std's `get` finds is the entry at the key's code.
+-- The `get` of std returns for a key the value that the last member of that key means. By recursion over the entries,
+-- `get` finds the entry at the code of the key (`found_at`); by recursion over the members, the last tree of a name
+-- is the last one met there (`last_named`).
 use Rattle.std.proofs.Common.{◌≡◌, Bool, true, false, cond, List, [], ◌∷◌, Option, Some, None, refl, sym, ap, ◌∙◌, subst}
 use Rattle.std.specs.Prelude.{bytes_eq, option_map}
 use Rattle.std.specs.Map.{lookup}

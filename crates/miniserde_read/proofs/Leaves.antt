@@ -1,4 +1,5 @@
--- A leaf's tree is told by its event.
+-- The event of a leaf determines the tree of the leaf. By cases on the event (`leaf_given`) and on the tree
+-- (`leaf_none`).
 use Rattle.std.proofs.Common.{◌≡◌, ℕ, List, Option, Some, None, refl, subst}
 use Rattle.miniserde_model.specs.Tree.{Tree, null, truth, nonneg, neg, num, str, list, members}
 use Rattle.miniserde_model.specs.Step.{Step, boolean, string, negative, nonnegative, float, seq, element, map, key, finish}

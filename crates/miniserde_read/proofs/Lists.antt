@@ -1,4 +1,6 @@
--- A list that is being read, child by child: what the whole gives is what the state so far gives with those that are left.
+-- While a list is read child by child, the remaining children give from the state so far what the whole list gives
+-- from the empty state. `ListGoes` is this invariant: `list_begins` establishes it, `list_goes` carries it over one
+-- child, and `list_ends`, `list_none` and `list_stops` use it at the exits of the loop.
 use Rattle.std.proofs.Common.{◌≡◌, ℕ, Bool, true, false, List, [], ◌∷◌, ◌++◌, Option, Some, None, refl, sym, ap, subst, ◌∙◌, append-nil, append_assoc, arith}
 use Rattle.std.specs.Prelude.{option_and_then}
 use Rattle.miniserde_model.specs.Tree.{Tree, list, Trees, no_trees, tree}

@@ -1,4 +1,6 @@
--- An object that is being read, member by member: what the whole gives is what the state so far gives with those that are left.
+-- While an object is read member by member, the remaining members give from the state so far what the whole object
+-- gives from the empty state. `ObjectGoes` is this invariant: `object_begins` establishes it, `object_goes` carries
+-- it over one member, and `object_ends`, `object_none` and `object_stops` use it at the exits of the loop.
 use Rattle.std.proofs.Common.{◌≡◌, ℕ, Bool, true, false, List, Option, Some, None, refl, ap, subst, ◌∙◌, arith}
 use Rattle.miniserde_model.specs.Tree.{Tree, members, Members, no_members, member}
 use Rattle.miniserde_model.specs.Step.{Step, map}

@@ -1,4 +1,6 @@
--- A pair that is being read: its two children one by one.
+-- Reading two children one by one gives the pair that the whole list gives. By cases on the number of children
+-- (`pair_all`); `pair_first`, `pair_second` and `pair_full` carry the invariant `ListGoes` over the first child, the
+-- second, and a third that gives nothing.
 use Rattle.std.proofs.Common.{◌≡◌, ℕ, true, false, List, Option, Some, None, refl, sym, ap, ◌∙◌}
 use Rattle.std.specs.Prelude.{option_and_then, option_map}
 use Rattle.miniserde_model.specs.Tree.{Tree, list, Trees, no_trees, tree}

@@ -1,4 +1,6 @@
--- What follows in a text spells one tree at most, and ends in one place.
+-- The text behind the first event of a value gives one tree at most, and the value ends at one place. By recursion
+-- over both trees (`value_same`): the event determines the kind of the tree, and a closing bracket and a next child
+-- exclude each other (`close_no_next`).
 use Rattle.std.proofs.Common.{◌≡◌, ℕ, Bool, true, false, List, refl, sym, ap, subst, ◌∙◌, arith}
 use Rattle.miniserde_model.specs.Tree.{Tree, null, truth, nonneg, neg, num, str, list, members, Trees, no_trees, tree, Members, no_members, member}
 use Rattle.miniserde_model.specs.Step.{Step, boolean, string, negative, nonnegative, float, seq, map}

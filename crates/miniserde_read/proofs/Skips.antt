@@ -1,4 +1,6 @@
--- What `skip` returns at each of its ends, in plain variables.
+-- `skip` succeeds only behind a whole value, and returns `Invalid` only if no value follows. Each exit of its loop is
+-- a lemma over plain variables, from the invariant that the events so far lead to the present stack and text
+-- (`Reaches`).
 use Rattle.std.proofs.Common.{◌≡◌, ℕ, Bool, true, false, None, is_some, List, [], ◌∷◌, append-nil, refl, sym, ap, subst, true≢false}
 use Rattle.miniserde_model.specs.Tree.{Tree}
 use Rattle.miniserde_model.specs.Step.{Step}

@@ -1,4 +1,6 @@
--- Of what stands in a container, what a lexer found there is the front.
+-- If a lexer finds a closing bracket, an element or a member next in a container, the remaining children of the
+-- container begin with it. By cases on the children: `next_same`, `same_start` and `same_name` show that the first
+-- child is the one found.
 use Rattle.std.proofs.Common.{◌≡◌, ℕ, Bool, true, false, List, refl, ap, subst}
 use Rattle.miniserde_model.specs.Tree.{Tree, Trees, no_trees, tree, Members, no_members, member}
 use Rattle.miniserde_model.specs.Step.{Step}

@@ -1,4 +1,6 @@
--- The children of a tuple that is being read.
+-- A list gives no items of a tuple if it ends too early, if its first child gives nothing, or if its later children
+-- give nothing. `elements_there` takes the first child off the list; `one_left` shows that a list with another child
+-- is not empty.
 use Rattle.std.proofs.Common.{◌≡◌, ℕ, Bool, true, false, List, Option, Some, None, refl, ap, subst, ◌∙◌}
 use Rattle.miniserde_model.specs.Tree.{Tree, Trees, no_trees, tree}
 use Rattle.miniserde_model.specs.Step.{Step}

@@ -1,4 +1,6 @@
--- The events on which a text goes on are those of the trees on which it goes on.
+-- A text goes on as a list of events exactly if it goes on as the trees of these events. From trees to events by
+-- recursion over the tree (`due_runs`), and back by recursion over the number of events (`find_value`); `value_later`
+-- and `whole_at` state both for a value whose first event was taken.
 use Rattle.std.proofs.Common.{◌≡◌, ℕ, zero, suc, ◌≤◌, Bool, true, false, is_some, List, [], ◌∷◌, ◌++◌, length, refl, sym, ap, subst, ◌∙◌, append_assoc, arith, length-append}
 use Rattle.miniserde_model.specs.Tree.{Tree, null, truth, nonneg, neg, num, str, list, members, Trees, no_trees, tree, Members, no_members, member}
 use Rattle.miniserde_model.specs.Step.{Step, boolean, string, negative, nonnegative, float, seq, element, map, key, finish, events, child_events, member_events}

@@ -24,8 +24,8 @@ pub fn gets_last_by_key<K: MapKey + Ord, T: FromJson>(map: &BTreeMap<K, T>)
         → (k : K) → IsValueOf T.means.reads (last_at K.read K.code (K.code (K.content k)) t) (ordered.get K.cmp map.now k) }
 {}
 
-/// Does nothing. The same of a `HashMap`: if a tree means the map, `get` returns for each key the value that the last
-/// member means whose name is read as an equal key, and `None` if no member's name is.
+/// Does nothing. If a tree means the `HashMap`, `get` returns for each key the value that the last member means whose
+/// name is read as an equal key, and `None` if no member's name is.
 pub fn gets_last_by_hashed_key<K: MapKey + Hash, T: FromJson, H: BuildHasher + Default + Drop>(
     map: &HashMap<K, T, H>,
 )

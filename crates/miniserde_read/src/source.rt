@@ -38,7 +38,7 @@ impl<'a> Model for Source<'a> {
 }
 
 impl<'a> Source<'a> {
-    /// Starts at the front of a text. Allocates nothing.
+    /// Returns a source at the front of a text. Allocates nothing.
     pub fn new(alloc: Global, text: &'a str) -> Source<'a>
         ensures rest { result.rest ≡ text.now }
         ensures going { result.refused ≡ None }

@@ -1,4 +1,6 @@
--- The value of a member that is due, once its name was taken.
+-- Reading the value that is due behind the name of a member carries the invariant `ObjectGoes` over that member.
+-- `due_goes` is the case of a value that the field accepts, `due_none` that of a value that it rejects, and
+-- `due_less` shows that the text gets shorter.
 use Rattle.std.proofs.Common.{◌≡◌, ℕ, ◌<◌, Bool, true, false, List, length, Option, None, refl, ap, subst, ◌∙◌, arith}
 use Rattle.miniserde_model.specs.Tree.{Tree, Members, member}
 use Rattle.miniserde_model.specs.Step.{Step}

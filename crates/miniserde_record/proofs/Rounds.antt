@@ -1,4 +1,6 @@
--- The fields of a struct read again, one after another, where each has a name of its own.
+-- The fields of a struct with distinct names are read back from its written members. Field by field: the member in
+-- front is the only one of its name (`last_own`), the later ones are left for the later fields (`others_own`), and an
+-- omitted `None` is read as a missing field (`round_trips-omitted`).
 use Rattle.std.proofs.Common.{◌≡◌, ℕ, ◌+◌, ◌≤◌, Bool, true, false, not, ◌&&◌, nat_eq, List, [], ◌∷◌, length, Option, Some, None, refl, sym, ap, subst, ◌∙◌, true≢false, arith}
 use Rattle.std.specs.Prelude.{IsSome, MatchOption, option_map, bytes_eq, ⊤}
 use Rattle.std.proofs.lemmas.Bool.Decides.{nat_tests}

@@ -1,4 +1,6 @@
--- The members of a struct have their content in normal form too, field by field.
+-- If the members of a struct have a content, their normal form has the same content. Field by field: the last member
+-- of a name gives the same in normal form (`given_normal`), and removing the members of a name commutes with the
+-- normal form (`others_normal`).
 use Rattle.std.proofs.Common.{◌≡◌, ℕ, suc, ◌≤◌, Bool, true, false, cond, List, [], ◌∷◌, Option, Some, None, refl, sym, ap, subst, ◌∙◌, Less, Equal, Greater, arith}
 use Rattle.std.specs.Prelude.{IsSome, option_map, option_and_then, bytes_eq}
 use Rattle.std.specs.Option.{option_or}

@@ -1,4 +1,6 @@
--- Maps that are hashed: entries that agree at each code have the same members in order.
+-- Two hash maps whose entries agree at each code have the same members in the order of their names. Each entry of one
+-- map stands in the members of the other (`stands`); if each code has one name, the order changes neither which
+-- members are accepted (`taken_in_order`) nor which is met at a code (`met_first`).
 use Rattle.std.proofs.Common.{◌≡◌, ℕ, List, [], ◌∷◌, Option, Some, None, refl, sym, ap, ◌∙◌}
 use Rattle.std.specs.Prelude.{IsSome, bytes_eq, Contains}
 use Rattle.std.specs.Map.{keys_of}

@@ -1,4 +1,6 @@
--- Maps that are written alike have the same at each code of a key.
+-- Maps with the same members have the same content at each code. An entry is found at its name in the members, so the
+-- other map has an entry with an equal code and an equal value (`like`); this gives the result for sorted maps
+-- (`one_sorted`) and for hash maps (`one_hashed`).
 use Rattle.std.proofs.Common.{◌≡◌, Bool, true, false, cond, List, [], ◌∷◌, Option, Some, None, refl, sym, ap, ◌∙◌, subst, inl, inr, arith}
 use Rattle.std.specs.Prelude.{option_map, bytes_eq, Contains}
 use Rattle.std.specs.Map.{keys_of}

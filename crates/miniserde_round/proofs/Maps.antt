@@ -1,4 +1,6 @@
--- A map that was written is read as a map of the same members: each key and each value as it reads by itself.
+-- A map that was written is read as a map with the same members. Each key and each value is read back by its own
+-- round trip (`read_of`), the member met at a code means the entry read there (`met_read`), and sorted or distinct
+-- keys stay so (`sorted_read`, `unique_read`).
 use Rattle.std.proofs.Common.{◌≡◌, ℕ, Bool, true, false, cond, List, [], ◌∷◌, Option, Some, None, refl, sym, ap, ap₂, ◌∙◌, subst, true≢false}
 use Rattle.std.specs.Prelude.{IsSome, bytes_eq}
 use Rattle.std.specs.Map.{keys_of}

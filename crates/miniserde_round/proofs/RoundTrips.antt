@@ -1,4 +1,6 @@
--- The tree of a value of each given type means a value, and each that it means has that tree.
+-- The tree of a value means a value of the type, and each value that it means has that tree, for the types of std
+-- except maps. Leaves by their definitions; containers by recursion over their items, from the round trip of the type
+-- of the items.
 use Rattle.std.proofs.Common.{◌≡◌, ◌≢◌, ◌<◌, ◌^◌, ◌-◌, ℕ, ℤ, pos, negsuc, true, nat_lt, List, [], ◌∷◌, length, Option, Some, None, refl, sym, ap, ap₂, subst, ◌∙◌, arith}
 use Rattle.std.specs.Prelude.{FitsSigned, ⊤}
 use Rattle.std.specs.List.{AllByRecursion}

@@ -1,4 +1,6 @@
--- Maps that are ordered by their keys: entries that agree at each code have the same members.
+-- Two sorted maps whose entries agree at each code have the same members. By recursion over both lists of entries:
+-- the lesser of two first keys would have no entry in the other map (`below_none`), so they are equal, and the later
+-- entries agree too (`rest_agrees`).
 use Rattle.std.proofs.Common.{◌≡◌, ℕ, true, false, List, [], ◌∷◌, Some, None, refl, sym, ap, ◌∙◌}
 use Rattle.std.specs.Prelude.{bytes_eq}
 use Rattle.std.specs.Map.{keys_of}

@@ -12,7 +12,7 @@ use std::hash::{BuildHasher, Hash};
 
 /// A type whose values count as the same where they are written alike, so that each is read again as itself.
 pub trait Lossless: RoundTrip {
-    /// Does nothing. It promises that of two values that Rust has and that have one tree, the same counts.
+    /// Does nothing. It promises that two valid values with one tree have the same content.
     fn lossless()
         ensures { (v w : Self) → Self.real v → Self.real w → Self.tree v ≡ Self.tree w
             → Self.means.content v ≡ Self.means.content w };
@@ -20,13 +20,14 @@ pub trait Lossless: RoundTrip {
 
 /// A type of which no value is written as `null`, so that `Some` of each is told from `None`.
 pub trait NeverNull: RoundTrip {
-    /// Does nothing. It promises that no value that Rust has is written as `null`.
+    /// Does nothing. It promises that no valid value is written as `null`.
     fn never_null()
         ensures { (v : Self) → Self.real v → Self.tree v ≡ null → ⊥ };
 }
 
-/// Does nothing. It promises that the tree of a value means that value, and nothing that counts otherwise. So of a text
-/// that spells it, `from_str` returns the value, unless allocation fails.
+/// Does nothing. It promises that the tree of a value means that value, and that all values that it means have the
+/// same content. So `from_str` returns a value with that content from a text that spells the tree, unless allocation
+/// fails.
 pub fn means_itself<T: Lossless>(value: &T)
     ensures means { T.means.reads (T.tree value.now) value.now }
     ensures only { (v : T) → T.means.reads (T.tree value.now) v
@@ -37,7 +38,7 @@ pub fn means_itself<T: Lossless>(value: &T)
     T::lossless();
 }
 
-/// Writes a value and reads it again: what counts of the answer is what counts of the value.
+/// Writes a value and parses it: the result has the same content.
 pub fn read_itself<T: Lossless>(alloc: Global, value: &T) -> Result<T>
     ensures itself { IfOk result (λ v. T.means.content v ≡ T.means.content value.now) }
     ensures memory { result ≡ Err Error.Invalid → ⊥ }

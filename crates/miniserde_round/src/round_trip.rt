@@ -15,16 +15,16 @@ use std::hash::{BuildHasher, Hash};
 
 /// A type whose values read back as they were written.
 pub trait RoundTrip: Ranged + Serialize + FromJson {
-    /// Does nothing. It promises that the tree of each value that Rust has means a value that Rust has, and that each
-    /// such value has that tree.
+    /// Does nothing. It promises that the tree of each valid value means a valid value, and that each such value has
+    /// that tree.
     fn round_trips()
         ensures { (v : Self) → Self.real v
             → RoundTrips Self.real Self.tree Self.means.reads (Self.tree v) };
 }
 
-/// Parses one JSON value that spans the whole text, as `from_str` does (RFC 8259, section 2). If the text spells the
-/// tree of a valid value, as `to_string` writes it or in another spelling, the result has that tree. Returns `Invalid`
-/// if the text means no value, and `Memory` if an allocation fails.
+/// Parses one JSON value that spans the whole text, as `from_str` does (RFC 8259, section 2). If a valid value has
+/// the tree of the text, the returned value has the same tree. Returns `Invalid` if the text means no value, and
+/// `Memory` if an allocation fails.
 pub fn read_back<T: RoundTrip>(alloc: Global, text: &str) -> Result<T>
     // The text spells a tree that means the value, which is valid.
     ensures ok { IfOk result (λ read. (t : Tree) × IsJson text.now t × T.means.reads t read) }

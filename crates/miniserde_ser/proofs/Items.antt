@@ -1,4 +1,6 @@
--- The text of a list grows by an element at its end.
+-- Appending an element to a list appends its text to the compact text of the list, behind a comma unless it is the
+-- first. By recursion over the elements (`compact_children-snoc`); `compact_children_turn` and
+-- `compact_children_step` state it for one turn of a loop.
 use Rattle.std.proofs.Common.{◌≡◌, ℕ, ◌+◌, ◌<◌, List, [], ◌∷◌, ◌++◌, length, Bool, true, false, cond, take, get_or, refl, ap, append_assoc, ◌∙◌, sym, arith}
 use Rattle.std.proofs.lemmas.List.{take_more, append-nil, length-take-le}
 use Rattle.miniserde_model.specs.Tree.{Tree}

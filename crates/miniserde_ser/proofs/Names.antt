@@ -1,4 +1,5 @@
--- Keys that differ have names that differ.
+-- Different keys have different names, so the members of a map have distinct names. If two names were equal, both
+-- keys would be read back with one code (`differ`); the lists are by recursion over the entries (`distinct_names`).
 use Rattle.std.proofs.Common.{◌≡◌, ℕ, Bool, false, List, [], ◌∷◌, ◌++◌, map, Option, Some, bytes_eq, refl, sym, ap, ◌∙◌, true≢false}
 use Rattle.std.specs.List.{AllByRecursion, IsDistinct}
 use Rattle.std.proofs.lemmas.List.{map-append}

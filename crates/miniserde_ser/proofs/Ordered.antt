@@ -1,4 +1,5 @@
--- Entries with distinct names that are sorted by them give the members in order.
+-- Entries with distinct names, sorted by name, give the members in order. Both lists of members strictly ascend and
+-- have the same last tree at each name (`alike`), so they are equal (`one_rising`).
 use Rattle.std.proofs.Common.{◌≡◌, ℕ, suc, ◌+◌, Bool, true, false, cond, List, [], ◌∷◌, map, Option, Some, None, bytes_eq, refl, sym, ap, subst, ◌∙◌, arith, is_lt, Ordering, Less, Equal, Greater, true≢false, IsPermutation, IsSortedByKey}
 use Rattle.std.specs.List.{AllByRecursion, IsDistinct}
 use Rattle.std.specs.Ordering.{ordering_reverse}

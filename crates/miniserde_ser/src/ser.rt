@@ -38,8 +38,8 @@ pub enum Fragment<'a> {
 }
 
 /// A JSON text that is being written. A contract sees its bytes, the flag that the next element or member needs no
-/// comma, whether a call was refused, and how many bytes there is room for. That the calls make one whole value is not
-/// checked. A call that is refused leaves the text and its room as they were.
+/// comma, whether a call failed, and how many bytes there is room for. The writer does not check that the calls make
+/// one whole value. A call that fails leaves the text and its room unchanged.
 #[derive(Drop)]
 pub struct Writer {
     text: String,
@@ -61,7 +61,7 @@ impl Model for Writer {
     } };
 }
 
-// Appends a text where there is no room for it yet. It is seldom called, so it stands apart.
+// Appends a text that there is no room for yet. It is seldom called, so it is never inlined.
 #[inline(never)]
 fn push_growing(out: &mut String, text: &str) -> result::Result<(), AllocError>
     ensures { Extends out.old text.now result out.new }
@@ -80,7 +80,7 @@ impl Writer {
     ghost use Rattle.miniserde_ser.specs.Writer.{Appends, with_refused};
     ghost use Rattle.miniserde_ser.specs.Fragment.{fragment_tree};
 
-    /// A writer of no text yet. It takes no memory.
+    /// Returns a writer of an empty text. Allocates nothing.
     pub fn new(alloc: Global) -> Writer
         ensures { result ≡ record { text = []; first = true; refused = false; capacity = 0 } }
     {
@@ -92,12 +92,12 @@ impl Writer {
         }
     }
 
-    /// The allocator that the text grows by. A `Global` has no content that a clause could name.
+    /// Returns the allocator of the text. It has no contract, as a `Global` has no content that a clause could name.
     pub fn alloc(&self) -> Global {
         *self.text.allocator()
     }
 
-    // Answers the refusal that the writer keeps.
+    // Fails if the writer keeps an error.
     #[inline(always)]
     fn check(&self) -> result::Result<(), AllocError>
         ensures stays { OnOk result (self.now.refused ≡ false) }
@@ -125,7 +125,7 @@ impl Writer {
         }
     }
 
-    // Appends the digits of a number, in one copy of fixed size where there is room for the longest.
+    // Appends the digits of a number, in one copy of fixed size if there is room for the longest number.
     #[inline(always)]
     fn append_number(&mut self, n: u64) -> Result<()>
         ensures { Appends self.old (decimal n) self.old.first result self.new }
@@ -150,7 +150,7 @@ impl Writer {
         }
     }
 
-    // Appends a mark of punctuation, and says whether an element after it is the first.
+    // Appends a punctuation mark. `first` says whether an element after it is the first.
     #[inline(always)]
     fn punctuate(&mut self, mark: &str, first: bool) -> Result<()>
         ensures { Appends self.old mark.now first result self.new }
@@ -183,7 +183,7 @@ impl Writer {
         self.punctuate("[", true)
     }
 
-    /// Goes before each element of a list.
+    /// Begins an element of a list: appends a comma unless the element is the first.
     #[inline(always)]
     pub fn element(&mut self) -> Result<()>
         ensures { Appends self.old (if self.old.first then [] else codes ",") false result self.new }
@@ -210,7 +210,8 @@ impl Writer {
         self.punctuate("{", true)
     }
 
-    /// Goes before each member of an object, and gives its name.
+    /// Begins a member of an object: appends a comma unless the member is the first, then its name as a string, and a
+    /// colon.
     pub fn key(&mut self, k: &str) -> Result<()>
         ensures appends { Appends self.old
             ((if self.old.first then [] else codes ",") ++ string_text k.now ++ codes ":") false result self.new }
@@ -219,7 +220,7 @@ impl Writer {
         self.key_inline(k)
     }
 
-    /// Appends a member's name as `key` does, and is inlined into its caller.
+    /// Begins a member of an object as `key` does, and is inlined into its caller.
     #[inline(always)]
     pub fn key_inline(&mut self, k: &str) -> Result<()>
         ensures appends { Appends self.old
@@ -243,7 +244,8 @@ impl Writer {
         self.punctuate("}", false)
     }
 
-    /// Marks the text as cut short, for a value that could not have memory of its own.
+    /// Marks the text as incomplete, and returns `Memory`. It is called if a value fails to allocate memory of its
+    /// own.
     pub fn refuse(&mut self) -> Error
         ensures memory { result ≡ Memory }
         ensures err { self.new ≡ with_refused self.old }
@@ -252,7 +254,7 @@ impl Writer {
         Error::Memory
     }
 
-    /// The whole text, where no call was refused. It takes no memory.
+    /// Returns the whole text, or `Memory` if a call failed. Allocates nothing.
     pub fn into_string(self) -> Result<String>
         ensures ok { IfOk result (λ s. string_bytes s ≡ self.text) }
         ensures capacity { IfOk result (λ s. string_capacity s ≡ self.capacity) }
@@ -278,7 +280,7 @@ pub trait Serialize {
     /// The tree of a value.
     ghost tree: { Self → Tree };
 
-    /// Appends the text. A writer that was refused hands out no text any more.
+    /// Appends the compact text of the value. A writer keeps its first error, and returns no text after it.
     fn begin(&self, w: &mut Writer) -> Result<()>
         ensures ok { OnOk result (w.new.text ≡ w.old.text ++ compact (tree self.now)) }
         ensures is_tree { OnOk result (IsTree (tree self.now)) }

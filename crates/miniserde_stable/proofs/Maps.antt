@@ -1,4 +1,6 @@
--- The members of a map have their content in normal form too, if no two names are read as equal keys.
+-- If the members of a map have a content, their normal form has the same content, provided that no two names are read
+-- as equal keys. By recursion over the members: putting a member in its place changes neither which one is met at a
+-- code (`met_first`) nor that all are accepted (`taken_first`).
 use Rattle.std.proofs.Common.{◌≡◌, true, false, cond, Option, Some, None, refl, sym, ap, subst, ◌∙◌, Less, Equal, Greater, true≢false}
 use Rattle.std.specs.Prelude.{IsSome, option_map, bytes_eq}
 use Rattle.std.specs.Ordering.{is_eq}

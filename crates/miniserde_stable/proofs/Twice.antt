@@ -1,4 +1,5 @@
--- Two names of one integer key: sorting them changes which is the last.
+-- The content of a map with integer keys can change in normal form. `1` and `01` are two names of the key 1, and
+-- sorting them changes which of them is the last: both contents are computed, and they differ.
 use Rattle.std.proofs.Common.{◌≡◌, ℤ, pos, [], ◌∷◌, Option, Some, None, refl, sym, ap, ◌∙◌}
 use Rattle.std.specs.Prelude.{option_and_then}
 use Rattle.std.proofs.lemmas.Option.{same_Some}

@@ -1,4 +1,6 @@
--- A tree with a content has it in normal form too, for each of std's types but maps.
+-- If a tree has a content, its normal form has the same content, for the types of std except maps. By cases on the
+-- tree (`stable-by`), as the normal form changes only negated zeros, lists and members; containers follow from the
+-- type of their items.
 use Rattle.std.proofs.Common.{◌≡◌, ℕ, ℤ, pos, negsuc, List, ◌∷◌, Option, Some, None, refl, ap, ◌∙◌}
 use Rattle.std.specs.Prelude.{option_map, option_and_then}
 use Rattle.miniserde_model.specs.Tree.{Tree, null, truth, nonneg, neg, num, str, list, members, Trees, no_trees, tree, Members}

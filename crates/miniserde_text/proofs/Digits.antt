@@ -1,4 +1,6 @@
--- The value of digits, a turn of the loop each: the whole keeps its value, and what is read so far is never above it.
+-- Each turn of a loop over digits keeps the value of all digits, and the number so far never exceeds that value.
+-- `turn` takes one digit off the list; `below_next` and `wraps_not` bound the number, so that up to 19 digits never
+-- overflow 64 bits.
 use Rattle.std.proofs.Common.{◌≡◌, ℕ, suc, ◌+◌, ◌-◌, ◌*◌, ◌%◌, ◌^◌, ◌≤◌, ◌<◌, List, [], ◌∷◌, length, drop, get_or, ap, ◌∙◌, subst, arith}
 use Rattle.std.proofs.Math.Nat.{pow-suc, pow-le-pow_right}
 use Rattle.std.proofs.lemmas.Bool.Decides.{nat_tests}

@@ -1,4 +1,5 @@
--- Reading takes exactly the escapes of the grammar: what is read is a piece of it (`X_takes`), and each such piece is
+-- Reading an escape takes exactly the escapes of the grammar. By cases on the letter behind the backslash:
+-- `escape_takes` shows that each escape read is a piece of the grammar, and `piece_cases` that each such piece is
 -- read.
 use Rattle.std.proofs.Common.{◌≡◌, ℕ, ◌+◌, ◌*◌, ◌<◌, ◌≤◌, ◌==◌, Bool, true, false, cond, List, [], ◌∷◌, ◌++◌, length, drop, Some, None, refl, ap, sym, subst, ◌∙◌, inl, inr, arith, append_assoc, eqb-true, ltb-true}
 use Rattle.std.specs.Prelude.{◌⊎◌, ◌&&◌, ◌||◌, slice_index, option_and_then, option_map}

@@ -1,4 +1,5 @@
--- Texts by the escape rule, piece by piece.
+-- The escape rule maps each byte by itself, keeps runs of plain bytes, and writes each byte as one to six bytes. By
+-- recursion over the bytes, from the rule of one byte (`escapes-cons`) and of two texts (`escapes-append`).
 use Rattle.std.proofs.Common.{◌≡◌, ℕ, suc, ◌+◌, ◌-◌, ◌*◌, ◌<◌, ◌≤◌, List, [], ◌∷◌, ◌++◌, length, true, false, take, drop, get_or, refl, ap, sym, ◌∙◌, arith, length-append, length-drop, take-add, append_assoc}
 use Rattle.std.proofs.lemmas.Grind.{flat_map-append}
 use Rattle.std.proofs.lemmas.List.{take_more, append-nil, take-append-drop, length-take, get_or-take, get_or-drop}

@@ -1,4 +1,5 @@
--- Indices into a text: their order, which are character boundaries, and where a run of a string ends.
+-- The indices to which the lexer moves are in order, and they are character boundaries. An index behind an ASCII byte
+-- is a boundary (`follows_boundary`), and so is the end of a run without special bytes (`special_boundary`).
 use Rattle.std.proofs.Common.{◌≡◌, ℕ, ◌+◌, ◌-◌, ◌≤◌, ◌<◌, List, length, drop, get_or, refl, ap, sym, subst, ◌∙◌, arith, length-append, length-drop}
 use Rattle.std.specs.List.{position_or_len}
 use Rattle.std.specs.Str.{IsUtf8, IsCharBoundary}

@@ -1,5 +1,5 @@
--- A run of bytes that are not special, seen some at a time: where the mask is 0 the run goes on past them, and else the
--- zeros at its end count up to the first special byte.
+-- The mask of the special bytes in some lanes shows where a run of plain bytes ends. If the mask is 0, the run
+-- continues past the lanes (`through`); else its trailing zeros count up to the first special byte (`stops`).
 use Rattle.std.proofs.Common.{◌≡◌, ℕ, suc, get_or, ◌+◌, ◌*◌, ◌%◌, ◌^◌, ◌<◌, ◌≤◌, ltb, Bool, true, false, not, cond, eqb, List, [], ◌∷◌, map, length, drop, replicate, refl, sym, ap, ap₂, ◌∙◌, arith}
 use Rattle.std.specs.Prelude.{◌||◌}
 use Rattle.std.specs.List.{position_or_len}

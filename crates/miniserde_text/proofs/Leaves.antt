@@ -1,4 +1,5 @@
--- The event of a number text is that of its leaf: both go by whether something stands behind its whole part.
+-- The event that the lexer makes of a number text is the event of its leaf. By cases on whether a fraction or an
+-- exponent follows the whole part (`by_tail`): with one, both keep the text, and without, both take the integer.
 use Rattle.std.proofs.Common.{◌≡◌, ℕ, ◌==◌, Bool, true, false, cond, List, [], ◌∷◌, ◌++◌, drop, refl, ap, sym, ◌∙◌, inl, inr, arith}
 use Rattle.std.specs.Prelude.{◌⊎◌, ◌&&◌, ◌||◌, not, nat_le, nat_lt, ◌^◌, slice_index, if◌then◌else◌, ℤ}
 use Rattle.std.specs.List.{AllByRecursion}

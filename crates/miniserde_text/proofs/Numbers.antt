@@ -1,4 +1,5 @@
--- Reading takes exactly the numbers of the grammar: `X_takes` and `X_only` say it of each part X, either way round.
+-- Reading a number takes exactly the numbers of the grammar. Part by part, for whole part, fraction and exponent: a
+-- lemma `X_takes` shows that the bytes read are an X of the grammar, and `X_only` that each X is read.
 use Rattle.std.proofs.Common.{◌≡◌, ◌≢◌, ℕ, zero, suc, ◌+◌, ◌-◌, ◌<◌, ◌≤◌, ◌==◌, Bool, true, false, cond, List, [], ◌∷◌, ◌++◌, length, take, drop, Some, None, refl, ap, sym, subst, ◌∙◌, inl, inr, arith, eqb-true, eq-eqb, append_assoc}
 use Rattle.std.specs.Prelude.{◌⊎◌, slice_index, option_and_then}
 use Rattle.std.specs.List.{AllByRecursion, prefix_len}

@@ -1,4 +1,6 @@
--- What gave an option its value, a step at a time, and the front of a list.
+-- If a conditional or a chain of options has a value, its test and the value before the last step are known. Each
+-- lemma is by cases on the test or the option; the last ones do the same for the first byte of a list and for the
+-- part before a suffix.
 use Rattle.std.proofs.Common.{◌≡◌, ℕ, suc, ◌-◌, Bool, true, false, cond, List, [], ◌∷◌, ◌++◌, length, take, drop, Option, Some, None, refl, ap, sym, ◌∙◌, inl, inr, arith}
 use Rattle.std.specs.Prelude.{◌⊎◌, ◌&&◌, slice_index, option_and_then, option_map, is_some, if◌then◌else◌}
 use Rattle.std.proofs.lemmas.Bool.{true≢false}

@@ -1,4 +1,5 @@
--- The number texts that are kept are those that reading keeps and takes whole.
+-- A text is the text of a kept number exactly if reading keeps it and takes it whole. One direction is by
+-- `number_takes` (`kept_of`), the other by `number_only` (`kept_read`).
 use Rattle.std.proofs.Common.{◌≡◌, ℕ, ◌≤◌, ◌==◌, List, [], length, length-drop, drop, Some, IsTrue, ◌↔◌, false, refl, ap, sym, subst, ◌∙◌, arith, eqb-true, eq-eqb}
 use Rattle.std.proofs.lemmas.Bool.{true≢false}
 use Rattle.std.proofs.lemmas.List.{append-nil, drop_all}

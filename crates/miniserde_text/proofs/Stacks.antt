@@ -1,4 +1,6 @@
--- The bits of the open containers.
+-- The words of a stack hold the kinds of the open containers, one bit for each level. Opening a container sets the
+-- bit of its level and keeps those below (`stack_opened`); the last bit is the kind of the innermost container
+-- (`stack_top`).
 use Rattle.std.proofs.Common.{◌≡◌, ℕ, zero, suc, ◌+◌, ◌*◌, ◌/◌, ◌%◌, ◌^◌, ◌<◌, ◌≤◌, ◌≢◌, inl, inr, List, [], ◌∷◌, ◌++◌, Some, is_some, true≢false, get_or, set, length, bit_and, refl, sym, ap, ◌∙◌, arith}
 use Rattle.std.specs.Int.{bit_at}
 use Rattle.std.proofs.lemmas.Bool.{cases_eq}

@@ -1,4 +1,5 @@
--- The front of a value stands in one way at the front of a text.
+-- A text begins with at most one first event of a value, and the text behind it is shorter. The first byte determines
+-- the class of the event (`same_class`), and within a class both events and both rests are equal (`same_piece`).
 use Rattle.std.proofs.Common.{◌≡◌, ℕ, ◌<◌, false, Option, Some, None, is_some, List, [], ◌∷◌, ◌++◌, length, codes, refl, sym, ap, ◌∙◌, append_assoc, arith, length-append}
 use Rattle.miniserde_model.specs.Tree.{Tree, null, truth, nonneg, neg, num, str}
 use Rattle.miniserde_model.specs.Whitespace.{IsWhitespace}

@@ -1,5 +1,6 @@
--- What follows in a container, and at the end: each step that is taken is one of the grammar, and each of the grammar
--- is taken, so where none is taken there is none.
+-- `step_at` takes exactly the closing bracket or the step to the next child that the grammar allows. By cases on the
+-- kind and on whether the container was just opened: each step taken is one of the grammar (`follows`), and each one
+-- of the grammar is taken (`follows_refused`).
 use Rattle.std.proofs.Common.{◌≡◌, ℕ, ◌≤◌, ◌==◌, Bool, true, false, cond, not, List, [], ◌∷◌, ◌++◌, length, length-drop, drop, Option, Some, None, refl, ap, sym, subst, ◌∙◌, inl, inr, arith, eqb-true, append-nil}
 use Rattle.std.specs.Prelude.{slice_index, is_some}
 use Rattle.std.proofs.lemmas.Bool.{true≢false}

@@ -1,5 +1,6 @@
--- Passing over the characters of a string: runs and escapes each pass some characters and no others (`Passes`), which
--- composes, and where no piece can begin there is no string.
+-- Decoding a string takes exactly the characters that the grammar gives it. A run or an escape passes over some
+-- characters and no others (`Passes`), which composes (`passes_then`); if no piece can begin, there is no string
+-- (`no_chars`, `no_escape`).
 use Rattle.std.proofs.Common.{◌≡◌, ◌≢◌, ℕ, ◌<◌, ◌≤◌, ◌==◌, nat_lt, Bool, true, false, List, [], ◌∷◌, ◌++◌, length, take, drop, Some, None, refl, ap, sym, subst, ◌∙◌, inl, inr, arith, lt_of_not-le, append_assoc, ltb-true}
 use Rattle.std.specs.Prelude.{◌⊎◌, slice_index}
 use Rattle.std.specs.List.{AllByRecursion}

@@ -1,4 +1,6 @@
--- What a lexer finds between the children of a container.
+-- A closing bracket, an element or a name that a lexer finds between the children of a container spells its event. By
+-- cases on the kind and on whether the container was just opened; whitespace before the first element belongs to its
+-- value (`due_space`).
 use Rattle.std.proofs.Common.{◌≡◌, ℕ, Bool, true, false, List, [], ◌∷◌, ◌++◌, sym, ap, subst, ◌∙◌, append_assoc}
 use Rattle.miniserde_model.specs.Whitespace.{IsWhitespace}
 use Rattle.miniserde_model.specs.Step.{Step, element, key, finish}

@@ -15,8 +15,8 @@ pub fn has_room(out: &String) -> bool
     out.capacity() - out.len() >= LONGEST
 }
 
-/// Appends the digits of a number, where there is room for any: it copies as many bytes as the longest takes, and cuts off
-/// those behind the digits.
+/// Appends the digits of a number. `out` has room for the longest number: the call copies that many bytes, and cuts
+/// off those behind the digits.
 #[inline(always)]
 pub fn put_digits(n: u64, out: &mut String)
     requires { string_len out.old + 20 ≤ string_capacity out.old }

@@ -18,7 +18,7 @@ use miniserde_model::error::Result;
 use std::alloc::AllocError;
 use std::{result, str};
 
-// The end of the run of bytes from `from` on that stand for themselves.
+// Returns the index of the first byte at or after `from` that must be escaped, or the length.
 fn run_end(text: &[u8], from: usize) -> usize
     requires { from ≤ length text.now }
     ensures low { from ≤ result }
@@ -29,7 +29,7 @@ fn run_end(text: &[u8], from: usize) -> usize
     special(text, from)
 }
 
-// The letter that stands for the byte behind a backslash, or 0.
+// Returns the letter of a byte's short escape, or 0 if the byte has none.
 #[tactic(auto, unfolding(crate::specs::private::Escape::escape))]
 fn letter_of(b: u8) -> u8
     ensures short { result ≢ 0 → escape b ≡ 92 ∷ result ∷ [] }
@@ -51,7 +51,7 @@ fn letter_of(b: u8) -> u8
     }
 }
 
-// How many bytes the byte is written as.
+// Returns how many bytes the escape rule writes for a byte.
 fn byte_len(b: u8) -> usize
     ensures len { result ≡ length (escape b) }
     ensures low { 1 ≤ result }
@@ -65,7 +65,8 @@ fn byte_len(b: u8) -> usize
     }
 }
 
-// How many bytes the text is written as, without the quotes, unless no `usize` holds that.
+// Returns how many bytes the escape rule writes for a text, without the quotes, or `None` if no `usize` holds that
+// number.
 fn escaped_len(value: &str) -> Option<usize>
     ensures some { IfSome result (λ n. n ≡ length (escapes value.now)) }
     ensures none { IfNone result (2 ^ 64 ≤ length (escapes value.now)) }
@@ -80,7 +81,7 @@ fn escaped_len(value: &str) -> Option<usize>
     Some(total)
 }
 
-// The hexadecimal digit, in lower case.
+// Returns the hexadecimal digit of a number below 16, in lower case.
 fn hex_digit(n: u8) -> u8
     requires { n < 16 }
     ensures value { result ≡ digit_char n }
@@ -89,7 +90,7 @@ fn hex_digit(n: u8) -> u8
     if n < 10 { b'0' + n } else { b'a' + (n - 10) }
 }
 
-// Appends ASCII bytes in one piece, where there is room for them.
+// Appends ASCII bytes in one piece. `out` has room for them.
 #[inline(always)]
 fn put_ascii(bytes: &[u8], out: &mut String)
     requires ascii { IsAscii bytes.now }
@@ -102,7 +103,7 @@ fn put_ascii(bytes: &[u8], out: &mut String)
         .unwrap();
 }
 
-// Appends a byte that may not stand for itself, where there is room for it.
+// Appends the escape of a byte that must be escaped. `out` has room for it.
 fn put_escape(b: u8, out: &mut String)
     requires special { bytes.is_special b ≡ true }
     requires room { string_len out.old + length (escape b) ≤ string_capacity out.old }
@@ -128,7 +129,7 @@ fn put_escape(b: u8, out: &mut String)
     }
 }
 
-// Appends the bytes from `start` to `end`, where there is room for them. Between two escapes there are none.
+// Appends the bytes from `start` to `end`. Between two escapes there are none. `out` has room for them.
 #[inline(always)]
 fn put_run(value: &str, start: usize, end: usize, out: &mut String)
     requires start { IsCharBoundary value.now start }
@@ -144,8 +145,7 @@ fn put_run(value: &str, start: usize, end: usize, out: &mut String)
     }
 }
 
-// Appends a text by the escape rule, where there is room for it: each run of bytes that stand for themselves in one
-// piece.
+// Appends a text by the escape rule, each run of plain bytes in one piece. `out` has room for it.
 fn put_escapes(value: &str, out: &mut String)
     requires { string_len out.old + length (escapes value.now) ≤ string_capacity out.old }
     ensures bytes { string_bytes out.new ≡ string_bytes out.old ++ escapes value.now }
@@ -166,8 +166,8 @@ fn put_escapes(value: &str, out: &mut String)
     }
 }
 
-// Appends a text by the escape rule, where there is room for it. Where the caller knows the text as the program is built,
-// nothing is left to look at in a short one.
+// Appends a text by the escape rule. `out` has room for it. For a short text that is known at compile time, no test
+// of its bytes is left.
 #[inline(always)]
 fn put_text(value: &str, out: &mut String)
     requires { string_len out.old + length (escapes value.now) ≤ string_capacity out.old }
@@ -182,7 +182,8 @@ fn put_text(value: &str, out: &mut String)
     }
 }
 
-// Whether there is room for the text however it is written, and for so many marks: a byte takes six bytes at most.
+// Returns `true` only if there is room for the text, however it is escaped, and for `marks` more bytes. A byte is
+// escaped as six bytes at most.
 #[inline(always)]
 fn has_ample_room(value: &str, marks: usize, out: &String) -> bool
     ensures { result ≡ true
@@ -192,7 +193,7 @@ fn has_ample_room(value: &str, marks: usize, out: &String) -> bool
     marks <= free && value.len() <= (free - marks) / 6
 }
 
-// Makes room for the text by the escape rule and so many marks, and no more than `reserve` makes for them.
+// Reserves room for the escaped text and `marks` more bytes, and no more than `reserve` does for that many.
 fn grow(value: &str, marks: usize, out: &mut String) -> result::Result<(), AllocError>
     ensures { MakesRoom out.old (length (escapes value.now) + marks) result out.new }
 {
@@ -203,7 +204,8 @@ fn grow(value: &str, marks: usize, out: &mut String) -> result::Result<(), Alloc
     out.reserve(len.saturating_add(marks))
 }
 
-// As `grow`, and counts the text only where room is short.
+// Reserves room for the escaped text and `marks` more bytes. Calls `grow`, which counts the bytes, only if
+// `has_ample_room` returns `false`.
 #[inline(always)]
 fn make_room(value: &str, marks: usize, out: &mut String) -> result::Result<(), AllocError>
     ensures { MakesRoom out.old (length (escapes value.now) + marks) result out.new }
@@ -215,7 +217,7 @@ fn make_room(value: &str, marks: usize, out: &mut String) -> result::Result<(), 
     }
 }
 
-// Appends the quote before a member's name, behind a comma where the member is not the first, where there is room for it.
+// Appends the quote before a member's name, behind a comma unless the member is the first. `out` has room for both.
 #[inline(always)]
 fn put_name_start(first: bool, out: &mut String)
     requires { string_len out.old + 2 ≤ string_capacity out.old }
@@ -230,7 +232,8 @@ fn put_name_start(first: bool, out: &mut String)
     }
 }
 
-// How many bytes a member's marks take.
+// Returns how many bytes the punctuation of a member takes: two quotes, a colon, and a comma unless the member is the
+// first.
 #[inline(always)]
 fn marks_of(first: bool) -> usize
     ensures { result ≡ (if first then 3 else 4) }
@@ -238,8 +241,8 @@ fn marks_of(first: bool) -> usize
     if first { 3 } else { 4 }
 }
 
-/// Appends what a member begins with: a comma unless it is the first, its name as a string, and a colon. A call that
-/// fails leaves `out` as it was.
+/// Appends the beginning of a member: a comma unless it is the first, its name as a string, and a colon. If the call
+/// fails, `out` is unchanged.
 #[doc(hidden)]
 #[inline(always)]
 pub fn put_name(first: bool, name: &str, out: &mut String) -> Result<()>
@@ -279,7 +282,7 @@ fn put_other(value: &str, out: &mut String) -> result::Result<(), AllocError>
     Ok(())
 }
 
-/// Appends a text as a string of JSON: between quotes, by the escape rule. A call that refuses leaves `out` as it was.
+/// Appends a text as a JSON string: between quotes, by the escape rule. If the call fails, `out` is unchanged.
 pub fn escape_str(value: &str, out: &mut String) -> Result<()>
     ensures appends { Extends out.old (string_text value.now) result out.new }
     ensures memory { OnErr result (IsErrOf result Memory) }

@@ -18,6 +18,7 @@ static SPECIAL: [u8; 256] = [
     0, 0, 0, 0, 0, 0, 0, 0, 0, 0, 0, 0, 0, 0, 0, 0, 0, 0, 0, 0, 0, 0, 0, 0, 0, 0, 0, 0, 0, 0, 0, 0,
 ];
 
+// Returns whether a byte must be escaped in a string: a byte below 0x20, a quote or a backslash.
 #[inline(always)]
 pub(crate) fn is_special(c: u8) -> bool
     ensures { result ≡ is_special c }
@@ -25,7 +26,7 @@ pub(crate) fn is_special(c: u8) -> bool
     SPECIAL[c as usize] == 1
 }
 
-// Bit i is set where lane i is special.
+// Returns a mask whose bit i is set if lane i is special.
 #[inline(always)]
 fn specials(v: u8x32) -> u64
     ensures { result ≡ mask_l (map is_special v) }
@@ -36,7 +37,7 @@ fn specials(v: u8x32) -> u64
     (controls | quotes | backslashes).to_bitmask()
 }
 
-// As `specials`, sixteen at a time.
+// Returns the mask of `specials` for sixteen lanes.
 #[inline(always)]
 pub(crate) fn specials_of_sixteen(v: u8x16) -> u64
     ensures { result ≡ mask_l (map is_special v) }
@@ -47,7 +48,7 @@ pub(crate) fn specials_of_sixteen(v: u8x16) -> u64
     (controls | quotes | backslashes).to_bitmask()
 }
 
-// As `specials`, eight at a time.
+// Returns the mask of `specials` for eight lanes.
 #[inline(always)]
 pub(crate) fn specials_of_eight(v: u8x8) -> u64
     ensures { result ≡ mask_l (map is_special v) }
@@ -58,7 +59,7 @@ pub(crate) fn specials_of_eight(v: u8x8) -> u64
     (controls | quotes | backslashes).to_bitmask()
 }
 
-// The search byte by byte.
+// Returns the index of the first special byte at or after `from`, or the length. Searches byte by byte.
 fn search_bytes(bytes: &[u8], from: usize) -> usize
     requires { from ≤ length bytes.now }
     ensures { result ≡ from + position_or_len is_special (drop from bytes.now) }
@@ -70,7 +71,7 @@ fn search_bytes(bytes: &[u8], from: usize) -> usize
     i
 }
 
-// The search by lanes of eight bytes.
+// Returns the index of the first special byte at or after `from`, or the length. Searches eight bytes at a time.
 fn search_eights(bytes: &[u8], from: usize) -> usize
     requires { from ≤ length bytes.now }
     ensures { result ≡ from + position_or_len is_special (drop from bytes.now) }
@@ -86,7 +87,7 @@ fn search_eights(bytes: &[u8], from: usize) -> usize
     search_bytes(bytes, i)
 }
 
-// As `search_eights`, apart from where it is called.
+// Calls `search_eights`, and is never inlined into its caller.
 #[inline(never)]
 fn search_few(bytes: &[u8], from: usize) -> usize
     requires { from ≤ length bytes.now }
@@ -95,7 +96,7 @@ fn search_few(bytes: &[u8], from: usize) -> usize
     search_eights(bytes, from)
 }
 
-// The search by lanes of 32 bytes.
+// Returns the index of the first special byte at or after `from`, or the length. Searches 32 bytes at a time.
 #[inline(never)]
 fn search(bytes: &[u8], from: usize) -> usize
     requires { from ≤ length bytes.now }
@@ -112,7 +113,7 @@ fn search(bytes: &[u8], from: usize) -> usize
     search_eights(bytes, i)
 }
 
-/// As `special`, for a byte at hand that seldom is special itself: 16 lanes come first.
+/// Returns the same index as `special`. It tests 16 bytes at once, for callers whose next byte is seldom special.
 #[inline(always)]
 pub(crate) fn special_in_lanes(bytes: &[u8], from: usize) -> usize
     requires { from ≤ length bytes.now }
@@ -128,7 +129,7 @@ pub(crate) fn special_in_lanes(bytes: &[u8], from: usize) -> usize
     search(bytes, from + 16)
 }
 
-/// The first byte at or after `from` that may not stand for itself in a string, or the length.
+/// Returns the index of the first byte at or after `from` that must be escaped in a string, or the length.
 #[inline(always)]
 pub fn special(bytes: &[u8], from: usize) -> usize
     requires { from ≤ length bytes.now }

@@ -46,7 +46,7 @@ pub trait Fields: Drop {
         requires { IsTreeEvent (event_of event) }
         ensures { Takes (meaning.child self.old) (event_of event.entry) result (meaning.child self.new) };
 
-    /// Marks the current value as refused, and returns its first error.
+    /// Keeps an error for the current value, unless it has one already. Returns the first error of that value.
     fn refuse(&mut self, error: Error) -> Error
         ensures answer { result ≡ first_refusal (meaning.child self.old).refused error }
         ensures marks { (meaning.child self.new).refused ≡ Some result };
@@ -131,7 +131,7 @@ pub struct FieldOf<P, T, O, R> {
 /// A field of a type, and the ones after it.
 pub type Field<T, R> = FieldOf<<T as Deserialize>::Place, T, Plain, R>;
 
-/// A field of a type that takes one member alone, and the ones after it: a duplicate of its name is refused before its
+/// A field of a type that takes one member alone, and the fields after it: a duplicate of its name fails before its
 /// value. Members of other names may be duplicates, and so may any names inside a value.
 pub type OnceField<T, R> = FieldOf<<T as Deserialize>::Place, T, Once<Plain>, R>;
 

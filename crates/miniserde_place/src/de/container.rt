@@ -40,7 +40,7 @@ impl<C: Collect> ContainerPlace<C> {
     ghost use Rattle.miniserde_place.specs.Stage.{container_view, view_between, children, RefusesChild};
     ghost use Rattle.miniserde_place.specs.Container.{BeginsChild};
 
-    // An event that no open child takes.
+    // Takes an event that no open child takes.
     #[inline(never)]
     fn step_between_children(&mut self, event: Step<'_>) -> Result<()>
         requires tree { IsTreeEvent (event_of event) }
@@ -78,7 +78,7 @@ impl<C: Collect> ContainerPlace<C> {
         }
     }
 
-    // An event between two children: the next one begins, or the container ends.
+    // Takes an event between two children: begins the next child, or ends the container.
     fn go_on(&mut self, event: Step<'_>) -> Result<()>
         ensures leads { IfOk result (λ _.
             Advances (view_between C.collector_meaning self.old.collector) (event_of event.entry) (container_view C.collector_meaning self.new)) }

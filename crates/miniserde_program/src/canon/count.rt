@@ -16,14 +16,14 @@ impl Model for Count {
 }
 
 impl Count {
-    /// No call yet.
+    /// Returns the count 0.
     pub(crate) fn new() -> Count
         ensures { result.value ≡ 0 }
     {
         Count {}
     }
 
-    /// One call more.
+    /// Returns the count raised by one.
     pub(crate) fn next(&self) -> Count
         ensures { result.value ≡ self.now.value + 1 }
     {

@@ -18,7 +18,7 @@ pub struct Counted<T> {
 impl<T> Counted<T> {
     ghost use Rattle.miniserde_program.specs.Counts.{inner_of, failures, flushes};
 
-    /// With nothing counted yet.
+    /// Returns a reader or writer whose counts are 0.
     pub fn new(inner: T) -> Counted<T>
         ensures inner { inner_of result ≡ inner }
         ensures failures { failures result ≡ 0 }
@@ -31,7 +31,7 @@ impl<T> Counted<T> {
         }
     }
 
-    /// The reader or writer itself.
+    /// Returns the inner reader or writer.
     pub fn into_inner(self) -> T
         ensures { result ≡ inner_of self }
     {

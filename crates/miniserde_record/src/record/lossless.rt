@@ -24,8 +24,8 @@ pub trait LosslessFields {
     // The trees of the values, in their order; none of a value that is not written.
     ghost trees: { Self.Values → List (Option Tree) };
 
-    /// Does nothing. It promises that each field has a place among the trees, and that values that Rust has and that have the same trees
-    /// have the same content.
+    /// Does nothing. It promises that each field has a place among the trees, and that valid values with the same
+    /// trees have the same content.
     fn lossless()
         ensures each { (v : Self.Values) → length (trees v) ≡ meaning.count }
         ensures same { (v w : Self.Values) → real v → real w → trees v ≡ trees w
@@ -59,7 +59,7 @@ impl<T: Lossless, M: Mark<T>, R: LosslessFields> LosslessFields for MarkedSlot<T
     }
 }
 
-/// Does nothing. It promises that structs that Rust has and that have one tree have the same content.
+/// Does nothing. It promises that two valid structs with one tree have the same content.
 pub fn record_lossless<S: Record, F: LosslessFields<Values = S::Values>>()
     requires { length S.names ≡ F.meaning.count }
     ensures { (v w : S) → F.real (S.values v) → F.real (S.values w)

@@ -109,7 +109,8 @@ pub fn read_variant<'a, T: UnitEnum + 'static>(
     }
 }
 
-/// Does nothing. It promises a unit enum's round trip, in the form that `RoundTrip` asks: Rust has each of its values.
+/// Does nothing. It promises the round trip of a unit enum, in the form that `RoundTrip` asks: each of its values is
+/// valid.
 pub fn variant_round_trips<T: UnitEnum>()
     ensures { (v : T) → ⊤
         → RoundTrips (λ _. ⊤) (λ v. str (T.name_of v)) (λ t v. t ≡ str (T.name_of v)) (str (T.name_of v)) }

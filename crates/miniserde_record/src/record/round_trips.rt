@@ -25,8 +25,8 @@ pub trait RoundTripFields {
     // The trees of the values, in their order; none of a value that is not written.
     ghost trees: { Self.Values → List (Option Tree) };
 
-    /// Does nothing. It promises that the values' trees, by the fields' names, mean values that Rust has, and that each
-    /// such values have those trees.
+    /// Does nothing. It promises that the trees of valid values, by the names of the fields, mean valid values, and
+    /// that all valid values that they mean have those trees.
     fn round_trips()
         ensures { (names : List Name) (v : Self.Values) → are_names meaning.count names ≡ true → real v
             → FieldsRoundTrip real trees meaning.reads names (trees v) };

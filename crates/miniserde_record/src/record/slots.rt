@@ -99,7 +99,8 @@ impl Slots for NoSlot {
     }
 }
 
-// As `read_member`, where no name is left: a struct has one for each field, so its code is kept apart.
+// Reads a member as `read_member` does, if no name is left for the field. A struct has a name for each field, so this
+// code is never inlined.
 #[inline(never)]
 fn read_unnamed<'a, R: Slots>(
     rest: &mut R,

@@ -6,7 +6,7 @@ ghost use Rattle.miniserde_model.specs.Bytes.{is_special};
 use crate::scan::{is_special, specials_of_eight, specials_of_sixteen};
 use std::simd::prelude::*;
 
-// As `specials_of_eight`, four at a time.
+// Returns the mask of `specials_of_eight` for four lanes.
 #[inline(always)]
 fn specials_of_four(v: u8x4) -> u64
     ensures { result ≡ mask_l (map is_special v) }
@@ -27,7 +27,7 @@ fn sixteen_are_plain(bytes: &[u8], at: usize) -> bool
     found == 0
 }
 
-// As `sixteen_are_plain`, of eight bytes.
+// Returns whether no byte of the eight from `at` on is special.
 #[inline(always)]
 fn eight_are_plain(bytes: &[u8], at: usize) -> bool
     requires { at + 8 ≤ length bytes.now }
@@ -37,7 +37,7 @@ fn eight_are_plain(bytes: &[u8], at: usize) -> bool
     found == 0
 }
 
-// As `sixteen_are_plain`, of four bytes.
+// Returns whether no byte of the four from `at` on is special.
 #[inline(always)]
 fn four_are_plain(bytes: &[u8], at: usize) -> bool
     requires { at + 4 ≤ length bytes.now }

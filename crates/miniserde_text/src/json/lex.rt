@@ -71,8 +71,8 @@ pub enum After {
     Next,
 }
 
-/// A JSON text that is being read. A contract sees what is left of it, and the refusal that the lexer keeps: it
-/// answers that to every later call.
+/// A JSON text that is being read. A contract sees the rest of the text, and the first error that the lexer met. The
+/// lexer returns that error from every later call.
 #[derive(Drop)]
 pub struct Lexer<'a> {
     text: &'a str,
@@ -92,7 +92,7 @@ impl<'a> Model for Lexer<'a> {
 }
 
 impl<'a> Lexer<'a> {
-    /// A lexer at the front of a text.
+    /// Returns a lexer at the front of a text.
     pub fn new(j: &'a str) -> Lexer<'a>
         ensures { result ≡ record { rest = j.now; refused = None } }
     {
@@ -136,7 +136,7 @@ impl<'a> Lexer<'a> {
         self.text.len() - self.at
     }
 
-    /// Takes whitespace and the front of a value: a word, a number, a string, `[` or `{`.
+    /// Takes whitespace and the first token of a value: a word, a number, a string, `[` or `{`.
     #[inline(always)]
     pub fn start(&mut self, scratch: &mut String) -> Result<Event<'a>>
         ensures ok { IfOk result (λ event. (self.old.refused ≡ None) × (self.new.refused ≡ None)
@@ -188,8 +188,8 @@ impl<'a> Lexer<'a> {
         }
     }
 
-    /// Takes whitespace and, of a container of that kind, its closing bracket, or what leads to the next child:
-    /// behind its opening bracket nothing, elsewhere a comma.
+    /// Takes whitespace and the closing bracket of a container of the kind, or the comma before its next child.
+    /// Directly behind the opening bracket, the next child has no comma.
     #[inline(always)]
     pub fn after(&mut self, kind: Kind, first: bool) -> Result<After>
         ensures ok { IfOk result (λ a. (self.old.refused ≡ None) × (self.new.refused ≡ None)
@@ -214,7 +214,7 @@ impl<'a> Lexer<'a> {
         }
     }
 
-    /// Takes nothing, and refuses a text of which more than whitespace is left.
+    /// Returns `Invalid` if more than whitespace is left. Takes nothing.
     pub fn end(&mut self) -> Result<()>
         ensures ok { IfOk result (λ _. (self.old.refused ≡ None) × (self.new ≡ self.old)
             × IsWhitespace self.old.rest) }
@@ -234,7 +234,7 @@ impl<'a> Lexer<'a> {
         self.refuse(Error::Invalid)
     }
 
-    // Keeps a refusal, and answers it.
+    // Keeps an error, and returns it.
     fn refuse<T>(&mut self, e: Error) -> Result<T>
         ensures answer { result ≡ Err e }
         ensures sticky { self.new ≡ record { rest = self.old.rest; refused = Some e } }

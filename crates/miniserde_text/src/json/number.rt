@@ -29,7 +29,7 @@ impl Model for NumberText {
 }
 
 impl NumberText {
-    /// Whether the whole of `t` is such a text.
+    /// Returns whether the whole of `t` is the text of a number that is no plain integer from -2^63 to 2^64-1.
     pub fn is_text(t: &str) -> bool
         ensures { IsTrue result ↔ IsNumber t.now (num t.now) }
     {
@@ -42,7 +42,7 @@ impl NumberText {
         }
     }
 
-    /// A copy of `t`, where that is such a text. Any other is `Invalid`, and takes no memory.
+    /// Copies `t`. Returns `Invalid` without allocating if `is_text` is `false`, and `Memory` if allocation fails.
     pub fn new(alloc: Global, t: &str) -> Result<NumberText>
         ensures ok { IfOk result (λ n. n ≡ t.now) }
         ensures is_text { OnOk result (IsNumber t.now (num t.now)) }
@@ -55,7 +55,8 @@ impl NumberText {
         NumberText::new_unchecked(alloc, t)
     }
 
-    /// A copy of `t`, which is such a text by its contract, and is not read for it. Returns `Memory` if allocation fails.
+    /// Copies `t` without a check: the contract demands that `is_text` is `true`. Returns `Memory` if allocation
+    /// fails.
     pub fn new_unchecked(alloc: Global, t: &str) -> Result<NumberText>
         requires { IsNumber t.now (num t.now) }
         ensures ok { IfOk result (λ n. n ≡ t.now) }
@@ -65,7 +66,7 @@ impl NumberText {
         Ok(NumberText { text })
     }
 
-    /// The text. It takes no memory.
+    /// Returns the text. Allocates nothing.
     pub fn as_str(&self) -> &str
         ensures value { result.now ≡ self.now }
         ensures is_text { IsNumber result.now (num result.now) }
@@ -73,7 +74,7 @@ impl NumberText {
         self.text.as_str()
     }
 
-    /// A copy.
+    /// Copies the number. Returns `Memory` if allocation fails.
     pub fn try_clone(&self, alloc: Global) -> Result<NumberText>
         ensures ok { IfOk result (λ n. n ≡ self.now) }
         ensures memory { OnErr result (IsErrOf result Error.Memory) }

@@ -1,4 +1,4 @@
--- How a text goes on event by event, with what is built of it. m, h and s: the moment, the tree with a hole, and the
+-- How a text goes on event by event, with the hole that the events fill. m, h and s: the moment, the hole and the
 -- rest of the text.
 use Rattle.std.specs.Prelude.{◌≡◌, ℕ, Bool, true, false, List, [], ◌∷◌, ◌++◌, None}
 use Rattle.miniserde_model.specs.Step.{Step}
@@ -20,11 +20,12 @@ is_due due = true
 is_due first = false
 is_due after = false
 
--- The events done make the second hole of the first, whatever follows; where `once` says so, none repeats a name.
+-- The events `done` turn the hole h into h', whatever events follow. If `once` is true, none of them repeats a name.
 abbrev pub Makes : Bool → Moment → Hole → List Step → Moment → Hole → Type 0
 Makes once m h done m' h' = (es : List Step) → outcome once (is_due m) h (done ++ es) ≡ outcome once (is_due m') h' es
 
--- Some events are passed in the text, and no others begin what it spells. They make the second hole of the first.
+-- The text s begins with the events `done`, and behind them s' is left. Every list of events that s spells begins
+-- with them. They turn the hole h into h', and if `once` is true, none of them repeats a name.
 pub record Builds (once : Bool) (m : Moment) (h : Hole) (s : List ℕ) (m' : Moment) (h' : Hole) (s' : List ℕ) : Type 0 where
   pub done : List Step
   pub passed : Consumes m (kinds h) s done m' (kinds h') s'

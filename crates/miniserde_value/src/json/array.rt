@@ -27,7 +27,7 @@ impl Array {
     ghost use Rattle.miniserde_value.specs.Rows.{list_row};
     ghost use Rattle.miniserde_value.specs.contracts.json.array.Array.{the_row};
 
-    /// Returns an array of no items. It takes no memory.
+    /// Returns an array of no items. Allocates nothing.
     pub fn new(alloc: Global) -> Array
         ensures items { array_items result ≡ [] }
         ensures capacity { vec_capacity result.items ≡ 0 }
@@ -37,7 +37,7 @@ impl Array {
         }
     }
 
-    /// The items in order. Its only error is `Memory`.
+    /// Collects the items in order. Its only error is `Memory`.
     pub fn from_iter<I: IntoIterator<Item = Value>>(alloc: Global, iter: I) -> Result<Array>
         requires { (it : I.IntoIter) → I.into_iter_gives iter it → I.IntoIter.can_next it
             × IsFinite (I.IntoIter.remaining it) }
@@ -48,20 +48,21 @@ impl Array {
         Ok(Array::from_inner(Vec::from_iter(alloc, iter)?))
     }
 
+    // Returns the array of the items.
     pub(crate) fn from_inner(items: Vec<Value>) -> Array
         ensures { result.items ≡ items }
     {
         Array { items }
     }
 
-    /// The list.
+    /// Returns the items.
     pub fn inner(&self) -> &Vec<Value>
         ensures { result.now ≡ self.now.items }
     {
         &self.items
     }
 
-    /// The list, to be changed.
+    /// Returns a mutable reference to the items.
     pub fn inner_mut(&mut self) -> &mut Vec<Value>
         ensures* writes_back { sem 𝓛 (Lends the_row list_row self.entry result with_items) }
         ensures value { result.now ≡ self.old.items }
@@ -78,6 +79,7 @@ impl Array {
         Ok(self.items.push(item)?)
     }
 
+    // Returns the items of the array.
     pub(crate) fn into_inner(self) -> Vec<Value>
         ensures { result ≡ self.items }
     {
@@ -85,7 +87,7 @@ impl Array {
         items
     }
 
-    /// Replaces the first item by a value, and returns that item.
+    /// Replaces the first item, and returns the old one.
     pub(crate) fn replace_first(&mut self, value: Value) -> Value
         requires { array_items self.old ≡ [] → ⊥ }
         ensures { ReplacesFirst value result (array_items self.old) (array_items self.new) }
@@ -93,6 +95,7 @@ impl Array {
         mem::replace(&mut self.items[0], value)
     }
 
+    // Removes the last item and returns it, or returns `None` if there is none.
     #[inline(always)]
     pub(crate) fn take_last(&mut self) -> Option<Value>
         ensures { MatchOption result ((array_items self.old ≡ []) × (array_items self.new ≡ []))

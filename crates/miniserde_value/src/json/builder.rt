@@ -58,7 +58,7 @@ impl OpenObject {
         self.name = Some(name);
     }
 
-    /// Puts a value under its name; it replaces the value of a duplicate. Drops a value that has no name.
+    /// Puts a value under its name, and replaces the value of a duplicate. Drops a value that has no name.
     pub(crate) fn put(&mut self, value: Value) -> result::Result<(), AllocError>
         ensures { OnOk result ((h : Hole) → with_open_object self.new h ≡ put (shape value) (with_open_object self.old h)) }
     {
@@ -89,7 +89,8 @@ pub struct Builder {
     ghost fits: { MarksFit values.items objects.items marks.items } by { marks-fit-once values.items objects.items marks.items },
 }
 
-// Takes the values out from this place on; with `as_it_lies` the whole list without a copy.
+// Splits off the values from `from` on. If `as_it_lies` is `true` and `from` is 0, it moves the whole list out
+// without copying it.
 #[inline(always)]
 fn take_from(
     alloc: Global,
@@ -111,7 +112,7 @@ fn take_from(
 impl Builder {
     ghost use Rattle.miniserde_value.specs.Builders.{hole_in};
 
-    /// Returns a builder of which nothing is built. Allocates nothing.
+    /// Returns a builder that has built nothing. Allocates nothing.
     pub fn new(alloc: Global) -> Builder
         ensures { hole_in result ≡ outside [] }
     {
@@ -200,7 +201,8 @@ impl Builder {
         Ok(())
     }
 
-    /// Takes the first event of a value. Returns whether it opens a container, and `Invalid` of any other event.
+    /// Takes the first event of a value. Returns whether it opens a container, or `Invalid` for an event that begins
+    /// no value.
     #[inline(always)]
     pub fn begin(&mut self, event: Step<'_>) -> Result<bool>
         requires { IsTreeEvent (event_of event) }
@@ -244,7 +246,7 @@ impl Builder {
         Ok(())
     }
 
-    /// Closes the innermost open container: its values become one, in the hole of what it stands in.
+    /// Closes the innermost open container. Its value fills the hole of the container around it.
     #[inline(always)]
     pub fn close(&mut self) -> Result<()>
         ensures ok { OnOk result (hole_in self.new ≡ after_close (hole_in self.old)) }

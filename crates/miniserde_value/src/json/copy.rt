@@ -15,7 +15,7 @@ use super::walk::{Visit, Walk};
 use miniserde_model::error::Result;
 use std::alloc::Global;
 
-// Builds what a front says.
+// Adds one visit of a walk to the builder.
 fn add(alloc: Global, visit: Visit<'_>, builder: &mut Builder) -> Result<()>
     ensures built { OnOk result (hole_in builder.new ≡ hole_after (hole_in builder.old) (visit_of visit.entry ∷ [])) }
     ensures memory { OnErr result (IsErrOf result Memory) }
@@ -34,7 +34,7 @@ fn add(alloc: Global, visit: Visit<'_>, builder: &mut Builder) -> Result<()>
     Ok(())
 }
 
-// Builds all that a walk meets.
+// Adds all visits of a walk to the builder.
 fn add_all(alloc: Global, mut walk: Walk<'_>, builder: &mut Builder) -> Result<()>
     ensures built { OnOk result (hole_in builder.new ≡ hole_after (hole_in builder.old) (left walk.entry)) }
     ensures ordered { OnOk result (LeftOrdered walk.entry) }
@@ -47,7 +47,7 @@ fn add_all(alloc: Global, mut walk: Walk<'_>, builder: &mut Builder) -> Result<(
 }
 
 impl Array {
-    /// A copy. Its only error is `Memory`.
+    /// Copies the array. Its only error is `Memory`.
     pub fn try_clone(&self, alloc: Global) -> Result<Array>
         ensures ok { IfOk result (λ copy. array_shape copy ≡ array_shape self.now) }
         ensures memory { OnErr result (IsErrOf result Memory) }
@@ -66,7 +66,7 @@ impl Array {
 }
 
 impl Object {
-    /// A copy. Its only error is `Memory`.
+    /// Copies the object. Its only error is `Memory`.
     pub fn try_clone(&self, alloc: Global) -> Result<Object>
         ensures ok { IfOk result (λ copy. object_shape copy ≡ object_shape self.now) }
         ensures memory { OnErr result (IsErrOf result Memory) }
@@ -85,7 +85,7 @@ impl Object {
 }
 
 impl Value {
-    /// A copy. Its only error is `Memory`.
+    /// Copies the value. Its only error is `Memory`.
     pub fn try_clone(&self, alloc: Global) -> Result<Value>
         ensures ok { IfOk result (λ copy. shape copy ≡ shape self.now) }
         ensures memory { OnErr result (IsErrOf result Memory) }

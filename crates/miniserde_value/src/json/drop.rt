@@ -21,7 +21,7 @@ fn is_bare(value: &Value) -> bool
     }
 }
 
-/// Takes the last child out.
+/// Removes the last child and returns it, or returns `None` if the value has no child.
 #[inline(always)]
 fn take_last(value: &mut Value, looks: &mut Looks) -> Option<Value>
     ensures taken { MatchOption result (IsBare value.old × IsBare value.new)
@@ -39,7 +39,7 @@ fn take_last(value: &mut Value, looks: &mut Looks) -> Option<Value>
     Some(last)
 }
 
-/// Replaces the first child by a value, and returns that child.
+/// Replaces the first child, and returns the old one.
 #[inline(always)]
 fn replace_first(value: &mut Value, parent: Value, looks: &mut Looks) -> Value
     requires { children value.old ≡ [] → ⊥ }

@@ -48,14 +48,14 @@ pub fn object_value(object: Object) -> Value
     Value::Object(object)
 }
 
-// The value of an integer of at least 0.
+// Returns the value of an integer of at least 0.
 fn unsigned(n: u64) -> Value
     ensures { shape result ≡ nonneg n }
 {
     Value::Number(Number::U64(n))
 }
 
-// The value of an integer: an `I64` if it is negative, else a `U64`, as a text of it is read.
+// Returns the value of an integer: an `I64` if it is negative, else a `U64`, as for the text of the integer.
 fn signed(n: i64) -> Value
     ensures { shape result ≡ integer n }
 {

@@ -17,7 +17,7 @@ pub enum Number {
 }
 
 impl Number {
-    /// A copy.
+    /// Copies the number. Its only error is `Memory`.
     pub fn try_clone(&self, alloc: Global) -> Result<Number>
         ensures ok { IfOk result (λ n. n ≡ self.now) }
         ensures memory { OnErr result (IsErrOf result Memory) }

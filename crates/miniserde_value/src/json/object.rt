@@ -30,7 +30,7 @@ impl Object {
     ghost use Rattle.miniserde_value.specs.Rows.{map_row};
     ghost use Rattle.miniserde_value.specs.contracts.json.object.Object.{the_row};
 
-    /// An object of no members. It takes no memory.
+    /// Returns an object of no members. Allocates nothing.
     pub fn new(alloc: Global) -> Object
         ensures { object_entries result ≡ [] }
     {
@@ -39,7 +39,7 @@ impl Object {
         }
     }
 
-    /// The members by name, where of equal names the last stands. Its only error is `Memory`.
+    /// Collects the members by name. The last member of a duplicate name stays. Its only error is `Memory`.
     pub fn from_iter<I: IntoIterator<Item = (String, Value)>>(
         alloc: Global,
         iter: I,
@@ -54,20 +54,21 @@ impl Object {
         Ok(Object::from_inner(BTreeMap::from_iter(alloc, iter)?))
     }
 
+    // Returns the object of the members.
     pub(crate) fn from_inner(members: BTreeMap<String, Value>) -> Object
         ensures { result.members ≡ members }
     {
         Object { members }
     }
 
-    /// The map.
+    /// Returns the map of the members.
     pub fn inner(&self) -> &BTreeMap<String, Value>
         ensures { result.now ≡ self.now.members }
     {
         &self.members
     }
 
-    /// The map, to be changed.
+    /// Returns a mutable reference to the map of the members.
     pub fn inner_mut(&mut self) -> &mut BTreeMap<String, Value>
         ensures* writes_back { sem 𝓛 (Lends the_row map_row self.entry result with_members) }
         ensures value { result.now ≡ self.old.members }
@@ -87,6 +88,7 @@ impl Object {
         Ok(())
     }
 
+    // Returns the map of the members.
     pub(crate) fn into_inner(self) -> BTreeMap<String, Value>
         ensures { result ≡ self.members }
     {
@@ -94,7 +96,7 @@ impl Object {
         members
     }
 
-    /// Puts a value under the first name, and answers the one that stood there.
+    /// Replaces the value of the first member, and returns the old one.
     pub(crate) fn replace_first(&mut self, value: Value) -> Value
         requires { object_values self.old ≡ [] → ⊥ }
         ensures parked { ReplacesFirst value result (object_values self.old) (object_values self.new) }
@@ -106,6 +108,7 @@ impl Object {
         }
     }
 
+    // Removes the last member and returns its value, or returns `None` if there is none.
     pub(crate) fn take_last(&mut self) -> Option<Value>
         ensures { MatchOption result ((object_values self.old ≡ []) × (object_values self.new ≡ []))
             (λ last. object_values self.old ≡ object_values self.new ++ last ∷ []) }

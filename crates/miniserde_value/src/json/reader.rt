@@ -21,7 +21,7 @@ use miniserde_read::Source;
 use miniserde_text::json::lex::{After, Event, Kind};
 
 /// Reads one value, whose first token is `token`. Returns `Invalid` if no beginning of the text spells a value, or if
-/// an object in it has one name twice where `once` says that none may.
+/// `once` is `true` and an object in the value has a duplicate name.
 pub(crate) fn read_value<'a>(token: Event<'a>, source: &mut Source<'a>, once: bool) -> Result<Value>
     requires going { source.old.refused ≡ None }
     requires event { IsTreeEvent (event_of_token token source.old.scratch) }
@@ -75,8 +75,8 @@ fn take_child_or_end<'a>(
     }
 }
 
-/// Names the next value of the innermost object. Returns `Invalid` of a name that the object has where `once` says that
-/// none may be repeated.
+/// Names the next value of the innermost object. Returns `Invalid` if `once` is `true` and the object has the name
+/// already.
 #[inline(always)]
 fn name_next(builder: &mut Builder, name: &str, once: bool) -> Result<()>
     ensures ok { OnOk result (hole_in builder.new ≡ with_name name.now (hole_in builder.old)) }

@@ -22,7 +22,7 @@ fn begin_line<W: Write>(f: &mut Formatter<W>, levels: u64) -> Result {
     Ok(())
 }
 
-// Writes what stands before an item or a name.
+// Writes the separator before an item or a name.
 fn begin_part<W: Write>(f: &mut Formatter<W>, shown: Shown) -> Result {
     match (f.alternate(), shown.first) {
         (true, true) => begin_line(f, shown.levels),
@@ -35,7 +35,7 @@ fn begin_part<W: Write>(f: &mut Formatter<W>, shown: Shown) -> Result {
     }
 }
 
-// Writes the end of a container.
+// Writes the closing bracket of a container. Under `{:#?}` it begins a line unless the container is empty.
 fn end<W: Write>(f: &mut Formatter<W>, shown: Shown, bracket: &str) -> Result {
     if f.alternate() && !shown.first {
         f.write_str(",")?;
@@ -44,7 +44,7 @@ fn end<W: Write>(f: &mut Formatter<W>, shown: Shown, bracket: &str) -> Result {
     f.write_str(bracket)
 }
 
-// Writes what a front says.
+// Writes one visit of a walk.
 fn show<W: Write>(f: &mut Formatter<W>, visit: Visit<'_>, shown: Shown) -> Result {
     match visit {
         Visit::Null => f.write_str("Null"),
@@ -63,7 +63,7 @@ fn show<W: Write>(f: &mut Formatter<W>, visit: Visit<'_>, shown: Shown) -> Resul
     }
 }
 
-// Returns how far the walk is shown once a front is.
+// Returns the indentation and the `first` flag behind a visit.
 fn after(visit: Visit<'_>, shown: Shown) -> Shown {
     match visit {
         Visit::Array | Visit::Object => Shown {
@@ -81,7 +81,7 @@ fn after(visit: Visit<'_>, shown: Shown) -> Shown {
     }
 }
 
-// Writes all that a walk meets.
+// Writes all visits of a walk.
 fn show_all<W: Write>(mut walk: Walk<'_>, f: &mut Formatter<W>) -> Result {
     let mut shown = Shown {
         levels: 1,

@@ -13,21 +13,21 @@ pub struct Unique {
 }
 
 impl Unique {
-    /// The value, as it is: a `Value` has no duplicate name.
+    /// Returns the value as it is: a `Value` has no duplicate name.
     pub fn new(value: Value) -> Unique
         ensures { result.value ≡ value }
     {
         Unique { value }
     }
 
-    /// The value.
+    /// Returns the value.
     pub fn inner(&self) -> &Value
         ensures { result.now ≡ self.now.value }
     {
         &self.value
     }
 
-    /// The value, taken out. It takes no memory.
+    /// Returns the value. Allocates nothing.
     pub fn into_value(self) -> Value
         ensures { result ≡ self.value }
     {

@@ -67,19 +67,21 @@ impl Default for Value {
     }
 }
 
-/// Does nothing. What a tree means as a `Value` has the tree's normal form for its tree, and as many values as that.
+/// Does nothing. It promises that the `Value` that a tree means has the normal form of the tree as its own tree, and
+/// as many values as that form.
 pub fn read_is_normal()
     ensures tree { (t : Tree) (v : V) → ReadsValue t v → tree_of v ≡ norm t }
     ensures size { (t : Tree) (v : V) → ReadsValue t v → value_size v ≡ size (norm t) }
 {}
 
-/// Does nothing. A value has as many values as its tree, if no object of it has a duplicate name, as no map has.
+/// Does nothing. It promises that a value has as many values as its tree, if no object in it has a duplicate name. No
+/// map has one.
 pub fn size_is_of_tree()
     ensures { (v : V) → names_distinct (shape v) ≡ true → size (tree_of v) ≡ value_size v }
 {}
 
-/// Parses a JSON text as a `Value`, and writes that: the text's canonical text, which `canonical` returns too. Returns
-/// `Invalid` if the text is no JSON (RFC 8259).
+/// Parses a JSON text as a `Value`, and writes it. The result is the canonical text, which `canonical` returns too.
+/// Returns `Invalid` if the text is no JSON (RFC 8259).
 pub fn rewritten(alloc: Global, j: &str) -> Result<String>
     // It is the compact text of the normal form of the text's tree.
     ensures ok { IfOk result (λ c. (t : Tree) × IsJson j.now t × (string_bytes c ≡ compact (norm t))) }

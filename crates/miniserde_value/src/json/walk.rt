@@ -39,7 +39,7 @@ pub(crate) struct Walk<'a> {
 }
 
 impl<'a> Walk<'a> {
-    /// Over the items of an array, and its end.
+    /// Returns a walk over the items of an array and its end.
     pub(crate) fn array(alloc: Global, array: &'a Array) -> result::Result<Walk<'a>, AllocError>
         ensures left { IfOk result (λ w. list_begins ∷ left w ≡ visits (array_shape array.entry.now) []) }
         ensures ordered { IfOk result (λ w. LeftOrdered w → IsOrdered (array_shape array.entry.now)) }
@@ -49,7 +49,7 @@ impl<'a> Walk<'a> {
         Ok(Walk { due: None, frames })
     }
 
-    /// Over the members of an object, and its end.
+    /// Returns a walk over the members of an object and its end.
     pub(crate) fn object(alloc: Global, object: &'a Object) -> result::Result<Walk<'a>, AllocError>
         ensures left { IfOk result (λ w. members_begin ∷ left w ≡ visits (object_shape object.entry.now) []) }
         ensures ordered { IfOk result (λ w. LeftOrdered w → IsOrdered (object_shape object.entry.now)) }
@@ -59,7 +59,7 @@ impl<'a> Walk<'a> {
         Ok(Walk { due: None, frames })
     }
 
-    /// What comes next, where anything does.
+    /// Returns the next visit, or `None` at the end of the walk.
     pub(crate) fn next(&mut self) -> result::Result<Option<Visit<'a>>, AllocError>
         ensures left { IfOk result (λ next. MatchOption next (left self.old ≡ [])
             (λ f. left self.old ≡ visit_of f ∷ left self.new)) }
@@ -75,7 +75,7 @@ impl<'a> Walk<'a> {
         }
     }
 
-    // The first front of a value.
+    // Returns the first visit of a value, and opens the value if it is a container.
     fn begin(&mut self, value: &'a Value) -> result::Result<Visit<'a>, AllocError>
         requires { self.old.due ≡ None }
         ensures left { IfOk result (λ f. visits (shape value.entry.now) (left self.old) ≡ visit_of f ∷ left self.new) }
@@ -98,7 +98,7 @@ impl<'a> Walk<'a> {
         }
     }
 
-    // What comes next in the innermost open container.
+    // Returns the next visit of the innermost open container, or `None` if none is open.
     fn resume(&mut self) -> Option<Visit<'a>>
         requires { self.old.due ≡ None }
         ensures left { MatchOption result (left self.old ≡ []) (λ f. left self.old ≡ visit_of f ∷ left self.new) }

@@ -19,7 +19,7 @@ use miniserde_model::error::Result;
 use miniserde_ser::ser::{Fragment, Serialize, Writer};
 
 impl Number {
-    // The leaf to be written.
+    // Returns the leaf that is written for the number.
     fn fragment(&self) -> Fragment<'_>
         ensures leaf { fragment_tree result ≡ norm (number_leaf self.now) }
         ensures is_tree { IsTree (norm (number_leaf self.now)) }
@@ -36,7 +36,7 @@ impl Number {
     }
 }
 
-// Writes what a front says.
+// Writes one visit of a walk.
 #[inline(always)]
 fn put(visit: Visit<'_>, w: &mut Writer) -> Result<()>
     ensures ok { OnOk result ((rest : List TreeVisit) → w.new.text ++ visits_text w.new.first rest
@@ -62,7 +62,7 @@ fn put(visit: Visit<'_>, w: &mut Writer) -> Result<()>
     }
 }
 
-// Writes what opens an array.
+// Writes the opening bracket of an array, and opens the array in the frames.
 #[inline(always)]
 fn put_array<'a>(array: &'a Array, frames: &mut Frames<'a>, w: &mut Writer) -> Result<()>
     ensures ok { OnOk result (Writes w.old (visits (array_shape array.entry.now) (frames_left frames.old))
@@ -78,7 +78,7 @@ fn put_array<'a>(array: &'a Array, frames: &mut Frames<'a>, w: &mut Writer) -> R
     }
 }
 
-// Writes what opens an object.
+// Writes the opening bracket of an object, and opens the object in the frames.
 #[inline(always)]
 fn put_object<'a>(object: &'a Object, frames: &mut Frames<'a>, w: &mut Writer) -> Result<()>
     ensures ok { OnOk result (Writes w.old (visits (object_shape object.entry.now) (frames_left frames.old))
@@ -94,7 +94,7 @@ fn put_object<'a>(object: &'a Object, frames: &mut Frames<'a>, w: &mut Writer) -
     }
 }
 
-// Writes a leaf, or what opens a container.
+// Writes a leaf, or the opening bracket of a container.
 #[inline(always)]
 fn put_value<'a>(value: &'a Value, frames: &mut Frames<'a>, w: &mut Writer) -> Result<()>
     ensures ok { OnOk result (Writes w.old (visits (shape value.entry.now) (frames_left frames.old))
@@ -114,7 +114,7 @@ fn put_value<'a>(value: &'a Value, frames: &mut Frames<'a>, w: &mut Writer) -> R
     }
 }
 
-// Writes all that open containers have left, and their ends.
+// Writes the remaining children of the open containers, and their closing brackets.
 fn put_all(mut frames: Frames<'_>, w: &mut Writer) -> Result<()>
     requires { w.old.refused ≡ false }
     ensures ok { OnOk result (Writes w.old (frames_left frames.entry) w.new []) }

@@ -1,4 +1,6 @@
--- Field by field, of all members.
+-- A tree means a service exactly if `IsService` holds of both. Field by field: `needs` and `says` give the
+-- equivalence for a field's value, `once-says` for a name that may not be duplicated, and `closed-named` for the
+-- members of other names.
 use Rattle.std.proofs.Common.{◌≡◌, ℕ, Bool, true, List, [], ◌∷◌, Some, None, refl, sym, ap, ◌∙◌, codes, string_bytes, pos, arith}
 use Rattle.std.specs.Prelude.{◌↔◌, option_map}
 use Rattle.miniserde.specs.Tree.{Tree, members, nonneg, str, truth, list, no_trees}

@@ -1,4 +1,6 @@
--- Field by field: the same members mean the first three, and no member the two new ones.
+-- A tree of an old task without the two new names means a task exactly if that is the old task upgraded. Field by
+-- field: `same_field` and `other_field` carry over the three old fields, and `says_missing` gives the two new fields
+-- their defaults.
 use Rattle.std.proofs.Common.{◌≡◌, ℕ, [], ◌∷◌, Some, None, refl, sym, ap, codes, string_bytes, pos, arith}
 use Rattle.std.specs.Prelude.{◌↔◌, option_map}
 use Rattle.miniserde.specs.Tree.{members, nonneg}

@@ -18,7 +18,7 @@ pub struct ListOf<P, T> {
 pub type VecPlace<T> = ContainerPlace<ListOf<<T as Deserialize>::Place, T>>;
 
 impl<P, T> ListOf<P, T> {
-    /// How many items there are so far.
+    /// Returns how many items there are so far.
     pub(super) fn len(&self) -> usize
         ensures { result ≡ length self.now.items.items }
     {

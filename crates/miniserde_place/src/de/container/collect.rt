@@ -23,11 +23,11 @@ pub trait Collect: Drop {
     // `join` returns `Memory` only if the current child was refused with it before.
     ghost join_infallible: { Bool } = { false };
 
-    /// No children yet. It takes no memory.
+    /// Returns a container without children. Allocates nothing.
     fn new(alloc: Global) -> Self
         ensures { collector_meaning.state result ≡ collector_meaning.empty };
 
-    /// Whether the event opens such a container.
+    /// Returns whether the event opens a container of this type.
     fn opens(event: &Step<'_>) -> bool
         ensures { IsTrue result ↔ (event_of event.now ≡ opening_event collector_meaning.is_object) };
 
@@ -42,21 +42,21 @@ pub trait Collect: Drop {
         ensures refuses { collector_meaning.refuses (collector_meaning.state self.old) (event_of event.entry) ≡ true
             → result ≡ Err Error.Invalid };
 
-    /// The current child takes an event.
+    /// Hands an event to the current child.
     fn step(&mut self, event: Step<'_>) -> Result<()>
         requires { IsTreeEvent (event_of event) }
         ensures { Takes (collector_meaning.child self.old) (event_of event.entry) result (collector_meaning.child self.new) };
 
-    /// Marks the current child as refused, and answers its first refusal.
+    /// Keeps an error for the current child, unless it has one already. Returns the first error of that child.
     fn refuse(&mut self, error: Error) -> Error
         ensures answer { result ≡ first_refusal (collector_meaning.child self.old).refused error }
         ensures marks { (collector_meaning.child self.new).refused ≡ Some result };
 
-    /// Whether the current child is complete.
+    /// Returns whether the current child is complete.
     fn is_child_complete(&self) -> bool
         ensures { result ≡ is_complete (collector_meaning.child self.now).at };
 
-    /// The current child, which is complete, joins the children so far.
+    /// Adds the current child, which is complete, to the children so far.
     fn join(&mut self) -> Result<()>
         ensures joined { IfOk result (λ _. (collector_meaning.child self.old).outcome [] ≡ Some (collector_meaning.state self.new)) }
         ensures invalid { result ≡ Err Error.Invalid → (collector_meaning.child self.old).refused ≡ None
@@ -65,11 +65,11 @@ pub trait Collect: Drop {
             → (collector_meaning.child self.old).refused ≡ Some Error.Memory }
         ensures sticky { (r : Error) → (collector_meaning.child self.old).refused ≡ Some r → result ≡ Err r };
 
-    /// Whether the children so far make a whole.
+    /// Returns whether the container may end after the children so far.
     fn can_end(&self) -> bool
         ensures { result ≡ is_some (collector_meaning.rules.end (collector_meaning.state self.now)) };
 
-    /// The whole, where the children make one.
+    /// Returns the value of the container, or `None` if it may not end after the children so far.
     fn end(self) -> Option<Self::Out>
         ensures { MatchOption result (collector_meaning.rules.end (collector_meaning.state self) ≡ None)
             (λ v. collector_meaning.rules.end (collector_meaning.state self) ≡ Some (collector_meaning.meant.content v)) };

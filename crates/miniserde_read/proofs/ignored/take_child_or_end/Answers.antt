@@ -1,4 +1,6 @@
--- In a container the source returns its end or the way to the next child, by kind.
+-- `take_child_or_end` takes the closing bracket or the tokens up to the first one of the next child, and returns
+-- `Invalid` only if the container cannot go on. By cases on the kind: `close_passed`, `element_passed` and
+-- `key_passed` each consume one event, and `begin` consumes the first event of the child.
 use Rattle.std.proofs.Common.{true, false, ap, subst}
 use Rattle.std.proofs.lemmas.Result.{err_from_is_err_and, IfOk-weaker}
 use Rattle.miniserde_model.specs.Lexing.{Follows}

@@ -1,4 +1,6 @@
--- The text is whitespace, the first event, what the type read behind it, and whitespace.
+-- `from_str` returns a value that the tree of the text means, and `Invalid` only if no tree of the text means a
+-- value. The text is whitespace, the first event, the rest of the value and whitespace: `json_at` and `json_front`
+-- split it there, and `at_json` joins the parts.
 use Rattle.std.proofs.Common.{◌≡◌, Some, None, sym, subst, ◌∙◌}
 use Rattle.std.proofs.lemmas.Result.{err_from_is_err_and}
 use Rattle.miniserde_model.proofs.Unique.{one_tree}

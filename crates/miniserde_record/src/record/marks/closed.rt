@@ -10,7 +10,7 @@ use miniserde_model::error::{Error, Result};
 use miniserde_read::Source;
 use std::alloc::Global;
 
-/// No more fields: a member of any other name is refused before its value is read.
+/// No more fields: a member of any other name fails before its value is read.
 #[derive(Drop)]
 pub struct Closed {}
 

@@ -7,7 +7,7 @@ use miniserde_read::FromJson;
 use std::alloc::Global;
 use std::marker::PhantomData;
 
-/// A field that takes one member, marked as `M` besides: a duplicate of its name is refused before its value is read.
+/// A field that takes one member, marked as `M` besides: a duplicate of its name fails before its value is read.
 /// Members of other names may be duplicates, and so may any names inside a value.
 pub struct Once<M> {
     mark: PhantomData<M>,

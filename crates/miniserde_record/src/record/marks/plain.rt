@@ -13,7 +13,7 @@ pub trait Repeats {
     // A duplicate of the field's name is invalid.
     ghost once: { Bool };
 
-    /// Returns whether a duplicate of the field's name is refused.
+    /// Returns whether a duplicate of the field's name is an error.
     fn is_once() -> bool
         ensures { result ≡ once };
 }

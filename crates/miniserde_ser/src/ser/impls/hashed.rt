@@ -18,7 +18,7 @@ use std::collections::HashMap;
 use std::hash::{BuildHasher, Hash};
 use std::result;
 
-// The text of a key, and that the key is one that Rust has.
+// Returns the text of a key. Its contract promises that the key is valid.
 fn name_of<K: MapKey>(alloc: Global, key: &K) -> Result<String>
     ensures text { IfOk result (λ name. string_bytes name ≡ K.text key.now) }
     ensures real { K.real key.now }
@@ -30,7 +30,7 @@ fn name_of<K: MapKey>(alloc: Global, key: &K) -> Result<String>
     Ok(name)
 }
 
-// The names of a map's members beside its values, in the order of the map's walk. No two names are alike.
+// Returns the name of each member with its value, in the order of the map's iterator. The names are distinct.
 fn entries_of<'a, K: MapKey + Hash, V: Serialize, H: BuildHasher>(
     alloc: Global,
     table: &'a HashMap<K, V, H>,
@@ -48,7 +48,7 @@ fn entries_of<'a, K: MapKey + Hash, V: Serialize, H: BuildHasher>(
     Ok(entries)
 }
 
-// Sorts by the bytes of the names.
+// Sorts the entries by the bytes of their names.
 fn sort_entries<V>(entries: &mut Vec<(String, &V)>) -> result::Result<(), AllocError>
     ensures sorted { OnOk result (IsSortedByKey (λ r. string_bytes r.0) text_cmp entries.new.items) }
     ensures permutation { IsPermutation entries.old.items entries.new.items }
@@ -56,7 +56,7 @@ fn sort_entries<V>(entries: &mut Vec<(String, &V)>) -> result::Result<(), AllocE
     Ok(entries.sort_by(|a, b| a.0.cmp(&b.0))?)
 }
 
-// Writes an object whose members are the rows.
+// Writes an object whose members are the entries.
 fn write_entries<V: Serialize>(entries: &[(String, &V)], w: &mut Writer) -> Result<()>
     ensures ok { OnOk result (w.new.text ≡ w.old.text
         ++ compact (members (members_of string_bytes (λ v. V.tree v.now) entries.entry.now))) }

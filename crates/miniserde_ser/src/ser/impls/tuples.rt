@@ -8,7 +8,7 @@ ghost use Rattle.miniserde_model.specs.declared.error.Error.TheVariants.{Memory}
 use crate::ser::{Serialize, Writer};
 use miniserde_model::error::Result;
 
-// Writes an item, behind what stands before it.
+// Writes an item of a list behind `before`, an opening bracket or a comma.
 #[inline(always)]
 fn write_item<T: Serialize>(item: &T, before: &str, w: &mut Writer) -> Result<()>
     ensures ok { OnOk result (w.new.text ≡ w.old.text ++ before.now ++ compact (T.tree item.now)) }

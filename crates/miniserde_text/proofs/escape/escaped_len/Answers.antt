@@ -1,4 +1,5 @@
--- What is counted: the bytes of the text, and for each escape before `at` what it has more than its byte.
+-- `escaped_len` returns the length of the escaped text, and `None` only if no `usize` holds it. The loop keeps the
+-- count: the bytes of the text, and for each escape before `at` its length less one.
 use Rattle.std.proofs.Common.{◌≡◌, ◌+◌, ◌≤◌, ◌^◌, arith, ap, length, refl, rules}
 use Rattle.miniserde_text.specs.private.Escape.{escapes}
 use Rattle.miniserde_text.proofs.Escaping.{escapes-nil, length_escapes_more, length_escapes_rest, length_escapes_run}

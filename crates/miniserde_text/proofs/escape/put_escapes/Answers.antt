@@ -1,4 +1,5 @@
--- The loop keeps that the text before `start` is written, and each turn adds a run of plain bytes and an escape.
+-- `put_escapes` appends the escaped text, and the room that its contract demands is enough. The loop keeps that the
+-- text before `start` is written, and each turn adds a run of plain bytes and an escape.
 use Rattle.std.proofs.Common.{◌≡◌, ℕ, ◌+◌, ◌-◌, ◌<◌, ◌≤◌, ◌++◌, ◌∙◌, length, List, take, drop, get_or, false, arith, ap, sym, append-nil, append_assoc, length-append, length-drop, refl, string_bytes}
 use Rattle.std.proofs.lemmas.Str.{IsCharBoundary-after_ascii, IsCharBoundary-end, IsCharBoundary-start}
 use Rattle.std.proofs.lemmas.List.{length-take}

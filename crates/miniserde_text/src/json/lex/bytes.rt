@@ -16,6 +16,7 @@ static SPACE: [u8; 256] = [
     0, 0, 0, 0, 0, 0, 0, 0, 0, 0, 0, 0, 0, 0, 0, 0, 0, 0, 0, 0, 0, 0, 0, 0, 0, 0, 0, 0, 0, 0, 0, 0,
 ];
 
+// Returns whether a byte is whitespace (RFC 8259, section 2).
 #[inline(always)]
 pub(super) fn is_space(c: u8) -> bool
     ensures { result ≡ is_space c }
@@ -23,18 +24,21 @@ pub(super) fn is_space(c: u8) -> bool
     SPACE[c as usize] == 1
 }
 
+// Returns whether a byte is a decimal digit.
 pub(super) fn is_digit(c: u8) -> bool
     ensures { result ≡ is_digit c }
 {
     b'0' <= c && c <= b'9'
 }
 
+// Returns whether a byte is `+` or `-`.
 pub(super) fn is_sign(c: u8) -> bool
     ensures { result ≡ is_sign c }
 {
     c == b'+' || c == b'-'
 }
 
+// Returns whether a byte is `e` or `E`.
 pub(super) fn is_exponent_letter(c: u8) -> bool
     ensures { result ≡ is_exponent_letter c }
 {

@@ -8,7 +8,7 @@ ghost use Rattle.miniserde_text.specs.private.Reading.{escape_at, FollowsAscii};
 use super::bytes::{byte_after, byte_at, skip};
 use super::tables;
 
-// The value of a digit of base 36, or 36.
+// Returns the value of a digit of base 36, or 36 if the byte is no digit.
 fn hex(c: u8) -> u32
     ensures value { result ≡ digit_value c }
     ensures ascii { result < 16 → (0 < c) × (c < 128) }
@@ -17,7 +17,7 @@ fn hex(c: u8) -> u32
     u32::from(tables::digit(c))
 }
 
-// Four hexadecimal digits.
+// Takes four hexadecimal digits. Returns their value and the index behind them.
 fn unit(bytes: &[u8], at: usize) -> Option<(u32, usize)>
     requires { at ≤ length bytes.now }
     ensures value { with_suffix bytes.now result ≡ unit_at (drop at bytes.now) }
@@ -38,18 +38,21 @@ fn unit(bytes: &[u8], at: usize) -> Option<(u32, usize)>
     }
 }
 
+// Returns whether a code unit is a high surrogate, 0xD800 to 0xDBFF.
 fn is_high(u: u32) -> bool
     ensures { result ≡ is_high u }
 {
     0xd800 <= u && u < 0xdc00
 }
 
+// Returns whether a code unit is a low surrogate, 0xDC00 to 0xDFFF.
 fn is_low(u: u32) -> bool
     ensures { result ≡ is_low u }
 {
     0xdc00 <= u && u < 0xe000
 }
 
+// Returns whether the two bytes at `at` are `\u`.
 fn begins_escape(bytes: &[u8], at: usize) -> bool
     requires { at ≤ length bytes.now }
     ensures { result ≡ begins_escape (drop at bytes.now) }
@@ -57,6 +60,7 @@ fn begins_escape(bytes: &[u8], at: usize) -> bool
     byte_after(bytes, at, 0) == b'\\' && byte_after(bytes, at, 1) == b'u'
 }
 
+// Returns the character of a surrogate pair.
 fn pair(high: u32, low: u32) -> char
     requires high { is_high high ≡ true }
     requires low { is_low low ≡ true }
@@ -65,7 +69,7 @@ fn pair(high: u32, low: u32) -> char
     char::from_u32(0x10000 + (high - 0xd800) * 1024 + (low - 0xdc00)).unwrap()
 }
 
-// The second escape of a surrogate pair.
+// Takes the second escape of a surrogate pair. Returns the character of the pair and the index behind it.
 fn low(high: u32, bytes: &[u8], at: usize) -> Option<(char, usize)>
     requires high { is_high high ≡ true }
     requires within { at ≤ length bytes.now }
@@ -82,7 +86,8 @@ fn low(high: u32, bytes: &[u8], at: usize) -> Option<(char, usize)>
     Some((pair(high, low), end))
 }
 
-// What `\u` goes on with.
+// Takes the digits of a `\u` escape, and a second escape behind a high surrogate. Returns the character and the index
+// behind it.
 #[tactic(auto, unfolding(crate::specs::private::Reading::unicode_at))]
 fn unicode(bytes: &[u8], at: usize) -> Option<(char, usize)>
     requires { at ≤ length bytes.now }
@@ -99,6 +104,7 @@ fn unicode(bytes: &[u8], at: usize) -> Option<(char, usize)>
     Some((char::from_u32(code).unwrap(), end))
 }
 
+// Returns the character of a short escape by its letter, or `None` if the letter has none.
 fn short(letter: u8) -> Option<char>
     ensures value { result ≡ short_at letter }
     ensures ascii { IfSome result (λ c. (0 < letter) × (letter < 128)) }
@@ -107,7 +113,7 @@ fn short(letter: u8) -> Option<char>
     if c == 0 { None } else { Some(c as char) }
 }
 
-/// Takes an escape, behind its backslash, and returns its character.
+/// Takes an escape, behind its backslash. Returns its character and the index behind it.
 #[tactic(auto, unfolding(crate::specs::private::Reading::escape_at))]
 pub(super) fn take_escape(bytes: &[u8], at: usize) -> Option<(char, usize)>
     ensures value { with_suffix bytes.now result ≡ escape_at (drop at bytes.now) }

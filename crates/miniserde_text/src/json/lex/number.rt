@@ -1,4 +1,4 @@
-//! Numbers, and the event of each.
+//! Numbers, and the token of each.
 ghost use Rattle.std.specs.Prelude.{◌≡◌, ◌<◌, ◌≤◌, ◌^◌, [], None, Some, List, ℕ, length, take, drop};
 ghost use Rattle.std.specs.Prelude.{option_map, nat_lt, slice_index, if◌then◌else◌, IfSome, IfNone};
 ghost use Rattle.std.specs.List.{AllByRecursion, prefix_len};
@@ -14,6 +14,7 @@ use super::Event;
 use super::bytes::{byte_at, is_digit, is_exponent_letter, is_sign, part, skip, text_between};
 use super::tables::is_number_byte;
 
+// Returns the index after the digits at `at`, of which there may be none.
 fn after_run_of_digits(bytes: &[u8], at: usize) -> usize
     requires { FollowsAscii bytes.now at }
     ensures value { drop result bytes.now ≡ after_run is_digit (drop at bytes.now) }
@@ -26,7 +27,7 @@ fn after_run_of_digits(bytes: &[u8], at: usize) -> usize
     i
 }
 
-// One digit or more.
+// Returns the index after the digits at `at`, or `None` if there is no digit.
 fn after_digits(bytes: &[u8], at: usize) -> Option<usize>
     ensures value { suffix_at bytes.now result ≡ after_digits (drop at bytes.now) }
     ensures follows { IfSome result (λ r. FollowsAscii bytes.now r) }
@@ -38,7 +39,7 @@ fn after_digits(bytes: &[u8], at: usize) -> Option<usize>
     }
 }
 
-// `first` is the byte at `at`.
+// Returns the index after a minus, or `at` if there is none. `first` is the byte at `at`.
 fn after_minus(bytes: &[u8], at: usize, first: u8) -> usize
     requires within { at ≤ length bytes.now }
     requires first { first ≡ slice_index (drop at bytes.now) 0 }
@@ -52,6 +53,7 @@ fn after_minus(bytes: &[u8], at: usize, first: u8) -> usize
     }
 }
 
+// Returns the index after the whole part of a number, `0` or digits without a leading 0, or `None` if there is none.
 fn after_int(bytes: &[u8], at: usize) -> Option<usize>
     ensures value { suffix_at bytes.now result ≡ after_int (drop at bytes.now) }
     ensures follows { IfSome result (λ r. FollowsAscii bytes.now r) }
@@ -63,6 +65,7 @@ fn after_int(bytes: &[u8], at: usize) -> Option<usize>
     }
 }
 
+// Returns the index after a fraction, or `at` if there is none. Returns `None` if no digit follows the point.
 fn after_fraction(bytes: &[u8], at: usize) -> Option<usize>
     requires { FollowsAscii bytes.now at }
     ensures value { suffix_at bytes.now result ≡ after_fraction (drop at bytes.now) }
@@ -75,6 +78,7 @@ fn after_fraction(bytes: &[u8], at: usize) -> Option<usize>
     }
 }
 
+// Returns the index after a sign, or `at` if there is none.
 fn after_sign(bytes: &[u8], at: usize) -> usize
     ensures { drop result bytes.now ≡ after_sign (drop at bytes.now) }
 {
@@ -85,6 +89,7 @@ fn after_sign(bytes: &[u8], at: usize) -> usize
     }
 }
 
+// Returns the index after an exponent, or `at` if there is none. Returns `None` if the exponent has no digit.
 fn after_exponent(bytes: &[u8], at: usize) -> Option<usize>
     requires { FollowsAscii bytes.now at }
     ensures value { suffix_at bytes.now result ≡ after_exponent (drop at bytes.now) }
@@ -97,7 +102,8 @@ fn after_exponent(bytes: &[u8], at: usize) -> Option<usize>
     }
 }
 
-// A fraction and an exponent, of which each may be missing.
+// Returns the index after a fraction and an exponent, each of which may be missing. Returns `None` if one has no
+// digit.
 fn after_tail(bytes: &[u8], at: usize) -> Option<usize>
     requires { FollowsAscii bytes.now at }
     ensures value { suffix_at bytes.now result ≡ after_tail (drop at bytes.now) }
@@ -106,7 +112,7 @@ fn after_tail(bytes: &[u8], at: usize) -> Option<usize>
     after_exponent(bytes, after_fraction(bytes, at)?)
 }
 
-// The number that up to 19 digits write: it is below 10^19, so no turn needs a check.
+// Returns the value of up to 19 digits. It is below 10^19, so the arithmetic needs no checks.
 fn short_integer(digits: &[u8]) -> u64
     requires digits { AllByRecursion IsDigit digits.now }
     requires few { length digits.now < 20 }
@@ -119,7 +125,7 @@ fn short_integer(digits: &[u8]) -> u64
     value
 }
 
-// The number that the digits write, where it has 64 bits.
+// Returns the value of the digits, or `None` if it does not fit in 64 bits.
 fn integer(digits: &[u8]) -> Option<u64>
     requires { AllByRecursion IsDigit digits.now }
     ensures { result ≡ (if nat_lt (digits_value 10 digits.now) (2 ^ 64)
@@ -135,7 +141,7 @@ fn integer(digits: &[u8]) -> Option<u64>
     Some(value)
 }
 
-// The event of an integer that is written with or without a minus, unless it is below -2^63.
+// Returns the token of an integer with or without a minus, or `None` if the integer is below -2^63.
 fn integer_event<'a>(minus: bool, n: u64) -> Option<Event<'a>>
     ensures some { IfSome result (λ event. (text int : List ℕ) → digits_value 10 int ≡ n
         → event_of_parts text minus int [] ≡ event_of_token event []) }
@@ -151,7 +157,7 @@ fn integer_event<'a>(minus: bool, n: u64) -> Option<Event<'a>>
     }
 }
 
-// The event of a number by its minus, its whole part and what stands behind that.
+// Returns the token of a number by its minus, its whole part, and the fraction and exponent in `tail`.
 fn event<'a>(text: &'a str, minus: bool, int: &[u8], tail: &[u8]) -> Event<'a>
     requires { AllByRecursion IsDigit int.now }
     ensures { event_of_token result [] ≡ event_of_parts text.now minus int.now tail.now }
@@ -166,7 +172,7 @@ fn event<'a>(text: &'a str, minus: bool, int: &[u8], tail: &[u8]) -> Event<'a>
     Event::Number(text)
 }
 
-// The digits in front: how many, and the number that they write, where they are at most 19. More may wrap.
+// Returns the number of leading digits, and their value if they are at most 19. The value of more digits may wrap.
 #[inline(always)]
 fn leading_digits(bytes: &[u8]) -> (usize, u64)
     ensures count { result.0 ≡ prefix_len is_digit bytes.now }
@@ -183,7 +189,8 @@ fn leading_digits(bytes: &[u8]) -> (usize, u64)
     (i, value)
 }
 
-// An integer of up to 19 digits, in one pass. Its loop goes over a slice: over the whole text it would keep two counters.
+// Takes an integer of up to 19 digits in one pass, or returns `None`. Its loop runs over a slice, since over the
+// whole text it would keep two counters.
 #[inline(always)]
 fn short_number<'a>(bytes: &[u8], at: usize, first: u8) -> Option<(Event<'a>, usize)>
     requires within { at ≤ length bytes.now }
@@ -205,7 +212,7 @@ fn short_number<'a>(bytes: &[u8], at: usize, first: u8) -> Option<(Event<'a>, us
     Some((event, start + count))
 }
 
-/// Takes any number.
+/// Takes any number. Returns its token and the index behind it, or `None` if there is no number.
 #[inline(never)]
 #[tactic(auto, unfolding(crate::specs::private::Reading::number_at))]
 pub(crate) fn take_any_number<'a>(text: &'a str, at: usize) -> Option<(Event<'a>, usize)>
@@ -231,7 +238,8 @@ pub(crate) fn take_any_number<'a>(text: &'a str, at: usize) -> Option<(Event<'a>
     Some((event, end))
 }
 
-// As `take_any_number`. What that call leaves in memory is moved out of it here, so that a short number passes through none.
+// Calls `take_any_number`, and copies its result out of memory, so that the result of a short number never passes
+// through memory.
 #[inline(always)]
 fn take_long_number<'a>(text: &'a str, at: usize) -> Option<(Event<'a>, usize)>
     requires { at ≤ length text.now }
@@ -245,7 +253,7 @@ fn take_long_number<'a>(text: &'a str, at: usize) -> Option<(Event<'a>, usize)>
     }
 }
 
-/// Takes a number, after which no byte of number texts may stand. `first` is the byte at `at`.
+/// Takes a number, which no byte of number texts may follow. `first` is the byte at `at`.
 #[inline(always)]
 pub(super) fn take_number<'a>(text: &'a str, at: usize, first: u8) -> Option<(Event<'a>, usize)>
     requires within { at ≤ length text.now }

@@ -7,12 +7,14 @@ ghost use Rattle.miniserde_text.specs.private.Reading.{is_closing, begins, step_
 use super::bytes::skip;
 use super::{After, Kind};
 
+// Returns whether a byte is a closing bracket, `]` or `}`.
 fn is_closing(c: u8) -> bool
     ensures { result ≡ is_closing c }
 {
     c == b']' || c == b'}'
 }
 
+// Returns the closing bracket of a container of the kind.
 fn closing(kind: Kind) -> u8
     ensures value { result ≡ closing kind }
     ensures ascii { (0 < result) × (result < 128) }
@@ -31,7 +33,8 @@ fn begins(bytes: &[u8], at: usize, byte: u8) -> bool
     at < bytes.len() && !is_closing(byte)
 }
 
-/// Takes a closing bracket, or what leads to the next child. `byte` is the byte at `at`.
+/// Takes the closing bracket or the comma before the next child; directly behind the opening bracket, the next child
+/// has no comma. Returns `None` if neither is there. `byte` is the byte at `at`.
 #[tactic(auto, unfolding(crate::specs::private::Reading::step_at))]
 pub(super) fn take_step(
     kind: Kind,

@@ -26,7 +26,8 @@ fn after_unescaped(text: &str, at: usize) -> usize
     special_in_lanes(text.as_bytes(), at)
 }
 
-// As `after_unescaped`, behind an escape, where the byte at hand often begins one more.
+// Returns the same index as `after_unescaped`. It is called behind an escape, where the next byte often begins
+// another escape.
 #[inline(always)]
 fn after_more(text: &str, at: usize) -> usize
     requires { at ≤ length text.now }
@@ -37,7 +38,7 @@ fn after_more(text: &str, at: usize) -> usize
     special(text.as_bytes(), at)
 }
 
-// Adds a run, which often is empty, to the scratch text.
+// Appends a run, which often is empty, to the scratch text.
 fn push_run(scratch: &mut String, run: &str) -> result::Result<(), AllocError>
     ensures { IfOk result (λ _. string_bytes scratch.new ≡ string_bytes scratch.old ++ run.now) }
 {
@@ -47,7 +48,8 @@ fn push_run(scratch: &mut String, run: &str) -> result::Result<(), AllocError>
     Ok(())
 }
 
-// Takes an escape, behind its backslash, and the run behind it.
+// Takes an escape, behind its backslash, and the run behind it. Appends both, decoded, to the scratch text. Returns
+// the index behind them.
 fn take_run(text: &str, at: usize, scratch: &mut String) -> Result<usize>
     ensures ok { IfOk result (λ r.
         Adds (string_bytes scratch.old) (string_bytes scratch.new) (92 ∷ drop at text.now) (drop r text.now)) }
@@ -65,7 +67,8 @@ fn take_run(text: &str, at: usize, scratch: &mut String) -> Result<usize>
     Ok(next)
 }
 
-// Takes the rest of a string, from where bytes stop to stand for themselves.
+// Takes the rest of a string, from a backslash or the closing quote on. Appends it, decoded, to the scratch text.
+// Returns the index behind it.
 fn take_escaped(text: &str, at: usize, scratch: &mut String) -> Result<usize>
     requires { is_unescaped (slice_index (drop at text.now) 0) ≡ false }
     ensures ok { IfOk result (λ r. (cs : List ℕ) × Chars cs (drop at text.now) (drop r text.now)
@@ -85,7 +88,8 @@ fn take_escaped(text: &str, at: usize, scratch: &mut String) -> Result<usize>
     }
 }
 
-// Takes a string from the backslash at `tail` on, where its run at the front is `text_between(text, at, tail)`.
+// Decodes a string into the scratch text. The run before its first backslash is `text_between(text, at, tail)`.
+// Returns the index behind the string.
 #[inline(never)]
 fn decode(text: &str, at: usize, tail: usize, scratch: &mut String) -> Result<usize>
     requires follows { FollowsAscii text.now at }
@@ -102,7 +106,8 @@ fn decode(text: &str, at: usize, tail: usize, scratch: &mut String) -> Result<us
     take_escaped(text, tail, scratch)
 }
 
-// As `decode`. What that call leaves in memory is moved out of it here, so that other strings pass through none.
+// Calls `decode`, and copies its result out of memory, so that the result of other strings never passes through
+// memory.
 #[inline(always)]
 fn take_decoded(text: &str, at: usize, tail: usize, scratch: &mut String) -> Result<usize>
     requires follows { FollowsAscii text.now at }
@@ -120,7 +125,7 @@ fn take_decoded(text: &str, at: usize, tail: usize, scratch: &mut String) -> Res
     }
 }
 
-/// Takes a string, behind its first quote. The scratch text is touched only where a backslash stands.
+/// Takes a string, behind its opening quote. The scratch text changes only if a backslash is found.
 #[inline(always)]
 pub(super) fn take_string<'a>(
     text: &'a str,

@@ -52,7 +52,7 @@ pub(super) fn digit(c: u8) -> u8
     DIGITS[c as usize]
 }
 
-/// Returns whether a number text may have the byte.
+/// Returns whether a number text may contain the byte.
 #[inline(always)]
 pub(crate) fn is_number_byte(c: u8) -> bool
     ensures { result ≡ is_number_byte c }

@@ -38,7 +38,7 @@ fn take_word<'a>(
     }
 }
 
-// Takes the front of a value that is no string.
+// Takes the first token of a value that is no string.
 #[inline(always)]
 #[tactic(auto, unfolding(crate::specs::private::Reading::token_by))]
 fn take_plain<'a>(text: &'a str, at: usize, first: u8) -> Option<(Event<'a>, usize)>
@@ -59,7 +59,7 @@ fn take_plain<'a>(text: &'a str, at: usize, first: u8) -> Option<(Event<'a>, usi
     }
 }
 
-/// Takes the front of a value. `first` is the byte at `at`.
+/// Takes the first token of a value. `first` is the byte at `at`.
 #[inline(always)]
 pub(super) fn take_token<'a>(
     text: &'a str,

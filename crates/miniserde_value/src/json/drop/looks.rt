@@ -19,7 +19,7 @@ impl Model for Looks {
 }
 
 impl Looks {
-    /// Counts that stand at 0.
+    /// Returns counts of 0.
     pub fn new() -> Looks
         ensures { (result.visited ≡ 0) × (result.released ≡ 0) }
     {
@@ -28,19 +28,19 @@ impl Looks {
         }
     }
 
-    // One look.
+    // Counts one look at a value.
     pub(crate) fn look(&mut self)
         ensures { (self.new.visited ≡ self.old.visited + 1) × (self.new.released ≡ self.old.released) }
     {}
 
-    // One value dropped.
+    // Counts one dropped value.
     fn release(&mut self)
         ensures { (self.new.visited ≡ self.old.visited) × (self.new.released ≡ self.old.released + 1) }
     {}
 }
 
-/// Drops a value that is a leaf or an empty container, and counts it. No other function here drops a value, and none
-/// else can raise the count.
+/// Drops a value that is a leaf or an empty container, and counts it. No other function here drops a value or raises
+/// the count of dropped values.
 #[inline(always)]
 pub(crate) fn drop_bare(value: Value, looks: &mut Looks)
     requires { IsBare value }

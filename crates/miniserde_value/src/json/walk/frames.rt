@@ -10,7 +10,7 @@ use std::alloc::{AllocError, Global};
 use std::collections::btree_map;
 use std::{result, slice};
 
-/// An open container: what is left of an array, or the next of the open objects.
+/// An open container: the remaining items of an array, or the next of the open objects.
 #[derive(Drop)]
 pub(crate) enum Frame<'a> {
     Array(slice::Iter<'a, Value>),
@@ -26,7 +26,7 @@ pub(crate) struct Frames<'a> {
 }
 
 impl<'a> Frames<'a> {
-    /// None are open.
+    /// Returns frames without open containers.
     pub(crate) fn new(alloc: Global) -> Frames<'a>
         ensures left { frames_left result ≡ [] }
     {
@@ -61,7 +61,8 @@ impl<'a> Frames<'a> {
         Ok(())
     }
 
-    /// What comes next in the innermost open container: a child, or its end, and then it is no longer open.
+    /// Returns the next visit of the innermost open container, with the child that it announces, if any. Closes the
+    /// container at its end.
     #[inline(always)]
     pub(crate) fn next(&mut self) -> Option<(Visit<'a>, Option<&'a Value>)>
         ensures left { MatchOption result (frames_left self.old ≡ [])

@@ -1,4 +1,6 @@
--- The text has one tree, which means the settings and nothing that counts otherwise.
+-- Settings that are saved and loaded are the same in each field, and they fail to load only if allocation fails. The
+-- text has one tree (`text_has_one_tree`), and all settings that this tree means have one content; `same` compares
+-- that content field by field.
 use Rattle.std.proofs.Common.{◌≡◌, ℕ, ℤ, Bool, List, sym, ap, subst, string_bytes, pos}
 use Rattle.std.specs.Prelude.{unsigned_abs}
 use Rattle.miniserde.specs.Maps.{entry_at}

@@ -1,4 +1,5 @@
--- Member by member, of all members.
+-- A tree means settings exactly if `IsSettings` holds of both. Field by field: `needs` gives the equivalence for a
+-- field that must be there, and `says` for one with another clause.
 use Rattle.std.proofs.Common.{◌≡◌, [], ◌∷◌, Some, None, refl, codes, string_bytes, pos, map}
 use Rattle.std.specs.Prelude.{option_map}
 use Rattle.miniserde.specs.Tree.{str, members}

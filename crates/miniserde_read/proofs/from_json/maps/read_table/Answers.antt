@@ -1,4 +1,6 @@
--- The entries so far are what the members so far give; the next one is put as a map's member is.
+-- `read_table` returns the entries that the members of an object give, and `Invalid` only if no such object follows.
+-- The loop keeps that the entries so far are given by the members so far (`ObjectGoes`), and each turn inserts the
+-- entry of the next member.
 use Rattle.std.proofs.Common.{true, false, ◌≡◌, None, Some, refl, sym, ap, subst, ◌∙◌, arith}
 use Rattle.std.proofs.lemmas.Result.{err_from_is_err_and}
 use Rattle.miniserde_model.specs.Tree.{members}

@@ -1,3 +1,6 @@
+-- `read_items` returns the values that the remaining children of a list give, and `Invalid` only if they give none.
+-- By cases on the children: the list ends (`none_left`), its next child gives nothing (`first_none`), or the later
+-- ones give nothing (`later_none`).
 use Rattle.std.proofs.Common.{subst, refl}
 use Rattle.std.proofs.lemmas.Result.{err_from_is_err_and}
 use Rattle.miniserde_model.specs.Tree.{tree}

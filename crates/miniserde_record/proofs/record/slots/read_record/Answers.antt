@@ -1,4 +1,6 @@
--- The values so far are what the members so far give; a name that was decoded is taken out of the scratch text.
+-- `read_record` returns the struct that the members of an object give, and `Invalid` only if no such object follows.
+-- The loop keeps that the values so far are given by the members so far (`ObjectGoes`); a decoded name is moved out
+-- of the scratch text before its value is read.
 use Rattle.std.proofs.Common.{false, ◌≡◌, length, map, None, Some, sym, ap, subst, ◌∙◌, arith}
 use Rattle.std.specs.Prelude.{option_and_then}
 use Rattle.std.proofs.lemmas.Result.{err_from_is_err_and}

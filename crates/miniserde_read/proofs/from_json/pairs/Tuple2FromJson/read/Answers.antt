@@ -1,4 +1,6 @@
--- The first child is the first part, the second the second, and no third is there.
+-- `read` returns the two values that a list of exactly two children gives, and `Invalid` only if no such list
+-- follows. By the invariant `ListGoes` after each child: `pair_first`, `pair_second`, and `pair_full` for a third
+-- child.
 use Rattle.std.proofs.Common.{true, false, None, Some, inl, inr, refl, sym, ap, subst, ◌∙◌}
 use Rattle.std.proofs.lemmas.Result.{err_from_is_err_and}
 use Rattle.miniserde_model.specs.Tree.{list}

@@ -1,4 +1,6 @@
--- The items so far are what the children so far give; the next child joins at the end.
+-- `read` returns the items that the children of a list give, and `Invalid` only if no such list follows. The loop
+-- keeps that the items so far are given by the children so far (`ListGoes`), and each turn appends the item of the
+-- next child.
 use Rattle.std.proofs.Common.{rules, false, ◌≡◌, [], ◌∷◌, ◌++◌, map, sym, ap, subst, ◌∙◌, arith}
 use Rattle.std.proofs.lemmas.List.{map-append}
 use Rattle.std.proofs.lemmas.Result.{err_from_is_err_and}

@@ -1,4 +1,5 @@
--- The facts of `take_name`, about the text behind the whitespace, are carried over to the whole text.
+-- `name` takes whitespace, a name and its colon, and returns `Invalid` only if no name follows. Each fact of
+-- `take_name`, about the text behind the whitespace, is carried over to the whole text (`names_of`, `names_only`).
 use Rattle.std.proofs.Common.{◌≡◌, Err, drop, ap, arith}
 use Rattle.miniserde_model.specs.Bytes.{is_space}
 use Rattle.miniserde_model.specs.Value.{Between}

@@ -1,3 +1,5 @@
+-- `short_number` reads an integer of up to 19 digits as `number_at` does. The digits in front are the whole part, and
+-- no byte of number texts follows them, so `short_read` gives the event and the rest.
 use Rattle.std.proofs.Common.{arith, ◌≡◌, ◌+◌, ◌-◌, ℕ, List, [], length, take, drop, subst, ap, sym, ◌∙◌}
 use Rattle.std.specs.Prelude.{◌<◌, ◌≤◌, ◌==◌, false, slice_index}
 use Rattle.std.specs.List.{prefix_len}

@@ -1,3 +1,6 @@
+-- The parts of a number lie in order in the text, and the number ends at a character boundary. `whole_takes`,
+-- `tail_takes` and `splits_at` show that each part is a prefix of the text left, and `ends_order` makes that an order
+-- of indices.
 use Rattle.std.proofs.Common.{◌≡◌, Some, drop, subst, arith}
 use Rattle.miniserde_text.specs.private.Reading.{after_minus, after_int, after_tail, FollowsAscii}
 use Rattle.miniserde_text.proofs.Numbers.{whole_takes, tail_takes, splits_at, whole_before}

@@ -1,4 +1,5 @@
--- The escape is one character and the run behind it more: together they are what was passed and added.
+-- `take_run` decodes one escape and the run behind it, and returns `Invalid` only if no escape is there.
+-- `escape_adds` joins the character of the escape with those of the run; `no_escape` is the failure.
 use Rattle.std.proofs.Common.{◌≡◌, ◌++◌, ◌∙◌, ap, subst, Some, None, drop, arith}
 use Rattle.std.specs.String.{string_bytes}
 use Rattle.std.specs.Char.{encode_utf8}
