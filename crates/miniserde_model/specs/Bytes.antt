@@ -1,6 +1,6 @@
--- Tests of bytes, and where a longest run of bytes ends.
-use Rattle.std.specs.Prelude.{◌≡◌, ℕ, Bool, false, ◌||◌, ◌&&◌, nat_le, nat_lt, ◌==◌, List, [], ◌∷◌, ⊤}
-use Rattle.miniserde_model.specs.Ascii.{quotation_mark, reverse_solidus, minus_sign, plus_sign, decimal_point, digit_0, digit_9, letter_E, letter_e}
+-- Classes of bytes (RFC 8259, sections 2, 6 and 7), and the end of a longest run of bytes.
+use Rattle.std.specs.Prelude.{◌≡◌, ℕ, Bool, false, ◌||◌, ◌&&◌, nat_le, nat_lt, ◌==◌, List, [], ◌∷◌, ⊤, true, refl}
+use Rattle.miniserde_model.specs.Ascii.{quotation_mark, reverse_solidus, minus_sign, plus_sign, decimal_point, digit_0, digit_9, letter_E, letter_e, letter_n}
 
 abbrev pub is_space : ℕ → Bool
 is_space c = (c == 32) || (c == 9) || (c == 10) || (c == 13)
@@ -17,3 +17,10 @@ is_special c = nat_lt c 0x20 || (c == quotation_mark) || (c == reverse_solidus)
 abbrev pub StopsAt : (ℕ → Bool) → List ℕ → Type 0
 StopsAt p [] = ⊤
 StopsAt p (c ∷ cs) = p c ≡ false
+
+-- Worked cases: a line feed is whitespace, and `n` is no byte of a number.
+pub line_feed_is_space : is_space 0x0A ≡ true
+line_feed_is_space = refl
+
+pub n_is_no_number_byte : is_number_byte letter_n ≡ false
+n_is_no_number_byte = refl

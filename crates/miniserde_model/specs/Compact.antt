@@ -1,9 +1,10 @@
--- The compact text of a tree.
-use Rattle.std.specs.Prelude.{ℕ, ◌/◌, ◌%◌, List, [], ◌∷◌, ◌++◌, codes, decimal, unsigned_abs, ◌==◌, ◌||◌, nat_lt, if◌then◌else◌, flat_map}
+-- The compact text of a tree: RFC 8259 without whitespace, with the fewest escapes (section 7).
+use Rattle.std.specs.Prelude.{ℕ, ◌/◌, ◌%◌, List, [], ◌∷◌, ◌++◌, codes, decimal, unsigned_abs, ◌==◌, ◌||◌, nat_lt, if◌then◌else◌, flat_map, ◌≡◌, refl, true}
 use Rattle.std.specs.Char.{digit_char}
 use Rattle.miniserde_model.specs.Ascii.{begin_array, end_array, begin_object, end_object, name_separator, value_separator, quotation_mark, reverse_solidus, minus_sign, digit_0, letter_b, letter_f, letter_n, letter_r, letter_t, letter_u}
 use Rattle.miniserde_model.specs.Tree.{Tree, null, truth, nonneg, neg, num, str, list, members, Trees, no_trees, tree, Members, no_members, member}
 use Rattle.miniserde_model.specs.Value.{word}
+use Rattle.std.proofs.Common.{ap, arith, get_or}
 
 -- what stands in a string for a byte
 abbrev pub escape_text : ℕ → List ℕ
@@ -46,3 +47,10 @@ abbrev mutual
   pub compact_more_members : Members → List ℕ
   compact_more_members no_members = []
   compact_more_members (member name t ms) = value_separator ∷ ((string_text name ++ name_separator ∷ compact t) ++ compact_more_members ms)
+
+-- Worked cases: `[null,true]` is the compact text of its tree, and `[null, true]` is not.
+pub two_words : compact (list (tree null (tree (truth true) no_trees))) ≡ codes "[null,true]"
+two_words = refl
+
+pub no_space : compact (list (tree null (tree (truth true) no_trees))) ≡ codes "[null, true]" → ⊥
+no_space e = omega (arith, ap (λ x. get_or x 6 0) e)

@@ -1,6 +1,6 @@
--- Trees without duplicate names.
-use Rattle.std.specs.Prelude.{ℕ, Bool, true, not, ◌&&◌, List, is_some}
-use Rattle.miniserde_model.specs.Tree.{Tree, list, members, Trees, no_trees, tree, Members, no_members, member}
+-- Trees without duplicate names (RFC 8259, section 4).
+use Rattle.std.specs.Prelude.{ℕ, Bool, true, not, ◌&&◌, List, is_some, codes, ◌≡◌, false, refl, [], ◌∷◌}
+use Rattle.miniserde_model.specs.Tree.{Tree, list, members, Trees, no_trees, tree, Members, no_members, member, null}
 use Rattle.miniserde_model.specs.Normal.{last_of}
 
 -- a member has the name, as decoded text
@@ -21,3 +21,10 @@ abbrev mutual
   pub names_distinct_in_members : Members → Bool
   names_distinct_in_members no_members = true
   names_distinct_in_members (member name t ms) = not (has_name name ms) && (names_distinct t && names_distinct_in_members ms)
+
+-- Worked cases: `{"a":null,"b":null}` has no duplicate name, and `[{"a":null,"a":null}]` has one.
+pub two_names : names_distinct (members (member (codes "a") null (member (codes "b") null no_members))) ≡ true
+two_names = refl
+
+pub one_name_twice : names_distinct (list (tree (members (member (codes "a") null (member (codes "a") null no_members))) no_trees)) ≡ false
+one_name_twice = refl

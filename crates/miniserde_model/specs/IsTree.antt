@@ -1,7 +1,8 @@
 -- Which trees a text can have: each number is in its range, and each text is UTF-8.
-use Rattle.std.specs.Prelude.{◌^◌, ◌<◌, ◌≤◌, pos, unsigned_abs, ◌≤ℤ◌, IsUtf8, ⊤}
+use Rattle.std.specs.Prelude.{◌-◌, ◌^◌, ◌<◌, ◌≤◌, pos, unsigned_abs, ◌≤ℤ◌, IsUtf8, ⊤, codes, [], ◌∷◌, refl}
 use Rattle.miniserde_model.specs.Tree.{Tree, null, truth, nonneg, neg, num, str, list, members, Trees, no_trees, tree, Members, no_members, member}
 use Rattle.miniserde_model.specs.Number.{IsNumber}
+use Rattle.std.proofs.Common.{arith}
 
 abbrev mutual
   -- an integer is in its range, and a kept number text has no other leaf
@@ -22,3 +23,10 @@ abbrev mutual
   pub AreNamedTrees : Members → Type 0
   AreNamedTrees no_members = ⊤
   AreNamedTrees (member name t ms) = IsUtf8 name × IsTree t × AreNamedTrees ms
+
+-- Worked cases: 2 ^ 64 - 1 is a number of a tree, and 2 ^ 64 is one only as its text.
+pub largest : IsTree (nonneg (2 ^ 64 - 1))
+largest = omega arith
+
+pub too_large : IsTree (nonneg (2 ^ 64)) → ⊥
+too_large h = omega (arith, h)

@@ -1,5 +1,6 @@
 -- What each call of a lexer takes off the front of a text, in the words of the grammar.
-use Rattle.std.specs.Prelude.{◌≡◌, ℕ, Bool, true, false, List, [], ◌∷◌, ◌++◌, ⊤}
+use Rattle.std.specs.Prelude.{◌≡◌, ℕ, Bool, true, false, List, [], ◌∷◌, ◌++◌, ⊤, refl}
+use Rattle.std.proofs.Common.{ap, sym, get_or}
 use Rattle.miniserde_model.specs.Ascii.{begin_array, end_array, begin_object, end_object, name_separator, value_separator}
 use Rattle.miniserde_model.specs.Tree.{null, truth, nonneg, neg, num, str}
 use Rattle.miniserde_model.specs.String.{IsString}
@@ -79,3 +80,10 @@ abbrev pub Follows : Kind → Bool → Bool → List ℕ → List ℕ → Type 0
 Follows k first true s r = Stands (IsByte (closing k)) s r
 Follows k true false s r = Stands (λ b. b ≡ []) s r × Begins r
 Follows k false false s r = Stands (IsByte value_separator) s r
+
+-- Worked cases: `]` ends an array, and it does not begin an element.
+pub end_of_array : Follows Seq true true (end_array ∷ []) []
+end_of_array = record { space = []; part = end_array ∷ []; text = refl; is_space = tt; is_part = refl }
+
+pub no_element : Begins (end_array ∷ []) → ⊥
+no_element h = h.no_list_end (sym (ap (λ x. get_or x 0 0) h.text))

@@ -1,5 +1,5 @@
--- The normal form of a tree.
-use Rattle.std.specs.Prelude.{◌≡◌, ℕ, ℤ, pos, negsuc, List, Option, Some, None, bytes_eq, if◌then◌else◌, ⊤}
+-- The normal form of a tree (RFC 8259, section 4: names should be unique, and their order does not count).
+use Rattle.std.specs.Prelude.{◌≡◌, ℕ, ℤ, pos, negsuc, List, Option, Some, None, bytes_eq, if◌then◌else◌, ⊤, refl, codes, [], ◌∷◌}
 use Rattle.std.specs.Ordering.{nat_cmp}
 use Rattle.std.specs.Cmp.Lexicographic.{slice_cmp}
 use Rattle.std.specs.declared.cmp.Ordering.{Ordering}
@@ -89,3 +89,16 @@ put_all_by f made (member name t ms) = put_all_by f (put name (norm_by f t) made
 
 abbrev pub put_all : Members → Members → Members
 put_all = put_all_by norm_neg
+
+-- Worked cases: `{"b":1,"a":-0,"b":2}` has the normal form `{"a":0,"b":2}`, and `-0` is not its own.
+abbrev unordered : Members
+unordered = member (codes "b") (nonneg 1) (member (codes "a") (neg (pos 0)) (member (codes "b") (nonneg 2) no_members))
+
+abbrev ordered : Members
+ordered = member (codes "a") (nonneg 0) (member (codes "b") (nonneg 2) no_members)
+
+pub last_and_in_order : norm (members unordered) ≡ members ordered
+last_and_in_order = refl
+
+pub negated_zero_is_not_normal : norm (neg (pos 0)) ≡ neg (pos 0) → ⊥
+negated_zero_is_not_normal e = cc

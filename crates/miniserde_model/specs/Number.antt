@@ -1,8 +1,9 @@
 -- Numbers (RFC 8259, section 6).
-use Rattle.std.specs.Prelude.{◌≡◌, ℕ, ◌^◌, ◌<◌, ◌⊎◌, pos, neg_ℤ, List, [], ◌∷◌, ◌++◌, length, drop, slice_index, Bool, true, not, ◌&&◌, ◌||◌, ◌==◌, nat_lt, nat_le, if◌then◌else◌}
+use Rattle.std.specs.Prelude.{◌≡◌, ℕ, ◌^◌, ◌<◌, ◌⊎◌, pos, neg_ℤ, List, [], ◌∷◌, ◌++◌, length, drop, slice_index, Bool, true, not, ◌&&◌, ◌||◌, ◌==◌, nat_lt, nat_le, if◌then◌else◌, codes, refl}
 use Rattle.std.specs.Int.{IsInRange}
 use Rattle.std.specs.List.{AllByRecursion}
 use Rattle.std.specs.Str.Parse.{digits_value}
+use Rattle.std.proofs.Common.{inl, inr, arith}
 use Rattle.miniserde_model.specs.Ascii.{minus_sign, plus_sign, decimal_point, digit_0, digit_1, digit_9, letter_E, letter_e}
 use Rattle.miniserde_model.specs.Tree.{Tree, nonneg, neg, num}
 
@@ -67,3 +68,11 @@ leaf x = if is_plain x then if begins_minus x then leaf_of_negated (drop 1 x) x 
 -- x is a number text, and this is its leaf
 abbrev pub IsNumber : List ℕ → Tree → Type 0
 IsNumber x t = IsNumberText x × (leaf x ≡ t)
+
+-- Worked cases: `-0` is a number text, and `01` is none, since its integer part would begin with `0`.
+pub negated_zero : IsNumberText (codes "-0")
+negated_zero = record { minus = codes "-"; int = codes "0"; fraction = []; exponent = []; text = refl; is_minus = inr refl; is_int = inl (refl, refl); is_fraction = inl refl; is_exponent = inl refl }
+
+pub leading_zero : IsInt (digit_0 ∷ digit_1 ∷ []) → ⊥
+leading_zero (inl h) = let e : digit_1 ∷ [] ≡ [] = h.1 in absurd (cc)
+leading_zero (inr h) = omega (arith, h.0.0)

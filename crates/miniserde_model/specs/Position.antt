@@ -1,5 +1,6 @@
 -- Where the events of one value stand, and which lists of events complete it.
-use Rattle.std.specs.Prelude.{◌≡◌, ℕ, ◌+◌, ◌-◌, ◌<◌, Bool, true, false, List, [], ◌∷◌}
+use Rattle.std.specs.Prelude.{◌≡◌, ℕ, ◌+◌, ◌-◌, ◌<◌, Bool, true, false, List, [], ◌∷◌, refl}
+use Rattle.std.proofs.Common.{arith, ap}
 use Rattle.miniserde_model.specs.Step.{Step, boolean, string, negative, nonnegative, float, seq, element, map, key, finish}
 use Rattle.miniserde_model.specs.Step as step
 
@@ -51,3 +52,10 @@ next_by p (e ∷ es) = next_by (next p e) es
 abbrev pub Completes : Position → List Step → Type 0
 Completes p [] = p ≡ complete
 Completes p (e ∷ es) = Allowed p e × Completes (next p e) es
+
+-- Worked cases: the events of `[null]` complete a value, and those of `[null` do not.
+pub list_completes : Completes start (seq ∷ element ∷ step.null ∷ finish ∷ [])
+list_completes = (refl, ((refl, omega arith), (refl, ((refl, omega arith), refl))))
+
+pub open_list : Completes start (seq ∷ element ∷ step.null ∷ []) → ⊥
+open_list h = let e : (1, false) ≡ (0, false) = h.1.1.1 in omega (arith, ap (λ p. p.0) e)

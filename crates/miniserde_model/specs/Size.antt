@@ -1,6 +1,6 @@
 -- How many values a tree has.
-use Rattle.std.specs.Prelude.{ℕ, ◌+◌, Bool, true, false}
-use Rattle.miniserde_model.specs.Tree.{Tree, list, members, Trees, no_trees, tree, Members, no_members, member}
+use Rattle.std.specs.Prelude.{ℕ, ◌+◌, Bool, true, false, ◌≡◌, refl}
+use Rattle.miniserde_model.specs.Tree.{Tree, list, members, Trees, no_trees, tree, Members, no_members, member, null}
 
 abbrev mutual
   pub size : Tree → ℕ
@@ -21,3 +21,13 @@ abbrev pub is_bare : Tree → Bool
 is_bare (list (tree t ts)) = false
 is_bare (members (member name t ms)) = false
 is_bare t = true
+
+-- Worked cases: `[null,[]]` has three values, and only its parts are bare.
+pub three_values : size (list (tree null (tree (list no_trees) no_trees))) ≡ 3
+three_values = refl
+
+pub empty_is_bare : is_bare (list no_trees) ≡ true
+empty_is_bare = refl
+
+pub full_is_not_bare : is_bare (list (tree null no_trees)) ≡ false
+full_is_not_bare = refl

@@ -1,5 +1,5 @@
--- The events of a tree: what a reader of its text meets, one after another.
-use Rattle.std.specs.Prelude.{ℕ, ℤ, Bool, List, [], ◌∷◌, ◌++◌}
+-- The events of a tree (RFC 8259, section 3), one after another: what a reader of its text meets.
+use Rattle.std.specs.Prelude.{ℕ, ℤ, Bool, List, [], ◌∷◌, ◌++◌, ◌≡◌, refl, codes}
 use Rattle.miniserde_model.specs.Tree.{Tree, truth, nonneg, neg, num, str, list, members, Trees, no_trees, tree, Members, no_members, member}
 use Rattle.miniserde_model.specs.Tree as trees
 
@@ -34,3 +34,10 @@ abbrev mutual
   pub member_events : Members → List Step
   member_events no_members = []
   member_events (member name t ms) = key name ∷ (events t ++ member_events ms)
+
+-- Worked cases: the events of `[null,{}]`, and no event of a list is a name.
+pub events_of_a_list : events (list (tree trees.null (tree (members no_members) no_trees))) ≡ seq ∷ element ∷ null ∷ element ∷ map ∷ finish ∷ finish ∷ []
+events_of_a_list = refl
+
+pub no_name_in_a_list : events (list no_trees) ≡ seq ∷ key [] ∷ finish ∷ [] → ⊥
+no_name_in_a_list e = cc

@@ -1,5 +1,6 @@
 -- Values and whole texts (RFC 8259, sections 2 to 5).
-use Rattle.std.specs.Prelude.{◌≡◌, ℕ, Bool, true, false, List, [], ◌∷◌, ◌++◌, codes}
+use Rattle.std.specs.Prelude.{◌≡◌, ℕ, Bool, true, false, List, [], ◌∷◌, ◌++◌, codes, refl, length}
+use Rattle.std.proofs.Common.{ap, arith, inl}
 use Rattle.miniserde_model.specs.Ascii.{begin_array, end_array, begin_object, end_object, name_separator, value_separator}
 use Rattle.miniserde_model.specs.Tree.{Tree, null, truth, nonneg, neg, num, str, list, members, Trees, no_trees, tree, Members, no_members, member}
 use Rattle.miniserde_model.specs.Number.{IsNumber}
@@ -79,3 +80,10 @@ IsJson b t = Spaced (IsValue t) b
 -- the text has no tree
 abbrev pub HasNoTree : List ℕ → Type 0
 HasNoTree b = (t : Tree) → IsJson b t → ⊥
+
+-- Worked cases: ` null` spells null, and `nul` does not.
+pub null_after_space : IsJson (codes " null") null
+null_after_space = record { before = codes " "; inner = codes "null"; after = []; text = refl; is_before = (inl refl, tt); is_inner = refl; is_after = tt }
+
+pub cut_short : IsValue null (codes "nul") → ⊥
+cut_short h = omega (arith, ap length h)
