@@ -1,5 +1,5 @@
 -- Documents of one kind: what they mean, and what events give them.
-use Rattle.std.specs.Prelude.{◌≡◌, Bool, true, false, List, [], ◌∷◌, Option, None, cond}
+use Rattle.std.specs.Prelude.{◌≡◌, Bool, true, false, List, [], ◌∷◌, Option, None, if◌then◌else◌}
 use Rattle.miniserde_model.specs.Tree.{Tree}
 use Rattle.miniserde_model.specs.Step.{Step, events}
 use Rattle.miniserde_read.specs.Meaning.{Meaning}
@@ -15,11 +15,11 @@ is_start false h = false
 -- what is given, where the first event is one of these
 abbrev pub from_first : (Step → Bool) → List Step → Option Tree → Option Tree
 from_first begins [] o = o
-from_first begins (e ∷ es) o = cond (begins e) o None
+from_first begins (e ∷ es) o = if begins e then o else None
 
 -- what the events that are still to come give, where the first of all is one of these
 abbrev pub kind_outcome : (Step → Bool) → Bool → Hole → List Step → Option Tree
-kind_outcome begins due h es = cond (is_start due h) (from_first begins es (outcome false due h es)) (outcome false due h es)
+kind_outcome begins due h es = if is_start due h then from_first begins es (outcome false due h es) else outcome false due h es
 
 -- documents of one kind: which trees mean which, with which events they begin, and what counts of the tree that is read
 pub record Kind (V : Type 0) : Type 1 where

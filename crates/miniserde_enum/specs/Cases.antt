@@ -1,5 +1,5 @@
 -- An enum, variant by variant, by the names of the variants in their order.
-use Rattle.std.specs.Prelude.{◌≡◌, cond, List, [], ◌∷◌, Option, Some, None, option_map, option_and_then, bytes_eq}
+use Rattle.std.specs.Prelude.{◌≡◌, List, [], ◌∷◌, Option, Some, None, option_map, option_and_then, bytes_eq, if◌then◌else◌}
 use Rattle.miniserde_model.specs.Tree.{Tree, null}
 use Rattle.miniserde_read.specs.types.Objects.{Name}
 use Rattle.miniserde_enum.specs.declared.one_of.OneOf.{OneOf}
@@ -12,7 +12,7 @@ use Rattle.miniserde_enum.specs.Shape.{Shape, external, internal, IsCase, case_o
 -- the first variant's content if the name is its own, or a later one's
 abbrev pub case_given : {C D : Type 0} → (Option Tree → Option C) → (List Name → Name → Option Tree → Option D) → List Name → Name → Option Tree → Option (OneOf C D)
 case_given given later [] k o = None
-case_given given later (n ∷ ns) k o = cond (bytes_eq k n) (option_map First (given o)) (option_map Later (later ns k o))
+case_given given later (n ∷ ns) k o = if bytes_eq k n then option_map First (given o) else option_map Later (later ns k o)
 
 -- a variant without data takes none
 abbrev pub unit_given : Option Tree → Option (Unit {0})

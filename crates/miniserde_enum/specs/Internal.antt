@@ -1,5 +1,5 @@
 -- Internally tagged enums: of `{"kind":"Move","x":1}` the member `kind` is the tag, and the others are the data.
-use Rattle.std.specs.Prelude.{◌≡◌, false, Option, Some, None, option_map, option_and_then}
+use Rattle.std.specs.Prelude.{◌≡◌, false, Option, Some, None, option_map, option_and_then, codes, refl}
 use Rattle.miniserde_model.specs.Tree.{Tree, null, str, members, Members, no_members, member}
 use Rattle.miniserde_read.specs.types.Objects.{Name}
 use Rattle.miniserde_read.specs.types.Words.{string_of}
@@ -29,3 +29,10 @@ object_members _ = no_members
 abbrev pub internal_tree : Name → Name → Option Tree → Tree
 internal_tree tag n None = null
 internal_tree tag n (Some u) = members (member tag (str n) (object_members u))
+
+-- Worked cases: `{"kind":"Ping"}` is the variant `Ping` by the tag `kind`, and `{}` has no tag.
+pub tag_is_name : internal_variant (codes "kind") (members (member (codes "kind") (str (codes "Ping")) no_members)) ≡ Some (codes "Ping", Some (members no_members))
+tag_is_name = refl
+
+pub no_tag : internal_variant (codes "kind") (members no_members) ≡ None
+no_tag = refl

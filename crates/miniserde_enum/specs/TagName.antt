@@ -1,5 +1,5 @@
 -- The tag of an internally tagged enum: a string, which is the name of a variant or not.
-use Rattle.std.specs.Prelude.{◌≡◌, cond, List, [], ◌∷◌, Option, Some, None, option_map, bytes_eq}
+use Rattle.std.specs.Prelude.{◌≡◌, List, [], ◌∷◌, Option, Some, None, option_map, bytes_eq, if◌then◌else◌}
 use Rattle.miniserde_model.specs.Tree.{Tree}
 use Rattle.miniserde_read.specs.Meaning.{Meaning, meant}
 use Rattle.miniserde_read.specs.types.Objects.{Name}
@@ -8,7 +8,7 @@ use Rattle.miniserde_read.specs.types.Words.{string_of}
 -- the first of the names that is equal to n
 abbrev pub known : List Name → Name → Option Name
 known [] n = None
-known (m ∷ ms) n = cond (bytes_eq n m) (Some m) (known ms n)
+known (m ∷ ms) n = if bytes_eq n m then Some m else known ms n
 
 -- a string gives the name that is equal to it, or none if there is no such name, and any other tree gives nothing
 abbrev pub tag_name_of : List Name → Tree → Option (Option Name)

@@ -1,5 +1,5 @@
 -- Aliases: other names of a struct's fields, by which it is read.
-use Rattle.std.specs.Prelude.{◌&&◌, Bool, true, cond, List, [], ◌∷◌, map, bytes_eq}
+use Rattle.std.specs.Prelude.{◌&&◌, Bool, true, List, [], ◌∷◌, map, bytes_eq, if◌then◌else◌}
 use Rattle.miniserde_model.specs.Tree.{Members, no_members, member}
 use Rattle.miniserde_read.specs.types.Objects.{Name}
 
@@ -10,7 +10,7 @@ aliases_of ps = map (λ p. (p.0.now, p.1.now)) ps.now
 -- the name that a member counts by: of an alias that of its field, and any other name itself
 abbrev pub field_name_of : List (Name × Name) → Name → Name
 field_name_of [] k = k
-field_name_of (p ∷ ps) k = cond (bytes_eq k p.0) p.1 (field_name_of ps k)
+field_name_of (p ∷ ps) k = if bytes_eq k p.0 then p.1 else field_name_of ps k
 
 -- the members, by the names that they count by
 abbrev pub with_field_names : List (Name × Name) → Members → Members

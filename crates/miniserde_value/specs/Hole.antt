@@ -1,5 +1,5 @@
 -- A tree with a hole, which the open containers are.
-use Rattle.std.specs.Prelude.{ℕ, ◌+◌, ◌&&◌, Bool, true, false, cond, List, [], ◌∷◌, ◌++◌, Option, Some, None, option_map, option_and_then, is_some}
+use Rattle.std.specs.Prelude.{ℕ, ◌+◌, ◌&&◌, Bool, true, false, List, [], ◌∷◌, ◌++◌, Option, Some, None, option_map, option_and_then, is_some, if◌then◌else◌}
 use Rattle.miniserde_model.specs.Tree.{Tree, null, truth, nonneg, neg, num, str, list, members, Members, no_members}
 use Rattle.miniserde_model.specs.Step.{Step, boolean, string, negative, nonnegative, float, seq, element, map, key, finish}
 use Rattle.miniserde_model.specs.Step as step
@@ -93,7 +93,7 @@ repeats _ h = false
 
 -- the same, where `once` says that no name may be repeated
 abbrev pub after_step_once : Bool → Bool → Hole → Step → Option (Bool × Hole)
-after_step_once once due h e = cond (once && repeats e h) None (after_step due h e)
+after_step_once once due h e = if once && repeats e h then None else after_step due h e
 
 -- what the events that are still to come give
 abbrev pub outcome : Bool → Bool → Hole → List Step → Option Tree

@@ -1,6 +1,7 @@
--- What a `Value` keeps of a tree.
-use Rattle.std.specs.Prelude.{Bool, not, ◌||◌, cond, Option, Some, None}
-use Rattle.miniserde_model.specs.Tree.{Tree, neg, Trees, Members}
+-- The part of a tree that a `Value` retains: of each name the last member, in the order of the names (RFC 8259, section 4).
+use Rattle.std.specs.Prelude.{Bool, not, ◌||◌, Option, Some, None, if◌then◌else◌}
+use Rattle.std.specs.Prelude.{◌≡◌, true, pos, refl, codes}
+use Rattle.miniserde_model.specs.Tree.{Tree, null, nonneg, neg, Trees, members, Members, no_members, member}
 use Rattle.miniserde_model.specs.Normal.{norm_by, norm_children_by, norm_members_by}
 use Rattle.miniserde_model.specs.Distinct.{names_distinct}
 
@@ -16,4 +17,17 @@ retained_members = norm_members_by neg
 
 -- the same, and nothing of a tree with duplicate names where `once` says that none may be repeated
 abbrev pub retained_if : Bool → Tree → Option Tree
-retained_if once t = cond (not once || names_distinct t) (Some (retained_tree t)) None
+retained_if once t = if not once || names_distinct t then Some (retained_tree t) else None
+
+-- Worked cases: `-0` keeps its sign, and with `once` an object with a duplicate gives nothing.
+abbrev duplicate : Tree
+duplicate = members (member (codes "a") null (member (codes "a") (nonneg 1) no_members))
+
+pub sign_is_retained : retained_tree (neg (pos 0)) ≡ neg (pos 0)
+sign_is_retained = refl
+
+pub last_is_retained : retained_tree duplicate ≡ members (member (codes "a") (nonneg 1) no_members)
+last_is_retained = refl
+
+pub duplicate_gives_nothing : retained_if true duplicate ≡ None
+duplicate_gives_nothing = refl

@@ -1,5 +1,5 @@
 -- Members of an open object: their names, their spans, and rows of names with trees.
-use Rattle.std.specs.Prelude.{◌≡◌, ◌<◌, ◌+◌, ◌-◌, ℕ, Bool, false, cond, List, [], ◌∷◌, drop, length, bytes_eq, get_or}
+use Rattle.std.specs.Prelude.{◌≡◌, ◌<◌, ◌+◌, ◌-◌, ℕ, Bool, false, List, [], ◌∷◌, drop, length, bytes_eq, get_or, if◌then◌else◌}
 use Rattle.std.specs.declared.cmp.Ordering.TheVariants.{Less}
 use Rattle.miniserde_model.specs.Tree.{Tree, Members, no_members, member}
 use Rattle.miniserde_model.specs.Normal.{text_cmp}
@@ -53,4 +53,4 @@ begins_with_name n (member m t ms) = bytes_eq n m
 -- without each that the next one repeats
 abbrev pub without_repeats : Members → Members
 without_repeats no_members = no_members
-without_repeats (member n t ms) = cond (begins_with_name n ms) (without_repeats ms) (member n t (without_repeats ms))
+without_repeats (member n t ms) = if begins_with_name n ms then without_repeats ms else member n t (without_repeats ms)

@@ -1,7 +1,8 @@
--- What an array of n items makes of trees.
-use Rattle.std.specs.Prelude.{◌≡◌, ℕ, List, length, nat_eq, if◌then◌else◌, Option, Some, None, option_and_then}
-use Rattle.miniserde_model.specs.Tree.{Tree}
+-- The arrays of n items that trees mean: lists of exactly n (RFC 8259, section 5).
+use Rattle.std.specs.Prelude.{◌≡◌, ℕ, List, length, nat_eq, if◌then◌else◌, Option, Some, None, option_and_then, [], ◌∷◌, true, refl}
+use Rattle.miniserde_model.specs.Tree.{Tree, truth, list, no_trees, tree}
 use Rattle.miniserde_read.specs.types.Lists.{ListReads, list_of}
+use Rattle.miniserde_read.specs.types.Words.{boolean_of}
 
 -- the tree is a list of exactly n, and each child means the item in its place
 abbrev pub ArrayReads : {T : Type 0} → ℕ → (Tree → T → Type 0) → Tree → List T → Type 0
@@ -15,3 +16,10 @@ module _ {C : Type 0} (n : ℕ) where
   -- what a list of exactly n gives
   abbrev pub array_of : (Tree → Option C) → Tree → Option (List C)
   array_of f t = option_and_then exactly (list_of f t)
+
+-- Worked cases: `[true]` is an array of one boolean, and not of two.
+pub exactly_one : array_of 1 boolean_of (list (tree (truth true) no_trees)) ≡ Some (true ∷ [])
+exactly_one = refl
+
+pub one_is_not_two : array_of 2 boolean_of (list (tree (truth true) no_trees)) ≡ None
+one_is_not_two = refl

@@ -1,5 +1,5 @@
--- What an integer type of so many bits makes of trees.
-use Rattle.std.specs.Prelude.{◌≡◌, ◌<◌, ◌-◌, ◌^◌, ℕ, ℤ, pos, negsuc, Bool, true, Option, Some, None, nat_lt, if◌then◌else◌}
+-- The values of an integer type of so many bits that trees mean (RFC 8259, section 6).
+use Rattle.std.specs.Prelude.{◌≡◌, ◌<◌, ◌-◌, ◌^◌, ℕ, ℤ, pos, negsuc, Bool, true, Option, Some, None, nat_lt, if◌then◌else◌, refl}
 use Rattle.miniserde_model.specs.Tree.{Tree, nonneg, neg}
 
 -- at least - 2 ^ (bits - 1), and below 2 ^ (bits - 1)
@@ -27,3 +27,13 @@ abbrev pub ReadsSigned : ℕ → Tree → ℤ → Type 0
 ReadsSigned bits (nonneg n) z = (pos n ≡ z) × (fits_signed bits z ≡ true)
 ReadsSigned bits (neg m) z = (m ≡ z) × (fits_signed bits z ≡ true)
 ReadsSigned bits _ z = ⊥
+
+-- Worked cases: 255 is a `u8`, 256 is none, and -128 is an `i8`.
+pub largest_u8 : unsigned_of 8 (nonneg 255) ≡ Some (pos 255)
+largest_u8 = refl
+
+pub no_u8 : unsigned_of 8 (nonneg 256) ≡ None
+no_u8 = refl
+
+pub smallest_i8 : signed_of 8 (neg (negsuc 127)) ≡ Some (negsuc 127)
+smallest_i8 = refl

@@ -1,6 +1,7 @@
--- What a list makes of trees.
-use Rattle.std.specs.Prelude.{List, [], ◌∷◌, Option, Some, None, option_and_then, ⊤}
-use Rattle.miniserde_model.specs.Tree.{Tree, list, Trees, no_trees, tree}
+-- The lists that trees mean: an array, whose elements mean the items in order (RFC 8259, section 5).
+use Rattle.std.specs.Prelude.{List, [], ◌∷◌, Option, Some, None, option_and_then, ⊤, ◌≡◌, Bool, true, refl}
+use Rattle.miniserde_model.specs.Tree.{Tree, list, Trees, no_trees, tree, null, truth}
+use Rattle.miniserde_read.specs.types.Words.{boolean_of}
 
 -- each child means the item in its place
 abbrev pub EachReads : {T : Type 0} → (Tree → T → Type 0) → Trees → List T → Type 0
@@ -22,3 +23,10 @@ each f (tree t ts) = option_and_then (λ x. option_and_then (λ xs. Some (x ∷ 
 abbrev pub list_of : {C : Type 0} → (Tree → Option C) → Tree → Option (List C)
 list_of f (list ts) = each f ts
 list_of f _ = None
+
+-- Worked cases: `[true]` is a list of booleans, and `[null]` is none.
+pub one_boolean : list_of boolean_of (list (tree (truth true) no_trees)) ≡ Some (true ∷ [])
+one_boolean = refl
+
+pub no_boolean : list_of boolean_of (list (tree null no_trees)) ≡ None
+no_boolean = refl

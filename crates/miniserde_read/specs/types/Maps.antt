@@ -1,15 +1,16 @@
 -- Maps, and what a map's tree means. What equality looks at of a key is its code; content is all that counts of it.
-use Rattle.std.specs.Prelude.{cond, List, [], ◌∷◌, Option, Some, None, option_and_then, option_map, IsSome, bytes_eq, ◌≡◌, ⊤}
-use Rattle.miniserde_model.specs.Tree.{Tree, members, Members, no_members, member}
+use Rattle.std.specs.Prelude.{List, [], ◌∷◌, Option, Some, None, option_and_then, option_map, IsSome, bytes_eq, ◌≡◌, ⊤, if◌then◌else◌, true, false, codes, refl}
+use Rattle.miniserde_model.specs.Tree.{Tree, members, Members, no_members, member, null, truth}
 use Rattle.miniserde_keys.specs.Keys.{Key}
 use Rattle.miniserde_read.specs.types.Objects.{Name, object_of, all_members}
+use Rattle.miniserde_read.specs.types.Words.{boolean_of}
 
 -- ---- what a map's tree means
 
 -- the key that a name is read as, where it has the code
 abbrev pub key_at : (Key → Key) → Key → Option Key → Option Key
 key_at code q None = None
-key_at code q (Some c) = cond (bytes_eq (code c) q) (Some c) None
+key_at code q (Some c) = if bytes_eq (code c) q then Some c else None
 
 -- with one more member in front: the first key stands, and the last tree
 abbrev pub first_and_last : Option Key → Tree → Option (Key × Tree) → Option (Key × Tree)
@@ -30,7 +31,7 @@ AllAccepted read of (member k t ms) = IsSome (read k) × (IsSome (of t) × AllAc
 -- the entry whose key has the code
 abbrev pub entry_at : {K V : Type 0} → (K → Key) → Key → List (K × V) → Option (K × V)
 entry_at code q [] = None
-entry_at code q (e ∷ es) = cond (bytes_eq (code e.0) q) (Some e) (entry_at code q es)
+entry_at code q (e ∷ es) = if bytes_eq (code e.0) q then Some e else entry_at code q es
 
 -- there is an entry where members were met: its key is the one that stands, and the tree means its value
 abbrev pub MeansAt : {K V : Type 0} → (K → Key) → (Tree → V → Type 0) → Option (Key × Tree) → Option (K × V) → Type 0
@@ -60,7 +61,7 @@ present_key_or (Some e) c = e.0
 
 -- the map with one more key, or with another value at a key that is there
 abbrev pub with_entry : {C : Type 0} → (Key → Key) → Entries C → Key → C → Entries C
-with_entry code m c d q = cond (bytes_eq (code c) q) (Some (present_key_or (m q) c, d)) (m q)
+with_entry code m c d q = if bytes_eq (code c) q then Some (present_key_or (m q) c, d) else m q
 
 -- what counts of the entry at each code
 abbrev pub map_content : {K V C : Type 0} → (Key → Key) → (K → Key) → (V → C) → List (K × V) → Entries C
@@ -73,3 +74,10 @@ map_member read code f m k x = option_and_then (λ c. option_map (with_entry cod
 -- what a map's tree gives
 abbrev pub map_of : {C : Type 0} → (Name → Option Key) → (Key → Key) → (Tree → Option C) → Tree → Option (Entries C)
 map_of read code of = object_of (all_members (map_member read code of) no_key)
+
+-- Worked cases: of `{"a":true,"a":false}` the map has false at "a", and `{"a":null}` is no map of booleans.
+pub last_value : option_map (λ m. m (codes "a")) (map_of Some (λ k. k) boolean_of (members (member (codes "a") (truth true) (member (codes "a") (truth false) no_members)))) ≡ Some (Some (codes "a", false))
+last_value = refl
+
+pub no_boolean : map_of Some (λ k. k) boolean_of (members (member (codes "a") null no_members)) ≡ None
+no_boolean = refl

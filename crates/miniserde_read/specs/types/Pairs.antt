@@ -1,6 +1,7 @@
--- What a pair makes of trees.
-use Rattle.std.specs.Prelude.{Option, None, option_and_then, option_map}
-use Rattle.miniserde_model.specs.Tree.{Tree, list, no_trees, tree}
+-- The pairs that trees mean: lists of exactly two (RFC 8259, section 5).
+use Rattle.std.specs.Prelude.{Option, None, option_and_then, option_map, ◌≡◌, Some, true, false, refl}
+use Rattle.miniserde_model.specs.Tree.{Tree, list, no_trees, tree, truth}
+use Rattle.miniserde_read.specs.types.Words.{boolean_of}
 
 -- the tree is a list of exactly two, and each child means its part of the pair
 abbrev pub PairReads : {T U : Type 0} → (Tree → T → Type 0) → (Tree → U → Type 0) → Tree → T × U → Type 0
@@ -16,3 +17,10 @@ module _ {A B : Type 0} where
   abbrev pub pair_of : (Tree → Option A) → (Tree → Option B) → Tree → Option (A × B)
   pair_of f g (list (tree t (tree u no_trees))) = both (f t, g u)
   pair_of f g _ = None
+
+-- Worked cases: `[true,false]` is a pair of booleans, and `[true]` is none.
+pub two_booleans : pair_of boolean_of boolean_of (list (tree (truth true) (tree (truth false) no_trees))) ≡ Some (true, false)
+two_booleans = refl
+
+pub one_boolean : pair_of boolean_of boolean_of (list (tree (truth true) no_trees)) ≡ None
+one_boolean = refl

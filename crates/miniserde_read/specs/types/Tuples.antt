@@ -1,7 +1,8 @@
--- What a tuple makes of trees: of its items one by one, and of the list that holds them.
-use Rattle.std.specs.Prelude.{Option, Some, None, ⊤}
-use Rattle.miniserde_model.specs.Tree.{Tree, list, Trees, no_trees, tree}
+-- The tuples that trees mean: lists of exactly the items, one by one (RFC 8259, section 5).
+use Rattle.std.specs.Prelude.{Option, Some, None, ⊤, ◌≡◌, true, refl}
+use Rattle.miniserde_model.specs.Tree.{Tree, list, Trees, no_trees, tree, truth}
 use Rattle.miniserde_read.specs.types.Pairs.{both}
+use Rattle.miniserde_read.specs.types.Words.{boolean_of}
 
 -- no children are left, as no items are
 abbrev pub NoneReads : Trees → Unit {0} → Type 0
@@ -32,3 +33,10 @@ TupleReads R _ v = ⊥
 abbrev pub tuple_of : {C : Type 0} → (Trees → Option C) → Tree → Option C
 tuple_of f (list ts) = f ts
 tuple_of f _ = None
+
+-- Worked cases: `[true]` is a tuple of one boolean, and `[]` is none.
+pub one_item : tuple_of (item_of boolean_of none_of) (list (tree (truth true) no_trees)) ≡ Some (true, tt)
+one_item = refl
+
+pub no_item : tuple_of (item_of boolean_of none_of) (list no_trees) ≡ None
+no_item = refl

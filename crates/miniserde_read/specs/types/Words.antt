@@ -1,5 +1,5 @@
--- What `()`, `bool` and `String` make of trees: `null`, the two words and strings.
-use Rattle.std.specs.Prelude.{ℕ, Bool, List, Option, Some, None}
+-- The values of `()`, `bool` and `String` that trees mean: `null`, the two words and strings (RFC 8259, sections 3 and 7).
+use Rattle.std.specs.Prelude.{ℕ, Bool, List, Option, Some, None, ◌≡◌, true, codes, refl}
 use Rattle.miniserde_model.specs.Tree.{Tree, null, truth, str}
 
 abbrev pub unit_of : Tree → Option (Unit {0})
@@ -13,3 +13,10 @@ boolean_of _ = None
 abbrev pub string_of : Tree → Option (List ℕ)
 string_of (str s) = Some s
 string_of _ = None
+
+-- Worked cases: `true` is a `bool`, and the string `"true"` is none.
+pub word_is_boolean : boolean_of (truth true) ≡ Some true
+word_is_boolean = refl
+
+pub string_is_no_boolean : boolean_of (str (codes "true")) ≡ None
+string_is_no_boolean = refl

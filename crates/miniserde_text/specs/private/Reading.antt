@@ -42,7 +42,7 @@ is_closing c = (c == 93) || (c == 125)
 -- what follows the longest run of bytes that pass p
 abbrev pub after_run : (ℕ → Bool) → List ℕ → List ℕ
 after_run p [] = []
-after_run p (c ∷ cs) = cond (p c) (after_run p cs) (c ∷ cs)
+after_run p (c ∷ cs) = if p c then after_run p cs else c ∷ cs
 
 abbrev pub EndsWith : List ℕ → List ℕ → Type 0
 EndsWith s r = (b : List ℕ) × (s ≡ b ++ r)
@@ -61,22 +61,22 @@ before s r = take (length s - length r) s
 -- ---- numbers
 
 abbrev pub after_digits : List ℕ → Option (List ℕ)
-after_digits s = cond (is_digit (slice_index s 0)) (Some (after_run is_digit s)) None
+after_digits s = if is_digit (slice_index s 0) then Some (after_run is_digit s) else None
 
 abbrev pub after_minus : List ℕ → List ℕ
-after_minus s = cond (slice_index s 0 == 45) (drop 1 s) s
+after_minus s = if slice_index s 0 == 45 then drop 1 s else s
 
 abbrev pub after_int : List ℕ → Option (List ℕ)
-after_int s = cond (slice_index s 0 == 48) (Some (drop 1 s)) (after_digits s)
+after_int s = if slice_index s 0 == 48 then Some (drop 1 s) else after_digits s
 
 abbrev pub after_fraction : List ℕ → Option (List ℕ)
-after_fraction s = cond (slice_index s 0 == 46) (after_digits (drop 1 s)) (Some s)
+after_fraction s = if slice_index s 0 == 46 then after_digits (drop 1 s) else Some s
 
 abbrev pub after_sign : List ℕ → List ℕ
-after_sign s = cond (is_sign (slice_index s 0)) (drop 1 s) s
+after_sign s = if is_sign (slice_index s 0) then drop 1 s else s
 
 abbrev pub after_exponent : List ℕ → Option (List ℕ)
-after_exponent s = cond (is_exponent_letter (slice_index s 0)) (after_digits (after_sign (drop 1 s))) (Some s)
+after_exponent s = if is_exponent_letter (slice_index s 0) then after_digits (after_sign (drop 1 s)) else Some s
 
 abbrev pub after_tail : List ℕ → Option (List ℕ)
 after_tail s = option_and_then after_exponent (after_fraction s)
@@ -100,14 +100,14 @@ number_at s = option_and_then (λ w. option_and_then (λ r. event_at s w r) (aft
 -- ---- the front of a value that is no string
 
 unfoldable pub word_at : List ℕ → Step → List ℕ → Option (Step × List ℕ)
-word_at w e s = cond (starts_with nat_eq s w) (Some (e, drop (length w) s)) None
+word_at w e s = if starts_with nat_eq s w then Some (e, drop (length w) s) else None
 
 unfoldable pub token_by : ℕ → List ℕ → Option (Step × List ℕ)
 token_by c s =
     cond (c == 110) (word_at (codes "null") step.null s)
     (cond (c == 116) (word_at (codes "true") (boolean true) s)
     (cond (c == 102) (word_at (codes "false") (boolean false) s)
-    (cond (c == 91) (Some (seq, drop 1 s)) (cond (c == 123) (Some (map, drop 1 s)) (number_at s)))))
+    (if c == 91 then Some (seq, drop 1 s) else if c == 123 then Some (map, drop 1 s) else number_at s)))
 
 abbrev pub token_at : List ℕ → Option (Step × List ℕ)
 token_at s = token_by (slice_index s 0) s
@@ -122,7 +122,7 @@ begins (c ∷ cs) = not (is_closing c)
 unfoldable pub step_at : Kind → Bool → List ℕ → Option (Bool × List ℕ)
 step_at kind first t =
     cond (slice_index t 0 == closing kind) (Some (true, drop 1 t))
-    (cond first (cond (begins t) (Some (false, t)) None) (cond (slice_index t 0 == 44) (Some (false, drop 1 t)) None))
+    (if first then (if begins t then Some (false, t) else None) else if slice_index t 0 == 44 then Some (false, drop 1 t) else None)
 
 -- ---- escapes, behind the backslash
 
@@ -153,10 +153,10 @@ pair_of high low = 0x10000 + (high - 0xd800) * 1024 + (low - 0xdc00)
 abbrev pub low_at : ℕ → List ℕ → Option (ℕ × List ℕ)
 low_at high s =
     cond (begins_escape s)
-    (option_and_then (λ l. cond (is_low l.0) (Some (pair_of high l.0, l.1)) None) (unit_at (drop 2 s))) None
+    (option_and_then (λ l. if is_low l.0 then Some (pair_of high l.0, l.1) else None) (unit_at (drop 2 s))) None
 
 unfoldable pub unicode_at : List ℕ → Option (ℕ × List ℕ)
-unicode_at s = option_and_then (λ u. cond (is_high u.0) (low_at u.0 u.1) (cond (is_low u.0) None (Some u))) (unit_at s)
+unicode_at s = option_and_then (λ u. if is_high u.0 then low_at u.0 u.1 else if is_low u.0 then None else Some u) (unit_at s)
 
 abbrev pub short_at : ℕ → Option ℕ
 short_at x =
