@@ -75,7 +75,7 @@ pub use Rattle.miniserde_record.specs.laws.Marks as MarkLaws
 pub use Rattle.miniserde_enum.specs.Cases
 pub use Rattle.miniserde_enum.specs.CasesMeaning
 pub use Rattle.miniserde_enum.specs.External
-pub use Rattle.miniserde_enum.specs.Shape
+pub use Rattle.miniserde_enum.specs.Tagging
 pub use Rattle.miniserde_enum.specs.Inside
 pub use Rattle.miniserde_enum.specs.Internal
 pub use Rattle.miniserde_program.specs.Counts

@@ -21,13 +21,13 @@ use Rattle.miniserde_canonical.proofs.Chains.{chain_lengths, chain_add, chain_mo
 use Rattle.miniserde_canonical.proofs.Owning.{chain_agrees, cut_own}
 use Rattle.miniserde_canonical.proofs.MemberLists.{Agree, rise_all}
 
-pub draft_starts : (d : Draft) (input : List ℕ) → d.input.now ≡ input → d.left ≡ length input → d.out.bytes.items ≡ [] → d.out.holes.items ≡ [] → d.groups.bytes.items ≡ [] → d.groups.holes.items ≡ [] → d.members.items ≡ [] → d.opened.items ≡ [] → d.is_distinct ≡ true → Represents d input start
+pub draft_starts : (d : Draft) (input : List ℕ) → d.input.now ≡ input → d.left ≡ length input → d.out.bytes.items ≡ [] → d.out.splices.items ≡ [] → d.groups.bytes.items ≡ [] → d.groups.splices.items ≡ [] → d.members.items ≡ [] → d.opened.items ≡ [] → d.is_distinct ≡ true → Represents d input start
 draft_starts d input i l a b e f m o t = record {
   bytes = [];
   wrote = record { front = []; run = []; input = i; left = l; text = append-nil d.out.bytes.items ∙ a };
   holding = record {
-    chain = subst (λ z. Chain z [] d.groups.bytes.items d.groups.holes.items 0 0 [] d.out.holes.items []) (sym m) (subst (λ z. Holds d.groups.bytes.items d.groups.holes.items 0 [] z []) (sym b) none);
-    good = subst (λ z. Good z d.out.holes.items) (sym f) (subst (λ z. Good [] z) (sym b) (tt, tt));
+    chain = subst (λ z. Chain z [] d.groups.bytes.items d.groups.splices.items 0 0 [] d.out.splices.items []) (sym m) (subst (λ z. Holds d.groups.bytes.items d.groups.splices.items 0 [] z []) (sym b) none);
+    good = subst (λ z. Good z d.out.splices.items) (sym f) (subst (λ z. Good [] z) (sym b) (tt, tt));
     opened = o;
     distinct = t;
   };
@@ -35,18 +35,18 @@ draft_starts d input i l a b e f m o t = record {
 
 pub keep_holding : (d d' : Draft) (bs : List ℕ) (s : State) → ChangesOnlyText d d' → Holding d bs s → Holding d' bs s
 keep_holding d d' bs s k h = record {
-  chain = rw (k.members, k.groups, k.inner, k.holes) h.chain;
-  good = subst (λ z. Good z d'.out.holes.items) (sym k.inner) (subst (λ z. Good d.groups.holes.items z) (sym k.holes) h.good);
+  chain = rw (k.members, k.groups, k.inner, k.splices) h.chain;
+  good = subst (λ z. Good z d'.out.splices.items) (sym k.inner) (subst (λ z. Good d.groups.splices.items z) (sym k.splices) h.good);
   opened = k.opened ∙ h.opened;
   distinct = k.distinct ∙ h.distinct;
 }
 
 -- ---- text
 
-chain_bytes : (d : Draft) (bs : List ℕ) (s : State) (x : List ℕ) → Holding d bs s → Chain d.members.items s.entries d.groups.bytes.items d.groups.holes.items 0 0 (bs ++ x) d.out.holes.items (s.last ++ x)
+chain_bytes : (d : Draft) (bs : List ℕ) (s : State) (x : List ℕ) → Holding d bs s → Chain d.members.items s.entries d.groups.bytes.items d.groups.splices.items 0 0 (bs ++ x) d.out.splices.items (s.last ++ x)
 chain_bytes d bs s x r =
-    subst (λ z. Chain d.members.items s.entries d.groups.bytes.items d.groups.holes.items 0 0 (bs ++ x) z (s.last ++ x)) (append-nil d.out.holes.items)
-    (chain_add d.members.items s.entries d.groups.bytes.items d.groups.holes.items 0 0 (0 + length bs) bs x d.out.holes.items [] s.last x r.chain refl (holds_plain d.groups.bytes.items d.groups.holes.items (0 + length bs) x))
+    subst (λ z. Chain d.members.items s.entries d.groups.bytes.items d.groups.splices.items 0 0 (bs ++ x) z (s.last ++ x)) (append-nil d.out.splices.items)
+    (chain_add d.members.items s.entries d.groups.bytes.items d.groups.splices.items 0 0 (0 + length bs) bs x d.out.splices.items [] s.last x r.chain refl (holds_plain d.groups.bytes.items d.groups.splices.items (0 + length bs) x))
 
 pub holding_added : (d : Draft) (bs : List ℕ) (s s' : State) (x : List ℕ) → Adds x s s' → Holding d bs s → Holding d (bs ++ x) s'
 holding_added d bs s s' x a r = record {
@@ -56,26 +56,26 @@ holding_added d bs s s' x a r = record {
   distinct = r.distinct ∙ sym a.3;
 }
 
-pub holding_opened : (d d' : Draft) (bs : List ℕ) (s s' : State) (k : ℕ) → d'.out.holes.items ≡ d.out.holes.items → d'.groups.bytes.items ≡ d.groups.bytes.items → d'.groups.holes.items ≡ d.groups.holes.items → d'.members.items ≡ d.members.items → d'.opened.items ≡ d.opened.items ++ k ∷ [] → k ≡ length d.members.items → d'.is_distinct ≡ d.is_distinct → s'.last ≡ s.last ++ 123 ∷ [] → s'.entries ≡ s.entries → s'.opened ≡ s.opened ++ length s.entries ∷ [] → s'.distinct ≡ s.distinct → Holding d bs s → Holding d' (bs ++ 123 ∷ []) s'
+pub holding_opened : (d d' : Draft) (bs : List ℕ) (s s' : State) (k : ℕ) → d'.out.splices.items ≡ d.out.splices.items → d'.groups.bytes.items ≡ d.groups.bytes.items → d'.groups.splices.items ≡ d.groups.splices.items → d'.members.items ≡ d.members.items → d'.opened.items ≡ d.opened.items ++ k ∷ [] → k ≡ length d.members.items → d'.is_distinct ≡ d.is_distinct → s'.last ≡ s.last ++ 123 ∷ [] → s'.entries ≡ s.entries → s'.opened ≡ s.opened ++ length s.entries ∷ [] → s'.distinct ≡ s.distinct → Holding d bs s → Holding d' (bs ++ 123 ∷ []) s'
 holding_opened d d' bs s s' k b e f m o n t la en op di r = record {
   chain = rw (m, e, f, b, en, la) (chain_bytes d bs s (123 ∷ []) r);
-  good = subst (λ z. Good z d'.out.holes.items) (sym f) (subst (λ z. Good d.groups.holes.items z) (sym b) r.good);
-  opened = o ∙ ap₂ (λ (x : List ℕ) (y : ℕ). x ++ y ∷ []) r.opened (n ∙ chain_lengths d.members.items s.entries d.groups.bytes.items d.groups.holes.items 0 0 bs d.out.holes.items s.last r.chain) ∙ sym op;
+  good = subst (λ z. Good z d'.out.splices.items) (sym f) (subst (λ z. Good d.groups.splices.items z) (sym b) r.good);
+  opened = o ∙ ap₂ (λ (x : List ℕ) (y : ℕ). x ++ y ∷ []) r.opened (n ∙ chain_lengths d.members.items s.entries d.groups.bytes.items d.groups.splices.items 0 0 bs d.out.splices.items s.last r.chain) ∙ sym op;
   distinct = t ∙ r.distinct ∙ sym di;
 }
 
 -- a member begins, and x is put behind its begin
-pub holding_begun : (d d' : Draft) (bs : List ℕ) (s s' : State) (n : Member) (name x : List ℕ) → d'.out.holes.items ≡ d.out.holes.items → d'.groups.bytes.items ≡ d.groups.bytes.items → d'.groups.holes.items ≡ d.groups.holes.items → d'.members.items ≡ d.members.items ++ n ∷ [] → d'.opened.items ≡ d.opened.items → d'.is_distinct ≡ d.is_distinct → name_of n.name ≡ name → n.first ≡ s.first → n.place.bytes ≡ length (bs ++ gap s.first) → n.place.holes ≡ length d.out.holes.items → s'.entries ≡ s.entries ++ record { text = s.last; first = s.first; name = name } ∷ [] → s'.last ≡ x → s'.opened ≡ s.opened → s'.distinct ≡ s.distinct → Holding d bs s → Holding d' ((bs ++ gap s.first) ++ x) s'
+pub holding_begun : (d d' : Draft) (bs : List ℕ) (s s' : State) (n : Member) (name x : List ℕ) → d'.out.splices.items ≡ d.out.splices.items → d'.groups.bytes.items ≡ d.groups.bytes.items → d'.groups.splices.items ≡ d.groups.splices.items → d'.members.items ≡ d.members.items ++ n ∷ [] → d'.opened.items ≡ d.opened.items → d'.is_distinct ≡ d.is_distinct → name_of n.name ≡ name → n.first ≡ s.first → n.place.bytes ≡ length (bs ++ gap s.first) → n.place.splices ≡ length d.out.splices.items → s'.entries ≡ s.entries ++ record { text = s.last; first = s.first; name = name } ∷ [] → s'.last ≡ x → s'.opened ≡ s.opened → s'.distinct ≡ s.distinct → Holding d bs s → Holding d' ((bs ++ gap s.first) ++ x) s'
 holding_begun d d' bs s s' n name x b e f m o t na fi pb ph en la op di r =
     let ms = d.groups.bytes.items in
-    let gs = d.groups.holes.items in
+    let gs = d.groups.splices.items in
     let y : Entry = record { text = s.last; first = s.first; name = name } in
     let cs = bs ++ gap s.first in
-    let begun : Chain (d.members.items ++ n ∷ []) (s.entries ++ y ∷ []) ms gs 0 0 cs d.out.holes.items [] = chain_begin d.members.items s.entries ms gs 0 0 bs d.out.holes.items s.last n y r.chain refl na fi (omega (arith, pb)) (omega (arith, ph)) in
-    let more : Chain (d.members.items ++ n ∷ []) (s.entries ++ y ∷ []) ms gs 0 0 (cs ++ x) d.out.holes.items x = subst (λ z. Chain (d.members.items ++ n ∷ []) (s.entries ++ y ∷ []) ms gs 0 0 (cs ++ x) z x) (append-nil d.out.holes.items) (chain_add (d.members.items ++ n ∷ []) (s.entries ++ y ∷ []) ms gs 0 0 (0 + length cs) cs x d.out.holes.items [] [] x begun refl (holds_plain ms gs (0 + length cs) x)) in
+    let begun : Chain (d.members.items ++ n ∷ []) (s.entries ++ y ∷ []) ms gs 0 0 cs d.out.splices.items [] = chain_begin d.members.items s.entries ms gs 0 0 bs d.out.splices.items s.last n y r.chain refl na fi (omega (arith, pb)) (omega (arith, ph)) in
+    let more : Chain (d.members.items ++ n ∷ []) (s.entries ++ y ∷ []) ms gs 0 0 (cs ++ x) d.out.splices.items x = subst (λ z. Chain (d.members.items ++ n ∷ []) (s.entries ++ y ∷ []) ms gs 0 0 (cs ++ x) z x) (append-nil d.out.splices.items) (chain_add (d.members.items ++ n ∷ []) (s.entries ++ y ∷ []) ms gs 0 0 (0 + length cs) cs x d.out.splices.items [] [] x begun refl (holds_plain ms gs (0 + length cs) x)) in
     record {
       chain = rw (m, e, f, b, en, la) more;
-      good = subst (λ z. Good z d'.out.holes.items) (sym f) (subst (λ z. Good gs z) (sym b) r.good);
+      good = subst (λ z. Good z d'.out.splices.items) (sym f) (subst (λ z. Good gs z) (sym b) r.good);
       opened = o ∙ r.opened ∙ sym op;
       distinct = t ∙ r.distinct ∙ sym di;
     }
@@ -98,12 +98,12 @@ closes s m os f e o n a = λ ps g h l.
     (o ∙ r.0, n ∙ ap (λ z. take z s.entries) r.1, subst (λ z. Arranged (drop z s.entries) s m) r.1 a)
 
 -- the chain of all, as members before and behind
-parted : (d : Draft) (bs : List ℕ) (s : State) (f : ℕ) → Holding d bs s → Chain (take f d.members.items ++ drop f d.members.items) (take f s.entries ++ drop f s.entries) d.groups.bytes.items d.groups.holes.items 0 0 bs d.out.holes.items s.last
-parted d bs s f r = subst (λ z. Chain z (take f s.entries ++ drop f s.entries) d.groups.bytes.items d.groups.holes.items 0 0 bs d.out.holes.items s.last) (sym (take-append-drop f d.members.items)) (subst (λ z. Chain d.members.items z d.groups.bytes.items d.groups.holes.items 0 0 bs d.out.holes.items s.last) (sym (take-append-drop f s.entries)) r.chain)
+parted : (d : Draft) (bs : List ℕ) (s : State) (f : ℕ) → Holding d bs s → Chain (take f d.members.items ++ drop f d.members.items) (take f s.entries ++ drop f s.entries) d.groups.bytes.items d.groups.splices.items 0 0 bs d.out.splices.items s.last
+parted d bs s f r = subst (λ z. Chain z (take f s.entries ++ drop f s.entries) d.groups.bytes.items d.groups.splices.items 0 0 bs d.out.splices.items s.last) (sym (take-append-drop f d.members.items)) (subst (λ z. Chain d.members.items z d.groups.bytes.items d.groups.splices.items 0 0 bs d.out.splices.items s.last) (sym (take-append-drop f s.entries)) r.chain)
 
 as_many : (d : Draft) (bs : List ℕ) (s : State) (f : ℕ) → Holding d bs s → f ≤ length d.members.items → length (take f d.members.items) ≡ length (take f s.entries)
 as_many d bs s f r l =
-    let same = chain_lengths d.members.items s.entries d.groups.bytes.items d.groups.holes.items 0 0 bs d.out.holes.items s.last r.chain in
+    let same = chain_lengths d.members.items s.entries d.groups.bytes.items d.groups.splices.items 0 0 bs d.out.splices.items s.last r.chain in
     length-take-le f d.members.items l ∙ sym (length-take-le f s.entries (omega (arith, l, same)))
 
 -- the members behind a place agree with their entries
@@ -115,15 +115,15 @@ own_part f [] (e ∷ es) a = absurd a
 own_part f (n ∷ ns) [] a = absurd a
 
 pub rises_behind : (d : Draft) (bs : List ℕ) (s : State) (f : ℕ) (ns : List Member) → ns ≡ drop f d.members.items → NamesRise ns → Holding d bs s → Rise (entry_members (drop f s.entries) s.last)
-rises_behind d bs s f ns e h r = rise_all (drop f d.members.items) (drop f s.entries) s.last (own_part f d.members.items s.entries (chain_agrees d.members.items s.entries d.groups.bytes.items d.groups.holes.items 0 0 bs d.out.holes.items s.last r.chain)) (subst NamesRise e h)
+rises_behind d bs s f ns e h r = rise_all (drop f d.members.items) (drop f s.entries) s.last (own_part f d.members.items s.entries (chain_agrees d.members.items s.entries d.groups.bytes.items d.groups.splices.items 0 0 bs d.out.splices.items s.last r.chain)) (subst NamesRise e h)
 
 -- the names rise
-pub holding_same : (d d' : Draft) (bs : List ℕ) (s : State) (f : ℕ) → f ≤ length d.members.items → d'.out.holes.items ≡ d.out.holes.items → d'.groups.bytes.items ≡ d.groups.bytes.items → d'.groups.holes.items ≡ d.groups.holes.items → d'.members.items ≡ take f d.members.items → d'.is_distinct ≡ d.is_distinct → Holding d bs s → Holding d' bs (record { entries = take f s.entries; last = entries_text (drop f s.entries) s.last; opened = d'.opened.items; first = s.first; distinct = s.distinct })
+pub holding_same : (d d' : Draft) (bs : List ℕ) (s : State) (f : ℕ) → f ≤ length d.members.items → d'.out.splices.items ≡ d.out.splices.items → d'.groups.bytes.items ≡ d.groups.bytes.items → d'.groups.splices.items ≡ d.groups.splices.items → d'.members.items ≡ take f d.members.items → d'.is_distinct ≡ d.is_distinct → Holding d bs s → Holding d' bs (record { entries = take f s.entries; last = entries_text (drop f s.entries) s.last; opened = d'.opened.items; first = s.first; distinct = s.distinct })
 holding_same d d' bs s f l b e g m t r =
-    let c : Chain (take f d.members.items) (take f s.entries) d.groups.bytes.items d.groups.holes.items 0 0 bs d.out.holes.items (entries_text (drop f s.entries) s.last) = chain_merge (take f d.members.items) (take f s.entries) (drop f d.members.items) (drop f s.entries) d.groups.bytes.items d.groups.holes.items 0 0 bs d.out.holes.items s.last (as_many d bs s f r l) (parted d bs s f r) in
+    let c : Chain (take f d.members.items) (take f s.entries) d.groups.bytes.items d.groups.splices.items 0 0 bs d.out.splices.items (entries_text (drop f s.entries) s.last) = chain_merge (take f d.members.items) (take f s.entries) (drop f d.members.items) (drop f s.entries) d.groups.bytes.items d.groups.splices.items 0 0 bs d.out.splices.items s.last (as_many d bs s f r l) (parted d bs s f r) in
     record {
       chain = rw (m, e, g, b) c;
-      good = subst (λ z. Good z d'.out.holes.items) (sym g) (subst (λ z. Good d.groups.holes.items z) (sym b) r.good);
+      good = subst (λ z. Good z d'.out.splices.items) (sym g) (subst (λ z. Good d.groups.splices.items z) (sym b) r.good);
       opened = refl;
       distinct = t ∙ r.distinct;
     }
@@ -136,28 +136,28 @@ pub record PutInOrder (d d' : Draft) (s : State) (f : ℕ) : Type 0 where
   pub entries : state.entries ≡ take f s.entries
   pub sorted : Sorted (drop f s.entries) s state
 
-ordered_at : (d d' : Draft) (s : State) (f : ℕ) (b : Bool) (n : Member) (ns : List Member) (e : Entry) (es : List Entry) → length (take f d.members.items) ≡ length (take f s.entries) → Good d.groups.holes.items d.out.holes.items → d.is_distinct ≡ s.distinct → Chain (take f d.members.items ++ n ∷ ns) (take f s.entries ++ e ∷ es) d.groups.bytes.items d.groups.holes.items 0 0 d.out.bytes.items d.out.holes.items s.last → SortsMembers (n ∷ ns) d.out d'.out d.groups d'.groups b → d'.members.items ≡ take f d.members.items → d'.is_distinct ≡ (d.is_distinct && b) → drop f s.entries ≡ e ∷ es → PutInOrder d d' s f
+ordered_at : (d d' : Draft) (s : State) (f : ℕ) (b : Bool) (n : Member) (ns : List Member) (e : Entry) (es : List Entry) → length (take f d.members.items) ≡ length (take f s.entries) → Good d.groups.splices.items d.out.splices.items → d.is_distinct ≡ s.distinct → Chain (take f d.members.items ++ n ∷ ns) (take f s.entries ++ e ∷ es) d.groups.bytes.items d.groups.splices.items 0 0 d.out.bytes.items d.out.splices.items s.last → SortsMembers (n ∷ ns) d.out d'.out d.groups d'.groups b → d'.members.items ≡ take f d.members.items → d'.is_distinct ≡ (d.is_distinct && b) → drop f s.entries ≡ e ∷ es → PutInOrder d d' s f
 ordered_at d d' s f b n ns e es same good di chain st m t is =
     let ms = d.groups.bytes.items in
-    let gs = d.groups.holes.items in
-    let c = chain_cut (take f d.members.items) (take f s.entries) n e ns es ms gs 0 0 d.out.bytes.items d.out.holes.items s.last same chain in
+    let gs = d.groups.splices.items in
+    let c = chain_cut (take f d.members.items) (take f s.entries) n e ns es ms gs 0 0 d.out.bytes.items d.out.splices.items s.last same chain in
     let seam = c.seam in
-    let own = cut_own (take f d.members.items) (take f s.entries) n e ns es ms gs d.out.bytes.items d.out.holes.items s.last c in
+    let own = cut_own (take f d.members.items) (take f s.entries) n e ns es ms gs d.out.bytes.items d.out.splices.items s.last c in
     let r = st (e ∷ es) s.last own in
     let p = r.0 in
     let x = members_text true (norm_members (entry_members (e ∷ es) s.last)) in
     let here : n.place.bytes ≡ length (c.before ++ gap e.first) = omega (arith, seam.begins) in
     let front : take n.place.bytes d.out.bytes.items ≡ c.before ++ gap e.first = ap₂ take here (seam.bytes ∙ sym (append_assoc c.before (gap e.first) c.behind)) ∙ take-append_seam (c.before ++ gap e.first) c.behind in
-    let holes_front : take n.place.holes d.out.holes.items ≡ c.holes_before = let at : n.place.holes ≡ length c.holes_before = omega (arith, seam.behind) in ap₂ take at seam.holes ∙ take-append_seam c.holes_before c.holes_behind in
+    let splices_front : take n.place.splices d.out.splices.items ≡ c.splices_before = let at : n.place.splices ≡ length c.splices_before = omega (arith, seam.behind) in ap₂ take at seam.splices ∙ take-append_seam c.splices_before c.splices_behind in
     let far : n.place.bytes ≡ (0 + length c.before) + length (gap e.first) = omega (arith, here, length-append c.before (gap e.first)) in
-    let old : Chain (take f d.members.items) (take f s.entries) d'.groups.bytes.items d'.groups.holes.items 0 0 c.before c.holes_before e.text = subst (λ z. Chain (take f d.members.items) (take f s.entries) z d'.groups.holes.items 0 0 c.before c.holes_before e.text) (sym p.groups_bytes) (subst (λ z. Chain (take f d.members.items) (take f s.entries) (ms ++ p.more_bytes) z 0 0 c.before c.holes_before e.text) (sym p.groups_holes) (chain_more (take f d.members.items) (take f s.entries) ms gs 0 0 c.before c.holes_before e.text p.more_bytes p.more_holes c.front)) in
-    let new : Chain (take f d.members.items) (take f s.entries) d'.groups.bytes.items d'.groups.holes.items 0 0 (c.before ++ (gap e.first ++ p.bytes)) (c.holes_before ++ p.holes) (e.text ++ (gap e.first ++ x)) = chain_add (take f d.members.items) (take f s.entries) d'.groups.bytes.items d'.groups.holes.items 0 0 (0 + length c.before) c.before (gap e.first ++ p.bytes) c.holes_before p.holes e.text (gap e.first ++ x) old refl (holds_behind d'.groups.bytes.items d'.groups.holes.items (0 + length c.before) n.place.bytes (gap e.first) p.bytes p.holes x far p.text) in
+    let old : Chain (take f d.members.items) (take f s.entries) d'.groups.bytes.items d'.groups.splices.items 0 0 c.before c.splices_before e.text = subst (λ z. Chain (take f d.members.items) (take f s.entries) z d'.groups.splices.items 0 0 c.before c.splices_before e.text) (sym p.groups_bytes) (subst (λ z. Chain (take f d.members.items) (take f s.entries) (ms ++ p.more_bytes) z 0 0 c.before c.splices_before e.text) (sym p.groups_splices) (chain_more (take f d.members.items) (take f s.entries) ms gs 0 0 c.before c.splices_before e.text p.more_bytes p.more_splices c.front)) in
+    let new : Chain (take f d.members.items) (take f s.entries) d'.groups.bytes.items d'.groups.splices.items 0 0 (c.before ++ (gap e.first ++ p.bytes)) (c.splices_before ++ p.splices) (e.text ++ (gap e.first ++ x)) = chain_add (take f d.members.items) (take f s.entries) d'.groups.bytes.items d'.groups.splices.items 0 0 (0 + length c.before) c.before (gap e.first ++ p.bytes) c.splices_before p.splices e.text (gap e.first ++ x) old refl (holds_behind d'.groups.bytes.items d'.groups.splices.items (0 + length c.before) n.place.bytes (gap e.first) p.bytes p.splices x far p.text) in
     let out_bytes : d'.out.bytes.items ≡ c.before ++ (gap e.first ++ p.bytes) = p.is_bytes ∙ ap (λ z. z ++ p.bytes) front ∙ append_assoc c.before (gap e.first) p.bytes in
-    let out_holes : d'.out.holes.items ≡ c.holes_before ++ p.holes = p.is_holes ∙ ap (λ z. z ++ p.holes) holes_front in
+    let out_splices : d'.out.splices.items ≡ c.splices_before ++ p.splices = p.is_splices ∙ ap (λ z. z ++ p.splices) splices_front in
     record {
       state = record { entries = take f s.entries; last = e.text ++ (gap e.first ++ x); opened = d'.opened.items; first = s.first; distinct = s.distinct && once_each (entry_members (e ∷ es) s.last) };
       holding = record {
-        chain = rw (m, out_bytes, out_holes) new;
+        chain = rw (m, out_bytes, out_splices) new;
         good = p.good good;
         opened = refl;
         distinct = t ∙ ap₂ (λ (y z : Bool). y && z) di r.1;
@@ -173,17 +173,17 @@ holding_sorted d d' s f b ns l e some st m t r = go ns (drop f s.entries) e refl
     go : (ns : List Member) (es : List Entry) → ns ≡ drop f d.members.items → drop f s.entries ≡ es → 0 < length ns → SortsMembers ns d.out d'.out d.groups d'.groups b → PutInOrder d d' s f
     go [] es e h some st = absurd (omega (arith, some))
     go (n ∷ ns) [] e h some st =
-        let same = chain_lengths d.members.items s.entries d.groups.bytes.items d.groups.holes.items 0 0 d.out.bytes.items d.out.holes.items s.last r.chain in
+        let same = chain_lengths d.members.items s.entries d.groups.bytes.items d.groups.splices.items 0 0 d.out.bytes.items d.out.splices.items s.last r.chain in
         absurd (omega (arith, ap length e, length-drop f d.members.items, ap length h, length-drop f s.entries, same))
     go (n ∷ ns) (x ∷ es) e h some st =
-        ordered_at d d' s f b n ns x es (as_many d d.out.bytes.items s f r l) r.good r.distinct (subst (λ z. Chain (take f d.members.items ++ z) (take f s.entries ++ x ∷ es) d.groups.bytes.items d.groups.holes.items 0 0 d.out.bytes.items d.out.holes.items s.last) (sym e) (subst (λ z. Chain (take f d.members.items ++ drop f d.members.items) (take f s.entries ++ z) d.groups.bytes.items d.groups.holes.items 0 0 d.out.bytes.items d.out.holes.items s.last) h (parted d d.out.bytes.items s f r))) st m t h
+        ordered_at d d' s f b n ns x es (as_many d d.out.bytes.items s f r l) r.good r.distinct (subst (λ z. Chain (take f d.members.items ++ z) (take f s.entries ++ x ∷ es) d.groups.bytes.items d.groups.splices.items 0 0 d.out.bytes.items d.out.splices.items s.last) (sym e) (subst (λ z. Chain (take f d.members.items ++ drop f d.members.items) (take f s.entries ++ z) d.groups.bytes.items d.groups.splices.items 0 0 d.out.bytes.items d.out.splices.items s.last) h (parted d d.out.bytes.items s f r))) st m t h
 
 -- ---- calls
 
 pub too_few : (d : Draft) (bs : List ℕ) (s : State) (os : List ℕ) (before : ℕ) → Holding d bs s → d.opened.items ≡ os ++ before ∷ [] → length d.members.items < before → (ps : List ℕ) (f : ℕ) → s.opened ≡ ps ++ f ∷ [] → f ≤ length s.entries → ⊥
 too_few d bs s os before r e l ps f h i =
     let same = snoc_same os ps before f (sym e ∙ r.opened ∙ h) in
-    let many = chain_lengths d.members.items s.entries d.groups.bytes.items d.groups.holes.items 0 0 bs d.out.holes.items s.last r.chain in
+    let many = chain_lengths d.members.items s.entries d.groups.bytes.items d.groups.splices.items 0 0 bs d.out.splices.items s.last r.chain in
     omega (arith, l, i, same.1, many)
 
 pub behind : (xs ys : List Member) (f : ℕ) → ys ≡ xs → take (length ys - f) (drop f ys) ≡ drop f xs
@@ -201,10 +201,10 @@ front_adds lexed.MapStart scratch s s' n h = absurd (n refl)
 
 -- ---- the end of a text
 
-pub holds_whole : (d : Draft) (s : State) → Holding d d.out.bytes.items s → s.entries ≡ [] → Holds d.groups.bytes.items d.groups.holes.items 0 d.out.bytes.items d.out.holes.items s.last
+pub holds_whole : (d : Draft) (s : State) → Holding d d.out.bytes.items s → s.entries ≡ [] → Holds d.groups.bytes.items d.groups.splices.items 0 d.out.bytes.items d.out.splices.items s.last
 holds_whole d s r e = go d.members.items s.entries e r.chain
   where
-    go : (ns : List Member) (es : List Entry) → es ≡ [] → Chain ns es d.groups.bytes.items d.groups.holes.items 0 0 d.out.bytes.items d.out.holes.items s.last → Holds d.groups.bytes.items d.groups.holes.items 0 d.out.bytes.items d.out.holes.items s.last
+    go : (ns : List Member) (es : List Entry) → es ≡ [] → Chain ns es d.groups.bytes.items d.groups.splices.items 0 0 d.out.bytes.items d.out.splices.items s.last → Holds d.groups.bytes.items d.groups.splices.items 0 d.out.bytes.items d.out.splices.items s.last
     go [] [] e c = c
     go (n ∷ ns) [] e c = absurd c
     go ns (x ∷ es) e c = absurd (omega (arith, ap length e))

@@ -1,5 +1,5 @@
 -- `sort_members` puts the members of an object in the order of their names, each name once. `put_members` has the
--- members put so far as its invariant (`CollectorMeaning`), and `put_back` has two cases: a short text or a hole.
+-- members put so far as its invariant (`CollectorMeaning`), and `put_back` has two cases: a short text or a splice.
 use Rattle.std.proofs.Common.{◌≡◌, ◌≤◌, ◌<◌, ◌+◌, ℕ, suc, Bool, true, false, nat_eq, List, [], ◌∷◌, ◌++◌, map, length, take, drop, get_or, refl, sym, ap, ap₂, subst, ◌∙◌, append_assoc, append-nil, arith, length-append, IsSortedByKey}
 use Rattle.std.specs.List.{range_with_len}
 use Rattle.std.proofs.Math.Seq.{take-append_seam}
@@ -8,58 +8,58 @@ use Rattle.miniserde_model.specs.Tree.{Tree}
 use Rattle.miniserde_model.specs.Normal.{text_cmp, last_of, norm_members}
 use Rattle.miniserde_canonical.specs.declared.spread.Place.{Place}
 use Rattle.miniserde_canonical.specs.declared.spread.Span.{Span}
-use Rattle.miniserde_canonical.specs.declared.spread.Hole.{Hole}
+use Rattle.miniserde_canonical.specs.declared.spread.Splice.{Splice}
 use Rattle.miniserde_canonical.specs.declared.spread.Spread.{Spread}
 use Rattle.miniserde_canonical.specs.declared.member.Member.{Member}
-use Rattle.miniserde_canonical.specs.private.Spreads.{Within, bytes_in, holes_in, shifted_hole, Holds, none, Ordered, AllBefore}
+use Rattle.miniserde_canonical.specs.private.Spreads.{Within, bytes_in, splices_in, shifted_splice, Holds, none, Ordered, AllBefore}
 use Rattle.miniserde_canonical.specs.private.Waiting.{SpanHolds}
 use Rattle.miniserde_canonical.specs.private.Members.{name_in, begin_of, end_of, members_at, begins_with_name, without_repeats}
 use Rattle.miniserde_canonical.specs.private.Arranging.{gap, Entry, entry_members, members_text, count}
 use Rattle.miniserde_canonical.specs.private.Sorting.{Own, text_at, text_tree_at, Gains, PutsMember, PutsMembers, PutAt, PutsBack, SortsMembers}
-use Rattle.miniserde_canonical.proofs.Spreads.{between_end, between_none, holds_plain, plain_text, holds_append, holds_behind, holds_moved, group_holds, hole_holds, all_more, all_append, all_take, all_between, all_moved, ordered_gains}
+use Rattle.miniserde_canonical.proofs.Spreads.{between_end, between_none, holds_plain, plain_text, holds_append, holds_behind, holds_moved, group_holds, splice_holds, all_more, all_append, all_take, all_between, all_moved, ordered_gains}
 use Rattle.miniserde_canonical.proofs.MemberLists.{kept_skip, kept_take, kept_normal, ended_count}
 use Rattle.miniserde_canonical.proofs.Owning.{HoldsBetween, own_span, own_agrees}
 
 -- ---- one member
 
-pub gains_member : (groups mid groups' out : Spread) (ns : List Member) (i : ℕ) (end : Place) (p : Span) (f : Bool) → mid.bytes.items ≡ groups.bytes.items ++ gap f → mid.holes.items ≡ groups.holes.items → end.bytes ≡ length out.bytes.items → end.holes ≡ length out.holes.items → p.from ≡ begin_of (drop i ns) end → p.to ≡ end_of (drop i ns) end → (Within p out.bytes.items out.holes.items → groups'.bytes.items ≡ mid.bytes.items ++ bytes_in p out.bytes.items) → (Within p out.bytes.items out.holes.items → groups'.holes.items ≡ mid.holes.items ++ map (shifted_hole p.from.bytes (length mid.bytes.items)) (holes_in p out.holes.items)) → PutsMember ns i f out groups groups'
+pub gains_member : (groups mid groups' out : Spread) (ns : List Member) (i : ℕ) (end : Place) (p : Span) (f : Bool) → mid.bytes.items ≡ groups.bytes.items ++ gap f → mid.splices.items ≡ groups.splices.items → end.bytes ≡ length out.bytes.items → end.splices ≡ length out.splices.items → p.from ≡ begin_of (drop i ns) end → p.to ≡ end_of (drop i ns) end → (Within p out.bytes.items out.splices.items → groups'.bytes.items ≡ mid.bytes.items ++ bytes_in p out.bytes.items) → (Within p out.bytes.items out.splices.items → groups'.splices.items ≡ mid.splices.items ++ map (shifted_splice p.from.bytes (length mid.bytes.items)) (splices_in p out.splices.items)) → PutsMember ns i f out groups groups'
 gains_member groups mid groups' out ns i end p f e g u v a b j k = λ es last ms gs own.
-    let hs = out.holes.items in
+    let hs = out.splices.items in
     let x = text_at (drop i es) last in
     let s : HoldsBetween ms gs out.bytes.items hs p.from p.to x = subst (λ z. HoldsBetween ms gs out.bytes.items hs z p.to x) (sym a) (subst (λ z. HoldsBetween ms gs out.bytes.items hs (begin_of (drop i ns) end) z x) (sym b) (own_span i ns es ms gs out.bytes.items hs last end u v own)) in
     let to = length mid.bytes.items in
     let far : to ≡ length groups.bytes.items + length (gap f) = ap length e ∙ length-append groups.bytes.items (gap f) in
-    let inner = map (shifted_hole p.from.bytes to) (holes_in p hs) in
+    let inner = map (shifted_splice p.from.bytes to) (splices_in p hs) in
     record {
       bytes = gap f ++ bytes_in p out.bytes.items;
-      holes = inner;
+      splices = inner;
       more_bytes = j s.0 ∙ ap (λ z. z ++ bytes_in p out.bytes.items) e ∙ append_assoc groups.bytes.items (gap f) (bytes_in p out.bytes.items);
-      more_holes = k s.0 ∙ ap (λ z. z ++ inner) g;
+      more_splices = k s.0 ∙ ap (λ z. z ++ inner) g;
       text = holds_behind ms gs (length groups.bytes.items) to (gap f) (bytes_in p out.bytes.items) inner x far (holds_moved p.from.bytes to to (omega arith) (omega arith) s.1);
-      all_before = λ n h. all_moved n p.from.bytes to (holes_in p hs) (all_between n p.from.holes p.to.holes hs h);
+      all_before = λ n h. all_moved n p.from.bytes to (splices_in p hs) (all_between n p.from.splices p.to.splices hs h);
     }
 
-gains_none : (ms : List ℕ) (gs hs : List Hole) (groups : Spread) → Gains ms gs hs groups groups []
-gains_none ms gs hs groups = record { bytes = []; holes = []; more_bytes = sym (append-nil groups.bytes.items); more_holes = sym (append-nil groups.holes.items); text = none; all_before = λ n h. tt }
+gains_none : (ms : List ℕ) (gs hs : List Splice) (groups : Spread) → Gains ms gs hs groups groups []
+gains_none ms gs hs groups = record { bytes = []; splices = []; more_bytes = sym (append-nil groups.bytes.items); more_splices = sym (append-nil groups.splices.items); text = none; all_before = λ n h. tt }
 
-gains_append : (ms : List ℕ) (gs hs : List Hole) (a b c : Spread) (x y : List ℕ) → Gains ms gs hs a b x → Gains ms gs hs b c y → Gains ms gs hs a c (x ++ y)
+gains_append : (ms : List ℕ) (gs hs : List Splice) (a b c : Spread) (x y : List ℕ) → Gains ms gs hs a b x → Gains ms gs hs b c y → Gains ms gs hs a c (x ++ y)
 gains_append ms gs hs a b c x y p q = record {
   bytes = p.bytes ++ q.bytes;
-  holes = p.holes ++ q.holes;
+  splices = p.splices ++ q.splices;
   more_bytes = q.more_bytes ∙ ap (λ z. z ++ q.bytes) p.more_bytes ∙ append_assoc a.bytes.items p.bytes q.bytes;
-  more_holes = q.more_holes ∙ ap (λ z. z ++ q.holes) p.more_holes ∙ append_assoc a.holes.items p.holes q.holes;
-  text = holds_append (length b.bytes.items) q.bytes q.holes y p.text (ap length p.more_bytes ∙ length-append a.bytes.items p.bytes) q.text;
-  all_before = λ n h. all_append n p.holes q.holes (p.all_before n h) (q.all_before n h);
+  more_splices = q.more_splices ∙ ap (λ z. z ++ q.splices) p.more_splices ∙ append_assoc a.splices.items p.splices q.splices;
+  text = holds_append (length b.bytes.items) q.bytes q.splices y p.text (ap length p.more_bytes ∙ length-append a.bytes.items p.bytes) q.text;
+  all_before = λ n h. all_append n p.splices q.splices (p.all_before n h) (q.all_before n h);
 }
 
 -- ---- all members
 
 -- behind k members of the order, of which some were put
 abbrev pub CollectorMeaning : List Member → List ℕ → Spread → Spread → Spread → ℕ → ℕ → Type 0
-CollectorMeaning ns order out groups groups' k n = (es : List Entry) (last ms : List ℕ) (gs : List Hole) → Own ns es ms gs out.bytes.items out.holes.items last → (x : List ℕ) × Gains ms gs out.holes.items groups groups' x × (x ++ members_text (nat_eq n 0) (without_repeats (members_at ns (text_tree_at es last) (drop k order))) ≡ members_text true (without_repeats (members_at ns (text_tree_at es last) order))) × (n + count (without_repeats (members_at ns (text_tree_at es last) (drop k order))) ≡ count (without_repeats (members_at ns (text_tree_at es last) order)))
+CollectorMeaning ns order out groups groups' k n = (es : List Entry) (last ms : List ℕ) (gs : List Splice) → Own ns es ms gs out.bytes.items out.splices.items last → (x : List ℕ) × Gains ms gs out.splices.items groups groups' x × (x ++ members_text (nat_eq n 0) (without_repeats (members_at ns (text_tree_at es last) (drop k order))) ≡ members_text true (without_repeats (members_at ns (text_tree_at es last) order))) × (n + count (without_repeats (members_at ns (text_tree_at es last) (drop k order))) ≡ count (without_repeats (members_at ns (text_tree_at es last) order)))
 
 pub gather_begin : (ns : List Member) (order : List ℕ) (out groups : Spread) → CollectorMeaning ns order out groups groups 0 0
-gather_begin ns order out groups = λ es last ms gs own. ([], gains_none ms gs out.holes.items groups, refl, omega arith)
+gather_begin ns order out groups = λ es last ms gs own. ([], gains_none ms gs out.splices.items groups, refl, omega arith)
 
 pub gather_skip : (ns : List Member) (order : List ℕ) (out groups groups' : Spread) (k n d : ℕ) → k < length order → ((r : ℕ → Tree) → begins_with_name (name_in ns (get_or order k d)) (members_at ns r (drop (k + 1) order)) ≡ true) → CollectorMeaning ns order out groups groups' k n → CollectorMeaning ns order out groups groups' (k + 1) n
 gather_skip ns order out groups groups' k n d l h g = λ es last ms gs own.
@@ -80,7 +80,7 @@ gather_take ns order out groups mid groups' k n d l h p g = λ es last ms gs own
     let text : t.0 ++ (gap (nat_eq n 0) ++ (y ++ members_text false rest)) ≡ members_text true (without_repeats (members_at ns r order)) = ap (λ z. t.0 ++ members_text (nat_eq n 0) z) (sym same) ∙ t.2 in
     let number : n + suc (count rest) ≡ count (without_repeats (members_at ns r order)) = ap (λ z. n + count z) (sym same) ∙ t.3 in (
       t.0 ++ (gap (nat_eq n 0) ++ y),
-      gains_append ms gs out.holes.items groups mid groups' t.0 (gap (nat_eq n 0) ++ y) t.1 (p es last ms gs own),
+      gains_append ms gs out.splices.items groups mid groups' t.0 (gap (nat_eq n 0) ++ y) t.1 (p es last ms gs own),
       ap (λ z. (t.0 ++ (gap (nat_eq n 0) ++ y)) ++ members_text z rest) more ∙ rejoin t.0 (gap (nat_eq n 0)) y (members_text false rest) ∙ text,
       omega (arith, number),
     )
@@ -96,92 +96,92 @@ gather_end ns order out groups groups' k n e g = λ es last ms gs own.
     let t = g es last ms gs own in
     let r = text_tree_at es last in
     let text : t.0 ≡ members_text true (without_repeats (members_at ns r order)) = sym (ap (λ z. t.0 ++ members_text (nat_eq n 0) (without_repeats (members_at ns r z))) e ∙ append-nil t.0) ∙ t.2 in
-    (subst (λ z. Gains ms gs out.holes.items groups groups' z) text t.1, omega (arith, t.3, ap (λ z. count (without_repeats (members_at ns r z))) e))
+    (subst (λ z. Gains ms gs out.splices.items groups groups' z) text t.1, omega (arith, t.3, ap (λ z. count (without_repeats (members_at ns r z))) e))
 
--- ---- the text comes back, or a hole stays
+-- ---- the text comes back, or a splice stays
 
-no_length : (h : List Hole) → length h ≡ 0 → h ≡ []
+no_length : (h : List Splice) → length h ≡ 0 → h ≡ []
 no_length [] e = refl
 no_length (p ∷ h) e = absurd (omega (arith, e))
 
-pub back_short : (place from to : Place) (p : Span) (out mid out' groups groups' : Spread) → p ≡ record { from = from; to = to } → mid.bytes.items ≡ take place.bytes out.bytes.items → mid.holes.items ≡ take place.holes out.holes.items → to.bytes ≡ length groups.bytes.items → to.holes ≡ length groups.holes.items → to.holes ≡ from.holes → (Within p groups.bytes.items groups.holes.items → out'.bytes.items ≡ mid.bytes.items ++ bytes_in p groups.bytes.items) → (Within p groups.bytes.items groups.holes.items → out'.holes.items ≡ mid.holes.items ++ map (shifted_hole p.from.bytes (length mid.bytes.items)) (holes_in p groups.holes.items)) → groups'.bytes.items ≡ take from.bytes groups.bytes.items → groups'.holes.items ≡ take from.holes groups.holes.items → PutsBack place from out out' groups groups'
-back_short place from to p out mid out' groups groups' i e f tb th none_there ob oh gb gh = λ ms b gs h x bytes holes fb fk l u a.
+pub back_short : (place from to : Place) (p : Span) (out mid out' groups groups' : Spread) → p ≡ record { from = from; to = to } → mid.bytes.items ≡ take place.bytes out.bytes.items → mid.splices.items ≡ take place.splices out.splices.items → to.bytes ≡ length groups.bytes.items → to.splices ≡ length groups.splices.items → to.splices ≡ from.splices → (Within p groups.bytes.items groups.splices.items → out'.bytes.items ≡ mid.bytes.items ++ bytes_in p groups.bytes.items) → (Within p groups.bytes.items groups.splices.items → out'.splices.items ≡ mid.splices.items ++ map (shifted_splice p.from.bytes (length mid.bytes.items)) (splices_in p groups.splices.items)) → groups'.bytes.items ≡ take from.bytes groups.bytes.items → groups'.splices.items ≡ take from.splices groups.splices.items → PutsBack place from out out' groups groups'
+back_short place from to p out mid out' groups groups' i e f tb th none_there ob oh gb gh = λ ms b gs h x bytes splices fb fk l u a.
     let q : Span = record { from = from; to = to } in
     let long = ap length bytes ∙ length-append ms b in
-    let many = ap length holes ∙ length-append gs h in
-    let w : Within q groups.bytes.items groups.holes.items = (omega (arith, fb, tb, long), omega (arith, tb), omega (arith, fk, th, many), omega (arith, th)) in
-    let v : Within p groups.bytes.items groups.holes.items = subst (λ z. Within z groups.bytes.items groups.holes.items) (sym i) w in
+    let many = ap length splices ∙ length-append gs h in
+    let w : Within q groups.bytes.items groups.splices.items = (omega (arith, fb, tb, long), omega (arith, tb), omega (arith, fk, th, many), omega (arith, th)) in
+    let v : Within p groups.bytes.items groups.splices.items = subst (λ z. Within z groups.bytes.items groups.splices.items) (sym i) w in
     let empty : h ≡ [] = no_length h (omega (arith, fk, th, many, none_there)) in
     let same : x ≡ b = plain_text (subst (λ z. Holds ms gs (length ms) b z x) empty u) in
     let is : bytes_in p groups.bytes.items ≡ b = ap (λ z. bytes_in z groups.bytes.items) i ∙ between_end from.bytes to.bytes groups.bytes.items ms b bytes fb tb in
-    let no_hole : holes_in p groups.holes.items ≡ [] = ap (λ z. holes_in z groups.holes.items) i ∙ between_none from.holes to.holes groups.holes.items (omega (arith, none_there)) in
-    let out_holes : out'.holes.items ≡ take place.holes out.holes.items ++ [] = oh v ∙ ap₂ (λ (y z : List Hole). y ++ map (shifted_hole p.from.bytes (length mid.bytes.items)) z) f no_hole in
+    let no_splice : splices_in p groups.splices.items ≡ [] = ap (λ z. splices_in z groups.splices.items) i ∙ between_none from.splices to.splices groups.splices.items (omega (arith, none_there)) in
+    let out_splices : out'.splices.items ≡ take place.splices out.splices.items ++ [] = oh v ∙ ap₂ (λ (y z : List Splice). y ++ map (shifted_splice p.from.bytes (length mid.bytes.items)) z) f no_splice in
     let groups_bytes : groups'.bytes.items ≡ ms = gb ∙ ap₂ take fb bytes ∙ take-append_seam ms b in
-    let groups_holes : groups'.holes.items ≡ gs = gh ∙ ap₂ take fk holes ∙ take-append_seam gs h in
+    let groups_splices : groups'.splices.items ≡ gs = gh ∙ ap₂ take fk splices ∙ take-append_seam gs h in
     record {
       bytes = b;
-      holes = [];
+      splices = [];
       more_bytes = [];
-      more_holes = [];
+      more_splices = [];
       is_bytes = ob v ∙ ap₂ (λ (y z : List ℕ). y ++ z) e is;
-      is_holes = out_holes;
+      is_splices = out_splices;
       groups_bytes = groups_bytes ∙ sym (append-nil ms);
-      groups_holes = groups_holes ∙ sym (append-nil gs);
-      text = subst (λ z. Holds groups'.bytes.items groups'.holes.items place.bytes b [] z) (sym same) (holds_plain groups'.bytes.items groups'.holes.items place.bytes b);
+      groups_splices = groups_splices ∙ sym (append-nil gs);
+      text = subst (λ z. Holds groups'.bytes.items groups'.splices.items place.bytes b [] z) (sym same) (holds_plain groups'.bytes.items groups'.splices.items place.bytes b);
       good = λ g. (
-        subst (λ z. Ordered 0 z) (sym groups_holes) g.0,
-        subst (λ z. AllBefore (length z) out'.holes.items) (sym groups_holes) (subst (λ z. AllBefore (length gs) z) (sym (out_holes ∙ append-nil _)) (all_take (length gs) place.holes out.holes.items g.1)),
+        subst (λ z. Ordered 0 z) (sym groups_splices) g.0,
+        subst (λ z. AllBefore (length z) out'.splices.items) (sym groups_splices) (subst (λ z. AllBefore (length gs) z) (sym (out_splices ∙ append-nil _)) (all_take (length gs) place.splices out.splices.items g.1)),
       );
     }
 
-pub back_hole : (place from to : Place) (k : Hole) (out mid out' groups : Spread) → k ≡ record { at = place.bytes; group = record { from = from; to = to } } → mid.bytes.items ≡ take place.bytes out.bytes.items → mid.holes.items ≡ take place.holes out.holes.items → to.bytes ≡ length groups.bytes.items → to.holes ≡ length groups.holes.items → out'.bytes.items ≡ mid.bytes.items → out'.holes.items ≡ mid.holes.items ++ k ∷ [] → PutsBack place from out out' groups groups
-back_hole place from to k out mid out' groups i e f tb th ob oh = λ ms b gs h x bytes holes fb fk l u a.
+pub back_splice : (place from to : Place) (k : Splice) (out mid out' groups : Spread) → k ≡ record { at = place.bytes; group = record { from = from; to = to } } → mid.bytes.items ≡ take place.bytes out.bytes.items → mid.splices.items ≡ take place.splices out.splices.items → to.bytes ≡ length groups.bytes.items → to.splices ≡ length groups.splices.items → out'.bytes.items ≡ mid.bytes.items → out'.splices.items ≡ mid.splices.items ++ k ∷ [] → PutsBack place from out out' groups groups
+back_splice place from to k out mid out' groups i e f tb th ob oh = λ ms b gs h x bytes splices fb fk l u a.
     let p : Span = record { from = from; to = to } in
-    let hole : Hole = record { at = place.bytes; group = p } in
-    let put : SpanHolds (ms ++ b) (gs ++ h) p x = group_holds ms b gs h x p fb fk (tb ∙ ap length bytes) (th ∙ ap length holes) u in
-    let held : SpanHolds groups.bytes.items groups.holes.items p x = subst (λ z. SpanHolds z groups.holes.items p x) (sym bytes) (subst (λ z. SpanHolds (ms ++ b) z p x) (sym holes) put) in
-    let out_holes : out'.holes.items ≡ take place.holes out.holes.items ++ hole ∷ [] = oh ∙ ap₂ (λ (y : List Hole) (z : Hole). y ++ z ∷ []) f i in
-    let many = ap length holes ∙ length-append gs h in
+    let splice : Splice = record { at = place.bytes; group = p } in
+    let put : SpanHolds (ms ++ b) (gs ++ h) p x = group_holds ms b gs h x p fb fk (tb ∙ ap length bytes) (th ∙ ap length splices) u in
+    let held : SpanHolds groups.bytes.items groups.splices.items p x = subst (λ z. SpanHolds z groups.splices.items p x) (sym bytes) (subst (λ z. SpanHolds (ms ++ b) z p x) (sym splices) put) in
+    let out_splices : out'.splices.items ≡ take place.splices out.splices.items ++ splice ∷ [] = oh ∙ ap₂ (λ (y : List Splice) (z : Splice). y ++ z ∷ []) f i in
+    let many = ap length splices ∙ length-append gs h in
     record {
       bytes = [];
-      holes = hole ∷ [];
+      splices = splice ∷ [];
       more_bytes = b;
-      more_holes = h;
+      more_splices = h;
       is_bytes = ob ∙ e ∙ sym (append-nil _);
-      is_holes = out_holes;
+      is_splices = out_splices;
       groups_bytes = bytes;
-      groups_holes = holes;
-      text = hole_holds groups.bytes.items groups.holes.items place.bytes hole x refl held;
+      groups_splices = splices;
+      text = splice_holds groups.bytes.items groups.splices.items place.bytes splice x refl held;
       good = λ g. (
-        subst (λ z. Ordered 0 z) (sym holes) (ordered_gains gs h g.0 (a g.1)),
-        subst (λ z. AllBefore (length groups.holes.items) z) (sym out_holes) (all_append (length groups.holes.items) (take place.holes out.holes.items) (hole ∷ []) (all_more (length gs) (length groups.holes.items) _ (omega (arith, many)) (all_take (length gs) place.holes out.holes.items g.1)) (omega (arith, th), tt)),
+        subst (λ z. Ordered 0 z) (sym splices) (ordered_gains gs h g.0 (a g.1)),
+        subst (λ z. AllBefore (length groups.splices.items) z) (sym out_splices) (all_append (length groups.splices.items) (take place.splices out.splices.items) (splice ∷ []) (all_more (length gs) (length groups.splices.items) _ (omega (arith, many)) (all_take (length gs) place.splices out.splices.items g.1)) (omega (arith, th), tt)),
       );
     }
 
 -- ---- an object
 
-first_place : (ns : List Member) (d : Member) → 0 < length ns → (get_or ns 0 d).place ≡ begin_of ns (record { bytes = 0; holes = 0 })
+first_place : (ns : List Member) (d : Member) → 0 < length ns → (get_or ns 0 d).place ≡ begin_of ns (record { bytes = 0; splices = 0 })
 first_place [] d l = absurd (omega (arith, l))
 first_place (n ∷ ns) d l = refl
 
-own_within : (ns : List Member) (es : List Entry) (ms : List ℕ) (gs : List Hole) (bs : List ℕ) (hs : List Hole) (last : List ℕ) → Own ns es ms gs bs hs last → (begin_of ns (record { bytes = 0; holes = 0 })).bytes ≤ length bs
+own_within : (ns : List Member) (es : List Entry) (ms : List ℕ) (gs : List Splice) (bs : List ℕ) (hs : List Splice) (last : List ℕ) → Own ns es ms gs bs hs last → (begin_of ns (record { bytes = 0; splices = 0 })).bytes ≤ length bs
 own_within [] [] ms gs bs hs last o = omega arith
 own_within (n ∷ ns) (e ∷ es) ms gs bs hs last o = omega (arith, o.begins, ap length o.bytes, length-append o.front o.inside)
 own_within [] (e ∷ es) ms gs bs hs last o = absurd o
 own_within (n ∷ ns) [] ms gs bs hs last o = absurd o
 
-pub settled : (ns : List Member) (d : Member) (place from : Place) (old new order : List ℕ) (out out' groups mid groups' : Spread) (n : ℕ) → 0 < length ns → place ≡ (get_or ns 0 d).place → old ≡ range_with_len 0 (length ns) → IsSortedByKey (name_in ns) text_cmp new → ((r : ℕ → Tree) (q : List ℕ) → last_of q (members_at ns r new) ≡ last_of q (members_at ns r old)) → order ≡ new → from.bytes ≡ length groups.bytes.items → from.holes ≡ length groups.holes.items → PutsMembers ns order out groups mid n → PutsBack place from out out' mid groups' → SortsMembers ns out out' groups groups' (nat_eq n (length ns))
+pub settled : (ns : List Member) (d : Member) (place from : Place) (old new order : List ℕ) (out out' groups mid groups' : Spread) (n : ℕ) → 0 < length ns → place ≡ (get_or ns 0 d).place → old ≡ range_with_len 0 (length ns) → IsSortedByKey (name_in ns) text_cmp new → ((r : ℕ → Tree) (q : List ℕ) → last_of q (members_at ns r new) ≡ last_of q (members_at ns r old)) → order ≡ new → from.bytes ≡ length groups.bytes.items → from.splices ≡ length groups.splices.items → PutsMembers ns order out groups mid n → PutsBack place from out out' mid groups' → SortsMembers ns out out' groups groups' (nat_eq n (length ns))
 settled ns d place from old new order out out' groups mid groups' n some at e s h o fb fk g p = λ es last own.
     let ms = groups.bytes.items in
-    let gs = groups.holes.items in
-    let agree = own_agrees ns es ms gs out.bytes.items out.holes.items last own in
+    let gs = groups.splices.items in
+    let agree = own_agrees ns es ms gs out.bytes.items out.splices.items last own in
     let t = g es last ms gs own in
     let r = text_tree_at es last in
     let sorted : without_repeats (members_at ns r order) ≡ norm_members (entry_members es last) = ap (λ z. without_repeats (members_at ns r z)) o ∙ kept_normal ns es last old new agree e s h in
     let gains = t.0 in
-    let here : place ≡ begin_of ns (record { bytes = 0; holes = 0 }) = at ∙ first_place ns d some in
-    let within : place.bytes ≤ length out.bytes.items = subst (λ z. z.bytes ≤ length out.bytes.items) (sym here) (own_within ns es ms gs out.bytes.items out.holes.items last own) in
-    let back = p ms gains.bytes gs gains.holes (members_text true (without_repeats (members_at ns r order))) gains.more_bytes gains.more_holes fb fk within gains.text (gains.all_before (length gs)) in (
-      subst (λ z. PutAt (begin_of ns (record { bytes = 0; holes = 0 })) ms gs out out' groups' (members_text true z)) sorted (subst (λ z. PutAt z ms gs out out' groups' (members_text true (without_repeats (members_at ns r order)))) here back),
+    let here : place ≡ begin_of ns (record { bytes = 0; splices = 0 }) = at ∙ first_place ns d some in
+    let within : place.bytes ≤ length out.bytes.items = subst (λ z. z.bytes ≤ length out.bytes.items) (sym here) (own_within ns es ms gs out.bytes.items out.splices.items last own) in
+    let back = p ms gains.bytes gs gains.splices (members_text true (without_repeats (members_at ns r order))) gains.more_bytes gains.more_splices fb fk within gains.text (gains.all_before (length gs)) in (
+      subst (λ z. PutAt (begin_of ns (record { bytes = 0; splices = 0 })) ms gs out out' groups' (members_text true z)) sorted (subst (λ z. PutAt z ms gs out out' groups' (members_text true (without_repeats (members_at ns r order)))) here back),
       ap₂ nat_eq (t.1 ∙ ap count sorted) (sym (ended_count ns es last agree)),
     )

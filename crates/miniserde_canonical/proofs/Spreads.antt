@@ -1,11 +1,11 @@
--- A text with holes holds its text also after it is joined with another, moved, or given more groups. By induction
--- over `Holds` (the end, a byte, a hole), and over the list of holes for the order of the groups.
+-- A text with splices holds its text also after it is joined with another, moved, or given more groups. By induction
+-- over `Holds` (the end, a byte, a splice), and over the list of splices for the order of the groups.
 use Rattle.std.proofs.Common.{◌≡◌, ◌≤◌, ◌-◌, ◌+◌, ℕ, zero, suc, List, [], ◌∷◌, ◌++◌, map, length, take, drop, refl, sym, ap, ap₂, subst, ◌∙◌, append_assoc, append-nil, arith, length-append}
 use Rattle.std.proofs.Math.Seq.{take-append_seam, drop-append_seam}
 use Rattle.std.proofs.lemmas.List.{take-append-le, drop-append-le, length-drop, take_all, drop_all}
 use Rattle.miniserde_canonical.specs.declared.spread.Span.{Span}
-use Rattle.miniserde_canonical.specs.declared.spread.Hole.{Hole}
-use Rattle.miniserde_canonical.specs.private.Spreads.{part_between, Within, bytes_in, holes_in, shifted_hole, Holds, none, byte, hole, Ordered, AllBefore}
+use Rattle.miniserde_canonical.specs.declared.spread.Splice.{Splice}
+use Rattle.miniserde_canonical.specs.private.Spreads.{part_between, Within, bytes_in, splices_in, shifted_splice, Holds, none, byte, splice, Ordered, AllBefore}
 use Rattle.miniserde_canonical.specs.private.Waiting.{SpanHolds}
 
 -- ---- between two places
@@ -29,60 +29,60 @@ between_none a b xs h = let none : b - a ≡ 0 = omega (arith, h) in ap (λ n. t
 
 -- ---- texts
 
-pub holds_plain : (ms : List ℕ) (gs : List Hole) (at : ℕ) (x : List ℕ) → Holds ms gs at x [] x
+pub holds_plain : (ms : List ℕ) (gs : List Splice) (at : ℕ) (x : List ℕ) → Holds ms gs at x [] x
 holds_plain ms gs at [] = none
 holds_plain ms gs at (c ∷ x) = byte c (holds_plain ms gs (suc at) x)
 
-pub plain_text : {ms : List ℕ} {gs : List Hole} {at : ℕ} {bs x : List ℕ} → Holds ms gs at bs [] x → x ≡ bs
+pub plain_text : {ms : List ℕ} {gs : List Splice} {at : ℕ} {bs x : List ℕ} → Holds ms gs at bs [] x → x ≡ bs
 plain_text none = refl
 plain_text (byte c u) = ap (λ z. c ∷ z) (plain_text u)
 
-pub holds_append : {ms : List ℕ} {gs : List Hole} {at : ℕ} {bs : List ℕ} {hs : List Hole} {x : List ℕ} (to : ℕ) (cs : List ℕ) (ks : List Hole) (y : List ℕ) → Holds ms gs at bs hs x → to ≡ at + length bs → Holds ms gs to cs ks y → Holds ms gs at (bs ++ cs) (hs ++ ks) (x ++ y)
+pub holds_append : {ms : List ℕ} {gs : List Splice} {at : ℕ} {bs : List ℕ} {hs : List Splice} {x : List ℕ} (to : ℕ) (cs : List ℕ) (ks : List Splice) (y : List ℕ) → Holds ms gs at bs hs x → to ≡ at + length bs → Holds ms gs to cs ks y → Holds ms gs at (bs ++ cs) (hs ++ ks) (x ++ y)
 holds_append {ms = ms} {gs = gs} {at = at} to cs ks y none e v = let same : to ≡ at = omega (arith, e) in subst (λ z. Holds ms gs z cs ks y) same v
 holds_append {at = at} to cs ks y (byte {bs = bs} c u) e v = byte c (holds_append to cs ks y u (omega (arith, e)) v)
-holds_append {ms = ms} {gs = gs} {at = at} to cs ks y (hole {bs = bs} {hs = hs} {x = x} {y = w} h i p u q) e v =
-    subst (λ z. Holds ms gs at (bs ++ cs) (h ∷ (hs ++ ks)) z) (sym (append_assoc w x y)) (hole h i p u (holds_append to cs ks y q e v))
+holds_append {ms = ms} {gs = gs} {at = at} to cs ks y (splice {bs = bs} {hs = hs} {x = x} {y = w} h i p u q) e v =
+    subst (λ z. Holds ms gs at (bs ++ cs) (h ∷ (hs ++ ks)) z) (sym (append_assoc w x y)) (splice h i p u (holds_append to cs ks y q e v))
 
--- behind some bytes without holes
-pub holds_behind : (ms : List ℕ) (gs : List Hole) (at to : ℕ) (x bs : List ℕ) (hs : List Hole) (y : List ℕ) → to ≡ at + length x → Holds ms gs to bs hs y → Holds ms gs at (x ++ bs) hs (x ++ y)
+-- behind some bytes without splices
+pub holds_behind : (ms : List ℕ) (gs : List Splice) (at to : ℕ) (x bs : List ℕ) (hs : List Splice) (y : List ℕ) → to ≡ at + length x → Holds ms gs to bs hs y → Holds ms gs at (x ++ bs) hs (x ++ y)
 holds_behind ms gs at to x bs hs y e v = holds_append to bs hs y (holds_plain ms gs at x) e v
 
-pub within_more : (p : Span) (ms ns : List ℕ) (gs ks : List Hole) → Within p ms gs → Within p (ms ++ ns) (gs ++ ks)
+pub within_more : (p : Span) (ms ns : List ℕ) (gs ks : List Splice) → Within p ms gs → Within p (ms ++ ns) (gs ++ ks)
 within_more p ms ns gs ks w = (w.0, omega (arith, w.1, length-append ms ns), w.2, omega (arith, w.3, length-append gs ks))
 
-pub holds_more : {ms : List ℕ} {gs : List Hole} {at : ℕ} {bs : List ℕ} {hs : List Hole} {x : List ℕ} (ns : List ℕ) (ks : List Hole) → Holds ms gs at bs hs x → Holds (ms ++ ns) (gs ++ ks) at bs hs x
+pub holds_more : {ms : List ℕ} {gs : List Splice} {at : ℕ} {bs : List ℕ} {hs : List Splice} {x : List ℕ} (ns : List ℕ) (ks : List Splice) → Holds ms gs at bs hs x → Holds (ms ++ ns) (gs ++ ks) at bs hs x
 holds_more ns ks none = none
 holds_more ns ks (byte c u) = byte c (holds_more ns ks u)
-holds_more ns ks (hole {ms = ms} {gs = gs} {y = y} h e w u v) =
+holds_more ns ks (splice {ms = ms} {gs = gs} {y = y} h e w u v) =
     let p = h.group in
-    let one : Holds (ms ++ ns) (gs ++ ks) p.from.bytes (bytes_in p (ms ++ ns)) (holes_in p gs) y = subst (λ z. Holds (ms ++ ns) (gs ++ ks) p.from.bytes z (holes_in p gs) y) (sym (between_more p.from.bytes p.to.bytes ms ns w.0 w.1)) (holds_more ns ks u) in
-    let two : Holds (ms ++ ns) (gs ++ ks) p.from.bytes (bytes_in p (ms ++ ns)) (holes_in p (gs ++ ks)) y = subst (λ z. Holds (ms ++ ns) (gs ++ ks) p.from.bytes (bytes_in p (ms ++ ns)) z y) (sym (between_more p.from.holes p.to.holes gs ks w.2 w.3)) one in
-    hole h e (within_more p ms ns gs ks w) two (holds_more ns ks v)
+    let one : Holds (ms ++ ns) (gs ++ ks) p.from.bytes (bytes_in p (ms ++ ns)) (splices_in p gs) y = subst (λ z. Holds (ms ++ ns) (gs ++ ks) p.from.bytes z (splices_in p gs) y) (sym (between_more p.from.bytes p.to.bytes ms ns w.0 w.1)) (holds_more ns ks u) in
+    let two : Holds (ms ++ ns) (gs ++ ks) p.from.bytes (bytes_in p (ms ++ ns)) (splices_in p (gs ++ ks)) y = subst (λ z. Holds (ms ++ ns) (gs ++ ks) p.from.bytes (bytes_in p (ms ++ ns)) z y) (sym (between_more p.from.splices p.to.splices gs ks w.2 w.3)) one in
+    splice h e (within_more p ms ns gs ks w) two (holds_more ns ks v)
 
 -- the same text where its bytes begin at another index
-pub holds_moved : {ms : List ℕ} {gs : List Hole} {at : ℕ} {bs : List ℕ} {hs : List Hole} {x : List ℕ} (from to here : ℕ) → from ≤ at → here ≡ to + (at - from) → Holds ms gs at bs hs x → Holds ms gs here bs (map (shifted_hole from to) hs) x
+pub holds_moved : {ms : List ℕ} {gs : List Splice} {at : ℕ} {bs : List ℕ} {hs : List Splice} {x : List ℕ} (from to here : ℕ) → from ≤ at → here ≡ to + (at - from) → Holds ms gs at bs hs x → Holds ms gs here bs (map (shifted_splice from to) hs) x
 holds_moved from to here l e none = none
 holds_moved {at = at} from to here l e (byte c u) =
     let next : suc here ≡ to + (suc at - from) = omega (arith, l, e) in
     byte c (holds_moved from to (suc here) (omega (arith, l)) next u)
-holds_moved {at = at} from to here l e (hole h i w u v) =
+holds_moved {at = at} from to here l e (splice h i w u v) =
     let place : to + (h.at - from) ≡ here = ap (λ z. to + (z - from)) i ∙ sym e in
-    hole (shifted_hole from to h) place w u (holds_moved from to here l e v)
+    splice (shifted_splice from to h) place w u (holds_moved from to here l e v)
 
 -- the group of what was put at the end
-pub group_holds : (ms b : List ℕ) (gs h : List Hole) (x : List ℕ) (p : Span) → p.from.bytes ≡ length ms → p.from.holes ≡ length gs → p.to.bytes ≡ length (ms ++ b) → p.to.holes ≡ length (gs ++ h) → Holds ms gs (length ms) b h x → SpanHolds (ms ++ b) (gs ++ h) p x
+pub group_holds : (ms b : List ℕ) (gs h : List Splice) (x : List ℕ) (p : Span) → p.from.bytes ≡ length ms → p.from.splices ≡ length gs → p.to.bytes ≡ length (ms ++ b) → p.to.splices ≡ length (gs ++ h) → Holds ms gs (length ms) b h x → SpanHolds (ms ++ b) (gs ++ h) p x
 group_holds ms b gs h x p e f g i u =
     let one : Holds (ms ++ b) (gs ++ h) p.from.bytes b h x = subst (λ z. Holds (ms ++ b) (gs ++ h) z b h x) (sym e) (holds_more b h u) in
     let two : Holds (ms ++ b) (gs ++ h) p.from.bytes (bytes_in p (ms ++ b)) h x = subst (λ z. Holds (ms ++ b) (gs ++ h) p.from.bytes z h x) (sym (between_end p.from.bytes p.to.bytes (ms ++ b) ms b refl e g)) one in (
       (omega (arith, e, g, length-append ms b), omega (arith, g), omega (arith, f, i, length-append gs h), omega (arith, i)),
-      subst (λ z. Holds (ms ++ b) (gs ++ h) p.from.bytes (bytes_in p (ms ++ b)) z x) (sym (between_end p.from.holes p.to.holes (gs ++ h) gs h refl f i)) two,
+      subst (λ z. Holds (ms ++ b) (gs ++ h) p.from.bytes (bytes_in p (ms ++ b)) z x) (sym (between_end p.from.splices p.to.splices (gs ++ h) gs h refl f i)) two,
     )
 
-pub hole_holds : (ms : List ℕ) (gs : List Hole) (at : ℕ) (h : Hole) (x : List ℕ) → h.at ≡ at → SpanHolds ms gs h.group x → Holds ms gs at [] (h ∷ []) x
-hole_holds ms gs at h x e s = subst (λ z. Holds ms gs at [] (h ∷ []) z) (append-nil x) (hole h e s.0 s.1 none)
+pub splice_holds : (ms : List ℕ) (gs : List Splice) (at : ℕ) (h : Splice) (x : List ℕ) → h.at ≡ at → SpanHolds ms gs h.group x → Holds ms gs at [] (h ∷ []) x
+splice_holds ms gs at h x e s = subst (λ z. Holds ms gs at [] (h ∷ []) z) (append-nil x) (splice h e s.0 s.1 none)
 
--- the first hole of a text
-pub record AtHole (ms : List ℕ) (gs : List Hole) (at : ℕ) (bs : List ℕ) (h : Hole) (hs : List Hole) (x : List ℕ) : Type 0 where
+-- the first splice of a text
+pub record AtHole (ms : List ℕ) (gs : List Splice) (at : ℕ) (bs : List ℕ) (h : Splice) (hs : List Splice) (x : List ℕ) : Type 0 where
   pub before : List ℕ
   pub behind : List ℕ
   pub group : List ℕ
@@ -90,52 +90,52 @@ pub record AtHole (ms : List ℕ) (gs : List Hole) (at : ℕ) (bs : List ℕ) (h
   pub bytes : bs ≡ before ++ behind
   pub place : h.at ≡ at + length before
   pub within : Within h.group ms gs
-  pub inside : Holds ms gs h.group.from.bytes (bytes_in h.group ms) (holes_in h.group gs) group
+  pub inside : Holds ms gs h.group.from.bytes (bytes_in h.group ms) (splices_in h.group gs) group
   pub after : Holds ms gs h.at behind hs rest
   pub text : x ≡ before ++ (group ++ rest)
 
-pub at_hole : {ms : List ℕ} {gs : List Hole} {at : ℕ} {bs : List ℕ} {h : Hole} {hs : List Hole} {x : List ℕ} → Holds ms gs at bs (h ∷ hs) x → AtHole ms gs at bs h hs x
-at_hole {at = at} {h = k} (byte c u) =
-    let r = at_hole u in
+pub at_splice : {ms : List ℕ} {gs : List Splice} {at : ℕ} {bs : List ℕ} {h : Splice} {hs : List Splice} {x : List ℕ} → Holds ms gs at bs (h ∷ hs) x → AtHole ms gs at bs h hs x
+at_splice {at = at} {h = k} (byte c u) =
+    let r = at_splice u in
     record { before = c ∷ r.before; behind = r.behind; group = r.group; rest = r.rest; bytes = ap (λ z. c ∷ z) r.bytes; place = omega (arith, r.place); within = r.within; inside = r.inside; after = r.after; text = ap (λ z. c ∷ z) r.text }
-at_hole {ms = ms} {gs = gs} (hole {bs = bs} {hs = hs} {x = x} {y = y} h e w u v) =
+at_splice {ms = ms} {gs = gs} (splice {bs = bs} {hs = hs} {x = x} {y = y} h e w u v) =
     record { before = []; behind = bs; group = y; rest = x; bytes = refl; place = omega (arith, e); within = w; inside = u; after = subst (λ z. Holds ms gs z bs hs x) (sym e) v; text = refl }
 
 -- ---- groups in order
 
-pub all_more : (n m : ℕ) (hs : List Hole) → n ≤ m → AllBefore n hs → AllBefore m hs
+pub all_more : (n m : ℕ) (hs : List Splice) → n ≤ m → AllBefore n hs → AllBefore m hs
 all_more n m [] h b = tt
 all_more n m (p ∷ hs) h b = (omega (arith, h, b.0), all_more n m hs h b.1)
 
-pub all_append : (n : ℕ) (hs ks : List Hole) → AllBefore n hs → AllBefore n ks → AllBefore n (hs ++ ks)
+pub all_append : (n : ℕ) (hs ks : List Splice) → AllBefore n hs → AllBefore n ks → AllBefore n (hs ++ ks)
 all_append n [] ks h k = k
 all_append n (p ∷ hs) ks h k = (h.0, all_append n hs ks h.1 k)
 
-pub all_take : (n i : ℕ) (hs : List Hole) → AllBefore n hs → AllBefore n (take i hs)
-all_take n i [] h = subst (λ z. AllBefore n z) (sym (take_all {A = Hole} i [] (omega arith))) tt
+pub all_take : (n i : ℕ) (hs : List Splice) → AllBefore n hs → AllBefore n (take i hs)
+all_take n i [] h = subst (λ z. AllBefore n z) (sym (take_all {A = Splice} i [] (omega arith))) tt
 all_take n zero (p ∷ hs) h = tt
 all_take n (suc i) (p ∷ hs) h = (h.0, all_take n i hs h.1)
 
-all_drop : (n i : ℕ) (hs : List Hole) → AllBefore n hs → AllBefore n (drop i hs)
-all_drop n i [] h = subst (λ z. AllBefore n z) (sym (drop_all {X = Hole} i [] (omega arith))) tt
+all_drop : (n i : ℕ) (hs : List Splice) → AllBefore n hs → AllBefore n (drop i hs)
+all_drop n i [] h = subst (λ z. AllBefore n z) (sym (drop_all {X = Splice} i [] (omega arith))) tt
 all_drop n zero (p ∷ hs) h = h
 all_drop n (suc i) (p ∷ hs) h = all_drop n i hs h.1
 
-pub all_between : (n a b : ℕ) (hs : List Hole) → AllBefore n hs → AllBefore n (part_between a b hs)
+pub all_between : (n a b : ℕ) (hs : List Splice) → AllBefore n hs → AllBefore n (part_between a b hs)
 all_between n a b hs h = all_take n (b - a) (drop a hs) (all_drop n a hs h)
 
-pub all_moved : (n from to : ℕ) (hs : List Hole) → AllBefore n hs → AllBefore n (map (shifted_hole from to) hs)
+pub all_moved : (n from to : ℕ) (hs : List Splice) → AllBefore n hs → AllBefore n (map (shifted_splice from to) hs)
 all_moved n from to [] h = tt
 all_moved n from to (p ∷ hs) h = (h.0, all_moved n from to hs h.1)
 
-ordered_before : (n m : ℕ) (hs : List Hole) → n ≤ m → AllBefore n hs → Ordered m hs
+ordered_before : (n m : ℕ) (hs : List Splice) → n ≤ m → AllBefore n hs → Ordered m hs
 ordered_before n m [] h b = tt
 ordered_before n m (p ∷ hs) h b = (omega (arith, h, b.0), ordered_before n (suc m) hs (omega (arith, h)) b.1)
 
-ordered_append : (n m : ℕ) (hs ks : List Hole) → m ≡ n + length hs → Ordered n hs → Ordered m ks → Ordered n (hs ++ ks)
+ordered_append : (n m : ℕ) (hs ks : List Splice) → m ≡ n + length hs → Ordered n hs → Ordered m ks → Ordered n (hs ++ ks)
 ordered_append n m [] ks e h k = let same : m ≡ n = omega (arith, e) in subst (λ z. Ordered z ks) same k
 ordered_append n m (p ∷ hs) ks e h k = (h.0, ordered_append (suc n) m hs ks (omega (arith, e)) h.1 k)
 
 -- groups that name earlier ones alone are put behind the groups
-pub ordered_gains : (gs h : List Hole) → Ordered 0 gs → AllBefore (length gs) h → Ordered 0 (gs ++ h)
+pub ordered_gains : (gs h : List Splice) → Ordered 0 gs → AllBefore (length gs) h → Ordered 0 (gs ++ h)
 ordered_gains gs h o b = ordered_append 0 (length gs) gs h (omega arith) o (ordered_before (length gs) (length gs) h (omega arith) b)

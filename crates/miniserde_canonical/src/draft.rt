@@ -3,7 +3,7 @@
 //! What stands in the input as it is goes to the text in runs: whitespace, an escaped string, `-0` or an object out of
 //! order ends a run. If the names of an object rise, its text stays as it is. If not, the text of its members moves to
 //! the groups, in the order of their names and without all but the last of equal names. A short text comes back; for
-//! another a hole stays, so no byte of it moves again before the end.
+//! another a splice stays, so no byte of it moves again before the end.
 ghost use Rattle.std.specs.Prelude.{◌≡◌, ◌++◌, ◌∷◌, [], ℕ, List, length, IfOk, OnOk};
 ghost use Rattle.miniserde_model.specs.Compact.{string_text};
 ghost use Rattle.miniserde_model.specs.Lexing.{closing};
@@ -193,7 +193,7 @@ impl<'a> Draft<'a> {
         let run = self.left.saturating_sub(token.at);
         let place = Place {
             bytes: self.out.bytes.len().checked_add(run).ok_or(AllocError)?,
-            holes: self.out.holes.len(),
+            splices: self.out.splices.len(),
         };
         let name = Name::new(self.alloc, text, scratch)?;
         self.members.push(Member::new(name, place, first))?;

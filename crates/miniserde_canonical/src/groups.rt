@@ -1,4 +1,4 @@
-//! Writes a text with the groups in its holes.
+//! Writes a text with the groups in its splices.
 ghost use Rattle.std.specs.Prelude.{◌≡◌, ◌++◌, ◌+◌, ◌<◌, ℕ, List, IfOk, OnOk};
 ghost use Rattle.miniserde_canonical.specs.private.Spreads.{Holds, Good, Ordered};
 ghost use Rattle.miniserde_canonical.specs.private.Waiting.{SpanHolds, Waits, span_measure, spans_measure};
@@ -6,27 +6,27 @@ ghost use Rattle.miniserde_canonical.specs.private.Waiting.{SpanHolds, Waits, sp
 use crate::spread::{Place, Span, Spread, part};
 use std::alloc::{AllocError, Global};
 
-/// Returns the whole text: each hole is filled with its group.
-pub(crate) fn fill_holes(
+/// Returns the whole text: each splice is filled with its group.
+pub(crate) fn fill_splices(
     alloc: Global,
     text: Spread,
     groups: &Spread,
 ) -> Result<Vec<u8>, AllocError>
-    requires { Good groups.now.holes.items text.holes.items }
+    requires { Good groups.now.splices.items text.splices.items }
     ensures { IfOk result (λ r. (x : List ℕ)
-        → Holds groups.now.bytes.items groups.now.holes.items 0 text.bytes.items text.holes.items x → r.items ≡ x) }
+        → Holds groups.now.bytes.items groups.now.splices.items 0 text.bytes.items text.splices.items x → r.items ≡ x) }
 {
-    let holes = text.holes.as_slice();
-    if holes.is_empty() {
+    let splices = text.splices.as_slice();
+    if splices.is_empty() {
         return Ok(text.bytes);
     }
     let mut out = Vec::new(alloc);
     let mut later = Vec::new(alloc);
     let mut at = 0;
-    for hole in holes {
-        out.extend_from_slice(part(text.bytes.as_slice(), at, hole.at))?;
-        put_group(hole.group, groups, &mut out, &mut later)?;
-        at = hole.at;
+    for splice in splices {
+        out.extend_from_slice(part(text.bytes.as_slice(), at, splice.at))?;
+        put_group(splice.group, groups, &mut out, &mut later)?;
+        at = splice.at;
     }
     out.extend_from_slice(part(text.bytes.as_slice(), at, text.bytes.len()))?;
     Ok(out)
@@ -39,8 +39,8 @@ fn put_group(
     out: &mut Vec<u8>,
     later: &mut Vec<Span>,
 ) -> Result<(), AllocError>
-    requires { Ordered 0 groups.now.holes.items }
-    ensures { OnOk result ((x : List ℕ) → SpanHolds groups.now.bytes.items groups.now.holes.items group x
+    requires { Ordered 0 groups.now.splices.items }
+    ensures { OnOk result ((x : List ℕ) → SpanHolds groups.now.bytes.items groups.now.splices.items group x
         → out.new.items ≡ out.old.items ++ x) }
 {
     later.clear();
@@ -51,7 +51,7 @@ fn put_group(
     Ok(())
 }
 
-// Appends the text of a span up to its first hole. The group of that hole is next on `later`, and the rest of the span
+// Appends the text of a span up to its first splice. The group of that splice is next on `later`, and the rest of the span
 // follows.
 fn put_span(
     span: Span,
@@ -59,27 +59,27 @@ fn put_span(
     out: &mut Vec<u8>,
     later: &mut Vec<Span>,
 ) -> Result<(), AllocError>
-    ensures ok { OnOk result ((x y : List ℕ) → SpanHolds groups.now.bytes.items groups.now.holes.items span x
-        → Waits groups.now.bytes.items groups.now.holes.items later.old.items y
-        → (z : List ℕ) × Waits groups.now.bytes.items groups.now.holes.items later.new.items z
+    ensures ok { OnOk result ((x y : List ℕ) → SpanHolds groups.now.bytes.items groups.now.splices.items span x
+        → Waits groups.now.bytes.items groups.now.splices.items later.old.items y
+        → (z : List ℕ) × Waits groups.now.bytes.items groups.now.splices.items later.new.items z
         × (out.new.items ++ z ≡ out.old.items ++ (x ++ y))) }
-    ensures less { OnOk result (Ordered 0 groups.now.holes.items
+    ensures less { OnOk result (Ordered 0 groups.now.splices.items
         → spans_measure later.new.items < spans_measure later.old.items + span_measure span) }
 {
-    let holes = groups.holes.as_slice();
-    let next = span.from.holes;
-    if next < span.to.holes && next < holes.len() {
-        let hole = holes[next];
+    let splices = groups.splices.as_slice();
+    let next = span.from.splices;
+    if next < span.to.splices && next < splices.len() {
+        let splice = splices[next];
         let behind = Place {
-            bytes: hole.at,
-            holes: next + 1,
+            bytes: splice.at,
+            splices: next + 1,
         };
-        out.extend_from_slice(part(groups.bytes.as_slice(), span.from.bytes, hole.at))?;
+        out.extend_from_slice(part(groups.bytes.as_slice(), span.from.bytes, splice.at))?;
         later.push(Span {
             from: behind,
             to: span.to,
         })?;
-        later.push(hole.group)?;
+        later.push(splice.group)?;
     } else {
         out.extend_from_slice(part(groups.bytes.as_slice(), span.from.bytes, span.to.bytes))?;
     }

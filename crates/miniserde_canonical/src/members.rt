@@ -137,6 +137,6 @@ fn end_at(members: &[Member<'_>], i: usize, end: Place) -> Place
     let place = members[i].place;
     Place {
         bytes: place.bytes.saturating_sub(comma_len(members[i].first)),
-        holes: place.holes,
+        splices: place.splices,
     }
 }

@@ -5,14 +5,14 @@ ghost use Rattle.miniserde_canonical.specs.private.Sorting.{SortsMembers, PutsMe
 use crate::member::Member;
 use crate::members::{fill, repeats, sort, span_of};
 use crate::put::put_gap;
-use crate::spread::{Hole, Place, Span, Spread};
+use crate::spread::{Splice, Place, Span, Spread};
 use std::alloc::AllocError;
 
 /// The longest text of members, in bytes, that comes back when it is in order.
 const SHORT: usize = 1024;
 
 /// Puts the members of an object in order. Returns whether their names are distinct. A text longer than `SHORT`
-/// becomes a hole, unless the object is the outermost.
+/// becomes a splice, unless the object is the outermost.
 pub(crate) fn sort_members(
     members: &[Member<'_>],
     outermost: bool,
@@ -67,7 +67,7 @@ fn put_member(
     Ok(())
 }
 
-// Truncates the text at `place`, and appends the groups behind `from`: as text if they are short, else as a hole.
+// Truncates the text at `place`, and appends the groups behind `from`: as text if they are short, else as a splice.
 fn put_back(
     place: Place,
     from: Place,
@@ -79,13 +79,13 @@ fn put_back(
 {
     let to = groups.end();
     out.truncate(place);
-    if to.holes == from.holes && to.bytes.saturating_sub(from.bytes) <= longest {
+    if to.splices == from.splices && to.bytes.saturating_sub(from.bytes) <= longest {
         out.append(groups, Span { from, to })?;
         groups.truncate(from);
         return Ok(());
     }
     let group = Span { from, to };
-    out.holes.push(Hole {
+    out.splices.push(Splice {
         at: place.bytes,
         group,
     })?;

@@ -1,14 +1,14 @@
-//! Texts with holes: places where the text of a group belongs.
+//! Texts with splices: places where the text of a group belongs.
 ghost use Rattle.std.specs.Prelude.{◌≡◌, ◌≤◌, ◌++◌, [], length, take, map, IfOk, OnOk};
-ghost use Rattle.miniserde_canonical.specs.private.Spreads.{Within, bytes_in, holes_in, part_between, shifted_hole};
+ghost use Rattle.miniserde_canonical.specs.private.Spreads.{Within, bytes_in, splices_in, part_between, shifted_splice};
 
 use std::alloc::{AllocError, Global};
 
-/// A place in a text with holes: how many bytes and how many holes stand before it.
+/// A place in a text with splices: how many bytes and how many splices stand before it.
 #[derive(Clone, Copy, Drop)]
 pub(crate) struct Place {
     pub(crate) bytes: usize,
-    pub(crate) holes: usize,
+    pub(crate) splices: usize,
 }
 
 /// What stands between two places.
@@ -18,80 +18,80 @@ pub(crate) struct Span {
     pub(crate) to: Place,
 }
 
-/// A hole before the byte of an index. A span of the groups belongs there.
+/// A splice before the byte of an index. A span of the groups belongs there.
 #[derive(Clone, Copy, Drop)]
-pub(crate) struct Hole {
+pub(crate) struct Splice {
     pub(crate) at: usize,
     pub(crate) group: Span,
 }
 
-/// A text with holes.
+/// A text with splices.
 #[derive(Drop)]
 pub(crate) struct Spread {
     pub(crate) bytes: Vec<u8>,
-    pub(crate) holes: Vec<Hole>,
+    pub(crate) splices: Vec<Splice>,
 }
 
 impl Spread {
     /// Returns an empty text.
     pub(crate) fn new(alloc: Global) -> Spread
         ensures bytes { result.bytes.items ≡ [] }
-        ensures holes { result.holes.items ≡ [] }
+        ensures splices { result.splices.items ≡ [] }
     {
         Spread {
             bytes: Vec::new(alloc),
-            holes: Vec::new(alloc),
+            splices: Vec::new(alloc),
         }
     }
 
     /// Returns the place behind the text.
     pub(crate) fn end(&self) -> Place
         ensures bytes { result.bytes ≡ length self.now.bytes.items }
-        ensures holes { result.holes ≡ length self.now.holes.items }
+        ensures splices { result.splices ≡ length self.now.splices.items }
     {
         Place {
             bytes: self.bytes.len(),
-            holes: self.holes.len(),
+            splices: self.splices.len(),
         }
     }
 
     /// Removes the text behind a place.
     pub(crate) fn truncate(&mut self, place: Place)
         ensures bytes { self.new.bytes.items ≡ take place.bytes self.old.bytes.items }
-        ensures holes { self.new.holes.items ≡ take place.holes self.old.holes.items }
+        ensures splices { self.new.splices.items ≡ take place.splices self.old.splices.items }
     {
         self.bytes.truncate(place.bytes);
-        self.holes.truncate(place.holes);
+        self.splices.truncate(place.splices);
     }
 
     /// Appends a span of another text.
     #[inline(always)]
     pub(crate) fn append(&mut self, other: &Spread, span: Span) -> Result<(), AllocError>
-        ensures bytes { OnOk result (Within span other.now.bytes.items other.now.holes.items
+        ensures bytes { OnOk result (Within span other.now.bytes.items other.now.splices.items
             → self.new.bytes.items ≡ self.old.bytes.items ++ bytes_in span other.now.bytes.items) }
-        ensures holes { OnOk result (Within span other.now.bytes.items other.now.holes.items
-            → self.new.holes.items ≡ self.old.holes.items
-            ++ map (shifted_hole span.from.bytes (length self.old.bytes.items)) (holes_in span other.now.holes.items)) }
+        ensures splices { OnOk result (Within span other.now.bytes.items other.now.splices.items
+            → self.new.splices.items ≡ self.old.splices.items
+            ++ map (shifted_splice span.from.bytes (length self.old.bytes.items)) (splices_in span other.now.splices.items)) }
     {
         let at = self.bytes.len();
         let bytes = part(other.bytes.as_slice(), span.from.bytes, span.to.bytes);
-        let holes = part(other.holes.as_slice(), span.from.holes, span.to.holes);
+        let splices = part(other.splices.as_slice(), span.from.splices, span.to.splices);
         self.bytes.extend_from_slice(bytes)?;
-        for hole in holes {
-            self.holes.push(shifted_hole(*hole, span.from.bytes, at)?)?;
+        for splice in splices {
+            self.splices.push(shifted_splice(*splice, span.from.bytes, at)?)?;
         }
         Ok(())
     }
 }
 
-// Returns a hole of a text that is moved from the index `from` to the index `at`. Fails if no index is so large.
-fn shifted_hole(hole: Hole, from: usize, at: usize) -> Result<Hole, AllocError>
-    ensures { IfOk result (λ h. h ≡ shifted_hole from at hole) }
+// Returns a splice of a text that is moved from the index `from` to the index `at`. Fails if no index is so large.
+fn shifted_splice(splice: Splice, from: usize, at: usize) -> Result<Splice, AllocError>
+    ensures { IfOk result (λ h. h ≡ shifted_splice from at splice) }
 {
-    let behind = hole.at.saturating_sub(from);
-    Ok(Hole {
+    let behind = splice.at.saturating_sub(from);
+    Ok(Splice {
         at: at.checked_add(behind).ok_or(AllocError)?,
-        group: hole.group,
+        group: splice.group,
     })
 }
 

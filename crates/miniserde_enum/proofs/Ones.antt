@@ -12,7 +12,7 @@ use Rattle.miniserde_read.proofs.Objects.{ObjectGoes, object_begins, object_name
 use Rattle.miniserde_read.proofs.Steps.{members_name}
 use Rattle.miniserde_record.specs.Members.{ReadsDue, RejectsDue}
 use Rattle.miniserde_record.proofs.Due.{due_goes, due_none}
-use Rattle.miniserde_enum.specs.Shape.{by_shape, external}
+use Rattle.miniserde_enum.specs.Tagging.{by_tagging, external}
 use Rattle.miniserde_enum.specs.Cases.{with_data}
 
 -- the state after one more member: there is one at most
@@ -25,14 +25,14 @@ module _ {C : Type 0} (f : Name → Option Tree → Option C) where
   last o = option_and_then (λ o. o) o
 
   -- what the members give one by one is what the object gives
-  pub one_all : (ms : Members) → last (all_members (one_next f) None ms) ≡ by_shape external f (members ms)
+  pub one_all : (ms : Members) → last (all_members (one_next f) None ms) ≡ by_tagging external f (members ms)
   one_all no_members = refl
   one_all (member k t no_members) = elim (f k (Some t)) as (λ o. last (option_and_then (λ r. Some r) (option_map Some o)) ≡ o) [ None ↦ refl | Some c ↦ refl ]
   one_all (member k t (member j u ms)) = elim (f k (Some t)) as (λ o. last (option_and_then (λ r. option_and_then (λ q. all_members (one_next f) q ms) (one_next f r j u)) (option_map Some o)) ≡ None) [ None ↦ refl | Some c ↦ refl ]
 
   -- no object that goes on there is a variant
-  pub one_none : (t : Tree) (s r : List ℕ) (m : Option (Option C)) → ValueAt t map s r → ((ms : Members) (x : List ℕ) → MembersAt ms true s x → all_members (one_next f) None ms ≡ m) → last m ≡ None → by_shape external f t ≡ None
-  one_none t s r m p h n = let o = opened_object t s r p in ap (by_shape external f) o.1 ∙ sym (one_all o.0) ∙ ap last (h o.0 r o.2) ∙ n
+  pub one_none : (t : Tree) (s r : List ℕ) (m : Option (Option C)) → ValueAt t map s r → ((ms : Members) (x : List ℕ) → MembersAt ms true s x → all_members (one_next f) None ms ≡ m) → last m ≡ None → by_tagging external f t ≡ None
+  one_none t s r m p h n = let o = opened_object t s r p in ap (by_tagging external f) o.1 ∙ sym (one_all o.0) ∙ ap last (h o.0 r o.2) ∙ n
 
   -- the object goes on behind its first member
   pub one_goes : (s b c x : List ℕ) (n : Name) (v : C) → Follows Map true false s b → Names b n c → ReadsDue (with_data (f n)) c x v → ObjectGoes (one_next f) None s false x (Some v)

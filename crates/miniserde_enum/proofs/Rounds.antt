@@ -10,9 +10,9 @@ use Rattle.miniserde_record.specs.Structs.{is_new, are_distinct, are_names}
 use Rattle.miniserde_record.proofs.Rounds.{more_names, no_names}
 use Rattle.miniserde_enum.specs.declared.one_of.OneOf.{OneOf}
 use Rattle.miniserde_enum.specs.declared.one_of.OneOf.TheVariants.{First, Later}
-use Rattle.miniserde_enum.specs.Shape.{Shape, case_of, case_written, by_shape}
+use Rattle.miniserde_enum.specs.Tagging.{Tagging, case_of, case_written, by_tagging}
 use Rattle.miniserde_enum.specs.Cases.{CaseReads, UnitReads, DataReads, CaseReal, case_tree, unit_tree, data_tree, UnitFits, DataFits, case_content}
-use Rattle.miniserde_enum.specs.laws.Shape.{shape-agrees}
+use Rattle.miniserde_enum.specs.laws.Tagging.{tagging-agrees}
 use Rattle.miniserde_enum.specs.laws.Cases.{alone, cond-some, later-none, same-name, new-first}
 
 -- so many names are distinct
@@ -21,43 +21,43 @@ names_distinct k ns h = elim (nat_eq (length ns) k) as (λ b. (b && are_distinct
 
 -- ---- one variant
 
-pub unit-round_trips : (shape : Shape) → UnitFits shape → (n : Name) (x : Unit {0}) → ⊤ → RoundTrips (λ (u : Unit {0}). ⊤) (unit_tree shape n) (UnitReads shape n) (unit_tree shape n x)
-unit-round_trips shape f n x r = ((tt, tt, (shape-agrees shape (case_written shape n None) n None).1 (f n)), λ y s e. refl)
+pub unit-round_trips : (tagging : Tagging) → UnitFits tagging → (n : Name) (x : Unit {0}) → ⊤ → RoundTrips (λ (u : Unit {0}). ⊤) (unit_tree tagging n) (UnitReads tagging n) (unit_tree tagging n x)
+unit-round_trips tagging f n x r = ((tt, tt, (tagging-agrees tagging (case_written tagging n None) n None).1 (f n)), λ y s e. refl)
 
-module _ {T : Type 0} (real : T → Type 0) (tree : T → Tree) (reads : Tree → T → Type 0) (round_trips : (x : T) → real x → RoundTrips real tree reads (tree x)) (shape : Shape) (f : DataFits real tree shape) where
-  pub data-round_trips : (n : Name) (x : T) → real x → RoundTrips real (data_tree shape tree n) (DataReads reads shape n) (data_tree shape tree n x)
+module _ {T : Type 0} (real : T → Type 0) (tree : T → Tree) (reads : Tree → T → Type 0) (round_trips : (x : T) → real x → RoundTrips real tree reads (tree x)) (tagging : Tagging) (f : DataFits real tree tagging) where
+  pub data-round_trips : (n : Name) (x : T) → real x → RoundTrips real (data_tree tagging tree n) (DataReads reads tagging n) (data_tree tagging tree n x)
   data-round_trips n x r =
       let a = round_trips x r in
-      let t = case_written shape n (Some (tree x)) in (
-        (a.0.0, a.0.1, (tree x, (shape-agrees shape t n (Some (tree x))).1 (f n x r), a.0.2)),
+      let t = case_written tagging n (Some (tree x)) in (
+        (a.0.0, a.0.1, (tree x, (tagging-agrees tagging t n (Some (tree x))).1 (f n x r), a.0.2)),
         λ y s e.
-            let i = same_Some _ _ (sym ((shape-agrees shape t n (Some e.0)).0 e.1) ∙ f n x r) in
+            let i = same_Some _ _ (sym ((tagging-agrees tagging t n (Some e.0)).0 e.1) ∙ f n x r) in
             let j = same_Some _ _ (ap (λ z. z.1) i) in
-            ap (λ z. case_written shape n (Some z)) (a.1 y s (subst (λ z. reads z y) j e.2)),
+            ap (λ z. case_written tagging n (Some z)) (a.1 y s (subst (λ z. reads z y) j e.2)),
       )
 
 -- ---- variant by variant
 
-shape-apart : {A B : Type 0} (shape : Shape) (f : Name → Option Tree → Option A) (g : Name → Option Tree → Option B) (a : A) (b : B) → ((k : Name) (o : Option Tree) → f k o ≡ Some a → g k o ≡ Some b → ⊥) → (t : Tree) → by_shape shape f t ≡ Some a → by_shape shape g t ≡ Some b → ⊥
-shape-apart {A} {B} shape f g a b h t = elim (case_of shape t) as (λ o. (◌≡◌ {A = Option A} (option_and_then (λ s. f s.0 s.1) o) (Some a)) → (◌≡◌ {A = Option B} (option_and_then (λ s. g s.0 s.1) o) (Some b)) → ⊥) [ None ↦ λ p q. cc | Some s ↦ h s.0 s.1 ]
+tagging-apart : {A B : Type 0} (tagging : Tagging) (f : Name → Option Tree → Option A) (g : Name → Option Tree → Option B) (a : A) (b : B) → ((k : Name) (o : Option Tree) → f k o ≡ Some a → g k o ≡ Some b → ⊥) → (t : Tree) → by_tagging tagging f t ≡ Some a → by_tagging tagging g t ≡ Some b → ⊥
+tagging-apart {A} {B} tagging f g a b h t = elim (case_of tagging t) as (λ o. (◌≡◌ {A = Option A} (option_and_then (λ s. f s.0 s.1) o) (Some a)) → (◌≡◌ {A = Option B} (option_and_then (λ s. g s.0 s.1) o) (Some b)) → ⊥) [ None ↦ λ p q. cc | Some s ↦ h s.0 s.1 ]
 
-module _ {T W C D : Type 0} (given : Option Tree → Option C) (one : Shape → Name → Tree → T → Type 0) (content : T → C) (one_agrees : (shape : Shape) (n : Name) (t : Tree) (x : T) → one shape n t x ↔ (by_shape shape (alone given n) t ≡ Some (content x)))
-    (later : List Name → Name → Option Tree → Option D) (reads : Shape → List Name → Tree → W → Type 0) (content_w : W → D) (fresh : (ns : List Name) (n : Name) (o : Option Tree) → is_new n ns ≡ true → later ns n o ≡ None) (agrees : (shape : Shape) (ns : List Name) → are_distinct ns ≡ true → (t : Tree) (w : W) → reads shape ns t w ↔ (by_shape shape (later ns) t ≡ Some (content_w w))) (shape : Shape) where
-  apart : (n : Name) (ns : List Name) (t : Tree) (x : T) (w : W) → is_new n ns ≡ true → are_distinct ns ≡ true → one shape n t x → reads shape ns t w → ⊥
+module _ {T W C D : Type 0} (given : Option Tree → Option C) (one : Tagging → Name → Tree → T → Type 0) (content : T → C) (one_agrees : (tagging : Tagging) (n : Name) (t : Tree) (x : T) → one tagging n t x ↔ (by_tagging tagging (alone given n) t ≡ Some (content x)))
+    (later : List Name → Name → Option Tree → Option D) (reads : Tagging → List Name → Tree → W → Type 0) (content_w : W → D) (fresh : (ns : List Name) (n : Name) (o : Option Tree) → is_new n ns ≡ true → later ns n o ≡ None) (agrees : (tagging : Tagging) (ns : List Name) → are_distinct ns ≡ true → (t : Tree) (w : W) → reads tagging ns t w ↔ (by_tagging tagging (later ns) t ≡ Some (content_w w))) (tagging : Tagging) where
+  apart : (n : Name) (ns : List Name) (t : Tree) (x : T) (w : W) → is_new n ns ≡ true → are_distinct ns ≡ true → one tagging n t x → reads tagging ns t w → ⊥
   apart n ns t x w f d a b =
-      shape-apart shape (alone given n) (later ns) (content x) (content_w w)
+      tagging-apart tagging (alone given n) (later ns) (content x) (content_w w)
       (λ k o p q. later-none given one content one_agrees later reads content_w fresh agrees n ns w k o f (cond-some (bytes_eq k n) (given o) (content x) p).0 q)
-      t ((one_agrees shape n t x).0 a) ((agrees shape ns d t w).0 b)
+      t ((one_agrees tagging n t x).0 a) ((agrees tagging ns d t w).0 b)
 
-  module _ (real : T → Type 0) (tree : Name → T → Tree) (first : (n : Name) (x : T) → real x → RoundTrips real (tree n) (one shape n) (tree n x))
-      (real_w : W → Type 0) (tree_w : List Name → W → Tree) (count : ℕ) (round_trips : (names : List Name) (w : W) → are_names count names ≡ true → real_w w → RoundTrips real_w (tree_w names) (reads shape names) (tree_w names w)) where
-    pub case-round_trips : (names : List Name) (v : OneOf T W) → are_names (count + 1) names ≡ true → CaseReal real real_w v → RoundTrips (CaseReal real real_w) (case_tree tree tree_w names) (CaseReads (one shape) (reads shape) names) (case_tree tree tree_w names v)
+  module _ (real : T → Type 0) (tree : Name → T → Tree) (first : (n : Name) (x : T) → real x → RoundTrips real (tree n) (one tagging n) (tree n x))
+      (real_w : W → Type 0) (tree_w : List Name → W → Tree) (count : ℕ) (round_trips : (names : List Name) (w : W) → are_names count names ≡ true → real_w w → RoundTrips real_w (tree_w names) (reads tagging names) (tree_w names w)) where
+    pub case-round_trips : (names : List Name) (v : OneOf T W) → are_names (count + 1) names ≡ true → CaseReal real real_w v → RoundTrips (CaseReal real real_w) (case_tree tree tree_w names) (CaseReads (one tagging) (reads tagging) names) (case_tree tree tree_w names v)
     case-round_trips [] v f r = absurd (no_names count f)
     case-round_trips (n ∷ ns) (First x) f r =
         let p = more_names count n ns f in
         let a = first n x r in (
           (First a.0.0, a.0.1, a.0.2),
-          λ v. elim v as (λ v. CaseReal real real_w v → CaseReads (one shape) (reads shape) (n ∷ ns) (tree n x) v → case_tree tree tree_w (n ∷ ns) v ≡ tree n x) [
+          λ v. elim v as (λ v. CaseReal real real_w v → CaseReads (one tagging) (reads tagging) (n ∷ ns) (tree n x) v → case_tree tree tree_w (n ∷ ns) v ≡ tree n x) [
             | First y ↦ λ s e. a.1 y s e
             | Later w ↦ λ s e. absurd (apart n ns (tree n x) a.0.0 w p.0 (names_distinct count ns p.1) a.0.2 e)
           ],
@@ -66,7 +66,7 @@ module _ {T W C D : Type 0} (given : Option Tree → Option C) (one : Shape → 
         let p = more_names count n ns f in
         let b = round_trips ns w p.1 r in (
           (Later b.0.0, b.0.1, b.0.2),
-          λ v. elim v as (λ v. CaseReal real real_w v → CaseReads (one shape) (reads shape) (n ∷ ns) (tree_w ns w) v → case_tree tree tree_w (n ∷ ns) v ≡ tree_w ns w) [
+          λ v. elim v as (λ v. CaseReal real real_w v → CaseReads (one tagging) (reads tagging) (n ∷ ns) (tree_w ns w) v → case_tree tree tree_w (n ∷ ns) v ≡ tree_w ns w) [
             | First y ↦ λ s e. absurd (apart n ns (tree_w ns w) y b.0.0 p.0 (names_distinct count ns p.1) e b.0.2)
             | Later u ↦ λ s e. b.1 u s e
           ],
@@ -75,9 +75,9 @@ module _ {T W C D : Type 0} (given : Option Tree → Option C) (one : Shape → 
 -- ---- the injective tree
 
 -- data with one tree has one content, if the trees are the variants that they are written for
-pub data-same : {T C : Type 0} (shape : Shape) (real : T → Type 0) (tree : T → Tree) → DataFits real tree shape → (content : T → C) → ((x y : T) → real x → real y → tree x ≡ tree y → content x ≡ content y) → (n : Name) (x y : T) → real x → real y → data_tree shape tree n x ≡ data_tree shape tree n y → content x ≡ content y
-data-same shape real tree f content same n x y r s e =
-    let i = same_Some _ _ (sym (f n x r) ∙ ap (case_of shape) e ∙ f n y s) in
+pub data-same : {T C : Type 0} (tagging : Tagging) (real : T → Type 0) (tree : T → Tree) → DataFits real tree tagging → (content : T → C) → ((x y : T) → real x → real y → tree x ≡ tree y → content x ≡ content y) → (n : Name) (x y : T) → real x → real y → data_tree tagging tree n x ≡ data_tree tagging tree n y → content x ≡ content y
+data-same tagging real tree f content same n x y r s e =
+    let i = same_Some _ _ (sym (f n x r) ∙ ap (case_of tagging) e ∙ f n y s) in
     same x y r s (same_Some _ _ (ap (λ z. z.1) i))
 
 module _ {T W C D : Type 0} (variant : Tree → Option (Name × Option Tree)) (content : T → C) (content_w : W → D) (real : T → Type 0) (tree : Name → T → Tree) (name : (n : Name) (x : T) → real x → (o : Option Tree) × (variant (tree n x) ≡ Some (n, o))) (first : (n : Name) (x y : T) → real x → real y → tree n x ≡ tree n y → content x ≡ content y)

@@ -16,7 +16,7 @@ use Rattle.miniserde_record.specs.Stable.{AreStable}
 use Rattle.miniserde_record.proofs.Stables.{stable-field}
 use Rattle.miniserde_enum.specs.Internal.{internal_variant, object_members}
 use Rattle.miniserde_enum.specs.Inside.{inside_of}
-use Rattle.miniserde_enum.specs.Shape.{by_shape, internal}
+use Rattle.miniserde_enum.specs.Tagging.{by_tagging, internal}
 use Rattle.miniserde_enum.specs.Cases.{DataFits}
 use Rattle.miniserde_enum.specs.laws.Cases.{same-name}
 
@@ -62,7 +62,7 @@ module _ {C : Type 0} (tag : Name) (f : Name → Option Tree → Option C) (stab
   given (Some None) u c e = absurd (cc)
   given (Some (Some n)) u c e = (n, refl, e)
 
-  pub tagged-stable : IsStable (by_shape (internal tag) f)
+  pub tagged-stable : IsStable (by_tagging (internal tag) f)
   tagged-stable (members ms) c e =
       let o = last_given false string_of tag None ms in
       let q = last_given false string_of tag None (norm_members ms) in

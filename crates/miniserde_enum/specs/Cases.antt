@@ -5,7 +5,7 @@ use Rattle.miniserde_read.specs.types.Objects.{Name}
 use Rattle.miniserde_enum.specs.declared.one_of.OneOf.{OneOf}
 use Rattle.miniserde_enum.specs.declared.one_of.Never.{Never}
 use Rattle.miniserde_enum.specs.declared.one_of.OneOf.TheVariants.{First, Later}
-use Rattle.miniserde_enum.specs.Shape.{Shape, external, internal, IsCase, case_of, case_written}
+use Rattle.miniserde_enum.specs.Tagging.{Tagging, external, internal, IsCase, case_of, case_written}
 
 -- ---- the content of a variant, by a name and its data
 
@@ -36,22 +36,22 @@ CaseReads one later (n ∷ ns) t (First x) = one n t x
 CaseReads one later (n ∷ ns) t (Later w) = later ns t w
 
 -- the tree is the variant of the name without data
-abbrev pub UnitReads : Shape → Name → Tree → Unit {0} → Type 0
-UnitReads shape n t u = IsCase shape t n None
+abbrev pub UnitReads : Tagging → Name → Tree → Unit {0} → Type 0
+UnitReads tagging n t u = IsCase tagging t n None
 
 -- the tree is the variant of the name with data, and the data means the value
-abbrev pub DataReads : {T : Type 0} → (Tree → T → Type 0) → Shape → Name → Tree → T → Type 0
-DataReads reads shape n t x = (u : Tree) × IsCase shape t n (Some u) × reads u x
+abbrev pub DataReads : {T : Type 0} → (Tree → T → Type 0) → Tagging → Name → Tree → T → Type 0
+DataReads reads tagging n t x = (u : Tree) × IsCase tagging t n (Some u) × reads u x
 
--- ---- the tree of a value, by its shape
+-- ---- the tree of a value, by its tagging
 
 -- a variant without data is written by its name
-abbrev pub unit_tree : Shape → Name → Unit {0} → Tree
-unit_tree shape n u = case_written shape n None
+abbrev pub unit_tree : Tagging → Name → Unit {0} → Tree
+unit_tree tagging n u = case_written tagging n None
 
 -- a variant with data is written by its name and the tree of its data
-abbrev pub data_tree : {T : Type 0} → Shape → (T → Tree) → Name → T → Tree
-data_tree shape f n x = case_written shape n (Some (f x))
+abbrev pub data_tree : {T : Type 0} → Tagging → (T → Tree) → Name → T → Tree
+data_tree tagging f n x = case_written tagging n (Some (f x))
 
 -- the tree of the first variant by its name, or of a later one by theirs
 abbrev pub case_tree : {T W : Type 0} → (Name → T → Tree) → (List Name → W → Tree) → List Name → OneOf T W → Tree
@@ -60,20 +60,20 @@ case_tree one later (n ∷ ns) (First x) = one n x
 case_tree one later (n ∷ ns) (Later w) = later ns w
 
 -- the tree of an externally tagged enum, by the names of its variants and by the tree of a variant's value
-abbrev pub enum_tree : {V W : Type 0} → List Name → (Shape → List Name → V → Tree) → (W → V) → W → Tree
+abbrev pub enum_tree : {V W : Type 0} → List Name → (Tagging → List Name → V → Tree) → (W → V) → W → Tree
 enum_tree names tree values v = tree external names (values v)
 
 -- the same of an internally tagged enum, by the name of its tag
-abbrev pub tagged_tree : {V W : Type 0} → Name → List Name → (Shape → List Name → V → Tree) → (W → V) → W → Tree
+abbrev pub tagged_tree : {V W : Type 0} → Name → List Name → (Tagging → List Name → V → Tree) → (W → V) → W → Tree
 tagged_tree tag names tree values v = tree (internal tag) names (values v)
 
 -- the tree that is written of a variant without data is that variant
-abbrev pub UnitFits : Shape → Type 0
-UnitFits shape = (n : Name) → case_of shape (case_written shape n None) ≡ Some (n, None)
+abbrev pub UnitFits : Tagging → Type 0
+UnitFits tagging = (n : Name) → case_of tagging (case_written tagging n None) ≡ Some (n, None)
 
 -- the tree that is written of a variant with valid data is that variant with that data
-abbrev pub DataFits : {T : Type 0} → (T → Type 0) → (T → Tree) → Shape → Type 0
-DataFits {T} real tree shape = (n : Name) (x : T) → real x → case_of shape (case_written shape n (Some (tree x))) ≡ Some (n, Some (tree x))
+abbrev pub DataFits : {T : Type 0} → (T → Type 0) → (T → Tree) → Tagging → Type 0
+DataFits {T} real tree tagging = (n : Name) (x : T) → real x → case_of tagging (case_written tagging n (Some (tree x))) ≡ Some (n, Some (tree x))
 
 -- ---- values
 

@@ -6,7 +6,7 @@ use Rattle.miniserde_read.specs.types.Objects.{Name}
 use Rattle.miniserde_record.specs.Structs.{is_new, are_distinct}
 use Rattle.miniserde_enum.specs.declared.one_of.OneOf.{OneOf}
 use Rattle.miniserde_enum.specs.declared.one_of.Never.{Never}
-use Rattle.miniserde_enum.specs.Shape.{Shape, by_shape, external, internal}
+use Rattle.miniserde_enum.specs.Tagging.{Tagging, by_tagging, external, internal}
 use Rattle.miniserde_enum.specs.Cases.{case_given, unit_given, data_given, CaseReads, UnitReads, DataReads, case_content}
 use Rattle.miniserde_enum.specs.laws.Cases.{case-fresh, case-agrees, unit-agrees, data-agrees}
 
@@ -21,10 +21,10 @@ pub record CasesMeaning (V : Type 0) : Type 1 where
   pub by_case : List Name → Name → Option Tree → Option Content
   -- a name that is none of these gives no content
   pub fresh : (names : List Name) (n : Name) (o : Option Tree) → is_new n names ≡ true → by_case names n o ≡ None
-  -- the tree means the value, by its shape and the variants' names
-  pub reads : Shape → List Name → Tree → V → Type 0
+  -- the tree means the value, by its tagging and the variants' names
+  pub reads : Tagging → List Name → Tree → V → Type 0
   -- a tree means a value exactly if it gives the value's content
-  pub agrees : (shape : Shape) (names : List Name) → are_distinct names ≡ true → (t : Tree) (v : V) → reads shape names t v ↔ (by_shape shape (by_case names) t ≡ Some (content v))
+  pub agrees : (tagging : Tagging) (names : List Name) → are_distinct names ≡ true → (t : Tree) (v : V) → reads tagging names t v ↔ (by_tagging tagging (by_case names) t ≡ Some (content v))
 
 -- no variants: no tree means a value
 abbrev pub no_cases : CasesMeaning Never
@@ -34,8 +34,8 @@ no_cases = record {
   count = 0;
   by_case = λ ns k o. None;
   fresh = λ ns n o h. refl;
-  reads = λ shape ns t v. ⊥;
-  agrees = λ shape ns d t v. elim v [ ];
+  reads = λ tagging ns t v. ⊥;
+  agrees = λ tagging ns d t v. elim v [ ];
 }
 
 -- a variant without data, and the later ones
@@ -46,7 +46,7 @@ unit_and n = record {
   count = n.count + 1;
   by_case = case_given unit_given n.by_case;
   fresh = case-fresh unit_given UnitReads (λ u. u) unit-agrees n.by_case n.reads n.content n.fresh n.agrees;
-  reads = λ shape. CaseReads (UnitReads shape) (n.reads shape);
+  reads = λ tagging. CaseReads (UnitReads tagging) (n.reads tagging);
   agrees = case-agrees unit_given UnitReads (λ u. u) unit-agrees n.by_case n.reads n.content n.fresh n.agrees;
 }
 
@@ -58,13 +58,13 @@ data_and m n = record {
   count = n.count + 1;
   by_case = case_given (data_given m.from_tree) n.by_case;
   fresh = case-fresh (data_given m.from_tree) (DataReads m.reads) m.content (data-agrees m.reads m.from_tree m.content m.reads_agrees) n.by_case n.reads n.content n.fresh n.agrees;
-  reads = λ shape. CaseReads (DataReads m.reads shape) (n.reads shape);
+  reads = λ tagging. CaseReads (DataReads m.reads tagging) (n.reads tagging);
   agrees = case-agrees (data_given m.from_tree) (DataReads m.reads) m.content (data-agrees m.reads m.from_tree m.content m.reads_agrees) n.by_case n.reads n.content n.fresh n.agrees;
 }
 
 -- the content that a tree gives of an externally tagged enum, by the names of its variants
 abbrev pub enum_of : {V : Type 0} (n : CasesMeaning V) → List Name → Tree → Option n.Content
-enum_of n names = by_shape external (n.by_case names)
+enum_of n names = by_tagging external (n.by_case names)
 
 -- the tree means the enum, by the names and the values of its variants
 abbrev pub enum_reads : {V W : Type 0} (n : CasesMeaning V) → List Name → (W → V) → Tree → W → Type 0
@@ -78,7 +78,7 @@ enum_meaning n names distinct values =
 
 -- the content that a tree gives of an internally tagged enum, by the names of its tag and of its variants
 abbrev pub tagged_of : {V : Type 0} (n : CasesMeaning V) → Name → List Name → Tree → Option n.Content
-tagged_of n tag names = by_shape (internal tag) (n.by_case names)
+tagged_of n tag names = by_tagging (internal tag) (n.by_case names)
 
 -- the tree means the internally tagged enum, by the names of its tag and of its variants and by the variants' values
 abbrev pub tagged_reads : {V W : Type 0} (n : CasesMeaning V) → Name → List Name → (W → V) → Tree → W → Type 0

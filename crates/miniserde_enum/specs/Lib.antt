@@ -5,7 +5,7 @@ pub mod Inside
 pub mod Internal
 pub mod NoFields
 pub mod Objects
-pub mod Shape
+pub mod Tagging
 pub mod Stable
 pub mod TagName
 pub mod laws

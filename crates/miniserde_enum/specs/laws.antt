@@ -3,4 +3,4 @@ pub mod External
 pub mod Inside
 pub mod Internal
 pub mod NoFields
-pub mod Shape
+pub mod Tagging

@@ -12,7 +12,7 @@ ghost use Rattle.miniserde_record.specs.Fields.{count_named};
 ghost use Rattle.miniserde_record.specs.Structs.{is_new, with_names, members_text};
 ghost use Rattle.miniserde_enum.specs.Internal.{object_members};
 ghost use Rattle.miniserde_enum.specs.Inside.{inside_of};
-ghost use Rattle.miniserde_enum.specs.Shape.{Shape, internal};
+ghost use Rattle.miniserde_enum.specs.Tagging.{Tagging, internal};
 ghost use Rattle.miniserde_enum.specs.Cases.{DataFits, with_data};
 ghost use Rattle.miniserde_enum.specs.CasesMeaning.{CasesMeaning, no_cases, data_and};
 
@@ -71,8 +71,8 @@ pub trait InsideCases {
     // The meaning of the variants.
     ghost meaning: { CasesMeaning Self.Values };
 
-    // Trees of the shape, as they are written, are the variants that they are written for.
-    ghost fits: { Shape → Type 0 };
+    // Trees of the tagging, as they are written, are the variants that they are written for.
+    ghost fits: { Tagging → Type 0 };
 
     // The name is none of the fields of the variants.
     ghost apart: { Name → Bool };
@@ -107,7 +107,7 @@ impl InsideCases for NoCase {
 
     ghost meaning = { no_cases };
 
-    ghost fits = { λ shape. ⊤ };
+    ghost fits = { λ tagging. ⊤ };
 
     ghost apart = { λ tag. true };
 
@@ -128,7 +128,7 @@ impl<T: Inside, R: InsideCases> InsideCases for DataCase<T, R> {
 
     ghost meaning = { data_and T.means R.meaning };
 
-    ghost fits = { λ shape. DataFits T.real T.tree shape × R.fits shape };
+    ghost fits = { λ tagging. DataFits T.real T.tree tagging × R.fits tagging };
 
     ghost apart = { λ tag. is_new tag T.fields && R.apart tag };
 

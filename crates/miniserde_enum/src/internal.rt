@@ -4,7 +4,7 @@ ghost use Rattle.miniserde_text.specs.Lexer.{event_of_token};
 ghost use Rattle.miniserde_model.specs.declared.error.Error.{Error};
 ghost use Rattle.miniserde_read.specs.Rest.{GivesAt, GivesNoneAt};
 ghost use Rattle.miniserde_read.specs.Events.{IsTreeEvent};
-ghost use Rattle.miniserde_enum.specs.Shape.{internal};
+ghost use Rattle.miniserde_enum.specs.Tagging.{internal};
 ghost use Rattle.miniserde_enum.specs.CasesMeaning.{tagged_of};
 
 use crate::inside::InsideCases;

@@ -3,7 +3,7 @@ ghost use Rattle.std.specs.Prelude.{◌≡◌, true, List, Option, Some, length,
 ghost use Rattle.miniserde_model.specs.Tree.{Tree, null};
 ghost use Rattle.miniserde_read.specs.types.Objects.{Name};
 ghost use Rattle.miniserde_record.specs.Structs.{are_names, is_new};
-ghost use Rattle.miniserde_enum.specs.Shape.{Shape, external, internal, case_of};
+ghost use Rattle.miniserde_enum.specs.Tagging.{Tagging, external, internal, case_of};
 ghost use Rattle.miniserde_enum.specs.Cases.{CaseReal, case_tree, unit_tree, data_tree, UnitFits, DataFits, enum_tree, tagged_tree};
 ghost use Rattle.miniserde_enum.specs.CasesMeaning.{CasesMeaning, no_cases, unit_and, data_and};
 
@@ -24,22 +24,22 @@ pub trait LosslessCases {
     // The value is valid.
     ghost real: { Self.Values → Type 0 };
 
-    // The tree of a value, by its shape and the variants' names.
-    ghost tree: { Shape → List Name → Self.Values → Tree };
+    // The tree of a value, by its tagging and the variants' names.
+    ghost tree: { Tagging → List Name → Self.Values → Tree };
 
-    // Trees of the shape, as they are written, are the variants that they are written for.
-    ghost fits: { Shape → Type 0 };
+    // Trees of the tagging, as they are written, are the variants that they are written for.
+    ghost fits: { Tagging → Type 0 };
 
     /// Does nothing. It promises that trees of externally tagged enums are the variants that they are written for, and,
-    /// of each shape that this holds of, that the tree of a valid value has one of the names, and that valid values with
+    /// of each tagging that this holds of, that the tree of a valid value has one of the names, and that valid values with
     /// one tree have one content.
     fn lossless()
         ensures external { fits external }
-        ensures distinct_names { (shape : Shape) (names : List Name) (v : Self.Values) (n : Name) (o : Option Tree) → fits shape
+        ensures distinct_names { (tagging : Tagging) (names : List Name) (v : Self.Values) (n : Name) (o : Option Tree) → fits tagging
             → are_names meaning.count names ≡ true → real v → is_new n names ≡ true
-            → case_of shape (tree shape names v) ≡ Some (n, o) → ⊥ }
-        ensures same { (shape : Shape) (names : List Name) (v w : Self.Values) → fits shape
-            → are_names meaning.count names ≡ true → real v → real w → tree shape names v ≡ tree shape names w
+            → case_of tagging (tree tagging names v) ≡ Some (n, o) → ⊥ }
+        ensures same { (tagging : Tagging) (names : List Name) (v w : Self.Values) → fits tagging
+            → are_names meaning.count names ≡ true → real v → real w → tree tagging names v ≡ tree tagging names w
             → meaning.content v ≡ meaning.content w };
 }
 
@@ -50,9 +50,9 @@ impl LosslessCases for NoCase {
 
     ghost real = { λ _. ⊤ };
 
-    ghost tree = { λ shape names v. null };
+    ghost tree = { λ tagging names v. null };
 
-    ghost fits = { λ shape. ⊤ };
+    ghost fits = { λ tagging. ⊤ };
 
     fn lossless() {}
 }
@@ -64,9 +64,9 @@ impl<R: LosslessCases> LosslessCases for UnitCase<R> {
 
     ghost real = { CaseReal (λ u. ⊤) R.real };
 
-    ghost tree = { λ shape. case_tree (unit_tree shape) (R.tree shape) };
+    ghost tree = { λ tagging. case_tree (unit_tree tagging) (R.tree tagging) };
 
-    ghost fits = { λ shape. UnitFits shape × R.fits shape };
+    ghost fits = { λ tagging. UnitFits tagging × R.fits tagging };
 
     fn lossless() {
         R::lossless()
@@ -80,9 +80,9 @@ impl<T: Lossless, R: LosslessCases> LosslessCases for DataCase<T, R> {
 
     ghost real = { CaseReal T.real R.real };
 
-    ghost tree = { λ shape. case_tree (data_tree shape T.tree) (R.tree shape) };
+    ghost tree = { λ tagging. case_tree (data_tree tagging T.tree) (R.tree tagging) };
 
-    ghost fits = { λ shape. DataFits T.real T.tree shape × R.fits shape };
+    ghost fits = { λ tagging. DataFits T.real T.tree tagging × R.fits tagging };
 
     fn lossless() {
         T::lossless();

@@ -4,7 +4,7 @@ ghost use Rattle.miniserde_model.specs.Tree.{Tree, null};
 ghost use Rattle.miniserde_read.specs.types.Objects.{Name};
 ghost use Rattle.miniserde_round.specs.RoundTrip.{RoundTrips};
 ghost use Rattle.miniserde_record.specs.Structs.{are_names};
-ghost use Rattle.miniserde_enum.specs.Shape.{Shape, external, internal};
+ghost use Rattle.miniserde_enum.specs.Tagging.{Tagging, external, internal};
 ghost use Rattle.miniserde_enum.specs.Cases.{CaseReal, case_tree, unit_tree, data_tree, UnitFits, DataFits, enum_tree, tagged_tree};
 ghost use Rattle.miniserde_enum.specs.CasesMeaning.{CasesMeaning, no_cases, unit_and, data_and, enum_reads, tagged_reads};
 
@@ -24,20 +24,20 @@ pub trait RoundTripCases {
     // The value is valid.
     ghost real: { Self.Values → Type 0 };
 
-    // The tree of a value, by its shape and the variants' names.
-    ghost tree: { Shape → List Name → Self.Values → Tree };
+    // The tree of a value, by its tagging and the variants' names.
+    ghost tree: { Tagging → List Name → Self.Values → Tree };
 
-    // Trees of the shape, as they are written, are the variants that they are written for.
-    ghost fits: { Shape → Type 0 };
+    // Trees of the tagging, as they are written, are the variants that they are written for.
+    ghost fits: { Tagging → Type 0 };
 
     /// Does nothing. It promises that trees of externally tagged enums are the variants that they are written for, and,
-    /// of each shape that this holds of, that the tree of a valid value means a valid value, and that each such value has
+    /// of each tagging that this holds of, that the tree of a valid value means a valid value, and that each such value has
     /// that tree.
     fn round_trips()
         ensures external { fits external }
-        ensures round_trips { (shape : Shape) (names : List Name) (v : Self.Values) → fits shape
+        ensures round_trips { (tagging : Tagging) (names : List Name) (v : Self.Values) → fits tagging
             → are_names meaning.count names ≡ true → real v
-            → RoundTrips real (tree shape names) (meaning.reads shape names) (tree shape names v) };
+            → RoundTrips real (tree tagging names) (meaning.reads tagging names) (tree tagging names v) };
 }
 
 impl RoundTripCases for NoCase {
@@ -47,9 +47,9 @@ impl RoundTripCases for NoCase {
 
     ghost real = { λ _. ⊤ };
 
-    ghost tree = { λ shape names v. null };
+    ghost tree = { λ tagging names v. null };
 
-    ghost fits = { λ shape. ⊤ };
+    ghost fits = { λ tagging. ⊤ };
 
     fn round_trips() {}
 }
@@ -61,9 +61,9 @@ impl<R: RoundTripCases> RoundTripCases for UnitCase<R> {
 
     ghost real = { CaseReal (λ u. ⊤) R.real };
 
-    ghost tree = { λ shape. case_tree (unit_tree shape) (R.tree shape) };
+    ghost tree = { λ tagging. case_tree (unit_tree tagging) (R.tree tagging) };
 
-    ghost fits = { λ shape. UnitFits shape × R.fits shape };
+    ghost fits = { λ tagging. UnitFits tagging × R.fits tagging };
 
     fn round_trips() {
         R::round_trips()
@@ -77,9 +77,9 @@ impl<T: RoundTrip, R: RoundTripCases> RoundTripCases for DataCase<T, R> {
 
     ghost real = { CaseReal T.real R.real };
 
-    ghost tree = { λ shape. case_tree (data_tree shape T.tree) (R.tree shape) };
+    ghost tree = { λ tagging. case_tree (data_tree tagging T.tree) (R.tree tagging) };
 
-    ghost fits = { λ shape. DataFits T.real T.tree shape × R.fits shape };
+    ghost fits = { λ tagging. DataFits T.real T.tree tagging × R.fits tagging };
 
     fn round_trips() {
         T::round_trips();

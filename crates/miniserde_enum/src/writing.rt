@@ -4,7 +4,7 @@ ghost use Rattle.miniserde_model.specs.Compact.{compact};
 ghost use Rattle.miniserde_model.specs.IsTree.{IsTree};
 ghost use Rattle.miniserde_model.specs.declared.error.Error.TheVariants.{Memory};
 ghost use Rattle.miniserde_record.specs.Structs.{record_tree};
-ghost use Rattle.miniserde_enum.specs.Shape.{external, internal};
+ghost use Rattle.miniserde_enum.specs.Tagging.{external, internal};
 ghost use Rattle.miniserde_enum.specs.Cases.{data_tree};
 
 use crate::inside::Inside;

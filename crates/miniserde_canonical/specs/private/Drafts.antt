@@ -17,8 +17,8 @@ pub record Wrote (d : Draft) (rest bs : List ℕ) : Type 0 where
 
 -- with the bytes bs for its text, the draft holds the state
 pub record Holding (d : Draft) (bs : List ℕ) (s : State) : Type 0 where
-  pub chain : Chain d.members.items s.entries d.groups.bytes.items d.groups.holes.items 0 0 bs d.out.holes.items s.last
-  pub good : Good d.groups.holes.items d.out.holes.items
+  pub chain : Chain d.members.items s.entries d.groups.bytes.items d.groups.splices.items 0 0 bs d.out.splices.items s.last
+  pub good : Good d.groups.splices.items d.out.splices.items
   pub opened : d.opened.items ≡ s.opened
   pub distinct : d.is_distinct ≡ s.distinct
 
@@ -29,9 +29,9 @@ pub record Represents (d : Draft) (rest : List ℕ) (s : State) : Type 0 where
 
 -- nothing changes but the bytes of the text and the run
 pub record ChangesOnlyText (d d' : Draft) : Type 0 where
-  pub holes : d'.out.holes.items ≡ d.out.holes.items
+  pub splices : d'.out.splices.items ≡ d.out.splices.items
   pub groups : d'.groups.bytes.items ≡ d.groups.bytes.items
-  pub inner : d'.groups.holes.items ≡ d.groups.holes.items
+  pub inner : d'.groups.splices.items ≡ d.groups.splices.items
   pub members : d'.members.items ≡ d.members.items
   pub opened : d'.opened.items ≡ d.opened.items
   pub distinct : d'.is_distinct ≡ d.is_distinct

@@ -28,7 +28,7 @@ begin_of (m ∷ ms) end = m.place
 
 abbrev pub before_comma : List Member → Place → Place
 before_comma [] end = end
-before_comma (m ∷ ms) end = record { bytes = m.place.bytes - length (gap m.first); holes = m.place.holes }
+before_comma (m ∷ ms) end = record { bytes = m.place.bytes - length (gap m.first); splices = m.place.splices }
 
 abbrev pub end_of : List Member → Place → Place
 end_of [] end = end

@@ -1,20 +1,20 @@
 -- The spans of groups that wait to be written, the last to come first.
 use Rattle.std.specs.Prelude.{◌≡◌, ◌-◌, ◌+◌, ◌^◌, ℕ, List, [], ◌∷◌, ◌++◌}
 use Rattle.miniserde_canonical.specs.declared.spread.Span.{Span}
-use Rattle.miniserde_canonical.specs.declared.spread.Hole.{Hole}
-use Rattle.miniserde_canonical.specs.private.Spreads.{Holds, Within, bytes_in, holes_in}
+use Rattle.miniserde_canonical.specs.declared.spread.Splice.{Splice}
+use Rattle.miniserde_canonical.specs.private.Spreads.{Holds, Within, bytes_in, splices_in}
 
 -- a span of the groups holds the text
-abbrev pub SpanHolds : List ℕ → List Hole → Span → List ℕ → Type 0
-SpanHolds ms gs p x = Within p ms gs × Holds ms gs p.from.bytes (bytes_in p ms) (holes_in p gs) x
+abbrev pub SpanHolds : List ℕ → List Splice → Span → List ℕ → Type 0
+SpanHolds ms gs p x = Within p ms gs × Holds ms gs p.from.bytes (bytes_in p ms) (splices_in p gs) x
 
-abbrev pub Waits : List ℕ → List Hole → List Span → List ℕ → Type 0
+abbrev pub Waits : List ℕ → List Splice → List Span → List ℕ → Type 0
 Waits ms gs [] x = x ≡ []
 Waits ms gs (p ∷ ps) x = (y z : List ℕ) × Waits ms gs ps y × SpanHolds ms gs p z × (x ≡ y ++ z)
 
--- More than what its holes take, where each takes more than all that stand before it.
+-- More than what its splices take, where each takes more than all that stand before it.
 abbrev pub span_measure : Span → ℕ
-span_measure p = 1 + (2 ^ (1 + p.to.holes) - 2 ^ (1 + p.from.holes))
+span_measure p = 1 + (2 ^ (1 + p.to.splices) - 2 ^ (1 + p.from.splices))
 
 abbrev pub spans_measure : List Span → ℕ
 spans_measure [] = 0

@@ -7,8 +7,8 @@ use Rattle.miniserde_read.specs.types.Objects.{Name}
 use Rattle.miniserde_record.specs.Structs.{is_new, are_distinct}
 use Rattle.miniserde_enum.specs.declared.one_of.OneOf.{OneOf}
 use Rattle.miniserde_enum.specs.declared.one_of.OneOf.TheVariants.{First, Later}
-use Rattle.miniserde_enum.specs.Shape.{Shape, case_of, by_shape}
-use Rattle.miniserde_enum.specs.laws.Shape.{shape-agrees}
+use Rattle.miniserde_enum.specs.Tagging.{Tagging, case_of, by_tagging}
+use Rattle.miniserde_enum.specs.laws.Tagging.{tagging-agrees}
 use Rattle.miniserde_enum.specs.Cases.{case_given, unit_given, data_given, CaseReads, UnitReads, DataReads, case_content}
 
 -- ---- names
@@ -44,12 +44,12 @@ alone given n k o = cond (bytes_eq k n) (given o) None
 -- ---- by a name and its data
 
 -- two functions that agree at each name and data agree at each tree
-pub shape-iff : {A B : Type 0} (shape : Shape) (f : Name → Option Tree → Option A) (g : Name → Option Tree → Option B) (a : A) (b : B) → ((k : Name) (o : Option Tree) → (f k o ≡ Some a) ↔ (g k o ≡ Some b)) → (t : Tree) → (by_shape shape f t ≡ Some a) ↔ (by_shape shape g t ≡ Some b)
-shape-iff {A} {B} shape f g a b h t = elim (case_of shape t) as (λ o. (◌≡◌ {A = Option A} (option_and_then (λ s. f s.0 s.1) o) (Some a)) ↔ (◌≡◌ {A = Option B} (option_and_then (λ s. g s.0 s.1) o) (Some b))) [ None ↦ (λ e. absurd (cc), λ e. absurd (cc)) | Some s ↦ h s.0 s.1 ]
+pub tagging-iff : {A B : Type 0} (tagging : Tagging) (f : Name → Option Tree → Option A) (g : Name → Option Tree → Option B) (a : A) (b : B) → ((k : Name) (o : Option Tree) → (f k o ≡ Some a) ↔ (g k o ≡ Some b)) → (t : Tree) → (by_tagging tagging f t ≡ Some a) ↔ (by_tagging tagging g t ≡ Some b)
+tagging-iff {A} {B} tagging f g a b h t = elim (case_of tagging t) as (λ o. (◌≡◌ {A = Option A} (option_and_then (λ s. f s.0 s.1) o) (Some a)) ↔ (◌≡◌ {A = Option B} (option_and_then (λ s. g s.0 s.1) o) (Some b))) [ None ↦ (λ e. absurd (cc), λ e. absurd (cc)) | Some s ↦ h s.0 s.1 ]
 
 -- a tree gives no content if no name and data do
-pub shape-none : {A : Type 0} (shape : Shape) (a : A) (t : Tree) → by_shape shape (λ k o. None) t ≡ Some a → ⊥
-shape-none {A} shape a t = elim (case_of shape t) as (λ o. ◌≡◌ {A = Option A} (option_and_then (λ s. None) o) (Some a) → ⊥) [ None ↦ λ e. cc | Some s ↦ λ e. cc ]
+pub tagging-none : {A : Type 0} (tagging : Tagging) (a : A) (t : Tree) → by_tagging tagging (λ k o. None) t ≡ Some a → ⊥
+tagging-none {A} tagging a t = elim (case_of tagging t) as (λ o. ◌≡◌ {A = Option A} (option_and_then (λ s. None) o) (Some a) → ⊥) [ None ↦ λ e. cc | Some s ↦ λ e. cc ]
 
 -- ---- a variant without data
 
@@ -67,10 +67,10 @@ unit-found : (n : Name) (o : Option (Name × Option Tree)) → (o ≡ Some (n, N
 unit-found n None = (λ e. absurd (cc), λ e. absurd (cc))
 unit-found n (Some s) = unit-at n s.0 s.1
 
-pub unit-agrees : (shape : Shape) (n : Name) (t : Tree) (u : Unit {0}) → UnitReads shape n t u ↔ (by_shape shape (alone unit_given n) t ≡ Some tt)
-unit-agrees shape n t u =
-    let is = shape-agrees shape t n None in
-    let found = unit-found n (case_of shape t) in
+pub unit-agrees : (tagging : Tagging) (n : Name) (t : Tree) (u : Unit {0}) → UnitReads tagging n t u ↔ (by_tagging tagging (alone unit_given n) t ≡ Some tt)
+unit-agrees tagging n t u =
+    let is = tagging-agrees tagging t n None in
+    let found = unit-found n (case_of tagging t) in
     (λ h. found.0 (is.0 h), λ e. is.1 (found.1 e))
 
 -- ---- a variant with data
@@ -95,17 +95,17 @@ module _ {T C : Type 0} (reads : Tree → T → Type 0) (of : Tree → Option C)
   data-found n None x = (λ h. let e = h.1 in absurd (cc), λ e. absurd (cc))
   data-found n (Some s) x = data-at n s.0 s.1 x
 
-  pub data-agrees : (shape : Shape) (n : Name) (t : Tree) (x : T) → DataReads reads shape n t x ↔ (by_shape shape (alone (data_given of) n) t ≡ Some (content x))
-  data-agrees shape n t x =
-      let found = data-found n (case_of shape t) x in (
-        λ h. found.0 (h.0, (shape-agrees shape t n (Some h.0)).0 h.1, h.2),
-        λ e. let h = found.1 e in (h.0, (shape-agrees shape t n (Some h.0)).1 h.1, h.2),
+  pub data-agrees : (tagging : Tagging) (n : Name) (t : Tree) (x : T) → DataReads reads tagging n t x ↔ (by_tagging tagging (alone (data_given of) n) t ≡ Some (content x))
+  data-agrees tagging n t x =
+      let found = data-found n (case_of tagging t) x in (
+        λ h. found.0 (h.0, (tagging-agrees tagging t n (Some h.0)).0 h.1, h.2),
+        λ e. let h = found.1 e in (h.0, (tagging-agrees tagging t n (Some h.0)).1 h.1, h.2),
       )
 
 -- ---- variant by variant
 
-module _ {T W C D : Type 0} (given : Option Tree → Option C) (one : Shape → Name → Tree → T → Type 0) (content : T → C) (one_agrees : (shape : Shape) (n : Name) (t : Tree) (x : T) → one shape n t x ↔ (by_shape shape (alone given n) t ≡ Some (content x)))
-    (later : List Name → Name → Option Tree → Option D) (reads : Shape → List Name → Tree → W → Type 0) (content_w : W → D) (fresh : (ns : List Name) (n : Name) (o : Option Tree) → is_new n ns ≡ true → later ns n o ≡ None) (agrees : (shape : Shape) (ns : List Name) → are_distinct ns ≡ true → (t : Tree) (w : W) → reads shape ns t w ↔ (by_shape shape (later ns) t ≡ Some (content_w w))) where
+module _ {T W C D : Type 0} (given : Option Tree → Option C) (one : Tagging → Name → Tree → T → Type 0) (content : T → C) (one_agrees : (tagging : Tagging) (n : Name) (t : Tree) (x : T) → one tagging n t x ↔ (by_tagging tagging (alone given n) t ≡ Some (content x)))
+    (later : List Name → Name → Option Tree → Option D) (reads : Tagging → List Name → Tree → W → Type 0) (content_w : W → D) (fresh : (ns : List Name) (n : Name) (o : Option Tree) → is_new n ns ≡ true → later ns n o ≡ None) (agrees : (tagging : Tagging) (ns : List Name) → are_distinct ns ≡ true → (t : Tree) (w : W) → reads tagging ns t w ↔ (by_tagging tagging (later ns) t ≡ Some (content_w w))) where
   pub case-fresh : (ns : List Name) (n : Name) (o : Option Tree) → is_new n ns ≡ true → case_given given later ns n o ≡ None
   case-fresh [] n o h = refl
   case-fresh (m ∷ ms) n o h = let p = new-first n m ms h in rw (p.0, fresh ms n o p.1) refl
@@ -128,14 +128,14 @@ module _ {T W C D : Type 0} (given : Option Tree → Option C) (one : Shape → 
     | false ↦ λ h. elim (later ns k o) as (λ g. (g ≡ Some (content_w w)) ↔ (◌≡◌ {A = Option (OneOf C D)} (option_map Later g) (Some (Later (content_w w))))) [ None ↦ (λ e. absurd (cc), λ e. absurd (cc)) | Some c ↦ (λ e. cc, λ e. cc) ]
   ] refl
 
-  pub case-agrees : (shape : Shape) (ns : List Name) → are_distinct ns ≡ true → (t : Tree) (v : OneOf T W) → CaseReads (one shape) (reads shape) ns t v ↔ (by_shape shape (case_given given later ns) t ≡ Some (case_content content content_w v))
-  case-agrees shape [] d t v = (λ h. absurd h, λ e. absurd (shape-none shape (case_content content content_w v) t e))
-  case-agrees shape (n ∷ ns) d t (First x) =
-      let p = one_agrees shape n t x in
-      let q = shape-iff shape (alone given n) (case_given given later (n ∷ ns)) (content x) (First (content x)) (first-at n ns x) t in
+  pub case-agrees : (tagging : Tagging) (ns : List Name) → are_distinct ns ≡ true → (t : Tree) (v : OneOf T W) → CaseReads (one tagging) (reads tagging) ns t v ↔ (by_tagging tagging (case_given given later ns) t ≡ Some (case_content content content_w v))
+  case-agrees tagging [] d t v = (λ h. absurd h, λ e. absurd (tagging-none tagging (case_content content content_w v) t e))
+  case-agrees tagging (n ∷ ns) d t (First x) =
+      let p = one_agrees tagging n t x in
+      let q = tagging-iff tagging (alone given n) (case_given given later (n ∷ ns)) (content x) (First (content x)) (first-at n ns x) t in
       (λ h. q.0 (p.0 h), λ e. p.1 (q.1 e))
-  case-agrees shape (n ∷ ns) d t (Later w) =
+  case-agrees tagging (n ∷ ns) d t (Later w) =
       let f = distinct-first n ns d in
-      let p = agrees shape ns f.1 t w in
-      let q = shape-iff shape (later ns) (case_given given later (n ∷ ns)) (content_w w) (Later (content_w w)) (later-at n ns w f.0) t in
+      let p = agrees tagging ns f.1 t w in
+      let q = tagging-iff tagging (later ns) (case_given given later (n ∷ ns)) (content_w w) (Later (content_w w)) (later-at n ns w f.0) t in
       (λ h. q.0 (p.0 h), λ e. p.1 (q.1 e))

@@ -1,5 +1,5 @@
 use Rattle.miniserde_record.proofs.Rounds.{distinct_names}
-use Rattle.miniserde_enum.specs.Shape.{external}
+use Rattle.miniserde_enum.specs.Tagging.{external}
 use Rattle.miniserde_enum.proofs.lossless.enum_lossless.Goals as goal
 
 pub returns : goal.returns

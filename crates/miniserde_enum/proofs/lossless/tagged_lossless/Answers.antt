@@ -1,5 +1,5 @@
 use Rattle.miniserde_record.proofs.Rounds.{distinct_names}
-use Rattle.miniserde_enum.specs.Shape.{internal}
+use Rattle.miniserde_enum.specs.Tagging.{internal}
 use Rattle.miniserde_enum.proofs.lossless.tagged_lossless.Goals as goal
 
 pub returns : goal.returns

@@ -1,6 +1,6 @@
 -- The value that the tree means makes an enum that it means.
 use Rattle.miniserde_record.proofs.Rounds.{distinct_names}
-use Rattle.miniserde_enum.specs.Shape.{external}
+use Rattle.miniserde_enum.specs.Tagging.{external}
 use Rattle.miniserde_enum.proofs.Rounds.{enum-round_trips}
 use Rattle.miniserde_enum.proofs.round_trips.enum_round_trips.Goals as goal
 
@@ -8,6 +8,6 @@ pub returns : goal.returns
 returns g c = λ v r.
     let s = g.E.Tagged in
     let f = g.C.RoundTripCases in
-    let shape = external in
-    enum-round_trips f.real (f.tree shape s.names) (f.meaning.reads shape s.names) s.values g.met.E.Tagged.bijective v
-    (c.round_trips.ensures.round_trips shape s.names (s.values v) c.round_trips.ensures.external (distinct_names f.meaning.count s.names c.requires g.met.E.Tagged.distinct_names) r)
+    let tagging = external in
+    enum-round_trips f.real (f.tree tagging s.names) (f.meaning.reads tagging s.names) s.values g.met.E.Tagged.bijective v
+    (c.round_trips.ensures.round_trips tagging s.names (s.values v) c.round_trips.ensures.external (distinct_names f.meaning.count s.names c.requires g.met.E.Tagged.distinct_names) r)

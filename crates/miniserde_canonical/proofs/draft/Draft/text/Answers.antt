@@ -33,5 +33,5 @@ returns-in_ok-string-in-Str-clause-wrote c = λ rest part rest' bs t e f g p.
 pub returns-in_default : goal.returns-in_default
 returns-in_default c = record {
   wrote = λ rest part rest' bs t e f g p. subst (λ z. Wrote c.args.self.now rest' (bs ++ z)) (as_it_is c.args.event c.args.scratch.now part p c.in_default.not-Negative c.in_default.not-Str) (wrote_on c.args.self.now rest part rest' bs t e);
-  only_text = record { holes = refl; groups = refl; inner = refl; members = refl; opened = refl; distinct = refl };
+  only_text = record { splices = refl; groups = refl; inner = refl; members = refl; opened = refl; distinct = refl };
 }

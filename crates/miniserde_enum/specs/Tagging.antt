@@ -1,4 +1,4 @@
--- The shape of an enum's trees: where a tree has the name of a variant and its data.
+-- The tagging of an enum's trees: where a tree has the name of a variant and its data.
 use Rattle.std.specs.Prelude.{Option, option_and_then}
 use Rattle.miniserde_model.specs.Tree.{Tree}
 use Rattle.miniserde_read.specs.types.Objects.{Name}
@@ -6,25 +6,25 @@ use Rattle.miniserde_enum.specs.External.{IsExternal, external_variant, external
 use Rattle.miniserde_enum.specs.Internal.{IsInternal, internal_variant, internal_tree}
 
 -- externally tagged, or internally, by the name of the tag
-pub data Shape : Type 0 where
-  external : Shape
-  internal : Name → Shape
+pub data Tagging : Type 0 where
+  external : Tagging
+  internal : Name → Tagging
 
 -- the tree is the variant of the name, with the data or with none
-abbrev pub IsCase : Shape → Tree → Name → Option Tree → Type 0
+abbrev pub IsCase : Tagging → Tree → Name → Option Tree → Type 0
 IsCase external = IsExternal
 IsCase (internal tag) = IsInternal tag
 
 -- the name of the variant that the tree is, and its data if it has any
-abbrev pub case_of : Shape → Tree → Option (Name × Option Tree)
+abbrev pub case_of : Tagging → Tree → Option (Name × Option Tree)
 case_of external = external_variant
 case_of (internal tag) = internal_variant tag
 
 -- the tree that is written of a name, with data or with none
-abbrev pub case_written : Shape → Name → Option Tree → Tree
+abbrev pub case_written : Tagging → Name → Option Tree → Tree
 case_written external = external_tree
 case_written (internal tag) = internal_tree tag
 
 -- the content that a tree gives, by the content of each name with its data
-abbrev pub by_shape : {C : Type 0} → Shape → (Name → Option Tree → Option C) → Tree → Option C
-by_shape shape f t = option_and_then (λ v. f v.0 v.1) (case_of shape t)
+abbrev pub by_tagging : {C : Type 0} → Tagging → (Name → Option Tree → Option C) → Tree → Option C
+by_tagging tagging f t = option_and_then (λ v. f v.0 v.1) (case_of tagging t)
