@@ -53,7 +53,7 @@ pub trait Inside: RoundTrip {
     /// Does nothing. It promises that its tree is an object, whose members have no name but those of its fields.
     fn is_object()
         ensures object { (v : Self) → Self.tree v ≡ members (object_members (Self.tree v)) }
-        ensures distinct_names { (k : Name) (v : Self) → is_new k fields ≡ true
+        ensures named { (k : Name) (v : Self) → is_new k fields ≡ true
             → count_named k (object_members (Self.tree v)) ≡ 0 };
 }
 

@@ -35,7 +35,7 @@ pub trait LosslessCases {
     /// one tree have one content.
     fn lossless()
         ensures external { fits external }
-        ensures distinct_names { (tagging : Tagging) (names : List Name) (v : Self.Values) (n : Name) (o : Option Tree) → fits tagging
+        ensures named { (tagging : Tagging) (names : List Name) (v : Self.Values) (n : Name) (o : Option Tree) → fits tagging
             → are_names meaning.count names ≡ true → real v → is_new n names ≡ true
             → case_of tagging (tree tagging names v) ≡ Some (n, o) → ⊥ }
         ensures same { (tagging : Tagging) (names : List Name) (v w : Self.Values) → fits tagging

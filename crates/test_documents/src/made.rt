@@ -24,7 +24,7 @@ fn are_leaves(alloc: Global) -> Result<bool> {
 
 const NESTED: &str = r#"{"a":[1,[null,{"b":{}}],[]],"c":{"d":[false]}}"#;
 
-/// Returns whether arrays and objects in one another, with trailing commas, are written as expected.
+/// Returns whether arrays and objects nested, with trailing commas, are written as expected.
 fn is_nested(alloc: Global) -> Result<bool> {
     let nested = value!(in alloc; {
         "c": {"d": [false,],},
