@@ -52,7 +52,7 @@ def case_clause(it, at, part):
 def made_clause(parts):
     """The clause that makes the enum of each value of a variant."""
     if not parts:
-        return "no_case _"
+        return "any_of_never _"
     first = parts[0]
     data = [f"x.{it.name}" for it in first.fields] or (["x"] if len(first.values) == 1 else [f"x.{at}" for at in range(len(first.values))])
     return f"each_case _ (λ x. ({' '.join([quoted(first.name), *data])}, refl)) ({made_clause(parts[1:])})"

@@ -1,5 +1,5 @@
 //! The types of `action.rs`, with the impls that `./derive` writes.
-ghost use Rattle.miniserde.specs.Cases.{each_case, first_case, later_case, no_case, tagged_tree};
+ghost use Rattle.miniserde.specs.Cases.{each_case, first_case, later_case, any_of_never, tagged_tree};
 ghost use Rattle.miniserde.specs.CasesMeaning.{tagged_meaning};
 ghost use Rattle.miniserde.specs.FieldsMeaning.{struct_meaning};
 ghost use Rattle.miniserde.specs.Structs.{names_of, record_tree};
@@ -250,7 +250,7 @@ impl Tagged for Action {
     ] };
 
     ghost bijective = { each_case _ (λ x. (Ping, refl)) (each_case _ (λ x. (Say x, refl)) (each_case
-        _ (λ x. (Move x.x x.y, refl)) (no_case _))) };
+        _ (λ x. (Move x.x x.y, refl)) (any_of_never _))) };
 
     ghost distinct_names = { refl };
 

@@ -1,5 +1,5 @@
 //! The types of `command.rs`, with the impls that `./derive` writes.
-ghost use Rattle.miniserde.specs.Cases.{each_case, enum_tree, first_case, later_case, no_case};
+ghost use Rattle.miniserde.specs.Cases.{each_case, enum_tree, first_case, later_case, any_of_never};
 ghost use Rattle.miniserde.specs.CasesMeaning.{enum_meaning};
 ghost use Rattle.miniserde.specs.FieldsMeaning.{struct_meaning};
 ghost use Rattle.miniserde.specs.Structs.{names_of, record_tree};
@@ -130,7 +130,7 @@ impl Tagged for Command {
     ] };
 
     ghost bijective = { each_case _ (λ x. (Ping, refl)) (each_case _ (λ x. (Text x, refl))
-        (each_case _ (λ x. (Move x.x x.y, refl)) (no_case _))) };
+        (each_case _ (λ x. (Move x.x x.y, refl)) (any_of_never _))) };
 
     ghost distinct_names = { refl };
 

@@ -1,5 +1,5 @@
 //! The types of `reply.rs`, with the impls that `./derive` writes.
-ghost use Rattle.miniserde.specs.Cases.{each_case, enum_tree, first_case, later_case, no_case};
+ghost use Rattle.miniserde.specs.Cases.{each_case, enum_tree, first_case, later_case, any_of_never};
 ghost use Rattle.miniserde.specs.CasesMeaning.{enum_meaning};
 ghost use Rattle.miniserde.specs.FieldsMeaning.{struct_meaning};
 ghost use Rattle.miniserde.specs.Structs.{names_of, record_tree};
@@ -159,7 +159,7 @@ impl<T: FromJson> Tagged for Reply<T> {
       Between x.0 x.1,
       refl,
     )) (each_case _ (λ x. (Failed x.code x.why, refl)) (each_case _ (λ x. (Gone, refl))
-        (no_case _)))) };
+        (any_of_never _)))) };
 
     ghost distinct_names = { refl };
 

@@ -1,5 +1,5 @@
 -- The text of a draft, cut before each member, is a chain of the members' texts, and each step of a draft keeps the
--- chain. By induction over the members: the seam before a member has its comma, its place and its name.
+-- chain. By induction over the members: the seam before a member has its comma, its point and its name.
 use Rattle.std.proofs.Common.{◌≡◌, ◌+◌, ℕ, suc, List, [], ◌∷◌, ◌++◌, length, refl, sym, ap, subst, ◌∙◌, append_assoc, append-nil, arith, length-append}
 use Rattle.miniserde_canonical.specs.declared.spread.Splice.{Splice}
 use Rattle.miniserde_canonical.specs.declared.member.Member.{Member}
@@ -10,7 +10,7 @@ use Rattle.miniserde_canonical.specs.private.Sorting.{Seam, Chain}
 use Rattle.miniserde_canonical.proofs.Spreads.{holds_append, holds_behind, holds_more}
 
 -- the end is as far from a seam as from the begin
-seam_end : (n : Member) (e : Entry) (at k : ℕ) (bs : List ℕ) (hs : List Splice) (b c : List ℕ) (h g : List Splice) → Seam n e at k bs hs b c h g → (at + length bs ≡ n.place.bytes + length c) × (k + length hs ≡ n.place.splices + length g)
+seam_end : (n : Member) (e : Entry) (at k : ℕ) (bs : List ℕ) (hs : List Splice) (b c : List ℕ) (h g : List Splice) → Seam n e at k bs hs b c h g → (at + length bs ≡ n.point.bytes + length c) × (k + length hs ≡ n.point.splices + length g)
 seam_end n e at k bs hs b c h g s = (
   omega (arith, s.begins, ap length s.bytes, length-append b (gap e.first ++ c), length-append (gap e.first) c, length-append b (gap e.first)),
   omega (arith, s.behind, ap length s.splices, length-append h g),
@@ -32,7 +32,7 @@ seam_more n e at k bs hs b c h g cs ks s = record {
 
 pub chain_lengths : (ns : List Member) (es : List Entry) (ms : List ℕ) (gs : List Splice) (at k : ℕ) (bs : List ℕ) (hs : List Splice) (last : List ℕ) → Chain ns es ms gs at k bs hs last → length ns ≡ length es
 chain_lengths [] [] ms gs at k bs hs last h = refl
-chain_lengths (n ∷ ns) (e ∷ es) ms gs at k bs hs last h = ap suc (chain_lengths ns es ms gs n.place.bytes n.place.splices h.1 h.3 last h.6)
+chain_lengths (n ∷ ns) (e ∷ es) ms gs at k bs hs last h = ap suc (chain_lengths ns es ms gs n.point.bytes n.point.splices h.1 h.3 last h.6)
 chain_lengths [] (e ∷ es) ms gs at k bs hs last h = absurd h
 chain_lengths (n ∷ ns) [] ms gs at k bs hs last h = absurd h
 
@@ -40,20 +40,20 @@ chain_lengths (n ∷ ns) [] ms gs at k bs hs last h = absurd h
 pub chain_add : (ns : List Member) (es : List Entry) (ms : List ℕ) (gs : List Splice) (at k to : ℕ) (bs cs : List ℕ) (hs ks : List Splice) (last y : List ℕ) → Chain ns es ms gs at k bs hs last → to ≡ at + length bs → Holds ms gs to cs ks y → Chain ns es ms gs at k (bs ++ cs) (hs ++ ks) (last ++ y)
 chain_add [] [] ms gs at k to bs cs hs ks last y h e u = holds_append to cs ks y h e u
 chain_add (n ∷ ns) (e ∷ es) ms gs at k to bs cs hs ks last y h f u =
-    let far : to ≡ n.place.bytes + length h.1 = f ∙ (seam_end n e at k bs hs h.0 h.1 h.2 h.3 h.4).0 in
-    (h.0, h.1 ++ cs, h.2, h.3 ++ ks, seam_more n e at k bs hs h.0 h.1 h.2 h.3 cs ks h.4, h.5, chain_add ns es ms gs n.place.bytes n.place.splices to h.1 cs h.3 ks last y h.6 far u)
+    let far : to ≡ n.point.bytes + length h.1 = f ∙ (seam_end n e at k bs hs h.0 h.1 h.2 h.3 h.4).0 in
+    (h.0, h.1 ++ cs, h.2, h.3 ++ ks, seam_more n e at k bs hs h.0 h.1 h.2 h.3 cs ks h.4, h.5, chain_add ns es ms gs n.point.bytes n.point.splices to h.1 cs h.3 ks last y h.6 far u)
 chain_add [] (e ∷ es) ms gs at k to bs cs hs ks last y h f u = absurd h
 chain_add (n ∷ ns) [] ms gs at k to bs cs hs ks last y h f u = absurd h
 
 -- more groups
 pub chain_more : (ns : List Member) (es : List Entry) (ms : List ℕ) (gs : List Splice) (at k : ℕ) (bs : List ℕ) (hs : List Splice) (last : List ℕ) (more : List ℕ) (inner : List Splice) → Chain ns es ms gs at k bs hs last → Chain ns es (ms ++ more) (gs ++ inner) at k bs hs last
 chain_more [] [] ms gs at k bs hs last more inner h = holds_more more inner h
-chain_more (n ∷ ns) (e ∷ es) ms gs at k bs hs last more inner h = (h.0, h.1, h.2, h.3, h.4, holds_more more inner h.5, chain_more ns es ms gs n.place.bytes n.place.splices h.1 h.3 last more inner h.6)
+chain_more (n ∷ ns) (e ∷ es) ms gs at k bs hs last more inner h = (h.0, h.1, h.2, h.3, h.4, holds_more more inner h.5, chain_more ns es ms gs n.point.bytes n.point.splices h.1 h.3 last more inner h.6)
 chain_more [] (e ∷ es) ms gs at k bs hs last more inner h = absurd h
 chain_more (n ∷ ns) [] ms gs at k bs hs last more inner h = absurd h
 
 -- one more member
-pub chain_begin : (ns : List Member) (es : List Entry) (ms : List ℕ) (gs : List Splice) (at k : ℕ) (bs : List ℕ) (hs : List Splice) (last : List ℕ) (n : Member) (e : Entry) → Chain ns es ms gs at k bs hs last → e.text ≡ last → name_of n.name ≡ e.name → n.first ≡ e.first → n.place.bytes ≡ at + length (bs ++ gap e.first) → n.place.splices ≡ k + length hs → Chain (ns ++ n ∷ []) (es ++ e ∷ []) ms gs at k (bs ++ gap e.first) hs []
+pub chain_begin : (ns : List Member) (es : List Entry) (ms : List ℕ) (gs : List Splice) (at k : ℕ) (bs : List ℕ) (hs : List Splice) (last : List ℕ) (n : Member) (e : Entry) → Chain ns es ms gs at k bs hs last → e.text ≡ last → name_of n.name ≡ e.name → n.first ≡ e.first → n.point.bytes ≡ at + length (bs ++ gap e.first) → n.point.splices ≡ k + length hs → Chain (ns ++ n ∷ []) (es ++ e ∷ []) ms gs at k (bs ++ gap e.first) hs []
 chain_begin [] [] ms gs at k bs hs last n e h t m w p q = (
   bs,
   [],
@@ -66,9 +66,9 @@ chain_begin [] [] ms gs at k bs hs last n e h t m w p q = (
 chain_begin (m ∷ ns) (f ∷ es) ms gs at k bs hs last n e h t i w p q =
     let s = h.4 in
     let far = seam_end m f at k bs hs h.0 h.1 h.2 h.3 s in
-    let here : n.place.bytes ≡ m.place.bytes + length (h.1 ++ gap e.first) = omega (arith, p, far.0, length-append bs (gap e.first), length-append h.1 (gap e.first)) in
+    let here : n.point.bytes ≡ m.point.bytes + length (h.1 ++ gap e.first) = omega (arith, p, far.0, length-append bs (gap e.first), length-append h.1 (gap e.first)) in
     let same : Seam m f at k (bs ++ gap e.first) hs h.0 (h.1 ++ gap e.first) h.2 h.3 = subst (λ z. Seam m f at k (bs ++ gap e.first) z h.0 (h.1 ++ gap e.first) h.2 h.3) (append-nil hs) (subst (λ z. Seam m f at k (bs ++ gap e.first) (hs ++ []) h.0 (h.1 ++ gap e.first) h.2 z) (append-nil h.3) (seam_more m f at k bs hs h.0 h.1 h.2 h.3 (gap e.first) [] s)) in
-    (h.0, h.1 ++ gap e.first, h.2, h.3, same, h.5, chain_begin ns es ms gs m.place.bytes m.place.splices h.1 h.3 last n e h.6 t i w here (omega (arith, q, far.1)))
+    (h.0, h.1 ++ gap e.first, h.2, h.3, same, h.5, chain_begin ns es ms gs m.point.bytes m.point.splices h.1 h.3 last n e h.6 t i w here (omega (arith, q, far.1)))
 chain_begin [] (f ∷ es) ms gs at k bs hs last n e h t i w p q = absurd h
 chain_begin (m ∷ ns) [] ms gs at k bs hs last n e h t i w p q = absurd h
 
@@ -77,10 +77,10 @@ pub chain_whole : (ns : List Member) (es : List Entry) (ms : List ℕ) (gs : Lis
 chain_whole [] [] ms gs at k bs hs last h = h
 chain_whole (n ∷ ns) (e ∷ es) ms gs at k bs hs last h =
     let s = h.4 in
-    let rest = chain_whole ns es ms gs n.place.bytes n.place.splices h.1 h.3 last h.6 in
+    let rest = chain_whole ns es ms gs n.point.bytes n.point.splices h.1 h.3 last h.6 in
     let to = at + length h.0 in
-    let far : n.place.bytes ≡ to + length (gap e.first) = omega (arith, s.begins, length-append h.0 (gap e.first)) in
-    let behind : Holds ms gs to (gap e.first ++ h.1) h.3 (gap e.first ++ entries_text es last) = holds_behind ms gs to n.place.bytes (gap e.first) h.1 h.3 (entries_text es last) far rest in
+    let far : n.point.bytes ≡ to + length (gap e.first) = omega (arith, s.begins, length-append h.0 (gap e.first)) in
+    let behind : Holds ms gs to (gap e.first ++ h.1) h.3 (gap e.first ++ entries_text es last) = holds_behind ms gs to n.point.bytes (gap e.first) h.1 h.3 (entries_text es last) far rest in
     let all : Holds ms gs at (h.0 ++ (gap e.first ++ h.1)) (h.2 ++ h.3) (e.text ++ (gap e.first ++ entries_text es last)) = holds_append to (gap e.first ++ h.1) h.3 (gap e.first ++ entries_text es last) h.5 refl behind in
     subst (λ z. Holds ms gs at z hs (e.text ++ (gap e.first ++ entries_text es last))) (sym s.bytes) (subst (λ z. Holds ms gs at (h.0 ++ (gap e.first ++ h.1)) z (e.text ++ (gap e.first ++ entries_text es last))) (sym s.splices) all)
 chain_whole [] (e ∷ es) ms gs at k bs hs last h = absurd h
@@ -89,7 +89,7 @@ chain_whole (n ∷ ns) [] ms gs at k bs hs last h = absurd h
 -- without the last members, whose text stays
 pub chain_merge : (ns0 : List Member) (es0 : List Entry) (ns : List Member) (es : List Entry) (ms : List ℕ) (gs : List Splice) (at k : ℕ) (bs : List ℕ) (hs : List Splice) (last : List ℕ) → length ns0 ≡ length es0 → Chain (ns0 ++ ns) (es0 ++ es) ms gs at k bs hs last → Chain ns0 es0 ms gs at k bs hs (entries_text es last)
 chain_merge [] [] ns es ms gs at k bs hs last l h = chain_whole ns es ms gs at k bs hs last h
-chain_merge (m ∷ ns0) (f ∷ es0) ns es ms gs at k bs hs last l h = (h.0, h.1, h.2, h.3, h.4, h.5, chain_merge ns0 es0 ns es ms gs m.place.bytes m.place.splices h.1 h.3 last (omega (arith, l)) h.6)
+chain_merge (m ∷ ns0) (f ∷ es0) ns es ms gs at k bs hs last l h = (h.0, h.1, h.2, h.3, h.4, h.5, chain_merge ns0 es0 ns es ms gs m.point.bytes m.point.splices h.1 h.3 last (omega (arith, l)) h.6)
 chain_merge [] (f ∷ es0) ns es ms gs at k bs hs last l h = absurd (omega (arith, l))
 chain_merge (m ∷ ns0) [] ns es ms gs at k bs hs last l h = absurd (omega (arith, l))
 
@@ -101,13 +101,13 @@ pub record Cut (ns0 : List Member) (es0 : List Entry) (n : Member) (e : Entry) (
   pub splices_behind : List Splice
   pub seam : Seam n e at k bs hs before behind splices_before splices_behind
   pub front : Chain ns0 es0 ms gs at k before splices_before e.text
-  pub back : Chain ns es ms gs n.place.bytes n.place.splices behind splices_behind last
+  pub back : Chain ns es ms gs n.point.bytes n.point.splices behind splices_behind last
 
 pub chain_cut : (ns0 : List Member) (es0 : List Entry) (n : Member) (e : Entry) (ns : List Member) (es : List Entry) (ms : List ℕ) (gs : List Splice) (at k : ℕ) (bs : List ℕ) (hs : List Splice) (last : List ℕ) → length ns0 ≡ length es0 → Chain (ns0 ++ n ∷ ns) (es0 ++ e ∷ es) ms gs at k bs hs last → Cut ns0 es0 n e ns es ms gs at k bs hs last
 chain_cut [] [] n e ns es ms gs at k bs hs last l h = record { before = h.0; behind = h.1; splices_before = h.2; splices_behind = h.3; seam = h.4; front = h.5; back = h.6 }
 chain_cut (m ∷ ns0) (f ∷ es0) n e ns es ms gs at k bs hs last l h =
     let s = h.4 in
-    let r = chain_cut ns0 es0 n e ns es ms gs m.place.bytes m.place.splices h.1 h.3 last (omega (arith, l)) h.6 in
+    let r = chain_cut ns0 es0 n e ns es ms gs m.point.bytes m.point.splices h.1 h.3 last (omega (arith, l)) h.6 in
     let t = r.seam in
     let front = h.0 ++ (gap f.first ++ r.before) in
     record {

@@ -65,7 +65,7 @@ holding_opened d d' bs s s' k b e f m o n t la en op di r = record {
 }
 
 -- a member begins, and x is put behind its begin
-pub holding_begun : (d d' : Draft) (bs : List ℕ) (s s' : State) (n : Member) (name x : List ℕ) → d'.out.splices.items ≡ d.out.splices.items → d'.groups.bytes.items ≡ d.groups.bytes.items → d'.groups.splices.items ≡ d.groups.splices.items → d'.members.items ≡ d.members.items ++ n ∷ [] → d'.opened.items ≡ d.opened.items → d'.is_distinct ≡ d.is_distinct → name_of n.name ≡ name → n.first ≡ s.first → n.place.bytes ≡ length (bs ++ gap s.first) → n.place.splices ≡ length d.out.splices.items → s'.entries ≡ s.entries ++ record { text = s.last; first = s.first; name = name } ∷ [] → s'.last ≡ x → s'.opened ≡ s.opened → s'.distinct ≡ s.distinct → Holding d bs s → Holding d' ((bs ++ gap s.first) ++ x) s'
+pub holding_begun : (d d' : Draft) (bs : List ℕ) (s s' : State) (n : Member) (name x : List ℕ) → d'.out.splices.items ≡ d.out.splices.items → d'.groups.bytes.items ≡ d.groups.bytes.items → d'.groups.splices.items ≡ d.groups.splices.items → d'.members.items ≡ d.members.items ++ n ∷ [] → d'.opened.items ≡ d.opened.items → d'.is_distinct ≡ d.is_distinct → name_of n.name ≡ name → n.first ≡ s.first → n.point.bytes ≡ length (bs ++ gap s.first) → n.point.splices ≡ length d.out.splices.items → s'.entries ≡ s.entries ++ record { text = s.last; first = s.first; name = name } ∷ [] → s'.last ≡ x → s'.opened ≡ s.opened → s'.distinct ≡ s.distinct → Holding d bs s → Holding d' ((bs ++ gap s.first) ++ x) s'
 holding_begun d d' bs s s' n name x b e f m o t na fi pb ph en la op di r =
     let ms = d.groups.bytes.items in
     let gs = d.groups.splices.items in
@@ -106,7 +106,7 @@ as_many d bs s f r l =
     let same = chain_lengths d.members.items s.entries d.groups.bytes.items d.groups.splices.items 0 0 bs d.out.splices.items s.last r.chain in
     length-take-le f d.members.items l ∙ sym (length-take-le f s.entries (omega (arith, l, same)))
 
--- the members behind a place agree with their entries
+-- the members behind a point agree with their entries
 own_part : (f : ℕ) (ns : List Member) (es : List Entry) → Agree ns es → Agree (drop f ns) (drop f es)
 own_part f [] [] a = subst (λ z. Agree z (drop f [])) (sym (drop_all {X = Member} f [] (omega arith))) (subst (λ z. Agree [] z) (sym (drop_all {X = Entry} f [] (omega arith))) tt)
 own_part zero (n ∷ ns) (e ∷ es) a = a
@@ -146,12 +146,12 @@ ordered_at d d' s f b n ns e es same good di chain st m t is =
     let r = st (e ∷ es) s.last own in
     let p = r.0 in
     let x = members_text true (norm_members (entry_members (e ∷ es) s.last)) in
-    let here : n.place.bytes ≡ length (c.before ++ gap e.first) = omega (arith, seam.begins) in
-    let front : take n.place.bytes d.out.bytes.items ≡ c.before ++ gap e.first = ap₂ take here (seam.bytes ∙ sym (append_assoc c.before (gap e.first) c.behind)) ∙ take-append_seam (c.before ++ gap e.first) c.behind in
-    let splices_front : take n.place.splices d.out.splices.items ≡ c.splices_before = let at : n.place.splices ≡ length c.splices_before = omega (arith, seam.behind) in ap₂ take at seam.splices ∙ take-append_seam c.splices_before c.splices_behind in
-    let far : n.place.bytes ≡ (0 + length c.before) + length (gap e.first) = omega (arith, here, length-append c.before (gap e.first)) in
+    let here : n.point.bytes ≡ length (c.before ++ gap e.first) = omega (arith, seam.begins) in
+    let front : take n.point.bytes d.out.bytes.items ≡ c.before ++ gap e.first = ap₂ take here (seam.bytes ∙ sym (append_assoc c.before (gap e.first) c.behind)) ∙ take-append_seam (c.before ++ gap e.first) c.behind in
+    let splices_front : take n.point.splices d.out.splices.items ≡ c.splices_before = let at : n.point.splices ≡ length c.splices_before = omega (arith, seam.behind) in ap₂ take at seam.splices ∙ take-append_seam c.splices_before c.splices_behind in
+    let far : n.point.bytes ≡ (0 + length c.before) + length (gap e.first) = omega (arith, here, length-append c.before (gap e.first)) in
     let old : Chain (take f d.members.items) (take f s.entries) d'.groups.bytes.items d'.groups.splices.items 0 0 c.before c.splices_before e.text = subst (λ z. Chain (take f d.members.items) (take f s.entries) z d'.groups.splices.items 0 0 c.before c.splices_before e.text) (sym p.groups_bytes) (subst (λ z. Chain (take f d.members.items) (take f s.entries) (ms ++ p.more_bytes) z 0 0 c.before c.splices_before e.text) (sym p.groups_splices) (chain_more (take f d.members.items) (take f s.entries) ms gs 0 0 c.before c.splices_before e.text p.more_bytes p.more_splices c.front)) in
-    let new : Chain (take f d.members.items) (take f s.entries) d'.groups.bytes.items d'.groups.splices.items 0 0 (c.before ++ (gap e.first ++ p.bytes)) (c.splices_before ++ p.splices) (e.text ++ (gap e.first ++ x)) = chain_add (take f d.members.items) (take f s.entries) d'.groups.bytes.items d'.groups.splices.items 0 0 (0 + length c.before) c.before (gap e.first ++ p.bytes) c.splices_before p.splices e.text (gap e.first ++ x) old refl (holds_behind d'.groups.bytes.items d'.groups.splices.items (0 + length c.before) n.place.bytes (gap e.first) p.bytes p.splices x far p.text) in
+    let new : Chain (take f d.members.items) (take f s.entries) d'.groups.bytes.items d'.groups.splices.items 0 0 (c.before ++ (gap e.first ++ p.bytes)) (c.splices_before ++ p.splices) (e.text ++ (gap e.first ++ x)) = chain_add (take f d.members.items) (take f s.entries) d'.groups.bytes.items d'.groups.splices.items 0 0 (0 + length c.before) c.before (gap e.first ++ p.bytes) c.splices_before p.splices e.text (gap e.first ++ x) old refl (holds_behind d'.groups.bytes.items d'.groups.splices.items (0 + length c.before) n.point.bytes (gap e.first) p.bytes p.splices x far p.text) in
     let out_bytes : d'.out.bytes.items ≡ c.before ++ (gap e.first ++ p.bytes) = p.is_bytes ∙ ap (λ z. z ++ p.bytes) front ∙ append_assoc c.before (gap e.first) p.bytes in
     let out_splices : d'.out.splices.items ≡ c.splices_before ++ p.splices = p.is_splices ∙ ap (λ z. z ++ p.splices) splices_front in
     record {

@@ -63,8 +63,8 @@ span_splice ms bs gs ks p q splice d out part out' later mid later' eb ek l belo
     let f : p.from.bytes ≤ splice.at → splice.at ≤ length ms → part ≡ part_between p.from.bytes splice.at ms = λ a b. f' a (subst (λ z. splice.at ≤ length z) (sym eb) b) ∙ ap (part_between p.from.bytes splice.at) eb in
     let first : splices_in p gs ≡ splice ∷ part_between (p.from.splices + 1) p.to.splices gs = first_splice p.from.splices p.to.splices gs d l h ∙ ap (λ z. z ∷ part_between (p.from.splices + 1) p.to.splices gs) (sym i) in
     let a = at_splice (subst (λ z. Holds ms gs p.from.bytes (bytes_in p ms) z x) first s.1) in
-    let behind = behind_splice p.from.bytes p.to.bytes splice.at ms a.before a.behind v.0 v.1 a.bytes a.place in
-    let bytes : part ≡ a.before = f (omega (arith, a.place)) (omega (arith, behind.0, v.1)) ∙ before_splice p.from.bytes p.to.bytes splice.at ms a.before a.behind v.0 v.1 a.bytes a.place in
+    let behind = behind_splice p.from.bytes p.to.bytes splice.at ms a.before a.behind v.0 v.1 a.bytes a.point in
+    let bytes : part ≡ a.before = f (omega (arith, a.point)) (omega (arith, behind.0, v.1)) ∙ before_splice p.from.bytes p.to.bytes splice.at ms a.before a.behind v.0 v.1 a.bytes a.point in
     let r : Span = record { from = record { bytes = splice.at; splices = p.from.splices + 1 }; to = p.to } in
     let rest : SpanHolds ms gs r a.rest = ((behind.0, v.1, omega (arith, l), v.3), subst (λ z. Holds ms gs splice.at z (part_between (p.from.splices + 1) p.to.splices gs) a.rest) (sym behind.1) a.after) in
     let one : Waits ms gs mid (a.rest ++ y) = subst (λ z. Waits ms gs z (a.rest ++ y)) (sym (j ∙ ap (λ z. later ++ z ∷ []) e)) (waits_push ms gs later r y a.rest w rest) in
@@ -164,9 +164,9 @@ fill_goes ms gs bs text' hs ks at i splice d out part mid out' eb l e f' g p lef
     let front = length-take-le at bs t.1 in
     let text : bs ≡ take at bs ++ (a.before ++ a.behind) = sym (take-append-drop at bs) ∙ ap (λ z. take at bs ++ z) a.bytes in
     let long = ap length text ∙ length-append (take at bs) (a.before ++ a.behind) in
-    let within : splice.at ≤ length bs = omega (arith, a.place, long, front, length-append a.before a.behind) in
-    let bytes : part ≡ a.before = f (omega (arith, a.place)) within ∙ between_mid at splice.at bs (take at bs) a.before a.behind text (sym front) a.place in
-    let behind : drop splice.at bs ≡ a.behind = let far : splice.at ≡ length (take at bs ++ a.before) = omega (arith, a.place, front, length-append (take at bs) a.before) in ap₂ drop far (text ∙ sym (append_assoc (take at bs) a.before a.behind)) ∙ drop-append_seam (take at bs ++ a.before) a.behind in (
+    let within : splice.at ≤ length bs = omega (arith, a.point, long, front, length-append a.before a.behind) in
+    let bytes : part ≡ a.before = f (omega (arith, a.point)) within ∙ between_mid at splice.at bs (take at bs) a.before a.behind text (sym front) a.point in
+    let behind : drop splice.at bs ≡ a.behind = let far : splice.at ≡ length (take at bs ++ a.before) = omega (arith, a.point, front, length-append (take at bs) a.before) in ap₂ drop far (text ∙ sym (append_assoc (take at bs) a.before a.behind)) ∙ drop-append_seam (take at bs ++ a.before) a.behind in (
       a.rest,
       within,
       subst (λ z. Holds ms gs splice.at z (drop (i + 1) ks) a.rest) (sym behind) a.after,

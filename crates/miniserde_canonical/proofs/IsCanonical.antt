@@ -9,7 +9,7 @@ use Rattle.miniserde_model.specs.Normal.{norm}
 use Rattle.miniserde_model.proofs.Normal.{norm_tree, norm_twice}
 use Rattle.miniserde_model.proofs.Unique.{one_tree}
 use Rattle.miniserde_model.proofs.Written.{written}
-use Rattle.miniserde_model.proofs.Canonical.{canonical_spells, canonical_tells}
+use Rattle.miniserde_model.proofs.Canonical.{canonical_spells, canonical_texts_equal}
 use Rattle.miniserde_model.proofs.Shortest.{shortest}
 
 -- c is the compact text of the normal form of a tree of j
@@ -35,7 +35,7 @@ pub both_told : (a b c d : List ℕ) → IsCanonical a c → IsCanonical b d →
 both_told a b c d h i t u p q =
     let x = canonical_text a c h t p in
     let y = canonical_text b d i u q in
-    let l = canonical_tells a b t u p q in
+    let l = canonical_texts_equal a b t u p q in
     (λ e. l.0 (sym x ∙ e ∙ y), λ e. x ∙ l.1 e ∙ sym y)
 
 -- a canonical text is one of the normal form itself

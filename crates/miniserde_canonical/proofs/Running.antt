@@ -91,8 +91,8 @@ name_stands (Input x) scratch part len p e f n =
 name_stands Scratch scratch part len p e f n = absurd (n refl)
 
 -- where the run would end
-pub run_length : (d : Draft) (rest bs : List ℕ) (at place : ℕ) → Wrote d rest bs → at ≡ length rest → place ≡ length d.out.bytes.items + (d.left - at) → place ≡ length bs
-run_length d rest bs at place w e f = omega (arith, e, f, w.left, length-append w.run rest, ap length w.text, length-append d.out.bytes.items w.run)
+pub run_length : (d : Draft) (rest bs : List ℕ) (at point : ℕ) → Wrote d rest bs → at ≡ length rest → point ≡ length d.out.bytes.items + (d.left - at) → point ≡ length bs
+run_length d rest bs at point w e f = omega (arith, e, f, w.left, length-append w.run rest, ap length w.text, length-append d.out.bytes.items w.run)
 
 -- a string that is borrowed stands there as it is written
 pub string_stands : (t : Text) (d : Draft) (scratch rest part rest' bs : List ℕ) → (t ≡ Scratch → ⊥) → Wrote d rest bs → rest ≡ part ++ rest' → TextSpelled t part → Wrote d rest' (bs ++ string_text (text_of t scratch))

@@ -6,7 +6,7 @@ use Rattle.std.proofs.Math.Seq.{take-append_seam}
 use Rattle.std.proofs.lemmas.Bool.Decides.{nat_tests}
 use Rattle.miniserde_model.specs.Tree.{Tree}
 use Rattle.miniserde_model.specs.Normal.{text_cmp, last_of, norm_members}
-use Rattle.miniserde_canonical.specs.declared.spread.Place.{Place}
+use Rattle.miniserde_canonical.specs.declared.spread.Point.{Point}
 use Rattle.miniserde_canonical.specs.declared.spread.Span.{Span}
 use Rattle.miniserde_canonical.specs.declared.spread.Splice.{Splice}
 use Rattle.miniserde_canonical.specs.declared.spread.Spread.{Spread}
@@ -22,7 +22,7 @@ use Rattle.miniserde_canonical.proofs.Owning.{HoldsBetween, own_span, own_agrees
 
 -- ---- one member
 
-pub gains_member : (groups mid groups' out : Spread) (ns : List Member) (i : ℕ) (end : Place) (p : Span) (f : Bool) → mid.bytes.items ≡ groups.bytes.items ++ gap f → mid.splices.items ≡ groups.splices.items → end.bytes ≡ length out.bytes.items → end.splices ≡ length out.splices.items → p.from ≡ begin_of (drop i ns) end → p.to ≡ end_of (drop i ns) end → (Within p out.bytes.items out.splices.items → groups'.bytes.items ≡ mid.bytes.items ++ bytes_in p out.bytes.items) → (Within p out.bytes.items out.splices.items → groups'.splices.items ≡ mid.splices.items ++ map (shifted_splice p.from.bytes (length mid.bytes.items)) (splices_in p out.splices.items)) → PutsMember ns i f out groups groups'
+pub gains_member : (groups mid groups' out : Spread) (ns : List Member) (i : ℕ) (end : Point) (p : Span) (f : Bool) → mid.bytes.items ≡ groups.bytes.items ++ gap f → mid.splices.items ≡ groups.splices.items → end.bytes ≡ length out.bytes.items → end.splices ≡ length out.splices.items → p.from ≡ begin_of (drop i ns) end → p.to ≡ end_of (drop i ns) end → (Within p out.bytes.items out.splices.items → groups'.bytes.items ≡ mid.bytes.items ++ bytes_in p out.bytes.items) → (Within p out.bytes.items out.splices.items → groups'.splices.items ≡ mid.splices.items ++ map (shifted_splice p.from.bytes (length mid.bytes.items)) (splices_in p out.splices.items)) → PutsMember ns i f out groups groups'
 gains_member groups mid groups' out ns i end p f e g u v a b j k = λ es last ms gs own.
     let hs = out.splices.items in
     let x = text_at (drop i es) last in
@@ -104,8 +104,8 @@ no_length : (h : List Splice) → length h ≡ 0 → h ≡ []
 no_length [] e = refl
 no_length (p ∷ h) e = absurd (omega (arith, e))
 
-pub back_short : (place from to : Place) (p : Span) (out mid out' groups groups' : Spread) → p ≡ record { from = from; to = to } → mid.bytes.items ≡ take place.bytes out.bytes.items → mid.splices.items ≡ take place.splices out.splices.items → to.bytes ≡ length groups.bytes.items → to.splices ≡ length groups.splices.items → to.splices ≡ from.splices → (Within p groups.bytes.items groups.splices.items → out'.bytes.items ≡ mid.bytes.items ++ bytes_in p groups.bytes.items) → (Within p groups.bytes.items groups.splices.items → out'.splices.items ≡ mid.splices.items ++ map (shifted_splice p.from.bytes (length mid.bytes.items)) (splices_in p groups.splices.items)) → groups'.bytes.items ≡ take from.bytes groups.bytes.items → groups'.splices.items ≡ take from.splices groups.splices.items → PutsBack place from out out' groups groups'
-back_short place from to p out mid out' groups groups' i e f tb th none_there ob oh gb gh = λ ms b gs h x bytes splices fb fk l u a.
+pub back_short : (point from to : Point) (p : Span) (out mid out' groups groups' : Spread) → p ≡ record { from = from; to = to } → mid.bytes.items ≡ take point.bytes out.bytes.items → mid.splices.items ≡ take point.splices out.splices.items → to.bytes ≡ length groups.bytes.items → to.splices ≡ length groups.splices.items → to.splices ≡ from.splices → (Within p groups.bytes.items groups.splices.items → out'.bytes.items ≡ mid.bytes.items ++ bytes_in p groups.bytes.items) → (Within p groups.bytes.items groups.splices.items → out'.splices.items ≡ mid.splices.items ++ map (shifted_splice p.from.bytes (length mid.bytes.items)) (splices_in p groups.splices.items)) → groups'.bytes.items ≡ take from.bytes groups.bytes.items → groups'.splices.items ≡ take from.splices groups.splices.items → PutsBack point from out out' groups groups'
+back_short point from to p out mid out' groups groups' i e f tb th none_there ob oh gb gh = λ ms b gs h x bytes splices fb fk l u a.
     let q : Span = record { from = from; to = to } in
     let long = ap length bytes ∙ length-append ms b in
     let many = ap length splices ∙ length-append gs h in
@@ -115,7 +115,7 @@ back_short place from to p out mid out' groups groups' i e f tb th none_there ob
     let same : x ≡ b = plain_text (subst (λ z. Holds ms gs (length ms) b z x) empty u) in
     let is : bytes_in p groups.bytes.items ≡ b = ap (λ z. bytes_in z groups.bytes.items) i ∙ between_end from.bytes to.bytes groups.bytes.items ms b bytes fb tb in
     let no_splice : splices_in p groups.splices.items ≡ [] = ap (λ z. splices_in z groups.splices.items) i ∙ between_none from.splices to.splices groups.splices.items (omega (arith, none_there)) in
-    let out_splices : out'.splices.items ≡ take place.splices out.splices.items ++ [] = oh v ∙ ap₂ (λ (y z : List Splice). y ++ map (shifted_splice p.from.bytes (length mid.bytes.items)) z) f no_splice in
+    let out_splices : out'.splices.items ≡ take point.splices out.splices.items ++ [] = oh v ∙ ap₂ (λ (y z : List Splice). y ++ map (shifted_splice p.from.bytes (length mid.bytes.items)) z) f no_splice in
     let groups_bytes : groups'.bytes.items ≡ ms = gb ∙ ap₂ take fb bytes ∙ take-append_seam ms b in
     let groups_splices : groups'.splices.items ≡ gs = gh ∙ ap₂ take fk splices ∙ take-append_seam gs h in
     record {
@@ -127,20 +127,20 @@ back_short place from to p out mid out' groups groups' i e f tb th none_there ob
       is_splices = out_splices;
       groups_bytes = groups_bytes ∙ sym (append-nil ms);
       groups_splices = groups_splices ∙ sym (append-nil gs);
-      text = subst (λ z. Holds groups'.bytes.items groups'.splices.items place.bytes b [] z) (sym same) (holds_plain groups'.bytes.items groups'.splices.items place.bytes b);
+      text = subst (λ z. Holds groups'.bytes.items groups'.splices.items point.bytes b [] z) (sym same) (holds_plain groups'.bytes.items groups'.splices.items point.bytes b);
       good = λ g. (
         subst (λ z. Ordered 0 z) (sym groups_splices) g.0,
-        subst (λ z. AllBefore (length z) out'.splices.items) (sym groups_splices) (subst (λ z. AllBefore (length gs) z) (sym (out_splices ∙ append-nil _)) (all_take (length gs) place.splices out.splices.items g.1)),
+        subst (λ z. AllBefore (length z) out'.splices.items) (sym groups_splices) (subst (λ z. AllBefore (length gs) z) (sym (out_splices ∙ append-nil _)) (all_take (length gs) point.splices out.splices.items g.1)),
       );
     }
 
-pub back_splice : (place from to : Place) (k : Splice) (out mid out' groups : Spread) → k ≡ record { at = place.bytes; group = record { from = from; to = to } } → mid.bytes.items ≡ take place.bytes out.bytes.items → mid.splices.items ≡ take place.splices out.splices.items → to.bytes ≡ length groups.bytes.items → to.splices ≡ length groups.splices.items → out'.bytes.items ≡ mid.bytes.items → out'.splices.items ≡ mid.splices.items ++ k ∷ [] → PutsBack place from out out' groups groups
-back_splice place from to k out mid out' groups i e f tb th ob oh = λ ms b gs h x bytes splices fb fk l u a.
+pub back_splice : (point from to : Point) (k : Splice) (out mid out' groups : Spread) → k ≡ record { at = point.bytes; group = record { from = from; to = to } } → mid.bytes.items ≡ take point.bytes out.bytes.items → mid.splices.items ≡ take point.splices out.splices.items → to.bytes ≡ length groups.bytes.items → to.splices ≡ length groups.splices.items → out'.bytes.items ≡ mid.bytes.items → out'.splices.items ≡ mid.splices.items ++ k ∷ [] → PutsBack point from out out' groups groups
+back_splice point from to k out mid out' groups i e f tb th ob oh = λ ms b gs h x bytes splices fb fk l u a.
     let p : Span = record { from = from; to = to } in
-    let splice : Splice = record { at = place.bytes; group = p } in
+    let splice : Splice = record { at = point.bytes; group = p } in
     let put : SpanHolds (ms ++ b) (gs ++ h) p x = group_holds ms b gs h x p fb fk (tb ∙ ap length bytes) (th ∙ ap length splices) u in
     let held : SpanHolds groups.bytes.items groups.splices.items p x = subst (λ z. SpanHolds z groups.splices.items p x) (sym bytes) (subst (λ z. SpanHolds (ms ++ b) z p x) (sym splices) put) in
-    let out_splices : out'.splices.items ≡ take place.splices out.splices.items ++ splice ∷ [] = oh ∙ ap₂ (λ (y : List Splice) (z : Splice). y ++ z ∷ []) f i in
+    let out_splices : out'.splices.items ≡ take point.splices out.splices.items ++ splice ∷ [] = oh ∙ ap₂ (λ (y : List Splice) (z : Splice). y ++ z ∷ []) f i in
     let many = ap length splices ∙ length-append gs h in
     record {
       bytes = [];
@@ -151,18 +151,18 @@ back_splice place from to k out mid out' groups i e f tb th ob oh = λ ms b gs h
       is_splices = out_splices;
       groups_bytes = bytes;
       groups_splices = splices;
-      text = splice_holds groups.bytes.items groups.splices.items place.bytes splice x refl held;
+      text = splice_holds groups.bytes.items groups.splices.items point.bytes splice x refl held;
       good = λ g. (
         subst (λ z. Ordered 0 z) (sym splices) (ordered_gains gs h g.0 (a g.1)),
-        subst (λ z. AllBefore (length groups.splices.items) z) (sym out_splices) (all_append (length groups.splices.items) (take place.splices out.splices.items) (splice ∷ []) (all_more (length gs) (length groups.splices.items) _ (omega (arith, many)) (all_take (length gs) place.splices out.splices.items g.1)) (omega (arith, th), tt)),
+        subst (λ z. AllBefore (length groups.splices.items) z) (sym out_splices) (all_append (length groups.splices.items) (take point.splices out.splices.items) (splice ∷ []) (all_more (length gs) (length groups.splices.items) _ (omega (arith, many)) (all_take (length gs) point.splices out.splices.items g.1)) (omega (arith, th), tt)),
       );
     }
 
 -- ---- an object
 
-first_place : (ns : List Member) (d : Member) → 0 < length ns → (get_or ns 0 d).place ≡ begin_of ns (record { bytes = 0; splices = 0 })
-first_place [] d l = absurd (omega (arith, l))
-first_place (n ∷ ns) d l = refl
+first_point : (ns : List Member) (d : Member) → 0 < length ns → (get_or ns 0 d).point ≡ begin_of ns (record { bytes = 0; splices = 0 })
+first_point [] d l = absurd (omega (arith, l))
+first_point (n ∷ ns) d l = refl
 
 own_within : (ns : List Member) (es : List Entry) (ms : List ℕ) (gs : List Splice) (bs : List ℕ) (hs : List Splice) (last : List ℕ) → Own ns es ms gs bs hs last → (begin_of ns (record { bytes = 0; splices = 0 })).bytes ≤ length bs
 own_within [] [] ms gs bs hs last o = omega arith
@@ -170,8 +170,8 @@ own_within (n ∷ ns) (e ∷ es) ms gs bs hs last o = omega (arith, o.begins, ap
 own_within [] (e ∷ es) ms gs bs hs last o = absurd o
 own_within (n ∷ ns) [] ms gs bs hs last o = absurd o
 
-pub settled : (ns : List Member) (d : Member) (place from : Place) (old new order : List ℕ) (out out' groups mid groups' : Spread) (n : ℕ) → 0 < length ns → place ≡ (get_or ns 0 d).place → old ≡ range_with_len 0 (length ns) → IsSortedByKey (name_in ns) text_cmp new → ((r : ℕ → Tree) (q : List ℕ) → last_of q (members_at ns r new) ≡ last_of q (members_at ns r old)) → order ≡ new → from.bytes ≡ length groups.bytes.items → from.splices ≡ length groups.splices.items → PutsMembers ns order out groups mid n → PutsBack place from out out' mid groups' → SortsMembers ns out out' groups groups' (nat_eq n (length ns))
-settled ns d place from old new order out out' groups mid groups' n some at e s h o fb fk g p = λ es last own.
+pub settled : (ns : List Member) (d : Member) (point from : Point) (old new order : List ℕ) (out out' groups mid groups' : Spread) (n : ℕ) → 0 < length ns → point ≡ (get_or ns 0 d).point → old ≡ range_with_len 0 (length ns) → IsSortedByKey (name_in ns) text_cmp new → ((r : ℕ → Tree) (q : List ℕ) → last_of q (members_at ns r new) ≡ last_of q (members_at ns r old)) → order ≡ new → from.bytes ≡ length groups.bytes.items → from.splices ≡ length groups.splices.items → PutsMembers ns order out groups mid n → PutsBack point from out out' mid groups' → SortsMembers ns out out' groups groups' (nat_eq n (length ns))
+settled ns d point from old new order out out' groups mid groups' n some at e s h o fb fk g p = λ es last own.
     let ms = groups.bytes.items in
     let gs = groups.splices.items in
     let agree = own_agrees ns es ms gs out.bytes.items out.splices.items last own in
@@ -179,8 +179,8 @@ settled ns d place from old new order out out' groups mid groups' n some at e s 
     let r = text_tree_at es last in
     let sorted : without_repeats (members_at ns r order) ≡ norm_members (entry_members es last) = ap (λ z. without_repeats (members_at ns r z)) o ∙ kept_normal ns es last old new agree e s h in
     let gains = t.0 in
-    let here : place ≡ begin_of ns (record { bytes = 0; splices = 0 }) = at ∙ first_place ns d some in
-    let within : place.bytes ≤ length out.bytes.items = subst (λ z. z.bytes ≤ length out.bytes.items) (sym here) (own_within ns es ms gs out.bytes.items out.splices.items last own) in
+    let here : point ≡ begin_of ns (record { bytes = 0; splices = 0 }) = at ∙ first_point ns d some in
+    let within : point.bytes ≤ length out.bytes.items = subst (λ z. z.bytes ≤ length out.bytes.items) (sym here) (own_within ns es ms gs out.bytes.items out.splices.items last own) in
     let back = p ms gains.bytes gs gains.splices (members_text true (without_repeats (members_at ns r order))) gains.more_bytes gains.more_splices fb fk within gains.text (gains.all_before (length gs)) in (
       subst (λ z. PutAt (begin_of ns (record { bytes = 0; splices = 0 })) ms gs out out' groups' (members_text true z)) sorted (subst (λ z. PutAt z ms gs out out' groups' (members_text true (without_repeats (members_at ns r order)))) here back),
       ap₂ nat_eq (t.1 ∙ ap count sorted) (sym (ended_count ns es last agree)),

@@ -8,7 +8,7 @@ use Rattle.miniserde_canonical.specs.declared.spread.Splice.{Splice}
 use Rattle.miniserde_canonical.specs.private.Spreads.{part_between, Within, bytes_in, splices_in, shifted_splice, Holds, none, byte, splice, Ordered, AllBefore}
 use Rattle.miniserde_canonical.specs.private.Waiting.{SpanHolds}
 
--- ---- between two places
+-- ---- between two points
 
 pub between_more : {X : Type 0} (a b : ℕ) (xs ys : List X) → a ≤ b → b ≤ length xs → part_between a b (xs ++ ys) ≡ part_between a b xs
 between_more a b xs ys h i = ap (take (b - a)) (drop-append-le a xs ys (omega arith)) ∙ take-append-le (b - a) (drop a xs) ys (omega (arith, length-drop a xs))
@@ -66,8 +66,8 @@ holds_moved {at = at} from to here l e (byte c u) =
     let next : suc here ≡ to + (suc at - from) = omega (arith, l, e) in
     byte c (holds_moved from to (suc here) (omega (arith, l)) next u)
 holds_moved {at = at} from to here l e (splice h i w u v) =
-    let place : to + (h.at - from) ≡ here = ap (λ z. to + (z - from)) i ∙ sym e in
-    splice (shifted_splice from to h) place w u (holds_moved from to here l e v)
+    let point : to + (h.at - from) ≡ here = ap (λ z. to + (z - from)) i ∙ sym e in
+    splice (shifted_splice from to h) point w u (holds_moved from to here l e v)
 
 -- the group of what was put at the end
 pub group_holds : (ms b : List ℕ) (gs h : List Splice) (x : List ℕ) (p : Span) → p.from.bytes ≡ length ms → p.from.splices ≡ length gs → p.to.bytes ≡ length (ms ++ b) → p.to.splices ≡ length (gs ++ h) → Holds ms gs (length ms) b h x → SpanHolds (ms ++ b) (gs ++ h) p x
@@ -88,7 +88,7 @@ pub record AtHole (ms : List ℕ) (gs : List Splice) (at : ℕ) (bs : List ℕ) 
   pub group : List ℕ
   pub rest : List ℕ
   pub bytes : bs ≡ before ++ behind
-  pub place : h.at ≡ at + length before
+  pub point : h.at ≡ at + length before
   pub within : Within h.group ms gs
   pub inside : Holds ms gs h.group.from.bytes (bytes_in h.group ms) (splices_in h.group gs) group
   pub after : Holds ms gs h.at behind hs rest
@@ -97,9 +97,9 @@ pub record AtHole (ms : List ℕ) (gs : List Splice) (at : ℕ) (bs : List ℕ) 
 pub at_splice : {ms : List ℕ} {gs : List Splice} {at : ℕ} {bs : List ℕ} {h : Splice} {hs : List Splice} {x : List ℕ} → Holds ms gs at bs (h ∷ hs) x → AtHole ms gs at bs h hs x
 at_splice {at = at} {h = k} (byte c u) =
     let r = at_splice u in
-    record { before = c ∷ r.before; behind = r.behind; group = r.group; rest = r.rest; bytes = ap (λ z. c ∷ z) r.bytes; place = omega (arith, r.place); within = r.within; inside = r.inside; after = r.after; text = ap (λ z. c ∷ z) r.text }
+    record { before = c ∷ r.before; behind = r.behind; group = r.group; rest = r.rest; bytes = ap (λ z. c ∷ z) r.bytes; point = omega (arith, r.point); within = r.within; inside = r.inside; after = r.after; text = ap (λ z. c ∷ z) r.text }
 at_splice {ms = ms} {gs = gs} (splice {bs = bs} {hs = hs} {x = x} {y = y} h e w u v) =
-    record { before = []; behind = bs; group = y; rest = x; bytes = refl; place = omega (arith, e); within = w; inside = u; after = subst (λ z. Holds ms gs z bs hs x) (sym e) v; text = refl }
+    record { before = []; behind = bs; group = y; rest = x; bytes = refl; point = omega (arith, e); within = w; inside = u; after = subst (λ z. Holds ms gs z bs hs x) (sym e) v; text = refl }
 
 -- ---- groups in order
 

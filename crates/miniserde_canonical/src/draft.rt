@@ -1,9 +1,9 @@
 //! The canonical text of what is read, while it is read.
 //!
-//! What stands in the input as it is goes to the text in runs: whitespace, an escaped string, `-0` or an object out of
-//! order ends a run. If the names of an object rise, its text stays as it is. If not, the text of its members moves to
-//! the groups, in the order of their names and without all but the last of equal names. A short text comes back; for
-//! another a splice stays, so no byte of it moves again before the end.
+//! Input that is canonical already is copied in runs. Whitespace, an escaped string, `-0` or an object out of order
+//! ends a run. If the names of an object rise, its text stays. If not, the text of its members moves to the groups,
+//! sorted by name, with the last of equal names alone. A short group is copied back; for a longer one a splice is left,
+//! so its bytes move once more, at the end.
 ghost use Rattle.std.specs.Prelude.{◌≡◌, ◌++◌, ◌∷◌, [], ℕ, List, length, IfOk, OnOk};
 ghost use Rattle.miniserde_model.specs.Compact.{string_text};
 ghost use Rattle.miniserde_model.specs.Lexing.{closing};
@@ -18,7 +18,7 @@ use crate::member::{Member, Name};
 use crate::members::rises;
 use crate::put::{is_as_written, put_escaped, put_string};
 use crate::sort_members::sort_members;
-use crate::spread::{Place, Spread, part};
+use crate::spread::{Point, Spread, part};
 use miniserde_text::json::lex::{Event, Kind, Text};
 use std::alloc::{AllocError, Global};
 
@@ -70,7 +70,7 @@ impl<'a> Draft<'a> {
         }
     }
 
-    /// Ends the run of input at the place where `left` bytes of input are left, and appends it to the text.
+    /// Ends the run of input at the point where `left` bytes of input are left, and appends it to the text.
     #[inline(always)]
     pub(crate) fn flush(&mut self, left: usize) -> Result<(), AllocError>
         ensures wrote { OnOk result ((rest bs : List ℕ) → Wrote self.old rest bs → left ≡ length rest
@@ -90,7 +90,7 @@ impl<'a> Draft<'a> {
         Ok(())
     }
 
-    /// Takes whitespace, which ends a run.
+    /// Leaves whitespace out: copies the input before it, and goes on after it.
     #[inline(always)]
     pub(crate) fn skip(&mut self, space: TokenSpan) -> Result<(), AllocError>
         ensures wrote { OnOk result ((rest w rest' bs : List ℕ) → Wrote self.old rest bs → rest ≡ w ++ rest'
@@ -191,12 +191,12 @@ impl<'a> Draft<'a> {
             → TokenStep (name (text_of text.entry scratch.now)) s s' → Represents self.new rest' s') }
     {
         let run = self.left.saturating_sub(token.at);
-        let place = Place {
+        let point = Point {
             bytes: self.out.bytes.len().checked_add(run).ok_or(AllocError)?,
             splices: self.out.splices.len(),
         };
         let name = Name::new(self.alloc, text, scratch)?;
-        self.members.push(Member::new(name, place, first))?;
+        self.members.push(Member::new(name, point, first))?;
         self.spell(text, scratch, token)?;
         Ok(())
     }

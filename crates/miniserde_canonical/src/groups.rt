@@ -3,7 +3,7 @@ ghost use Rattle.std.specs.Prelude.{◌≡◌, ◌++◌, ◌+◌, ◌<◌, ℕ, 
 ghost use Rattle.miniserde_canonical.specs.private.Spreads.{Holds, Good, Ordered};
 ghost use Rattle.miniserde_canonical.specs.private.Waiting.{SpanHolds, Waits, span_measure, spans_measure};
 
-use crate::spread::{Place, Span, Spread, part};
+use crate::spread::{Point, Span, Spread, part};
 use std::alloc::{AllocError, Global};
 
 /// Returns the whole text: each splice is filled with its group.
@@ -70,7 +70,7 @@ fn put_span(
     let next = span.from.splices;
     if next < span.to.splices && next < splices.len() {
         let splice = splices[next];
-        let behind = Place {
+        let behind = Point {
             bytes: splice.at,
             splices: next + 1,
         };

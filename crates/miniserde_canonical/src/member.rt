@@ -3,7 +3,7 @@ ghost use Rattle.std.specs.Prelude.{◌≡◌, IfOk, get_or, string_bytes};
 ghost use Rattle.miniserde_text.specs.Lexer.{text_of};
 ghost use Rattle.miniserde_canonical.specs.private.Names.{name_of, IsPrefix};
 
-use crate::spread::Place;
+use crate::spread::Point;
 use miniserde_text::json::lex::Text;
 use std::alloc::{AllocError, Global};
 
@@ -51,7 +51,7 @@ pub(crate) struct Member<'a> {
     pub(crate) name: Name<'a>,
     /// The first eight bytes of the name as a number.
     pub(crate) prefix: u64,
-    pub(crate) place: Place,
+    pub(crate) point: Point,
     /// Whether it is the first of its object, so that no comma stands before it.
     pub(crate) first: bool,
     ghost leads: { IsPrefix prefix (name_of name) },
@@ -60,16 +60,16 @@ pub(crate) struct Member<'a> {
 impl<'a> Member<'a> {
     /// Returns a member, with the prefix of its name.
     #[inline(always)]
-    pub(crate) fn new(name: Name<'a>, place: Place, first: bool) -> Member<'a>
+    pub(crate) fn new(name: Name<'a>, point: Point, first: bool) -> Member<'a>
         ensures name { result.name ≡ name.entry }
-        ensures place { result.place ≡ place }
+        ensures point { result.point ≡ point }
         ensures first { result.first ≡ first }
     {
         let prefix = prefix(name.text());
         Member {
             name,
             prefix,
-            place,
+            point,
             first,
         }
     }

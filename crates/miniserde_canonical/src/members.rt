@@ -9,7 +9,7 @@ ghost use Rattle.miniserde_canonical.specs.private.Names.{name_of};
 ghost use Rattle.miniserde_canonical.specs.private.Members.{name_in, members_at, begins_with_name, begin_of, before_comma, end_of, NamesRise};
 
 use crate::member::Member;
-use crate::spread::{Place, Span};
+use crate::spread::{Point, Span};
 use std::alloc::AllocError;
 use std::cmp::Ordering;
 
@@ -107,7 +107,7 @@ pub(crate) fn repeats(members: &[Member<'_>], order: &[usize], k: usize) -> bool
 
 /// Returns the span of a member, without the comma behind it. The last member ends at `end`.
 #[inline(always)]
-pub(crate) fn span_of(members: &[Member<'_>], i: usize, end: Place) -> Span
+pub(crate) fn span_of(members: &[Member<'_>], i: usize, end: Point) -> Span
     ensures from { result.from ≡ begin_of (drop i members.now) end }
     ensures to { result.to ≡ end_of (drop i members.now) end }
 {
@@ -115,7 +115,7 @@ pub(crate) fn span_of(members: &[Member<'_>], i: usize, end: Place) -> Span
         return Span { from: end, to: end };
     }
     Span {
-        from: members[i].place,
+        from: members[i].point,
         to: end_at(members, i + 1, end),
     }
 }
@@ -128,15 +128,15 @@ fn comma_len(first: bool) -> usize
 }
 
 // Returns where the member before an index ends.
-fn end_at(members: &[Member<'_>], i: usize, end: Place) -> Place
+fn end_at(members: &[Member<'_>], i: usize, end: Point) -> Point
     ensures { result ≡ before_comma (drop i members.now) end }
 {
     if i >= members.len() {
         return end;
     }
-    let place = members[i].place;
-    Place {
-        bytes: place.bytes.saturating_sub(comma_len(members[i].first)),
-        splices: place.splices,
+    let point = members[i].point;
+    Point {
+        bytes: point.bytes.saturating_sub(comma_len(members[i].first)),
+        splices: point.splices,
     }
 }

@@ -5,7 +5,7 @@ ghost use Rattle.miniserde_canonical.specs.private.Sorting.{SortsMembers, PutsMe
 use crate::member::Member;
 use crate::members::{fill, repeats, sort, span_of};
 use crate::put::put_gap;
-use crate::spread::{Splice, Place, Span, Spread};
+use crate::spread::{Splice, Point, Span, Spread};
 use std::alloc::AllocError;
 
 /// The longest text of members, in bytes, that comes back when it is in order.
@@ -28,7 +28,7 @@ pub(crate) fn sort_members(
     let from = groups.end();
     let number = put_members(members, order.as_slice(), out, groups)?;
     let longest = if outermost { usize::MAX } else { SHORT };
-    put_back(members[0].place, from, out, groups, longest)?;
+    put_back(members[0].point, from, out, groups, longest)?;
     Ok(number == members.len())
 }
 
@@ -67,18 +67,18 @@ fn put_member(
     Ok(())
 }
 
-// Truncates the text at `place`, and appends the groups behind `from`: as text if they are short, else as a splice.
+// Truncates the text at `point`, and appends the groups behind `from`: as text if they are short, else as a splice.
 fn put_back(
-    place: Place,
-    from: Place,
+    point: Point,
+    from: Point,
     out: &mut Spread,
     groups: &mut Spread,
     longest: usize,
 ) -> Result<(), AllocError>
-    ensures { OnOk result (PutsBack place from out.old out.new groups.old groups.new) }
+    ensures { OnOk result (PutsBack point from out.old out.new groups.old groups.new) }
 {
     let to = groups.end();
-    out.truncate(place);
+    out.truncate(point);
     if to.splices == from.splices && to.bytes.saturating_sub(from.bytes) <= longest {
         out.append(groups, Span { from, to })?;
         groups.truncate(from);
@@ -86,7 +86,7 @@ fn put_back(
     }
     let group = Span { from, to };
     out.splices.push(Splice {
-        at: place.bytes,
+        at: point.bytes,
         group,
     })?;
     Ok(())

@@ -1,21 +1,21 @@
-//! Texts with splices: places where the text of a group belongs.
+//! Texts with splices: points at which the text of a group belongs.
 ghost use Rattle.std.specs.Prelude.{◌≡◌, ◌≤◌, ◌++◌, [], length, take, map, IfOk, OnOk};
 ghost use Rattle.miniserde_canonical.specs.private.Spreads.{Within, bytes_in, splices_in, part_between, shifted_splice};
 
 use std::alloc::{AllocError, Global};
 
-/// A place in a text with splices: how many bytes and how many splices stand before it.
+/// A point in a text with splices: how many bytes and how many splices stand before it.
 #[derive(Clone, Copy, Drop)]
-pub(crate) struct Place {
+pub(crate) struct Point {
     pub(crate) bytes: usize,
     pub(crate) splices: usize,
 }
 
-/// What stands between two places.
+/// The part of a text between two points.
 #[derive(Clone, Copy, Drop)]
 pub(crate) struct Span {
-    pub(crate) from: Place,
-    pub(crate) to: Place,
+    pub(crate) from: Point,
+    pub(crate) to: Point,
 }
 
 /// A splice before the byte of an index. A span of the groups belongs there.
@@ -44,24 +44,24 @@ impl Spread {
         }
     }
 
-    /// Returns the place behind the text.
-    pub(crate) fn end(&self) -> Place
+    /// Returns the point behind the text.
+    pub(crate) fn end(&self) -> Point
         ensures bytes { result.bytes ≡ length self.now.bytes.items }
         ensures splices { result.splices ≡ length self.now.splices.items }
     {
-        Place {
+        Point {
             bytes: self.bytes.len(),
             splices: self.splices.len(),
         }
     }
 
-    /// Removes the text behind a place.
-    pub(crate) fn truncate(&mut self, place: Place)
-        ensures bytes { self.new.bytes.items ≡ take place.bytes self.old.bytes.items }
-        ensures splices { self.new.splices.items ≡ take place.splices self.old.splices.items }
+    /// Removes the text behind a point.
+    pub(crate) fn truncate(&mut self, point: Point)
+        ensures bytes { self.new.bytes.items ≡ take point.bytes self.old.bytes.items }
+        ensures splices { self.new.splices.items ≡ take point.splices self.old.splices.items }
     {
-        self.bytes.truncate(place.bytes);
-        self.splices.truncate(place.splices);
+        self.bytes.truncate(point.bytes);
+        self.splices.truncate(point.splices);
     }
 
     /// Appends a span of another text.

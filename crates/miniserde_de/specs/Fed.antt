@@ -1,4 +1,4 @@
--- What a place shows once it was fed a whole value.
+-- The view of a place that took the events of one value.
 use Rattle.miniserde_model.specs.Tree.{Tree}
 use Rattle.miniserde_model.specs.Step.{events}
 use Rattle.miniserde_place.specs.Place.{PlaceMeaning, PlaceView, IsFresh, AdvancesBy}

@@ -21,7 +21,7 @@ pub record FieldPlacesMeaning (F V : Type 0) : Type 1 where
   -- the state after one more member, by the fields' names, its name and its events
   pub by_events : List Name → meant.State → Name → List Step → Option meant.State
   pub events_agree : (names : List Name) (s : meant.State) (k : Name) (t : Tree) → by_events names s k (events t) ≡ meant.by_tree names s k t
-  -- a member whose name is refused gives nothing, whatever its events
+  -- a member with a refused name gives nothing, whatever its events
   pub refused : (names : List Name) (s : meant.State) (k : Name) → meant.refuses names s k ≡ true → (es : List Step) → by_events names s k es ≡ None
   -- the view of the current field's place, with the values so far
   pub child : F → PlaceView meant.State
@@ -42,7 +42,7 @@ abbrev pub field_view : {P A S : Type 0} → (P → PlaceView A) → Option A �
 field_view view v s later None = view_through (λ r. Some (v, r)) later
 field_view view v s later (Some p) = view_through (λ a. Some (Some a, s)) (view p)
 
--- a field, which takes one member alone where it is `once`, and the later ones
+-- a field, which takes one member alone if it is `once`, and the later fields
 abbrev pub field_place_and : {P T F R V : Type 0} → Bool → PlaceMeaning P T → Option T → (F → Option T) → (F → Option P) → (F → R) → FieldPlacesMeaning R V → FieldPlacesMeaning F (T × V)
 field_place_and once m absent value child rest n = record {
   meant = field_and once None (meant_by m) absent n.meant;
@@ -64,7 +64,7 @@ wrapper_field_places inner n = record {
   child = λ g. n.child (inner g);
 }
 
--- a member is refused by its name
+-- the name alone refuses a member
 abbrev pub refuses_member : (Name → Bool) → Step → Bool
 refuses_member refuses (key k) = refuses k
 refuses_member refuses _ = false

@@ -12,16 +12,16 @@ is_start true (in_list ts h) = false
 is_start true (in_members ms n h) = false
 is_start false h = false
 
--- what is given, where the first event is one of these
+-- the outcome, if the first event is one of these
 abbrev pub from_first : (Step → Bool) → List Step → Option Tree → Option Tree
 from_first begins [] o = o
 from_first begins (e ∷ es) o = if begins e then o else None
 
--- what the events that are still to come give, where the first of all is one of these
+-- the outcome of the events to come, if the first event of all is one of these
 abbrev pub kind_outcome : (Step → Bool) → Bool → Hole → List Step → Option Tree
 kind_outcome begins due h es = if is_start due h then from_first begins es (outcome false due h es) else outcome false due h es
 
--- documents of one kind: which trees mean which, with which events they begin, and what counts of the tree that is read
+-- documents of one kind: their meaning, the events that they begin with, and their content by the tree that is read
 pub record Kind (V : Type 0) : Type 1 where
   pub meant : Meaning V
   pub begins : Step → Bool

@@ -1,4 +1,4 @@
--- What the places of std's types mean, by what the places of their parts do. P is the place of a part, V what it
+-- The meanings of the places of std's types, by those of their parts. P is the place of a part, V what it
 -- reads, C the container so far, and W the whole.
 use Rattle.std.specs.Prelude.{ℕ, false, true, List, [], ◌∷◌, ◌++◌, map, length, nat_le, ◌&&◌, is_some, Option, Some, None, option_map}
 use Rattle.miniserde_model.specs.Step.{Step}
@@ -55,7 +55,7 @@ array_collector n m items child whole = record {
   refuses = λ s _. nat_le n (length s);
 }
 
--- what the place of a pair's current part shows, by the parts so far
+-- the view of the place of a pair's current part, by the parts so far
 abbrev pub part_view : {P Q A B : Type 0} → (P → PlaceView A) → (Q → PlaceView B) → Option A → Option B → Part P Q → PlaceView (Option A × Option B)
 part_view f g a b Neither = no_child
 part_view f g a b (First p) = view_through (λ x. Some (Some x, b)) (f p)
@@ -89,7 +89,7 @@ map_collector read code key m entries pending child whole = record {
   refuses = λ _ _. false;
 }
 
--- what the place of an optional value shows
+-- the view of the place of an optional value
 abbrev pub option_view : {P A : Type 0} → (List Step → Option A) → (P → PlaceView A) → OptionState P → PlaceView (Option A)
 option_view f view (Fresh _) = record { at = start; outcome = option_mean f; refused = None }
 option_view f view Null = record { at = complete; outcome = nothing_more None; refused = None }

@@ -31,31 +31,31 @@ hole_at p = hole_in p.builder
 abbrev pub due_in : ValuePlace → Bool
 due_in p = p.due
 
--- the first refusal, where there was one
+-- the first error, if there was one
 abbrev pub refusal_of : ValuePlace → Option Error
 refusal_of p = p.refused
 
 abbrev pub value_view : ValuePlace → PlaceView Tree
 value_view p = record { at = (depth (hole_at p), due_in p); outcome = outcome false (due_in p) (hole_at p); refused = refusal_of p }
 
--- every tree means a value, which keeps of each name the last tree
+-- every tree means a value, which retains of each name the last tree
 abbrev pub value_place_meaning : PlaceMeaning ValuePlace Value
 value_place_meaning = place_meaning value_meaning (outcome false true (outside [])) outcome-whole value_view
 
--- What an event made of the hole, where it was accepted. One that was refused as invalid has no place in it.
+-- The hole after an accepted event. An event that is invalid does not fit the hole.
 abbrev pub steps : ValuePlace → Step → Result (Unit {0}) Error → ValuePlace → Type 0
 steps old e answer new =
     OnOk answer (after_step (due_in old) (hole_at old) e ≡ Some (due_in new, hole_at new))
     × (answer ≡ Err Invalid → refusal_of old ≡ None → after_step (due_in old) (hole_at old) e ≡ None)
 
--- The same where no name may be repeated: a name that the innermost open object has is refused as invalid.
+-- The hole after an accepted event, if no name may be repeated: a name that the innermost open object has is invalid.
 abbrev pub steps_once : UniquePlace → Step → Result (Unit {0}) Error → UniquePlace → Type 0
 steps_once old e answer new =
     (repeats e (hole_at old.place) ≡ true → answer ≡ Err (first_refusal (refusal_of old.place) Invalid))
     × OnOk answer (after_step_once true (due_in old.place) (hole_at old.place) e ≡ Some (due_in new.place, hole_at new.place))
     × (answer ≡ Err Invalid → refusal_of old.place ≡ None → after_step_once true (due_in old.place) (hole_at old.place) e ≡ None)
 
--- a tree in which no name is duplicated means the value, which keeps the tree
+-- a tree without a duplicate name means the value, which retains the tree
 abbrev pub unique_place_meaning : PlaceMeaning UniquePlace Unique
 unique_place_meaning = place_meaning unique_meaning (outcome true true (outside [])) once-whole
     (λ p. record { at = (depth (hole_at p.place), due_in p.place); outcome = outcome true (due_in p.place) (hole_at p.place); refused = refusal_of p.place })

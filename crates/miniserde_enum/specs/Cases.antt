@@ -63,7 +63,7 @@ case_tree one later (n ∷ ns) (Later w) = later ns w
 abbrev pub enum_tree : {V W : Type 0} → List Name → (Tagging → List Name → V → Tree) → (W → V) → W → Tree
 enum_tree names tree values v = tree external names (values v)
 
--- the same of an internally tagged enum, by the name of its tag
+-- the tree of an internally tagged enum, by the names of its tag and its variants
 abbrev pub tagged_tree : {V W : Type 0} → Name → List Name → (Tagging → List Name → V → Tree) → (W → V) → W → Tree
 tagged_tree tag names tree values v = tree (internal tag) names (values v)
 
@@ -95,11 +95,11 @@ abbrev pub case_content : {T W C D : Type 0} → (T → C) → (W → D) → One
 case_content f g (First x) = First (f x)
 case_content f g (Later w) = Later (g w)
 
--- a property of each value of the first variant and of the later ones is one of each value
+-- a property of each value of the first variant and of the later variants holds of all values
 pub each_case : {T W : Type 0} (P : OneOf T W → Type 0) → ((x : T) → P (First x)) → ((w : W) → P (Later w)) → (v : OneOf T W) → P v
 each_case P f g (First x) = f x
 each_case P f g (Later w) = g w
 
--- a value of no variant has any property
-pub no_case : (P : Never → Type 0) → (v : Never) → P v
-no_case P v = elim v [ ]
+-- every property holds of each value of `Never`, since there is none
+pub any_of_never : (P : Never → Type 0) → (v : Never) → P v
+any_of_never P v = elim v [ ]

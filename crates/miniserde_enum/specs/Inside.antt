@@ -1,4 +1,4 @@
--- Data that stands in one object with a tag: the other members.
+-- Data in one object with a tag: the other members.
 use Rattle.std.proofs.Common.{◌∙◌}
 use Rattle.std.specs.Prelude.{false, cond, Option, Some, bytes_eq}
 use Rattle.miniserde_model.specs.Tree.{Tree, members}

@@ -5,13 +5,13 @@ use Rattle.miniserde_read.specs.types.Objects.{Name}
 use Rattle.miniserde_read.specs.types.Words.{string_of}
 use Rattle.miniserde_record.specs.Fields.{others, last_given, Says}
 
--- The tree is an object, whose last member of the tag's name has the name, where each member of the tag's name is a string.
+-- The tree is an object. Each member of the tag's name is a string, and the last one is the variant's name.
 -- The data is the object of the other members.
 abbrev pub IsInternal : Name → Tree → Name → Option Tree → Type 0
 IsInternal tag (members ms) n (Some u) = Says ⊥ (λ t. t ≡ str n) string_of tag ms × (u ≡ members (others tag ms))
 IsInternal tag t n o = ⊥
 
--- the last string of the tag's name, where each member of the name is a string
+-- the last string of the tag's name, if each member of that name is a string
 abbrev pub tag_of : Name → Members → Option Name
 tag_of tag ms = option_and_then (λ o. o) (last_given false string_of tag None ms)
 

@@ -10,7 +10,7 @@ abbrev pub known : List Name → Name → Option Name
 known [] n = None
 known (m ∷ ms) n = if bytes_eq n m then Some m else known ms n
 
--- a string gives the name that is equal to it, or none if there is no such name, and any other tree gives nothing
+-- a string gives the name that is equal to it, or none if no name is; any other tree gives nothing
 abbrev pub tag_name_of : List Name → Tree → Option (Option Name)
 tag_name_of names t = option_map (known names) (string_of t)
 

@@ -1,4 +1,4 @@
--- The tagging of an enum's trees: where a tree has the name of a variant and its data.
+-- The tagging of an enum: how a tree shows the name of the variant and its data.
 use Rattle.std.specs.Prelude.{Option, option_and_then}
 use Rattle.miniserde_model.specs.Tree.{Tree}
 use Rattle.miniserde_read.specs.types.Objects.{Name}

@@ -30,8 +30,8 @@ pub trait Inside: RoundTrip {
     // The names of its fields.
     ghost fields: { List Name };
 
-    /// Reads an object, whose first token is `token`, but for its members of the tag's name. Returns `Invalid` if no
-    /// beginning of the text spells an object whose other members mean a value.
+    /// Reads one object, whose first token is `token`, and no further. The members without the tag's name are the
+    /// fields. Returns `Invalid` if no prefix of the text spells an object whose other members mean a value.
     fn read_inside<'a, E: HasTag>(token: Event<'a>, source: &mut Source<'a>) -> Result<Self>
         requires going { source.old.refused ≡ None }
         requires event { IsTreeEvent (event_of_token token source.old.scratch) }
@@ -57,7 +57,7 @@ pub trait Inside: RoundTrip {
             → count_named k (object_members (Self.tree v)) ≡ 0 };
 }
 
-/// Does nothing. It promises that written members have no other names.
+/// Does nothing. It promises that no written member has a name that is none of the fields'.
 pub fn fields_named()
     ensures { (k : Name) (names : List Name) (ts : List (Option Tree)) → is_new k names ≡ true
         → count_named k (with_names names ts) ≡ 0 }

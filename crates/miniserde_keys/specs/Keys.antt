@@ -45,11 +45,11 @@ read_char k = if is_utf8 k then single_char (chars k) else None
 abbrev pub are_digits_below : ℕ → List ℕ → Bool
 are_digits_below limit ds = nat_lt 0 (length ds) && (all_ascii_digits ds && nat_lt (digits_value 10 ds) limit)
 
--- the content of the number of such digits
+-- the content of the number that the digits write
 abbrev pub read_digits : ℕ → (ℕ → Key) → List ℕ → Option Key
 read_digits limit content ds = if are_digits_below limit ds then Some (content (digits_value 10 ds)) else None
 
--- the content of the unsigned integer of so many bits that a text is parsed as: digits, with a `+` in front or not
+-- the content of an unsigned integer of so many bits that a text is parsed as: digits, after an optional `+`
 unfoldable pub read_unsigned : ℕ → List ℕ → Option Key
 read_unsigned bits k = read_digits (2 ^ bits) of_nat (without_leading_plus k)
 

@@ -9,7 +9,7 @@ use Rattle.std.proofs.lemmas.Int.{ints}
 use lib.Utf8.{scalar, scalars}
 use Rattle.miniserde_model.specs.Tree.{Tree, null, truth, nonneg, neg, num, str, list, members, Trees, no_trees, tree, Members, no_members, member}
 use Rattle.miniserde_model.specs.Number.{IsNumber, is_plain, begins_minus, leaf}
-use Rattle.miniserde_model.specs.String.{IsShort, quote, IsPair, IsPiece, raw, short, unit, pair, ArePieces, IsString}
+use Rattle.miniserde_model.specs.String.{IsShortEscape, quote, IsPair, IsPiece, raw, short, unit, pair, ArePieces, IsString}
 use Rattle.miniserde_model.specs.Value.{IsValue, AreElements, AreMoreElements, AreMembers, AreMoreMembers, IsJson}
 use Rattle.miniserde_model.specs.IsTree.{IsTree, AreTrees, AreNamedTrees}
 
@@ -59,7 +59,7 @@ negative_range (suc n) h = (omega (arith, ints), h)
 
 -- ---- strings
 
-short_scalar : (l c : ℕ) → IsShort l c → IsScalar c
+short_scalar : (l c : ℕ) → IsShortEscape l c → IsScalar c
 short_scalar l c quote = refl
 short_scalar l c _ = refl
 

@@ -8,7 +8,7 @@ use Rattle.std.proofs.lemmas.Cmp.{nat_list_cmp_total, tied_itself}
 use Rattle.std.proofs.lemmas.Map.Lookups.{exact_bytes}
 use Rattle.std.proofs.lemmas.Slice.Eq.{bytes_eq-Decides}
 use Rattle.miniserde_model.specs.Tree.{Tree, Members, no_members, member}
-use Rattle.miniserde_model.specs.Normal.{text_cmp, norm_by, norm_members_by, or_else, last_of, BeginsAbove, Rise, put_by, put, put_all_by}
+use Rattle.miniserde_model.specs.Normal.{text_cmp, norm_by, norm_members_by, or_else, last_of, BeginsAbove, Rise, put_first_by, put, put_all_by}
 use Rattle.miniserde_model.proofs.Lookups.{norm_keeps_last, norm_rises, mapped}
 
 not_same : (a b : List ℕ) → text_cmp a b ≡ Less → bytes_eq b a ≡ false
@@ -98,7 +98,7 @@ pub last_put : (q name : List ℕ) (t : Tree) (ms : Members) → Rise ms → las
 last_put q name t no_members r = sym (or_else_none _)
 last_put q name t (member other u ms) r = go (text_cmp name other) refl (last_put q name t ms r.1)
   where
-    go : (o : Ordering) → text_cmp name other ≡ o → last_of q (put name t ms) ≡ or_else (cond (bytes_eq name q) (Some t) None) (last_of q ms) → last_of q (put_by o name t other u ms (put name t ms)) ≡ or_else (cond (bytes_eq name q) (Some t) None) (last_of q (member other u ms))
+    go : (o : Ordering) → text_cmp name other ≡ o → last_of q (put name t ms) ≡ or_else (cond (bytes_eq name q) (Some t) None) (last_of q ms) → last_of q (put_first_by o name t other u ms (put name t ms)) ≡ or_else (cond (bytes_eq name q) (Some t) None) (last_of q (member other u ms))
     go Less e more = hidden (bytes_eq name q) (last_of q (member other u ms)) t (λ f. above_itself name q (member other u ms) e r f)
     go Equal e more =
         let same : name ≡ other = exact_bytes name other e in
@@ -112,7 +112,7 @@ above_put : (first name : List ℕ) (t : Tree) (ms : Members) → text_cmp first
 above_put first name t no_members p q = p
 above_put first name t (member other u ms) p q = go (text_cmp name other)
   where
-    go : (o : Ordering) → BeginsAbove first (put_by o name t other u ms (put name t ms))
+    go : (o : Ordering) → BeginsAbove first (put_first_by o name t other u ms (put name t ms))
     go Less = p
     go Equal = p
     go Greater = q
@@ -121,7 +121,7 @@ pub rise_put : (name : List ℕ) (t : Tree) (ms : Members) → Rise ms → Rise 
 rise_put name t no_members h = (tt, tt)
 rise_put name t (member other u ms) h = go (text_cmp name other) refl (rise_put name t ms h.1)
   where
-    go : (o : Ordering) → text_cmp name other ≡ o → Rise (put name t ms) → Rise (put_by o name t other u ms (put name t ms))
+    go : (o : Ordering) → text_cmp name other ≡ o → Rise (put name t ms) → Rise (put_first_by o name t other u ms (put name t ms))
     go Less e m = (e, h)
     go Equal e m = (subst (λ z. BeginsAbove z ms) (sym (exact_bytes name other e)) h.0, h.1)
     go Greater e m = (above_put other name t ms (greater_less name other e) h.0, m)

@@ -8,7 +8,7 @@ use Rattle.std.proofs.lemmas.Str.{char_from_byte}
 use lib.Utf8.{scalar_cases}
 use Rattle.miniserde_model.specs.Tree.{Tree, nonneg, neg, num, str, list}
 use Rattle.miniserde_model.specs.Number.{IsDigit, IsInt, IsMinus, IsFraction, IsExponent, IsNumberText}
-use Rattle.miniserde_model.specs.String.{quote, IsShort, IsRaw, IsPiece, raw, short, unit, pair, ArePieces, IsString}
+use Rattle.miniserde_model.specs.String.{quote, IsShortEscape, IsRaw, IsPiece, raw, short, unit, pair, ArePieces, IsString}
 use Rattle.miniserde_model.specs.Whitespace.{IsWhitespace}
 use Rattle.miniserde_model.specs.Value.{IsValue, IsJson, HasNoTree}
 use Rattle.miniserde_model.specs.Bytes.{is_space, is_number_byte, StopsAt}
@@ -226,7 +226,7 @@ control_no_piece a x r c z low (pair p) e =
 control_byte : HasNoTree (34 ∷ 0x1F ∷ 34 ∷ [])
 control_byte t p = let f = behind_quote 31 (34 ∷ []) t (λ e. omega arith) p in control_no_piece f.piece f.rest (34 ∷ []) f.character 31 (omega arith) f.is_piece f.text
 
-short_not_u : (l c : ℕ) → IsShort l c → l ≡ 117 → ⊥
+short_not_u : (l c : ℕ) → IsShortEscape l c → l ≡ 117 → ⊥
 short_not_u l c quote e = omega arith
 short_not_u l c _ e = omega arith
 

@@ -12,7 +12,7 @@ use Rattle.std.proofs.lemmas.Str.{encode_ascii, length-encode, len_utf8_bounds}
 use Rattle.std.proofs.lemmas.Str.Parse.{IsNumeralModel, numerals_by_value}
 use Rattle.miniserde_model.specs.Tree.{Tree, null, truth, nonneg, neg, num, str, list, members, Trees, no_trees, tree, Members, no_members, member}
 use Rattle.miniserde_model.specs.Number.{IsDigit, IsInt, IsFraction, IsExponent, IsNumberText, IsNumber, is_plain, begins_minus}
-use Rattle.miniserde_model.specs.String.{IsRaw, IsShort, quote, backslash, slash, backspace, form_feed, line_feed, carriage_return, tab, IsPiece, raw, short, unit, pair, ArePieces, IsString}
+use Rattle.miniserde_model.specs.String.{IsRaw, IsShortEscape, quote, backslash, slash, backspace, form_feed, line_feed, carriage_return, tab, IsPiece, raw, short, unit, pair, ArePieces, IsString}
 use Rattle.miniserde_model.specs.Value.{Spaced, Named, Then, IsValue, AreElements, AreMoreElements, AreMembers, AreMoreMembers, IsJson}
 use Rattle.miniserde_model.specs.Compact.{escape_text, string_text, compact, compact_children, compact_more, compact_members, compact_more_members}
 use Rattle.miniserde_model.specs.Normal.{text_cmp, with_first_by, with_first, norm_neg, norm, norm_children, norm_members}
@@ -118,7 +118,7 @@ raw_len b c p = elim (cases_lt c 128) [
   | inr big ↦ rw (high_stays c big, p.text) (omega arith)
 ]
 
-short_len : (l c : ℕ) → IsShort l c → length (flat_map escape_text (encode_utf8 c)) ≤ 2
+short_len : (l c : ℕ) → IsShortEscape l c → length (flat_map escape_text (encode_utf8 c)) ≤ 2
 short_len l c quote = rw (low_stays 34 (omega arith)) (omega arith)
 short_len l c backslash = rw (low_stays 92 (omega arith)) (omega arith)
 short_len l c slash = rw (low_stays 47 (omega arith)) (omega arith)

@@ -4,9 +4,9 @@ use Rattle.std.proofs.Common.{◌≡◌, ℕ, List, [], ◌∷◌, ◌++◌, ref
 use Rattle.std.specs.Char.{IsScalar}
 use Rattle.std.proofs.lemmas.Str.{encode_same, char_from_byte}
 use lib.Utf8.{scalar_cases}
-use Rattle.miniserde_model.specs.String.{IsRaw, IsShort, quote, backslash, slash, backspace, form_feed, line_feed, carriage_return, tab, IsUnit, IsPair, IsPiece, raw, short, unit, pair, ArePieces, IsString}
+use Rattle.miniserde_model.specs.String.{IsRaw, IsShortEscape, quote, backslash, slash, backspace, form_feed, line_feed, carriage_return, tab, IsUnit, IsPair, IsPiece, raw, short, unit, pair, ArePieces, IsString}
 
-same_short : (l c d : ℕ) → IsShort l c → IsShort l d → c ≡ d
+same_short : (l c d : ℕ) → IsShortEscape l c → IsShortEscape l d → c ≡ d
 same_short l c d quote quote = refl
 same_short l c d backslash backslash = refl
 same_short l c d slash slash = refl
@@ -16,7 +16,7 @@ same_short l c d line_feed line_feed = refl
 same_short l c d carriage_return carriage_return = refl
 same_short l c d tab tab = refl
 
-no_short_u : (l c : ℕ) → IsShort l c → l ≡ 117 → ⊥
+no_short_u : (l c : ℕ) → IsShortEscape l c → l ≡ 117 → ⊥
 no_short_u l c quote e = omega arith
 no_short_u l c _ e = omega arith
 
@@ -59,7 +59,7 @@ unit_escape a x u p = record { tail = p.d3 ∷ p.d2 ∷ p.d1 ∷ p.d0 ∷ x; is 
 pair_escape : (a x : List ℕ) (c : ℕ) → IsPair a c → Escape 117 a x
 pair_escape a x c p = record { tail = p.is_first.d3 ∷ p.is_first.d2 ∷ p.is_first.d1 ∷ p.is_first.d0 ∷ (p.second ++ x); is = ap (λ z. z ++ x) p.text ∙ append_assoc p.first p.second x ∙ ap (λ z. z ++ (p.second ++ x)) p.is_first.text }
 
-short_no_u : (a b x y : List ℕ) (l c : ℕ) → IsShort l c → a ≡ 92 ∷ l ∷ [] → Escape 117 b y → a ++ x ≡ b ++ y → ⊥
+short_no_u : (a b x y : List ℕ) (l c : ℕ) → IsShortEscape l c → a ≡ 92 ∷ l ∷ [] → Escape 117 b y → a ++ x ≡ b ++ y → ⊥
 short_no_u a b x y l c s t u e =
     let f : ◌≡◌ {A = List ℕ} (92 ∷ l ∷ x) (92 ∷ 117 ∷ u.tail) = ap (λ z. z ++ x) (sym t) ∙ e ∙ u.is in
     no_short_u l c s (cc)
@@ -75,7 +75,7 @@ same_piece a b x y c d (pair p) (raw q) e = absurd (raw_no_escape b y _ d q (sym
 same_piece a b x y c d (short l s t) (short k r u) e =
     let f : ◌≡◌ {A = List ℕ} (92 ∷ l ∷ x) (92 ∷ k ∷ y) = ap (λ z. z ++ x) (sym t) ∙ e ∙ ap (λ z. z ++ y) u in
     let same : l ≡ k = cc in
-    (same_short k c d (subst (λ z. IsShort z c) same s) r, cc)
+    (same_short k c d (subst (λ z. IsShortEscape z c) same s) r, cc)
 same_piece a b x y c d (short l s t) (unit r q) e = absurd (short_no_u a b x y l c s t (unit_escape b y d q) e)
 same_piece a b x y c d (short l s t) (pair q) e = absurd (short_no_u a b x y l c s t (pair_escape b y d q) e)
 same_piece a b x y c d (unit r p) (short l s t) e = absurd (short_no_u b a y x l d s t (unit_escape a x c p) (sym e))

@@ -10,7 +10,7 @@ use Rattle.miniserde_model.specs.Tree.{Tree, null, truth, nonneg, neg, num, str,
 use Rattle.miniserde_model.specs.Bytes.{is_number_byte}
 use Rattle.miniserde_model.specs.Whitespace.{IsSpace, IsWhitespace}
 use Rattle.miniserde_model.specs.Number.{IsNumberText}
-use Rattle.miniserde_model.specs.String.{IsShort, quote, backslash, slash, backspace, form_feed, line_feed, carriage_return, tab, IsUnit, IsPiece, raw, short, unit, pair, ArePieces, IsString}
+use Rattle.miniserde_model.specs.String.{IsShortEscape, quote, backslash, slash, backspace, form_feed, line_feed, carriage_return, tab, IsUnit, IsPiece, raw, short, unit, pair, ArePieces, IsString}
 use Rattle.miniserde_model.specs.Value.{Spaced, Named, Then, Between, word, IsValue, AreElements, AreMoreElements, AreMembers, AreMoreMembers, IsJson}
 use Rattle.miniserde_model.proofs.Runs.{AllPass}
 use Rattle.miniserde_model.proofs.Numbers.{number_pass}
@@ -50,7 +50,7 @@ hex_ascii d h = grind (arith, nat_tests)
 unit_ascii : (b : List ℕ) (u : ℕ) → IsUnit b u → IsAscii b
 unit_ascii b u p = subst IsAscii (sym p.text) (IsAscii-cons 92 (117 ∷ p.d3 ∷ p.d2 ∷ p.d1 ∷ p.d0 ∷ []) (omega arith) (IsAscii-cons 117 (p.d3 ∷ p.d2 ∷ p.d1 ∷ p.d0 ∷ []) (omega arith) (IsAscii-cons p.d3 (p.d2 ∷ p.d1 ∷ p.d0 ∷ []) (hex_ascii p.d3 p.hex3) (IsAscii-cons p.d2 (p.d1 ∷ p.d0 ∷ []) (hex_ascii p.d2 p.hex2) (IsAscii-cons p.d1 (p.d0 ∷ []) (hex_ascii p.d1 p.hex1) (IsAscii-cons p.d0 [] (hex_ascii p.d0 p.hex0) IsAscii-nil))))))
 
-short_ascii : (l c : ℕ) → IsShort l c → l < 128
+short_ascii : (l c : ℕ) → IsShortEscape l c → l < 128
 short_ascii l c quote = omega arith
 short_ascii l c backslash = omega arith
 short_ascii l c slash = omega arith

@@ -6,7 +6,7 @@ use Rattle.miniserde_model.specs.Tree.{Tree, null, truth, nonneg, neg, num, str,
 use Rattle.miniserde_model.specs.Value.{word}
 use Rattle.std.proofs.Common.{ap, arith, get_or}
 
--- what stands in a string for a byte
+-- the bytes that a string has for one byte of its text
 abbrev pub escape_text : ℕ → List ℕ
 escape_text x =
     if x == 0x08 then reverse_solidus ∷ letter_b ∷ [] else

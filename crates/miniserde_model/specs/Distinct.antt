@@ -8,7 +8,7 @@ abbrev pub has_name : List ℕ → Members → Bool
 has_name name ms = is_some (last_of name ms)
 
 abbrev mutual
-  -- no member list anywhere in the tree has one name twice
+  -- no object in the tree has a duplicate name
   pub names_distinct : Tree → Bool
   names_distinct (list ts) = names_distinct_in_children ts
   names_distinct (members ms) = names_distinct_in_members ms

@@ -26,7 +26,7 @@ pub record NormalForms : Type 0 where
   pub last_stays_text : compact (norm (members (member (codes "a") (nonneg 1) (member (codes "a") (nonneg 2) no_members)))) ≡ codes "{\"a\":2}"
   pub names_rise : norm (members (member (codes "b") (nonneg 1) (member (codes "a") (neg (pos 0)) (member (codes "b") null no_members)))) ≡ members (member (codes "a") (nonneg 0) (member (codes "b") null no_members))
   pub no_negated_zero : norm (neg (pos 0)) ≡ nonneg 0
-  -- though the compact text of the tree itself keeps the minus
+  -- the compact text of the tree itself has the minus
   pub list_text : compact (list (tree (nonneg 1) (tree (neg (pos 0)) (tree null no_trees)))) ≡ codes "[1,-0,null]"
   -- a quote, a backslash, a slash, a line feed, the last control character and the delete character
   pub escaped_text : compact (str (97 ∷ 34 ∷ 92 ∷ 47 ∷ 10 ∷ 0x1F ∷ 0x7F ∷ [])) ≡ codes "\"a\\\"\\\\/\\n\\u001f" ++ 0x7F ∷ 34 ∷ []

@@ -5,7 +5,7 @@ use Rattle.miniserde_model.specs.Number.{IsNumber}
 use Rattle.std.proofs.Common.{arith}
 
 abbrev mutual
-  -- an integer is in its range, and a kept number text has no other leaf
+  -- an integer is in its range, and a number text is no integer in range
   pub IsTree : Tree → Type 0
   IsTree null = ⊤
   IsTree (truth x) = ⊤

@@ -15,12 +15,12 @@ abbrev pub TextHasOneTree : Type 0
 TextHasOneTree = (b : List ℕ) (t u : Tree) → IsJson b t → IsJson b u → t ≡ u
 
 -- a spelled tree holds numbers in range and text in UTF-8
-abbrev pub SpelledIsTree : Type 0
-SpelledIsTree = (b : List ℕ) (t : Tree) → IsJson b t → IsTree t
+abbrev pub JsonIsTree : Type 0
+JsonIsTree = (b : List ℕ) (t : Tree) → IsJson b t → IsTree t
 
 -- a text that spells a tree is UTF-8
-abbrev pub SpelledIsUtf8 : Type 0
-SpelledIsUtf8 = (b : List ℕ) (t : Tree) → IsJson b t → IsUtf8 b
+abbrev pub JsonIsUtf8 : Type 0
+JsonIsUtf8 = (b : List ℕ) (t : Tree) → IsJson b t → IsUtf8 b
 
 -- the compact text of a tree spells it
 abbrev pub CompactSpells : Type 0
@@ -34,23 +34,23 @@ CompactIsValue = (t : Tree) → IsTree t → IsValue t (compact t)
 abbrev pub NormIsNormal : Type 0
 NormIsNormal = (t : Tree) → norm (norm t) ≡ norm t
 
--- the normal form of a tree with numbers in range and text in UTF-8 is such a tree
+-- the normal form keeps numbers in range and text in UTF-8
 abbrev pub NormIsTree : Type 0
 NormIsTree = (t : Tree) → IsTree t → IsTree (norm t)
 
--- the normal form of members has of each name the last tree's normal form
+-- in the normal form of members, each name has the normal form of its last tree
 abbrev pub NormKeepsLast : Type 0
 NormKeepsLast = (q : List ℕ) (ms : Members) → last_of q (norm_members ms) ≡ option_map norm (last_of q ms)
 
--- and its names strictly rise by their bytes
+-- the names of the normal form of members strictly rise by their bytes
 abbrev pub NormRises : Type 0
 NormRises = (ms : Members) → Rise (norm_members ms)
 
--- no other members have both
+-- members whose names rise, and that have those trees, are the normal form
 abbrev pub NormIsOnly : Type 0
 NormIsOnly = (ms ns : Members) → Rise ns → ((q : List ℕ) → last_of q ns ≡ option_map norm (last_of q ms)) → ns ≡ norm_members ms
 
--- members that are put in from the left, a later one in the place of an earlier of its name, are the normal form
+-- putting members in from the left, where a later one replaces an earlier of its name, gives the normal form
 abbrev pub PutGivesNorm : Type 0
 PutGivesNorm = (ms : Members) → put_all no_members ms ≡ norm_members ms
 
@@ -62,9 +62,9 @@ NormIsDistinct = (t : Tree) → names_distinct (norm t) ≡ true
 abbrev pub DistinctKeepsSize : Type 0
 DistinctKeepsSize = (t : Tree) → names_distinct t ≡ true → size (norm t) ≡ size t
 
--- two accepted texts have equal canonical texts exactly where their trees have one normal form
-abbrev pub CanonicalTells : Type 0
-CanonicalTells = (a b : List ℕ) (t u : Tree) → IsJson a t → IsJson b u → (compact (norm t) ≡ compact (norm u)) ↔ (norm t ≡ norm u)
+-- two accepted texts have equal canonical texts exactly if their trees have one normal form
+abbrev pub CanonicalTextsEqual : Type 0
+CanonicalTextsEqual = (a b : List ℕ) (t u : Tree) → IsJson a t → IsJson b u → (compact (norm t) ≡ compact (norm u)) ↔ (norm t ≡ norm u)
 
 -- no text whose tree has that normal form is shorter
 abbrev pub CanonicalIsShortest : Type 0
@@ -74,6 +74,6 @@ CanonicalIsShortest = (b : List ℕ) (t u : Tree) → IsJson b u → norm u ≡ 
 abbrev pub EventsComplete : Type 0
 EventsComplete = (t : Tree) → Completes start (events t)
 
--- no list of events that completes a position begins another that does
-abbrev pub NoneBeginsAnother : Type 0
-NoneBeginsAnother = (es rest : List Step) (p : Position) → Completes p es → Completes p (es ++ rest) → rest ≡ []
+-- no list of events that completes a position is a proper prefix of another that completes it
+abbrev pub CompletionsArePrefixFree : Type 0
+CompletionsArePrefixFree = (es rest : List Step) (p : Position) → Completes p es → Completes p (es ++ rest) → rest ≡ []

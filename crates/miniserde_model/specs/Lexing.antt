@@ -1,4 +1,4 @@
--- What each call of a lexer takes off the front of a text, in the words of the grammar.
+-- What each call of a lexer takes from a text, in the words of the grammar (RFC 8259, section 2).
 use Rattle.std.specs.Prelude.{◌≡◌, ℕ, Bool, true, false, List, [], ◌∷◌, ◌++◌, ⊤, refl}
 use Rattle.std.proofs.Common.{ap, sym, get_or}
 use Rattle.miniserde_model.specs.Ascii.{begin_array, end_array, begin_object, end_object, name_separator, value_separator}
@@ -35,7 +35,7 @@ pub record Stands (P : List ℕ → Type 0) (s r : List ℕ) : Type 0 where
   pub is_space : IsWhitespace space
   pub is_part : P part
 
--- the front of a value, told by its first event
+-- the bytes are the first token of a value, which begins with the event
 abbrev pub Piece : Step → List ℕ → Type 0
 Piece step.null b = IsValue null b
 Piece (boolean x) b = IsValue (truth x) b
@@ -49,7 +49,7 @@ Piece element b = ⊥
 Piece (key s) b = ⊥
 Piece finish b = ⊥
 
--- a number ends where no byte of number texts follows
+-- after a number no byte of a number follows
 abbrev pub Ends : Step → List ℕ → Type 0
 Ends (negative n) r = StopsAt is_number_byte r
 Ends (nonnegative n) r = StopsAt is_number_byte r
@@ -66,7 +66,7 @@ abbrev pub closing : Kind → ℕ
 closing Seq = end_array
 closing Map = end_object
 
--- something stands at the front that is no whitespace and no closing bracket
+-- the text begins with a byte that is no whitespace and no closing bracket
 pub record Begins (r : List ℕ) : Type 0 where
   pub byte : ℕ
   pub more : List ℕ

@@ -10,12 +10,13 @@ use Rattle.miniserde_model.specs.Tree.{Tree, nonneg, neg, list, members, Trees, 
 abbrev pub text_cmp : List ℕ → List ℕ → Ordering
 text_cmp = slice_cmp nat_cmp
 
+-- one step of `with_first`, by the order of the two names; `more` is the result for the later members
 abbrev pub with_first_by : Ordering → List ℕ → Tree → List ℕ → Tree → Members → Members → Members
 with_first_by Less name t other u ms more = member name t (member other u ms)
 with_first_by Equal name t other u ms more = member other u ms
 with_first_by Greater name t other u ms more = member other u more
 
--- members in the order of their names, with one more where its name is not among them
+-- the sorted members with one more, unless they have its name
 abbrev pub with_first : List ℕ → Tree → Members → Members
 with_first name t no_members = member name t no_members
 with_first name t (member other u ms) = with_first_by (text_cmp name other) name t other u ms (with_first name t ms)
@@ -51,7 +52,7 @@ norm_children = norm_children_by norm_neg
 abbrev pub norm_members : Members → Members
 norm_members = norm_members_by norm_neg
 
--- ---- what the normal form of members is told by
+-- ---- two facts that fix the normal form of members
 
 abbrev pub or_else : Option Tree → Option Tree → Option Tree
 or_else None o = o
@@ -62,26 +63,28 @@ abbrev pub last_of : List ℕ → Members → Option Tree
 last_of q no_members = None
 last_of q (member name t ms) = or_else (last_of q ms) (if bytes_eq name q then Some t else None)
 
--- the names strictly rise by their bytes
+-- the first of the members has a name above this one, or there is no member
 abbrev pub BeginsAbove : List ℕ → Members → Type 0
 BeginsAbove name no_members = ⊤
 BeginsAbove name (member other u ms) = text_cmp name other ≡ Less
 
+-- the names strictly rise by their bytes
 abbrev pub Rise : Members → Type 0
 Rise no_members = ⊤
 Rise (member name t ms) = BeginsAbove name ms × Rise ms
 
 -- ---- the normal form as a reader makes it, from the left
 
-abbrev pub put_by : Ordering → List ℕ → Tree → List ℕ → Tree → Members → Members → Members
-put_by Less name t other u ms more = member name t (member other u ms)
-put_by Equal name t other u ms more = member name t ms
-put_by Greater name t other u ms more = member other u more
+-- one step of `put`, by the order of the name and the first member's; `more` is the result for the later members
+abbrev pub put_first_by : Ordering → List ℕ → Tree → List ℕ → Tree → Members → Members → Members
+put_first_by Less name t other u ms more = member name t (member other u ms)
+put_first_by Equal name t other u ms more = member name t ms
+put_first_by Greater name t other u ms more = member other u more
 
--- with the tree in the place of the one of that name
+-- the sorted members with one more; it replaces the member of the same name
 abbrev pub put : List ℕ → Tree → Members → Members
 put name t no_members = member name t no_members
-put name t (member other u ms) = put_by (text_cmp name other) name t other u ms (put name t ms)
+put name t (member other u ms) = put_first_by (text_cmp name other) name t other u ms (put name t ms)
 
 abbrev pub put_all_by : (ℤ → Tree) → Members → Members → Members
 put_all_by f made no_members = made

@@ -54,7 +54,7 @@ is_plain (c ∷ cs) = not ((c == decimal_point) || (c == letter_e) || (c == lett
 abbrev pub begins_minus : List ℕ → Bool
 begins_minus x = slice_index x 0 == minus_sign
 
--- the leaf of digits, or of the digits behind a minus, where the text is x
+-- the leaf of digits, or of the digits after a minus, of the number text x
 abbrev pub leaf_of_digits : List ℕ → List ℕ → Tree
 leaf_of_digits ds x = if nat_lt (digits_value 10 ds) (2 ^ 64) then nonneg (digits_value 10 ds) else num x
 

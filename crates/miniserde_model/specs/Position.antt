@@ -8,14 +8,14 @@ use Rattle.miniserde_model.specs.Step as step
 abbrev pub Position : Type 0
 Position = ℕ × Bool
 
--- where the events of one value begin, and where they are complete
+-- the position before the events of one value, and the position after them
 abbrev pub start : Position
 start = (0, true)
 
 abbrev pub complete : Position
 complete = (0, false)
 
--- A value's first event may come where a value is due; a child's and the end, in an open container where none is.
+-- A value's first event may come if a value is due; a child or an end may come in an open container if none is due.
 abbrev pub Allowed : Position → Step → Type 0
 Allowed p step.null = p.1 ≡ true
 Allowed p (boolean _) = p.1 ≡ true
@@ -48,7 +48,7 @@ abbrev pub next_by : Position → List Step → Position
 next_by p [] = p
 next_by p (e ∷ es) = next_by (next p e) es
 
--- the events complete what stands open at the position
+-- the events close all that is open at the position
 abbrev pub Completes : Position → List Step → Type 0
 Completes p [] = p ≡ complete
 Completes p (e ∷ es) = Allowed p e × Completes (next p e) es

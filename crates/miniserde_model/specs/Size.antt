@@ -22,12 +22,12 @@ is_bare (list (tree t ts)) = false
 is_bare (members (member name t ms)) = false
 is_bare t = true
 
--- Worked cases: `[null,[]]` has three values, and only its parts are bare.
+-- Worked cases: `[null,[]]` has three values; `[]` is bare, and `[null]` is not.
 pub three_values : size (list (tree null (tree (list no_trees) no_trees))) ≡ 3
 three_values = refl
 
 pub empty_is_bare : is_bare (list no_trees) ≡ true
 empty_is_bare = refl
 
-pub full_is_not_bare : is_bare (list (tree null no_trees)) ≡ false
-full_is_not_bare = refl
+pub nonempty_is_not_bare : is_bare (list (tree null no_trees)) ≡ false
+nonempty_is_not_bare = refl

@@ -1,4 +1,4 @@
--- Values and whole texts (RFC 8259, sections 2 to 5).
+-- Values and texts (RFC 8259, sections 2 to 5).
 use Rattle.std.specs.Prelude.{◌≡◌, ℕ, Bool, true, false, List, [], ◌∷◌, ◌++◌, codes, refl, length}
 use Rattle.std.proofs.Common.{ap, arith, inl}
 use Rattle.miniserde_model.specs.Ascii.{begin_array, end_array, begin_object, end_object, name_separator, value_separator}

@@ -7,7 +7,7 @@ use Rattle.std.proofs.Common.{inl, inr, refl, arith}
 abbrev pub IsSpace : ℕ → Type 0
 IsSpace c = (c ≡ 0x20) ⊎ ((c ≡ 0x09) ⊎ ((c ≡ 0x0A) ⊎ (c ≡ 0x0D)))
 
--- such bytes alone, or none
+-- spaces alone, or nothing
 abbrev pub IsWhitespace : List ℕ → Type 0
 IsWhitespace b = AllByRecursion IsSpace b
 

@@ -5,9 +5,9 @@
 #![tactic(auto)]
 
 ghost use Rattle.miniserde_model.specs.Examples.{NormalForms, RefusedTexts, SpelledTexts};
-ghost use Rattle.miniserde_model.specs.Laws.{CanonicalIsShortest, CanonicalTells, CompactIsValue, CompactSpells, DistinctKeepsSize, EventsComplete};
-ghost use Rattle.miniserde_model.specs.Laws.{NoneBeginsAnother, NormIsDistinct, NormIsNormal, NormIsOnly, NormIsTree};
-ghost use Rattle.miniserde_model.specs.Laws.{NormKeepsLast, NormRises, PutGivesNorm, SpelledIsTree, SpelledIsUtf8, TextHasOneTree};
+ghost use Rattle.miniserde_model.specs.Laws.{CanonicalIsShortest, CanonicalTextsEqual, CompactIsValue, CompactSpells, DistinctKeepsSize, EventsComplete};
+ghost use Rattle.miniserde_model.specs.Laws.{CompletionsArePrefixFree, NormIsDistinct, NormIsNormal, NormIsOnly, NormIsTree};
+ghost use Rattle.miniserde_model.specs.Laws.{NormKeepsLast, NormRises, PutGivesNorm, JsonIsTree, JsonIsUtf8, TextHasOneTree};
 
 pub mod error;
 pub mod kind;
@@ -19,13 +19,13 @@ pub fn text_has_one_tree()
 
 /// Does nothing. It promises that the numbers of a tree that a text spells are in range, and that its strings are
 /// UTF-8.
-pub fn spelled_is_tree()
-    ensures { SpelledIsTree }
+pub fn json_is_tree()
+    ensures { JsonIsTree }
 {}
 
 /// Does nothing. It promises that a text that spells a tree is UTF-8.
-pub fn spelled_is_utf8()
-    ensures { SpelledIsUtf8 }
+pub fn json_is_utf8()
+    ensures { JsonIsUtf8 }
 {}
 
 /// Does nothing. It promises that the compact text of a tree spells it, as a whole text and as a value within a text,
@@ -58,9 +58,10 @@ pub fn norm_of_distinct()
     ensures size { DistinctKeepsSize }
 {}
 
-/// Does nothing. It promises that canonical texts are equal exactly if the normal forms are equal.
-pub fn canonical_tells()
-    ensures { CanonicalTells }
+/// Does nothing. It promises that the canonical texts of two trees are equal exactly if the trees have one normal
+/// form.
+pub fn canonical_texts_equal()
+    ensures { CanonicalTextsEqual }
 {}
 
 /// Does nothing. It promises that no text with the same normal form is shorter than the canonical text.
@@ -72,7 +73,7 @@ pub fn canonical_is_shortest()
 /// value is a proper prefix of another one.
 pub fn events_complete()
     ensures one { EventsComplete }
-    ensures only { NoneBeginsAnother }
+    ensures only { CompletionsArePrefixFree }
 {}
 
 /// Does nothing. It promises worked examples: texts with their trees, normal forms with their compact texts, and

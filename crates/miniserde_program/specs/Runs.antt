@@ -1,4 +1,4 @@
--- What a run of the program read and wrote, and what it says of that.
+-- What a run of the program reads, writes and reports.
 use Rattle.std.specs.Prelude.{◌≡◌, true, ◌<◌, ◌+◌, ℕ, List, ◌++◌, codes, Option, Result, Ok, Err, OnOk, IfSome, IsErrOf, ◌⊎◌, ⊤}
 use Rattle.std.specs.Str.{IsUtf8}
 use Rattle.std.specs.Io.KnownBytes.{IsAtEnd, Keeps, Appends}
@@ -23,7 +23,7 @@ IsAnswer xs ys = IsUtf8 xs × ((t : Tree) × IsJson xs t × (ys ≡ compact (nor
 unfoldable pub HasNoAnswer : List ℕ → Type 0
 HasNoAnswer xs = (IsUtf8 xs → ⊥) ⊎ ((t : Tree) → IsJson xs t → ⊥)
 
--- the same, if no name is duplicated in the tree, so that the normal form has as many values
+-- the bytes xs are a text without duplicate names, and ys is its canonical text, which has as many values
 unfoldable pub IsUniqueAnswer : List ℕ → List ℕ → Type 0
 IsUniqueAnswer xs ys = IsUtf8 xs × ((t : Tree) × IsJson xs t × (names_distinct t ≡ true) × (size (norm t) ≡ size t) × (ys ≡ compact (norm t)))
 
@@ -33,7 +33,7 @@ HasNoUniqueAnswer xs = (IsUtf8 xs → ⊥) ⊎ ((t : Tree) → IsJson xs t → n
 
 -- ---- the calls
 
--- the refusal of a run whose text was refused
+-- the fault of a run that failed with this error
 abbrev pub fault_of : Error → Fault
 fault_of error.Invalid = Invalid
 fault_of error.Memory = Memory
@@ -54,7 +54,7 @@ write_faults (Err Memory) = 0
 write_faults (Err Read) = 0
 write_faults (Err Write) = 1
 
--- p, where the answer says that the reader was read to its end
+-- p, if the run's result says that the reader was read to its end
 abbrev pub IfRead : {T : Type 0} → Result T Fault → Type 0 → Type 0
 IfRead (Ok x) p = p
 IfRead (Err Invalid) p = p
@@ -62,7 +62,7 @@ IfRead (Err Memory) p = ⊤
 IfRead (Err Read) p = ⊤
 IfRead (Err Write) p = p
 
--- p, where the answer says that nothing was written
+-- p, if the run's result says that nothing was written
 abbrev pub IfSilent : {T : Type 0} → Result T Fault → Type 0 → Type 0
 IfSilent (Ok x) p = ⊤
 IfSilent (Err Invalid) p = p
@@ -70,25 +70,25 @@ IfSilent (Err Memory) p = p
 IfSilent (Err Read) p = p
 IfSilent (Err Write) p = ⊤
 
--- a beginning of bs was appended
+-- a prefix of bs was appended
 abbrev pub AppendsPart : Option (List ℕ) → Option (List ℕ) → List ℕ → Type 0
 AppendsPart old new bs = (front : List ℕ) × (rest : List ℕ) × (bs ≡ front ++ rest) × Appends old new front
 
--- the answer for xs was appended, and a beginning of it: what an answer is comes first
+-- an output for the input xs was appended, or a prefix of one; `is` relates input and output
 abbrev pub AppendsBy : (List ℕ → List ℕ → Type 0) → Option (List ℕ) → Option (List ℕ) → List ℕ → Type 0
 AppendsBy is old new xs = (ys : List ℕ) × is xs ys × Appends old new ys
 
 abbrev pub AppendsPartBy : (List ℕ → List ℕ → Type 0) → Option (List ℕ) → Option (List ℕ) → List ℕ → Type 0
 AppendsPartBy is old new xs = (ys : List ℕ) × is xs ys × AppendsPart old new ys
 
--- the answer of `run`
+-- an output of `run` for the input was appended, or a prefix of one
 abbrev pub AppendsAnswer : Option (List ℕ) → Option (List ℕ) → List ℕ → Type 0
 AppendsAnswer = AppendsBy IsAnswer
 
 abbrev pub AppendsPartOfAnswer : Option (List ℕ) → Option (List ℕ) → List ℕ → Type 0
 AppendsPartOfAnswer = AppendsPartBy IsAnswer
 
--- the answer of `run_unique`
+-- an output of `run_unique` for the input was appended, or a prefix of one
 abbrev pub AppendsUniqueAnswer : Option (List ℕ) → Option (List ℕ) → List ℕ → Type 0
 AppendsUniqueAnswer = AppendsBy IsUniqueAnswer
 

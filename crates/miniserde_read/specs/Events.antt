@@ -1,4 +1,4 @@
--- The event that a step is, and the events that trees have.
+-- The events of Rust's `Step`, and the events that trees have.
 use Rattle.std.specs.Prelude.{◌≡◌, Option, Some, None, option_and_then, ⊤, pos, ◌≤ℤ◌}
 use Rattle.miniserde_model.specs.Tree.{Tree, null, truth, nonneg, neg, num, str, list, members, Trees, Members}
 use Rattle.miniserde_model.specs.Number.{IsNumber}
@@ -20,7 +20,7 @@ event_of step.Map = map
 event_of (step.Key k) = key k.now
 event_of step.Finish = finish
 
--- a tree can have the event: a negative integer is at most 0, and a kept number has no other leaf
+-- a tree can have the event: a negative integer is at most 0, and a number text is no integer in range
 abbrev pub IsTreeEvent : model.Step → Type 0
 IsTreeEvent (negative n) = n ≤ℤ pos 0
 IsTreeEvent (float x) = IsNumber x (num x)
@@ -36,7 +36,7 @@ leaf_of (nonnegative n) = Some (nonneg n)
 leaf_of (float x) = Some (num x)
 leaf_of _ = None
 
--- what the leaf of an event gives
+-- the content that the leaf of an event gives
 abbrev pub on_leaf : {C : Type 0} → (Tree → Option C) → model.Step → Option C
 on_leaf f e = option_and_then f (leaf_of e)
 

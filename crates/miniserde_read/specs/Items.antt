@@ -1,4 +1,4 @@
--- The meaning of a tuple: of its items, which the children of a list mean one by one, and of the whole.
+-- The meaning of a tuple: the children of a list mean its items one by one.
 use Rattle.std.specs.Prelude.{◌≡◌, ◌↔◌, ℕ, Bool, List, Option, Some, None}
 use Rattle.miniserde_model.specs.Tree.{Trees}
 use Rattle.miniserde_read.specs.Meaning.{Meaning, meant}

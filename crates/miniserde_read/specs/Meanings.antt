@@ -72,7 +72,7 @@ option_meaning m =
 abbrev pub box_meaning : {V W : Type 0} → Meaning V → (W → V) → Meaning W
 box_meaning m value = meant (λ b. m.content (value b)) m.from_tree (λ t b. m.reads t (value b)) (λ t b. m.reads_agrees t (value b))
 
--- a map, by its entries: `read` gives the key of a name, `code` what equality compares of it
+-- a map, by its entries: `read` gives the key of a name, and `code` the part of a key that `Eq` compares
 abbrev pub map_meaning : {K V W : Type 0} → (Name → Option Key) → (Key → Key) → (K → Key) → Meaning V → (W → List (K × V)) → Meaning W
 map_meaning read code key m entries =
     meant (λ v. map_content code key m.content (entries v)) (map_of read code m.from_tree)

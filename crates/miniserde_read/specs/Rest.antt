@@ -7,7 +7,8 @@ use Rattle.miniserde_model.specs.Step as step
 use Rattle.miniserde_model.specs.Lexing.{Starts, Names, Follows}
 use Rattle.miniserde_model.specs.declared.kind.Kind.TheVariants.{Seq, Map}
 
--- What leads to an element, the element's first event, the rest V of the element, and then K.
+-- s begins with an element: the comma before it unless it is the first, its first event, and its rest by V. K relates
+-- the text after the element and r.
 pub record OneElement (V : Step → List ℕ → List ℕ → Type 0) (K : List ℕ → List ℕ → Type 0) (first : Bool) (s r : List ℕ) : Type 0 where
   pub begin : List ℕ
   pub event : Step
@@ -18,7 +19,8 @@ pub record OneElement (V : Step → List ℕ → List ℕ → Type 0) (K : List 
   pub is_value : V event behind rest
   pub is_rest : K rest r
 
--- What leads to a member, its name, its value's first event, the rest V of the value, and then K.
+-- s begins with a member: the comma before it unless it is the first, its name, and its value by V. K relates the
+-- text after the member and r.
 pub record OneMember (name : List ℕ) (V : Step → List ℕ → List ℕ → Type 0) (K : List ℕ → List ℕ → Type 0) (first : Bool) (s r : List ℕ) : Type 0 where
   pub begin : List ℕ
   pub named : List ℕ
@@ -32,7 +34,7 @@ pub record OneMember (name : List ℕ) (V : Step → List ℕ → List ℕ → T
   pub is_rest : K rest r
 
 abbrev mutual
-  -- The event and what stands behind it, up to r, spell the tree.
+  -- The event and the text after it, up to r, spell the tree.
   pub ValueAt : Tree → Step → List ℕ → List ℕ → Type 0
   ValueAt null e s r = (e ≡ step.null) × (r ≡ s)
   ValueAt (truth x) e s r = (e ≡ boolean x) × (r ≡ s)
@@ -43,12 +45,12 @@ abbrev mutual
   ValueAt (list ts) e s r = (e ≡ seq) × ElementsAt ts true s r
   ValueAt (members ms) e s r = (e ≡ map) × MembersAt ms true s r
 
-  -- What stands in a list, behind its opening bracket or not, up to and with its closing bracket, spells the elements.
+  -- The text in an array spells the elements, up to and with the closing bracket.
   pub ElementsAt : Trees → Bool → List ℕ → List ℕ → Type 0
   ElementsAt no_trees first s r = Follows Seq first true s r
   ElementsAt (tree t ts) first s r = OneElement (ValueAt t) (ElementsAt ts false) first s r
 
-  -- The same of an object.
+  -- The text in an object spells the members, up to and with the closing bracket.
   pub MembersAt : Members → Bool → List ℕ → List ℕ → Type 0
   MembersAt no_members first s r = Follows Map first true s r
   MembersAt (member name t ms) first s r = OneMember name (ValueAt t) (MembersAt ms false) first s r

@@ -26,7 +26,7 @@ pub trait Leaf: Drop {
     // `from_step` never returns `Memory`.
     ghost read_infallible: { Bool } = { false };
 
-    /// Returns the value of an event, or `Invalid` if the event is of another kind or out of range.
+    /// Returns the value that the event means, or `Invalid` if it means none of this type.
     fn from_step(alloc: Global, event: Step<'_>) -> Result<Self>
         requires { IsTreeEvent (event_of event) }
         ensures ok { IfOk result (λ v. on_leaf means.from_tree (event_of event.entry) ≡ Some (means.content v)) }

@@ -23,7 +23,7 @@ pub record FieldsMeaning (V : Type 0) : Type 1 where
   pub count : ℕ
   -- the state after one more member, by the fields' names, its name and its tree
   pub by_tree : List Name → State → Name → Tree → Option State
-  -- a member of the name is refused before its value, whatever that is
+  -- the name alone refuses a member, whatever its value
   pub refuses : List Name → State → Name → Bool
   pub refused : (names : List Name) (s : State) (k : Name) → refuses names s k ≡ true → (t : Tree) → by_tree names s k t ≡ None
   -- the content at the end of the members

@@ -14,6 +14,6 @@ pub record ReadsDue {S : Type 0} (next : Tree → Option S) (s r : List ℕ) (st
   pub is_value : ValueAt one event behind r
   pub gives : next one ≡ Some state
 
--- no value at the front of s gives a state
+-- no value at the beginning of s gives a state
 abbrev pub RejectsDue : {S : Type 0} → (Tree → Option S) → List ℕ → Type 0
 RejectsDue next s = (t : Tree) (e : Step) (b r : List ℕ) → Starts s e b → ValueAt t e b r → next t ≡ None

@@ -1,4 +1,4 @@
-//! Types whose values are told apart by what is written.
+//! Types whose tree is injective: valid values with one tree have one content.
 ghost use Rattle.std.specs.Prelude.{◌≡◌, IfOk, Err};
 ghost use Rattle.miniserde_model.specs.Tree.{null};
 ghost use Rattle.miniserde_model.specs.declared.error.Error.{Error};
@@ -10,7 +10,7 @@ use std::alloc::Global;
 use std::collections::{BTreeMap, HashMap, VecDeque};
 use std::hash::{BuildHasher, Hash};
 
-/// A type whose values count as the same where they are written alike, so that each is read again as itself.
+/// A type of which valid values with the same tree have the same content, so each is read back as itself.
 pub trait Lossless: RoundTrip {
     /// Does nothing. It promises that two valid values with one tree have the same content.
     fn lossless()

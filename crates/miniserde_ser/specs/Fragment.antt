@@ -4,7 +4,7 @@ use Rattle.miniserde_model.specs.Tree.{Tree, null, truth, nonneg, neg, num, str}
 use Rattle.miniserde_ser.specs.declared.ser.Fragment.{Fragment}
 use Rattle.miniserde_ser.specs.declared.ser.Fragment.TheVariants.{Null, Bool, Str, U64, I64, Text}
 
--- the tree of an integer: a minus stands before a negative one alone
+-- the tree of an integer: only a negative one has a minus
 abbrev pub integer : ℤ → Tree
 integer (pos n) = nonneg n
 integer (negsuc n) = neg (negsuc n)

@@ -9,7 +9,7 @@ pub record Writing : Type 0 where
   pub text : List ℕ
   -- the next element or member is the first
   pub first : Bool
-  -- a call was refused
+  -- a call failed
   pub refused : Bool
   -- how many bytes the text has room for
   pub capacity : ℕ
@@ -22,11 +22,11 @@ after_append w bs n = record w { text = w.text ++ bs; capacity = n }
 abbrev pub with_first_flag : Writing → Bool → Writing
 with_first_flag w b = record w { first = b }
 
--- the writer after a refusal
+-- the writer after a failed call
 abbrev pub with_refused : Writing → Writing
 with_refused w = record w { refused = true }
 
--- if no call was refused, then there is no room for these bytes behind the text
+-- if no call failed, then there is no room for these bytes
 abbrev pub LacksRoom : Writing → List ℕ → Type 0
 LacksRoom w bs = w.refused ≡ false → w.capacity < length w.text + length bs
 

@@ -8,7 +8,7 @@ ghost use Rattle.miniserde_model.specs.declared.error.Error.TheVariants.{Invalid
 
 use miniserde_canonical::canonical;
 use miniserde_model::error::Result;
-use miniserde_model::spelled_is_tree;
+use miniserde_model::json_is_tree;
 use miniserde_read::from_str;
 use miniserde_round::{Lossless, RoundTrip};
 use miniserde_ser::ser::{Serialize, to_string};
@@ -33,7 +33,7 @@ pub fn read_canonical<T: Stable>(alloc: Global, j: &str) -> Result<(T, String)>
     ensures invalid { result ≡ Err Invalid → (t : Tree) → IsJson j.now t → (v : T) → T.means.reads t v → ⊥ }
 {
     means_in_normal_form::<T>();
-    spelled_is_tree();
+    json_is_tree();
     let value: T = from_str(alloc, j)?;
     let text = canonical(alloc, j)?;
     Ok((value, text))
@@ -49,7 +49,7 @@ pub fn canonical_of<T: Serialize>(alloc: Global, value: &T) -> Result<String>
         → norm u ≡ norm (T.tree value.now)) }
     ensures memory { OnErr result (IsErrOf result Memory) }
 {
-    spelled_is_tree();
+    json_is_tree();
     let text = to_string(alloc, value)?;
     let canonical = canonical(alloc, text.as_str())?;
     Ok(canonical)

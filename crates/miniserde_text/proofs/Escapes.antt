@@ -8,7 +8,7 @@ use Rattle.std.proofs.lemmas.Bool.Decides.{nat_tests}
 use Rattle.std.proofs.lemmas.Bool.{true≢false}
 use Rattle.std.proofs.lemmas.List.{get_or_past}
 use lib.Utf8.{scalar_cases}
-use Rattle.miniserde_model.specs.String.{IsRaw, IsShort, quote, backslash, slash, backspace, form_feed, line_feed, carriage_return, tab, IsUnit, IsPair, IsPiece, raw, short, unit, pair}
+use Rattle.miniserde_model.specs.String.{IsRaw, IsShortEscape, quote, backslash, slash, backspace, form_feed, line_feed, carriage_return, tab, IsUnit, IsPair, IsPiece, raw, short, unit, pair}
 use Rattle.miniserde_text.specs.private.Reading.{is_hex, is_high, is_low, begins_unit, unit_at, begins_escape, pair_of, low_at, unicode_at, short_at, escape_at}
 use Rattle.miniserde_text.proofs.Runs.{or_true}
 use Rattle.std.proofs.lemmas.Option.{cond_some, same_Some}
@@ -138,10 +138,10 @@ unicode_takes s c r e =
           (h.digits, unit (unit_scalar c (unit_small _ c one) (ap is_high (sym at) ∙ p.0) (ap is_low (sym at) ∙ n.0)) one, h.text ∙ ap (λ x. h.digits ++ x.1) same)
     ]
 
-short_same : (x c : ℕ) → IsShort x c → (y d : ℕ) → x ≡ y → c ≡ d → IsShort y d
-short_same x c h y d e f = subst (λ z. IsShort z d) e (subst (IsShort x) f h)
+short_same : (x c : ℕ) → IsShortEscape x c → (y d : ℕ) → x ≡ y → c ≡ d → IsShortEscape y d
+short_same x c h y d e f = subst (λ z. IsShortEscape z d) e (subst (IsShortEscape x) f h)
 
-self_short : (x : ℕ) → ((x == 34) || ((x == 92) || (x == 47))) ≡ true → IsShort x x
+self_short : (x : ℕ) → ((x == 34) || ((x == 92) || (x == 47))) ≡ true → IsShortEscape x x
 self_short x h = elim (or_true (x == 34) _ h) [
   | inl d ↦ let e = sym (eqb-true x 34 d) in short_same 34 34 quote x x e e
   | inr h ↦ elim (or_true (x == 92) (x == 47) h) [
@@ -150,10 +150,10 @@ self_short x h = elim (or_true (x == 34) _ h) [
   ]
 ]
 
-short_is : (x c : ℕ) → short_at x ≡ Some c → IsShort x c
+short_is : (x c : ℕ) → short_at x ≡ Some c → IsShortEscape x c
 short_is x c e =
     elim (chosen ((x == 34) || ((x == 92) || (x == 47))) _ _ _ e) [
-      | inl p ↦ subst (IsShort x) (same_Some _ _ p.1) (self_short x p.0)
+      | inl p ↦ subst (IsShortEscape x) (same_Some _ _ p.1) (self_short x p.0)
       | inr p ↦ elim (chosen (x == 98) _ _ _ p.1) [
         | inl p ↦ short_same 98 8 backspace x c (sym (eqb-true x 98 p.0)) (same_Some _ _ p.1)
         | inr p ↦ elim (chosen (x == 102) _ _ _ p.1) [
@@ -226,7 +226,7 @@ escape_u : (t : List ℕ) → escape_at (117 ∷ t) ≡ unicode_at t
 unfolding escape_at
 escape_u t = refl
 
-escape_short : (x c : ℕ) (t : List ℕ) → IsShort x c → escape_at (x ∷ t) ≡ Some (c, t)
+escape_short : (x c : ℕ) (t : List ℕ) → IsShortEscape x c → escape_at (x ∷ t) ≡ Some (c, t)
 unfolding escape_at
 escape_short x c t quote = refl
 escape_short x c t backslash = refl

@@ -1,4 +1,4 @@
--- How contracts see a lexer, and what it answers.
+-- How contracts see a lexer and its results.
 use Rattle.std.specs.Prelude.{◌≡◌, ℕ, List, ◌∷◌, ◌++◌, Option, Bool, true, false, ⊤}
 use Rattle.std.specs.List.{AllByRecursion}
 use Rattle.miniserde_model.specs.Bytes.{is_special, is_space, StopsAt}
@@ -15,7 +15,7 @@ use Rattle.miniserde_text.specs.declared.json.lex.Event.TheVariants as event
 use Rattle.miniserde_text.specs.declared.json.lex.After.{After}
 use Rattle.miniserde_text.specs.declared.json.lex.After.TheVariants as after
 
--- what is left of the text, and the refusal that the lexer keeps
+-- the rest of the text, and the first error, if there was one
 pub record Lexing : Type 0 where
   pub rest : List ℕ
   pub refused : Option Error
@@ -25,7 +25,7 @@ abbrev pub text_of : Text → List ℕ → List ℕ
 text_of (Input s) scratch = s.now
 text_of Scratch scratch = scratch
 
--- the event of a tree that an answer of `start` is
+-- the event that a token begins, with the scratch text
 abbrev pub event_of_token : Event → List ℕ → step.Step
 event_of_token event.Null scratch = step.null
 event_of_token (event.Bool b) scratch = boolean b
@@ -43,21 +43,21 @@ is_close after.Next = false
 
 -- ---- what is borrowed, and what takes memory
 
--- a backslash stands in the text
+-- the text contains a backslash
 abbrev pub HasBackslash : List ℕ → Type 0
 HasBackslash x = (a b : List ℕ) × (x ≡ a ++ 92 ∷ b)
 
--- A borrowed text is what stands between the quotes, with no backslash. A decoded one had a backslash there.
+-- A borrowed text is the text between the quotes, without a backslash. A decoded one had a backslash there.
 abbrev pub StandsFor : Text → List ℕ → Type 0
 StandsFor (Input x) inside = (inside ≡ x.now) × (HasBackslash inside → ⊥)
 StandsFor Scratch inside = HasBackslash inside
 
--- a string's text is borrowed exactly where it may be
+-- a string's text is borrowed exactly if it has no backslash
 abbrev pub EventStandsFor : Event → List ℕ → List ℕ → Type 0
 EventStandsFor (event.Str t) s r = Stands (Between 34 (StandsFor t) 34) s r
 EventStandsFor _ s r = ⊤
 
--- the same of a name
+-- a name's text is borrowed exactly if it has no backslash
 abbrev pub NameStandsFor : Text → List ℕ → List ℕ → Type 0
 NameStandsFor t s r = Stands (BeforeColon (Between 34 (StandsFor t) 34)) s r
 
@@ -66,12 +66,12 @@ abbrev pub LeavesScratch : {S : Type 0} → Text → S → S → Type 0
 LeavesScratch (Input x) old new = new ≡ old
 LeavesScratch Scratch old new = ⊤
 
--- so does each event that is no string
+-- each token that is no string leaves the scratch text as it was
 abbrev pub EventLeavesScratch : {S : Type 0} → Event → S → S → Type 0
 EventLeavesScratch (event.Str t) old new = LeavesScratch t old new
 EventLeavesScratch _ old new = new ≡ old
 
--- a string begins behind whitespace, and a backslash stands in it
+-- after whitespace a string begins that contains a backslash
 abbrev pub BeginsEscaped : List ℕ → Type 0
 BeginsEscaped s = (r : List ℕ) × Stands (Between 34 (AllByRecursion (λ c. is_special c ≡ false)) 92) s r
 

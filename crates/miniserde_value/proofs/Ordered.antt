@@ -10,7 +10,7 @@ use Rattle.std.specs.List.Sorted.{IsStrictlySortedBy}
 use Rattle.std.proofs.lemmas.Map.Keys.{sorted_head, sorted_tail}
 use Rattle.std.proofs.lemmas.Map.Lookups.{exact_bytes}
 use Rattle.miniserde_model.specs.Tree.{Tree, Members, member}
-use Rattle.miniserde_model.specs.Normal.{text_cmp, or_else, last_of, BeginsAbove, Rise, put, put_by}
+use Rattle.miniserde_model.specs.Normal.{text_cmp, or_else, last_of, BeginsAbove, Rise, put, put_first_by}
 use Rattle.miniserde_ser.specs.Trees.{members_of}
 use Rattle.miniserde_text.proofs.Equal.{bytes_eq-flips}
 
@@ -43,7 +43,7 @@ module _ {V : Type 0} (f : V → Tree) where
   inserted [] k v = refl
   inserted (e ∷ es) k v = go (string_cmp k e.0) refl (inserted es k v)
     where
-      go : (o : Ordering) → string_cmp k e.0 ≡ o → shown (insert_entry string_cmp es k v) ≡ put (string_bytes k) (f v) (shown es) → shown (match_ordering o ((k, v) ∷ e ∷ es) ((e.0, v) ∷ es) (e ∷ insert_entry string_cmp es k v)) ≡ put_by o (string_bytes k) (f v) (string_bytes e.0) (f e.1) (shown es) (put (string_bytes k) (f v) (shown es))
+      go : (o : Ordering) → string_cmp k e.0 ≡ o → shown (insert_entry string_cmp es k v) ≡ put (string_bytes k) (f v) (shown es) → shown (match_ordering o ((k, v) ∷ e ∷ es) ((e.0, v) ∷ es) (e ∷ insert_entry string_cmp es k v)) ≡ put_first_by o (string_bytes k) (f v) (string_bytes e.0) (f e.1) (shown es) (put (string_bytes k) (f v) (shown es))
       go Less c h = refl
       go Equal c h = ap (λ n. member n (f v) (shown es)) (sym (exact_bytes (string_bytes k) (string_bytes e.0) c))
       go Greater c h = ap (member (string_bytes e.0) (f e.1)) h

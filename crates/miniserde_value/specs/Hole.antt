@@ -8,21 +8,21 @@ use Rattle.miniserde_ser.specs.Trees.{trees_of}
 
 -- what is read so far, from the innermost open container outwards
 pub data Hole : Type 0 where
-  -- no container is open, and these values are whole
+  -- no container is open, and these values are complete
   outside : List Tree → Hole
   -- a list that has these items
   in_list : List Tree → Hole → Hole
   -- an object that has these members in the order of their names, and the name of its next value
   in_members : Members → Option (List ℕ) → Hole → Hole
 
--- with one more value in the hole: in an object under its name, in the place of the one of that name
+-- the hole after a value is added to its innermost container; in an object it replaces the value of the same name
 abbrev pub put : Tree → Hole → Hole
 put t (outside ts) = outside (ts ++ t ∷ [])
 put t (in_list ts h) = in_list (ts ++ t ∷ []) h
 put t (in_members ms None h) = in_members ms None h
 put t (in_members ms (Some n) h) = in_members (put_member n t ms) None h
 
--- with the name of the next value, where an object is the innermost open container
+-- the hole with the name of the next value, if the innermost open container is an object
 abbrev pub with_name : List ℕ → Hole → Hole
 with_name n (outside ts) = outside ts
 with_name n (in_list ts h) = in_list ts h
@@ -34,7 +34,7 @@ has_member n (outside ts) = false
 has_member n (in_list ts h) = false
 has_member n (in_members ms k h) = is_some (last_of n ms)
 
--- with the innermost open container closed
+-- the hole after the innermost open container closes
 abbrev pub after_close : Hole → Hole
 after_close (outside ts) = outside ts
 after_close (in_list ts h) = put (list (trees_of (λ t. t) ts)) h
@@ -46,7 +46,7 @@ depth (outside ts) = 0
 depth (in_list ts h) = depth h + 1
 depth (in_members ms n h) = depth h + 1
 
--- the value, where it is whole
+-- the value, if there is exactly one
 abbrev pub single : List Tree → Option Tree
 single [] = None
 single (t ∷ []) = Some t
@@ -57,9 +57,9 @@ complete_tree (outside ts) = single ts
 complete_tree (in_list ts h) = None
 complete_tree (in_members ms n h) = None
 
--- ---- what events make of it
+-- ---- the hole after events
 
--- a value's first event
+-- the hole after a value's first event
 abbrev pub after_begin : Step → Hole → Option Hole
 after_begin step.null h = Some (put null h)
 after_begin (boolean b) h = Some (put (truth b) h)
@@ -73,29 +73,29 @@ after_begin element h = None
 after_begin (key k) h = None
 after_begin finish h = None
 
--- an event where no value is due: whether one is due then, and the hole
-abbrev pub after_resume : Step → Hole → Option (Bool × Hole)
-after_resume element (in_list ts h) = Some (true, in_list ts h)
-after_resume (key k) (in_members ms n h) = Some (true, in_members ms (Some k) h)
-after_resume finish (in_list ts h) = Some (false, after_close (in_list ts h))
-after_resume finish (in_members ms n h) = Some (false, after_close (in_members ms n h))
-after_resume _ _ = None
+-- after an event that comes while no value is due: whether a value is due then, and the hole
+abbrev pub after_between : Step → Hole → Option (Bool × Hole)
+after_between element (in_list ts h) = Some (true, in_list ts h)
+after_between (key k) (in_members ms n h) = Some (true, in_members ms (Some k) h)
+after_between finish (in_list ts h) = Some (false, after_close (in_list ts h))
+after_between finish (in_members ms n h) = Some (false, after_close (in_members ms n h))
+after_between _ _ = None
 
--- one event, where a value is due or none is
+-- after one event, by whether a value is due
 abbrev pub after_step : Bool → Hole → Step → Option (Bool × Hole)
 after_step true h e = option_map (λ g. (false, g)) (after_begin e h)
-after_step false h e = after_resume e h
+after_step false h e = after_between e h
 
 -- the event is a name that the innermost open object has
 abbrev pub repeats : Step → Hole → Bool
 repeats (key k) h = has_member k h
 repeats _ h = false
 
--- the same, where `once` says that no name may be repeated
+-- after one event; with `once`, a repeated name gives nothing
 abbrev pub after_step_once : Bool → Bool → Hole → Step → Option (Bool × Hole)
 after_step_once once due h e = if once && repeats e h then None else after_step due h e
 
--- what the events that are still to come give
+-- the tree that the events to come give
 abbrev pub outcome : Bool → Bool → Hole → List Step → Option Tree
 outcome once true h [] = None
 outcome once false h [] = complete_tree h

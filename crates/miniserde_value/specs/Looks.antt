@@ -1,4 +1,4 @@
--- Letting go of values.
+-- The number of values that a drop frees.
 use Rattle.std.specs.Prelude.{◌≡◌, ℕ, List, ◌∷◌}
 use Rattle.miniserde_model.specs.Size.{size}
 use Rattle.miniserde_value.specs.declared.json.value.Value.{Value}

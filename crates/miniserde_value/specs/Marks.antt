@@ -19,7 +19,7 @@ made_members o = members_of string_bytes shape o.members.entries
 abbrev pub next_name : OpenObject → Option (List ℕ)
 next_name o = option_map string_bytes o.name
 
--- an open object in what stands around it
+-- the hole of an open object inside another hole
 abbrev pub with_open_object : OpenObject → Hole → Hole
 with_open_object o h = in_members (made_members o) (next_name o) h
 
@@ -43,7 +43,7 @@ hole_of vs os [] = outside vs
 hole_of vs os (mark.Array v ∷ ms) = in_list (drop v vs) (hole_of (take v vs) os ms)
 hole_of vs os (mark.Object ∷ ms) = in_members (first_members os) (first_name os) (hole_of vs (outer_objects os) ms)
 
--- each mark of an array stands within so many values, and each of an object has one
+-- each mark of an array is an index of so many values, and each mark of an object has its object
 abbrev pub Fits : ℕ → List OpenObject → List Mark → Type 0
 Fits n os [] = ⊤
 Fits n os (mark.Array v ∷ ms) = (v ≤ n) × Fits v os ms

@@ -24,7 +24,7 @@ use Rattle.miniserde_value.specs.laws.Unique.{once-agrees}
 abbrev pub number_meaning : Meaning Number
 number_meaning = meant number_leaf number_of ReadsNumber number-given
 
--- every tree means a value, which keeps of each name the last tree
+-- every tree means a value, which retains of each name the last tree
 abbrev pub value_meaning : Meaning Value
 value_meaning = meant shape (λ t. Some (retained_tree t)) ReadsValue (λ t v. reads-agree t (shape v))
 
@@ -44,7 +44,7 @@ json_object_meaning =
 abbrev pub ReadsUnique : Tree → Unique → Type 0
 ReadsUnique t u = (names_distinct t ≡ true) × ReadsValue t u.value
 
--- a tree in which no name is duplicated means the value, which keeps the tree
+-- a tree without a duplicate name means the value, which retains the tree
 abbrev pub unique_meaning : Meaning Unique
 unique_meaning = meant (λ u. shape u.value) (retained_if true) ReadsUnique (λ t u. once-agrees t (shape u.value))
 

@@ -5,7 +5,7 @@ use Rattle.miniserde_model.specs.Tree.{Tree, null, nonneg, neg, Trees, members, 
 use Rattle.miniserde_model.specs.Normal.{norm_by, norm_children_by, norm_members_by}
 use Rattle.miniserde_model.specs.Distinct.{names_distinct}
 
--- its normal form, but for the sign of `-0`
+-- the normal form, except for the sign of `-0`
 abbrev pub retained_tree : Tree → Tree
 retained_tree = norm_by neg
 
@@ -15,7 +15,7 @@ retained_children = norm_children_by neg
 abbrev pub retained_members : Members → Members
 retained_members = norm_members_by neg
 
--- the same, and nothing of a tree with duplicate names where `once` says that none may be repeated
+-- the retained tree; with `once`, a tree with a duplicate name gives nothing
 abbrev pub retained_if : Bool → Tree → Option Tree
 retained_if once t = if not once || names_distinct t then Some (retained_tree t) else None
 

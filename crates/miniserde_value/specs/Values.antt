@@ -13,7 +13,7 @@ use Rattle.miniserde_value.specs.declared.json.object.Object.{Object}
 use Rattle.miniserde_value.specs.Numbers.{number_leaf}
 use Rattle.miniserde_value.specs.Retained.{retained_tree}
 
--- ---- what stands in a value
+-- ---- the parts of a value
 
 -- the items of an array
 abbrev pub array_items : Array → List Value
@@ -33,7 +33,7 @@ with_items vs = record { items = vs }
 abbrev pub with_members : BTreeMap (String Global) Value → Object
 with_members m = record { members = m }
 
--- what stands right below a value
+-- the values right below a value
 abbrev pub below : Value-F Value Array Object → List Value
 below (Value-F.Array a) = array_items a
 below (Value-F.Object o) = object_values o
@@ -48,7 +48,7 @@ IsBare v = children v ≡ []
 
 -- ---- the tree of a value
 
--- one level, where what stands below is a tree
+-- one level, with trees below it
 abbrev pub shape_step : Value-F Tree Trees Members → Tree
 shape_step Value-F.Null = null
 shape_step (Value-F.Bool b) = truth b
@@ -63,7 +63,7 @@ array_step a = trees_of (λ t. t) a.items.items
 abbrev pub object_step : Object-F Tree Trees Members → Members
 object_step o = members_of string_bytes (λ t. t) o.members.entries
 
--- All that counts of a value: the leaf of each number, and what each container has, in order.
+-- The content of a value: the leaf of each number, and the parts of each container in order.
 unfoldable pub shape : Value → Tree
 shape = fold-Value Tree Trees Members shape_step array_step object_step
 
@@ -81,6 +81,6 @@ object_shape o = members (object_members o)
 abbrev pub tree_of : Value → Tree
 tree_of v = norm (shape v)
 
--- the tree means the value: the value has what a value keeps of the tree
+-- the tree means the value: the value retains the tree
 abbrev pub ReadsValue : Tree → Value → Type 0
 ReadsValue t v = shape v ≡ retained_tree t

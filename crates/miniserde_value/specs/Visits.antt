@@ -1,4 +1,4 @@
--- The fronts of a tree: what a walk over it meets, one after another.
+-- The visits of a tree: the steps of a walk over it, one after another.
 use Rattle.std.specs.Prelude.{ℕ, Bool, true, false, List, [], ◌∷◌, ◌++◌, None, IsUtf8, ⊤}
 use Rattle.miniserde_model.specs.Tree.{Tree, list, members, Trees, no_trees, tree, Members, no_members, member}
 use Rattle.miniserde_model.specs.Compact.{compact, string_text}
@@ -16,7 +16,7 @@ pub data TreeVisit : Type 0 where
   members_end : TreeVisit
 
 abbrev mutual
-  -- the fronts of a tree, and then others
+  -- the visits of a tree, and then others
   pub visits : Tree → List TreeVisit → List TreeVisit
   visits (list ts) rest = list_begins ∷ child_visits ts (list_ends ∷ rest)
   visits (members ms) rest = members_begin ∷ member_visits ms (members_end ∷ rest)
@@ -45,7 +45,7 @@ abbrev mutual
   AreOrderedMembers no_members = ⊤
   AreOrderedMembers (member n t ms) = IsOrdered t × AreOrderedMembers ms
 
--- ---- fronts as a text: the flag says that the next element or member is the first
+-- ---- visits as a text: the flag says that the next element or member is the first
 
 abbrev pub comma : Bool → List ℕ
 comma true = []
@@ -76,7 +76,7 @@ AreVisits (leaf t ∷ fs) = IsTree (norm t) × AreVisits fs
 AreVisits (name n ∷ fs) = IsUtf8 n × AreVisits fs
 AreVisits (_ ∷ fs) = AreVisits fs
 
--- ---- fronts as what is built
+-- ---- visits as a hole
 
 abbrev pub hole_after : Hole → List TreeVisit → Hole
 hole_after h [] = h

@@ -1,4 +1,4 @@
--- What a walk has still to meet.
+-- The visits that a walk has left.
 use Rattle.std.specs.Prelude.{List, [], ◌∷◌, reverse, Option, Some, None, String, string_bytes, ⊤}
 use Rattle.std.specs.Borrow.{Bor}
 use Rattle.std.specs.Slice.Iter.{iter_rest}
@@ -17,7 +17,7 @@ use Rattle.miniserde_value.specs.Numbers.{number_leaf}
 use Rattle.miniserde_value.specs.Values.{shape}
 use Rattle.miniserde_value.specs.Visits.{TreeVisit, leaf, list_begins, element, list_ends, members_begin, name, members_end, visits, child_visits, member_visits, IsOrdered, AreOrdered, AreOrderedMembers}
 
--- a front, without what it borrows
+-- a visit, without what it borrows
 abbrev pub visit_of : Visit → TreeVisit
 visit_of visit.Null = leaf null
 visit_of (visit.Bool b) = leaf (truth b)
@@ -48,12 +48,12 @@ stack_left (frame.Object ∷ frames) (o ∷ objects) = members_left o (stack_lef
 abbrev pub frames_left : Frames → List TreeVisit
 frames_left f = stack_left (reverse f.open.items) (reverse f.objects.items)
 
--- the fronts of a child that is due, and then others
+-- the visits of a child that is due, and then others
 abbrev pub due_left : Option (Bor Value) → List TreeVisit → List TreeVisit
 due_left None rest = rest
 due_left (Some v) rest = visits (shape v.now) rest
 
--- all that a walk has still to meet
+-- the visits that a walk has left
 abbrev pub left : Walk → List TreeVisit
 left w = due_left w.due (frames_left w.frames)
 

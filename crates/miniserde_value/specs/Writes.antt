@@ -1,4 +1,4 @@
--- What writing makes of fronts.
+-- The text that visits write.
 use Rattle.std.specs.Prelude.{◌≡◌, ◌≤◌, List, ◌++◌, length, false}
 use Rattle.miniserde_ser.specs.Writer.{Writing}
 use Rattle.miniserde_value.specs.Visits.{TreeVisit, visits_text, first_flag_after, AreVisits}

@@ -1,6 +1,6 @@
 //! The types of `hosts.rs`, with the impls that `./derive` writes.
 ghost use Rattle.miniserde.specs.Aliases.{aliases_of};
-ghost use Rattle.miniserde.specs.Cases.{each_case, first_case, later_case, no_case, tagged_tree};
+ghost use Rattle.miniserde.specs.Cases.{each_case, first_case, later_case, any_of_never, tagged_tree};
 ghost use Rattle.miniserde.specs.CasesMeaning.{tagged_meaning};
 ghost use Rattle.miniserde.specs.FieldsMeaning.{struct_meaning};
 ghost use Rattle.miniserde.specs.Structs.{names_of, record_tree};
@@ -417,7 +417,7 @@ impl Tagged for Renewal {
     ghost bijective = { each_case _ (λ x. (Add x, refl)) (each_case _ (λ x. (
       Move x.from x.to,
       refl,
-    )) (no_case _)) };
+    )) (any_of_never _)) };
 
     ghost distinct_names = { refl };
 

@@ -1,5 +1,5 @@
 //! The types of `keys.rs`, with the impls that `./derive` writes.
-ghost use Rattle.miniserde.specs.Cases.{each_case, enum_tree, first_case, later_case, no_case};
+ghost use Rattle.miniserde.specs.Cases.{each_case, enum_tree, first_case, later_case, any_of_never};
 ghost use Rattle.miniserde.specs.CasesMeaning.{enum_meaning};
 ghost use Rattle.miniserde.specs.Structs.{names_of};
 ghost use Rattle.std.specs.Prelude.{refl};
@@ -133,7 +133,7 @@ impl Tagged for Key {
         x. (Chord x, refl)) (each_case _ (λ x. (Click x.0 x.1, refl)) (each_case _ (λ x. (
           Wheel x,
           refl,
-        )) (each_case _ (λ x. (Other x, refl)) (no_case _)))))))))))))))) };
+        )) (each_case _ (λ x. (Other x, refl)) (any_of_never _)))))))))))))))) };
 
     ghost distinct_names = { refl };
 

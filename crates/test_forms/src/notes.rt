@@ -1,5 +1,5 @@
 //! The types of `notes.rs`, with the impls that `./derive` writes.
-ghost use Rattle.miniserde.specs.Cases.{each_case, enum_tree, first_case, later_case, no_case};
+ghost use Rattle.miniserde.specs.Cases.{each_case, enum_tree, first_case, later_case, any_of_never};
 ghost use Rattle.miniserde.specs.CasesMeaning.{enum_meaning};
 ghost use Rattle.miniserde.specs.FieldsMeaning.{struct_meaning};
 ghost use Rattle.miniserde.specs.Structs.{names_of, record_tree};
@@ -523,7 +523,7 @@ impl<T: FromJson> Tagged for Entry<T> {
       Log x.level x.of
           x.slip,
       refl,
-    )) (no_case _)) };
+    )) (any_of_never _)) };
 
     ghost distinct_names = { refl };
 

@@ -1,5 +1,5 @@
 //! The types of `plans.rs`, with the impls that `./derive` writes.
-ghost use Rattle.miniserde.specs.Cases.{each_case, enum_tree, first_case, later_case, no_case, tagged_tree};
+ghost use Rattle.miniserde.specs.Cases.{each_case, enum_tree, first_case, later_case, any_of_never, tagged_tree};
 ghost use Rattle.miniserde.specs.CasesMeaning.{enum_meaning, tagged_meaning};
 ghost use Rattle.miniserde.specs.FieldsMeaning.{struct_meaning};
 ghost use Rattle.miniserde.specs.Structs.{names_of, record_tree};
@@ -132,7 +132,7 @@ impl Tagged for Command {
     ] };
 
     ghost bijective = { each_case _ (λ x. (Ping, refl)) (each_case _ (λ x. (Text x, refl))
-        (each_case _ (λ x. (Move x.x x.y, refl)) (no_case _))) };
+        (each_case _ (λ x. (Move x.x x.y, refl)) (any_of_never _))) };
 
     ghost distinct_names = { refl };
 
@@ -355,7 +355,7 @@ impl Tagged for Plan {
     ] };
 
     ghost bijective = { each_case _ (λ x. (Nothing, refl)) (each_case _ (λ x. (OneTask x, refl))
-        (each_case _ (λ x. (Tasks x, refl)) (each_case _ (λ x. (Three x.0 x.1 x.2, refl)) (no_case
+        (each_case _ (λ x. (Tasks x, refl)) (each_case _ (λ x. (Three x.0 x.1 x.2, refl)) (any_of_never
         _)))) };
 
     ghost distinct_names = { refl };
@@ -681,7 +681,7 @@ impl Tagged for Change {
     ] };
 
     ghost bijective = { each_case _ (λ x. (Clear, refl)) (each_case _ (λ x. (Run x, refl))
-        (each_case _ (λ x. (Mark x.at x.note, refl)) (no_case _))) };
+        (each_case _ (λ x. (Mark x.at x.note, refl)) (any_of_never _))) };
 
     ghost distinct_names = { refl };
 

@@ -1,5 +1,5 @@
 //! A change and what it has, internally tagged, with the impls that `./derive` writes.
-ghost use Rattle.miniserde.specs.Cases.{each_case, first_case, later_case, no_case, tagged_tree};
+ghost use Rattle.miniserde.specs.Cases.{each_case, first_case, later_case, any_of_never, tagged_tree};
 ghost use Rattle.miniserde.specs.CasesMeaning.{tagged_meaning};
 ghost use Rattle.miniserde.specs.FieldsMeaning.{struct_meaning};
 ghost use Rattle.miniserde.specs.Structs.{names_of, record_tree};
@@ -252,7 +252,7 @@ impl Tagged for Inner {
     ] };
 
     ghost bijective = { each_case _ (λ x. (Empty, refl)) (each_case _ (λ x. (Two x.v x.types, refl))
-        (no_case _)) };
+        (any_of_never _)) };
 
     ghost distinct_names = { refl };
 
@@ -504,7 +504,7 @@ impl Tagged for Change {
 
     ghost bijective = { each_case _ (λ x. (Reset, refl)) (each_case _ (λ x. (SetName x, refl))
         (each_case _ (λ x. (BothOf x, refl)) (each_case _ (λ x. (Deep x.inner x.list, refl))
-        (each_case _ (λ x. (Accent, refl)) (no_case _))))) };
+        (each_case _ (λ x. (Accent, refl)) (any_of_never _))))) };
 
     ghost distinct_names = { refl };
 

@@ -1,5 +1,5 @@
 //! The types of `call.rs`, with the impls that `./derive` writes.
-ghost use Rattle.miniserde.specs.Cases.{each_case, first_case, later_case, no_case, tagged_tree};
+ghost use Rattle.miniserde.specs.Cases.{each_case, first_case, later_case, any_of_never, tagged_tree};
 ghost use Rattle.miniserde.specs.CasesMeaning.{tagged_meaning};
 ghost use Rattle.miniserde.specs.FieldsMeaning.{struct_meaning};
 ghost use Rattle.miniserde.specs.Structs.{names_of, record_tree};
@@ -251,7 +251,7 @@ impl Tagged for Call {
     ] };
 
     ghost bijective = { each_case _ (λ x. (Look, refl)) (each_case _ (λ x. (Add x, refl)) (each_case
-        _ (λ x. (Reset x.to, refl)) (no_case _))) };
+        _ (λ x. (Reset x.to, refl)) (any_of_never _))) };
 
     ghost distinct_names = { refl };
 
@@ -482,7 +482,7 @@ impl Tagged for Answer {
     ] };
 
     ghost bijective = { each_case _ (λ x. (Count x.now, refl)) (each_case _ (λ x. (Full, refl))
-        (no_case _)) };
+        (any_of_never _)) };
 
     ghost distinct_names = { refl };
 

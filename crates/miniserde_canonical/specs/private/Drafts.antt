@@ -7,7 +7,7 @@ use Rattle.miniserde_canonical.specs.private.Spreads.{Good}
 use Rattle.miniserde_canonical.specs.private.Sorting.{Chain}
 use Rattle.miniserde_canonical.specs.private.Arranging.{State, Run}
 
--- where rest is left of the input, the text and the run are bs
+-- if rest is left of the input, the text and the run after it are bs
 pub record Wrote (d : Draft) (rest bs : List ℕ) : Type 0 where
   pub front : List ℕ
   pub run : List ℕ
@@ -36,12 +36,12 @@ pub record ChangesOnlyText (d d' : Draft) : Type 0 where
   pub opened : d'.opened.items ≡ d.opened.items
   pub distinct : d'.is_distinct ≡ d.is_distinct
 
--- what a moment says of the last token
+-- the flag `first` of the state, by the moment
 abbrev pub Recalls : Moment → State → Type 0
 Recalls due s = ⊤
 Recalls first s = s.first ≡ true
 Recalls after s = s.first ≡ false
 
--- between two moments, and two places of the input, a draft takes tokens
+-- between two moments, and two points of the input, a draft takes tokens
 abbrev pub Takes : Moment → List ℕ → List Token → Moment → List ℕ → Draft → Draft → Type 0
 Takes m rest ks m' rest' d d' = (s : State) → Represents d rest s → Recalls m s → (s' : State) × Run ks s s' × Represents d' rest' s' × Recalls m' s'

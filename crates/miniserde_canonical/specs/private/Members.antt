@@ -1,9 +1,9 @@
--- Members of an open object: their names, their spans, and rows of names with trees.
+-- Members of an open object: their names, their spans, and their members as names with trees.
 use Rattle.std.specs.Prelude.{◌≡◌, ◌<◌, ◌+◌, ◌-◌, ℕ, Bool, false, List, [], ◌∷◌, drop, length, bytes_eq, get_or, if◌then◌else◌}
 use Rattle.std.specs.declared.cmp.Ordering.TheVariants.{Less}
 use Rattle.miniserde_model.specs.Tree.{Tree, Members, no_members, member}
 use Rattle.miniserde_model.specs.Normal.{text_cmp}
-use Rattle.miniserde_canonical.specs.declared.spread.Place.{Place}
+use Rattle.miniserde_canonical.specs.declared.spread.Point.{Point}
 use Rattle.miniserde_canonical.specs.declared.member.Member.{Member}
 use Rattle.miniserde_canonical.specs.private.Names.{name_of}
 use Rattle.miniserde_canonical.specs.private.Arranging.{gap}
@@ -22,19 +22,19 @@ NamesRise ms = (k : ℕ) (d : Member) → k + 1 < length ms → text_cmp (name_o
 
 -- ---- where a member begins and ends
 
-abbrev pub begin_of : List Member → Place → Place
+abbrev pub begin_of : List Member → Point → Point
 begin_of [] end = end
-begin_of (m ∷ ms) end = m.place
+begin_of (m ∷ ms) end = m.point
 
-abbrev pub before_comma : List Member → Place → Place
+abbrev pub before_comma : List Member → Point → Point
 before_comma [] end = end
-before_comma (m ∷ ms) end = record { bytes = m.place.bytes - length (gap m.first); splices = m.place.splices }
+before_comma (m ∷ ms) end = record { bytes = m.point.bytes - length (gap m.first); splices = m.point.splices }
 
-abbrev pub end_of : List Member → Place → Place
+abbrev pub end_of : List Member → Point → Point
 end_of [] end = end
 end_of (m ∷ ms) end = before_comma ms end
 
--- ---- rows
+-- ---- members by name
 
 -- members by their names and their trees
 abbrev pub named_members : {X : Type 0} → (X → List ℕ) → (X → Tree) → List X → Members

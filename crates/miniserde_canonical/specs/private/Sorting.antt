@@ -2,7 +2,7 @@
 use Rattle.std.specs.Prelude.{◌≡◌, ◌≤◌, ◌+◌, ℕ, Bool, true, List, [], ◌∷◌, ◌++◌, length, take, drop, ⊤}
 use Rattle.miniserde_model.specs.Tree.{Tree, str}
 use Rattle.miniserde_model.specs.Normal.{norm_members}
-use Rattle.miniserde_canonical.specs.declared.spread.Place.{Place}
+use Rattle.miniserde_canonical.specs.declared.spread.Point.{Point}
 use Rattle.miniserde_canonical.specs.declared.spread.Splice.{Splice}
 use Rattle.miniserde_canonical.specs.declared.spread.Spread.{Spread}
 use Rattle.miniserde_canonical.specs.declared.member.Member.{Member}
@@ -17,13 +17,13 @@ pub record Seam (n : Member) (e : Entry) (at k : ℕ) (bs : List ℕ) (hs : List
   pub splices : hs ≡ h ++ g
   pub name : name_of n.name ≡ e.name
   pub first : n.first ≡ e.first
-  pub begins : n.place.bytes ≡ at + length (b ++ gap e.first)
-  pub behind : n.place.splices ≡ k + length h
+  pub begins : n.point.bytes ≡ at + length (b ++ gap e.first)
+  pub behind : n.point.splices ≡ k + length h
 
 -- Over the groups ms and gs, the bytes from an index on and the splices from an index on hold the texts.
 abbrev pub Chain : List Member → List Entry → List ℕ → List Splice → ℕ → ℕ → List ℕ → List Splice → List ℕ → Type 0
 Chain [] [] ms gs at k bs hs last = Holds ms gs at bs hs last
-Chain (n ∷ ns) (e ∷ es) ms gs at k bs hs last = (b c : List ℕ) × (h g : List Splice) × Seam n e at k bs hs b c h g × Holds ms gs at b h e.text × Chain ns es ms gs n.place.bytes n.place.splices c g last
+Chain (n ∷ ns) (e ∷ es) ms gs at k bs hs last = (b c : List ℕ) × (h g : List Splice) × Seam n e at k bs hs b c h g × Holds ms gs at b h e.text × Chain ns es ms gs n.point.bytes n.point.splices c g last
 Chain _ _ ms gs at k bs hs last = ⊥
 
 -- ---- the members of one object, at the end of a text
@@ -35,10 +35,10 @@ pub record OwnFrom (n : Member) (ns : List Member) (e : Entry) (es : List Entry)
   pub splices_inside : List Splice
   pub bytes : bs ≡ front ++ inside
   pub splices : hs ≡ splices_front ++ splices_inside
-  pub begins : n.place.bytes ≡ length front
-  pub behind : n.place.splices ≡ length splices_front
+  pub begins : n.point.bytes ≡ length front
+  pub behind : n.point.splices ≡ length splices_front
   pub name : name_of n.name ≡ e.name
-  pub chain : Chain ns es ms gs n.place.bytes n.place.splices inside splices_inside last
+  pub chain : Chain ns es ms gs n.point.bytes n.point.splices inside splices_inside last
 
 abbrev pub Own : List Member → List Entry → List ℕ → List Splice → List ℕ → List Splice → List ℕ → Type 0
 Own [] [] ms gs bs hs last = ⊤
@@ -70,21 +70,21 @@ PutsMember ns i f out groups groups' = (es : List Entry) (last ms : List ℕ) (g
 abbrev pub PutsMembers : List Member → List ℕ → Spread → Spread → Spread → ℕ → Type 0
 PutsMembers ns order out groups groups' n = (es : List Entry) (last ms : List ℕ) (gs : List Splice) → Own ns es ms gs out.bytes.items out.splices.items last → Gains ms gs out.splices.items groups groups' (members_text true (without_repeats (members_at ns (text_tree_at es last) order))) × (n ≡ count (without_repeats (members_at ns (text_tree_at es last) order)))
 
--- from a place on, the text holds another
-pub record PutAt (place : Place) (ms : List ℕ) (gs : List Splice) (out out' groups' : Spread) (x : List ℕ) : Type 0 where
+-- from a point on, the text holds another
+pub record PutAt (point : Point) (ms : List ℕ) (gs : List Splice) (out out' groups' : Spread) (x : List ℕ) : Type 0 where
   pub bytes : List ℕ
   pub splices : List Splice
   pub more_bytes : List ℕ
   pub more_splices : List Splice
-  pub is_bytes : out'.bytes.items ≡ take place.bytes out.bytes.items ++ bytes
-  pub is_splices : out'.splices.items ≡ take place.splices out.splices.items ++ splices
+  pub is_bytes : out'.bytes.items ≡ take point.bytes out.bytes.items ++ bytes
+  pub is_splices : out'.splices.items ≡ take point.splices out.splices.items ++ splices
   pub groups_bytes : groups'.bytes.items ≡ ms ++ more_bytes
   pub groups_splices : groups'.splices.items ≡ gs ++ more_splices
-  pub text : Holds groups'.bytes.items groups'.splices.items place.bytes bytes splices x
+  pub text : Holds groups'.bytes.items groups'.splices.items point.bytes bytes splices x
   pub good : Good gs out.splices.items → Good groups'.splices.items out'.splices.items
 
-abbrev pub PutsBack : Place → Place → Spread → Spread → Spread → Spread → Type 0
-PutsBack place from out out' groups groups' = (ms b : List ℕ) (gs h : List Splice) (x : List ℕ) → groups.bytes.items ≡ ms ++ b → groups.splices.items ≡ gs ++ h → from.bytes ≡ length ms → from.splices ≡ length gs → place.bytes ≤ length out.bytes.items → Holds ms gs (length ms) b h x → (AllBefore (length gs) out.splices.items → AllBefore (length gs) h) → PutAt place ms gs out out' groups' x
+abbrev pub PutsBack : Point → Point → Spread → Spread → Spread → Spread → Type 0
+PutsBack point from out out' groups groups' = (ms b : List ℕ) (gs h : List Splice) (x : List ℕ) → groups.bytes.items ≡ ms ++ b → groups.splices.items ≡ gs ++ h → from.bytes ≡ length ms → from.splices ≡ length gs → point.bytes ≤ length out.bytes.items → Holds ms gs (length ms) b h x → (AllBefore (length gs) out.splices.items → AllBefore (length gs) h) → PutAt point ms gs out out' groups' x
 
 abbrev pub SortsMembers : List Member → Spread → Spread → Spread → Spread → Bool → Type 0
 SortsMembers ns out out' groups groups' b = (es : List Entry) (last : List ℕ) → Own ns es groups.bytes.items groups.splices.items out.bytes.items out.splices.items last → PutAt (begin_of ns (record { bytes = 0; splices = 0 })) groups.bytes.items groups.splices.items out out' groups' (members_text true (norm_members (entry_members es last))) × (b ≡ once_each (entry_members es last))

@@ -16,7 +16,7 @@ bytes_in p bs = part_between p.from.bytes p.to.bytes bs
 abbrev pub splices_in : Span → List Splice → List Splice
 splices_in p hs = part_between p.from.splices p.to.splices hs
 
--- the splice where its text begins at another index
+-- the splice after its text moved from one index to another
 abbrev pub shifted_splice : ℕ → ℕ → Splice → Splice
 shifted_splice from at h = record { at = at + (h.at - from); group = h.group }
 
@@ -38,6 +38,6 @@ abbrev pub AllBefore : ℕ → List Splice → Type 0
 AllBefore n [] = ⊤
 AllBefore n (h ∷ hs) = (h.group.to.splices ≤ n) × AllBefore n hs
 
--- the groups are in order, and the text's splices name none that is not there
+-- each group names earlier groups alone, and the text's splices name groups that exist
 abbrev pub Good : List Splice → List Splice → Type 0
 Good gs hs = Ordered 0 gs × AllBefore (length gs) hs

@@ -12,7 +12,7 @@ abbrev pub Waits : List ℕ → List Splice → List Span → List ℕ → Type 
 Waits ms gs [] x = x ≡ []
 Waits ms gs (p ∷ ps) x = (y z : List ℕ) × Waits ms gs ps y × SpanHolds ms gs p z × (x ≡ y ++ z)
 
--- More than what its splices take, where each takes more than all that stand before it.
+-- A bound on the calls that a span takes: each splice counts for more than all splices before it.
 abbrev pub span_measure : Span → ℕ
 span_measure p = 1 + (2 ^ (1 + p.to.splices) - 2 ^ (1 + p.from.splices))
 

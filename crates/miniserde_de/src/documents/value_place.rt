@@ -3,7 +3,7 @@ ghost use Rattle.std.specs.Prelude.{◌≡◌, true, [], Option, Some, None, Err
 ghost use Rattle.miniserde_model.specs.declared.error.Error.TheVariants.{Invalid};
 ghost use Rattle.miniserde_read.specs.Events.{event_of};
 ghost use Rattle.miniserde_read.specs.Events.{IsTreeEvent};
-ghost use Rattle.miniserde_value.specs.Hole.{outside, after_resume, after_step};
+ghost use Rattle.miniserde_value.specs.Hole.{outside, after_between, after_step};
 ghost use Rattle.miniserde_value.specs.Hole.{repeats};
 ghost use Rattle.miniserde_de.specs.Kinds.{is_start};
 
@@ -45,8 +45,8 @@ impl ValuePlace {
     #[inline(always)]
     fn resume(&mut self, event: Step<'_>) -> Result<bool>
         ensures ok { IfOk result (λ due.
-            after_resume (event_of event.entry) (hole_at self.old) ≡ Some (due, hole_at self.new)) }
-        ensures invalid { result ≡ Err Invalid → after_resume (event_of event.entry) (hole_at self.old) ≡ None }
+            after_between (event_of event.entry) (hole_at self.old) ≡ Some (due, hole_at self.new)) }
+        ensures invalid { result ≡ Err Invalid → after_between (event_of event.entry) (hole_at self.old) ≡ None }
         ensures refused { refusal_of self.new ≡ refusal_of self.old }
     {
         match (event, self.builder.innermost()) {

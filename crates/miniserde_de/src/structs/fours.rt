@@ -8,8 +8,8 @@ use miniserde_place::de::Step;
 use miniserde_record::record::{Once, Parts, Plain, Repeats};
 use std::alloc::Global;
 
-/// Four fields, and the ones after them, by the places of their values. `O` says whether each takes one member alone. A
-/// check of nested fields takes twice the time for each field more, and for each four more here.
+/// Four fields, and the fields after them, by the places of their values. `O` says whether each takes one member
+/// alone. The proof checker takes twice the time for each nested field; a block of four counts as one.
 pub struct FourOf<P, A, Q, B, S, C, U, D, O, R> {
     fields: FieldOf<P, A, O, FieldOf<Q, B, O, FieldOf<S, C, O, FieldOf<U, D, O, R>>>>,
 }

@@ -1,4 +1,4 @@
--- What is still to be read, where some containers are open: for the contracts and invariants of an engine.
+-- The rest of a text inside open containers, for contracts and invariants of readers.
 use Rattle.std.specs.Prelude.{◌≡◌, ℕ, List, [], ◌∷◌, ◌++◌}
 use Rattle.miniserde_model.specs.Ascii.{begin_array, end_array, begin_object, end_object, value_separator}
 use Rattle.miniserde_model.specs.Tree.{null, truth, nonneg, neg, num, str}
@@ -26,7 +26,7 @@ pub record StandsThen (P K : List ℕ → Type 0) (b : List ℕ) : Type 0 where
   pub is_part : P part
   pub is_rest : K rest
 
--- the bytes spell the events that are left
+-- the bytes are the rest of a text with these events, from the moment on and with these containers open
 abbrev pub Spells : Moment → List Step → List Kind → List ℕ → Type 0
 Spells due (step.null ∷ es) st b = StandsThen (IsValue null) (Spells after es st) b
 Spells due (boolean x ∷ es) st b = StandsThen (IsValue (truth x)) (Spells after es st) b

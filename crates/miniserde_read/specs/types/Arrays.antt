@@ -4,7 +4,7 @@ use Rattle.miniserde_model.specs.Tree.{Tree, truth, list, no_trees, tree}
 use Rattle.miniserde_read.specs.types.Lists.{ListReads, list_of}
 use Rattle.miniserde_read.specs.types.Words.{boolean_of}
 
--- the tree is a list of exactly n, and each child means the item in its place
+-- the tree is a list of exactly n, and its children mean the items
 abbrev pub ArrayReads : {T : Type 0} → ℕ → (Tree → T → Type 0) → Tree → List T → Type 0
 ArrayReads n R t xs = ListReads R t xs × (length xs ≡ n)
 
@@ -13,7 +13,7 @@ module _ {C : Type 0} (n : ℕ) where
   abbrev pub exactly : List C → Option (List C)
   exactly xs = if nat_eq (length xs) n then Some xs else None
 
-  -- what a list of exactly n gives
+  -- the items that a list of exactly n gives
   abbrev pub array_of : (Tree → Option C) → Tree → Option (List C)
   array_of f t = option_and_then exactly (list_of f t)
 

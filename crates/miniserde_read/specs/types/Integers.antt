@@ -1,4 +1,4 @@
--- The values of an integer type of so many bits that trees mean (RFC 8259, section 6).
+-- Which trees mean which integers, for a type of a given number of bits (RFC 8259, section 6).
 use Rattle.std.specs.Prelude.{◌≡◌, ◌<◌, ◌-◌, ◌^◌, ℕ, ℤ, pos, negsuc, Bool, true, Option, Some, None, nat_lt, if◌then◌else◌, refl}
 use Rattle.miniserde_model.specs.Tree.{Tree, nonneg, neg}
 

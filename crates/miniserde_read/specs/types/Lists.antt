@@ -3,19 +3,19 @@ use Rattle.std.specs.Prelude.{List, [], ◌∷◌, Option, Some, None, option_an
 use Rattle.miniserde_model.specs.Tree.{Tree, list, Trees, no_trees, tree, null, truth}
 use Rattle.miniserde_read.specs.types.Words.{boolean_of}
 
--- each child means the item in its place
+-- there are as many items as children, and each child means the item at its index
 abbrev pub EachReads : {T : Type 0} → (Tree → T → Type 0) → Trees → List T → Type 0
 EachReads R no_trees [] = ⊤
 EachReads R no_trees (x ∷ xs) = ⊥
 EachReads R (tree t ts) [] = ⊥
 EachReads R (tree t ts) (x ∷ xs) = R t x × EachReads R ts xs
 
--- the tree is a list, and each child means the item in its place
+-- the tree is a list, and its children mean the items
 abbrev pub ListReads : {T : Type 0} → (Tree → T → Type 0) → Tree → List T → Type 0
 ListReads R (list ts) xs = EachReads R ts xs
 ListReads R _ xs = ⊥
 
--- the list of what each child gives, where each gives something
+-- the list of the children's contents, if each child gives one
 abbrev pub each : {C : Type 0} → (Tree → Option C) → Trees → Option (List C)
 each f no_trees = Some []
 each f (tree t ts) = option_and_then (λ x. option_and_then (λ xs. Some (x ∷ xs)) (each f ts)) (f t)

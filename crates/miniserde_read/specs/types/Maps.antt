@@ -7,12 +7,12 @@ use Rattle.miniserde_read.specs.types.Words.{boolean_of}
 
 -- ---- what a map's tree means
 
--- the key that a name is read as, where it has the code
+-- the key that a name is read as, if it has the code
 abbrev pub key_at : (Key → Key) → Key → Option Key → Option Key
 key_at code q None = None
 key_at code q (Some c) = if bytes_eq (code c) q then Some c else None
 
--- with one more member in front: the first key stands, and the last tree
+-- the key of the first member and the tree of the last one, with one more member in front
 abbrev pub first_and_last : Option Key → Tree → Option (Key × Tree) → Option (Key × Tree)
 first_and_last None t o = o
 first_and_last (Some c) t None = Some (c, t)
@@ -33,21 +33,21 @@ abbrev pub entry_at : {K V : Type 0} → (K → Key) → Key → List (K × V) �
 entry_at code q [] = None
 entry_at code q (e ∷ es) = if bytes_eq (code e.0) q then Some e else entry_at code q es
 
--- there is an entry where members were met: its key is the one that stands, and the tree means its value
+-- there is an entry exactly if there are members; it has the first one's key, and the last one's tree means its value
 abbrev pub MeansAt : {K V : Type 0} → (K → Key) → (Tree → V → Type 0) → Option (Key × Tree) → Option (K × V) → Type 0
 MeansAt content R None None = ⊤
 MeansAt content R None (Some e) = ⊥
 MeansAt content R (Some p) None = ⊥
 MeansAt content R (Some p) (Some e) = (content e.0 ≡ p.0) × R p.1 e.1
 
--- the tree has members, each of which is taken; and at each code the first one's key stands with the value that the last one means
+-- each member of the tree is accepted; at each code the entry has the first one's key and the last one's value
 abbrev pub MapReads : {K V C : Type 0} → (Name → Option Key) → (Key → Key) → (K → Key) → (Tree → Option C) → (Tree → V → Type 0) → Tree → List (K × V) → Type 0
 MapReads read code content of R (members ms) es = AllAccepted read of ms × ((q : Key) → MeansAt content R (first_and_last_at read code q ms) (entry_at (λ k. code (content k)) q es))
 MapReads read code content of R _ es = ⊥
 
--- ---- the same, member by member
+-- ---- maps, member by member
 
--- what counts of a map: the key and the value at each code
+-- the content of a map: the key and the value at each code
 abbrev pub Entries : Type 0 → Type 0
 Entries C = Key → Option (Key × C)
 
@@ -63,7 +63,7 @@ present_key_or (Some e) c = e.0
 abbrev pub with_entry : {C : Type 0} → (Key → Key) → Entries C → Key → C → Entries C
 with_entry code m c d q = if bytes_eq (code c) q then Some (present_key_or (m q) c, d) else m q
 
--- what counts of the entry at each code
+-- the content of the entry at each code
 abbrev pub map_content : {K V C : Type 0} → (Key → Key) → (K → Key) → (V → C) → List (K × V) → Entries C
 map_content code content value es q = option_map (λ e. (content e.0, value e.1)) (entry_at (λ k. code (content k)) q es)
 

@@ -10,7 +10,7 @@ abbrev pub all_members : {S : Type 0} → (S → Name → Tree → Option S) →
 all_members f s no_members = Some s
 all_members f s (member k t ms) = option_and_then (λ r. all_members f r ms) (f s k t)
 
--- an object gives what f says of its members, and any other tree nothing
+-- an object gives f of its members, and any other tree gives nothing
 abbrev pub object_of : {R : Type 0} → (Members → Option R) → Tree → Option R
 object_of f (members ms) = f ms
 object_of f _ = None

@@ -13,7 +13,7 @@ module _ {A B : Type 0} where
   abbrev pub both : Option A × Option B → Option (A × B)
   both s = option_and_then (λ a. option_map (λ b. (a, b)) s.1) s.0
 
-  -- what a list of exactly two gives
+  -- the pair that a list of exactly two gives
   abbrev pub pair_of : (Tree → Option A) → (Tree → Option B) → Tree → Option (A × B)
   pair_of f g (list (tree t (tree u no_trees))) = both (f t, g u)
   pair_of f g _ = None

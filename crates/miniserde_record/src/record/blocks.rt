@@ -1,5 +1,5 @@
-//! Fields of a struct in blocks of four. A check of nested slots takes time for each slot that it passes, and for each
-//! block here.
+//! Fields of a struct in blocks of four. The proof checker takes time for each nested slot; a block of four counts as
+//! one.
 use super::lossless::LosslessFields;
 use super::marks::Mark;
 use super::round_trips::RoundTripFields;

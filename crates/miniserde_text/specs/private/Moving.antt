@@ -21,7 +21,7 @@ abbrev pub due_or_after : Bool → Moment
 due_or_after true = due
 due_or_after false = after
 
--- no container was just opened where none is open
+-- if no container is open, none was just opened
 abbrev pub IsLive : Moment → List Kind → Type 0
 IsLive first [] = ⊥
 IsLive _ _ = ⊤

@@ -39,7 +39,7 @@ is_closing c = (c == 93) || (c == 125)
 
 -- ---- runs
 
--- what follows the longest run of bytes that pass p
+-- the text after the longest run of bytes that pass p
 abbrev pub after_run : (ℕ → Bool) → List ℕ → List ℕ
 after_run p [] = []
 after_run p (c ∷ cs) = if p c then after_run p cs else c ∷ cs
@@ -81,7 +81,7 @@ after_exponent s = if is_exponent_letter (slice_index s 0) then after_digits (af
 abbrev pub after_tail : List ℕ → Option (List ℕ)
 after_tail s = option_and_then after_exponent (after_fraction s)
 
--- of a text: its minus, its whole part, and what stands behind that
+-- the event of a number text, by its minus, its integer part and the rest
 abbrev pub event_of_parts : List ℕ → Bool → List ℕ → List ℕ → Step
 event_of_parts b minus int [] =
     if minus then
@@ -97,7 +97,7 @@ event_at s w r =
 unfoldable pub number_at : List ℕ → Option (Step × List ℕ)
 number_at s = option_and_then (λ w. option_and_then (λ r. event_at s w r) (after_tail w)) (after_int (after_minus s))
 
--- ---- the front of a value that is no string
+-- ---- the first token of a value that is no string
 
 unfoldable pub word_at : List ℕ → Step → List ℕ → Option (Step × List ℕ)
 word_at w e s = if starts_with nat_eq s w then Some (e, drop (length w) s) else None

@@ -6,7 +6,7 @@ use Rattle.miniserde_text.proofs.Equal.{bytes_eq-flips}
 use Rattle.miniserde_model.specs.Tree.{Tree, null, truth, nonneg, neg, num, str, list, members, Trees, no_trees, tree, Members, no_members, member}
 use Rattle.miniserde_model.specs.Step.{Step, finish, events, child_events, member_events}
 use Rattle.miniserde_model.specs.Distinct.{has_name, names_distinct, names_distinct_in_children, names_distinct_in_members}
-use Rattle.miniserde_model.specs.Normal.{text_cmp, or_else, last_of, put as put_member, put_by}
+use Rattle.miniserde_model.specs.Normal.{text_cmp, or_else, last_of, put as put_member, put_first_by}
 use Rattle.miniserde_value.specs.Retained.{retained_tree, retained_children, retained_if}
 use Rattle.miniserde_value.specs.Hole.{Hole, outside, in_list, in_members, put, outcome}
 use Rattle.miniserde_value.specs.laws.Outcomes.{outcome-whole}
@@ -40,7 +40,7 @@ has_put : (q name : List ℕ) (t : Tree) (ms : Members) → has_name q (put_memb
 has_put q name t no_members = has_member_first q name t no_members
 has_put q name t (member other u ms) = go (text_cmp name other) refl (has_put q name t ms)
   where
-    go : (o : Ordering) → text_cmp name other ≡ o → has_name q (put_member name t ms) ≡ (bytes_eq name q || has_name q ms) → has_name q (put_by o name t other u ms (put_member name t ms)) ≡ (bytes_eq name q || has_name q (member other u ms))
+    go : (o : Ordering) → text_cmp name other ≡ o → has_name q (put_member name t ms) ≡ (bytes_eq name q || has_name q ms) → has_name q (put_first_by o name t other u ms (put_member name t ms)) ≡ (bytes_eq name q || has_name q (member other u ms))
     go Less e more = has_member_first q name t (member other u ms)
     go Equal e more = has_member_first q name t ms ∙ twice (bytes_eq name q) (has_name q ms) ∙ ap (λ n. bytes_eq name q || (bytes_eq n q || has_name q ms)) (exact_bytes name other e) ∙ ap (λ b. bytes_eq name q || b) (sym (has_member_first q other u ms))
     go Greater e more = has_member_first q other u (put_member name t ms) ∙ ap (λ b. bytes_eq other q || b) more ∙ swapped (bytes_eq other q) (bytes_eq name q) (has_name q ms) ∙ ap (λ b. bytes_eq name q || b) (sym (has_member_first q other u ms))

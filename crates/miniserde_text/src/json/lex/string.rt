@@ -106,8 +106,8 @@ fn decode(text: &str, at: usize, tail: usize, scratch: &mut String) -> Result<us
     take_escaped(text, tail, scratch)
 }
 
-// Calls `decode`, and copies its result out of memory, so that the result of other strings never passes through
-// memory.
+// Decodes a string as `decode` does. It matches the result and makes it anew, so that the caller keeps the result of
+// a string without an escape in registers.
 #[inline(always)]
 fn take_decoded(text: &str, at: usize, tail: usize, scratch: &mut String) -> Result<usize>
     requires follows { FollowsAscii text.now at }
