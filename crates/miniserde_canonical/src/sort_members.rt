@@ -5,7 +5,7 @@ ghost use Rattle.miniserde_canonical.specs.private.Sorting.{SortsMembers, PutsMe
 use crate::member::Member;
 use crate::members::{fill, repeats, sort, span_of};
 use crate::put::put_gap;
-use crate::spread::{Splice, Point, Span, Spread};
+use crate::spread::{Point, Span, Splice, Spread};
 use std::alloc::AllocError;
 
 /// The longest text of members, in bytes, that comes back when it is in order.

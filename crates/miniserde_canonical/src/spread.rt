@@ -78,7 +78,8 @@ impl Spread {
         let splices = part(other.splices.as_slice(), span.from.splices, span.to.splices);
         self.bytes.extend_from_slice(bytes)?;
         for splice in splices {
-            self.splices.push(shifted_splice(*splice, span.from.bytes, at)?)?;
+            self.splices
+                .push(shifted_splice(*splice, span.from.bytes, at)?)?;
         }
         Ok(())
     }

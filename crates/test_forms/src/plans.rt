@@ -355,8 +355,8 @@ impl Tagged for Plan {
     ] };
 
     ghost bijective = { each_case _ (λ x. (Nothing, refl)) (each_case _ (λ x. (OneTask x, refl))
-        (each_case _ (λ x. (Tasks x, refl)) (each_case _ (λ x. (Three x.0 x.1 x.2, refl)) (any_of_never
-        _)))) };
+        (each_case _ (λ x. (Tasks x, refl)) (each_case _ (λ x. (Three x.0 x.1 x.2, refl))
+        (any_of_never _)))) };
 
     ghost distinct_names = { refl };
 
