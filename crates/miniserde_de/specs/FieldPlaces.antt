@@ -1,4 +1,4 @@
--- The meaning of fields that are collected from events, and so of a struct's place.
+-- The meaning of a struct's fields that are read from events, and of the struct's collector.
 use Rattle.std.specs.Prelude.{◌≡◌, refl, Bool, true, false, List, Option, Some, None, option_map}
 use Rattle.miniserde_model.specs.Tree.{Tree}
 use Rattle.miniserde_model.specs.Step.{Step, key, events}
@@ -12,21 +12,22 @@ use Rattle.miniserde_record.specs.Fields.{field_member}
 use Rattle.miniserde_record.specs.FieldsMeaning.{FieldsMeaning, no_fields, field_and, struct_meaning}
 use Rattle.miniserde_record.specs.laws.Fields.{none-refused, field-refused, field-meant}
 
--- the meaning of fields: F are the fields so far, with the place of the current one, and V the values of all of them
+-- the meaning of fields that are read from events: F has the fields so far, with the current one's place, and V the
+-- values of all
 pub record FieldPlacesMeaning (F V : Type 0) : Type 1 where
-  -- the meaning without events
+  -- the meaning of the fields by trees
   pub meant : FieldsMeaning V
-  -- the content of the values so far
+  -- the state of the fields so far
   pub state : F → meant.State
-  -- the state after one more member, by the fields' names, its name and its events
+  -- the state after one more member, by the fields' names, the state, the member's name and its events
   pub by_events : List Name → meant.State → Name → List Step → Option meant.State
   pub events_agree : (names : List Name) (s : meant.State) (k : Name) (t : Tree) → by_events names s k (events t) ≡ meant.by_tree names s k t
-  -- a member with a refused name gives nothing, whatever its events
+  -- a member for whose name `meant.refuses` holds gives no state, whatever its events
   pub refused : (names : List Name) (s : meant.State) (k : Name) → meant.refuses names s k ≡ true → (es : List Step) → by_events names s k es ≡ None
-  -- the view of the current field's place, with the values so far
+  -- the view of the current field's place; its outcome is the state after that field's member
   pub child : F → PlaceView meant.State
 
--- no field: members of any names are skipped
+-- the meaning of no field: a place skips each member, and `skipped` returns the view of that place
 abbrev pub no_field_places : {F : Type 0} → (F → PlaceView (Unit {0})) → FieldPlacesMeaning F (Unit {0})
 no_field_places skipped = record {
   meant = no_fields;
@@ -37,12 +38,14 @@ no_field_places skipped = record {
   child = λ f. view_through (λ _. Some tt) (skipped f);
 }
 
--- the view of the current field's place: the first field's, or a later one's
+-- The view of the current field's place: the first field's if it has one, and else the view `later`. The first
+-- field's content so far is v, and the state of the later ones s.
 abbrev pub field_view : {P A S : Type 0} → (P → PlaceView A) → Option A → S → PlaceView S → Option P → PlaceView (Option A × S)
 field_view view v s later None = view_through (λ r. Some (v, r)) later
 field_view view v s later (Some p) = view_through (λ a. Some (Some a, s)) (view p)
 
--- a field, which takes one member alone if it is `once`, and the later fields
+-- The meaning of a field and of the later ones, by the meanings m of its place and n: `value` returns its value so
+-- far, `child` its open place, and `rest` the later fields; `absent` is its value if it is missing.
 abbrev pub field_place_and : {P T F R V : Type 0} → Bool → PlaceMeaning P T → Option T → (F → Option T) → (F → Option P) → (F → R) → FieldPlacesMeaning R V → FieldPlacesMeaning F (T × V)
 field_place_and once m absent value child rest n = record {
   meant = field_and once None (meant_by m) absent n.meant;
@@ -53,7 +56,7 @@ field_place_and once m absent value child rest n = record {
   child = λ f. field_view m.view (option_map m.content (value f)) (n.state (rest f)) (n.child (rest f)) (child f);
 }
 
--- the meaning of a wrapper around fields
+-- the meaning of a wrapper around fields: `inner` returns the fields, and n is their meaning
 abbrev pub wrapper_field_places : {F G V : Type 0} → (G → F) → FieldPlacesMeaning F V → FieldPlacesMeaning G V
 wrapper_field_places inner n = record {
   meant = n.meant;
@@ -64,12 +67,13 @@ wrapper_field_places inner n = record {
   child = λ g. n.child (inner g);
 }
 
--- the name alone refuses a member
+-- whether the event begins a member for whose name `refuses` holds
 abbrev pub refuses_member : (Name → Bool) → Step → Bool
 refuses_member refuses (key k) = refuses k
 refuses_member refuses _ = false
 
--- a struct, by the names and the values of its fields
+-- the meaning of a struct's collector, by the meaning n of its fields and their names; `values` returns the fields'
+-- values of a struct, and `fields` the fields so far
 abbrev pub struct_collector : {F V C W : Type 0} → FieldPlacesMeaning F V → List Name → (W → V) → (C → F) → CollectorMeaning C W
 struct_collector n names values fields = record {
   meant = struct_meaning n.meant names values;

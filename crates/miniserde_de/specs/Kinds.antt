@@ -1,30 +1,34 @@
--- Documents of one kind: what they mean, and what events give them.
+-- The meaning of arrays, objects and documents that are read from events by one place.
 use Rattle.std.specs.Prelude.{◌≡◌, Bool, true, false, List, [], ◌∷◌, Option, None, if◌then◌else◌}
 use Rattle.miniserde_model.specs.Tree.{Tree}
 use Rattle.miniserde_model.specs.Step.{Step, events}
 use Rattle.miniserde_read.specs.Meaning.{Meaning}
 use Rattle.miniserde_value.specs.Hole.{Hole, outside, in_list, in_members, outcome}
 
--- no event was taken
+-- whether no event was taken: a value is due, and no container is open
 abbrev pub is_start : Bool → Hole → Bool
 is_start true (outside ts) = true
 is_start true (in_list ts h) = false
 is_start true (in_members ms n h) = false
 is_start false h = false
 
--- the outcome, if the first event is one of these
+-- the outcome o, if `begins` accepts the first of the events or there is none
 abbrev pub from_first : (Step → Bool) → List Step → Option Tree → Option Tree
 from_first begins [] o = o
 from_first begins (e ∷ es) o = if begins e then o else None
 
--- the outcome of the events to come, if the first event of all is one of these
+-- what the events to come give from the hole h on; if no event was taken before, `begins` must accept the first one
 abbrev pub kind_outcome : (Step → Bool) → Bool → Hole → List Step → Option Tree
 kind_outcome begins due h es = if is_start due h then from_first begins es (outcome false due h es) else outcome false due h es
 
--- documents of one kind: their meaning, the events that they begin with, and their content by the tree that is read
+-- the meaning of a type V of documents that the place of a `Value` builds
 pub record Kind (V : Type 0) : Type 1 where
+  -- the meaning of the type by trees
   pub meant : Meaning V
+  -- whether the event may be the first one of a document
   pub begins : Step → Bool
+  -- the content of the document that is built as the tree, if it is of the type
   pub only : Option Tree → Option meant.Content
   pub none : only None ≡ None
+  -- the events of a tree give what the tree gives
   pub whole : (t : Tree) → only (kind_outcome begins true (outside []) (events t)) ≡ meant.from_tree t

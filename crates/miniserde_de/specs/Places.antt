@@ -1,4 +1,4 @@
--- What the places of values mean.
+-- The meanings of the places of documents and numbers, and what an event does to such a place.
 use Rattle.std.specs.Prelude.{◌≡◌, Bool, true, false, [], Option, Some, None, Result, Err, OnOk, refl}
 use Rattle.miniserde_model.specs.Tree.{Tree}
 use Rattle.miniserde_model.specs.Step.{Step}
@@ -23,49 +23,53 @@ use Rattle.miniserde_de.specs.Kinds.{Kind, kind_outcome}
 use Rattle.miniserde_value.specs.laws.Unique.{once-whole}
 use Rattle.miniserde_value.specs.laws.Outcomes.{outcome-whole}
 
--- what is read so far
+-- the hole that the place has so far
 abbrev pub hole_at : ValuePlace → Hole
 hole_at p = hole_in p.builder
 
--- whether a value is due
+-- whether a value is due in the place
 abbrev pub due_in : ValuePlace → Bool
 due_in p = p.due
 
--- the first error, if there was one
+-- the first error of the place, if there was one
 abbrev pub refusal_of : ValuePlace → Option Error
 refusal_of p = p.refused
 
+-- the view of the place of a `Value`
 abbrev pub value_view : ValuePlace → PlaceView Tree
 value_view p = record { at = (depth (hole_at p), due_in p); outcome = outcome false (due_in p) (hole_at p); refused = refusal_of p }
 
--- every tree means a value, which retains of each name the last tree
+-- the meaning of the place of a `Value`: every tree means the values whose content is the retained tree
 abbrev pub value_place_meaning : PlaceMeaning ValuePlace Value
 value_place_meaning = place_meaning value_meaning (outcome false true (outside [])) outcome-whole value_view
 
--- The hole after an accepted event. An event that is invalid does not fit the hole.
+-- If the event e is accepted, the place has the hole after e. If e is invalid and the place had no error before,
+-- there is no hole after e.
 abbrev pub steps : ValuePlace → Step → Result (Unit {0}) Error → ValuePlace → Type 0
 steps old e answer new =
     OnOk answer (after_step (due_in old) (hole_at old) e ≡ Some (due_in new, hole_at new))
     × (answer ≡ Err Invalid → refusal_of old ≡ None → after_step (due_in old) (hole_at old) e ≡ None)
 
--- The hole after an accepted event, if no name may be repeated: a name that the innermost open object has is invalid.
+-- If the event e is accepted, the place has the hole after e, and no name is a duplicate. A duplicate name is
+-- invalid, unless an earlier error stays; and e is invalid as the first error only if there is no such hole.
 abbrev pub steps_once : UniquePlace → Step → Result (Unit {0}) Error → UniquePlace → Type 0
 steps_once old e answer new =
     (repeats e (hole_at old.place) ≡ true → answer ≡ Err (first_refusal (refusal_of old.place) Invalid))
     × OnOk answer (after_step_once true (due_in old.place) (hole_at old.place) e ≡ Some (due_in new.place, hole_at new.place))
     × (answer ≡ Err Invalid → refusal_of old.place ≡ None → after_step_once true (due_in old.place) (hole_at old.place) e ≡ None)
 
--- a tree without a duplicate name means the value, which retains the tree
+-- the meaning of the place of a `Unique`: a tree without duplicate names means those whose content is the retained
+-- tree
 abbrev pub unique_place_meaning : PlaceMeaning UniquePlace Unique
 unique_place_meaning = place_meaning unique_meaning (outcome true true (outside [])) once-whole
     (λ p. record { at = (depth (hole_at p.place), due_in p.place); outcome = outcome true (due_in p.place) (hole_at p.place); refused = refusal_of p.place })
 
--- the tree means the document, as the kind says
+-- the meaning of the place of arrays, objects and documents, by what k says of the type
 abbrev pub kind_place_meaning : {K V : Type 0} → Kind V → PlaceMeaning (KindPlace K) V
 kind_place_meaning k = place_meaning k.meant (λ es. k.only (kind_outcome k.begins true (outside []) es)) k.whole
     (λ p. record { at = (depth (hole_at p.place), due_in p.place); outcome = λ es. k.only (kind_outcome k.begins (due_in p.place) (hole_at p.place) es); refused = refusal_of p.place })
 
--- the tree means the number
+-- the meaning of the place of a `Number`
 abbrev pub number_place_meaning : PlaceMeaning NumberPlace Number
 number_place_meaning = place_meaning number_meaning (from_one_event number_of) (one-event number_of (λ ts. refl, λ ms. refl))
     (λ p. leaf_view number_leaf number_of (value_of p.place) (leaf_refusal p.place))

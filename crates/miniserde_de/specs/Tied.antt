@@ -1,10 +1,10 @@
--- What a place means of trees and values, without its events; and when two meanings agree.
+-- The meaning of a place's type, without the place's events, and when two meanings agree.
 use Rattle.std.specs.Prelude.{◌≡◌, ◌↔◌, is_some}
 use Rattle.miniserde_model.specs.Tree.{Tree}
 use Rattle.miniserde_place.specs.Place.{PlaceMeaning}
 use Rattle.miniserde_read.specs.Meaning.{Meaning}
 
--- the meaning of a place, without its events and without what it shows
+-- the meaning of a place's type: which trees mean which values, without events and without the view
 abbrev pub meant_by : {P V : Type 0} → PlaceMeaning P V → Meaning V
 meant_by m = record {
   Content = m.Content;
@@ -14,8 +14,8 @@ meant_by m = record {
   reads_agrees = m.reads_agrees;
 }
 
--- The same trees mean the same values, and the same trees mean none. (That the two records are equal would be a
--- statement of Type 1, which no clause can be.)
+-- By m and n the same trees mean the same values, and the same trees give content. (That m is n would be a statement
+-- of Type 1, which no clause can be.)
 pub record Agree {V : Type 0} (m n : Meaning V) : Type 0 where
   pub same : (t : Tree) (v : V) → m.reads t v ↔ n.reads t v
   pub some : (t : Tree) → is_some (m.from_tree t) ≡ is_some (n.from_tree t)

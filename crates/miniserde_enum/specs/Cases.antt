@@ -1,4 +1,4 @@
--- An enum, variant by variant, by the names of the variants in their order.
+-- The variants of an enum one after another: their content, their trees and their values, by their names.
 use Rattle.std.specs.Prelude.{◌≡◌, List, [], ◌∷◌, Option, Some, None, option_map, option_and_then, bytes_eq, if◌then◌else◌}
 use Rattle.miniserde_model.specs.Tree.{Tree, null}
 use Rattle.miniserde_read.specs.types.Objects.{Name}
@@ -9,97 +9,98 @@ use Rattle.miniserde_enum.specs.Tagging.{Tagging, external, internal, IsCase, ca
 
 -- ---- the content of a variant, by a name and its data
 
--- the first variant's content if the name is its own, or a later one's
+-- the content for the name k and the data o: by `given` if k is the first variant's name, and else by `later`
 abbrev pub case_given : {C D : Type 0} → (Option Tree → Option C) → (List Name → Name → Option Tree → Option D) → List Name → Name → Option Tree → Option (OneOf C D)
 case_given given later [] k o = None
 case_given given later (n ∷ ns) k o = if bytes_eq k n then option_map First (given o) else option_map Later (later ns k o)
 
--- a variant without data takes none
+-- the content of a variant without data, if there are no data
 abbrev pub unit_given : Option Tree → Option (Unit {0})
 unit_given None = Some tt
 unit_given (Some t) = None
 
--- a variant with data has the content of the data
+-- the content that `of` returns for the data, if there are data
 abbrev pub data_given : {C : Type 0} → (Tree → Option C) → Option Tree → Option C
 data_given of o = option_and_then of o
 
--- the content of a name, by the tree of its data
+-- what f returns for the data t
 abbrev pub with_data : {C : Type 0} → (Option Tree → Option C) → Tree → Option C
 with_data f t = f (Some t)
 
 -- ---- which trees mean which variant
 
--- the tree means the first variant by its name, or a later one by theirs
+-- by the variants' names, the tree means a value of the first variant, as `one` says, or of a later one, as `later`
+-- says
 abbrev pub CaseReads : {T W : Type 0} → (Name → Tree → T → Type 0) → (List Name → Tree → W → Type 0) → List Name → Tree → OneOf T W → Type 0
 CaseReads one later [] t v = ⊥
 CaseReads one later (n ∷ ns) t (First x) = one n t x
 CaseReads one later (n ∷ ns) t (Later w) = later ns t w
 
--- the tree is the variant of the name without data
+-- by the tagging, the tree is the variant of the name n without data
 abbrev pub UnitReads : Tagging → Name → Tree → Unit {0} → Type 0
 UnitReads tagging n t u = IsCase tagging t n None
 
--- the tree is the variant of the name with data, and the data means the value
+-- by the tagging, the tree is the variant of the name n with data, and by `reads` the data mean the value x
 abbrev pub DataReads : {T : Type 0} → (Tree → T → Type 0) → Tagging → Name → Tree → T → Type 0
 DataReads reads tagging n t x = (u : Tree) × IsCase tagging t n (Some u) × reads u x
 
 -- ---- the tree of a value, by its tagging
 
--- a variant without data is written by its name
+-- by the tagging, the tree of the variant of the name n without data
 abbrev pub unit_tree : Tagging → Name → Unit {0} → Tree
 unit_tree tagging n u = case_written tagging n None
 
--- a variant with data is written by its name and the tree of its data
+-- by the tagging, the tree of the variant of the name n with the data x, whose own tree f returns
 abbrev pub data_tree : {T : Type 0} → Tagging → (T → Tree) → Name → T → Tree
 data_tree tagging f n x = case_written tagging n (Some (f x))
 
--- the tree of the first variant by its name, or of a later one by theirs
+-- the tree of the value: of the first variant, by `one` and the first name, or of a later variant, by `later`
 abbrev pub case_tree : {T W : Type 0} → (Name → T → Tree) → (List Name → W → Tree) → List Name → OneOf T W → Tree
 case_tree one later [] v = null
 case_tree one later (n ∷ ns) (First x) = one n x
 case_tree one later (n ∷ ns) (Later w) = later ns w
 
--- the tree of an externally tagged enum, by the names of its variants and by the tree of a variant's value
+-- the tree of an externally tagged enum: `values` returns the value of its variant, and `tree` the tree of that
 abbrev pub enum_tree : {V W : Type 0} → List Name → (Tagging → List Name → V → Tree) → (W → V) → W → Tree
 enum_tree names tree values v = tree external names (values v)
 
--- the tree of an internally tagged enum, by the names of its tag and its variants
+-- the tree of an enum that is tagged by `tag`: `values` returns the value of its variant, and `tree` the tree of that
 abbrev pub tagged_tree : {V W : Type 0} → Name → List Name → (Tagging → List Name → V → Tree) → (W → V) → W → Tree
 tagged_tree tag names tree values v = tree (internal tag) names (values v)
 
--- the tree that is written of a variant without data is that variant
+-- by the tagging, the tree that is written for a name without data gives back that name and no data
 abbrev pub UnitFits : Tagging → Type 0
 UnitFits tagging = (n : Name) → case_of tagging (case_written tagging n None) ≡ Some (n, None)
 
--- the tree that is written of a variant with valid data is that variant with that data
+-- by the tagging, the tree that is written for a name with valid data gives back that name and the tree of the data
 abbrev pub DataFits : {T : Type 0} → (T → Type 0) → (T → Tree) → Tagging → Type 0
 DataFits {T} real tree tagging = (n : Name) (x : T) → real x → case_of tagging (case_written tagging n (Some (tree x))) ≡ Some (n, Some (tree x))
 
 -- ---- values
 
--- a value of the first variant
+-- the value of the first variant with the data x
 abbrev pub first_case : {T W : Type 0} → T → OneOf T W
 first_case x = First x
 
--- a value of a later variant
+-- the value w of a later variant
 abbrev pub later_case : {T W : Type 0} → W → OneOf T W
 later_case w = Later w
 
--- the variant's value is valid
+-- the value is valid: by `one` if it is of the first variant, and else by `later`
 abbrev pub CaseReal : {T W : Type 0} → (T → Type 0) → (W → Type 0) → OneOf T W → Type 0
 CaseReal one later (First x) = one x
 CaseReal one later (Later w) = later w
 
--- the content of the variant's value
+-- the content of the value: by f if it is of the first variant, and else by g
 abbrev pub case_content : {T W C D : Type 0} → (T → C) → (W → D) → OneOf T W → OneOf C D
 case_content f g (First x) = First (f x)
 case_content f g (Later w) = Later (g w)
 
--- a property of each value of the first variant and of the later variants holds of all values
+-- a property that all values of the first variant have, and all values of the later variants, holds of the value v
 pub each_case : {T W : Type 0} (P : OneOf T W → Type 0) → ((x : T) → P (First x)) → ((w : W) → P (Later w)) → (v : OneOf T W) → P v
 each_case P f g (First x) = f x
 each_case P f g (Later w) = g w
 
--- every property holds of each value of `Never`, since there is none
+-- every property holds of the value v of `Never`, since there is none
 pub any_of_never : (P : Never → Type 0) → (v : Never) → P v
 any_of_never P v = elim v [ ]

@@ -10,23 +10,23 @@ use Rattle.miniserde_enum.specs.Tagging.{Tagging, by_tagging, external, internal
 use Rattle.miniserde_enum.specs.Cases.{case_given, unit_given, data_given, CaseReads, UnitReads, DataReads, case_content}
 use Rattle.miniserde_enum.specs.laws.Cases.{case-fresh, case-agrees, unit-agrees, data-agrees}
 
--- the meaning of variants: V has the values of all of them
+-- the meaning of the variants V of an enum: which trees mean which values, by the tagging and the variants' names
 pub record CasesMeaning (V : Type 0) : Type 1 where
-  -- the content of a value: two values are equal here if their contents are
+  -- the content of a value, and the type of that content; two values are equal here if their contents are
   pub Content : Type 0
   pub content : V → Content
   -- the number of variants
   pub count : ℕ
-  -- the content that a name and its data give, by the variants' names
+  -- the content for a name and the data of the variant of that name, by the variants' names
   pub by_case : List Name → Name → Option Tree → Option Content
-  -- a name that is none of these gives no content
+  -- a name that no variant has gives no content
   pub fresh : (names : List Name) (n : Name) (o : Option Tree) → is_new n names ≡ true → by_case names n o ≡ None
-  -- the tree means the value, by its tagging and the variants' names
+  -- the tree means the value, by the tagging and the variants' names
   pub reads : Tagging → List Name → Tree → V → Type 0
-  -- a tree means a value exactly if it gives the value's content
+  -- a tree means a value exactly if it gives the value's content, by names of which no two are equal
   pub agrees : (tagging : Tagging) (names : List Name) → are_distinct names ≡ true → (t : Tree) (v : V) → reads tagging names t v ↔ (by_tagging tagging (by_case names) t ≡ Some (content v))
 
--- no variants: no tree means a value
+-- the meaning of no variants: no tree means a value
 abbrev pub no_cases : CasesMeaning Never
 no_cases = record {
   Content = Never;
@@ -38,7 +38,7 @@ no_cases = record {
   agrees = λ tagging ns d t v. elim v [ ];
 }
 
--- a variant without data, and the later ones
+-- the meaning of a variant without data and of the later variants, by their meaning n
 abbrev pub unit_and : {V : Type 0} → CasesMeaning V → CasesMeaning (OneOf (Unit {0}) V)
 unit_and n = record {
   Content = OneOf (Unit {0}) n.Content;
@@ -50,7 +50,7 @@ unit_and n = record {
   agrees = case-agrees unit_given UnitReads (λ u. u) unit-agrees n.by_case n.reads n.content n.fresh n.agrees;
 }
 
--- a variant with data, by the meaning of the data, and the later ones
+-- the meaning of a variant with data and of the later variants, by the meaning m of the data and n of the later ones
 abbrev pub data_and : {T V : Type 0} → Meaning T → CasesMeaning V → CasesMeaning (OneOf T V)
 data_and m n = record {
   Content = OneOf m.Content n.Content;
@@ -62,29 +62,33 @@ data_and m n = record {
   agrees = case-agrees (data_given m.from_tree) (DataReads m.reads) m.content (data-agrees m.reads m.from_tree m.content m.reads_agrees) n.by_case n.reads n.content n.fresh n.agrees;
 }
 
--- the content that a tree gives of an externally tagged enum, by the names of its variants
+-- the content that a tree gives for an externally tagged enum, by the meaning n of its variants and their names
 abbrev pub enum_of : {V : Type 0} (n : CasesMeaning V) → List Name → Tree → Option n.Content
 enum_of n names = by_tagging external (n.by_case names)
 
--- the tree means the enum, by the names and the values of its variants
+-- the tree means the externally tagged v: by n and the variants' names it means the variant's value, which `values`
+-- returns
 abbrev pub enum_reads : {V W : Type 0} (n : CasesMeaning V) → List Name → (W → V) → Tree → W → Type 0
 enum_reads n names values t v = n.reads external names t (values v)
 
--- the meaning of an externally tagged enum, by the names and the values of its variants
+-- the meaning of an externally tagged enum, by the meaning n of its variants and their names; `values` returns the
+-- value of the variant
 abbrev pub enum_meaning : {V W : Type 0} (n : CasesMeaning V) (names : List Name) → are_distinct names ≡ true → (W → V) → Meaning W
 enum_meaning n names distinct values =
     meant (λ v. n.content (values v)) (enum_of n names) (enum_reads n names values)
     (λ t v. n.agrees external names distinct t (values v))
 
--- the content that a tree gives of an internally tagged enum, by the names of its tag and of its variants
+-- the content that a tree gives for an enum that is tagged by `tag`, by the meaning n of its variants and their names
 abbrev pub tagged_of : {V : Type 0} (n : CasesMeaning V) → Name → List Name → Tree → Option n.Content
 tagged_of n tag names = by_tagging (internal tag) (n.by_case names)
 
--- the tree means the internally tagged enum, by the names of its tag and of its variants and by the variants' values
+-- the tree means v, which is tagged by `tag`: by n and the variants' names it means the variant's value, which
+-- `values` returns
 abbrev pub tagged_reads : {V W : Type 0} (n : CasesMeaning V) → Name → List Name → (W → V) → Tree → W → Type 0
 tagged_reads n tag names values t v = n.reads (internal tag) names t (values v)
 
--- the meaning of an internally tagged enum, by the names of its tag and of its variants and by the variants' values
+-- the meaning of an enum that is tagged by `tag`, by the meaning n of its variants and their names; `values` returns
+-- the value of the variant
 abbrev pub tagged_meaning : {V W : Type 0} (n : CasesMeaning V) → Name → (names : List Name) → are_distinct names ≡ true → (W → V) → Meaning W
 tagged_meaning n tag names distinct values =
     meant (λ v. n.content (values v)) (tagged_of n tag names) (tagged_reads n tag names values)

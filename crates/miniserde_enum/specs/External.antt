@@ -1,19 +1,19 @@
--- Externally tagged enums: `"Ping"` is a variant without data, `{"Text":"a"}` one with data.
+-- Externally tagged enums: `"Ping"` is a variant without data, and `{"Text":"a"}` is one with data.
 use Rattle.std.specs.Prelude.{◌≡◌, Option, Some, None, codes, refl}
 use Rattle.miniserde_model.specs.Tree.{Tree, str, members, no_members, member, null}
 use Rattle.miniserde_read.specs.types.Objects.{Name}
 
--- the tree of a variant without data is the string of the name, and with data the object of one member, which has the
--- name and the data
+-- the tree of the variant of the name n: without data the string n, and with data an object of one member, with the
+-- name n and the data
 abbrev pub external_tree : Name → Option Tree → Tree
 external_tree n None = str n
 external_tree n (Some u) = members (member n u no_members)
 
--- the tree is that of the variant of the name
+-- t is the tree of the variant of the name n, with the data o or without data
 abbrev pub IsExternal : Tree → Name → Option Tree → Type 0
 IsExternal t n o = t ≡ external_tree n o
 
--- the name of the variant that the tree is, and its data if it has any; no other tree is a variant
+-- the name and the data of the variant whose tree this is, if it is the tree of a variant
 abbrev pub external_variant : Tree → Option (Name × Option Tree)
 external_variant (str n) = Some (n, None)
 external_variant (members (member n u no_members)) = Some (n, Some u)

@@ -1,4 +1,4 @@
--- Data in one object with a tag: the other members.
+-- The data of an internally tagged enum: the members of its object that are not of the tag's name.
 use Rattle.std.proofs.Common.{◌∙◌}
 use Rattle.std.specs.Prelude.{false, cond, Option, Some, bytes_eq}
 use Rattle.miniserde_model.specs.Tree.{Tree, members}
@@ -7,11 +7,11 @@ use Rattle.miniserde_record.specs.Fields.{others}
 use Rattle.miniserde_record.specs.FieldsMeaning.{FieldsMeaning}
 use Rattle.miniserde_enum.specs.laws.Inside.{beside-refused, beside-apart}
 
--- the content that the other members of an object give
+-- the content that `of` returns for an object without its members of the tag's name; any other tree gives nothing
 abbrev pub inside_of : {C : Type 0} → Name → (Tree → Option C) → Tree → Option C
 inside_of tag of = object_of (λ ms. of (members (others tag ms)))
 
--- the meaning of fields that skip the members of the tag's name
+-- the meaning of the fields of n in an object with a tag: the members of the tag's name are skipped
 abbrev pub beside_tag : {V : Type 0} → Name → FieldsMeaning V → FieldsMeaning V
 beside_tag tag n = record {
   Content = n.Content;

@@ -1,31 +1,32 @@
--- Internally tagged enums: of `{"kind":"Move","x":1}` the member `kind` is the tag, and the others are the data.
+-- Internally tagged enums: in `{"kind":"Move","x":1}` the member `kind` is the tag, and the others are the data.
 use Rattle.std.specs.Prelude.{◌≡◌, false, Option, Some, None, option_map, option_and_then, codes, refl}
 use Rattle.miniserde_model.specs.Tree.{Tree, null, str, members, Members, no_members, member}
 use Rattle.miniserde_read.specs.types.Objects.{Name}
 use Rattle.miniserde_read.specs.types.Words.{string_of}
 use Rattle.miniserde_record.specs.Fields.{others, last_given, Says}
 
--- The tree is an object. Each member of the tag's name is a string, and the last one is the variant's name.
--- The data is the object of the other members.
+-- the tree is an object of which each member of the tag's name is a string and the last one is n; the data are the
+-- object of its other members
 abbrev pub IsInternal : Name → Tree → Name → Option Tree → Type 0
 IsInternal tag (members ms) n (Some u) = Says ⊥ (λ t. t ≡ str n) string_of tag ms × (u ≡ members (others tag ms))
 IsInternal tag t n o = ⊥
 
--- the last string of the tag's name, if each member of that name is a string
+-- the text of the last member of the tag's name, if there is one and each member of that name is a string
 abbrev pub tag_of : Name → Members → Option Name
 tag_of tag ms = option_and_then (λ o. o) (last_given false string_of tag None ms)
 
--- the name that the tag gives, and the object of the other members
+-- the variant's name, by the tag of an object, and the object of its other members; any other tree gives nothing
 abbrev pub internal_variant : Name → Tree → Option (Name × Option Tree)
 internal_variant tag (members ms) = option_map (λ n. (n, Some (members (others tag ms)))) (tag_of tag ms)
 internal_variant tag _ = None
 
--- the members of an object
+-- the members of an object; any other tree has none
 abbrev pub object_members : Tree → Members
 object_members (members ms) = ms
 object_members _ = no_members
 
--- the tag in front of the members of the data
+-- the object whose first member is the tag, with the string n, and whose others are the members of the data; null if
+-- there are no data
 abbrev pub internal_tree : Name → Name → Option Tree → Tree
 internal_tree tag n None = null
 internal_tree tag n (Some u) = members (member tag (str n) (object_members u))

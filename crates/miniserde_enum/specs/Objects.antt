@@ -1,4 +1,4 @@
--- Objects, whatever they have.
+-- Trees that are objects.
 use Rattle.std.specs.Prelude.{⊤}
 use Rattle.miniserde_model.specs.Tree.{Tree, members}
 

@@ -1,13 +1,13 @@
--- Keys of maps: which texts are parsed as which keys.
+-- The keys of maps: the content of each type of keys, and the key that a text is parsed as.
 use Rattle.std.specs.Prelude.{ℕ, suc, ◌+◌, ◌-◌, ◌^◌, ℤ, pos, negsuc, neg_ℤ, Bool, true, false, ◌&&◌, nat_lt, List, [], ◌∷◌, length, drop, Option, Some, None, codes, if◌then◌else◌}
 use Rattle.std.specs.Str.{all_ascii_digits, bytes_eq, chars, is_utf8}
 use Rattle.std.specs.Str.Parse.{digits_value, starts_with_minus, without_leading_plus}
 
--- the content of a key
+-- the content of a key, as a list of numbers
 abbrev pub Key : Type 0
 Key = List ℕ
 
--- the content of an unsigned integer, and of a character
+-- the content of an unsigned integer or of a character
 abbrev pub of_nat : ℕ → Key
 of_nat n = n ∷ []
 
@@ -26,35 +26,36 @@ abbrev pub bool_text : Bool → List ℕ
 bool_text true = codes "true"
 bool_text false = codes "false"
 
--- the content of the `bool` that a text is parsed as
+-- the content of the `bool` that the text is parsed as, if it is the text of one
 abbrev pub read_bool : List ℕ → Option Key
 read_bool k =
     if bytes_eq k (bool_text true) then Some (of_bool true)
     else (if bytes_eq k (bool_text false) then Some (of_bool false) else None)
 
--- the content of the character of a list of one
+-- the content of the one character of a list, if the list has exactly one
 abbrev pub single_char : List ℕ → Option Key
 single_char (c ∷ []) = Some (of_nat c)
 single_char _ = None
 
--- the content of the character that a text of one character is parsed as
+-- the content of the character that the text is parsed as, if it is the UTF-8 text of exactly one
 unfoldable pub read_char : List ℕ → Option Key
 read_char k = if is_utf8 k then single_char (chars k) else None
 
--- the list is one digit or more, and their number is below the limit
+-- whether the text is one digit or more, and their number is below the limit
 abbrev pub are_digits_below : ℕ → List ℕ → Bool
 are_digits_below limit ds = nat_lt 0 (length ds) && (all_ascii_digits ds && nat_lt (digits_value 10 ds) limit)
 
--- the content of the number that the digits write
+-- the content of the number that the digits ds are, if it is below the limit; `content` returns that of a number
 abbrev pub read_digits : ℕ → (ℕ → Key) → List ℕ → Option Key
 read_digits limit content ds = if are_digits_below limit ds then Some (content (digits_value 10 ds)) else None
 
--- the content of an unsigned integer of so many bits that a text is parsed as: digits, after an optional `+`
+-- the content of the unsigned integer of so many bits that the text k is parsed as: digits, with a `+` before them or
+-- not
 unfoldable pub read_unsigned : ℕ → List ℕ → Option Key
 read_unsigned bits k = read_digits (2 ^ bits) of_nat (without_leading_plus k)
 
--- the content of the signed integer of so many bits that a text is parsed as: digits, with a `+` or a `-` in front or
--- not
+-- the content of the signed integer of so many bits that the text k is parsed as: digits, with a `+` or a `-` before
+-- them or not
 unfoldable pub read_signed : ℕ → List ℕ → Option Key
 read_signed bits k =
     if starts_with_minus k then read_digits (2 ^ (bits - 1) + 1) (λ n. of_int (neg_ℤ (pos n))) (drop 1 k)

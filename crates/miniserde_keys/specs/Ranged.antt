@@ -1,7 +1,7 @@
--- Valid values: integers and characters are in range, in each part.
+-- Valid optional values.
 use Rattle.std.specs.Prelude.{Option, Some, None, ⊤}
 
--- the value of an option is valid, if there is one
+-- the option is valid: it is `None`, or P holds of the value in it
 abbrev pub OptionReal : {T : Type 0} → (T → Type 0) → Option T → Type 0
 OptionReal P None = ⊤
 OptionReal P (Some x) = P x

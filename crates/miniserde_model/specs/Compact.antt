@@ -1,4 +1,4 @@
--- The compact text of a tree: RFC 8259 without whitespace, with the fewest escapes (section 7).
+-- The compact text of a tree: no whitespace, and no byte of a string is escaped without need (RFC 8259, section 7).
 use Rattle.std.specs.Prelude.{ℕ, ◌/◌, ◌%◌, List, [], ◌∷◌, ◌++◌, codes, decimal, unsigned_abs, ◌==◌, ◌||◌, nat_lt, if◌then◌else◌, flat_map, ◌≡◌, refl, true}
 use Rattle.std.specs.Char.{digit_char}
 use Rattle.miniserde_model.specs.Ascii.{begin_array, end_array, begin_object, end_object, name_separator, value_separator, quotation_mark, reverse_solidus, minus_sign, digit_0, letter_b, letter_f, letter_n, letter_r, letter_t, letter_u}
@@ -6,7 +6,7 @@ use Rattle.miniserde_model.specs.Tree.{Tree, null, truth, nonneg, neg, num, str,
 use Rattle.miniserde_model.specs.Value.{word}
 use Rattle.std.proofs.Common.{ap, arith, get_or}
 
--- the bytes that a string has for one byte of its text
+-- the bytes that stand inside a string for one byte of its text: an escape if the byte needs one, or itself
 abbrev pub escape_text : ℕ → List ℕ
 escape_text x =
     if x == 0x08 then reverse_solidus ∷ letter_b ∷ [] else
@@ -18,10 +18,12 @@ escape_text x =
     if nat_lt x 0x20 then reverse_solidus ∷ letter_u ∷ digit_0 ∷ digit_0 ∷ digit_char (x / 16) ∷ digit_char (x % 16) ∷ [] else
     x ∷ []
 
+-- the string for a text: the text with its escapes, between quotation marks
 unfoldable pub string_text : List ℕ → List ℕ
 string_text s = quotation_mark ∷ (flat_map escape_text s ++ quotation_mark ∷ [])
 
 abbrev mutual
+  -- the compact text of a tree
   pub compact : Tree → List ℕ
   compact null = codes "null"
   compact (truth x) = word x
@@ -36,14 +38,17 @@ abbrev mutual
   compact_children no_trees = []
   compact_children (tree t ts) = compact t ++ compact_more ts
 
+  -- the compact texts of further elements, with a comma before each
   pub compact_more : Trees → List ℕ
   compact_more no_trees = []
   compact_more (tree t ts) = value_separator ∷ (compact t ++ compact_more ts)
 
+  -- the compact text of an object's members, each with its name, with commas between them
   pub compact_members : Members → List ℕ
   compact_members no_members = []
   compact_members (member name t ms) = (string_text name ++ name_separator ∷ compact t) ++ compact_more_members ms
 
+  -- the compact text of further members, with a comma before each
   pub compact_more_members : Members → List ℕ
   compact_more_members no_members = []
   compact_more_members (member name t ms) = value_separator ∷ ((string_text name ++ name_separator ∷ compact t) ++ compact_more_members ms)

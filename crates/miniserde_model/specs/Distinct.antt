@@ -1,14 +1,14 @@
--- Trees without duplicate names (RFC 8259, section 4).
+-- Trees without duplicate names in any object (RFC 8259, section 4).
 use Rattle.std.specs.Prelude.{ℕ, Bool, true, not, ◌&&◌, List, is_some, codes, ◌≡◌, false, refl, [], ◌∷◌}
 use Rattle.miniserde_model.specs.Tree.{Tree, list, members, Trees, no_trees, tree, Members, no_members, member, null}
 use Rattle.miniserde_model.specs.Normal.{last_of}
 
--- a member has the name, as decoded text
+-- whether one of the members has the name, which is decoded text
 abbrev pub has_name : List ℕ → Members → Bool
 has_name name ms = is_some (last_of name ms)
 
 abbrev mutual
-  -- no object in the tree has a duplicate name
+  -- whether no object in the tree has duplicate names
   pub names_distinct : Tree → Bool
   names_distinct (list ts) = names_distinct_in_children ts
   names_distinct (members ms) = names_distinct_in_members ms
@@ -18,6 +18,7 @@ abbrev mutual
   names_distinct_in_children no_trees = true
   names_distinct_in_children (tree t ts) = names_distinct t && names_distinct_in_children ts
 
+  -- whether the members have no duplicate names, and the objects in their trees have none
   pub names_distinct_in_members : Members → Bool
   names_distinct_in_members no_members = true
   names_distinct_in_members (member name t ms) = not (has_name name ms) && (names_distinct t && names_distinct_in_members ms)

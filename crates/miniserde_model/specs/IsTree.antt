@@ -1,11 +1,12 @@
--- Which trees a text can have: each number is in its range, and each text is UTF-8.
+-- Trees in range, which are those that a text can spell (RFC 8259, sections 6 and 8.1).
 use Rattle.std.specs.Prelude.{◌-◌, ◌^◌, ◌<◌, ◌≤◌, pos, unsigned_abs, ◌≤ℤ◌, IsUtf8, ⊤, codes, [], ◌∷◌, refl}
 use Rattle.miniserde_model.specs.Tree.{Tree, null, truth, nonneg, neg, num, str, list, members, Trees, no_trees, tree, Members, no_members, member}
 use Rattle.miniserde_model.specs.Number.{IsNumber}
 use Rattle.std.proofs.Common.{arith}
 
 abbrev mutual
-  -- an integer is in its range, and a number text is no integer in range
+  -- the tree is in range: its integers are, each number text is a number that is no integer in range, and each string
+  -- and name is UTF-8
   pub IsTree : Tree → Type 0
   IsTree null = ⊤
   IsTree (truth x) = ⊤
@@ -16,15 +17,17 @@ abbrev mutual
   IsTree (list ts) = AreTrees ts
   IsTree (members ms) = AreNamedTrees ms
 
+  -- each of the children is in range
   pub AreTrees : Trees → Type 0
   AreTrees no_trees = ⊤
   AreTrees (tree t ts) = IsTree t × AreTrees ts
 
+  -- each member's name is UTF-8, and its tree is in range
   pub AreNamedTrees : Members → Type 0
   AreNamedTrees no_members = ⊤
   AreNamedTrees (member name t ms) = IsUtf8 name × IsTree t × AreNamedTrees ms
 
--- Worked cases: 2 ^ 64 - 1 is a number of a tree, and 2 ^ 64 is one only as its text.
+-- Worked cases: 2 ^ 64 - 1 without a minus is an integer in range, and 2 ^ 64 is none.
 pub largest : IsTree (nonneg (2 ^ 64 - 1))
 largest = omega arith
 

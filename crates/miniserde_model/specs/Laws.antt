@@ -1,4 +1,4 @@
--- Laws over the definitions. Each is the contract of a function of this crate.
+-- Laws over the definitions, each of which is the contract of a function of this crate.
 use Rattle.std.specs.Prelude.{◌≡◌, ◌≤◌, ◌↔◌, true, List, ◌++◌, ℕ, [], length, option_map, IsUtf8}
 use Rattle.miniserde_model.specs.Tree.{Tree, Members, no_members}
 use Rattle.miniserde_model.specs.Value.{IsValue, IsJson}
@@ -10,11 +10,11 @@ use Rattle.miniserde_model.specs.Distinct.{names_distinct}
 use Rattle.miniserde_model.specs.Normal.{norm, norm_members, last_of, Rise, put_all}
 use Rattle.miniserde_model.specs.Size.{size}
 
--- a text spells one tree at most
+-- a text spells at most one tree
 abbrev pub TextHasOneTree : Type 0
 TextHasOneTree = (b : List ℕ) (t u : Tree) → IsJson b t → IsJson b u → t ≡ u
 
--- a spelled tree holds numbers in range and text in UTF-8
+-- each tree that a text spells is in range
 abbrev pub JsonIsTree : Type 0
 JsonIsTree = (b : List ℕ) (t : Tree) → IsJson b t → IsTree t
 
@@ -22,35 +22,35 @@ JsonIsTree = (b : List ℕ) (t : Tree) → IsJson b t → IsTree t
 abbrev pub JsonIsUtf8 : Type 0
 JsonIsUtf8 = (b : List ℕ) (t : Tree) → IsJson b t → IsUtf8 b
 
--- the compact text of a tree spells it
+-- the compact text of a tree in range spells the tree
 abbrev pub CompactSpells : Type 0
 CompactSpells = (t : Tree) → IsTree t → IsJson (compact t) t
 
--- the compact text of a tree is the tree's value, so that it spells it amid a text too
+-- the compact text of a tree in range spells it without whitespace around it, and so may stand inside a text
 abbrev pub CompactIsValue : Type 0
 CompactIsValue = (t : Tree) → IsTree t → IsValue t (compact t)
 
--- the normal form is its own normal form
+-- the normal form of a tree is its own normal form
 abbrev pub NormIsNormal : Type 0
 NormIsNormal = (t : Tree) → norm (norm t) ≡ norm t
 
--- the normal form keeps numbers in range and text in UTF-8
+-- the normal form of a tree in range is in range
 abbrev pub NormIsTree : Type 0
 NormIsTree = (t : Tree) → IsTree t → IsTree (norm t)
 
--- in the normal form of members, each name has the normal form of its last tree
+-- in the normal form of members, each name has the normal form of its last tree, or no tree if it had none
 abbrev pub NormKeepsLast : Type 0
 NormKeepsLast = (q : List ℕ) (ms : Members) → last_of q (norm_members ms) ≡ option_map norm (last_of q ms)
 
--- the names of the normal form of members strictly rise by their bytes
+-- in the normal form of members, the names strictly rise by their bytes
 abbrev pub NormRises : Type 0
 NormRises = (ms : Members) → Rise (norm_members ms)
 
--- members whose names rise, and that have those trees, are the normal form
+-- members ns whose names rise are the normal form of ms if each name has in ns the normal form of its last tree in ms
 abbrev pub NormIsOnly : Type 0
 NormIsOnly = (ms ns : Members) → Rise ns → ((q : List ℕ) → last_of q ns ≡ option_map norm (last_of q ms)) → ns ≡ norm_members ms
 
--- putting members in from the left, where a later one replaces an earlier of its name, gives the normal form
+-- members put in one by one, each replacing an earlier one of its name, give the normal form of the members
 abbrev pub PutGivesNorm : Type 0
 PutGivesNorm = (ms : Members) → put_all no_members ms ≡ norm_members ms
 
@@ -58,15 +58,15 @@ PutGivesNorm = (ms : Members) → put_all no_members ms ≡ norm_members ms
 abbrev pub NormIsDistinct : Type 0
 NormIsDistinct = (t : Tree) → names_distinct (norm t) ≡ true
 
--- if no name is duplicated, the normal form has as many values
+-- the normal form of a tree without duplicate names has as many values as the tree
 abbrev pub DistinctKeepsSize : Type 0
 DistinctKeepsSize = (t : Tree) → names_distinct t ≡ true → size (norm t) ≡ size t
 
--- two accepted texts have equal canonical texts exactly if their trees have one normal form
+-- two texts that spell trees have equal canonical texts exactly if their trees have the same normal form
 abbrev pub CanonicalTextsEqual : Type 0
 CanonicalTextsEqual = (a b : List ℕ) (t u : Tree) → IsJson a t → IsJson b u → (compact (norm t) ≡ compact (norm u)) ↔ (norm t ≡ norm u)
 
--- no text whose tree has that normal form is shorter
+-- no text that spells a tree with the normal form of t is shorter than the canonical text of t
 abbrev pub CanonicalIsShortest : Type 0
 CanonicalIsShortest = (b : List ℕ) (t u : Tree) → IsJson b u → norm u ≡ norm t → length (compact (norm t)) ≤ length b
 
@@ -74,6 +74,6 @@ CanonicalIsShortest = (b : List ℕ) (t u : Tree) → IsJson b u → norm u ≡ 
 abbrev pub EventsComplete : Type 0
 EventsComplete = (t : Tree) → Completes start (events t)
 
--- no list of events that completes a position is a proper prefix of another that completes it
+-- of two lists of events that complete the same position, none is a proper prefix of the other
 abbrev pub CompletionsArePrefixFree : Type 0
 CompletionsArePrefixFree = (es rest : List Step) (p : Position) → Completes p es → Completes p (es ++ rest) → rest ≡ []

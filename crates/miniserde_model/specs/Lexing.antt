@@ -1,4 +1,4 @@
--- What each call of a lexer takes from a text, in the words of the grammar (RFC 8259, section 2).
+-- What each call of a lexer takes from a text, by the grammar of whole texts (RFC 8259, section 2).
 use Rattle.std.specs.Prelude.{◌≡◌, ℕ, Bool, true, false, List, [], ◌∷◌, ◌++◌, ⊤, refl}
 use Rattle.std.proofs.Common.{ap, sym, get_or}
 use Rattle.miniserde_model.specs.Ascii.{begin_array, end_array, begin_object, end_object, name_separator, value_separator}
@@ -12,10 +12,11 @@ use Rattle.miniserde_model.specs.declared.kind.Kind.{Kind}
 use Rattle.miniserde_model.specs.declared.kind.Kind.TheVariants.{Seq, Map}
 use Rattle.miniserde_model.specs.Bytes.{is_space, is_number_byte, StopsAt}
 
+-- `part` is the one byte c
 abbrev pub IsByte : ℕ → List ℕ → Type 0
 IsByte c part = part ≡ c ∷ []
 
--- P's piece, whitespace and `:`
+-- `part` is `spelled`, of which P holds, then whitespace, then a colon
 pub record BeforeColon (P : List ℕ → Type 0) (part : List ℕ) : Type 0 where
   pub spelled : List ℕ
   pub space : List ℕ
@@ -23,11 +24,11 @@ pub record BeforeColon (P : List ℕ → Type 0) (part : List ℕ) : Type 0 wher
   pub is_spelled : P spelled
   pub is_space : IsWhitespace space
 
--- a string that means the name, whitespace and `:`
+-- `part` is a string whose text is the name, then whitespace, then a colon
 abbrev pub IsName : List ℕ → List ℕ → Type 0
 IsName name part = BeforeColon (λ b. IsString b name) part
 
--- the text is whitespace, P's piece, and the rest
+-- the text s is whitespace, then `part`, of which P holds, then the rest r
 pub record Stands (P : List ℕ → Type 0) (s r : List ℕ) : Type 0 where
   pub space : List ℕ
   pub part : List ℕ
@@ -35,7 +36,7 @@ pub record Stands (P : List ℕ → Type 0) (s r : List ℕ) : Type 0 where
   pub is_space : IsWhitespace space
   pub is_part : P part
 
--- the bytes are the first token of a value, which begins with the event
+-- the event is the first of a value, and the bytes b are the value's first token: a whole leaf or an opening bracket
 abbrev pub Piece : Step → List ℕ → Type 0
 Piece step.null b = IsValue null b
 Piece (boolean x) b = IsValue (truth x) b
@@ -49,24 +50,27 @@ Piece element b = ⊥
 Piece (key s) b = ⊥
 Piece finish b = ⊥
 
--- after a number no byte of a number follows
+-- if the event is a number, the text r after its token does not begin with a byte that a number can have
 abbrev pub Ends : Step → List ℕ → Type 0
 Ends (negative n) r = StopsAt is_number_byte r
 Ends (nonnegative n) r = StopsAt is_number_byte r
 Ends (float x) r = StopsAt is_number_byte r
 Ends _ r = ⊤
 
+-- after whitespace, the text s begins with the token of the event e, and r is the text after it
 abbrev pub Starts : List ℕ → Step → List ℕ → Type 0
 Starts s e r = Stands (Piece e) s r × Ends e r
 
+-- after whitespace, the text s begins with the name n and its colon, and r is the text after them
 abbrev pub Names : List ℕ → List ℕ → List ℕ → Type 0
 Names s n r = Stands (IsName n) s r
 
+-- the closing bracket of a container of the kind
 abbrev pub closing : Kind → ℕ
 closing Seq = end_array
 closing Map = end_object
 
--- the text begins with a byte that is no whitespace and no closing bracket
+-- the text r begins with a byte that is neither whitespace nor a closing bracket
 pub record Begins (r : List ℕ) : Type 0 where
   pub byte : ℕ
   pub more : List ℕ
@@ -75,7 +79,8 @@ pub record Begins (r : List ℕ) : Type 0 where
   pub no_list_end : byte ≡ end_array → ⊥
   pub no_members_end : byte ≡ end_object → ⊥
 
--- of that kind, behind the opening bracket or not: the closing bracket, or what leads to the next child
+-- Inside a container of kind k, from s to r stands the closing bracket if the third argument is true, and else what
+-- leads to a child: a comma, or only whitespace if `first` says that the opening bracket was just taken.
 abbrev pub Follows : Kind → Bool → Bool → List ℕ → List ℕ → Type 0
 Follows k first true s r = Stands (IsByte (closing k)) s r
 Follows k true false s r = Stands (λ b. b ≡ []) s r × Begins r

@@ -1,4 +1,4 @@
--- The normal form of a tree (RFC 8259, section 4: names should be unique, and their order does not count).
+-- The normal form of a tree, in which an object's names are unique and in byte order (RFC 8259, section 4).
 use Rattle.std.specs.Prelude.{◌≡◌, ℕ, ℤ, pos, negsuc, List, Option, Some, None, bytes_eq, if◌then◌else◌, ⊤, refl, codes, [], ◌∷◌}
 use Rattle.std.specs.Ordering.{nat_cmp}
 use Rattle.std.specs.Cmp.Lexicographic.{slice_cmp}
@@ -6,27 +6,28 @@ use Rattle.std.specs.declared.cmp.Ordering.{Ordering}
 use Rattle.std.specs.declared.cmp.Ordering.TheVariants.{Less, Equal, Greater}
 use Rattle.miniserde_model.specs.Tree.{Tree, nonneg, neg, list, members, Trees, no_trees, tree, Members, no_members, member}
 
--- the order of texts by their bytes
+-- the order of two texts by their bytes
 abbrev pub text_cmp : List ℕ → List ℕ → Ordering
 text_cmp = slice_cmp nat_cmp
 
--- one step of `with_first`, by the order of the two names; `more` is the result for the later members
+-- one step of `with_first`, by the order of `name` and the first member's name `other`; `more` is its result for ms
 abbrev pub with_first_by : Ordering → List ℕ → Tree → List ℕ → Tree → Members → Members → Members
 with_first_by Less name t other u ms more = member name t (member other u ms)
 with_first_by Equal name t other u ms more = member other u ms
 with_first_by Greater name t other u ms more = member other u more
 
--- the sorted members with one more, unless they have its name
+-- the sorted members with the tree t added under the name, unless they have a member of that name
 abbrev pub with_first : List ℕ → Tree → Members → Members
 with_first name t no_members = member name t no_members
 with_first name t (member other u ms) = with_first_by (text_cmp name other) name t other u ms (with_first name t ms)
 
+-- the leaf of a number with a minus in a normal form: `-0` becomes 0
 abbrev pub norm_neg : ℤ → Tree
 norm_neg (pos n) = nonneg n
 norm_neg (negsuc n) = neg (negsuc n)
 
 abbrev mutual
-  -- each negative number by f
+  -- the normal form of a tree, in which f returns the leaf of each integer that is written with a minus
   pub norm_by : (ℤ → Tree) → Tree → Tree
   norm_by f (neg z) = f z
   norm_by f (list ts) = list (norm_children_by f ts)
@@ -37,63 +38,68 @@ abbrev mutual
   norm_children_by f no_trees = no_trees
   norm_children_by f (tree t ts) = tree (norm_by f t) (norm_children_by f ts)
 
-  -- of each name the last tree, in the order of the names
+  -- the normal form of an object's members: of each name its last tree, in the order of the names
   pub norm_members_by : (ℤ → Tree) → Members → Members
   norm_members_by f no_members = no_members
   norm_members_by f (member name t ms) = with_first name (norm_by f t) (norm_members_by f ms)
 
--- the normal form, in which no `-0` is left
+-- the normal form of a tree, in which no `-0` is left
 abbrev pub norm : Tree → Tree
 norm = norm_by norm_neg
 
+-- the normal forms of a list's children, in order
 abbrev pub norm_children : Trees → Trees
 norm_children = norm_children_by norm_neg
 
+-- the normal form of an object's members
 abbrev pub norm_members : Members → Members
 norm_members = norm_members_by norm_neg
 
 -- ---- two facts that fix the normal form of members
 
+-- the first tree if there is one, and else the second, if there is one
 abbrev pub or_else : Option Tree → Option Tree → Option Tree
 or_else None o = o
 or_else (Some t) o = Some t
 
--- the last tree of a name
+-- the tree of the last member of the name q, if there is one
 abbrev pub last_of : List ℕ → Members → Option Tree
 last_of q no_members = None
 last_of q (member name t ms) = or_else (last_of q ms) (if bytes_eq name q then Some t else None)
 
--- the first of the members has a name above this one, or there is no member
+-- there is no member, or the first one has a name above `name`
 abbrev pub BeginsAbove : List ℕ → Members → Type 0
 BeginsAbove name no_members = ⊤
 BeginsAbove name (member other u ms) = text_cmp name other ≡ Less
 
--- the names strictly rise by their bytes
+-- the names of the members strictly rise by their bytes
 abbrev pub Rise : Members → Type 0
 Rise no_members = ⊤
 Rise (member name t ms) = BeginsAbove name ms × Rise ms
 
 -- ---- the normal form as a reader makes it, from the left
 
--- one step of `put`, by the order of the name and the first member's; `more` is the result for the later members
+-- one step of `put`, by the order of `name` and the first member's name `other`; `more` is its result for ms
 abbrev pub put_first_by : Ordering → List ℕ → Tree → List ℕ → Tree → Members → Members → Members
 put_first_by Less name t other u ms more = member name t (member other u ms)
 put_first_by Equal name t other u ms more = member name t ms
 put_first_by Greater name t other u ms more = member other u more
 
--- the sorted members with one more; it replaces the member of the same name
+-- the sorted members with the tree t added under the name; it replaces the tree of the same name
 abbrev pub put : List ℕ → Tree → Members → Members
 put name t no_members = member name t no_members
 put name t (member other u ms) = put_first_by (text_cmp name other) name t other u ms (put name t ms)
 
+-- the members `made` with further members put in one by one, each with the normal form of its tree by f
 abbrev pub put_all_by : (ℤ → Tree) → Members → Members → Members
 put_all_by f made no_members = made
 put_all_by f made (member name t ms) = put_all_by f (put name (norm_by f t) made) ms
 
+-- the first members with the second ones put in one by one, each with the normal form of its tree
 abbrev pub put_all : Members → Members → Members
 put_all = put_all_by norm_neg
 
--- Worked cases: `{"b":1,"a":-0,"b":2}` has the normal form `{"a":0,"b":2}`, and `-0` is not its own.
+-- Worked cases: `{"b":1,"a":-0,"b":2}` has the normal form `{"a":0,"b":2}`, and `-0` is not in normal form.
 abbrev unordered : Members
 unordered = member (codes "b") (nonneg 1) (member (codes "a") (neg (pos 0)) (member (codes "b") (nonneg 2) no_members))
 

@@ -1,4 +1,4 @@
--- Where the events of one value stand, and which lists of events complete it.
+-- The positions among the events of one value, and the lists of events that complete a position.
 use Rattle.std.specs.Prelude.{◌≡◌, ℕ, ◌+◌, ◌-◌, ◌<◌, Bool, true, false, List, [], ◌∷◌, refl}
 use Rattle.std.proofs.Common.{arith, ap}
 use Rattle.miniserde_model.specs.Step.{Step, boolean, string, negative, nonnegative, float, seq, element, map, key, finish}
@@ -8,14 +8,16 @@ use Rattle.miniserde_model.specs.Step as step
 abbrev pub Position : Type 0
 Position = ℕ × Bool
 
--- the position before the events of one value, and the position after them
+-- the position before the events of one value
 abbrev pub start : Position
 start = (0, true)
 
+-- the position after the events of one value
 abbrev pub complete : Position
 complete = (0, false)
 
--- A value's first event may come if a value is due; a child or an end may come in an open container if none is due.
+-- at the position p the event may come: the first event of a value if a value is due, and `element`, a name or
+-- `finish` if none is due and a container is open
 abbrev pub Allowed : Position → Step → Type 0
 Allowed p step.null = p.1 ≡ true
 Allowed p (boolean _) = p.1 ≡ true
@@ -29,7 +31,7 @@ Allowed p element = (p.1 ≡ false) × (0 < p.0)
 Allowed p (key _) = (p.1 ≡ false) × (0 < p.0)
 Allowed p finish = (p.1 ≡ false) × (0 < p.0)
 
--- the position that an event leads to
+-- the position after one event at the position p
 abbrev pub next : Position → Step → Position
 next p step.null = (p.0, false)
 next p (boolean _) = (p.0, false)
@@ -43,12 +45,12 @@ next p element = (p.0, true)
 next p (key _) = (p.0, true)
 next p finish = (p.0 - 1, false)
 
--- the position that a list of events leads to
+-- the position after a list of events, from the position p on
 abbrev pub next_by : Position → List Step → Position
 next_by p [] = p
 next_by p (e ∷ es) = next_by (next p e) es
 
--- the events close all that is open at the position
+-- each of the events may come at its position, from p on, and the position after them is `complete`
 abbrev pub Completes : Position → List Step → Type 0
 Completes p [] = p ≡ complete
 Completes p (e ∷ es) = Allowed p e × Completes (next p e) es

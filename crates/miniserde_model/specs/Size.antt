@@ -1,8 +1,9 @@
--- How many values a tree has.
+-- The size of a tree: how many values it has.
 use Rattle.std.specs.Prelude.{ℕ, ◌+◌, Bool, true, false, ◌≡◌, refl}
 use Rattle.miniserde_model.specs.Tree.{Tree, list, members, Trees, no_trees, tree, Members, no_members, member, null}
 
 abbrev mutual
+  -- how many values the tree has, itself counted
   pub size : Tree → ℕ
   size (list ts) = 1 + size_of_children ts
   size (members ms) = 1 + size_of_members ms
@@ -16,7 +17,7 @@ abbrev mutual
   size_of_members no_members = 0
   size_of_members (member name t ms) = size t + size_of_members ms
 
--- a leaf, or an empty container
+-- whether the tree is a leaf or an empty container
 abbrev pub is_bare : Tree → Bool
 is_bare (list (tree t ts)) = false
 is_bare (members (member name t ms)) = false

@@ -3,11 +3,11 @@ use Rattle.std.specs.Prelude.{◌≡◌, ◌⊎◌, ℕ, List, [], ◌∷◌}
 use Rattle.std.specs.List.{AllByRecursion}
 use Rattle.std.proofs.Common.{inl, inr, refl, arith}
 
--- a space, a tab, a line feed or a carriage return
+-- the byte is a space, a tab, a line feed or a carriage return
 abbrev pub IsSpace : ℕ → Type 0
 IsSpace c = (c ≡ 0x20) ⊎ ((c ≡ 0x09) ⊎ ((c ≡ 0x0A) ⊎ (c ≡ 0x0D)))
 
--- spaces alone, or nothing
+-- each byte of the text is whitespace; the text may be empty
 abbrev pub IsWhitespace : List ℕ → Type 0
 IsWhitespace b = AllByRecursion IsSpace b
 

@@ -1,8 +1,8 @@
--- What a clause sees of a counted reader or writer.
+-- What a contract sees of a reader or a writer that counts its calls.
 use Rattle.std.specs.Prelude.{ℕ}
 use Rattle.miniserde_program.specs.declared.canon.counted.Counted.{Counted}
 
--- the reader or writer itself
+-- the reader or writer inside
 abbrev pub inner_of : {T : Type 0} → Counted T → T
 inner_of c = c.inner
 

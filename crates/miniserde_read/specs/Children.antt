@@ -1,17 +1,17 @@
--- The children of a list in their order, each by the state after those before it.
+-- The children of a list taken in order, each from the state that the children before it left.
 use Rattle.std.specs.Prelude.{List, [], ◌∷◌, ◌++◌, Option, Some, None, option_and_then, option_map}
 use Rattle.miniserde_model.specs.Tree.{Tree, Trees, no_trees, tree}
 
--- f gives the state after one more child
+-- the state after all the children, from the state s on, if f returns a state after each of them
 abbrev pub all_children : {S : Type 0} → (S → Tree → Option S) → S → Trees → Option S
 all_children f s no_trees = Some s
 all_children f s (tree t ts) = option_and_then (λ r. all_children f r ts) (f s t)
 
--- one more item at the end
+-- the list xs with the content of x appended, if f returns one
 abbrev pub with_last : {C X : Type 0} → (X → Option C) → List C → X → Option (List C)
 with_last f xs x = option_and_then (λ c. Some (xs ++ c ∷ [])) (f x)
 
--- one more part of a pair: the first, then the second, and no third
+-- the parts of a pair with one more: x gives the first part by f, or else the second by g; a third part gives nothing
 abbrev pub pair_next : {A B X : Type 0} → (X → Option A) → (X → Option B) → Option A × Option B → X → Option (Option A × Option B)
 pair_next f g (None, b) x = option_map (λ a. (Some a, b)) (f x)
 pair_next f g (Some a, None) x = option_map (λ b. (Some a, Some b)) (g x)

@@ -1,4 +1,4 @@
--- The events of Rust's `Step`, and the events that trees have.
+-- The events for Rust's `Step`, and the leaf that an event is.
 use Rattle.std.specs.Prelude.{◌≡◌, Option, Some, None, option_and_then, ⊤, pos, ◌≤ℤ◌}
 use Rattle.miniserde_model.specs.Tree.{Tree, null, truth, nonneg, neg, num, str, list, members, Trees, Members}
 use Rattle.miniserde_model.specs.Number.{IsNumber}
@@ -7,6 +7,7 @@ use Rattle.miniserde_model.specs.Step as model
 use Rattle.miniserde_read.specs.declared.step.Step.{Step}
 use Rattle.miniserde_read.specs.declared.step.Step.TheVariants as step
 
+-- the event for a `Step` of Rust
 abbrev pub event_of : Step → model.Step
 event_of step.Null = model.null
 event_of (step.Bool b) = boolean b
@@ -20,13 +21,14 @@ event_of step.Map = map
 event_of (step.Key k) = key k.now
 event_of step.Finish = finish
 
--- a tree can have the event: a negative integer is at most 0, and a number text is no integer in range
+-- if the event is a number, a tree can have it: with a minus it is at most 0, and a number text is no integer in
+-- range
 abbrev pub IsTreeEvent : model.Step → Type 0
 IsTreeEvent (negative n) = n ≤ℤ pos 0
 IsTreeEvent (float x) = IsNumber x (num x)
 IsTreeEvent _ = ⊤
 
--- the leaf whose one event it is
+-- the leaf whose only event this is, if there is such a leaf
 abbrev pub leaf_of : model.Step → Option Tree
 leaf_of model.null = Some null
 leaf_of (boolean b) = Some (truth b)
@@ -36,10 +38,10 @@ leaf_of (nonnegative n) = Some (nonneg n)
 leaf_of (float x) = Some (num x)
 leaf_of _ = None
 
--- the content that the leaf of an event gives
+-- what f returns for the leaf whose only event this is, if there is such a leaf
 abbrev pub on_leaf : {C : Type 0} → (Tree → Option C) → model.Step → Option C
 on_leaf f e = option_and_then f (leaf_of e)
 
--- no list and no object gives anything
+-- f returns no content for any list and for any object
 abbrev pub OnlyLeaves : {C : Type 0} → (Tree → Option C) → Type 0
 OnlyLeaves f = ((ts : Trees) → f (list ts) ≡ None) × ((ms : Members) → f (members ms) ≡ None)

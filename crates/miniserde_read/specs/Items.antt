@@ -1,4 +1,4 @@
--- The meaning of a tuple: the children of a list mean its items one by one.
+-- The meaning of a tuple: the children of a list mean its items one by one (RFC 8259, section 5).
 use Rattle.std.specs.Prelude.{◌≡◌, ◌↔◌, ℕ, Bool, List, Option, Some, None}
 use Rattle.miniserde_model.specs.Tree.{Trees}
 use Rattle.miniserde_read.specs.Meaning.{Meaning, meant}
@@ -6,22 +6,23 @@ use Rattle.miniserde_read.specs.Rest.{ElementsAt}
 use Rattle.miniserde_read.specs.types.Tuples.{NoneReads, none_of, ItemReads, item_of, TupleReads, tuple_of}
 use Rattle.miniserde_read.specs.laws.Tuples.{none-given, item-given, tuple-given}
 
+-- the meaning of the items V of a tuple: which children of a list mean which items
 pub record ItemsMeaning (V : Type 0) : Type 1 where
-  -- the content of the items
+  -- the content of the items, and the type of that content
   pub Content : Type 0
   pub content : V → Content
-  -- the content that the children of a list give, if any
+  -- the content that the children of a list give, if they give any
   pub from_trees : Trees → Option Content
-  -- the children mean the items, one by one, and no child is left
+  -- the children mean the items one by one, and no child is left
   pub reads : Trees → V → Type 0
-  -- children mean items exactly if they give their content
+  -- children mean items exactly if they give the content of the items
   pub reads_agrees : (ts : Trees) (v : V) → reads ts v ↔ (from_trees ts ≡ Some (content v))
 
--- no items
+-- the meaning of no items: only no children mean them
 abbrev pub no_items : ItemsMeaning (Unit {0})
 no_items = record { Content = Unit {0}; content = λ v. tt; from_trees = none_of; reads = NoneReads; reads_agrees = none-given }
 
--- an item, and those after it
+-- the meaning of one item, by its meaning m, and of the items after it, by n
 abbrev pub item_and : {T V : Type 0} → Meaning T → ItemsMeaning V → ItemsMeaning (T × V)
 item_and m n = record {
   Content = m.Content × n.Content;
@@ -31,16 +32,18 @@ item_and m n = record {
   reads_agrees = item-given m.reads n.reads m.from_tree n.from_trees m.content n.content m.reads_agrees n.reads_agrees;
 }
 
--- a tuple, by its items: a list of exactly so many, of which each child means its item
+-- the meaning of a tuple, of which `items` returns the items: a list means it if its children mean these by n
 abbrev pub tuple_meaning : {V W : Type 0} → ItemsMeaning V → (W → V) → Meaning W
 tuple_meaning n items =
     meant (λ w. n.content (items w)) (tuple_of n.from_trees) (λ t w. TupleReads n.reads t (items w))
     (λ t w. tuple-given n.reads n.from_trees n.content n.reads_agrees t (items w))
 
--- from s to r stand elements and the closing bracket, and the elements give c
+-- from s to r stand elements and a closing bracket, and `of` returns the content c for the elements; `first` says
+-- that the opening bracket was just taken
 abbrev pub ItemsGiveAt : {C : Type 0} → (Trees → Option C) → Bool → List ℕ → List ℕ → C → Type 0
 ItemsGiveAt of first s r c = (ts : Trees) × ElementsAt ts first s r × (of ts ≡ Some c)
 
--- no elements and closing bracket at the beginning of the text give anything
+-- `of` returns no content for any elements that stand with a closing bracket in a prefix of s; `first` says that the
+-- opening bracket was just taken
 abbrev pub ItemsGiveNoneAt : {C : Type 0} → (Trees → Option C) → Bool → List ℕ → Type 0
 ItemsGiveNoneAt of first s = (ts : Trees) (r : List ℕ) → ElementsAt ts first s r → of ts ≡ None

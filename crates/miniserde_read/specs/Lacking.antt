@@ -1,4 +1,4 @@
--- Where reading a text may return `Memory`.
+-- When the reading of a text may return `Memory`: a string with a backslash is decoded, or a list grows.
 use Rattle.std.specs.Prelude.{◌≡◌, ◌⊎◌, ℕ, zero, suc, Bool, true, false, List, length}
 use Rattle.std.specs.List.{AllByRecursion}
 use Rattle.miniserde_model.specs.Tree.{Tree}
@@ -9,44 +9,44 @@ use Rattle.miniserde_text.specs.Lexer.{BeginsEscaped}
 use Rattle.miniserde_read.specs.Rest.{OneElement, ValueAt}
 use Rattle.miniserde_read.specs.Source.{Remaining}
 
--- The next element begins as a string with a backslash.
+-- the next element in s begins as a string with a backslash; `first` says that the opening bracket was just taken
 abbrev pub EscapedElement : Bool → List ℕ → Type 0
 EscapedElement first s = (b : List ℕ) × Follows Seq first false s b × BeginsEscaped b
 
--- The next member's name has a backslash.
+-- the name of the next member in s has a backslash; `first` says that the opening bracket was just taken
 abbrev pub EscapedMember : Bool → List ℕ → Type 0
 EscapedMember first s = (b : List ℕ) × Follows Map first false s b × BeginsEscaped b
 
--- From s to r stands one element, with the comma before it.
+-- from s to r stands one element, with the comma before it unless `first` says that it is the first one
 abbrev pub AnElement : Bool → List ℕ → List ℕ → Type 0
 AnElement first s r = (t : Tree) × OneElement (ValueAt t) (λ d r. d ≡ r) first s r
 
--- One of the next n elements begins as a string with a backslash, and those before it are values.
+-- one of the next n elements in s begins as a string with a backslash, and those before it are values
 abbrev pub EscapedAmong : ℕ → Bool → List ℕ → Type 0
 EscapedAmong zero first s = ⊥
 EscapedAmong (suc n) first s = EscapedElement first s ⊎ ((d : List ℕ) × AnElement first s d × EscapedAmong n false d)
 
--- From s to r stand elements, at least one and at most n, and nothing else.
+-- from s to r stand elements, at least one and at most n, with a comma before each that is not the first
 abbrev pub SomeElements : ℕ → Bool → List ℕ → List ℕ → Type 0
 SomeElements zero first s r = ⊥
 SomeElements (suc n) first s r = AnElement first s r ⊎ ((d : List ℕ) × AnElement first s d × SomeElements n false d r)
 
--- If `read` of both parts never returns `Memory` (a and b), the value is a list, and one of its first two elements
--- begins as a string with a backslash.
+-- If `read` of the two parts never returns `Memory` (a and b), the value is a list (e), and one of its first two
+-- elements, in the text of `old`, begins as a string with a backslash.
 abbrev pub PairLacks : Bool → Bool → Step → Remaining → Remaining → Type 0
 PairLacks a b e old new = a ≡ true → b ≡ true → (e ≡ seq) × EscapedAmong 2 true old.rest
 
--- If `read` of the items never returns `Memory` (a), the value is a list; one of its first n elements begins as a string
--- with a backslash, or at most n elements were read, and the list of items failed to grow.
+-- If `read` of the items never returns `Memory` (a), the value is a list (e). In the text of `old`, one of its first
+-- n elements begins as a string with a backslash, or from `old` to `new` stand at least one and at most n elements.
 abbrev pub ArrayLacks : ℕ → Bool → Step → Remaining → Remaining → Type 0
 ArrayLacks n a e old new = a ≡ true → (e ≡ seq) × (EscapedAmong n true old.rest ⊎ SomeElements n true old.rest new.rest)
 
--- If `read` of no item returns `Memory` (each of the list is true), one of the items that are left begins as a string with
--- a backslash, and those before it are values.
+-- If `read` of no item returns `Memory` (all of the list are true), then among as many elements of s as there are
+-- items, one begins as a string with a backslash.
 abbrev pub ItemsLack : List Bool → Bool → List ℕ → Type 0
 ItemsLack infallible first s = AllByRecursion (λ b. b ≡ true) infallible → EscapedAmong (length infallible) first s
 
--- If `read` of no item returns `Memory` (each of the list is true), the value is a list, and one of its first items, of as
--- many as the tuple has, begins as a string with a backslash.
+-- If `read` of no item returns `Memory` (all of the list are true), the value is a list (e), and among as many
+-- elements as there are items, in the text of `old`, one begins as a string with a backslash.
 abbrev pub TupleLacks : List Bool → Step → Remaining → Remaining → Type 0
 TupleLacks infallible e old new = AllByRecursion (λ b. b ≡ true) infallible → (e ≡ seq) × EscapedAmong (length infallible) true old.rest

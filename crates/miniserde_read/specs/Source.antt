@@ -1,4 +1,4 @@
--- What a contract sees of a source, and what it returns inside a container.
+-- What a contract sees of a source, and what the calls of a source take inside a container.
 use Rattle.std.specs.Prelude.{ℕ, Bool, true, false, List, Option, Some, None}
 use Rattle.miniserde_model.specs.Lexing.{Starts, Names, Follows}
 use Rattle.miniserde_model.specs.declared.kind.Kind.TheVariants.{Seq, Map}
@@ -7,18 +7,20 @@ use Rattle.miniserde_text.specs.declared.json.lex.Text.{Text}
 use Rattle.miniserde_text.specs.declared.json.lex.Event.{Event}
 use Rattle.miniserde_model.specs.declared.error.Error.{Error}
 
--- the text that is left, the first error if there was one, and the scratch text
+-- what a contract sees of a source: the text that is left, the first error, if there was one, and the scratch text
 pub record Remaining : Type 0 where
   pub rest : List ℕ
   pub refused : Option Error
   pub scratch : List ℕ
 
--- the closing bracket of a list, or what leads to an element and its first token
+-- Inside an array, from s to r stands its closing bracket, if there is no token, and else what leads to an element
+-- and its first token. `first` says that the opening bracket was just taken.
 abbrev pub ElementFollows : Option Event → List ℕ → Bool → List ℕ → List ℕ → Type 0
 ElementFollows None scratch first s r = Follows Seq first true s r
 ElementFollows (Some e) scratch first s r = (b : List ℕ) × Follows Seq first false s b × Starts b (event_of_token e scratch) r
 
--- the closing bracket of an object, or what leads to a member and its name
+-- Inside an object, from s to r stands its closing bracket, if there is no name, and else what leads to a member and
+-- its name. `first` says that the opening bracket was just taken.
 abbrev pub NameFollows : Option Text → List ℕ → Bool → List ℕ → List ℕ → Type 0
 NameFollows None scratch first s r = Follows Map first true s r
 NameFollows (Some t) scratch first s r = (b : List ℕ) × Follows Map first false s b × Names b (text_of t scratch) r

@@ -11,31 +11,31 @@ use Rattle.miniserde_record.specs.laws.Aliases.{alias-apart}
 use Rattle.miniserde_record.specs.laws.Fields.{none-refused, field-refused, none-apart, closed-apart, field-apart}
 use Rattle.miniserde_record.specs.laws.Meanings.{none-given, closed-given, missing-agrees, field-given, struct-given}
 
--- the meaning of fields: V are the values of all of them
+-- the meaning of the fields of a struct: which members mean which values V, by the names of the fields
 pub record FieldsMeaning (V : Type 0) : Type 1 where
-  -- the content of the values
+  -- the content of all values, and the type of that content
   pub Content : Type 0
   pub content : V → Content
-  -- the content of the values so far
+  -- the state of the fields after some members, and the type of that state
   pub State : Type 0
   pub empty : State
   -- the number of fields
   pub count : ℕ
-  -- the state after one more member, by the fields' names, its name and its tree
+  -- the state after one more member, by the fields' names, the state before, the member's name and its tree
   pub by_tree : List Name → State → Name → Tree → Option State
-  -- the name alone refuses a member, whatever its value
+  -- whether the name alone makes a member fail, whatever its tree
   pub refuses : List Name → State → Name → Bool
   pub refused : (names : List Name) (s : State) (k : Name) → refuses names s k ≡ true → (t : Tree) → by_tree names s k t ≡ None
-  -- the content at the end of the members
+  -- the content after the last member, if each field has a value
   pub end : State → Option Content
-  -- the content that the members give from a state, field by field
+  -- the content that the members give from a state on, field by field
   pub from_members : List Name → State → Members → Option Content
   pub members_agree : (names : List Name) (s : State) (ms : Members) → option_and_then end (all_members (by_tree names) s ms) ≡ from_members names s ms
-  -- the members mean the values: they give the content of these
+  -- the members mean the values: they give the values' content
   pub reads : List Name → Members → V → Type 0
   pub reads_agrees : (names : List Name) (ms : Members) (v : V) → reads names ms v ↔ (from_members names empty ms ≡ Some (content v))
 
--- no field: members of any names are skipped
+-- the meaning of no fields: members of all names are skipped
 abbrev pub no_fields : FieldsMeaning (Unit {0})
 no_fields = record {
   Content = Unit {0};
@@ -53,7 +53,8 @@ no_fields = record {
   reads_agrees = λ ns ms v. none-given v;
 }
 
--- `closed`: behind the last field no member is left, so each member's name is a field's (`closed-named`)
+-- the meaning of no more fields in a `closed` struct: no member is left, so each member's name is a field's
+-- (`closed-named`)
 abbrev pub closed_end : FieldsMeaning (Unit {0})
 closed_end = record {
   Content = Unit {0};
@@ -71,9 +72,8 @@ closed_end = record {
   reads_agrees = λ ns ms v. closed-given ms v;
 }
 
--- A field, by its mark and its type's meaning, and the later fields. `once`: at most one member has its name. `default`:
--- members with the name mean what they do without the mark (`given-present`), and those without it what they would beside
--- a member of that name with the given tree (`given-missing`).
+-- The meaning of a field and of the later ones, by the meanings m of its type and n. `once` allows it one member at
+-- most; if it is missing, it has the tree `given` (`given-present`, `given-missing`) or the value `absent`.
 abbrev pub field_and : {T V : Type 0} → Bool → Option Tree → Meaning T → Option T → FieldsMeaning V → FieldsMeaning (T × V)
 field_and once given m absent n = record {
   Content = m.Content × n.Content;
@@ -91,7 +91,7 @@ field_and once given m absent n = record {
   reads_agrees = field-given once m (missing_content m given absent) (MissingReads m given absent) (missing-agrees m given absent) n.reads n.from_members n.content n.empty n.reads_agrees;
 }
 
--- aliases: a member of an alias counts as one of its field's name
+-- the meaning of fields, by n, in which a member of an alias is taken as one of its field's name
 abbrev pub with_aliases : {V : Type 0} → List (Name × Name) → FieldsMeaning V → FieldsMeaning V
 with_aliases ps n = record {
   Content = n.Content;
@@ -109,7 +109,7 @@ with_aliases ps n = record {
   reads_agrees = λ names ms v. n.reads_agrees names (with_field_names ps ms) v;
 }
 
--- a struct, by the names and the values of its fields
+-- the meaning of a struct, by the meaning n of its fields and their names; `values` returns the fields' values
 abbrev pub struct_meaning : {V W : Type 0} → FieldsMeaning V → List Name → (W → V) → Meaning W
 struct_meaning n names values =
     meant (λ w. n.content (values w)) (object_of (n.from_members names n.empty)) (StructReads (n.reads names) values)

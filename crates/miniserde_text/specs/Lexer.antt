@@ -1,4 +1,4 @@
--- How contracts see a lexer and its results.
+-- What a contract sees of a lexer, its tokens and its scratch text.
 use Rattle.std.specs.Prelude.{◌≡◌, ℕ, List, ◌∷◌, ◌++◌, Option, Bool, true, false, ⊤}
 use Rattle.std.specs.List.{AllByRecursion}
 use Rattle.miniserde_model.specs.Bytes.{is_special, is_space, StopsAt}
@@ -15,17 +15,17 @@ use Rattle.miniserde_text.specs.declared.json.lex.Event.TheVariants as event
 use Rattle.miniserde_text.specs.declared.json.lex.After.{After}
 use Rattle.miniserde_text.specs.declared.json.lex.After.TheVariants as after
 
--- the rest of the text, and the first error, if there was one
+-- what a contract sees of a lexer: the rest of the text, and the first error, if there was one
 pub record Lexing : Type 0 where
   pub rest : List ℕ
   pub refused : Option Error
 
--- the text itself
+-- the text of a string or of a name: the borrowed one, or else the scratch text
 abbrev pub text_of : Text → List ℕ → List ℕ
 text_of (Input s) scratch = s.now
 text_of Scratch scratch = scratch
 
--- the event that a token begins, with the scratch text
+-- the event of the token; `scratch` is the scratch text, in which a decoded string is
 abbrev pub event_of_token : Event → List ℕ → step.Step
 event_of_token event.Null scratch = step.null
 event_of_token (event.Bool b) scratch = boolean b
@@ -36,48 +36,51 @@ event_of_token (event.Str t) scratch = string (text_of t scratch)
 event_of_token event.SeqStart scratch = seq
 event_of_token event.MapStart scratch = map
 
--- whether a container was closed
+-- whether the container was closed
 abbrev pub is_close : After → Bool
 is_close after.Close = true
 is_close after.Next = false
 
 -- ---- what is borrowed, and what takes memory
 
--- the text contains a backslash
+-- the text x contains a backslash
 abbrev pub HasBackslash : List ℕ → Type 0
 HasBackslash x = (a b : List ℕ) × (x ≡ a ++ 92 ∷ b)
 
--- A borrowed text is the text between the quotes, without a backslash. A decoded one had a backslash there.
+-- Between the quotes of a string stands `inside`: the borrowed text, which then contains no backslash, or, for a
+-- decoded text, bytes that contain one.
 abbrev pub StandsFor : Text → List ℕ → Type 0
 StandsFor (Input x) inside = (inside ≡ x.now) × (HasBackslash inside → ⊥)
 StandsFor Scratch inside = HasBackslash inside
 
--- a string's text is borrowed exactly if it has no backslash
+-- if the token is a string, s begins with it after whitespace, r is the rest, and its text is borrowed if no
+-- backslash is in it, and decoded if one is
 abbrev pub EventStandsFor : Event → List ℕ → List ℕ → Type 0
 EventStandsFor (event.Str t) s r = Stands (Between 34 (StandsFor t) 34) s r
 EventStandsFor _ s r = ⊤
 
--- a name's text is borrowed exactly if it has no backslash
+-- after whitespace, s begins with a name and its colon, r is the rest, and the name's text t is borrowed if no
+-- backslash is in it, and decoded if one is
 abbrev pub NameStandsFor : Text → List ℕ → List ℕ → Type 0
 NameStandsFor t s r = Stands (BeforeColon (Between 34 (StandsFor t) 34)) s r
 
--- a borrowed text leaves the scratch text as it was, with its capacity
+-- if the text is borrowed, the scratch text `new` is `old`, with its capacity
 abbrev pub LeavesScratch : {S : Type 0} → Text → S → S → Type 0
 LeavesScratch (Input x) old new = new ≡ old
 LeavesScratch Scratch old new = ⊤
 
--- each token that is no string leaves the scratch text as it was
+-- unless the token is a string that was decoded, the scratch text `new` is `old`, with its capacity
 abbrev pub EventLeavesScratch : {S : Type 0} → Event → S → S → Type 0
 EventLeavesScratch (event.Str t) old new = LeavesScratch t old new
 EventLeavesScratch _ old new = new ≡ old
 
--- after whitespace a string begins that contains a backslash
+-- after whitespace, s begins with a quote, and then with bytes that need no escape and a backslash
 abbrev pub BeginsEscaped : List ℕ → Type 0
 BeginsEscaped s = (r : List ℕ) × Stands (Between 34 (AllByRecursion (λ c. is_special c ≡ false)) 92) s r
 
 -- ---- whitespace
 
--- s is all whitespace up to r, and r begins with none
+-- the text s is whitespace and then r, which does not begin with whitespace
 pub record Blank (s r : List ℕ) : Type 0 where
   pub space : List ℕ
   pub text : s ≡ space ++ r

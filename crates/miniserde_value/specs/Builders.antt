@@ -1,10 +1,10 @@
--- What a builder has.
+-- The hole that a builder of documents has so far.
 use Rattle.std.specs.Prelude.{map, reverse}
 use Rattle.miniserde_value.specs.declared.json.builder.Builder.{Builder}
 use Rattle.miniserde_value.specs.Hole.{Hole}
 use Rattle.miniserde_value.specs.Values.{shape}
 use Rattle.miniserde_value.specs.Marks.{hole_of}
 
--- the tree with a hole that it has built
+-- the hole that the builder has so far
 abbrev pub hole_in : Builder → Hole
 hole_in b = hole_of (map shape b.values.items) (reverse b.objects.items) (reverse b.marks.items)

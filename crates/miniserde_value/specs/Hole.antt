@@ -1,4 +1,4 @@
--- A tree with a hole, which the open containers are.
+-- Holes: what a builder of documents has so far.
 use Rattle.std.specs.Prelude.{ℕ, ◌+◌, ◌&&◌, Bool, true, false, List, [], ◌∷◌, ◌++◌, Option, Some, None, option_map, option_and_then, is_some, if◌then◌else◌}
 use Rattle.miniserde_model.specs.Tree.{Tree, null, truth, nonneg, neg, num, str, list, members, Members, no_members}
 use Rattle.miniserde_model.specs.Step.{Step, boolean, string, negative, nonnegative, float, seq, element, map, key, finish}
@@ -6,13 +6,14 @@ use Rattle.miniserde_model.specs.Step as step
 use Rattle.miniserde_model.specs.Normal.{last_of, put as put_member}
 use Rattle.miniserde_ser.specs.Trees.{trees_of}
 
--- what is read so far, from the innermost open container outwards
+-- what a builder has so far: its open containers, innermost first, and their complete parts
 pub data Hole : Type 0 where
   -- no container is open, and these values are complete
   outside : List Tree → Hole
-  -- a list that has these items
+  -- a list with these items so far, inside another hole
   in_list : List Tree → Hole → Hole
-  -- an object that has these members in the order of their names, and the name of its next value
+  -- an object with these members so far, in the order of their names, and the name of its next value, inside another
+  -- hole
   in_members : Members → Option (List ℕ) → Hole → Hole
 
 -- the hole after a value is added to its innermost container; in an object it replaces the value of the same name
@@ -22,7 +23,7 @@ put t (in_list ts h) = in_list (ts ++ t ∷ []) h
 put t (in_members ms None h) = in_members ms None h
 put t (in_members ms (Some n) h) = in_members (put_member n t ms) None h
 
--- the hole with the name of the next value, if the innermost open container is an object
+-- the hole with n as the name of the next value, if the innermost open container is an object
 abbrev pub with_name : List ℕ → Hole → Hole
 with_name n (outside ts) = outside ts
 with_name n (in_list ts h) = in_list ts h
@@ -46,12 +47,13 @@ depth (outside ts) = 0
 depth (in_list ts h) = depth h + 1
 depth (in_members ms n h) = depth h + 1
 
--- the value, if there is exactly one
+-- the value of a list of exactly one
 abbrev pub single : List Tree → Option Tree
 single [] = None
 single (t ∷ []) = Some t
 single (t ∷ (u ∷ us)) = None
 
+-- the tree of the hole, if no container is open and exactly one value is complete
 abbrev pub complete_tree : Hole → Option Tree
 complete_tree (outside ts) = single ts
 complete_tree (in_list ts h) = None
@@ -59,7 +61,7 @@ complete_tree (in_members ms n h) = None
 
 -- ---- the hole after events
 
--- the hole after a value's first event
+-- the hole after the event, if it is the first one of a value
 abbrev pub after_begin : Step → Hole → Option Hole
 after_begin step.null h = Some (put null h)
 after_begin (boolean b) h = Some (put (truth b) h)
@@ -73,7 +75,7 @@ after_begin element h = None
 after_begin (key k) h = None
 after_begin finish h = None
 
--- after an event that comes while no value is due: whether a value is due then, and the hole
+-- whether a value is due after the event, and the hole after it, if it is no first event of a value and fits the hole
 abbrev pub after_between : Step → Hole → Option (Bool × Hole)
 after_between element (in_list ts h) = Some (true, in_list ts h)
 after_between (key k) (in_members ms n h) = Some (true, in_members ms (Some k) h)
@@ -81,21 +83,23 @@ after_between finish (in_list ts h) = Some (false, after_close (in_list ts h))
 after_between finish (in_members ms n h) = Some (false, after_close (in_members ms n h))
 after_between _ _ = None
 
--- after one event, by whether a value is due
+-- whether a value is due after the event e, and the hole after it, if e fits; `due` says whether a value is due
+-- before
 abbrev pub after_step : Bool → Hole → Step → Option (Bool × Hole)
 after_step true h e = option_map (λ g. (false, g)) (after_begin e h)
 after_step false h e = after_between e h
 
--- the event is a name that the innermost open object has
+-- whether the event is the name of a member that the innermost open object has
 abbrev pub repeats : Step → Hole → Bool
 repeats (key k) h = has_member k h
 repeats _ h = false
 
--- after one event; with `once`, a repeated name gives nothing
+-- whether a value is due after the event e, and the hole after it, if e fits; with `once`, a duplicate name gives
+-- nothing
 abbrev pub after_step_once : Bool → Bool → Hole → Step → Option (Bool × Hole)
 after_step_once once due h e = if once && repeats e h then None else after_step due h e
 
--- the tree that the events to come give
+-- the tree that the events to come give, from the hole h on; with `once`, a duplicate name gives nothing
 abbrev pub outcome : Bool → Bool → Hole → List Step → Option Tree
 outcome once true h [] = None
 outcome once false h [] = complete_tree h

@@ -1,4 +1,4 @@
--- What a builder has, as a tree with a hole.
+-- The hole of a builder, by its values, its open objects, and a `Mark` for each open container.
 use Rattle.std.specs.Prelude.{ℕ, ◌≤◌, List, [], ◌∷◌, Option, Some, None, option_map, string_bytes, reverse, take, drop, length, ⊤}
 use Rattle.miniserde_model.specs.Tree.{Tree, Members, no_members}
 use Rattle.miniserde_ser.specs.Trees.{members_of}
@@ -11,49 +11,52 @@ use Rattle.miniserde_value.specs.declared.json.builder.Mark.TheVariants as mark
 use Rattle.miniserde_value.specs.Hole.{Hole, outside, in_list, in_members}
 use Rattle.miniserde_value.specs.Values.{shape}
 
--- the members of an open object so far
+-- the members of the open object so far
 abbrev pub made_members : OpenObject → Members
 made_members o = members_of string_bytes shape o.members.entries
 
--- the name of its next value
+-- the name of the open object's next value, if it has come
 abbrev pub next_name : OpenObject → Option (List ℕ)
 next_name o = option_map string_bytes o.name
 
--- the hole of an open object inside another hole
+-- the hole of the open object o inside the hole h
 abbrev pub with_open_object : OpenObject → Hole → Hole
 with_open_object o h = in_members (made_members o) (next_name o) h
 
--- the members and the name of the innermost of open objects, which is the first here, and the others
+-- the members so far of the first of the open objects
 abbrev pub first_members : List OpenObject → Members
 first_members [] = no_members
 first_members (o ∷ os) = made_members o
 
+-- the name of the next value of the first of the open objects, if it has come
 abbrev pub first_name : List OpenObject → Option (List ℕ)
 first_name [] = None
 first_name (o ∷ os) = next_name o
 
+-- the open objects without the first
 abbrev pub outer_objects : List OpenObject → List OpenObject
 outer_objects [] = []
 outer_objects (o ∷ os) = os
 
--- The hole that the open containers are, by the marks from the innermost on: an array has the values from its mark on,
--- and what stands before them belongs to those around it; an object is the first of the open objects.
+-- The hole of the values vs, the open objects os and the open containers ms, innermost first: an array has the values
+-- from its index on, and those before it are in the containers around it; an object is the first of os.
 abbrev pub hole_of : List Tree → List OpenObject → List Mark → Hole
 hole_of vs os [] = outside vs
 hole_of vs os (mark.Array v ∷ ms) = in_list (drop v vs) (hole_of (take v vs) os ms)
 hole_of vs os (mark.Object ∷ ms) = in_members (first_members os) (first_name os) (hole_of vs (outer_objects os) ms)
 
--- each mark of an array is an index of so many values, and each mark of an object has its object
+-- the open containers, innermost first, fit n values and the open objects: an array begins at no later index than the
+-- array inside it, or than n, and each object is one of the open objects
 abbrev pub Fits : ℕ → List OpenObject → List Mark → Type 0
 Fits n os [] = ⊤
 Fits n os (mark.Array v ∷ ms) = (v ≤ n) × Fits v os ms
 Fits n os (mark.Object ∷ ms) = (1 ≤ length os) × Fits n (outer_objects os) ms
 
--- the marks of a builder fit what it has
+-- the open containers ms of a builder fit its values vs and its open objects os
 abbrev pub MarksFit : List Value → List OpenObject → List Mark → Type 0
 MarksFit vs os ms = Fits (length vs) (reverse os) (reverse ms)
 
--- the kind of the innermost open container
+-- the kind of the innermost open container, if one is open
 abbrev pub innermost : Hole → Option Kind
 innermost (outside ts) = None
 innermost (in_list ts h) = Some kind.Seq

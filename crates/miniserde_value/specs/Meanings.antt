@@ -1,4 +1,4 @@
--- What documents mean: which trees mean which of their values.
+-- The meanings of documents: which trees mean which of their values.
 use Rattle.std.specs.Prelude.{◌≡◌, true, Some, string_bytes}
 use Rattle.miniserde_model.specs.Tree.{Tree}
 use Rattle.miniserde_model.specs.Distinct.{names_distinct}
@@ -20,35 +20,35 @@ use Rattle.miniserde_value.specs.laws.Documents.{document-given}
 use Rattle.miniserde_value.specs.laws.Outcomes.{reads-agree, list-agrees, members-agree}
 use Rattle.miniserde_value.specs.laws.Unique.{once-agrees}
 
--- a number's leaf means the number
+-- the meaning of a `Number`: the leaf of a number means that number
 abbrev pub number_meaning : Meaning Number
 number_meaning = meant number_leaf number_of ReadsNumber number-given
 
--- every tree means a value, which retains of each name the last tree
+-- the meaning of a `Value`: every tree means the values whose content is the retained tree
 abbrev pub value_meaning : Meaning Value
 value_meaning = meant shape (λ t. Some (retained_tree t)) ReadsValue (λ t v. reads-agree t (shape v))
 
--- the tree means the array: it is a list, whose items the array has as values keep them
+-- the meaning of an `Array`: a list means the arrays whose content is the retained tree
 abbrev pub json_array_meaning : Meaning Array
 json_array_meaning =
     meant array_shape (λ t. only_list (Some (retained_tree t))) (λ t a. array_shape a ≡ retained_tree t)
     (λ t a. list-agrees t (trees_of shape (array_items a)))
 
--- the tree means the object: it has members, which the object has as values keep them
+-- the meaning of an `Object`: the tree of an object means those whose content is the retained tree
 abbrev pub json_object_meaning : Meaning Object
 json_object_meaning =
     meant object_shape (λ t. only_members (Some (retained_tree t))) (λ t o. object_shape o ≡ retained_tree t)
     (λ t o. members-agree t (members_of string_bytes shape (object_entries o)))
 
--- the tree means the value inside, and no name is duplicated in it
+-- the tree has no duplicate names, and means the value inside u
 abbrev pub ReadsUnique : Tree → Unique → Type 0
 ReadsUnique t u = (names_distinct t ≡ true) × ReadsValue t u.value
 
--- a tree without a duplicate name means the value, which retains the tree
+-- the meaning of a `Unique`: a tree without duplicate names means those whose content is the retained tree
 abbrev pub unique_meaning : Meaning Unique
 unique_meaning = meant (λ u. shape u.value) (retained_if true) ReadsUnique (λ t u. once-agrees t (shape u.value))
 
--- every tree means each document that is written as the tree's normal form
+-- the meaning of a `Document`: every tree means the documents that are written as its normal form
 abbrev pub document_meaning : Meaning Document
 document_meaning =
     meant (λ d. tree_of d.value) (λ t. Some (norm t)) (λ t d. tree_of d.value ≡ norm t)

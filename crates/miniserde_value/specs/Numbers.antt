@@ -1,23 +1,24 @@
--- The leaf of a number.
+-- The leaf of a number, and the number that a leaf means (RFC 8259, section 6).
 use Rattle.std.specs.Prelude.{◌≡◌, Option, Some, None}
 use Rattle.miniserde_model.specs.Tree.{Tree, nonneg, neg, num}
 use Rattle.miniserde_value.specs.declared.json.number.Number.{Number}
 use Rattle.miniserde_value.specs.declared.json.number.Number.TheVariants.{U64, I64, Text}
 
--- The leaf that a number is read from. An `I64` is that of a minus, whatever its sign, and so told from a `U64`.
+-- the leaf that means the number; an `I64` has one with a minus, whatever its sign, which tells it from a `U64`
 abbrev pub number_leaf : Number → Tree
 number_leaf (U64 n) = nonneg n
 number_leaf (I64 z) = neg z
 number_leaf (Text x) = num x
 
--- the leaf of a number gives itself, and any other tree nothing
+-- the tree itself, if it is the leaf of a number
 abbrev pub number_of : Tree → Option Tree
 number_of (nonneg n) = Some (nonneg n)
 number_of (neg z) = Some (neg z)
 number_of (num x) = Some (num x)
 number_of _ = None
 
--- The tree means the number: an integer with no minus is a `U64`, one with it an `I64`, and any other its text.
+-- the tree means the number v: an integer without a minus is a `U64`, one with a minus an `I64`, and a number text a
+-- `Text`
 abbrev pub ReadsNumber : Tree → Number → Type 0
 ReadsNumber (nonneg n) v = v ≡ U64 n
 ReadsNumber (neg z) v = v ≡ I64 z

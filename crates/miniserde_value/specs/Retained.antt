@@ -1,25 +1,27 @@
--- The part of a tree that a `Value` retains: of each name the last member, in the order of the names (RFC 8259, section 4).
+-- The part of a tree that a `Value` retains: of each name the last member, in byte order (RFC 8259, section 4).
 use Rattle.std.specs.Prelude.{Bool, not, ◌||◌, Option, Some, None, if◌then◌else◌}
 use Rattle.std.specs.Prelude.{◌≡◌, true, pos, refl, codes}
 use Rattle.miniserde_model.specs.Tree.{Tree, null, nonneg, neg, Trees, members, Members, no_members, member}
 use Rattle.miniserde_model.specs.Normal.{norm_by, norm_children_by, norm_members_by}
 use Rattle.miniserde_model.specs.Distinct.{names_distinct}
 
--- the normal form, except for the sign of `-0`
+-- the part of the tree that a `Value` retains: the normal form, but with the sign of `-0`
 abbrev pub retained_tree : Tree → Tree
 retained_tree = norm_by neg
 
+-- the retained trees of a list's children
 abbrev pub retained_children : Trees → Trees
 retained_children = norm_children_by neg
 
+-- the retained members of an object: of each name the last one's retained tree, in the order of the names
 abbrev pub retained_members : Members → Members
 retained_members = norm_members_by neg
 
--- the retained tree; with `once`, a tree with a duplicate name gives nothing
+-- the retained tree; with `once`, a tree with duplicate names gives nothing
 abbrev pub retained_if : Bool → Tree → Option Tree
 retained_if once t = if not once || names_distinct t then Some (retained_tree t) else None
 
--- Worked cases: `-0` keeps its sign, and with `once` an object with a duplicate gives nothing.
+-- Worked cases: `-0` keeps its sign, the last of equal names stays, and with `once` duplicate names give nothing.
 abbrev duplicate : Tree
 duplicate = members (member (codes "a") null (member (codes "a") (nonneg 1) no_members))
 

@@ -1,4 +1,4 @@
--- The types that a `Value` holds, as the logic holds them, for the clauses on what a `&mut` lends.
+-- The logic's descriptions of the types that a `Value` holds, for clauses on a `&mut` to one.
 use denote.RattleType.{RattleType}
 use Rattle.std.specs.contracts.alloc.Global as global
 use Rattle.std.specs.contracts.vec.Vec as vec
@@ -10,9 +10,11 @@ use Rattle.std.specs.contracts.impls.StringPartialEq.TheImpl as eq
 use Rattle.std.specs.contracts.impls.StringPartialOrd.TheImpl as partial_ord
 use Rattle.miniserde_value.specs.contracts.json.value.Value.{the_row}
 
+-- the description of the type `Vec<Value>` in the logic
 abbrev pub list_row : RattleType
 list_row = vec.the_row the_row global.the_row ghosts
 
+-- the description of the type `BTreeMap<String, Value>` in the logic
 abbrev pub map_row : RattleType
 map_row =
     tree.the_row (text.the_row global.the_row ghosts) the_row global.the_row (ord.ghosts global.the_row ghosts ord.no_dict ord.no_dict)

@@ -1,4 +1,4 @@
--- Values, as trees.
+-- Values as trees: the parts of a value, and its content.
 use Rattle.std.specs.Prelude.{◌≡◌, List, [], Vec, String, string_bytes}
 use Rattle.std.specs.BTreeMap.{BTreeMap}
 use Rattle.std.specs.Map.{values_of}
@@ -23,32 +23,35 @@ array_items a = a.items.items
 abbrev pub object_entries : Object → List (String Global × Value)
 object_entries o = o.members.entries
 
+-- the values of an object, in the order of their names
 abbrev pub object_values : Object → List Value
 object_values o = values_of (object_entries o)
 
--- the array of a list, and the object of a map
+-- the array of the list vs
 abbrev pub with_items : Vec Value Global → Array
 with_items vs = record { items = vs }
 
+-- the object of the map m
 abbrev pub with_members : BTreeMap (String Global) Value → Object
 with_members m = record { members = m }
 
--- the values right below a value
+-- the values that one level of a value holds
 abbrev pub below : Value-F Value Array Object → List Value
 below (Value-F.Array a) = array_items a
 below (Value-F.Object o) = object_values o
 below _ = []
 
+-- the children of the value
 abbrev pub children : Value → List Value
 children v = below (out-Value v)
 
--- a leaf or an empty container
+-- the value is bare: it is a leaf or an empty container
 abbrev pub IsBare : Value → Type 0
 IsBare v = children v ≡ []
 
 -- ---- the tree of a value
 
--- one level, with trees below it
+-- the tree of one level of a value, whose parts are trees already
 abbrev pub shape_step : Value-F Tree Trees Members → Tree
 shape_step Value-F.Null = null
 shape_step (Value-F.Bool b) = truth b
@@ -57,23 +60,27 @@ shape_step (Value-F.String s) = str (string_bytes s)
 shape_step (Value-F.Array ts) = list ts
 shape_step (Value-F.Object ms) = members ms
 
+-- the children for one level of an array, whose items are trees already
 abbrev pub array_step : Array-F Tree Trees Members → Trees
 array_step a = trees_of (λ t. t) a.items.items
 
+-- the members for one level of an object, whose values are trees already
 abbrev pub object_step : Object-F Tree Trees Members → Members
 object_step o = members_of string_bytes (λ t. t) o.members.entries
 
--- The content of a value: the leaf of each number, and the parts of each container in order.
+-- the content of the value, as a tree: the leaf of each number, and the parts of each container in order
 unfoldable pub shape : Value → Tree
 shape = fold-Value Tree Trees Members shape_step array_step object_step
 
+-- the content of the array, as a tree
 abbrev pub array_shape : Array → Tree
 array_shape a = list (trees_of shape (array_items a))
 
--- the names of an object with the trees of their values, in the order of the names
+-- the names of the object, each with the content of its value, in the order of the names
 abbrev pub object_members : Object → Members
 object_members o = members_of string_bytes shape (object_entries o)
 
+-- the content of the object, as a tree
 abbrev pub object_shape : Object → Tree
 object_shape o = members (object_members o)
 

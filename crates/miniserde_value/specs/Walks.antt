@@ -1,4 +1,4 @@
--- The visits that a walk has left.
+-- The visits that a walk has left, and the order of names in them.
 use Rattle.std.specs.Prelude.{List, [], ◌∷◌, reverse, Option, Some, None, String, string_bytes, ⊤}
 use Rattle.std.specs.Borrow.{Bor}
 use Rattle.std.specs.Slice.Iter.{iter_rest}
@@ -17,7 +17,7 @@ use Rattle.miniserde_value.specs.Numbers.{number_leaf}
 use Rattle.miniserde_value.specs.Values.{shape}
 use Rattle.miniserde_value.specs.Visits.{TreeVisit, leaf, list_begins, element, list_ends, members_begin, name, members_end, visits, child_visits, member_visits, IsOrdered, AreOrdered, AreOrderedMembers}
 
--- a visit, without what it borrows
+-- the visit of the walk, without what it borrows
 abbrev pub visit_of : Visit → TreeVisit
 visit_of visit.Null = leaf null
 visit_of (visit.Bool b) = leaf (truth b)
@@ -30,25 +30,27 @@ visit_of visit.Object = members_begin
 visit_of (visit.Name n) = name n.now
 visit_of visit.ObjectEnd = members_end
 
--- what an open array has left, and then others
+-- the visits of the items that an open array has left, the visit of its end, and then those in `rest`
 abbrev pub items_left : Iter Value → List TreeVisit → List TreeVisit
 items_left it rest = child_visits (trees_of shape (iter_rest it)) (list_ends ∷ rest)
 
--- what an open object has left, and then others
+-- the visits of the members that an open object has left, the visit of its end, and then those in `rest`
 abbrev pub members_left : List (String Global × Value) → List TreeVisit → List TreeVisit
 members_left ms rest = member_visits (members_of string_bytes shape ms) (members_end ∷ rest)
 
--- of all open containers, in lists with the innermost first. Each object takes the first of its own list
+-- the visits that the open containers have left, innermost first; each open object takes its members from the list
+-- `objects`, which has them in the same order
 abbrev pub stack_left : List Frame → List (List (String Global × Value)) → List TreeVisit
 stack_left [] objects = []
 stack_left (frame.Array a ∷ frames) objects = items_left a (stack_left frames objects)
 stack_left (frame.Object ∷ frames) [] = []
 stack_left (frame.Object ∷ frames) (o ∷ objects) = members_left o (stack_left frames objects)
 
+-- the visits that the open containers of the walk have left
 abbrev pub frames_left : Frames → List TreeVisit
 frames_left f = stack_left (reverse f.open.items) (reverse f.objects.items)
 
--- the visits of a child that is due, and then others
+-- the visits of the child that is due, if one is, and then those in `rest`
 abbrev pub due_left : Option (Bor Value) → List TreeVisit → List TreeVisit
 due_left None rest = rest
 due_left (Some v) rest = visits (shape v.now) rest
@@ -59,24 +61,31 @@ left w = due_left w.due (frames_left w.frames)
 
 -- ---- the order of names in what is left
 
+-- in the items that an open array has left, the names of each object strictly rise
 abbrev pub ItemsOrdered : Iter Value → Type 0
 ItemsOrdered it = AreOrdered (trees_of shape (iter_rest it))
 
+-- in the values of the members that an open object has left, the names of each object strictly rise
 abbrev pub MembersOrdered : List (String Global × Value) → Type 0
 MembersOrdered ms = AreOrderedMembers (members_of string_bytes shape ms)
 
+-- in what the open containers have left, the names of each object strictly rise; `objects` has the members that the
+-- open objects have left
 abbrev pub StackOrdered : List Frame → List (List (String Global × Value)) → Type 0
 StackOrdered [] objects = ⊤
 StackOrdered (frame.Array a ∷ frames) objects = ItemsOrdered a × StackOrdered frames objects
 StackOrdered (frame.Object ∷ frames) [] = ⊤
 StackOrdered (frame.Object ∷ frames) (o ∷ objects) = MembersOrdered o × StackOrdered frames objects
 
+-- in what the open containers of the walk have left, the names of each object strictly rise
 abbrev pub FramesOrdered : Frames → Type 0
 FramesOrdered f = StackOrdered (reverse f.open.items) (reverse f.objects.items)
 
+-- in the child that is due, the names of each object strictly rise
 abbrev pub DueOrdered : Option (Bor Value) → Type 0
 DueOrdered None = ⊤
 DueOrdered (Some v) = IsOrdered (shape v.now)
 
+-- in all that the walk has left, the names of each object strictly rise
 abbrev pub LeftOrdered : Walk → Type 0
 LeftOrdered w = DueOrdered w.due × FramesOrdered w.frames

@@ -1,10 +1,10 @@
--- The text that visits write.
+-- The text that the visits of a walk write.
 use Rattle.std.specs.Prelude.{◌≡◌, ◌≤◌, List, ◌++◌, length, false}
 use Rattle.miniserde_ser.specs.Writer.{Writing}
 use Rattle.miniserde_value.specs.Visits.{TreeVisit, visits_text, first_flag_after, AreVisits}
 
--- The writer goes on from one state to another while the fronts that are left get from one list to another: the text so
--- far with that of what is left stays the same, and so does what comes behind all of it.
+-- From `old` to `new`, the writer writes the visits in `before` that are no longer in `after`: the text so far with
+-- the text of the visits left, and the flag `first` after all of them, stay the same.
 pub record Writes (old : Writing) (before : List TreeVisit) (new : Writing) (after : List TreeVisit) : Type 0 where
   pub text : new.text ++ visits_text new.first after ≡ old.text ++ visits_text old.first before
   pub first : first_flag_after new.first after ≡ first_flag_after old.first before

@@ -1,4 +1,4 @@
--- How a draft holds a state, and what it takes.
+-- How a draft holds a state, and what canonical tokens do to a draft.
 use Rattle.std.specs.Prelude.{◌≡◌, ℕ, true, false, List, ◌++◌, length, ⊤}
 use Rattle.miniserde_model.specs.private.Reading.{Moment, due, first, after}
 use Rattle.miniserde_canonical.specs.Token.{Token}
@@ -7,7 +7,7 @@ use Rattle.miniserde_canonical.specs.private.Spreads.{Good}
 use Rattle.miniserde_canonical.specs.private.Sorting.{Chain}
 use Rattle.miniserde_canonical.specs.private.Arranging.{State, Run}
 
--- if rest is left of the input, the text and the run after it are bs
+-- if the input that is left is `rest`, the draft's text and the run of input after it are the bytes bs
 pub record Wrote (d : Draft) (rest bs : List ℕ) : Type 0 where
   pub front : List ℕ
   pub run : List ℕ
@@ -15,19 +15,20 @@ pub record Wrote (d : Draft) (rest bs : List ℕ) : Type 0 where
   pub left : d.left ≡ length (run ++ rest)
   pub text : d.out.bytes.items ++ run ≡ bs
 
--- with the bytes bs for its text, the draft holds the state
+-- if bs are the bytes of the draft's text, the draft holds the state s
 pub record Holding (d : Draft) (bs : List ℕ) (s : State) : Type 0 where
   pub chain : Chain d.members.items s.entries d.groups.bytes.items d.groups.splices.items 0 0 bs d.out.splices.items s.last
   pub good : Good d.groups.splices.items d.out.splices.items
   pub opened : d.opened.items ≡ s.opened
   pub distinct : d.is_distinct ≡ s.distinct
 
+-- if the input that is left is `rest`, the draft holds the state s
 pub record Represents (d : Draft) (rest : List ℕ) (s : State) : Type 0 where
   pub bytes : List ℕ
   pub wrote : Wrote d rest bytes
   pub holding : Holding d bytes s
 
--- nothing changes but the bytes of the text and the run
+-- from d to d' nothing changes but the bytes of the text and the run of input after it
 pub record ChangesOnlyText (d d' : Draft) : Type 0 where
   pub splices : d'.out.splices.items ≡ d.out.splices.items
   pub groups : d'.groups.bytes.items ≡ d.groups.bytes.items
@@ -36,12 +37,13 @@ pub record ChangesOnlyText (d d' : Draft) : Type 0 where
   pub opened : d'.opened.items ≡ d.opened.items
   pub distinct : d'.is_distinct ≡ d.is_distinct
 
--- the flag `first` of the state, by the moment
+-- the flag `first` of the state says whether the moment is the one after an opening bracket, unless a value is due
 abbrev pub Recalls : Moment → State → Type 0
 Recalls due s = ⊤
 Recalls first s = s.first ≡ true
 Recalls after s = s.first ≡ false
 
--- between two moments, and two points of the input, a draft takes tokens
+-- Between the moment m, with `rest` left of the input, and m', with rest' left, the draft takes the canonical tokens
+-- ks: if d holds s, then d' holds a state that is s after ks.
 abbrev pub Takes : Moment → List ℕ → List Token → Moment → List ℕ → Draft → Draft → Type 0
 Takes m rest ks m' rest' d d' = (s : State) → Represents d rest s → Recalls m s → (s' : State) × Run ks s s' × Represents d' rest' s' × Recalls m' s'

@@ -1,4 +1,4 @@
--- How the members of an object are put in order.
+-- How the members of an object that closes are put in order, in a text with splices and in the groups.
 use Rattle.std.specs.Prelude.{◌≡◌, ◌≤◌, ◌+◌, ℕ, Bool, true, List, [], ◌∷◌, ◌++◌, length, take, drop, ⊤}
 use Rattle.miniserde_model.specs.Tree.{Tree, str}
 use Rattle.miniserde_model.specs.Normal.{norm_members}
@@ -11,7 +11,8 @@ use Rattle.miniserde_canonical.specs.private.Names.{name_of}
 use Rattle.miniserde_canonical.specs.private.Members.{begin_of, members_at, without_repeats}
 use Rattle.miniserde_canonical.specs.private.Arranging.{Entry, next_text, entry_members, gap, members_text, count, once_each}
 
--- b and h stand before a member, c and g behind its begin
+-- The member n, which stands for the entry e, splits a text whose bytes bs have indices from `at` on, and whose
+-- splices hs have indices from k on: b and h are before it, and c and g after its begin.
 pub record Seam (n : Member) (e : Entry) (at k : ℕ) (bs : List ℕ) (hs : List Splice) (b c : List ℕ) (h g : List Splice) : Type 0 where
   pub bytes : bs ≡ b ++ (gap e.first ++ c)
   pub splices : hs ≡ h ++ g
@@ -20,7 +21,8 @@ pub record Seam (n : Member) (e : Entry) (at k : ℕ) (bs : List ℕ) (hs : List
   pub begins : n.point.bytes ≡ at + length (b ++ gap e.first)
   pub behind : n.point.splices ≡ k + length h
 
--- Over the groups ms and gs, the bytes from an index on and the splices from an index on hold the texts.
+-- Over the groups ms and gs, the bytes bs, with indices from `at` on, and the splices hs, from k on, hold the text
+-- before each of the entries es, for which the members ns stand, and then `last`.
 abbrev pub Chain : List Member → List Entry → List ℕ → List Splice → ℕ → ℕ → List ℕ → List Splice → List ℕ → Type 0
 Chain [] [] ms gs at k bs hs last = Holds ms gs at bs hs last
 Chain (n ∷ ns) (e ∷ es) ms gs at k bs hs last = (b c : List ℕ) × (h g : List Splice) × Seam n e at k bs hs b c h g × Holds ms gs at b h e.text × Chain ns es ms gs n.point.bytes n.point.splices c g last
@@ -28,6 +30,8 @@ Chain _ _ ms gs at k bs hs last = ⊥
 
 -- ---- the members of one object, at the end of a text
 
+-- over the groups ms and gs, the text of bs and hs ends with the texts of the entries e and es, for which the members
+-- n and ns stand; the last one's text is `last`
 pub record OwnFrom (n : Member) (ns : List Member) (e : Entry) (es : List Entry) (ms : List ℕ) (gs : List Splice) (bs : List ℕ) (hs : List Splice) (last : List ℕ) : Type 0 where
   pub front : List ℕ
   pub inside : List ℕ
@@ -40,22 +44,26 @@ pub record OwnFrom (n : Member) (ns : List Member) (e : Entry) (es : List Entry)
   pub name : name_of n.name ≡ e.name
   pub chain : Chain ns es ms gs n.point.bytes n.point.splices inside splices_inside last
 
+-- over the groups ms and gs, the text of bs and hs ends with the texts of the entries es, for which the members ns
+-- stand, the last one's being `last`; without members it is any text
 abbrev pub Own : List Member → List Entry → List ℕ → List Splice → List ℕ → List Splice → List ℕ → Type 0
 Own [] [] ms gs bs hs last = ⊤
 Own (n ∷ ns) (e ∷ es) ms gs bs hs last = OwnFrom n ns e es ms gs bs hs last
 Own _ _ ms gs bs hs last = ⊥
 
--- the text of the member at an index
+-- the text of the first of the entries, up to the next one or else `last`
 abbrev pub text_at : List Entry → List ℕ → List ℕ
 text_at [] last = []
 text_at (e ∷ es) last = next_text es last
 
+-- the text of the entry at the index i, as a string
 abbrev pub text_tree_at : List Entry → List ℕ → ℕ → Tree
 text_tree_at es last i = str (text_at (drop i es) last)
 
 -- ---- what calls do to the groups and the text
 
--- the groups hold a text behind what they were, and its splices name no later groups than those of bs
+-- groups' are `groups` with bytes and splices appended that hold the text x over the groups ms and gs; if the splices
+-- hs are all for groups before an index, so are the appended ones
 pub record Gains (ms : List ℕ) (gs : List Splice) (hs : List Splice) (groups groups' : Spread) (x : List ℕ) : Type 0 where
   pub bytes : List ℕ
   pub splices : List Splice
@@ -64,13 +72,17 @@ pub record Gains (ms : List ℕ) (gs : List Splice) (hs : List Splice) (groups g
   pub text : Holds ms gs (length groups.bytes.items) bytes splices x
   pub all_before : (n : ℕ) → AllBefore n hs → AllBefore n splices
 
+-- to `groups`, the text of the member of ns at the index i in `out` is appended, with a comma before it unless f is
+-- true
 abbrev pub PutsMember : List Member → ℕ → Bool → Spread → Spread → Spread → Type 0
 PutsMember ns i f out groups groups' = (es : List Entry) (last ms : List ℕ) (gs : List Splice) → Own ns es ms gs out.bytes.items out.splices.items last → Gains ms gs out.splices.items groups groups' (gap f ++ text_at (drop i es) last)
 
+-- to `groups`, the texts of the members of ns at the indices in `order` are appended, without those whose name the
+-- next one has, and with commas between; n is how many these are
 abbrev pub PutsMembers : List Member → List ℕ → Spread → Spread → Spread → ℕ → Type 0
 PutsMembers ns order out groups groups' n = (es : List Entry) (last ms : List ℕ) (gs : List Splice) → Own ns es ms gs out.bytes.items out.splices.items last → Gains ms gs out.splices.items groups groups' (members_text true (without_repeats (members_at ns (text_tree_at es last) order))) × (n ≡ count (without_repeats (members_at ns (text_tree_at es last) order)))
 
--- from a point on, the text holds another
+-- out' is `out` up to the point, and then holds the text x over groups', which begin with ms and gs
 pub record PutAt (point : Point) (ms : List ℕ) (gs : List Splice) (out out' groups' : Spread) (x : List ℕ) : Type 0 where
   pub bytes : List ℕ
   pub splices : List Splice
@@ -83,8 +95,11 @@ pub record PutAt (point : Point) (ms : List ℕ) (gs : List Splice) (out out' gr
   pub text : Holds groups'.bytes.items groups'.splices.items point.bytes bytes splices x
   pub good : Good gs out.splices.items → Good groups'.splices.items out'.splices.items
 
+-- out' is `out` up to `point`, and then holds the text that `groups` have from the point `from` on
 abbrev pub PutsBack : Point → Point → Spread → Spread → Spread → Spread → Type 0
 PutsBack point from out out' groups groups' = (ms b : List ℕ) (gs h : List Splice) (x : List ℕ) → groups.bytes.items ≡ ms ++ b → groups.splices.items ≡ gs ++ h → from.bytes ≡ length ms → from.splices ≡ length gs → point.bytes ≤ length out.bytes.items → Holds ms gs (length ms) b h x → (AllBefore (length gs) out.splices.items → AllBefore (length gs) h) → PutAt point ms gs out out' groups' x
 
+-- out' is `out`, which ends with the text of the members ns, with that text in normal form; b says whether no two of
+-- their names are equal
 abbrev pub SortsMembers : List Member → Spread → Spread → Spread → Spread → Bool → Type 0
 SortsMembers ns out out' groups groups' b = (es : List Entry) (last : List ℕ) → Own ns es groups.bytes.items groups.splices.items out.bytes.items out.splices.items last → PutAt (begin_of ns (record { bytes = 0; splices = 0 })) groups.bytes.items groups.splices.items out out' groups' (members_text true (norm_members (entry_members es last))) × (b ≡ once_each (entry_members es last))

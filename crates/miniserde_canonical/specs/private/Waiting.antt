@@ -1,21 +1,23 @@
--- The spans of groups that wait to be written, the last to come first.
+-- The spans of groups that wait to be written; the last of them is written first.
 use Rattle.std.specs.Prelude.{◌≡◌, ◌-◌, ◌+◌, ◌^◌, ℕ, List, [], ◌∷◌, ◌++◌}
 use Rattle.miniserde_canonical.specs.declared.spread.Span.{Span}
 use Rattle.miniserde_canonical.specs.declared.spread.Splice.{Splice}
 use Rattle.miniserde_canonical.specs.private.Spreads.{Holds, Within, bytes_in, splices_in}
 
--- a span of the groups holds the text
+-- the span p of the groups ms and gs holds the text x
 abbrev pub SpanHolds : List ℕ → List Splice → Span → List ℕ → Type 0
 SpanHolds ms gs p x = Within p ms gs × Holds ms gs p.from.bytes (bytes_in p ms) (splices_in p gs) x
 
+-- the spans of the groups ms and gs hold the text x, if they are written from the last one to the first
 abbrev pub Waits : List ℕ → List Splice → List Span → List ℕ → Type 0
 Waits ms gs [] x = x ≡ []
 Waits ms gs (p ∷ ps) x = (y z : List ℕ) × Waits ms gs ps y × SpanHolds ms gs p z × (x ≡ y ++ z)
 
--- A bound on the calls that a span takes: each splice counts for more than all splices before it.
+-- a bound on the calls that write the span: each splice counts for more than all splices before it
 abbrev pub span_measure : Span → ℕ
 span_measure p = 1 + (2 ^ (1 + p.to.splices) - 2 ^ (1 + p.from.splices))
 
+-- a bound on the calls that write the spans
 abbrev pub spans_measure : List Span → ℕ
 spans_measure [] = 0
 spans_measure (p ∷ ps) = span_measure p + spans_measure ps

@@ -1,4 +1,4 @@
--- The kinds of documents.
+-- The meanings of arrays, objects and documents that one place reads from events.
 use Rattle.std.proofs.Common.{◌≡◌, Bool, true, false, List, [], ◌∷◌, Option, Some, option_map, refl, ap, ◌∙◌}
 use Rattle.miniserde_model.specs.Tree.{Tree, list, members}
 use Rattle.miniserde_model.specs.Step.{Step, seq, map, events}
@@ -14,11 +14,12 @@ use Rattle.miniserde_value.specs.laws.Outcomes.{outcome-whole}
 use Rattle.miniserde_value.proofs.RetainedTrees.{norm_kept}
 use Rattle.miniserde_de.specs.Kinds.{Kind, from_first, kind_outcome}
 
--- the event begins a list, or an object
+-- whether the event opens an array
 abbrev pub is_seq : Step → Bool
 is_seq seq = true
 is_seq _ = false
 
+-- whether the event opens an object
 abbrev pub is_map : Step → Bool
 is_map map = true
 is_map _ = false
@@ -38,14 +39,16 @@ any_first (e ∷ es) o = refl
 pub document-whole : (t : Tree) → option_map norm (kind_outcome (λ e. true) true (outside []) (events t)) ≡ Some (norm t)
 document-whole t = ap (option_map norm) (any_first (events t) _ ∙ outcome-whole t) ∙ ap (λ (z : Tree). Some z) (norm_kept t)
 
--- arrays begin as lists, and have their items as values keep them
+-- the meaning of an `Array`: its first event opens an array, and its content is the retained tree, which is a list
 abbrev pub lists : Kind Array
 lists = record { meant = json_array_meaning; begins = is_seq; only = only_list; none = refl; whole = list-whole }
 
--- objects begin as maps, and have their members as values keep them
+-- the meaning of an `Object`: its first event opens an object, and its content is the retained tree, which is an
+-- object
 abbrev pub objects : Kind Object
 objects = record { meant = json_object_meaning; begins = is_map; only = only_members; none = refl; whole = members-whole }
 
--- every tree means each document that is written as the tree's normal form
+-- the meaning of a `Document`: any event may be its first one, and its content is the normal form of the retained
+-- tree
 abbrev pub documents : Kind Document
 documents = record { meant = document_meaning; begins = λ e. true; only = option_map norm; none = refl; whole = document-whole }

@@ -1,4 +1,4 @@
--- A tree means a variant exactly where it gives the variant's content.
+-- A tree means a value of an enum exactly if it gives the value's content.
 use Rattle.std.proofs.Common.{◌≡◌, Bool, true, false, cond, not, ◌&&◌, List, [], ◌∷◌, Option, Some, None, refl, sym, ap, subst}
 use Rattle.std.specs.Prelude.{◌↔◌, option_map, option_and_then, bytes_eq}
 use Rattle.std.proofs.lemmas.Slice.Eq.{bytes_eq-Decides}
@@ -37,7 +37,7 @@ pub cond-some : {C : Type 0} (b : Bool) (x : Option C) (c : C) → cond b x None
 cond-some true x c e = (refl, e)
 cond-some false x c e = absurd (cc)
 
--- what the first variant gives alone
+-- the content that `given` returns for the data o, if the name k is n
 abbrev pub alone : {C : Type 0} → (Option Tree → Option C) → Name → Name → Option Tree → Option C
 alone given n k o = cond (bytes_eq k n) (given o) None
 

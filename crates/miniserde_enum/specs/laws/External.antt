@@ -1,4 +1,4 @@
--- A tree is a variant by the words exactly where it has the variant's name and data.
+-- A tree is an externally tagged variant by `IsExternal` exactly if `external_variant` returns its name and data.
 use Rattle.std.proofs.Common.{◌≡◌, Option, Some, None, refl, ap}
 use Rattle.std.specs.Prelude.{◌↔◌}
 use Rattle.std.proofs.lemmas.Option.{same_Some}
@@ -6,6 +6,7 @@ use Rattle.miniserde_model.specs.Tree.{Tree, str, members, no_members, member}
 use Rattle.miniserde_read.specs.types.Objects.{Name}
 use Rattle.miniserde_enum.specs.External.{IsExternal, external_variant}
 
+-- the name of a variant, and its data if it has any
 abbrev Found : Type 0
 Found = Name × Option Tree
 

@@ -1,4 +1,4 @@
--- A tree is a variant by the words exactly where its tag and its other members are the variant's name and data.
+-- A tree is an internally tagged variant by `IsInternal` exactly if `internal_variant` returns its name and data.
 use Rattle.std.proofs.Common.{◌≡◌, false, List, Option, Some, None, refl, sym, ap, ◌∙◌}
 use Rattle.std.specs.Prelude.{◌↔◌, ℕ, option_map, option_and_then}
 use Rattle.std.specs.Option.{option_or}
@@ -12,9 +12,11 @@ use Rattle.miniserde_record.specs.Fields.{others, last_given, Says}
 use Rattle.miniserde_record.specs.laws.Meanings.{read-given, given-read}
 use Rattle.miniserde_enum.specs.Internal.{IsInternal, tag_of, internal_variant}
 
+-- the name of a variant, and its data if it has any
 abbrev Found : Type 0
 Found = Name × Option Tree
 
+-- the meaning of a name: the string of a name means it
 abbrev names : Meaning (List ℕ)
 names = string_meaning (λ s. s)
 
@@ -29,7 +31,7 @@ flat : (o : Option (Option Name)) → option_and_then (λ o. option_or o None) o
 flat None = refl
 flat (Some o) = or-none o
 
--- the tag is a string by the words exactly where it is the last one
+-- each member of the tag's name is a string and the last one is n, exactly if `tag_of` returns n
 pub tag-agrees : (tag n : Name) (ms : Members) → Says ⊥ (λ t. t ≡ str n) string_of tag ms ↔ (tag_of tag ms ≡ Some n)
 tag-agrees tag n ms =
     let o = last_given false string_of tag None ms in (

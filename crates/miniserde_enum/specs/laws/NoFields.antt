@@ -1,4 +1,4 @@
--- An object gives the one content.
+-- A tree gives content to a variant without fields exactly if it is an object.
 use Rattle.std.proofs.Common.{◌≡◌, Some, refl}
 use Rattle.std.specs.Prelude.{◌↔◌}
 use Rattle.miniserde_model.specs.Tree.{Tree, members}

@@ -1,4 +1,4 @@
--- A tree is a variant by the words exactly where it has the variant's name and data.
+-- A tree is a variant by `IsCase` exactly if `case_of` returns the variant's name and data.
 use Rattle.std.specs.Prelude.{◌≡◌, ◌↔◌, Option, Some}
 use Rattle.miniserde_model.specs.Tree.{Tree}
 use Rattle.miniserde_read.specs.types.Objects.{Name}

@@ -22,7 +22,7 @@ use mir.Syntax.{Width, w8, w16, w32, w64, w128}
 use mir.Val.{hbits}
 use Rattle.miniserde_keys.specs.Keys.{Key, of_nat, of_int, of_bool, bool_text, read_bool, single_char, read_char, are_digits_below, read_digits, read_unsigned, read_signed}
 
--- the law of a type of keys: the text of a valid key is parsed as an equal key that is valid
+-- the text of each valid key is parsed as a valid key that is equal to it: one with the same code
 abbrev pub ReadsBack : {K : Type 0} → (K → Type 0) → (K → Key) → (Key → Key) → (List ℕ → Option Key) → (K → List ℕ) → Type 0
 ReadsBack {K} real content code read text =
     (k : K) → real k → (w : K) × real w × (read (text k) ≡ Some (content w)) × (code (content w) ≡ code (content k))
@@ -79,7 +79,7 @@ digits_decide limit ds =
     (Decides-and _ _ (Decides-ltb 0 (length ds))
     (Decides-and _ _ (λ e. e, λ e. e) (Decides-ltb (digits_value 10 ds) limit)))
 
--- k is the code where P holds, and otherwise nothing
+-- k is the code if P holds, and nothing if P does not hold
 abbrev ReadsIf : Type 0 → Option (List ℕ) → List ℕ → Type 0
 ReadsIf P k code = (P × (k ≡ Some code)) ⊎ (¬ P × (k ≡ None))
 
@@ -87,7 +87,8 @@ reads_if : {P : Type 0} (b : Bool) (code : List ℕ) → Decides b P → ReadsIf
 reads_if true code d = inl (d.0 refl, refl)
 reads_if false code d = inr (λ p. true≢false (sym (d.1 p)), refl)
 
--- the range R of the number is told by the limit
+-- if R says that the number of the digits is below the limit, then they are read exactly if they are digits and R
+-- holds
 digits_read : (limit : ℕ) (code : ℕ → List ℕ) (ds : List ℕ) (R : Type 0) → (R → digits_value 10 ds < limit)
     → (digits_value 10 ds < limit → R)
     → ReadsIf (IsNumeral 10 ds × R) (read_digits limit code ds) (code (digits_value 10 ds))
@@ -95,7 +96,7 @@ digits_read limit code ds R to from =
     reads_if (are_digits_below limit ds) _
     (Decides-like _ (λ d. (d.0, from d.1)) (λ d. (d.0, to d.1)) (digits_decide limit ds))
 
--- the digits of a number are read as it, and no sign stands before them
+-- the digits of a number below the limit are read as that number
 decimal_some : (limit : ℕ) (code : ℕ → List ℕ) (n : ℕ) → n < 2 ^ 64 → n < limit
     → read_digits limit code (decimal n) ≡ Some (code n)
 decimal_some limit code n h k =
@@ -142,11 +143,11 @@ fits_negated : (w : Width) (n : ℕ) → FitsSigned w (neg_ℤ (pos n)) → n < 
 fits_negated w zero h = omega arith
 fits_negated w (suc n) h = omega (arith, h.sfits)
 
--- the number that digits write after a `-`, and after none
+-- the number that the digits ds are, negated if a `-` stands before them
 abbrev signed_by : Bool → List ℕ → ℤ
 signed_by minus ds = cond minus (neg_ℤ (pos (digits_value 10 ds))) (pos (digits_value 10 ds))
 
--- what is read after a `-` from ds, and after none from ps
+-- the content of the number that is read: from ds if a `-` stands before the digits, and else from ps
 abbrev read_by : Width → Bool → List ℕ → List ℕ → Option (List ℕ)
 read_by w minus ds ps =
     cond minus (read_digits (2 ^ hbits w + 1) (λ n. of_int (neg_ℤ (pos n))) ds)
@@ -160,6 +161,7 @@ reads_by w true ds ps =
 reads_by w false ds ps =
     digits_read (2 ^ hbits w) (λ n. of_int (pos n)) ps _ (λ f. f.sfits) (λ h. record { sfits = h })
 
+-- the text bs is read as its number, if it is digits after a sign or none and the number fits the type
 abbrev ReadsSigned : ℕ → Width → List ℕ → Type 0
 ReadsSigned bits w bs =
     ReadsIf (IsNumeral 10 (without_leading_sign bs) × FitsSigned w (signed_digits_value 10 bs))
@@ -194,7 +196,7 @@ signed-back bits w e wide (negsuc n) h =
     let own = decimal_some (2 ^ hbits w + 1) (λ n. of_int (neg_ℤ (pos n))) (suc n) (omega arith) (omega arith) in
     (negsuc n, h, rw (sym e) own, refl)
 
--- for `from_key` of integers
+-- the lemmas for `from_key` of integers
 pub ruleset integer_reads = (unsigned_reads, signed8, signed16, signed32, signed64, to_z-of_z)
 
 -- ---- characters
@@ -224,5 +226,5 @@ char_none bs h = elim (is_utf8 bs) as (λ b. is_utf8 bs ≡ b → cond b (single
   | false ↦ λ t. refl
 ] refl
 
--- for `from_key` of `char`
+-- the lemmas for `from_key` of `char`
 pub ruleset char_reads = (char_some, char_none)

@@ -1,4 +1,4 @@
--- The rest of a text inside open containers, for contracts and invariants of readers.
+-- The rest of a text inside open containers, and the events that it spells.
 use Rattle.std.specs.Prelude.{◌≡◌, ℕ, List, [], ◌∷◌, ◌++◌}
 use Rattle.miniserde_model.specs.Ascii.{begin_array, end_array, begin_object, end_object, value_separator}
 use Rattle.miniserde_model.specs.Tree.{null, truth, nonneg, neg, num, str}
@@ -10,13 +10,13 @@ use Rattle.miniserde_model.specs.Lexing.{IsByte, IsName}
 use Rattle.miniserde_model.specs.declared.kind.Kind.{Kind}
 use Rattle.miniserde_model.specs.declared.kind.Kind.TheVariants.{Seq, Map}
 
--- a value is due; a container was just opened; a value just ended
+-- where a reader stands: a value is due, a container was just opened, or a value just ended
 pub data Moment : Type 0 where
   due : Moment
   first : Moment
   after : Moment
 
--- whitespace, P's piece, and what K says of the rest
+-- the bytes b are whitespace, then `part`, of which P holds, then `rest`, of which K holds
 pub record StandsThen (P K : List ℕ → Type 0) (b : List ℕ) : Type 0 where
   pub space : List ℕ
   pub part : List ℕ
@@ -26,7 +26,7 @@ pub record StandsThen (P K : List ℕ → Type 0) (b : List ℕ) : Type 0 where
   pub is_part : P part
   pub is_rest : K rest
 
--- the bytes are the rest of a text with these events, from the moment on and with these containers open
+-- from the moment on, inside the open containers st (innermost first), the text b spells the events and closes all
 abbrev pub Spells : Moment → List Step → List Kind → List ℕ → Type 0
 Spells due (step.null ∷ es) st b = StandsThen (IsValue null) (Spells after es st) b
 Spells due (boolean x ∷ es) st b = StandsThen (IsValue (truth x)) (Spells after es st) b

@@ -1,5 +1,5 @@
--- How an engine moves on in the middle of a text, with its place. m, st and s: the moment, the open containers, and the
--- rest of the text. at and k: the place's position and outcome.
+-- How an engine goes on in the middle of a text, with the place that it hands events to.
+-- m, st and s: the moment, the open containers and the rest of the text; at and k: the place's position and outcome.
 use Rattle.std.specs.Prelude.{◌≡◌, ℕ, List, ◌++◌, Option, None}
 use Rattle.miniserde_model.specs.Step.{Step}
 use Rattle.miniserde_model.specs.Position.{Position, Completes}
@@ -8,18 +8,18 @@ use Rattle.miniserde_model.specs.private.Reading.{Moment, Spells}
 use Rattle.miniserde_read.specs.private.Runs.{Runs, Consumes}
 use Rattle.miniserde_place.specs.Place.{PositionAdvancesBy}
 
--- Some text spells the events.
+-- from the moment m on, inside the open containers st, some text spells the events and closes all
 abbrev pub Spellable : Moment → List Step → List Kind → Type 0
 Spellable m es st = (b : List ℕ) × Spells m es st b
 
--- Some events are passed in the text, and lead the place. Whatever some text spells behind them, some text spells with
--- them, also where the rest of this text spells nothing.
+-- From s to s' the text spells some events, by which the place advances. If some text spells further events from m'
+-- on, then some text spells those events and the further ones from m on.
 pub record Moved {C : Type 0} (m : Moment) (st : List Kind) (s : List ℕ) (at : Position) (k : List Step → Option C) (m' : Moment) (st' : List Kind) (s' : List ℕ) (at' : Position) (k' : List Step → Option C) : Type 0 where
   pub done : List Step
   pub passed : Consumes m st s done m' st' s'
   pub leads : PositionAdvancesBy at k done at' k'
   pub spellable : (es : List Step) → Spellable m' es st' → Spellable m (done ++ es) st
 
--- No events that a beginning of the text spells give a value.
+-- the outcome k is nothing for all events that a prefix of the text s spells and that complete the position `at`
 abbrev pub RunsBarred : {C : Type 0} → Moment → List Kind → List ℕ → (List Step → Option C) → Position → Type 0
 RunsBarred m st s k at = (es : List Step) (r : List ℕ) → Runs m es st s r → Completes at es → k es ≡ None

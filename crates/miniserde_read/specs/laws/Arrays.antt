@@ -9,7 +9,7 @@ use Rattle.miniserde_read.specs.laws.Lists.{list-given}
 use Rattle.miniserde_read.specs.types.Arrays.{ArrayReads, exactly, array_of}
 
 module _ {C : Type 0} (n : ℕ) where
-  -- exactly n items are themselves, and any other number is nothing
+  -- `exactly` returns a list of n items, and nothing for any other list
   exactly-some : (xs : List C) → length xs ≡ n → exactly n xs ≡ Some xs
   exactly-some xs e = let b : nat_eq (length xs) n ≡ true = grind (arith, nat_tests) in rw b refl
 

@@ -9,13 +9,14 @@ use Rattle.miniserde_read.specs.types.Maps.{key_at, first_and_last, first_and_la
 
 -- ---- what the tree means
 
--- what the members at a code give, or what is there without them
+-- the entry after the members of a code: o if there is none, and else the first key with the content for the last
+-- tree
 abbrev pub given_at : {C : Type 0} → (Tree → Option C) → Option (Key × C) → Option (Key × Tree) → Option (Key × C)
 given_at of o None = o
 given_at of o (Some p) = option_map (λ d. (present_key_or o p.0, d)) (of p.1)
 
 module _ {C : Type 0} (read : Name → Option Key) (code : Key → Key) (of : Tree → Option C) where
-  -- one more member in front of others
+  -- a member in front of others gives its entry first, and the others change it
   given-later : (m : Entries C) (c : Key) (t : Tree) (d : C) (q : Key) (o : Option (Key × Tree)) → of t ≡ Some d → given_at of (with_entry code m c d q) o ≡ given_at of (m q) (first_and_last (cond (bytes_eq (code c) q) (Some c) None) t o)
   given-later m c t d q (Some p) e = elim (bytes_eq (code c) q) as (λ b. option_map (λ x. (present_key_or (cond b (Some (present_key_or (m q) c, d)) (m q)) p.0, x)) (of p.1) ≡ given_at of (m q) (first_and_last (cond b (Some c) None) t (Some p))) [ true ↦ refl | false ↦ refl ]
   given-later m c t d q None e = elim (bytes_eq (code c) q) as (λ b. cond b (Some (present_key_or (m q) c, d)) (m q) ≡ given_at of (m q) (first_and_last (cond b (Some c) None) t None)) [ true ↦ ap (option_map {U = Key × C} (λ x. (present_key_or (m q) c, x))) (sym e) | false ↦ refl ]
@@ -42,7 +43,7 @@ module _ {C : Type 0} (read : Name → Option Key) (code : Key → Key) (of : Tr
         ]
       ] e
 
-  -- a tree that was met is one of the members'
+  -- if all members are accepted, the last tree of a code gives a content
   pub met-taken : (q : Key) (ms : Members) (p : Key × Tree) → AllAccepted read of ms → first_and_last_at read code q ms ≡ Some p → IsSome (of p.1)
   met-taken q no_members p h e = absurd (cc)
   met-taken q (member k u ms) p h e =
@@ -54,7 +55,7 @@ module _ {C : Type 0} (read : Name → Option Key) (code : Key → Key) (of : Tr
         ] refl
       ] e
 
-  -- what the members give to an empty map
+  -- if all members are accepted, the map has for each code the first key and the content for the last tree
   pub map-taken : (ms : Members) → AllAccepted read of ms → map_of read code of (members ms) ≡ Some (λ q. given_at of None (first_and_last_at read code q ms))
   map-taken ms h = given-taken no_key ms h
 

@@ -4,7 +4,7 @@ use Rattle.std.specs.Prelude.{◌≢◌, ◌↔◌, option_map}
 use Rattle.miniserde_model.specs.Tree.{Tree, null}
 use Rattle.miniserde_read.specs.types.Options.{OptionReads, option_of}
 
--- a tree that is not null gives some value, and it is the one that the inner place gives
+-- a tree that is not null gives `Some` of the content that it gives for the inner type
 module _ {T C : Type 0} (content : T → C) where
   some-given : (o : Option C) (x : T) → o ≡ Some (content x) → option_map Some o ≡ Some (Some (content x))
   some-given o x e = ap (option_map Some) e

@@ -5,7 +5,7 @@ use Rattle.miniserde_model.specs.Tree.{Tree, list, no_trees, tree}
 use Rattle.miniserde_read.specs.types.Pairs.{PairReads, both, pair_of}
 
 module _ {A B : Type 0} where
-  -- where the pair is there, each part is
+  -- if the pair is there, both of its parts are
   pub both-some : (o : Option A) (p : Option B) (a : A) (b : B) → both (o, p) ≡ Some (a, b) → (o ≡ Some a) × (p ≡ Some b)
   both-some None p a b e = absurd (cc)
   both-some (Some x) None a b e = absurd (cc)

@@ -1,4 +1,4 @@
--- How a text goes on event by event, with no tree: for an engine that reads a value from the middle of a text.
+-- How a text goes on event by event, for an engine that reads a value from the middle of a text on.
 use Rattle.std.specs.Prelude.{◌≡◌, ℕ, true, false, is_some, List, [], ◌∷◌, ◌++◌}
 use Rattle.miniserde_model.specs.Step.{Step, element, key, finish}
 use Rattle.miniserde_model.specs.Lexing.{Starts, Names, Follows}
@@ -8,7 +8,7 @@ use Rattle.miniserde_model.specs.private.Reading.{Moment, due, first, after}
 use Rattle.miniserde_text.specs.private.Stack.{with_opened}
 use Rattle.miniserde_text.specs.private.Moving.{opened_kind, before_child, IsLive}
 
--- From the moment and the open containers the text between s and r spells the events, and at r all is closed.
+-- from the moment on, inside the open containers st, the text from s to r spells the events, and they close all
 abbrev pub Runs : Moment → List Step → List Kind → List ℕ → List ℕ → Type 0
 Runs due (e ∷ es) st s r = (b : List ℕ) × Starts s e b × Runs (before_child (is_some (opened_kind e))) es (with_opened (opened_kind e) st) b r
 Runs first (element ∷ es) (Seq ∷ st) s r = (b : List ℕ) × Follows Seq true false s b × Runs due es (Seq ∷ st) b r
@@ -20,18 +20,19 @@ Runs after (key n ∷ es) (Map ∷ st) s r = (b c : List ℕ) × Follows Map fal
 Runs after (finish ∷ es) (k ∷ st) s r = (b : List ℕ) × Follows k false true s b × Runs after es st b r
 Runs _ _ _ _ _ = ⊥
 
--- From m and st the text between s and s' spells the events done and leads to m' and st', and no other events begin
--- what s spells.
+-- Between m, with the open containers st, and m', with st', the text from s to s' spells the events `done`. All
+-- events that s spells until all is closed begin with them.
 pub record Consumes (m : Moment) (st : List Kind) (s : List ℕ) (done : List Step) (m' : Moment) (st' : List Kind) (s' : List ℕ) : Type 0 where
   pub on : (es : List Step) (r : List ℕ) → Runs m' es st' s' r → Runs m (done ++ es) st s r
   pub back : (es : List Step) (r : List ℕ) → Runs m es st s r → (rest : List Step) × (es ≡ done ++ rest) × Runs m' rest st' s' r
   pub live : IsLive m' st'
 
--- some events are passed
+-- between m, with the open containers st, and m', with st', the text from s to s' spells some events as `Consumes`
+-- says
 pub record Reaches (m : Moment) (st : List Kind) (s : List ℕ) (m' : Moment) (st' : List Kind) (s' : List ℕ) : Type 0 where
   pub done : List Step
   pub passed : Consumes m st s done m' st' s'
 
--- From m and st no beginning of the text spells events that close all.
+-- from m on, inside the open containers st, no prefix of the text s spells events that close all
 abbrev pub NeverRuns : Moment → List Kind → List ℕ → Type 0
 NeverRuns m st s = (es : List Step) (r : List ℕ) → Runs m es st s r → ⊥

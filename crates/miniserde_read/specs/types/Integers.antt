@@ -1,28 +1,28 @@
--- Which trees mean which integers, for a type of a given number of bits (RFC 8259, section 6).
+-- The integers that trees mean, for a type of a given number of bits (RFC 8259, section 6).
 use Rattle.std.specs.Prelude.{◌≡◌, ◌<◌, ◌-◌, ◌^◌, ℕ, ℤ, pos, negsuc, Bool, true, Option, Some, None, nat_lt, if◌then◌else◌, refl}
 use Rattle.miniserde_model.specs.Tree.{Tree, nonneg, neg}
 
--- at least - 2 ^ (bits - 1), and below 2 ^ (bits - 1)
+-- whether the integer is at least - 2 ^ (bits - 1) and below 2 ^ (bits - 1)
 abbrev pub fits_signed : ℕ → ℤ → Bool
 fits_signed bits (pos n) = nat_lt n (2 ^ (bits - 1))
 fits_signed bits (negsuc n) = nat_lt n (2 ^ (bits - 1))
 
--- an unsigned type takes no integer that is written with a minus
+-- the integer that the tree is, if it is written without a minus and is below 2 ^ bits
 abbrev pub unsigned_of : ℕ → Tree → Option ℤ
 unsigned_of bits (nonneg n) = if nat_lt n (2 ^ bits) then Some (pos n) else None
 unsigned_of bits _ = None
 
--- a signed type takes both
+-- the integer that the tree is, with a minus or without, if it fits a signed type of so many bits
 abbrev pub signed_of : ℕ → Tree → Option ℤ
 signed_of bits (nonneg n) = if fits_signed bits (pos n) then Some (pos n) else None
 signed_of bits (neg z) = if fits_signed bits z then Some z else None
 signed_of bits _ = None
 
--- the tree means the unsigned number: it is that number, written without a minus, and in range
+-- the tree is the number n, written without a minus, and n is below 2 ^ bits
 abbrev pub ReadsUnsigned : ℕ → Tree → ℕ → Type 0
 ReadsUnsigned bits t n = (t ≡ nonneg n) × (n < 2 ^ bits)
 
--- the tree means the signed number: it is that number, and in range
+-- the tree is the integer z, with a minus or without, and z fits a signed type of so many bits
 abbrev pub ReadsSigned : ℕ → Tree → ℤ → Type 0
 ReadsSigned bits (nonneg n) z = (pos n ≡ z) × (fits_signed bits z ≡ true)
 ReadsSigned bits (neg m) z = (m ≡ z) × (fits_signed bits z ≡ true)

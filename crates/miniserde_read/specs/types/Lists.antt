@@ -1,25 +1,26 @@
--- The lists that trees mean: an array, whose elements mean the items in order (RFC 8259, section 5).
+-- The lists that trees mean: each child of a list means an item, in order (RFC 8259, section 5).
 use Rattle.std.specs.Prelude.{List, [], ◌∷◌, Option, Some, None, option_and_then, ⊤, ◌≡◌, Bool, true, refl}
 use Rattle.miniserde_model.specs.Tree.{Tree, list, Trees, no_trees, tree, null, truth}
 use Rattle.miniserde_read.specs.types.Words.{boolean_of}
 
--- there are as many items as children, and each child means the item at its index
+-- there are as many items as children, and by R each child means the item at its index
 abbrev pub EachReads : {T : Type 0} → (Tree → T → Type 0) → Trees → List T → Type 0
 EachReads R no_trees [] = ⊤
 EachReads R no_trees (x ∷ xs) = ⊥
 EachReads R (tree t ts) [] = ⊥
 EachReads R (tree t ts) (x ∷ xs) = R t x × EachReads R ts xs
 
--- the tree is a list, and its children mean the items
+-- the tree is a list, there are as many items as children, and by R each child means the item at its index
 abbrev pub ListReads : {T : Type 0} → (Tree → T → Type 0) → Tree → List T → Type 0
 ListReads R (list ts) xs = EachReads R ts xs
 ListReads R _ xs = ⊥
 
--- the list of the children's contents, if each child gives one
+-- the contents that f returns for the children, in order, if it returns one for each
 abbrev pub each : {C : Type 0} → (Tree → Option C) → Trees → Option (List C)
 each f no_trees = Some []
 each f (tree t ts) = option_and_then (λ x. option_and_then (λ xs. Some (x ∷ xs)) (each f ts)) (f t)
 
+-- the contents that f returns for the children of a list, in order, if it returns one for each
 abbrev pub list_of : {C : Type 0} → (Tree → Option C) → Tree → Option (List C)
 list_of f (list ts) = each f ts
 list_of f _ = None

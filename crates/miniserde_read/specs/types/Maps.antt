@@ -1,4 +1,5 @@
--- Maps, and what a map's tree means. What equality looks at of a key is its code; content is all that counts of it.
+-- The maps that trees mean: objects whose names are read as keys (RFC 8259, section 4).
+-- `read` returns the content of the key that a name is read as, and `code` the part of a key that `Eq` compares.
 use Rattle.std.specs.Prelude.{List, [], ◌∷◌, Option, Some, None, option_and_then, option_map, IsSome, bytes_eq, ◌≡◌, ⊤, if◌then◌else◌, true, false, codes, refl}
 use Rattle.miniserde_model.specs.Tree.{Tree, members, Members, no_members, member, null, truth}
 use Rattle.miniserde_keys.specs.Keys.{Key}
@@ -7,75 +8,79 @@ use Rattle.miniserde_read.specs.types.Words.{boolean_of}
 
 -- ---- what a map's tree means
 
--- the key that a name is read as, if it has the code
+-- the key, if there is one and its code is q
 abbrev pub key_at : (Key → Key) → Key → Option Key → Option Key
 key_at code q None = None
 key_at code q (Some c) = if bytes_eq (code c) q then Some c else None
 
--- the key of the first member and the tree of the last one, with one more member in front
+-- one step of `first_and_last_at`, for a member in front of others: its key, if this has the code, its tree t, and
+-- the result for the others
 abbrev pub first_and_last : Option Key → Tree → Option (Key × Tree) → Option (Key × Tree)
 first_and_last None t o = o
 first_and_last (Some c) t None = Some (c, t)
 first_and_last (Some c) t (Some p) = Some (c, p.1)
 
--- of the members whose keys have the code, the first one's key and the last one's tree
+-- of the members whose keys have the code q, the first one's key and the last one's tree
 abbrev pub first_and_last_at : (Name → Option Key) → (Key → Key) → Key → Members → Option (Key × Tree)
 first_and_last_at read code q no_members = None
 first_and_last_at read code q (member k t ms) = first_and_last (key_at code q (read k)) t (first_and_last_at read code q ms)
 
--- each member's name is read as a key, and its tree gives a value
+-- each member's name is read as a key, and for its tree `of` returns a content
 abbrev pub AllAccepted : {C : Type 0} → (Name → Option Key) → (Tree → Option C) → Members → Type 0
 AllAccepted read of no_members = ⊤
 AllAccepted read of (member k t ms) = IsSome (read k) × (IsSome (of t) × AllAccepted read of ms)
 
--- the entry whose key has the code
+-- the first entry whose key has the code q, if there is one
 abbrev pub entry_at : {K V : Type 0} → (K → Key) → Key → List (K × V) → Option (K × V)
 entry_at code q [] = None
 entry_at code q (e ∷ es) = if bytes_eq (code e.0) q then Some e else entry_at code q es
 
--- there is an entry exactly if there are members; it has the first one's key, and the last one's tree means its value
+-- there is an entry exactly if there are a key and a tree; then the content of the entry's key is that key, and the
+-- tree means the entry's value by R
 abbrev pub MeansAt : {K V : Type 0} → (K → Key) → (Tree → V → Type 0) → Option (Key × Tree) → Option (K × V) → Type 0
 MeansAt content R None None = ⊤
 MeansAt content R None (Some e) = ⊥
 MeansAt content R (Some p) None = ⊥
 MeansAt content R (Some p) (Some e) = (content e.0 ≡ p.0) × R p.1 e.1
 
--- each member of the tree is accepted; at each code the entry has the first one's key and the last one's value
+-- The tree is an object, of which each member is accepted. At each code q, the entry of es has the key of the first
+-- member with a key of that code, and the tree of the last such member means its value by R.
 abbrev pub MapReads : {K V C : Type 0} → (Name → Option Key) → (Key → Key) → (K → Key) → (Tree → Option C) → (Tree → V → Type 0) → Tree → List (K × V) → Type 0
 MapReads read code content of R (members ms) es = AllAccepted read of ms × ((q : Key) → MeansAt content R (first_and_last_at read code q ms) (entry_at (λ k. code (content k)) q es))
 MapReads read code content of R _ es = ⊥
 
 -- ---- maps, member by member
 
--- the content of a map: the key and the value at each code
+-- the content of a map: for each code, the key and the value's content, if there is an entry
 abbrev pub Entries : Type 0 → Type 0
 Entries C = Key → Option (Key × C)
 
+-- the content of the empty map
 abbrev pub no_key : {C : Type 0} → Entries C
 no_key q = None
 
--- the key that is there stays
+-- the key of the entry, if there is one, and else the key c
 abbrev pub present_key_or : {C : Type 0} → Option (Key × C) → Key → Key
 present_key_or None c = c
 present_key_or (Some e) c = e.0
 
--- the map with one more key, or with another value at a key that is there
+-- the content m of a map with the value d at the code of the key c; a key that is there with that code stays
 abbrev pub with_entry : {C : Type 0} → (Key → Key) → Entries C → Key → C → Entries C
 with_entry code m c d q = if bytes_eq (code c) q then Some (present_key_or (m q) c, d) else m q
 
--- the content of the entry at each code
+-- the content of a map with the entries es; `content` returns the content of a key, and `value` that of a value
 abbrev pub map_content : {K V C : Type 0} → (Key → Key) → (K → Key) → (V → C) → List (K × V) → Entries C
 map_content code content value es q = option_map (λ e. (content e.0, value e.1)) (entry_at (λ k. code (content k)) q es)
 
--- one more member: its name is read as a key, and f says what the value is
+-- the content m of a map with one more member: its name k is read as a key, and f returns the value's content for x
 abbrev pub map_member : {C X : Type 0} → (Name → Option Key) → (Key → Key) → (X → Option C) → Entries C → Name → X → Option (Entries C)
 map_member read code f m k x = option_and_then (λ c. option_map (with_entry code m c) (f x)) (read k)
 
--- what a map's tree gives
+-- the content of the map that an object means, by `read` and `code`, and by `of` for the trees of its members
 abbrev pub map_of : {C : Type 0} → (Name → Option Key) → (Key → Key) → (Tree → Option C) → Tree → Option (Entries C)
 map_of read code of = object_of (all_members (map_member read code of) no_key)
 
--- Worked cases: of `{"a":true,"a":false}` the map has false at "a", and `{"a":null}` is no map of booleans.
+-- Worked cases: the map of `{"a":true,"a":false}` has false at "a", and `{"a":null}` is no map of booleans.
 pub last_value : option_map (λ m. m (codes "a")) (map_of Some (λ k. k) boolean_of (members (member (codes "a") (truth true) (member (codes "a") (truth false) no_members)))) ≡ Some (Some (codes "a", false))
 last_value = refl
 

@@ -1,13 +1,14 @@
--- The optional values that trees mean: `null` is `None`, and every other tree means what it does for the inner type.
+-- The optional values that trees mean: `null` means `None`, and any other tree what it means for the inner type.
 use Rattle.std.specs.Prelude.{◌≡◌, ◌≢◌, Option, Some, None, option_map, true, refl}
 use Rattle.miniserde_model.specs.Tree.{Tree, null, truth, list, no_trees}
 use Rattle.miniserde_read.specs.types.Words.{boolean_of}
 
--- the tree is null and the value `None`, or the tree is not null and means the value inside
+-- the tree is null and the value `None`, or the tree is not null and by R means the value inside
 abbrev pub OptionReads : {T : Type 0} → (Tree → T → Type 0) → Tree → Option T → Type 0
 OptionReads R t None = t ≡ null
 OptionReads R t (Some x) = (t ≢ null) × R t x
 
+-- the content of an optional value: null gives that of `None`, and any other tree what `of` returns for it
 abbrev pub option_of : {C : Type 0} → (Tree → Option C) → Tree → Option (Option C)
 option_of of null = Some None
 option_of of t = option_map Some (of t)

@@ -1,4 +1,4 @@
--- Members go one by one under the names that they count by as the members by these names do.
+-- Members with aliases give one by one what the members with the fields' names give.
 use Rattle.std.proofs.Common.{◌≡◌, List, Option, Some, None, refl, ap}
 use Rattle.std.specs.Prelude.{option_and_then}
 use Rattle.miniserde_model.specs.Tree.{Tree, Members, no_members, member}

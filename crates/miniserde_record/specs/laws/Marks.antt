@@ -12,7 +12,7 @@ use Rattle.miniserde_record.specs.Marks.{has_no_members, is_among, all_among}
 
 -- ---- once
 
--- members of other names do not count
+-- as many members have the name k if the members of another name are left out
 count-apart : (n k : Name) → bytes_eq n k ≡ false → (ms : Members) → count_named k (others n ms) ≡ count_named k ms
 count-apart n k d no_members = refl
 count-apart n k d (member j t ms) = elim (bytes_eq j n) as (λ b. bytes_eq j n ≡ b → count_named k (cond b (others n ms) (member j t (others n ms))) ≡ cond (bytes_eq j k) (suc (count_named k ms)) (count_named k ms)) [
@@ -27,7 +27,7 @@ count-left k (n ∷ ns) d ms = elim (bytes_eq n k) as (λ b. bytes_eq n k ≡ b 
   | false ↦ λ e d. count-left k ns d (others n ms) ∙ count-apart n k e ms
 ] refl d
 
--- `once`, said of all members in place of those that the earlier fields leave
+-- at most one of the members that the earlier fields leave has the name k exactly if at most one of all members has
 pub once-says : (k : Name) (ns : List Name) → is_other k ns ≡ true → (ms : Members) → (count_named k (left ns ms) ≤ 1) ↔ (count_named k ms ≤ 1)
 once-says k ns d ms = let c = count-left k ns d ms in (λ e. subst (λ m. m ≤ 1) c e, λ e. subst (λ m. m ≤ 1) (sym c) e)
 
@@ -44,14 +44,14 @@ none-named : (ms : Members) → has_no_members ms ≡ all_among [] ms
 none-named no_members = refl
 none-named (member k t ms) = refl
 
--- `closed`: no member is left behind the last field exactly if each member's name is a field's
+-- `closed`: no member is left after the last field exactly if each member's name is a field's
 pub closed-named : (ns : List Name) (ms : Members) → has_no_members (left ns ms) ≡ all_among ns ms
 closed-named [] ms = none-named ms
 closed-named (n ∷ ns) ms = closed-named ns (others n ms) ∙ all-named-more n ns ms
 
 -- ---- default
 
--- no member counts of a name that has no last one
+-- if a name has no last member, no member has it
 none-zero : (n : Name) (ms : Members) → last_of n ms ≡ None → count_named n ms ≡ 0
 none-zero n no_members h = refl
 none-zero n (member k t ms) h = elim (bytes_eq k n) as (λ b. or_else (last_of n ms) (cond b (Some t) None) ≡ None → cond b (suc (count_named n ms)) (count_named n ms) ≡ 0) [
@@ -60,10 +60,11 @@ none-zero n (member k t ms) h = elim (bytes_eq k n) as (λ b. or_else (last_of n
 ] h
 
 module _ {A V : Type 0} (once : Bool) (m : Meaning A) (given : Tree) (absent : Option A) (rest : List Name → Members → V → Type 0) (n : Name) (ns : List Name) (ms : Members) (v : A × V) where
-  -- the field's meaning, with the given tree for a missing field, and without
+  -- the members mean the values v of the field and the later ones, with the given tree if the field is missing
   abbrev Given : Members → Type 0
   Given ms = FieldsRead once m.reads m.from_tree (MissingReads m (Some given) absent) rest (n ∷ ns) ms v
 
+  -- the members mean the values v of the field and the later ones, without a given tree
   abbrev Plain : Members → Type 0
   Plain ms = FieldsRead once m.reads m.from_tree (MissingReads m None absent) rest (n ∷ ns) ms v
 
@@ -85,6 +86,6 @@ module _ {A V : Type 0} (once : Bool) (m : Meaning A) (given : Tree) (absent : O
         | true ↦ (λ h. ((omega (arith, count), says.0 h.0.1), subst (λ P. P) rests h.1), λ h. ((omega (arith, zero), says.1 h.0.1), subst (λ P. P) (sym rests) h.1))
       ]
 
-  -- and those with the name mean what they do without a default
+  -- `default`: members with the name mean what they mean without a given tree
   pub given-present : (t : Tree) → last_of n ms ≡ Some t → Given ms ↔ Plain ms
   given-present t e = rw e (λ h. h, λ h. h)

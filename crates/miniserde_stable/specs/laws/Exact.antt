@@ -1,4 +1,4 @@
--- `String`, `bool` and `char`: names that are read as equal keys are one name.
+-- Exact keys, `String`, `bool` and `char`: names that are read as equal keys are equal.
 use Rattle.std.proofs.Common.{◌≡◌, ℕ, Bool, true, false, cond, List, [], ◌∷◌, Option, Some, None, refl, sym, ◌∙◌, append-nil}
 use Rattle.std.specs.Prelude.{bytes_eq}
 use Rattle.std.specs.Char.{encode_utf8}

@@ -1,4 +1,4 @@
--- What the parts of the lexer take, in the words of the grammar. Only private clauses cite it.
+-- What the parts of a lexer take from a text, for private clauses alone (RFC 8259, sections 6 and 7).
 use Rattle.std.specs.Prelude.{◌≡◌, ℕ, false, List, [], ◌∷◌, ◌++◌, ⊤}
 use Rattle.std.specs.List.{AllByRecursion}
 use Rattle.std.specs.Str.{encode_utf8_all}
@@ -12,44 +12,52 @@ use Rattle.miniserde_text.specs.declared.json.lex.Event.{Event}
 use Rattle.miniserde_text.specs.declared.json.lex.Event.TheVariants as event
 use Rattle.miniserde_text.specs.Lexer.{StandsFor}
 
--- one piece for each character, then a quote, then r
+-- the text t is pieces that stand for the characters, in order, then a quote, then r
 abbrev pub Chars : List ℕ → List ℕ → List ℕ → Type 0
 Chars [] t r = t ≡ 34 ∷ r
 Chars (c ∷ cs) t r = (p : List ℕ) × (t' : List ℕ) × IsPiece p c × (t ≡ p ++ t') × Chars cs t' r
 
--- between t and t' stand pieces of the characters ds, and of no others
+-- from t to t' stand pieces of the characters ds, and the characters up to the closing quote of t begin with ds
 pub record Passes (ds t t' : List ℕ) : Type 0 where
   pub on : (cs r : List ℕ) → Chars cs t' r → Chars (ds ++ cs) t r
   pub back : (cs r : List ℕ) → Chars cs t r → (es : List ℕ) × (cs ≡ ds ++ es) × Chars es t' r
 
--- between t and t' stand characters, whose bytes were added to the end of old
+-- from t to t' stand pieces of some characters, and `new` is `old` with the bytes of these characters appended
 abbrev pub Adds : List ℕ → List ℕ → List ℕ → List ℕ → Type 0
 Adds old new t t' = (ds : List ℕ) × Passes ds t t' × (new ≡ old ++ encode_utf8_all ds)
 
--- the text begins with P's piece, and r is the rest
+-- the text t is some bytes, of which P holds, and then r
 abbrev pub BeginsWith : (List ℕ → Type 0) → List ℕ → List ℕ → Type 0
 BeginsWith P t r = (b : List ℕ) × P b × (t ≡ b ++ r)
 
--- ---- behind whitespace
+-- ---- after whitespace
 
+-- the text t begins with the token of the event e, and r is the text after it
 abbrev pub TakesToken : List ℕ → tree.Step → List ℕ → Type 0
 TakesToken t e r = BeginsWith (Piece e) t r × Ends e r
 
+-- the text t begins with the name n and its colon, and r is the text after them
 abbrev pub TakesName : List ℕ → List ℕ → List ℕ → Type 0
 TakesName t n r = BeginsWith (IsName n) t r
 
+-- if the token is a string, t begins with it, r is the rest, and its text is borrowed if no backslash is in it, and
+-- decoded if one is
 abbrev pub EventTakesText : Event → List ℕ → List ℕ → Type 0
 EventTakesText (event.Str x) t r = BeginsWith (Between 34 (StandsFor x) 34) t r
 EventTakesText _ t r = ⊤
 
+-- t begins with a name and its colon, r is the rest, and the name's text x is borrowed if no backslash is in it, and
+-- decoded if one is
 abbrev pub NameTakesText : Text → List ℕ → List ℕ → Type 0
 NameTakesText x t r = BeginsWith (BeforeColon (Between 34 (StandsFor x) 34)) t r
 
--- ---- behind a quote
+-- ---- after a quote
 
+-- s is the inside of a string, its closing quote and r; the text x is borrowed if no backslash is inside, else
+-- decoded
 abbrev pub TakesText : Text → List ℕ → List ℕ → Type 0
 TakesText x s r = (inside : List ℕ) × (s ≡ inside ++ 34 ∷ r) × StandsFor x inside
 
--- bytes for themselves, and then a backslash
+-- the text s is bytes that need no escape, then a backslash, then any bytes
 abbrev pub ReachesBackslash : List ℕ → Type 0
 ReachesBackslash s = (p q : List ℕ) × AllByRecursion (λ c. is_special c ≡ false) p × (s ≡ p ++ 92 ∷ q)

@@ -1,5 +1,5 @@
--- Reading as functions on lists, in the order of the code. Only private clauses cite it: lemmas show that each reads
--- exactly what the grammar has.
+-- Reading as functions on lists, in the order of the code (RFC 8259, sections 6 and 7).
+-- Only private clauses cite them: lemmas show that each reads exactly what the grammar has.
 use Rattle.std.specs.Prelude.{◌≡◌, ℕ, ◌<◌, ◌≤◌, ◌-◌, ◌+◌, ◌*◌, ◌^◌, ◌&&◌, ◌||◌, nat_le, nat_lt, pos, neg_ℤ, if◌then◌else◌, option_map, List, [], ◌∷◌, ◌++◌, Bool, true, false, cond, not, ◌==◌, nat_eq, Option, Some, None, option_and_then, length, take, drop, codes, slice_index}
 use Rattle.std.specs.List.{starts_with}
 use Rattle.std.specs.Char.{digit_value}
@@ -12,76 +12,93 @@ use Rattle.miniserde_model.specs.declared.kind.Kind.{Kind}
 
 -- ---- tests of bytes
 
+-- whether the byte is a digit
 abbrev pub is_digit : ℕ → Bool
 is_digit c = nat_le 48 c && nat_le c 57
 
+-- whether the byte is `+` or `-`
 abbrev pub is_sign : ℕ → Bool
 is_sign c = (c == 43) || (c == 45)
 
+-- whether the byte is `e` or `E`
 abbrev pub is_exponent_letter : ℕ → Bool
 is_exponent_letter c = (c == 101) || (c == 69)
 
--- what may stand for itself in a string
+-- whether the byte may stand unescaped inside a string
 abbrev pub is_unescaped : ℕ → Bool
 is_unescaped c = not (is_special c)
 
+-- whether the byte is a hexadecimal digit
 abbrev pub is_hex : ℕ → Bool
 is_hex c = nat_lt (digit_value c) 16
 
+-- whether the number is a high surrogate
 abbrev pub is_high : ℕ → Bool
 is_high u = nat_le 0xd800 u && nat_lt u 0xdc00
 
+-- whether the number is a low surrogate
 abbrev pub is_low : ℕ → Bool
 is_low u = nat_le 0xdc00 u && nat_lt u 0xe000
 
+-- whether the byte is a closing bracket
 abbrev pub is_closing : ℕ → Bool
 is_closing c = (c == 93) || (c == 125)
 
 -- ---- runs
 
--- the text after the longest run of bytes that pass p
+-- the text after all the bytes at its front that pass the test p
 abbrev pub after_run : (ℕ → Bool) → List ℕ → List ℕ
 after_run p [] = []
 after_run p (c ∷ cs) = if p c then after_run p cs else c ∷ cs
 
+-- the text s ends with the text r
 abbrev pub EndsWith : List ℕ → List ℕ → Type 0
 EndsWith s r = (b : List ℕ) × (s ≡ b ++ r)
 
--- an ASCII byte precedes the index i
+-- the byte of s right before the index i is ASCII
 abbrev pub FollowsAscii : List ℕ → ℕ → Type 0
 FollowsAscii s i = (0 < i) × (i ≤ length s) × (slice_index s (i - 1) < 128)
 
--- the suffix of s from an index, if there is one
+-- the suffix of s from the index, if there is an index
 abbrev pub suffix_at : List ℕ → Option ℕ → Option (List ℕ)
 suffix_at s r = option_map (λ i. drop i s) r
 
+-- the bytes of s before its suffix r
 abbrev pub before : List ℕ → List ℕ → List ℕ
 before s r = take (length s - length r) s
 
 -- ---- numbers
 
+-- the text after the digits that it begins with; there must be one
 abbrev pub after_digits : List ℕ → Option (List ℕ)
 after_digits s = if is_digit (slice_index s 0) then Some (after_run is_digit s) else None
 
+-- the text after the `-` that it begins with, or the text itself
 abbrev pub after_minus : List ℕ → List ℕ
 after_minus s = if slice_index s 0 == 45 then drop 1 s else s
 
+-- the text after the integer part that it begins with: `0`, or digits, of which there must be one
 abbrev pub after_int : List ℕ → Option (List ℕ)
 after_int s = if slice_index s 0 == 48 then Some (drop 1 s) else after_digits s
 
+-- the text after the fraction that it begins with, or the text itself; after a `.` there must be a digit
 abbrev pub after_fraction : List ℕ → Option (List ℕ)
 after_fraction s = if slice_index s 0 == 46 then after_digits (drop 1 s) else Some s
 
+-- the text after the sign that it begins with, or the text itself
 abbrev pub after_sign : List ℕ → List ℕ
 after_sign s = if is_sign (slice_index s 0) then drop 1 s else s
 
+-- the text after the exponent that it begins with, or the text itself; after `e` or `E` there must be a digit
 abbrev pub after_exponent : List ℕ → Option (List ℕ)
 after_exponent s = if is_exponent_letter (slice_index s 0) then after_digits (after_sign (drop 1 s)) else Some s
 
+-- the text after the fraction and the exponent that it begins with, if it has them
 abbrev pub after_tail : List ℕ → Option (List ℕ)
 after_tail s = option_and_then after_exponent (after_fraction s)
 
--- the event of a number text, by its minus, its integer part and the rest
+-- the event of the number text b, by whether it begins with a minus, by its integer part, and by the bytes after that
+-- part
 abbrev pub event_of_parts : List ℕ → Bool → List ℕ → List ℕ → Step
 event_of_parts b minus int [] =
     if minus then
@@ -89,19 +106,23 @@ event_of_parts b minus int [] =
     else (if nat_lt (digits_value 10 int) (2 ^ 64) then nonnegative (digits_value 10 int) else float b)
 event_of_parts b minus int (c ∷ cs) = float b
 
+-- the event of the number from s to r, whose integer part ends at w, and r; a byte of a number may not follow at r
 abbrev pub event_at : List ℕ → List ℕ → List ℕ → Option (Step × List ℕ)
 event_at s w r =
     cond (is_number_byte (slice_index r 0)) None
     (Some (event_of_parts (before s r) (slice_index s 0 == 45) (before (after_minus s) w) (before w r), r))
 
+-- the event of the number that s begins with, and the text after it
 unfoldable pub number_at : List ℕ → Option (Step × List ℕ)
 number_at s = option_and_then (λ w. option_and_then (λ r. event_at s w r) (after_tail w)) (after_int (after_minus s))
 
 -- ---- the first token of a value that is no string
 
+-- the event e and the text after the word w, if s begins with w
 unfoldable pub word_at : List ℕ → Step → List ℕ → Option (Step × List ℕ)
 word_at w e s = if starts_with nat_eq s w then Some (e, drop (length w) s) else None
 
+-- the event of the token that s begins with, if it is no string, and the text after it; c is the first byte of s
 unfoldable pub token_by : ℕ → List ℕ → Option (Step × List ℕ)
 token_by c s =
     cond (c == 110) (word_at (codes "null") step.null s)
@@ -109,31 +130,36 @@ token_by c s =
     (cond (c == 102) (word_at (codes "false") (boolean false) s)
     (if c == 91 then Some (seq, drop 1 s) else if c == 123 then Some (map, drop 1 s) else number_at s)))
 
+-- the event of the token that s begins with, if it is no string, and the text after it
 abbrev pub token_at : List ℕ → Option (Step × List ℕ)
 token_at s = token_by (slice_index s 0) s
 
 -- ---- steps
 
+-- whether the text begins with a byte, and this is no closing bracket
 abbrev pub begins : List ℕ → Bool
 begins [] = false
 begins (c ∷ cs) = not (is_closing c)
 
--- of a text that begins with no whitespace
+-- Whether the container of the kind ends at t, and the text after its bracket, or after the comma before a child, or
+-- t itself if `first` says that the opening bracket was just taken. The text t does not begin with whitespace.
 unfoldable pub step_at : Kind → Bool → List ℕ → Option (Bool × List ℕ)
 step_at kind first t =
     cond (slice_index t 0 == closing kind) (Some (true, drop 1 t))
     (if first then (if begins t then Some (false, t) else None) else if slice_index t 0 == 44 then Some (false, drop 1 t) else None)
 
--- ---- escapes, behind the backslash
+-- ---- escapes, after the backslash
 
--- a number, and the suffix of s from an index
+-- a number with the suffix of s from an index, if there are a number and an index
 abbrev pub with_suffix : List ℕ → Option (ℕ × ℕ) → Option (ℕ × List ℕ)
 with_suffix s r = option_map (λ x. (x.0, drop x.1 s)) r
 
+-- whether the text begins with four hexadecimal digits
 abbrev pub begins_unit : List ℕ → Bool
 begins_unit s =
     is_hex (slice_index s 0) && is_hex (slice_index s 1) && is_hex (slice_index s 2) && is_hex (slice_index s 3)
 
+-- the number that the four hexadecimal digits at the front of s are, and the text after them
 abbrev pub unit_at : List ℕ → Option (ℕ × List ℕ)
 unit_at s =
     cond (begins_unit s)
@@ -144,20 +170,25 @@ unit_at s =
     ))
     None
 
+-- whether the text begins with `\u`
 abbrev pub begins_escape : List ℕ → Bool
 begins_escape s = (slice_index s 0 == 92) && (slice_index s 1 == 117)
 
+-- the character of a high and a low surrogate
 abbrev pub pair_of : ℕ → ℕ → ℕ
 pair_of high low = 0x10000 + (high - 0xd800) * 1024 + (low - 0xdc00)
 
+-- the character of the surrogate `high` and of the low one whose escape s begins with, and the text after it
 abbrev pub low_at : ℕ → List ℕ → Option (ℕ × List ℕ)
 low_at high s =
     cond (begins_escape s)
     (option_and_then (λ l. if is_low l.0 then Some (pair_of high l.0, l.1) else None) (unit_at (drop 2 s))) None
 
+-- the character of an escape, and the text after it, if s is the text after the escape's `\u`
 unfoldable pub unicode_at : List ℕ → Option (ℕ × List ℕ)
 unicode_at s = option_and_then (λ u. if is_high u.0 then low_at u.0 u.1 else if is_low u.0 then None else Some u) (unit_at s)
 
+-- the character of the escape of a backslash and the byte x, if there is such an escape
 abbrev pub short_at : ℕ → Option ℕ
 short_at x =
     if (x == 34) || ((x == 92) || (x == 47)) then Some x
@@ -168,6 +199,7 @@ short_at x =
     else if x == 116 then Some 9
     else None
 
+-- the character of an escape, and the text after it, if s is the text after the escape's backslash
 unfoldable pub escape_at : List ℕ → Option (ℕ × List ℕ)
 escape_at s =
     cond (slice_index s 0 == 117) (unicode_at (drop 1 s))

@@ -1,4 +1,4 @@
--- When a tree means a document: where the document is written as the tree's normal form.
+-- A tree means a document exactly if the document is written as the tree's normal form.
 use Rattle.std.proofs.Common.{◌≡◌, Option, Some, sym, ap}
 use Rattle.std.specs.Prelude.{◌↔◌}
 use Rattle.std.proofs.lemmas.Option.{same_Some}

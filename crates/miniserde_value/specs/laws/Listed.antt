@@ -6,7 +6,7 @@ use Rattle.miniserde_model.proofs.OneNormal.{put_all_norm}
 use Rattle.miniserde_ser.specs.Trees.{trees_of}
 use Rattle.miniserde_value.specs.Retained.{retained_members}
 
--- trees as a list of them
+-- the trees as a list
 abbrev pub listed : Trees → List Tree
 listed no_trees = []
 listed (tree t ts) = t ∷ listed ts
@@ -17,10 +17,10 @@ trees_listed (tree t ts) = ap (tree t) (trees_listed ts)
 
 -- ---- members that are put one after another
 
--- with what a value keeps of each
+-- the first members with the retained forms of the second ones put in one by one, by `put`
 abbrev pub put_retained : Members → Members → Members
 put_retained = put_all_by neg
 
--- from nothing they are what a value keeps of all
+-- members that are put one by one into none are the retained members
 pub puts_retained : (ms : Members) → put_retained no_members ms ≡ retained_members ms
 puts_retained = put_all_norm neg

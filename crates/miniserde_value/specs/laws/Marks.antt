@@ -1,4 +1,4 @@
--- That marks fit is one fact.
+-- Two proofs that the open containers of a builder fit are equal.
 use Rattle.std.specs.Prelude.{ℕ, List, [], ◌∷◌, reverse, length}
 use Rattle.std.specs.Coded.{×_prop, Unit-prop, le_prop}
 use Rattle.miniserde_value.specs.declared.json.value.Value.{Value}

@@ -1,4 +1,4 @@
--- When a tree means a number.
+-- A tree means a number exactly if it is the number's leaf.
 use Rattle.std.proofs.Common.{◌≡◌, Some, sym, ap}
 use Rattle.std.specs.Prelude.{◌↔◌}
 use Rattle.miniserde_model.specs.Tree.{Tree, null, truth, nonneg, neg, num, str, list, members}

@@ -1,4 +1,4 @@
--- What the events of a tree leave, and when a tree means a value.
+-- What the events of a tree give, and when a tree means a value.
 use Rattle.std.proofs.Common.{◌≡◌, true, false, List, [], ◌∷◌, ◌++◌, Option, Some, None, refl, sym, ap, ◌∙◌, append_assoc, append-nil}
 use Rattle.std.specs.Prelude.{◌↔◌}
 use Rattle.miniserde_model.specs.Tree.{Tree, null, truth, nonneg, neg, num, str, list, members, Trees, no_trees, tree, Members, no_members, member}

@@ -1,4 +1,4 @@
--- What the events of a tree leave where no name may be repeated.
+-- What the events of a tree give if no name may be a duplicate.
 use Rattle.std.proofs.Common.{◌≡◌, ℕ, Bool, true, false, cond, List, [], ◌∷◌, ◌++◌, Option, Some, None, is_some, bytes_eq, refl, sym, ap, ap₂, ◌∙◌, append_assoc, append-nil, Ordering, Less, Equal, Greater}
 use Rattle.std.specs.Prelude.{◌↔◌, ◌&&◌, ◌||◌, not, option_and_then}
 use Rattle.std.proofs.lemmas.Map.Lookups.{exact_bytes}
@@ -45,7 +45,7 @@ has_put q name t (member other u ms) = go (text_cmp name other) refl (has_put q 
     go Equal e more = has_member_first q name t ms ∙ twice (bytes_eq name q) (has_name q ms) ∙ ap (λ n. bytes_eq name q || (bytes_eq n q || has_name q ms)) (exact_bytes name other e) ∙ ap (λ b. bytes_eq name q || b) (sym (has_member_first q other u ms))
     go Greater e more = has_member_first q other u (put_member name t ms) ∙ ap (λ b. bytes_eq other q || b) more ∙ swapped (bytes_eq other q) (bytes_eq name q) (has_name q ms) ∙ ap (λ b. bytes_eq name q || b) (sym (has_member_first q other u ms))
 
--- none of the members' names is among those that are made
+-- whether none of the members' names is a name of the members `made`
 abbrev all_new : Members → Members → Bool
 all_new made no_members = true
 all_new made (member name t ms) = not (has_name name made) && all_new made ms
@@ -75,6 +75,7 @@ all_new_put name t made (member other u ms) =
 
 -- ---- the events of a tree
 
+-- o if b is true, and else nothing
 abbrev if_so : Bool → Option Tree → Option Tree
 if_so b o = cond b o None
 
@@ -82,7 +83,7 @@ both_so : (a b : Bool) (o : Option Tree) → if_so a (if_so b o) ≡ if_so (a &&
 both_so true b o = refl
 both_so false b o = refl
 
--- a member whose name is new, whose tree is distinct, and the members behind it
+-- the tests of a member's name and tree and of the members after it, in another order
 regrouped : (new d ds unlike rest : Bool) (o : Option Tree) → if_so new (if_so d (if_so (ds && (unlike && rest)) o)) ≡ if_so ((unlike && (d && ds)) && (new && rest)) o
 regrouped true true true unlike rest o = elim unlike as (λ b. if_so (b && rest) o ≡ if_so ((b && true) && rest) o) [ true ↦ refl | false ↦ refl ]
 regrouped true true false unlike rest o = elim unlike as (λ b. None ≡ if_so ((b && false) && rest) o) [ true ↦ refl | false ↦ refl ]

@@ -1,5 +1,5 @@
--- How a text goes on event by event, with the hole that the events fill. m, h and s: the moment, the hole and the
--- rest of the text.
+-- How a text goes on event by event, with the hole that the events fill.
+-- m, h and s: the moment, the hole, and the rest of the text.
 use Rattle.std.specs.Prelude.{◌≡◌, ℕ, Bool, true, false, List, [], ◌∷◌, ◌++◌, None}
 use Rattle.miniserde_model.specs.Step.{Step}
 use Rattle.miniserde_model.specs.declared.kind.Kind.{Kind}
@@ -14,24 +14,24 @@ kinds (outside ts) = []
 kinds (in_list ts h) = Seq ∷ kinds h
 kinds (in_members ms n h) = Map ∷ kinds h
 
--- whether a value is due
+-- whether a value is due at the moment
 abbrev pub is_due : Moment → Bool
 is_due due = true
 is_due first = false
 is_due after = false
 
--- The events `done` turn the hole h into h', whatever events follow. If `once` is true, none of them repeats a name.
+-- the events `done` turn the hole h into h', whatever events follow; with `once`, no name among them is a duplicate
 abbrev pub Makes : Bool → Moment → Hole → List Step → Moment → Hole → Type 0
 Makes once m h done m' h' = (es : List Step) → outcome once (is_due m) h (done ++ es) ≡ outcome once (is_due m') h' es
 
--- The text s begins with the events `done`, and behind them s' is left. Every list of events that s spells begins
--- with them. They turn the hole h into h', and if `once` is true, none of them repeats a name.
+-- The text from s to s' spells some events, which turn the hole h into h'; all lists of events that s spells begin
+-- with them. With `once`, no name among them is a duplicate.
 pub record Builds (once : Bool) (m : Moment) (h : Hole) (s : List ℕ) (m' : Moment) (h' : Hole) (s' : List ℕ) : Type 0 where
   pub done : List Step
   pub passed : Consumes m (kinds h) s done m' (kinds h') s'
   pub makes : Makes false m h done m' h'
   pub repeats_none : Makes once m h done m' h'
 
--- No events that a beginning of the text spells give a value.
+-- no events that a prefix of the text s spells give a value
 abbrev pub NeverGives : Bool → Moment → Hole → List ℕ → Type 0
 NeverGives once m h s = (es : List Step) (r : List ℕ) → Runs m es (kinds h) s r → outcome once (is_due m) h es ≡ None
