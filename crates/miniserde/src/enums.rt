@@ -1,4 +1,4 @@
-//! Enums whose variants may have data: what one says of itself, and how it is read and written by that.
+//! Enums whose variants may have data: the traits that describe one, and the calls that read and write it by them.
 
 pub use miniserde_enum::{
     BesideTag, Cases, DataCase, HasTag, Inside, InsideCases, LosslessCases, Never, NoCase,

@@ -1,4 +1,4 @@
-//! JSON text.
+//! JSON texts: the calls that read and write values and canonical texts, the lexer, and documents with their places.
 
 pub use miniserde_canonical::{canonical, canonical_both, canonical_unique};
 pub use miniserde_place::feed;
@@ -15,38 +15,38 @@ pub use miniserde_value::json::object::Object;
 pub use miniserde_value::json::unique::Unique;
 pub use miniserde_value::json::value::Value;
 
-/// Arrays, and their place.
+/// The type `Array`, and its place.
 pub mod array {
     pub use miniserde_de::documents::ArrayPlace;
     pub use miniserde_value::json::array::Array;
 }
 
-/// Documents that count as what is written of them, their place, and a law of `Value` and `Number`.
+/// The type `Document`, its place, and the promise that neither `Value` nor `Number` is stable.
 pub mod document {
     pub use miniserde_de::documents::DocumentPlace;
     pub use miniserde_value::json::document::{Document, negated_zero};
 }
 
-/// Numbers, those that are kept as their texts, and their place.
+/// The types `Number` and `NumberText`, and the place of `Number`.
 pub mod number {
     pub use miniserde_de::documents::NumberPlace;
     pub use miniserde_text::json::number::NumberText;
     pub use miniserde_value::json::number::Number;
 }
 
-/// Objects, and their place.
+/// The type `Object`, and its place.
 pub mod object {
     pub use miniserde_de::documents::ObjectPlace;
     pub use miniserde_value::json::object::Object;
 }
 
-/// Values without duplicate names, and their place.
+/// The type `Unique`, and its place.
 pub mod unique {
     pub use miniserde_de::documents::UniquePlace;
     pub use miniserde_value::json::unique::Unique;
 }
 
-/// Any values, their place, laws of them, and what `value!` calls.
+/// The type `Value`, its place, promises about it, and what `value!` calls.
 pub mod value {
     pub use miniserde_de::documents::ValuePlace;
     pub use miniserde_value::json::into_value::{IntoValue, array_value, null_value, object_value};

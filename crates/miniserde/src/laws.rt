@@ -1,4 +1,5 @@
-//! The laws of the definitions and of places, for proofs by users: a call does nothing, and its contract is the law.
+//! Promises about the definitions and about places, for users' proofs. Each call does nothing, and its contract is
+//! the promise.
 
 pub use miniserde_de::events::{events_give, events_mean};
 pub use miniserde_model::{

@@ -1,8 +1,8 @@
 //! JSON text into values of Rust, and values into text: the whole library, each item at its path for users.
 //!
-//! `json::from_str` parses a value of a type that implements `FromJson`: the type reads itself from the text, and calls
-//! nest as the type does, never as the data. `json::feed` gives the events of a text to a place, one by one. Documents
-//! of any depth are read without recursion; memory alone bounds how deep they may be.
+//! `json::from_str` reads a value of a type that implements `FromJson`; its calls nest as deep as the type, not the
+//! data. `json::feed` hands the events of a text to a place, one by one. Documents are read without recursion, at any
+//! depth.
 #![tactic(auto)]
 
 pub mod derived;

@@ -1,9 +1,9 @@
-//! `value!`, which makes a `Value` of JSON with expressions in it.
+//! The macro `value!`, which makes a `Value` from JSON with expressions in it.
 
-/// Makes a `Value`, as serde_json's `json!` does: `value!(in alloc; {"id": id, "tags": ["a", "b"], "note": null})?`. It is
-/// a `miniserde::Result`, whose only error is `Memory`; nothing behind the first error is evaluated. An expression is of
-/// a type that implements `IntoValue`. A name is a text, or an expression in parentheses; of equal names the last counts.
-/// One call has at most 60 names and items or so; make a larger value by several functions.
+/// Makes a `Value`, as serde_json's `json!` does: `value!(in alloc; {"id": id, "tags": ["a", "b"], "note": null})?`.
+/// Returns a `miniserde::Result`, whose only error is `Memory`; after an error no further expression is evaluated. An
+/// expression has a type that implements `IntoValue`. A name is a text, or an expression in parentheses; of equal
+/// names the last counts. One call has at most about 60 names and items; make a larger value by several functions.
 #[macro_export]
 macro_rules! value {
     (in $alloc:expr; $($json:tt)+) => {{
@@ -18,10 +18,10 @@ macro_rules! value {
     };
 }
 
-/// What `value!` makes of its parts.
+/// Makes the parts of a `Value` for `value!`.
 #[macro_export]
 macro_rules! value_of {
-    // `?`, which leaves the block `$out` and not the caller's function.
+    // Does what `?` does, except that an error leaves the block `$out` and not the caller's function.
     (@try $out:lifetime $step:expr) => {
         match $step {
             Ok(done) => done,

@@ -1,4 +1,4 @@
-//! Structs and unit enums: what one says of itself, how it is read and written by that, and its place.
+//! Structs and unit enums: the traits that describe one, the calls that read and write it by them, and its place.
 
 pub use miniserde_de::structs::{
     Field, FieldOf, Fields, Four, FourOf, NamePlace, NoField, OnceField, OnceFour, PlacedRecord,

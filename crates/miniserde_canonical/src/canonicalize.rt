@@ -1,4 +1,4 @@
-//! Any JSON text into its canonical text.
+//! The functions that return the canonical text of a JSON text.
 ghost use Rattle.std.specs.Prelude.{◌≡◌, ◌≤◌, ◌↔◌, ◌⊎◌, true, ℕ, List, length, Err, IfOk, string_bytes};
 ghost use Rattle.miniserde_model.specs.Tree.{Tree};
 ghost use Rattle.miniserde_model.specs.IsTree.{IsTree};
@@ -13,20 +13,19 @@ use crate::read::read;
 use miniserde_model::error::{Error, Result};
 use std::alloc::Global;
 
-/// Returns the canonical text of a JSON text: the compact text of its normal form, whatever the order of members, the
-/// spelling of strings and the whitespace. No text with that normal form is shorter. The last member of a duplicate
-/// name stays. Numbers that are no integers of 64 bits keep their texts. Returns `Invalid` if the text is no JSON
-/// (RFC 8259).
+/// Returns the canonical text of a JSON text. It does not depend on whitespace, on how strings are escaped, or on the
+/// order of members with different names; of members with the same name the last stays. A number that no integer type
+/// holds keeps its text. Returns `Invalid` if the text is not JSON (RFC 8259), and `Memory` if an allocation fails.
 pub fn canonical(alloc: Global, j: &str) -> Result<String>
     // It is the compact text of the normal form of the text's tree.
     ensures ok { IfOk result (λ c. (t : Tree) × IsJson j.now t × (string_bytes c ≡ compact (norm t))) }
     ensures text { IfOk result (λ c. (t : Tree) → IsJson j.now t → string_bytes c ≡ compact (norm t)) }
 
-    // It spells that normal form, which is its own.
+    // It spells that normal form, whose normal form is itself.
     ensures spells { IfOk result (λ c. (t : Tree) → IsJson j.now t → IsJson (string_bytes c) (norm t)) }
     ensures normal { IfOk result (λ _. (t : Tree) → IsJson j.now t → norm (norm t) ≡ norm t) }
 
-    // It tells trees apart exactly by their normal forms.
+    // Another tree has the same canonical text exactly if it has the same normal form.
     ensures tells { IfOk result (λ c. (t : Tree) → IsJson j.now t → (u : Tree) → IsTree u
         → (string_bytes c ≡ compact (norm u)) ↔ (norm u ≡ norm t)) }
 
@@ -34,11 +33,11 @@ pub fn canonical(alloc: Global, j: &str) -> Result<String>
     ensures shortest { IfOk result (λ c. (t : Tree) → IsJson j.now t → (b : List ℕ) → (u : Tree)
         → IsJson b u → norm u ≡ norm t → length (string_bytes c) ≤ length b) }
 
-    // The text has no tree; and never more than one.
+    // If the text is `Invalid`, it has no tree. No text has two trees.
     ensures invalid { result ≡ Err Invalid → (t : Tree) → IsJson j.now t → ⊥ }
     ensures one { (t u : Tree) → IsJson j.now t → IsJson j.now u → t ≡ u }
 
-    // A canonical text is its own.
+    // The canonical text of a canonical text is itself.
     ensures idempotent { (b : List ℕ) (t : Tree) → IsJson b t → j.now ≡ compact (norm t)
         → IfOk result (λ c. string_bytes c ≡ j.now) × (result ≡ Err Invalid → ⊥) }
 {
@@ -46,17 +45,18 @@ pub fn canonical(alloc: Global, j: &str) -> Result<String>
     Ok(text)
 }
 
-/// Returns the canonical text of a JSON text without duplicate names. Returns `Invalid` for every other text.
+/// Returns the canonical text of a JSON text without duplicate names. Returns `Invalid` for every other text, and
+/// `Memory` if an allocation fails.
 pub fn canonical_unique(alloc: Global, j: &str) -> Result<String>
     // It is the compact text of the normal form of the text's tree.
     ensures ok { IfOk result (λ c. (t : Tree) × IsJson j.now t × (string_bytes c ≡ compact (norm t))) }
     ensures text { IfOk result (λ c. (t : Tree) → IsJson j.now t → string_bytes c ≡ compact (norm t)) }
 
-    // It spells that normal form, which is its own.
+    // It spells that normal form, whose normal form is itself.
     ensures spells { IfOk result (λ c. (t : Tree) → IsJson j.now t → IsJson (string_bytes c) (norm t)) }
     ensures normal { IfOk result (λ _. (t : Tree) → IsJson j.now t → norm (norm t) ≡ norm t) }
 
-    // It tells trees apart exactly by their normal forms.
+    // Another tree has the same canonical text exactly if it has the same normal form.
     ensures tells { IfOk result (λ c. (t : Tree) → IsJson j.now t → (u : Tree) → IsTree u
         → (string_bytes c ≡ compact (norm u)) ↔ (norm u ≡ norm t)) }
 
@@ -64,15 +64,15 @@ pub fn canonical_unique(alloc: Global, j: &str) -> Result<String>
     ensures shortest { IfOk result (λ c. (t : Tree) → IsJson j.now t → (b : List ℕ) → (u : Tree)
         → IsJson b u → norm u ≡ norm t → length (string_bytes c) ≤ length b) }
 
-    // The text's tree has no duplicate name, so the normal form has as many values.
+    // The text's tree has no duplicate name, so its normal form has the same size.
     ensures distinct { IfOk result (λ _. (t : Tree) → IsJson j.now t → names_distinct t ≡ true) }
     ensures size { IfOk result (λ _. (t : Tree) → IsJson j.now t → size (norm t) ≡ size t) }
 
-    // The text has no tree without duplicate names; and never more than one tree.
+    // If the text is `Invalid`, it has no tree without duplicate names. No text has two trees.
     ensures invalid { result ≡ Err Invalid → (t : Tree) → IsJson j.now t → names_distinct t ≡ true → ⊥ }
     ensures one { (t u : Tree) → IsJson j.now t → IsJson j.now u → t ≡ u }
 
-    // A canonical text is its own.
+    // The canonical text of a canonical text is itself.
     ensures idempotent { (b : List ℕ) (t : Tree) → IsJson b t → j.now ≡ compact (norm t)
         → IfOk result (λ c. string_bytes c ≡ j.now) × (result ≡ Err Invalid → ⊥) }
 {
@@ -84,7 +84,8 @@ pub fn canonical_unique(alloc: Global, j: &str) -> Result<String>
     }
 }
 
-/// Returns the canonical texts of two JSON texts. They are equal exactly if the texts have one normal form.
+/// Returns the canonical texts of two JSON texts. They are equal exactly if the trees of the texts have the same
+/// normal form. Returns `Invalid` if one of the texts is not JSON, and `Memory` if an allocation fails.
 pub fn canonical_both(alloc: Global, a: &str, b: &str) -> Result<(String, String)>
     ensures ok { IfOk result (λ c. (t : Tree) × (u : Tree) × IsJson a.now t × IsJson b.now u
         × (string_bytes c.0 ≡ compact (norm t)) × (string_bytes c.1 ≡ compact (norm u))) }
@@ -96,7 +97,8 @@ pub fn canonical_both(alloc: Global, a: &str, b: &str) -> Result<(String, String
     Ok((canonical(alloc, a)?, canonical(alloc, b)?))
 }
 
-// Returns the canonical text, and whether the text's tree has no duplicate name.
+// Returns the canonical text, and whether the tree of the text has no duplicate name. Returns `Invalid` if the text
+// is not JSON, and `Memory` if an allocation fails.
 fn canonicalize(alloc: Global, j: &str) -> Result<(String, bool)>
     ensures ok { IfOk result (λ r. (t : Tree) × IsJson j.now t × (string_bytes r.0 ≡ compact (norm t))
         × (r.1 ≡ names_distinct t)) }

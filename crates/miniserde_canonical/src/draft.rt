@@ -1,9 +1,8 @@
-//! The canonical text of what is read, while it is read.
+//! The draft: the canonical text of what was read so far.
 //!
-//! Input that is canonical already is copied in runs. Whitespace, an escaped string, `-0` or an object out of order
-//! ends a run. If the names of an object rise, its text stays. If not, the text of its members moves to the groups,
-//! sorted by name, with the last of equal names alone. A short group is copied back; for a longer one a splice is left,
-//! so its bytes move once more, at the end.
+//! Input that is canonical already is copied in runs of bytes; whitespace, an escaped string or `-0` ends a run. If
+//! the names of an object ascend, its text stays. If not, its members are sorted in the groups: a short group is
+//! copied back, and a long one leaves a splice in the text, so that its bytes move only once more.
 ghost use Rattle.std.specs.Prelude.{◌≡◌, ◌++◌, ◌∷◌, [], ℕ, List, length, IfOk, OnOk};
 ghost use Rattle.miniserde_model.specs.Compact.{string_text};
 ghost use Rattle.miniserde_model.specs.Lexing.{closing};
@@ -22,10 +21,12 @@ use crate::spread::{Point, Spread, part};
 use miniserde_text::json::lex::{Event, Kind, Text};
 use std::alloc::{AllocError, Global};
 
-/// How many bytes of the input are left where a token begins, and behind it.
+/// The span of a token in the input.
 #[derive(Clone, Copy, Drop)]
 pub(crate) struct TokenSpan {
+    /// How many bytes of the input are left at its start.
     pub(crate) at: usize,
+    /// How many bytes of the input are left after its end.
     pub(crate) end: usize,
 }
 
@@ -34,25 +35,26 @@ pub(crate) struct TokenSpan {
 pub(crate) struct Draft<'a> {
     alloc: Global,
     input: &'a str,
-    // How many bytes of the input are left where the run begins that is not in the text yet.
+    // How many bytes of the input are left at the start of the run that is not in the text yet.
     left: usize,
-    // The text. The members of the open objects stand in the order of the input.
+    // The text so far. It has the members of the open objects in the order of the input.
     pub(crate) out: Spread,
-    // The members of closed objects that were out of order.
+    // The sorted members of closed objects that were out of order.
     pub(crate) groups: Spread,
-    // The members of the open objects.
+    // The members so far of all open objects, those of the outermost object first.
     members: Vec<Member<'a>>,
-    // For each open object, how many members stand before its own.
+    // For each open object, how many of `members` come before its own.
     opened: Vec<usize>,
-    // Whether no object that was closed had a name twice.
+    // Whether no closed object had a duplicate name.
     pub(crate) is_distinct: bool,
-    // Room for the indices of members that are sorted, and for a string with its escapes.
+    // Room for the indices of members that are being sorted.
     order: Vec<usize>,
+    // Room for a string that is being escaped.
     escaped: String,
 }
 
 impl<'a> Draft<'a> {
-    /// Returns an empty draft.
+    /// Returns the draft of an input from which nothing was read yet.
     pub(crate) fn new(alloc: Global, input: &'a str) -> Draft<'a>
         ensures { Represents result input.now start }
     {
@@ -70,7 +72,8 @@ impl<'a> Draft<'a> {
         }
     }
 
-    /// Ends the run of input at the point where `left` bytes of input are left, and appends it to the text.
+    /// Appends the current run of input to the text, up to where `left` bytes of input are left. The next run begins
+    /// there. Fails if the text cannot grow.
     #[inline(always)]
     pub(crate) fn flush(&mut self, left: usize) -> Result<(), AllocError>
         ensures wrote { OnOk result ((rest bs : List ℕ) → Wrote self.old rest bs → left ≡ length rest
@@ -90,7 +93,8 @@ impl<'a> Draft<'a> {
         Ok(())
     }
 
-    /// Leaves whitespace out: copies the input before it, and goes on after it.
+    /// Leaves out whitespace: appends the run before it to the text, and begins the next run after it. Fails if the
+    /// text cannot grow.
     #[inline(always)]
     pub(crate) fn skip(&mut self, space: TokenSpan) -> Result<(), AllocError>
         ensures wrote { OnOk result ((rest w rest' bs : List ℕ) → Wrote self.old rest bs → rest ≡ w ++ rest'
@@ -105,7 +109,7 @@ impl<'a> Draft<'a> {
         Ok(())
     }
 
-    /// Takes the first token of a value.
+    /// Takes the first token of a value, and opens an object if the token does. Fails if an allocation fails.
     #[inline(always)]
     pub(crate) fn token(
         &mut self,
@@ -125,7 +129,8 @@ impl<'a> Draft<'a> {
         Ok(())
     }
 
-    // Takes the text of the first token of a value.
+    // Takes the text of the first token of a value. `-0` and a string with escapes are written anew; any other token
+    // stays in the run. Fails if an allocation fails.
     #[inline(always)]
     fn text(&mut self, event: Event<'_>, scratch: &str, token: TokenSpan) -> Result<(), AllocError>
         ensures wrote { OnOk result ((rest part rest' bs : List ℕ) → Wrote self.old rest bs → rest ≡ part ++ rest'
@@ -146,7 +151,7 @@ impl<'a> Draft<'a> {
         Ok(())
     }
 
-    // Takes a negated zero, and writes `0` for it.
+    // Takes `-0`, and appends `0` for it. Fails if the text cannot grow.
     fn zero(&mut self, token: TokenSpan) -> Result<(), AllocError>
         ensures wrote { OnOk result ((rest part rest' bs : List ℕ) → Wrote self.old rest bs → rest ≡ part ++ rest'
             → token.at ≡ length rest → token.end ≡ length rest' → Wrote self.new rest' (bs ++ 48 ∷ [])) }
@@ -158,7 +163,7 @@ impl<'a> Draft<'a> {
         Ok(())
     }
 
-    // Takes a string, and escapes a decoded one anew.
+    // Takes a string. One that was decoded is escaped anew; any other stays in the run. Fails if an allocation fails.
     #[inline(always)]
     fn string(&mut self, text: Text<'_>, scratch: &str, token: TokenSpan) -> Result<(), AllocError>
         ensures wrote { OnOk result ((rest part rest' bs : List ℕ) → Wrote self.old rest bs → rest ≡ part ++ rest'
@@ -174,7 +179,8 @@ impl<'a> Draft<'a> {
         Ok(())
     }
 
-    /// Takes the name of a member, with its colon.
+    /// Takes the name of a member with its colon, and adds the member to those of the innermost object. Fails if an
+    /// allocation fails.
     #[inline(always)]
     pub(crate) fn name(
         &mut self,
@@ -201,7 +207,8 @@ impl<'a> Draft<'a> {
         Ok(())
     }
 
-    // Writes a name with its colon, unless the input has both as they are to be written.
+    // Appends a name with its colon. If the input has both as they are to be written, they stay in the run. Fails if
+    // an allocation fails.
     #[inline(always)]
     fn spell(&mut self, text: Text<'_>, scratch: &str, token: TokenSpan) -> Result<(), AllocError>
         requires { TextPlain text }
@@ -220,7 +227,8 @@ impl<'a> Draft<'a> {
         Ok(())
     }
 
-    /// Takes the closing bracket of a container, which is the first of the last `at` bytes of the input.
+    /// Takes the closing bracket of a container, and closes the container. `at` is how many bytes of the input are
+    /// left from the bracket on. Fails if an allocation fails.
     #[inline(always)]
     pub(crate) fn end(&mut self, kind: Kind, at: usize) -> Result<(), AllocError>
         ensures { OnOk result ((rest rest' : List ℕ) (s : State) → Represents self.old rest s
@@ -234,7 +242,8 @@ impl<'a> Draft<'a> {
         Ok(())
     }
 
-    // Closes the innermost object, before its bracket.
+    // Closes the innermost object, and puts its members in order if they are not. `at` is how many bytes of the input
+    // are left from its bracket on. Fails if an allocation fails.
     fn close(&mut self, at: usize) -> Result<(), AllocError>
         ensures { OnOk result ((rest : List ℕ) (s : State) → Represents self.old rest s → at ≡ length rest
             → (m : State) × Closes s m × Represents self.new rest m) }

@@ -1,4 +1,4 @@
-//! Writes a text with the groups in its splices.
+//! Fills the splices of a text with their groups.
 ghost use Rattle.std.specs.Prelude.{◌≡◌, ◌++◌, ◌+◌, ◌<◌, ℕ, List, IfOk, OnOk};
 ghost use Rattle.miniserde_canonical.specs.private.Spreads.{Holds, Good, Ordered};
 ghost use Rattle.miniserde_canonical.specs.private.Waiting.{SpanHolds, Waits, span_measure, spans_measure};
@@ -6,7 +6,7 @@ ghost use Rattle.miniserde_canonical.specs.private.Waiting.{SpanHolds, Waits, sp
 use crate::spread::{Point, Span, Spread, part};
 use std::alloc::{AllocError, Global};
 
-/// Returns the whole text: each splice is filled with its group.
+/// Returns the bytes of a text with each splice filled with its group. Fails if an allocation fails.
 pub(crate) fn fill_splices(
     alloc: Global,
     text: Spread,
@@ -32,7 +32,8 @@ pub(crate) fn fill_splices(
     Ok(out)
 }
 
-// Appends the text of a group.
+// Appends the text of a group, with its own splices filled. `later` is room for the spans that are to be appended.
+// Fails if an allocation fails.
 fn put_group(
     group: Span,
     groups: &Spread,
@@ -51,8 +52,8 @@ fn put_group(
     Ok(())
 }
 
-// Appends the text of a span up to its first splice. The group of that splice is next on `later`, and the rest of the span
-// follows.
+// Appends the text of a span up to its first splice. Then pushes the rest of the span to `later`, and on top of it
+// the group of that splice. Fails if an allocation fails.
 fn put_span(
     span: Span,
     groups: &Spread,

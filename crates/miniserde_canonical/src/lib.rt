@@ -1,4 +1,5 @@
-//! Canonical text of any JSON text.
+//! The canonical text of any JSON text, without a tree in memory. Canonical texts of values of a type are in
+//! `miniserde_store`.
 #![tactic(auto)]
 
 mod canonicalize;

@@ -1,4 +1,4 @@
-//! Members, and the first bytes of their names.
+//! The members of open objects, with the first bytes of their names as numbers, which are fast to compare.
 ghost use Rattle.std.specs.Prelude.{◌≡◌, IfOk, get_or, string_bytes};
 ghost use Rattle.miniserde_text.specs.Lexer.{text_of};
 ghost use Rattle.miniserde_canonical.specs.private.Names.{name_of, IsPrefix};
@@ -15,7 +15,8 @@ pub(crate) enum Name<'a> {
 }
 
 impl<'a> Name<'a> {
-    /// Returns the name of a lexer's text: borrowed from the input, or copied from the scratch text.
+    /// Returns the name of a lexer's text: borrowed from the input, or copied from the scratch text. Fails if the
+    /// copy fails to allocate.
     #[inline(always)]
     pub(crate) fn new(alloc: Global, text: Text<'a>, scratch: &str) -> Result<Name<'a>, AllocError>
         ensures { IfOk result (λ n. name_of n ≡ text_of text.entry scratch.now) }
@@ -26,7 +27,7 @@ impl<'a> Name<'a> {
         }
     }
 
-    /// Returns the text.
+    /// Returns the text of the name.
     #[inline(always)]
     pub(crate) fn text(&self) -> &str
         ensures { result.now ≡ name_of self.now }
@@ -38,27 +39,28 @@ impl<'a> Name<'a> {
     }
 }
 
-// Copies a text to the heap.
+// Returns a copy of a text on the heap. Fails if the allocation fails.
 fn boxed(alloc: Global, text: &str) -> Result<Box<String>, AllocError>
     ensures { IfOk result (λ b. string_bytes b.value ≡ text.now) }
 {
     Ok(Box::new(alloc, String::from_str(alloc, text)?)?)
 }
 
-/// A member of an open object: its name, and where it begins in what is written.
+/// A member of an open object: its name, and the point of the draft's text at which it begins.
 #[derive(Drop)]
 pub(crate) struct Member<'a> {
     pub(crate) name: Name<'a>,
-    /// The first eight bytes of the name as a number.
+    /// The first eight bytes of the name as a number whose highest byte is the first.
     pub(crate) prefix: u64,
+    /// The point of the text at which the member begins, after its comma.
     pub(crate) point: Point,
-    /// Whether it is the first of its object, so that no comma stands before it.
+    /// Whether it is the first of its object, so that it has no comma.
     pub(crate) first: bool,
     ghost leads: { IsPrefix prefix (name_of name) },
 }
 
 impl<'a> Member<'a> {
-    /// Returns a member, with the prefix of its name.
+    /// Returns a member, with the first eight bytes of its name as a number.
     #[inline(always)]
     pub(crate) fn new(name: Name<'a>, point: Point, first: bool) -> Member<'a>
         ensures name { result.name ≡ name.entry }
@@ -75,7 +77,8 @@ impl<'a> Member<'a> {
     }
 }
 
-// Returns the first eight bytes of a text as a number, the first the highest. Missing ones are 0.
+// Returns the first eight bytes of a text as a number whose highest byte is the first. If the text is shorter, the
+// bytes after it count as 0.
 #[inline(always)]
 fn prefix(name: &str) -> u64
     ensures { IsPrefix result name.now }
@@ -96,7 +99,7 @@ fn prefix(name: &str) -> u64
     ])
 }
 
-// Returns the byte at an index, or 0 past the end.
+// Returns the byte at an index, or 0 if there is none.
 #[inline(always)]
 fn byte(b: &[u8], i: usize) -> u8
     ensures { result ≡ get_or b.now i 0 }

@@ -1,4 +1,4 @@
-//! The members of the open objects, and their order.
+//! The order of an object's members by their names, and the span of each member in the text.
 ghost use Rattle.std.specs.Prelude.{◌≡◌, ◌<◌, ◌+◌, ℕ, List, length, drop, true, false, OnOk, IsSortedByKey, slice_index_or};
 ghost use Rattle.std.specs.List.{range_with_len};
 ghost use Rattle.std.specs.declared.cmp.Ordering.TheVariants.{Less};
@@ -13,7 +13,7 @@ use crate::spread::{Point, Span};
 use std::alloc::AllocError;
 use std::cmp::Ordering;
 
-/// Returns `true` only if the names strictly ascend.
+/// Returns whether the names strictly ascend in byte order.
 pub(crate) fn rises(members: &[Member<'_>]) -> bool
     ensures rises { result ≡ true → NamesRise members.now }
     ensures some { result ≡ false → 0 < length members.now }
@@ -26,7 +26,7 @@ pub(crate) fn rises(members: &[Member<'_>]) -> bool
     true
 }
 
-// Returns `true` only if the name of `a` is below the name of `b`.
+// Returns whether the name of `a` is below the name of `b` in byte order.
 #[inline(always)]
 fn below(a: &Member<'_>, b: &Member<'_>) -> bool
     ensures { result ≡ true → text_cmp (name_of a.now.name) (name_of b.now.name) ≡ Less }
@@ -37,7 +37,7 @@ fn below(a: &Member<'_>, b: &Member<'_>) -> bool
     }
 }
 
-// Compares the names of two members, by their first eight bytes if these differ.
+// Compares the names of two members in byte order. It compares their first eight bytes first, as numbers.
 #[inline(always)]
 fn compare_names(a: &Member<'_>, b: &Member<'_>) -> Ordering
     ensures { result ≡ text_cmp (name_of a.now.name) (name_of b.now.name) }
@@ -51,7 +51,7 @@ fn compare_names(a: &Member<'_>, b: &Member<'_>) -> Ordering
     a.name.text().cmp(b.name.text())
 }
 
-/// Fills `order` with the indices of the members.
+/// Fills `order` with the indices of the members, in ascending order. Fails if `order` cannot grow.
 pub(crate) fn fill(members: &[Member<'_>], order: &mut Vec<usize>) -> Result<(), AllocError>
     ensures { OnOk result (order.new.items ≡ range_with_len 0 (length members.now)) }
 {
@@ -62,7 +62,8 @@ pub(crate) fn fill(members: &[Member<'_>], order: &mut Vec<usize>) -> Result<(),
     Ok(())
 }
 
-/// Sorts the indices of the members by name. The sort is stable, so of equal names the last stays last.
+/// Sorts the indices in `order` by the names of their members. The sort is stable, so the last of equal names stays
+/// last. Fails if the sort fails to allocate.
 pub(crate) fn sort(members: &[Member<'_>], order: &mut Vec<usize>) -> Result<(), AllocError>
     ensures sorted { OnOk result (IsSortedByKey (name_in members.now) text_cmp order.new.items) }
     ensures last { (r : ℕ → Tree) (q : List ℕ) → last_of q (members_at members.now r order.new.items)
@@ -72,7 +73,7 @@ pub(crate) fn sort(members: &[Member<'_>], order: &mut Vec<usize>) -> Result<(),
     Ok(())
 }
 
-// Compares the names at two indices.
+// Compares the names of the members at two indices in byte order.
 #[inline(always)]
 fn compare(members: &[Member<'_>], a: usize, b: usize) -> Ordering
     ensures { result ≡ text_cmp (name_in members.now a) (name_in members.now b) }
@@ -83,7 +84,7 @@ fn compare(members: &[Member<'_>], a: usize, b: usize) -> Ordering
     compare_names(&members[a], &members[b])
 }
 
-// Returns the name at an index, or the empty text behind the last.
+// Returns the name of the member at an index, or the empty text if the index is out of range.
 #[inline(always)]
 fn name_at<'m>(members: &'m [Member<'_>], i: usize) -> &'m str
     ensures { result.now ≡ name_in members.now i }
@@ -95,7 +96,7 @@ fn name_at<'m>(members: &'m [Member<'_>], i: usize) -> &'m str
     }
 }
 
-/// Returns whether the next member in that order has the same name.
+/// Returns whether `order` has an entry after `order[k]`, and both members have the same name.
 #[inline(always)]
 pub(crate) fn repeats(members: &[Member<'_>], order: &[usize], k: usize) -> bool
     requires { k < length order.now }
@@ -105,7 +106,7 @@ pub(crate) fn repeats(members: &[Member<'_>], order: &[usize], k: usize) -> bool
     k + 1 < order.len() && name_at(members, order[k]) == name_at(members, order[k + 1])
 }
 
-/// Returns the span of a member, without the comma behind it. The last member ends at `end`.
+/// Returns the span of the member at index `i`, without the comma after it. The last member ends at `end`.
 #[inline(always)]
 pub(crate) fn span_of(members: &[Member<'_>], i: usize, end: Point) -> Span
     ensures from { result.from ≡ begin_of (drop i members.now) end }
@@ -120,14 +121,14 @@ pub(crate) fn span_of(members: &[Member<'_>], i: usize, end: Point) -> Span
     }
 }
 
-// Returns how many bytes stand between a member and the one before it.
+// Returns the length in bytes of the comma before a member: 0 for the first member, and else 1.
 fn comma_len(first: bool) -> usize
     ensures { result ≡ length (gap first) }
 {
     if first { 0 } else { 1 }
 }
 
-// Returns where the member before an index ends.
+// Returns the point at which the member before index `i` ends.
 fn end_at(members: &[Member<'_>], i: usize, end: Point) -> Point
     ensures { result ≡ before_comma (drop i members.now) end }
 {

@@ -1,4 +1,4 @@
-//! Writes what does not stand in the input as it is.
+//! Appends to the text what cannot be copied from the input as it is.
 ghost use Rattle.std.specs.Prelude.{◌≡◌, ◌++◌, ◌∷◌, [], ℕ, List, length, true, OnOk};
 ghost use Rattle.miniserde_model.specs.Compact.{string_text};
 ghost use Rattle.miniserde_text.specs.Lexer.{text_of};
@@ -9,7 +9,7 @@ use miniserde_text::escape::escape_str;
 use miniserde_text::json::lex::Text;
 use std::alloc::AllocError;
 
-/// Appends a comma, unless the child that follows is the first of its container.
+/// Appends a comma, unless the child after it is the first of its container. Fails if `out` cannot grow.
 #[inline(always)]
 pub(crate) fn put_gap(first: bool, out: &mut Vec<u8>) -> Result<(), AllocError>
     ensures { OnOk result (out.new.items ≡ out.old.items ++ gap first) }
@@ -20,7 +20,8 @@ pub(crate) fn put_gap(first: bool, out: &mut Vec<u8>) -> Result<(), AllocError>
     Ok(())
 }
 
-/// Appends a string.
+/// Appends a string, by the text that the lexer returned for it. `escape_text` is room for its escaped text. Fails if
+/// an allocation fails.
 #[inline(always)]
 pub(crate) fn put_string(
     text: Text<'_>,
@@ -37,7 +38,8 @@ pub(crate) fn put_string(
     }
 }
 
-/// Appends a decoded string.
+/// Appends a decoded text as a string, by the escape rule. `escape_text` is room for its escaped text. Fails if an
+/// allocation fails.
 pub(crate) fn put_escaped(
     text: &str,
     escape_text: &mut String,
@@ -50,7 +52,7 @@ pub(crate) fn put_escaped(
     out.extend_from_slice(escape_text.as_bytes())
 }
 
-// Appends a text between quotes. It contains no byte that must be escaped.
+// Appends a text between quotes. None of its bytes needs an escape. Fails if `out` cannot grow.
 fn put_plain(text: &str, out: &mut Vec<u8>) -> Result<(), AllocError>
     requires { is_plain text.now ≡ true }
     ensures { OnOk result (out.new.items ≡ out.old.items ++ string_text text.now) }
@@ -61,8 +63,8 @@ fn put_plain(text: &str, out: &mut Vec<u8>) -> Result<(), AllocError>
     Ok(())
 }
 
-/// Returns whether a name of that length with its colon stands in the input as it is: its string is not escaped, and no
-/// whitespace stands before the colon.
+/// Returns whether the input has a name and its colon as they are to be written: without escapes, and without
+/// whitespace before the colon. `len` is how many bytes both have in the input.
 #[inline(always)]
 pub(crate) fn is_as_written(text: Text<'_>, len: usize) -> bool
     ensures { (scratch part : List ℕ) → result ≡ true → len ≡ length part → NameSpelled text.entry part

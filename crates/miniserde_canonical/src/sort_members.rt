@@ -1,4 +1,4 @@
-//! Puts the members of an object in order.
+//! Puts the members of a closed object in the order of their names.
 ghost use Rattle.std.specs.Prelude.{◌≡◌, ◌<◌, length, IfOk, OnOk};
 ghost use Rattle.miniserde_canonical.specs.private.Sorting.{SortsMembers, PutsMembers, PutsMember, PutsBack};
 
@@ -8,11 +8,12 @@ use crate::put::put_gap;
 use crate::spread::{Point, Span, Splice, Spread};
 use std::alloc::AllocError;
 
-/// The longest text of members, in bytes, that comes back when it is in order.
+/// The length in bytes of the longest text of sorted members that is copied back to the text.
 const SHORT: usize = 1024;
 
-/// Puts the members of an object in order. Returns whether their names are distinct. A text longer than `SHORT`
-/// becomes a splice, unless the object is the outermost.
+/// Sorts the members of an object by name, with the last of equal names alone. Returns whether the names are
+/// distinct, and fails if an allocation fails. The sorted text replaces the members if it has no splice and at most
+/// `SHORT` bytes, or any number for the outermost object; else a splice replaces them.
 pub(crate) fn sort_members(
     members: &[Member<'_>],
     outermost: bool,
@@ -32,7 +33,8 @@ pub(crate) fn sort_members(
     Ok(number == members.len())
 }
 
-// Appends the members in that order to the groups, without those whose name the next one repeats. Returns how many.
+// Appends to the groups the members in the order `order`, except each one whose name the next one has too. Returns
+// how many it appended. Fails if an allocation fails.
 fn put_members(
     members: &[Member<'_>],
     order: &[usize],
@@ -51,7 +53,7 @@ fn put_members(
     Ok(number)
 }
 
-// Appends a member to the groups, behind a comma unless it is the first.
+// Appends the member at index `i` to the groups, after a comma unless it is the first. Fails if an allocation fails.
 #[inline(always)]
 fn put_member(
     members: &[Member<'_>],
@@ -67,7 +69,8 @@ fn put_member(
     Ok(())
 }
 
-// Truncates the text at `point`, and appends the groups behind `from`: as text if they are short, else as a splice.
+// Truncates the text at `point`, and appends what the groups have after `from`: as text if it has no splice and at
+// most `longest` bytes, and else as a splice. Fails if an allocation fails.
 fn put_back(
     point: Point,
     from: Point,

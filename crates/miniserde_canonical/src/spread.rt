@@ -18,7 +18,7 @@ pub(crate) struct Span {
     pub(crate) to: Point,
 }
 
-/// A splice before the byte of an index. A span of the groups belongs there.
+/// A splice: the span `group` of the groups belongs before the byte at index `at`.
 #[derive(Clone, Copy, Drop)]
 pub(crate) struct Splice {
     pub(crate) at: usize,
@@ -33,7 +33,7 @@ pub(crate) struct Spread {
 }
 
 impl Spread {
-    /// Returns an empty text.
+    /// Returns an empty text without splices.
     pub(crate) fn new(alloc: Global) -> Spread
         ensures bytes { result.bytes.items ≡ [] }
         ensures splices { result.splices.items ≡ [] }
@@ -44,7 +44,7 @@ impl Spread {
         }
     }
 
-    /// Returns the point behind the text.
+    /// Returns the point at the end of the text.
     pub(crate) fn end(&self) -> Point
         ensures bytes { result.bytes ≡ length self.now.bytes.items }
         ensures splices { result.splices ≡ length self.now.splices.items }
@@ -55,7 +55,7 @@ impl Spread {
         }
     }
 
-    /// Removes the text behind a point.
+    /// Removes the bytes and the splices after a point.
     pub(crate) fn truncate(&mut self, point: Point)
         ensures bytes { self.new.bytes.items ≡ take point.bytes self.old.bytes.items }
         ensures splices { self.new.splices.items ≡ take point.splices self.old.splices.items }
@@ -64,7 +64,7 @@ impl Spread {
         self.splices.truncate(point.splices);
     }
 
-    /// Appends a span of another text.
+    /// Appends a span of another text, with its splices. Fails if an allocation fails.
     #[inline(always)]
     pub(crate) fn append(&mut self, other: &Spread, span: Span) -> Result<(), AllocError>
         ensures bytes { OnOk result (Within span other.now.bytes.items other.now.splices.items
@@ -85,7 +85,8 @@ impl Spread {
     }
 }
 
-// Returns a splice of a text that is moved from the index `from` to the index `at`. Fails if no index is so large.
+// Returns what becomes of a splice if the text from index `from` on moves to index `at`. Fails if the new index
+// overflows.
 fn shifted_splice(splice: Splice, from: usize, at: usize) -> Result<Splice, AllocError>
     ensures { IfOk result (λ h. h ≡ shifted_splice from at splice) }
 {

@@ -1,8 +1,7 @@
-//! Types that can be read, each with its place.
+//! The trait of types that have a place, which collects a value of the type from events.
 //!
-//! A place takes the events of one value, one by one, and collects the value. The text `{"a":[1,-0],"b":null}` is the
-//! events `map`, `key("a")`, `seq`, `element`, `nonnegative(1)`, `element`, `negative(0)`, `finish`, `key("b")`,
-//! `null`, `finish`.
+//! The events of the text `{"a":[1,-0],"b":null}` are `map`, `key("a")`, `seq`, `element`, `nonnegative(1)`,
+//! `element`, `negative(0)`, `finish`, `key("b")`, `null`, `finish`.
 ghost use Rattle.std.specs.Prelude.{◌≡◌, ◌≢◌, true, IsOk, Option, Some, None, Ok, Err, [], IfOk, IfErr};
 ghost use Rattle.miniserde_model.specs.Position.{complete};
 ghost use Rattle.miniserde_model.specs.declared.error.Error.{Error};
@@ -21,15 +20,16 @@ pub use miniserde_place::de::{Ignore, Step, Visitor, container, ignore, leaf};
 pub use miniserde_read::{FromJson, Ignored, Source};
 use std::alloc::Global;
 
-/// A type with a place, which collects a value from events. The place means what the type does.
+/// A type with a place, which collects a value from events. The same trees mean the same values for both.
 pub trait Deserialize: FromJson {
+    /// The place of the type.
     type Place: Visitor<Out = Self>;
 
     /// Does nothing. It promises that the place means what the type does: the same trees mean the same values.
     fn tied()
         ensures { Agree (meant_by Self.Place.meaning) Self.means };
 
-    /// Returns the value of a struct's field that is missing, or `None` if such a struct is invalid.
+    /// Returns the value of a struct's field of this type that no member has, or `None` if such a struct is an error.
     final fn default() -> Option<Self>
         ensures { result ≡ Self.absent }
     {
@@ -45,8 +45,8 @@ pub trait Deserialize: FromJson {
         <Self::Place as Visitor>::begin(alloc)
     }
 
-    /// Returns the value if it is complete and the place keeps no error. Returns the error that the place keeps, or
-    /// `Invalid` for an incomplete value.
+    /// Returns the value if it is complete and the place keeps no error. Returns the error that the place keeps,
+    /// `Invalid` if the value is incomplete or means no value of the type, or `Memory` if an allocation fails.
     final fn take(place: Self::Place) -> Result<Self>
         ensures value { IfOk result (λ v. ((Self.Place.meaning.view place).at ≡ complete)
             × ((Self.Place.meaning.view place).outcome [] ≡ Some (Self.Place.meaning.content v))) }

@@ -1,4 +1,4 @@
-//! The places of documents.
+//! The places of documents: of `Value`, `Number`, `Array`, `Object`, `Unique` and `Document`.
 
 mod kinds;
 mod number_place;

@@ -1,4 +1,4 @@
-//! Laws of `feed`, then `take`. No function here does anything when it runs.
+//! Promises about `feed` followed by `take`. No function here does anything when it runs.
 ghost use Rattle.std.specs.Prelude.{◌≡◌, Some, None, []};
 ghost use Rattle.miniserde_model.specs.Tree.{Tree};
 ghost use Rattle.miniserde_model.specs.Step.{events};
@@ -10,14 +10,14 @@ use crate::de::Deserialize;
 use miniserde_model::events_complete;
 use miniserde_place::de::Visitor;
 
-/// Does nothing. It promises that the events of a tree complete a fresh place, whose outcome is then that of the
-/// tree. So `feed`, then `Visitor::take`, has the meaning of the place.
+/// Does nothing. It promises that after the events of a tree a place that was fresh is complete, and that its value
+/// is then the one that the tree means for the place.
 pub fn events_give<V: Visitor>()
-    // The place that `feed` is handed, so that its clause `invalid` speaks of the tree.
+    // This is about the place before `feed`: with it the clause `invalid` of `feed` speaks of the tree.
     ensures fresh { (p : PlaceView V.meaning.Content) → IsFresh V.meaning.from_events p → (t : Tree)
         → p.outcome (events t) ≡ V.meaning.from_tree t }
 
-    // The place that `feed` leaves, so that the clauses of `take` speak of the tree.
+    // These are about the place after `feed`: with them the clauses of `take` speak of the tree.
     ensures complete { (t : Tree) (p : PlaceView V.meaning.Content) → IsFed V.meaning t p → p.at ≡ complete }
     ensures outcome { (t : Tree) (p : PlaceView V.meaning.Content) → IsFed V.meaning t p
         → p.outcome [] ≡ V.meaning.from_tree t }
@@ -25,19 +25,19 @@ pub fn events_give<V: Visitor>()
     events_complete();
 }
 
-/// Does nothing. It promises that the events of a tree complete a fresh place of a type, whose value is then one that
-/// the tree means. So `feed`, then `Deserialize::take`, has the meaning of the type.
+/// Does nothing. It promises that after the events of a tree a place of the type that was fresh is complete, and that
+/// its value is then one that the tree means for the type.
 pub fn events_mean<T: Deserialize>()
     // The place is complete, and `take` returns a value that the tree means.
     ensures complete { (t : Tree) (p : PlaceView T.Place.meaning.Content) → IsFed T.Place.meaning t p → p.at ≡ complete }
     ensures value { (t : Tree) (p : PlaceView T.Place.meaning.Content) → IsFed T.Place.meaning t p
         → (v : T) → p.outcome [] ≡ Some (T.Place.meaning.content v) → T.means.reads t v }
 
-    // If `take` has none to return, the tree means none.
+    // If `take` has no value to return, the tree means none.
     ensures none { (t : Tree) (p : PlaceView T.Place.meaning.Content) → IsFed T.Place.meaning t p
         → p.outcome [] ≡ None → (v : T) → T.means.reads t v → ⊥ }
 
-    // If `feed` refuses the events, the tree means none.
+    // If the events of the tree give a fresh place no value, the tree means none.
     ensures refused { (p : PlaceView T.Place.meaning.Content) → IsFresh T.Place.meaning.from_events p → (t : Tree)
         → p.outcome (events t) ≡ None → (v : T) → T.means.reads t v → ⊥ }
 {

@@ -1,4 +1,4 @@
-//! The fields of a variant, beside the enum's tag.
+//! Reads the fields of a variant whose object has the enum's tag too.
 ghost use Rattle.miniserde_enum.specs.Inside.{beside_tag};
 
 use crate::tagged::HasTag;
@@ -8,7 +8,8 @@ use miniserde_record::record::{NoSlot, Slots};
 use std::alloc::Global;
 use std::marker::PhantomData;
 
-/// The fields of a variant of the enum `E`, whose tag stands among their members and is skipped.
+/// The fields `F` of a variant of the enum `E`, whose object has the tag too. Members with the tag's name are
+/// skipped.
 pub struct BesideTag<E, F> {
     fields: F,
     tag: PhantomData<E>,

@@ -1,4 +1,4 @@
-//! The variants of an enum, read by their names.
+//! Reads the variants of an enum by their names.
 ghost use Rattle.std.specs.Prelude.{◌≡◌, None, Err, IfOk, map, option_map};
 ghost use Rattle.miniserde_text.specs.Lexer.{event_of_token};
 ghost use Rattle.miniserde_model.specs.declared.error.Error.{Error};
@@ -13,20 +13,22 @@ use miniserde_read::{FromJson, Source};
 use miniserde_text::json::lex::Event;
 use std::marker::PhantomData;
 
-/// The variants of an enum.
+/// A chain of the variants of an enum.
 pub trait Cases {
-    /// The value of a variant.
+    /// The value of one of the variants.
     type Values;
 
-    // The meaning of the variants.
+    // What the variants mean.
     ghost meaning: { CasesMeaning Self.Values };
 
-    /// Returns the variant of the name if it has no data.
+    /// Returns the variant with the name `name`, or `None` if no variant without data has it. `names` has the names
+    /// of the variants.
     fn of_name(names: &[&str], name: &str) -> Option<Self::Values>
         ensures { option_map meaning.content result ≡ meaning.by_case (map (λ n. n.now) names.now) name.now None };
 
-    /// Reads the data of the variant of the name, whose first token is `token`, and no further. Returns `Invalid` if no
-    /// variant with data has the name, or no beginning of the text spells its data.
+    /// Reads the data of the variant with the name `name`, whose first token is `token`, and takes no more of the
+    /// source. `names` has the names of the variants. Returns `Invalid` if no variant with data has the name, or if
+    /// the text, from `token` on, has no prefix that means its data; `Memory` if an allocation fails.
     fn read_case<'a>(
         names: &[&str],
         name: &str,
@@ -44,7 +46,7 @@ pub trait Cases {
             (event_of_token token.entry source.old.scratch) source.old.rest };
 }
 
-/// No more variants.
+/// The end of a chain of variants.
 pub struct NoCase {}
 
 impl Cases for NoCase {

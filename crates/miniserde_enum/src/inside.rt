@@ -1,4 +1,4 @@
-//! Data that stands in one object with a tag.
+//! Reads and writes data whose members are in one object with the tag.
 ghost use Rattle.std.specs.Prelude.{◌≡◌, ◌++◌, ◌&&◌, Bool, true, List, Option, None, Err, IfOk, OnOk, OnErr, IsErrOf, map, ⊤};
 ghost use Rattle.miniserde_text.specs.Lexer.{event_of_token};
 ghost use Rattle.miniserde_model.specs.Tree.{Tree, members};
@@ -25,13 +25,14 @@ use miniserde_round::RoundTrip;
 use miniserde_ser::ser::Writer;
 use miniserde_text::json::lex::Event;
 
-/// A struct whose members may stand in one object with the tag of an enum.
+/// A struct whose members may be in one object with the tag of an enum.
 pub trait Inside: RoundTrip {
     // The names of its fields.
     ghost fields: { List Name };
 
-    /// Reads one object, whose first token is `token`, and no further. The members without the tag's name are the
-    /// fields. Returns `Invalid` if no prefix of the text spells an object whose other members mean a value.
+    /// Reads one object, whose first token is `token`, and takes no more of the source. Members with the name of the
+    /// tag of `E` are skipped. Returns `Invalid` if the text, from `token` on, has no prefix that is an object whose
+    /// other members mean a value of the struct, and `Memory` if an allocation fails.
     fn read_inside<'a, E: HasTag>(token: Event<'a>, source: &mut Source<'a>) -> Result<Self>
         requires going { source.old.refused ≡ None }
         requires event { IsTreeEvent (event_of_token token source.old.scratch) }
@@ -41,7 +42,7 @@ pub trait Inside: RoundTrip {
         ensures invalid { result ≡ Err Error.Invalid → GivesNoneAt (inside_of E.tag Self.means.from_tree)
             (event_of_token token.entry source.old.scratch) source.old.rest };
 
-    /// Writes its members. Returns `Memory` if the text cannot grow.
+    /// Appends the members of the struct, without brackets. Returns `Memory` if the writer fails.
     fn write_inside(&self, w: &mut Writer) -> Result<()>
         ensures ok { OnOk result (w.new.text
             ≡ w.old.text ++ members_text w.old.first (object_members (Self.tree self.now))) }
@@ -50,36 +51,38 @@ pub trait Inside: RoundTrip {
         ensures memory { OnErr result (IsErrOf result Memory) }
         ensures err { OnErr result (w.new.refused ≡ true) };
 
-    /// Does nothing. It promises that its tree is an object, whose members have no name but those of its fields.
+    /// Does nothing. It promises that the tree of each value is an object, and that each of its members has the name
+    /// of a field.
     fn is_object()
         ensures object { (v : Self) → Self.tree v ≡ members (object_members (Self.tree v)) }
         ensures named { (k : Name) (v : Self) → is_new k fields ≡ true
             → count_named k (object_members (Self.tree v)) ≡ 0 };
 }
 
-/// Does nothing. It promises that no written member has a name that is none of the fields'.
+/// Does nothing. It promises that each member that is written of a struct has the name of one of its fields.
 pub fn fields_named()
     ensures { (k : Name) (names : List Name) (ts : List (Option Tree)) → is_new k names ≡ true
         → count_named k (with_names names ts) ≡ 0 }
 {}
 
-/// Variants whose data stands in one object with the tag.
+/// A chain of variants whose data is in one object with the tag.
 pub trait InsideCases {
-    /// The value of a variant.
+    /// The value of one of the variants.
     type Values;
 
-    // The meaning of the variants.
+    // What the variants mean.
     ghost meaning: { CasesMeaning Self.Values };
 
-    // Trees of the tagging, as they are written, are the variants that they are written for.
+    // Which taggings fit: the tree that is written of a variant with its data is read as that variant with that data.
     ghost fits: { Tagging → Type 0 };
 
-    // The name is none of the fields of the variants.
+    // Whether no field of the variants has the name.
     ghost apart: { Name → Bool };
 
-    /// Reads an object, whose first token is `token`, but for its members of the tag's name, as the data of the variant of
-    /// the name, and no further. Returns `Invalid` if no variant has the name, or no beginning of the text spells such an
-    /// object.
+    /// Reads one object, whose first token is `token`, as the data of the variant with the name `name`, and takes no
+    /// more of the source. Members with the name of the tag of `E` are skipped. Returns `Invalid` if no variant has
+    /// the name, or if the text, from `token` on, has no prefix that is such an object; `Memory` if an allocation
+    /// fails.
     fn read_inside<'a, E: HasTag>(
         names: &[&str],
         name: &str,
@@ -96,8 +99,7 @@ pub trait InsideCases {
             → GivesNoneAt (inside_of E.tag (with_data (meaning.by_case (map (λ n. n.now) names.now) name.now)))
             (event_of_token token.entry source.old.scratch) source.old.rest };
 
-    /// Does nothing. It promises that the trees of internally tagged enums, as they are written, are the variants that
-    /// they are written for, if the tag's name is none of the fields.
+    /// Does nothing. It promises that internal tagging fits if no field has the name of the tag.
     fn fit()
         ensures { (tag : Name) → apart tag ≡ true → fits (internal tag) };
 }

@@ -1,4 +1,4 @@
-//! Internally tagged enums, read from a text: an object, of which one member, the tag, names the variant.
+//! Reads internally tagged enums: objects in which one member, the tag, names the variant.
 ghost use Rattle.std.specs.Prelude.{◌≡◌, true, None, Err, IfOk, length};
 ghost use Rattle.miniserde_text.specs.Lexer.{event_of_token};
 ghost use Rattle.miniserde_model.specs.declared.error.Error.{Error};
@@ -15,13 +15,13 @@ use miniserde_read::Source;
 use miniserde_record::record::{NoSlot, Parts, Record, Slot, Slots, read_record};
 use miniserde_text::json::lex::Event;
 
-// The tag of an object of the enum `E`.
+// A struct whose one field is the tag. It is read from an object of the enum `E`.
 #[derive(Drop)]
 struct Tag<E> {
     name: TagName<E>,
 }
 
-// The one field of a `Tag`.
+// The chain of the one field of a `Tag`.
 type TagFields<E> = Slot<TagName<E>, NoSlot>;
 
 impl<E: Tagged + HasTag> Record for Tag<E> {
@@ -49,9 +49,10 @@ impl<E: Tagged + HasTag> Record for Tag<E> {
     }
 }
 
-/// Reads an internally tagged enum, whose first token is `token`, and no further: an object, of which the last member of
-/// the tag's name is the variant's name, and the other members are the variant's data. Returns `Invalid` if no beginning
-/// of the text spells such a value.
+/// Reads an internally tagged enum, whose first token is `token`, and takes no more of the source. It is an object in
+/// which the last member with the tag's name names the variant, and the other members are the variant's data. Returns
+/// `Invalid` if the text, from `token` on, has no prefix that means such a value, and `Memory` if an allocation
+/// fails.
 pub fn read_tagged<'a, E: Tagged + HasTag, C: InsideCases<Values = E::Values>>(
     token: Event<'a>,
     source: &mut Source<'a>,
@@ -77,8 +78,7 @@ pub fn read_tagged<'a, E: Tagged + HasTag, C: InsideCases<Values = E::Values>>(
     Ok(E::build(value))
 }
 
-/// Does nothing. It promises that the trees of an internally tagged enum, as they are written, are the variants that they
-/// are written for, if the tag's name is none of the fields.
+/// Does nothing. It promises that internal tagging fits if no field has the name of the tag.
 pub fn tag_fits<E: HasTag, C: InsideCases>()
     requires { C.apart E.tag ≡ true }
     ensures { C.fits (internal E.tag) }

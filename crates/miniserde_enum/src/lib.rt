@@ -1,4 +1,5 @@
-//! Enums of a user's own whose variants may have data, read and written by the names of the variants.
+//! Enums of a user's own whose variants may have data: how they are read and written, externally or internally
+//! tagged, and what is promised of them. Unit enums are in `miniserde_record`.
 #![tactic(auto)]
 
 mod beside;

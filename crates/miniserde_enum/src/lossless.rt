@@ -1,4 +1,4 @@
-//! Enums whose tree is injective: values with one tree have one content.
+//! Promises that enums are lossless: valid values with the same tree have the same content.
 ghost use Rattle.std.specs.Prelude.{◌≡◌, true, List, Option, Some, length, ⊤};
 ghost use Rattle.miniserde_model.specs.Tree.{Tree, null};
 ghost use Rattle.miniserde_read.specs.types.Objects.{Name};
@@ -12,27 +12,26 @@ use crate::one_of::{Never, OneOf};
 use crate::tagged::{HasTag, Tagged};
 use miniserde_round::Lossless;
 
-/// Variants whose tree is injective. It stands beside `RoundTripCases` and not above it: else each link of a chain of variants
-/// contains the other chain.
+/// A chain of variants. Valid values with the same tree have the same content. The trait does not extend
+/// `RoundTripCases`, since each link of a chain would then hold the other chain too.
 pub trait LosslessCases {
-    /// The value of a variant.
+    /// The value of one of the variants.
     type Values;
 
-    // The meaning of the variants.
+    // What the variants mean.
     ghost meaning: { CasesMeaning Self.Values };
 
-    // The value is valid.
+    // Which values are valid.
     ghost real: { Self.Values → Type 0 };
 
-    // The tree of a value, by its tagging and the variants' names.
+    // The tree of a value, by the tagging and the names of the variants.
     ghost tree: { Tagging → List Name → Self.Values → Tree };
 
-    // Trees of the tagging, as they are written, are the variants that they are written for.
+    // Which taggings fit: the tree that is written of a variant with its data is read as that variant with that data.
     ghost fits: { Tagging → Type 0 };
 
-    /// Does nothing. It promises that trees of externally tagged enums are the variants that they are written for, and,
-    /// of each tagging that this holds of, that the tree of a valid value has one of the names, and that valid values with
-    /// one tree have one content.
+    /// Does nothing. It promises that external tagging fits. For each tagging that fits, it promises that the tree of
+    /// a valid value names one of these variants, and that valid values with the same tree have the same content.
     fn lossless()
         ensures external { fits external }
         ensures named { (tagging : Tagging) (names : List Name) (v : Self.Values) (n : Name) (o : Option Tree) → fits tagging
@@ -90,7 +89,7 @@ impl<T: Lossless, R: LosslessCases> LosslessCases for DataCase<T, R> {
     }
 }
 
-/// Does nothing. It promises that valid values of an externally tagged enum with one tree have one content.
+/// Does nothing. It promises that valid values of an externally tagged enum with the same tree have the same content.
 pub fn enum_lossless<E: Tagged, C: LosslessCases<Values = E::Values>>()
     requires { length E.names ≡ C.meaning.count }
     ensures { (v w : E) → C.real (E.values v) → C.real (E.values w)
@@ -100,8 +99,8 @@ pub fn enum_lossless<E: Tagged, C: LosslessCases<Values = E::Values>>()
     C::lossless()
 }
 
-/// Does nothing. It promises that valid values of an internally tagged enum with one tree have one content, if its trees
-/// are the variants that they are written for.
+/// Does nothing. It promises that valid values of an internally tagged enum with the same tree have the same content,
+/// if its tagging fits.
 pub fn tagged_lossless<E: Tagged + HasTag, C: LosslessCases<Values = E::Values>>()
     requires count { length E.names ≡ C.meaning.count }
     requires fits { C.fits (internal E.tag) }

@@ -1,4 +1,4 @@
-//! The data of an internally tagged variant without data.
+//! The type `NoFields`, the data of a variant without data in an internally tagged enum.
 ghost use Rattle.std.specs.Prelude.{refl, [], ⊤};
 ghost use Rattle.miniserde_model.specs.Tree.{members, no_members};
 ghost use Rattle.miniserde_enum.specs.NoFields.{any_object};

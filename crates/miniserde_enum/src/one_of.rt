@@ -1,4 +1,4 @@
-//! The value of one variant of several.
+//! The type `OneOf`: the value of one of several variants, as a chain.
 
 /// The value of the first variant, or of a later one.
 #[derive(Drop)]
@@ -7,6 +7,6 @@ pub enum OneOf<T, R> {
     Later(R),
 }
 
-/// The value of no variant: there is none.
+/// The type of the value if there is no variant. It has no values.
 #[derive(Drop)]
 pub enum Never {}

@@ -1,4 +1,4 @@
-//! Externally tagged enums, read from a text: a name alone, or an object of one member.
+//! Reads externally tagged enums: the name of a variant alone, or an object of one member.
 ghost use Rattle.std.specs.Prelude.{◌≡◌, None, Err, IfOk, map};
 ghost use Rattle.miniserde_text.specs.Lexer.{event_of_token, text_of};
 ghost use Rattle.miniserde_model.specs.declared.error.Error.{Error};
@@ -14,7 +14,8 @@ use miniserde_model::error::{Error, Result};
 use miniserde_read::Source;
 use miniserde_text::json::lex::{After, Event, Kind, Text};
 
-// Reads the value of a member, after the member's name, as the data of the variant of the name.
+// Reads the data of the variant with the name `name`, after that name and its colon. Returns `Invalid` if no variant
+// with data has the name, or if the text has no prefix that means its data; `Memory` if an allocation fails.
 #[inline(always)]
 fn read_due_case<'a, C: Cases>(
     names: &[&str],
@@ -33,7 +34,9 @@ fn read_due_case<'a, C: Cases>(
     C::read_case(names, name, token, source)
 }
 
-// Reads the data of the variant of the name that the source returned last.
+// Reads the data of the variant whose name the source returned last, after that name and its colon. Returns `Invalid`
+// if no variant with data has the name, or if the text has no prefix that means its data; `Memory` if an allocation
+// fails.
 #[inline(always)]
 fn read_named<'a, C: Cases>(
     names: &[&str],
@@ -58,9 +61,10 @@ fn read_named<'a, C: Cases>(
     }
 }
 
-/// Reads an externally tagged enum, whose first token is `token`, and no further. A variant without data is the string of
-/// its name, and one with data is an object of one member, whose name is the variant's. Returns `Invalid` if no beginning
-/// of the text spells such a value.
+/// Reads an externally tagged enum, whose first token is `token`, and takes no more of the source. A variant without
+/// data is its name as a string; one with data is an object of one member, whose name is the variant's. Returns
+/// `Invalid` if the text, from `token` on, has no prefix that means such a value, and `Memory` if an allocation
+/// fails.
 pub fn read_enum<'a, E: Tagged, C: Cases<Values = E::Values>>(
     token: Event<'a>,
     source: &mut Source<'a>,

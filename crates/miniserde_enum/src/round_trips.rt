@@ -1,4 +1,4 @@
-//! The round trip of an enum, by its variants.
+//! Promises that enums are read back as they were written.
 ghost use Rattle.std.specs.Prelude.{◌≡◌, true, List, length, ⊤};
 ghost use Rattle.miniserde_model.specs.Tree.{Tree, null};
 ghost use Rattle.miniserde_read.specs.types.Objects.{Name};
@@ -13,26 +13,25 @@ use crate::one_of::{Never, OneOf};
 use crate::tagged::{HasTag, Tagged};
 use miniserde_round::RoundTrip;
 
-/// Variants whose values read back as they were written.
+/// A chain of variants whose values are read back as they were written.
 pub trait RoundTripCases {
-    /// The value of a variant.
+    /// The value of one of the variants.
     type Values;
 
-    // The meaning of the variants.
+    // What the variants mean.
     ghost meaning: { CasesMeaning Self.Values };
 
-    // The value is valid.
+    // Which values are valid.
     ghost real: { Self.Values → Type 0 };
 
-    // The tree of a value, by its tagging and the variants' names.
+    // The tree of a value, by the tagging and the names of the variants.
     ghost tree: { Tagging → List Name → Self.Values → Tree };
 
-    // Trees of the tagging, as they are written, are the variants that they are written for.
+    // Which taggings fit: the tree that is written of a variant with its data is read as that variant with that data.
     ghost fits: { Tagging → Type 0 };
 
-    /// Does nothing. It promises that trees of externally tagged enums are the variants that they are written for, and,
-    /// of each tagging that this holds of, that the tree of a valid value means a valid value, and that each such value has
-    /// that tree.
+    /// Does nothing. It promises that external tagging fits. For each tagging that fits, it promises that the tree of
+    /// a valid value means a valid value, and that each valid value that it means has that tree.
     fn round_trips()
         ensures external { fits external }
         ensures round_trips { (tagging : Tagging) (names : List Name) (v : Self.Values) → fits tagging
@@ -87,7 +86,8 @@ impl<T: RoundTrip, R: RoundTripCases> RoundTripCases for DataCase<T, R> {
     }
 }
 
-/// Does nothing. It promises the round trip of an externally tagged enum.
+/// Does nothing. It promises, of an externally tagged enum, that the tree of a valid value means a valid value, and
+/// that each valid value that it means has that tree.
 pub fn enum_round_trips<E: Tagged, C: RoundTripCases<Values = E::Values>>()
     requires { length E.names ≡ C.meaning.count }
     ensures { (v : E) → C.real (E.values v)
@@ -97,8 +97,8 @@ pub fn enum_round_trips<E: Tagged, C: RoundTripCases<Values = E::Values>>()
     C::round_trips()
 }
 
-/// Does nothing. It promises the round trip of an internally tagged enum, if its trees are the variants that they are
-/// written for.
+/// Does nothing. It promises, of an internally tagged enum whose tagging fits, that the tree of a valid value means a
+/// valid value, and that each valid value that it means has that tree.
 pub fn tagged_round_trips<E: Tagged + HasTag, C: RoundTripCases<Values = E::Values>>()
     requires count { length E.names ≡ C.meaning.count }
     requires fits { C.fits (internal E.tag) }

@@ -1,4 +1,4 @@
-//! Enums that are read from the normal form of a tree as from the tree.
+//! Promises that enums are stable: if a tree means a value, its normal form means the same.
 ghost use Rattle.miniserde_stable.specs.Stable.{IsStable};
 ghost use Rattle.miniserde_enum.specs.CasesMeaning.{CasesMeaning, no_cases, unit_and, data_and, enum_of, tagged_of};
 ghost use Rattle.miniserde_enum.specs.Stable.{CasesStable};
@@ -8,15 +8,16 @@ use crate::one_of::{Never, OneOf};
 use crate::tagged::{HasTag, Tagged};
 use miniserde_stable::Stable;
 
-/// Variants that are read from the normal form of their data as from the data.
+/// A chain of variants for which the normal form of data means what the data means.
 pub trait StableCases {
-    /// The value of a variant.
+    /// The value of one of the variants.
     type Values;
 
-    // The meaning of the variants.
+    // What the variants mean.
     ghost meaning: { CasesMeaning Self.Values };
 
-    /// Does nothing. It promises that the normal form of data has the content of the data, if they have one.
+    /// Does nothing. It promises that if data means a value of a variant, its normal form means a value of the same
+    /// content.
     fn stable()
         ensures { CasesStable meaning.by_case };
 }
@@ -50,14 +51,16 @@ impl<T: Stable, R: StableCases> StableCases for DataCase<T, R> {
     }
 }
 
-/// Does nothing. It promises that an externally tagged enum is read from the normal form of a tree as from the tree.
+/// Does nothing. It promises that if a tree means a value of an externally tagged enum, its normal form means a value
+/// of the same content.
 pub fn enum_stable<E: Tagged, C: StableCases<Values = E::Values>>()
     ensures { IsStable (enum_of C.meaning E.names) }
 {
     C::stable()
 }
 
-/// Does nothing. It promises that an internally tagged enum is read from the normal form of a tree as from the tree.
+/// Does nothing. It promises that if a tree means a value of an internally tagged enum, its normal form means a value
+/// of the same content.
 pub fn tagged_stable<E: Tagged + HasTag, C: StableCases<Values = E::Values>>()
     ensures { IsStable (tagged_of C.meaning E.tag E.names) }
 {

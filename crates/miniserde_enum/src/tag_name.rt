@@ -1,4 +1,4 @@
-//! The tag of an internally tagged enum, as the name of a variant.
+//! The type `TagName`, the value of a tag.
 ghost use Rattle.std.specs.Prelude.{◌≡◌, true, refl, map, option_map};
 ghost use Rattle.miniserde_enum.specs.TagName.{known, tag_name_meaning};
 
@@ -9,14 +9,14 @@ use miniserde_text::json::lex::Event;
 use std::alloc::Global;
 use std::marker::PhantomData;
 
-/// The name of a variant of the enum `E`, or `None` for a string that is no variant's name.
+/// The value of a tag of the enum `E`: the name of a variant, or `None` for a string that names no variant.
 #[derive(Drop)]
 pub(crate) struct TagName<E> {
     pub(crate) known: Option<&'static str>,
     of: PhantomData<E>,
 }
 
-// Returns the first of the names that is equal to `name`.
+// Returns the first of the names that is equal to `name`, or `None` if there is none.
 fn find_name(names: &'static [&'static str], name: &str) -> Option<&'static str>
     ensures { option_map (λ n. n.now) result ≡ known (map (λ n. n.now) names.now) name.now }
 {

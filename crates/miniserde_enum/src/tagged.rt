@@ -1,40 +1,40 @@
-//! An enum, by its variants.
+//! The traits of enums whose variants may have data: `Tagged`, and `HasTag` for internally tagged ones.
 ghost use Rattle.std.specs.Prelude.{◌≡◌, true, List, [], ◌∷◌, map};
 ghost use Rattle.miniserde_read.specs.types.Objects.{Name};
 ghost use Rattle.miniserde_record.specs.Structs.{are_distinct};
 
 /// An enum whose variants may have data, and are told apart by their names.
 pub trait Tagged: Sized + Drop {
-    /// The values of the variants: each is the first variant's, or a later one's.
+    /// The value of one of the variants: of the first, or of a later one.
     type Values;
 
     // The variants' names, in their order.
     ghost names: { List Name };
 
-    // The value of the variant.
+    // The value of the enum's variant.
     ghost values: { Self → Self.Values };
 
     /// Returns the variants' names, in their order.
     fn names() -> &'static [&'static str]
         ensures { map (λ s. s.now) result.now ≡ names };
 
-    /// Makes the enum of a variant's value.
+    /// Returns the value of the enum whose variant has this value.
     fn build(value: Self::Values) -> Self
         ensures { values result ≡ value };
 
-    // Each value of a variant is an enum's.
+    // For each value of a variant there is a value of the enum that has it.
     ghost bijective: { (x : Self.Values) → (v : Self) × (values v ≡ x) };
 
     // No name is a duplicate.
     ghost distinct_names: { are_distinct names ≡ true };
 }
 
-/// An internally tagged enum: a member of its objects, the tag, has the name of the variant.
+/// An internally tagged enum: one member of its objects, the tag, has the name of the variant.
 pub trait HasTag {
     // The tag's name.
     ghost tag: { Name };
 
-    /// Returns a list of one, the tag's name.
+    /// Returns a list of one name, the tag's.
     fn tag() -> &'static [&'static str]
         ensures { map (λ s. s.now) result.now ≡ tag ∷ [] };
 }

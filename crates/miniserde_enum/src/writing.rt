@@ -1,4 +1,4 @@
-//! Externally tagged enums that are written.
+//! Writes enums, externally or internally tagged.
 ghost use Rattle.std.specs.Prelude.{◌≡◌, ◌++◌, true, false, map, OnOk, OnErr, IsErrOf};
 ghost use Rattle.miniserde_model.specs.Compact.{compact};
 ghost use Rattle.miniserde_model.specs.IsTree.{IsTree};
@@ -12,8 +12,8 @@ use miniserde_model::error::Result;
 use miniserde_record::record::{Members, write_members};
 use miniserde_ser::ser::{Fragment, Serialize, Writer};
 
-/// Writes a variant with data: an object of one member, whose name is the variant's. Returns `Memory` if the text cannot
-/// grow.
+/// Writes a variant of an externally tagged enum that has data: an object of one member, whose name is the variant's.
+/// Returns `Memory` if the writer fails.
 #[inline(always)]
 pub fn write_data<T: Serialize>(w: &mut Writer, name: &str, value: &T) -> Result<()>
     ensures ok { OnOk result (w.new.text ≡ w.old.text ++ compact (data_tree external T.tree name.now value.now)) }
@@ -30,8 +30,9 @@ pub fn write_data<T: Serialize>(w: &mut Writer, name: &str, value: &T) -> Result
     w.map_finish()
 }
 
-/// Writes a variant with fields: an object of one member, whose name is the variant's and whose value is the object of
-/// the fields, by their names in their order. Returns `Memory` if the text cannot grow.
+/// Writes a variant of an externally tagged enum that has fields: an object of one member, whose name is the
+/// variant's. The member's value is an object with a member for each field that is written, with the names in their
+/// order. Returns `Memory` if the writer fails.
 #[inline(always)]
 pub fn write_fields<M: Members>(
     w: &mut Writer,
@@ -55,7 +56,8 @@ pub fn write_fields<M: Members>(
     w.map_finish()
 }
 
-/// Writes a variant with its tag in front of the members of its data. Returns `Memory` if the text cannot grow.
+/// Writes a variant of an internally tagged enum: an object of the tag, which has the variant's name, and the members
+/// of the data. Returns `Memory` if the writer fails.
 #[inline(always)]
 pub fn write_tagged<T: Inside>(w: &mut Writer, tag: &str, name: &str, value: &T) -> Result<()>
     ensures ok { OnOk result (w.new.text
@@ -74,8 +76,8 @@ pub fn write_tagged<T: Inside>(w: &mut Writer, tag: &str, name: &str, value: &T)
     w.map_finish()
 }
 
-/// Writes a variant with its tag in front of the members of its fields, by their names in their order. Returns `Memory` if
-/// the text cannot grow.
+/// Writes a variant of an internally tagged enum that has fields: an object of the tag, which has the variant's name,
+/// and a member for each field that is written, with the names in their order. Returns `Memory` if the writer fails.
 #[inline(always)]
 pub fn write_tagged_fields<M: Members>(
     w: &mut Writer,

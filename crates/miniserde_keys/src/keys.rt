@@ -1,4 +1,4 @@
-//! Keys of maps.
+//! The trait `MapKey` of types whose values are the names of members, and its implementations for std's types.
 ghost use Rattle.std.specs.Prelude.{◌≡◌, ◌<◌, ◌+◌, ◌++◌, ℕ, Bool, true, false, List, Option, Some, None, Ok, Err};
 ghost use Rattle.std.specs.Prelude.{IfOk, IfErr, OnOk, OnErr, IsErrOf, option_map, length, string_bytes, string_len};
 ghost use Rattle.std.specs.Prelude.{string_capacity};
@@ -25,7 +25,7 @@ pub trait MapKey: Ranged + Sized + Eq + Drop {
     // The part of the content that `Eq` compares; all of it by default.
     ghost code: { Key → Key } = { λ c. c };
 
-    // The content of the key that a text is parsed as, if any.
+    // The content of the key that a text is read as, if any.
     ghost read: { List ℕ → Option Key };
 
     // The text of a key.
@@ -34,13 +34,14 @@ pub trait MapKey: Ranged + Sized + Eq + Drop {
     // Whether `from_key` never returns `Memory`.
     ghost from_key_infallible: { Bool } = { false };
 
-    /// Parses a key.
+    /// Reads a key from the name of a member. Returns `Invalid` if the name is no key of the type, and `Memory` if an
+    /// allocation fails.
     fn from_key(alloc: Global, k: &str) -> Result<Self>
         ensures value { IfOk result (λ v. read k.now ≡ Some (content v)) }
         ensures invalid { result ≡ Err Error.Invalid → read k.now ≡ None }
         ensures infallible { from_key_infallible ≡ true → IfErr result (λ e. e ≡ Error.Invalid) };
 
-    /// Appends the text of the key. Leaves `out` as it was if allocation fails.
+    /// Appends the text of the key. If `out` cannot grow, returns `Memory` and leaves the text unchanged.
     fn to_key(&self, out: &mut String) -> Result<()>
         ensures ok { OnOk result (string_bytes out.new ≡ string_bytes out.old ++ text self.now) }
         ensures memory { OnErr result (IsErrOf result Memory) }
@@ -50,15 +51,15 @@ pub trait MapKey: Ranged + Sized + Eq + Drop {
     // Keys are equal exactly if their codes are.
     ghost alike: { (a b : Self) → Self.eq a b ≡ bytes_eq (code (content a)) (code (content b)) };
 
-    // The text of a valid key is parsed as an equal key that is valid.
+    // The text of a valid key is read as a valid key that is equal.
     ghost back: { (k : Self) → Self.real k
         → (w : Self) × Self.real w × (read (text k) ≡ Some (content w)) × (code (content w) ≡ code (content k)) };
 
-    // Equal keys have one text.
+    // Equal keys have the same text.
     ghost one_text: { (a b : Self) → code (content a) ≡ code (content b) → text a ≡ text b };
 }
 
-// Appends a text.
+// Appends a text. If `out` cannot grow, fails and leaves its text unchanged.
 fn append(out: &mut String, text: &str) -> result::Result<(), AllocError>
     ensures ok { OnOk result (string_bytes out.new ≡ string_bytes out.old ++ text.now) }
     ensures err { OnErr result (string_bytes out.new ≡ string_bytes out.old) }

@@ -1,4 +1,5 @@
-//! Keys of maps, and values in the range of their types.
+//! The traits of keys and of valid values, for std's types. Maps are read in `miniserde_read` and written in
+//! `miniserde_ser`.
 #![tactic(auto)]
 
 mod keys;

@@ -1,4 +1,4 @@
-//! Types with a validity predicate.
+//! The trait `Ranged`, which says which values of a type are valid.
 ghost use Rattle.std.specs.Prelude.{◌≡◌, ◌<◌, ◌^◌, FitsSigned, length, ⊤};
 ghost use Rattle.std.specs.Int.{w8, w16, w32, w64};
 ghost use Rattle.std.specs.List.{AllByRecursion};
@@ -12,10 +12,10 @@ mod tuples;
 use std::collections::{BTreeMap, HashMap, VecDeque};
 use std::hash::{BuildHasher, Hash};
 
-/// A type with a validity predicate. A clause can name a number out of an integer's range, or a `BTreeMap` whose keys are
-/// out of order; a call of `ranged` tells a proof that a value of the program is no such value.
+/// A type with valid values: those that Rust has. In a contract a `u8` may be any number, and the keys of a
+/// `BTreeMap` may be out of order; a call of `ranged` promises that a value of the program is valid.
 pub trait Ranged {
-    // The value is valid.
+    // Which values are valid.
     ghost real: { Self → Type 0 };
 
     /// Does nothing. It promises that the value is valid.
@@ -38,7 +38,7 @@ impl Ranged for bool {
 impl Ranged for char {
     ghost real = { IsScalar };
 
-    // Reads the value, which tells the proof that it is in the range of its type. The impls for integers do so too.
+    // Reads the value, which tells the proof that it is in the range of its type.
     fn ranged(&self) {
         let _value = *self;
     }
@@ -157,7 +157,7 @@ impl<A: Ranged, B: Ranged> Ranged for (A, B) {
     }
 }
 
-// Promises that each of the values is valid.
+// Calls `ranged` for each of the values, which promises that each is valid.
 fn ranged_all<T: Ranged>(items: &[T])
     ensures { AllByRecursion T.real items.now }
 {

@@ -1,4 +1,4 @@
-//! The two errors of the library.
+//! The error type of all calls that may fail, `Error`, and their result type.
 ghost use Rattle.std.specs.Prelude.{◌≡◌, Some};
 ghost use Rattle.miniserde_model.specs.Error.{message};
 ghost use Rattle.miniserde_model.specs.declared.error.Error.TheVariants.{Memory};
@@ -9,7 +9,7 @@ use std::{error, fmt};
 /// Why a call failed.
 #[derive(Clone, Copy, Debug)]
 pub enum Error {
-    /// The input is not what was asked for. It has no position and no detail.
+    /// The input is not what the call accepts. The error tells no position and no detail.
     Invalid,
     /// An allocation failed.
     Memory,
@@ -21,7 +21,7 @@ pub type Result<T> = std::result::Result<T, Error>;
 impl fmt::Display for Error {
     ghost output = { λ e. Some (message e) };
 
-    // Options, as in `{:>20}`, change nothing.
+    // Formatting options, as in `{:>20}`, change nothing.
     ghost styled_output = { λ e _. Some (message e) };
 
     fn fmt<W: fmt::Write>(&self, f: &mut fmt::Formatter<W>) -> fmt::Result {

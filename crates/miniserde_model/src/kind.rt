@@ -1,4 +1,4 @@
-//! The kinds of containers.
+//! The kind of a container: array or object.
 
 /// The kind of a container: an array or an object (RFC 8259, sections 4 and 5).
 #[derive(Clone, Copy, Debug, Drop)]

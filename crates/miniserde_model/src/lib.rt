@@ -1,7 +1,6 @@
-//! What a JSON text means: the definitions stand in `specs/`, and each function here carries a law over them. The two
-//! errors of the library stand in `error`.
-//!
-//! No function here does anything when it runs.
+//! What a JSON text means: the definitions stand in `specs/`, and each function here promises a law over them and
+//! does nothing. The module `error` has the error of the library, `kind` the kinds of containers. No text is read or
+//! written here.
 #![tactic(auto)]
 
 ghost use Rattle.miniserde_model.specs.Examples.{NormalForms, RefusedTexts, SpelledTexts};
@@ -17,33 +16,33 @@ pub fn text_has_one_tree()
     ensures { TextHasOneTree }
 {}
 
-/// Does nothing. It promises that the numbers of a tree that a text spells are in range, and that its strings are
-/// UTF-8.
+/// Does nothing. It promises that the numbers of every tree that some text spells are in range, and that its strings
+/// are UTF-8.
 pub fn json_is_tree()
     ensures { JsonIsTree }
 {}
 
-/// Does nothing. It promises that a text that spells a tree is UTF-8.
+/// Does nothing. It promises that every text that spells a tree is UTF-8.
 pub fn json_is_utf8()
     ensures { JsonIsUtf8 }
 {}
 
-/// Does nothing. It promises that the compact text of a tree spells it, as a whole text and as a value within a text,
-/// without surrounding whitespace.
+/// Does nothing. It promises that the compact text of a tree spells the tree, both as a whole text and as a value
+/// without whitespace around it.
 pub fn compact_spells()
     ensures text { CompactSpells }
     ensures value { CompactIsValue }
 {}
 
-/// Does nothing. It promises that the normal form is idempotent, and that it keeps numbers in range and strings in
-/// UTF-8.
+/// Does nothing. It promises that the normal form of a normal form is itself, and that the normal form keeps numbers
+/// in range and strings in UTF-8.
 pub fn norm_is_normal()
     ensures idempotent { NormIsNormal }
     ensures tree { NormIsTree }
 {}
 
-/// Does nothing. It promises that the normal form of members has for each name the normal form of its last tree, in
-/// ascending byte order of the names. Putting the members into a map from the left gives it too.
+/// Does nothing. It promises that the normal form of members has, in byte order of the names, one member for each
+/// name: the normal form of the last member of that name. Putting the members one by one into a map gives the same.
 pub fn norm_of_members()
     ensures last { NormKeepsLast }
     ensures order { NormRises }
@@ -51,26 +50,25 @@ pub fn norm_of_members()
     ensures put { PutGivesNorm }
 {}
 
-/// Does nothing. It promises that a normal form has no duplicate name, and that it has as many values as its tree if
-/// that has no duplicate name.
+/// Does nothing. It promises that a normal form has no duplicate name. If the tree has none either, both have the
+/// same size.
 pub fn norm_of_distinct()
     ensures distinct { NormIsDistinct }
     ensures size { DistinctKeepsSize }
 {}
 
-/// Does nothing. It promises that the canonical texts of two trees are equal exactly if the trees have one normal
-/// form.
+/// Does nothing. It promises that two trees have equal canonical texts exactly if they have equal normal forms.
 pub fn canonical_texts_equal()
     ensures { CanonicalTextsEqual }
 {}
 
-/// Does nothing. It promises that no text with the same normal form is shorter than the canonical text.
+/// Does nothing. It promises that no text of a tree with the same normal form is shorter than the canonical text.
 pub fn canonical_is_shortest()
     ensures { CanonicalIsShortest }
 {}
 
-/// Does nothing. It promises that the events of a tree complete a value, and that no list of events that completes a
-/// value is a proper prefix of another one.
+/// Does nothing. It promises that a value is complete after the events of its tree, and that no list of events that
+/// completes a value is a proper prefix of another such list.
 pub fn events_complete()
     ensures one { EventsComplete }
     ensures only { CompletionsArePrefixFree }

@@ -1,7 +1,7 @@
 //! Places: each takes the events of one value, one by one, and collects the value.
 //!
-//! The text `{"a":[1,-0],"b":null}` is the events `map`, `key("a")`, `seq`, `element`, `nonnegative(1)`, `element`,
-//! `negative(0)`, `finish`, `key("b")`, `null`, `finish`.
+//! The events of the text `{"a":[1,-0],"b":null}` are `map`, `key("a")`, `seq`, `element`, `nonnegative(1)`,
+//! `element`, `negative(0)`, `finish`, `key("b")`, `null`, `finish`.
 ghost use Rattle.std.specs.Prelude.{◌≡◌, ◌≢◌, pos, ◌≤ℤ◌, Bool, true, false, IsOk, Option, Some, None, Result, Ok};
 ghost use Rattle.std.specs.Prelude.{Err, [], IfOk, IfErr, ⊤};
 ghost use Rattle.miniserde_model.specs.Tree.{num};
@@ -23,20 +23,22 @@ use miniserde_model::error::{Error, Result};
 pub use miniserde_read::Step;
 use std::alloc::Global;
 
-/// A place: it takes all events of one value, those of nested values too. Events may come in any order; the
-/// laws speak of those that begin one value.
+/// A place: it takes the events of one value, one by one, and collects the value. Events may come in any order; the
+/// contracts say what the place does for the events of one value in their order.
 pub trait Visitor: Drop {
+    /// The type of the values that the place collects.
     type Out;
 
-    // Which trees mean which values, and what the place shows.
+    // Which trees mean which values, and what a contract sees of the place.
     ghost meaning: { PlaceMeaning Self Self.Out };
 
-    // Whether `begin` takes no memory, and whether `take` takes none.
+    // Whether `begin` never fails to allocate.
     ghost begin_infallible: { Bool } = { false };
 
+    // Whether `take` never fails to allocate: its error is then `Memory` only if the place keeps that error already.
     ghost take_infallible: { Bool } = { false };
 
-    // What a call that hands on an event promises besides: nothing, where the place does not say otherwise.
+    // What each call that takes an event promises besides. By default that is nothing.
     ghost further: { Self → step.Step → Result (Unit {0}) Error → Self → Type 0 } = { λ _ _ _ _. ⊤ };
 
     /// Returns a fresh place. Its only error is `Memory`.
@@ -45,7 +47,9 @@ pub trait Visitor: Drop {
         ensures memory { IfErr result (λ r. r ≡ Error.Memory) }
         ensures infallible { begin_infallible ≡ true → IsOk result };
 
-    /// Takes one event. An implementation returns `Err(self.refuse(Error::Invalid))` for an event that it rejects.
+    /// Takes one event. Returns `Invalid` if no value of the type has the event here, `Memory` if an allocation
+    /// fails, and the first error of the place if there is one. An implementation returns each error through
+    /// `refuse`.
     fn step(&mut self, event: Step<'_>) -> Result<()>
         requires { IsTreeEvent (event_of event) }
         ensures takes { Takes (meaning.view self.old) (event_of event.entry) result (meaning.view self.new) }
@@ -60,8 +64,8 @@ pub trait Visitor: Drop {
     fn is_complete(&self) -> bool
         ensures { result ≡ is_complete (meaning.view self.now).at };
 
-    /// Returns the value if it is complete and the place keeps no error. Returns the error that the place keeps, or
-    /// `Invalid` for an incomplete value.
+    /// Returns the value if it is complete and the place keeps no error. Returns the error that the place keeps,
+    /// `Invalid` if the value is incomplete or means no value of the type, or `Memory` if an allocation fails.
     fn take(self) -> Result<Self::Out>
         ensures value { IfOk result (λ v. ((meaning.view self).at ≡ complete)
             × ((meaning.view self).outcome [] ≡ Some (meaning.content v))) }
@@ -89,7 +93,7 @@ pub trait Visitor: Drop {
         self.step(Step::Bool(b))
     }
 
-    /// Takes a string, by its text.
+    /// Takes a string.
     final fn string(&mut self, s: &str) -> Result<()>
         ensures takes { Takes (meaning.view self.old) (step.string s.now) result (meaning.view self.new) }
         ensures further { further self.old (step.string s.now) result self.new }
@@ -114,7 +118,7 @@ pub trait Visitor: Drop {
         self.step(Step::Nonnegative(n))
     }
 
-    /// Takes any other number, by its text.
+    /// Takes a number with a fraction or an exponent, or beyond 64 bits, by its text.
     final fn float(&mut self, t: &str) -> Result<()>
         requires { IsNumber t.now (num t.now) }
         ensures takes { Takes (meaning.view self.old) (step.float t.now) result (meaning.view self.new) }
@@ -123,7 +127,7 @@ pub trait Visitor: Drop {
         self.step(Step::Float(t))
     }
 
-    /// Takes the beginning of a list.
+    /// Takes the start of a list.
     final fn seq(&mut self) -> Result<()>
         ensures takes { Takes (meaning.view self.old) step.seq result (meaning.view self.new) }
         ensures further { further self.old step.seq result self.new }
@@ -131,7 +135,7 @@ pub trait Visitor: Drop {
         self.step(Step::Seq)
     }
 
-    /// Takes the beginning of an element of the innermost open list.
+    /// Takes the start of an element of the innermost open list.
     final fn element(&mut self) -> Result<()>
         ensures takes { Takes (meaning.view self.old) step.element result (meaning.view self.new) }
         ensures further { further self.old step.element result self.new }
@@ -139,7 +143,7 @@ pub trait Visitor: Drop {
         self.step(Step::Element)
     }
 
-    /// Takes the beginning of an object.
+    /// Takes the start of an object.
     final fn map(&mut self) -> Result<()>
         ensures takes { Takes (meaning.view self.old) step.map result (meaning.view self.new) }
         ensures further { further self.old step.map result self.new }
@@ -147,7 +151,7 @@ pub trait Visitor: Drop {
         self.step(Step::Map)
     }
 
-    /// Takes the beginning of a member of the innermost open object, by its name.
+    /// Takes the start of a member of the innermost open object, by its name.
     final fn key(&mut self, k: &str) -> Result<()>
         ensures takes { Takes (meaning.view self.old) (step.key k.now) result (meaning.view self.new) }
         ensures further { further self.old (step.key k.now) result self.new }

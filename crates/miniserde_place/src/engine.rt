@@ -1,4 +1,4 @@
-//! Reads a value from the middle of a text by its place, without recursion.
+//! The engine: it reads a value from a source by its place, without recursion.
 ghost use Rattle.std.specs.Prelude.{◌≡◌, ◌<◌, ◌≤◌, ◌⊎◌, false, Some, None, Ok, Err, List, ℕ, length, IfOk, IfErr, is_some};
 ghost use Rattle.miniserde_model.specs.Tree.{Tree};
 ghost use Rattle.miniserde_model.specs.Step.{events};
@@ -17,7 +17,8 @@ use miniserde_model::error::{Error, Result};
 use miniserde_read::{Source, Stack};
 use miniserde_text::json::lex::{After, Event, Kind};
 
-/// Reads one value, whose first token is `token`, by a fresh place of its own.
+/// Reads one value, whose first token is `token`, by a fresh place of its own. Returns `Invalid` if the text, from
+/// that token on, has no prefix that means a value of the place, and `Memory` if an allocation fails.
 pub fn read_by_place<'a, V: Visitor>(token: Event<'a>, source: &mut Source<'a>) -> Result<V::Out>
     requires going { source.old.refused ≡ None }
     requires event { IsTreeEvent (event_of_token token source.old.scratch) }
@@ -32,7 +33,8 @@ pub fn read_by_place<'a, V: Visitor>(token: Event<'a>, source: &mut Source<'a>) 
     place.take()
 }
 
-/// Hands a fresh place the events of one value, whose first token is `token`.
+/// Hands a fresh place the events of one value, whose first token is `token`. Returns the first error of the source
+/// or of the place, or `Memory` if the engine's stack of kinds cannot grow.
 pub fn feed_from<'a, V: Visitor>(
     token: Event<'a>,
     source: &mut Source<'a>,
@@ -68,7 +70,7 @@ pub fn feed_from<'a, V: Visitor>(
 }
 
 /// Opens the container that a token opens, if any, and hands the token's event to the place. Returns whether there is
-/// such a container.
+/// such a container, the error of the place, or `Memory` if the stack cannot grow.
 #[inline(always)]
 fn enter<'a, V: Visitor>(
     token: Event<'a>,
@@ -92,8 +94,9 @@ fn enter<'a, V: Visitor>(
     Ok(opened)
 }
 
-/// Takes the closing bracket of the innermost container, or the tokens before its next child, and hands the event to
-/// the place. Returns whether a value is due. `first` says that the opening bracket was just taken.
+/// Takes the closing bracket of the innermost container, or what stands before its next child, and hands the event of
+/// it to the place. Returns whether a child's value is due, or the error of the source or the place. `first` says
+/// that the opening bracket was just taken.
 fn take_child_or_end<'a, V: Visitor>(
     source: &mut Source<'a>,
     stack: &mut Stack,

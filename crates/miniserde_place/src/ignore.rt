@@ -10,18 +10,21 @@ use crate::de::{Step, Visitor};
 use miniserde_model::error::{Error, Result};
 use std::alloc::Global;
 
-/// A place that takes one value of any shape, and collects nothing. It counts the containers that are open.
+/// A place that takes one value of any shape and collects nothing.
 #[derive(Drop)]
 pub struct Ignore {
+    // How many containers are open.
     depth: u64,
+    // Whether a value is due.
     due: bool,
+    // The first error.
     refused: Option<Error>,
 }
 
 impl Ignore {
     ghost use Rattle.miniserde_place.specs.Ignore.{position_of, refusal_of};
 
-    // Returns a place that took no event. Allocates nothing.
+    // Returns a fresh place. Allocates nothing.
     pub(crate) fn new() -> Ignore
         ensures at { position_of result ≡ start }
         ensures refused { refusal_of result ≡ None }
@@ -52,7 +55,8 @@ impl Visitor for Ignore {
         Ok(Ignore::new())
     }
 
-    /// Takes any event. Fails if the place keeps an error, and with `Memory` if 2^64 containers would be open.
+    /// Takes any event. Returns the error that the place keeps, if there is one, and `Memory` if 2^64 containers
+    /// would be open.
     fn step(&mut self, event: Step<'_>) -> Result<()> {
         if let Some(error) = self.refused {
             return Err(error);

@@ -1,4 +1,4 @@
-//! The program `canon`: it reads a text to the end of its input, and writes its canonical text.
+//! The program `canon`: it reads a text to the end of its input, and writes the canonical text.
 ghost use Rattle.std.specs.Prelude.{◌≡◌, ◌+◌, ◌<◌, ◌⊎◌, [], ◌∷◌, length, map, codes, Result, OnOk, OnErr, IfOk};
 ghost use Rattle.std.specs.Prelude.{IfSome, IsErrOf};
 ghost use Rattle.std.specs.String.{string_bytes};
@@ -21,16 +21,16 @@ use miniserde_model::error::Error;
 use std::alloc::Global;
 use std::io::{Read, Write};
 
-/// Why a run failed.
+/// Why a run of the program `canon` failed.
 #[derive(Clone, Copy, Debug, PartialEq, Eq)]
 pub enum Fault {
-    /// What was read is no JSON text in UTF-8.
+    /// The input is not JSON in UTF-8, or, for `run_unique`, an object in it has a duplicate name.
     Invalid,
-    /// Memory could not be had.
+    /// An allocation failed.
     Memory,
     /// A read failed.
     Read,
-    /// A write or a flush failed, or a write took nothing.
+    /// A write or a flush failed, or a write took no byte.
     Write,
 }
 
@@ -45,23 +45,24 @@ impl From<Error> for Fault {
     }
 }
 
-/// Reads a text to its end, writes its canonical text and flushes once. A call that failed is not made again.
+/// Reads a text to its end, writes its canonical text and flushes once. Returns the first fault, if there is one; a
+/// call that failed is not made again.
 pub fn run<R: Read, W: Write>(
     alloc: Global,
     r: &mut Counted<R>,
     w: &mut Counted<W>,
 ) -> Result<(), Fault>
-    // The answer was written, nothing else, and flushed once.
+    // If the result is `Ok`, the canonical text and nothing else was written, and it was flushed once.
     ensures ok { OnOk result (IfSome (R.remaining (inner_of r.old))
         (AppendsAnswer (W.contents (inner_of w.old)) (W.contents (inner_of w.new)))) }
     ensures flushed { OnOk result (flushes w.new ≡ flushes w.old + 1) }
 
-    // The reader was read to its end, and the failures are counted.
+    // The reader was read to its end, unless the result is `Read` or `Memory`. The failures are counted.
     ensures read { IfRead result (IsAtEnd (R.remaining (inner_of r.new))) }
     ensures read_failures { failures r.new ≡ failures r.old + read_faults result }
     ensures write_failures { failures w.new ≡ failures w.old + write_faults result }
 
-    // What a refusal means, and what went out.
+    // These say what each error means, and what was written before it.
     ensures invalid { IsErrOf result Fault.Invalid → IfSome (R.remaining (inner_of r.old)) HasNoAnswer }
     ensures silent { IfSilent result (Keeps (W.contents (inner_of w.old)) (W.contents (inner_of w.new))) }
     ensures part { IsErrOf result Fault.Write → IfSome (R.remaining (inner_of r.old))
@@ -74,24 +75,24 @@ pub fn run<R: Read, W: Write>(
     write_out(text, w)
 }
 
-/// Reads a text to its end, writes its canonical text and flushes once. Fails if an object has a duplicate name. A
-/// call that failed is not made again.
+/// Reads a text to its end, writes its canonical text and flushes once. A duplicate name in an object is `Invalid`.
+/// Returns the first fault, if there is one; a call that failed is not made again.
 pub fn run_unique<R: Read, W: Write>(
     alloc: Global,
     r: &mut Counted<R>,
     w: &mut Counted<W>,
 ) -> Result<(), Fault>
-    // The answer was written, nothing else, and flushed once.
+    // If the result is `Ok`, the canonical text and nothing else was written, and it was flushed once.
     ensures ok { OnOk result (IfSome (R.remaining (inner_of r.old))
         (AppendsUniqueAnswer (W.contents (inner_of w.old)) (W.contents (inner_of w.new)))) }
     ensures flushed { OnOk result (flushes w.new ≡ flushes w.old + 1) }
 
-    // The reader was read to its end, and the failures are counted.
+    // The reader was read to its end, unless the result is `Read` or `Memory`. The failures are counted.
     ensures read { IfRead result (IsAtEnd (R.remaining (inner_of r.new))) }
     ensures read_failures { failures r.new ≡ failures r.old + read_faults result }
     ensures write_failures { failures w.new ≡ failures w.old + write_faults result }
 
-    // What a refusal means, and what went out.
+    // These say what each error means, and what was written before it.
     ensures invalid { IsErrOf result Fault.Invalid → IfSome (R.remaining (inner_of r.old)) HasNoUniqueAnswer }
     ensures silent { IfSilent result (Keeps (W.contents (inner_of w.old)) (W.contents (inner_of w.new))) }
     ensures part { IsErrOf result Fault.Write → IfSome (R.remaining (inner_of r.old))
@@ -104,8 +105,9 @@ pub fn run_unique<R: Read, W: Write>(
     write_out(text, w)
 }
 
-/// Runs the program by its arguments: `run` without any, `run_unique` for `--unique`. Returns the exit status, and
-/// the line for standard error, which is empty if there is none.
+/// Runs the program by its arguments: `run` without any, and `run_unique` for `--unique`. Returns the exit status,
+/// and the line for standard error, which is empty after success. For other arguments it calls neither, and returns 2
+/// and the usage.
 pub fn program<R: Read, W: Write>(
     alloc: Global,
     args: &[String],
@@ -134,7 +136,8 @@ pub fn program<R: Read, W: Write>(
     }
 }
 
-// Returns the exit status of a run, and its line for standard error.
+// Returns the exit status for the result of a run of the program, and the line for standard error, which is empty
+// after success.
 fn status_and_line(answer: Result<(), Fault>) -> (u8, &'static str)
     ensures status { result.0 ≡ status_of answer }
     ensures line { result.1.now ≡ line_of answer }
@@ -148,7 +151,7 @@ fn status_and_line(answer: Result<(), Fault>) -> (u8, &'static str)
     }
 }
 
-/// Reads all bytes that the reader has left.
+/// Returns all bytes that the reader has left. Returns `Read` if a read fails, and `Memory` if an allocation fails.
 fn read_all<R: Read>(alloc: Global, r: &mut Counted<R>) -> Result<Vec<u8>, Fault>
     ensures given { IfOk result (λ v.
         Consumes (R.remaining (inner_of r.old)) (R.remaining (inner_of r.new)) v.items) }
@@ -171,7 +174,8 @@ fn read_all<R: Read>(alloc: Global, r: &mut Counted<R>) -> Result<Vec<u8>, Fault
     }
 }
 
-// Returns the canonical text of the bytes.
+// Returns the canonical text of the bytes. Returns `Invalid` if they are not JSON in UTF-8, and `Memory` if an
+// allocation fails.
 fn answer(alloc: Global, bytes: &[u8]) -> Result<String, Fault>
     ensures ok { IfOk result (λ s. IsAnswer bytes.now (string_bytes s)) }
     ensures invalid { IsErrOf result Fault.Invalid → HasNoAnswer bytes.now }
@@ -181,7 +185,8 @@ fn answer(alloc: Global, bytes: &[u8]) -> Result<String, Fault>
     Ok(canonical(alloc, text)?)
 }
 
-// Returns the canonical text of the bytes, if no object has a duplicate name.
+// Returns the canonical text of the bytes. Returns `Invalid` if they are not JSON in UTF-8 or an object has a
+// duplicate name, and `Memory` if an allocation fails.
 fn answer_unique(alloc: Global, bytes: &[u8]) -> Result<String, Fault>
     ensures ok { IfOk result (λ s. IsUniqueAnswer bytes.now (string_bytes s)) }
     ensures invalid { IsErrOf result Fault.Invalid → HasNoUniqueAnswer bytes.now }
@@ -203,7 +208,7 @@ fn text_of(bytes: &[u8]) -> Result<&str, Fault>
     }
 }
 
-/// Writes the text and flushes once.
+/// Writes the text, and flushes once. Returns `Write` if a write or the flush fails.
 fn write_out<W: Write>(text: String, w: &mut Counted<W>) -> Result<(), Fault>
     ensures ok { OnOk result (Appends (W.contents (inner_of w.old)) (W.contents (inner_of w.new)) (string_bytes text)) }
     ensures flushed { OnOk result (flushes w.new ≡ flushes w.old + 1) }
@@ -221,7 +226,7 @@ fn write_out<W: Write>(text: String, w: &mut Counted<W>) -> Result<(), Fault>
     }
 }
 
-/// Writes all the bytes. A write that failed is not made again.
+/// Writes all the bytes. Returns `Write` if a write fails or takes no byte, and does not make that call again.
 fn put_all<W: Write>(w: &mut Counted<W>, bytes: &[u8]) -> Result<(), Fault>
     ensures ok { OnOk result
         (Appends (W.contents (inner_of w.old)) (W.contents (inner_of w.new)) bytes.now) }

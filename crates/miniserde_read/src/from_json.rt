@@ -1,4 +1,5 @@
-//! Types that read themselves from a JSON text.
+//! The trait `FromJson` of types that read themselves from a JSON text. Its modules have the implementations for
+//! std's types.
 ghost use Rattle.std.specs.Prelude.{◌≡◌, Bool, true, false, Option, None, Err, IfOk, IfErr, ⊤};
 ghost use Rattle.miniserde_model.specs.Step as step;
 ghost use Rattle.miniserde_text.specs.Lexer.{event_of_token};
@@ -28,21 +29,22 @@ pub trait FromJson: Sized + Drop {
     // Which trees mean which values.
     ghost means: { Meaning Self };
 
-    // The value of a struct's field that is missing.
+    // The value of a struct's field of this type that no member has, or none if such a struct is an error.
     ghost absent: { Option Self } = { None };
 
-    // `read` never returns `Memory`.
+    // Whether `read` never returns `Memory`.
     ghost read_infallible: { Bool } = { false };
 
-    // Holds if `read` returns `Memory`, of the token's event and of the source before the call and after it.
+    // What holds if `read` returns `Memory`: a statement of the token's event and of the source before and after the
+    // call.
     ghost lacking: { step.Step → Remaining → Remaining → Type 0 } = { λ _ _ _. ⊤ };
 
-    /// Returns the value of a struct's field that is missing, or `None` if such a struct is invalid.
+    /// Returns the value of a struct's field of this type that no member has, or `None` if such a struct is an error.
     fn missing() -> Option<Self>
         ensures { result ≡ absent };
 
-    /// Reads one value, whose first token is `token`, and no further. Returns `Invalid` if no beginning of the text
-    /// spells a value of the type.
+    /// Reads one value, whose first token is `token`, and takes no more of the source. Returns `Invalid` if the text,
+    /// from that token on, has no prefix that means a value of the type, and `Memory` if an allocation fails.
     fn read<'a>(token: Event<'a>, source: &mut Source<'a>) -> Result<Self>
         requires going { source.old.refused ≡ None }
         requires event { IsTreeEvent (event_of_token token source.old.scratch) }

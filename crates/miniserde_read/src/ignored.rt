@@ -1,4 +1,4 @@
-//! Values that are skipped.
+//! The type of values that are read and not kept.
 ghost use Rattle.std.specs.Prelude.{◌≡◌, ◌<◌, List, ℕ, None, Some, Ok, Err, IfOk, length};
 ghost use Rattle.miniserde_model.specs.Tree.{Tree};
 ghost use Rattle.miniserde_model.specs.private.Reading.{due};
@@ -17,8 +17,8 @@ use miniserde_model::error::{Error, Result};
 use miniserde_text::json::lex::{After, Event, Kind};
 use miniserde_text::stack::Stack;
 
-/// A value of any kind, whose content is not kept. Reading it takes no recursion, and memory only for one bit of each
-/// open container.
+/// Any JSON value, of which nothing is kept. Reading it takes no recursion. It takes one bit of memory for each open
+/// container, and room for the longest string that has a backslash.
 #[derive(Drop)]
 pub struct Ignored {}
 
@@ -35,7 +35,8 @@ impl FromJson for Ignored {
     }
 }
 
-/// Skips one value, whose first token is `token`. Returns `Invalid` if no beginning of the text spells a value.
+/// Skips one value, whose first token is `token`. Returns `Invalid` if the text, from that token on, has no prefix
+/// that is a value, and `Memory` if an allocation fails.
 fn skip<'a>(token: Event<'a>, source: &mut Source<'a>) -> Result<()>
     requires going { source.old.refused ≡ None }
     requires event { IsTreeEvent (event_of_token token source.old.scratch) }
@@ -53,8 +54,9 @@ fn skip<'a>(token: Event<'a>, source: &mut Source<'a>) -> Result<()>
     Ok(())
 }
 
-/// Takes the closing bracket of the innermost container, or the tokens up to the first one of its next child. Returns
-/// whether that token opened a container. `first` says that the opening bracket was just taken.
+/// Takes the closing bracket of the innermost container, or everything up to the first token of its next child, with
+/// that token. Returns whether a container was opened, or the error of the source or the stack. `first` says that the
+/// opening bracket was just taken.
 fn take_child_or_end<'a>(
     source: &mut Source<'a>,
     stack: &mut Stack,
@@ -84,7 +86,8 @@ fn take_child_or_end<'a>(
     }
 }
 
-/// Takes the first token of a value. Returns whether it opened a container.
+/// Takes the first token of a value. Returns whether that token opened a container, whose kind is then on the stack.
+/// Returns the error of the source, or `Memory` if the stack cannot grow.
 #[inline(always)]
 fn begin<'a>(source: &mut Source<'a>, stack: &mut Stack) -> Result<bool>
     requires { source.old.refused ≡ None }

@@ -1,4 +1,4 @@
-//! The items of a tuple, one after another.
+//! Reads tuples of any length, as chains of items.
 ghost use Rattle.std.specs.Prelude.{◌≡◌, Bool, List, [], ◌∷◌, None, Ok, Err, IfOk};
 ghost use Rattle.miniserde_text.specs.Lexer.{event_of_token};
 ghost use Rattle.miniserde_model.specs.declared.error.Error.{Error};
@@ -13,19 +13,20 @@ use crate::source::Source;
 use miniserde_model::error::{Error, Result};
 use miniserde_text::json::lex::{After, Event, Kind};
 
-/// The items of a tuple.
+/// A chain of the items of a tuple: an `Item` for each, and `NoItem` at the end.
 pub trait Items {
     /// The values of the items, as nested pairs.
     type Values: Drop;
 
-    // Which children of a list mean which values.
+    // Which elements of a list mean which values.
     ghost meaning: { ItemsMeaning Self.Values };
 
-    // Of each item, whether its `read` never returns `Memory`.
+    // For each item, whether its `read` never returns `Memory`.
     ghost infallible: { List Bool };
 
     /// Reads the elements that are left of a list, and its closing bracket. `first` says that the opening bracket was
-    /// just taken. Returns `Invalid` if no beginning of the text spells elements of the items, exactly so many.
+    /// just taken. Returns `Invalid` if the text has no prefix with exactly these items and the bracket, and `Memory`
+    /// if an allocation fails.
     fn read_items<'a>(source: &mut Source<'a>, first: bool) -> Result<Self::Values>
         requires { source.old.refused ≡ None }
         ensures going { IfOk result (λ _. source.new.refused ≡ None) }
@@ -35,7 +36,7 @@ pub trait Items {
         ensures memory { result ≡ Err Error.Memory → ItemsLack infallible first source.old.rest };
 }
 
-/// No more items.
+/// The end of a chain of items.
 #[derive(Drop)]
 pub struct NoItem {}
 
@@ -55,7 +56,7 @@ impl Items for NoItem {
     }
 }
 
-/// An item of the type T, and those after it.
+/// An item of the type `T`, and the items after it.
 #[derive(Drop)]
 pub struct Item<T, R> {
     pub item: T,
@@ -80,8 +81,9 @@ impl<T: FromJson, R: Items> Items for Item<T, R> {
     }
 }
 
-/// Reads the items of a tuple, whose first token is `token`, and no further. Returns `Invalid` if no beginning of the
-/// text spells a list of the items, exactly so many.
+/// Reads a list of exactly these items, whose first token is `token`, and takes no more of the source. Returns
+/// `Invalid` if the text, from that token on, has no prefix that means such a list, and `Memory` if an allocation
+/// fails.
 #[inline(always)]
 pub fn read_tuple<'a, I: Items>(token: Event<'a>, source: &mut Source<'a>) -> Result<I::Values>
     requires going { source.old.refused ≡ None }

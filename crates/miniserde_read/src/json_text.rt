@@ -1,4 +1,4 @@
-//! Whole texts.
+//! Reads one value from a whole text.
 ghost use Rattle.std.specs.Prelude.{◌≡◌, true, List, ℕ, None, Some, Ok, Err, IfOk, IsUtf8};
 ghost use Rattle.miniserde_model.specs.Tree.{Tree};
 ghost use Rattle.miniserde_model.specs.Value.{IsJson};
@@ -11,19 +11,21 @@ use miniserde_model::error::{Error, Result};
 use std::alloc::Global;
 use std::str;
 
-/// Parses one JSON value that spans the whole text (RFC 8259, section 2).
+/// Reads one JSON value that spans the whole text (RFC 8259, section 2). Returns `Invalid` if the text means no value
+/// of the type, and `Memory` if an allocation fails.
 pub fn from_str<T: FromJson>(alloc: Global, j: &str) -> Result<T>
     // The text means the value.
     ensures ok { IfOk result (λ v. (t : Tree) × IsJson j.now t × T.means.reads t v) }
     ensures content { IfOk result (λ v.
         (t : Tree) × IsJson j.now t × (T.means.from_tree t ≡ Some (T.means.content v))) }
 
-    // It has no tree, or one that means no value.
+    // If the text is `Invalid`, it has no tree, or one that means no value.
     ensures invalid { result ≡ Err Error.Invalid
         → (t : Tree) → IsJson j.now t → (v : T) → T.means.reads t v → ⊥ }
     ensures none { result ≡ Err Error.Invalid → (t : Tree) → IsJson j.now t → T.means.from_tree t ≡ None }
 
-    // Where reading the type never fails to allocate, the value is a string with a backslash.
+    // If reading the type never fails to allocate, only a text whose value is a string with a backslash gives
+    // `Memory`.
     ensures memory { T.read_infallible ≡ true → result ≡ Err Error.Memory → HasEscape j.now }
 
     // No text has two trees.
@@ -36,14 +38,15 @@ pub fn from_str<T: FromJson>(alloc: Global, j: &str) -> Result<T>
     Ok(value)
 }
 
-/// Parses one JSON value that spans all the bytes. Returns `Invalid` if they are not UTF-8 (RFC 8259, section 8.1).
+/// Reads one JSON value that spans all the bytes. Returns `Invalid` if they are not UTF-8 (RFC 8259, section 8.1) or
+/// mean no value of the type, and `Memory` if an allocation fails.
 pub fn from_slice<T: FromJson>(alloc: Global, bytes: &[u8]) -> Result<T>
     // The bytes mean the value.
     ensures ok { IfOk result (λ v. (t : Tree) × IsJson bytes.now t × T.means.reads t v) }
     ensures content { IfOk result (λ v.
         (t : Tree) × IsJson bytes.now t × (T.means.from_tree t ≡ Some (T.means.content v))) }
 
-    // They have no tree, or one that means no value.
+    // If the bytes are `Invalid`, they have no tree, or one that means no value.
     ensures invalid { result ≡ Err Error.Invalid
         → (t : Tree) → IsJson bytes.now t → (v : T) → T.means.reads t v → ⊥ }
     ensures none { result ≡ Err Error.Invalid → (t : Tree) → IsJson bytes.now t → T.means.from_tree t ≡ None }
@@ -51,7 +54,7 @@ pub fn from_slice<T: FromJson>(alloc: Global, bytes: &[u8]) -> Result<T>
     // Bytes that are not UTF-8 are `Invalid`, never `Memory`.
     ensures utf8 { (IsUtf8 bytes.now → ⊥) → result ≡ Err Error.Invalid }
 
-    // Where reading the type never fails to allocate, the value is a string with a backslash.
+    // If reading the type never fails to allocate, only bytes whose value is a string with a backslash give `Memory`.
     ensures memory { T.read_infallible ≡ true → result ≡ Err Error.Memory → HasEscape bytes.now }
 
     // No bytes have two trees.

@@ -1,4 +1,4 @@
-//! Types whose values are single tokens.
+//! The trait of types whose values are single tokens.
 ghost use Rattle.std.specs.Prelude.{◌≡◌, Bool, true, false, None, Some, Err, IfOk, IfErr};
 ghost use Rattle.miniserde_text.specs.Lexer.{event_of_token};
 ghost use Rattle.miniserde_model.specs.declared.error.Error.{Error};
@@ -23,10 +23,11 @@ pub trait Leaf: Drop {
     // No list and no object means a value.
     ghost only_leaves: { OnlyLeaves means.from_tree };
 
-    // `from_step` never returns `Memory`.
+    // Whether `from_step` never returns `Memory`.
     ghost read_infallible: { Bool } = { false };
 
-    /// Returns the value that the event means, or `Invalid` if it means none of this type.
+    /// Returns the value that the event means, or `Invalid` if it means none of this type. Returns `Memory` if an
+    /// allocation fails.
     fn from_step(alloc: Global, event: Step<'_>) -> Result<Self>
         requires { IsTreeEvent (event_of event) }
         ensures ok { IfOk result (λ v. on_leaf means.from_tree (event_of event.entry) ≡ Some (means.content v)) }
@@ -34,7 +35,8 @@ pub trait Leaf: Drop {
         ensures infallible { read_infallible ≡ true → IfErr result (λ e. e ≡ Error.Invalid) };
 }
 
-/// Reads a value that is one token. Takes nothing more from the source.
+/// Returns the value that the token means, or `Invalid` if it means none of this type, or `Memory` if an allocation
+/// fails. Takes nothing from the source.
 #[inline(always)]
 pub fn read_leaf<'a, T: Leaf>(token: Event<'a>, source: &mut Source<'a>) -> Result<T>
     requires { IsTreeEvent (event_of_token token source.old.scratch) }

@@ -1,4 +1,5 @@
-//! Types that read themselves from a JSON text, each with its meaning: which trees mean which of its values.
+//! Types that read themselves from a JSON text, each with its meaning: which trees mean which of its values. Structs,
+//! enums and types that collect values from events are in other crates.
 #![tactic(auto)]
 
 mod from_json;

@@ -1,4 +1,4 @@
-//! The text that a type reads itself from.
+//! The source: the rest of a text, from which a type reads itself.
 ghost use Rattle.std.specs.Prelude.{◌≡◌, Bool, List, ℕ, None, Some, Ok, Err, IfOk, IfErr, IfSome};
 ghost use Rattle.std.specs.String.{string_bytes};
 ghost use Rattle.miniserde_model.specs.Tree.{Trees, Members};
@@ -19,11 +19,12 @@ use std::alloc::Global;
 use std::marker::Model;
 use std::mem;
 
-/// The rest of a JSON text, with a scratch text for decoded strings. After its first error it returns that error from
-/// every call that takes a token.
+/// The rest of a JSON text, with a scratch text for decoded strings. The source keeps its first error, and every
+/// later call that takes tokens returns it.
 #[derive(Drop)]
 pub struct Source<'a> {
     lexer: Lexer<'a>,
+    // The decoded text of the last name or string that has a backslash.
     scratch: String,
     alloc: Global,
 }
@@ -38,7 +39,7 @@ impl<'a> Model for Source<'a> {
 }
 
 impl<'a> Source<'a> {
-    /// Returns a source at the front of a text. Allocates nothing.
+    /// Returns a source of a whole text. Allocates nothing.
     pub fn new(alloc: Global, text: &'a str) -> Source<'a>
         ensures rest { result.rest ≡ text.now }
         ensures going { result.refused ≡ None }
@@ -50,7 +51,8 @@ impl<'a> Source<'a> {
         }
     }
 
-    /// Returns a second source at the same place of the text, with a scratch text of its own. Allocates nothing.
+    /// Returns a second source with the same rest of the text and the same first error, and an empty scratch text.
+    /// Allocates nothing.
     pub fn fork(&self) -> Source<'a>
         ensures rest { result.rest ≡ self.now.rest }
         ensures refused { result.refused ≡ self.now.refused }
@@ -68,7 +70,8 @@ impl<'a> Source<'a> {
         self.alloc
     }
 
-    /// Takes whitespace and the first token of a value.
+    /// Takes whitespace and the first token of a value. Returns `Invalid` if no token is next, and `Memory` if
+    /// decoding a string fails to allocate.
     #[inline(always)]
     pub fn token(&mut self) -> Result<Event<'a>>
         ensures going { IfOk result (λ _. self.new.refused ≡ None) }
@@ -82,8 +85,9 @@ impl<'a> Source<'a> {
         self.lexer.start(&mut self.scratch)
     }
 
-    /// Takes the closing bracket of a list, or the comma before an element and the element's first token. `first` says
-    /// that the opening bracket was just taken.
+    /// Takes the closing bracket of a list and returns `None`, or takes the comma before an element and returns the
+    /// element's first token. `first` says that the opening bracket was just taken, so that no comma is due. Returns
+    /// `Invalid` if neither is next, and `Memory` if decoding a string fails to allocate.
     #[inline(always)]
     pub fn element(&mut self, first: bool) -> Result<Option<Event<'a>>>
         ensures going { IfOk result (λ _. self.new.refused ≡ None) }
@@ -100,8 +104,9 @@ impl<'a> Source<'a> {
         }
     }
 
-    /// Takes the closing bracket of an object, or the comma before a member, the member's name and its colon. `first`
-    /// says that the opening bracket was just taken.
+    /// Takes the closing bracket of an object and returns `None`, or takes the comma before a member, its name and
+    /// its colon, and returns the name. `first` says that the opening bracket was just taken, so that no comma is
+    /// due. Returns `Invalid` if neither is next, and `Memory` if decoding the name fails to allocate.
     #[inline(always)]
     pub fn name(&mut self, first: bool) -> Result<Option<Text<'a>>>
         ensures going { IfOk result (λ _. self.new.refused ≡ None) }
@@ -118,8 +123,8 @@ impl<'a> Source<'a> {
         }
     }
 
-    /// Takes the closing bracket of a container, or the comma before its next child. `first` says that the opening
-    /// bracket was just taken; no comma is before the first child.
+    /// Takes the closing bracket of a container of the kind, or the comma before its next child. `first` says that
+    /// the opening bracket was just taken, so that no comma is due. Returns `Invalid` if neither is next.
     #[inline(always)]
     pub fn after(&mut self, kind: Kind, first: bool) -> Result<After>
         ensures going { IfOk result (λ _. self.new.refused ≡ None) }
@@ -134,7 +139,8 @@ impl<'a> Source<'a> {
         self.lexer.after(kind, first)
     }
 
-    /// Takes a member's name and its colon.
+    /// Takes a member's name and its colon, and returns the name. Returns `Invalid` if they are not next, and
+    /// `Memory` if decoding the name fails to allocate.
     #[inline(always)]
     pub fn key(&mut self) -> Result<Text<'a>>
         ensures going { IfOk result (λ _. self.new.refused ≡ None) }
@@ -148,7 +154,7 @@ impl<'a> Source<'a> {
         self.lexer.name(&mut self.scratch)
     }
 
-    /// Checks that only whitespace is left.
+    /// Returns `Invalid` if more than whitespace is left.
     pub fn end(&mut self) -> Result<()>
         ensures ok { IfOk result (λ _. IsWhitespace self.old.rest) }
         ensures scratch { self.new.scratch ≡ self.old.scratch }
@@ -160,7 +166,8 @@ impl<'a> Source<'a> {
         self.lexer.end()
     }
 
-    /// Returns the text of a name or a string that was taken last.
+    /// Returns the text of a name or a string. It must be the one that was taken last, since a later one may replace
+    /// the scratch text.
     #[inline(always)]
     pub fn text<'b>(&'b self, text: Text<'b>) -> &'b str
         ensures { result.now ≡ text_of text.entry self.now.scratch }
@@ -171,7 +178,8 @@ impl<'a> Source<'a> {
         }
     }
 
-    /// Moves the decoded text of a name or a string that was taken last out of the source.
+    /// Moves the scratch text out of the source, and leaves an empty one. It is the text of the name or string that
+    /// was taken last, if that has a backslash.
     #[inline(always)]
     pub fn take_scratch(&mut self) -> String
         ensures text { string_bytes result ≡ self.old.scratch }

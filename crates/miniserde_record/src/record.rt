@@ -1,4 +1,4 @@
-//! What a struct or a unit enum says of itself, and how it is read and written by that.
+//! The traits by which a struct or a unit enum describes itself, and the calls that read and write it by them.
 
 mod aliases;
 mod blocks;

@@ -1,4 +1,5 @@
-//! Values that read back as they were written.
+//! The traits of types whose values are read back as they were written, for std's types. The same is promised of
+//! structs in `miniserde_record`, and of enums in `miniserde_enum`.
 #![tactic(auto)]
 
 mod lossless;

@@ -1,4 +1,5 @@
-//! Types whose tree is injective: valid values with one tree have one content.
+//! The traits `Lossless` and `NeverNull`: valid values with the same tree have the same content, and no valid value
+//! is written as `null`.
 ghost use Rattle.std.specs.Prelude.{◌≡◌, IfOk, Err};
 ghost use Rattle.miniserde_model.specs.Tree.{null};
 ghost use Rattle.miniserde_model.specs.declared.error.Error.{Error};
@@ -10,15 +11,15 @@ use std::alloc::Global;
 use std::collections::{BTreeMap, HashMap, VecDeque};
 use std::hash::{BuildHasher, Hash};
 
-/// A type of which valid values with the same tree have the same content, so each is read back as itself.
+/// A type whose valid values have the same content if they have the same tree, so each is read back as itself.
 pub trait Lossless: RoundTrip {
-    /// Does nothing. It promises that two valid values with one tree have the same content.
+    /// Does nothing. It promises that two valid values with the same tree have the same content.
     fn lossless()
         ensures { (v w : Self) → Self.real v → Self.real w → Self.tree v ≡ Self.tree w
             → Self.means.content v ≡ Self.means.content w };
 }
 
-/// A type of which no value is written as `null`, so that `Some` of each is told from `None`.
+/// A type of which no valid value is written as `null`, so that no `Some` of a value is written as `None` is.
 pub trait NeverNull: RoundTrip {
     /// Does nothing. It promises that no valid value is written as `null`.
     fn never_null()
@@ -26,8 +27,8 @@ pub trait NeverNull: RoundTrip {
 }
 
 /// Does nothing. It promises that the tree of a value means that value, and that all values that it means have the
-/// same content. So `from_str` returns a value with that content from a text that spells the tree, unless allocation
-/// fails.
+/// same content. So from a text that spells the tree, `from_str` returns a value of that content, unless an
+/// allocation fails.
 pub fn means_itself<T: Lossless>(value: &T)
     ensures means { T.means.reads (T.tree value.now) value.now }
     ensures only { (v : T) → T.means.reads (T.tree value.now) v
@@ -38,7 +39,7 @@ pub fn means_itself<T: Lossless>(value: &T)
     T::lossless();
 }
 
-/// Writes a value and parses it: the result has the same content.
+/// Writes a value and reads it back. Returns a value of the same content, or `Memory` if an allocation fails.
 pub fn read_itself<T: Lossless>(alloc: Global, value: &T) -> Result<T>
     ensures itself { IfOk result (λ v. T.means.content v ≡ T.means.content value.now) }
     ensures memory { result ≡ Err Error.Invalid → ⊥ }

@@ -1,4 +1,4 @@
-//! Values that read back as they were written.
+//! The trait `RoundTrip` of types whose values are read back as they were written.
 ghost use Rattle.std.specs.Prelude.{◌≡◌, IfOk, Ok, Err};
 ghost use Rattle.miniserde_model.specs.Tree.{Tree};
 ghost use Rattle.miniserde_model.specs.Value.{IsJson};
@@ -13,18 +13,18 @@ use std::alloc::Global;
 use std::collections::{BTreeMap, HashMap, VecDeque};
 use std::hash::{BuildHasher, Hash};
 
-/// A type whose values read back as they were written.
+/// A type whose values are read back as they were written.
 pub trait RoundTrip: Ranged + Serialize + FromJson {
-    /// Does nothing. It promises that the tree of each valid value means a valid value, and that each such value has
-    /// that tree.
+    /// Does nothing. It promises that the tree of each valid value means a valid value, and that each valid value
+    /// that it means has that tree.
     fn round_trips()
         ensures { (v : Self) → Self.real v
             → RoundTrips Self.real Self.tree Self.means.reads (Self.tree v) };
 }
 
-/// Parses one JSON value that spans the whole text, as `from_str` does (RFC 8259, section 2). If a valid value has
-/// the tree of the text, the returned value has the same tree. Returns `Invalid` if the text means no value, and
-/// `Memory` if an allocation fails.
+/// Reads one JSON value that spans the whole text, as `from_str` does (RFC 8259, section 2). If a valid value has the
+/// tree of the text, the returned value has the same tree. Returns `Invalid` if the text means no value, and `Memory`
+/// if an allocation fails.
 pub fn read_back<T: RoundTrip>(alloc: Global, text: &str) -> Result<T>
     // The text spells a tree that means the value, which is valid.
     ensures ok { IfOk result (λ read. (t : Tree) × IsJson text.now t × T.means.reads t read) }
@@ -33,10 +33,10 @@ pub fn read_back<T: RoundTrip>(alloc: Global, text: &str) -> Result<T>
     // If the text spells the tree of a valid value, the result has that tree.
     ensures same { IfOk result (λ read. (v : T) → T.real v → IsJson text.now (T.tree v) → T.tree read ≡ T.tree v) }
 
-    // It spells the tree of no valid value.
+    // If the text is `Invalid`, it spells the tree of no valid value.
     ensures stored { result ≡ Err Error.Invalid → (v : T) → T.real v → IsJson text.now (T.tree v) → ⊥ }
 
-    // No tree of the text means any value.
+    // If the text is `Invalid`, its tree means no value.
     ensures invalid { result ≡ Err Error.Invalid → (t : Tree) → IsJson text.now t
         → (v : T) → T.means.reads t v → ⊥ }
 {
@@ -46,7 +46,7 @@ pub fn read_back<T: RoundTrip>(alloc: Global, text: &str) -> Result<T>
     Ok(read)
 }
 
-/// Writes a value and parses it: the result has the same tree.
+/// Writes a value and reads it back. Returns a value with the same tree, or `Memory` if an allocation fails.
 pub fn write_and_read<T: RoundTrip>(alloc: Global, value: &T) -> Result<T>
     ensures same { IfOk result (λ v. T.tree v ≡ T.tree value.now) }
     ensures itself { ((v : T) → T.real v → T.tree v ≡ T.tree value.now

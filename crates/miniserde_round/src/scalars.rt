@@ -1,4 +1,4 @@
-//! Booleans, integers and texts: no two values have one tree.
+//! The promises of `RoundTrip`, `Lossless` and `NeverNull` for `bool`, integers and `String`.
 ghost use Rattle.std.specs.Prelude.{◌≡◌};
 ghost use Rattle.miniserde_model.specs.Tree.{null};
 ghost use Rattle.miniserde_round.specs.RoundTrip.{RoundTrips};
@@ -9,9 +9,9 @@ use miniserde_keys::Ranged;
 use miniserde_read::FromJson;
 use miniserde_ser::ser::Serialize;
 
-/// A type of std. No two of its values have one tree, and no value has the tree `null`.
+/// A type of std whose valid values have different trees, and never the tree `null`.
 pub trait Scalar: Ranged + Serialize + FromJson {
-    /// Does nothing. It promises what `RoundTrip`, `Lossless` and `NeverNull` do.
+    /// Does nothing. It promises what `RoundTrip`, `Lossless` and `NeverNull` promise.
     fn scalar()
         ensures round_trips { (v : Self) → Self.real v
             → RoundTrips Self.real Self.tree Self.means.reads (Self.tree v) }

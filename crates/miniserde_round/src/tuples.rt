@@ -1,4 +1,4 @@
-//! Tuples of three to six.
+//! The promises of `RoundTrip`, `Lossless` and `NeverNull` for tuples of three to six items.
 
 use crate::lossless::{Lossless, NeverNull};
 use crate::round_trip::RoundTrip;

@@ -1,4 +1,5 @@
-//! The compact JSON writer of `miniserde`, and the values that it writes.
+//! The writer of compact JSON text, and std's types that write themselves with it. Structs, enums and documents write
+//! themselves in other crates.
 #![tactic(auto)]
 
 pub mod ser;

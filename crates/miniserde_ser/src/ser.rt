@@ -1,7 +1,7 @@
-//! A writer of compact JSON text, and the values that write themselves with it.
+//! The writer of compact JSON text, and the trait of values that write themselves with it.
 //!
-//! A value asks the writer for one piece of text a call: a leaf, a bracket, or what stands before an element.
-//! The writer keeps a refusal and answers it to every later call, so a text that was cut short is never handed out.
+//! Each call of the writer appends one piece of text: a leaf, a bracket, or what stands before an element or a
+//! member. After its first error every call fails, so it never returns a text that was cut short.
 ghost use Rattle.std.specs.Prelude.{◌≡◌, ◌++◌, true, false, OnOk, OnErr, IsErrOf};
 ghost use Rattle.miniserde_model.specs.Tree.{Tree};
 ghost use Rattle.miniserde_model.specs.Compact.{compact};
@@ -23,17 +23,17 @@ use std::alloc::{AllocError, Global};
 use std::marker::Model;
 use std::result;
 
-/// A value with no children.
+/// A leaf, as a writer appends it.
 #[derive(Clone, Copy, Debug, Drop)]
 pub enum Fragment<'a> {
     Null,
     Bool(bool),
-    /// A text, before the escape rule.
+    /// A text, which is written as a string by the escape rule.
     Str(&'a str),
     U64(u64),
-    /// An integer of either sign. One that is not negative is written as its `U64` is.
+    /// An integer of either sign. If it is not negative, it is written without `-`.
     I64(i64),
-    /// Any other number, which is written as its text.
+    /// A number that is kept as its text. The text is written as it is.
     Text(&'a NumberText),
 }
 
@@ -43,7 +43,9 @@ pub enum Fragment<'a> {
 #[derive(Drop)]
 pub struct Writer {
     text: String,
+    // Whether the next element or member is the first of its container.
     first: bool,
+    // Whether a call failed.
     refused: bool,
 }
 
@@ -61,12 +63,13 @@ impl Model for Writer {
     } };
 }
 
-// Appends a text that there is no room for yet. It is seldom called, so it is never inlined.
+// Appends a text for which there is no room yet. If `out` cannot grow, fails and leaves `out` unchanged. Kept out of
+// line, since it is seldom called.
 #[inline(never)]
 fn push_growing(out: &mut String, text: &str) -> result::Result<(), AllocError>
     ensures { Extends out.old text.now result out.new }
 {
-    // A `push_str` that fails leaves the capacity open, and a `reserve` that fails does not.
+    // A `reserve` that fails leaves the capacity unchanged; the contract of `push_str` does not promise that.
     out.reserve(text.len())?;
     out.push_str(text).unwrap();
     Ok(())
@@ -85,19 +88,19 @@ impl Writer {
         ensures { result ≡ record { text = []; first = true; refused = false; capacity = 0 } }
     {
         Writer {
-            // The contract of `String::new` leaves the capacity open.
+            // The contract of `String::new` does not promise a capacity of 0.
             text: String::with_capacity(alloc, 0).unwrap(),
             first: true,
             refused: false,
         }
     }
 
-    /// Returns the allocator of the text. It has no contract, as a `Global` has no content that a clause could name.
+    /// Returns the allocator of the text. It has no contract, since a contract can say nothing of a `Global`.
     pub fn alloc(&self) -> Global {
         *self.text.allocator()
     }
 
-    // Fails if the writer keeps an error.
+    // Fails if an earlier call failed.
     #[inline(always)]
     fn check(&self) -> result::Result<(), AllocError>
         ensures stays { OnOk result (self.now.refused ≡ false) }
@@ -109,7 +112,7 @@ impl Writer {
         Ok(())
     }
 
-    // Appends a text as it is.
+    // Appends a text as it is. Returns `Memory` if the text cannot grow or an earlier call failed.
     #[inline(always)]
     fn append(&mut self, text: &str) -> Result<()>
         ensures { Appends self.old text.now self.old.first result self.new }
@@ -125,7 +128,8 @@ impl Writer {
         }
     }
 
-    // Appends the digits of a number, in one copy of fixed size if there is room for the longest number.
+    // Appends the decimal digits of a number. They are one copy of fixed size if there is room for the longest
+    // number. Returns `Memory` if the text cannot grow or an earlier call failed.
     #[inline(always)]
     fn append_number(&mut self, n: u64) -> Result<()>
         ensures { Appends self.old (decimal n) self.old.first result self.new }
@@ -138,7 +142,7 @@ impl Writer {
         Ok(())
     }
 
-    // Appends a text as a string.
+    // Appends a text as a JSON string. Returns `Memory` if the writer's text cannot grow or an earlier call failed.
     #[inline(always)]
     fn append_quoted(&mut self, text: &str) -> Result<()>
         ensures { Appends self.old (string_text text.now) self.old.first result self.new }
@@ -150,7 +154,8 @@ impl Writer {
         }
     }
 
-    // Appends a punctuation mark. `first` says whether an element after it is the first.
+    // Appends a punctuation mark. `first` says whether an element or a member right after it is the first. Returns
+    // `Memory` if the text cannot grow or an earlier call failed.
     #[inline(always)]
     fn punctuate(&mut self, mark: &str, first: bool) -> Result<()>
         ensures { Appends self.old mark.now first result self.new }
@@ -160,7 +165,7 @@ impl Writer {
         Ok(())
     }
 
-    /// Appends a leaf.
+    /// Appends a leaf. Returns `Memory` if the text cannot grow or an earlier call failed.
     #[inline(always)]
     pub fn fragment(&mut self, f: Fragment<'_>) -> Result<()>
         ensures { Appends self.old (compact (fragment_tree f.entry)) self.old.first result self.new }
@@ -176,14 +181,15 @@ impl Writer {
         }
     }
 
-    /// Opens a list.
+    /// Opens a list: appends `[`. Returns `Memory` if the text cannot grow or an earlier call failed.
     pub fn seq(&mut self) -> Result<()>
         ensures { Appends self.old (codes "[") true result self.new }
     {
         self.punctuate("[", true)
     }
 
-    /// Begins an element of a list: appends a comma unless the element is the first.
+    /// Begins an element of a list: appends a comma unless the element is the first. Returns `Memory` if the text
+    /// cannot grow or an earlier call failed.
     #[inline(always)]
     pub fn element(&mut self) -> Result<()>
         ensures { Appends self.old (if self.old.first then [] else codes ",") false result self.new }
@@ -196,14 +202,14 @@ impl Writer {
         self.append(",")
     }
 
-    /// Closes a list.
+    /// Closes a list: appends `]`. Returns `Memory` if the text cannot grow or an earlier call failed.
     pub fn seq_finish(&mut self) -> Result<()>
         ensures { Appends self.old (codes "]") false result self.new }
     {
         self.punctuate("]", false)
     }
 
-    /// Opens an object.
+    /// Opens an object: appends `{`. Returns `Memory` if the text cannot grow or an earlier call failed.
     pub fn map(&mut self) -> Result<()>
         ensures { Appends self.old (codes "{") true result self.new }
     {
@@ -211,7 +217,7 @@ impl Writer {
     }
 
     /// Begins a member of an object: appends a comma unless the member is the first, then its name as a string, and a
-    /// colon.
+    /// colon. Returns `Memory` if the text cannot grow or an earlier call failed.
     pub fn key(&mut self, k: &str) -> Result<()>
         ensures appends { Appends self.old
             ((if self.old.first then [] else codes ",") ++ string_text k.now ++ codes ":") false result self.new }
@@ -220,7 +226,8 @@ impl Writer {
         self.key_inline(k)
     }
 
-    /// Begins a member of an object as `key` does, and is inlined into its caller.
+    /// Begins a member of an object: appends a comma unless the member is the first, then its name as a string, and a
+    /// colon. It does what `key` does, and is inlined into its caller.
     #[inline(always)]
     pub fn key_inline(&mut self, k: &str) -> Result<()>
         ensures appends { Appends self.old
@@ -237,15 +244,14 @@ impl Writer {
         }
     }
 
-    /// Closes an object.
+    /// Closes an object: appends `}`. Returns `Memory` if the text cannot grow or an earlier call failed.
     pub fn map_finish(&mut self) -> Result<()>
         ensures { Appends self.old (codes "}") false result self.new }
     {
         self.punctuate("}", false)
     }
 
-    /// Marks the text as incomplete, and returns `Memory`. It is called if a value fails to allocate memory of its
-    /// own.
+    /// Makes every later call fail, and returns `Memory`. A value calls it if it fails to allocate memory of its own.
     pub fn refuse(&mut self) -> Error
         ensures memory { result ≡ Memory }
         ensures err { self.new ≡ with_refused self.old }
@@ -280,7 +286,8 @@ pub trait Serialize {
     /// The tree of a value.
     ghost tree: { Self → Tree };
 
-    /// Appends the compact text of the value. A writer keeps its first error, and returns no text after it.
+    /// Appends the compact text of the value. Returns `Memory` if an allocation fails or an earlier call of the
+    /// writer failed; the writer then returns no text.
     fn begin(&self, w: &mut Writer) -> Result<()>
         ensures ok { OnOk result (w.new.text ≡ w.old.text ++ compact (tree self.now)) }
         ensures is_tree { OnOk result (IsTree (tree self.now)) }

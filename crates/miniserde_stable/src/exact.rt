@@ -1,4 +1,4 @@
-//! Keys that are read from one name each.
+//! The trait of keys each of which is read from one name alone.
 ghost use Rattle.std.specs.Prelude.{◌≡◌, ℕ, List, Some};
 ghost use Rattle.miniserde_keys.specs.Keys.{Key};
 ghost use Rattle.miniserde_stable.specs.laws.Exact.{text-exact, bool-exact, char-exact};
@@ -7,7 +7,7 @@ use miniserde_keys::MapKey;
 
 /// A type of keys, each of which is read from one name alone.
 pub trait ExactKey: MapKey {
-    // Names that are read as equal keys are one name.
+    // Names that are read as equal keys are equal.
     ghost one_name: { (n m : List ℕ) (c d : Key) → Self.read n ≡ Some c → Self.read m ≡ Some d
         → Self.code c ≡ Self.code d → n ≡ m };
 }

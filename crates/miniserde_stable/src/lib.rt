@@ -1,4 +1,5 @@
-//! Types that are read from the normal form of a tree as from the tree.
+//! The trait `Stable` of types for which the normal form of a tree means what the tree means, for std's types. The
+//! same is promised of structs in `miniserde_record`, and of enums in `miniserde_enum`.
 #![tactic(auto)]
 
 mod exact;

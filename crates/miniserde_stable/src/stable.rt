@@ -1,4 +1,4 @@
-//! Types that are read from the normal form of a tree as from the tree.
+//! The trait `Stable` of types for which the normal form of a tree means what the tree means.
 ghost use Rattle.std.specs.Prelude.{◌≡◌, pos, Some, None};
 ghost use Rattle.miniserde_model.specs.Tree.{Tree, neg};
 ghost use Rattle.miniserde_model.specs.Normal.{norm};
@@ -12,13 +12,13 @@ use std::hash::{BuildHasher, Hash};
 
 /// A type that is read from the canonical text of a text as from the text itself.
 pub trait Stable: FromJson {
-    /// Does nothing. It promises that the normal form of a tree has the content of the tree, if the tree has one.
+    /// Does nothing. It promises that if a tree means a value, its normal form means a value of the same content.
     fn stable()
         ensures { IsStable Self.means.from_tree };
 }
 
-/// Does nothing. It promises that a tree that means a value means it in normal form too, and that two trees with one normal
-/// form mean no two values with different contents.
+/// Does nothing. It promises that if a tree means a value, its normal form means it too, and that two trees with the
+/// same normal form mean no two values with different contents.
 pub fn means_in_normal_form<T: Stable>()
     ensures means { (t : Tree) (v : T) → T.means.reads t v → T.means.reads (norm t) v }
     ensures one { (t u : Tree) (v w : T) → norm t ≡ norm u → T.means.reads t v → T.means.reads u w
@@ -27,15 +27,15 @@ pub fn means_in_normal_form<T: Stable>()
     T::stable()
 }
 
-/// Does nothing. It promises that the converse is false: `-0` is no `u8`, and its normal form is 0. So a program that reads
-/// the canonical text in place of the text accepts more.
+/// Does nothing. It promises that a normal form may mean a value that its tree does not mean: `-0` means no `u8`, and
+/// its normal form means 0. So a program that reads the canonical text in place of the text accepts more.
 pub fn normal_form_means_more()
     ensures text { ⟦<u8 as FromJson>⟧.means.from_tree (neg (pos 0)) ≡ None }
     ensures normal { ⟦<u8 as FromJson>⟧.means.from_tree (norm (neg (pos 0))) ≡ Some (pos 0) }
 {}
 
-/// Does nothing. It promises that a map with integer keys is not `Stable`: `{"1":1,"01":2}` has 2 at 1, and its normal form
-/// `{"01":2,"1":1}` has 1 there.
+/// Does nothing. It promises that a map with integer keys is not stable: `{"1":1,"01":2}` has 2 at key 1, and its
+/// normal form `{"01":2,"1":1}` has 1 there.
 pub fn two_names_of_a_key()
     ensures { IsStable ⟦<BTreeMap<u8, u8> as FromJson>⟧.means.from_tree → ⊥ }
 {}

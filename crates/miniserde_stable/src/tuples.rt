@@ -1,4 +1,4 @@
-//! Tuples of three to six.
+//! The promise of `Stable` for tuples of three to six items.
 
 use crate::stable::Stable;
 

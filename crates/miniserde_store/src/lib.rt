@@ -1,4 +1,5 @@
-//! Typed values and canonical texts.
+//! Functions that combine values of a type with canonical texts: to read both from one text, and to write the
+//! canonical text of a value. Nothing is stored here.
 #![tactic(auto)]
 
 mod store;

@@ -1,4 +1,4 @@
-//! Typed values and canonical texts.
+//! Reads a value with its canonical text, and writes the canonical text of a value.
 ghost use Rattle.std.specs.Prelude.{◌≡◌, ℕ, List, IfOk, OnErr, IsErrOf, Err, string_bytes};
 ghost use Rattle.miniserde_model.specs.Compact.{compact};
 ghost use Rattle.miniserde_model.specs.Normal.{norm};
@@ -15,8 +15,8 @@ use miniserde_ser::ser::{Serialize, to_string};
 use miniserde_stable::{Stable, means_in_normal_form};
 use std::alloc::Global;
 
-/// Parses one JSON value that spans the whole text. Returns it with the canonical text of the text. Returns `Invalid` if
-/// the text is no JSON (RFC 8259) or means no value of the type.
+/// Reads one JSON value that spans the whole text, and returns it with the canonical text of that text. Returns
+/// `Invalid` if the text means no value of the type, and `Memory` if an allocation fails.
 pub fn read_canonical<T: Stable>(alloc: Global, j: &str) -> Result<(T, String)>
     // The text means the value, and has that canonical text.
     ensures ok { IfOk result (λ r. (t : Tree) × IsJson j.now t × T.means.reads t r.0
@@ -25,11 +25,11 @@ pub fn read_canonical<T: Stable>(alloc: Global, j: &str) -> Result<(T, String)>
     // The canonical text means the value too.
     ensures canonical { IfOk result (λ r. (u : Tree) × IsJson (string_bytes r.1) u × T.means.reads u r.0) }
 
-    // Each text with that canonical text means this value or none.
+    // Each text with that canonical text means a value of the same content, or none.
     ensures one { IfOk result (λ r. (b : List ℕ) (u : Tree) (w : T) → IsJson b u → string_bytes r.1 ≡ compact (norm u)
         → T.means.reads u w → T.means.content w ≡ T.means.content r.0) }
 
-    // The text means no value.
+    // If the text is `Invalid`, it means no value.
     ensures invalid { result ≡ Err Invalid → (t : Tree) → IsJson j.now t → (v : T) → T.means.reads t v → ⊥ }
 {
     means_in_normal_form::<T>();
@@ -39,7 +39,8 @@ pub fn read_canonical<T: Stable>(alloc: Global, j: &str) -> Result<(T, String)>
     Ok((value, text))
 }
 
-/// Returns the canonical text of a value: the compact text of the normal form of its tree.
+/// Returns the canonical text of a value: the compact text of the normal form of its tree. Returns `Memory` if an
+/// allocation fails.
 pub fn canonical_of<T: Serialize>(alloc: Global, value: &T) -> Result<String>
     ensures ok { IfOk result (λ c. string_bytes c ≡ compact (norm (T.tree value.now))) }
     ensures spells { IfOk result (λ c. IsJson (string_bytes c) (norm (T.tree value.now))) }
@@ -55,8 +56,8 @@ pub fn canonical_of<T: Serialize>(alloc: Global, value: &T) -> Result<String>
     Ok(canonical)
 }
 
-/// Does nothing. It promises that a text with the canonical text of a value is read as that value, if it is read at all, and
-/// that two values with one canonical text have the same content.
+/// Does nothing. It promises that a text with the canonical text of a valid value is read as a value of the same
+/// content, if it is read at all, and that two valid values with one canonical text have the same content.
 pub fn sent_itself<T: Stable + Lossless>()
     ensures itself { (v w : T) (u : Tree) → T.real v → norm u ≡ norm (T.tree v) → T.means.reads u w
         → T.means.content w ≡ T.means.content v }

@@ -1,13 +1,13 @@
-//! Integers that are written with one copy of fixed size.
+//! Appends the digits of an integer by one copy of fixed size, which is faster than a copy of varying size.
 ghost use Rattle.std.specs.Prelude.{◌≡◌, ◌+◌, ◌≤◌, ◌++◌, true, decimal, string_bytes, string_len, string_capacity};
 
 use itoa::write_digits;
 use std::str;
 
-// The most bytes that an integer of 64 bits is written as.
+// The length in bytes of the longest text of an integer of 64 bits.
 const LONGEST: usize = 20;
 
-/// Returns whether there is room for any integer of 64 bits.
+/// Returns whether `out` has room for 20 more bytes, the longest text of an integer of 64 bits.
 #[inline(always)]
 pub fn has_room(out: &String) -> bool
     ensures { result ≡ true → string_len out.now + 20 ≤ string_capacity out.now }
@@ -15,8 +15,8 @@ pub fn has_room(out: &String) -> bool
     out.capacity() - out.len() >= LONGEST
 }
 
-/// Appends the digits of a number. `out` has room for the longest number: the call copies that many bytes, and cuts
-/// off those behind the digits.
+/// Appends the decimal digits of a number. `out` has room for 20 bytes: the call copies that many, and then truncates
+/// `out` after the digits.
 #[inline(always)]
 pub fn put_digits(n: u64, out: &mut String)
     requires { string_len out.old + 20 ≤ string_capacity out.old }

@@ -1,4 +1,5 @@
-//! Strings by the escape rule.
+//! Writes texts as JSON strings by the escape rule: each control character, quote and backslash is escaped in its
+//! shortest form, and every other byte stands for itself.
 ghost use Rattle.std.specs.Prelude.{◌≡◌, ◌≢◌, ℕ, ◌+◌, ◌/◌, ◌%◌, ◌^◌, ◌<◌, ◌≤◌, [], ◌∷◌, ◌++◌, length, true, false};
 ghost use Rattle.std.specs.Prelude.{codes, if◌then◌else◌, ◌-◌, take, drop, slice_index, OnOk, OnErr, IfSome, IfNone, IsErrOf, string_bytes, string_len};
 ghost use Rattle.std.specs.Prelude.{string_capacity};
@@ -18,7 +19,8 @@ use miniserde_model::error::Result;
 use std::alloc::AllocError;
 use std::{result, str};
 
-// Returns the index of the first byte at or after `from` that must be escaped, or the length.
+// Returns the index of the first byte at or after `from` that must be escaped, or the length of the text if there is
+// none.
 fn run_end(text: &[u8], from: usize) -> usize
     requires { from ≤ length text.now }
     ensures low { from ≤ result }
@@ -29,7 +31,7 @@ fn run_end(text: &[u8], from: usize) -> usize
     special(text, from)
 }
 
-// Returns the letter of a byte's short escape, or 0 if the byte has none.
+// Returns the letter of a byte's short escape, such as `n` for a newline, or 0 if the byte has none.
 #[tactic(auto, unfolding(crate::specs::private::Escape::escape))]
 fn letter_of(b: u8) -> u8
     ensures short { result ≢ 0 → escape b ≡ 92 ∷ result ∷ [] }
@@ -51,7 +53,7 @@ fn letter_of(b: u8) -> u8
     }
 }
 
-// Returns how many bytes the escape rule writes for a byte.
+// Returns how many bytes the escape rule writes for a byte: 1, 2 or 6.
 fn byte_len(b: u8) -> usize
     ensures len { result ≡ length (escape b) }
     ensures low { 1 ≤ result }
@@ -65,8 +67,8 @@ fn byte_len(b: u8) -> usize
     }
 }
 
-// Returns how many bytes the escape rule writes for a text, without the quotes, or `None` if no `usize` holds that
-// number.
+// Returns how many bytes the escape rule writes for a text, without the quotes, or `None` if the number overflows
+// `usize`.
 fn escaped_len(value: &str) -> Option<usize>
     ensures some { IfSome result (λ n. n ≡ length (escapes value.now)) }
     ensures none { IfNone result (2 ^ 64 ≤ length (escapes value.now)) }
@@ -129,7 +131,7 @@ fn put_escape(b: u8, out: &mut String)
     }
 }
 
-// Appends the bytes from `start` to `end`. Between two escapes there are none. `out` has room for them.
+// Appends the bytes of `value` from `start` to `end`, of which there may be none. `out` has room for them.
 #[inline(always)]
 fn put_run(value: &str, start: usize, end: usize, out: &mut String)
     requires start { IsCharBoundary value.now start }
@@ -145,7 +147,8 @@ fn put_run(value: &str, start: usize, end: usize, out: &mut String)
     }
 }
 
-// Appends a text by the escape rule, each run of plain bytes in one piece. `out` has room for it.
+// Appends a text by the escape rule, without quotes. Each run of plain bytes is copied in one piece. `out` has room
+// for the escaped text.
 fn put_escapes(value: &str, out: &mut String)
     requires { string_len out.old + length (escapes value.now) ≤ string_capacity out.old }
     ensures bytes { string_bytes out.new ≡ string_bytes out.old ++ escapes value.now }
@@ -166,8 +169,8 @@ fn put_escapes(value: &str, out: &mut String)
     }
 }
 
-// Appends a text by the escape rule. `out` has room for it. For a short text that is known at compile time, no test
-// of its bytes is left.
+// Appends a text by the escape rule, without quotes. `out` has room for the escaped text. It is inlined, so that the
+// compiler removes the tests of bytes for a short text that is known at compile time.
 #[inline(always)]
 fn put_text(value: &str, out: &mut String)
     requires { string_len out.old + length (escapes value.now) ≤ string_capacity out.old }
@@ -182,8 +185,8 @@ fn put_text(value: &str, out: &mut String)
     }
 }
 
-// Returns `true` only if there is room for the text, however it is escaped, and for `marks` more bytes. A byte is
-// escaped as six bytes at most.
+// Returns whether `out` has room for the text and `marks` more bytes, even if each byte of the text is escaped as
+// six.
 #[inline(always)]
 fn has_ample_room(value: &str, marks: usize, out: &String) -> bool
     ensures { result ≡ true
@@ -193,7 +196,8 @@ fn has_ample_room(value: &str, marks: usize, out: &String) -> bool
     marks <= free && value.len() <= (free - marks) / 6
 }
 
-// Reserves room for the escaped text and `marks` more bytes, and no more than `reserve` does for that many.
+// Counts the bytes of the escaped text, and reserves room for them and `marks` more bytes. Fails if that allocation
+// fails.
 fn grow(value: &str, marks: usize, out: &mut String) -> result::Result<(), AllocError>
     ensures { MakesRoom out.old (length (escapes value.now) + marks) result out.new }
 {
@@ -204,8 +208,8 @@ fn grow(value: &str, marks: usize, out: &mut String) -> result::Result<(), Alloc
     out.reserve(len.saturating_add(marks))
 }
 
-// Reserves room for the escaped text and `marks` more bytes. Calls `grow`, which counts the bytes, only if
-// `has_ample_room` returns `false`.
+// Reserves room for the escaped text and `marks` more bytes, and fails if that allocation fails. The bytes of the
+// escaped text are counted only if `has_ample_room` returns `false`.
 #[inline(always)]
 fn make_room(value: &str, marks: usize, out: &mut String) -> result::Result<(), AllocError>
     ensures { MakesRoom out.old (length (escapes value.now) + marks) result out.new }
@@ -217,7 +221,7 @@ fn make_room(value: &str, marks: usize, out: &mut String) -> result::Result<(), 
     }
 }
 
-// Appends the quote before a member's name, behind a comma unless the member is the first. `out` has room for both.
+// Appends a comma unless the member is the first, and the quote before the member's name. `out` has room for both.
 #[inline(always)]
 fn put_name_start(first: bool, out: &mut String)
     requires { string_len out.old + 2 ≤ string_capacity out.old }
@@ -241,8 +245,8 @@ fn marks_of(first: bool) -> usize
     if first { 3 } else { 4 }
 }
 
-/// Appends the beginning of a member: a comma unless it is the first, its name as a string, and a colon. If the call
-/// fails, `out` is unchanged.
+/// Appends what stands before a member's value: a comma unless the member is the first, its name as a string, and a
+/// colon. If `out` cannot grow, returns `Memory` and leaves `out` unchanged.
 #[doc(hidden)]
 #[inline(always)]
 pub fn put_name(first: bool, name: &str, out: &mut String) -> Result<()>
@@ -257,7 +261,8 @@ pub fn put_name(first: bool, name: &str, out: &mut String) -> Result<()>
     Ok(())
 }
 
-// Appends a short text in which each byte stands for itself, as a string.
+// Appends a text of fewer than 32 bytes, none of which needs an escape, as a JSON string. If `out` cannot grow, fails
+// and leaves `out` unchanged.
 #[inline(always)]
 fn put_plain(value: &str, out: &mut String) -> result::Result<(), AllocError>
     requires plain { escapes value.now ≡ value.now }
@@ -271,7 +276,7 @@ fn put_plain(value: &str, out: &mut String) -> result::Result<(), AllocError>
     Ok(())
 }
 
-// Appends any other text as a string.
+// Appends any text as a JSON string. If `out` cannot grow, fails and leaves `out` unchanged.
 fn put_other(value: &str, out: &mut String) -> result::Result<(), AllocError>
     ensures { Extends out.old (string_text value.now) result out.new }
 {
@@ -282,7 +287,8 @@ fn put_other(value: &str, out: &mut String) -> result::Result<(), AllocError>
     Ok(())
 }
 
-/// Appends a text as a JSON string: between quotes, by the escape rule. If the call fails, `out` is unchanged.
+/// Appends a text as a JSON string: between quotes, by the escape rule. If `out` cannot grow, returns `Memory` and
+/// leaves `out` unchanged.
 pub fn escape_str(value: &str, out: &mut String) -> Result<()>
     ensures appends { Extends out.old (string_text value.now) result out.new }
     ensures memory { OnErr result (IsErrOf result Memory) }

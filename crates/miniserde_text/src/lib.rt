@@ -1,4 +1,5 @@
-//! The texts of JSON: the lexer, numbers that are kept as text, the escape rule and the search for special bytes.
+//! The texts of JSON: the lexer, numbers that are kept as texts, the escape rule and the search for bytes that must
+//! be escaped. No type reads or writes itself here.
 #![tactic(auto)]
 
 #[doc(hidden)]

@@ -1,4 +1,4 @@
-//! The search for the byte where a run inside a string ends.
+//! The search for the first byte that must be escaped in a string, up to 32 bytes at a time.
 ghost use Rattle.std.specs.Prelude.{◌≡◌, ◌+◌, ◌≤◌, length, drop, map};
 ghost use Rattle.std.specs.List.{position_or_len};
 ghost use Rattle.std.specs.Simd.Lanes.{mask_l};
@@ -6,7 +6,7 @@ ghost use Rattle.miniserde_model.specs.Bytes.{is_special};
 
 use std::simd::prelude::*;
 
-// 1 for each byte that may not stand for itself in a string, and else 0.
+// 1 for each byte that must be escaped in a string, and 0 for every other byte.
 static SPECIAL: [u8; 256] = [
     1, 1, 1, 1, 1, 1, 1, 1, 1, 1, 1, 1, 1, 1, 1, 1, 1, 1, 1, 1, 1, 1, 1, 1, 1, 1, 1, 1, 1, 1, 1, 1,
     0, 0, 1, 0, 0, 0, 0, 0, 0, 0, 0, 0, 0, 0, 0, 0, 0, 0, 0, 0, 0, 0, 0, 0, 0, 0, 0, 0, 0, 0, 0, 0,
@@ -26,7 +26,7 @@ pub(crate) fn is_special(c: u8) -> bool
     SPECIAL[c as usize] == 1
 }
 
-// Returns a mask whose bit i is set if lane i is special.
+// Returns a mask whose bit i is set if byte i of the 32 must be escaped in a string.
 #[inline(always)]
 fn specials(v: u8x32) -> u64
     ensures { result ≡ mask_l (map is_special v) }
@@ -37,7 +37,7 @@ fn specials(v: u8x32) -> u64
     (controls | quotes | backslashes).to_bitmask()
 }
 
-// Returns the mask of `specials` for sixteen lanes.
+// Returns a mask whose bit i is set if byte i of the 16 must be escaped in a string.
 #[inline(always)]
 pub(crate) fn specials_of_sixteen(v: u8x16) -> u64
     ensures { result ≡ mask_l (map is_special v) }
@@ -48,7 +48,7 @@ pub(crate) fn specials_of_sixteen(v: u8x16) -> u64
     (controls | quotes | backslashes).to_bitmask()
 }
 
-// Returns the mask of `specials` for eight lanes.
+// Returns a mask whose bit i is set if byte i of the 8 must be escaped in a string.
 #[inline(always)]
 pub(crate) fn specials_of_eight(v: u8x8) -> u64
     ensures { result ≡ mask_l (map is_special v) }
@@ -59,7 +59,7 @@ pub(crate) fn specials_of_eight(v: u8x8) -> u64
     (controls | quotes | backslashes).to_bitmask()
 }
 
-// Returns the index of the first special byte at or after `from`, or the length. Searches byte by byte.
+// Returns the index of the first byte at or after `from` that must be escaped, or the length. Searches byte by byte.
 fn search_bytes(bytes: &[u8], from: usize) -> usize
     requires { from ≤ length bytes.now }
     ensures { result ≡ from + position_or_len is_special (drop from bytes.now) }
@@ -71,7 +71,8 @@ fn search_bytes(bytes: &[u8], from: usize) -> usize
     i
 }
 
-// Returns the index of the first special byte at or after `from`, or the length. Searches eight bytes at a time.
+// Returns the index of the first byte at or after `from` that must be escaped, or the length. Searches 8 bytes at a
+// time.
 fn search_eights(bytes: &[u8], from: usize) -> usize
     requires { from ≤ length bytes.now }
     ensures { result ≡ from + position_or_len is_special (drop from bytes.now) }
@@ -87,7 +88,8 @@ fn search_eights(bytes: &[u8], from: usize) -> usize
     search_bytes(bytes, i)
 }
 
-// Calls `search_eights`, and is never inlined into its caller.
+// Returns the index of the first byte at or after `from` that must be escaped, or the length, by `search_eights`.
+// Kept out of line, so that its callers stay small.
 #[inline(never)]
 fn search_few(bytes: &[u8], from: usize) -> usize
     requires { from ≤ length bytes.now }
@@ -96,7 +98,8 @@ fn search_few(bytes: &[u8], from: usize) -> usize
     search_eights(bytes, from)
 }
 
-// Returns the index of the first special byte at or after `from`, or the length. Searches 32 bytes at a time.
+// Returns the index of the first byte at or after `from` that must be escaped, or the length. Searches 32 bytes at a
+// time.
 #[inline(never)]
 fn search(bytes: &[u8], from: usize) -> usize
     requires { from ≤ length bytes.now }
@@ -113,7 +116,8 @@ fn search(bytes: &[u8], from: usize) -> usize
     search_eights(bytes, i)
 }
 
-/// Returns the same index as `special`. It tests 16 bytes at once, for callers whose next byte is seldom special.
+/// Returns the index of the first byte at or after `from` that must be escaped in a string, or the length. It tests
+/// 16 bytes at once, for callers whose next byte seldom needs an escape.
 #[inline(always)]
 pub(crate) fn special_in_lanes(bytes: &[u8], from: usize) -> usize
     requires { from ≤ length bytes.now }
@@ -129,13 +133,14 @@ pub(crate) fn special_in_lanes(bytes: &[u8], from: usize) -> usize
     search(bytes, from + 16)
 }
 
-/// Returns the index of the first byte at or after `from` that must be escaped in a string, or the length.
+/// Returns the index of the first byte at or after `from` that must be escaped in a string, or the length. It tests
+/// the first byte alone, and then 16 bytes at once.
 #[inline(always)]
 pub fn special(bytes: &[u8], from: usize) -> usize
     requires { from ≤ length bytes.now }
     ensures { result ≡ from + position_or_len is_special (drop from bytes.now) }
 {
-    // Behind an escape the next byte often is one more.
+    // After an escape the next byte often begins another escape.
     if from < bytes.len() && is_special(bytes[from]) {
         return from;
     }

@@ -1,4 +1,4 @@
-//! Values of JSON whose type nobody knows beforehand.
+//! Documents: JSON values whose shape is known only after they are read.
 
 pub mod array;
 pub mod builder;

@@ -1,4 +1,4 @@
-//! The places of std's types, one file a kind of type.
+//! The places of std's types, in one module for each shape of value.
 
 mod arrays;
 mod boxes;

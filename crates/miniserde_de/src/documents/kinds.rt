@@ -1,4 +1,4 @@
-//! The places of arrays, of objects, and of documents that count as what is written of them.
+//! The places of `Array`, `Object` and `Document`, which are one place for any of the three.
 ghost use Rattle.std.specs.Prelude.{◌≡◌, true, Some, option_map};
 ghost use Rattle.miniserde_read.specs.Events.{event_of};
 ghost use Rattle.miniserde_value.specs.Values.{shape};
@@ -15,32 +15,33 @@ use miniserde_value::json::value::Value;
 use std::alloc::Global;
 use std::marker::PhantomData;
 
-/// The place of an `Array`. It refuses a value that begins otherwise at its first event.
+/// The place of an `Array`. Its first event fails with `Invalid` if it opens no list.
 pub type ArrayPlace = KindPlace<Arrays>;
 
-/// The place of an `Object`. It refuses a value that begins otherwise at its first event.
+/// The place of an `Object`. Its first event fails with `Invalid` if it opens no object.
 pub type ObjectPlace = KindPlace<Objects>;
 
 /// The place of a `Document`.
 pub type DocumentPlace = KindPlace<Documents>;
 
-/// A kind of documents.
+/// A type of documents that `KindPlace` collects.
 pub trait OfKind: Drop {
+    /// The type of the documents.
     type Out: Drop;
 
-    // What they mean, and how they begin.
+    // What documents of this type mean, and which events begin them.
     ghost kind: { Kind Self.Out };
 
-    /// Returns whether a document of the kind begins with the event.
+    /// Returns whether a document of this type may begin with the event.
     fn begins(event: &Step<'_>) -> bool
         ensures { result ≡ kind.begins (event_of event.now) };
 
-    /// Returns the value if it is of the kind. Allocates nothing.
+    /// Returns the value as a document of this type, or `None` if it is none. Allocates nothing.
     fn from_value(value: Value) -> Option<Self::Out>
         ensures { option_map kind.meant.content result ≡ kind.only (Some (shape value)) };
 }
 
-/// The place of a document of one kind.
+/// The place of an `Array`, an `Object` or a `Document`: the place of a `Value`, with a check of the first event.
 #[derive(Drop)]
 pub struct KindPlace<K> {
     place: ValuePlace,
@@ -58,7 +59,7 @@ impl<K: OfKind> Visitor for KindPlace<K> {
 
     ghost take_infallible = { true };
 
-    // What an event makes of the hole, where the kind begins with it.
+    // What an event makes of the hole, if a document of the type may begin with the event.
     ghost further = { λ old e answer new. K.kind.begins e ≡ true → steps old.place e answer new.place };
 
     fn begin(alloc: Global) -> Result<KindPlace<K>> {
@@ -88,7 +89,7 @@ impl<K: OfKind> Visitor for KindPlace<K> {
     }
 }
 
-/// Arrays, which begin as lists.
+/// Stands for `Array`, whose values begin with the event `seq`.
 #[derive(Clone, Copy)]
 pub struct Arrays;
 
@@ -106,7 +107,7 @@ impl OfKind for Arrays {
     }
 }
 
-/// Objects, which begin as maps.
+/// Stands for `Object`, whose values begin with the event `map`.
 #[derive(Clone, Copy)]
 pub struct Objects;
 
@@ -124,7 +125,7 @@ impl OfKind for Objects {
     }
 }
 
-/// Documents, which begin as any value.
+/// Stands for `Document`, whose values begin as any value does.
 #[derive(Clone, Copy)]
 pub struct Documents;
 

@@ -1,4 +1,4 @@
-//! The place of a number.
+//! The place of `Number`.
 ghost use Rattle.std.specs.Prelude.{true};
 
 use crate::de::{Deserialize, Step, Visitor};

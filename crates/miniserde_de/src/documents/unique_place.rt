@@ -1,4 +1,4 @@
-//! The place of a document without duplicate names.
+//! The place of `Unique`, a document without duplicate names.
 ghost use Rattle.std.specs.Prelude.{true};
 
 use super::value_place::ValuePlace;
@@ -7,7 +7,7 @@ use miniserde_model::error::{Error, Result};
 use miniserde_value::json::unique::Unique;
 use std::alloc::Global;
 
-/// The place of a `Unique`. It refuses a repeated name at the event that repeats it.
+/// The place of a `Unique`. The event of a duplicate name fails with `Invalid`.
 #[derive(Drop)]
 pub struct UniquePlace {
     place: ValuePlace,
@@ -24,7 +24,7 @@ impl Visitor for UniquePlace {
 
     ghost take_infallible = { true };
 
-    // What an event makes of the hole: one that repeats a name is refused.
+    // What an event makes of the hole. The event of a duplicate name fails.
     ghost further = { steps_once };
 
     fn begin(alloc: Global) -> Result<UniquePlace> {

@@ -1,4 +1,4 @@
-//! The place of a document of any depth, without recursion.
+//! The place of `Value`, a document of any depth. It collects without recursion.
 ghost use Rattle.std.specs.Prelude.{◌≡◌, true, [], Option, Some, None, Err, IfOk, OnOk};
 ghost use Rattle.miniserde_model.specs.declared.error.Error.TheVariants.{Invalid};
 ghost use Rattle.miniserde_read.specs.Events.{event_of};
@@ -19,15 +19,16 @@ use std::alloc::Global;
 pub struct ValuePlace {
     alloc: Global,
     builder: Builder,
-    // A value is due: the next event is its first.
+    // Whether a value is due, so that the next event is the first of a value.
     due: bool,
+    // The first error.
     refused: Option<Error>,
 }
 
 impl ValuePlace {
     ghost use Rattle.miniserde_de.specs.Places.{hole_at, due_in, refusal_of};
 
-    /// Returns a place that took no event. Allocates nothing.
+    /// Returns a fresh place. Allocates nothing.
     pub(crate) fn new(alloc: Global) -> ValuePlace
         ensures hole { hole_at result ≡ outside [] }
         ensures due { due_in result ≡ true }
@@ -41,7 +42,9 @@ impl ValuePlace {
         }
     }
 
-    // Takes an event inside the innermost open container. Returns whether a value is due behind it.
+    // Takes an event between two values: the start of an element or a member, or the end of the innermost container.
+    // Returns whether a value is due after it. Returns `Invalid` if the event does not fit the container, and
+    // `Memory` if an allocation fails.
     #[inline(always)]
     fn resume(&mut self, event: Step<'_>) -> Result<bool>
         ensures ok { IfOk result (λ due.
@@ -63,7 +66,8 @@ impl ValuePlace {
         }
     }
 
-    // Takes an event.
+    // Takes an event. Returns `Invalid` if no value has the event here, and `Memory` if an allocation fails. The
+    // place does not keep the error yet.
     #[inline(always)]
     fn accept(&mut self, event: Step<'_>) -> Result<()>
         requires { IsTreeEvent (event_of event) }
@@ -82,7 +86,7 @@ impl ValuePlace {
         Ok(())
     }
 
-    /// Returns whether the event is a name that the innermost open object has.
+    /// Returns whether the event is a name that the innermost open object has already.
     pub(crate) fn repeats(&self, event: &Step<'_>) -> bool
         ensures { result ≡ repeats (event_of event.now) (hole_at self.now) }
     {
@@ -92,7 +96,7 @@ impl ValuePlace {
         }
     }
 
-    /// Returns whether no event was taken.
+    /// Returns whether no event was taken yet.
     pub(crate) fn is_fresh(&self) -> bool
         ensures { result ≡ is_start (due_in self.now) (hole_at self.now) }
     {

@@ -1,4 +1,4 @@
-//! The fields of a struct, collected from events one after another.
+//! The fields of a struct that are collected from events, as a chain.
 ghost use Rattle.std.specs.Prelude.{◌≡◌, ◌&&◌, Bool, true, false, Option, None, Some, Ok, Err, [], IfOk, option_map, is_some, map};
 ghost use Rattle.miniserde_model.specs.Position.{complete};
 ghost use Rattle.miniserde_model.specs.declared.error.Error.{Error};
@@ -16,22 +16,23 @@ use std::alloc::Global;
 use std::marker::PhantomData;
 use std::mem;
 
-/// The values so far of a struct's fields, and the place of the current one.
+/// A chain of the fields of a struct: their values so far, and the place of the current value.
 pub trait Fields: Drop {
     /// The fields' values, in their order.
     type Values;
 
-    // The meaning of the fields, and the view of the current one's place.
+    // What the fields mean, and what a contract sees of the place of the current value.
     ghost meaning: { FieldPlacesMeaning Self Self.Values };
 
-    // `join` returns `Memory` only if the current value was refused with it before.
+    // Whether `join` returns `Memory` only if the place of the current value keeps that error.
     ghost join_infallible: { Bool } = { false };
 
-    /// Returns fields without values.
+    /// Returns the fields without values.
     fn new() -> Self
         ensures { meaning.state result ≡ meaning.meant.empty };
 
-    /// Begins the value of a member of the name.
+    /// Begins the value of a member whose name is `name`. `names` has the names of the fields. Returns `Invalid` if
+    /// the field of that name takes one member alone and has a value already, and `Memory` if an allocation fails.
     fn begin_child(&mut self, alloc: Global, names: &[&str], name: &str) -> Result<()>
         ensures fresh { IfOk result (λ _. IsFresh
             (meaning.by_events (map (λ n. n.now) names.now) (meaning.state self.old) name.now)
@@ -41,12 +42,13 @@ pub trait Fields: Drop {
         ensures repeats { meaning.meant.refuses (map (λ n. n.now) names.now) (meaning.state self.old) name.now ≡ true
             → result ≡ Err Error.Invalid };
 
-    /// Hands an event to the current value's place.
+    /// Hands an event to the place of the current value, and returns its error.
     fn step(&mut self, event: Step<'_>) -> Result<()>
         requires { IsTreeEvent (event_of event) }
         ensures { Takes (meaning.child self.old) (event_of event.entry) result (meaning.child self.new) };
 
-    /// Keeps an error for the current value, unless it has one already. Returns the first error of that value.
+    /// Keeps an error in the place of the current value, unless that keeps one already. Returns the first error of
+    /// that place.
     fn refuse(&mut self, error: Error) -> Error
         ensures answer { result ≡ first_refusal (meaning.child self.old).refused error }
         ensures marks { (meaning.child self.new).refused ≡ Some result };
@@ -55,7 +57,8 @@ pub trait Fields: Drop {
     fn is_child_complete(&self) -> bool
         ensures { result ≡ is_complete (meaning.child self.now).at };
 
-    /// Adds the current value, which is complete, to the values so far.
+    /// Adds the current value, which is complete, to the values so far. Returns the error that its place keeps, or
+    /// `Invalid` if the events mean no value.
     fn join(&mut self) -> Result<()>
         ensures joined { IfOk result (λ _. (meaning.child self.old).outcome [] ≡ Some (meaning.state self.new)) }
         ensures invalid { result ≡ Err Error.Invalid → (meaning.child self.old).refused ≡ None
@@ -64,16 +67,16 @@ pub trait Fields: Drop {
             → (meaning.child self.old).refused ≡ Some Error.Memory }
         ensures sticky { (r : Error) → (meaning.child self.old).refused ≡ Some r → result ≡ Err r };
 
-    /// Returns whether each field has a value or a default.
+    /// Returns whether each field has a value, from a member or by `missing`.
     fn can_end(&self) -> bool
         ensures { result ≡ is_some (meaning.meant.end (meaning.state self.now)) };
 
-    /// Returns the values of the fields, if each has one or a default.
+    /// Returns the values of the fields, from members or by `missing`, or `None` if a field has none.
     fn end(self) -> Option<Self::Values>
         ensures { option_map meaning.meant.content result ≡ meaning.meant.end (meaning.state self) };
 }
 
-/// No more fields: members of any other names are skipped.
+/// The end of a chain of fields. Members of all other names are skipped.
 #[derive(Drop)]
 pub struct NoField {
     skipped: Ignore,
@@ -120,7 +123,8 @@ impl Fields for NoField {
     }
 }
 
-/// A field, and the ones after it, by the place of its value. `O` says whether it takes one member alone.
+/// A field, and the fields after it, by the place of the field's value. `O` says whether the field takes one member
+/// alone.
 pub struct FieldOf<P, T, O, R> {
     value: Option<T>,
     child: Option<P>,
@@ -128,11 +132,11 @@ pub struct FieldOf<P, T, O, R> {
     rest: R,
 }
 
-/// A field of a type, and the ones after it.
+/// A field of the type `T`, and the fields after it. If its name is a duplicate, the last member counts.
 pub type Field<T, R> = FieldOf<<T as Deserialize>::Place, T, Plain, R>;
 
-/// A field of a type that takes one member alone, and the fields after it: a duplicate of its name fails before its
-/// value. Members of other names may be duplicates, and so may any names inside a value.
+/// A field of the type `T` that takes one member alone, and the fields after it. If its name is a duplicate, the
+/// second event of that name fails with `Invalid`. Duplicates of other names, and inside of values, are no error.
 pub type OnceField<T, R> = FieldOf<<T as Deserialize>::Place, T, Once<Plain>, R>;
 
 impl<P: Drop, T: Drop, O, R: Drop> Drop for FieldOf<P, T, O, R> {

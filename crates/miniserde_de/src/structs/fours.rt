@@ -1,4 +1,4 @@
-//! Four fields at once, for structs of many fields.
+//! Four fields as one link of the chain, for structs of many fields.
 ghost use Rattle.miniserde_de.specs.FieldPlaces.{wrapper_field_places};
 
 use super::fields::{FieldOf, Fields};
@@ -9,12 +9,12 @@ use miniserde_record::record::{Once, Parts, Plain, Repeats};
 use std::alloc::Global;
 
 /// Four fields, and the fields after them, by the places of their values. `O` says whether each takes one member
-/// alone. The proof checker takes twice the time for each nested field; a block of four counts as one.
+/// alone. The time to check a proof doubles with each nested field, and a block of four counts as one.
 pub struct FourOf<P, A, Q, B, S, C, U, D, O, R> {
     fields: FieldOf<P, A, O, FieldOf<Q, B, O, FieldOf<S, C, O, FieldOf<U, D, O, R>>>>,
 }
 
-/// Four fields of these types, and the ones after them.
+/// Four fields of these types, and the fields after them.
 pub type Four<A, B, C, D, R> = FourOf<
     <A as Deserialize>::Place,
     A,
@@ -28,7 +28,7 @@ pub type Four<A, B, C, D, R> = FourOf<
     R,
 >;
 
-/// Four fields of these types that each take one member alone, and the ones after them.
+/// Four fields of these types that each take one member alone, and the fields after them.
 pub type OnceFour<A, B, C, D, R> = FourOf<
     <A as Deserialize>::Place,
     A,

@@ -1,4 +1,4 @@
-//! The place of a unit enum.
+//! The place of a unit enum, which takes the name of a variant.
 ghost use Rattle.std.specs.Prelude.{◌≡◌, true, Some, Err, refl};
 ghost use Rattle.miniserde_model.specs.declared.error.Error.{Error};
 ghost use Rattle.miniserde_place.specs.Place.{place_meaning};

@@ -11,18 +11,18 @@ use std::marker::PhantomData;
 
 /// A struct with a place, which collects it from events.
 pub trait PlacedRecord: Record {
-    /// The fields so far.
+    /// The chain of the struct's fields, which the place collects.
     type Fields: Fields<Values = Self::Values>;
 }
 
-/// A struct that is being collected.
+/// The collector of a struct: its fields so far.
 #[derive(Drop)]
 pub struct RecordOf<S, F> {
     fields: F,
     record: PhantomData<S>,
 }
 
-/// The place of a struct, for the place of its own that each struct has.
+/// The place of a struct. A struct has a place type of its own, which holds this place.
 pub type RecordPlace<S> = ContainerPlace<RecordOf<S, <S as PlacedRecord>::Fields>>;
 
 impl<S: PlacedRecord + 'static> Collect for RecordOf<S, S::Fields> {

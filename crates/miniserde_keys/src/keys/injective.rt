@@ -1,11 +1,11 @@
-//! Keys of which `Eq` compares the whole content.
+//! The trait of keys whose whole content `Eq` compares.
 ghost use Rattle.std.specs.Prelude.{◌≡◌};
 
 use super::MapKey;
 
-/// A type of keys of which `Eq` compares the whole content.
+/// A type of keys whose whole content `Eq` compares.
 pub trait InjectiveKey: MapKey {
-    // Keys with one code have one content.
+    // Keys with the same code have the same content.
     ghost injective: { (a b : Self) → Self.code (Self.content a) ≡ Self.code (Self.content b)
         → Self.content a ≡ Self.content b };
 }

@@ -1,4 +1,4 @@
-//! Integers as keys.
+//! Reads and writes integers as keys.
 #![tactic(auto, using(crate::specs::laws::Keys::integer_reads))]
 
 ghost use Rattle.std.specs.Prelude.{◌≡◌, ◌<◌, ◌+◌, ◌++◌, true, OnOk, OnErr, refl, length, string_bytes};
@@ -15,7 +15,7 @@ use miniserde_model::error::{Error, Result};
 use std::alloc::{AllocError, Global};
 use std::result;
 
-// Appends an integer in decimal.
+// Appends an integer in decimal. If `out` cannot grow, fails and leaves its text unchanged.
 fn append_integer<I: Integer>(out: &mut String, n: I) -> result::Result<(), AllocError>
     ensures ok { OnOk result (string_bytes out.new ≡ string_bytes out.old ++ I.text n) }
     ensures err { OnErr result (string_bytes out.new ≡ string_bytes out.old) }

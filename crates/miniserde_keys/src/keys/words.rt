@@ -1,4 +1,4 @@
-//! `String`, `bool` and `char` as keys.
+//! Reads and writes `String`, `bool` and `char` as keys.
 ghost use Rattle.std.specs.Prelude.{true, Some, refl, string_bytes};
 ghost use Rattle.std.specs.Char.{encode_utf8};
 ghost use Rattle.miniserde_keys.specs.Keys.{of_nat, of_bool, bool_text, read_bool, read_char};

@@ -1,4 +1,4 @@
-//! Tuples of three to six.
+//! Implements `Ranged` for tuples of three to six items.
 
 use super::Ranged;
 

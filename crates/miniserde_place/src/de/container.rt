@@ -1,4 +1,4 @@
-//! The place of any container.
+//! The place of any container, by what the type of containers says of itself.
 ghost use Rattle.std.specs.Prelude.{◌≡◌, true, Some, None, Ok, Err, IfOk};
 ghost use Rattle.miniserde_model.specs.Position.{complete};
 ghost use Rattle.miniserde_read.specs.Events.{event_of};
@@ -13,22 +13,23 @@ pub use collect::Collect;
 use miniserde_model::error::{Error, Result};
 use std::alloc::Global;
 
-/// Where the place stands.
+/// How far the place of a container is.
 #[derive(Clone, Copy, Drop)]
 pub(crate) enum Stage {
-    /// Nothing came yet.
+    /// No event came yet.
     Fresh,
-    /// No child is open.
+    /// The container is open, and has no current child.
     Between,
-    /// A child is open.
+    /// The container is open, and has a current child, which may be complete.
     Child,
-    /// The end came.
+    /// The container has ended.
     Done,
+    /// The first error of the place.
     Refused(Error),
 }
 
-/// The place of a container. The collector owns the place of the current child, which takes the events of nested
-/// values where it stands.
+/// The place of a container. Its collector owns the place of the current child, and hands it the events of that
+/// child.
 #[derive(Drop)]
 pub struct ContainerPlace<C> {
     alloc: Global,
@@ -40,7 +41,9 @@ impl<C: Collect> ContainerPlace<C> {
     ghost use Rattle.miniserde_place.specs.Stage.{container_view, view_between, children, RefusesChild};
     ghost use Rattle.miniserde_place.specs.Container.{BeginsChild};
 
-    // Takes an event that no open child takes.
+    // Takes an event that is not one of an incomplete child: it opens the container, begins its next child or ends
+    // it. A complete child is added to the container first. Returns the first error of the place if it keeps one,
+    // `Invalid` if the event does none of these, and `Memory` if an allocation fails.
     #[inline(never)]
     fn step_between_children(&mut self, event: Step<'_>) -> Result<()>
         requires tree { IsTreeEvent (event_of event) }
@@ -63,7 +66,7 @@ impl<C: Collect> ContainerPlace<C> {
                 if !C::opens(&event) {
                     return Err(Error::Invalid);
                 }
-                // Nothing is known of the collector of a place that no event came to, so the children begin here.
+                // No contract speaks of the collector before the first event, so a new one is made here.
                 self.collector = C::new(self.alloc);
                 self.stage = Stage::Between;
                 Ok(())
@@ -78,7 +81,8 @@ impl<C: Collect> ContainerPlace<C> {
         }
     }
 
-    // Takes an event between two children: begins the next child, or ends the container.
+    // Takes an event between two children: begins the next child, or ends the container. Returns `Invalid` if the
+    // event does neither, or if the container does not allow it, and `Memory` if an allocation fails.
     fn go_on(&mut self, event: Step<'_>) -> Result<()>
         ensures leads { IfOk result (λ _.
             Advances (view_between C.collector_meaning self.old.collector) (event_of event.entry) (container_view C.collector_meaning self.new)) }
@@ -121,7 +125,7 @@ impl<C: Collect> Visitor for ContainerPlace<C> {
 
     ghost take_infallible = { true };
 
-    // What each event does to the children: one whose child the container refuses by the event is refused at once.
+    // What each event does to the children. If an event begins a child that the container rejects, the event fails.
     ghost further = { ContainerSteps C.collector_meaning C.join_infallible };
 
     fn begin(alloc: Global) -> Result<ContainerPlace<C>> {

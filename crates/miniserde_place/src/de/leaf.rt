@@ -1,4 +1,4 @@
-//! The one place of all types whose values are single tokens.
+//! The one place that serves all types whose values are single tokens.
 ghost use Rattle.std.specs.Prelude.{◌≡◌, Bool, true, Option, Some, Err, List};
 ghost use Rattle.miniserde_place.specs.Place.{place_meaning};
 ghost use Rattle.miniserde_place.specs.Leaf.{from_one_event, leaf_view};
@@ -22,11 +22,13 @@ pub type IntegerPlace<T> = LeafPlace<T>;
 /// The place of a `String`.
 pub type StringPlace = LeafPlace<String>;
 
-/// The place of a leaf.
+/// The place of a type whose values are single tokens.
 #[derive(Drop)]
 pub struct LeafPlace<T> {
     alloc: Global,
+    // The value, after its event came.
     value: Option<T>,
+    // The first error.
     refused: Option<Error>,
 }
 
@@ -42,7 +44,8 @@ impl<T: Leaf> Visitor for LeafPlace<T> {
 
     ghost take_infallible = { true };
 
-    // `Memory` comes only where it was refused with before, where reading an event takes none.
+    // If reading an event never fails to allocate, `step` returns `Memory` only if the place keeps that error
+    // already.
     ghost further = { λ old e answer new.
         T.read_infallible ≡ true → answer ≡ Err Error.Memory → refusal_of old ≡ Some Error.Memory };
 

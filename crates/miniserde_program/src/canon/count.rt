@@ -1,11 +1,11 @@
-//! A number that only proofs read. It takes no memory, and its methods do nothing at run time.
+//! A number that only contracts see. It takes no memory, and its calls do nothing at run time.
 ghost use Rattle.std.specs.Prelude.{◌≡◌, ℕ, ◌+◌};
 ghost use Rattle.std.specs.Borrow.{ftrue};
 ghost use Rattle.std.specs.Coded.{coded_ℕ};
 
 use std::marker::Model;
 
-/// A number of calls.
+/// A number of calls, which only contracts see.
 #[derive(Drop)]
 pub struct Count {
     pub ghost value: { ℕ } by { coded_ℕ },
@@ -23,7 +23,7 @@ impl Count {
         Count {}
     }
 
-    /// Returns the count raised by one.
+    /// Returns the count plus one.
     pub(crate) fn next(&self) -> Count
         ensures { result.value ≡ self.now.value + 1 }
     {

@@ -1,4 +1,4 @@
-//! A reader or a writer, with the number of its calls that failed and of its calls of `flush`.
+//! A reader or a writer with two counts: of its calls that failed, and of its calls of `flush`.
 ghost use Rattle.std.specs.Prelude.{◌≡◌, ◌+◌, ◌<◌, length, MatchResult, OnOk, OnErr, IfOk};
 ghost use Rattle.std.specs.Io.{ReadsAtMost, WritesAtMost};
 ghost use Rattle.std.specs.Io.KnownBytes.{ReadConsumes, WriteAppends, Keeps};
@@ -7,7 +7,8 @@ use crate::canon::count::Count;
 use std::io;
 use std::io::{Read, Write};
 
-/// A reader or a writer that counts. The counts are for proofs alone and take no memory.
+/// A reader or a writer that counts its failed calls and its flushes. Only contracts see the counts, which take no
+/// memory.
 #[derive(Drop)]
 pub struct Counted<T> {
     inner: T,
@@ -18,7 +19,7 @@ pub struct Counted<T> {
 impl<T> Counted<T> {
     ghost use Rattle.miniserde_program.specs.Counts.{inner_of, failures, flushes};
 
-    /// Returns a reader or writer whose counts are 0.
+    /// Returns a reader or a writer whose counts are 0.
     pub fn new(inner: T) -> Counted<T>
         ensures inner { inner_of result ≡ inner }
         ensures failures { failures result ≡ 0 }

@@ -1,4 +1,4 @@
-//! Arrays.
+//! Reads arrays of a fixed length, from lists of exactly that many elements.
 ghost use Rattle.std.specs.Prelude.{◌≡◌, length, Ok, Err, IfOk, IfErr};
 ghost use Rattle.miniserde_model.specs.declared.error.Error.{Error};
 ghost use Rattle.miniserde_read.specs.Lacking.{ArrayLacks};
@@ -36,7 +36,7 @@ impl<T: FromJson, const N: usize> FromJson for [T; N] {
     }
 }
 
-// Returns the items as an array, or `Invalid` if there are not exactly N.
+// Returns the items as an array, or `Invalid` if there are not exactly `N` of them.
 fn array_from<T: Drop, const N: usize>(items: Vec<T>) -> Result<[T; N]>
     ensures ok { IfOk result (λ v. (v ≡ items.items) × (length items.items ≡ N)) }
     ensures invalid { result ≡ Err Error.Invalid → length items.items ≡ N → ⊥ }

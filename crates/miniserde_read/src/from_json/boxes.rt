@@ -1,4 +1,4 @@
-//! Boxed values.
+//! Reads `Box`, which is read as its value is.
 ghost use Rattle.miniserde_read.specs.Meanings.{box_meaning};
 
 use super::FromJson;

@@ -1,4 +1,4 @@
-//! Values of std's types that are single tokens.
+//! Reads std's types whose values are single tokens: `()`, `bool`, integers and `String`.
 
 use super::FromJson;
 use crate::leaf::{Leaf, read_leaf};
@@ -6,7 +6,7 @@ use crate::source::Source;
 use miniserde_model::error::Result;
 use miniserde_text::json::lex::Event;
 
-/// A type of std whose values are single tokens. (A leaf of another crate has an `impl FromJson` of its own.)
+/// A type of std whose values are single tokens. Such a type of another crate has its own `impl FromJson`.
 pub trait StdLeaf: Leaf {}
 
 impl StdLeaf for () {}

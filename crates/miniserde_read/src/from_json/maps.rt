@@ -1,4 +1,4 @@
-//! Maps, ordered by their keys or hashed.
+//! Reads `BTreeMap` and `HashMap` from objects.
 ghost use Rattle.std.specs.Prelude.{◌≡◌, [], List, None, Some, Ok, Err, IfOk, OnErr, IsErrOf};
 ghost use Rattle.miniserde_text.specs.Lexer.{event_of_token};
 ghost use Rattle.miniserde_model.specs.declared.error.Error.{Error};
@@ -19,8 +19,10 @@ use std::hash::{BuildHasher, Hash};
 
 /// A map to which entries are added one by one.
 pub trait Table: Drop {
+    /// The type of the keys.
     type Key: MapKey;
 
+    /// The type of the values.
     type Value: Drop;
 
     // The entries, in the order of iteration.
@@ -75,7 +77,9 @@ impl<K: MapKey + Hash, V: Drop, H: BuildHasher + Default + Drop> Table for HashM
     }
 }
 
-/// Reads a map, member by member.
+/// Reads an object as a map, member by member. If keys are equal, the first key stays, with the last value. Returns
+/// `Invalid` if the text, from `token` on, has no prefix that means a map of the type, and `Memory` if an allocation
+/// fails.
 #[inline(always)]
 fn read_table<'a, V: FromJson, M: Table<Value = V>>(
     token: Event<'a>,

@@ -1,4 +1,4 @@
-//! Optional values.
+//! Reads `Option`: `null` is `None`, and any other value is `Some`.
 ghost use Rattle.std.specs.Prelude.{Some, None};
 ghost use Rattle.miniserde_read.specs.Meanings.{option_meaning};
 

@@ -1,4 +1,4 @@
-//! Pairs.
+//! Reads pairs, from lists of exactly two elements.
 ghost use Rattle.miniserde_read.specs.Lacking.{PairLacks};
 ghost use Rattle.miniserde_read.specs.Meanings.{pair_meaning};
 

@@ -1,4 +1,4 @@
-//! Lists.
+//! Reads `Vec` and `VecDeque`, from lists.
 ghost use Rattle.miniserde_read.specs.Meanings.{list_meaning};
 
 use super::FromJson;

@@ -1,4 +1,4 @@
-//! Tuples of three to six.
+//! Reads tuples of three to six items, from lists of exactly that many elements.
 ghost use Rattle.std.specs.Prelude.{[], ◌∷◌};
 ghost use Rattle.miniserde_read.specs.Items.{tuple_meaning, no_items, item_and};
 ghost use Rattle.miniserde_read.specs.Lacking.{TupleLacks};

@@ -1,4 +1,4 @@
-//! `()`, `bool` and `String`, as single tokens.
+//! Reads `()`, `bool` and `String` from single tokens.
 ghost use Rattle.std.specs.Prelude.{◌≡◌, true, refl, string_bytes};
 ghost use Rattle.miniserde_read.specs.Meanings.{unit_meaning, boolean_meaning, string_meaning};
 

@@ -1,4 +1,4 @@
-//! Structs whose fields have other names too, by which they are read.
+//! Reads structs whose fields have aliases.
 ghost use Rattle.std.specs.Prelude.{◌≡◌, true, List, length, map};
 ghost use Rattle.miniserde_read.specs.types.Objects.{Name};
 ghost use Rattle.miniserde_round.specs.RoundTrip.{RoundTrips};
@@ -23,7 +23,7 @@ pub trait HasAliases: Record {
     fn aliases() -> &'static [(&'static str, &'static str)]
         ensures { map (λ p. (p.0.now, p.1.now)) result.now ≡ aliases };
 
-    // Each field's name counts as itself.
+    // No name of a field is an alias of another field.
     ghost apart: { are_themselves aliases Self.names ≡ true };
 }
 
@@ -39,8 +39,8 @@ fn field_name<'a>(aliases: &[(&'static str, &'static str)], name: &'a str) -> &'
     name
 }
 
-/// The fields of the struct `S`, which are read by their aliases too: a member of an alias counts as one of the field's
-/// name.
+/// The fields `F` of the struct `S`, which are read by their aliases too: a member whose name is an alias counts as
+/// one with the name of the field.
 pub struct Aliased<S, F> {
     fields: F,
     of: PhantomData<S>,
@@ -86,7 +86,8 @@ impl<S: HasAliases, F: Slots> Slots for Aliased<S, F> {
     }
 }
 
-/// Does nothing. It promises the round trip of a struct with aliases, which is written by its fields' names.
+/// Does nothing. It promises that a valid struct with aliases, which is written with the names of its fields, is read
+/// back as a value with the same tree.
 pub fn aliased_round_trips<S: HasAliases, F: RoundTripFields<Values = S::Values>>()
     requires { length S.names ≡ F.meaning.count }
     ensures { (v : S) → F.real (S.values v)

@@ -1,5 +1,5 @@
-//! Fields of a struct in blocks of four. The proof checker takes time for each nested slot; a block of four counts as
-//! one.
+//! Fields of a struct in blocks of four. The time to check a proof grows with each nested slot, and a block of four
+//! counts as one.
 use super::lossless::LosslessFields;
 use super::marks::Mark;
 use super::round_trips::RoundTripFields;
@@ -164,8 +164,8 @@ impl<
     }
 }
 
-/// Four fields without a mark, and the fields after them. They name no marks, so a check of them takes less time
-/// than one of `MarkedFour`.
+/// Four fields without a mark, and the fields after them. The type names no marks, so its proofs are checked faster
+/// than those of `MarkedFour`.
 #[derive(Drop)]
 pub struct FourSlot<A, B, C, D, Z> {
     slots: Slot<A, Slot<B, Slot<C, Slot<D, Z>>>>,

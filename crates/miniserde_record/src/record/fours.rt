@@ -1,12 +1,12 @@
-//! The values of fields, taken out of their chain in blocks of four.
+//! Takes the values of fields out of their chain, four at a time.
 ghost use Rattle.std.specs.Prelude.{◌≡◌};
 
 use super::structs::Parts;
 
-/// Four values, and the ones after them.
+/// Four values, and the values after them.
 pub struct FourParts<A, B, C, D, Z>(pub A, pub B, pub C, pub D, pub Z);
 
-/// Takes four values out of a chain.
+/// Takes the first four values out of a chain, and returns them with the rest of the chain.
 pub fn take_four<A, B, C, D, Z>(
     parts: Parts<A, Parts<B, Parts<C, Parts<D, Z>>>>,
 ) -> FourParts<A, B, C, D, Z>

@@ -1,4 +1,4 @@
-//! Structs whose values are told apart by what is written.
+//! Promises that structs are lossless: valid structs with the same tree have the same content.
 ghost use Rattle.std.specs.Prelude.{◌≡◌, List, [], ◌∷◌, length, Option, Some, ⊤};
 ghost use Rattle.miniserde_model.specs.Tree.{Tree};
 ghost use Rattle.miniserde_record.specs.FieldsMeaning.{FieldsMeaning, no_fields, field_and};
@@ -9,23 +9,23 @@ use super::slots::{MarkedSlot, NoSlot};
 use super::structs::{Parts, Record};
 use miniserde_round::Lossless;
 
-/// Fields whose values are told apart by what is written. It stands beside `RoundTripFields` and not above it: else each
-/// link of a chain of fields holds the other chain.
+/// A chain of fields. Valid values with the same trees have the same content. The trait does not extend
+/// `RoundTripFields`, since each link of a chain would then hold the other chain too.
 pub trait LosslessFields {
     /// The fields' values, in their order.
     type Values;
 
-    // The meaning of the fields.
+    // What the fields mean.
     ghost meaning: { FieldsMeaning Self.Values };
 
-    // The values are ones that Rust has.
+    // Which values are valid.
     ghost real: { Self.Values → Type 0 };
 
-    // The trees of the values, in their order; none of a value that is not written.
+    // The tree of each value, in their order, or none for a value that is not written.
     ghost trees: { Self.Values → List (Option Tree) };
 
-    /// Does nothing. It promises that each field has a place among the trees, and that valid values with the same
-    /// trees have the same content.
+    /// Does nothing. It promises that there are as many trees as fields, and that valid values with the same trees
+    /// have the same content.
     fn lossless()
         ensures each { (v : Self.Values) → length (trees v) ≡ meaning.count }
         ensures same { (v w : Self.Values) → real v → real w → trees v ≡ trees w
@@ -59,7 +59,7 @@ impl<T: Lossless, M: Mark<T>, R: LosslessFields> LosslessFields for MarkedSlot<T
     }
 }
 
-/// Does nothing. It promises that two valid structs with one tree have the same content.
+/// Does nothing. It promises that two valid structs with the same tree have the same content.
 pub fn record_lossless<S: Record, F: LosslessFields<Values = S::Values>>()
     requires { length S.names ≡ F.meaning.count }
     ensures { (v w : S) → F.real (S.values v) → F.real (S.values w)

@@ -1,4 +1,5 @@
-//! Marks on a struct and on its fields: one member a field, a value for a missing field, no unknown names.
+//! The marks of a struct and of its fields: one member alone for a field, a value for a missing field, and no unknown
+//! names.
 
 mod closed;
 mod empty;

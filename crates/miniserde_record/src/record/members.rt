@@ -1,4 +1,4 @@
-//! Lent values, written as an object's members.
+//! Writes lent values as the members of an object.
 ghost use Rattle.std.specs.Prelude.{◌≡◌, ◌++◌, true, false, List, [], ◌∷◌, Option, Some, OnOk, OnErr, IsErrOf, map};
 ghost use Rattle.miniserde_model.specs.Tree.{Tree, members};
 ghost use Rattle.miniserde_model.specs.Compact.{compact};
@@ -10,12 +10,13 @@ use super::structs::Parts;
 use miniserde_model::error::Result;
 use miniserde_ser::ser::{Serialize, Writer};
 
-/// Lent values, to be written as members.
+/// A chain of lent values, which are written as members.
 pub trait Members {
-    // The trees of the values, in their order; none of a value that is not written.
+    // The tree of each value, in their order, or none for a value that is not written.
     ghost trees: { Self → List (Option Tree) };
 
-    /// Writes the members by the names. Returns `Memory` if the text cannot grow.
+    /// Appends a member for each value that is written, with the names in their order. Returns `Memory` if the writer
+    /// fails.
     fn write(&self, w: &mut Writer, names: &[&str]) -> Result<()>
         ensures ok { OnOk result (w.new.text ≡ w.old.text
             ++ members_text w.old.first (with_names (map (λ n. n.now) names.now) (trees self.now))) }
@@ -51,7 +52,7 @@ impl<'a, T: Serialize, M: Members> Members for Parts<&'a T, M> {
     }
 }
 
-/// Lent members.
+/// A reference to a chain of lent values, which is written as the chain is.
 pub struct Lent<'m, M>(pub &'m M);
 
 impl<'m, M> Drop for Lent<'m, M> {
@@ -69,7 +70,7 @@ impl<'m, M: Members> Members for Lent<'m, M> {
     }
 }
 
-/// Four lent values, and the ones after them.
+/// Four lent values, and the values after them.
 pub struct FourLent<'a, A, B, C, D, M>(pub &'a A, pub &'a B, pub &'a C, pub &'a D, pub M);
 
 impl<'a, A, B, C, D, M: Drop> Drop for FourLent<'a, A, B, C, D, M> {
@@ -94,7 +95,8 @@ impl<'a, A: Serialize, B: Serialize, C: Serialize, D: Serialize, M: Members> Mem
     }
 }
 
-/// Writes an object of the members, by the names in their order. Returns `Memory` if the text cannot grow.
+/// Writes an object with a member for each value that is written, with the names in their order. Returns `Memory` if
+/// the writer fails.
 #[inline(always)]
 pub fn write_members<M: Members>(w: &mut Writer, names: &[&str], values: &M) -> Result<()>
     ensures ok { OnOk result (w.new.text ≡ w.old.text

@@ -1,4 +1,4 @@
-//! Unit enums, whose values are strings: their names.
+//! Unit enums: each value is read from its name and written as its name, a string.
 ghost use Rattle.std.specs.Prelude.{◌≡◌, true, Option, None, Some, Ok, Err, List, IfOk, IfErr, ⊤, refl};
 ghost use Rattle.miniserde_model.specs.Tree.{str};
 ghost use Rattle.miniserde_text.specs.Lexer.{event_of_token};
@@ -17,18 +17,18 @@ use miniserde_read::{Leaf, Source, Step, read_leaf};
 use miniserde_text::json::lex::Event;
 use std::alloc::Global;
 
-/// A unit enum.
+/// A unit enum: no variant has data.
 pub trait UnitEnum: Copy {
-    // Its values.
+    // All values of the enum, in their order.
     ghost all: { List Self };
 
     // The name of a value.
     ghost name_of: { Self → Name };
 
-    // Each value is the first that has its name: all are listed, and no two have one name.
+    // Each value is the first in `all` that has its name. So all values are listed, and no two have the same name.
     ghost found: { (v : Self) → find_variant name_of all (name_of v) ≡ Some v };
 
-    /// Returns its values.
+    /// Returns all values of the enum, in their order.
     fn values() -> &'static [Self]
         ensures { result.now ≡ all };
 
@@ -37,8 +37,9 @@ pub trait UnitEnum: Copy {
         ensures { result.now ≡ name_of self.now };
 }
 
-/// A unit enum with its meaning: a string means the value of that name. Each unit enum is one.
+/// A unit enum with its meaning: a string means the value of that name. Every unit enum implements this trait.
 pub trait Variants: UnitEnum {
+    // Which trees mean which values.
     ghost meaning: { Meaning Self };
 }
 
@@ -46,14 +47,14 @@ impl<T: UnitEnum> Variants for T {
     ghost meaning = { variant_meaning T.name_of T.all T.found (λ v. v) };
 }
 
-// Returns the first of a unit enum's values that has the name.
+// Returns the first value of a unit enum that has the name, or `None` if none has it.
 fn find<T: UnitEnum + 'static>(name: &str) -> Option<T>
     ensures { result ≡ find_variant T.name_of T.all name.now }
 {
     find_among(T::values(), name)
 }
 
-// Returns the first of the values that has the name.
+// Returns the first of the values that has the name, or `None` if none has it.
 fn find_among<T: UnitEnum>(values: &[T], name: &str) -> Option<T>
     ensures { result ≡ find_variant T.name_of values.now name.now }
 {
@@ -65,7 +66,7 @@ fn find_among<T: UnitEnum>(values: &[T], name: &str) -> Option<T>
     None
 }
 
-/// A value of a unit enum, as a leaf.
+/// A value of a unit enum, as a type whose values are single tokens.
 #[derive(Clone, Copy, Drop)]
 pub struct Variant<T> {
     pub value: T,
@@ -89,7 +90,8 @@ impl<T: UnitEnum + 'static> Leaf for Variant<T> {
     }
 }
 
-/// Reads a value of a unit enum, which is one token. Takes nothing more from the source.
+/// Returns the value of a unit enum that the token names, or `Invalid` if it names none. Takes nothing from the
+/// source.
 #[inline(always)]
 pub fn read_variant<'a, T: UnitEnum + 'static>(
     token: Event<'a>,
@@ -109,19 +111,20 @@ pub fn read_variant<'a, T: UnitEnum + 'static>(
     }
 }
 
-/// Does nothing. It promises the round trip of a unit enum, in the form that `RoundTrip` asks: each of its values is
-/// valid.
+/// Does nothing. It promises that each value of a unit enum is read back as itself, in the form that `RoundTrip`
+/// needs.
 pub fn variant_round_trips<T: UnitEnum>()
     ensures { (v : T) → ⊤
         → RoundTrips (λ _. ⊤) (λ v. str (T.name_of v)) (λ t v. t ≡ str (T.name_of v)) (str (T.name_of v)) }
 {}
 
-/// Does nothing. It promises that no two values of a unit enum have one tree, in the form that `Lossless` asks.
+/// Does nothing. It promises that no two values of a unit enum have the same tree, in the form that `Lossless` needs.
 pub fn variant_lossless<T: UnitEnum>()
     ensures { (v w : T) → ⊤ → ⊤ → str (T.name_of v) ≡ str (T.name_of w) → v ≡ w }
 {}
 
-/// Does nothing. It promises that a unit enum is read from the normal form of a tree as from the tree.
+/// Does nothing. It promises that if a tree means a value of a unit enum, the normal form of the tree means that
+/// value.
 pub fn variant_stable<T: UnitEnum>()
     ensures { IsStable (variant_of T.name_of T.all) }
 {}

@@ -18,7 +18,7 @@ use miniserde_stable::Stable;
 use std::alloc::Global;
 use std::marker::PhantomData;
 
-/// The mark of an optional field that may be left out, which repeats as `M` says. A missing one is `None`.
+/// The mark of an optional field that is `None` if it is missing. `M` says whether it takes one member alone.
 pub struct Omit<M> {
     mark: PhantomData<M>,
 }
@@ -41,7 +41,8 @@ impl<T: FromJson, M: Repeats> Mark<Option<T>> for Omit<M> {
     }
 }
 
-/// An optional field that is not written if it is `None`, and the fields after it. It is read as without the mark.
+/// An optional field that is not written if it is `None`, and the fields after it. It is read as an optional field
+/// without this mark is.
 pub struct OmitSlot<T, M, R> {
     slot: MarkedSlot<Option<T>, Omit<M>, R>,
 }

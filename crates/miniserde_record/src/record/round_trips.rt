@@ -1,4 +1,4 @@
-//! The round trip of a struct, by its fields.
+//! Promises that structs are read back as they were written.
 ghost use Rattle.std.specs.Prelude.{◌≡◌, true, List, [], ◌∷◌, length, Option, Some, ⊤};
 ghost use Rattle.miniserde_model.specs.Tree.{Tree};
 ghost use Rattle.miniserde_read.specs.types.Objects.{Name};
@@ -11,22 +11,22 @@ use super::slots::{MarkedSlot, NoSlot};
 use super::structs::{Parts, Record};
 use miniserde_round::RoundTrip;
 
-/// Fields whose values read back as they were written.
+/// A chain of fields whose values are read back as they were written.
 pub trait RoundTripFields {
     /// The fields' values, in their order.
     type Values;
 
-    // The meaning of the fields.
+    // What the fields mean.
     ghost meaning: { FieldsMeaning Self.Values };
 
-    // The values are ones that Rust has.
+    // Which values are valid.
     ghost real: { Self.Values → Type 0 };
 
-    // The trees of the values, in their order; none of a value that is not written.
+    // The tree of each value, in their order, or none for a value that is not written.
     ghost trees: { Self.Values → List (Option Tree) };
 
-    /// Does nothing. It promises that the trees of valid values, by the names of the fields, mean valid values, and
-    /// that all valid values that they mean have those trees.
+    /// Does nothing. It promises that the trees of valid values, as members with the names of the fields, mean valid
+    /// values, and that all valid values that they mean have the same trees.
     fn round_trips()
         ensures { (names : List Name) (v : Self.Values) → are_names meaning.count names ≡ true → real v
             → FieldsRoundTrip real trees meaning.reads names (trees v) };
@@ -59,7 +59,8 @@ impl<T: RoundTrip, M: Mark<T>, R: RoundTripFields> RoundTripFields for MarkedSlo
     }
 }
 
-/// Does nothing. It promises a struct's round trip.
+/// Does nothing. It promises that the tree of a valid struct means a valid struct, and that each valid struct that it
+/// means has that tree.
 pub fn record_round_trips<S: Record, F: RoundTripFields<Values = S::Values>>()
     requires { length S.names ≡ F.meaning.count }
     ensures { (v : S) → F.real (S.values v)

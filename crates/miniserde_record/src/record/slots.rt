@@ -1,4 +1,4 @@
-//! Structs that are read from a text, field by field.
+//! Reads structs from a text, member by member.
 ghost use Rattle.std.specs.Prelude.{◌≡◌, ◌&&◌, Bool, true, false, None, Some, Ok, Err, IfOk, IfErr, map, Option};
 ghost use Rattle.miniserde_text.specs.Lexer.{event_of_token};
 ghost use Rattle.miniserde_model.specs.declared.error.Error.{Error};
@@ -15,7 +15,8 @@ use miniserde_text::json::lex::{Event, Text};
 use std::alloc::Global;
 use std::marker::PhantomData;
 
-/// Reads the value of a member, after the member's name.
+/// Reads the value of a member, after the member's name and colon. Returns `Invalid` if the text has no prefix that
+/// means a value of the type, and `Memory` if an allocation fails.
 #[inline(always)]
 pub(crate) fn read_due<'a, T: FromJson>(source: &mut Source<'a>) -> Result<T>
     requires { source.old.refused ≡ None }
@@ -28,26 +29,27 @@ pub(crate) fn read_due<'a, T: FromJson>(source: &mut Source<'a>) -> Result<T>
     T::read(token, source)
 }
 
-/// The values so far of a struct's fields.
+/// A chain of a struct's fields, with the values that were read so far.
 pub trait Slots: Drop {
     /// The fields' values, in their order.
     type Values;
 
-    // The meaning of the fields.
+    // What the fields mean.
     ghost meaning: { FieldsMeaning Self.Values };
 
     // The content of the values so far.
     ghost state: { Self → meaning.State };
 
-    // No missing field's default is allocated.
+    // Whether `end` never returns `Memory`.
     ghost end_infallible: { Bool } = { false };
 
-    /// Returns slots without values.
+    /// Returns the fields without values.
     fn new() -> Self
         ensures { state result ≡ meaning.empty };
 
-    /// Reads the value of a member of the name. Returns `Invalid` if no beginning of the text spells a value that the
-    /// field of the name accepts.
+    /// Reads the value of a member with the name `name`; `names` has the names of the fields. Returns `Invalid` if
+    /// the text has no prefix that means a value for that field, and `Memory` if an allocation fails. If the field
+    /// takes one member alone and has a value already, it returns `Invalid` before it reads anything.
     fn read_member<'a>(&mut self, names: &[&str], name: &str, source: &mut Source<'a>) -> Result<()>
         requires { source.old.refused ≡ None }
         ensures going { IfOk result (λ _. source.new.refused ≡ None) }
@@ -59,15 +61,15 @@ pub trait Slots: Drop {
         ensures refuses { meaning.refuses (map (λ n. n.now) names.now) (state self.old) name.now ≡ true
             → (result ≡ Err Error.Invalid) × (source.new ≡ source.old) };
 
-    /// Returns the values of the fields, or of missing ones their defaults. Returns `Invalid` if a missing field has none,
-    /// and `Memory` if a default cannot be allocated.
+    /// Returns the values of the fields. A missing field has the value that its mark or else its type gives. Returns
+    /// `Invalid` if a missing field has no value, and `Memory` if an allocation fails.
     fn end(self, alloc: Global) -> Result<Self::Values>
         ensures ok { IfOk result (λ v. meaning.end (state self) ≡ Some (meaning.content v)) }
         ensures invalid { result ≡ Err Error.Invalid → meaning.end (state self) ≡ None }
         ensures infallible { end_infallible ≡ true → IfErr result (λ e. e ≡ Error.Invalid) };
 }
 
-/// No more fields: members of any other names are skipped.
+/// The end of a chain of fields. Members of all other names are skipped.
 #[derive(Drop)]
 pub struct NoSlot {}
 
@@ -99,8 +101,8 @@ impl Slots for NoSlot {
     }
 }
 
-// Reads a member as `read_member` does, if no name is left for the field. A struct has a name for each field, so this
-// code is never inlined.
+// Reads the value of a member by the fields `rest`, if no name is left for the field before them. Kept out of line,
+// since it is never called: a struct has a name for each field.
 #[inline(never)]
 fn read_unnamed<'a, R: Slots>(
     rest: &mut R,
@@ -121,7 +123,7 @@ fn read_unnamed<'a, R: Slots>(
     rest.read_member(names, name, source)
 }
 
-/// A field with a mark, and the fields after it.
+/// A field with the mark `M`, and the fields after it.
 pub struct MarkedSlot<T, M, R> {
     value: Option<T>,
     mark: PhantomData<M>,
@@ -131,7 +133,7 @@ pub struct MarkedSlot<T, M, R> {
 /// A field without a mark, and the fields after it.
 pub type Slot<T, R> = MarkedSlot<T, Plain, R>;
 
-/// A field that takes one member, and the fields after it.
+/// A field that takes one member alone, and the fields after it.
 pub type OnceSlot<T, R> = MarkedSlot<T, Once<Plain>, R>;
 
 impl<T: Drop, M, R: Drop> Drop for MarkedSlot<T, M, R> {
@@ -205,7 +207,8 @@ impl<T: FromJson, M: Mark<T>, R: Slots> Slots for MarkedSlot<T, M, R> {
     }
 }
 
-/// Reads a struct, whose first token is `token`.
+/// Reads a struct, whose first token is `token`, and takes no more of the source. Returns `Invalid` if the text, from
+/// that token on, has no prefix that means such a struct, and `Memory` if an allocation fails.
 pub fn read_record<'a, S: Record, F: Slots<Values = S::Values>>(
     token: Event<'a>,
     source: &mut Source<'a>,

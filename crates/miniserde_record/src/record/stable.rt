@@ -1,4 +1,4 @@
-//! Structs that are read from the normal form of a tree as from the tree.
+//! Promises that structs are stable: if a tree means a struct, its normal form means the same.
 ghost use Rattle.miniserde_stable.specs.Stable.{IsStable};
 ghost use Rattle.miniserde_record.specs.FieldsMeaning.{FieldsMeaning, no_fields, field_and, struct_meaning};
 ghost use Rattle.miniserde_record.specs.Stable.{AreStable};
@@ -8,15 +8,16 @@ use super::slots::{MarkedSlot, NoSlot};
 use super::structs::{Parts, Record};
 use miniserde_stable::Stable;
 
-/// Fields that are read from the normal form of members as from the members.
+/// A chain of fields for which the normal form of members means what the members mean.
 pub trait StableFields {
     /// The fields' values, in their order.
     type Values;
 
-    // The meaning of the fields.
+    // What the fields mean.
     ghost meaning: { FieldsMeaning Self.Values };
 
-    /// Does nothing. It promises that the normal form of members has the content of the members, if they have one.
+    /// Does nothing. It promises that if members mean values of the fields, their normal form means values of the
+    /// same content.
     fn stable()
         ensures { AreStable meaning.from_members };
 }
@@ -40,7 +41,7 @@ impl<T: Stable, M: Mark<T>, R: StableFields> StableFields for MarkedSlot<T, M, R
     }
 }
 
-/// Does nothing. It promises that a struct is read from the normal form of a tree as from the tree.
+/// Does nothing. It promises that if a tree means a struct, its normal form means a struct of the same content.
 pub fn record_stable<S: Record, F: StableFields<Values = S::Values>>()
     ensures { IsStable (struct_meaning F.meaning S.names S.values).from_tree }
 {

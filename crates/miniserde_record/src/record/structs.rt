@@ -1,4 +1,4 @@
-//! A struct, by its fields.
+//! The trait `Record` of structs, and the chain of their fields' values.
 ghost use Rattle.std.specs.Prelude.{◌≡◌, true, List, map};
 ghost use Rattle.miniserde_read.specs.types.Objects.{Name};
 ghost use Rattle.miniserde_record.specs.Structs.{are_distinct};
@@ -13,27 +13,28 @@ pub trait Record: Sized + Drop {
     // The fields' names, in their order.
     ghost names: { List Name };
 
-    // The values of the fields, in their order, and the struct of such values.
+    // The values of a struct's fields, in their order.
     ghost values: { Self → Self.Values };
 
+    // The struct with such values.
     ghost made: { Self.Values → Self };
 
     /// Returns the fields' names, in their order.
     fn names() -> &'static [&'static str]
         ensures { map (λ s. s.now) result.now ≡ names };
 
-    /// Makes the struct of the values.
+    /// Returns the struct with these values.
     fn build(parts: Self::Values) -> Self
         ensures { values result ≡ parts };
 
-    // A struct is its fields' values, no more and no less.
+    // A struct has its fields' values and nothing else.
     ghost bijective: { ((v : Self) → made (values v) ≡ v) × ((x : Self.Values) → values (made x) ≡ x) };
 
     // No name is a duplicate.
     ghost distinct_names: { are_distinct names ≡ true };
 }
 
-/// The value of a field, and those of the fields after it. A contract sees a pair.
+/// The value of a field, and the values of the fields after it. A contract sees a pair.
 #[derive(Drop)]
 pub struct Parts<T, R>(pub T, pub R);
 

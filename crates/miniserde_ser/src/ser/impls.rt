@@ -1,4 +1,4 @@
-//! The types that write themselves, one file a kind of type.
+//! std's types that write themselves, in one module for each shape of value.
 
 mod hashed;
 mod integers;

@@ -1,4 +1,5 @@
-//! Short texts in which each byte stands for itself, told by a few lanes that may overlap.
+//! The test whether a short text needs no escape. It looks at up to 16 bytes at once, in two vectors that may
+//! overlap.
 ghost use Rattle.std.specs.Prelude.{◌≡◌, ℕ, ◌+◌, ◌<◌, ◌≤◌, length, map, slice_index, true, false};
 ghost use Rattle.std.specs.Simd.Lanes.{mask_l};
 ghost use Rattle.miniserde_model.specs.Bytes.{is_special};
@@ -6,7 +7,7 @@ ghost use Rattle.miniserde_model.specs.Bytes.{is_special};
 use crate::scan::{is_special, specials_of_eight, specials_of_sixteen};
 use std::simd::prelude::*;
 
-// Returns the mask of `specials_of_eight` for four lanes.
+// Returns a mask whose bit i is set if byte i of the four must be escaped in a string.
 #[inline(always)]
 fn specials_of_four(v: u8x4) -> u64
     ensures { result ≡ mask_l (map is_special v) }
@@ -17,7 +18,7 @@ fn specials_of_four(v: u8x4) -> u64
     (controls | quotes | backslashes).to_bitmask()
 }
 
-// Returns whether no byte of the sixteen from `at` on is special.
+// Returns whether none of the 16 bytes from `at` on needs an escape in a string.
 #[inline(always)]
 fn sixteen_are_plain(bytes: &[u8], at: usize) -> bool
     requires { at + 16 ≤ length bytes.now }
@@ -27,7 +28,7 @@ fn sixteen_are_plain(bytes: &[u8], at: usize) -> bool
     found == 0
 }
 
-// Returns whether no byte of the eight from `at` on is special.
+// Returns whether none of the 8 bytes from `at` on needs an escape in a string.
 #[inline(always)]
 fn eight_are_plain(bytes: &[u8], at: usize) -> bool
     requires { at + 8 ≤ length bytes.now }
@@ -37,7 +38,7 @@ fn eight_are_plain(bytes: &[u8], at: usize) -> bool
     found == 0
 }
 
-// Returns whether no byte of the four from `at` on is special.
+// Returns whether none of the 4 bytes from `at` on needs an escape in a string.
 #[inline(always)]
 fn four_are_plain(bytes: &[u8], at: usize) -> bool
     requires { at + 4 ≤ length bytes.now }
@@ -47,7 +48,7 @@ fn four_are_plain(bytes: &[u8], at: usize) -> bool
     found == 0
 }
 
-// Returns whether no byte of at most three is special.
+// Returns whether none of the bytes, at most three, needs an escape in a string.
 #[inline(always)]
 fn few_are_plain(bytes: &[u8]) -> bool
     requires { length bytes.now ≤ 3 }
@@ -57,7 +58,7 @@ fn few_are_plain(bytes: &[u8]) -> bool
     n == 0 || !is_special(bytes[0]) && !is_special(bytes[n / 2]) && !is_special(bytes[n - 1])
 }
 
-/// Returns whether the text has less than 32 bytes, and none of them is special.
+/// Returns whether the text has fewer than 32 bytes and none of them needs an escape in a string.
 #[inline(always)]
 pub(crate) fn is_short_and_plain(bytes: &[u8]) -> bool
     ensures short { result ≡ true → length bytes.now < 32 }

@@ -1,15 +1,8 @@
-//! The lexer: it takes one piece of a JSON text a call, in the grammar of RFC 8259.
+//! The lexer: each call takes one token of a JSON text, or the punctuation between two, and so moves past it. The
+//! grammar is that of RFC 8259.
 //!
-//! `start` takes the front of a value, `after` what follows in a container, `name` a member's name with its colon, and
-//! `end` the end of the text. `skip` takes whitespace, and `left` says how much is left:
-//!
-//! | text | calls and answers |
-//! |---|---|
-//! | `[1 , true]` | `start` `SeqStart`, `after(Seq, true)` `Next`, `start` `Nonnegative(1)`, `after(Seq, false)` `Next`, `start` `Bool(true)`, `after(Seq, false)` `Close`, `end` Ok |
-//! | `{"a":null}` | `start` `MapStart`, `after(Map, true)` `Next`, `name` `a`, `start` `Null`, `after(Map, false)` `Close`, `end` Ok |
-//! | `{ }` | `start` `MapStart`, `after(Map, true)` `Close`, `end` Ok |
-//! | `[}` | `start` `SeqStart`, `after(Seq, true)` `Invalid`, as does every later call |
-//! | `[1,]` | `start` `SeqStart`, `after(Seq, true)` `Next`, `start` `Nonnegative(1)`, `after(Seq, false)` `Next`, `start` `Invalid` |
+//! `start` takes the first token of a value, `after` the punctuation after a child of a container or after its
+//! opening bracket, `name` a member's name with its colon. `end` checks that the text ends.
 ghost use Rattle.std.specs.Prelude.{◌≡◌, ◌≤◌, length, List, ℕ, Bool, None, Some, Err, IfOk, IfErr, IfSome};
 ghost use Rattle.std.specs.String.{string_bytes};
 ghost use Rattle.miniserde_model.specs.Whitespace.{IsWhitespace};
@@ -38,13 +31,13 @@ use std::marker::Model;
 /// The text of a string: borrowed from the input, or decoded into the scratch text.
 #[derive(Clone, Copy, Debug, Drop)]
 pub enum Text<'a> {
-    /// What stands between the quotes, where that has no backslash.
+    /// The bytes between the quotes, if there is no backslash among them.
     Input(&'a str),
-    /// The whole content of the scratch text.
+    /// The decoded text, which is all of the scratch text.
     Scratch,
 }
 
-/// The front of a value.
+/// The first token of a value.
 #[derive(Clone, Copy, Debug, Drop)]
 pub enum Event<'a> {
     Null,
@@ -53,7 +46,7 @@ pub enum Event<'a> {
     Negative(i64),
     /// An integer that is written without `-`, below 2^64.
     Nonnegative(u64),
-    /// Any other number, as its text.
+    /// A number with a fraction or an exponent, or beyond 64 bits, as its text.
     Number(&'a str),
     Str(Text<'a>),
     /// `[`
@@ -62,22 +55,34 @@ pub enum Event<'a> {
     MapStart,
 }
 
-/// What follows in a container.
+/// What a container has next.
 #[derive(Clone, Copy, Debug, Drop)]
 pub enum After {
-    /// Its closing bracket, which was taken.
+    /// Its closing bracket, which is taken.
     Close,
-    /// One more element or member. A comma in front of it was taken.
+    /// One more element or member. The comma before it, if it needs one, is taken.
     Next,
 }
 
-/// A JSON text that is being read. A contract sees the rest of the text, and the first error that the lexer met. The
-/// lexer returns that error from every later call.
+/// A JSON text that is being read. The lexer keeps its first error, and every later call that can fail returns it. A
+/// contract sees the rest of the text and that error.
+///
+/// To read `[1 , true]`, call `start`, `after(Seq, true)`, `start`, `after(Seq, false)`, `start`, `after(Seq, false)`
+/// and `end`. They return `SeqStart`, `Next`, `Nonnegative(1)`, `Next`, `Bool(true)`, `Close` and `Ok`.
+///
+/// To read `{"a":null}`, call `start`, `after(Map, true)`, `name`, `start`, `after(Map, false)` and `end`. They
+/// return `MapStart`, `Next`, `a`, `Null`, `Close` and `Ok`.
+///
+/// For `{ }`, `start`, `after(Map, true)` and `end` return `MapStart`, `Close` and `Ok`. For `[}`, `start` returns
+/// `SeqStart`, and `after(Seq, true)` and every later call return `Invalid`. For `[1,]`, `start` returns `Invalid`
+/// after the comma was taken.
 #[derive(Drop)]
 pub struct Lexer<'a> {
+    // The whole text.
     text: &'a str,
     // The index of the first byte that is left.
     at: usize,
+    // The first error.
     refused: Option<Error>,
     ghost within: { at ≤ length text.now },
 }
@@ -92,7 +97,7 @@ impl<'a> Model for Lexer<'a> {
 }
 
 impl<'a> Lexer<'a> {
-    /// Returns a lexer at the front of a text.
+    /// Returns a lexer of a whole text.
     pub fn new(j: &'a str) -> Lexer<'a>
         ensures { result ≡ record { rest = j.now; refused = None } }
     {
@@ -103,7 +108,7 @@ impl<'a> Lexer<'a> {
         }
     }
 
-    /// Returns a second lexer at the same place.
+    /// Returns a second lexer with the same rest of the text and the same first error.
     pub fn fork(&self) -> Lexer<'a>
         ensures { result ≡ self.now }
     {
@@ -114,7 +119,7 @@ impl<'a> Lexer<'a> {
         }
     }
 
-    /// Takes whitespace.
+    /// Takes the whitespace that is next, if there is any.
     #[inline(always)]
     pub fn skip(&mut self)
         ensures space { Blank self.old.rest self.new.rest }
@@ -136,7 +141,9 @@ impl<'a> Lexer<'a> {
         self.text.len() - self.at
     }
 
-    /// Takes whitespace and the first token of a value: a word, a number, a string, `[` or `{`.
+    /// Takes whitespace and the first token of a value: a word, a number, a string, `[` or `{`. A string with a
+    /// backslash is decoded into `scratch`. Returns `Invalid` if no token is next, and `Memory` if decoding fails to
+    /// allocate.
     #[inline(always)]
     pub fn start(&mut self, scratch: &mut String) -> Result<Event<'a>>
         ensures ok { IfOk result (λ event. (self.old.refused ≡ None) × (self.new.refused ≡ None)
@@ -162,7 +169,8 @@ impl<'a> Lexer<'a> {
         }
     }
 
-    /// Takes whitespace and the name of a member: a string, whitespace and `:`.
+    /// Takes whitespace and the name of a member: a string, whitespace and `:`. A name with a backslash is decoded
+    /// into `scratch`. Returns `Invalid` if none is next, and `Memory` if decoding fails to allocate.
     #[inline(always)]
     pub fn name(&mut self, scratch: &mut String) -> Result<Text<'a>>
         ensures ok { IfOk result (λ t. (self.old.refused ≡ None) × (self.new.refused ≡ None)
@@ -188,8 +196,9 @@ impl<'a> Lexer<'a> {
         }
     }
 
-    /// Takes whitespace and the closing bracket of a container of the kind, or the comma before its next child.
-    /// Directly behind the opening bracket, the next child has no comma.
+    /// Takes whitespace, and the closing bracket of a container of the kind or the comma before its next child.
+    /// `first` says that the opening bracket was just taken, so that no comma is due. Returns `Invalid` if neither is
+    /// next.
     #[inline(always)]
     pub fn after(&mut self, kind: Kind, first: bool) -> Result<After>
         ensures ok { IfOk result (λ a. (self.old.refused ≡ None) × (self.new.refused ≡ None)
@@ -234,7 +243,7 @@ impl<'a> Lexer<'a> {
         self.refuse(Error::Invalid)
     }
 
-    // Keeps an error, and returns it.
+    // Keeps an error as the first error of the lexer, and returns it.
     fn refuse<T>(&mut self, e: Error) -> Result<T>
         ensures answer { result ≡ Err e }
         ensures sticky { self.new ≡ record { rest = self.old.rest; refused = Some e } }

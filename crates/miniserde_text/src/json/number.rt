@@ -42,7 +42,8 @@ impl NumberText {
         }
     }
 
-    /// Copies `t`. Returns `Invalid` without allocating if `is_text` is `false`, and `Memory` if allocation fails.
+    /// Returns a copy of `t`. Returns `Invalid` without allocating if `is_text` returns `false` for `t`, and `Memory`
+    /// if an allocation fails.
     pub fn new(alloc: Global, t: &str) -> Result<NumberText>
         ensures ok { IfOk result (λ n. n ≡ t.now) }
         ensures is_text { OnOk result (IsNumber t.now (num t.now)) }
@@ -55,8 +56,8 @@ impl NumberText {
         NumberText::new_unchecked(alloc, t)
     }
 
-    /// Copies `t` without a check: the contract demands that `is_text` is `true`. Returns `Memory` if allocation
-    /// fails.
+    /// Returns a copy of `t` without a check: the contract demands that `is_text` returns `true` for `t`. Returns
+    /// `Memory` if an allocation fails.
     pub fn new_unchecked(alloc: Global, t: &str) -> Result<NumberText>
         requires { IsNumber t.now (num t.now) }
         ensures ok { IfOk result (λ n. n ≡ t.now) }
@@ -74,7 +75,7 @@ impl NumberText {
         self.text.as_str()
     }
 
-    /// Copies the number. Returns `Memory` if allocation fails.
+    /// Returns a copy of the number, or `Memory` if an allocation fails.
     pub fn try_clone(&self, alloc: Global) -> Result<NumberText>
         ensures ok { IfOk result (λ n. n ≡ self.now) }
         ensures memory { OnErr result (IsErrOf result Error.Memory) }

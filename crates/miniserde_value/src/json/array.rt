@@ -1,4 +1,4 @@
-//! Lists of values.
+//! The type `Array`, a list of JSON values.
 ghost use Rattle.std.specs.Prelude.{◌≡◌, ◌++◌, ◌∷◌, [], List, MatchOption, IfOk, OnOk, OnErr, IsErrOf, vec_capacity};
 ghost use Rattle.std.specs.Iterator.{IsFinite, Drains};
 ghost use Rattle.miniserde_model.specs.declared.error.Error.TheVariants.{Memory};
@@ -17,7 +17,7 @@ use miniserde_model::error::Result;
 use std::alloc::Global;
 use std::{mem, slice, vec};
 
-/// A list of values. It is dropped without recursion.
+/// A list of JSON values. It is dropped without recursion.
 #[cycle(value)]
 pub struct Array {
     items: Vec<Value>,
@@ -27,7 +27,7 @@ impl Array {
     ghost use Rattle.miniserde_value.specs.Rows.{list_row};
     ghost use Rattle.miniserde_value.specs.contracts.json.array.Array.{the_row};
 
-    /// Returns an array of no items. Allocates nothing.
+    /// Returns an array without items. Allocates nothing.
     pub fn new(alloc: Global) -> Array
         ensures items { array_items result ≡ [] }
         ensures capacity { vec_capacity result.items ≡ 0 }
@@ -37,7 +37,7 @@ impl Array {
         }
     }
 
-    /// Collects the items in order. Its only error is `Memory`.
+    /// Returns an array of the items of a finite iterator, in order. Returns `Memory` if an allocation fails.
     pub fn from_iter<I: IntoIterator<Item = Value>>(alloc: Global, iter: I) -> Result<Array>
         requires { (it : I.IntoIter) → I.into_iter_gives iter it → I.IntoIter.can_next it
             × IsFinite (I.IntoIter.remaining it) }
@@ -48,7 +48,7 @@ impl Array {
         Ok(Array::from_inner(Vec::from_iter(alloc, iter)?))
     }
 
-    // Returns the array of the items.
+    // Returns the items as an array.
     pub(crate) fn from_inner(items: Vec<Value>) -> Array
         ensures { result.items ≡ items }
     {
@@ -70,7 +70,7 @@ impl Array {
         &mut self.items
     }
 
-    /// Appends an item. Returns `Memory` if the array cannot grow, and leaves it unchanged.
+    /// Appends an item. If the array cannot grow, returns `Memory` and leaves the array unchanged.
     pub fn push(&mut self, item: Value) -> Result<()>
         ensures ok { OnOk result (array_items self.new ≡ array_items self.old ++ item ∷ []) }
         ensures memory { OnErr result (IsErrOf result Memory) }
@@ -79,7 +79,7 @@ impl Array {
         Ok(self.items.push(item)?)
     }
 
-    // Returns the items of the array.
+    // Takes the array apart, and returns its items.
     pub(crate) fn into_inner(self) -> Vec<Value>
         ensures { result ≡ self.items }
     {
@@ -87,7 +87,7 @@ impl Array {
         items
     }
 
-    /// Replaces the first item, and returns the old one.
+    /// Replaces the first item of an array that is not empty, and returns the old one.
     pub(crate) fn replace_first(&mut self, value: Value) -> Value
         requires { array_items self.old ≡ [] → ⊥ }
         ensures { ReplacesFirst value result (array_items self.old) (array_items self.new) }
@@ -105,7 +105,7 @@ impl Array {
     }
 }
 
-/// Drops all that it contains, without recursion, and allocates nothing.
+/// Drops the array and all that it contains, without recursion. Allocates nothing.
 impl Drop for Array {
     fn drop(self) {
         safely(Value::Array(self));
@@ -117,7 +117,7 @@ impl IntoIterator for Array {
 
     type IntoIter = vec::IntoIter<Value>;
 
-    // Each item once, in order, and then no more.
+    // The iterator returns each item once, in order.
     ghost into_iter_gives = { λ a r. (into_iter_items r ≡ array_items a)
         × EveryRun (into_iter_steps {X = V} {Z = Global}) (λ p. ItemsAre p (into_iter_items p.from)) };
 
@@ -131,7 +131,7 @@ impl<'a> IntoIterator for &'a Array {
 
     type IntoIter = slice::Iter<'a, Value>;
 
-    // Each item once, in order, and then no more; so below.
+    // The iterator returns a reference to each item once, in order.
     ghost into_iter_gives = { λ a r. (iter_rest r ≡ array_items a.now)
         × EveryRun (iter_steps {A = V}) (λ p. ItemsMapTo p (λ y. y.now) (iter_rest p.from)) };
 
@@ -145,6 +145,7 @@ impl<'a> IntoIterator for &'a mut Array {
 
     type IntoIter = slice::IterMut<'a, Value>;
 
+    // The iterator returns a mutable reference to each item once, in order.
     ghost into_iter_gives = { λ a r. (iter_mut_rest r ≡ array_items a.now)
         × EveryRun (iter_mut_steps {A = V}) (λ p. ItemsMapTo p (λ y. y.now) (iter_mut_rest p.from)) };
 

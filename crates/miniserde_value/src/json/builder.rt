@@ -1,4 +1,4 @@
-//! Builds documents, without recursion.
+//! The builder of documents. It takes the events of a value, without recursion.
 ghost use Rattle.std.specs.Prelude.{◌≡◌, ◌≤◌, [], None, Some, Option, Err, IfOk, OnOk, OnErr, IsErrOf, option_map};
 ghost use Rattle.std.specs.Prelude.{drop, take, length, string_bytes, is_some};
 ghost use Rattle.miniserde_model.specs.declared.error.Error.TheVariants.{Invalid, Memory};
@@ -24,14 +24,15 @@ use std::alloc::{AllocError, Global};
 use std::collections::BTreeMap;
 use std::{mem, result};
 
-/// An open container: where the items of an array begin, or the next of the open objects.
+/// An open container: an array, with the index of its first item in the builder's values, or an object, which is the
+/// next of the builder's open objects.
 #[derive(Clone, Copy, Drop)]
 pub(crate) enum Mark {
     Array(usize),
     Object,
 }
 
-/// An open object: its members so far, and the name of the next value.
+/// An open object: its members so far, and the name of the next value if that name came.
 #[derive(Drop)]
 pub(crate) struct OpenObject {
     members: BTreeMap<String, Value>,
@@ -39,7 +40,7 @@ pub(crate) struct OpenObject {
 }
 
 impl OpenObject {
-    /// Returns an object without members. Allocates nothing.
+    /// Returns an open object without members. Allocates nothing.
     pub(crate) fn new(alloc: Global) -> OpenObject
         ensures members { made_members result ≡ no_members }
         ensures name { next_name result ≡ None }
@@ -50,7 +51,7 @@ impl OpenObject {
         }
     }
 
-    /// Names the next value.
+    /// Sets the name of the next value.
     pub(crate) fn name(&mut self, name: String)
         ensures members { made_members self.new ≡ made_members self.old }
         ensures name { next_name self.new ≡ Some (string_bytes name) }
@@ -58,7 +59,8 @@ impl OpenObject {
         self.name = Some(name);
     }
 
-    /// Puts a value under its name, and replaces the value of a duplicate. Drops a value that has no name.
+    /// Adds a value as the member of the name that was set last, and replaces the value of a duplicate name. Drops
+    /// the value if no name was set. Fails if the map cannot grow.
     pub(crate) fn put(&mut self, value: Value) -> result::Result<(), AllocError>
         ensures { OnOk result ((h : Hole) → with_open_object self.new h ≡ put (shape value) (with_open_object self.old h)) }
     {
@@ -76,7 +78,7 @@ impl OpenObject {
     }
 }
 
-/// A document that is being built. Contracts see it as a tree with a hole, inside the open containers.
+/// A document that is being built. A contract sees it as its hole: the open containers, with what each has so far.
 #[derive(Drop)]
 pub struct Builder {
     alloc: Global,
@@ -89,8 +91,8 @@ pub struct Builder {
     ghost fits: { MarksFit values.items objects.items marks.items } by { marks-fit-once values.items objects.items marks.items },
 }
 
-// Splits off the values from `from` on. If `as_it_lies` is `true` and `from` is 0, it moves the whole list out
-// without copying it.
+// Removes the values from index `from` on, and returns them as a list. If that list cannot be allocated, fails and
+// leaves `values` unchanged. If `as_it_lies` is `true` and `from` is 0, it moves the whole list and copies nothing.
 #[inline(always)]
 fn take_from(
     alloc: Global,
@@ -112,7 +114,7 @@ fn take_from(
 impl Builder {
     ghost use Rattle.miniserde_value.specs.Builders.{hole_in};
 
-    /// Returns a builder that has built nothing. Allocates nothing.
+    /// Returns a builder to which no event came. Allocates nothing.
     pub fn new(alloc: Global) -> Builder
         ensures { hole_in result ≡ outside [] }
     {
@@ -124,7 +126,7 @@ impl Builder {
         }
     }
 
-    /// Returns the kind of the innermost open container.
+    /// Returns the kind of the innermost open container, or `None` if none is open.
     #[inline(always)]
     pub fn innermost(&self) -> Option<Kind>
         ensures { result ≡ innermost (hole_in self.now) }
@@ -148,7 +150,8 @@ impl Builder {
         false
     }
 
-    /// Fills the hole with a value.
+    /// Adds a complete value to the innermost open container, or to the finished values if none is open. Fails if an
+    /// allocation fails.
     #[inline(always)]
     pub(crate) fn put(&mut self, value: Value) -> result::Result<(), AllocError>
         ensures { OnOk result (hole_in self.new ≡ put (shape value) (hole_in self.old)) }
@@ -163,7 +166,8 @@ impl Builder {
         Ok(())
     }
 
-    /// Fills the hole with a text.
+    /// Copies a text, and adds it as a string to the innermost open container, or to the finished values if none is
+    /// open. Fails if an allocation fails.
     fn put_text(&mut self, text: &str) -> result::Result<(), AllocError>
         ensures { OnOk result (hole_in self.new ≡ put (str text.now) (hole_in self.old)) }
     {
@@ -171,7 +175,8 @@ impl Builder {
         self.put(Value::String(text))
     }
 
-    /// Fills the hole with a number that keeps its text.
+    /// Copies the text of a number, and adds the number to the innermost open container, or to the finished values if
+    /// none is open. Returns `Memory` if an allocation fails.
     fn put_number(&mut self, text: &str) -> Result<()>
         requires { IsNumber text.now (num text.now) }
         ensures ok { OnOk result (hole_in self.new ≡ put (num text.now) (hole_in self.old)) }
@@ -182,7 +187,7 @@ impl Builder {
         Ok(())
     }
 
-    /// Opens an array in the hole.
+    /// Opens an array inside the innermost open container. Fails if an allocation fails.
     #[inline(always)]
     pub(crate) fn open_array(&mut self) -> result::Result<(), AllocError>
         ensures { OnOk result (hole_in self.new ≡ in_list [] (hole_in self.old)) }
@@ -191,7 +196,7 @@ impl Builder {
         Ok(())
     }
 
-    /// Opens an object in the hole.
+    /// Opens an object inside the innermost open container. Fails if an allocation fails.
     #[inline(always)]
     pub(crate) fn open_object(&mut self) -> result::Result<(), AllocError>
         ensures { OnOk result (hole_in self.new ≡ in_members no_members None (hole_in self.old)) }
@@ -201,8 +206,8 @@ impl Builder {
         Ok(())
     }
 
-    /// Takes the first event of a value. Returns whether it opens a container, or `Invalid` for an event that begins
-    /// no value.
+    /// Takes the first event of a value. Returns whether it opens a container. Returns `Invalid` for an event that
+    /// begins no value, and `Memory` if an allocation fails.
     #[inline(always)]
     pub fn begin(&mut self, event: Step<'_>) -> Result<bool>
         requires { IsTreeEvent (event_of event) }
@@ -230,7 +235,8 @@ impl Builder {
         Ok(false)
     }
 
-    /// Names the next value of the innermost container if that is an object.
+    /// Sets the name of the next value, if the innermost open container is an object. Returns `Memory` if an
+    /// allocation fails.
     #[inline(always)]
     pub fn name(&mut self, name: &str) -> Result<()>
         ensures ok { OnOk result (hole_in self.new ≡ with_name name.now (hole_in self.old)) }
@@ -246,7 +252,8 @@ impl Builder {
         Ok(())
     }
 
-    /// Closes the innermost open container. Its value fills the hole of the container around it.
+    /// Closes the innermost open container, if one is open, and adds it to the container around it. Returns `Memory`
+    /// if an allocation fails.
     #[inline(always)]
     pub fn close(&mut self) -> Result<()>
         ensures ok { OnOk result (hole_in self.new ≡ after_close (hole_in self.old)) }
@@ -269,7 +276,7 @@ impl Builder {
         Ok(())
     }
 
-    /// Returns the value if it is complete.
+    /// Returns the value, or `None` if a container is open or there is not exactly one value.
     pub fn into_value(self) -> Option<Value>
         ensures { option_map shape result ≡ complete_tree (hole_in self) }
     {

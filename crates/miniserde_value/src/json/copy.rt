@@ -1,4 +1,4 @@
-//! Copies of values, with no recursion.
+//! Copies documents, without recursion.
 ghost use Rattle.std.specs.Prelude.{◌≡◌, ◌∷◌, [], IfOk, OnOk, OnErr, IsErrOf};
 ghost use Rattle.miniserde_model.specs.declared.error.Error.TheVariants.{Memory};
 ghost use Rattle.miniserde_value.specs.Values.{shape, array_shape, object_shape};
@@ -15,7 +15,7 @@ use super::walk::{Visit, Walk};
 use miniserde_model::error::Result;
 use std::alloc::Global;
 
-// Adds one visit of a walk to the builder.
+// Hands one visit of a walk to the builder, which copies its number or text. Returns `Memory` if an allocation fails.
 fn add(alloc: Global, visit: Visit<'_>, builder: &mut Builder) -> Result<()>
     ensures built { OnOk result (hole_in builder.new ≡ hole_after (hole_in builder.old) (visit_of visit.entry ∷ [])) }
     ensures memory { OnErr result (IsErrOf result Memory) }
@@ -34,7 +34,7 @@ fn add(alloc: Global, visit: Visit<'_>, builder: &mut Builder) -> Result<()>
     Ok(())
 }
 
-// Adds all visits of a walk to the builder.
+// Hands all visits that are left of a walk to the builder. Returns `Memory` if an allocation fails.
 fn add_all(alloc: Global, mut walk: Walk<'_>, builder: &mut Builder) -> Result<()>
     ensures built { OnOk result (hole_in builder.new ≡ hole_after (hole_in builder.old) (left walk.entry)) }
     ensures ordered { OnOk result (LeftOrdered walk.entry) }
@@ -47,7 +47,7 @@ fn add_all(alloc: Global, mut walk: Walk<'_>, builder: &mut Builder) -> Result<(
 }
 
 impl Array {
-    /// Copies the array. Its only error is `Memory`.
+    /// Returns a copy of the array, or `Memory` if an allocation fails.
     pub fn try_clone(&self, alloc: Global) -> Result<Array>
         ensures ok { IfOk result (λ copy. array_shape copy ≡ array_shape self.now) }
         ensures memory { OnErr result (IsErrOf result Memory) }
@@ -66,7 +66,7 @@ impl Array {
 }
 
 impl Object {
-    /// Copies the object. Its only error is `Memory`.
+    /// Returns a copy of the object, or `Memory` if an allocation fails.
     pub fn try_clone(&self, alloc: Global) -> Result<Object>
         ensures ok { IfOk result (λ copy. object_shape copy ≡ object_shape self.now) }
         ensures memory { OnErr result (IsErrOf result Memory) }
@@ -85,7 +85,7 @@ impl Object {
 }
 
 impl Value {
-    /// Copies the value. Its only error is `Memory`.
+    /// Returns a copy of the value, or `Memory` if an allocation fails.
     pub fn try_clone(&self, alloc: Global) -> Result<Value>
         ensures ok { IfOk result (λ copy. shape copy ≡ shape self.now) }
         ensures memory { OnErr result (IsErrOf result Memory) }

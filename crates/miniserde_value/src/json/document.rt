@@ -1,4 +1,4 @@
-//! Documents that count as what is written of them.
+//! The type `Document`, a JSON value that counts as the tree that is written of it.
 ghost use Rattle.std.specs.Prelude.{⊤};
 ghost use Rattle.miniserde_stable.specs.Stable.{IsStable};
 
@@ -12,8 +12,8 @@ use miniserde_ser::ser::{Serialize, Writer};
 use miniserde_stable::Stable;
 use miniserde_text::json::lex::Event;
 
-/// A document that counts as what is written of it: `-0` counts as 0, and the order of names does not count. So it is
-/// read from a canonical text as from the text, and it is read again as itself.
+/// A JSON value whose content is the tree that is written of it: `-0` counts as 0, and the order of names does not
+/// count. So it is stable and lossless, which `Value` is not.
 #[derive(Debug, Drop)]
 pub struct Document {
     pub value: Value,
@@ -63,8 +63,8 @@ impl Stable for Document {
     fn stable() {}
 }
 
-/// Does nothing. It promises that `-0` means a number, and a value, that its normal form does not mean. So neither
-/// `Number` nor `Value` is `Stable`.
+/// Does nothing. It promises that neither `Number` nor `Value` is stable: for both types `-0` means another value
+/// than its normal form does.
 pub fn negated_zero()
     ensures number { IsStable ⟦<Number as FromJson>⟧.means.from_tree → ⊥ }
     ensures value { IsStable ⟦<Value as FromJson>⟧.means.from_tree → ⊥ }

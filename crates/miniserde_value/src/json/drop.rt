@@ -21,7 +21,8 @@ fn is_bare(value: &Value) -> bool
     }
 }
 
-/// Removes the last child and returns it, or returns `None` if the value has no child.
+/// Removes the last child of a value and returns it, or returns `None` if the value has no child. Counts a look if it
+/// returns a child.
 #[inline(always)]
 fn take_last(value: &mut Value, looks: &mut Looks) -> Option<Value>
     ensures taken { MatchOption result (IsBare value.old × IsBare value.new)
@@ -39,7 +40,7 @@ fn take_last(value: &mut Value, looks: &mut Looks) -> Option<Value>
     Some(last)
 }
 
-/// Replaces the first child, and returns the old one.
+/// Replaces the first child of `value`, which has a child, with `parent`. Returns the old child. Counts a look.
 #[inline(always)]
 fn replace_first(value: &mut Value, parent: Value, looks: &mut Looks) -> Value
     requires { children value.old ≡ [] → ⊥ }
@@ -55,7 +56,8 @@ fn replace_first(value: &mut Value, parent: Value, looks: &mut Looks) -> Value
     }
 }
 
-/// Drops a value, and counts how often a value was looked at and how many were dropped. Allocates nothing.
+/// Drops a value without recursion. Counts in `looks` how often a value was looked at, and how many values were
+/// dropped. Allocates nothing.
 pub fn counted(value: Value, looks: &mut Looks)
     ensures released { looks.new.released ≡ looks.old.released + value_size value }
     ensures at_least { looks.old.visited + value_size value ≤ looks.new.visited }
@@ -89,7 +91,7 @@ pub fn counted(value: Value, looks: &mut Looks)
     }
 }
 
-/// Drops a value. Allocates nothing.
+/// Drops a value without recursion. Allocates nothing.
 pub fn safely(value: Value) {
     let mut looks = Looks::new();
     counted(value, &mut looks);

@@ -1,4 +1,4 @@
-//! Expressions as values, for `value!`.
+//! Conversions of Rust's values to `Value`, for the macro `value!`.
 #![tactic(auto, using(crate::proofs::Shapes::shape_null, crate::proofs::Shapes::shape_bool, crate::proofs::Shapes::shape_number, crate::proofs::Shapes::shape_string, crate::proofs::Shapes::shape_array, crate::proofs::Shapes::shape_object))]
 
 ghost use Rattle.std.specs.Prelude.{◌≡◌, IfOk, OnErr, IsErrOf, string_bytes};
@@ -16,12 +16,13 @@ use super::value::Value;
 use miniserde_model::error::Result;
 use std::alloc::Global;
 
-/// A type of the expressions that `value!` takes.
+/// A type of values that `value!` converts to a `Value`.
 pub trait IntoValue {
     // The tree of the `Value`.
     ghost value_tree: { Self → Tree };
 
-    /// Converts to a `Value`: copies a borrowed text, and moves an owned value. Its only error is `Memory`.
+    /// Returns the value as a `Value`. It copies a borrowed text, and moves an owned value. Its only error is
+    /// `Memory`.
     fn into_value(self, alloc: Global) -> Result<Value>
         ensures ok { IfOk result (λ v. shape v ≡ value_tree self) }
         ensures memory { OnErr result (IsErrOf result Memory) };
@@ -34,28 +35,29 @@ pub fn null_value() -> Value
     Value::Null
 }
 
-/// Returns the value of an array. Allocates nothing.
+/// Returns an array as a `Value`. Allocates nothing.
 pub fn array_value(array: Array) -> Value
     ensures { shape result ≡ array_shape array }
 {
     Value::Array(array)
 }
 
-/// Returns the value of an object. Allocates nothing.
+/// Returns an object as a `Value`. Allocates nothing.
 pub fn object_value(object: Object) -> Value
     ensures { shape result ≡ object_shape object }
 {
     Value::Object(object)
 }
 
-// Returns the value of an integer of at least 0.
+// Returns an integer of at least 0 as a `Value`.
 fn unsigned(n: u64) -> Value
     ensures { shape result ≡ nonneg n }
 {
     Value::Number(Number::U64(n))
 }
 
-// Returns the value of an integer: an `I64` if it is negative, else a `U64`, as for the text of the integer.
+// Returns an integer as a `Value`: as an `I64` if it is negative, and else as a `U64`. Its text is read as the same
+// value.
 fn signed(n: i64) -> Value
     ensures { shape result ≡ integer n }
 {
@@ -210,7 +212,7 @@ impl IntoValue for Value {
     }
 }
 
-/// `None` is `null`.
+/// Converts `None` to `null`, and `Some` as its value.
 impl<T: IntoValue> IntoValue for Option<T> {
     ghost value_tree = { option_tree T.value_tree };
 

@@ -1,4 +1,4 @@
-//! Numbers.
+//! The type `Number`, a JSON number.
 ghost use Rattle.std.specs.Prelude.{◌≡◌, IfOk, OnErr, IsErrOf};
 ghost use Rattle.miniserde_model.specs.declared.error.Error.TheVariants.{Memory};
 
@@ -7,17 +7,17 @@ use miniserde_text::json::number::NumberText;
 use std::alloc::Global;
 use std::fmt;
 
-/// A number of a JSON text. An `I64` of at least 0 is written as the `U64` of that number is.
+/// A JSON number. An `I64` of at least 0 is written without `-`, as the `U64` of that number is.
 #[derive(Drop)]
 pub enum Number {
     U64(u64),
     I64(i64),
-    /// Any number that is no plain integer from -2^63 to 2^64-1, as its text.
+    /// A number that is no plain integer from -2^63 to 2^64-1, as its text.
     Text(NumberText),
 }
 
 impl Number {
-    /// Copies the number. Its only error is `Memory`.
+    /// Returns a copy of the number, or `Memory` if an allocation fails.
     pub fn try_clone(&self, alloc: Global) -> Result<Number>
         ensures ok { IfOk result (λ n. n ≡ self.now) }
         ensures memory { OnErr result (IsErrOf result Memory) }
@@ -30,7 +30,7 @@ impl Number {
     }
 }
 
-/// The digits, or the number's text. It takes no memory.
+/// Shows the number as it is written in JSON. Allocates nothing.
 impl fmt::Display for Number {
     ghost use Rattle.std.specs.Prelude.{Some};
     ghost use Rattle.miniserde_model.specs.Compact.{compact};
@@ -39,7 +39,7 @@ impl fmt::Display for Number {
 
     ghost output = { λ n. Some (compact (norm (number_leaf n))) };
 
-    // Also under options, as `{:>20}`: nothing is padded or cut.
+    // Formatting options, as in `{:>20}`, change nothing.
     ghost styled_output = { λ n _. Some (compact (norm (number_leaf n))) };
 
     fn fmt<W: fmt::Write>(&self, f: &mut fmt::Formatter<W>) -> fmt::Result {

@@ -1,4 +1,4 @@
-//! Maps of values by name.
+//! The type `Object`, JSON values by name.
 ghost use Rattle.std.specs.Prelude.{◌≡◌, ◌++◌, ◌∷◌, [], List, String, MatchOption, IfOk, OnOk, OnErr, IsErrOf};
 ghost use Rattle.std.specs.Iterator.{IsFinite, Drains};
 ghost use Rattle.std.specs.declared.alloc.Global.{Global};
@@ -20,7 +20,7 @@ use std::alloc::Global;
 use std::collections::{BTreeMap, btree_map};
 use std::mem;
 
-/// Values by name, in byte order of the names. It is dropped without recursion.
+/// JSON values by name, in byte order of the names. An object is dropped without recursion.
 #[cycle(value)]
 pub struct Object {
     members: BTreeMap<String, Value>,
@@ -30,7 +30,7 @@ impl Object {
     ghost use Rattle.miniserde_value.specs.Rows.{map_row};
     ghost use Rattle.miniserde_value.specs.contracts.json.object.Object.{the_row};
 
-    /// Returns an object of no members. Allocates nothing.
+    /// Returns an object without members. Allocates nothing.
     pub fn new(alloc: Global) -> Object
         ensures { object_entries result ≡ [] }
     {
@@ -39,7 +39,8 @@ impl Object {
         }
     }
 
-    /// Collects the members by name. The last member of a duplicate name stays. Its only error is `Memory`.
+    /// Returns an object of the members of a finite iterator. If a name is a duplicate, the last value stays. Returns
+    /// `Memory` if an allocation fails.
     pub fn from_iter<I: IntoIterator<Item = (String, Value)>>(
         alloc: Global,
         iter: I,
@@ -54,7 +55,7 @@ impl Object {
         Ok(Object::from_inner(BTreeMap::from_iter(alloc, iter)?))
     }
 
-    // Returns the object of the members.
+    // Returns the map of members as an object.
     pub(crate) fn from_inner(members: BTreeMap<String, Value>) -> Object
         ensures { result.members ≡ members }
     {
@@ -76,7 +77,7 @@ impl Object {
         &mut self.members
     }
 
-    /// Adds a member, or replaces the value of the same name. Returns `Memory` if it fails to allocate, and leaves the
+    /// Adds a member, or replaces the value of the same name. If an allocation fails, returns `Memory` and leaves the
     /// members unchanged.
     pub fn put(&mut self, alloc: Global, name: &str, value: Value) -> Result<()>
         ensures ok { OnOk result (object_members self.new ≡ put name.now (shape value) (object_members self.old)) }
@@ -88,7 +89,7 @@ impl Object {
         Ok(())
     }
 
-    // Returns the map of the members.
+    // Takes the object apart, and returns the map of its members.
     pub(crate) fn into_inner(self) -> BTreeMap<String, Value>
         ensures { result ≡ self.members }
     {
@@ -96,7 +97,7 @@ impl Object {
         members
     }
 
-    /// Replaces the value of the first member, and returns the old one.
+    /// Replaces the value of the first member of an object that is not empty, and returns the old value.
     pub(crate) fn replace_first(&mut self, value: Value) -> Value
         requires { object_values self.old ≡ [] → ⊥ }
         ensures parked { ReplacesFirst value result (object_values self.old) (object_values self.new) }
@@ -120,7 +121,7 @@ impl Object {
     }
 }
 
-/// Drops all that it contains, without recursion, and allocates nothing.
+/// Drops the object and all that it contains, without recursion. Allocates nothing.
 impl Drop for Object {
     fn drop(self) {
         safely(Value::Object(self));
@@ -132,7 +133,7 @@ impl IntoIterator for Object {
 
     type IntoIter = btree_map::IntoIter<String, Value>;
 
-    // Each member once, in byte order of the names, and then no more.
+    // The iterator returns each member once, in byte order of the names.
     ghost into_iter_gives = { λ o r. (r ≡ object_entries o)
         × GivesInOrder (String Global × V) × IsOrdered string_cmp o.members };
 
@@ -146,7 +147,7 @@ impl<'a> IntoIterator for &'a Object {
 
     type IntoIter = btree_map::Iter<'a, String, Value>;
 
-    // Each member once, in byte order of the names, and then no more; so below.
+    // The iterator returns references to each member once, in byte order of the names.
     ghost into_iter_gives = { λ o r. (r ≡ object_entries o.now)
         × ShowsInOrder (deref_pair {K = String Global} {X = V}) × IsOrdered string_cmp o.now.members };
 
@@ -160,6 +161,7 @@ impl<'a> IntoIterator for &'a mut Object {
 
     type IntoIter = btree_map::IterMut<'a, String, Value>;
 
+    // The iterator returns a mutable reference to each value once, in byte order of the names.
     ghost into_iter_gives = { λ o r. (iter_mut_rest r ≡ object_entries o.now)
         × IterMutCanStep r × LendsValuesInOrder (iter_mut_rest {K = String Global} {X = V})
         × IsOrdered string_cmp o.now.members };

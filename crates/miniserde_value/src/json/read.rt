@@ -1,4 +1,4 @@
-//! Documents that read themselves: of any depth, with no recursion.
+//! Reads `Number`, `Value`, `Array`, `Object` and `Unique` from a text, at any depth and without recursion.
 ghost use Rattle.std.specs.Prelude.{⊤};
 
 use super::array::Array;

@@ -1,4 +1,4 @@
-//! Reads a document by one loop, without recursion.
+//! The loop that reads a document of any depth, without recursion.
 ghost use Rattle.std.specs.Prelude.{◌≡◌, ◌<◌, ◌&&◌, true, false, Bool, None, Some, Err, IfOk, OnOk, length};
 ghost use Rattle.miniserde_model.specs.private.Reading.{due};
 ghost use Rattle.miniserde_model.specs.declared.error.Error.TheVariants.{Invalid, Memory};
@@ -20,8 +20,9 @@ use miniserde_model::error::{Error, Result};
 use miniserde_read::Source;
 use miniserde_text::json::lex::{After, Event, Kind};
 
-/// Reads one value, whose first token is `token`. Returns `Invalid` if no beginning of the text spells a value, or if
-/// `once` is `true` and an object in the value has a duplicate name.
+/// Reads one value, whose first token is `token`, and takes no more of the source. Returns `Invalid` if the text,
+/// from that token on, has no prefix that is a value, or if `once` is `true` and an object in it has a duplicate
+/// name. Returns `Memory` if an allocation fails.
 pub(crate) fn read_value<'a>(token: Event<'a>, source: &mut Source<'a>, once: bool) -> Result<Value>
     requires going { source.old.refused ≡ None }
     requires event { IsTreeEvent (event_of_token token source.old.scratch) }
@@ -42,8 +43,9 @@ pub(crate) fn read_value<'a>(token: Event<'a>, source: &mut Source<'a>, once: bo
     }
 }
 
-/// Takes the closing bracket of the innermost container, or the tokens up to the first one of its next child. Returns
-/// whether that token opened a container. `first` says that the opening bracket was just taken.
+/// Takes the closing bracket of the innermost container, or everything up to the first token of its next child, with
+/// that token. Returns whether a container was opened, or the error of the source or the builder. `first` says that
+/// the opening bracket was just taken.
 #[inline(always)]
 fn take_child_or_end<'a>(
     source: &mut Source<'a>,
@@ -75,8 +77,8 @@ fn take_child_or_end<'a>(
     }
 }
 
-/// Names the next value of the innermost object. Returns `Invalid` if `once` is `true` and the object has the name
-/// already.
+/// Sets the name of the next value in the innermost object. Returns `Invalid` if `once` is `true` and the object has
+/// the name already, and `Memory` if an allocation fails.
 #[inline(always)]
 fn name_next(builder: &mut Builder, name: &str, once: bool) -> Result<()>
     ensures ok { OnOk result (hole_in builder.new ≡ with_name name.now (hole_in builder.old)) }
@@ -91,7 +93,8 @@ fn name_next(builder: &mut Builder, name: &str, once: bool) -> Result<()>
     builder.name(name)
 }
 
-/// Takes the first token of a value. Returns whether it opened a container.
+/// Takes the first token of a value, and hands its event to the builder. Returns whether it opened a container, or
+/// the error of the source or the builder.
 #[inline(always)]
 fn begin<'a>(source: &mut Source<'a>, builder: &mut Builder) -> Result<bool>
     requires { source.old.refused ≡ None }

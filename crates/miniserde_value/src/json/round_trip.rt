@@ -1,4 +1,4 @@
-//! Documents that read back as they were written.
+//! Promises that documents are read back as they were written, and that some are never written `null`.
 
 use super::array::Array;
 use super::number::Number;
@@ -7,7 +7,7 @@ use super::unique::Unique;
 use super::value::Value;
 use miniserde_round::{NeverNull, RoundTrip};
 
-// An `I64` of at least 0 is written as the `U64` of that number, and reads back as one.
+// An `I64` of at least 0 is read back as the `U64` of that number: both have the same tree.
 impl RoundTrip for Number {
     fn round_trips() {}
 }

@@ -1,4 +1,4 @@
-//! Values that show themselves, with no recursion.
+//! Implements `Debug` for documents, without recursion.
 
 use super::array::Array;
 use super::object::Object;
@@ -6,14 +6,14 @@ use super::value::Value;
 use super::walk::{Visit, Walk};
 use std::fmt::{Debug, Error, Formatter, Result, Write};
 
-// How far a walk is shown: how many containers are open, and whether the innermost has no part yet.
+// The state of the output: how many containers are open, and whether the innermost has no item or member yet.
 #[derive(Clone, Copy, Drop)]
 struct Shown {
     levels: u64,
     first: bool,
 }
 
-// Begins a line at the indentation of so many levels, as std does under `{:#?}`.
+// Writes a line break and four spaces for each of the levels, as std does for `{:#?}`.
 fn begin_line<W: Write>(f: &mut Formatter<W>, levels: u64) -> Result {
     f.write_str("\n")?;
     for _ in 0..levels {
@@ -22,7 +22,7 @@ fn begin_line<W: Write>(f: &mut Formatter<W>, levels: u64) -> Result {
     Ok(())
 }
 
-// Writes the separator before an item or a name.
+// Writes what separates an item or a name from the text before it.
 fn begin_part<W: Write>(f: &mut Formatter<W>, shown: Shown) -> Result {
     match (f.alternate(), shown.first) {
         (true, true) => begin_line(f, shown.levels),
@@ -35,7 +35,7 @@ fn begin_part<W: Write>(f: &mut Formatter<W>, shown: Shown) -> Result {
     }
 }
 
-// Writes the closing bracket of a container. Under `{:#?}` it begins a line unless the container is empty.
+// Writes the closing bracket of a container. For `{:#?}` it has a line of its own, unless the container is empty.
 fn end<W: Write>(f: &mut Formatter<W>, shown: Shown, bracket: &str) -> Result {
     if f.alternate() && !shown.first {
         f.write_str(",")?;
@@ -44,7 +44,7 @@ fn end<W: Write>(f: &mut Formatter<W>, shown: Shown, bracket: &str) -> Result {
     f.write_str(bracket)
 }
 
-// Writes one visit of a walk.
+// Writes the text of one visit.
 fn show<W: Write>(f: &mut Formatter<W>, visit: Visit<'_>, shown: Shown) -> Result {
     match visit {
         Visit::Null => f.write_str("Null"),
@@ -63,7 +63,7 @@ fn show<W: Write>(f: &mut Formatter<W>, visit: Visit<'_>, shown: Shown) -> Resul
     }
 }
 
-// Returns the indentation and the `first` flag behind a visit.
+// Returns the state of the output after a visit.
 fn after(visit: Visit<'_>, shown: Shown) -> Shown {
     match visit {
         Visit::Array | Visit::Object => Shown {
@@ -81,7 +81,7 @@ fn after(visit: Visit<'_>, shown: Shown) -> Shown {
     }
 }
 
-// Writes all visits of a walk.
+// Writes the text of all visits of a walk. Fails also if the walk fails to allocate.
 fn show_all<W: Write>(mut walk: Walk<'_>, f: &mut Formatter<W>) -> Result {
     let mut shown = Shown {
         levels: 1,
@@ -117,7 +117,7 @@ impl Debug for Object {
     }
 }
 
-/// Shows it as std shows enums, lists and maps, with no recursion. It fails also where there is no memory for the walk.
+/// Shows the value as std shows enums, lists and maps, without recursion. Fails also if the walk fails to allocate.
 impl Debug for Value {
     fn fmt<W: Write>(&self, f: &mut Formatter<W>) -> Result {
         match self {

@@ -1,19 +1,19 @@
-//! Values without duplicate names.
+//! The type `Unique`, a JSON value that is read only from a text without duplicate names.
 ghost use Rattle.std.specs.Prelude.{◌≡◌, true};
 
 use super::value::Value;
 use miniserde_model::error::Result;
 use miniserde_ser::ser::{Serialize, Writer};
 
-/// Any JSON value, read from a text in which no object has one name twice. Names are compared as what they spell, so
-/// `"a"` and `"\u0061"` are one.
+/// Any JSON value, read from a text in which no object has a duplicate name. Names are compared after decoding, so
+/// `"a"` and `"\u0061"` are duplicates.
 #[derive(Drop)]
 pub struct Unique {
     value: Value,
 }
 
 impl Unique {
-    /// Returns the value as it is: a `Value` has no duplicate name.
+    /// Returns the value as a `Unique`. No check is needed, since a `Value` has no duplicate name.
     pub fn new(value: Value) -> Unique
         ensures { result.value ≡ value }
     {

@@ -1,4 +1,4 @@
-//! Values of any shape.
+//! The type `Value`, which is any JSON value.
 ghost use Rattle.std.specs.Prelude.{◌≡◌, true, Err, IfOk, string_bytes};
 ghost use Rattle.miniserde_model.specs.Tree.{Tree};
 ghost use Rattle.miniserde_model.specs.Compact.{compact};
@@ -36,7 +36,7 @@ impl Value {
     ghost use Rattle.miniserde_value.specs.Values.{shape, array_shape, object_shape};
     ghost use Rattle.miniserde_value.specs.Kinds.{only_list, only_members};
 
-    /// Returns the array if the value is one. Allocates nothing.
+    /// Returns the array, or `None` if the value is no array. Allocates nothing.
     pub fn into_array(self) -> Option<Array>
         ensures { option_map array_shape result ≡ only_list (Some (shape self)) }
     {
@@ -46,7 +46,7 @@ impl Value {
         }
     }
 
-    /// Returns the object if the value is one. Allocates nothing.
+    /// Returns the object, or `None` if the value is no object. Allocates nothing.
     pub fn into_object(self) -> Option<Object>
         ensures { option_map object_shape result ≡ only_members (Some (shape self)) }
     {
@@ -67,27 +67,27 @@ impl Default for Value {
     }
 }
 
-/// Does nothing. It promises that the `Value` that a tree means has the normal form of the tree as its own tree, and
-/// as many values as that form.
+/// Does nothing. It promises that the `Value` that a tree means is written as the normal form of that tree, and
+/// contains as many values as that form.
 pub fn read_is_normal()
     ensures tree { (t : Tree) (v : V) → ReadsValue t v → tree_of v ≡ norm t }
     ensures size { (t : Tree) (v : V) → ReadsValue t v → value_size v ≡ size (norm t) }
 {}
 
-/// Does nothing. It promises that a value has as many values as its tree, if no object in it has a duplicate name. No
-/// map has one.
+/// Does nothing. It promises that a `Value` contains as many values as its tree, if no object in it has a duplicate
+/// name. No `BTreeMap` has a duplicate key.
 pub fn size_is_of_tree()
     ensures { (v : V) → names_distinct (shape v) ≡ true → size (tree_of v) ≡ value_size v }
 {}
 
-/// Parses a JSON text as a `Value`, and writes it. The result is the canonical text, which `canonical` returns too.
-/// Returns `Invalid` if the text is no JSON (RFC 8259).
+/// Reads a JSON text as a `Value` and writes that, which gives the canonical text. Returns `Invalid` if the text is
+/// not JSON (RFC 8259), and `Memory` if an allocation fails.
 pub fn rewritten(alloc: Global, j: &str) -> Result<String>
     // It is the compact text of the normal form of the text's tree.
     ensures ok { IfOk result (λ c. (t : Tree) × IsJson j.now t × (string_bytes c ≡ compact (norm t))) }
     ensures text { IfOk result (λ c. (t : Tree) → IsJson j.now t → string_bytes c ≡ compact (norm t)) }
 
-    // The text has no tree; and never more than one.
+    // If the text is `Invalid`, it has no tree. No text has two trees.
     ensures invalid { result ≡ Err Invalid → (t : Tree) → IsJson j.now t → ⊥ }
     ensures one { (t u : Tree) → IsJson j.now t → IsJson j.now u → t ≡ u }
 {

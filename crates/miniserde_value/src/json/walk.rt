@@ -1,4 +1,4 @@
-//! The one walk over a value that stands elsewhere.
+//! The walk over a borrowed document: it visits all parts in order, without recursion.
 ghost use Rattle.std.specs.Prelude.{◌≡◌, ◌∷◌, [], None, IfOk, OnOk, MatchOption};
 ghost use Rattle.miniserde_value.specs.Values.{shape, array_shape, object_shape};
 ghost use Rattle.miniserde_value.specs.Visits.{visits, list_begins, members_begin, IsOrdered};
@@ -14,7 +14,7 @@ use super::value::Value;
 use std::alloc::{AllocError, Global};
 use std::result;
 
-/// What a walk meets next.
+/// One visit of a walk: a leaf, the start or the end of a container, or what stands before a child.
 #[derive(Clone, Copy, Drop)]
 pub(crate) enum Visit<'a> {
     Null,
@@ -29,17 +29,17 @@ pub(crate) enum Visit<'a> {
     ObjectEnd,
 }
 
-/// A walk over an array or an object, from behind its opening on to its end. It goes by a stack of its own.
+/// A walk over an array or an object, from after its opening bracket to its end. It has a stack of its own.
 #[derive(Drop)]
 pub(crate) struct Walk<'a> {
-    // The child that comes next, whose element or name was met.
+    // The child to visit next, if its `Element` or `Name` was just returned.
     due: Option<&'a Value>,
     // The open containers.
     frames: Frames<'a>,
 }
 
 impl<'a> Walk<'a> {
-    /// Returns a walk over the items of an array and its end.
+    /// Returns a walk over the items of an array and its end. Fails if its stack fails to allocate.
     pub(crate) fn array(alloc: Global, array: &'a Array) -> result::Result<Walk<'a>, AllocError>
         ensures left { IfOk result (λ w. list_begins ∷ left w ≡ visits (array_shape array.entry.now) []) }
         ensures ordered { IfOk result (λ w. LeftOrdered w → IsOrdered (array_shape array.entry.now)) }
@@ -49,7 +49,7 @@ impl<'a> Walk<'a> {
         Ok(Walk { due: None, frames })
     }
 
-    /// Returns a walk over the members of an object and its end.
+    /// Returns a walk over the members of an object and its end. Fails if its stack fails to allocate.
     pub(crate) fn object(alloc: Global, object: &'a Object) -> result::Result<Walk<'a>, AllocError>
         ensures left { IfOk result (λ w. members_begin ∷ left w ≡ visits (object_shape object.entry.now) []) }
         ensures ordered { IfOk result (λ w. LeftOrdered w → IsOrdered (object_shape object.entry.now)) }
@@ -59,7 +59,7 @@ impl<'a> Walk<'a> {
         Ok(Walk { due: None, frames })
     }
 
-    /// Returns the next visit, or `None` at the end of the walk.
+    /// Returns the next visit, or `None` at the end of the walk. Fails if its stack fails to allocate.
     pub(crate) fn next(&mut self) -> result::Result<Option<Visit<'a>>, AllocError>
         ensures left { IfOk result (λ next. MatchOption next (left self.old ≡ [])
             (λ f. left self.old ≡ visit_of f ∷ left self.new)) }
@@ -75,7 +75,8 @@ impl<'a> Walk<'a> {
         }
     }
 
-    // Returns the first visit of a value, and opens the value if it is a container.
+    // Returns the first visit of a value, and opens the value if it is a container. Fails if the stack fails to
+    // allocate.
     fn begin(&mut self, value: &'a Value) -> result::Result<Visit<'a>, AllocError>
         requires { self.old.due ≡ None }
         ensures left { IfOk result (λ f. visits (shape value.entry.now) (left self.old) ≡ visit_of f ∷ left self.new) }

@@ -1,4 +1,4 @@
-//! Values that write themselves, with no recursion.
+//! Writes documents, without recursion.
 ghost use Rattle.std.specs.Prelude.{◌≡◌, ◌++◌, ◌∷◌, List, [], true, false, OnOk, OnErr, IsErrOf};
 ghost use Rattle.miniserde_model.specs.IsTree.{IsTree};
 ghost use Rattle.miniserde_model.specs.Normal.{norm};
@@ -28,7 +28,7 @@ impl Number {
             Number::U64(n) => Fragment::U64(*n),
             Number::I64(n) => Fragment::I64(*n),
             Number::Text(text) => {
-                // The read tells that it is a number's text.
+                // The contract of `as_str` tells that this is the text of a number.
                 let _text = text.as_str();
                 Fragment::Text(text)
             }
@@ -36,7 +36,7 @@ impl Number {
     }
 }
 
-// Writes one visit of a walk.
+// Writes the text of one visit. Returns `Memory` if the writer's text cannot grow or an earlier call failed.
 #[inline(always)]
 fn put(visit: Visit<'_>, w: &mut Writer) -> Result<()>
     ensures ok { OnOk result ((rest : List TreeVisit) → w.new.text ++ visits_text w.new.first rest
@@ -62,7 +62,8 @@ fn put(visit: Visit<'_>, w: &mut Writer) -> Result<()>
     }
 }
 
-// Writes the opening bracket of an array, and opens the array in the frames.
+// Writes the opening bracket of an array, and opens the array in the frames. Returns `Memory` if an allocation fails
+// or an earlier call of the writer failed.
 #[inline(always)]
 fn put_array<'a>(array: &'a Array, frames: &mut Frames<'a>, w: &mut Writer) -> Result<()>
     ensures ok { OnOk result (Writes w.old (visits (array_shape array.entry.now) (frames_left frames.old))
@@ -78,7 +79,8 @@ fn put_array<'a>(array: &'a Array, frames: &mut Frames<'a>, w: &mut Writer) -> R
     }
 }
 
-// Writes the opening bracket of an object, and opens the object in the frames.
+// Writes the opening bracket of an object, and opens the object in the frames. Returns `Memory` if an allocation
+// fails or an earlier call of the writer failed.
 #[inline(always)]
 fn put_object<'a>(object: &'a Object, frames: &mut Frames<'a>, w: &mut Writer) -> Result<()>
     ensures ok { OnOk result (Writes w.old (visits (object_shape object.entry.now) (frames_left frames.old))
@@ -94,7 +96,8 @@ fn put_object<'a>(object: &'a Object, frames: &mut Frames<'a>, w: &mut Writer) -
     }
 }
 
-// Writes a leaf, or the opening bracket of a container.
+// Writes a leaf, or the opening bracket of a container, which it opens in the frames. Returns `Memory` if an
+// allocation fails or an earlier call of the writer failed.
 #[inline(always)]
 fn put_value<'a>(value: &'a Value, frames: &mut Frames<'a>, w: &mut Writer) -> Result<()>
     ensures ok { OnOk result (Writes w.old (visits (shape value.entry.now) (frames_left frames.old))
@@ -114,7 +117,8 @@ fn put_value<'a>(value: &'a Value, frames: &mut Frames<'a>, w: &mut Writer) -> R
     }
 }
 
-// Writes the remaining children of the open containers, and their closing brackets.
+// Writes the children that are left of the open containers, and the closing brackets. Returns `Memory` if an
+// allocation fails.
 fn put_all(mut frames: Frames<'_>, w: &mut Writer) -> Result<()>
     requires { w.old.refused ≡ false }
     ensures ok { OnOk result (Writes w.old (frames_left frames.entry) w.new []) }

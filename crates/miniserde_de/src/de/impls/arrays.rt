@@ -1,4 +1,4 @@
-//! Arrays.
+//! The place of arrays of a fixed length.
 ghost use Rattle.std.specs.Prelude.{Option, None};
 ghost use Rattle.miniserde_de.specs.PlaceMeanings.{array_collector};
 
@@ -8,13 +8,13 @@ use miniserde_model::error::{Error, Result};
 use miniserde_place::de::container::{Collect, ContainerPlace};
 use std::alloc::Global;
 
-/// An array that is being read: a list of at most `N` items.
+/// The collector of an array: a list of at most `N` items so far.
 #[derive(Drop)]
 pub struct ArrayOf<P, T, const N: usize> {
     list: ListOf<P, T>,
 }
 
-/// The place of an array: a list of exactly `N`.
+/// The place of an array: a list of exactly `N` items.
 pub type ArrayPlace<T, const N: usize> = ContainerPlace<ArrayOf<<T as Deserialize>::Place, T, N>>;
 
 impl<P: Visitor, const N: usize> Collect for ArrayOf<P, P::Out, N>

@@ -1,4 +1,4 @@
-//! Boxed values.
+//! The place of `Box`.
 ghost use Rattle.std.specs.Prelude.{◌≡◌, Option, None};
 ghost use Rattle.miniserde_de.specs.PlaceMeanings.{box_place_meaning};
 
@@ -6,7 +6,7 @@ use super::super::{Deserialize, Step, Visitor};
 use miniserde_model::error::{Error, Result};
 use std::alloc::Global;
 
-/// The place of a `Box`: that of the value, which is boxed when it is taken.
+/// The place of a `Box`: the place of the value inside, which is boxed when it is taken.
 #[derive(Drop)]
 pub struct BoxPlace<P> {
     alloc: Global,

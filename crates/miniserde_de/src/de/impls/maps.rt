@@ -1,4 +1,4 @@
-//! Maps, ordered by their keys or hashed.
+//! The places of `BTreeMap` and `HashMap`.
 ghost use Rattle.std.specs.Prelude.{◌≡◌, [], List, Option, None, Ok, IfOk, OnErr, IsErrOf};
 ghost use Rattle.miniserde_model.specs.declared.error.Error.TheVariants.{Memory};
 ghost use Rattle.miniserde_read.specs.types.Maps.{map_content, with_entry};
@@ -12,7 +12,7 @@ use std::alloc::Global;
 use std::collections::{BTreeMap, HashMap};
 use std::hash::{BuildHasher, Hash};
 
-/// A map that is being read, with the key and the place of its current value.
+/// The collector of a map: the entries so far, and the key and the place of the current value.
 #[derive(Drop)]
 pub struct MapOf<M, K, P> {
     table: M,

@@ -1,23 +1,25 @@
-//! Optional values.
+//! The place of `Option`.
 ghost use Rattle.std.specs.Prelude.{◌≡◌, true, Option, Some, None};
 
 use super::super::{Deserialize, Step, Visitor};
 use miniserde_model::error::{Error, Result};
 use std::alloc::Global;
 
-// What came so far.
+// What came to the place of an `Option` so far.
 #[derive(Drop)]
 enum OptionState<P> {
-    // Nothing came yet.
+    // No event came yet.
     Fresh(Global),
-    // `null` came.
+    // The event `null` came.
     Null,
-    // The place of the value has the events.
+    // Another event came first, and the place of the value takes all events.
     Inner(P),
+    // The first error.
     Refused(Error),
 }
 
-/// The place of an `Option`. It begins the place of the value at the first event, if that is not `null`.
+/// The place of an `Option`. If its first event is not `null`, it begins the place of the value, which takes all
+/// events.
 #[derive(Drop)]
 pub struct OptionPlace<P> {
     state: OptionState<P>,

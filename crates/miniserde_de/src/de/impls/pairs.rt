@@ -1,4 +1,4 @@
-//! Pairs.
+//! The place of pairs.
 ghost use Rattle.std.specs.Prelude.{Option, None, ◌&&◌};
 ghost use Rattle.miniserde_de.specs.PlaceMeanings.{pair_collector};
 
@@ -8,7 +8,7 @@ use miniserde_place::de::container::{Collect, ContainerPlace};
 use std::alloc::Global;
 use std::mem;
 
-/// The place of the part that is open.
+/// The place of the current part of a pair, if there is one.
 #[derive(Drop)]
 enum Part<P, Q> {
     Neither,
@@ -16,7 +16,7 @@ enum Part<P, Q> {
     Second(Q),
 }
 
-/// A pair that is being read, and the place of its current part.
+/// The collector of a pair: its parts so far, and the place of the current part.
 #[derive(Drop)]
 pub struct PairOf<P, A, Q, B> {
     first: Option<A>,
@@ -24,7 +24,7 @@ pub struct PairOf<P, A, Q, B> {
     child: Part<P, Q>,
 }
 
-/// The place of a pair: a list of exactly two.
+/// The place of a pair: a list of exactly two elements.
 pub type PairPlace<A, B> = ContainerPlace<
     PairOf<<A as Deserialize>::Place, A, <B as Deserialize>::Place, B>,
 >;
@@ -39,7 +39,7 @@ where
     ghost collector_meaning = { pair_collector P.meaning Q.meaning
         (λ c. c.first) (λ c. c.second) (λ c. c.child) (λ v. v.0) (λ v. v.1) };
 
-    // `join` moves a part, and allocates nothing itself.
+    // `join` moves a part out of its place, and allocates nothing itself.
     ghost join_infallible = { P.take_infallible && Q.take_infallible };
 
     fn new(_alloc: Global) -> PairOf<P, P::Out, Q, Q::Out> {

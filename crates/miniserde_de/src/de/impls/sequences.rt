@@ -1,4 +1,4 @@
-//! Lists.
+//! The place of `Vec`.
 ghost use Rattle.std.specs.Prelude.{◌≡◌, length, Option, None};
 ghost use Rattle.miniserde_de.specs.PlaceMeanings.{list_collector};
 
@@ -7,7 +7,7 @@ use miniserde_model::error::{Error, Result};
 use miniserde_place::de::container::{Collect, ContainerPlace};
 use std::alloc::Global;
 
-/// A list that is being read, and the place of its current item.
+/// The collector of a list: its items so far, and the place of the current item.
 #[derive(Drop)]
 pub struct ListOf<P, T> {
     items: Vec<T>,
@@ -18,7 +18,7 @@ pub struct ListOf<P, T> {
 pub type VecPlace<T> = ContainerPlace<ListOf<<T as Deserialize>::Place, T>>;
 
 impl<P, T> ListOf<P, T> {
-    /// Returns how many items there are so far.
+    /// Returns the number of items so far.
     pub(super) fn len(&self) -> usize
         ensures { result ≡ length self.now.items.items }
     {

@@ -1,4 +1,4 @@
-//! What a container says of itself, so that one place serves them all.
+//! The trait `Collect`: what a type of containers says of itself, so that one place serves all of them.
 ghost use Rattle.std.specs.Prelude.{◌≡◌, ◌↔◌, Bool, true, false, IsTrue, Option, Some, None, Ok, Err, List, []};
 ghost use Rattle.std.specs.Prelude.{IfOk, IfErr, MatchOption, is_some};
 ghost use Rattle.miniserde_model.specs.Step as step;
@@ -13,17 +13,18 @@ use super::super::Step;
 use miniserde_model::error::{Error, Result};
 use std::alloc::Global;
 
-/// A container that is being read: its children so far, and the place of the current one.
+/// A collector: the children of a container so far, and the place of the current child.
 pub trait Collect: Drop {
+    /// The type of the containers.
     type Out;
 
-    // What the container means, and what the place of its current child shows.
+    // What the container means, and what a contract sees of the place of its current child.
     ghost collector_meaning: { CollectorMeaning Self Self.Out };
 
-    // `join` returns `Memory` only if the current child was refused with it before.
+    // Whether `join` returns `Memory` only if the place of the current child keeps that error.
     ghost join_infallible: { Bool } = { false };
 
-    /// Returns a container without children. Allocates nothing.
+    /// Returns a collector without children. Allocates nothing.
     fn new(alloc: Global) -> Self
         ensures { collector_meaning.state result ≡ collector_meaning.empty };
 
@@ -31,7 +32,8 @@ pub trait Collect: Drop {
     fn opens(event: &Step<'_>) -> bool
         ensures { IsTrue result ↔ (event_of event.now ≡ opening_event collector_meaning.is_object) };
 
-    /// Begins the child that the event begins.
+    /// Begins the child that the event begins. Returns `Invalid` if the container can have no such child here, and
+    /// `Memory` if an allocation fails.
     fn begin_child(&mut self, alloc: Global, event: Step<'_>) -> Result<()>
         requires { BeginsChild (event_of event) }
         ensures fresh { IfOk result (λ _. IsFresh
@@ -42,7 +44,7 @@ pub trait Collect: Drop {
         ensures refuses { collector_meaning.refuses (collector_meaning.state self.old) (event_of event.entry) ≡ true
             → result ≡ Err Error.Invalid };
 
-    /// Hands an event to the current child.
+    /// Hands an event to the place of the current child, and returns its error.
     fn step(&mut self, event: Step<'_>) -> Result<()>
         requires { IsTreeEvent (event_of event) }
         ensures { Takes (collector_meaning.child self.old) (event_of event.entry) result (collector_meaning.child self.new) };
@@ -56,7 +58,8 @@ pub trait Collect: Drop {
     fn is_child_complete(&self) -> bool
         ensures { result ≡ is_complete (collector_meaning.child self.now).at };
 
-    /// Adds the current child, which is complete, to the children so far.
+    /// Adds the current child, which is complete, to the children so far. Returns the error that its place keeps, or
+    /// `Invalid` if the child means no value.
     fn join(&mut self) -> Result<()>
         ensures joined { IfOk result (λ _. (collector_meaning.child self.old).outcome [] ≡ Some (collector_meaning.state self.new)) }
         ensures invalid { result ≡ Err Error.Invalid → (collector_meaning.child self.old).refused ≡ None

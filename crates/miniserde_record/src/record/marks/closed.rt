@@ -1,4 +1,4 @@
-//! Structs that refuse unknown names.
+//! The end of the fields of a struct for which a member of an unknown name is an error.
 ghost use Rattle.std.specs.Prelude.{true, [], ⊤};
 ghost use Rattle.miniserde_record.specs.FieldsMeaning.{closed_end};
 
@@ -10,7 +10,7 @@ use miniserde_model::error::{Error, Result};
 use miniserde_read::Source;
 use std::alloc::Global;
 
-/// No more fields: a member of any other name fails before its value is read.
+/// The end of a chain of fields. A member of any other name fails with `Invalid` before its value is read.
 #[derive(Drop)]
 pub struct Closed {}
 

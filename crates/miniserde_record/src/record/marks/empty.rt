@@ -1,4 +1,4 @@
-//! `false`, zero, `None`, and the empty text, list and map, for fields that are missing.
+//! The empty values of types, for fields that are missing.
 ghost use Rattle.std.specs.Prelude.{[], false};
 ghost use Rattle.miniserde_model.specs.Tree.{null, truth, nonneg, str, list, no_trees, members, no_members};
 
@@ -10,7 +10,7 @@ use std::alloc::Global;
 use std::collections::{BTreeMap, HashMap, VecDeque};
 use std::hash::{BuildHasher, Hash};
 
-/// The value of a missing field: `false`, zero, `None`, or an empty text, list or map.
+/// The empty value of a type, for a missing field: `false`, zero, `None`, or an empty text, list or map.
 #[derive(Drop)]
 pub struct Empty {}
 

@@ -1,4 +1,4 @@
-//! Fields that have a given value if they are missing.
+//! The mark of fields that have a given value if they are missing.
 ghost use Rattle.std.specs.Prelude.{◌≡◌, false, Some, Ok, Err, IfOk, IfErr};
 ghost use Rattle.miniserde_model.specs.Tree.{Tree};
 ghost use Rattle.miniserde_model.specs.declared.error.Error.{Error};
@@ -9,18 +9,18 @@ use miniserde_read::FromJson;
 use std::alloc::Global;
 use std::marker::PhantomData;
 
-/// The value of a missing field, by the tree that its member would have.
+/// A value for a missing field, by the tree that its member would have.
 pub trait Given<T: FromJson> {
-    // The tree.
+    // The tree that the field's member would have.
     ghost given: { Tree };
 
-    /// Returns a value that the tree means. Returns `Memory` if it cannot be allocated.
+    /// Returns a value that the tree means, or `Memory` if it fails to allocate.
     fn make(alloc: Global) -> Result<T>
         ensures ok { IfOk result (λ v. T.means.from_tree given ≡ Some (T.means.content v)) }
         ensures memory { IfErr result (λ e. e ≡ Error.Memory) };
 }
 
-/// A field that has the value of `D` if it is missing.
+/// The mark of a field that has the value of `D` if it is missing.
 pub struct WithDefault<D> {
     given: PhantomData<D>,
 }

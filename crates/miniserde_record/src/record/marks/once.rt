@@ -1,4 +1,4 @@
-//! Fields that refuse a duplicate of their own name.
+//! The mark of fields for which a duplicate of their name is an error.
 ghost use Rattle.std.specs.Prelude.{true};
 
 use super::plain::{Mark, Repeats};
@@ -7,8 +7,8 @@ use miniserde_read::FromJson;
 use std::alloc::Global;
 use std::marker::PhantomData;
 
-/// A field that takes one member, marked as `M` besides: a duplicate of its name fails before its value is read.
-/// Members of other names may be duplicates, and so may any names inside a value.
+/// The mark of a field that takes one member alone, and that is marked `M` too. A duplicate of its name fails with
+/// `Invalid` before its value is read. Duplicates of other names, and inside of values, are no error.
 pub struct Once<M> {
     mark: PhantomData<M>,
 }

@@ -1,4 +1,4 @@
-//! What a mark asks of a field, and fields without a mark.
+//! The traits of marks, and `Plain` for a field without a mark.
 ghost use Rattle.std.specs.Prelude.{◌≡◌, true, false, Bool, Option, None, Ok, Err, IfOk, IfErr, IsOk, option_map};
 ghost use Rattle.miniserde_model.specs.Tree.{Tree};
 ghost use Rattle.miniserde_model.specs.declared.error.Error.{Error};
@@ -8,9 +8,9 @@ use miniserde_model::error::Result;
 use miniserde_read::FromJson;
 use std::alloc::Global;
 
-/// Whether a field takes one member alone.
+/// A mark that says whether a field takes one member alone.
 pub trait Repeats {
-    // A duplicate of the field's name is invalid.
+    // Whether a duplicate of the field's name is an error.
     ghost once: { Bool };
 
     /// Returns whether a duplicate of the field's name is an error.
@@ -18,22 +18,22 @@ pub trait Repeats {
         ensures { result ≡ once };
 }
 
-/// What is asked of a field besides its type.
+/// A mark: what is asked of a field of the type `T` besides its type.
 pub trait Mark<T: FromJson>: Repeats {
-    // The tree that a missing field has; without one, the field's type says what is missing.
+    // The tree of a missing field's value. If there is none, the type says which value a missing field has, if any.
     ghost given: { Option Tree };
 
-    // `missing` allocates nothing.
+    // Whether `missing` never fails to allocate.
     ghost missing_infallible: { Bool } = { false };
 
-    /// Returns the value of a missing field, if it has one. Returns `Memory` if that cannot be allocated.
+    /// Returns the value of a missing field, or `None` if it has none. Returns `Memory` if an allocation fails.
     fn missing(alloc: Global) -> Result<Option<T>>
         ensures ok { IfOk result (λ v. option_map T.means.content v ≡ missing_content T.means given T.absent) }
         ensures memory { IfErr result (λ e. e ≡ Error.Memory) }
         ensures infallible { missing_infallible ≡ true → IsOk result };
 }
 
-/// A field without a mark: the last member of its name counts, and its type says what is missing.
+/// No mark: the last member of the field's name counts, and the type says which value a missing field has.
 pub struct Plain {}
 
 impl Repeats for Plain {

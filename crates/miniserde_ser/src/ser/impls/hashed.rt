@@ -1,4 +1,4 @@
-//! Maps with no order: the members stand in rising byte order of their names.
+//! Writes `HashMap`, with the members in byte order of their names.
 ghost use Rattle.std.specs.Prelude.{◌≡◌, ◌++◌, false, true, OnOk, OnErr, IfOk, IsErrOf, map, string_bytes};
 ghost use Rattle.std.specs.Prelude.{IsPermutation, IsSortedByKey};
 ghost use Rattle.std.specs.List.{IsDistinct};
@@ -18,7 +18,7 @@ use std::collections::HashMap;
 use std::hash::{BuildHasher, Hash};
 use std::result;
 
-// Returns the text of a key. Its contract promises that the key is valid.
+// Returns the text of a key, or `Memory` if it fails to allocate. The contract promises that the key is valid.
 fn name_of<K: MapKey>(alloc: Global, key: &K) -> Result<String>
     ensures text { IfOk result (λ name. string_bytes name ≡ K.text key.now) }
     ensures real { K.real key.now }
@@ -30,7 +30,8 @@ fn name_of<K: MapKey>(alloc: Global, key: &K) -> Result<String>
     Ok(name)
 }
 
-// Returns the name of each member with its value, in the order of the map's iterator. The names are distinct.
+// Returns the name and the value of each member, in the order of the map's iterator. The names are distinct. Returns
+// `Memory` if an allocation fails.
 fn entries_of<'a, K: MapKey + Hash, V: Serialize, H: BuildHasher>(
     alloc: Global,
     table: &'a HashMap<K, V, H>,
@@ -48,7 +49,7 @@ fn entries_of<'a, K: MapKey + Hash, V: Serialize, H: BuildHasher>(
     Ok(entries)
 }
 
-// Sorts the entries by the bytes of their names.
+// Sorts the entries by the bytes of their names. Fails if the sort fails to allocate.
 fn sort_entries<V>(entries: &mut Vec<(String, &V)>) -> result::Result<(), AllocError>
     ensures sorted { OnOk result (IsSortedByKey (λ r. string_bytes r.0) text_cmp entries.new.items) }
     ensures permutation { IsPermutation entries.old.items entries.new.items }
@@ -56,7 +57,8 @@ fn sort_entries<V>(entries: &mut Vec<(String, &V)>) -> result::Result<(), AllocE
     Ok(entries.sort_by(|a, b| a.0.cmp(&b.0))?)
 }
 
-// Writes an object whose members are the entries.
+// Writes an object whose members are the entries, in their order. Returns `Memory` if the writer's text cannot grow
+// or an earlier call failed.
 fn write_entries<V: Serialize>(entries: &[(String, &V)], w: &mut Writer) -> Result<()>
     ensures ok { OnOk result (w.new.text ≡ w.old.text
         ++ compact (members (members_of string_bytes (λ v. V.tree v.now) entries.entry.now))) }

@@ -1,4 +1,4 @@
-//! Integers.
+//! Writes integers.
 ghost use Rattle.miniserde_model.specs.Tree.{nonneg};
 ghost use Rattle.miniserde_ser.specs.Fragment.{integer};
 

@@ -1,4 +1,4 @@
-//! Maps that are ordered by their keys: the members stand in the order of the map.
+//! Writes `BTreeMap`, with the members in the order of the map's keys.
 ghost use Rattle.miniserde_model.specs.Tree.{members};
 ghost use Rattle.miniserde_ser.specs.Trees.{members_of};
 

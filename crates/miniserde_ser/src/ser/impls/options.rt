@@ -1,4 +1,4 @@
-//! Optional values.
+//! Writes `Option`: `None` as `null`, and `Some` as its value.
 ghost use Rattle.miniserde_ser.specs.Trees.{option_tree};
 
 use crate::ser::{Fragment, Serialize, Writer};

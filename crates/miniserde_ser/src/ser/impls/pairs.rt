@@ -1,4 +1,4 @@
-//! Pairs.
+//! Writes pairs, as lists of two elements.
 ghost use Rattle.miniserde_model.specs.Tree.{list, no_trees, tree};
 
 use crate::ser::{Serialize, Writer};

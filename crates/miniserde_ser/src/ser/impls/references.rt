@@ -1,4 +1,4 @@
-//! References and boxes: each is written as what it leads to.
+//! Writes references and boxes, each as the value that it points to.
 
 use crate::ser::{Serialize, Writer};
 use miniserde_model::error::Result;

@@ -1,4 +1,4 @@
-//! Lists of values.
+//! Writes slices, arrays, `Vec` and `VecDeque`, as lists.
 ghost use Rattle.std.specs.Prelude.{◌≡◌, ◌++◌, false, true, OnOk, OnErr, IsErrOf};
 ghost use Rattle.miniserde_model.specs.Tree.{list};
 ghost use Rattle.miniserde_model.specs.Compact.{compact};
@@ -10,7 +10,7 @@ use crate::ser::{Serialize, Writer};
 use miniserde_model::error::Result;
 use std::collections::VecDeque;
 
-// Writes a list of the values.
+// Writes the values as a list. Returns `Memory` if an allocation fails or an earlier call of the writer failed.
 fn begin_all<T: Serialize>(items: &[T], w: &mut Writer) -> Result<()>
     ensures ok { OnOk result (w.new.text ≡ w.old.text ++ compact (list (trees_of T.tree items.now))) }
     ensures is_tree { OnOk result (IsTree (list (trees_of T.tree items.now))) }

@@ -1,4 +1,4 @@
-//! Texts.
+//! Writes `String`, `&str` and `CowStr`, as JSON strings.
 ghost use Rattle.std.specs.Prelude.{string_bytes};
 ghost use Rattle.std.specs.Cow.{cow_str_bytes};
 ghost use Rattle.miniserde_model.specs.Tree.{str};

@@ -1,4 +1,4 @@
-//! Tuples of three to six.
+//! Writes tuples of three to six items, as lists.
 ghost use Rattle.std.specs.Prelude.{◌≡◌, ◌++◌, false, true, OnOk, OnErr, IsErrOf};
 ghost use Rattle.miniserde_model.specs.Tree.{list, no_trees, tree};
 ghost use Rattle.miniserde_model.specs.Compact.{compact};
@@ -8,7 +8,8 @@ ghost use Rattle.miniserde_model.specs.declared.error.Error.TheVariants.{Memory}
 use crate::ser::{Serialize, Writer};
 use miniserde_model::error::Result;
 
-// Writes an item of a list behind `before`, an opening bracket or a comma.
+// Writes `before`, an opening bracket or a comma, and then an item of a list. Returns `Memory` if an allocation fails
+// or an earlier call of the writer failed.
 #[inline(always)]
 fn write_item<T: Serialize>(item: &T, before: &str, w: &mut Writer) -> Result<()>
     ensures ok { OnOk result (w.new.text ≡ w.old.text ++ before.now ++ compact (T.tree item.now)) }

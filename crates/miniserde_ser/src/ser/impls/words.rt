@@ -1,4 +1,4 @@
-//! `null`, `true` and `false`.
+//! Writes `()` as `null`, and `bool` as `true` or `false`.
 ghost use Rattle.miniserde_model.specs.Tree.{null, truth};
 
 use crate::ser::{Fragment, Serialize, Writer};

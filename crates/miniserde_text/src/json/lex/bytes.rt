@@ -1,10 +1,10 @@
-//! Tests of bytes, and steps over the bytes of a text.
+//! Tests of single bytes, and steps over the bytes of a text, for the lexer.
 ghost use Rattle.std.specs.Prelude.{◌≡◌, ◌-◌, ◌<◌, ◌≤◌, drop, length, slice_index};
 ghost use Rattle.std.specs.Str.{IsCharBoundary};
 ghost use Rattle.miniserde_model.specs.Bytes.{is_space};
 ghost use Rattle.miniserde_text.specs.private.Reading.{is_digit, is_sign, is_exponent_letter, before, FollowsAscii};
 
-// 1 for each byte of whitespace, and else 0.
+// 1 for each byte of whitespace, and 0 for every other byte.
 static SPACE: [u8; 256] = [
     0, 0, 0, 0, 0, 0, 0, 0, 0, 1, 1, 0, 0, 1, 0, 0, 0, 0, 0, 0, 0, 0, 0, 0, 0, 0, 0, 0, 0, 0, 0, 0,
     1, 0, 0, 0, 0, 0, 0, 0, 0, 0, 0, 0, 0, 0, 0, 0, 0, 0, 0, 0, 0, 0, 0, 0, 0, 0, 0, 0, 0, 0, 0, 0,
@@ -45,14 +45,14 @@ pub(super) fn is_exponent_letter(c: u8) -> bool
     c == b'e' || c == b'E'
 }
 
-/// Returns the byte at `at`, or 0 past the end.
+/// Returns the byte at `at`, or 0 if there is none.
 pub(super) fn byte_at(bytes: &[u8], at: usize) -> u8
     ensures { result ≡ slice_index (drop at bytes.now) 0 }
 {
     if at < bytes.len() { bytes[at] } else { 0 }
 }
 
-/// Returns the byte `n` bytes after `at`, or 0 past the end.
+/// Returns the byte `n` bytes after `at`, or 0 if there is none.
 pub(super) fn byte_after(bytes: &[u8], at: usize, n: usize) -> u8
     requires { at ≤ length bytes.now }
     ensures { result ≡ slice_index (drop at bytes.now) n }
@@ -64,7 +64,8 @@ pub(super) fn byte_after(bytes: &[u8], at: usize, n: usize) -> u8
     }
 }
 
-/// Skips `n` bytes, the last of which is ASCII and not 0. Only the contract reads them.
+/// Returns the index `n` bytes after `at`. The last of these bytes is ASCII and not 0, so the index is a character
+/// boundary. Only the contract looks at `bytes`.
 pub(super) fn skip(bytes: &[u8], at: usize, n: usize) -> usize
     requires some { 0 < n }
     requires there { 0 < slice_index (drop at bytes.now) (n - 1) }

@@ -1,4 +1,4 @@
-//! Escapes of strings.
+//! Decodes the escapes of strings (RFC 8259, section 7).
 ghost use Rattle.std.specs.Prelude.{◌≡◌, ◌<◌, ◌≤◌, true, drop, length, IfSome};
 ghost use Rattle.std.specs.Char.{digit_value};
 ghost use Rattle.miniserde_text.specs.private.Reading.{with_suffix, unit_at, is_high, is_low};
@@ -8,7 +8,8 @@ ghost use Rattle.miniserde_text.specs.private.Reading.{escape_at, FollowsAscii};
 use super::bytes::{byte_after, byte_at, skip};
 use super::tables;
 
-// Returns the value of a digit of base 36, or 36 if the byte is no digit.
+// Returns the value of a digit of base 36, or 36 if the byte is no such digit. A result below 16 is that of a
+// hexadecimal digit.
 fn hex(c: u8) -> u32
     ensures value { result ≡ digit_value c }
     ensures ascii { result < 16 → (0 < c) × (c < 128) }
@@ -17,7 +18,7 @@ fn hex(c: u8) -> u32
     u32::from(tables::digit(c))
 }
 
-// Takes four hexadecimal digits. Returns their value and the index behind them.
+// Takes four hexadecimal digits. Returns their value and the index after them, or `None` if they are not there.
 fn unit(bytes: &[u8], at: usize) -> Option<(u32, usize)>
     requires { at ≤ length bytes.now }
     ensures value { with_suffix bytes.now result ≡ unit_at (drop at bytes.now) }
@@ -69,7 +70,8 @@ fn pair(high: u32, low: u32) -> char
     char::from_u32(0x10000 + (high - 0xd800) * 1024 + (low - 0xdc00)).unwrap()
 }
 
-// Takes the second escape of a surrogate pair. Returns the character of the pair and the index behind it.
+// Takes the second escape of a surrogate pair, whose first code unit is `high`. Returns the character of the pair and
+// the index after it, or `None` if no escape of a low surrogate is there.
 fn low(high: u32, bytes: &[u8], at: usize) -> Option<(char, usize)>
     requires high { is_high high ≡ true }
     requires within { at ≤ length bytes.now }
@@ -86,8 +88,8 @@ fn low(high: u32, bytes: &[u8], at: usize) -> Option<(char, usize)>
     Some((pair(high, low), end))
 }
 
-// Takes the digits of a `\u` escape, and a second escape behind a high surrogate. Returns the character and the index
-// behind it.
+// Takes the digits of a `\u` escape, and after a high surrogate a second escape. Returns the character and the index
+// after it, or `None` if digits are wrong or a surrogate has no partner.
 #[tactic(auto, unfolding(crate::specs::private::Reading::unicode_at))]
 fn unicode(bytes: &[u8], at: usize) -> Option<(char, usize)>
     requires { at ≤ length bytes.now }
@@ -113,7 +115,8 @@ fn short(letter: u8) -> Option<char>
     if c == 0 { None } else { Some(c as char) }
 }
 
-/// Takes an escape, behind its backslash. Returns its character and the index behind it.
+/// Takes an escape whose backslash is the byte before `at`. Returns its character and the index after it, or `None`
+/// if RFC 8259 has no such escape.
 #[tactic(auto, unfolding(crate::specs::private::Reading::escape_at))]
 pub(super) fn take_escape(bytes: &[u8], at: usize) -> Option<(char, usize)>
     ensures value { with_suffix bytes.now result ≡ escape_at (drop at bytes.now) }

@@ -1,4 +1,4 @@
-//! Numbers, and the token of each.
+//! Takes numbers from a text, and returns the token of each.
 ghost use Rattle.std.specs.Prelude.{◌≡◌, ◌<◌, ◌≤◌, ◌^◌, [], None, Some, List, ℕ, length, take, drop};
 ghost use Rattle.std.specs.Prelude.{option_map, nat_lt, slice_index, if◌then◌else◌, IfSome, IfNone};
 ghost use Rattle.std.specs.List.{AllByRecursion, prefix_len};
@@ -53,7 +53,8 @@ fn after_minus(bytes: &[u8], at: usize, first: u8) -> usize
     }
 }
 
-// Returns the index after the whole part of a number, `0` or digits without a leading 0, or `None` if there is none.
+// Returns the index after the whole part of a number: a single `0`, or digits of which the first is not `0`. Returns
+// `None` if there is none.
 fn after_int(bytes: &[u8], at: usize) -> Option<usize>
     ensures value { suffix_at bytes.now result ≡ after_int (drop at bytes.now) }
     ensures follows { IfSome result (λ r. FollowsAscii bytes.now r) }
@@ -102,8 +103,8 @@ fn after_exponent(bytes: &[u8], at: usize) -> Option<usize>
     }
 }
 
-// Returns the index after a fraction and an exponent, each of which may be missing. Returns `None` if one has no
-// digit.
+// Returns the index after a fraction and an exponent, each of which is optional. Returns `None` if one is there
+// without a digit.
 fn after_tail(bytes: &[u8], at: usize) -> Option<usize>
     requires { FollowsAscii bytes.now at }
     ensures value { suffix_at bytes.now result ≡ after_tail (drop at bytes.now) }
@@ -112,7 +113,7 @@ fn after_tail(bytes: &[u8], at: usize) -> Option<usize>
     after_exponent(bytes, after_fraction(bytes, at)?)
 }
 
-// Returns the value of up to 19 digits. It is below 10^19, so the arithmetic needs no checks.
+// Returns the value of at most 19 digits. It is below 10^19, so the arithmetic cannot overflow.
 fn short_integer(digits: &[u8]) -> u64
     requires digits { AllByRecursion IsDigit digits.now }
     requires few { length digits.now < 20 }
@@ -141,7 +142,7 @@ fn integer(digits: &[u8]) -> Option<u64>
     Some(value)
 }
 
-// Returns the token of an integer with or without a minus, or `None` if the integer is below -2^63.
+// Returns the token of `n`, or of `-n` if `minus` is set. Returns `None` if that is below -2^63.
 fn integer_event<'a>(minus: bool, n: u64) -> Option<Event<'a>>
     ensures some { IfSome result (λ event. (text int : List ℕ) → digits_value 10 int ≡ n
         → event_of_parts text minus int [] ≡ event_of_token event []) }
@@ -157,7 +158,8 @@ fn integer_event<'a>(minus: bool, n: u64) -> Option<Event<'a>>
     }
 }
 
-// Returns the token of a number by its minus, its whole part, and the fraction and exponent in `tail`.
+// Returns the token of the number `text`, which has a minus if `minus` is set, then the digits `int`, then the
+// fraction and exponent `tail`.
 fn event<'a>(text: &'a str, minus: bool, int: &[u8], tail: &[u8]) -> Event<'a>
     requires { AllByRecursion IsDigit int.now }
     ensures { event_of_token result [] ≡ event_of_parts text.now minus int.now tail.now }
@@ -172,7 +174,8 @@ fn event<'a>(text: &'a str, minus: bool, int: &[u8], tail: &[u8]) -> Event<'a>
     Event::Number(text)
 }
 
-// Returns the number of leading digits, and their value if they are at most 19. The value of more digits may wrap.
+// Returns the number of leading digits, and their value if they are at most 19. The value of more digits is wrong if
+// it overflows 64 bits.
 #[inline(always)]
 fn leading_digits(bytes: &[u8]) -> (usize, u64)
     ensures count { result.0 ≡ prefix_len is_digit bytes.now }
@@ -189,8 +192,9 @@ fn leading_digits(bytes: &[u8]) -> (usize, u64)
     (i, value)
 }
 
-// Takes an integer of up to 19 digits in one pass, or returns `None`. Its loop runs over a slice, since over the
-// whole text it would keep two counters.
+// Takes an integer of at most 19 digits in one pass. Returns `None` if there is none; the text may still have a
+// number of another form. The loop is over a slice that begins with the digits, so that it keeps one counter and not
+// two.
 #[inline(always)]
 fn short_number<'a>(bytes: &[u8], at: usize, first: u8) -> Option<(Event<'a>, usize)>
     requires within { at ≤ length bytes.now }
@@ -212,7 +216,8 @@ fn short_number<'a>(bytes: &[u8], at: usize, first: u8) -> Option<(Event<'a>, us
     Some((event, start + count))
 }
 
-/// Takes any number. Returns its token and the index behind it, or `None` if there is no number.
+/// Takes a number of any form. Returns its token and the index after it. Returns `None` if there is no number, or if
+/// a byte that a number text may contain follows it. Kept out of line, since it is seldom called.
 #[inline(never)]
 #[tactic(auto, unfolding(crate::specs::private::Reading::number_at))]
 pub(crate) fn take_any_number<'a>(text: &'a str, at: usize) -> Option<(Event<'a>, usize)>
@@ -238,8 +243,8 @@ pub(crate) fn take_any_number<'a>(text: &'a str, at: usize) -> Option<(Event<'a>
     Some((event, end))
 }
 
-// Calls `take_any_number`, and copies its result out of memory, so that the result of a short number never passes
-// through memory.
+// Takes a number of any form by `take_any_number`. It takes the result apart and makes it again, so that the compiler
+// keeps the result of `short_number` in registers.
 #[inline(always)]
 fn take_long_number<'a>(text: &'a str, at: usize) -> Option<(Event<'a>, usize)>
     requires { at ≤ length text.now }
@@ -253,7 +258,8 @@ fn take_long_number<'a>(text: &'a str, at: usize) -> Option<(Event<'a>, usize)>
     }
 }
 
-/// Takes a number, which no byte of number texts may follow. `first` is the byte at `at`.
+/// Takes a number. Returns its token and the index after it. Returns `None` if there is no number, or if a byte that
+/// a number text may contain follows it. `first` is the byte at `at`.
 #[inline(always)]
 pub(super) fn take_number<'a>(text: &'a str, at: usize, first: u8) -> Option<(Event<'a>, usize)>
     requires within { at ≤ length text.now }

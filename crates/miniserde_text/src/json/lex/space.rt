@@ -1,11 +1,12 @@
-//! Whitespace.
+//! Skips whitespace, for the lexer.
 ghost use Rattle.std.specs.Prelude.{◌≡◌, ◌≤◌, drop, length, slice_index};
 ghost use Rattle.miniserde_model.specs.Bytes.{is_space};
 ghost use Rattle.miniserde_text.specs.private.Reading.{after_run};
 
 use super::bytes::is_space;
 
-/// Skips whitespace. Returns the index of the next byte, and that byte, or 0 at the end.
+/// Skips whitespace from `at` on. Returns the index of the next byte that is no whitespace, and that byte; at the end
+/// of the text, returns the length and 0.
 pub(super) fn after_space(bytes: &[u8], at: usize) -> (usize, u8)
     requires { at ≤ length bytes.now }
     ensures value { drop result.0 bytes.now ≡ after_run is_space (drop at bytes.now) }

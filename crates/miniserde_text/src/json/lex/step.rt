@@ -1,4 +1,4 @@
-//! What stands between the children of a container.
+//! Takes the punctuation of a container: its closing bracket, or the comma before its next child.
 ghost use Rattle.std.specs.Prelude.{◌≡◌, ◌<◌, ◌≤◌, drop, length, option_map, slice_index, IfSome};
 ghost use Rattle.miniserde_model.specs.Lexing.{closing};
 ghost use Rattle.miniserde_text.specs.Lexer.{is_close};
@@ -25,7 +25,7 @@ fn closing(kind: Kind) -> u8
     }
 }
 
-// Returns whether text is left that begins with no closing bracket. `byte` is the byte at `at`.
+// Returns whether the text has a byte at `at` that is no closing bracket. `byte` is that byte, or 0 if there is none.
 fn begins(bytes: &[u8], at: usize, byte: u8) -> bool
     requires { byte ≡ slice_index (drop at bytes.now) 0 }
     ensures { result ≡ begins (drop at bytes.now) }
@@ -33,8 +33,9 @@ fn begins(bytes: &[u8], at: usize, byte: u8) -> bool
     at < bytes.len() && !is_closing(byte)
 }
 
-/// Takes the closing bracket or the comma before the next child; directly behind the opening bracket, the next child
-/// has no comma. Returns `None` if neither is there. `byte` is the byte at `at`.
+/// Takes the closing bracket of a container of the kind, or the comma before its next child. `first` says that the
+/// opening bracket is just before `at`, so that no comma is due. Returns which of both is next and the index after
+/// it, or `None` if neither is. `byte` is the byte at `at`.
 #[tactic(auto, unfolding(crate::specs::private::Reading::step_at))]
 pub(super) fn take_step(
     kind: Kind,

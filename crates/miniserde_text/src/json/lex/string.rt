@@ -1,4 +1,4 @@
-//! Strings.
+//! Takes strings from a text, and decodes those that have a backslash.
 ghost use Rattle.std.specs.Prelude.{◌≡◌, ◌++◌, ◌∷◌, ◌≤◌, drop, length, ℕ, List, Err, false, IfOk};
 ghost use Rattle.std.specs.Prelude.{slice_index};
 ghost use Rattle.std.specs.Str.{encode_utf8_all, IsCharBoundary};
@@ -15,7 +15,8 @@ use miniserde_model::error::{Error, Result};
 use std::alloc::AllocError;
 use std::result;
 
-// Returns the index after the bytes that stand for themselves.
+// Returns the index of the first byte at or after `at` that is a quote, a backslash or below 0x20, or the length of
+// the text. It tests 16 bytes at once, since most strings begin with a run of other bytes.
 #[inline(always)]
 fn after_unescaped(text: &str, at: usize) -> usize
     requires { at ≤ length text.now }
@@ -26,8 +27,8 @@ fn after_unescaped(text: &str, at: usize) -> usize
     special_in_lanes(text.as_bytes(), at)
 }
 
-// Returns the same index as `after_unescaped`. It is called behind an escape, where the next byte often begins
-// another escape.
+// Returns the index of the first byte at or after `at` that is a quote, a backslash or below 0x20, or the length of
+// the text. It tests the first byte alone, since after an escape the next byte often begins another escape.
 #[inline(always)]
 fn after_more(text: &str, at: usize) -> usize
     requires { at ≤ length text.now }
@@ -38,7 +39,8 @@ fn after_more(text: &str, at: usize) -> usize
     special(text.as_bytes(), at)
 }
 
-// Appends a run, which often is empty, to the scratch text.
+// Appends a run of bytes to the scratch text. It tests first whether the run is empty, as it often is. Fails if the
+// scratch text cannot grow.
 fn push_run(scratch: &mut String, run: &str) -> result::Result<(), AllocError>
     ensures { IfOk result (λ _. string_bytes scratch.new ≡ string_bytes scratch.old ++ run.now) }
 {
@@ -48,8 +50,9 @@ fn push_run(scratch: &mut String, run: &str) -> result::Result<(), AllocError>
     Ok(())
 }
 
-// Takes an escape, behind its backslash, and the run behind it. Appends both, decoded, to the scratch text. Returns
-// the index behind them.
+// Takes an escape whose backslash is the byte before `at`, and the run of plain bytes after it. Appends both,
+// decoded, to the scratch text, and returns the index after them. Returns `Invalid` if the escape is wrong, and
+// `Memory` if the scratch text cannot grow.
 fn take_run(text: &str, at: usize, scratch: &mut String) -> Result<usize>
     ensures ok { IfOk result (λ r.
         Adds (string_bytes scratch.old) (string_bytes scratch.new) (92 ∷ drop at text.now) (drop r text.now)) }
@@ -67,8 +70,9 @@ fn take_run(text: &str, at: usize, scratch: &mut String) -> Result<usize>
     Ok(next)
 }
 
-// Takes the rest of a string, from a backslash or the closing quote on. Appends it, decoded, to the scratch text.
-// Returns the index behind it.
+// Takes the rest of a string, which begins with a backslash or the closing quote, and appends it, decoded, to the
+// scratch text. Returns the index after the closing quote, `Invalid` if an escape is wrong or the string does not
+// end, or `Memory` if the scratch text cannot grow.
 fn take_escaped(text: &str, at: usize, scratch: &mut String) -> Result<usize>
     requires { is_unescaped (slice_index (drop at text.now) 0) ≡ false }
     ensures ok { IfOk result (λ r. (cs : List ℕ) × Chars cs (drop at text.now) (drop r text.now)
@@ -88,8 +92,9 @@ fn take_escaped(text: &str, at: usize, scratch: &mut String) -> Result<usize>
     }
 }
 
-// Decodes a string into the scratch text. The run before its first backslash is `text_between(text, at, tail)`.
-// Returns the index behind the string.
+// Decodes a string into the scratch text, and returns the index after its closing quote. `at` is the index after its
+// opening quote, and `tail` that of its first backslash. Returns `Invalid` if an escape is wrong or the string does
+// not end, and `Memory` if the scratch text cannot grow. Kept out of line, since few strings have a backslash.
 #[inline(never)]
 fn decode(text: &str, at: usize, tail: usize, scratch: &mut String) -> Result<usize>
     requires follows { FollowsAscii text.now at }
@@ -106,8 +111,8 @@ fn decode(text: &str, at: usize, tail: usize, scratch: &mut String) -> Result<us
     take_escaped(text, tail, scratch)
 }
 
-// Decodes a string as `decode` does. It matches the result and makes it anew, so that the caller keeps the result of
-// a string without an escape in registers.
+// Decodes a string by `decode`, with the same arguments and result. It takes the result apart and makes it again, so
+// that the compiler keeps the result for a string without a backslash in registers.
 #[inline(always)]
 fn take_decoded(text: &str, at: usize, tail: usize, scratch: &mut String) -> Result<usize>
     requires follows { FollowsAscii text.now at }
@@ -125,7 +130,9 @@ fn take_decoded(text: &str, at: usize, tail: usize, scratch: &mut String) -> Res
     }
 }
 
-/// Takes a string, behind its opening quote. The scratch text changes only if a backslash is found.
+/// Takes a string whose opening quote is the byte before `at`. Returns its text and the index after its closing
+/// quote. Returns `Invalid` if there is no such string, and `Memory` if decoding it fails to allocate. The scratch
+/// text changes only if the string has a backslash.
 #[inline(always)]
 pub(super) fn take_string<'a>(
     text: &'a str,

@@ -1,10 +1,10 @@
-//! Tables by bytes.
+//! Tables with an entry for each byte, and the functions that look them up.
 ghost use Rattle.std.specs.Prelude.{◌≡◌, ◌<◌, ◌≤◌, ◌==◌, if◌then◌else◌, None, Some, IfSome};
 ghost use Rattle.std.specs.Char.{digit_value};
 ghost use Rattle.miniserde_model.specs.Bytes.{is_number_byte};
 ghost use Rattle.miniserde_text.specs.private.Reading.{short_at};
 
-// The value of each byte as a digit of base 36, or 36.
+// The value of each byte as a digit of base 36, or 36 if it is no such digit.
 static DIGITS: [u8; 256] = [
     36, 36, 36, 36, 36, 36, 36, 36, 36, 36, 36, 36, 36, 36, 36, 36, 36, 36, 36, 36, 36, 36, 36, 36,
     36, 36, 36, 36, 36, 36, 36, 36, 36, 36, 36, 36, 36, 36, 36, 36, 36, 36, 36, 36, 36, 36, 36, 36,
@@ -19,7 +19,7 @@ static DIGITS: [u8; 256] = [
     36, 36, 36, 36, 36, 36, 36, 36, 36, 36, 36, 36, 36, 36,
 ];
 
-// The character of each byte behind a backslash, or 0.
+// The character that each byte stands for after a backslash, or 0 if there is none.
 static SHORT: [u8; 256] = [
     0, 0, 0, 0, 0, 0, 0, 0, 0, 0, 0, 0, 0, 0, 0, 0, 0, 0, 0, 0, 0, 0, 0, 0, 0, 0, 0, 0, 0, 0, 0, 0,
     0, 0, 34, 0, 0, 0, 0, 0, 0, 0, 0, 0, 0, 0, 0, 47, 0, 0, 0, 0, 0, 0, 0, 0, 0, 0, 0, 0, 0, 0, 0,
@@ -32,7 +32,7 @@ static SHORT: [u8; 256] = [
     0, 0, 0,
 ];
 
-// 1 for each byte that a number text may have, and else 0.
+// 1 for each byte that a number text may contain, and 0 for every other byte.
 static NUMBER: [u8; 256] = [
     0, 0, 0, 0, 0, 0, 0, 0, 0, 0, 0, 0, 0, 0, 0, 0, 0, 0, 0, 0, 0, 0, 0, 0, 0, 0, 0, 0, 0, 0, 0, 0,
     0, 0, 0, 0, 0, 0, 0, 0, 0, 0, 0, 1, 0, 1, 1, 0, 1, 1, 1, 1, 1, 1, 1, 1, 1, 1, 0, 0, 0, 0, 0, 0,
@@ -44,7 +44,7 @@ static NUMBER: [u8; 256] = [
     0, 0, 0, 0, 0, 0, 0, 0, 0, 0, 0, 0, 0, 0, 0, 0, 0, 0, 0, 0, 0, 0, 0, 0, 0, 0, 0, 0, 0, 0, 0, 0,
 ];
 
-/// Returns the value of a digit of base 36, or 36.
+/// Returns the value of a digit of base 36, or 36 if the byte is no such digit.
 #[inline(always)]
 pub(super) fn digit(c: u8) -> u8
     ensures { result ≡ digit_value c }
@@ -60,7 +60,7 @@ pub(crate) fn is_number_byte(c: u8) -> bool
     NUMBER[c as usize] == 1
 }
 
-/// Returns the character that the letter stands for behind a backslash, or 0.
+/// Returns the character that a letter stands for after a backslash, or 0 if there is none.
 #[inline(always)]
 pub(super) fn short(letter: u8) -> u8
     ensures value { short_at letter ≡ (if result == 0 then None else Some result) }

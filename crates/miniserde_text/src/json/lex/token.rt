@@ -1,4 +1,4 @@
-//! The front of a value, and the name of a member.
+//! Takes the first token of a value, or the name of a member.
 ghost use Rattle.std.specs.Prelude.{◌≡◌, ◌-◌, ◌<◌, ◌≤◌, [], drop, length, ℕ, List, Err, IfOk, IfSome};
 ghost use Rattle.std.specs.Prelude.{option_map, slice_index};
 ghost use Rattle.std.specs.String.{string_bytes};
@@ -15,7 +15,8 @@ use super::string::take_string;
 use super::{Event, Text};
 use miniserde_model::error::{Error, Result};
 
-// Takes a word, which ends with an ASCII byte.
+// Takes `word`, whose last byte is ASCII and not 0. Returns `event` and the index after the word, or `None` if the
+// text does not have the word at `at`.
 #[tactic(auto, unfolding(crate::specs::private::Reading::word_at))]
 fn take_word<'a>(
     bytes: &[u8],
@@ -38,7 +39,8 @@ fn take_word<'a>(
     }
 }
 
-// Takes the first token of a value that is no string.
+// Takes the first token of a value that is no string. Returns the token and the index after it, or `None` if there is
+// none. `first` is the byte at `at`.
 #[inline(always)]
 #[tactic(auto, unfolding(crate::specs::private::Reading::token_by))]
 fn take_plain<'a>(text: &'a str, at: usize, first: u8) -> Option<(Event<'a>, usize)>
@@ -59,7 +61,8 @@ fn take_plain<'a>(text: &'a str, at: usize, first: u8) -> Option<(Event<'a>, usi
     }
 }
 
-/// Takes the first token of a value. `first` is the byte at `at`.
+/// Takes the first token of a value. Returns the token and the index after it, `Invalid` if there is none, or
+/// `Memory` if decoding a string fails to allocate. `first` is the byte at `at`.
 #[inline(always)]
 pub(super) fn take_token<'a>(
     text: &'a str,
@@ -89,7 +92,8 @@ pub(super) fn take_token<'a>(
     }
 }
 
-/// Takes a string, whitespace and a colon. `first` is the byte at `at`.
+/// Takes a string, whitespace and a colon. Returns the string's text and the index after the colon, `Invalid` if they
+/// are not there, or `Memory` if decoding the string fails to allocate. `first` is the byte at `at`.
 pub(super) fn take_name<'a>(
     text: &'a str,
     at: usize,

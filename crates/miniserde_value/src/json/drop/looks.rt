@@ -1,4 +1,5 @@
-//! The count of dropped values, beside the function that drops them: no other can raise it.
+//! The counts of a drop, and the function that drops a leaf or an empty container. No function outside of this file
+//! can raise the count of dropped values.
 ghost use Rattle.std.specs.Prelude.{◌≡◌, ℕ, ◌+◌};
 ghost use Rattle.std.specs.Borrow.{ftrue};
 ghost use Rattle.miniserde_value.specs.Values.{IsBare};
@@ -6,7 +7,8 @@ ghost use Rattle.miniserde_value.specs.Values.{IsBare};
 use super::super::value::Value;
 use std::marker::{Model, PhantomData};
 
-/// How often a value was looked at, and how many were dropped. It takes no bytes: contracts alone see the counts.
+/// How often a drop looked at a value, and how many values it dropped. It takes no bytes, since only contracts see
+/// the counts.
 #[derive(Drop)]
 pub struct Looks {
     marker: PhantomData<u8>,
@@ -39,8 +41,7 @@ impl Looks {
     {}
 }
 
-/// Drops a value that is a leaf or an empty container, and counts it. No other function here drops a value or raises
-/// the count of dropped values.
+/// Drops a leaf or an empty container, and counts it. No other function of this file drops a value.
 #[inline(always)]
 pub(crate) fn drop_bare(value: Value, looks: &mut Looks)
     requires { IsBare value }

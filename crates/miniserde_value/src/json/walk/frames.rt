@@ -10,15 +10,15 @@ use std::alloc::{AllocError, Global};
 use std::collections::btree_map;
 use std::{result, slice};
 
-/// An open container: the remaining items of an array, or the next of the open objects.
+/// An open container: an array with the items that are left of it, or the next of the open objects.
 #[derive(Drop)]
 pub(crate) enum Frame<'a> {
     Array(slice::Iter<'a, Value>),
     Object,
 }
 
-/// The open containers, each list with the innermost last. The iterators of objects, which are large, stand apart.
-/// After a refusal the lists do not fit.
+/// The open containers, with the innermost last in each list. The iterators of objects are large, so they have a list
+/// of their own. After an error the two lists may not fit together.
 #[derive(Drop)]
 pub(crate) struct Frames<'a> {
     open: Vec<Frame<'a>>,
@@ -36,7 +36,7 @@ impl<'a> Frames<'a> {
         }
     }
 
-    /// Opens an array, of which these items are left.
+    /// Opens an array that has these items left. Fails if a list cannot grow.
     pub(crate) fn push_array(
         &mut self,
         items: slice::Iter<'a, Value>,
@@ -48,7 +48,7 @@ impl<'a> Frames<'a> {
         Ok(())
     }
 
-    /// Opens an object, of which these members are left.
+    /// Opens an object that has these members left. Fails if a list cannot grow.
     pub(crate) fn push_object(
         &mut self,
         members: btree_map::Iter<'a, String, Value>,
@@ -61,8 +61,8 @@ impl<'a> Frames<'a> {
         Ok(())
     }
 
-    /// Returns the next visit of the innermost open container, with the child that it announces, if any. Closes the
-    /// container at its end.
+    /// Returns the next visit of the innermost open container, and the child to visit after it, if any. Closes the
+    /// container at its end. Returns `None` if no container is open.
     #[inline(always)]
     pub(crate) fn next(&mut self) -> Option<(Visit<'a>, Option<&'a Value>)>
         ensures left { MatchOption result (frames_left self.old ≡ [])
