@@ -13,15 +13,9 @@ use crate::read::read;
 use miniserde_model::error::{Error, Result};
 use std::alloc::Global;
 
-<<<<<<< HEAD
-/// Returns the canonical text of a JSON text, which is the same for every order of members, spelling of strings and
-/// whitespace. If a name is a duplicate, the last member stays; a number that no integer type holds keeps its text.
-/// Returns `Invalid` if the text is not JSON (RFC 8259), and `Memory` if an allocation fails.
-=======
 /// Returns the canonical text of a JSON text. It does not depend on whitespace, on how strings are escaped, or on the
 /// order of members with different names; of members with the same name the last stays. A number that no integer type
 /// holds keeps its text. Returns `Invalid` if the text is not JSON (RFC 8259), and `Memory` if an allocation fails.
->>>>>>> 8bb006f2f8bcf307faa69866b327658522e1cba8
 pub fn canonical(alloc: Global, j: &str) -> Result<String>
     // It is the compact text of the normal form of the text's tree.
     ensures ok { IfOk result (λ c. (t : Tree) × IsJson j.now t × (string_bytes c ≡ compact (norm t))) }

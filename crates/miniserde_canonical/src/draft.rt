@@ -207,13 +207,8 @@ impl<'a> Draft<'a> {
         Ok(())
     }
 
-<<<<<<< HEAD
-    // Appends a name with its colon, unless the input has both as they are to be written. Fails if an allocation
-    // fails.
-=======
     // Appends a name with its colon. If the input has both as they are to be written, they stay in the run. Fails if
     // an allocation fails.
->>>>>>> 8bb006f2f8bcf307faa69866b327658522e1cba8
     #[inline(always)]
     fn spell(&mut self, text: Text<'_>, scratch: &str, token: TokenSpan) -> Result<(), AllocError>
         requires { TextPlain text }

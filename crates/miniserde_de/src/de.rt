@@ -46,11 +46,7 @@ pub trait Deserialize: FromJson {
     }
 
     /// Returns the value if it is complete and the place keeps no error. Returns the error that the place keeps,
-<<<<<<< HEAD
-    /// `Invalid` for an incomplete value, or `Memory` if an allocation fails.
-=======
     /// `Invalid` if the value is incomplete or means no value of the type, or `Memory` if an allocation fails.
->>>>>>> 8bb006f2f8bcf307faa69866b327658522e1cba8
     final fn take(place: Self::Place) -> Result<Self>
         ensures value { IfOk result (λ v. ((Self.Place.meaning.view place).at ≡ complete)
             × ((Self.Place.meaning.view place).outcome [] ≡ Some (Self.Place.meaning.content v))) }

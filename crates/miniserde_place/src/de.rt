@@ -65,11 +65,7 @@ pub trait Visitor: Drop {
         ensures { result ≡ is_complete (meaning.view self.now).at };
 
     /// Returns the value if it is complete and the place keeps no error. Returns the error that the place keeps,
-<<<<<<< HEAD
-    /// `Invalid` for an incomplete value, or `Memory` if an allocation fails.
-=======
     /// `Invalid` if the value is incomplete or means no value of the type, or `Memory` if an allocation fails.
->>>>>>> 8bb006f2f8bcf307faa69866b327658522e1cba8
     fn take(self) -> Result<Self::Out>
         ensures value { IfOk result (λ v. ((meaning.view self).at ≡ complete)
             × ((meaning.view self).outcome [] ≡ Some (meaning.content v))) }

@@ -25,11 +25,7 @@ fn closing(kind: Kind) -> u8
     }
 }
 
-<<<<<<< HEAD
-// Returns whether there is text from `at` on, and its first byte `byte` is no closing bracket.
-=======
 // Returns whether the text has a byte at `at` that is no closing bracket. `byte` is that byte, or 0 if there is none.
->>>>>>> 8bb006f2f8bcf307faa69866b327658522e1cba8
 fn begins(bytes: &[u8], at: usize, byte: u8) -> bool
     requires { byte ≡ slice_index (drop at bytes.now) 0 }
     ensures { result ≡ begins (drop at bytes.now) }
