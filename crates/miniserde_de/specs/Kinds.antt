@@ -25,7 +25,7 @@ kind_outcome begins due h es = if is_start due h then from_first begins es (outc
 pub record Kind (V : Type 0) : Type 1 where
   -- the meaning of the type by trees
   pub meant : Meaning V
-  -- whether the event may be the first one of a document
+  -- whether the place takes the event as its first; if not, no document of the type begins with it
   pub begins : Step → Bool
   -- the content of the document that is built as the tree, if it is of the type
   pub only : Option Tree → Option meant.Content

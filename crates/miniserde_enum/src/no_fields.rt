@@ -1,4 +1,4 @@
-//! The type `NoFields`, the data of a variant without data in an internally tagged enum.
+//! The type `NoFields`. In an internally tagged enum it stands for the data of a variant that has none.
 ghost use Rattle.std.specs.Prelude.{refl, [], ⊤};
 ghost use Rattle.miniserde_model.specs.Tree.{members, no_members};
 ghost use Rattle.miniserde_enum.specs.NoFields.{any_object};

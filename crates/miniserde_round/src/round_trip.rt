@@ -15,8 +15,8 @@ use std::hash::{BuildHasher, Hash};
 
 /// A type whose values are read back as they were written.
 pub trait RoundTrip: Ranged + Serialize + FromJson {
-    /// Does nothing. It promises that the tree of each valid value means a valid value, and that each valid value
-    /// that it means has that tree.
+    /// Does nothing. It promises that the tree of each valid value means some valid value, and that each valid value
+    /// that the tree means has this same tree.
     fn round_trips()
         ensures { (v : Self) → Self.real v
             → RoundTrips Self.real Self.tree Self.means.reads (Self.tree v) };

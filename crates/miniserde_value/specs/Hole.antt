@@ -75,7 +75,8 @@ after_begin element h = None
 after_begin (key k) h = None
 after_begin finish h = None
 
--- whether a value is due after the event, and the hole after it, if it is no first event of a value and fits the hole
+-- whether a value is due after the event, and the hole after it, if the event begins an element or a member or ends a
+-- container, and fits the hole
 abbrev pub after_between : Step → Hole → Option (Bool × Hole)
 after_between element (in_list ts h) = Some (true, in_list ts h)
 after_between (key k) (in_members ms n h) = Some (true, in_members ms (Some k) h)

@@ -32,7 +32,7 @@ pub trait OfKind: Drop {
     // What documents of this type mean, and which events begin them.
     ghost kind: { Kind Self.Out };
 
-    /// Returns whether a document of this type may begin with the event.
+    /// Returns whether the place takes the event as its first. If not, no document of this type begins with it.
     fn begins(event: &Step<'_>) -> bool
         ensures { result ≡ kind.begins (event_of event.now) };
 

@@ -57,8 +57,8 @@ pub trait Fields: Drop {
     fn is_child_complete(&self) -> bool
         ensures { result ≡ is_complete (meaning.child self.now).at };
 
-    /// Adds the current value, which is complete, to the values so far. Returns the error that its place keeps, or
-    /// `Invalid` if the events mean no value.
+    /// Adds the current value, which is complete, to the values so far. Returns the error that its place keeps,
+    /// `Invalid` if the events mean no value, or `Memory` if an allocation fails.
     fn join(&mut self) -> Result<()>
         ensures joined { IfOk result (λ _. (meaning.child self.old).outcome [] ≡ Some (meaning.state self.new)) }
         ensures invalid { result ≡ Err Error.Invalid → (meaning.child self.old).refused ≡ None
@@ -136,7 +136,7 @@ pub struct FieldOf<P, T, O, R> {
 pub type Field<T, R> = FieldOf<<T as Deserialize>::Place, T, Plain, R>;
 
 /// A field of the type `T` that takes one member alone, and the fields after it. If its name is a duplicate, the
-/// second event of that name fails with `Invalid`. Duplicates of other names, and inside of values, are no error.
+/// second `key` event with that name fails with `Invalid`. Duplicates of other names, and inside of values, are no error.
 pub type OnceField<T, R> = FieldOf<<T as Deserialize>::Place, T, Once<Plain>, R>;
 
 impl<P: Drop, T: Drop, O, R: Drop> Drop for FieldOf<P, T, O, R> {

@@ -1,4 +1,4 @@
-//! The place of any container, by what the type of containers says of itself.
+//! The one place that serves all types of containers. The trait `Collect` says how they differ.
 ghost use Rattle.std.specs.Prelude.{◌≡◌, true, Some, None, Ok, Err, IfOk};
 ghost use Rattle.miniserde_model.specs.Position.{complete};
 ghost use Rattle.miniserde_read.specs.Events.{event_of};

@@ -13,8 +13,8 @@ abbrev pub key_at : (Key → Key) → Key → Option Key → Option Key
 key_at code q None = None
 key_at code q (Some c) = if bytes_eq (code c) q then Some c else None
 
--- one step of `first_and_last_at`, for a member in front of others: its key, if this has the code, its tree t, and
--- the result for the others
+-- the result of `first_and_last_at` with one more member in front: the first argument is that member's key, or `None`
+-- if the key has another code; t is its tree, and o the result for the other members
 abbrev pub first_and_last : Option Key → Tree → Option (Key × Tree) → Option (Key × Tree)
 first_and_last None t o = o
 first_and_last (Some c) t None = Some (c, t)

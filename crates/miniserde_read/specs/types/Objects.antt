@@ -1,4 +1,4 @@
--- The members of an object taken in order, each from the state that the members before it left.
+-- The state that the members of an object leave, taken one by one in their order.
 use Rattle.std.specs.Prelude.{ℕ, List, Option, Some, None, option_and_then}
 use Rattle.miniserde_model.specs.Tree.{Tree, members, Members, no_members, member}
 

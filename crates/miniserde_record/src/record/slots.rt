@@ -47,9 +47,10 @@ pub trait Slots: Drop {
     fn new() -> Self
         ensures { state result ≡ meaning.empty };
 
-    /// Reads the value of a member with the name `name`; `names` has the names of the fields. Returns `Invalid` if
-    /// the text has no prefix that means a value for that field, and `Memory` if an allocation fails. If the field
-    /// takes one member alone and has a value already, it returns `Invalid` before it reads anything.
+    /// Reads the value of the member `name` into the field of that name, or skips it if no field has the name; `names`
+    /// has the names of the fields. Returns `Invalid` if no prefix of the text is a value of the field, and `Memory` if
+    /// an allocation fails. If the name alone is refused, it returns `Invalid` before it reads anything: the field
+    /// takes one member and has a value, or the struct is closed.
     fn read_member<'a>(&mut self, names: &[&str], name: &str, source: &mut Source<'a>) -> Result<()>
         requires { source.old.refused ≡ None }
         ensures going { IfOk result (λ _. source.new.refused ≡ None) }
@@ -101,8 +102,8 @@ impl Slots for NoSlot {
     }
 }
 
-// Reads the value of a member by the fields `rest`, if no name is left for the field before them. Kept out of line,
-// since it is never called: a struct has a name for each field.
+// Lets the later fields `rest` read a member, if `names` has no name for the field before them. It is never called,
+// since a struct has a name for each field, so it is kept out of line.
 #[inline(never)]
 fn read_unnamed<'a, R: Slots>(
     rest: &mut R,

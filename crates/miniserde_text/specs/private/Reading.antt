@@ -89,7 +89,8 @@ after_fraction s = if slice_index s 0 == 46 then after_digits (drop 1 s) else So
 abbrev pub after_sign : List ℕ → List ℕ
 after_sign s = if is_sign (slice_index s 0) then drop 1 s else s
 
--- the text after the exponent that it begins with, or the text itself; after `e` or `E` there must be a digit
+-- the text s without the exponent at its beginning, or s if it begins with none; after `e` or `E`, and a sign if there
+-- is one, there must be a digit
 abbrev pub after_exponent : List ℕ → Option (List ℕ)
 after_exponent s = if is_exponent_letter (slice_index s 0) then after_digits (after_sign (drop 1 s)) else Some s
 

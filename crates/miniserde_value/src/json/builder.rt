@@ -187,7 +187,7 @@ impl Builder {
         Ok(())
     }
 
-    /// Opens an array inside the innermost open container. Fails if an allocation fails.
+    /// Opens an array: inside the innermost open container, or outside of all if none is open. Fails if an allocation fails.
     #[inline(always)]
     pub(crate) fn open_array(&mut self) -> result::Result<(), AllocError>
         ensures { OnOk result (hole_in self.new ≡ in_list [] (hole_in self.old)) }
@@ -196,7 +196,7 @@ impl Builder {
         Ok(())
     }
 
-    /// Opens an object inside the innermost open container. Fails if an allocation fails.
+    /// Opens an object: inside the innermost open container, or outside of all if none is open. Fails if an allocation fails.
     #[inline(always)]
     pub(crate) fn open_object(&mut self) -> result::Result<(), AllocError>
         ensures { OnOk result (hole_in self.new ≡ in_members no_members None (hole_in self.old)) }

@@ -56,8 +56,8 @@ fn unsigned(n: u64) -> Value
     Value::Number(Number::U64(n))
 }
 
-// Returns an integer as a `Value`: as an `I64` if it is negative, and else as a `U64`. Its text is read as the same
-// value.
+// Returns an integer as a `Value`: as an `I64` if it is negative, and else as a `U64`. So the text that it is written
+// as is read as the same `Value`.
 fn signed(n: i64) -> Value
     ensures { shape result ≡ integer n }
 {

@@ -58,8 +58,8 @@ pub trait Collect: Drop {
     fn is_child_complete(&self) -> bool
         ensures { result ≡ is_complete (collector_meaning.child self.now).at };
 
-    /// Adds the current child, which is complete, to the children so far. Returns the error that its place keeps, or
-    /// `Invalid` if the child means no value.
+    /// Adds the current child, which is complete, to the children so far. Returns the error that its place keeps,
+    /// `Invalid` if the child means no value, or `Memory` if an allocation fails.
     fn join(&mut self) -> Result<()>
         ensures joined { IfOk result (λ _. (collector_meaning.child self.old).outcome [] ≡ Some (collector_meaning.state self.new)) }
         ensures invalid { result ≡ Err Error.Invalid → (collector_meaning.child self.old).refused ≡ None
