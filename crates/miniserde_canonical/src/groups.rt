@@ -52,8 +52,8 @@ fn put_group(
     Ok(())
 }
 
-// Appends the text of a span up to its first splice. Then pushes the rest of the span to `later`, and on top of it
-// the group of that splice. Fails if an allocation fails.
+// Appends the text of a span, up to its first splice if it has one. Then it pushes the rest of the span to `later`,
+// and on top of it the group of that splice. Fails if an allocation fails.
 fn put_span(
     span: Span,
     groups: &Spread,

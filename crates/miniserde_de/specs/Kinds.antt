@@ -27,7 +27,7 @@ pub record Kind (V : Type 0) : Type 1 where
   pub meant : Meaning V
   -- whether the place takes the event as its first; if not, no document of the type begins with it
   pub begins : Step → Bool
-  -- the content of the document that is built as the tree, if it is of the type
+  -- the content of the document that is built from a tree, if there is a tree and the document is of the type
   pub only : Option Tree → Option meant.Content
   pub none : only None ≡ None
   -- the events of a tree give what the tree gives

@@ -64,7 +64,7 @@ abbrev pub unique_place_meaning : PlaceMeaning UniquePlace Unique
 unique_place_meaning = place_meaning unique_meaning (outcome true true (outside [])) once-whole
     (λ p. record { at = (depth (hole_at p.place), due_in p.place); outcome = outcome true (due_in p.place) (hole_at p.place); refused = refusal_of p.place })
 
--- the meaning of the place of arrays, objects and documents, by what k says of the type
+-- the meaning of the place of a type of documents (`Array`, `Object` or `Document`), by what k says of that type
 abbrev pub kind_place_meaning : {K V : Type 0} → Kind V → PlaceMeaning (KindPlace K) V
 kind_place_meaning k = place_meaning k.meant (λ es. k.only (kind_outcome k.begins true (outside []) es)) k.whole
     (λ p. record { at = (depth (hole_at p.place), due_in p.place); outcome = λ es. k.only (kind_outcome k.begins (due_in p.place) (hole_at p.place) es); refused = refusal_of p.place })

@@ -29,7 +29,8 @@ pub trait Deserialize: FromJson {
     fn tied()
         ensures { Agree (meant_by Self.Place.meaning) Self.means };
 
-    /// Returns the value of a struct's field of this type that no member has, or `None` if such a struct is an error.
+    /// Returns the value of a missing field of this type, or `None` if an object without that field's member is an
+    /// error.
     final fn default() -> Option<Self>
         ensures { result ≡ Self.absent }
     {

@@ -41,7 +41,7 @@ pub trait MapKey: Ranged + Sized + Eq + Drop {
         ensures invalid { result ≡ Err Error.Invalid → read k.now ≡ None }
         ensures infallible { from_key_infallible ≡ true → IfErr result (λ e. e ≡ Error.Invalid) };
 
-    /// Appends the text of the key. If `out` cannot grow, returns `Memory` and leaves the text unchanged.
+    /// Appends the text of the key to `out`. If `out` cannot grow, returns `Memory` and leaves its text unchanged.
     fn to_key(&self, out: &mut String) -> Result<()>
         ensures ok { OnOk result (string_bytes out.new ≡ string_bytes out.old ++ text self.now) }
         ensures memory { OnErr result (IsErrOf result Memory) }

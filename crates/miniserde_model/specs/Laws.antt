@@ -1,4 +1,4 @@
--- Laws over the definitions, each of which is the contract of a function of this crate.
+-- Laws of the definitions. Each law is the contract of a function of this crate.
 use Rattle.std.specs.Prelude.{◌≡◌, ◌≤◌, ◌↔◌, true, List, ◌++◌, ℕ, [], length, option_map, IsUtf8}
 use Rattle.miniserde_model.specs.Tree.{Tree, Members, no_members}
 use Rattle.miniserde_model.specs.Value.{IsValue, IsJson}

@@ -39,7 +39,8 @@ pub trait FromJson: Sized + Drop {
     // call.
     ghost lacking: { step.Step → Remaining → Remaining → Type 0 } = { λ _ _ _. ⊤ };
 
-    /// Returns the value of a struct's field of this type that no member has, or `None` if such a struct is an error.
+    /// Returns the value of a missing field of this type, or `None` if an object without that field's member is an
+    /// error.
     fn missing() -> Option<Self>
         ensures { result ≡ absent };
 

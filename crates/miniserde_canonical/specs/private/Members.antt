@@ -8,7 +8,7 @@ use Rattle.miniserde_canonical.specs.declared.member.Member.{Member}
 use Rattle.miniserde_canonical.specs.private.Names.{name_of}
 use Rattle.miniserde_canonical.specs.private.Arranging.{gap}
 
--- the name of the first of the members
+-- the name of the first of the members, or the empty text if there is none
 abbrev pub first_name : List Member → List ℕ
 first_name [] = []
 first_name (m ∷ ms) = name_of m.name

@@ -15,7 +15,7 @@ pub trait Members {
     // The tree of each value, in their order, or none for a value that is not written.
     ghost trees: { Self → List (Option Tree) };
 
-    /// Appends a member for each value that is written, with the names in their order. Returns `Memory` if the writer
+    /// Appends a member for each value that is written, with the name at the value's index. Returns `Memory` if the writer
     /// fails.
     fn write(&self, w: &mut Writer, names: &[&str]) -> Result<()>
         ensures ok { OnOk result (w.new.text ≡ w.old.text

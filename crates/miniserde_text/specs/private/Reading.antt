@@ -69,23 +69,23 @@ before s r = take (length s - length r) s
 
 -- ---- numbers
 
--- the text after the digits that it begins with; there must be one
+-- the text s without the digits at its beginning, of which there must be one
 abbrev pub after_digits : List ℕ → Option (List ℕ)
 after_digits s = if is_digit (slice_index s 0) then Some (after_run is_digit s) else None
 
--- the text after the `-` that it begins with, or the text itself
+-- the text s without the `-` at its beginning, or s if it begins with none
 abbrev pub after_minus : List ℕ → List ℕ
 after_minus s = if slice_index s 0 == 45 then drop 1 s else s
 
--- the text after the integer part that it begins with: `0`, or digits, of which there must be one
+-- the text s without the integer part at its beginning: `0`, or digits, of which there must be one
 abbrev pub after_int : List ℕ → Option (List ℕ)
 after_int s = if slice_index s 0 == 48 then Some (drop 1 s) else after_digits s
 
--- the text after the fraction that it begins with, or the text itself; after a `.` there must be a digit
+-- the text s without the fraction at its beginning, or s if it begins with none; after a `.` there must be a digit
 abbrev pub after_fraction : List ℕ → Option (List ℕ)
 after_fraction s = if slice_index s 0 == 46 then after_digits (drop 1 s) else Some s
 
--- the text after the sign that it begins with, or the text itself
+-- the text s without the sign at its beginning, or s if it begins with none
 abbrev pub after_sign : List ℕ → List ℕ
 after_sign s = if is_sign (slice_index s 0) then drop 1 s else s
 
@@ -94,7 +94,7 @@ after_sign s = if is_sign (slice_index s 0) then drop 1 s else s
 abbrev pub after_exponent : List ℕ → Option (List ℕ)
 after_exponent s = if is_exponent_letter (slice_index s 0) then after_digits (after_sign (drop 1 s)) else Some s
 
--- the text after the fraction and the exponent that it begins with, if it has them
+-- the text s without the fraction and the exponent at its beginning, as far as it has them
 abbrev pub after_tail : List ℕ → Option (List ℕ)
 after_tail s = option_and_then after_exponent (after_fraction s)
 
@@ -107,7 +107,8 @@ event_of_parts b minus int [] =
     else (if nat_lt (digits_value 10 int) (2 ^ 64) then nonnegative (digits_value 10 int) else float b)
 event_of_parts b minus int (c ∷ cs) = float b
 
--- the event of the number from s to r, whose integer part ends at w, and r; a byte of a number may not follow at r
+-- the event of the number from s to r, together with r, if r begins with no byte of a number; its integer part ends
+-- at w
 abbrev pub event_at : List ℕ → List ℕ → List ℕ → Option (Step × List ℕ)
 event_at s w r =
     cond (is_number_byte (slice_index r 0)) None

@@ -75,7 +75,7 @@ pub fn read_is_normal()
 {}
 
 /// Does nothing. It promises that a `Value` contains as many values as its tree, if no object in it has a duplicate
-/// name. No `BTreeMap` has a duplicate key.
+/// name. That holds of every `Value` of a program, since no `BTreeMap` has a duplicate key.
 pub fn size_is_of_tree()
     ensures { (v : V) → names_distinct (shape v) ≡ true → size (tree_of v) ≡ value_size v }
 {}
