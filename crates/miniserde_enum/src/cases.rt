@@ -21,8 +21,8 @@ pub trait Cases {
     // What the variants mean.
     ghost meaning: { CasesMeaning Self.Values };
 
-    /// Returns the variant with the name `name`, or `None` if no variant without data has it. `names` has the names
-    /// of the variants.
+    /// Returns the variant without data whose name is `name`, or `None` if there is none. `names` has the names of the
+    /// variants.
     fn of_name(names: &[&str], name: &str) -> Option<Self::Values>
         ensures { option_map meaning.content result ≡ meaning.by_case (map (λ n. n.now) names.now) name.now None };
 

@@ -50,7 +50,7 @@ impl<E: Tagged + HasTag> Record for Tag<E> {
 }
 
 /// Reads an internally tagged enum, whose first token is `token`, and takes no more of the source. It is an object in
-/// which the last member with the tag's name names the variant, and the other members are the variant's data. Returns
+/// which the last member with the tag's name names the variant, and the members of all other names are its data. Returns
 /// `Invalid` if the text, from `token` on, has no prefix that means such a value, and `Memory` if an allocation
 /// fails.
 pub fn read_tagged<'a, E: Tagged + HasTag, C: InsideCases<Values = E::Values>>(

@@ -50,7 +50,8 @@ NormRises = (ms : Members) → Rise (norm_members ms)
 abbrev pub NormIsOnly : Type 0
 NormIsOnly = (ms ns : Members) → Rise ns → ((q : List ℕ) → last_of q ns ≡ option_map norm (last_of q ms)) → ns ≡ norm_members ms
 
--- members put in one by one, each replacing an earlier one of its name, give the normal form of the members
+-- members put in one by one, each with the normal form of its tree and replacing an earlier one of its name, give the
+-- normal form of the members
 abbrev pub PutGivesNorm : Type 0
 PutGivesNorm = (ms : Members) → put_all no_members ms ≡ norm_members ms
 

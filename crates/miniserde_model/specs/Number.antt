@@ -61,7 +61,7 @@ is_plain (c ∷ cs) = not ((c == decimal_point) || (c == letter_e) || (c == lett
 abbrev pub begins_minus : List ℕ → Bool
 begins_minus x = slice_index x 0 == minus_sign
 
--- the leaf of a number text x that is the digits ds: an integer if it is below 2 ^ 64, and else the text x
+-- the leaf of a number whose text x is the digits ds: an integer if it is below 2 ^ 64, and else the number text x
 abbrev pub leaf_of_digits : List ℕ → List ℕ → Tree
 leaf_of_digits ds x = if nat_lt (digits_value 10 ds) (2 ^ 64) then nonneg (digits_value 10 ds) else num x
 

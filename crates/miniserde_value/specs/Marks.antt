@@ -1,4 +1,4 @@
--- The hole of a builder, by its values, its open objects, and a `Mark` for each open container.
+-- The hole of a builder, by its values, its open objects and its open containers.
 use Rattle.std.specs.Prelude.{ℕ, ◌≤◌, List, [], ◌∷◌, Option, Some, None, option_map, string_bytes, reverse, take, drop, length, ⊤}
 use Rattle.miniserde_model.specs.Tree.{Tree, Members, no_members}
 use Rattle.miniserde_ser.specs.Trees.{members_of}

@@ -45,7 +45,8 @@ abbrev pub named_members : {X : Type 0} → (X → List ℕ) → (X → Tree) �
 named_members n r [] = no_members
 named_members n r (x ∷ xs) = member (n x) (r x) (named_members n r xs)
 
--- the members at the indices in `order`, by their names; r returns the tree for an index
+-- the members at the indices in `order`, in that order: each has its name in ms, and the tree that r returns for its
+-- index
 abbrev pub members_at : List Member → (ℕ → Tree) → List ℕ → Members
 members_at ms r order = named_members (name_in ms) r order
 
@@ -54,7 +55,7 @@ abbrev pub begins_with_name : List ℕ → Members → Bool
 begins_with_name n no_members = false
 begins_with_name n (member m t ms) = bytes_eq n m
 
--- the members without each one whose name the next one has too
+-- the members; of several of one name side by side only the last
 abbrev pub without_repeats : Members → Members
 without_repeats no_members = no_members
 without_repeats (member n t ms) = if begins_with_name n ms then without_repeats ms else member n t (without_repeats ms)

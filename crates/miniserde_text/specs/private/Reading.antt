@@ -136,15 +136,15 @@ token_by c s =
 abbrev pub token_at : List ℕ → Option (Step × List ℕ)
 token_at s = token_by (slice_index s 0) s
 
--- ---- steps
+-- ---- the next child or the end
 
 -- whether the text begins with a byte, and this is no closing bracket
 abbrev pub begins : List ℕ → Bool
 begins [] = false
 begins (c ∷ cs) = not (is_closing c)
 
--- Whether the container of the kind ends at t, and the text after its bracket, or after the comma before a child, or
--- t itself if `first` says that the opening bracket was just taken. The text t does not begin with whitespace.
+-- If t begins with the closing bracket of the kind: `true`, and the text after it. If a child is next: `false`, and
+-- the text after the comma, or t itself if `first` says that the opening bracket was just taken.
 unfoldable pub step_at : Kind → Bool → List ℕ → Option (Bool × List ℕ)
 step_at kind first t =
     cond (slice_index t 0 == closing kind) (Some (true, drop 1 t))

@@ -23,7 +23,7 @@ abbrev pub stack_of : List ℕ → ℕ → List Kind
 stack_of ws zero = []
 stack_of ws (suc n) = kind_at ws n ∷ stack_of ws n
 
--- the kinds st of the open containers, after a container of the given kind was opened, if a kind is given
+-- the kinds of the open containers after one of the given kind opens inside those of kinds st; without a kind, st
 abbrev pub with_opened : Option Kind → List Kind → List Kind
 with_opened None st = st
 with_opened (Some k) st = k ∷ st

@@ -1,5 +1,5 @@
-//! The test whether a short text needs no escape. It looks at up to 16 bytes at once, in two vectors that may
-//! overlap.
+//! The test whether a short text needs no escape. From 4 bytes on it takes two vectors of 4, 8 or 16 bytes each,
+//! which may overlap.
 ghost use Rattle.std.specs.Prelude.{◌≡◌, ℕ, ◌+◌, ◌<◌, ◌≤◌, length, map, slice_index, true, false};
 ghost use Rattle.std.specs.Simd.Lanes.{mask_l};
 ghost use Rattle.miniserde_model.specs.Bytes.{is_special};

@@ -14,7 +14,7 @@ kinds (outside ts) = []
 kinds (in_list ts h) = Seq ∷ kinds h
 kinds (in_members ms n h) = Map ∷ kinds h
 
--- whether a value is due at the moment
+-- whether the moment is `due`: a value must come next
 abbrev pub is_due : Moment → Bool
 is_due due = true
 is_due first = false

@@ -1,4 +1,5 @@
-//! Reads `Number`, `Value`, `Array`, `Object` and `Unique` from a text, at any depth and without recursion.
+//! Reads `Number`, `Value`, `Array`, `Object` and `Unique` from a text, at any depth and without recursion. All their
+//! values are valid (`Ranged`).
 ghost use Rattle.std.specs.Prelude.{⊤};
 
 use super::array::Array;

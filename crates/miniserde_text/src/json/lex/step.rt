@@ -34,7 +34,7 @@ fn begins(bytes: &[u8], at: usize, byte: u8) -> bool
 }
 
 /// Takes the closing bracket of a container of the kind, or the comma before its next child. `first` says that the
-/// opening bracket is just before `at`, so that no comma is due. Returns which of both is next and the index after
+/// opening bracket is just before `at`, so that no comma is due. Returns whether the bracket or a child is next, and the index after
 /// it, or `None` if neither is. `byte` is the byte at `at`.
 #[tactic(auto, unfolding(crate::specs::private::Reading::step_at))]
 pub(super) fn take_step(
