@@ -22,7 +22,7 @@ pub fn titled(alloc: Global, title: String) -> Result<String>
 }
 
 /// Writes a note, reads it again, and returns the note that it was, with what was left out.
-pub fn round_trips(alloc: Global, note: &Note) -> Result<Note>
+pub fn copy_of(alloc: Global, note: &Note) -> Result<Note>
     ensures { IfOk result (λ n. ⟦<Note as FromJson>⟧.means.content n
         ≡ ⟦<Note as FromJson>⟧.means.content note.now) }
 {

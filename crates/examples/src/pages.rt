@@ -31,7 +31,7 @@ pub fn next_of<T: FromJson>(alloc: Global, text: &str) -> Result<Option<String>>
 }
 
 /// Writes a page of anything, reads it again, and returns the page that it was.
-pub fn round_trips<T: Lossless>(alloc: Global, page: &Page<T>) -> Result<Page<T>>
+pub fn copy_of<T: Lossless>(alloc: Global, page: &Page<T>) -> Result<Page<T>>
     ensures { IfOk result (λ p. ⟦<Page<T> as FromJson>⟧.means.content p
         ≡ ⟦<Page<T> as FromJson>⟧.means.content page.now) }
 {

@@ -1,7 +1,7 @@
 //! A struct with fields that are left out, and its callers.
 
 use examples::note::Note;
-use examples::notes::{again, titled};
+use examples::notes::{copy_of, titled};
 use miniserde::error::Result;
 use miniserde::json::{from_str, to_string};
 use std::alloc::Global;
@@ -23,7 +23,7 @@ const NOTES: &str = r#"{"title":"a"} => same
 /// Returns the text that a note is written as, after it was written and read again.
 fn written_again(alloc: Global, text: &str) -> Result<String> {
     let note: Note = from_str(alloc, text)?;
-    to_string(alloc, &again(alloc, &note)?)
+    to_string(alloc, &copy_of(alloc, &note)?)
 }
 
 #[test]

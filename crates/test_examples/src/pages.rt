@@ -2,7 +2,7 @@
 
 use examples::order::Order;
 use examples::page::Page;
-use examples::pages::{again, count_of, next_of};
+use examples::pages::{copy_of, count_of, next_of};
 use examples::service::Service;
 use miniserde::FromJson;
 use miniserde::error::{Error, Result};
@@ -60,7 +60,7 @@ fn a_page_of_stable_types_is_stable(rt: HostRuntime) -> std::result::Result<(), 
 /// Returns the text that a page of orders is written as, after it was written and read again.
 fn written_again(alloc: Global, text: &str) -> Result<String> {
     let page: Page<Order> = from_str(alloc, text)?;
-    to_string(alloc, &again(alloc, &page)?)
+    to_string(alloc, &copy_of(alloc, &page)?)
 }
 
 #[test]
