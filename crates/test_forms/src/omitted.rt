@@ -1,9 +1,7 @@
 //! Fields that are not written if they are `None`.
 
-use crate::bills::Bill;
-use crate::commands::Command;
-use crate::entries::{Entry, Slip};
-use crate::notes::{Bare, Note};
+use crate::notes::{Bare, Bill, Entry, Note, Slip};
+use crate::plans::Command;
 use test_tables::{
     Wrong, expect_one_value, expect_prefixes_invalid, expect_read_again, expect_read_itself,
 };

@@ -2,25 +2,17 @@
 #![tactic(auto)]
 
 #[cfg(test)]
-mod accounts;
-#[cfg(test)]
-mod changes;
-#[cfg(test)]
 mod generic;
 #[cfg(test)]
 mod generics;
 #[cfg(test)]
 mod hosts;
 #[cfg(test)]
-mod inner;
-#[cfg(test)]
 mod jobs;
 #[cfg(test)]
-mod listeners;
-#[cfg(test)]
-mod phases;
-#[cfg(test)]
 mod queues;
+#[cfg(test)]
+mod renamed;
 #[cfg(test)]
 mod renames;
 #[cfg(test)]
@@ -29,6 +21,8 @@ mod server;
 mod stable;
 #[cfg(test)]
 mod structs;
+#[cfg(test)]
+mod tagged;
 #[cfg(test)]
 mod tags;
 #[cfg(test)]

@@ -4,8 +4,7 @@ ghost use Rattle.miniserde.specs.Tree.{Tree};
 ghost use Rattle.miniserde.specs.Value.{IsJson};
 ghost use Rattle.uses.specs.Calls.{Counted};
 
-use crate::answer::Answer;
-use crate::call::Call;
+use crate::call::{Answer, Call};
 use miniserde::json::{from_str, to_string};
 use miniserde::{Error, FromJson, Result, Serialize};
 use std::alloc::Global;
@@ -13,7 +12,7 @@ use std::alloc::Global;
 /// What answers calls.
 pub trait Handler {
     ghost use Rattle.uses.specs.declared.call.Call.{Call};
-    ghost use Rattle.uses.specs.declared.answer.Answer.{Answer};
+    ghost use Rattle.uses.specs.declared.call.Answer.{Answer};
 
     // It answers the call so, and is then as it is at the end.
     ghost Answers: { Self → Call → Answer → Self → Type 0 };

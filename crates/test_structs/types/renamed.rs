@@ -1,4 +1,9 @@
-use crate::phases::Phase;
+/// How far a job is.
+pub enum Phase { // rename_all "SCREAMING_SNAKE_CASE", lossless
+    NotBegun,
+    InProgress,
+    Done, // rename "done"
+}
 
 /// An account of a site.
 pub struct Account { // lossless, rename_all "camelCase"
