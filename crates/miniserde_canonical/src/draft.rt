@@ -109,7 +109,8 @@ impl<'a> Draft<'a> {
         Ok(())
     }
 
-    /// Takes the first token of a value, and opens an object if the token does. Fails if an allocation fails.
+    /// Takes the first token of a value, whose span in the input is `token`, and opens an object if
+    /// the token does. Fails if an allocation fails.
     #[inline(always)]
     pub(crate) fn token(
         &mut self,
@@ -129,8 +130,9 @@ impl<'a> Draft<'a> {
         Ok(())
     }
 
-    // Takes the text of the first token of a value. `-0` and a string with escapes are written anew; any other token
-    // stays in the run. Fails if an allocation fails.
+    // Takes the text of the first token of a value, whose span in the input is `token`. `-0` and a
+    // string with escapes are written anew; any other token stays in the run. Fails if an
+    // allocation fails.
     #[inline(always)]
     fn text(&mut self, event: Event<'_>, scratch: &str, token: TokenSpan) -> Result<(), AllocError>
         ensures wrote { OnOk result ((rest part rest' bs : List ℕ) → Wrote self.old rest bs → rest ≡ part ++ rest'
@@ -151,7 +153,8 @@ impl<'a> Draft<'a> {
         Ok(())
     }
 
-    // Takes `-0`, and appends `0` for it. Fails if the text cannot grow.
+    // Takes `-0`, whose span in the input is `token`, and appends `0` for it. Fails if the text
+    // cannot grow.
     fn zero(&mut self, token: TokenSpan) -> Result<(), AllocError>
         ensures wrote { OnOk result ((rest part rest' bs : List ℕ) → Wrote self.old rest bs → rest ≡ part ++ rest'
             → token.at ≡ length rest → token.end ≡ length rest' → Wrote self.new rest' (bs ++ 48 ∷ [])) }
@@ -163,7 +166,8 @@ impl<'a> Draft<'a> {
         Ok(())
     }
 
-    // Takes a string. One that was decoded is escaped anew; any other stays in the run. Fails if an allocation fails.
+    // Takes a string, whose span in the input is `token`. One that was decoded into `scratch` is
+    // escaped anew; any other stays in the run. Fails if an allocation fails.
     #[inline(always)]
     fn string(&mut self, text: Text<'_>, scratch: &str, token: TokenSpan) -> Result<(), AllocError>
         ensures wrote { OnOk result ((rest part rest' bs : List ℕ) → Wrote self.old rest bs → rest ≡ part ++ rest'
@@ -179,8 +183,9 @@ impl<'a> Draft<'a> {
         Ok(())
     }
 
-    /// Takes the name of a member with its colon, and adds the member to those of the innermost object. Fails if an
-    /// allocation fails.
+    /// Takes the name of a member with its colon, whose span in the input is `token`, and adds the
+    /// member to those of the innermost object. `first` says that it is the first of them. Fails if
+    /// an allocation fails.
     #[inline(always)]
     pub(crate) fn name(
         &mut self,
@@ -207,8 +212,8 @@ impl<'a> Draft<'a> {
         Ok(())
     }
 
-    // Appends a name with its colon. If the input has both as they are to be written, they stay in the run. Fails if
-    // an allocation fails.
+    // Appends a name with its colon, whose span in the input is `token`. If the input has both as
+    // they are to be written, they stay in the run. Fails if an allocation fails.
     #[inline(always)]
     fn spell(&mut self, text: Text<'_>, scratch: &str, token: TokenSpan) -> Result<(), AllocError>
         requires { TextPlain text }
@@ -227,8 +232,8 @@ impl<'a> Draft<'a> {
         Ok(())
     }
 
-    /// Takes the closing bracket of a container, and closes the container. `at` is how many bytes of the input are
-    /// left from the bracket on. Fails if an allocation fails.
+    /// Takes the closing bracket of a container of the kind, and closes the container. `at` is how
+    /// many bytes of the input are left from the bracket on. Fails if an allocation fails.
     #[inline(always)]
     pub(crate) fn end(&mut self, kind: Kind, at: usize) -> Result<(), AllocError>
         ensures { OnOk result ((rest rest' : List ℕ) (s : State) → Represents self.old rest s

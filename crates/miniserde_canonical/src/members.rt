@@ -128,7 +128,7 @@ fn comma_len(first: bool) -> usize
     if first { 0 } else { 1 }
 }
 
-// Returns the point at which the member before index `i` ends.
+// Returns the point at which the member before index `i` ends. The last member ends at `end`.
 fn end_at(members: &[Member<'_>], i: usize, end: Point) -> Point
     ensures { result ≡ before_comma (drop i members.now) end }
 {

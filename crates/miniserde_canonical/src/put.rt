@@ -20,8 +20,8 @@ pub(crate) fn put_gap(first: bool, out: &mut Vec<u8>) -> Result<(), AllocError>
     Ok(())
 }
 
-/// Appends a string, by the text that the lexer returned for it. `escape_text` is room for its escaped text. Fails if
-/// an allocation fails.
+/// Appends a string, by the text that the lexer returned for it and the scratch text. `escape_text`
+/// is room for its escaped text. Fails if an allocation fails.
 #[inline(always)]
 pub(crate) fn put_string(
     text: Text<'_>,

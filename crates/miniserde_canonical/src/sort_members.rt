@@ -11,9 +11,10 @@ use std::alloc::AllocError;
 /// The length in bytes of the longest text of sorted members that is copied back to the text.
 const SHORT: usize = 1024;
 
-/// Sorts the members of an object by name, with the last of equal names alone. Returns whether the names are
-/// distinct, and fails if an allocation fails. The sorted text replaces the members if it has no splice and at most
-/// `SHORT` bytes, or any number for the outermost object; else a splice replaces them.
+/// Sorts the members of an object, which are at the end of the text `out`, by name, and keeps the
+/// last of equal names alone. The sorted text replaces the members if it has no splice and at most
+/// `SHORT` bytes, or any number for the outermost object; else a splice replaces them. `order` is
+/// room for indices. Returns whether the names are distinct. Fails if an allocation fails.
 pub(crate) fn sort_members(
     members: &[Member<'_>],
     outermost: bool,
@@ -33,8 +34,8 @@ pub(crate) fn sort_members(
     Ok(number == members.len())
 }
 
-// Appends to the groups the members in the order `order`, except each one whose name the next one has too. Returns
-// how many it appended. Fails if an allocation fails.
+// Appends to the groups the members of the text `out` in the order `order`, except each whose name
+// the next in that order has too. Returns how many it appended. Fails if an allocation fails.
 fn put_members(
     members: &[Member<'_>],
     order: &[usize],
@@ -53,7 +54,8 @@ fn put_members(
     Ok(number)
 }
 
-// Appends the member at index `i` to the groups, after a comma unless it is the first. Fails if an allocation fails.
+// Appends the member at index `i`, whose text is in `out`, to the groups, after a comma unless
+// `first` is set. Fails if an allocation fails.
 #[inline(always)]
 fn put_member(
     members: &[Member<'_>],
@@ -69,8 +71,9 @@ fn put_member(
     Ok(())
 }
 
-// Truncates the text at `point`, and appends what the groups have after `from`: as text if it has no splice and at
-// most `longest` bytes, and else as a splice. Fails if an allocation fails.
+// Truncates the text at `point`, and appends what the groups have after `from`. If that has no
+// splice and at most `longest` bytes, it is moved to the text, and else a splice for it is
+// appended. Fails if an allocation fails.
 fn put_back(
     point: Point,
     from: Point,

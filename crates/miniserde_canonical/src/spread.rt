@@ -85,8 +85,8 @@ impl Spread {
     }
 }
 
-// Returns what becomes of a splice if the text from index `from` on moves to index `at`. Fails if the new index
-// overflows.
+// Returns the splice as it is after the text from index `from` on moved to index `at`. Fails if the
+// new index overflows.
 fn shifted_splice(splice: Splice, from: usize, at: usize) -> Result<Splice, AllocError>
     ensures { IfOk result (λ h. h ≡ shifted_splice from at splice) }
 {

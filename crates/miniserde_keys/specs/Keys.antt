@@ -45,17 +45,18 @@ read_char k = if is_utf8 k then single_char (chars k) else None
 abbrev pub are_digits_below : ℕ → List ℕ → Bool
 are_digits_below limit ds = nat_lt 0 (length ds) && (all_ascii_digits ds && nat_lt (digits_value 10 ds) limit)
 
--- the content of the number that the digits ds are, if it is below the limit; `content` returns that of a number
+-- `content` of the number that ds is in decimal, if ds is one digit or more and the number is below
+-- the limit
 abbrev pub read_digits : ℕ → (ℕ → Key) → List ℕ → Option Key
 read_digits limit content ds = if are_digits_below limit ds then Some (content (digits_value 10 ds)) else None
 
--- the content of the unsigned integer of so many bits that the text k is parsed as: digits, with a `+` before them or
--- not
+-- the content of the unsigned integer of so many bits that the text k is parsed as, if k is digits,
+-- with a `+` before them or not, and the integer is in range
 unfoldable pub read_unsigned : ℕ → List ℕ → Option Key
 read_unsigned bits k = read_digits (2 ^ bits) of_nat (without_leading_plus k)
 
--- the content of the signed integer of so many bits that the text k is parsed as: digits, with a `+` or a `-` before
--- them or not
+-- the content of the signed integer of so many bits that the text k is parsed as, if k is digits,
+-- with a `+` or a `-` before them or not, and the integer is in range
 unfoldable pub read_signed : ℕ → List ℕ → Option Key
 read_signed bits k =
     if starts_with_minus k then read_digits (2 ^ (bits - 1) + 1) (λ n. of_int (neg_ℤ (pos n))) (drop 1 k)

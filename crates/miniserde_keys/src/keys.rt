@@ -59,7 +59,7 @@ pub trait MapKey: Ranged + Sized + Eq + Drop {
     ghost one_text: { (a b : Self) → code (content a) ≡ code (content b) → text a ≡ text b };
 }
 
-// Appends a text. If `out` cannot grow, fails and leaves its text unchanged.
+// Appends `text` to `out`. If `out` cannot grow, fails and leaves its text unchanged.
 fn append(out: &mut String, text: &str) -> result::Result<(), AllocError>
     ensures ok { OnOk result (string_bytes out.new ≡ string_bytes out.old ++ text.now) }
     ensures err { OnErr result (string_bytes out.new ≡ string_bytes out.old) }

@@ -1,4 +1,5 @@
-//! The trait `Ranged`, which says which values of a type are valid.
+//! The trait `Ranged`, which says which values of a type are valid. For `char` and the integers,
+//! `ranged` reads the value, which tells the proof that it is in the range of its type.
 ghost use Rattle.std.specs.Prelude.{◌≡◌, ◌<◌, ◌^◌, FitsSigned, length, ⊤};
 ghost use Rattle.std.specs.Int.{w8, w16, w32, w64};
 ghost use Rattle.std.specs.List.{AllByRecursion};
@@ -38,7 +39,6 @@ impl Ranged for bool {
 impl Ranged for char {
     ghost real = { IsScalar };
 
-    // Reads the value, which tells the proof that it is in the range of its type.
     fn ranged(&self) {
         let _value = *self;
     }
@@ -157,7 +157,7 @@ impl<A: Ranged, B: Ranged> Ranged for (A, B) {
     }
 }
 
-// Calls `ranged` for each of the values, which promises that each is valid.
+// Calls `ranged` for each of the items, and so promises that each is valid.
 fn ranged_all<T: Ranged>(items: &[T])
     ensures { AllByRecursion T.real items.now }
 {

@@ -89,7 +89,8 @@ letter_t = 0x74
 abbrev pub letter_u : ℕ
 letter_u = 0x75
 
--- Worked cases: the numbers are the codes of the characters that RFC 8259 prints.
+-- Worked cases: the structural characters, the bytes of numbers and the bytes of strings are the
+-- codes of the characters that RFC 8259 prints.
 pub structural : begin_array ∷ begin_object ∷ end_array ∷ end_object ∷ name_separator ∷ value_separator ∷ [] ≡ codes "[{]}:,"
 structural = refl
 

@@ -34,6 +34,7 @@ abbrev mutual
   compact (list ts) = begin_array ∷ (compact_children ts ++ end_array ∷ [])
   compact (members ms) = begin_object ∷ (compact_members ms ++ end_object ∷ [])
 
+  -- the compact texts of a list's children, with commas between them
   pub compact_children : Trees → List ℕ
   compact_children no_trees = []
   compact_children (tree t ts) = compact t ++ compact_more ts

@@ -3,7 +3,7 @@ use Rattle.std.specs.Prelude.{ℕ, Bool, true, not, ◌&&◌, List, is_some, cod
 use Rattle.miniserde_model.specs.Tree.{Tree, list, members, Trees, no_trees, tree, Members, no_members, member, null}
 use Rattle.miniserde_model.specs.Normal.{last_of}
 
--- whether one of the members has the name, which is decoded text
+-- whether the name, as decoded text, is the name of one of the members
 abbrev pub has_name : List ℕ → Members → Bool
 has_name name ms = is_some (last_of name ms)
 
@@ -14,6 +14,7 @@ abbrev mutual
   names_distinct (members ms) = names_distinct_in_members ms
   names_distinct leaf = true
 
+  -- whether no object in the children has duplicate names
   pub names_distinct_in_children : Trees → Bool
   names_distinct_in_children no_trees = true
   names_distinct_in_children (tree t ts) = names_distinct t && names_distinct_in_children ts

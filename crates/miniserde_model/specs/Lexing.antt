@@ -79,8 +79,10 @@ pub record Begins (r : List ℕ) : Type 0 where
   pub no_list_end : byte ≡ end_array → ⊥
   pub no_members_end : byte ≡ end_object → ⊥
 
--- Inside a container of kind k, from s to r stands the closing bracket if the third argument is true, and else what
--- leads to a child: a comma, or only whitespace if `first` says that the opening bracket was just taken.
+-- Inside a container of the kind k, the text s goes on, after whitespace, with what the lexer
+-- takes, and r is the text after that. If the third argument is true, it takes the closing bracket.
+-- If not, a child is next, and it takes the comma before the child, or nothing if `first` says that
+-- the opening bracket was just taken.
 abbrev pub Follows : Kind → Bool → Bool → List ℕ → List ℕ → Type 0
 Follows k first true s r = Stands (IsByte (closing k)) s r
 Follows k true false s r = Stands (λ b. b ≡ []) s r × Begins r

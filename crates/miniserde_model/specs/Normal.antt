@@ -10,7 +10,9 @@ use Rattle.miniserde_model.specs.Tree.{Tree, nonneg, neg, list, members, Trees, 
 abbrev pub text_cmp : List ℕ → List ℕ → Ordering
 text_cmp = slice_cmp nat_cmp
 
--- one step of `with_first`, by the order of `name` and the first member's name `other`; `more` is its result for ms
+-- one step of `with_first`, for members of which the first has the name `other` and the tree u and
+-- the later ones are ms: the first argument is the order of `name` and `other`, and `more` is the
+-- result of `with_first` for ms
 abbrev pub with_first_by : Ordering → List ℕ → Tree → List ℕ → Tree → Members → Members → Members
 with_first_by Less name t other u ms more = member name t (member other u ms)
 with_first_by Equal name t other u ms more = member other u ms
@@ -21,24 +23,26 @@ abbrev pub with_first : List ℕ → Tree → Members → Members
 with_first name t no_members = member name t no_members
 with_first name t (member other u ms) = with_first_by (text_cmp name other) name t other u ms (with_first name t ms)
 
--- the leaf of a number with a minus in a normal form: `-0` becomes 0
+-- the leaf in a normal form of an integer that is written with a minus: `-0` becomes 0
 abbrev pub norm_neg : ℤ → Tree
 norm_neg (pos n) = nonneg n
 norm_neg (negsuc n) = neg (negsuc n)
 
 abbrev mutual
-  -- the normal form of a tree, in which f returns the leaf of each integer that is written with a minus
+  -- the normal form of a tree by f, which returns the leaf of each integer written with a minus
   pub norm_by : (ℤ → Tree) → Tree → Tree
   norm_by f (neg z) = f z
   norm_by f (list ts) = list (norm_children_by f ts)
   norm_by f (members ms) = members (norm_members_by f ms)
   norm_by f leaf = leaf
 
+  -- the normal forms by f of a list's children, in order
   pub norm_children_by : (ℤ → Tree) → Trees → Trees
   norm_children_by f no_trees = no_trees
   norm_children_by f (tree t ts) = tree (norm_by f t) (norm_children_by f ts)
 
-  -- the normal form of an object's members: of each name its last tree, in the order of the names
+  -- the normal form by f of an object's members: of each name the normal form of its last tree, in
+  -- byte order of the names
   pub norm_members_by : (ℤ → Tree) → Members → Members
   norm_members_by f no_members = no_members
   norm_members_by f (member name t ms) = with_first name (norm_by f t) (norm_members_by f ms)
@@ -79,7 +83,9 @@ Rise (member name t ms) = BeginsAbove name ms × Rise ms
 
 -- ---- the normal form as a reader makes it, from the left
 
--- one step of `put`, by the order of `name` and the first member's name `other`; `more` is its result for ms
+-- one step of `put`, for members of which the first has the name `other` and the tree u and the
+-- later ones are ms: the first argument is the order of `name` and `other`, and `more` is the
+-- result of `put` for ms
 abbrev pub put_first_by : Ordering → List ℕ → Tree → List ℕ → Tree → Members → Members → Members
 put_first_by Less name t other u ms more = member name t (member other u ms)
 put_first_by Equal name t other u ms more = member name t ms

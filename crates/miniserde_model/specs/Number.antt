@@ -65,7 +65,8 @@ begins_minus x = slice_index x 0 == minus_sign
 abbrev pub leaf_of_digits : List ℕ → List ℕ → Tree
 leaf_of_digits ds x = if nat_lt (digits_value 10 ds) (2 ^ 64) then nonneg (digits_value 10 ds) else num x
 
--- the leaf of a number text x that is a minus and the digits ds: an integer from - 2 ^ 63 on, and else the text x
+-- the leaf of a number text x that is a minus and the digits ds: an integer if it is - 2 ^ 63 or
+-- above, and else the number text x
 abbrev pub leaf_of_negated : List ℕ → List ℕ → Tree
 leaf_of_negated ds x = if nat_le (digits_value 10 ds) (2 ^ 63) then neg (neg_ℤ (pos (digits_value 10 ds))) else num x
 

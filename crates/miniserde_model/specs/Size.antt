@@ -9,10 +9,12 @@ abbrev mutual
   size (members ms) = 1 + size_of_members ms
   size leaf = 1
 
+  -- how many values the children have in all, themselves counted
   pub size_of_children : Trees → ℕ
   size_of_children no_trees = 0
   size_of_children (tree t ts) = size t + size_of_children ts
 
+  -- how many values the trees of the members have in all, themselves counted
   pub size_of_members : Members → ℕ
   size_of_members no_members = 0
   size_of_members (member name t ms) = size t + size_of_members ms

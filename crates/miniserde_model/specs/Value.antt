@@ -56,7 +56,8 @@ abbrev mutual
   IsValue (list ts) b = Between begin_array (AreElements ts) end_array b
   IsValue (members ms) b = Between begin_object (AreMembers ms) end_object b
 
-  -- the bytes b between the brackets of an array spell its elements: they are joined by commas, or there is none
+  -- the bytes b, which stand between the brackets of an array, spell the elements with commas
+  -- between them, or are whitespace alone if there are no elements
   pub AreElements : Trees → List ℕ → Type 0
   AreElements no_trees b = IsWhitespace b
   AreElements (tree t ts) b = Then (Spaced (IsValue t)) (AreMoreElements ts) b
@@ -66,7 +67,8 @@ abbrev mutual
   AreMoreElements no_trees b = b ≡ []
   AreMoreElements (tree t ts) b = (c : List ℕ) × (b ≡ value_separator ∷ c) × Then (Spaced (IsValue t)) (AreMoreElements ts) c
 
-  -- the bytes b between the brackets of an object spell its members: they are joined by commas, or there is none
+  -- the bytes b, which stand between the brackets of an object, spell the members with commas
+  -- between them, or are whitespace alone if there are no members
   pub AreMembers : Members → List ℕ → Type 0
   AreMembers no_members b = IsWhitespace b
   AreMembers (member name t ms) b = Then (Named (λ n. IsString n name) (IsValue t)) (AreMoreMembers ms) b

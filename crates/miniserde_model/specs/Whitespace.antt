@@ -15,6 +15,7 @@ IsWhitespace b = AllByRecursion IsSpace b
 pub space_and_line_feed : IsWhitespace (0x20 ∷ 0x0A ∷ [])
 space_and_line_feed = (inl refl, (inr (inr (inl refl)), tt))
 
+-- a form feed is no space
 no_form_feed : IsSpace 0x0C → ⊥
 no_form_feed (inl e) = omega (arith, e)
 no_form_feed (inr (inl e)) = omega (arith, e)

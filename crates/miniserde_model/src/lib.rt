@@ -41,8 +41,9 @@ pub fn norm_is_normal()
     ensures tree { NormIsTree }
 {}
 
-/// Does nothing. It promises that the normal form of members has, in byte order of the names, one member for each
-/// name: the normal form of the last member of that name. Putting the members one by one into a map gives the same.
+/// Does nothing. It promises that the normal form of members has, in byte order of the names, one
+/// member for each name, with the normal form of the name's last tree. No other members do. Putting
+/// the members one by one into a map gives this form.
 pub fn norm_of_members()
     ensures last { NormKeepsLast }
     ensures order { NormRises }

@@ -11,7 +11,8 @@ all_children f s (tree t ts) = option_and_then (λ r. all_children f r ts) (f s 
 abbrev pub with_last : {C X : Type 0} → (X → Option C) → List C → X → Option (List C)
 with_last f xs x = option_and_then (λ c. Some (xs ++ c ∷ [])) (f x)
 
--- the parts of a pair with one more: x gives the first part by f, or else the second by g; a third part gives nothing
+-- the parts of a pair so far with one more part from x: the first part by f, or else the second by
+-- g; `None` if the function returns none, or if the pair has both parts already
 abbrev pub pair_next : {A B X : Type 0} → (X → Option A) → (X → Option B) → Option A × Option B → X → Option (Option A × Option B)
 pair_next f g (None, b) x = option_map (λ a. (Some a, b)) (f x)
 pair_next f g (Some a, None) x = option_map (λ b. (Some a, Some b)) (g x)

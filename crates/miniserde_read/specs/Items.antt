@@ -18,11 +18,11 @@ pub record ItemsMeaning (V : Type 0) : Type 1 where
   -- children mean items exactly if they give the content of the items
   pub reads_agrees : (ts : Trees) (v : V) → reads ts v ↔ (from_trees ts ≡ Some (content v))
 
--- the meaning of no items: only no children mean them
+-- the meaning of an empty chain of items: children mean it if there are none
 abbrev pub no_items : ItemsMeaning (Unit {0})
 no_items = record { Content = Unit {0}; content = λ v. tt; from_trees = none_of; reads = NoneReads; reads_agrees = none-given }
 
--- the meaning of one item, by its meaning m, and of the items after it, by n
+-- the meaning of one item, by m, and of the items after it, by n
 abbrev pub item_and : {T V : Type 0} → Meaning T → ItemsMeaning V → ItemsMeaning (T × V)
 item_and m n = record {
   Content = m.Content × n.Content;
@@ -32,7 +32,8 @@ item_and m n = record {
   reads_agrees = item-given m.reads n.reads m.from_tree n.from_trees m.content n.content m.reads_agrees n.reads_agrees;
 }
 
--- the meaning of a tuple, of which `items` returns the items: a list means it if its children mean these by n
+-- the meaning of a tuple, by the meaning n of its items, which `items` returns: a list means the
+-- tuple if the list's children mean the items
 abbrev pub tuple_meaning : {V W : Type 0} → ItemsMeaning V → (W → V) → Meaning W
 tuple_meaning n items =
     meant (λ w. n.content (items w)) (tuple_of n.from_trees) (λ t w. TupleReads n.reads t (items w))
@@ -43,7 +44,7 @@ tuple_meaning n items =
 abbrev pub ItemsGiveAt : {C : Type 0} → (Trees → Option C) → Bool → List ℕ → List ℕ → C → Type 0
 ItemsGiveAt of first s r c = (ts : Trees) × ElementsAt ts first s r × (of ts ≡ Some c)
 
--- `of` returns no content for any elements that stand with a closing bracket in a prefix of s; `first` says that the
--- opening bracket was just taken
+-- `of` returns no content for any elements that a prefix of s spells, with the closing bracket;
+-- `first` says that the opening bracket was just taken
 abbrev pub ItemsGiveNoneAt : {C : Type 0} → (Trees → Option C) → Bool → List ℕ → Type 0
 ItemsGiveNoneAt of first s = (ts : Trees) (r : List ℕ) → ElementsAt ts first s r → of ts ≡ None

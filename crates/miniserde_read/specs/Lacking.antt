@@ -31,22 +31,28 @@ abbrev pub SomeElements : ℕ → Bool → List ℕ → List ℕ → Type 0
 SomeElements zero first s r = ⊥
 SomeElements (suc n) first s r = AnElement first s r ⊎ ((d : List ℕ) × AnElement first s d × SomeElements n false d r)
 
--- If `read` of the two parts never returns `Memory` (a and b), the value is a list (e), and one of its first two
--- elements, in the text of `old`, begins as a string with a backslash.
+-- What holds if reading a pair returns `Memory`: if `read` of neither part ever does (a and b are
+-- true), the first event e opens a list, and one of the list's first two elements, in the text of
+-- `old`, begins as a string with a backslash. `old` and `new` are the source before and after.
 abbrev pub PairLacks : Bool → Bool → Step → Remaining → Remaining → Type 0
 PairLacks a b e old new = a ≡ true → b ≡ true → (e ≡ seq) × EscapedAmong 2 true old.rest
 
--- If `read` of the items never returns `Memory` (a), the value is a list (e). In the text of `old`, one of its first
--- n elements begins as a string with a backslash, or from `old` to `new` stand at least one and at most n elements.
+-- What holds if reading an array of n items returns `Memory`: if `read` of an item never does (a is
+-- true), the first event e opens a list, and one of the list's first n elements, in the text of
+-- `old`, begins as a string with a backslash, or from `old` to `new` stand at least one and at most
+-- n elements. `old` and `new` are the source before and after.
 abbrev pub ArrayLacks : ℕ → Bool → Step → Remaining → Remaining → Type 0
 ArrayLacks n a e old new = a ≡ true → (e ≡ seq) × (EscapedAmong n true old.rest ⊎ SomeElements n true old.rest new.rest)
 
--- If `read` of no item returns `Memory` (all of the list are true), then among as many elements of s as there are
--- items, one begins as a string with a backslash.
+-- What holds if reading the items of a tuple from s returns `Memory`: if `read` of no item ever
+-- does (all of `infallible` are true), then among as many elements of s as there are items, one
+-- begins as a string with a backslash. `first` says that the opening bracket was just taken.
 abbrev pub ItemsLack : List Bool → Bool → List ℕ → Type 0
 ItemsLack infallible first s = AllByRecursion (λ b. b ≡ true) infallible → EscapedAmong (length infallible) first s
 
--- If `read` of no item returns `Memory` (all of the list are true), the value is a list (e), and among as many
--- elements as there are items, in the text of `old`, one begins as a string with a backslash.
+-- What holds if reading a tuple returns `Memory`: if `read` of no item ever does (all of
+-- `infallible` are true), the first event e opens a list, and among as many of its elements as
+-- there are items, in the text of `old`, one begins as a string with a backslash. `old` and `new`
+-- are the source before and after.
 abbrev pub TupleLacks : List Bool → Step → Remaining → Remaining → Type 0
 TupleLacks infallible e old new = AllByRecursion (λ b. b ≡ true) infallible → (e ≡ seq) × EscapedAmong (length infallible) true old.rest

@@ -6,7 +6,7 @@ use Rattle.miniserde_keys.specs.Keys.{Key}
 use Rattle.miniserde_read.specs.types.Objects.{Name}
 use Rattle.miniserde_read.specs.types.Maps.{first_and_last_at}
 
--- in a tree: the tree of its last member of the name, if it is an object that has such a member
+-- the tree of the last member of the name, if the second argument is an object that has one
 abbrev pub last_in : Name → Tree → Option Tree
 last_in name (members ms) = last_of name ms
 last_in name _ = None

@@ -14,6 +14,6 @@ pub record Meaning (V : Type 0) : Type 1 where
   -- a tree means a value exactly if it gives the value's content
   pub reads_agrees : (t : Tree) (v : V) → reads t v ↔ (from_tree t ≡ Some (content v))
 
--- the meaning that has its arguments for its fields, with C for the type of content
+-- the meaning whose fields are the arguments, with C as the type of the content
 abbrev pub meant : {V C : Type 0} (content : V → C) (from_tree : Tree → Option C) (reads : Tree → V → Type 0) → ((t : Tree) (v : V) → reads t v ↔ (from_tree t ≡ Some (content v))) → Meaning V
 meant {V} {C} content from_tree reads agrees = record { Content = C; content = content; from_tree = from_tree; reads = reads; reads_agrees = agrees }

@@ -43,21 +43,22 @@ signed_meaning bits = meant (λ z. z) (signed_of bits) (ReadsSigned bits) (signe
 abbrev pub string_meaning : {W : Type 0} → (W → List ℕ) → Meaning W
 string_meaning bytes = meant bytes string_of (λ t s. t ≡ str (bytes s)) (λ t s. text-given t (bytes s))
 
--- the meaning of a list, of which `items` returns the items: a list means it if its children mean these by m
+-- the meaning of a vector or a queue, of which `items` returns the items: a list means it if the
+-- list's children mean the items by m
 abbrev pub list_meaning : {V W : Type 0} → Meaning V → (W → List V) → Meaning W
 list_meaning m items =
     meant (λ v. map m.content (items v)) (list_of m.from_tree) (λ t v. ListReads m.reads t (items v))
     (λ t v. list-given m.reads m.from_tree m.content m.reads_agrees t (items v))
 
--- the meaning of an array of n items, which `items` returns: a list of exactly n means it if its children mean these
--- by m
+-- the meaning of an array of n items, which `items` returns: a list of exactly n children means it
+-- if the children mean the items by m
 abbrev pub array_meaning : {V W : Type 0} → ℕ → Meaning V → (W → List V) → Meaning W
 array_meaning n m items =
     meant (λ v. map m.content (items v)) (array_of n m.from_tree) (λ t v. ArrayReads n m.reads t (items v))
     (λ t v. array-given n m.reads m.from_tree m.content m.reads_agrees t (items v))
 
--- the meaning of a pair, of which `one` and `two` return the parts: a list of two children means it if they mean
--- these, by m and by n
+-- the meaning of a pair, of which `one` and `two` return the parts: a list of exactly two children
+-- means it if the children mean the parts, by m and by n
 abbrev pub pair_meaning : {V U W : Type 0} → Meaning V → Meaning U → (W → V) → (W → U) → Meaning W
 pair_meaning m n one two =
     meant (λ v. (m.content (one v), n.content (two v))) (pair_of m.from_tree n.from_tree)

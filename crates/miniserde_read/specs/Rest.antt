@@ -6,8 +6,9 @@ use Rattle.miniserde_model.specs.Step as step
 use Rattle.miniserde_model.specs.Lexing.{Starts, Names, Follows}
 use Rattle.miniserde_model.specs.declared.kind.Kind.TheVariants.{Seq, Map}
 
--- After a comma, unless `first` is true, s goes on with an element: its first event, and by V the rest of its text,
--- up to `rest`. K relates `rest` and r.
+-- The text s goes on with an element, after a comma unless `first` is true. V relates the element's
+-- first event, the text behind its first token, and the text `rest` behind the element; K relates
+-- `rest` and r.
 pub record OneElement (V : Step → List ℕ → List ℕ → Type 0) (K : List ℕ → List ℕ → Type 0) (first : Bool) (s r : List ℕ) : Type 0 where
   pub begin : List ℕ
   pub event : Step
@@ -18,8 +19,9 @@ pub record OneElement (V : Step → List ℕ → List ℕ → Type 0) (K : List 
   pub is_value : V event behind rest
   pub is_rest : K rest r
 
--- After a comma, unless `first` is true, s goes on with a member: its name, its value's first event, and by V the
--- rest of the value's text, up to `rest`. K relates `rest` and r.
+-- The text s goes on with a member of the name, after a comma unless `first` is true. V relates the
+-- first event of the member's value, the text behind the value's first token, and the text `rest`
+-- behind the value; K relates `rest` and r.
 pub record OneMember (name : List ℕ) (V : Step → List ℕ → List ℕ → Type 0) (K : List ℕ → List ℕ → Type 0) (first : Bool) (s r : List ℕ) : Type 0 where
   pub begin : List ℕ
   pub named : List ℕ

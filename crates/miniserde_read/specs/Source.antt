@@ -13,14 +13,16 @@ pub record Remaining : Type 0 where
   pub refused : Option Error
   pub scratch : List ℕ
 
--- Inside an array, from s to r stands its closing bracket, if there is no token, and else what leads to an element
--- and its first token. `first` says that the opening bracket was just taken.
+-- Inside an array, from s to r stands the closing bracket if there is no token, and else a comma
+-- and the token, which is the first one of an element. `scratch` is the scratch text, and `first`
+-- says that the opening bracket was just taken, so that no comma is due.
 abbrev pub ElementFollows : Option Event → List ℕ → Bool → List ℕ → List ℕ → Type 0
 ElementFollows None scratch first s r = Follows Seq first true s r
 ElementFollows (Some e) scratch first s r = (b : List ℕ) × Follows Seq first false s b × Starts b (event_of_token e scratch) r
 
--- Inside an object, from s to r stands its closing bracket, if there is no name, and else what leads to a member and
--- its name. `first` says that the opening bracket was just taken.
+-- Inside an object, from s to r stands the closing bracket if there is no name, and else a comma,
+-- the name of a member and its colon. `scratch` is the scratch text, and `first` says that the
+-- opening bracket was just taken, so that no comma is due.
 abbrev pub NameFollows : Option Text → List ℕ → Bool → List ℕ → List ℕ → Type 0
 NameFollows None scratch first s r = Follows Map first true s r
 NameFollows (Some t) scratch first s r = (b : List ℕ) × Follows Map first false s b × Names b (text_of t scratch) r

@@ -29,7 +29,8 @@ pub trait FromJson: Sized + Drop {
     // Which trees mean which values.
     ghost means: { Meaning Self };
 
-    // The value of a struct's field of this type that no member has, or none if such a struct is an error.
+    // The value of a missing field of this type, or `None` if an object without that field's member
+    // is an error.
     ghost absent: { Option Self } = { None };
 
     // Whether `read` never returns `Memory`.

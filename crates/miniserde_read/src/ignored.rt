@@ -54,9 +54,10 @@ fn skip<'a>(token: Event<'a>, source: &mut Source<'a>) -> Result<()>
     Ok(())
 }
 
-/// Takes the closing bracket of the innermost container, or everything up to the first token of its next child, with
-/// that token. Returns whether a container was opened, or the error of the source or the stack. `first` says that the
-/// opening bracket was just taken.
+/// Takes the closing bracket of the innermost container, whose kind is `kind`, or everything up to
+/// the first token of its next child, with that token. `first` says that the opening bracket was
+/// just taken. Returns whether a container was opened, `Invalid` if neither is next, or `Memory` if
+/// an allocation fails.
 fn take_child_or_end<'a>(
     source: &mut Source<'a>,
     stack: &mut Stack,
@@ -86,8 +87,9 @@ fn take_child_or_end<'a>(
     }
 }
 
-/// Takes the first token of a value. Returns whether that token opened a container, whose kind is then on the stack.
-/// Returns the error of the source, or `Memory` if the stack cannot grow.
+/// Takes the first token of a value, and pushes the kind of the container that the token opens, if
+/// any. Returns whether there is one, `Invalid` if no token is next, or `Memory` if an allocation
+/// fails.
 #[inline(always)]
 fn begin<'a>(source: &mut Source<'a>, stack: &mut Stack) -> Result<bool>
     requires { source.old.refused ≡ None }

@@ -24,9 +24,9 @@ pub trait Items {
     // For each item, whether its `read` never returns `Memory`.
     ghost infallible: { List Bool };
 
-    /// Reads the rest of a list, which is one element for each item of the chain, and the closing bracket. `first` says
-    /// that the opening bracket was just taken. Returns `Invalid` if no prefix of the text is that, and `Memory` if an
-    /// allocation fails.
+    /// Reads the rest of a list: one element for each item of the chain, and the closing bracket.
+    /// `first` says that the opening bracket was just taken. Returns `Invalid` if no prefix of the
+    /// text is such a rest with elements that mean the items, and `Memory` if an allocation fails.
     fn read_items<'a>(source: &mut Source<'a>, first: bool) -> Result<Self::Values>
         requires { source.old.refused ≡ None }
         ensures going { IfOk result (λ _. source.new.refused ≡ None) }

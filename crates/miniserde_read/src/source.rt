@@ -123,8 +123,9 @@ impl<'a> Source<'a> {
         }
     }
 
-    /// Takes the closing bracket of a container of the kind, or the comma before its next child. `first` says that
-    /// the opening bracket was just taken, so that no comma is due. Returns `Invalid` if neither is next.
+    /// Takes the closing bracket of a container of the kind, or the comma before its next child.
+    /// Returns which of the two is next, or `Invalid` if neither is. `first` says that the opening
+    /// bracket was just taken, so that no comma is due.
     #[inline(always)]
     pub fn after(&mut self, kind: Kind, first: bool) -> Result<After>
         ensures going { IfOk result (λ _. self.new.refused ≡ None) }
@@ -189,7 +190,7 @@ impl<'a> Source<'a> {
         mem::replace(&mut self.scratch, String::new(self.alloc))
     }
 
-    /// Returns the event of the token that was taken last.
+    /// Returns the event of `token`, which must be the one that was taken last.
     #[inline(always)]
     pub fn step<'b>(&'b self, token: Event<'b>) -> Step<'b>
         ensures { event_of result ≡ event_of_token token.entry self.now.scratch }

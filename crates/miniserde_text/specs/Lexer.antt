@@ -25,7 +25,7 @@ abbrev pub text_of : Text → List ℕ → List ℕ
 text_of (Input s) scratch = s.now
 text_of Scratch scratch = scratch
 
--- the event of the token; `scratch` is the scratch text, in which a decoded string is
+-- the event of the token; the text of a string that was decoded is the scratch text `scratch`
 abbrev pub event_of_token : Event → List ℕ → step.Step
 event_of_token event.Null scratch = step.null
 event_of_token (event.Bool b) scratch = boolean b
@@ -36,7 +36,7 @@ event_of_token (event.Str t) scratch = string (text_of t scratch)
 event_of_token event.SeqStart scratch = seq
 event_of_token event.MapStart scratch = map
 
--- whether the container was closed
+-- whether the container's closing bracket is next, and not a child
 abbrev pub is_close : After → Bool
 is_close after.Close = true
 is_close after.Next = false
@@ -47,34 +47,35 @@ is_close after.Next = false
 abbrev pub HasBackslash : List ℕ → Type 0
 HasBackslash x = (a b : List ℕ) × (x ≡ a ++ 92 ∷ b)
 
--- Between the quotes of a string stands `inside`: the borrowed text, which then contains no backslash, or, for a
--- decoded text, bytes that contain one.
+-- The text of a string is as the bytes `inside` its quotes demand: borrowed, and then equal to
+-- them, if they contain no backslash, and decoded if they contain one.
 abbrev pub StandsFor : Text → List ℕ → Type 0
 StandsFor (Input x) inside = (inside ≡ x.now) × (HasBackslash inside → ⊥)
 StandsFor Scratch inside = HasBackslash inside
 
--- if the token is a string, s begins with it after whitespace, r is the rest, and its text is borrowed if no
--- backslash is in it, and decoded if one is
+-- if the token is a string, s begins with it after whitespace, r is the text after it, and the
+-- token's text is decoded if the string has a backslash, and else borrowed
 abbrev pub EventStandsFor : Event → List ℕ → List ℕ → Type 0
 EventStandsFor (event.Str t) s r = Stands (Between 34 (StandsFor t) 34) s r
 EventStandsFor _ s r = ⊤
 
--- after whitespace, s begins with a name and its colon, r is the rest, and the name's text t is borrowed if no
--- backslash is in it, and decoded if one is
+-- after whitespace, s begins with a name and its colon, r is the text after them, and the name's
+-- text t is decoded if the name has a backslash, and else borrowed
 abbrev pub NameStandsFor : Text → List ℕ → List ℕ → Type 0
 NameStandsFor t s r = Stands (BeforeColon (Between 34 (StandsFor t) 34)) s r
 
--- if the text is borrowed, the scratch text `new` is `old`, with its capacity
+-- if the text is borrowed, the scratch text `new` equals `old`, and so does its capacity
 abbrev pub LeavesScratch : {S : Type 0} → Text → S → S → Type 0
 LeavesScratch (Input x) old new = new ≡ old
 LeavesScratch Scratch old new = ⊤
 
--- unless the token is a string that was decoded, the scratch text `new` is `old`, with its capacity
+-- unless the token is a string that was decoded, the scratch text `new` equals `old`, and so does
+-- its capacity
 abbrev pub EventLeavesScratch : {S : Type 0} → Event → S → S → Type 0
 EventLeavesScratch (event.Str t) old new = LeavesScratch t old new
 EventLeavesScratch _ old new = new ≡ old
 
--- after whitespace, s begins with a quote, and then with bytes that need no escape and a backslash
+-- after whitespace, s begins with a quote, bytes that need no escape, and a backslash
 abbrev pub BeginsEscaped : List ℕ → Type 0
 BeginsEscaped s = (r : List ℕ) × Stands (Between 34 (AllByRecursion (λ c. is_special c ≡ false)) 92) s r
 

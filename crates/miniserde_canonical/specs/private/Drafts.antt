@@ -7,7 +7,8 @@ use Rattle.miniserde_canonical.specs.private.Spreads.{Good}
 use Rattle.miniserde_canonical.specs.private.Sorting.{Chain}
 use Rattle.miniserde_canonical.specs.private.Arranging.{State, Run}
 
--- if the input that is left is `rest`, the draft's text and the run of input after it are the bytes bs
+-- where `rest` of the input is left, the text of the draft, with the run of input that is not in
+-- the text yet, is the bytes bs
 pub record Wrote (d : Draft) (rest bs : List ℕ) : Type 0 where
   pub front : List ℕ
   pub run : List ℕ
@@ -28,7 +29,7 @@ pub record Represents (d : Draft) (rest : List ℕ) (s : State) : Type 0 where
   pub wrote : Wrote d rest bytes
   pub holding : Holding d bytes s
 
--- from d to d' nothing changes but the bytes of the text and the run of input after it
+-- from d to d' nothing changes but the bytes of the text and the run of input that is not in it yet
 pub record ChangesOnlyText (d d' : Draft) : Type 0 where
   pub splices : d'.out.splices.items ≡ d.out.splices.items
   pub groups : d'.groups.bytes.items ≡ d.groups.bytes.items

@@ -13,7 +13,7 @@ abbrev pub first_name : List Member → List ℕ
 first_name [] = []
 first_name (m ∷ ms) = name_of m.name
 
--- the name of the member at the index i
+-- the name of the member at the index i, or the empty text if there is none
 abbrev pub name_in : List Member → ℕ → List ℕ
 name_in ms i = first_name (drop i ms)
 
@@ -55,7 +55,7 @@ abbrev pub begins_with_name : List ℕ → Members → Bool
 begins_with_name n no_members = false
 begins_with_name n (member m t ms) = bytes_eq n m
 
--- the members; of several of one name side by side only the last
+-- the members without each one whose name the next one has too
 abbrev pub without_repeats : Members → Members
 without_repeats no_members = no_members
 without_repeats (member n t ms) = if begins_with_name n ms then without_repeats ms else member n t (without_repeats ms)

@@ -1,4 +1,5 @@
--- How the members of an object that closes are put in order, in a text with splices and in the groups.
+-- How the members of an object that closes are put in order, in the text and in the groups.
+-- ms and gs: the bytes and splices of the groups; bs and hs: the bytes and splices of a text.
 use Rattle.std.specs.Prelude.{◌≡◌, ◌≤◌, ◌+◌, ℕ, Bool, true, List, [], ◌∷◌, ◌++◌, length, take, drop, ⊤}
 use Rattle.miniserde_model.specs.Tree.{Tree, str}
 use Rattle.miniserde_model.specs.Normal.{norm_members}
@@ -11,8 +12,9 @@ use Rattle.miniserde_canonical.specs.private.Names.{name_of}
 use Rattle.miniserde_canonical.specs.private.Members.{begin_of, members_at, without_repeats}
 use Rattle.miniserde_canonical.specs.private.Arranging.{Entry, next_text, entry_members, gap, members_text, count, once_each}
 
--- The member n, which stands for the entry e, splits a text whose bytes bs have indices from `at` on, and whose
--- splices hs have indices from k on: b and h are before it, and c and g after its begin.
+-- The begin of the member n, which stands for the entry e, splits a text: b and h are the bytes and
+-- the splices before the member's comma, and c and g those after it. The bytes bs have indices from
+-- `at` on, and the splices hs from k on.
 pub record Seam (n : Member) (e : Entry) (at k : ℕ) (bs : List ℕ) (hs : List Splice) (b c : List ℕ) (h g : List Splice) : Type 0 where
   pub bytes : bs ≡ b ++ (gap e.first ++ c)
   pub splices : hs ≡ h ++ g
@@ -21,8 +23,8 @@ pub record Seam (n : Member) (e : Entry) (at k : ℕ) (bs : List ℕ) (hs : List
   pub begins : n.point.bytes ≡ at + length (b ++ gap e.first)
   pub behind : n.point.splices ≡ k + length h
 
--- Over the groups ms and gs, the bytes bs, with indices from `at` on, and the splices hs, from k on, hold the text
--- before each of the entries es, for which the members ns stand, and then `last`.
+-- The bytes bs, with indices from `at` on, and the splices hs, with indices from k on, hold the
+-- text before each of the entries es, for which the members ns stand, and then the text `last`.
 abbrev pub Chain : List Member → List Entry → List ℕ → List Splice → ℕ → ℕ → List ℕ → List Splice → List ℕ → Type 0
 Chain [] [] ms gs at k bs hs last = Holds ms gs at bs hs last
 Chain (n ∷ ns) (e ∷ es) ms gs at k bs hs last = (b c : List ℕ) × (h g : List Splice) × Seam n e at k bs hs b c h g × Holds ms gs at b h e.text × Chain ns es ms gs n.point.bytes n.point.splices c g last
@@ -51,12 +53,13 @@ Own [] [] ms gs bs hs last = ⊤
 Own (n ∷ ns) (e ∷ es) ms gs bs hs last = OwnFrom n ns e es ms gs bs hs last
 Own _ _ ms gs bs hs last = ⊥
 
--- the text of the first of the entries, up to the next one or else `last`
+-- the text of the first of the entries, which is the text before the next one, or `last` if there
+-- is no next one; empty without entries
 abbrev pub text_at : List Entry → List ℕ → List ℕ
 text_at [] last = []
 text_at (e ∷ es) last = next_text es last
 
--- the text of the entry at the index i, as a string
+-- a string with the text of the entry at the index i; the text of the last entry is `last`
 abbrev pub text_tree_at : List Entry → List ℕ → ℕ → Tree
 text_tree_at es last i = str (text_at (drop i es) last)
 

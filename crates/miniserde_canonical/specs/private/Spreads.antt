@@ -23,7 +23,8 @@ splices_in p hs = part_between p.from.splices p.to.splices hs
 abbrev pub shifted_splice : ℕ → ℕ → Splice → Splice
 shifted_splice from at h = record { at = at + (h.at - from); group = h.group }
 
--- over the groups ms and gs, the bytes bs, with indices from `at` on, and the splices hs hold the text x
+-- the bytes bs, with indices from `at` on, are the text x once each of the splices hs is filled
+-- with its group; the groups have the bytes ms and the splices gs
 pub data Holds : List ℕ → List Splice → ℕ → List ℕ → List Splice → List ℕ → Type 0 where
   none : {ms : List ℕ} {gs : List Splice} {at : ℕ} → Holds ms gs at [] [] []
   byte : {ms : List ℕ} {gs : List Splice} {at : ℕ} {bs : List ℕ} {hs : List Splice} {x : List ℕ} (c : ℕ) → Holds ms gs (suc at) bs hs x → Holds ms gs at (c ∷ bs) hs (c ∷ x)

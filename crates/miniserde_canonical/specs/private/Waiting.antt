@@ -4,11 +4,12 @@ use Rattle.miniserde_canonical.specs.declared.spread.Span.{Span}
 use Rattle.miniserde_canonical.specs.declared.spread.Splice.{Splice}
 use Rattle.miniserde_canonical.specs.private.Spreads.{Holds, Within, bytes_in, splices_in}
 
--- the span p of the groups ms and gs holds the text x
+-- the span p of the groups, which have the bytes ms and the splices gs, holds the text x
 abbrev pub SpanHolds : List ℕ → List Splice → Span → List ℕ → Type 0
 SpanHolds ms gs p x = Within p ms gs × Holds ms gs p.from.bytes (bytes_in p ms) (splices_in p gs) x
 
--- the spans of the groups ms and gs hold the text x, if they are written from the last one to the first
+-- the spans of the groups, which have the bytes ms and the splices gs, hold the text x if they are
+-- written from the last one to the first
 abbrev pub Waits : List ℕ → List Splice → List Span → List ℕ → Type 0
 Waits ms gs [] x = x ≡ []
 Waits ms gs (p ∷ ps) x = (y z : List ℕ) × Waits ms gs ps y × SpanHolds ms gs p z × (x ≡ y ++ z)

@@ -1,4 +1,5 @@
-//! Reads and writes integers as keys.
+//! Reads and writes integers as keys. A key is read from decimal digits, before which a `+` may
+//! stand, or a `-` if the type is signed. `usize` and `isize` have 64 bits.
 #![tactic(auto, using(crate::specs::laws::Keys::integer_reads))]
 
 ghost use Rattle.std.specs.Prelude.{◌≡◌, ◌<◌, ◌+◌, ◌++◌, true, OnOk, OnErr, refl, length, string_bytes};
@@ -15,7 +16,7 @@ use miniserde_model::error::{Error, Result};
 use std::alloc::{AllocError, Global};
 use std::result;
 
-// Appends an integer in decimal. If `out` cannot grow, fails and leaves its text unchanged.
+// Appends `n` in decimal to `out`. If `out` cannot grow, fails and leaves its text unchanged.
 fn append_integer<I: Integer>(out: &mut String, n: I) -> result::Result<(), AllocError>
     ensures ok { OnOk result (string_bytes out.new ≡ string_bytes out.old ++ I.text n) }
     ensures err { OnErr result (string_bytes out.new ≡ string_bytes out.old) }

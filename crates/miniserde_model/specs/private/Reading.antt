@@ -26,7 +26,8 @@ pub record StandsThen (P K : List ℕ → Type 0) (b : List ℕ) : Type 0 where
   pub is_part : P part
   pub is_rest : K rest
 
--- from the moment on, inside the open containers st (innermost first), the text b spells the events and closes all
+-- from the moment on, inside the open containers st (innermost first), the text b spells the events
+-- up to its end, where no container is open any more
 abbrev pub Spells : Moment → List Step → List Kind → List ℕ → Type 0
 Spells due (step.null ∷ es) st b = StandsThen (IsValue null) (Spells after es st) b
 Spells due (boolean x ∷ es) st b = StandsThen (IsValue (truth x)) (Spells after es st) b

@@ -8,7 +8,8 @@ use Rattle.miniserde_model.specs.private.Reading.{Moment, due, first, after}
 use Rattle.miniserde_text.specs.private.Stack.{with_opened}
 use Rattle.miniserde_text.specs.private.Moving.{opened_kind, before_child, IsLive}
 
--- from the moment on, inside the open containers st, the text from s to r spells the events, and they close all
+-- from the moment on, inside the open containers st, the text from s to r spells the events, after
+-- which no container is open
 abbrev pub Runs : Moment → List Step → List Kind → List ℕ → List ℕ → Type 0
 Runs due (e ∷ es) st s r = (b : List ℕ) × Starts s e b × Runs (before_child (is_some (opened_kind e))) es (with_opened (opened_kind e) st) b r
 Runs first (element ∷ es) (Seq ∷ st) s r = (b : List ℕ) × Follows Seq true false s b × Runs due es (Seq ∷ st) b r
@@ -20,19 +21,21 @@ Runs after (key n ∷ es) (Map ∷ st) s r = (b c : List ℕ) × Follows Map fal
 Runs after (finish ∷ es) (k ∷ st) s r = (b : List ℕ) × Follows k false true s b × Runs after es st b r
 Runs _ _ _ _ _ = ⊥
 
--- Between m, with the open containers st, and m', with st', the text from s to s' spells the events `done`. All
--- events that s spells until all is closed begin with them.
+-- The text from s to s' spells the events `done`, and leads from the moment m inside the open
+-- containers st to the moment m' inside st'. Any events that s spells until no container is open
+-- begin with `done`.
 pub record Consumes (m : Moment) (st : List Kind) (s : List ℕ) (done : List Step) (m' : Moment) (st' : List Kind) (s' : List ℕ) : Type 0 where
   pub on : (es : List Step) (r : List ℕ) → Runs m' es st' s' r → Runs m (done ++ es) st s r
   pub back : (es : List Step) (r : List ℕ) → Runs m es st s r → (rest : List Step) × (es ≡ done ++ rest) × Runs m' rest st' s' r
   pub live : IsLive m' st'
 
--- between m, with the open containers st, and m', with st', the text from s to s' spells some events as `Consumes`
--- says
+-- the text from s to s' spells some events, and leads from m inside st to m' inside st'
+-- (`Consumes`)
 pub record Reaches (m : Moment) (st : List Kind) (s : List ℕ) (m' : Moment) (st' : List Kind) (s' : List ℕ) : Type 0 where
   pub done : List Step
   pub passed : Consumes m st s done m' st' s'
 
--- from m on, inside the open containers st, no prefix of the text s spells events that close all
+-- from the moment m on, inside the open containers st, no prefix of the text s spells events after
+-- which no container is open
 abbrev pub NeverRuns : Moment → List Kind → List ℕ → Type 0
 NeverRuns m st s = (es : List Step) (r : List ℕ) → Runs m es st s r → ⊥

@@ -72,8 +72,8 @@ with_entry code m c d q = if bytes_eq (code c) q then Some (present_key_or (m q)
 abbrev pub map_content : {K V C : Type 0} → (Key → Key) → (K → Key) → (V → C) → List (K × V) → Entries C
 map_content code content value es q = option_map (λ e. (content e.0, value e.1)) (entry_at (λ k. code (content k)) q es)
 
--- the content m of a map with one more member: its name k is read as a key, and f returns the content of its value
--- by x, which is the member's tree or its events
+-- the content m of a map with one more member, if `read` returns a key for its name k and f a
+-- content for its value x, which is a tree or the events of one
 abbrev pub map_member : {C X : Type 0} → (Name → Option Key) → (Key → Key) → (X → Option C) → Entries C → Name → X → Option (Entries C)
 map_member read code f m k x = option_and_then (λ c. option_map (with_entry code m c) (f x)) (read k)
 

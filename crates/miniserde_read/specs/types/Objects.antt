@@ -11,7 +11,7 @@ abbrev pub all_members : {S : Type 0} → (S → Name → Tree → Option S) →
 all_members f s no_members = Some s
 all_members f s (member k t ms) = option_and_then (λ r. all_members f r ms) (f s k t)
 
--- what f returns for the members of an object; any other tree gives nothing
+-- what f returns for the members of an object; `None` for any other tree
 abbrev pub object_of : {R : Type 0} → (Members → Option R) → Tree → Option R
 object_of f (members ms) = f ms
 object_of f _ = None

@@ -8,7 +8,8 @@ abbrev pub OptionReads : {T : Type 0} → (Tree → T → Type 0) → Tree → O
 OptionReads R t None = t ≡ null
 OptionReads R t (Some x) = (t ≢ null) × R t x
 
--- the content of an optional value: null gives that of `None`, and any other tree what `of` returns for it
+-- the content of the optional value that a tree means: that of `None` for null, and what `of`
+-- returns for any other tree
 abbrev pub option_of : {C : Type 0} → (Tree → Option C) → Tree → Option (Option C)
 option_of of null = Some None
 option_of of t = option_map Some (of t)

@@ -4,7 +4,7 @@ use Rattle.miniserde_model.specs.Tree.{Tree, list, Trees, no_trees, tree, truth}
 use Rattle.miniserde_read.specs.types.Pairs.{both}
 use Rattle.miniserde_read.specs.types.Words.{boolean_of}
 
--- the children mean no items: there are none
+-- there are no children, since there are no items
 abbrev pub NoneReads : Trees → Unit {0} → Type 0
 NoneReads no_trees v = ⊤
 NoneReads (tree t ts) v = ⊥
@@ -29,7 +29,7 @@ abbrev pub TupleReads : {V : Type 0} → (Trees → V → Type 0) → Tree → V
 TupleReads R (list ts) v = R ts v
 TupleReads R _ v = ⊥
 
--- what f returns for the children of a list; any other tree gives nothing
+-- what f returns for the children of a list; `None` for any other tree
 abbrev pub tuple_of : {C : Type 0} → (Trees → Option C) → Tree → Option C
 tuple_of f (list ts) = f ts
 tuple_of f _ = None

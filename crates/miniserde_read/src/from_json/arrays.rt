@@ -18,6 +18,7 @@ impl<T: FromJson, const N: usize> FromJson for [T; N] {
         None
     }
 
+    // Returns `Invalid` before it reads an element that is one too many.
     fn read<'a>(token: Event<'a>, source: &mut Source<'a>) -> Result<[T; N]> {
         let Event::SeqStart = token else {
             return Err(Error::Invalid);

@@ -9,6 +9,7 @@ use miniserde_text::json::lex::Event;
 impl<T: FromJson> FromJson for Box<T> {
     ghost means = { box_meaning T.means (λ b. b.value) };
 
+    // A missing field is an error, even if the box is one of an `Option`.
     fn missing() -> Option<Box<T>> {
         None
     }

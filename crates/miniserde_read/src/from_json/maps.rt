@@ -66,6 +66,7 @@ impl<K: MapKey + Hash, V: Drop, H: BuildHasher + Default + Drop> Table for HashM
 
     ghost entries = { λ m. m.entries };
 
+    // The map's hasher is `H::default()`.
     fn new(alloc: Global) -> HashMap<K, V, H> {
         HashMap::with_hasher(alloc, H::default())
     }

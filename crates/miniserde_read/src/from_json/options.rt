@@ -16,6 +16,7 @@ impl<T: FromJson> FromJson for Option<T> {
 
     ghost lacking = { T.lacking };
 
+    // A missing field has the value `None`.
     fn missing() -> Option<Option<T>> {
         Some(None)
     }

@@ -1,4 +1,5 @@
-//! Reads integers from single tokens. `usize` and `isize` have 64 bits.
+//! Reads integers from single tokens. An unsigned type takes no number with a minus, not even `-0`.
+//! `usize` and `isize` have 64 bits.
 ghost use Rattle.std.specs.Prelude.{◌≡◌, true, refl};
 ghost use Rattle.miniserde_read.specs.Meanings.{unsigned_meaning, signed_meaning};
 

@@ -12,17 +12,18 @@ use Rattle.miniserde_text.specs.declared.json.lex.Event.{Event}
 use Rattle.miniserde_text.specs.declared.json.lex.Event.TheVariants as event
 use Rattle.miniserde_text.specs.Lexer.{StandsFor}
 
--- the text t is pieces that stand for the characters, in order, then a quote, then r
+-- the text t is a piece (`IsPiece`) for each of the characters, in order, then a quote, then r
 abbrev pub Chars : List ℕ → List ℕ → List ℕ → Type 0
 Chars [] t r = t ≡ 34 ∷ r
 Chars (c ∷ cs) t r = (p : List ℕ) × (t' : List ℕ) × IsPiece p c × (t ≡ p ++ t') × Chars cs t' r
 
--- from t to t' stand pieces of the characters ds, and the characters up to the closing quote of t begin with ds
+-- the text t is pieces of the characters ds and then t', and any characters that t spells up to a
+-- closing quote begin with ds
 pub record Passes (ds t t' : List ℕ) : Type 0 where
   pub on : (cs r : List ℕ) → Chars cs t' r → Chars (ds ++ cs) t r
   pub back : (cs r : List ℕ) → Chars cs t r → (es : List ℕ) × (cs ≡ ds ++ es) × Chars es t' r
 
--- from t to t' stand pieces of some characters, and `new` is `old` with the bytes of these characters appended
+-- `new` is `old` with the UTF-8 bytes of some characters appended, whose pieces stand from t to t'
 abbrev pub Adds : List ℕ → List ℕ → List ℕ → List ℕ → Type 0
 Adds old new t t' = (ds : List ℕ) × Passes ds t t' × (new ≡ old ++ encode_utf8_all ds)
 
@@ -40,21 +41,21 @@ TakesToken t e r = BeginsWith (Piece e) t r × Ends e r
 abbrev pub TakesName : List ℕ → List ℕ → List ℕ → Type 0
 TakesName t n r = BeginsWith (IsName n) t r
 
--- if the token is a string, t begins with it, r is the rest, and its text is borrowed if no backslash is in it, and
--- decoded if one is
+-- if the token is a string, t begins with it, r is the text after it, and the token's text is
+-- decoded if the string has a backslash, and else borrowed
 abbrev pub EventTakesText : Event → List ℕ → List ℕ → Type 0
 EventTakesText (event.Str x) t r = BeginsWith (Between 34 (StandsFor x) 34) t r
 EventTakesText _ t r = ⊤
 
--- t begins with a name and its colon, r is the rest, and the name's text x is borrowed if no backslash is in it, and
--- decoded if one is
+-- t begins with a name and its colon, r is the text after them, and the name's text x is decoded if
+-- the name has a backslash, and else borrowed
 abbrev pub NameTakesText : Text → List ℕ → List ℕ → Type 0
 NameTakesText x t r = BeginsWith (BeforeColon (Between 34 (StandsFor x) 34)) t r
 
 -- ---- after a quote
 
--- s is the inside of a string, its closing quote and r; the text x is borrowed if no backslash is inside, else
--- decoded
+-- s is the inside of a string, its closing quote and r, and the string's text x is decoded if the
+-- inside has a backslash, and else borrowed
 abbrev pub TakesText : Text → List ℕ → List ℕ → Type 0
 TakesText x s r = (inside : List ℕ) × (s ≡ inside ++ 34 ∷ r) × StandsFor x inside
 

@@ -69,7 +69,7 @@ before s r = take (length s - length r) s
 
 -- ---- numbers
 
--- the text s without the digits at its beginning, of which there must be one
+-- the text s without the digits at its beginning, if there is at least one
 abbrev pub after_digits : List ℕ → Option (List ℕ)
 after_digits s = if is_digit (slice_index s 0) then Some (after_run is_digit s) else None
 
@@ -77,11 +77,12 @@ after_digits s = if is_digit (slice_index s 0) then Some (after_run is_digit s) 
 abbrev pub after_minus : List ℕ → List ℕ
 after_minus s = if slice_index s 0 == 45 then drop 1 s else s
 
--- the text s without the integer part at its beginning: `0`, or digits, of which there must be one
+-- the text s without the integer part at its beginning, `0` or a run of digits, if there is one
 abbrev pub after_int : List ℕ → Option (List ℕ)
 after_int s = if slice_index s 0 == 48 then Some (drop 1 s) else after_digits s
 
--- the text s without the fraction at its beginning, or s if it begins with none; after a `.` there must be a digit
+-- the text s without the fraction at its beginning, or s if it does not begin with `.`; `None` if
+-- no digit follows the `.`
 abbrev pub after_fraction : List ℕ → Option (List ℕ)
 after_fraction s = if slice_index s 0 == 46 then after_digits (drop 1 s) else Some s
 
@@ -89,12 +90,13 @@ after_fraction s = if slice_index s 0 == 46 then after_digits (drop 1 s) else So
 abbrev pub after_sign : List ℕ → List ℕ
 after_sign s = if is_sign (slice_index s 0) then drop 1 s else s
 
--- the text s without the exponent at its beginning, or s if it begins with none; after `e` or `E`, and a sign if there
--- is one, there must be a digit
+-- the text s without the exponent at its beginning, or s if it does not begin with `e` or `E`;
+-- `None` if no digit follows the letter and its optional sign
 abbrev pub after_exponent : List ℕ → Option (List ℕ)
 after_exponent s = if is_exponent_letter (slice_index s 0) then after_digits (after_sign (drop 1 s)) else Some s
 
--- the text s without the fraction and the exponent at its beginning, as far as it has them
+-- the text s without the fraction and the exponent at its beginning, both of which are optional;
+-- `None` if one of them has no digit
 abbrev pub after_tail : List ℕ → Option (List ℕ)
 after_tail s = option_and_then after_exponent (after_fraction s)
 
@@ -107,14 +109,14 @@ event_of_parts b minus int [] =
     else (if nat_lt (digits_value 10 int) (2 ^ 64) then nonnegative (digits_value 10 int) else float b)
 event_of_parts b minus int (c ∷ cs) = float b
 
--- the event of the number from s to r, together with r, if r begins with no byte of a number; its integer part ends
--- at w
+-- the event of the number that stands from s to r and whose integer part ends at w, and the text r;
+-- `None` if r begins with a byte of a number
 abbrev pub event_at : List ℕ → List ℕ → List ℕ → Option (Step × List ℕ)
 event_at s w r =
     cond (is_number_byte (slice_index r 0)) None
     (Some (event_of_parts (before s r) (slice_index s 0 == 45) (before (after_minus s) w) (before w r), r))
 
--- the event of the number that s begins with, and the text after it
+-- the event of the number that s begins with, and the text after it, if there is such a number
 unfoldable pub number_at : List ℕ → Option (Step × List ℕ)
 number_at s = option_and_then (λ w. option_and_then (λ r. event_at s w r) (after_tail w)) (after_int (after_minus s))
 
@@ -124,7 +126,8 @@ number_at s = option_and_then (λ w. option_and_then (λ r. event_at s w r) (aft
 unfoldable pub word_at : List ℕ → Step → List ℕ → Option (Step × List ℕ)
 word_at w e s = if starts_with nat_eq s w then Some (e, drop (length w) s) else None
 
--- the event of the token that s begins with, if it is no string, and the text after it; c is the first byte of s
+-- the event of the token that s begins with, and the text after it, if s begins with a token that
+-- is no string; c is the first byte of s
 unfoldable pub token_by : ℕ → List ℕ → Option (Step × List ℕ)
 token_by c s =
     cond (c == 110) (word_at (codes "null") step.null s)
@@ -132,19 +135,21 @@ token_by c s =
     (cond (c == 102) (word_at (codes "false") (boolean false) s)
     (if c == 91 then Some (seq, drop 1 s) else if c == 123 then Some (map, drop 1 s) else number_at s)))
 
--- the event of the token that s begins with, if it is no string, and the text after it
+-- the event of the token that s begins with, and the text after it, if s begins with a token that
+-- is no string
 abbrev pub token_at : List ℕ → Option (Step × List ℕ)
 token_at s = token_by (slice_index s 0) s
 
 -- ---- the next child or the end
 
--- whether the text begins with a byte, and this is no closing bracket
+-- whether the text is not empty and does not begin with a closing bracket
 abbrev pub begins : List ℕ → Bool
 begins [] = false
 begins (c ∷ cs) = not (is_closing c)
 
--- If t begins with the closing bracket of the kind: `true`, and the text after it. If a child is next: `false`, and
--- the text after the comma, or t itself if `first` says that the opening bracket was just taken.
+-- If t begins with the closing bracket of the kind: `true`, and the text after it. If a child is
+-- next: `false`, and the text after the comma, or t itself if `first` says that the opening bracket
+-- was just taken. If neither: `None`.
 unfoldable pub step_at : Kind → Bool → List ℕ → Option (Bool × List ℕ)
 step_at kind first t =
     cond (slice_index t 0 == closing kind) (Some (true, drop 1 t))
@@ -152,7 +157,8 @@ step_at kind first t =
 
 -- ---- escapes, after the backslash
 
--- a number with the suffix of s from an index, if there are a number and an index
+-- the first number of the pair r, and the suffix of s from the index that is the second number, if
+-- there is a pair
 abbrev pub with_suffix : List ℕ → Option (ℕ × ℕ) → Option (ℕ × List ℕ)
 with_suffix s r = option_map (λ x. (x.0, drop x.1 s)) r
 
@@ -161,7 +167,8 @@ abbrev pub begins_unit : List ℕ → Bool
 begins_unit s =
     is_hex (slice_index s 0) && is_hex (slice_index s 1) && is_hex (slice_index s 2) && is_hex (slice_index s 3)
 
--- the number that the four hexadecimal digits at the front of s are, and the text after them
+-- the number of the four hexadecimal digits that s begins with, and the text after them, if there
+-- are four
 abbrev pub unit_at : List ℕ → Option (ℕ × List ℕ)
 unit_at s =
     cond (begins_unit s)
@@ -180,13 +187,15 @@ begins_escape s = (slice_index s 0 == 92) && (slice_index s 1 == 117)
 abbrev pub pair_of : ℕ → ℕ → ℕ
 pair_of high low = 0x10000 + (high - 0xd800) * 1024 + (low - 0xdc00)
 
--- the character of the surrogate `high` and of the low one whose escape s begins with, and the text after it
+-- the character of the surrogate `high` and of the low surrogate whose `\u` escape s begins with,
+-- and the text after that escape, if there is one
 abbrev pub low_at : ℕ → List ℕ → Option (ℕ × List ℕ)
 low_at high s =
     cond (begins_escape s)
     (option_and_then (λ l. if is_low l.0 then Some (pair_of high l.0, l.1) else None) (unit_at (drop 2 s))) None
 
--- the character of an escape, and the text after it, if s is the text after the escape's `\u`
+-- the character of a `\u` escape or of a surrogate pair, and the text after it, if it is valid; s
+-- is the text after the first `\u`
 unfoldable pub unicode_at : List ℕ → Option (ℕ × List ℕ)
 unicode_at s = option_and_then (λ u. if is_high u.0 then low_at u.0 u.1 else if is_low u.0 then None else Some u) (unit_at s)
 
@@ -201,7 +210,8 @@ short_at x =
     else if x == 116 then Some 9
     else None
 
--- the character of an escape, and the text after it, if s is the text after the escape's backslash
+-- the character of an escape, and the text after the escape, if it is valid; s is the text after
+-- the backslash
 unfoldable pub escape_at : List ℕ → Option (ℕ × List ℕ)
 escape_at s =
     cond (slice_index s 0 == 117) (unicode_at (drop 1 s))

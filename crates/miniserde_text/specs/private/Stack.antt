@@ -18,7 +18,8 @@ kind_by (suc b) = Map
 abbrev pub kind_at : List ℕ → ℕ → Kind
 kind_at ws n = kind_by (bit_at (get_or ws (n / 64) 0) (n % 64))
 
--- the kinds that the first bits of the words ws hold, as many as the number says, the last one first
+-- the kinds that the first bits of the words ws hold, as many as the number says, with the last
+-- bit's kind first
 abbrev pub stack_of : List ℕ → ℕ → List Kind
 stack_of ws zero = []
 stack_of ws (suc n) = kind_at ws n ∷ stack_of ws n

@@ -196,9 +196,9 @@ impl<'a> Lexer<'a> {
         }
     }
 
-    /// Takes whitespace, and the closing bracket of a container of the kind or the comma before its next child.
-    /// `first` says that the opening bracket was just taken, so that no comma is due. Returns `Invalid` if neither is
-    /// next.
+    /// Takes whitespace, and the closing bracket of a container of the kind or the comma before its
+    /// next child. Returns which of the two is next, or `Invalid` if neither is. `first` says that
+    /// the opening bracket was just taken, so that no comma is due.
     #[inline(always)]
     pub fn after(&mut self, kind: Kind, first: bool) -> Result<After>
         ensures ok { IfOk result (λ a. (self.old.refused ≡ None) × (self.new.refused ≡ None)

@@ -18,7 +18,8 @@ fn hex(c: u8) -> u32
     u32::from(tables::digit(c))
 }
 
-// Takes four hexadecimal digits. Returns their value and the index after them, or `None` if they are not there.
+// Takes four hexadecimal digits from `at` on. Returns their value and the index after them, or
+// `None` if they are not there.
 fn unit(bytes: &[u8], at: usize) -> Option<(u32, usize)>
     requires { at ≤ length bytes.now }
     ensures value { with_suffix bytes.now result ≡ unit_at (drop at bytes.now) }
@@ -70,8 +71,8 @@ fn pair(high: u32, low: u32) -> char
     char::from_u32(0x10000 + (high - 0xd800) * 1024 + (low - 0xdc00)).unwrap()
 }
 
-// Takes the second escape of a surrogate pair, whose first code unit is `high`. Returns the character of the pair and
-// the index after it, or `None` if no escape of a low surrogate is there.
+// Takes the escape of a low surrogate, which comes after that of the high surrogate `high`. Returns
+// the character of the pair and the index after the escape, or `None` if no such escape is at `at`.
 fn low(high: u32, bytes: &[u8], at: usize) -> Option<(char, usize)>
     requires high { is_high high ≡ true }
     requires within { at ≤ length bytes.now }
@@ -88,8 +89,8 @@ fn low(high: u32, bytes: &[u8], at: usize) -> Option<(char, usize)>
     Some((pair(high, low), end))
 }
 
-// Takes the digits of a `\u` escape, and after a high surrogate a second escape. Returns the character and the index
-// after it, or `None` if digits are wrong or a surrogate has no partner.
+// Takes the four digits of a `\u` escape, and after a high surrogate a second escape. Returns the
+// character and the index after it, or `None` if digits are wrong or a surrogate has no partner.
 #[tactic(auto, unfolding(crate::specs::private::Reading::unicode_at))]
 fn unicode(bytes: &[u8], at: usize) -> Option<(char, usize)>
     requires { at ≤ length bytes.now }
@@ -115,8 +116,8 @@ fn short(letter: u8) -> Option<char>
     if c == 0 { None } else { Some(c as char) }
 }
 
-/// Takes an escape whose backslash is the byte before `at`. Returns its character and the index after it, or `None`
-/// if RFC 8259 has no such escape.
+/// Takes an escape whose backslash is the byte before `at`. Returns its character and the index
+/// after it, or `None` if the escape is wrong or a surrogate has no partner.
 #[tactic(auto, unfolding(crate::specs::private::Reading::escape_at))]
 pub(super) fn take_escape(bytes: &[u8], at: usize) -> Option<(char, usize)>
     ensures value { with_suffix bytes.now result ≡ escape_at (drop at bytes.now) }

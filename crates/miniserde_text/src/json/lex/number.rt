@@ -53,8 +53,8 @@ fn after_minus(bytes: &[u8], at: usize, first: u8) -> usize
     }
 }
 
-// Returns the index after the whole part of a number: a single `0`, or digits of which the first is not `0`. Returns
-// `None` if there is none.
+// Returns the index after the integer part of a number: a single `0`, or digits of which the first
+// is not `0`. Returns `None` if no digit is at `at`.
 fn after_int(bytes: &[u8], at: usize) -> Option<usize>
     ensures value { suffix_at bytes.now result ≡ after_int (drop at bytes.now) }
     ensures follows { IfSome result (λ r. FollowsAscii bytes.now r) }
@@ -192,8 +192,9 @@ fn leading_digits(bytes: &[u8]) -> (usize, u64)
     (i, value)
 }
 
-// Takes an integer of at most 19 digits in one pass. Returns `None` if there is none; the text may still have a
-// number of another form. The loop is over a slice that begins with the digits, so that it keeps one counter and not
+// Takes an integer of at most 19 digits in one pass. Returns its token and the index after it, or
+// `None` if there is none; a number of another form may still be there. `first` is the byte at
+// `at`. The loop is over a slice that begins with the digits, so that it keeps one counter and not
 // two.
 #[inline(always)]
 fn short_number<'a>(bytes: &[u8], at: usize, first: u8) -> Option<(Event<'a>, usize)>

@@ -33,9 +33,10 @@ fn begins(bytes: &[u8], at: usize, byte: u8) -> bool
     at < bytes.len() && !is_closing(byte)
 }
 
-/// Takes the closing bracket of a container of the kind, or the comma before its next child. `first` says that the
-/// opening bracket is just before `at`, so that no comma is due. Returns whether the bracket or a child is next, and the index after
-/// it, or `None` if neither is. `byte` is the byte at `at`.
+/// Takes the closing bracket of a container of the kind, or the comma before its next child.
+/// `first` says that the opening bracket is just before `at`, so that no comma is due. Returns
+/// `Close` or `Next` with the index after the bracket or the comma, or `None` if neither is there.
+/// `byte` is the byte at `at`, or 0 if there is none.
 #[tactic(auto, unfolding(crate::specs::private::Reading::step_at))]
 pub(super) fn take_step(
     kind: Kind,

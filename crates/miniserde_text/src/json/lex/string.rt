@@ -27,8 +27,9 @@ fn after_unescaped(text: &str, at: usize) -> usize
     special_in_lanes(text.as_bytes(), at)
 }
 
-// Returns the index of the first byte at or after `at` that is a quote, a backslash or below 0x20, or the length of
-// the text. It tests the first byte alone, since after an escape the next byte often begins another escape.
+// Returns the index of the first byte at or after `at` that is a quote, a backslash or below 0x20,
+// or the length of the text. It tests the first byte before any others, since after an escape the
+// next byte often begins another escape.
 #[inline(always)]
 fn after_more(text: &str, at: usize) -> usize
     requires { at ≤ length text.now }
