@@ -18,7 +18,7 @@ macro_rules! value {
     };
 }
 
-/// Makes the parts of a `Value` for `value!`.
+/// Makes a `Value` for `value!`: `$alloc` is the allocator, and an error leaves the block `$out`.
 #[macro_export]
 macro_rules! value_of {
     // Does what `?` does, except that an error leaves the block `$out` and not the caller's function.
@@ -29,6 +29,7 @@ macro_rules! value_of {
         }
     };
 
+    // Pushes the items to the array `$array`, one by one.
     (@items $alloc:ident $out:lifetime $array:ident) => {};
     (@items $alloc:ident $out:lifetime $array:ident null $(, $($rest:tt)*)?) => {
         let item = $crate::json::value::null_value();
@@ -51,6 +52,7 @@ macro_rules! value_of {
         $crate::value_of!(@items $alloc $out $array $($($rest)*)?);
     };
 
+    // Puts the members into the object `$object`, one by one.
     (@members $alloc:ident $out:lifetime $object:ident) => {};
     (@members $alloc:ident $out:lifetime $object:ident $name:tt : null $(, $($rest:tt)*)?) => {
         let member = $crate::json::value::null_value();
@@ -73,6 +75,7 @@ macro_rules! value_of {
         $crate::value_of!(@members $alloc $out $object $($($rest)*)?);
     };
 
+    // Makes the `Value` of `null`, of a list, of an object, or of an expression.
     ($alloc:ident $out:lifetime; null) => {
         $crate::json::value::null_value()
     };

@@ -12,8 +12,8 @@ use Rattle.miniserde_record.specs.Fields.{field_member}
 use Rattle.miniserde_record.specs.FieldsMeaning.{FieldsMeaning, no_fields, field_and, struct_meaning}
 use Rattle.miniserde_record.specs.laws.Fields.{none-refused, field-refused, field-meant}
 
--- the meaning of fields that are read from events: F has the fields so far, with the current one's place, and V the
--- values of all
+-- the meaning of a struct's fields that are read from events: F is the type of the fields so far,
+-- with the current field's place, and V the type of the fields' values
 pub record FieldPlacesMeaning (F V : Type 0) : Type 1 where
   -- the meaning of the fields by trees
   pub meant : FieldsMeaning V
@@ -21,6 +21,7 @@ pub record FieldPlacesMeaning (F V : Type 0) : Type 1 where
   pub state : F → meant.State
   -- the state after one more member, by the fields' names, the state, the member's name and its events
   pub by_events : List Name → meant.State → Name → List Step → Option meant.State
+  -- a member's events lead to the same state as its tree
   pub events_agree : (names : List Name) (s : meant.State) (k : Name) (t : Tree) → by_events names s k (events t) ≡ meant.by_tree names s k t
   -- a member for whose name `meant.refuses` holds gives no state, whatever its events
   pub refused : (names : List Name) (s : meant.State) (k : Name) → meant.refuses names s k ≡ true → (es : List Step) → by_events names s k es ≡ None
@@ -38,14 +39,17 @@ no_field_places skipped = record {
   child = λ f. view_through (λ _. Some tt) (skipped f);
 }
 
--- The view of the current field's place: the first field's if it has one, and else the view `later`. The first
--- field's content so far is v, and the state of the later ones s.
+-- The view of the current field's place. If the first field is current, its place is given and
+-- `view` returns the place's view; else the view is `later`. v is the first field's content so far,
+-- and s the state of the later fields.
 abbrev pub field_view : {P A S : Type 0} → (P → PlaceView A) → Option A → S → PlaceView S → Option P → PlaceView (Option A × S)
 field_view view v s later None = view_through (λ r. Some (v, r)) later
 field_view view v s later (Some p) = view_through (λ a. Some (Some a, s)) (view p)
 
--- The meaning of a field and of the later ones, by the meanings m of its place and n: `value` returns its value so
--- far, `child` its open place, and `rest` the later fields; `absent` is its value if it is missing.
+-- The meaning of a field and of the fields after it. `once` says whether a duplicate of its name
+-- fails, m is the meaning of its place, and `absent` its value if it is missing. `value` returns
+-- its value so far, `child` its place if it is the current field, and `rest` the later fields,
+-- which have the meaning n.
 abbrev pub field_place_and : {P T F R V : Type 0} → Bool → PlaceMeaning P T → Option T → (F → Option T) → (F → Option P) → (F → R) → FieldPlacesMeaning R V → FieldPlacesMeaning F (T × V)
 field_place_and once m absent value child rest n = record {
   meant = field_and once None (meant_by m) absent n.meant;
@@ -72,8 +76,8 @@ abbrev pub refuses_member : (Name → Bool) → Step → Bool
 refuses_member refuses (key k) = refuses k
 refuses_member refuses _ = false
 
--- the meaning of a struct's collector, by the meaning n of its fields and their names; `values` returns the fields'
--- values of a struct, and `fields` the fields so far
+-- the meaning of a struct's collector, by the meaning n of its fields and by their names; `values`
+-- returns the fields' values of a struct, and `fields` a collector's fields so far
 abbrev pub struct_collector : {F V C W : Type 0} → FieldPlacesMeaning F V → List Name → (W → V) → (C → F) → CollectorMeaning C W
 struct_collector n names values fields = record {
   meant = struct_meaning n.meant names values;

@@ -5,23 +5,25 @@ use Rattle.miniserde_model.specs.Step.{Step, events}
 use Rattle.miniserde_read.specs.Meaning.{Meaning}
 use Rattle.miniserde_value.specs.Hole.{Hole, outside, in_list, in_members, outcome}
 
--- whether no event was taken: a value is due, and no container is open
+-- whether no event was taken: the flag says that a value is due, and the hole has no open container
 abbrev pub is_start : Bool → Hole → Bool
 is_start true (outside ts) = true
 is_start true (in_list ts h) = false
 is_start true (in_members ms n h) = false
 is_start false h = false
 
--- the outcome o, if `begins` accepts the first of the events or there is none
+-- the outcome o, if `begins` holds for the first of the events or there is no event
 abbrev pub from_first : (Step → Bool) → List Step → Option Tree → Option Tree
 from_first begins [] o = o
 from_first begins (e ∷ es) o = if begins e then o else None
 
--- what the events to come give from the hole h on; if no event was taken before, `begins` must accept the first one
+-- the tree that the events to come give from the hole h on, where `due` says whether a value is
+-- due; if no event was taken before, `begins` must hold for the first of them
 abbrev pub kind_outcome : (Step → Bool) → Bool → Hole → List Step → Option Tree
 kind_outcome begins due h es = if is_start due h then from_first begins es (outcome false due h es) else outcome false due h es
 
--- the meaning of a type V of documents that the place of a `Value` builds
+-- the meaning of a type V of documents (`Array`, `Object` or `Document`) that the place of a
+-- `Value` builds
 pub record Kind (V : Type 0) : Type 1 where
   -- the meaning of the type by trees
   pub meant : Meaning V
@@ -29,6 +31,7 @@ pub record Kind (V : Type 0) : Type 1 where
   pub begins : Step → Bool
   -- the content of the document that is built from a tree, if there is a tree and the document is of the type
   pub only : Option Tree → Option meant.Content
+  -- without a tree there is no content
   pub none : only None ≡ None
   -- the events of a tree give what the tree gives
   pub whole : (t : Tree) → only (kind_outcome begins true (outside []) (events t)) ≡ meant.from_tree t

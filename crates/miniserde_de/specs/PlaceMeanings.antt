@@ -27,8 +27,8 @@ use Rattle.miniserde_read.specs.Meanings.{list_meaning, array_meaning, pair_mean
 use Rattle.miniserde_read.specs.types.Maps.{map_member, map_content, no_key, with_entry}
 use Rattle.miniserde_de.specs.laws.Maps.{map-meant}
 
--- the meaning of a list's collector: `items` returns the items so far, `child` the current item's place, and `whole`
--- the items of a complete list
+-- the meaning of a list's collector, by the meaning m of an item's place: `items` returns the items
+-- so far, `child` the current item's place, and `whole` the items of a complete list
 abbrev pub list_collector : {P V C W : Type 0} → PlaceMeaning P V → (C → List V) → (C → Option P) → (W → List V) → CollectorMeaning C W
 list_collector m items child whole = record {
   meant = list_meaning (meant_by m) whole;
@@ -42,8 +42,9 @@ list_collector m items child whole = record {
   refuses = λ _ _. false;
 }
 
--- the meaning of the collector of an array of n items: `items` returns those so far, `child` the current one's place,
--- and `whole` those of a complete array; an item after the n-th fails
+-- The meaning of the collector of an array of n items, by the meaning m of an item's place: `items`
+-- returns the items so far, `child` the current item's place, and `whole` the items of a complete
+-- array. An item after the n-th fails.
 abbrev pub array_collector : {P V C W : Type 0} → ℕ → PlaceMeaning P V → (C → List V) → (C → Option P) → (W → List V) → CollectorMeaning C W
 array_collector n m items child whole = record {
   meant = array_meaning n (meant_by m) whole;
@@ -57,15 +58,16 @@ array_collector n m items child whole = record {
   refuses = λ s _. nat_le n (length s);
 }
 
--- the view of the place of a pair's current part; f and g return the views of the two parts' places, and a and b are
--- the parts so far
+-- the view of the place of a pair's current part, if there is one; f and g return the views of the
+-- first and the second part's place, and a and b are the contents of the parts so far
 abbrev pub part_view : {P Q A B : Type 0} → (P → PlaceView A) → (Q → PlaceView B) → Option A → Option B → Part P Q → PlaceView (Option A × Option B)
 part_view f g a b Neither = no_child
 part_view f g a b (First p) = view_through (λ x. Some (Some x, b)) (f p)
 part_view f g a b (Second q) = view_through (λ y. Some (a, Some y)) (g q)
 
--- the meaning of a pair's collector: `first` and `second` return the parts so far, `child` the current part's place,
--- and `one` and `two` the parts of a complete pair; a third part fails
+-- The meaning of a pair's collector, by the meanings m and n of its parts' places: `first` and
+-- `second` return the parts so far, `child` the current part's place, and `one` and `two` the parts
+-- of a complete pair. A third part fails.
 abbrev pub pair_collector : {P Q V U C W : Type 0} → PlaceMeaning P V → PlaceMeaning Q U → (C → Option V) → (C → Option U) → (C → Part P Q) → (W → V) → (W → U) → CollectorMeaning C W
 pair_collector m n first second child one two = record {
   meant = pair_meaning (meant_by m) (meant_by n) one two;
@@ -79,8 +81,10 @@ pair_collector m n first second child one two = record {
   refuses = λ s _. is_some s.0 && is_some s.1;
 }
 
--- The meaning of a map's collector, by `read`, `code` and `key` for keys: `entries` returns the entries so far,
--- `pending` the key and `child` the place of the current value, and `whole` a complete map's entries.
+-- The meaning of a map's collector. `read` returns the content of the key that a name is read as,
+-- `code` the part of this content that `Eq` compares, and `key` the content of a key; m is the
+-- meaning of a value's place. `entries` returns the entries so far, `pending` the current key,
+-- `child` the current value's place, and `whole` a complete map's entries.
 abbrev pub map_collector : {K P V C W : Type 0} → (Name → Option Key) → (Key → Key) → (K → Key) → PlaceMeaning P V → (C → List (K × V)) → (C → Option K) → (C → Option P) → (W → List (K × V)) → CollectorMeaning C W
 map_collector read code key m entries pending child whole = record {
   meant = map_meaning read code key (meant_by m) whole;
@@ -94,18 +98,19 @@ map_collector read code key m entries pending child whole = record {
   refuses = λ _ _. false;
 }
 
--- the view of the place of an optional value: f is the outcome of a fresh inner place, and `view` returns the inner
--- place's view
+-- the view of the place of an optional value by its state: f is the outcome of a fresh place of the
+-- value inside, and `view` returns the view of that place
 abbrev pub option_view : {P A : Type 0} → (List Step → Option A) → (P → PlaceView A) → OptionState P → PlaceView (Option A)
 option_view f view (Fresh _) = record { at = start; outcome = option_mean f; refused = None }
 option_view f view Null = record { at = complete; outcome = nothing_more None; refused = None }
 option_view f view (Inner p) = record { at = (view p).at; outcome = λ es. option_map Some ((view p).outcome es); refused = (view p).refused }
 option_view f view (Refused r) = record { at = start; outcome = λ _. None; refused = Some r }
 
--- the meaning of the place of an optional value, by the meaning m of the inner value's place
+-- the meaning of the place of an optional value, by the meaning m of the place of the value inside
 abbrev pub option_place_meaning : {P V : Type 0} → PlaceMeaning P V → PlaceMeaning (OptionPlace P) (Option V)
 option_place_meaning m = place_meaning (option_meaning (meant_by m)) (option_mean m.from_events) (option-meant m.from_events m.from_tree m.events_agree) (λ p. option_view m.from_events m.view p.state)
 
--- the meaning of the place of a box: `place` returns the inner value's place, of the meaning m, and `value` the value
+-- the meaning of the place of a box: `place` returns the place of the value inside, which has the
+-- meaning m, and `value` returns the value inside a box
 abbrev pub box_place_meaning : {P Q V W : Type 0} → (Q → P) → (W → V) → PlaceMeaning P V → PlaceMeaning Q W
 box_place_meaning place value m = place_meaning (box_meaning (meant_by m) value) m.from_events m.events_agree (λ q. m.view (place q))

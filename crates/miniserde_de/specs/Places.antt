@@ -35,7 +35,7 @@ due_in p = p.due
 abbrev pub refusal_of : ValuePlace → Option Error
 refusal_of p = p.refused
 
--- the view of the place of a `Value`
+-- the view of the place of a `Value`: its outcome is what the events to come make of its hole
 abbrev pub value_view : ValuePlace → PlaceView Tree
 value_view p = record { at = (depth (hole_at p), due_in p); outcome = outcome false (due_in p) (hole_at p); refused = refusal_of p }
 
@@ -43,15 +43,17 @@ value_view p = record { at = (depth (hole_at p), due_in p); outcome = outcome fa
 abbrev pub value_place_meaning : PlaceMeaning ValuePlace Value
 value_place_meaning = place_meaning value_meaning (outcome false true (outside [])) outcome-whole value_view
 
--- If the event e is accepted, the place has the hole after e. If e is invalid and the place had no error before,
--- there is no hole after e.
+-- A call hands the event e to the place of a `Value`. If it succeeds, the new hole is the one after
+-- e. If it returns `Invalid` and the place had no error before, e does not fit the old hole.
 abbrev pub steps : ValuePlace → Step → Result (Unit {0}) Error → ValuePlace → Type 0
 steps old e answer new =
     OnOk answer (after_step (due_in old) (hole_at old) e ≡ Some (due_in new, hole_at new))
     × (answer ≡ Err Invalid → refusal_of old ≡ None → after_step (due_in old) (hole_at old) e ≡ None)
 
--- If the event e is accepted, the place has the hole after e, and no name is a duplicate. A duplicate name is
--- invalid, unless an earlier error stays; and e is invalid as the first error only if there is no such hole.
+-- A call hands the event e to the place of a `Unique`. If e is a duplicate name, the call returns
+-- `Invalid`, or the earlier error of the place. If it succeeds, the new hole is the one after e. If
+-- it returns `Invalid` and the place had no error before, e is a duplicate name or does not fit the
+-- old hole.
 abbrev pub steps_once : UniquePlace → Step → Result (Unit {0}) Error → UniquePlace → Type 0
 steps_once old e answer new =
     (repeats e (hole_at old.place) ≡ true → answer ≡ Err (first_refusal (refusal_of old.place) Invalid))
@@ -64,12 +66,13 @@ abbrev pub unique_place_meaning : PlaceMeaning UniquePlace Unique
 unique_place_meaning = place_meaning unique_meaning (outcome true true (outside [])) once-whole
     (λ p. record { at = (depth (hole_at p.place), due_in p.place); outcome = outcome true (due_in p.place) (hole_at p.place); refused = refusal_of p.place })
 
--- the meaning of the place of a type of documents (`Array`, `Object` or `Document`), by what k says of that type
+-- the meaning of the place of a type of documents (`Array`, `Object` or `Document`), by the meaning
+-- k of that type
 abbrev pub kind_place_meaning : {K V : Type 0} → Kind V → PlaceMeaning (KindPlace K) V
 kind_place_meaning k = place_meaning k.meant (λ es. k.only (kind_outcome k.begins true (outside []) es)) k.whole
     (λ p. record { at = (depth (hole_at p.place), due_in p.place); outcome = λ es. k.only (kind_outcome k.begins (due_in p.place) (hole_at p.place) es); refused = refusal_of p.place })
 
--- the meaning of the place of a `Number`
+-- the meaning of the place of a `Number`: the leaf of a number means that number
 abbrev pub number_place_meaning : PlaceMeaning NumberPlace Number
 number_place_meaning = place_meaning number_meaning (from_one_event number_of) (one-event number_of (λ ts. refl, λ ms. refl))
     (λ p. leaf_view number_leaf number_of (value_of p.place) (leaf_refusal p.place))

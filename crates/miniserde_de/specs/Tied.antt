@@ -14,8 +14,8 @@ meant_by m = record {
   reads_agrees = m.reads_agrees;
 }
 
--- By m and n the same trees mean the same values, and the same trees give content. (That m is n would be a statement
--- of Type 1, which no clause can be.)
+-- By the meanings m and n the same trees mean the same values, and the same trees give content.
+-- (That m is equal to n would be a statement of Type 1, which no clause can be.)
 pub record Agree {V : Type 0} (m n : Meaning V) : Type 0 where
   pub same : (t : Tree) (v : V) → m.reads t v ↔ n.reads t v
   pub some : (t : Tree) → is_some (m.from_tree t) ≡ is_some (n.from_tree t)

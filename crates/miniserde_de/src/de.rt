@@ -20,7 +20,8 @@ pub use miniserde_place::de::{Ignore, Step, Visitor, container, ignore, leaf};
 pub use miniserde_read::{FromJson, Ignored, Source};
 use std::alloc::Global;
 
-/// A type with a place, which collects a value from events. The same trees mean the same values for both.
+/// A type with a place, which collects a value from events. The same trees mean the same values for
+/// the type and for the place.
 pub trait Deserialize: FromJson {
     /// The place of the type.
     type Place: Visitor<Out = Self>;
@@ -46,8 +47,9 @@ pub trait Deserialize: FromJson {
         <Self::Place as Visitor>::begin(alloc)
     }
 
-    /// Returns the value if it is complete and the place keeps no error. Returns the error that the place keeps,
-    /// `Invalid` if the value is incomplete or means no value of the type, or `Memory` if an allocation fails.
+    /// Returns the value if it is complete and the place keeps no error. Returns the error that the
+    /// place keeps, `Invalid` if the value is incomplete or its events mean no value of the type,
+    /// or `Memory` if an allocation fails.
     final fn take(place: Self::Place) -> Result<Self>
         ensures value { IfOk result (λ v. ((Self.Place.meaning.view place).at ≡ complete)
             × ((Self.Place.meaning.view place).outcome [] ≡ Some (Self.Place.meaning.content v))) }

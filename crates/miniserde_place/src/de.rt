@@ -38,7 +38,8 @@ pub trait Visitor: Drop {
     // Whether `take` never fails to allocate: its error is then `Memory` only if the place keeps that error already.
     ghost take_infallible: { Bool } = { false };
 
-    // What each call that takes an event promises besides. By default that is nothing.
+    // What each call that takes an event promises besides: a statement of the place before, the
+    // event, the result and the place after. By default nothing.
     ghost further: { Self → step.Step → Result (Unit {0}) Error → Self → Type 0 } = { λ _ _ _ _. ⊤ };
 
     /// Returns a fresh place. Its only error is `Memory`.
@@ -64,8 +65,9 @@ pub trait Visitor: Drop {
     fn is_complete(&self) -> bool
         ensures { result ≡ is_complete (meaning.view self.now).at };
 
-    /// Returns the value if it is complete and the place keeps no error. Returns the error that the place keeps,
-    /// `Invalid` if the value is incomplete or means no value of the type, or `Memory` if an allocation fails.
+    /// Returns the value if it is complete and the place keeps no error. Returns the error that the
+    /// place keeps, `Invalid` if the value is incomplete or its events mean no value of the type,
+    /// or `Memory` if an allocation fails.
     fn take(self) -> Result<Self::Out>
         ensures value { IfOk result (λ v. ((meaning.view self).at ≡ complete)
             × ((meaning.view self).outcome [] ≡ Some (meaning.content v))) }

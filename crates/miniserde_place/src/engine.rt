@@ -69,8 +69,9 @@ pub fn feed_from<'a, V: Visitor>(
     Ok(())
 }
 
-/// Opens the container that a token opens, if any, and hands the token's event to the place. Returns whether there is
-/// such a container, the error of the place, or `Memory` if the stack cannot grow.
+/// Pushes the kind of the container that a token opens, if any, on the stack, and hands the token's
+/// event to the place. Returns whether the token opens a container, the error of the place, or
+/// `Memory` if the stack cannot grow.
 #[inline(always)]
 fn enter<'a, V: Visitor>(
     token: Event<'a>,
@@ -94,9 +95,10 @@ fn enter<'a, V: Visitor>(
     Ok(opened)
 }
 
-/// Takes the closing bracket of the innermost container, or what stands before its next child, and hands the event of
-/// it to the place. Returns whether a child's value is due, or the error of the source or the place. `first` says
-/// that the opening bracket was just taken.
+/// Takes the closing bracket of the innermost open container, which is of the kind `kind`, or else
+/// the comma and the name before its next child. Hands the place the event of that: `finish`,
+/// `element` or `key`. Returns whether a child's value is due, or the error of the source or the
+/// place. `first` says that the container's opening bracket was just taken.
 fn take_child_or_end<'a, V: Visitor>(
     source: &mut Source<'a>,
     stack: &mut Stack,

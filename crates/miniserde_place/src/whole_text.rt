@@ -13,8 +13,8 @@ use miniserde_model::error::{Error, Result};
 use miniserde_read::Source;
 use std::alloc::Global;
 
-/// Hands a fresh place the events of a whole text, in order. Returns the first error of the place, `Invalid` if the
-/// text is not JSON, or `Memory` if an allocation fails.
+/// Hands a fresh place the events of the value that a whole text spells, in order. Returns the
+/// first error of the place, `Invalid` if the text is not JSON, or `Memory` if an allocation fails.
 pub fn feed<V: Visitor>(alloc: Global, j: &str, place: &mut V) -> Result<()>
     requires unrefused { (V.meaning.view place.old).refused ≡ None }
     requires fresh { (V.meaning.view place.old).at ≡ start }

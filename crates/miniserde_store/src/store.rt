@@ -45,7 +45,7 @@ pub fn canonical_of<T: Serialize>(alloc: Global, value: &T) -> Result<String>
     ensures ok { IfOk result (λ c. string_bytes c ≡ compact (norm (T.tree value.now))) }
     ensures spells { IfOk result (λ c. IsJson (string_bytes c) (norm (T.tree value.now))) }
 
-    // No tree with another normal form has that canonical text.
+    // A text with that canonical text spells a tree with the same normal form as the value's tree.
     ensures tells { IfOk result (λ c. (b : List ℕ) (u : Tree) → IsJson b u → string_bytes c ≡ compact (norm u)
         → norm u ≡ norm (T.tree value.now)) }
     ensures memory { OnErr result (IsErrOf result Memory) }
@@ -56,8 +56,9 @@ pub fn canonical_of<T: Serialize>(alloc: Global, value: &T) -> Result<String>
     Ok(canonical)
 }
 
-/// Does nothing. It promises that a text with the canonical text of a valid value is read as a value of the same
-/// content, if it is read at all, and that two valid values with one canonical text have the same content.
+/// Does nothing. It promises that a text whose canonical text is that of a valid value is read as a
+/// value of the same content, if it is read at all, and that two valid values with one canonical
+/// text have the same content.
 pub fn sent_itself<T: Stable + Lossless>()
     ensures itself { (v w : T) (u : Tree) → T.real v → norm u ≡ norm (T.tree v) → T.means.reads u w
         → T.means.content w ≡ T.means.content v }

@@ -12,18 +12,21 @@ pub data Hole : Type 0 where
   outside : List Tree → Hole
   -- a list with these items so far, inside another hole
   in_list : List Tree → Hole → Hole
-  -- an object with these members so far, in the order of their names, and the name of its next value, inside another
-  -- hole
+  -- an object with these members so far, in the order of their names, and the name of its next
+  -- value if that came, inside another hole
   in_members : Members → Option (List ℕ) → Hole → Hole
 
--- the hole after a value is added to its innermost container; in an object it replaces the value of the same name
+-- The hole after a value is added to its innermost container, or to the complete values if none is
+-- open. In an object the value goes under the name that came for it, and replaces a value of that
+-- name; without a name it is dropped.
 abbrev pub put : Tree → Hole → Hole
 put t (outside ts) = outside (ts ++ t ∷ [])
 put t (in_list ts h) = in_list (ts ++ t ∷ []) h
 put t (in_members ms None h) = in_members ms None h
 put t (in_members ms (Some n) h) = in_members (put_member n t ms) None h
 
--- the hole with n as the name of the next value, if the innermost open container is an object
+-- the hole with n as the name of the next value, if its innermost container is an object; else the
+-- same hole
 abbrev pub with_name : List ℕ → Hole → Hole
 with_name n (outside ts) = outside ts
 with_name n (in_list ts h) = in_list ts h
@@ -35,7 +38,8 @@ has_member n (outside ts) = false
 has_member n (in_list ts h) = false
 has_member n (in_members ms k h) = is_some (last_of n ms)
 
--- the hole after the innermost open container closes
+-- the hole after its innermost container, if one is open, closes and is added as a value to the
+-- hole around it
 abbrev pub after_close : Hole → Hole
 after_close (outside ts) = outside ts
 after_close (in_list ts h) = put (list (trees_of (λ t. t) ts)) h
@@ -47,7 +51,7 @@ depth (outside ts) = 0
 depth (in_list ts h) = depth h + 1
 depth (in_members ms n h) = depth h + 1
 
--- the value of a list of exactly one
+-- the tree of a list of exactly one tree; any other list gives nothing
 abbrev pub single : List Tree → Option Tree
 single [] = None
 single (t ∷ []) = Some t
@@ -61,7 +65,7 @@ complete_tree (in_members ms n h) = None
 
 -- ---- the hole after events
 
--- the hole after the event, if it is the first one of a value
+-- the hole h after an event that is the first of a value; any other event gives nothing
 abbrev pub after_begin : Step → Hole → Option Hole
 after_begin step.null h = Some (put null h)
 after_begin (boolean b) h = Some (put (truth b) h)
@@ -75,8 +79,8 @@ after_begin element h = None
 after_begin (key k) h = None
 after_begin finish h = None
 
--- whether a value is due after the event, and the hole after it, if the event begins an element or a member or ends a
--- container, and fits the hole
+-- After an event between two values: whether a value is due, and the hole. In a list an element may
+-- begin, in an object a member, and either may end; any other event gives nothing.
 abbrev pub after_between : Step → Hole → Option (Bool × Hole)
 after_between element (in_list ts h) = Some (true, in_list ts h)
 after_between (key k) (in_members ms n h) = Some (true, in_members ms (Some k) h)
@@ -84,23 +88,25 @@ after_between finish (in_list ts h) = Some (false, after_close (in_list ts h))
 after_between finish (in_members ms n h) = Some (false, after_close (in_members ms n h))
 after_between _ _ = None
 
--- whether a value is due after the event e, and the hole after it, if e fits; `due` says whether a value is due
--- before
+-- whether a value is due after the event e, and the hole after it, if e may come there; the first
+-- argument says whether a value is due before e, and h is the hole before it
 abbrev pub after_step : Bool → Hole → Step → Option (Bool × Hole)
 after_step true h e = option_map (λ g. (false, g)) (after_begin e h)
 after_step false h e = after_between e h
 
--- whether the event is the name of a member that the innermost open object has
+-- whether the event is a name, and the innermost open container an object that already has a member
+-- of that name
 abbrev pub repeats : Step → Hole → Bool
 repeats (key k) h = has_member k h
 repeats _ h = false
 
--- whether a value is due after the event e, and the hole after it, if e fits; with `once`, a duplicate name gives
--- nothing
+-- what `after_step` gives for e, except that with `once` a name that the innermost object already
+-- has gives nothing; `due` says whether a value is due before e
 abbrev pub after_step_once : Bool → Bool → Hole → Step → Option (Bool × Hole)
 after_step_once once due h e = if once && repeats e h then None else after_step due h e
 
--- the tree that the events to come give, from the hole h on; with `once`, a duplicate name gives nothing
+-- the tree that the events to come give from the hole h on, if they complete exactly one value;
+-- `due` says whether a value is due before them, and with `once` a duplicate name gives nothing
 abbrev pub outcome : Bool → Bool → Hole → List Step → Option Tree
 outcome once true h [] = None
 outcome once false h [] = complete_tree h

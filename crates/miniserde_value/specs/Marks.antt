@@ -45,14 +45,16 @@ hole_of vs os [] = outside vs
 hole_of vs os (mark.Array v ∷ ms) = in_list (drop v vs) (hole_of (take v vs) os ms)
 hole_of vs os (mark.Object ∷ ms) = in_members (first_members os) (first_name os) (hole_of vs (outer_objects os) ms)
 
--- the open containers, innermost first, fit n values and the open objects: an array begins at no later index than the
--- array inside it, or than n, and each object is one of the open objects
+-- n values and the open objects os fit the open containers, innermost first: each array's index is
+-- at most that of the next array inside it, or at most n if there is none, and os has an entry for
+-- each object among the containers
 abbrev pub Fits : ℕ → List OpenObject → List Mark → Type 0
 Fits n os [] = ⊤
 Fits n os (mark.Array v ∷ ms) = (v ≤ n) × Fits v os ms
 Fits n os (mark.Object ∷ ms) = (1 ≤ length os) × Fits n (outer_objects os) ms
 
--- the open containers ms of a builder fit its values vs and its open objects os
+-- the values vs, the open objects os and the open containers ms of a builder, outermost first, fit
+-- each other
 abbrev pub MarksFit : List Value → List OpenObject → List Mark → Type 0
 MarksFit vs os ms = Fits (length vs) (reverse os) (reverse ms)
 

@@ -21,7 +21,8 @@ retained_members = norm_members_by neg
 abbrev pub retained_if : Bool → Tree → Option Tree
 retained_if once t = if not once || names_distinct t then Some (retained_tree t) else None
 
--- Worked cases: `-0` keeps its sign, the last of equal names stays, and with `once` duplicate names give nothing.
+-- Worked cases: `-0` keeps its sign, the last of equal names stays, and with `once` duplicate names
+-- give nothing. `duplicate` is the tree of `{"a":null,"a":1}`.
 abbrev duplicate : Tree
 duplicate = members (member (codes "a") null (member (codes "a") (nonneg 1) no_members))
 

@@ -27,15 +27,16 @@ object_entries o = o.members.entries
 abbrev pub object_values : Object → List Value
 object_values o = values_of (object_entries o)
 
--- the array of the list vs
+-- the array with the items vs
 abbrev pub with_items : Vec Value Global → Array
 with_items vs = record { items = vs }
 
--- the object of the map m
+-- the object with the map m of its members
 abbrev pub with_members : BTreeMap (String Global) Value → Object
 with_members m = record { members = m }
 
--- the values that one level of a value holds
+-- the children of one level of a value: the items of an array or the values of an object; a leaf
+-- has none
 abbrev pub below : Value-F Value Array Object → List Value
 below (Value-F.Array a) = array_items a
 below (Value-F.Object o) = object_values o
@@ -51,7 +52,7 @@ IsBare v = children v ≡ []
 
 -- ---- the tree of a value
 
--- the tree of one level of a value, whose parts are trees already
+-- one step of `shape`: the tree of one level of a value, whose parts are trees already
 abbrev pub shape_step : Value-F Tree Trees Members → Tree
 shape_step Value-F.Null = null
 shape_step (Value-F.Bool b) = truth b
@@ -60,11 +61,12 @@ shape_step (Value-F.String s) = str (string_bytes s)
 shape_step (Value-F.Array ts) = list ts
 shape_step (Value-F.Object ms) = members ms
 
--- the children for one level of an array, whose items are trees already
+-- one step of `shape`: the children of a list, from one level of an array, whose items are trees
+-- already
 abbrev pub array_step : Array-F Tree Trees Members → Trees
 array_step a = trees_of (λ t. t) a.items.items
 
--- the members for one level of an object, whose values are trees already
+-- one step of `shape`: the members, from one level of an object, whose values are trees already
 abbrev pub object_step : Object-F Tree Trees Members → Members
 object_step o = members_of string_bytes (λ t. t) o.members.entries
 
@@ -84,10 +86,10 @@ object_members o = members_of string_bytes shape (object_entries o)
 abbrev pub object_shape : Object → Tree
 object_shape o = members (object_members o)
 
--- the tree that a value is written as
+-- the tree that a value is written as: the normal form of its content
 abbrev pub tree_of : Value → Tree
 tree_of v = norm (shape v)
 
--- the tree means the value: the value retains the tree
+-- the tree t means the value v: the content of v is the part of t that a `Value` retains
 abbrev pub ReadsValue : Tree → Value → Type 0
 ReadsValue t v = shape v ≡ retained_tree t

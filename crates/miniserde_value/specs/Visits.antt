@@ -40,18 +40,20 @@ abbrev mutual
   IsOrdered (members ms) = Rise ms × AreOrderedMembers ms
   IsOrdered _ = ⊤
 
+  -- in each of the trees, the names of each object strictly rise by their bytes
   pub AreOrdered : Trees → Type 0
   AreOrdered no_trees = ⊤
   AreOrdered (tree t ts) = IsOrdered t × AreOrdered ts
 
-  -- in the members' trees, the names of each object strictly rise by their bytes
+  -- in the tree of each member, the names of each object strictly rise by their bytes
   pub AreOrderedMembers : Members → Type 0
   AreOrderedMembers no_members = ⊤
   AreOrderedMembers (member n t ms) = IsOrdered t × AreOrderedMembers ms
 
 -- ---- visits as a text: `first` says that the next element or member is the first of its container
 
--- the comma before an element or a member, unless it is the first
+-- what stands before an element or a member: nothing if it is the first of its container (`true`),
+-- and else a comma
 abbrev pub comma : Bool → List ℕ
 comma true = []
 comma false = 44 ∷ []
@@ -67,7 +69,8 @@ visits_text first (members_begin ∷ fs) = 123 ∷ visits_text true fs
 visits_text first (name n ∷ fs) = (comma first ++ string_text n ++ 58 ∷ []) ++ visits_text false fs
 visits_text first (members_end ∷ fs) = 125 ∷ visits_text false fs
 
--- whether the next element or member is the first of its container after the visits; `first` says so before them
+-- the flag after the visits: whether the next element or member is then the first of its container;
+-- `first` is the flag before them
 abbrev pub first_flag_after : Bool → List TreeVisit → Bool
 first_flag_after first [] = first
 first_flag_after first (leaf t ∷ fs) = first_flag_after first fs
@@ -75,7 +78,7 @@ first_flag_after first (list_begins ∷ fs) = first_flag_after true fs
 first_flag_after first (members_begin ∷ fs) = first_flag_after true fs
 first_flag_after first (_ ∷ fs) = first_flag_after false fs
 
--- the normal form of each leaf is in range, and each name is UTF-8
+-- the visits have leaves whose normal forms are in range, and names that are UTF-8
 abbrev pub AreVisits : List TreeVisit → Type 0
 AreVisits [] = ⊤
 AreVisits (leaf t ∷ fs) = IsTree (norm t) × AreVisits fs

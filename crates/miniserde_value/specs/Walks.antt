@@ -17,7 +17,8 @@ use Rattle.miniserde_value.specs.Numbers.{number_leaf}
 use Rattle.miniserde_value.specs.Values.{shape}
 use Rattle.miniserde_value.specs.Visits.{TreeVisit, leaf, list_begins, element, list_ends, members_begin, name, members_end, visits, child_visits, member_visits, IsOrdered, AreOrdered, AreOrderedMembers}
 
--- the visit of the walk, without what it borrows
+-- the `TreeVisit` for a `Visit` of Rust: a number or a text that it borrows becomes a leaf or a
+-- name
 abbrev pub visit_of : Visit → TreeVisit
 visit_of visit.Null = leaf null
 visit_of (visit.Bool b) = leaf (truth b)

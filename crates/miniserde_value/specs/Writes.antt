@@ -3,8 +3,9 @@ use Rattle.std.specs.Prelude.{◌≡◌, ◌≤◌, List, ◌++◌, length, fals
 use Rattle.miniserde_ser.specs.Writer.{Writing}
 use Rattle.miniserde_value.specs.Visits.{TreeVisit, visits_text, first_flag_after, AreVisits}
 
--- From `old` to `new`, the writer writes the visits in `before` that are no longer in `after`: the text so far with
--- the text of the visits left, and the flag `first` after all of them, stay the same.
+-- From `old` to `new`, the writer writes the visits in `before` that are no longer in `after`, and
+-- no call fails. The text so far followed by the text of the visits left stays the same, and so
+-- does the flag after all visits.
 pub record Writes (old : Writing) (before : List TreeVisit) (new : Writing) (after : List TreeVisit) : Type 0 where
   pub text : new.text ++ visits_text new.first after ≡ old.text ++ visits_text old.first before
   pub first : first_flag_after new.first after ≡ first_flag_after old.first before

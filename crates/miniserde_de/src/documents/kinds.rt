@@ -1,4 +1,4 @@
-//! The places of `Array`, `Object` and `Document`, which are one place for any of the three.
+//! The places of `Array`, `Object` and `Document`, which are one generic place, `KindPlace`.
 ghost use Rattle.std.specs.Prelude.{◌≡◌, true, Some, option_map};
 ghost use Rattle.miniserde_read.specs.Events.{event_of};
 ghost use Rattle.miniserde_value.specs.Values.{shape};
@@ -24,12 +24,12 @@ pub type ObjectPlace = KindPlace<Objects>;
 /// The place of a `Document`.
 pub type DocumentPlace = KindPlace<Documents>;
 
-/// A type of documents that `KindPlace` collects.
+/// A marker that stands for a type of documents, which `KindPlace` collects.
 pub trait OfKind: Drop {
     /// The type of the documents.
     type Out: Drop;
 
-    // What documents of this type mean, and which events begin them.
+    // Which trees mean which documents of the type, and which events begin them.
     ghost kind: { Kind Self.Out };
 
     /// Returns whether the place takes the event as its first. If not, no document of this type begins with it.
@@ -59,7 +59,8 @@ impl<K: OfKind> Visitor for KindPlace<K> {
 
     ghost take_infallible = { true };
 
-    // What an event makes of the hole, if a document of the type may begin with the event.
+    // An event with which a document of the type may begin does to the hole what it does in the
+    // place of a `Value`.
     ghost further = { λ old e answer new. K.kind.begins e ≡ true → steps old.place e answer new.place };
 
     fn begin(alloc: Global) -> Result<KindPlace<K>> {

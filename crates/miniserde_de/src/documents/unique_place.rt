@@ -24,7 +24,8 @@ impl Visitor for UniquePlace {
 
     ghost take_infallible = { true };
 
-    // What an event makes of the hole. The event of a duplicate name fails.
+    // An event that is accepted does to the hole what it does in the place of a `Value`. A
+    // duplicate name fails.
     ghost further = { steps_once };
 
     fn begin(alloc: Global) -> Result<UniquePlace> {

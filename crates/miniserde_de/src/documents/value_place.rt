@@ -42,9 +42,9 @@ impl ValuePlace {
         }
     }
 
-    // Takes an event between two values: the start of an element or a member, or the end of the innermost container.
-    // Returns whether a value is due after it. Returns `Invalid` if the event does not fit the container, and
-    // `Memory` if an allocation fails.
+    // Takes an event between two values: the start of an element or a member, or the end of the
+    // innermost container. Returns whether a value is due after the event. Returns `Invalid` if the
+    // event is none of these or does not fit the container, and `Memory` if an allocation fails.
     #[inline(always)]
     fn resume(&mut self, event: Step<'_>) -> Result<bool>
         ensures ok { IfOk result (λ due.
@@ -86,7 +86,8 @@ impl ValuePlace {
         Ok(())
     }
 
-    /// Returns whether the event is a name that the innermost open object has already.
+    /// Returns whether the event is a name, and the innermost open container an object that already
+    /// has a member of that name.
     pub(crate) fn repeats(&self, event: &Step<'_>) -> bool
         ensures { result ≡ repeats (event_of event.now) (hole_at self.now) }
     {
@@ -115,7 +116,8 @@ impl Visitor for ValuePlace {
 
     ghost take_infallible = { true };
 
-    // What an event makes of the hole.
+    // An event that is accepted changes the hole as `after_step` says. The first error is `Invalid`
+    // only if the event does not fit the hole.
     ghost further = { steps };
 
     fn begin(alloc: Global) -> Result<ValuePlace> {

@@ -21,7 +21,8 @@ pub trait Fields: Drop {
     /// The fields' values, in their order.
     type Values;
 
-    // What the fields mean, and what a contract sees of the place of the current value.
+    // Which members mean which values of the fields, and what a contract sees of the place of the
+    // current value.
     ghost meaning: { FieldPlacesMeaning Self Self.Values };
 
     // Whether `join` returns `Memory` only if the place of the current value keeps that error.
@@ -123,8 +124,8 @@ impl Fields for NoField {
     }
 }
 
-/// A field, and the fields after it, by the place of the field's value. `O` says whether the field takes one member
-/// alone.
+/// A field of the type `T`, and the fields `R` after it. It has its value so far, and its place `P`
+/// while a member of its name is read. `O` says whether the field takes one member alone.
 pub struct FieldOf<P, T, O, R> {
     value: Option<T>,
     child: Option<P>,
@@ -135,8 +136,9 @@ pub struct FieldOf<P, T, O, R> {
 /// A field of the type `T`, and the fields after it. If its name is a duplicate, the last member counts.
 pub type Field<T, R> = FieldOf<<T as Deserialize>::Place, T, Plain, R>;
 
-/// A field of the type `T` that takes one member alone, and the fields after it. If its name is a duplicate, the
-/// second `key` event with that name fails with `Invalid`. Duplicates of other names, and inside of values, are no error.
+/// A field of the type `T` that takes one member alone, and the fields after it. If its name is a
+/// duplicate, the second `key` event with that name fails with `Invalid`. Duplicates of other
+/// names, and inside of values, are no error.
 pub type OnceField<T, R> = FieldOf<<T as Deserialize>::Place, T, Once<Plain>, R>;
 
 impl<P: Drop, T: Drop, O, R: Drop> Drop for FieldOf<P, T, O, R> {
@@ -158,7 +160,8 @@ impl<T: Deserialize, O: Repeats, R: Fields> Fields for FieldOf<T::Place, T, O, R
 
     ghost meaning = { field_place_and O.once T.Place.meaning T.absent (λ f. f.value) (λ f. f.child) (λ f. f.rest) R.meaning };
 
-    // `join` moves the value out of its place, and allocates nothing itself.
+    // `join` takes the value out of its place and allocates nothing besides, so it fails to allocate
+    // only if `take` of that place does.
     ghost join_infallible = { T.Place.take_infallible && R.join_infallible };
 
     fn new() -> FieldOf<T::Place, T, O, R> {

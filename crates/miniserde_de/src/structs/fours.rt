@@ -8,8 +8,9 @@ use miniserde_place::de::Step;
 use miniserde_record::record::{Once, Parts, Plain, Repeats};
 use std::alloc::Global;
 
-/// Four fields, and the fields after them, by the places of their values. `O` says whether each takes one member
-/// alone. The time to check a proof doubles with each nested field, and a block of four counts as one.
+/// Four fields of the types `A` to `D` with the places `P`, `Q`, `S` and `U`, and the fields `R`
+/// after them. `O` says whether each takes one member alone. The time to check a proof doubles with
+/// each nested field, and a block of four counts as one.
 pub struct FourOf<P, A, Q, B, S, C, U, D, O, R> {
     fields: FieldOf<P, A, O, FieldOf<Q, B, O, FieldOf<S, C, O, FieldOf<U, D, O, R>>>>,
 }

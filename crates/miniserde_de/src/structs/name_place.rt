@@ -13,7 +13,7 @@ use miniserde_place::de::{Step, Visitor};
 use miniserde_record::record::{UnitEnum, Variant};
 use std::alloc::Global;
 
-/// The place of a unit enum.
+/// The place of a unit enum, whose variant is read by its name.
 #[derive(Drop)]
 pub struct NamePlace<T> {
     place: LeafPlace<Variant<T>>,
@@ -30,6 +30,7 @@ impl<T: UnitEnum + 'static> Visitor for NamePlace<T> {
 
     ghost take_infallible = { true };
 
+    // `step` returns `Memory` only if the place keeps that error already.
     ghost further = { λ old e answer new. answer ≡ Err Error.Memory
         → (⟦<LeafPlace<Variant<T>> as Visitor>⟧.meaning.view old.place).refused ≡ Some Error.Memory };
 

@@ -22,7 +22,7 @@ pub struct RecordOf<S, F> {
     record: PhantomData<S>,
 }
 
-/// The place of a struct. A struct has a place type of its own, which holds this place.
+/// The place of a struct. Each struct has a place type of its own, with this place inside.
 pub type RecordPlace<S> = ContainerPlace<RecordOf<S, <S as PlacedRecord>::Fields>>;
 
 impl<S: PlacedRecord + 'static> Collect for RecordOf<S, S::Fields> {

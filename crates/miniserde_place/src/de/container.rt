@@ -13,7 +13,7 @@ pub use collect::Collect;
 use miniserde_model::error::{Error, Result};
 use std::alloc::Global;
 
-/// How far the place of a container is.
+/// How far the place of a container is in the events of the container.
 #[derive(Clone, Copy, Drop)]
 pub(crate) enum Stage {
     /// No event came yet.
@@ -125,7 +125,8 @@ impl<C: Collect> Visitor for ContainerPlace<C> {
 
     ghost take_infallible = { true };
 
-    // What each event does to the children. If an event begins a child that the container rejects, the event fails.
+    // What each event does to the children. An event fails if it begins a child for which the
+    // collector's `refuses` holds.
     ghost further = { ContainerSteps C.collector_meaning C.join_infallible };
 
     fn begin(alloc: Global) -> Result<ContainerPlace<C>> {

@@ -24,15 +24,15 @@ use std::alloc::{AllocError, Global};
 use std::collections::BTreeMap;
 use std::{mem, result};
 
-/// An open container: an array, with the index of its first item in the builder's values, or an object, which is the
-/// next of the builder's open objects.
+/// An open container: an array, with the index of its first item in the builder's values, or an
+/// object, whose members stand in the builder's list of open objects.
 #[derive(Clone, Copy, Drop)]
 pub(crate) enum Mark {
     Array(usize),
     Object,
 }
 
-/// An open object: its members so far, and the name of the next value if that name came.
+/// An open object: its members so far, and the name of its next value if that name came already.
 #[derive(Drop)]
 pub(crate) struct OpenObject {
     members: BTreeMap<String, Value>,
@@ -59,8 +59,8 @@ impl OpenObject {
         self.name = Some(name);
     }
 
-    /// Adds a value as the member of the name that was set last, and replaces the value of a duplicate name. Drops
-    /// the value if no name was set. Fails if the map cannot grow.
+    /// Adds a value under the name that was set for it, and replaces an earlier value of that name.
+    /// Drops the value if no name was set. Fails if the map cannot grow.
     pub(crate) fn put(&mut self, value: Value) -> result::Result<(), AllocError>
         ensures { OnOk result ((h : Hole) → with_open_object self.new h ≡ put (shape value) (with_open_object self.old h)) }
     {
@@ -88,11 +88,13 @@ pub struct Builder {
     objects: Vec<OpenObject>,
     // The open containers, the outermost first.
     marks: Vec<Mark>,
+    // The three lists fit each other.
     ghost fits: { MarksFit values.items objects.items marks.items } by { marks-fit-once values.items objects.items marks.items },
 }
 
-// Removes the values from index `from` on, and returns them as a list. If that list cannot be allocated, fails and
-// leaves `values` unchanged. If `as_it_lies` is `true` and `from` is 0, it moves the whole list and copies nothing.
+// Removes the values from index `from` on, and returns them as a list. If `as_it_lies` is `true`
+// and `from` is 0, it moves the whole list with its capacity, and allocates nothing. Else, if the
+// new list cannot be allocated, it fails and leaves `values` unchanged.
 #[inline(always)]
 fn take_from(
     alloc: Global,
@@ -187,7 +189,8 @@ impl Builder {
         Ok(())
     }
 
-    /// Opens an array: inside the innermost open container, or outside of all if none is open. Fails if an allocation fails.
+    /// Opens an array: inside the innermost open container, or outside of all if none is open.
+    /// Fails if an allocation fails.
     #[inline(always)]
     pub(crate) fn open_array(&mut self) -> result::Result<(), AllocError>
         ensures { OnOk result (hole_in self.new ≡ in_list [] (hole_in self.old)) }
@@ -196,7 +199,8 @@ impl Builder {
         Ok(())
     }
 
-    /// Opens an object: inside the innermost open container, or outside of all if none is open. Fails if an allocation fails.
+    /// Opens an object: inside the innermost open container, or outside of all if none is open.
+    /// Fails if an allocation fails.
     #[inline(always)]
     pub(crate) fn open_object(&mut self) -> result::Result<(), AllocError>
         ensures { OnOk result (hole_in self.new ≡ in_members no_members None (hole_in self.old)) }
@@ -252,8 +256,8 @@ impl Builder {
         Ok(())
     }
 
-    /// Closes the innermost open container, if one is open, and adds it to the container around it. Returns `Memory`
-    /// if an allocation fails.
+    /// Closes the innermost open container, if one is open, and adds it to the container around it,
+    /// or to the finished values if there is none. Returns `Memory` if an allocation fails.
     #[inline(always)]
     pub fn close(&mut self) -> Result<()>
         ensures ok { OnOk result (hole_in self.new ≡ after_close (hole_in self.old)) }
@@ -276,7 +280,8 @@ impl Builder {
         Ok(())
     }
 
-    /// Returns the value, or `None` if a container is open or there is not exactly one value.
+    /// Returns the one finished value, or `None` if a container is open or there is not exactly one
+    /// such value.
     pub fn into_value(self) -> Option<Value>
         ensures { option_map shape result ≡ complete_tree (hole_in self) }
     {

@@ -15,7 +15,8 @@ use super::walk::{Visit, Walk};
 use miniserde_model::error::Result;
 use std::alloc::Global;
 
-// Hands one visit of a walk to the builder, which copies its number or text. Returns `Memory` if an allocation fails.
+// Hands one visit of a walk to the builder, with a copy of its number or text. Returns `Memory` if
+// an allocation fails.
 fn add(alloc: Global, visit: Visit<'_>, builder: &mut Builder) -> Result<()>
     ensures built { OnOk result (hole_in builder.new ≡ hole_after (hole_in builder.old) (visit_of visit.entry ∷ [])) }
     ensures memory { OnErr result (IsErrOf result Memory) }
@@ -34,7 +35,8 @@ fn add(alloc: Global, visit: Visit<'_>, builder: &mut Builder) -> Result<()>
     Ok(())
 }
 
-// Hands all visits that are left of a walk to the builder. Returns `Memory` if an allocation fails.
+// Hands all visits that a walk has left to the builder, as `add` does. Returns `Memory` if an
+// allocation fails.
 fn add_all(alloc: Global, mut walk: Walk<'_>, builder: &mut Builder) -> Result<()>
     ensures built { OnOk result (hole_in builder.new ≡ hole_after (hole_in builder.old) (left walk.entry)) }
     ensures ordered { OnOk result (LeftOrdered walk.entry) }

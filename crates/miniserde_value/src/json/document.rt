@@ -1,4 +1,4 @@
-//! The type `Document`, a JSON value that counts as the tree that is written of it.
+//! The type `Document`, a JSON value whose content is the tree that it is written as.
 ghost use Rattle.std.specs.Prelude.{⊤};
 ghost use Rattle.miniserde_stable.specs.Stable.{IsStable};
 
@@ -12,8 +12,8 @@ use miniserde_ser::ser::{Serialize, Writer};
 use miniserde_stable::Stable;
 use miniserde_text::json::lex::Event;
 
-/// A JSON value whose content is the tree that is written of it: `-0` counts as 0, and the order of names does not
-/// count. So it is stable and lossless, which `Value` is not.
+/// A JSON value whose content is the tree that it is written as: `-0` counts as 0, and the order of
+/// names does not count. So it is stable and lossless, which `Value` is not.
 #[derive(Debug, Drop)]
 pub struct Document {
     pub value: Value,

@@ -18,7 +18,7 @@ use std::alloc::Global;
 
 /// A type of values that `value!` converts to a `Value`.
 pub trait IntoValue {
-    // The tree of the `Value`.
+    // The content, as a tree, of the `Value` that `into_value` returns.
     ghost value_tree: { Self → Tree };
 
     /// Returns the value as a `Value`. It copies a borrowed text, and moves an owned value. Its only error is
@@ -49,7 +49,7 @@ pub fn object_value(object: Object) -> Value
     Value::Object(object)
 }
 
-// Returns an integer of at least 0 as a `Value`.
+// Returns an integer of at least 0 as a `Value`: as a `U64`.
 fn unsigned(n: u64) -> Value
     ensures { shape result ≡ nonneg n }
 {
@@ -212,7 +212,7 @@ impl IntoValue for Value {
     }
 }
 
-/// Converts `None` to `null`, and `Some` as its value.
+/// Converts `None` to `null`, and `Some` as the value inside.
 impl<T: IntoValue> IntoValue for Option<T> {
     ghost value_tree = { option_tree T.value_tree };
 

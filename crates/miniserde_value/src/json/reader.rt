@@ -43,9 +43,11 @@ pub(crate) fn read_value<'a>(token: Event<'a>, source: &mut Source<'a>, once: bo
     }
 }
 
-/// Takes the closing bracket of the innermost container, or everything up to the first token of its next child, with
-/// that token. Returns whether a container was opened, or the error of the source or the builder. `first` says that
-/// the opening bracket was just taken.
+/// Closes the innermost open container, which is of the kind `kind`, if its closing bracket is
+/// next. Else takes the start of its next child, up to and with the child's first token. Hands the
+/// builder what it takes. Returns whether a container was opened, or the error of the source or the
+/// builder, or `Invalid` if `once` is `true` and a member's name is a duplicate. `first` says that
+/// the container's opening bracket was just taken.
 #[inline(always)]
 fn take_child_or_end<'a>(
     source: &mut Source<'a>,
@@ -77,8 +79,8 @@ fn take_child_or_end<'a>(
     }
 }
 
-/// Sets the name of the next value in the innermost object. Returns `Invalid` if `once` is `true` and the object has
-/// the name already, and `Memory` if an allocation fails.
+/// Sets the name of the next value in the innermost open object. Returns `Invalid` if `once` is
+/// `true` and the object has a member of that name already, and `Memory` if an allocation fails.
 #[inline(always)]
 fn name_next(builder: &mut Builder, name: &str, once: bool) -> Result<()>
     ensures ok { OnOk result (hole_in builder.new ≡ with_name name.now (hole_in builder.old)) }
@@ -93,8 +95,8 @@ fn name_next(builder: &mut Builder, name: &str, once: bool) -> Result<()>
     builder.name(name)
 }
 
-/// Takes the first token of a value, and hands its event to the builder. Returns whether it opened a container, or
-/// the error of the source or the builder.
+/// Takes the first token of a value, and hands its event to the builder. Returns whether the token
+/// opens a container, or the error of the source or the builder.
 #[inline(always)]
 fn begin<'a>(source: &mut Source<'a>, builder: &mut Builder) -> Result<bool>
     requires { source.old.refused ≡ None }

@@ -22,7 +22,9 @@ fn begin_line<W: Write>(f: &mut Formatter<W>, levels: u64) -> Result {
     Ok(())
 }
 
-// Writes what separates an item or a name from the text before it.
+// Writes what stands before an item or a name. For `{:#?}` it is a line break with indentation,
+// after a comma unless the item is the first; for `{:?}` a comma and a space, unless the item is
+// the first.
 fn begin_part<W: Write>(f: &mut Formatter<W>, shown: Shown) -> Result {
     match (f.alternate(), shown.first) {
         (true, true) => begin_line(f, shown.levels),
@@ -35,7 +37,8 @@ fn begin_part<W: Write>(f: &mut Formatter<W>, shown: Shown) -> Result {
     }
 }
 
-// Writes the closing bracket of a container. For `{:#?}` it has a line of its own, unless the container is empty.
+// Writes the closing bracket of the innermost open container. For `{:#?}` it has a line of its own,
+// unless the container is empty.
 fn end<W: Write>(f: &mut Formatter<W>, shown: Shown, bracket: &str) -> Result {
     if f.alternate() && !shown.first {
         f.write_str(",")?;
@@ -44,7 +47,7 @@ fn end<W: Write>(f: &mut Formatter<W>, shown: Shown, bracket: &str) -> Result {
     f.write_str(bracket)
 }
 
-// Writes the text of one visit.
+// Writes the text of one visit. `shown` is the state before it.
 fn show<W: Write>(f: &mut Formatter<W>, visit: Visit<'_>, shown: Shown) -> Result {
     match visit {
         Visit::Null => f.write_str("Null"),
@@ -63,7 +66,7 @@ fn show<W: Write>(f: &mut Formatter<W>, visit: Visit<'_>, shown: Shown) -> Resul
     }
 }
 
-// Returns the state of the output after a visit.
+// Returns the state of the output after a visit. `shown` is the state before it.
 fn after(visit: Visit<'_>, shown: Shown) -> Shown {
     match visit {
         Visit::Array | Visit::Object => Shown {
@@ -81,7 +84,8 @@ fn after(visit: Visit<'_>, shown: Shown) -> Shown {
     }
 }
 
-// Writes the text of all visits of a walk. Fails also if the walk fails to allocate.
+// Writes the text of all visits of a walk, which begins after an opening bracket. Fails also if the
+// walk fails to allocate.
 fn show_all<W: Write>(mut walk: Walk<'_>, f: &mut Formatter<W>) -> Result {
     let mut shown = Shown {
         levels: 1,
@@ -94,6 +98,8 @@ fn show_all<W: Write>(mut walk: Walk<'_>, f: &mut Formatter<W>) -> Result {
     Ok(())
 }
 
+/// Shows the array as std shows a list, after the word `Array`. Fails also if the walk fails to
+/// allocate.
 impl Debug for Array {
     fn fmt<W: Write>(&self, f: &mut Formatter<W>) -> Result {
         f.write_str("Array [")?;
@@ -104,6 +110,8 @@ impl Debug for Array {
     }
 }
 
+/// Shows the object as std shows a map, after the word `Object`. Fails also if the walk fails to
+/// allocate.
 impl Debug for Object {
     fn fmt<W: Write>(&self, f: &mut Formatter<W>) -> Result {
         f.write_str("Object {")?;

@@ -14,7 +14,8 @@ use super::value::Value;
 use std::alloc::{AllocError, Global};
 use std::result;
 
-/// One visit of a walk: a leaf, the start or the end of a container, or what stands before a child.
+/// One visit of a walk: a leaf, the start or the end of a container, the start of an element, or a
+/// member's name.
 #[derive(Clone, Copy, Drop)]
 pub(crate) enum Visit<'a> {
     Null,
@@ -39,7 +40,8 @@ pub(crate) struct Walk<'a> {
 }
 
 impl<'a> Walk<'a> {
-    /// Returns a walk over the items of an array and its end. Fails if its stack fails to allocate.
+    /// Returns a walk over the items of an array, with the array's end last. Fails if its stack
+    /// fails to allocate.
     pub(crate) fn array(alloc: Global, array: &'a Array) -> result::Result<Walk<'a>, AllocError>
         ensures left { IfOk result (λ w. list_begins ∷ left w ≡ visits (array_shape array.entry.now) []) }
         ensures ordered { IfOk result (λ w. LeftOrdered w → IsOrdered (array_shape array.entry.now)) }
@@ -49,7 +51,8 @@ impl<'a> Walk<'a> {
         Ok(Walk { due: None, frames })
     }
 
-    /// Returns a walk over the members of an object and its end. Fails if its stack fails to allocate.
+    /// Returns a walk over the members of an object, with the object's end last. Fails if its stack
+    /// fails to allocate.
     pub(crate) fn object(alloc: Global, object: &'a Object) -> result::Result<Walk<'a>, AllocError>
         ensures left { IfOk result (λ w. members_begin ∷ left w ≡ visits (object_shape object.entry.now) []) }
         ensures ordered { IfOk result (λ w. LeftOrdered w → IsOrdered (object_shape object.entry.now)) }
@@ -99,7 +102,8 @@ impl<'a> Walk<'a> {
         }
     }
 
-    // Returns the next visit of the innermost open container, or `None` if none is open.
+    // Returns the next visit of the innermost open container, or `None` if none is open. Notes the
+    // child to visit next, if the visit starts an element or a member.
     fn resume(&mut self) -> Option<Visit<'a>>
         requires { self.old.due ≡ None }
         ensures left { MatchOption result (left self.old ≡ []) (λ f. left self.old ≡ visit_of f ∷ left self.new) }

@@ -12,7 +12,8 @@ use std::alloc::Global;
 use std::collections::{BTreeMap, HashMap};
 use std::hash::{BuildHasher, Hash};
 
-/// The collector of a map: the entries so far, and the key and the place of the current value.
+/// The collector of a map: the entries so far, and the key and the place of the current value, if
+/// there is one.
 #[derive(Drop)]
 pub struct MapOf<M, K, P> {
     table: M,

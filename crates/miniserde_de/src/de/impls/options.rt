@@ -5,7 +5,7 @@ use super::super::{Deserialize, Step, Visitor};
 use miniserde_model::error::{Error, Result};
 use std::alloc::Global;
 
-// What came to the place of an `Option` so far.
+// The state of the place of an `Option`: what came to it so far.
 #[derive(Drop)]
 enum OptionState<P> {
     // No event came yet.

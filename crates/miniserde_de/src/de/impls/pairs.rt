@@ -39,7 +39,8 @@ where
     ghost collector_meaning = { pair_collector P.meaning Q.meaning
         (λ c. c.first) (λ c. c.second) (λ c. c.child) (λ v. v.0) (λ v. v.1) };
 
-    // `join` moves a part out of its place, and allocates nothing itself.
+    // `join` takes a part out of its place and allocates nothing besides, so it fails to allocate
+    // only if `take` of that place does.
     ghost join_infallible = { P.take_infallible && Q.take_infallible };
 
     fn new(_alloc: Global) -> PairOf<P, P::Out, Q, Q::Out> {

@@ -18,7 +18,8 @@ pub trait Collect: Drop {
     /// The type of the containers.
     type Out;
 
-    // What the container means, and what a contract sees of the place of its current child.
+    // Which trees mean which containers, and what a contract sees of the children and of the
+    // current child's place.
     ghost collector_meaning: { CollectorMeaning Self Self.Out };
 
     // Whether `join` returns `Memory` only if the place of the current child keeps that error.
@@ -32,8 +33,8 @@ pub trait Collect: Drop {
     fn opens(event: &Step<'_>) -> bool
         ensures { IsTrue result ↔ (event_of event.now ≡ opening_event collector_meaning.is_object) };
 
-    /// Begins the child that the event begins. Returns `Invalid` if the container can have no such child here, and
-    /// `Memory` if an allocation fails.
+    /// Begins a fresh place for the child that the event begins. Returns `Invalid` if the container
+    /// can have no such child here, and `Memory` if an allocation fails.
     fn begin_child(&mut self, alloc: Global, event: Step<'_>) -> Result<()>
         requires { BeginsChild (event_of event) }
         ensures fresh { IfOk result (λ _. IsFresh
@@ -49,7 +50,8 @@ pub trait Collect: Drop {
         requires { IsTreeEvent (event_of event) }
         ensures { Takes (collector_meaning.child self.old) (event_of event.entry) result (collector_meaning.child self.new) };
 
-    /// Keeps an error for the current child, unless it has one already. Returns the first error of that child.
+    /// Keeps an error in the place of the current child, unless that keeps one already. Returns the
+    /// first error of that place.
     fn refuse(&mut self, error: Error) -> Error
         ensures answer { result ≡ first_refusal (collector_meaning.child self.old).refused error }
         ensures marks { (collector_meaning.child self.new).refused ≡ Some result };
@@ -58,8 +60,9 @@ pub trait Collect: Drop {
     fn is_child_complete(&self) -> bool
         ensures { result ≡ is_complete (collector_meaning.child self.now).at };
 
-    /// Adds the current child, which is complete, to the children so far. Returns the error that its place keeps,
-    /// `Invalid` if the child means no value, or `Memory` if an allocation fails.
+    /// Adds the current child, which is complete, to the children so far. Returns the error that
+    /// its place keeps, `Invalid` if the child's events mean no value, or `Memory` if an allocation
+    /// fails.
     fn join(&mut self) -> Result<()>
         ensures joined { IfOk result (λ _. (collector_meaning.child self.old).outcome [] ≡ Some (collector_meaning.state self.new)) }
         ensures invalid { result ≡ Err Error.Invalid → (collector_meaning.child self.old).refused ≡ None

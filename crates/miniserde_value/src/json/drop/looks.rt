@@ -12,7 +12,9 @@ use std::marker::{Model, PhantomData};
 #[derive(Drop)]
 pub struct Looks {
     marker: PhantomData<u8>,
+    // How often a value was looked at.
     pub ghost visited: { ℕ },
+    // How many values were dropped.
     pub ghost released: { ℕ },
 }
 

@@ -10,7 +10,8 @@ use std::alloc::{AllocError, Global};
 use std::collections::btree_map;
 use std::{result, slice};
 
-/// An open container: an array with the items that are left of it, or the next of the open objects.
+/// An open container: an array with the items that it has left, or an object, whose iterator stands
+/// in a list of its own (`Frames`).
 #[derive(Drop)]
 pub(crate) enum Frame<'a> {
     Array(slice::Iter<'a, Value>),
