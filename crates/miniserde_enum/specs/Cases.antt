@@ -9,7 +9,8 @@ use Rattle.miniserde_enum.specs.Tagging.{Tagging, external, internal, IsCase, ca
 
 -- ---- the content of a variant, by a name and its data
 
--- the content for the name k and the data o: by `given` if k is the first variant's name, and else by `later`
+-- the content for the name k and the data o, by the variants' names: what `given` returns for the
+-- data if k is the first variant's name, and else what `later` returns
 abbrev pub case_given : {C D : Type 0} → (Option Tree → Option C) → (List Name → Name → Option Tree → Option D) → List Name → Name → Option Tree → Option (OneOf C D)
 case_given given later [] k o = None
 case_given given later (n ∷ ns) k o = if bytes_eq k n then option_map First (given o) else option_map Later (later ns k o)
@@ -23,7 +24,7 @@ unit_given (Some t) = None
 abbrev pub data_given : {C : Type 0} → (Tree → Option C) → Option Tree → Option C
 data_given of o = option_and_then of o
 
--- what f returns for the data t
+-- what f, which takes data or none, returns for the data t
 abbrev pub with_data : {C : Type 0} → (Option Tree → Option C) → Tree → Option C
 with_data f t = f (Some t)
 
@@ -46,7 +47,7 @@ DataReads reads tagging n t x = (u : Tree) × IsCase tagging t n (Some u) × rea
 
 -- ---- the tree of a value, by its tagging
 
--- by the tagging, the tree of the variant of the name n without data
+-- by the tagging, the tree of the variant of the name n without data, whose value is the unit
 abbrev pub unit_tree : Tagging → Name → Unit {0} → Tree
 unit_tree tagging n u = case_written tagging n None
 
@@ -54,17 +55,20 @@ unit_tree tagging n u = case_written tagging n None
 abbrev pub data_tree : {T : Type 0} → Tagging → (T → Tree) → Name → T → Tree
 data_tree tagging f n x = case_written tagging n (Some (f x))
 
--- the tree of the value: of the first variant, by `one` and the first name, or of a later variant, by `later`
+-- the tree of the value v, by the variants' names: `one` returns it for the first variant's name
+-- and value, and `later` for the later names and a later variant's value
 abbrev pub case_tree : {T W : Type 0} → (Name → T → Tree) → (List Name → W → Tree) → List Name → OneOf T W → Tree
 case_tree one later [] v = null
 case_tree one later (n ∷ ns) (First x) = one n x
 case_tree one later (n ∷ ns) (Later w) = later ns w
 
--- the tree of an externally tagged enum: `values` returns the value of its variant, and `tree` the tree of that
+-- the tree of the value v of an externally tagged enum, by the variants' names: `tree` returns the
+-- tree of the variant's value, which `values` returns
 abbrev pub enum_tree : {V W : Type 0} → List Name → (Tagging → List Name → V → Tree) → (W → V) → W → Tree
 enum_tree names tree values v = tree external names (values v)
 
--- the tree of an enum that is tagged by `tag`: `values` returns the value of its variant, and `tree` the tree of that
+-- the tree of the value v of an enum that is tagged by `tag`, by the variants' names: `tree`
+-- returns the tree of the variant's value, which `values` returns
 abbrev pub tagged_tree : {V W : Type 0} → Name → List Name → (Tagging → List Name → V → Tree) → (W → V) → W → Tree
 tagged_tree tag names tree values v = tree (internal tag) names (values v)
 

@@ -17,7 +17,8 @@ pub record CasesMeaning (V : Type 0) : Type 1 where
   pub content : V → Content
   -- the number of variants
   pub count : ℕ
-  -- the content for a name and the data of the variant of that name, by the variants' names
+  -- by the variants' names, the content that a name and data give, if they are a variant's name and
+  -- its data
   pub by_case : List Name → Name → Option Tree → Option Content
   -- a name that no variant has gives no content
   pub fresh : (names : List Name) (n : Name) (o : Option Tree) → is_new n names ≡ true → by_case names n o ≡ None
@@ -66,8 +67,8 @@ data_and m n = record {
 abbrev pub enum_of : {V : Type 0} (n : CasesMeaning V) → List Name → Tree → Option n.Content
 enum_of n names = by_tagging external (n.by_case names)
 
--- the tree means the externally tagged v: by n and the variants' names it means the variant's value, which `values`
--- returns
+-- the tree means the value v of an externally tagged enum: by the meaning n of its variants and
+-- their names, it means the value of the variant, which `values` returns
 abbrev pub enum_reads : {V W : Type 0} (n : CasesMeaning V) → List Name → (W → V) → Tree → W → Type 0
 enum_reads n names values t v = n.reads external names t (values v)
 
@@ -82,8 +83,8 @@ enum_meaning n names distinct values =
 abbrev pub tagged_of : {V : Type 0} (n : CasesMeaning V) → Name → List Name → Tree → Option n.Content
 tagged_of n tag names = by_tagging (internal tag) (n.by_case names)
 
--- the tree means v, which is tagged by `tag`: by n and the variants' names it means the variant's value, which
--- `values` returns
+-- the tree means the value v of an enum that is tagged by `tag`: by the meaning n of its variants
+-- and their names, it means the value of the variant, which `values` returns
 abbrev pub tagged_reads : {V W : Type 0} (n : CasesMeaning V) → Name → List Name → (W → V) → Tree → W → Type 0
 tagged_reads n tag names values t v = n.reads (internal tag) names t (values v)
 

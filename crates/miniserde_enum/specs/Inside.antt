@@ -11,7 +11,8 @@ use Rattle.miniserde_enum.specs.laws.Inside.{beside-refused, beside-apart}
 abbrev pub inside_of : {C : Type 0} → Name → (Tree → Option C) → Tree → Option C
 inside_of tag of = object_of (λ ms. of (members (others tag ms)))
 
--- the meaning of the fields of n in an object with a tag: the members of the tag's name are skipped
+-- the meaning of fields whose object has a tag too, by the fields' meaning n: the members of the
+-- tag's name are skipped
 abbrev pub beside_tag : {V : Type 0} → Name → FieldsMeaning V → FieldsMeaning V
 beside_tag tag n = record {
   Content = n.Content;

@@ -5,8 +5,9 @@ use Rattle.miniserde_read.specs.types.Objects.{Name}
 use Rattle.miniserde_read.specs.types.Words.{string_of}
 use Rattle.miniserde_record.specs.Fields.{others, last_given, Says}
 
--- the tree is an object of which each member of the tag's name is a string and the last one is n; the data are the
--- object of its other members
+-- by the tag, the tree is the variant of the name n with data: it is an object of which each member
+-- of the tag's name is a string and the last one is n, and the data are the object of its other
+-- members
 abbrev pub IsInternal : Name → Tree → Name → Option Tree → Type 0
 IsInternal tag (members ms) n (Some u) = Says ⊥ (λ t. t ≡ str n) string_of tag ms × (u ≡ members (others tag ms))
 IsInternal tag t n o = ⊥
@@ -15,7 +16,8 @@ IsInternal tag t n o = ⊥
 abbrev pub tag_of : Name → Members → Option Name
 tag_of tag ms = option_and_then (λ o. o) (last_given false string_of tag None ms)
 
--- the variant's name, by the tag of an object, and the object of its other members; any other tree gives nothing
+-- the name and the data of the variant that the tree is, if it is an object with the tag: the tag's
+-- text, and the object of the members that do not have the tag's name
 abbrev pub internal_variant : Name → Tree → Option (Name × Option Tree)
 internal_variant tag (members ms) = option_map (λ n. (n, Some (members (others tag ms)))) (tag_of tag ms)
 internal_variant tag _ = None

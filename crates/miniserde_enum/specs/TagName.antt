@@ -10,11 +10,13 @@ abbrev pub known : List Name → Name → Option Name
 known [] n = None
 known (m ∷ ms) n = if bytes_eq n m then Some m else known ms n
 
--- for a string the name that is equal to it, or `None` if there is no such name; any other tree gives nothing
+-- for a string, `Some` of the name that is equal to it, or `Some` of `None` if no name is; for any
+-- other tree, `None`
 abbrev pub tag_name_of : List Name → Tree → Option (Option Name)
 tag_name_of names t = option_map (known names) (string_of t)
 
--- the meaning of a tag by the variants' names: `name` returns the variant's name that the tag is, or `None`
+-- the meaning of a tag, by the variants' names: each string means a tag. `name` returns the
+-- variant's name that the tag is, or `None` if it is none.
 abbrev pub tag_name_meaning : {W : Type 0} → List Name → (W → Option Name) → Meaning W
 tag_name_meaning names name =
     meant name (tag_name_of names) (λ t w. tag_name_of names t ≡ Some (name w)) (λ t w. (λ e. e, λ e. e))

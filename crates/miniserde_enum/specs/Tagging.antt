@@ -25,6 +25,7 @@ abbrev pub case_written : Tagging → Name → Option Tree → Tree
 case_written external = external_tree
 case_written (internal tag) = internal_tree tag
 
--- what f returns for the name and the data of the variant that the tree is by the tagging, if it is one
+-- the content that f returns for the name and the data of the variant that the tree is, by the
+-- tagging; `None` if the tree is no variant
 abbrev pub by_tagging : {C : Type 0} → Tagging → (Name → Option Tree → Option C) → Tree → Option C
 by_tagging tagging f t = option_and_then (λ v. f v.0 v.1) (case_of tagging t)

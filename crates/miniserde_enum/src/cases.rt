@@ -18,7 +18,7 @@ pub trait Cases {
     /// The value of one of the variants.
     type Values;
 
-    // What the variants mean.
+    // Which trees mean which values of the variants.
     ghost meaning: { CasesMeaning Self.Values };
 
     /// Returns the variant without data whose name is `name`, or `None` if there is none. `names` has the names of the

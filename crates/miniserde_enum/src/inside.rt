@@ -27,7 +27,7 @@ use miniserde_text::json::lex::Event;
 
 /// A struct whose members may be in one object with the tag of an enum.
 pub trait Inside: RoundTrip {
-    // The names of its fields.
+    // The names of the struct's fields.
     ghost fields: { List Name };
 
     /// Reads one object, whose first token is `token`, and takes no more of the source. Members with the name of the
@@ -70,19 +70,21 @@ pub trait InsideCases {
     /// The value of one of the variants.
     type Values;
 
-    // What the variants mean.
+    // Which trees mean which values of the variants.
     ghost meaning: { CasesMeaning Self.Values };
 
-    // Which taggings fit: the tree that is written of a variant with its data is read as that variant with that data.
+    // Which taggings fit: by them, the tree that is written for a variant with its data is read as
+    // that variant with that data.
     ghost fits: { Tagging → Type 0 };
 
-    // Whether no field of the variants has the name.
+    // Whether no field of any of the variants has the given name.
     ghost apart: { Name → Bool };
 
-    /// Reads one object, whose first token is `token`, as the data of the variant with the name `name`, and takes no
-    /// more of the source. Members with the name of the tag of `E` are skipped. Returns `Invalid` if no variant has
-    /// the name, or if the text, from `token` on, has no prefix that is such an object; `Memory` if an allocation
-    /// fails.
+    /// Reads one object, whose first token is `token`, as the data of the variant with the name
+    /// `name`, and takes no more of the source. `names` has the names of the variants. Members with
+    /// the name of the tag of `E` are skipped. Returns `Invalid` if no variant has the name, or if
+    /// the text, from `token` on, has no prefix that is an object whose other members mean the
+    /// variant's data; `Memory` if an allocation fails.
     fn read_inside<'a, E: HasTag>(
         names: &[&str],
         name: &str,

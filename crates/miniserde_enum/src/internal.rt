@@ -49,10 +49,10 @@ impl<E: Tagged + HasTag> Record for Tag<E> {
     }
 }
 
-/// Reads an internally tagged enum, whose first token is `token`, and takes no more of the source. It is an object in
-/// which the last member with the tag's name names the variant, and the members of all other names are its data. Returns
-/// `Invalid` if the text, from `token` on, has no prefix that means such a value, and `Memory` if an allocation
-/// fails.
+/// Reads an internally tagged enum, whose first token is `token`, and takes no more of the source.
+/// It is an object in which the last member with the tag's name names the variant, and the members
+/// of all other names are its data. Returns `Invalid` if the text, from `token` on, has no prefix
+/// that means such a value, and `Memory` if an allocation fails.
 pub fn read_tagged<'a, E: Tagged + HasTag, C: InsideCases<Values = E::Values>>(
     token: Event<'a>,
     source: &mut Source<'a>,
@@ -78,7 +78,8 @@ pub fn read_tagged<'a, E: Tagged + HasTag, C: InsideCases<Values = E::Values>>(
     Ok(E::build(value))
 }
 
-/// Does nothing. It promises that internal tagging fits if no field has the name of the tag.
+/// Does nothing. It promises that internal tagging by the tag of `E` fits the variants `C`, if no
+/// field has the name of the tag: a variant with its data is read as it was written.
 pub fn tag_fits<E: HasTag, C: InsideCases>()
     requires { C.apart E.tag ≡ true }
     ensures { C.fits (internal E.tag) }

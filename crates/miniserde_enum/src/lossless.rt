@@ -12,13 +12,14 @@ use crate::one_of::{Never, OneOf};
 use crate::tagged::{HasTag, Tagged};
 use miniserde_round::Lossless;
 
-/// A chain of variants. Valid values with the same tree have the same content. The trait does not extend
-/// `RoundTripCases`, since each link of a chain would then hold the other chain too.
+/// A chain of variants whose valid values have the same content if they have the same tree. The
+/// trait does not extend `RoundTripCases`, since each link of a chain would then hold the other
+/// chain too.
 pub trait LosslessCases {
     /// The value of one of the variants.
     type Values;
 
-    // What the variants mean.
+    // Which trees mean which values of the variants.
     ghost meaning: { CasesMeaning Self.Values };
 
     // Which values are valid.
@@ -27,7 +28,8 @@ pub trait LosslessCases {
     // The tree of a value, by the tagging and the names of the variants.
     ghost tree: { Tagging → List Name → Self.Values → Tree };
 
-    // Which taggings fit: the tree that is written of a variant with its data is read as that variant with that data.
+    // Which taggings fit: by them, the tree that is written for a variant with its data is read as
+    // that variant with that data.
     ghost fits: { Tagging → Type 0 };
 
     /// Does nothing. It promises that external tagging fits. For each tagging that fits, it promises that the tree of

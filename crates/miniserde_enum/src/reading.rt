@@ -14,8 +14,9 @@ use miniserde_model::error::{Error, Result};
 use miniserde_read::Source;
 use miniserde_text::json::lex::{After, Event, Kind, Text};
 
-// Reads the data of the variant with the name `name`, after that name and its colon. Returns `Invalid` if no variant
-// with data has the name, or if the text has no prefix that means its data; `Memory` if an allocation fails.
+// Reads the data of the variant with the name `name`, after that name and its colon; `names` has
+// the names of the variants. Returns `Invalid` if no variant with data has the name, or if the text
+// has no prefix that means its data; `Memory` if an allocation fails.
 #[inline(always)]
 fn read_due_case<'a, C: Cases>(
     names: &[&str],
@@ -34,8 +35,9 @@ fn read_due_case<'a, C: Cases>(
     C::read_case(names, name, token, source)
 }
 
-// Reads the data of the variant whose name the source returned last, after that name and its colon. Returns `Invalid`
-// if no variant with data has the name, or if the text has no prefix that means its data; `Memory` if an allocation
+// Reads the data of the variant with the name `name`, which the source returned last, after that
+// name and its colon; `names` has the names of the variants. Returns `Invalid` if no variant with
+// data has the name, or if the text has no prefix that means its data; `Memory` if an allocation
 // fails.
 #[inline(always)]
 fn read_named<'a, C: Cases>(

@@ -18,7 +18,7 @@ pub trait RoundTripCases {
     /// The value of one of the variants.
     type Values;
 
-    // What the variants mean.
+    // Which trees mean which values of the variants.
     ghost meaning: { CasesMeaning Self.Values };
 
     // Which values are valid.
@@ -27,7 +27,8 @@ pub trait RoundTripCases {
     // The tree of a value, by the tagging and the names of the variants.
     ghost tree: { Tagging → List Name → Self.Values → Tree };
 
-    // Which taggings fit: the tree that is written of a variant with its data is read as that variant with that data.
+    // Which taggings fit: by them, the tree that is written for a variant with its data is read as
+    // that variant with that data.
     ghost fits: { Tagging → Type 0 };
 
     /// Does nothing. It promises that external tagging fits. For each tagging that fits, it promises that the tree of

@@ -1,4 +1,5 @@
-//! Promises that enums are stable: if a tree means a value, its normal form means the same.
+//! Promises that enums are stable: if a tree means a value, its normal form means a value of the
+//! same content.
 ghost use Rattle.miniserde_stable.specs.Stable.{IsStable};
 ghost use Rattle.miniserde_enum.specs.CasesMeaning.{CasesMeaning, no_cases, unit_and, data_and, enum_of, tagged_of};
 ghost use Rattle.miniserde_enum.specs.Stable.{CasesStable};
@@ -13,7 +14,7 @@ pub trait StableCases {
     /// The value of one of the variants.
     type Values;
 
-    // What the variants mean.
+    // Which trees mean which values of the variants.
     ghost meaning: { CasesMeaning Self.Values };
 
     /// Does nothing. It promises that if data means a value of a variant, its normal form means a value of the same

@@ -11,25 +11,26 @@ pub trait Tagged: Sized + Drop {
     // The variants' names, in their order.
     ghost names: { List Name };
 
-    // The value of the enum's variant.
+    // A value of the enum as one of `Values`: its variant with the data of the variant.
     ghost values: { Self → Self.Values };
 
     /// Returns the variants' names, in their order.
     fn names() -> &'static [&'static str]
         ensures { map (λ s. s.now) result.now ≡ names };
 
-    /// Returns the value of the enum whose variant has this value.
+    /// Returns the value of the enum that has this variant with this data.
     fn build(value: Self::Values) -> Self
         ensures { values result ≡ value };
 
-    // For each value of a variant there is a value of the enum that has it.
+    // For each of `Values`, some value of the enum has that variant with that data.
     ghost bijective: { (x : Self.Values) → (v : Self) × (values v ≡ x) };
 
-    // No name is a duplicate.
+    // No two variants have the same name.
     ghost distinct_names: { are_distinct names ≡ true };
 }
 
-/// An internally tagged enum: one member of its objects, the tag, has the name of the variant.
+/// An internally tagged enum: the value of one member of its objects, the tag, is the variant's
+/// name.
 pub trait HasTag {
     // The tag's name.
     ghost tag: { Name };

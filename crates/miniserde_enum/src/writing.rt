@@ -12,8 +12,8 @@ use miniserde_model::error::Result;
 use miniserde_record::record::{Members, write_members};
 use miniserde_ser::ser::{Fragment, Serialize, Writer};
 
-/// Writes a variant of an externally tagged enum that has data: an object of one member, whose name is the variant's.
-/// Returns `Memory` if the writer fails.
+/// Writes the variant `name` with the data `value` of an externally tagged enum: an object of one
+/// member, which has the variant's name and the data. Returns `Memory` if the writer fails.
 #[inline(always)]
 pub fn write_data<T: Serialize>(w: &mut Writer, name: &str, value: &T) -> Result<()>
     ensures ok { OnOk result (w.new.text ≡ w.old.text ++ compact (data_tree external T.tree name.now value.now)) }
@@ -30,9 +30,10 @@ pub fn write_data<T: Serialize>(w: &mut Writer, name: &str, value: &T) -> Result
     w.map_finish()
 }
 
-/// Writes a variant of an externally tagged enum that has fields: an object of one member, whose name is the
-/// variant's. The member's value is an object with a member for each field that is written, with the names in their
-/// order. Returns `Memory` if the writer fails.
+/// Writes the variant `name` with named fields of an externally tagged enum: an object of one
+/// member, which has the variant's name and an object of the fields. That object has a member for
+/// each of the values, whose name is the one at the value's index in `names`; an `Omitted` that is
+/// `None` has no member. Returns `Memory` if the writer fails.
 #[inline(always)]
 pub fn write_fields<M: Members>(
     w: &mut Writer,
@@ -56,8 +57,9 @@ pub fn write_fields<M: Members>(
     w.map_finish()
 }
 
-/// Writes a variant of an internally tagged enum: an object of the tag, which has the variant's name, and the members
-/// of the data. Returns `Memory` if the writer fails.
+/// Writes the variant `name` with the data `value` of an internally tagged enum: an object of the
+/// member `tag`, whose value is the variant's name, and the members of the data. Returns `Memory`
+/// if the writer fails.
 #[inline(always)]
 pub fn write_tagged<T: Inside>(w: &mut Writer, tag: &str, name: &str, value: &T) -> Result<()>
     ensures ok { OnOk result (w.new.text
@@ -76,8 +78,10 @@ pub fn write_tagged<T: Inside>(w: &mut Writer, tag: &str, name: &str, value: &T)
     w.map_finish()
 }
 
-/// Writes a variant of an internally tagged enum that has fields: an object of the tag, which has the variant's name,
-/// and a member for each field that is written, with the names in their order. Returns `Memory` if the writer fails.
+/// Writes the variant `name` with named fields of an internally tagged enum: an object of the
+/// member `tag`, whose value is the variant's name, and a member for each of the values, whose name
+/// is the one at the value's index in `names`. An `Omitted` that is `None` has no member. Returns
+/// `Memory` if the writer fails.
 #[inline(always)]
 pub fn write_tagged_fields<M: Members>(
     w: &mut Writer,

@@ -47,7 +47,8 @@ read_faults (Err Memory) = 0
 read_faults (Err Read) = 1
 read_faults (Err Write) = 0
 
--- how many calls of the writer failed in a run with this result
+-- how many calls of the writer failed in a run with this result; a write that takes none of its
+-- bytes counts as failed
 abbrev pub write_faults : {T : Type 0} → Result T Fault → ℕ
 write_faults (Ok x) = 0
 write_faults (Err Invalid) = 0
@@ -117,8 +118,10 @@ line_of (Err Memory) = codes "canon: out of memory"
 line_of (Err Read) = codes "canon: read failed"
 line_of (Err Write) = codes "canon: write failed"
 
--- The effects of a run: on what the reader has left and its failures, and on what is written, the writer's failures
--- and flushes. `is` relates inputs and outputs; `none` holds of an input without an output.
+-- The effects of a run with the result `answer`: on what the reader has left and its failures, and
+-- on what is written, the writer's failures and flushes. Each name with a prime is the state after
+-- the run, and without one before it. `is` relates an input to its output; `none` holds of an input
+-- without an output.
 pub record Ran {T : Type 0} (is : List ℕ → List ℕ → Type 0) (none : List ℕ → Type 0) (answer : Result T Fault) (left left' : Option (List ℕ)) (read_failures read_failures' : ℕ) (written written' : Option (List ℕ)) (write_failures write_failures' flushes flushes' : ℕ) : Type 0 where
   pub ok : OnOk answer (IfSome left (AppendsBy is written written'))
   pub flushed : OnOk answer (flushes' ≡ flushes + 1)

@@ -45,8 +45,8 @@ impl From<Error> for Fault {
     }
 }
 
-/// Reads a text to its end, writes its canonical text and flushes once. Returns the first fault, if there is one; a
-/// call that failed is not made again.
+/// Reads a text from `r` to its end, writes its canonical text to `w`, and flushes `w` once.
+/// Returns the first fault, if there is one; a call that failed is not made again.
 pub fn run<R: Read, W: Write>(
     alloc: Global,
     r: &mut Counted<R>,
@@ -75,8 +75,9 @@ pub fn run<R: Read, W: Write>(
     write_out(text, w)
 }
 
-/// Reads a text to its end, writes its canonical text and flushes once. A duplicate name in an object is `Invalid`.
-/// Returns the first fault, if there is one; a call that failed is not made again.
+/// Reads a text from `r` to its end, writes its canonical text to `w`, and flushes `w` once.
+/// Returns the first fault, if there is one; a call that failed is not made again. A duplicate name
+/// in an object is the fault `Invalid`.
 pub fn run_unique<R: Read, W: Write>(
     alloc: Global,
     r: &mut Counted<R>,
@@ -208,7 +209,8 @@ fn text_of(bytes: &[u8]) -> Result<&str, Fault>
     }
 }
 
-/// Writes the text, and flushes once. Returns `Write` if a write or the flush fails.
+/// Writes the text to `w`, and flushes `w` once. Returns `Write` if a write or the flush fails, or
+/// if a write takes no byte.
 fn write_out<W: Write>(text: String, w: &mut Counted<W>) -> Result<(), Fault>
     ensures ok { OnOk result (Appends (W.contents (inner_of w.old)) (W.contents (inner_of w.new)) (string_bytes text)) }
     ensures flushed { OnOk result (flushes w.new ≡ flushes w.old + 1) }

@@ -13,25 +13,29 @@ use Rattle.miniserde_record.specs.laws.Meanings.{none-given, closed-given, missi
 
 -- the meaning of the fields of a struct: which members mean which values V, by the names of the fields
 pub record FieldsMeaning (V : Type 0) : Type 1 where
-  -- the content of all values, and the type of that content
+  -- the content of the fields' values, and the type of that content
   pub Content : Type 0
   pub content : V → Content
-  -- the state of the fields after some members, and the type of that state
+  -- the type of the state of the fields after some members, and the state before any member
   pub State : Type 0
   pub empty : State
   -- the number of fields
   pub count : ℕ
-  -- the state after one more member, by the fields' names, the state before, the member's name and its tree
+  -- the state after one more member, if the member is no error, by the fields' names, the state
+  -- before it, the member's name and its tree
   pub by_tree : List Name → State → Name → Tree → Option State
-  -- whether the name alone makes a member fail, whatever its tree
+  -- whether a member's name is an error whatever its tree, by the fields' names and the state
+  -- before; `refused` says that `by_tree` returns no state then
   pub refuses : List Name → State → Name → Bool
   pub refused : (names : List Name) (s : State) (k : Name) → refuses names s k ≡ true → (t : Tree) → by_tree names s k t ≡ None
   -- the content after the last member, if each field has a value
   pub end : State → Option Content
-  -- the content that the members give from a state on, field by field
+  -- the content that members give, field by field, by the fields' names and the state before them;
+  -- `members_agree` says that they give the same one by one
   pub from_members : List Name → State → Members → Option Content
   pub members_agree : (names : List Name) (s : State) (ms : Members) → option_and_then end (all_members (by_tree names) s ms) ≡ from_members names s ms
-  -- the members mean the values: they give the values' content
+  -- by the fields' names, the members mean the values; `reads_agrees` says that they do exactly if
+  -- they give the values' content
   pub reads : List Name → Members → V → Type 0
   pub reads_agrees : (names : List Name) (ms : Members) (v : V) → reads names ms v ↔ (from_members names empty ms ≡ Some (content v))
 
@@ -53,8 +57,8 @@ no_fields = record {
   reads_agrees = λ ns ms v. none-given v;
 }
 
--- the meaning of no more fields in a `closed` struct: no member is left, so each member's name is a field's
--- (`closed-named`)
+-- the meaning of the end of the fields of a `closed` struct: no member is left whose name no field
+-- has (`closed-named`)
 abbrev pub closed_end : FieldsMeaning (Unit {0})
 closed_end = record {
   Content = Unit {0};
@@ -72,8 +76,10 @@ closed_end = record {
   reads_agrees = λ ns ms v. closed-given ms v;
 }
 
--- The meaning of a field and of the later ones, by the meanings m of its type and n. `once` allows it one member at
--- most; if it is missing, it has the tree `given` (`given-present`, `given-missing`) or the value `absent`.
+-- The meaning of a field and of the later fields, by the meaning m of the field's type and n of the
+-- later fields. If `once` is true, at most one member has the field's name. If the field is
+-- missing, it counts as if a member had the tree `given` (`given-present`, `given-missing`); if
+-- that is `None`, it has the value `absent`, if there is one.
 abbrev pub field_and : {T V : Type 0} → Bool → Option Tree → Meaning T → Option T → FieldsMeaning V → FieldsMeaning (T × V)
 field_and once given m absent n = record {
   Content = m.Content × n.Content;
@@ -91,7 +97,8 @@ field_and once given m absent n = record {
   reads_agrees = field-given once m (missing_content m given absent) (MissingReads m given absent) (missing-agrees m given absent) n.reads n.from_members n.content n.empty n.reads_agrees;
 }
 
--- the meaning of fields, by n, in which a member of an alias is taken as one of its field's name
+-- the meaning n of fields, with the aliases ps: a member whose name is an alias counts as one with
+-- the name of the alias's field
 abbrev pub with_aliases : {V : Type 0} → List (Name × Name) → FieldsMeaning V → FieldsMeaning V
 with_aliases ps n = record {
   Content = n.Content;

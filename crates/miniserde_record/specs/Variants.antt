@@ -6,8 +6,9 @@ use Rattle.miniserde_read.specs.types.Objects.{Name}
 use Rattle.miniserde_record.specs.Names.{find_variant, variant_of}
 use Rattle.miniserde_record.specs.laws.Names.{variant-given}
 
--- the meaning of a unit enum of the values vs: a string means the value whose name it is by f; `value` returns that
--- value
+-- The meaning of the type W, which contains a value of a unit enum, as `value` returns it: a string
+-- means the value of which it is the name. f returns the name of a value, vs has all values, and
+-- `found` says that each value is the first in vs that has its name.
 abbrev pub variant_meaning : {T W : Type 0} (f : T → Name) (vs : List T) → ((v : T) → find_variant f vs (f v) ≡ Some v) → (W → T) → Meaning W
 variant_meaning f vs found value =
     meant value (variant_of f vs) (λ t w. t ≡ str (f (value w)))

@@ -19,7 +19,8 @@ pub trait Lossless: RoundTrip {
             → Self.means.content v ≡ Self.means.content w };
 }
 
-/// A type of which no valid value is written as `null`, so that no `Some` of a value is written as `None` is.
+/// A type of which no valid value is written as `null`, so that no `Some` of such a value has the
+/// same text as `None`.
 pub trait NeverNull: RoundTrip {
     /// Does nothing. It promises that no valid value is written as `null`.
     fn never_null()

@@ -13,7 +13,7 @@ use std::alloc::Global;
 use std::collections::{BTreeMap, HashMap, VecDeque};
 use std::hash::{BuildHasher, Hash};
 
-/// A type whose values are read back as they were written.
+/// A type of which each valid value is read back from its text as a value with the same tree.
 pub trait RoundTrip: Ranged + Serialize + FromJson {
     /// Does nothing. It promises that the tree of each valid value means some valid value, and that each valid value
     /// that the tree means has this same tree.
@@ -22,9 +22,9 @@ pub trait RoundTrip: Ranged + Serialize + FromJson {
             → RoundTrips Self.real Self.tree Self.means.reads (Self.tree v) };
 }
 
-/// Reads one JSON value that spans the whole text, as `from_str` does (RFC 8259, section 2). If a valid value has the
-/// tree of the text, the returned value has the same tree. Returns `Invalid` if the text means no value, and `Memory`
-/// if an allocation fails.
+/// Reads one JSON value that spans the whole text, as `from_str` does (RFC 8259, section 2). If the
+/// text spells the tree of a valid value, the returned value has that tree. Returns `Invalid` if
+/// the text means no value, and `Memory` if an allocation fails.
 pub fn read_back<T: RoundTrip>(alloc: Global, text: &str) -> Result<T>
     // The text spells a tree that means the value, which is valid.
     ensures ok { IfOk result (λ read. (t : Tree) × IsJson text.now t × T.means.reads t read) }
@@ -33,10 +33,10 @@ pub fn read_back<T: RoundTrip>(alloc: Global, text: &str) -> Result<T>
     // If the text spells the tree of a valid value, the result has that tree.
     ensures same { IfOk result (λ read. (v : T) → T.real v → IsJson text.now (T.tree v) → T.tree read ≡ T.tree v) }
 
-    // If the text is `Invalid`, it spells the tree of no valid value.
+    // If the result is `Invalid`, the text spells the tree of no valid value.
     ensures stored { result ≡ Err Error.Invalid → (v : T) → T.real v → IsJson text.now (T.tree v) → ⊥ }
 
-    // If the text is `Invalid`, its tree means no value.
+    // If the result is `Invalid`, no tree that the text spells means a value.
     ensures invalid { result ≡ Err Error.Invalid → (t : Tree) → IsJson text.now t
         → (v : T) → T.means.reads t v → ⊥ }
 {

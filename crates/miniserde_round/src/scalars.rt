@@ -9,9 +9,11 @@ use miniserde_keys::Ranged;
 use miniserde_read::FromJson;
 use miniserde_ser::ser::Serialize;
 
-/// A type of std whose valid values have different trees, and never the tree `null`.
+/// A type of std whose valid values are read back from their trees, have different trees if their
+/// contents differ, and never have the tree `null`.
 pub trait Scalar: Ranged + Serialize + FromJson {
-    /// Does nothing. It promises what `RoundTrip`, `Lossless` and `NeverNull` promise.
+    /// Does nothing. It makes the promises of `RoundTrip`, `Lossless` and `NeverNull`, by the
+    /// clauses `round_trips`, `same` and `not_null`.
     fn scalar()
         ensures round_trips { (v : Self) → Self.real v
             → RoundTrips Self.real Self.tree Self.means.reads (Self.tree v) }

@@ -18,7 +18,7 @@ pub record Writing : Type 0 where
 abbrev pub after_append : Writing → List ℕ → ℕ → Writing
 after_append w bs n = record w { text = w.text ++ bs; capacity = n }
 
--- the writer with b for the flag `first`
+-- the writer with its flag `first` set to b
 abbrev pub with_first_flag : Writing → Bool → Writing
 with_first_flag w b = record w { first = b }
 

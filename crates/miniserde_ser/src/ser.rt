@@ -63,8 +63,8 @@ impl Model for Writer {
     } };
 }
 
-// Appends a text for which there is no room yet. If `out` cannot grow, fails and leaves `out` unchanged. Kept out of
-// line, since it is seldom called.
+// Appends `text` to `out`, which has no room for it yet. Returns `AllocError` if `out` cannot grow,
+// and leaves it unchanged. The function is kept out of line, since it is seldom called.
 #[inline(never)]
 fn push_growing(out: &mut String, text: &str) -> result::Result<(), AllocError>
     ensures { Extends out.old text.now result out.new }
@@ -100,7 +100,7 @@ impl Writer {
         *self.text.allocator()
     }
 
-    // Fails if an earlier call failed.
+    // Returns `AllocError` if an earlier call failed.
     #[inline(always)]
     fn check(&self) -> result::Result<(), AllocError>
         ensures stays { OnOk result (self.now.refused ≡ false) }
@@ -128,8 +128,9 @@ impl Writer {
         }
     }
 
-    // Appends the decimal digits of a number. They are one copy of fixed size if there is room for the longest
-    // number. Returns `Memory` if the text cannot grow or an earlier call failed.
+    // Appends the decimal digits of a number. If there is room for the longest number, it copies a
+    // fixed number of bytes and cuts off what is too much. Returns `Memory` if the text cannot grow
+    // or an earlier call failed.
     #[inline(always)]
     fn append_number(&mut self, n: u64) -> Result<()>
         ensures { Appends self.old (decimal n) self.old.first result self.new }

@@ -10,7 +10,7 @@ use miniserde_read::{FromJson, Ignored};
 use std::collections::{BTreeMap, HashMap, VecDeque};
 use std::hash::{BuildHasher, Hash};
 
-/// A type that is read from the canonical text of a text as from the text itself.
+/// A type for which a text that means a value and its canonical text mean the same value.
 pub trait Stable: FromJson {
     /// Does nothing. It promises that if a tree means a value, its normal form means a value of the same content.
     fn stable()
@@ -27,15 +27,16 @@ pub fn means_in_normal_form<T: Stable>()
     T::stable()
 }
 
-/// Does nothing. It promises that a normal form may mean a value that its tree does not mean: `-0` means no `u8`, and
-/// its normal form means 0. So a program that reads the canonical text in place of the text accepts more.
+/// Does nothing. It promises that the normal form of a tree that means no value may mean one: `-0`
+/// means no `u8`, and its normal form means 0. So a program that reads the canonical text in place
+/// of the text accepts more.
 pub fn normal_form_means_more()
     ensures text { ⟦<u8 as FromJson>⟧.means.from_tree (neg (pos 0)) ≡ None }
     ensures normal { ⟦<u8 as FromJson>⟧.means.from_tree (norm (neg (pos 0))) ≡ Some (pos 0) }
 {}
 
-/// Does nothing. It promises that a map with integer keys is not stable: `{"1":1,"01":2}` has 2 at key 1, and its
-/// normal form `{"01":2,"1":1}` has 1 there.
+/// Does nothing. It promises that `BTreeMap<u8, u8>` is not stable, as an example of a map with
+/// integer keys: `{"1":1,"01":2}` has 2 at key 1, and its normal form `{"01":2,"1":1}` has 1 there.
 pub fn two_names_of_a_key()
     ensures { IsStable ⟦<BTreeMap<u8, u8> as FromJson>⟧.means.from_tree → ⊥ }
 {}

@@ -7,8 +7,8 @@ use crate::canon::count::Count;
 use std::io;
 use std::io::{Read, Write};
 
-/// A reader or a writer that counts its failed calls and its flushes. Only contracts see the counts, which take no
-/// memory.
+/// A reader or a writer that counts its failed calls and its flushes. A write that takes none of
+/// its bytes counts as failed. Only contracts see the counts, which take no memory.
 #[derive(Drop)]
 pub struct Counted<T> {
     inner: T,
@@ -19,7 +19,7 @@ pub struct Counted<T> {
 impl<T> Counted<T> {
     ghost use Rattle.miniserde_program.specs.Counts.{inner_of, failures, flushes};
 
-    /// Returns a reader or a writer whose counts are 0.
+    /// Returns a reader or a writer around `inner`, whose counts are 0.
     pub fn new(inner: T) -> Counted<T>
         ensures inner { inner_of result ≡ inner }
         ensures failures { failures result ≡ 0 }
@@ -50,6 +50,7 @@ impl<R: Read> Read for Counted<R> {
 
     ghost remaining = { λ c. R.remaining (inner_of c) };
 
+    // Reads from the inner reader, and counts an error as a failed call.
     fn read(&mut self, buf: &mut [u8]) -> io::Result<usize>
         ensures bound { ReadsAtMost result buf.new }
         ensures bytes { ReadConsumes (R.remaining (inner_of self.old)) (R.remaining (inner_of self.new))
@@ -71,6 +72,8 @@ impl<W: Write> Write for Counted<W> {
 
     ghost contents = { λ c. W.contents (inner_of c) };
 
+    // Writes to the inner writer. Counts as a failed call an error, or an `Ok(0)` unless `buf` is
+    // empty.
     fn write(&mut self, buf: &[u8]) -> io::Result<usize>
         ensures bound { WritesAtMost result buf.now }
         ensures bytes { WriteAppends (W.contents (inner_of self.old)) (W.contents (inner_of self.new)) result buf.now }
@@ -91,6 +94,7 @@ impl<W: Write> Write for Counted<W> {
         result
     }
 
+    // Flushes the inner writer and counts the flush. Counts an error as a failed call too.
     fn flush(&mut self) -> io::Result<()>
         ensures bytes { Keeps (W.contents (inner_of self.old)) (W.contents (inner_of self.new)) }
         ensures failures { MatchResult result (λ _. failures self.new ≡ failures self.old)

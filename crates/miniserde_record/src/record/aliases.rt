@@ -27,7 +27,8 @@ pub trait HasAliases: Record {
     ghost apart: { are_themselves aliases Self.names ≡ true };
 }
 
-// Returns the name of the field that an alias stands for, or the name itself if it is no alias.
+// Returns the name of the field that has the alias `name`, or `name` itself if it is no alias.
+// `aliases` lists each alias with the name of its field.
 fn field_name<'a>(aliases: &[(&'static str, &'static str)], name: &'a str) -> &'a str
     ensures { result.now ≡ field_name_of (map (λ p. (p.0.now, p.1.now)) aliases.now) name.now }
 {

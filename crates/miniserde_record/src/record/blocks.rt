@@ -11,7 +11,8 @@ use miniserde_round::{Lossless, RoundTrip};
 use miniserde_stable::Stable;
 use std::alloc::Global;
 
-/// Four fields with their marks, and the fields after them.
+/// Four fields of the types `A`, `B`, `C` and `D` with the marks `M`, `N`, `O` and `P`, and the
+/// fields `Z` after them.
 pub struct MarkedFour<A, M, B, N, C, O, D, P, Z> {
     slots: MarkedSlot<A, M, MarkedSlot<B, N, MarkedSlot<C, O, MarkedSlot<D, P, Z>>>>,
 }
@@ -164,8 +165,8 @@ impl<
     }
 }
 
-/// Four fields without a mark, and the fields after them. The type names no marks, so its proofs are checked faster
-/// than those of `MarkedFour`.
+/// Four fields without marks, of the types `A`, `B`, `C` and `D`, and the fields `Z` after them.
+/// The type names no marks, so its proofs are checked faster than those of `MarkedFour`.
 #[derive(Drop)]
 pub struct FourSlot<A, B, C, D, Z> {
     slots: Slot<A, Slot<B, Slot<C, Slot<D, Z>>>>,

@@ -9,13 +9,14 @@ use super::slots::{MarkedSlot, NoSlot};
 use super::structs::{Parts, Record};
 use miniserde_round::Lossless;
 
-/// A chain of fields. Valid values with the same trees have the same content. The trait does not extend
-/// `RoundTripFields`, since each link of a chain would then hold the other chain too.
+/// A chain of fields whose valid values have the same content if they have the same trees. The
+/// trait does not extend `RoundTripFields`, since each link of a chain would then hold the other
+/// chain too.
 pub trait LosslessFields {
     /// The fields' values, in their order.
     type Values;
 
-    // What the fields mean.
+    // Which members mean which values of the fields.
     ghost meaning: { FieldsMeaning Self.Values };
 
     // Which values are valid.

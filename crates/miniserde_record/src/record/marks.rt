@@ -1,5 +1,5 @@
-//! The marks of a struct and of its fields: one member alone for a field, a value for a missing field, and no unknown
-//! names.
+//! The marks of a struct and of its fields: no duplicate of a field's name, a value for a missing
+//! field, and no members of unknown names.
 
 mod closed;
 mod empty;

@@ -15,8 +15,8 @@ pub trait Members {
     // The tree of each value, in their order, or none for a value that is not written.
     ghost trees: { Self → List (Option Tree) };
 
-    /// Appends a member for each value that is written, with the name at the value's index. Returns `Memory` if the writer
-    /// fails.
+    /// Appends a member for each value, whose name is the one at the value's index in `names`. An
+    /// `Omitted` that is `None` has no member. Returns `Memory` if the writer fails.
     fn write(&self, w: &mut Writer, names: &[&str]) -> Result<()>
         ensures ok { OnOk result (w.new.text ≡ w.old.text
             ++ members_text w.old.first (with_names (map (λ n. n.now) names.now) (trees self.now))) }
@@ -95,8 +95,9 @@ impl<'a, A: Serialize, B: Serialize, C: Serialize, D: Serialize, M: Members> Mem
     }
 }
 
-/// Writes an object with a member for each value that is written, with the names in their order. Returns `Memory` if
-/// the writer fails.
+/// Writes an object that has a member for each of the values, whose name is the one at the value's
+/// index in `names`. An `Omitted` that is `None` has no member. Returns `Memory` if the writer
+/// fails.
 #[inline(always)]
 pub fn write_members<M: Members>(w: &mut Writer, names: &[&str], values: &M) -> Result<()>
     ensures ok { OnOk result (w.new.text ≡ w.old.text

@@ -66,7 +66,7 @@ fn find_among<T: UnitEnum>(values: &[T], name: &str) -> Option<T>
     None
 }
 
-/// A value of a unit enum, as a type whose values are single tokens.
+/// A wrapper around a value of a unit enum, which is a `Leaf`: it is read from one token.
 #[derive(Clone, Copy, Drop)]
 pub struct Variant<T> {
     pub value: T,
@@ -90,8 +90,8 @@ impl<T: UnitEnum + 'static> Leaf for Variant<T> {
     }
 }
 
-/// Returns the value of a unit enum that the token names, or `Invalid` if it names none. Takes nothing from the
-/// source.
+/// Returns the value of a unit enum whose name is the string `token`. Returns `Invalid` if no value
+/// has that name, or if the token is no string. Takes nothing from the source.
 #[inline(always)]
 pub fn read_variant<'a, T: UnitEnum + 'static>(
     token: Event<'a>,

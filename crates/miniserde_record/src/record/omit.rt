@@ -18,7 +18,8 @@ use miniserde_stable::Stable;
 use std::alloc::Global;
 use std::marker::PhantomData;
 
-/// The mark of an optional field that is `None` if it is missing. `M` says whether it takes one member alone.
+/// The mark of an optional field that is `None` if it is missing. `M` says whether a duplicate of
+/// the field's name is an error.
 pub struct Omit<M> {
     mark: PhantomData<M>,
 }
@@ -41,8 +42,8 @@ impl<T: FromJson, M: Repeats> Mark<Option<T>> for Omit<M> {
     }
 }
 
-/// An optional field that is not written if it is `None`, and the fields after it. It is read as an optional field
-/// without this mark is.
+/// An optional field that is not written if it is `None`, and the fields after it. It is read like
+/// any other optional field.
 pub struct OmitSlot<T, M, R> {
     slot: MarkedSlot<Option<T>, Omit<M>, R>,
 }
@@ -127,7 +128,7 @@ impl<T: Stable, M: Repeats, R: StableFields> StableFields for OmitSlot<T, M, R> 
     }
 }
 
-/// A lent optional value, which is not written if it is `None`.
+/// A lent optional value, of which no member is written if it is `None`.
 pub struct Omitted<'a, T>(pub &'a Option<T>);
 
 impl<'a, T> Drop for Omitted<'a, T> {

@@ -16,7 +16,7 @@ pub trait RoundTripFields {
     /// The fields' values, in their order.
     type Values;
 
-    // What the fields mean.
+    // Which members mean which values of the fields.
     ghost meaning: { FieldsMeaning Self.Values };
 
     // Which values are valid.

@@ -34,10 +34,10 @@ pub trait Slots: Drop {
     /// The fields' values, in their order.
     type Values;
 
-    // What the fields mean.
+    // Which members mean which values of the fields.
     ghost meaning: { FieldsMeaning Self.Values };
 
-    // The content of the values so far.
+    // The contents of the values that were read so far.
     ghost state: { Self → meaning.State };
 
     // Whether `end` never returns `Memory`.
@@ -47,10 +47,11 @@ pub trait Slots: Drop {
     fn new() -> Self
         ensures { state result ≡ meaning.empty };
 
-    /// Reads the value of the member `name` into the field of that name, or skips it if no field has the name; `names`
-    /// has the names of the fields. Returns `Invalid` if no prefix of the text is a value of the field, and `Memory` if
-    /// an allocation fails. If the name alone is refused, it returns `Invalid` before it reads anything: the field
-    /// takes one member and has a value, or the struct is closed.
+    /// Reads a member's value, after the member's name and colon, into the field that has the name
+    /// `name`, or skips the value if no field has it. `names` lists the names of these fields.
+    /// Returns `Invalid` if no prefix of the text means a value of the field, and `Memory` if an
+    /// allocation fails. Returns `Invalid` before it reads anything if the field is marked `once`
+    /// and has a value, or if no field has the name and the struct is marked `closed`.
     fn read_member<'a>(&mut self, names: &[&str], name: &str, source: &mut Source<'a>) -> Result<()>
         requires { source.old.refused ≡ None }
         ensures going { IfOk result (λ _. source.new.refused ≡ None) }
@@ -70,7 +71,7 @@ pub trait Slots: Drop {
         ensures infallible { end_infallible ≡ true → IfErr result (λ e. e ≡ Error.Invalid) };
 }
 
-/// The end of a chain of fields. Members of all other names are skipped.
+/// The end of a chain of fields. Members whose name no field has are skipped.
 #[derive(Drop)]
 pub struct NoSlot {}
 
@@ -102,8 +103,9 @@ impl Slots for NoSlot {
     }
 }
 
-// Lets the later fields `rest` read a member, if `names` has no name for the field before them. It is never called,
-// since a struct has a name for each field, so it is kept out of line.
+// Reads a member's value into the later fields `rest`, by their `read_member`, if `names` has no
+// name for the field before them. It is kept out of line, since it is never called: a struct has a
+// name for each field.
 #[inline(never)]
 fn read_unnamed<'a, R: Slots>(
     rest: &mut R,
@@ -134,7 +136,7 @@ pub struct MarkedSlot<T, M, R> {
 /// A field without a mark, and the fields after it.
 pub type Slot<T, R> = MarkedSlot<T, Plain, R>;
 
-/// A field that takes one member alone, and the fields after it.
+/// A field for which a duplicate of its name is an error, and the fields after it.
 pub type OnceSlot<T, R> = MarkedSlot<T, Once<Plain>, R>;
 
 impl<T: Drop, M, R: Drop> Drop for MarkedSlot<T, M, R> {
@@ -208,8 +210,9 @@ impl<T: FromJson, M: Mark<T>, R: Slots> Slots for MarkedSlot<T, M, R> {
     }
 }
 
-/// Reads a struct, whose first token is `token`, and takes no more of the source. Returns `Invalid` if the text, from
-/// that token on, has no prefix that means such a struct, and `Memory` if an allocation fails.
+/// Reads a struct by the chain `F` of its fields, and takes no more of the source; `token` is the
+/// struct's first token. Returns `Invalid` if the text, from that token on, has no prefix that
+/// means such a struct, and `Memory` if an allocation fails.
 pub fn read_record<'a, S: Record, F: Slots<Values = S::Values>>(
     token: Event<'a>,
     source: &mut Source<'a>,

@@ -1,4 +1,5 @@
-//! Promises that structs are stable: if a tree means a struct, its normal form means the same.
+//! Promises that structs are stable: if a tree means a struct, its normal form means a struct of
+//! the same content.
 ghost use Rattle.miniserde_stable.specs.Stable.{IsStable};
 ghost use Rattle.miniserde_record.specs.FieldsMeaning.{FieldsMeaning, no_fields, field_and, struct_meaning};
 ghost use Rattle.miniserde_record.specs.Stable.{AreStable};
@@ -13,7 +14,7 @@ pub trait StableFields {
     /// The fields' values, in their order.
     type Values;
 
-    // What the fields mean.
+    // Which members mean which values of the fields.
     ghost meaning: { FieldsMeaning Self.Values };
 
     /// Does nothing. It promises that if members mean values of the fields, their normal form means values of the

@@ -16,21 +16,22 @@ pub trait Record: Sized + Drop {
     // The values of a struct's fields, in their order.
     ghost values: { Self → Self.Values };
 
-    // The struct with such values.
+    // The struct whose fields have the given values.
     ghost made: { Self.Values → Self };
 
     /// Returns the fields' names, in their order.
     fn names() -> &'static [&'static str]
         ensures { map (λ s. s.now) result.now ≡ names };
 
-    /// Returns the struct with these values.
+    /// Returns the struct whose fields have these values.
     fn build(parts: Self::Values) -> Self
         ensures { values result ≡ parts };
 
-    // A struct has its fields' values and nothing else.
+    // `made` and `values` are inverse to each other: a struct has its fields' values and nothing
+    // else.
     ghost bijective: { ((v : Self) → made (values v) ≡ v) × ((x : Self.Values) → values (made x) ≡ x) };
 
-    // No name is a duplicate.
+    // No two fields have the same name.
     ghost distinct_names: { are_distinct names ≡ true };
 }
 

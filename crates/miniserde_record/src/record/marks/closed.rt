@@ -10,7 +10,8 @@ use miniserde_model::error::{Error, Result};
 use miniserde_read::Source;
 use std::alloc::Global;
 
-/// The end of a chain of fields. A member of any other name fails with `Invalid` before its value is read.
+/// The end of the chain of fields of a struct that is marked `closed`. A member whose name no field
+/// has fails with `Invalid` before its value is read.
 #[derive(Drop)]
 pub struct Closed {}
 

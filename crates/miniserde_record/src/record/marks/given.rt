@@ -14,7 +14,7 @@ pub trait Given<T: FromJson> {
     // The tree that the field's member would have.
     ghost given: { Tree };
 
-    /// Returns a value that the tree means, or `Memory` if it fails to allocate.
+    /// Returns a value that the tree `given` means, or `Memory` if it fails to allocate.
     fn make(alloc: Global) -> Result<T>
         ensures ok { IfOk result (λ v. T.means.from_tree given ≡ Some (T.means.content v)) }
         ensures memory { IfErr result (λ e. e ≡ Error.Memory) };

@@ -7,8 +7,9 @@ use miniserde_read::FromJson;
 use std::alloc::Global;
 use std::marker::PhantomData;
 
-/// The mark of a field that takes one member alone, and that is marked `M` too. A duplicate of its name fails with
-/// `Invalid` before its value is read. Duplicates of other names, and inside of values, are no error.
+/// The mark of a field for which a duplicate of its name is an error, and that has the mark `M`
+/// too. The duplicate fails with `Invalid` before its value is read. Duplicates of other names, and
+/// inside of values, are no error.
 pub struct Once<M> {
     mark: PhantomData<M>,
 }

@@ -8,7 +8,7 @@ use miniserde_model::error::Result;
 use miniserde_read::FromJson;
 use std::alloc::Global;
 
-/// A mark that says whether a field takes one member alone.
+/// A mark that says whether a duplicate of a field's name is an error.
 pub trait Repeats {
     // Whether a duplicate of the field's name is an error.
     ghost once: { Bool };
@@ -20,13 +20,15 @@ pub trait Repeats {
 
 /// A mark: what is asked of a field of the type `T` besides its type.
 pub trait Mark<T: FromJson>: Repeats {
-    // The tree of a missing field's value. If there is none, the type says which value a missing field has, if any.
+    // The tree of a missing field's value. If it is `None`, the type says which value a missing
+    // field has, if any.
     ghost given: { Option Tree };
 
     // Whether `missing` never fails to allocate.
     ghost missing_infallible: { Bool } = { false };
 
-    /// Returns the value of a missing field, or `None` if it has none. Returns `Memory` if an allocation fails.
+    /// Returns the value of a missing field, or `None` if a missing field is an error. Returns
+    /// `Memory` if an allocation fails.
     fn missing(alloc: Global) -> Result<Option<T>>
         ensures ok { IfOk result (λ v. option_map T.means.content v ≡ missing_content T.means given T.absent) }
         ensures memory { IfErr result (λ e. e ≡ Error.Memory) }

@@ -18,7 +18,8 @@ use std::collections::HashMap;
 use std::hash::{BuildHasher, Hash};
 use std::result;
 
-// Returns the text of a key, or `Memory` if it fails to allocate. The contract promises that the key is valid.
+// Returns the text of a key, or `Memory` if it fails to allocate. The contract also promises that
+// the key is valid.
 fn name_of<K: MapKey>(alloc: Global, key: &K) -> Result<String>
     ensures text { IfOk result (λ name. string_bytes name ≡ K.text key.now) }
     ensures real { K.real key.now }
@@ -30,8 +31,8 @@ fn name_of<K: MapKey>(alloc: Global, key: &K) -> Result<String>
     Ok(name)
 }
 
-// Returns the name and the value of each member, in the order of the map's iterator. The names are distinct. Returns
-// `Memory` if an allocation fails.
+// Returns each entry of the map, with its key's text as its name, in the order of the map's
+// iterator. The names are distinct. Returns `Memory` if an allocation fails.
 fn entries_of<'a, K: MapKey + Hash, V: Serialize, H: BuildHasher>(
     alloc: Global,
     table: &'a HashMap<K, V, H>,
@@ -49,7 +50,8 @@ fn entries_of<'a, K: MapKey + Hash, V: Serialize, H: BuildHasher>(
     Ok(entries)
 }
 
-// Sorts the entries by the bytes of their names. Fails if the sort fails to allocate.
+// Sorts the entries by the bytes of their names. Returns `AllocError` if the sort fails to
+// allocate.
 fn sort_entries<V>(entries: &mut Vec<(String, &V)>) -> result::Result<(), AllocError>
     ensures sorted { OnOk result (IsSortedByKey (λ r. string_bytes r.0) text_cmp entries.new.items) }
     ensures permutation { IsPermutation entries.old.items entries.new.items }
@@ -57,8 +59,8 @@ fn sort_entries<V>(entries: &mut Vec<(String, &V)>) -> result::Result<(), AllocE
     Ok(entries.sort_by(|a, b| a.0.cmp(&b.0))?)
 }
 
-// Writes an object whose members are the entries, in their order. Returns `Memory` if the writer's text cannot grow
-// or an earlier call failed.
+// Writes an object whose members are the entries, in their order. Returns `Memory` if an allocation
+// fails or an earlier call of the writer failed.
 fn write_entries<V: Serialize>(entries: &[(String, &V)], w: &mut Writer) -> Result<()>
     ensures ok { OnOk result (w.new.text ≡ w.old.text
         ++ compact (members (members_of string_bytes (λ v. V.tree v.now) entries.entry.now))) }

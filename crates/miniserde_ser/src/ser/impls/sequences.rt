@@ -10,7 +10,8 @@ use crate::ser::{Serialize, Writer};
 use miniserde_model::error::Result;
 use std::collections::VecDeque;
 
-// Writes the values as a list. Returns `Memory` if an allocation fails or an earlier call of the writer failed.
+// Writes a list of the items. Returns `Memory` if an allocation fails or an earlier call of the
+// writer failed.
 fn begin_all<T: Serialize>(items: &[T], w: &mut Writer) -> Result<()>
     ensures ok { OnOk result (w.new.text ≡ w.old.text ++ compact (list (trees_of T.tree items.now))) }
     ensures is_tree { OnOk result (IsTree (list (trees_of T.tree items.now))) }
