@@ -84,7 +84,7 @@ def variants_text(it, path):
     name, const = typed(it), const_of(it.name)
     values = " | ".join(case_clause(it, at, part) for at, part in enumerate(it.parts))
     return f"""
-{impl_of(it, "FromJson")} Tagged for {name} {{
+{impl_of(it, "FromJson")} DataEnum for {name} {{
     ghost use Rattle.{path}.TheConstants.{{{const}}};
     ghost use Rattle.{path}.{it.name}.TheVariants.{{{", ".join(quoted(part.name) for part in it.parts)}}};
 
@@ -133,7 +133,7 @@ def reading_text(it):
     """The impl that reads an enum."""
     name, cases = typed(it), typed(it, "Cases")
     trait, kind = traits_of(it)
-    meaning = f"{kind}_meaning {of(trait, 'meaning', cases)}{tag_word(it)} {of('Tagged', 'names', name)} refl {of('Tagged', 'values', name)}"
+    meaning = f"{kind}_meaning {of(trait, 'meaning', cases)}{tag_word(it)} {of('DataEnum', 'names', name)} refl {of('DataEnum', 'values', name)}"
     return f"""
 {impl_of(it, "FromJson")} FromJson for {name} {{
 {wrapped("means", meaning)}
@@ -171,7 +171,7 @@ def writing_text(it):
     name, cases = typed(it), typed(it, "Cases")
     fields = {field.name for part in it.parts for field in part.fields}
     writer = next(word for word in ("w", "writer", "out", "to") if word not in fields)
-    tree = f"{traits_of(it)[1]}_tree{tag_word(it)} {of('Tagged', 'names', name)} {of('RoundTripCases', 'tree', cases)} {of('Tagged', 'values', name)}"
+    tree = f"{traits_of(it)[1]}_tree{tag_word(it)} {of('DataEnum', 'names', name)} {of('RoundTripCases', 'tree', cases)} {of('DataEnum', 'values', name)}"
     return f"""
 {impl_of(it, "RoundTrip")} Serialize for {name} {{
 {wrapped("tree", tree)}
@@ -194,7 +194,7 @@ def ranged_of(part):
 def again_text(it):
     """The impls that say that what was written of an enum is read back."""
     name, cases = typed(it), typed(it, "Cases")
-    real = f"λ v. {of('RoundTripCases', 'real', cases)} ({of('Tagged', 'values', name)} v)"
+    real = f"λ v. {of('RoundTripCases', 'real', cases)} ({of('DataEnum', 'values', name)} v)"
     fits = f"tag_fits::<{name}, {cases}>();\n        " if it.tag is not None else ""
     return f"""
 {impl_of(it, "RoundTrip")} Ranged for {name} {{

@@ -13,7 +13,7 @@ NAMED = (
     "Aliased BesideTag Cases Closed DataCase Deserialize Empty Error Event Field Four FourLent FourParts FourSlot Fragment FromJson Given "
     "Global HasAliases HasTag Inside InsideCases Lossless MarkedFour MarkedSlot Members NamePlace NeverNull NoCase NoField NoFields NoSlot "
     "OmitSlot Omitted Once OnceField OnceFour OnceSlot OneOf Parts PlacedRecord Plain Ranged Record RecordPlace Result RoundTrip "
-    "RoundTripCases RoundTripFields Serialize Slot Slots Source Stable Step Tagged UnitCase UnitEnum Variants Visitor WithDefault Writer "
+    "RoundTripCases RoundTripFields Serialize Slot Slots Source Stable Step DataEnum UnitCase UnitEnum Variants Visitor WithDefault Writer "
     "aliased_round_trips enum_lossless enum_round_trips enum_stable fields_named read_enum read_record read_tagged read_variant "
     "record_lossless record_round_trips record_stable tag_fits tagged_lossless tagged_round_trips tagged_stable take_four variant_lossless "
     "variant_round_trips variant_stable write_data write_fields write_members write_tagged write_tagged_fields"

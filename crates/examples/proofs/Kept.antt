@@ -6,10 +6,10 @@ use Rattle.std.specs.Prelude.{◌↔◌, bytes_eq, IsSome, MatchOption}
 use Rattle.miniserde.specs.Tree.{Tree, Members, no_members, member}
 use Rattle.miniserde.specs.Normal.{or_else, last_of}
 use Rattle.miniserde.specs.Objects.{Name}
-use Rattle.miniserde.specs.Fields.{AllNamed, Says}
+use Rattle.miniserde.specs.Fields.{AllNamed, LastMemberReads}
 
 -- a tree of a needed field means a second value exactly if that one has the first one's content
-pub same_field : {A C : Type 0} (R : Tree → A → Type 0) (of : Tree → Option C) (content : A → C) → ((t : Tree) (v : A) → R t v ↔ (of t ≡ Some (content v))) → (n : Name) (ms : Members) (v w : A) → Says (None ≡ Some (content v)) (λ t. R t v) of n ms → Says (None ≡ Some (content w)) (λ t. R t w) of n ms ↔ (content w ≡ content v)
+pub same_field : {A C : Type 0} (R : Tree → A → Type 0) (of : Tree → Option C) (content : A → C) → ((t : Tree) (v : A) → R t v ↔ (of t ≡ Some (content v))) → (n : Name) (ms : Members) (v w : A) → LastMemberReads (None ≡ Some (content v)) (λ t. R t v) of n ms → LastMemberReads (None ≡ Some (content w)) (λ t. R t w) of n ms ↔ (content w ≡ content v)
 same_field {A} R of content agrees n ms v w r =
     let means : A → Option Tree → Type 0 = λ v o. MatchOption o (None ≡ Some (content v)) (λ t. R t v) in
     let go : (o : Option Tree) → means v o → means w o ↔ (content w ≡ content v) = λ o. elim o as (λ o. means v o → means w o ↔ (content w ≡ content v)) [
@@ -31,7 +31,7 @@ none_named of n (member k t ms) e =
     (λ q. absurd (cc), none_named of n ms s.0)
 
 -- a missing field is as where none is met
-pub says_missing : {C : Type 0} (missing : Type 0) (Is : Tree → Type 0) (of : Tree → Option C) (n : Name) (ms : Members) → last_of n ms ≡ None → Says missing Is of n ms ↔ missing
+pub says_missing : {C : Type 0} (missing : Type 0) (Is : Tree → Type 0) (of : Tree → Option C) (n : Name) (ms : Members) → last_of n ms ≡ None → LastMemberReads missing Is of n ms ↔ missing
 says_missing missing Is of n ms e = (λ h. subst (λ o. MatchOption o missing Is) e h.1, λ m. (none_named of n ms e, subst (λ o. MatchOption o missing Is) (sym e) m))
 
 -- each member of a name is accepted by a second word that accepts what the first one does
@@ -41,7 +41,7 @@ all_among of to more n (member k t ms) h = (λ e. more t (h.0 e), all_among of t
 
 -- the same of a field of an enum, of which each tree means the value of a second enum that `to` gives
 pub other_field : {A B : Type 0} (R : Tree → A → Type 0) (of : Tree → Option A) → ((t : Tree) (v : A) → R t v ↔ (of t ≡ Some v)) → (S : Tree → B → Type 0) (by : Tree → Option B) → ((t : Tree) (w : B) → S t w ↔ (by t ≡ Some w)) → (to : A → B) → ((t : Tree) (v : A) (w : B) → R t v → S t w ↔ (w ≡ to v))
-    → (n : Name) (ms : Members) (v : A) (w : B) → Says (None ≡ Some v) (λ t. R t v) of n ms → Says (None ≡ Some w) (λ t. S t w) by n ms ↔ (w ≡ to v)
+    → (n : Name) (ms : Members) (v : A) (w : B) → LastMemberReads (None ≡ Some v) (λ t. R t v) of n ms → LastMemberReads (None ≡ Some w) (λ t. S t w) by n ms ↔ (w ≡ to v)
 other_field {A} {B} R of agrees S by gives to law n ms v w r =
     let more : (t : Tree) → IsSome (of t) → IsSome (by t) = λ t. elim (of t) as (λ o. of t ≡ o → IsSome o → IsSome (by t)) [
       | None ↦ λ e h. absurd (cc)

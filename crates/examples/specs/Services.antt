@@ -6,7 +6,7 @@ use Rattle.miniserde.specs.Integers.{unsigned_of}
 use Rattle.miniserde.specs.Lists.{ListReads, list_of}
 use Rattle.miniserde.specs.Options.{OptionReads, option_of}
 use Rattle.miniserde.specs.Objects.{Name}
-use Rattle.miniserde.specs.Fields.{Says, count_named}
+use Rattle.miniserde.specs.Fields.{LastMemberReads, count_named}
 use Rattle.miniserde.specs.Marks.{all_among}
 use Rattle.examples.specs.declared.service.Service.{Service}
 
@@ -23,11 +23,11 @@ names = codes "id" ∷ codes "host" ∷ codes "port" ∷ codes "secure" ∷ code
 abbrev pub IsService : Tree → Service → Type 0
 IsService (members ms) s = (all_among names ms ≡ true)
     × (count_named (codes "id") ms ≤ 1)
-    × Says ⊥ (λ t. IsBelow (2 ^ 64) t s.id) (unsigned_of 64) (codes "id") ms
-    × Says (string_bytes s.host ≡ codes "localhost") (λ t. t ≡ str (string_bytes s.host)) string_of (codes "host") ms
+    × LastMemberReads ⊥ (λ t. IsBelow (2 ^ 64) t s.id) (unsigned_of 64) (codes "id") ms
+    × LastMemberReads (string_bytes s.host ≡ codes "localhost") (λ t. t ≡ str (string_bytes s.host)) string_of (codes "host") ms
     × (count_named (codes "port") ms ≤ 1)
-    × Says (s.port ≡ 8080) (λ t. IsBelow 65536 t s.port) (unsigned_of 16) (codes "port") ms
-    × Says (s.secure ≡ true) (λ t. t ≡ truth s.secure) boolean_of (codes "secure") ms
-    × Says (s.tags.items ≡ []) (λ t. ListReads (λ u x. u ≡ str (string_bytes x)) t s.tags.items) (list_of string_of) (codes "tags") ms
-    × Says (s.note ≡ None) (λ t. OptionReads (λ u x. u ≡ str (string_bytes x)) t s.note) (option_of string_of) (codes "note") ms
+    × LastMemberReads (s.port ≡ 8080) (λ t. IsBelow 65536 t s.port) (unsigned_of 16) (codes "port") ms
+    × LastMemberReads (s.secure ≡ true) (λ t. t ≡ truth s.secure) boolean_of (codes "secure") ms
+    × LastMemberReads (s.tags.items ≡ []) (λ t. ListReads (λ u x. u ≡ str (string_bytes x)) t s.tags.items) (list_of string_of) (codes "tags") ms
+    × LastMemberReads (s.note ≡ None) (λ t. OptionReads (λ u x. u ≡ str (string_bytes x)) t s.note) (option_of string_of) (codes "note") ms
 IsService t s = ⊥

@@ -8,7 +8,7 @@ ghost use Rattle.std.specs.Prelude.{codes, refl};
 use miniserde::derived::{
     BesideTag, DataCase, Event, FromJson, HasTag, Inside, InsideCases, Lossless, Members,
     NeverNull, NoCase, NoFields, NoSlot, OneOf, Parts, Ranged, Record, Result, RoundTrip,
-    RoundTripCases, RoundTripFields, Serialize, Slot, Slots, Source, Stable, Tagged, Writer,
+    RoundTripCases, RoundTripFields, Serialize, Slot, Slots, Source, Stable, DataEnum, Writer,
     fields_named, read_record, read_tagged, record_lossless, record_round_trips, record_stable,
     tag_fits, tagged_lossless, tagged_round_trips, tagged_stable, write_members, write_tagged,
     write_tagged_fields,
@@ -235,7 +235,7 @@ type ActionCases = DataCase<NoFields, DataCase<Say, DataCase<ActionMove, NoCase>
 
 const ACTION_NAMES: &[&str] = &["Ping", "Say", "move"];
 
-impl Tagged for Action {
+impl DataEnum for Action {
     ghost use Rattle.examples.specs.declared.action.TheConstants.{ACTION_NAMES};
     ghost use Rattle.examples.specs.declared.action.Action.TheVariants.{Ping, Say, Move};
 
@@ -286,7 +286,7 @@ impl HasTag for Action {
 
 impl FromJson for Action {
     ghost means = { tagged_meaning ⟦<ActionCases as InsideCases>⟧.meaning ⟦<Action as HasTag>⟧.tag
-        ⟦<Action as Tagged>⟧.names refl ⟦<Action as Tagged>⟧.values };
+        ⟦<Action as DataEnum>⟧.names refl ⟦<Action as DataEnum>⟧.values };
 
     fn missing() -> Option<Action> {
         None
@@ -298,7 +298,7 @@ impl FromJson for Action {
 }
 
 impl Serialize for Action {
-    ghost tree = { tagged_tree ⟦<Action as HasTag>⟧.tag ⟦<Action as Tagged>⟧.names ⟦<ActionCases as RoundTripCases>⟧.tree ⟦<Action as Tagged>⟧.values };
+    ghost tree = { tagged_tree ⟦<Action as HasTag>⟧.tag ⟦<Action as DataEnum>⟧.names ⟦<ActionCases as RoundTripCases>⟧.tree ⟦<Action as DataEnum>⟧.values };
 
     fn begin(&self, w: &mut Writer) -> Result<()> {
         match self {
@@ -318,7 +318,7 @@ impl Serialize for Action {
 }
 
 impl Ranged for Action {
-    ghost real = { λ v. ⟦<ActionCases as RoundTripCases>⟧.real (⟦<Action as Tagged>⟧.values v) };
+    ghost real = { λ v. ⟦<ActionCases as RoundTripCases>⟧.real (⟦<Action as DataEnum>⟧.values v) };
 
     fn ranged(&self) {
         match self {

@@ -2,7 +2,7 @@
 ghost use Rattle.std.specs.Prelude.{◌≡◌, ◌↔◌, true, None, IfOk, Err, codes, option_map, string_bytes};
 ghost use Rattle.miniserde.specs.Tree.{Tree, str};
 ghost use Rattle.miniserde.specs.Value.{IsJson};
-ghost use Rattle.miniserde.specs.Fields.{Says};
+ghost use Rattle.miniserde.specs.Fields.{LastMemberReads};
 ghost use Rattle.miniserde.specs.Internal.{object_members};
 ghost use Rattle.miniserde.specs.Words.{string_of};
 ghost use Rattle.examples.specs.Actions.{said_in};
@@ -33,7 +33,7 @@ pub fn said(alloc: Global, text: &str) -> Result<Option<String>>
 pub fn is_ping(alloc: Global, text: &str) -> Result<bool>
     // If the answer is yes, each member `kind` of the text is a string, and the last one is `Ping`.
     ensures { IfOk result (λ yes. (t : Tree) × IsJson text.now t × (yes ≡ true
-        → Says ⊥ (λ u. u ≡ str (codes "Ping")) string_of (codes "kind") (object_members t))) }
+        → LastMemberReads ⊥ (λ u. u ≡ str (codes "Ping")) string_of (codes "kind") (object_members t))) }
 {
     let action: Action = from_str(alloc, text)?;
     match action {

@@ -1,7 +1,7 @@
 //! Answers that are written as JSON with expressions in it.
 ghost use Rattle.miniserde.specs.Normal.{norm};
 ghost use Rattle.miniserde.specs.Tree.{list, members, member, no_members, no_trees, nonneg, null, str, tree, truth};
-ghost use Rattle.miniserde.specs.Values.{shape, tree_of};
+ghost use Rattle.miniserde.specs.Values.{content_of, tree_of};
 ghost use Rattle.miniserde.specs.declared.error.Error.TheVariants.{Memory};
 ghost use Rattle.std.specs.Prelude.{◌≡◌, codes, true, string_bytes, IfOk, OnErr, IsErrOf};
 
@@ -30,7 +30,7 @@ pub fn tagged(alloc: Global, text: &str) -> Result<json::Value>
 /// Answers with a page of what was found, and the name of the next page.
 pub fn page(alloc: Global, found: json::Value, next: String) -> Result<json::Value>
     ensures { IfOk result (λ v. tree_of v
-        ≡ members (member (codes "found") (norm (shape found))
+        ≡ members (member (codes "found") (norm (content_of found))
         (member (codes "next") (str (string_bytes next)) no_members))) }
 {
     value!(in alloc; {"found": found, "next": next})

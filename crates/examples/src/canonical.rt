@@ -3,12 +3,12 @@ ghost use Rattle.std.specs.Prelude.{◌≡◌, IfOk, string_bytes};
 
 use miniserde::error::Result;
 use miniserde::json::canonical;
-use miniserde::json::value::rewritten;
+use miniserde::json::value::canonical_by_value;
 use std::alloc::Global;
 
 /// Returns the canonical text of a document by `canonical`, and by `rewritten`. They are equal.
 pub fn by_both_ways(alloc: Global, text: &str) -> Result<(String, String)>
     ensures { IfOk result (λ both. string_bytes both.0 ≡ string_bytes both.1) }
 {
-    Ok((canonical(alloc, text)?, rewritten(alloc, text)?))
+    Ok((canonical(alloc, text)?, canonical_by_value(alloc, text)?))
 }

@@ -8,7 +8,7 @@ ghost use Rattle.std.specs.Prelude.{refl};
 use miniserde::derived::{
     Cases, DataCase, Event, Fragment, FromJson, Lossless, NeverNull, NoCase, NoSlot, OneOf, Parts,
     Ranged, Record, Result, RoundTrip, RoundTripCases, RoundTripFields, Serialize, Slot, Slots,
-    Source, Stable, Tagged, UnitCase, Writer, enum_lossless, enum_round_trips, enum_stable,
+    Source, Stable, DataEnum, UnitCase, Writer, enum_lossless, enum_round_trips, enum_stable,
     read_enum, read_record, record_lossless, record_round_trips, record_stable, write_data,
     write_fields, write_members,
 };
@@ -114,7 +114,7 @@ type CommandCases = UnitCase<DataCase<String, DataCase<CommandMove, NoCase>>>;
 
 const COMMAND_NAMES: &[&str] = &["Ping", "Text", "Move"];
 
-impl Tagged for Command {
+impl DataEnum for Command {
     ghost use Rattle.examples.specs.declared.command.TheConstants.{COMMAND_NAMES};
     ghost use Rattle.examples.specs.declared.command.Command.TheVariants.{Ping, Text, Move};
 
@@ -153,8 +153,8 @@ impl Tagged for Command {
 }
 
 impl FromJson for Command {
-    ghost means = { enum_meaning ⟦<CommandCases as Cases>⟧.meaning ⟦<Command as Tagged>⟧.names refl
-        ⟦<Command as Tagged>⟧.values };
+    ghost means = { enum_meaning ⟦<CommandCases as Cases>⟧.meaning ⟦<Command as DataEnum>⟧.names refl
+        ⟦<Command as DataEnum>⟧.values };
 
     fn missing() -> Option<Command> {
         None
@@ -166,8 +166,8 @@ impl FromJson for Command {
 }
 
 impl Serialize for Command {
-    ghost tree = { enum_tree ⟦<Command as Tagged>⟧.names ⟦<CommandCases as RoundTripCases>⟧.tree
-        ⟦<Command as Tagged>⟧.values };
+    ghost tree = { enum_tree ⟦<Command as DataEnum>⟧.names ⟦<CommandCases as RoundTripCases>⟧.tree
+        ⟦<Command as DataEnum>⟧.values };
 
     fn begin(&self, w: &mut Writer) -> Result<()> {
         match self {
@@ -181,7 +181,7 @@ impl Serialize for Command {
 }
 
 impl Ranged for Command {
-    ghost real = { λ v. ⟦<CommandCases as RoundTripCases>⟧.real (⟦<Command as Tagged>⟧.values v) };
+    ghost real = { λ v. ⟦<CommandCases as RoundTripCases>⟧.real (⟦<Command as DataEnum>⟧.values v) };
 
     fn ranged(&self) {
         match self {

@@ -1,6 +1,6 @@
 //! A number of its own kind: a check stands between its text and its values.
 ghost use Rattle.std.specs.Prelude.{◌≡◌, ◌≤◌, ◌↔◌, true, refl, IsSome, IfSome};
-ghost use Rattle.miniserde.specs.Meaning.{meant};
+ghost use Rattle.miniserde.specs.Meaning.{meaning_with};
 ghost use Rattle.miniserde.specs.Tree.{nonneg};
 ghost use Rattle.miniserde.specs.Place.{wrapper_meaning};
 ghost use Rattle.examples.specs.Percents.{percent_of, ReadsPercent};
@@ -43,7 +43,7 @@ impl Percent {
 }
 
 impl Leaf for Percent {
-    ghost means = { meant (λ p. p.of) percent_of (λ t p. ReadsPercent t p.of) (λ t p. percent-given t p.of) };
+    ghost means = { meaning_with (λ p. p.of) percent_of (λ t p. ReadsPercent t p.of) (λ t p. percent-given t p.of) };
 
     ghost only_leaves = { (λ ts. refl, λ ms. refl) };
 

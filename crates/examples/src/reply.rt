@@ -9,7 +9,7 @@ ghost use Rattle.std.specs.Prelude.{refl};
 use miniserde::derived::{
     Cases, DataCase, Event, Fragment, FromJson, Given, Global, Lossless, MarkedSlot, NeverNull,
     NoCase, NoSlot, Once, OneOf, Parts, Ranged, Record, Result, RoundTrip, RoundTripCases,
-    RoundTripFields, Serialize, Slot, Slots, Source, Stable, Tagged, UnitCase, WithDefault, Writer,
+    RoundTripFields, Serialize, Slot, Slots, Source, Stable, DataEnum, UnitCase, WithDefault, Writer,
     enum_lossless, enum_round_trips, enum_stable, read_enum, read_record, record_lossless,
     record_round_trips, record_stable, write_data, write_fields, write_members,
 };
@@ -137,7 +137,7 @@ type ReplyCases<T> = DataCase<T, DataCase<(T, T), DataCase<ReplyFailed, UnitCase
 
 const REPLY_NAMES: &[&str] = &["Done", "Between", "Failed", "gone"];
 
-impl<T: FromJson> Tagged for Reply<T> {
+impl<T: FromJson> DataEnum for Reply<T> {
     ghost use Rattle.examples.specs.declared.reply.TheConstants.{REPLY_NAMES};
     ghost use Rattle.examples.specs.declared.reply.Reply.TheVariants.{Done, Between, Failed, Gone};
 
@@ -185,8 +185,8 @@ impl<T: FromJson> Tagged for Reply<T> {
 }
 
 impl<T: FromJson> FromJson for Reply<T> {
-    ghost means = { enum_meaning ⟦<ReplyCases<T> as Cases>⟧.meaning ⟦<Reply<T> as Tagged>⟧.names
-        refl ⟦<Reply<T> as Tagged>⟧.values };
+    ghost means = { enum_meaning ⟦<ReplyCases<T> as Cases>⟧.meaning ⟦<Reply<T> as DataEnum>⟧.names
+        refl ⟦<Reply<T> as DataEnum>⟧.values };
 
     fn missing() -> Option<Reply<T>> {
         None
@@ -198,8 +198,8 @@ impl<T: FromJson> FromJson for Reply<T> {
 }
 
 impl<T: RoundTrip> Serialize for Reply<T> {
-    ghost tree = { enum_tree ⟦<Reply<T> as Tagged>⟧.names ⟦<ReplyCases<T> as RoundTripCases>⟧.tree
-        ⟦<Reply<T> as Tagged>⟧.values };
+    ghost tree = { enum_tree ⟦<Reply<T> as DataEnum>⟧.names ⟦<ReplyCases<T> as RoundTripCases>⟧.tree
+        ⟦<Reply<T> as DataEnum>⟧.values };
 
     fn begin(&self, w: &mut Writer) -> Result<()> {
         match self {
@@ -219,7 +219,7 @@ impl<T: RoundTrip> Serialize for Reply<T> {
 }
 
 impl<T: RoundTrip> Ranged for Reply<T> {
-    ghost real = { λ v. ⟦<ReplyCases<T> as RoundTripCases>⟧.real (⟦<Reply<T> as Tagged>⟧.values v) };
+    ghost real = { λ v. ⟦<ReplyCases<T> as RoundTripCases>⟧.real (⟦<Reply<T> as DataEnum>⟧.values v) };
 
     fn ranged(&self) {
         match self {

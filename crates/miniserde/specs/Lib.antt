@@ -3,7 +3,7 @@ pub use Rattle.miniserde_model.specs.Compact
 pub use Rattle.miniserde_model.specs.Distinct
 pub use Rattle.miniserde_model.specs.Step
 pub use Rattle.miniserde_model.specs.Examples
-pub use Rattle.miniserde_model.specs.IsTree
+pub use Rattle.miniserde_model.specs.InRange
 pub use Rattle.miniserde_model.specs.Laws
 pub use Rattle.miniserde_model.specs.Lexing
 pub use Rattle.miniserde_model.specs.Normal

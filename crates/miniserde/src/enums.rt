@@ -2,7 +2,7 @@
 
 pub use miniserde_enum::{
     BesideTag, Cases, DataCase, HasTag, Inside, InsideCases, LosslessCases, Never, NoCase,
-    NoFields, OneOf, RoundTripCases, StableCases, Tagged, UnitCase, enum_lossless,
+    NoFields, OneOf, RoundTripCases, StableCases, DataEnum, UnitCase, enum_lossless,
     enum_round_trips, enum_stable, fields_named, read_enum, read_tagged, tag_fits, tagged_lossless,
     tagged_round_trips, tagged_stable, write_data, write_fields, write_tagged, write_tagged_fields,
 };

@@ -24,7 +24,7 @@ pub mod array {
 /// The type `Document`, its place, and the promise that neither `Value` nor `Number` is stable.
 pub mod document {
     pub use miniserde_de::documents::DocumentPlace;
-    pub use miniserde_value::json::document::{Document, negated_zero};
+    pub use miniserde_value::json::document::{Document, negated_zero_is_not_stable};
 }
 
 /// The types `Number` and `NumberText`, and the place of `Number`.
@@ -50,5 +50,5 @@ pub mod unique {
 pub mod value {
     pub use miniserde_de::documents::ValuePlace;
     pub use miniserde_value::json::into_value::{IntoValue, array_value, null_value, object_value};
-    pub use miniserde_value::json::value::{Value, read_is_normal, rewritten, size_is_of_tree};
+    pub use miniserde_value::json::value::{Value, read_is_normal, canonical_by_value, size_is_tree_size};
 }

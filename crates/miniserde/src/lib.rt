@@ -27,5 +27,5 @@ pub use miniserde_ser::ser::Serialize;
 pub use miniserde_stable::{
     ExactKey, Stable, means_in_normal_form, normal_form_means_more, two_names_of_a_key,
 };
-pub use miniserde_store::sent_itself;
+pub use miniserde_store::canonical_text_determines_content;
 pub use miniserde_text::scan;

@@ -5,21 +5,21 @@ use Rattle.miniserde_canonical.specs.declared.spread.Splice.{Splice}
 use Rattle.miniserde_canonical.specs.declared.member.Member.{Member}
 use Rattle.miniserde_canonical.specs.private.Spreads.{Holds, none}
 use Rattle.miniserde_canonical.specs.private.Names.{name_of}
-use Rattle.miniserde_canonical.specs.private.Arranging.{gap, Entry, entries_text}
+use Rattle.miniserde_canonical.specs.private.Arranging.{comma_before, Entry, entries_text}
 use Rattle.miniserde_canonical.specs.private.Sorting.{Seam, Chain}
 use Rattle.miniserde_canonical.proofs.Spreads.{holds_append, holds_behind, holds_more}
 
 -- the end is as far from a seam as from the begin
 seam_end : (n : Member) (e : Entry) (at k : ℕ) (bs : List ℕ) (hs : List Splice) (b c : List ℕ) (h g : List Splice) → Seam n e at k bs hs b c h g → (at + length bs ≡ n.point.bytes + length c) × (k + length hs ≡ n.point.splices + length g)
 seam_end n e at k bs hs b c h g s = (
-  omega (arith, s.begins, ap length s.bytes, length-append b (gap e.first ++ c), length-append (gap e.first) c, length-append b (gap e.first)),
+  omega (arith, s.begins, ap length s.bytes, length-append b (comma_before e.first ++ c), length-append (comma_before e.first) c, length-append b (comma_before e.first)),
   omega (arith, s.behind, ap length s.splices, length-append h g),
 )
 
 -- more behind a seam
 seam_more : (n : Member) (e : Entry) (at k : ℕ) (bs : List ℕ) (hs : List Splice) (b c : List ℕ) (h g : List Splice) (cs : List ℕ) (ks : List Splice) → Seam n e at k bs hs b c h g → Seam n e at k (bs ++ cs) (hs ++ ks) b (c ++ cs) h (g ++ ks)
 seam_more n e at k bs hs b c h g cs ks s = record {
-  bytes = ap (λ z. z ++ cs) s.bytes ∙ rejoin b (gap e.first) c cs;
+  bytes = ap (λ z. z ++ cs) s.bytes ∙ rejoin b (comma_before e.first) c cs;
   splices = ap (λ z. z ++ ks) s.splices ∙ append_assoc h g ks;
   name = s.name;
   first = s.first;
@@ -53,22 +53,22 @@ chain_more [] (e ∷ es) ms gs at k bs hs last more inner h = absurd h
 chain_more (n ∷ ns) [] ms gs at k bs hs last more inner h = absurd h
 
 -- one more member
-pub chain_begin : (ns : List Member) (es : List Entry) (ms : List ℕ) (gs : List Splice) (at k : ℕ) (bs : List ℕ) (hs : List Splice) (last : List ℕ) (n : Member) (e : Entry) → Chain ns es ms gs at k bs hs last → e.text ≡ last → name_of n.name ≡ e.name → n.first ≡ e.first → n.point.bytes ≡ at + length (bs ++ gap e.first) → n.point.splices ≡ k + length hs → Chain (ns ++ n ∷ []) (es ++ e ∷ []) ms gs at k (bs ++ gap e.first) hs []
+pub chain_begin : (ns : List Member) (es : List Entry) (ms : List ℕ) (gs : List Splice) (at k : ℕ) (bs : List ℕ) (hs : List Splice) (last : List ℕ) (n : Member) (e : Entry) → Chain ns es ms gs at k bs hs last → e.text ≡ last → name_of n.name ≡ e.name → n.first ≡ e.first → n.point.bytes ≡ at + length (bs ++ comma_before e.first) → n.point.splices ≡ k + length hs → Chain (ns ++ n ∷ []) (es ++ e ∷ []) ms gs at k (bs ++ comma_before e.first) hs []
 chain_begin [] [] ms gs at k bs hs last n e h t m w p q = (
   bs,
   [],
   hs,
   [],
-  record { bytes = ap (λ z. bs ++ z) (sym (append-nil (gap e.first))); splices = sym (append-nil hs); name = m; first = w; begins = p; behind = q },
+  record { bytes = ap (λ z. bs ++ z) (sym (append-nil (comma_before e.first))); splices = sym (append-nil hs); name = m; first = w; begins = p; behind = q },
   subst (λ z. Holds ms gs at bs hs z) (sym t) h,
   none,
 )
 chain_begin (m ∷ ns) (f ∷ es) ms gs at k bs hs last n e h t i w p q =
     let s = h.4 in
     let far = seam_end m f at k bs hs h.0 h.1 h.2 h.3 s in
-    let here : n.point.bytes ≡ m.point.bytes + length (h.1 ++ gap e.first) = omega (arith, p, far.0, length-append bs (gap e.first), length-append h.1 (gap e.first)) in
-    let same : Seam m f at k (bs ++ gap e.first) hs h.0 (h.1 ++ gap e.first) h.2 h.3 = subst (λ z. Seam m f at k (bs ++ gap e.first) z h.0 (h.1 ++ gap e.first) h.2 h.3) (append-nil hs) (subst (λ z. Seam m f at k (bs ++ gap e.first) (hs ++ []) h.0 (h.1 ++ gap e.first) h.2 z) (append-nil h.3) (seam_more m f at k bs hs h.0 h.1 h.2 h.3 (gap e.first) [] s)) in
-    (h.0, h.1 ++ gap e.first, h.2, h.3, same, h.5, chain_begin ns es ms gs m.point.bytes m.point.splices h.1 h.3 last n e h.6 t i w here (omega (arith, q, far.1)))
+    let here : n.point.bytes ≡ m.point.bytes + length (h.1 ++ comma_before e.first) = omega (arith, p, far.0, length-append bs (comma_before e.first), length-append h.1 (comma_before e.first)) in
+    let same : Seam m f at k (bs ++ comma_before e.first) hs h.0 (h.1 ++ comma_before e.first) h.2 h.3 = subst (λ z. Seam m f at k (bs ++ comma_before e.first) z h.0 (h.1 ++ comma_before e.first) h.2 h.3) (append-nil hs) (subst (λ z. Seam m f at k (bs ++ comma_before e.first) (hs ++ []) h.0 (h.1 ++ comma_before e.first) h.2 z) (append-nil h.3) (seam_more m f at k bs hs h.0 h.1 h.2 h.3 (comma_before e.first) [] s)) in
+    (h.0, h.1 ++ comma_before e.first, h.2, h.3, same, h.5, chain_begin ns es ms gs m.point.bytes m.point.splices h.1 h.3 last n e h.6 t i w here (omega (arith, q, far.1)))
 chain_begin [] (f ∷ es) ms gs at k bs hs last n e h t i w p q = absurd h
 chain_begin (m ∷ ns) [] ms gs at k bs hs last n e h t i w p q = absurd h
 
@@ -79,10 +79,10 @@ chain_whole (n ∷ ns) (e ∷ es) ms gs at k bs hs last h =
     let s = h.4 in
     let rest = chain_whole ns es ms gs n.point.bytes n.point.splices h.1 h.3 last h.6 in
     let to = at + length h.0 in
-    let far : n.point.bytes ≡ to + length (gap e.first) = omega (arith, s.begins, length-append h.0 (gap e.first)) in
-    let behind : Holds ms gs to (gap e.first ++ h.1) h.3 (gap e.first ++ entries_text es last) = holds_behind ms gs to n.point.bytes (gap e.first) h.1 h.3 (entries_text es last) far rest in
-    let all : Holds ms gs at (h.0 ++ (gap e.first ++ h.1)) (h.2 ++ h.3) (e.text ++ (gap e.first ++ entries_text es last)) = holds_append to (gap e.first ++ h.1) h.3 (gap e.first ++ entries_text es last) h.5 refl behind in
-    subst (λ z. Holds ms gs at z hs (e.text ++ (gap e.first ++ entries_text es last))) (sym s.bytes) (subst (λ z. Holds ms gs at (h.0 ++ (gap e.first ++ h.1)) z (e.text ++ (gap e.first ++ entries_text es last))) (sym s.splices) all)
+    let far : n.point.bytes ≡ to + length (comma_before e.first) = omega (arith, s.begins, length-append h.0 (comma_before e.first)) in
+    let behind : Holds ms gs to (comma_before e.first ++ h.1) h.3 (comma_before e.first ++ entries_text es last) = holds_behind ms gs to n.point.bytes (comma_before e.first) h.1 h.3 (entries_text es last) far rest in
+    let all : Holds ms gs at (h.0 ++ (comma_before e.first ++ h.1)) (h.2 ++ h.3) (e.text ++ (comma_before e.first ++ entries_text es last)) = holds_append to (comma_before e.first ++ h.1) h.3 (comma_before e.first ++ entries_text es last) h.5 refl behind in
+    subst (λ z. Holds ms gs at z hs (e.text ++ (comma_before e.first ++ entries_text es last))) (sym s.bytes) (subst (λ z. Holds ms gs at (h.0 ++ (comma_before e.first ++ h.1)) z (e.text ++ (comma_before e.first ++ entries_text es last))) (sym s.splices) all)
 chain_whole [] (e ∷ es) ms gs at k bs hs last h = absurd h
 chain_whole (n ∷ ns) [] ms gs at k bs hs last h = absurd h
 
@@ -109,18 +109,18 @@ chain_cut (m ∷ ns0) (f ∷ es0) n e ns es ms gs at k bs hs last l h =
     let s = h.4 in
     let r = chain_cut ns0 es0 n e ns es ms gs m.point.bytes m.point.splices h.1 h.3 last (omega (arith, l)) h.6 in
     let t = r.seam in
-    let front = h.0 ++ (gap f.first ++ r.before) in
+    let front = h.0 ++ (comma_before f.first ++ r.before) in
     record {
       before = front;
       behind = r.behind;
       splices_before = h.2 ++ r.splices_before;
       splices_behind = r.splices_behind;
       seam = record {
-        bytes = s.bytes ∙ ap (λ z. h.0 ++ (gap f.first ++ z)) t.bytes ∙ rejoin h.0 (gap f.first) r.before (gap e.first ++ r.behind);
+        bytes = s.bytes ∙ ap (λ z. h.0 ++ (comma_before f.first ++ z)) t.bytes ∙ rejoin h.0 (comma_before f.first) r.before (comma_before e.first ++ r.behind);
         splices = s.splices ∙ ap (λ z. h.2 ++ z) t.splices ∙ sym (append_assoc h.2 r.splices_before r.splices_behind);
         name = t.name;
         first = t.first;
-        begins = omega (arith, t.begins, s.begins, length-append h.0 (gap f.first), length-append r.before (gap e.first), length-append front (gap e.first), length-append h.0 (gap f.first ++ r.before), length-append (gap f.first) r.before);
+        begins = omega (arith, t.begins, s.begins, length-append h.0 (comma_before f.first), length-append r.before (comma_before e.first), length-append front (comma_before e.first), length-append h.0 (comma_before f.first ++ r.before), length-append (comma_before f.first) r.before);
         behind = omega (arith, t.behind, s.behind, length-append h.2 r.splices_before);
       };
       front = (h.0, r.before, h.2, r.splices_before, record { bytes = refl; splices = refl; name = s.name; first = s.first; begins = s.begins; behind = s.behind }, h.5, r.front);

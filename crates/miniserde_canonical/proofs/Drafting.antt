@@ -9,10 +9,10 @@ use Rattle.miniserde_text.specs.declared.json.lex.Event as lex
 use Rattle.miniserde_text.specs.declared.json.lex.Event.TheVariants as lexed
 use Rattle.miniserde_canonical.specs.declared.member.Member.{Member}
 use Rattle.miniserde_canonical.specs.declared.draft.Draft.{Draft}
-use Rattle.miniserde_canonical.specs.private.Spreads.{Holds, none, Good}
+use Rattle.miniserde_canonical.specs.private.Spreads.{Holds, none, SplicesInOrder}
 use Rattle.miniserde_canonical.specs.private.Names.{name_of}
 use Rattle.miniserde_canonical.specs.private.Members.{NamesRise}
-use Rattle.miniserde_canonical.specs.private.Arranging.{gap, Entry, State, start, entry_members, members_text, entries_text, once_each, Adds, Sorted, Arranged, Closes, TokenStep, first_token_text}
+use Rattle.miniserde_canonical.specs.private.Arranging.{comma_before, Entry, State, start, entry_members, members_text, entries_text, once_each, Adds, Sorted, Arranged, Closes, TokenStep, first_token_text}
 use Rattle.miniserde_canonical.specs.private.Moving.{first_token}
 use Rattle.miniserde_canonical.specs.private.Sorting.{Chain, SortsMembers}
 use Rattle.miniserde_canonical.specs.private.Drafts.{Holding, Represents, ChangesOnlyText}
@@ -27,7 +27,7 @@ draft_starts d input i l a b e f m o t = record {
   wrote = record { front = []; run = []; input = i; left = l; text = append-nil d.out.bytes.items ∙ a };
   holding = record {
     chain = subst (λ z. Chain z [] d.groups.bytes.items d.groups.splices.items 0 0 [] d.out.splices.items []) (sym m) (subst (λ z. Holds d.groups.bytes.items d.groups.splices.items 0 [] z []) (sym b) none);
-    good = subst (λ z. Good z d.out.splices.items) (sym f) (subst (λ z. Good [] z) (sym b) (tt, tt));
+    good = subst (λ z. SplicesInOrder z d.out.splices.items) (sym f) (subst (λ z. SplicesInOrder [] z) (sym b) (tt, tt));
     opened = o;
     distinct = t;
   };
@@ -36,7 +36,7 @@ draft_starts d input i l a b e f m o t = record {
 pub keep_holding : (d d' : Draft) (bs : List ℕ) (s : State) → ChangesOnlyText d d' → Holding d bs s → Holding d' bs s
 keep_holding d d' bs s k h = record {
   chain = rw (k.members, k.groups, k.inner, k.splices) h.chain;
-  good = subst (λ z. Good z d'.out.splices.items) (sym k.inner) (subst (λ z. Good d.groups.splices.items z) (sym k.splices) h.good);
+  good = subst (λ z. SplicesInOrder z d'.out.splices.items) (sym k.inner) (subst (λ z. SplicesInOrder d.groups.splices.items z) (sym k.splices) h.good);
   opened = k.opened ∙ h.opened;
   distinct = k.distinct ∙ h.distinct;
 }
@@ -59,23 +59,23 @@ holding_added d bs s s' x a r = record {
 pub holding_opened : (d d' : Draft) (bs : List ℕ) (s s' : State) (k : ℕ) → d'.out.splices.items ≡ d.out.splices.items → d'.groups.bytes.items ≡ d.groups.bytes.items → d'.groups.splices.items ≡ d.groups.splices.items → d'.members.items ≡ d.members.items → d'.opened.items ≡ d.opened.items ++ k ∷ [] → k ≡ length d.members.items → d'.is_distinct ≡ d.is_distinct → s'.last ≡ s.last ++ 123 ∷ [] → s'.entries ≡ s.entries → s'.opened ≡ s.opened ++ length s.entries ∷ [] → s'.distinct ≡ s.distinct → Holding d bs s → Holding d' (bs ++ 123 ∷ []) s'
 holding_opened d d' bs s s' k b e f m o n t la en op di r = record {
   chain = rw (m, e, f, b, en, la) (chain_bytes d bs s (123 ∷ []) r);
-  good = subst (λ z. Good z d'.out.splices.items) (sym f) (subst (λ z. Good d.groups.splices.items z) (sym b) r.good);
+  good = subst (λ z. SplicesInOrder z d'.out.splices.items) (sym f) (subst (λ z. SplicesInOrder d.groups.splices.items z) (sym b) r.good);
   opened = o ∙ ap₂ (λ (x : List ℕ) (y : ℕ). x ++ y ∷ []) r.opened (n ∙ chain_lengths d.members.items s.entries d.groups.bytes.items d.groups.splices.items 0 0 bs d.out.splices.items s.last r.chain) ∙ sym op;
   distinct = t ∙ r.distinct ∙ sym di;
 }
 
 -- a member begins, and x is put behind its begin
-pub holding_begun : (d d' : Draft) (bs : List ℕ) (s s' : State) (n : Member) (name x : List ℕ) → d'.out.splices.items ≡ d.out.splices.items → d'.groups.bytes.items ≡ d.groups.bytes.items → d'.groups.splices.items ≡ d.groups.splices.items → d'.members.items ≡ d.members.items ++ n ∷ [] → d'.opened.items ≡ d.opened.items → d'.is_distinct ≡ d.is_distinct → name_of n.name ≡ name → n.first ≡ s.first → n.point.bytes ≡ length (bs ++ gap s.first) → n.point.splices ≡ length d.out.splices.items → s'.entries ≡ s.entries ++ record { text = s.last; first = s.first; name = name } ∷ [] → s'.last ≡ x → s'.opened ≡ s.opened → s'.distinct ≡ s.distinct → Holding d bs s → Holding d' ((bs ++ gap s.first) ++ x) s'
+pub holding_begun : (d d' : Draft) (bs : List ℕ) (s s' : State) (n : Member) (name x : List ℕ) → d'.out.splices.items ≡ d.out.splices.items → d'.groups.bytes.items ≡ d.groups.bytes.items → d'.groups.splices.items ≡ d.groups.splices.items → d'.members.items ≡ d.members.items ++ n ∷ [] → d'.opened.items ≡ d.opened.items → d'.is_distinct ≡ d.is_distinct → name_of n.name ≡ name → n.first ≡ s.first → n.point.bytes ≡ length (bs ++ comma_before s.first) → n.point.splices ≡ length d.out.splices.items → s'.entries ≡ s.entries ++ record { text = s.last; first = s.first; name = name } ∷ [] → s'.last ≡ x → s'.opened ≡ s.opened → s'.distinct ≡ s.distinct → Holding d bs s → Holding d' ((bs ++ comma_before s.first) ++ x) s'
 holding_begun d d' bs s s' n name x b e f m o t na fi pb ph en la op di r =
     let ms = d.groups.bytes.items in
     let gs = d.groups.splices.items in
     let y : Entry = record { text = s.last; first = s.first; name = name } in
-    let cs = bs ++ gap s.first in
+    let cs = bs ++ comma_before s.first in
     let begun : Chain (d.members.items ++ n ∷ []) (s.entries ++ y ∷ []) ms gs 0 0 cs d.out.splices.items [] = chain_begin d.members.items s.entries ms gs 0 0 bs d.out.splices.items s.last n y r.chain refl na fi (omega (arith, pb)) (omega (arith, ph)) in
     let more : Chain (d.members.items ++ n ∷ []) (s.entries ++ y ∷ []) ms gs 0 0 (cs ++ x) d.out.splices.items x = subst (λ z. Chain (d.members.items ++ n ∷ []) (s.entries ++ y ∷ []) ms gs 0 0 (cs ++ x) z x) (append-nil d.out.splices.items) (chain_add (d.members.items ++ n ∷ []) (s.entries ++ y ∷ []) ms gs 0 0 (0 + length cs) cs x d.out.splices.items [] [] x begun refl (holds_plain ms gs (0 + length cs) x)) in
     record {
       chain = rw (m, e, f, b, en, la) more;
-      good = subst (λ z. Good z d'.out.splices.items) (sym f) (subst (λ z. Good gs z) (sym b) r.good);
+      good = subst (λ z. SplicesInOrder z d'.out.splices.items) (sym f) (subst (λ z. SplicesInOrder gs z) (sym b) r.good);
       opened = o ∙ r.opened ∙ sym op;
       distinct = t ∙ r.distinct ∙ sym di;
     }
@@ -123,7 +123,7 @@ holding_same d d' bs s f l b e g m t r =
     let c : Chain (take f d.members.items) (take f s.entries) d.groups.bytes.items d.groups.splices.items 0 0 bs d.out.splices.items (entries_text (drop f s.entries) s.last) = chain_merge (take f d.members.items) (take f s.entries) (drop f d.members.items) (drop f s.entries) d.groups.bytes.items d.groups.splices.items 0 0 bs d.out.splices.items s.last (as_many d bs s f r l) (parted d bs s f r) in
     record {
       chain = rw (m, e, g, b) c;
-      good = subst (λ z. Good z d'.out.splices.items) (sym g) (subst (λ z. Good d.groups.splices.items z) (sym b) r.good);
+      good = subst (λ z. SplicesInOrder z d'.out.splices.items) (sym g) (subst (λ z. SplicesInOrder d.groups.splices.items z) (sym b) r.good);
       opened = refl;
       distinct = t ∙ r.distinct;
     }
@@ -136,7 +136,7 @@ pub record PutInOrder (d d' : Draft) (s : State) (f : ℕ) : Type 0 where
   pub entries : state.entries ≡ take f s.entries
   pub sorted : Sorted (drop f s.entries) s state
 
-ordered_at : (d d' : Draft) (s : State) (f : ℕ) (b : Bool) (n : Member) (ns : List Member) (e : Entry) (es : List Entry) → length (take f d.members.items) ≡ length (take f s.entries) → Good d.groups.splices.items d.out.splices.items → d.is_distinct ≡ s.distinct → Chain (take f d.members.items ++ n ∷ ns) (take f s.entries ++ e ∷ es) d.groups.bytes.items d.groups.splices.items 0 0 d.out.bytes.items d.out.splices.items s.last → SortsMembers (n ∷ ns) d.out d'.out d.groups d'.groups b → d'.members.items ≡ take f d.members.items → d'.is_distinct ≡ (d.is_distinct && b) → drop f s.entries ≡ e ∷ es → PutInOrder d d' s f
+ordered_at : (d d' : Draft) (s : State) (f : ℕ) (b : Bool) (n : Member) (ns : List Member) (e : Entry) (es : List Entry) → length (take f d.members.items) ≡ length (take f s.entries) → SplicesInOrder d.groups.splices.items d.out.splices.items → d.is_distinct ≡ s.distinct → Chain (take f d.members.items ++ n ∷ ns) (take f s.entries ++ e ∷ es) d.groups.bytes.items d.groups.splices.items 0 0 d.out.bytes.items d.out.splices.items s.last → SortsMembers (n ∷ ns) d.out d'.out d.groups d'.groups b → d'.members.items ≡ take f d.members.items → d'.is_distinct ≡ (d.is_distinct && b) → drop f s.entries ≡ e ∷ es → PutInOrder d d' s f
 ordered_at d d' s f b n ns e es same good di chain st m t is =
     let ms = d.groups.bytes.items in
     let gs = d.groups.splices.items in
@@ -146,16 +146,16 @@ ordered_at d d' s f b n ns e es same good di chain st m t is =
     let r = st (e ∷ es) s.last own in
     let p = r.0 in
     let x = members_text true (norm_members (entry_members (e ∷ es) s.last)) in
-    let here : n.point.bytes ≡ length (c.before ++ gap e.first) = omega (arith, seam.begins) in
-    let front : take n.point.bytes d.out.bytes.items ≡ c.before ++ gap e.first = ap₂ take here (seam.bytes ∙ sym (append_assoc c.before (gap e.first) c.behind)) ∙ take-append_seam (c.before ++ gap e.first) c.behind in
+    let here : n.point.bytes ≡ length (c.before ++ comma_before e.first) = omega (arith, seam.begins) in
+    let front : take n.point.bytes d.out.bytes.items ≡ c.before ++ comma_before e.first = ap₂ take here (seam.bytes ∙ sym (append_assoc c.before (comma_before e.first) c.behind)) ∙ take-append_seam (c.before ++ comma_before e.first) c.behind in
     let splices_front : take n.point.splices d.out.splices.items ≡ c.splices_before = let at : n.point.splices ≡ length c.splices_before = omega (arith, seam.behind) in ap₂ take at seam.splices ∙ take-append_seam c.splices_before c.splices_behind in
-    let far : n.point.bytes ≡ (0 + length c.before) + length (gap e.first) = omega (arith, here, length-append c.before (gap e.first)) in
+    let far : n.point.bytes ≡ (0 + length c.before) + length (comma_before e.first) = omega (arith, here, length-append c.before (comma_before e.first)) in
     let old : Chain (take f d.members.items) (take f s.entries) d'.groups.bytes.items d'.groups.splices.items 0 0 c.before c.splices_before e.text = subst (λ z. Chain (take f d.members.items) (take f s.entries) z d'.groups.splices.items 0 0 c.before c.splices_before e.text) (sym p.groups_bytes) (subst (λ z. Chain (take f d.members.items) (take f s.entries) (ms ++ p.more_bytes) z 0 0 c.before c.splices_before e.text) (sym p.groups_splices) (chain_more (take f d.members.items) (take f s.entries) ms gs 0 0 c.before c.splices_before e.text p.more_bytes p.more_splices c.front)) in
-    let new : Chain (take f d.members.items) (take f s.entries) d'.groups.bytes.items d'.groups.splices.items 0 0 (c.before ++ (gap e.first ++ p.bytes)) (c.splices_before ++ p.splices) (e.text ++ (gap e.first ++ x)) = chain_add (take f d.members.items) (take f s.entries) d'.groups.bytes.items d'.groups.splices.items 0 0 (0 + length c.before) c.before (gap e.first ++ p.bytes) c.splices_before p.splices e.text (gap e.first ++ x) old refl (holds_behind d'.groups.bytes.items d'.groups.splices.items (0 + length c.before) n.point.bytes (gap e.first) p.bytes p.splices x far p.text) in
-    let out_bytes : d'.out.bytes.items ≡ c.before ++ (gap e.first ++ p.bytes) = p.is_bytes ∙ ap (λ z. z ++ p.bytes) front ∙ append_assoc c.before (gap e.first) p.bytes in
+    let new : Chain (take f d.members.items) (take f s.entries) d'.groups.bytes.items d'.groups.splices.items 0 0 (c.before ++ (comma_before e.first ++ p.bytes)) (c.splices_before ++ p.splices) (e.text ++ (comma_before e.first ++ x)) = chain_add (take f d.members.items) (take f s.entries) d'.groups.bytes.items d'.groups.splices.items 0 0 (0 + length c.before) c.before (comma_before e.first ++ p.bytes) c.splices_before p.splices e.text (comma_before e.first ++ x) old refl (holds_behind d'.groups.bytes.items d'.groups.splices.items (0 + length c.before) n.point.bytes (comma_before e.first) p.bytes p.splices x far p.text) in
+    let out_bytes : d'.out.bytes.items ≡ c.before ++ (comma_before e.first ++ p.bytes) = p.is_bytes ∙ ap (λ z. z ++ p.bytes) front ∙ append_assoc c.before (comma_before e.first) p.bytes in
     let out_splices : d'.out.splices.items ≡ c.splices_before ++ p.splices = p.is_splices ∙ ap (λ z. z ++ p.splices) splices_front in
     record {
-      state = record { entries = take f s.entries; last = e.text ++ (gap e.first ++ x); opened = d'.opened.items; first = s.first; distinct = s.distinct && once_each (entry_members (e ∷ es) s.last) };
+      state = record { entries = take f s.entries; last = e.text ++ (comma_before e.first ++ x); opened = d'.opened.items; first = s.first; distinct = s.distinct && once_each (entry_members (e ∷ es) s.last) };
       holding = record {
         chain = rw (m, out_bytes, out_splices) new;
         good = p.good good;
@@ -212,6 +212,6 @@ holds_whole d s r e = go d.members.items s.entries e r.chain
 pub sorted_like : (es : List Entry) (s t m : State) → t.last ≡ s.last → t.distinct ≡ s.distinct → Sorted es t m → Sorted es s m
 sorted_like [] s t m h k p = absurd p
 sorted_like (e ∷ es) s t m h k p = (
-  p.0 ∙ ap (λ z. e.text ++ (gap e.first ++ members_text true (norm_members (entry_members (e ∷ es) z)))) h,
+  p.0 ∙ ap (λ z. e.text ++ (comma_before e.first ++ members_text true (norm_members (entry_members (e ∷ es) z)))) h,
   p.1 ∙ ap₂ (λ (x : Bool) (y : List ℕ). x && once_each (entry_members (e ∷ es) y)) k h,
 )

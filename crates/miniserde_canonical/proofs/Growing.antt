@@ -7,9 +7,9 @@ use Rattle.std.proofs.lemmas.Bool.{eq-eqb}
 use Rattle.miniserde_model.specs.Tree.{Tree, null, truth, nonneg, neg, num, str, list, members, Trees, no_trees, tree, Members, no_members, member}
 use Rattle.miniserde_model.specs.Compact.{compact, compact_children, compact_more, compact_members, compact_more_members, string_text}
 use Rattle.miniserde_model.specs.Distinct.{names_distinct, names_distinct_in_children, names_distinct_in_members}
-use Rattle.miniserde_model.specs.Normal.{norm, norm_children, norm_members, with_first, with_first_by, text_cmp, BeginsAbove, Rise}
+use Rattle.miniserde_model.specs.Normal.{norm, norm_children, norm_members, with_if_absent, with_if_absent_by, text_cmp, BeginsAbove, Rise}
 use Rattle.miniserde_canonical.specs.Token.{Token, leaf, name, array_end, object, object_end, tokens, child_tokens, member_tokens}
-use Rattle.miniserde_canonical.specs.private.Arranging.{gap, Entry, State, start, next_text, entry_members, members_text, entries_text, count, once_each, Arranged, Closes, TokenStep, Run}
+use Rattle.miniserde_canonical.specs.private.Arranging.{comma_before, Entry, State, start, text_before, entry_members, members_text, entries_text, count, once_each, Arranged, Closes, TokenStep, Run}
 use Rattle.miniserde_canonical.proofs.Repeats.{values_distinct, distinct_counted}
 
 -- ---- runs
@@ -88,7 +88,7 @@ lines_cons n t ms s m u s' a g f l =
       lays = (refl, refl, refl, subst (λ z. Lays l.added ms (row n (norm t)) z s'.last) f (subst (λ z. Lays l.added ms z u.first s'.last) text l.lays));
     }
 
-lays_next : (es : List Entry) (ms : Members) (l : List ℕ) (f : Bool) (last : List ℕ) → Lays es ms l f last → next_text es last ≡ l
+lays_next : (es : List Entry) (ms : Members) (l : List ℕ) (f : Bool) (last : List ℕ) → Lays es ms l f last → text_before es last ≡ l
 lays_next [] no_members l f last h = h
 lays_next (e ∷ es) (member n t ms) l f last h = h.0
 lays_next [] (member n t ms) l f last h = absurd h
@@ -97,7 +97,7 @@ lays_next (e ∷ es) no_members l f last h = absurd h
 lays_ended : (es : List Entry) (ms : Members) (l : List ℕ) (f : Bool) (last : List ℕ) → Lays es ms l f last → entry_members es last ≡ rows_of (mapped ms)
 lays_ended [] no_members l f last h = refl
 lays_ended (e ∷ es) (member n t ms) l f last h =
-    ap (λ z. member z (str (next_text es last)) (entry_members es last)) h.2
+    ap (λ z. member z (str (text_before es last)) (entry_members es last)) h.2
     ∙ ap₂ (λ (x : List ℕ) (y : Members). member n (str x) y) (lays_next es ms (row n (norm t)) false last h.3) (lays_ended es ms (row n (norm t)) false last h.3)
 lays_ended [] (member n t ms) l f last h = absurd h
 lays_ended (e ∷ es) no_members l f last h = absurd h
@@ -105,8 +105,8 @@ lays_ended (e ∷ es) no_members l f last h = absurd h
 lays_whole : (es : List Entry) (ms : Members) (l : List ℕ) (f : Bool) (last : List ℕ) → Lays es ms l f last → entries_text es last ≡ l ++ members_text f (rows_of (mapped ms))
 lays_whole [] no_members l f last h = h ∙ sym (append-nil l)
 lays_whole (e ∷ es) (member n t ms) l f last h =
-    ap₂ (λ (x : List ℕ) (y : Bool). x ++ (gap y ++ entries_text es last)) h.0 h.1
-    ∙ ap (λ z. l ++ (gap f ++ z)) (lays_whole es ms (row n (norm t)) false last h.3)
+    ap₂ (λ (x : List ℕ) (y : Bool). x ++ (comma_before y ++ entries_text es last)) h.0 h.1
+    ∙ ap (λ z. l ++ (comma_before f ++ z)) (lays_whole es ms (row n (norm t)) false last h.3)
 lays_whole [] (member n t ms) l f last h = absurd h
 lays_whole (e ∷ es) no_members l f last h = absurd h
 
@@ -129,26 +129,26 @@ rows_rise : (ms : Members) → Rise (rows_of ms) → Rise ms
 rows_rise no_members r = tt
 rows_rise (member n t ms) r = (rows_above n ms r.0, rows_rise ms r.1)
 
-first_above : (n : List ℕ) (t : Tree) (ms : Members) → BeginsAbove n ms → with_first n t ms ≡ member n t ms
+first_above : (n : List ℕ) (t : Tree) (ms : Members) → BeginsAbove n ms → with_if_absent n t ms ≡ member n t ms
 first_above n t no_members b = refl
-first_above n t (member m u ms) b = ap (λ o. with_first_by o n t m u ms (with_first n t ms)) b
+first_above n t (member m u ms) b = ap (λ o. with_if_absent_by o n t m u ms (with_if_absent n t ms)) b
 
 rise_norm : (ms : Members) → Rise (mapped ms) → norm_members ms ≡ mapped ms
 rise_norm no_members r = refl
-rise_norm (member n t ms) r = ap (with_first n (norm t)) (rise_norm ms r.1) ∙ first_above n (norm t) (mapped ms) r.0
+rise_norm (member n t ms) r = ap (with_if_absent n (norm t)) (rise_norm ms r.1) ∙ first_above n (norm t) (mapped ms) r.0
 
-rows_first : (n : List ℕ) (t : Tree) (ms : Members) → with_first n (str (row n t)) (rows_of ms) ≡ rows_of (with_first n t ms)
+rows_first : (n : List ℕ) (t : Tree) (ms : Members) → with_if_absent n (str (row n t)) (rows_of ms) ≡ rows_of (with_if_absent n t ms)
 rows_first n t no_members = refl
 rows_first n t (member m u ms) = go (text_cmp n m) (rows_first n t ms)
   where
-    go : (o : Ordering) → with_first n (str (row n t)) (rows_of ms) ≡ rows_of (with_first n t ms) → with_first_by o n (str (row n t)) m (str (row m u)) (rows_of ms) (with_first n (str (row n t)) (rows_of ms)) ≡ rows_of (with_first_by o n t m u ms (with_first n t ms))
+    go : (o : Ordering) → with_if_absent n (str (row n t)) (rows_of ms) ≡ rows_of (with_if_absent n t ms) → with_if_absent_by o n (str (row n t)) m (str (row m u)) (rows_of ms) (with_if_absent n (str (row n t)) (rows_of ms)) ≡ rows_of (with_if_absent_by o n t m u ms (with_if_absent n t ms))
     go Less e = refl
     go Equal e = refl
     go Greater e = ap (λ z. member m (str (row m u)) z) e
 
 rows_norm : (ms : Members) → norm_members (rows_of (mapped ms)) ≡ rows_of (norm_members ms)
 rows_norm no_members = refl
-rows_norm (member n t ms) = ap (with_first n (str (row n (norm t)))) (rows_norm ms) ∙ rows_first n (norm t) (norm_members ms)
+rows_norm (member n t ms) = ap (with_if_absent n (str (row n (norm t)))) (rows_norm ms) ∙ rows_first n (norm t) (norm_members ms)
 
 rows_count : (ms : Members) → count (rows_of ms) ≡ count ms
 rows_count no_members = refl
@@ -173,7 +173,7 @@ made_same es ms l s s' h r e d =
       distinct = d ∙ sym (and-true s.distinct) ∙ ap (λ z. s.distinct && z) (sym same);
     }
 
-made_sorted : (e : Entry) (es : List Entry) (ms : Members) (l : List ℕ) (s s' : State) → Lays (e ∷ es) ms l true s.last → s'.last ≡ e.text ++ (gap e.first ++ members_text true (norm_members (entry_members (e ∷ es) s.last))) → s'.distinct ≡ (s.distinct && once_each (entry_members (e ∷ es) s.last)) → Made s s' l ms
+made_sorted : (e : Entry) (es : List Entry) (ms : Members) (l : List ℕ) (s s' : State) → Lays (e ∷ es) ms l true s.last → s'.last ≡ e.text ++ (comma_before e.first ++ members_text true (norm_members (entry_members (e ∷ es) s.last))) → s'.distinct ≡ (s.distinct && once_each (entry_members (e ∷ es) s.last)) → Made s s' l ms
 made_sorted e es no_members l s s' h p d = absurd h
 made_sorted e es (member n t ms) l s s' h p d =
     let r : entry_members (e ∷ es) s.last ≡ rows_of (mapped (member n t ms)) = lays_ended (e ∷ es) (member n t ms) l true s.last h in
@@ -181,7 +181,7 @@ made_sorted e es (member n t ms) l s s' h p d =
     let many : count (entry_members (e ∷ es) s.last) ≡ count (member n t ms) = ap count r ∙ rows_count (mapped (member n t ms)) ∙ mapped_count (member n t ms) in
     let kept : count (norm_members (entry_members (e ∷ es) s.last)) ≡ count (norm_members (member n t ms)) = ap count sorted ∙ rows_count (norm_members (member n t ms)) in
     record {
-      last = p ∙ ap₂ (λ (x : List ℕ) (y : Bool). x ++ (gap y ++ members_text true (norm_members (entry_members (e ∷ es) s.last)))) h.0 h.1 ∙ ap (λ z. l ++ z) (ap (members_text true) sorted ∙ spelled_first (norm_members (member n t ms)));
+      last = p ∙ ap₂ (λ (x : List ℕ) (y : Bool). x ++ (comma_before y ++ members_text true (norm_members (entry_members (e ∷ es) s.last)))) h.0 h.1 ∙ ap (λ z. l ++ z) (ap (members_text true) sorted ∙ spelled_first (norm_members (member n t ms)));
       distinct = d ∙ ap₂ (λ (x y : ℕ). s.distinct && nat_eq x y) kept many;
     }
 
@@ -210,7 +210,7 @@ object_grows ms s m u k a l c =
 
 abbrev children_text : Bool → Trees → List ℕ
 children_text f no_trees = []
-children_text f (tree t ts) = gap f ++ (compact t ++ children_text false ts)
+children_text f (tree t ts) = comma_before f ++ (compact t ++ children_text false ts)
 
 more_text : (ts : Trees) → children_text false ts ≡ compact_more ts
 more_text no_trees = refl
@@ -260,9 +260,9 @@ mutual
       let m = r.0 in
       let u = run_split (tokens t) (child_tokens ts) m s' r.2 in
       let a = tree_grows t m u.0 u.1 in
-      let begun : Grows s m (gap s.first) true = record { last = r.1.0; entries = r.1.1; opened = r.1.2; distinct = r.1.3 ∙ sym (and-true s.distinct) } in
+      let begun : Grows s m (comma_before s.first) true = record { last = r.1.0; entries = r.1.1; opened = r.1.2; distinct = r.1.3 ∙ sym (and-true s.distinct) } in
       let rest : Grows u.0 s' (children_text false (norm_children ts)) (names_distinct_in_children ts) = grows_as u.0 s' _ _ _ _ (ap (λ z. children_text z (norm_children ts)) a.1) refl (children_grow ts u.0 s' u.2) in
-      grows_append s m s' (gap s.first) _ true _ begun (grows_append m u.0 s' (compact (norm t)) _ (names_distinct t) _ a.0 rest)
+      grows_append s m s' (comma_before s.first) _ true _ begun (grows_append m u.0 s' (compact (norm t)) _ (names_distinct t) _ a.0 rest)
 
   members_grow : (ms : Members) (s s' : State) → Run (member_tokens ms) s s' → Lines s s' ms
   members_grow no_members s s' r = lines_none s s' r

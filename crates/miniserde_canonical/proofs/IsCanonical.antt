@@ -3,7 +3,7 @@
 use Rattle.std.proofs.Common.{◌≡◌, ◌≤◌, ◌↔◌, ℕ, List, length, sym, ap, subst, ◌∙◌}
 use Rattle.miniserde_model.specs.Tree.{Tree}
 use Rattle.miniserde_model.specs.Value.{IsJson}
-use Rattle.miniserde_model.specs.IsTree.{IsTree}
+use Rattle.miniserde_model.specs.InRange.{InRange}
 use Rattle.miniserde_model.specs.Compact.{compact}
 use Rattle.miniserde_model.specs.Normal.{norm}
 use Rattle.miniserde_model.proofs.Normal.{norm_tree, norm_twice}
@@ -22,7 +22,7 @@ canonical_text j c h t p = h.2 ∙ ap (λ z. compact (norm z)) (one_tree j h.0 t
 pub canonical_spelled : (j c : List ℕ) → IsCanonical j c → (t : Tree) → IsJson j t → IsJson c (norm t)
 canonical_spelled j c h t p = subst (λ z. IsJson z (norm t)) (sym (canonical_text j c h t p)) (canonical_spells j t p)
 
-pub canonical_told : (j c : List ℕ) → IsCanonical j c → (t : Tree) → IsJson j t → (u : Tree) → IsTree u → (c ≡ compact (norm u)) ↔ (norm u ≡ norm t)
+pub canonical_told : (j c : List ℕ) → IsCanonical j c → (t : Tree) → IsJson j t → (u : Tree) → InRange u → (c ≡ compact (norm u)) ↔ (norm u ≡ norm t)
 canonical_told j c h t p u r = (
   λ e. one_tree c (norm u) (norm t) (subst (λ z. IsJson z (norm u)) (sym e) (written (norm u) (norm_tree u r))) (canonical_spelled j c h t p),
   λ e. canonical_text j c h t p ∙ ap compact (sym e),

@@ -9,7 +9,7 @@ use Rattle.std.proofs.lemmas.Cmp.{nat_list_cmp_total}
 use Rattle.std.proofs.lemmas.Nat.{mul-le}
 use Rattle.std.proofs.Math.Nat.{pow-suc}
 use Rattle.miniserde_model.specs.Normal.{text_cmp}
-use Rattle.miniserde_canonical.specs.private.Names.{leading_number, IsPrefix}
+use Rattle.miniserde_canonical.specs.private.Names.{leading_number, IsLeadingBytes}
 
 abbrev Small : List ℕ → Type 0
 Small s = (i : ℕ) → get_or s i 0 < 256
@@ -51,10 +51,10 @@ lead_below (suc n) (c ∷ a) (d ∷ b) h k l = elim (cases_lt c d) [
     step : (d p : ℕ) → suc d * p ≡ p + d * p
     step d p = omega arith
 
-pub prefix_below : (p q : ℕ) (a b : List ℕ) → IsPrefix p a → IsPrefix q b → p < q → text_cmp a b ≡ Less
+pub prefix_below : (p q : ℕ) (a b : List ℕ) → IsLeadingBytes p a → IsLeadingBytes q b → p < q → text_cmp a b ≡ Less
 prefix_below p q a b h k l = lead_below 8 a b h.small k.small (omega (arith, h.value, k.value, l))
 
-pub prefix_above : (p q : ℕ) (a b : List ℕ) → IsPrefix p a → IsPrefix q b → q < p → text_cmp a b ≡ Greater
+pub prefix_above : (p q : ℕ) (a b : List ℕ) → IsLeadingBytes p a → IsLeadingBytes q b → q < p → text_cmp a b ≡ Greater
 prefix_above p q a b h k l = nat_list_cmp_total.antisymm a b ∙ ap ordering_reverse (prefix_below q p b a k h l)
 
 pub first_eight : (s : List ℕ) → from_be_bytes w64 (get_or s 0 0 ∷ get_or s 1 0 ∷ get_or s 2 0 ∷ get_or s 3 0 ∷ get_or s 4 0 ∷ get_or s 5 0 ∷ get_or s 6 0 ∷ get_or s 7 0 ∷ []) ≡ leading_number 8 s

@@ -14,7 +14,7 @@ use Rattle.miniserde_model.proofs.OneNormal.{norm_only}
 use Rattle.miniserde_canonical.specs.declared.member.Member.{Member}
 use Rattle.miniserde_canonical.specs.private.Names.{name_of}
 use Rattle.miniserde_canonical.specs.private.Members.{first_name, name_in, NamesRise, named_members, members_at, begins_with_name, without_repeats}
-use Rattle.miniserde_canonical.specs.private.Arranging.{Entry, next_text, entry_members, count}
+use Rattle.miniserde_canonical.specs.private.Arranging.{Entry, text_before, entry_members, count}
 use Rattle.miniserde_canonical.specs.private.Sorting.{text_at, text_tree_at}
 
 -- ---- names and entries
@@ -43,7 +43,7 @@ rows_from : (i : ℕ) (all ns : List Member) (alles es : List Entry) (last : Lis
 rows_from i all [] alles [] last e f a = refl
 rows_from i all (n ∷ ns) alles (x ∷ es) last e f a =
     ap₂ (λ (p : List Member) (q : List Entry). member (first_name p) (str (text_at q last)) (members_at all (text_tree_at alles last) (range_with_len (i + 1) (length ns)))) e f
-    ∙ ap₂ (λ (p : List ℕ) (q : Members). member p (str (next_text es last)) q) a.0 (rows_from (i + 1) all ns alles es last (drop_tail i all n ns e) (drop_tail i alles x es f) a.1)
+    ∙ ap₂ (λ (p : List ℕ) (q : Members). member p (str (text_before es last)) q) a.0 (rows_from (i + 1) all ns alles es last (drop_tail i all n ns e) (drop_tail i alles x es f) a.1)
 rows_from i all [] alles (x ∷ es) last e f a = absurd a
 rows_from i all (n ∷ ns) alles [] last e f a = absurd a
 
@@ -220,7 +220,7 @@ normal_tree b (Some t) x h = h
 
 normal_last : (q : List ℕ) (es : List Entry) (last : List ℕ) → option_map norm (last_of q (entry_members es last)) ≡ last_of q (entry_members es last)
 normal_last q [] last = refl
-normal_last q (e ∷ es) last = normal_tree (bytes_eq e.name q) (last_of q (entry_members es last)) (next_text es last) (normal_last q es last)
+normal_last q (e ∷ es) last = normal_tree (bytes_eq e.name q) (last_of q (entry_members es last)) (text_before es last) (normal_last q es last)
 
 pub kept_normal : (ns : List Member) (es : List Entry) (last : List ℕ) (old new : List ℕ) → Agree ns es → old ≡ range_with_len 0 (length ns) → IsSortedByKey (name_in ns) text_cmp new → ((r : ℕ → Tree) (q : List ℕ) → last_of q (members_at ns r new) ≡ last_of q (members_at ns r old)) → without_repeats (members_at ns (text_tree_at es last) new) ≡ norm_members (entry_members es last)
 kept_normal ns es last old new a e s h =

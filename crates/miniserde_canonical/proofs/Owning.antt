@@ -7,8 +7,8 @@ use Rattle.miniserde_canonical.specs.declared.spread.Splice.{Splice}
 use Rattle.miniserde_canonical.specs.declared.member.Member.{Member}
 use Rattle.miniserde_canonical.specs.private.Spreads.{part_between, Holds, none}
 use Rattle.miniserde_canonical.specs.private.Members.{begin_of, before_comma, end_of}
-use Rattle.miniserde_canonical.specs.private.Arranging.{gap, Entry, next_text}
-use Rattle.miniserde_canonical.specs.private.Sorting.{Chain, OwnFrom, Own, text_at}
+use Rattle.miniserde_canonical.specs.private.Arranging.{comma_before, Entry, text_before}
+use Rattle.miniserde_canonical.specs.private.Sorting.{Chain, EndsWithMembersFrom, EndsWithMembers, text_at}
 use Rattle.miniserde_canonical.proofs.Spreads.{between_end, between_mid, between_none}
 use Rattle.miniserde_canonical.proofs.Chains.{Cut}
 use Rattle.miniserde_canonical.proofs.MemberLists.{Agree}
@@ -20,7 +20,7 @@ HoldsBetween ms gs bs hs a b x = ((a.bytes ≤ b.bytes) × (b.bytes ≤ length b
 holds_between : (ms : List ℕ) (gs : List Splice) (bs : List ℕ) (hs : List Splice) (a b : Point) (x y : List ℕ) (h : List Splice) → (a.bytes ≤ b.bytes) × (b.bytes ≤ length bs) × (a.splices ≤ b.splices) × (b.splices ≤ length hs) → part_between a.bytes b.bytes bs ≡ y → part_between a.splices b.splices hs ≡ h → Holds ms gs a.bytes y h x → HoldsBetween ms gs bs hs a b x
 holds_between ms gs bs hs a b x y h w e f u = (w, subst (λ z. Holds ms gs a.bytes z (part_between a.splices b.splices hs) x) (sym e) (subst (λ z. Holds ms gs a.bytes y z x) (sym f) u))
 
-own_first : (n : Member) (ns : List Member) (e : Entry) (es : List Entry) (ms : List ℕ) (gs : List Splice) (bs : List ℕ) (hs : List Splice) (last : List ℕ) (end : Point) → end.bytes ≡ length bs → end.splices ≡ length hs → OwnFrom n ns e es ms gs bs hs last → HoldsBetween ms gs bs hs n.point (before_comma ns end) (next_text es last)
+own_first : (n : Member) (ns : List Member) (e : Entry) (es : List Entry) (ms : List ℕ) (gs : List Splice) (bs : List ℕ) (hs : List Splice) (last : List ℕ) (end : Point) → end.bytes ≡ length bs → end.splices ≡ length hs → EndsWithMembersFrom n ns e es ms gs bs hs last → HoldsBetween ms gs bs hs n.point (before_comma ns end) (text_before es last)
 own_first n [] e [] ms gs bs hs last end p q o =
     let long = ap length o.bytes ∙ length-append o.front o.inside in
     let many = ap length o.splices ∙ length-append o.splices_front o.splices_inside in
@@ -28,31 +28,31 @@ own_first n [] e [] ms gs bs hs last end p q o =
 own_first n (m ∷ ns) e (f ∷ es) ms gs bs hs last end p q o =
     let r = o.chain in
     let s = r.4 in
-    let text : bs ≡ o.front ++ (r.0 ++ (gap f.first ++ r.1)) = o.bytes ∙ ap (λ z. o.front ++ z) s.bytes in
+    let text : bs ≡ o.front ++ (r.0 ++ (comma_before f.first ++ r.1)) = o.bytes ∙ ap (λ z. o.front ++ z) s.bytes in
     let splices : hs ≡ o.splices_front ++ (r.2 ++ r.3) = o.splices ∙ ap (λ z. o.splices_front ++ z) s.splices in
-    let comma : length (gap m.first) ≡ length (gap f.first) = ap (λ z. length (gap z)) s.first in
-    let wide : m.point.bytes - length (gap m.first) ≡ n.point.bytes + length r.0 = omega (arith, s.begins, length-append r.0 (gap f.first), comma) in
-    let long = ap length text ∙ length-append o.front (r.0 ++ (gap f.first ++ r.1)) in
-    let more = length-append r.0 (gap f.first ++ r.1) in
+    let comma : length (comma_before m.first) ≡ length (comma_before f.first) = ap (λ z. length (comma_before z)) s.first in
+    let wide : m.point.bytes - length (comma_before m.first) ≡ n.point.bytes + length r.0 = omega (arith, s.begins, length-append r.0 (comma_before f.first), comma) in
+    let long = ap length text ∙ length-append o.front (r.0 ++ (comma_before f.first ++ r.1)) in
+    let more = length-append r.0 (comma_before f.first ++ r.1) in
     let many = ap length splices ∙ length-append o.splices_front (r.2 ++ r.3) in
-    holds_between ms gs bs hs n.point (before_comma (m ∷ ns) end) f.text r.0 r.2 (omega (arith, wide), omega (arith, wide, o.begins, long, more), omega (arith, s.behind), omega (arith, s.behind, o.behind, many, length-append r.2 r.3)) (between_mid n.point.bytes (m.point.bytes - length (gap m.first)) bs o.front r.0 (gap f.first ++ r.1) text o.begins wide) (between_mid n.point.splices m.point.splices hs o.splices_front r.2 r.3 splices o.behind s.behind) r.5
+    holds_between ms gs bs hs n.point (before_comma (m ∷ ns) end) f.text r.0 r.2 (omega (arith, wide), omega (arith, wide, o.begins, long, more), omega (arith, s.behind), omega (arith, s.behind, o.behind, many, length-append r.2 r.3)) (between_mid n.point.bytes (m.point.bytes - length (comma_before m.first)) bs o.front r.0 (comma_before f.first ++ r.1) text o.begins wide) (between_mid n.point.splices m.point.splices hs o.splices_front r.2 r.3 splices o.behind s.behind) r.5
 own_first n [] e (f ∷ es) ms gs bs hs last end p q o = absurd o.chain
 own_first n (m ∷ ns) e [] ms gs bs hs last end p q o = absurd o.chain
 
-own_tail : (n : Member) (ns : List Member) (e : Entry) (es : List Entry) (ms : List ℕ) (gs : List Splice) (bs : List ℕ) (hs : List Splice) (last : List ℕ) → OwnFrom n ns e es ms gs bs hs last → Own ns es ms gs bs hs last
+own_tail : (n : Member) (ns : List Member) (e : Entry) (es : List Entry) (ms : List ℕ) (gs : List Splice) (bs : List ℕ) (hs : List Splice) (last : List ℕ) → EndsWithMembersFrom n ns e es ms gs bs hs last → EndsWithMembers ns es ms gs bs hs last
 own_tail n [] e [] ms gs bs hs last o = tt
 own_tail n (m ∷ ns) e (f ∷ es) ms gs bs hs last o =
     let r = o.chain in
     let s = r.4 in
-    let front = o.front ++ (r.0 ++ gap f.first) in
+    let front = o.front ++ (r.0 ++ comma_before f.first) in
     record {
       front = front;
       inside = r.1;
       splices_front = o.splices_front ++ r.2;
       splices_inside = r.3;
-      bytes = o.bytes ∙ ap (λ z. o.front ++ z) s.bytes ∙ rejoin o.front r.0 (gap f.first) r.1;
+      bytes = o.bytes ∙ ap (λ z. o.front ++ z) s.bytes ∙ rejoin o.front r.0 (comma_before f.first) r.1;
       splices = o.splices ∙ ap (λ z. o.splices_front ++ z) s.splices ∙ sym (append_assoc o.splices_front r.2 r.3);
-      begins = omega (arith, s.begins, o.begins, length-append o.front (r.0 ++ gap f.first));
+      begins = omega (arith, s.begins, o.begins, length-append o.front (r.0 ++ comma_before f.first));
       behind = omega (arith, s.behind, o.behind, length-append o.splices_front r.2);
       name = s.name;
       chain = r.6;
@@ -68,7 +68,7 @@ own_none [] [] ms gs bs hs last end p q e f = holds_between ms gs bs hs end end 
 own_none (n ∷ ns) es ms gs bs hs last end p q e f = absurd (omega (arith, ap length e))
 own_none [] (x ∷ es) ms gs bs hs last end p q e f = absurd (omega (arith, ap length f))
 
-pub own_span : (i : ℕ) (ns : List Member) (es : List Entry) (ms : List ℕ) (gs : List Splice) (bs : List ℕ) (hs : List Splice) (last : List ℕ) (end : Point) → end.bytes ≡ length bs → end.splices ≡ length hs → Own ns es ms gs bs hs last → HoldsBetween ms gs bs hs (begin_of (drop i ns) end) (end_of (drop i ns) end) (text_at (drop i es) last)
+pub own_span : (i : ℕ) (ns : List Member) (es : List Entry) (ms : List ℕ) (gs : List Splice) (bs : List ℕ) (hs : List Splice) (last : List ℕ) (end : Point) → end.bytes ≡ length bs → end.splices ≡ length hs → EndsWithMembers ns es ms gs bs hs last → HoldsBetween ms gs bs hs (begin_of (drop i ns) end) (end_of (drop i ns) end) (text_at (drop i es) last)
 own_span i [] [] ms gs bs hs last end p q o = own_none (drop i []) (drop i []) ms gs bs hs last end p q (drop_all {X = Member} i [] (omega arith)) (drop_all {X = Entry} i [] (omega arith))
 own_span zero (n ∷ ns) (e ∷ es) ms gs bs hs last end p q o = own_first n ns e es ms gs bs hs last end p q o
 own_span (suc i) (n ∷ ns) (e ∷ es) ms gs bs hs last end p q o = own_span i ns es ms gs bs hs last end p q (own_tail n ns e es ms gs bs hs last o)
@@ -83,22 +83,22 @@ chain_agrees (n ∷ ns) (e ∷ es) ms gs at k bs hs last h = (h.4.name, chain_ag
 chain_agrees [] (e ∷ es) ms gs at k bs hs last h = absurd h
 chain_agrees (n ∷ ns) [] ms gs at k bs hs last h = absurd h
 
-pub own_agrees : (ns : List Member) (es : List Entry) (ms : List ℕ) (gs : List Splice) (bs : List ℕ) (hs : List Splice) (last : List ℕ) → Own ns es ms gs bs hs last → Agree ns es
+pub own_agrees : (ns : List Member) (es : List Entry) (ms : List ℕ) (gs : List Splice) (bs : List ℕ) (hs : List Splice) (last : List ℕ) → EndsWithMembers ns es ms gs bs hs last → Agree ns es
 own_agrees [] [] ms gs bs hs last o = tt
 own_agrees (n ∷ ns) (e ∷ es) ms gs bs hs last o = (o.name, chain_agrees ns es ms gs n.point.bytes n.point.splices o.inside o.splices_inside last o.chain)
 own_agrees [] (e ∷ es) ms gs bs hs last o = absurd o
 own_agrees (n ∷ ns) [] ms gs bs hs last o = absurd o
 
 -- what is cut off a chain begins with a member
-pub cut_own : (ms0 : List Member) (es0 : List Entry) (n : Member) (e : Entry) (ns : List Member) (es : List Entry) (ms : List ℕ) (gs : List Splice) (bs : List ℕ) (hs : List Splice) (last : List ℕ) → Cut ms0 es0 n e ns es ms gs 0 0 bs hs last → Own (n ∷ ns) (e ∷ es) ms gs bs hs last
+pub cut_own : (ms0 : List Member) (es0 : List Entry) (n : Member) (e : Entry) (ns : List Member) (es : List Entry) (ms : List ℕ) (gs : List Splice) (bs : List ℕ) (hs : List Splice) (last : List ℕ) → Cut ms0 es0 n e ns es ms gs 0 0 bs hs last → EndsWithMembers (n ∷ ns) (e ∷ es) ms gs bs hs last
 cut_own ms0 es0 n e ns es ms gs bs hs last c =
     let s = c.seam in
     record {
-      front = c.before ++ gap e.first;
+      front = c.before ++ comma_before e.first;
       inside = c.behind;
       splices_front = c.splices_before;
       splices_inside = c.splices_behind;
-      bytes = s.bytes ∙ sym (append_assoc c.before (gap e.first) c.behind);
+      bytes = s.bytes ∙ sym (append_assoc c.before (comma_before e.first) c.behind);
       splices = s.splices;
       begins = omega (arith, s.begins);
       behind = omega (arith, s.behind);

@@ -1,5 +1,5 @@
 -- A normal form has as many members as its object if no name is duplicated, and else fewer. By induction over the
--- members: `with_first` adds a member if its name is new, and adds none otherwise.
+-- members: `with_if_absent` adds a member if its name is new, and adds none otherwise.
 use Rattle.std.proofs.Common.{◌≡◌, ◌≤◌, ◌<◌, ℕ, suc, nat_eq, Bool, true, false, not, ◌&&◌, List, Option, Some, None, option_map, bytes_eq, cond, is_some, refl, sym, ap, ◌∙◌, arith, Ordering, Less, Equal, Greater, true≢false}
 use Rattle.std.proofs.lemmas.Cmp.{nat_list_cmp_total, tied_itself}
 use Rattle.std.proofs.lemmas.Map.Lookups.{exact_bytes}
@@ -7,7 +7,7 @@ use Rattle.std.proofs.lemmas.Slice.Eq.{bytes_eq-Decides}
 use Rattle.std.proofs.lemmas.Bool.{eq-eqb}
 use Rattle.std.proofs.lemmas.Bool.Decides.{nat_tests}
 use Rattle.miniserde_model.specs.Tree.{Tree, Members, no_members, member}
-use Rattle.miniserde_model.specs.Normal.{text_cmp, with_first_by, with_first, norm_neg, norm, norm_members, or_else, last_of, Rise}
+use Rattle.miniserde_model.specs.Normal.{text_cmp, with_if_absent_by, with_if_absent, norm_neg, norm, norm_members, or_else, last_of, Rise}
 use Rattle.miniserde_model.specs.Distinct.{has_name, names_distinct, names_distinct_in_members}
 use Rattle.miniserde_model.proofs.Lookups.{norm_keeps_last, norm_rises}
 use Rattle.miniserde_model.proofs.OneNormal.{absent}
@@ -34,22 +34,22 @@ unlike n other g = go (bytes_eq other n) refl
         not_equal e = absurd (cc)
 
 -- a name that is there makes no more
-first_there : (n : List ℕ) (t : Tree) (ms : Members) → Rise ms → has_name n ms ≡ true → count (with_first n t ms) ≡ count ms
+first_there : (n : List ℕ) (t : Tree) (ms : Members) → Rise ms → has_name n ms ≡ true → count (with_if_absent n t ms) ≡ count ms
 first_there n t no_members r h = absurd (true≢false (sym h))
 first_there n t (member other u ms) r h = go (text_cmp n other) refl (first_there n t ms r.1)
   where
-    go : (o : Ordering) → text_cmp n other ≡ o → (has_name n ms ≡ true → count (with_first n t ms) ≡ count ms) → count (with_first_by o n t other u ms (with_first n t ms)) ≡ count (member other u ms)
+    go : (o : Ordering) → text_cmp n other ≡ o → (has_name n ms ≡ true → count (with_if_absent n t ms) ≡ count ms) → count (with_if_absent_by o n t other u ms (with_if_absent n t ms)) ≡ count (member other u ms)
     go Less s more = absurd (true≢false (sym h ∙ ap is_some (absent n (member other u ms) s r)))
     go Equal s more = refl
     go Greater s more =
         let there : has_name n ms ≡ true = sym (ap is_some (ap (λ (b : Bool). or_else (last_of n ms) (cond b (Some u) None)) (unlike n other s) ∙ or_none (last_of n ms))) ∙ h in
         ap suc (more there)
 
-first_new : (n : List ℕ) (t : Tree) (ms : Members) → last_of n ms ≡ None → count (with_first n t ms) ≡ suc (count ms)
+first_new : (n : List ℕ) (t : Tree) (ms : Members) → last_of n ms ≡ None → count (with_if_absent n t ms) ≡ suc (count ms)
 first_new n t no_members e = refl
 first_new n t (member other u ms) e = go (text_cmp n other) refl (first_new n t ms (none_there (last_of n ms) _ e).0)
   where
-    go : (o : Ordering) → text_cmp n other ≡ o → count (with_first n t ms) ≡ suc (count ms) → count (with_first_by o n t other u ms (with_first n t ms)) ≡ suc (count (member other u ms))
+    go : (o : Ordering) → text_cmp n other ≡ o → count (with_if_absent n t ms) ≡ suc (count ms) → count (with_if_absent_by o n t other u ms (with_if_absent n t ms)) ≡ suc (count (member other u ms))
     go Less s more = refl
     go Equal s more =
         let same : bytes_eq other n ≡ true = (bytes_eq-Decides other n).1 (sym (exact_bytes n other s)) in
@@ -83,7 +83,7 @@ counts_most : (p : Bool) (a b : ℕ) → Counts p a b → a ≤ b
 counts_most true a b h = omega (arith, h)
 counts_most false a b h = omega (arith, h)
 
-one_more : (n : List ℕ) (t : Tree) (ms : Members) (p b : Bool) → has_name n ms ≡ b → Counts p (count (norm_members ms)) (count ms) → Counts (not b && p) (count (with_first n t (norm_members ms))) (suc (count ms))
+one_more : (n : List ℕ) (t : Tree) (ms : Members) (p b : Bool) → has_name n ms ≡ b → Counts p (count (norm_members ms)) (count ms) → Counts (not b && p) (count (with_if_absent n t (norm_members ms))) (suc (count ms))
 one_more n t ms p true e h = omega (arith, counts_most p _ _ h, first_there n t (norm_members ms) (norm_rises norm_neg ms) (norm_has n ms ∙ e))
 one_more n t ms true false e h = first_new n t (norm_members ms) (none_of (last_of n (norm_members ms)) (norm_has n ms ∙ e)) ∙ ap suc h
 one_more n t ms false false e h = omega (arith, h, first_new n t (norm_members ms) (none_of (last_of n (norm_members ms)) (norm_has n ms ∙ e)))

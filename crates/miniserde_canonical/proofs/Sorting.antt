@@ -9,40 +9,40 @@ use Rattle.miniserde_model.specs.Normal.{text_cmp, last_of, norm_members}
 use Rattle.miniserde_canonical.specs.declared.spread.Point.{Point}
 use Rattle.miniserde_canonical.specs.declared.spread.Span.{Span}
 use Rattle.miniserde_canonical.specs.declared.spread.Splice.{Splice}
-use Rattle.miniserde_canonical.specs.declared.spread.Spread.{Spread}
+use Rattle.miniserde_canonical.specs.declared.spread.SplicedText.{SplicedText}
 use Rattle.miniserde_canonical.specs.declared.member.Member.{Member}
 use Rattle.miniserde_canonical.specs.private.Spreads.{Within, bytes_in, splices_in, shifted_splice, Holds, none, Ordered, AllBefore}
 use Rattle.miniserde_canonical.specs.private.Waiting.{SpanHolds}
 use Rattle.miniserde_canonical.specs.private.Members.{name_in, begin_of, end_of, members_at, begins_with_name, without_repeats}
-use Rattle.miniserde_canonical.specs.private.Arranging.{gap, Entry, entry_members, members_text, count}
-use Rattle.miniserde_canonical.specs.private.Sorting.{Own, text_at, text_tree_at, Gains, PutsMember, PutsMembers, PutAt, PutsBack, SortsMembers}
+use Rattle.miniserde_canonical.specs.private.Arranging.{comma_before, Entry, entry_members, members_text, count}
+use Rattle.miniserde_canonical.specs.private.Sorting.{EndsWithMembers, text_at, text_tree_at, Gains, PutsMember, PutsMembers, PutAt, PutsBack, SortsMembers}
 use Rattle.miniserde_canonical.proofs.Spreads.{between_end, between_none, holds_plain, plain_text, holds_append, holds_behind, holds_moved, group_holds, splice_holds, all_more, all_append, all_take, all_between, all_moved, ordered_gains}
 use Rattle.miniserde_canonical.proofs.MemberLists.{kept_skip, kept_take, kept_normal, ended_count}
 use Rattle.miniserde_canonical.proofs.Owning.{HoldsBetween, own_span, own_agrees}
 
 -- ---- one member
 
-pub gains_member : (groups mid groups' out : Spread) (ns : List Member) (i : ℕ) (end : Point) (p : Span) (f : Bool) → mid.bytes.items ≡ groups.bytes.items ++ gap f → mid.splices.items ≡ groups.splices.items → end.bytes ≡ length out.bytes.items → end.splices ≡ length out.splices.items → p.from ≡ begin_of (drop i ns) end → p.to ≡ end_of (drop i ns) end → (Within p out.bytes.items out.splices.items → groups'.bytes.items ≡ mid.bytes.items ++ bytes_in p out.bytes.items) → (Within p out.bytes.items out.splices.items → groups'.splices.items ≡ mid.splices.items ++ map (shifted_splice p.from.bytes (length mid.bytes.items)) (splices_in p out.splices.items)) → PutsMember ns i f out groups groups'
+pub gains_member : (groups mid groups' out : SplicedText) (ns : List Member) (i : ℕ) (end : Point) (p : Span) (f : Bool) → mid.bytes.items ≡ groups.bytes.items ++ comma_before f → mid.splices.items ≡ groups.splices.items → end.bytes ≡ length out.bytes.items → end.splices ≡ length out.splices.items → p.from ≡ begin_of (drop i ns) end → p.to ≡ end_of (drop i ns) end → (Within p out.bytes.items out.splices.items → groups'.bytes.items ≡ mid.bytes.items ++ bytes_in p out.bytes.items) → (Within p out.bytes.items out.splices.items → groups'.splices.items ≡ mid.splices.items ++ map (shifted_splice p.from.bytes (length mid.bytes.items)) (splices_in p out.splices.items)) → PutsMember ns i f out groups groups'
 gains_member groups mid groups' out ns i end p f e g u v a b j k = λ es last ms gs own.
     let hs = out.splices.items in
     let x = text_at (drop i es) last in
     let s : HoldsBetween ms gs out.bytes.items hs p.from p.to x = subst (λ z. HoldsBetween ms gs out.bytes.items hs z p.to x) (sym a) (subst (λ z. HoldsBetween ms gs out.bytes.items hs (begin_of (drop i ns) end) z x) (sym b) (own_span i ns es ms gs out.bytes.items hs last end u v own)) in
     let to = length mid.bytes.items in
-    let far : to ≡ length groups.bytes.items + length (gap f) = ap length e ∙ length-append groups.bytes.items (gap f) in
+    let far : to ≡ length groups.bytes.items + length (comma_before f) = ap length e ∙ length-append groups.bytes.items (comma_before f) in
     let inner = map (shifted_splice p.from.bytes to) (splices_in p hs) in
     record {
-      bytes = gap f ++ bytes_in p out.bytes.items;
+      bytes = comma_before f ++ bytes_in p out.bytes.items;
       splices = inner;
-      more_bytes = j s.0 ∙ ap (λ z. z ++ bytes_in p out.bytes.items) e ∙ append_assoc groups.bytes.items (gap f) (bytes_in p out.bytes.items);
+      more_bytes = j s.0 ∙ ap (λ z. z ++ bytes_in p out.bytes.items) e ∙ append_assoc groups.bytes.items (comma_before f) (bytes_in p out.bytes.items);
       more_splices = k s.0 ∙ ap (λ z. z ++ inner) g;
-      text = holds_behind ms gs (length groups.bytes.items) to (gap f) (bytes_in p out.bytes.items) inner x far (holds_moved p.from.bytes to to (omega arith) (omega arith) s.1);
+      text = holds_behind ms gs (length groups.bytes.items) to (comma_before f) (bytes_in p out.bytes.items) inner x far (holds_moved p.from.bytes to to (omega arith) (omega arith) s.1);
       all_before = λ n h. all_moved n p.from.bytes to (splices_in p hs) (all_between n p.from.splices p.to.splices hs h);
     }
 
-gains_none : (ms : List ℕ) (gs hs : List Splice) (groups : Spread) → Gains ms gs hs groups groups []
+gains_none : (ms : List ℕ) (gs hs : List Splice) (groups : SplicedText) → Gains ms gs hs groups groups []
 gains_none ms gs hs groups = record { bytes = []; splices = []; more_bytes = sym (append-nil groups.bytes.items); more_splices = sym (append-nil groups.splices.items); text = none; all_before = λ n h. tt }
 
-gains_append : (ms : List ℕ) (gs hs : List Splice) (a b c : Spread) (x y : List ℕ) → Gains ms gs hs a b x → Gains ms gs hs b c y → Gains ms gs hs a c (x ++ y)
+gains_append : (ms : List ℕ) (gs hs : List Splice) (a b c : SplicedText) (x y : List ℕ) → Gains ms gs hs a b x → Gains ms gs hs b c y → Gains ms gs hs a c (x ++ y)
 gains_append ms gs hs a b c x y p q = record {
   bytes = p.bytes ++ q.bytes;
   splices = p.splices ++ q.splices;
@@ -55,20 +55,20 @@ gains_append ms gs hs a b c x y p q = record {
 -- ---- all members
 
 -- behind k members of the order, of which some were put
-abbrev pub CollectorMeaning : List Member → List ℕ → Spread → Spread → Spread → ℕ → ℕ → Type 0
-CollectorMeaning ns order out groups groups' k n = (es : List Entry) (last ms : List ℕ) (gs : List Splice) → Own ns es ms gs out.bytes.items out.splices.items last → (x : List ℕ) × Gains ms gs out.splices.items groups groups' x × (x ++ members_text (nat_eq n 0) (without_repeats (members_at ns (text_tree_at es last) (drop k order))) ≡ members_text true (without_repeats (members_at ns (text_tree_at es last) order))) × (n + count (without_repeats (members_at ns (text_tree_at es last) (drop k order))) ≡ count (without_repeats (members_at ns (text_tree_at es last) order)))
+abbrev pub CollectorMeaning : List Member → List ℕ → SplicedText → SplicedText → SplicedText → ℕ → ℕ → Type 0
+CollectorMeaning ns order out groups groups' k n = (es : List Entry) (last ms : List ℕ) (gs : List Splice) → EndsWithMembers ns es ms gs out.bytes.items out.splices.items last → (x : List ℕ) × Gains ms gs out.splices.items groups groups' x × (x ++ members_text (nat_eq n 0) (without_repeats (members_at ns (text_tree_at es last) (drop k order))) ≡ members_text true (without_repeats (members_at ns (text_tree_at es last) order))) × (n + count (without_repeats (members_at ns (text_tree_at es last) (drop k order))) ≡ count (without_repeats (members_at ns (text_tree_at es last) order)))
 
-pub gather_begin : (ns : List Member) (order : List ℕ) (out groups : Spread) → CollectorMeaning ns order out groups groups 0 0
+pub gather_begin : (ns : List Member) (order : List ℕ) (out groups : SplicedText) → CollectorMeaning ns order out groups groups 0 0
 gather_begin ns order out groups = λ es last ms gs own. ([], gains_none ms gs out.splices.items groups, refl, omega arith)
 
-pub gather_skip : (ns : List Member) (order : List ℕ) (out groups groups' : Spread) (k n d : ℕ) → k < length order → ((r : ℕ → Tree) → begins_with_name (name_in ns (get_or order k d)) (members_at ns r (drop (k + 1) order)) ≡ true) → CollectorMeaning ns order out groups groups' k n → CollectorMeaning ns order out groups groups' (k + 1) n
+pub gather_skip : (ns : List Member) (order : List ℕ) (out groups groups' : SplicedText) (k n d : ℕ) → k < length order → ((r : ℕ → Tree) → begins_with_name (name_in ns (get_or order k d)) (members_at ns r (drop (k + 1) order)) ≡ true) → CollectorMeaning ns order out groups groups' k n → CollectorMeaning ns order out groups groups' (k + 1) n
 gather_skip ns order out groups groups' k n d l h g = λ es last ms gs own.
     let r = text_tree_at es last in
     let t = g es last ms gs own in
     let same : without_repeats (members_at ns r (drop k order)) ≡ without_repeats (members_at ns r (drop (k + 1) order)) = kept_skip ns r order k d l (h r) in
     (t.0, t.1, ap (λ z. t.0 ++ members_text (nat_eq n 0) z) (sym same) ∙ t.2, ap (λ z. n + count z) (sym same) ∙ t.3)
 
-pub gather_take : (ns : List Member) (order : List ℕ) (out groups mid groups' : Spread) (k n d : ℕ) → k < length order → ((r : ℕ → Tree) → begins_with_name (name_in ns (get_or order k d)) (members_at ns r (drop (k + 1) order)) ≡ false) → PutsMember ns (get_or order k d) (nat_eq n 0) out mid groups' → CollectorMeaning ns order out groups mid k n → CollectorMeaning ns order out groups groups' (k + 1) (n + 1)
+pub gather_take : (ns : List Member) (order : List ℕ) (out groups mid groups' : SplicedText) (k n d : ℕ) → k < length order → ((r : ℕ → Tree) → begins_with_name (name_in ns (get_or order k d)) (members_at ns r (drop (k + 1) order)) ≡ false) → PutsMember ns (get_or order k d) (nat_eq n 0) out mid groups' → CollectorMeaning ns order out groups mid k n → CollectorMeaning ns order out groups groups' (k + 1) (n + 1)
 gather_take ns order out groups mid groups' k n d l h p g = λ es last ms gs own.
     let r = text_tree_at es last in
     let i = get_or order k d in
@@ -77,11 +77,11 @@ gather_take ns order out groups mid groups' k n d l h p g = λ es last ms gs own
     let rest = without_repeats (members_at ns r (drop (k + 1) order)) in
     let same = kept_take ns r order k d l (h r) in
     let more : nat_eq (n + 1) 0 ≡ false = go n in
-    let text : t.0 ++ (gap (nat_eq n 0) ++ (y ++ members_text false rest)) ≡ members_text true (without_repeats (members_at ns r order)) = ap (λ z. t.0 ++ members_text (nat_eq n 0) z) (sym same) ∙ t.2 in
+    let text : t.0 ++ (comma_before (nat_eq n 0) ++ (y ++ members_text false rest)) ≡ members_text true (without_repeats (members_at ns r order)) = ap (λ z. t.0 ++ members_text (nat_eq n 0) z) (sym same) ∙ t.2 in
     let number : n + suc (count rest) ≡ count (without_repeats (members_at ns r order)) = ap (λ z. n + count z) (sym same) ∙ t.3 in (
-      t.0 ++ (gap (nat_eq n 0) ++ y),
-      gains_append ms gs out.splices.items groups mid groups' t.0 (gap (nat_eq n 0) ++ y) t.1 (p es last ms gs own),
-      ap (λ z. (t.0 ++ (gap (nat_eq n 0) ++ y)) ++ members_text z rest) more ∙ rejoin t.0 (gap (nat_eq n 0)) y (members_text false rest) ∙ text,
+      t.0 ++ (comma_before (nat_eq n 0) ++ y),
+      gains_append ms gs out.splices.items groups mid groups' t.0 (comma_before (nat_eq n 0) ++ y) t.1 (p es last ms gs own),
+      ap (λ z. (t.0 ++ (comma_before (nat_eq n 0) ++ y)) ++ members_text z rest) more ∙ rejoin t.0 (comma_before (nat_eq n 0)) y (members_text false rest) ∙ text,
       omega (arith, number),
     )
   where
@@ -91,7 +91,7 @@ gather_take ns order out groups mid groups' k n d l h p g = λ es last ms gs own
     rejoin : (a x y z : List ℕ) → (a ++ (x ++ y)) ++ z ≡ a ++ (x ++ (y ++ z))
     rejoin a x y z = simp append_assoc refl
 
-pub gather_end : (ns : List Member) (order : List ℕ) (out groups groups' : Spread) (k n : ℕ) → drop k order ≡ [] → CollectorMeaning ns order out groups groups' k n → PutsMembers ns order out groups groups' n
+pub gather_end : (ns : List Member) (order : List ℕ) (out groups groups' : SplicedText) (k n : ℕ) → drop k order ≡ [] → CollectorMeaning ns order out groups groups' k n → PutsMembers ns order out groups groups' n
 gather_end ns order out groups groups' k n e g = λ es last ms gs own.
     let t = g es last ms gs own in
     let r = text_tree_at es last in
@@ -104,7 +104,7 @@ no_length : (h : List Splice) → length h ≡ 0 → h ≡ []
 no_length [] e = refl
 no_length (p ∷ h) e = absurd (omega (arith, e))
 
-pub back_short : (point from to : Point) (p : Span) (out mid out' groups groups' : Spread) → p ≡ record { from = from; to = to } → mid.bytes.items ≡ take point.bytes out.bytes.items → mid.splices.items ≡ take point.splices out.splices.items → to.bytes ≡ length groups.bytes.items → to.splices ≡ length groups.splices.items → to.splices ≡ from.splices → (Within p groups.bytes.items groups.splices.items → out'.bytes.items ≡ mid.bytes.items ++ bytes_in p groups.bytes.items) → (Within p groups.bytes.items groups.splices.items → out'.splices.items ≡ mid.splices.items ++ map (shifted_splice p.from.bytes (length mid.bytes.items)) (splices_in p groups.splices.items)) → groups'.bytes.items ≡ take from.bytes groups.bytes.items → groups'.splices.items ≡ take from.splices groups.splices.items → PutsBack point from out out' groups groups'
+pub back_short : (point from to : Point) (p : Span) (out mid out' groups groups' : SplicedText) → p ≡ record { from = from; to = to } → mid.bytes.items ≡ take point.bytes out.bytes.items → mid.splices.items ≡ take point.splices out.splices.items → to.bytes ≡ length groups.bytes.items → to.splices ≡ length groups.splices.items → to.splices ≡ from.splices → (Within p groups.bytes.items groups.splices.items → out'.bytes.items ≡ mid.bytes.items ++ bytes_in p groups.bytes.items) → (Within p groups.bytes.items groups.splices.items → out'.splices.items ≡ mid.splices.items ++ map (shifted_splice p.from.bytes (length mid.bytes.items)) (splices_in p groups.splices.items)) → groups'.bytes.items ≡ take from.bytes groups.bytes.items → groups'.splices.items ≡ take from.splices groups.splices.items → PutsBack point from out out' groups groups'
 back_short point from to p out mid out' groups groups' i e f tb th none_there ob oh gb gh = λ ms b gs h x bytes splices fb fk l u a.
     let q : Span = record { from = from; to = to } in
     let long = ap length bytes ∙ length-append ms b in
@@ -134,7 +134,7 @@ back_short point from to p out mid out' groups groups' i e f tb th none_there ob
       );
     }
 
-pub back_splice : (point from to : Point) (k : Splice) (out mid out' groups : Spread) → k ≡ record { at = point.bytes; group = record { from = from; to = to } } → mid.bytes.items ≡ take point.bytes out.bytes.items → mid.splices.items ≡ take point.splices out.splices.items → to.bytes ≡ length groups.bytes.items → to.splices ≡ length groups.splices.items → out'.bytes.items ≡ mid.bytes.items → out'.splices.items ≡ mid.splices.items ++ k ∷ [] → PutsBack point from out out' groups groups
+pub back_splice : (point from to : Point) (k : Splice) (out mid out' groups : SplicedText) → k ≡ record { at = point.bytes; group = record { from = from; to = to } } → mid.bytes.items ≡ take point.bytes out.bytes.items → mid.splices.items ≡ take point.splices out.splices.items → to.bytes ≡ length groups.bytes.items → to.splices ≡ length groups.splices.items → out'.bytes.items ≡ mid.bytes.items → out'.splices.items ≡ mid.splices.items ++ k ∷ [] → PutsBack point from out out' groups groups
 back_splice point from to k out mid out' groups i e f tb th ob oh = λ ms b gs h x bytes splices fb fk l u a.
     let p : Span = record { from = from; to = to } in
     let splice : Splice = record { at = point.bytes; group = p } in
@@ -164,13 +164,13 @@ first_point : (ns : List Member) (d : Member) → 0 < length ns → (get_or ns 0
 first_point [] d l = absurd (omega (arith, l))
 first_point (n ∷ ns) d l = refl
 
-own_within : (ns : List Member) (es : List Entry) (ms : List ℕ) (gs : List Splice) (bs : List ℕ) (hs : List Splice) (last : List ℕ) → Own ns es ms gs bs hs last → (begin_of ns (record { bytes = 0; splices = 0 })).bytes ≤ length bs
+own_within : (ns : List Member) (es : List Entry) (ms : List ℕ) (gs : List Splice) (bs : List ℕ) (hs : List Splice) (last : List ℕ) → EndsWithMembers ns es ms gs bs hs last → (begin_of ns (record { bytes = 0; splices = 0 })).bytes ≤ length bs
 own_within [] [] ms gs bs hs last o = omega arith
 own_within (n ∷ ns) (e ∷ es) ms gs bs hs last o = omega (arith, o.begins, ap length o.bytes, length-append o.front o.inside)
 own_within [] (e ∷ es) ms gs bs hs last o = absurd o
 own_within (n ∷ ns) [] ms gs bs hs last o = absurd o
 
-pub settled : (ns : List Member) (d : Member) (point from : Point) (old new order : List ℕ) (out out' groups mid groups' : Spread) (n : ℕ) → 0 < length ns → point ≡ (get_or ns 0 d).point → old ≡ range_with_len 0 (length ns) → IsSortedByKey (name_in ns) text_cmp new → ((r : ℕ → Tree) (q : List ℕ) → last_of q (members_at ns r new) ≡ last_of q (members_at ns r old)) → order ≡ new → from.bytes ≡ length groups.bytes.items → from.splices ≡ length groups.splices.items → PutsMembers ns order out groups mid n → PutsBack point from out out' mid groups' → SortsMembers ns out out' groups groups' (nat_eq n (length ns))
+pub settled : (ns : List Member) (d : Member) (point from : Point) (old new order : List ℕ) (out out' groups mid groups' : SplicedText) (n : ℕ) → 0 < length ns → point ≡ (get_or ns 0 d).point → old ≡ range_with_len 0 (length ns) → IsSortedByKey (name_in ns) text_cmp new → ((r : ℕ → Tree) (q : List ℕ) → last_of q (members_at ns r new) ≡ last_of q (members_at ns r old)) → order ≡ new → from.bytes ≡ length groups.bytes.items → from.splices ≡ length groups.splices.items → PutsMembers ns order out groups mid n → PutsBack point from out out' mid groups' → SortsMembers ns out out' groups groups' (nat_eq n (length ns))
 settled ns d point from old new order out out' groups mid groups' n some at e s h o fb fk g p = λ es last own.
     let ms = groups.bytes.items in
     let gs = groups.splices.items in

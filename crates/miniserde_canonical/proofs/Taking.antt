@@ -24,7 +24,7 @@ use Rattle.miniserde_text.specs.private.Moving.{opened_kind, before_child}
 use Rattle.miniserde_canonical.specs.Token.{Token, leaf, name, array, array_end, object, object_end, tokens}
 use Rattle.miniserde_canonical.specs.Token as token
 use Rattle.miniserde_canonical.specs.declared.draft.Draft.{Draft}
-use Rattle.miniserde_canonical.specs.private.Arranging.{gap, State, TokenStep, Run, start}
+use Rattle.miniserde_canonical.specs.private.Arranging.{comma_before, State, TokenStep, Run, start}
 use Rattle.miniserde_canonical.specs.private.Drafts.{Wrote, Holding, Represents, ChangesOnlyText, Recalls, Takes}
 use Rattle.miniserde_canonical.specs.private.Moving.{first_token, end_token, ReadsTokens}
 use Rattle.miniserde_canonical.proofs.Growing.{run_append}
@@ -68,23 +68,23 @@ recalled false s h = h
 pub skipped : (d d' : Draft) (rest rest' : List ℕ) → ((bs : List ℕ) → Wrote d rest bs → Wrote d' rest' bs) → ChangesOnlyText d d' → (s : State) → Represents d rest s → Represents d' rest' s
 skipped d d' rest rest' f k s r = record { bytes = r.bytes; wrote = f r.bytes r.wrote; holding = keep_holding d d' r.bytes s k r.holding }
 
-pub takes_element : (f : Bool) (rest mid rest' : List ℕ) (d d' : Draft) → ((s : State) → Represents d rest s → Represents d' mid s) → mid ≡ gap f ++ rest' → Takes (before_child f) rest (token.element ∷ []) due rest' d d'
+pub takes_element : (f : Bool) (rest mid rest' : List ℕ) (d d' : Draft) → ((s : State) → Represents d rest s → Represents d' mid s) → mid ≡ comma_before f ++ rest' → Takes (before_child f) rest (token.element ∷ []) due rest' d d'
 takes_element f rest mid rest' d d' k e = λ s r h.
-    let s' : State = record { entries = s.entries; last = s.last ++ gap s.first; opened = s.opened; first = s.first; distinct = s.distinct } in
+    let s' : State = record { entries = s.entries; last = s.last ++ comma_before s.first; opened = s.opened; first = s.first; distinct = s.distinct } in
     let a : TokenStep token.element s s' = (refl, refl, refl, refl) in
     let q = k s r in
-    let comma : mid ≡ gap s.first ++ rest' = e ∙ ap (λ z. gap z ++ rest') (sym (recalled f s h)) in
-    (s', (s', a, refl), record { bytes = q.bytes ++ gap s.first; wrote = wrote_on d' mid (gap s.first) rest' q.bytes q.wrote comma; holding = holding_added d' q.bytes s s' (gap s.first) a q.holding }, tt)
+    let comma : mid ≡ comma_before s.first ++ rest' = e ∙ ap (λ z. comma_before z ++ rest') (sym (recalled f s h)) in
+    (s', (s', a, refl), record { bytes = q.bytes ++ comma_before s.first; wrote = wrote_on d' mid (comma_before s.first) rest' q.bytes q.wrote comma; holding = holding_added d' q.bytes s s' (comma_before s.first) a q.holding }, tt)
 
 -- behind a comma, if any, and whitespace, a name
-pub takes_name : (f : Bool) (n rest mid rest1 rest2 part rest' : List ℕ) (d d1 d2 d' : Draft) → ((s : State) → Represents d rest s → Represents d1 mid s) → mid ≡ gap f ++ rest1 → ((bs : List ℕ) → Wrote d1 rest1 bs → Wrote d2 rest2 bs) → ChangesOnlyText d1 d2 → ((before : List ℕ) (s s' : State) → Wrote d2 rest2 (before ++ gap s.first) → Holding d2 before s → s.first ≡ f → TokenStep (name n) s s' → Represents d' rest' s') → Takes (before_child f) rest (name n ∷ []) due rest' d d'
+pub takes_name : (f : Bool) (n rest mid rest1 rest2 part rest' : List ℕ) (d d1 d2 d' : Draft) → ((s : State) → Represents d rest s → Represents d1 mid s) → mid ≡ comma_before f ++ rest1 → ((bs : List ℕ) → Wrote d1 rest1 bs → Wrote d2 rest2 bs) → ChangesOnlyText d1 d2 → ((before : List ℕ) (s s' : State) → Wrote d2 rest2 (before ++ comma_before s.first) → Holding d2 before s → s.first ≡ f → TokenStep (name n) s s' → Represents d' rest' s') → Takes (before_child f) rest (name n ∷ []) due rest' d d'
 takes_name f n rest mid rest1 rest2 part rest' d d1 d2 d' k e w p g = λ s r h.
     let s' : State = record { entries = s.entries ++ record { text = s.last; first = s.first; name = n } ∷ []; last = string_text n ++ 58 ∷ []; opened = s.opened; first = s.first; distinct = s.distinct } in
     let a : TokenStep (name n) s s' = (refl, refl, refl, refl) in
     let q = k s r in
     let i = recalled f s h in
-    let comma : mid ≡ gap s.first ++ rest1 = e ∙ ap (λ z. gap z ++ rest1) (sym i) in
-    let wrote = w (q.bytes ++ gap s.first) (wrote_on d1 mid (gap s.first) rest1 q.bytes q.wrote comma) in
+    let comma : mid ≡ comma_before s.first ++ rest1 = e ∙ ap (λ z. comma_before z ++ rest1) (sym i) in
+    let wrote = w (q.bytes ++ comma_before s.first) (wrote_on d1 mid (comma_before s.first) rest1 q.bytes q.wrote comma) in
     (s', (s', a, refl), g q.bytes s s' wrote (keep_holding d1 d2 q.bytes s p q.holding) i a, tt)
 
 end_recalls : (k : Kind) (s s' : State) → TokenStep (end_token k) s s' → s'.first ≡ false
@@ -170,7 +170,7 @@ follows_at k false false s m r b p = stands_at s m r b p (byte_stops 44 p.part r
 pub closing_at : (k : Kind) (f : Bool) (m r : List ℕ) → StopsAt is_space m → Follows k f true m r → m ≡ closing k ∷ r
 closing_at k f m r h p = at_once m r p h ∙ ap (λ z. z ++ r) p.is_part
 
-pub comma_at : (k : Kind) (f : Bool) (m r : List ℕ) → StopsAt is_space m → Follows k f false m r → m ≡ gap f ++ r
+pub comma_at : (k : Kind) (f : Bool) (m r : List ℕ) → StopsAt is_space m → Follows k f false m r → m ≡ comma_before f ++ r
 comma_at k true m r h p = at_once m r p.0 h ∙ ap (λ z. z ++ r) p.0.is_part
 comma_at k false m r h p = at_once m r p h ∙ ap (λ z. z ++ r) p.is_part
 

@@ -1,7 +1,7 @@
 //! The functions that return the canonical text of a JSON text.
 ghost use Rattle.std.specs.Prelude.{◌≡◌, ◌≤◌, ◌↔◌, ◌⊎◌, true, ℕ, List, length, Err, IfOk, string_bytes};
 ghost use Rattle.miniserde_model.specs.Tree.{Tree};
-ghost use Rattle.miniserde_model.specs.IsTree.{IsTree};
+ghost use Rattle.miniserde_model.specs.InRange.{InRange};
 ghost use Rattle.miniserde_model.specs.Compact.{compact};
 ghost use Rattle.miniserde_model.specs.Distinct.{names_distinct};
 ghost use Rattle.miniserde_model.specs.Normal.{norm};
@@ -26,7 +26,7 @@ pub fn canonical(alloc: Global, j: &str) -> Result<String>
     ensures normal { IfOk result (λ _. (t : Tree) → IsJson j.now t → norm (norm t) ≡ norm t) }
 
     // Another tree has the same canonical text exactly if it has the same normal form.
-    ensures tells { IfOk result (λ c. (t : Tree) → IsJson j.now t → (u : Tree) → IsTree u
+    ensures tells { IfOk result (λ c. (t : Tree) → IsJson j.now t → (u : Tree) → InRange u
         → (string_bytes c ≡ compact (norm u)) ↔ (norm u ≡ norm t)) }
 
     // No text of a tree with that normal form is shorter.
@@ -57,7 +57,7 @@ pub fn canonical_unique(alloc: Global, j: &str) -> Result<String>
     ensures normal { IfOk result (λ _. (t : Tree) → IsJson j.now t → norm (norm t) ≡ norm t) }
 
     // Another tree has the same canonical text exactly if it has the same normal form.
-    ensures tells { IfOk result (λ c. (t : Tree) → IsJson j.now t → (u : Tree) → IsTree u
+    ensures tells { IfOk result (λ c. (t : Tree) → IsJson j.now t → (u : Tree) → InRange u
         → (string_bytes c ≡ compact (norm u)) ↔ (norm u ≡ norm t)) }
 
     // No text of a tree with that normal form is shorter.

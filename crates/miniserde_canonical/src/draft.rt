@@ -10,20 +10,20 @@ ghost use Rattle.miniserde_text.specs.Lexer.{event_of_token, text_of};
 ghost use Rattle.miniserde_canonical.specs.Token.{name};
 ghost use Rattle.miniserde_canonical.specs.private.Moving.{first_token, end_token};
 ghost use Rattle.miniserde_canonical.specs.private.Plain.{TextPlain, TextSpelled, SpellsToken, NameSpelled};
-ghost use Rattle.miniserde_canonical.specs.private.Arranging.{State, TokenStep, Closes, gap, first_token_text, start};
+ghost use Rattle.miniserde_canonical.specs.private.Arranging.{State, TokenStep, Closes, comma_before, first_token_text, start};
 ghost use Rattle.miniserde_canonical.specs.private.Drafts.{Wrote, Holding, ChangesOnlyText, Represents};
 
 use crate::member::{Member, Name};
 use crate::members::rises;
 use crate::put::{is_as_written, put_escaped, put_string};
 use crate::sort_members::sort_members;
-use crate::spread::{Point, Spread, part};
+use crate::spread::{Point, SplicedText, part};
 use miniserde_text::json::lex::{Event, Kind, Text};
 use std::alloc::{AllocError, Global};
 
 /// The span of a token in the input.
 #[derive(Clone, Copy, Drop)]
-pub(crate) struct TokenSpan {
+pub(crate) struct InputSpan {
     /// How many bytes of the input are left at its start.
     pub(crate) at: usize,
     /// How many bytes of the input are left after its end.
@@ -38,9 +38,9 @@ pub(crate) struct Draft<'a> {
     // How many bytes of the input are left at the start of the run that is not in the text yet.
     left: usize,
     // The text so far. It has the members of the open objects in the order of the input.
-    pub(crate) out: Spread,
+    pub(crate) out: SplicedText,
     // The sorted members of closed objects that were out of order.
-    pub(crate) groups: Spread,
+    pub(crate) groups: SplicedText,
     // The members so far of all open objects, those of the outermost object first.
     members: Vec<Member<'a>>,
     // For each open object, how many of `members` come before its own.
@@ -62,8 +62,8 @@ impl<'a> Draft<'a> {
             alloc,
             input,
             left: input.len(),
-            out: Spread::new(alloc),
-            groups: Spread::new(alloc),
+            out: SplicedText::new(alloc),
+            groups: SplicedText::new(alloc),
             members: Vec::new(alloc),
             opened: Vec::new(alloc),
             is_distinct: true,
@@ -96,7 +96,7 @@ impl<'a> Draft<'a> {
     /// Leaves out whitespace: appends the run before it to the text, and begins the next run after it. Fails if the
     /// text cannot grow.
     #[inline(always)]
-    pub(crate) fn skip(&mut self, space: TokenSpan) -> Result<(), AllocError>
+    pub(crate) fn skip(&mut self, space: InputSpan) -> Result<(), AllocError>
         ensures wrote { OnOk result ((rest w rest' bs : List ℕ) → Wrote self.old rest bs → rest ≡ w ++ rest'
             → space.at ≡ length rest → space.end ≡ length rest' → Wrote self.new rest' bs) }
         ensures only_text { OnOk result (ChangesOnlyText self.old self.new) }
@@ -114,17 +114,17 @@ impl<'a> Draft<'a> {
     #[inline(always)]
     pub(crate) fn token(
         &mut self,
-        event: Event<'_>,
+        token: Event<'_>,
         scratch: &str,
-        token: TokenSpan,
+        span: InputSpan,
     ) -> Result<(), AllocError>
         ensures { OnOk result ((rest part rest' : List ℕ) (s s' : State) → Represents self.old rest s
-            → rest ≡ part ++ rest' → token.at ≡ length rest → token.end ≡ length rest'
-            → SpellsToken event.entry scratch.now part → TokenStep (first_token (event_of_token event.entry scratch.now)) s s'
+            → rest ≡ part ++ rest' → span.at ≡ length rest → span.end ≡ length rest'
+            → SpellsToken token.entry scratch.now part → TokenStep (first_token (event_of_token token.entry scratch.now)) s s'
             → Represents self.new rest' s') }
     {
-        self.text(event, scratch, token)?;
-        if let Event::MapStart = event {
+        self.text(token, scratch, span)?;
+        if let Event::MapStart = token {
             self.opened.push(self.members.len())?;
         }
         Ok(())
@@ -134,20 +134,20 @@ impl<'a> Draft<'a> {
     // string with escapes are written anew; any other token stays in the run. Fails if an
     // allocation fails.
     #[inline(always)]
-    fn text(&mut self, event: Event<'_>, scratch: &str, token: TokenSpan) -> Result<(), AllocError>
+    fn text(&mut self, token: Event<'_>, scratch: &str, span: InputSpan) -> Result<(), AllocError>
         ensures wrote { OnOk result ((rest part rest' bs : List ℕ) → Wrote self.old rest bs → rest ≡ part ++ rest'
-            → token.at ≡ length rest → token.end ≡ length rest' → SpellsToken event.entry scratch.now part
-            → Wrote self.new rest' (bs ++ first_token_text (first_token (event_of_token event.entry scratch.now)))) }
+            → span.at ≡ length rest → span.end ≡ length rest' → SpellsToken token.entry scratch.now part
+            → Wrote self.new rest' (bs ++ first_token_text (first_token (event_of_token token.entry scratch.now)))) }
         ensures only_text { OnOk result (ChangesOnlyText self.old self.new) }
     {
-        match event {
+        match token {
             Event::Negative(n) => {
                 if n != 0 {
                     return Ok(());
                 }
-                self.zero(token)?;
+                self.zero(span)?;
             }
-            Event::Str(text) => self.string(text, scratch, token)?,
+            Event::Str(text) => self.string(text, scratch, span)?,
             _ => {}
         }
         Ok(())
@@ -155,30 +155,30 @@ impl<'a> Draft<'a> {
 
     // Takes `-0`, whose span in the input is `token`, and appends `0` for it. Fails if the text
     // cannot grow.
-    fn zero(&mut self, token: TokenSpan) -> Result<(), AllocError>
+    fn zero(&mut self, span: InputSpan) -> Result<(), AllocError>
         ensures wrote { OnOk result ((rest part rest' bs : List ℕ) → Wrote self.old rest bs → rest ≡ part ++ rest'
-            → token.at ≡ length rest → token.end ≡ length rest' → Wrote self.new rest' (bs ++ 48 ∷ [])) }
+            → span.at ≡ length rest → span.end ≡ length rest' → Wrote self.new rest' (bs ++ 48 ∷ [])) }
         ensures only_text { OnOk result (ChangesOnlyText self.old self.new) }
     {
-        self.flush(token.at)?;
+        self.flush(span.at)?;
         self.out.bytes.push(b'0')?;
-        self.left = token.end;
+        self.left = span.end;
         Ok(())
     }
 
     // Takes a string, whose span in the input is `token`. One that was decoded into `scratch` is
     // escaped anew; any other stays in the run. Fails if an allocation fails.
     #[inline(always)]
-    fn string(&mut self, text: Text<'_>, scratch: &str, token: TokenSpan) -> Result<(), AllocError>
+    fn string(&mut self, text: Text<'_>, scratch: &str, span: InputSpan) -> Result<(), AllocError>
         ensures wrote { OnOk result ((rest part rest' bs : List ℕ) → Wrote self.old rest bs → rest ≡ part ++ rest'
-            → token.at ≡ length rest → token.end ≡ length rest' → TextSpelled text.entry part
+            → span.at ≡ length rest → span.end ≡ length rest' → TextSpelled text.entry part
             → Wrote self.new rest' (bs ++ string_text (text_of text.entry scratch.now))) }
         ensures only_text { OnOk result (ChangesOnlyText self.old self.new) }
     {
         if let Text::Scratch = text {
-            self.flush(token.at)?;
+            self.flush(span.at)?;
             put_escaped(scratch, &mut self.escaped, &mut self.out.bytes)?;
-            self.left = token.end;
+            self.left = span.end;
         }
         Ok(())
     }
@@ -192,43 +192,43 @@ impl<'a> Draft<'a> {
         text: Text<'a>,
         scratch: &str,
         first: bool,
-        token: TokenSpan,
+        span: InputSpan,
     ) -> Result<(), AllocError>
         requires { TextPlain text }
         ensures { OnOk result ((rest part rest' before : List ℕ) (s s' : State)
-            → Wrote self.old rest (before ++ gap s.first) → Holding self.old before s
-            → rest ≡ part ++ rest' → token.at ≡ length rest → token.end ≡ length rest'
+            → Wrote self.old rest (before ++ comma_before s.first) → Holding self.old before s
+            → rest ≡ part ++ rest' → span.at ≡ length rest → span.end ≡ length rest'
             → NameSpelled text.entry part → s.first ≡ first
             → TokenStep (name (text_of text.entry scratch.now)) s s' → Represents self.new rest' s') }
     {
-        let run = self.left.saturating_sub(token.at);
+        let run = self.left.saturating_sub(span.at);
         let point = Point {
             bytes: self.out.bytes.len().checked_add(run).ok_or(AllocError)?,
             splices: self.out.splices.len(),
         };
         let name = Name::new(self.alloc, text, scratch)?;
         self.members.push(Member::new(name, point, first))?;
-        self.spell(text, scratch, token)?;
+        self.spell(text, scratch, span)?;
         Ok(())
     }
 
     // Appends a name with its colon, whose span in the input is `token`. If the input has both as
     // they are to be written, they stay in the run. Fails if an allocation fails.
     #[inline(always)]
-    fn spell(&mut self, text: Text<'_>, scratch: &str, token: TokenSpan) -> Result<(), AllocError>
+    fn spell(&mut self, text: Text<'_>, scratch: &str, span: InputSpan) -> Result<(), AllocError>
         requires { TextPlain text }
         ensures wrote { OnOk result ((rest part rest' bs : List ℕ) → Wrote self.old rest bs → rest ≡ part ++ rest'
-            → token.at ≡ length rest → token.end ≡ length rest' → NameSpelled text.entry part
+            → span.at ≡ length rest → span.end ≡ length rest' → NameSpelled text.entry part
             → Wrote self.new rest' (bs ++ (string_text (text_of text.entry scratch.now) ++ 58 ∷ []))) }
         ensures only_text { OnOk result (ChangesOnlyText self.old self.new) }
     {
-        if is_as_written(text, token.at.saturating_sub(token.end)) {
+        if is_as_written(text, span.at.saturating_sub(span.end)) {
             return Ok(());
         }
-        self.flush(token.at)?;
+        self.flush(span.at)?;
         put_string(text, scratch, &mut self.escaped, &mut self.out.bytes)?;
         self.out.bytes.push(b':')?;
-        self.left = token.end;
+        self.left = span.end;
         Ok(())
     }
 

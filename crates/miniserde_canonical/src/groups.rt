@@ -1,18 +1,18 @@
 //! Fills the splices of a text with their groups.
 ghost use Rattle.std.specs.Prelude.{◌≡◌, ◌++◌, ◌+◌, ◌<◌, ℕ, List, IfOk, OnOk};
-ghost use Rattle.miniserde_canonical.specs.private.Spreads.{Holds, Good, Ordered};
+ghost use Rattle.miniserde_canonical.specs.private.Spreads.{Holds, SplicesInOrder, Ordered};
 ghost use Rattle.miniserde_canonical.specs.private.Waiting.{SpanHolds, Waits, span_measure, spans_measure};
 
-use crate::spread::{Point, Span, Spread, part};
+use crate::spread::{Point, Span, SplicedText, part};
 use std::alloc::{AllocError, Global};
 
 /// Returns the bytes of a text with each splice filled with its group. Fails if an allocation fails.
 pub(crate) fn fill_splices(
     alloc: Global,
-    text: Spread,
-    groups: &Spread,
+    text: SplicedText,
+    groups: &SplicedText,
 ) -> Result<Vec<u8>, AllocError>
-    requires { Good groups.now.splices.items text.splices.items }
+    requires { SplicesInOrder groups.now.splices.items text.splices.items }
     ensures { IfOk result (λ r. (x : List ℕ)
         → Holds groups.now.bytes.items groups.now.splices.items 0 text.bytes.items text.splices.items x → r.items ≡ x) }
 {
@@ -36,7 +36,7 @@ pub(crate) fn fill_splices(
 // Fails if an allocation fails.
 fn put_group(
     group: Span,
-    groups: &Spread,
+    groups: &SplicedText,
     out: &mut Vec<u8>,
     later: &mut Vec<Span>,
 ) -> Result<(), AllocError>
@@ -56,7 +56,7 @@ fn put_group(
 // and on top of it the group of that splice. Fails if an allocation fails.
 fn put_span(
     span: Span,
-    groups: &Spread,
+    groups: &SplicedText,
     out: &mut Vec<u8>,
     later: &mut Vec<Span>,
 ) -> Result<(), AllocError>

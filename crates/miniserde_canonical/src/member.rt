@@ -1,7 +1,7 @@
 //! The members of open objects, with the first bytes of their names as numbers, which are fast to compare.
 ghost use Rattle.std.specs.Prelude.{◌≡◌, IfOk, get_or, string_bytes};
 ghost use Rattle.miniserde_text.specs.Lexer.{text_of};
-ghost use Rattle.miniserde_canonical.specs.private.Names.{name_of, IsPrefix};
+ghost use Rattle.miniserde_canonical.specs.private.Names.{name_of, IsLeadingBytes};
 
 use crate::spread::Point;
 use miniserde_text::json::lex::Text;
@@ -51,12 +51,12 @@ fn boxed(alloc: Global, text: &str) -> Result<Box<String>, AllocError>
 pub(crate) struct Member<'a> {
     pub(crate) name: Name<'a>,
     /// The first eight bytes of the name as a number whose highest byte is the first.
-    pub(crate) prefix: u64,
+    pub(crate) leading_bytes: u64,
     /// The point of the text at which the member begins, after its comma.
     pub(crate) point: Point,
     /// Whether it is the first of its object, so that it has no comma.
     pub(crate) first: bool,
-    ghost leads: { IsPrefix prefix (name_of name) },
+    ghost leads: { IsLeadingBytes leading_bytes (name_of name) },
 }
 
 impl<'a> Member<'a> {
@@ -67,10 +67,10 @@ impl<'a> Member<'a> {
         ensures point { result.point ≡ point }
         ensures first { result.first ≡ first }
     {
-        let prefix = prefix(name.text());
+        let leading_bytes = leading_bytes(name.text());
         Member {
             name,
-            prefix,
+            leading_bytes,
             point,
             first,
         }
@@ -80,8 +80,8 @@ impl<'a> Member<'a> {
 // Returns the first eight bytes of a text as a number whose highest byte is the first. If the text is shorter, the
 // bytes after it count as 0.
 #[inline(always)]
-fn prefix(name: &str) -> u64
-    ensures { IsPrefix result name.now }
+fn leading_bytes(name: &str) -> u64
+    ensures { IsLeadingBytes result name.now }
 {
     let b = name.as_bytes();
     if b.len() >= 8 {

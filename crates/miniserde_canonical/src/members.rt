@@ -4,7 +4,7 @@ ghost use Rattle.std.specs.List.{range_with_len};
 ghost use Rattle.std.specs.declared.cmp.Ordering.TheVariants.{Less};
 ghost use Rattle.miniserde_model.specs.Tree.{Tree};
 ghost use Rattle.miniserde_model.specs.Normal.{text_cmp, last_of};
-ghost use Rattle.miniserde_canonical.specs.private.Arranging.{gap};
+ghost use Rattle.miniserde_canonical.specs.private.Arranging.{comma_before};
 ghost use Rattle.miniserde_canonical.specs.private.Names.{name_of};
 ghost use Rattle.miniserde_canonical.specs.private.Members.{name_in, members_at, begins_with_name, begin_of, before_comma, end_of, NamesRise};
 
@@ -42,10 +42,10 @@ fn below(a: &Member<'_>, b: &Member<'_>) -> bool
 fn compare_names(a: &Member<'_>, b: &Member<'_>) -> Ordering
     ensures { result ≡ text_cmp (name_of a.now.name) (name_of b.now.name) }
 {
-    if a.prefix < b.prefix {
+    if a.leading_bytes < b.leading_bytes {
         return Ordering::Less;
     }
-    if b.prefix < a.prefix {
+    if b.leading_bytes < a.leading_bytes {
         return Ordering::Greater;
     }
     a.name.text().cmp(b.name.text())
@@ -123,7 +123,7 @@ pub(crate) fn span_of(members: &[Member<'_>], i: usize, end: Point) -> Span
 
 // Returns the length in bytes of the comma before a member: 0 for the first member, and else 1.
 fn comma_len(first: bool) -> usize
-    ensures { result ≡ length (gap first) }
+    ensures { result ≡ length (comma_before first) }
 {
     if first { 0 } else { 1 }
 }

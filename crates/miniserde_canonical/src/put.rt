@@ -2,8 +2,8 @@
 ghost use Rattle.std.specs.Prelude.{◌≡◌, ◌++◌, ◌∷◌, [], ℕ, List, length, true, OnOk};
 ghost use Rattle.miniserde_model.specs.Compact.{string_text};
 ghost use Rattle.miniserde_text.specs.Lexer.{text_of};
-ghost use Rattle.miniserde_canonical.specs.private.Arranging.{gap};
-ghost use Rattle.miniserde_canonical.specs.private.Plain.{TextPlain, NameSpelled, is_plain};
+ghost use Rattle.miniserde_canonical.specs.private.Arranging.{comma_before};
+ghost use Rattle.miniserde_canonical.specs.private.Plain.{TextPlain, NameSpelled, needs_no_escape};
 
 use miniserde_text::escape::escape_str;
 use miniserde_text::json::lex::Text;
@@ -11,8 +11,8 @@ use std::alloc::AllocError;
 
 /// Appends a comma, unless the child after it is the first of its container. Fails if `out` cannot grow.
 #[inline(always)]
-pub(crate) fn put_gap(first: bool, out: &mut Vec<u8>) -> Result<(), AllocError>
-    ensures { OnOk result (out.new.items ≡ out.old.items ++ gap first) }
+pub(crate) fn put_comma(first: bool, out: &mut Vec<u8>) -> Result<(), AllocError>
+    ensures { OnOk result (out.new.items ≡ out.old.items ++ comma_before first) }
 {
     if !first {
         out.push(b',')?;
@@ -26,7 +26,7 @@ pub(crate) fn put_gap(first: bool, out: &mut Vec<u8>) -> Result<(), AllocError>
 pub(crate) fn put_string(
     text: Text<'_>,
     scratch: &str,
-    escape_text: &mut String,
+    escape_room: &mut String,
     out: &mut Vec<u8>,
 ) -> Result<(), AllocError>
     requires { TextPlain text }
@@ -34,7 +34,7 @@ pub(crate) fn put_string(
 {
     match text {
         Text::Input(s) => put_plain(s, out),
-        Text::Scratch => put_escaped(scratch, escape_text, out),
+        Text::Scratch => put_escaped(scratch, escape_room, out),
     }
 }
 
@@ -42,19 +42,19 @@ pub(crate) fn put_string(
 /// allocation fails.
 pub(crate) fn put_escaped(
     text: &str,
-    escape_text: &mut String,
+    escape_room: &mut String,
     out: &mut Vec<u8>,
 ) -> Result<(), AllocError>
     ensures { OnOk result (out.new.items ≡ out.old.items ++ string_text text.now) }
 {
-    escape_text.clear();
-    escape_str(text, escape_text).map_err(|_| AllocError)?;
-    out.extend_from_slice(escape_text.as_bytes())
+    escape_room.clear();
+    escape_str(text, escape_room).map_err(|_| AllocError)?;
+    out.extend_from_slice(escape_room.as_bytes())
 }
 
 // Appends a text between quotes. None of its bytes needs an escape. Fails if `out` cannot grow.
 fn put_plain(text: &str, out: &mut Vec<u8>) -> Result<(), AllocError>
-    requires { is_plain text.now ≡ true }
+    requires { needs_no_escape text.now ≡ true }
     ensures { OnOk result (out.new.items ≡ out.old.items ++ string_text text.now) }
 {
     out.push(b'"')?;

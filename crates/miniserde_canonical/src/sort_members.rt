@@ -4,8 +4,8 @@ ghost use Rattle.miniserde_canonical.specs.private.Sorting.{SortsMembers, PutsMe
 
 use crate::member::Member;
 use crate::members::{fill, repeats, sort, span_of};
-use crate::put::put_gap;
-use crate::spread::{Point, Span, Splice, Spread};
+use crate::put::put_comma;
+use crate::spread::{Point, Span, Splice, SplicedText};
 use std::alloc::AllocError;
 
 /// The length in bytes of the longest text of sorted members that is copied back to the text.
@@ -19,8 +19,8 @@ pub(crate) fn sort_members(
     members: &[Member<'_>],
     outermost: bool,
     order: &mut Vec<usize>,
-    out: &mut Spread,
-    groups: &mut Spread,
+    out: &mut SplicedText,
+    groups: &mut SplicedText,
 ) -> Result<bool, AllocError>
     requires { 0 < length members.now }
     ensures { IfOk result (λ b. SortsMembers members.now out.old out.new groups.old groups.new b) }
@@ -39,8 +39,8 @@ pub(crate) fn sort_members(
 fn put_members(
     members: &[Member<'_>],
     order: &[usize],
-    out: &Spread,
-    groups: &mut Spread,
+    out: &SplicedText,
+    groups: &mut SplicedText,
 ) -> Result<usize, AllocError>
     ensures { IfOk result (λ n. PutsMembers members.now order.now out.now groups.old groups.new n) }
 {
@@ -61,12 +61,12 @@ fn put_member(
     members: &[Member<'_>],
     i: usize,
     first: bool,
-    out: &Spread,
-    groups: &mut Spread,
+    out: &SplicedText,
+    groups: &mut SplicedText,
 ) -> Result<(), AllocError>
     ensures { OnOk result (PutsMember members.now i first out.now groups.old groups.new) }
 {
-    put_gap(first, &mut groups.bytes)?;
+    put_comma(first, &mut groups.bytes)?;
     groups.append(out, span_of(members, i, out.end()))?;
     Ok(())
 }
@@ -77,8 +77,8 @@ fn put_member(
 fn put_back(
     point: Point,
     from: Point,
-    out: &mut Spread,
-    groups: &mut Spread,
+    out: &mut SplicedText,
+    groups: &mut SplicedText,
     longest: usize,
 ) -> Result<(), AllocError>
     ensures { OnOk result (PutsBack point from out.old out.new groups.old groups.new) }

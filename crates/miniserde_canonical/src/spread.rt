@@ -27,18 +27,18 @@ pub(crate) struct Splice {
 
 /// A text with splices.
 #[derive(Drop)]
-pub(crate) struct Spread {
+pub(crate) struct SplicedText {
     pub(crate) bytes: Vec<u8>,
     pub(crate) splices: Vec<Splice>,
 }
 
-impl Spread {
+impl SplicedText {
     /// Returns an empty text without splices.
-    pub(crate) fn new(alloc: Global) -> Spread
+    pub(crate) fn new(alloc: Global) -> SplicedText
         ensures bytes { result.bytes.items ≡ [] }
         ensures splices { result.splices.items ≡ [] }
     {
-        Spread {
+        SplicedText {
             bytes: Vec::new(alloc),
             splices: Vec::new(alloc),
         }
@@ -66,7 +66,7 @@ impl Spread {
 
     /// Appends a span of another text, with its splices. Fails if an allocation fails.
     #[inline(always)]
-    pub(crate) fn append(&mut self, other: &Spread, span: Span) -> Result<(), AllocError>
+    pub(crate) fn append(&mut self, other: &SplicedText, span: Span) -> Result<(), AllocError>
         ensures bytes { OnOk result (Within span other.now.bytes.items other.now.splices.items
             → self.new.bytes.items ≡ self.old.bytes.items ++ bytes_in span other.now.bytes.items) }
         ensures splices { OnOk result (Within span other.now.bytes.items other.now.splices.items

@@ -9,8 +9,8 @@ use Rattle.miniserde_read.specs.types.Options.{OptionReads, option_of}
 use Rattle.miniserde_keys.specs.Keys.{Key}
 use Rattle.miniserde_read.specs.types.Arrays.{exactly, array_of}
 use Rattle.miniserde_read.specs.types.Pairs.{PairReads, pair_of, both}
-use Rattle.miniserde_read.specs.types.Objects.{Name, all_members}
-use Rattle.miniserde_read.specs.types.Maps.{AllAccepted, MapReads, MeansAt, Entries, no_key, with_entry, map_member, map_of}
+use Rattle.miniserde_read.specs.types.Objects.{Name, after_members}
+use Rattle.miniserde_read.specs.types.Maps.{AllAccepted, MapReads, MeansAt, MapContent, no_entries, with_entry, map_member, map_of}
 use Rattle.miniserde_read.specs.Meaning.{Meaning}
 use Rattle.miniserde_read.specs.Meanings.{list_meaning, array_meaning, option_meaning, box_meaning, pair_meaning, map_meaning}
 use Rattle.miniserde_de.specs.Tied.{Agree}
@@ -159,16 +159,16 @@ module _ {C D : Type 0} (read : Name → Option Key) (code : Key → Key) (f : T
   taken_to no_members h = h
   taken_to (member k t ms) h = (h.0, (is_too (f t) (g t) (e t) h.1.0, taken_to ms h.1.1))
 
-  all_some : (ms : Members) (s : Entries C) (r : Entries D) → is_some (all_members (map_member read code f) s ms) ≡ is_some (all_members (map_member read code g) r ms)
+  all_some : (ms : Members) (s : MapContent C) (r : MapContent D) → is_some (after_members (map_member read code f) s ms) ≡ is_some (after_members (map_member read code g) r ms)
   all_some no_members s r = refl
   all_some (member k t ms) s r =
-      elim (read k) as (λ o. is_some (option_and_then (λ q. all_members (map_member read code f) q ms) (option_and_then (λ c. option_map (with_entry code s c) (f t)) o)) ≡ is_some (option_and_then (λ q. all_members (map_member read code g) q ms) (option_and_then (λ c. option_map (with_entry code r c) (g t)) o))) [
+      elim (read k) as (λ o. is_some (option_and_then (λ q. after_members (map_member read code f) q ms) (option_and_then (λ c. option_map (with_entry code s c) (f t)) o)) ≡ is_some (option_and_then (λ q. after_members (map_member read code g) q ms) (option_and_then (λ c. option_map (with_entry code r c) (g t)) o))) [
         | None ↦ refl
-        | Some c ↦ then_some (f t) (g t) (e t) (with_entry code s c) (with_entry code r c) (λ q. all_members (map_member read code f) q ms) (λ q. all_members (map_member read code g) q ms) (λ x y. all_some ms x y)
+        | Some c ↦ then_some (f t) (g t) (e t) (with_entry code s c) (with_entry code r c) (λ q. after_members (map_member read code f) q ms) (λ q. after_members (map_member read code g) q ms) (λ x y. all_some ms x y)
       ]
 
   map_some : (t : Tree) → is_some (map_of read code f t) ≡ is_some (map_of read code g t)
-  map_some (members ms) = all_some ms no_key no_key
+  map_some (members ms) = all_some ms no_entries no_entries
   map_some t = refl
 
 means_to : {K V : Type 0} (m n : Meaning V) (a : Agree m n) (content : K → Key) (p : Option (Key × Tree)) (x : Option (K × V)) → MeansAt content m.reads p x → MeansAt content n.reads p x

@@ -6,7 +6,7 @@ use Rattle.miniserde_place.specs.Place.{PlaceView, PlaceMeaning}
 use Rattle.miniserde_place.specs.Container.{CollectorMeaning, view_through}
 use Rattle.miniserde_read.specs.types.Objects.{Name}
 use Rattle.miniserde_de.specs.Objects.{object_rules}
-use Rattle.miniserde_de.specs.Tied.{meant_by}
+use Rattle.miniserde_de.specs.Tied.{type_meaning}
 use Rattle.miniserde_de.specs.laws.Objects.{object-meant}
 use Rattle.miniserde_record.specs.Fields.{field_member}
 use Rattle.miniserde_record.specs.FieldsMeaning.{FieldsMeaning, no_fields, field_and, struct_meaning}
@@ -22,7 +22,7 @@ pub record FieldPlacesMeaning (F V : Type 0) : Type 1 where
   -- the state after one more member, by the fields' names, the state, the member's name and its events
   pub by_events : List Name → meant.State → Name → List Step → Option meant.State
   -- a member's events lead to the same state as its tree
-  pub events_agree : (names : List Name) (s : meant.State) (k : Name) (t : Tree) → by_events names s k (events t) ≡ meant.by_tree names s k t
+  pub events_agree : (names : List Name) (s : meant.State) (k : Name) (t : Tree) → by_events names s k (events t) ≡ meant.next_state names s k t
   -- a member for whose name `meant.refuses` holds gives no state, whatever its events
   pub refused : (names : List Name) (s : meant.State) (k : Name) → meant.refuses names s k ≡ true → (es : List Step) → by_events names s k es ≡ None
   -- the view of the current field's place; its outcome is the state after that field's member
@@ -52,10 +52,10 @@ field_view view v s later (Some p) = view_through (λ a. Some (Some a, s)) (view
 -- which have the meaning n.
 abbrev pub field_place_and : {P T F R V : Type 0} → Bool → PlaceMeaning P T → Option T → (F → Option T) → (F → Option P) → (F → R) → FieldPlacesMeaning R V → FieldPlacesMeaning F (T × V)
 field_place_and once m absent value child rest n = record {
-  meant = field_and once None (meant_by m) absent n.meant;
+  meant = field_and once None (type_meaning m) absent n.meant;
   state = λ f. (option_map m.content (value f), n.state (rest f));
   by_events = field_member once m.from_events n.by_events;
-  events_agree = field-meant once m.from_events m.from_tree n.by_events n.meant.by_tree m.events_agree n.events_agree;
+  events_agree = field-meant once m.from_events m.from_tree n.by_events n.meant.next_state m.events_agree n.events_agree;
   refused = field-refused once m.from_events n.by_events n.meant.refuses n.refused;
   child = λ f. field_view m.view (option_map m.content (value f)) (n.state (rest f)) (n.child (rest f)) (child f);
 }
@@ -86,7 +86,7 @@ struct_collector n names values fields = record {
   empty = n.meant.empty;
   is_object = true;
   rules = object_rules (n.by_events names) n.meant.end;
-  events_agree = object-meant (n.by_events names) (n.meant.by_tree names) n.meant.end (n.events_agree names) n.meant.empty (n.meant.from_members names n.meant.empty) (n.meant.members_agree names n.meant.empty);
+  events_agree = object-meant (n.by_events names) (n.meant.next_state names) n.meant.end (n.events_agree names) n.meant.empty (n.meant.from_members names n.meant.empty) (n.meant.members_agree names n.meant.empty);
   child = λ c. n.child (fields c);
   refuses = λ s e. refuses_member (n.meant.refuses names s) e;
 }

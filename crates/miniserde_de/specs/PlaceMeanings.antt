@@ -7,7 +7,7 @@ use Rattle.miniserde_keys.specs.Keys.{Key}
 use Rattle.miniserde_place.specs.Leaf.{nothing_more}
 use Rattle.miniserde_place.specs.Place.{PlaceView, PlaceMeaning, place_meaning}
 use Rattle.miniserde_place.specs.Container.{CollectorMeaning, no_child, view_through, child_view}
-use Rattle.miniserde_de.specs.Tied.{meant_by}
+use Rattle.miniserde_de.specs.Tied.{type_meaning}
 use Rattle.miniserde_de.specs.declared.de.impls.options.OptionPlace.{OptionPlace}
 use Rattle.miniserde_de.specs.declared.de.impls.options.OptionState.{OptionState}
 use Rattle.miniserde_de.specs.declared.de.impls.options.OptionState.TheVariants.{Fresh, Null, Inner, Refused}
@@ -24,14 +24,14 @@ use Rattle.miniserde_de.specs.laws.Options.{option-meant}
 use Rattle.miniserde_read.specs.types.Objects.{Name}
 use Rattle.miniserde_de.specs.Objects.{object_rules}
 use Rattle.miniserde_read.specs.Meanings.{list_meaning, array_meaning, pair_meaning, option_meaning, box_meaning, map_meaning}
-use Rattle.miniserde_read.specs.types.Maps.{map_member, map_content, no_key, with_entry}
+use Rattle.miniserde_read.specs.types.Maps.{map_member, map_content, no_entries, with_entry}
 use Rattle.miniserde_de.specs.laws.Maps.{map-meant}
 
 -- the meaning of a list's collector, by the meaning m of an item's place: `items` returns the items
 -- so far, `child` the current item's place, and `whole` the items of a complete list
 abbrev pub list_collector : {P V C W : Type 0} → PlaceMeaning P V → (C → List V) → (C → Option P) → (W → List V) → CollectorMeaning C W
 list_collector m items child whole = record {
-  meant = list_meaning (meant_by m) whole;
+  meant = list_meaning (type_meaning m) whole;
   State = List m.Content;
   state = λ c. map m.content (items c);
   empty = [];
@@ -47,7 +47,7 @@ list_collector m items child whole = record {
 -- array. An item after the n-th fails.
 abbrev pub array_collector : {P V C W : Type 0} → ℕ → PlaceMeaning P V → (C → List V) → (C → Option P) → (W → List V) → CollectorMeaning C W
 array_collector n m items child whole = record {
-  meant = array_meaning n (meant_by m) whole;
+  meant = array_meaning n (type_meaning m) whole;
   State = List m.Content;
   state = λ c. map m.content (items c);
   empty = [];
@@ -70,7 +70,7 @@ part_view f g a b (Second q) = view_through (λ y. Some (a, Some y)) (g q)
 -- of a complete pair. A third part fails.
 abbrev pub pair_collector : {P Q V U C W : Type 0} → PlaceMeaning P V → PlaceMeaning Q U → (C → Option V) → (C → Option U) → (C → Part P Q) → (W → V) → (W → U) → CollectorMeaning C W
 pair_collector m n first second child one two = record {
-  meant = pair_meaning (meant_by m) (meant_by n) one two;
+  meant = pair_meaning (type_meaning m) (type_meaning n) one two;
   State = Option m.Content × Option n.Content;
   state = λ c. (option_map m.content (first c), option_map n.content (second c));
   empty = (None, None);
@@ -87,10 +87,10 @@ pair_collector m n first second child one two = record {
 -- `child` the current value's place, and `whole` a complete map's entries.
 abbrev pub map_collector : {K P V C W : Type 0} → (Name → Option Key) → (Key → Key) → (K → Key) → PlaceMeaning P V → (C → List (K × V)) → (C → Option K) → (C → Option P) → (W → List (K × V)) → CollectorMeaning C W
 map_collector read code key m entries pending child whole = record {
-  meant = map_meaning read code key (meant_by m) whole;
+  meant = map_meaning read code key (type_meaning m) whole;
   State = Key → Option (Key × m.Content);
   state = λ c. map_content code key m.content (entries c);
-  empty = no_key;
+  empty = no_entries;
   is_object = true;
   rules = object_rules (map_member read code m.from_events) (λ s. Some s);
   events_agree = map-meant read code m.from_events m.from_tree m.events_agree;
@@ -108,9 +108,9 @@ option_view f view (Refused r) = record { at = start; outcome = λ _. None; refu
 
 -- the meaning of the place of an optional value, by the meaning m of the place of the value inside
 abbrev pub option_place_meaning : {P V : Type 0} → PlaceMeaning P V → PlaceMeaning (OptionPlace P) (Option V)
-option_place_meaning m = place_meaning (option_meaning (meant_by m)) (option_mean m.from_events) (option-meant m.from_events m.from_tree m.events_agree) (λ p. option_view m.from_events m.view p.state)
+option_place_meaning m = place_meaning (option_meaning (type_meaning m)) (option_mean m.from_events) (option-meant m.from_events m.from_tree m.events_agree) (λ p. option_view m.from_events m.view p.state)
 
 -- the meaning of the place of a box: `place` returns the place of the value inside, which has the
 -- meaning m, and `value` returns the value inside a box
 abbrev pub box_place_meaning : {P Q V W : Type 0} → (Q → P) → (W → V) → PlaceMeaning P V → PlaceMeaning Q W
-box_place_meaning place value m = place_meaning (box_meaning (meant_by m) value) m.from_events m.events_agree (λ q. m.view (place q))
+box_place_meaning place value m = place_meaning (box_meaning (type_meaning m) value) m.from_events m.events_agree (λ q. m.view (place q))

@@ -9,7 +9,7 @@ use Rattle.miniserde_value.specs.declared.json.value.Value.{Value}
 use Rattle.miniserde_de.specs.declared.documents.value_place.ValuePlace.{ValuePlace}
 use Rattle.miniserde_value.specs.declared.json.unique.Unique.{Unique}
 use Rattle.miniserde_de.specs.declared.documents.unique_place.UniquePlace.{UniquePlace}
-use Rattle.miniserde_de.specs.declared.documents.kinds.KindPlace.{KindPlace}
+use Rattle.miniserde_de.specs.declared.documents.document_types.DocumentTypePlace.{DocumentTypePlace}
 use Rattle.miniserde_value.specs.Hole.{Hole, outside, depth, after_step, after_step_once, outcome, repeats}
 use Rattle.miniserde_value.specs.Builders.{hole_in}
 use Rattle.miniserde_place.specs.Leaf.{from_one_event, leaf_view}
@@ -19,7 +19,7 @@ use Rattle.miniserde_value.specs.declared.json.number.Number.{Number}
 use Rattle.miniserde_de.specs.declared.documents.number_place.NumberPlace.{NumberPlace}
 use Rattle.miniserde_value.specs.Numbers.{number_leaf, number_of}
 use Rattle.miniserde_value.specs.Meanings.{value_meaning, unique_meaning, number_meaning}
-use Rattle.miniserde_de.specs.Kinds.{Kind, kind_outcome}
+use Rattle.miniserde_de.specs.DocumentMeanings.{DocumentMeaning, document_outcome}
 use Rattle.miniserde_value.specs.laws.Unique.{once-whole}
 use Rattle.miniserde_value.specs.laws.Outcomes.{outcome-whole}
 
@@ -45,8 +45,8 @@ value_place_meaning = place_meaning value_meaning (outcome false true (outside [
 
 -- A call hands the event e to the place of a `Value`. If it succeeds, the new hole is the one after
 -- e. If it returns `Invalid` and the place had no error before, e does not fit the old hole.
-abbrev pub steps : ValuePlace → Step → Result (Unit {0}) Error → ValuePlace → Type 0
-steps old e answer new =
+abbrev pub ValueTakes : ValuePlace → Step → Result (Unit {0}) Error → ValuePlace → Type 0
+ValueTakes old e answer new =
     OnOk answer (after_step (due_in old) (hole_at old) e ≡ Some (due_in new, hole_at new))
     × (answer ≡ Err Invalid → refusal_of old ≡ None → after_step (due_in old) (hole_at old) e ≡ None)
 
@@ -54,8 +54,8 @@ steps old e answer new =
 -- `Invalid`, or the earlier error of the place. If it succeeds, the new hole is the one after e. If
 -- it returns `Invalid` and the place had no error before, e is a duplicate name or does not fit the
 -- old hole.
-abbrev pub steps_once : UniquePlace → Step → Result (Unit {0}) Error → UniquePlace → Type 0
-steps_once old e answer new =
+abbrev pub UniqueTakes : UniquePlace → Step → Result (Unit {0}) Error → UniquePlace → Type 0
+UniqueTakes old e answer new =
     (repeats e (hole_at old.place) ≡ true → answer ≡ Err (first_refusal (refusal_of old.place) Invalid))
     × OnOk answer (after_step_once true (due_in old.place) (hole_at old.place) e ≡ Some (due_in new.place, hole_at new.place))
     × (answer ≡ Err Invalid → refusal_of old.place ≡ None → after_step_once true (due_in old.place) (hole_at old.place) e ≡ None)
@@ -68,9 +68,9 @@ unique_place_meaning = place_meaning unique_meaning (outcome true true (outside 
 
 -- the meaning of the place of a type of documents (`Array`, `Object` or `Document`), by the meaning
 -- k of that type
-abbrev pub kind_place_meaning : {K V : Type 0} → Kind V → PlaceMeaning (KindPlace K) V
-kind_place_meaning k = place_meaning k.meant (λ es. k.only (kind_outcome k.begins true (outside []) es)) k.whole
-    (λ p. record { at = (depth (hole_at p.place), due_in p.place); outcome = λ es. k.only (kind_outcome k.begins (due_in p.place) (hole_at p.place) es); refused = refusal_of p.place })
+abbrev pub document_place_meaning : {K V : Type 0} → DocumentMeaning V → PlaceMeaning (DocumentTypePlace K) V
+document_place_meaning k = place_meaning k.meant (λ es. k.only (document_outcome k.begins true (outside []) es)) k.whole
+    (λ p. record { at = (depth (hole_at p.place), due_in p.place); outcome = λ es. k.only (document_outcome k.begins (due_in p.place) (hole_at p.place) es); refused = refusal_of p.place })
 
 -- the meaning of the place of a `Number`: the leaf of a number means that number
 abbrev pub number_place_meaning : PlaceMeaning NumberPlace Number

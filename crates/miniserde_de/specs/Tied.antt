@@ -5,8 +5,8 @@ use Rattle.miniserde_place.specs.Place.{PlaceMeaning}
 use Rattle.miniserde_read.specs.Meaning.{Meaning}
 
 -- the meaning of a place's type: which trees mean which values, without events and without the view
-abbrev pub meant_by : {P V : Type 0} → PlaceMeaning P V → Meaning V
-meant_by m = record {
+abbrev pub type_meaning : {P V : Type 0} → PlaceMeaning P V → Meaning V
+type_meaning m = record {
   Content = m.Content;
   content = m.content;
   from_tree = m.from_tree;

@@ -6,7 +6,7 @@ ghost use Rattle.std.specs.Prelude.{◌≡◌, ◌≢◌, true, IsOk, Option, So
 ghost use Rattle.miniserde_model.specs.Position.{complete};
 ghost use Rattle.miniserde_model.specs.declared.error.Error.{Error};
 ghost use Rattle.miniserde_place.specs.Place.{IsFresh};
-ghost use Rattle.miniserde_de.specs.Tied.{Agree, meant_by};
+ghost use Rattle.miniserde_de.specs.Tied.{Agree, type_meaning};
 
 mod impls;
 
@@ -28,7 +28,7 @@ pub trait Deserialize: FromJson {
 
     /// Does nothing. It promises that the place means what the type does: the same trees mean the same values.
     fn tied()
-        ensures { Agree (meant_by Self.Place.meaning) Self.means };
+        ensures { Agree (type_meaning Self.Place.meaning) Self.means };
 
     /// Returns the value of a missing field of this type, or `None` if an object without that field's member is an
     /// error.

@@ -10,7 +10,7 @@ use Rattle.miniserde_record.specs.Structs.{is_new, are_distinct, are_names}
 use Rattle.miniserde_record.proofs.Rounds.{more_names, no_names}
 use Rattle.miniserde_enum.specs.declared.one_of.OneOf.{OneOf}
 use Rattle.miniserde_enum.specs.declared.one_of.OneOf.TheVariants.{First, Later}
-use Rattle.miniserde_enum.specs.Tagging.{Tagging, case_of, case_written, by_tagging}
+use Rattle.miniserde_enum.specs.Tagging.{Tagging, variant_of_tree, variant_tree, content_by_tagging}
 use Rattle.miniserde_enum.specs.Cases.{CaseReads, UnitReads, DataReads, CaseReal, case_tree, unit_tree, data_tree, UnitFits, DataFits, case_content}
 use Rattle.miniserde_enum.specs.laws.Tagging.{tagging-agrees}
 use Rattle.miniserde_enum.specs.laws.Cases.{alone, cond-some, later-none, same-name, new-first}
@@ -22,27 +22,27 @@ names_distinct k ns h = elim (nat_eq (length ns) k) as (λ b. (b && are_distinct
 -- ---- one variant
 
 pub unit-round_trips : (tagging : Tagging) → UnitFits tagging → (n : Name) (x : Unit {0}) → ⊤ → RoundTrips (λ (u : Unit {0}). ⊤) (unit_tree tagging n) (UnitReads tagging n) (unit_tree tagging n x)
-unit-round_trips tagging f n x r = ((tt, tt, (tagging-agrees tagging (case_written tagging n None) n None).1 (f n)), λ y s e. refl)
+unit-round_trips tagging f n x r = ((tt, tt, (tagging-agrees tagging (variant_tree tagging n None) n None).1 (f n)), λ y s e. refl)
 
 module _ {T : Type 0} (real : T → Type 0) (tree : T → Tree) (reads : Tree → T → Type 0) (round_trips : (x : T) → real x → RoundTrips real tree reads (tree x)) (tagging : Tagging) (f : DataFits real tree tagging) where
   pub data-round_trips : (n : Name) (x : T) → real x → RoundTrips real (data_tree tagging tree n) (DataReads reads tagging n) (data_tree tagging tree n x)
   data-round_trips n x r =
       let a = round_trips x r in
-      let t = case_written tagging n (Some (tree x)) in (
+      let t = variant_tree tagging n (Some (tree x)) in (
         (a.0.0, a.0.1, (tree x, (tagging-agrees tagging t n (Some (tree x))).1 (f n x r), a.0.2)),
         λ y s e.
             let i = same_Some _ _ (sym ((tagging-agrees tagging t n (Some e.0)).0 e.1) ∙ f n x r) in
             let j = same_Some _ _ (ap (λ z. z.1) i) in
-            ap (λ z. case_written tagging n (Some z)) (a.1 y s (subst (λ z. reads z y) j e.2)),
+            ap (λ z. variant_tree tagging n (Some z)) (a.1 y s (subst (λ z. reads z y) j e.2)),
       )
 
 -- ---- variant by variant
 
-tagging-apart : {A B : Type 0} (tagging : Tagging) (f : Name → Option Tree → Option A) (g : Name → Option Tree → Option B) (a : A) (b : B) → ((k : Name) (o : Option Tree) → f k o ≡ Some a → g k o ≡ Some b → ⊥) → (t : Tree) → by_tagging tagging f t ≡ Some a → by_tagging tagging g t ≡ Some b → ⊥
-tagging-apart {A} {B} tagging f g a b h t = elim (case_of tagging t) as (λ o. (◌≡◌ {A = Option A} (option_and_then (λ s. f s.0 s.1) o) (Some a)) → (◌≡◌ {A = Option B} (option_and_then (λ s. g s.0 s.1) o) (Some b)) → ⊥) [ None ↦ λ p q. cc | Some s ↦ h s.0 s.1 ]
+tagging-apart : {A B : Type 0} (tagging : Tagging) (f : Name → Option Tree → Option A) (g : Name → Option Tree → Option B) (a : A) (b : B) → ((k : Name) (o : Option Tree) → f k o ≡ Some a → g k o ≡ Some b → ⊥) → (t : Tree) → content_by_tagging tagging f t ≡ Some a → content_by_tagging tagging g t ≡ Some b → ⊥
+tagging-apart {A} {B} tagging f g a b h t = elim (variant_of_tree tagging t) as (λ o. (◌≡◌ {A = Option A} (option_and_then (λ s. f s.0 s.1) o) (Some a)) → (◌≡◌ {A = Option B} (option_and_then (λ s. g s.0 s.1) o) (Some b)) → ⊥) [ None ↦ λ p q. cc | Some s ↦ h s.0 s.1 ]
 
-module _ {T W C D : Type 0} (given : Option Tree → Option C) (one : Tagging → Name → Tree → T → Type 0) (content : T → C) (one_agrees : (tagging : Tagging) (n : Name) (t : Tree) (x : T) → one tagging n t x ↔ (by_tagging tagging (alone given n) t ≡ Some (content x)))
-    (later : List Name → Name → Option Tree → Option D) (reads : Tagging → List Name → Tree → W → Type 0) (content_w : W → D) (fresh : (ns : List Name) (n : Name) (o : Option Tree) → is_new n ns ≡ true → later ns n o ≡ None) (agrees : (tagging : Tagging) (ns : List Name) → are_distinct ns ≡ true → (t : Tree) (w : W) → reads tagging ns t w ↔ (by_tagging tagging (later ns) t ≡ Some (content_w w))) (tagging : Tagging) where
+module _ {T W C D : Type 0} (given : Option Tree → Option C) (one : Tagging → Name → Tree → T → Type 0) (content : T → C) (one_agrees : (tagging : Tagging) (n : Name) (t : Tree) (x : T) → one tagging n t x ↔ (content_by_tagging tagging (alone given n) t ≡ Some (content x)))
+    (later : List Name → Name → Option Tree → Option D) (reads : Tagging → List Name → Tree → W → Type 0) (content_w : W → D) (fresh : (ns : List Name) (n : Name) (o : Option Tree) → is_new n ns ≡ true → later ns n o ≡ None) (agrees : (tagging : Tagging) (ns : List Name) → are_distinct ns ≡ true → (t : Tree) (w : W) → reads tagging ns t w ↔ (content_by_tagging tagging (later ns) t ≡ Some (content_w w))) (tagging : Tagging) where
   apart : (n : Name) (ns : List Name) (t : Tree) (x : T) (w : W) → is_new n ns ≡ true → are_distinct ns ≡ true → one tagging n t x → reads tagging ns t w → ⊥
   apart n ns t x w f d a b =
       tagging-apart tagging (alone given n) (later ns) (content x) (content_w w)
@@ -77,7 +77,7 @@ module _ {T W C D : Type 0} (given : Option Tree → Option C) (one : Tagging �
 -- data with one tree has one content, if the trees are the variants that they are written for
 pub data-same : {T C : Type 0} (tagging : Tagging) (real : T → Type 0) (tree : T → Tree) → DataFits real tree tagging → (content : T → C) → ((x y : T) → real x → real y → tree x ≡ tree y → content x ≡ content y) → (n : Name) (x y : T) → real x → real y → data_tree tagging tree n x ≡ data_tree tagging tree n y → content x ≡ content y
 data-same tagging real tree f content same n x y r s e =
-    let i = same_Some _ _ (sym (f n x r) ∙ ap (case_of tagging) e ∙ f n y s) in
+    let i = same_Some _ _ (sym (f n x r) ∙ ap (variant_of_tree tagging) e ∙ f n y s) in
     same x y r s (same_Some _ _ (ap (λ z. z.1) i))
 
 module _ {T W C D : Type 0} (variant : Tree → Option (Name × Option Tree)) (content : T → C) (content_w : W → D) (real : T → Type 0) (tree : Name → T → Tree) (name : (n : Name) (x : T) → real x → (o : Option Tree) × (variant (tree n x) ≡ Some (n, o))) (first : (n : Name) (x y : T) → real x → real y → tree n x ≡ tree n y → content x ≡ content y)

@@ -11,12 +11,12 @@ use Rattle.miniserde_read.specs.types.Objects.{Name}
 use Rattle.miniserde_read.specs.types.Words.{string_of}
 use Rattle.miniserde_read.proofs.Same.{tag}
 use Rattle.miniserde_stable.specs.Stable.{IsStable}
-use Rattle.miniserde_record.specs.Fields.{others, last_given, count_named}
+use Rattle.miniserde_record.specs.Fields.{other_members, last_content, count_named}
 use Rattle.miniserde_record.specs.Stable.{AreStable}
 use Rattle.miniserde_record.proofs.Stables.{stable-field}
 use Rattle.miniserde_enum.specs.Internal.{internal_variant, object_members}
 use Rattle.miniserde_enum.specs.Inside.{inside_of}
-use Rattle.miniserde_enum.specs.Tagging.{by_tagging, internal}
+use Rattle.miniserde_enum.specs.Tagging.{content_by_tagging, internal}
 use Rattle.miniserde_enum.specs.Cases.{DataFits}
 use Rattle.miniserde_enum.specs.laws.Cases.{same-name}
 
@@ -62,16 +62,16 @@ module _ {C : Type 0} (tag : Name) (f : Name → Option Tree → Option C) (stab
   given (Some None) u c e = absurd (cc)
   given (Some (Some n)) u c e = (n, refl, e)
 
-  pub tagged-stable : IsStable (by_tagging (internal tag) f)
+  pub tagged-stable : IsStable (content_by_tagging (internal tag) f)
   tagged-stable (members ms) c e =
-      let o = last_given false string_of tag None ms in
-      let q = last_given false string_of tag None (norm_members ms) in
-      let a = given o (Some (members (others tag ms))) c e in
+      let o = last_content false string_of tag None ms in
+      let q = last_content false string_of tag None (norm_members ms) in
+      let a = given o (Some (members (other_members tag ms))) c e in
       let n = a.0 in
       let later : AreStable (beside_it n) = λ ns s ms c e. stable n (Some (members ms)) c e in
-      let was = some-field (λ k. f n (Some (members (others tag ms)))) o n c a.1 a.2 in
+      let was = some-field (λ k. f n (Some (members (other_members tag ms)))) o n c a.1 a.2 in
       let is = stable-field false string_of string-stable None (beside_it n) later (tag ∷ []) (None, tt) ms (n, c) was in
-      let b = field-some (λ k. f n (Some (members (others tag (norm_members ms))))) q n c is in
+      let b = field-some (λ k. f n (Some (members (other_members tag (norm_members ms))))) q n c is in
       rw (b.0, b.1) refl
   tagged-stable t c e = absurd (cc)
 
@@ -82,11 +82,11 @@ module _ (tag : Name) where
   one-more true n e = absurd (omega (arith, e))
   one-more false n e = (refl, e)
 
-  lacking : (ms : Members) → count_named tag ms ≡ 0 → others tag ms ≡ ms
+  lacking : (ms : Members) → count_named tag ms ≡ 0 → other_members tag ms ≡ ms
   lacking no_members e = refl
   lacking (member k t ms) e = let p = one-more (bytes_eq k tag) (count_named tag ms) e in rw p.0 (ap (member k t) (lacking ms p.1))
 
-  last : (d : Option Name) (ms : Members) → count_named tag ms ≡ 0 → last_given false string_of tag d ms ≡ Some d
+  last : (d : Option Name) (ms : Members) → count_named tag ms ≡ 0 → last_content false string_of tag d ms ≡ Some d
   last d no_members e = refl
   last d (member k t ms) e = let p = one-more (bytes_eq k tag) (count_named tag ms) e in rw p.0 (last d ms p.1)
 

@@ -5,24 +5,24 @@ use Rattle.miniserde_read.specs.types.Objects.{Name}
 use Rattle.miniserde_enum.specs.declared.one_of.OneOf.{OneOf}
 use Rattle.miniserde_enum.specs.declared.one_of.Never.{Never}
 use Rattle.miniserde_enum.specs.declared.one_of.OneOf.TheVariants.{First, Later}
-use Rattle.miniserde_enum.specs.Tagging.{Tagging, external, internal, IsCase, case_of, case_written}
+use Rattle.miniserde_enum.specs.Tagging.{Tagging, external, internal, IsVariant, variant_of_tree, variant_tree}
 
 -- ---- the content of a variant, by a name and its data
 
--- the content for the name k and the data o, by the variants' names: what `given` returns for the
+-- the content for the name k and the data o, by the variants' names: what `first` returns for the
 -- data if k is the first variant's name, and else what `later` returns
-abbrev pub case_given : {C D : Type 0} → (Option Tree → Option C) → (List Name → Name → Option Tree → Option D) → List Name → Name → Option Tree → Option (OneOf C D)
-case_given given later [] k o = None
-case_given given later (n ∷ ns) k o = if bytes_eq k n then option_map First (given o) else option_map Later (later ns k o)
+abbrev pub variant_content : {C D : Type 0} → (Option Tree → Option C) → (List Name → Name → Option Tree → Option D) → List Name → Name → Option Tree → Option (OneOf C D)
+variant_content first later [] k o = None
+variant_content first later (n ∷ ns) k o = if bytes_eq k n then option_map First (first o) else option_map Later (later ns k o)
 
 -- the content of a variant without data, if there are no data
-abbrev pub unit_given : Option Tree → Option (Unit {0})
-unit_given None = Some tt
-unit_given (Some t) = None
+abbrev pub unit_content : Option Tree → Option (Unit {0})
+unit_content None = Some tt
+unit_content (Some t) = None
 
 -- the content that `of` returns for the data, if there are data
-abbrev pub data_given : {C : Type 0} → (Tree → Option C) → Option Tree → Option C
-data_given of o = option_and_then of o
+abbrev pub data_content : {C : Type 0} → (Tree → Option C) → Option Tree → Option C
+data_content of o = option_and_then of o
 
 -- what f, which takes data or none, returns for the data t
 abbrev pub with_data : {C : Type 0} → (Option Tree → Option C) → Tree → Option C
@@ -39,21 +39,21 @@ CaseReads one later (n ∷ ns) t (Later w) = later ns t w
 
 -- by the tagging, the tree is the variant of the name n without data
 abbrev pub UnitReads : Tagging → Name → Tree → Unit {0} → Type 0
-UnitReads tagging n t u = IsCase tagging t n None
+UnitReads tagging n t u = IsVariant tagging t n None
 
 -- by the tagging, the tree is the variant of the name n with data, and by `reads` the data mean the value x
 abbrev pub DataReads : {T : Type 0} → (Tree → T → Type 0) → Tagging → Name → Tree → T → Type 0
-DataReads reads tagging n t x = (u : Tree) × IsCase tagging t n (Some u) × reads u x
+DataReads reads tagging n t x = (u : Tree) × IsVariant tagging t n (Some u) × reads u x
 
 -- ---- the tree of a value, by its tagging
 
 -- by the tagging, the tree of the variant of the name n without data, whose value is the unit
 abbrev pub unit_tree : Tagging → Name → Unit {0} → Tree
-unit_tree tagging n u = case_written tagging n None
+unit_tree tagging n u = variant_tree tagging n None
 
 -- by the tagging, the tree of the variant of the name n with the data x, whose own tree f returns
 abbrev pub data_tree : {T : Type 0} → Tagging → (T → Tree) → Name → T → Tree
-data_tree tagging f n x = case_written tagging n (Some (f x))
+data_tree tagging f n x = variant_tree tagging n (Some (f x))
 
 -- the tree of the value v, by the variants' names: `one` returns it for the first variant's name
 -- and value, and `later` for the later names and a later variant's value
@@ -74,11 +74,11 @@ tagged_tree tag names tree values v = tree (internal tag) names (values v)
 
 -- by the tagging, the tree that is written for a name without data gives back that name and no data
 abbrev pub UnitFits : Tagging → Type 0
-UnitFits tagging = (n : Name) → case_of tagging (case_written tagging n None) ≡ Some (n, None)
+UnitFits tagging = (n : Name) → variant_of_tree tagging (variant_tree tagging n None) ≡ Some (n, None)
 
 -- by the tagging, the tree that is written for a name with valid data gives back that name and the tree of the data
 abbrev pub DataFits : {T : Type 0} → (T → Type 0) → (T → Tree) → Tagging → Type 0
-DataFits {T} real tree tagging = (n : Name) (x : T) → real x → case_of tagging (case_written tagging n (Some (tree x))) ≡ Some (n, Some (tree x))
+DataFits {T} real tree tagging = (n : Name) (x : T) → real x → variant_of_tree tagging (variant_tree tagging n (Some (tree x))) ≡ Some (n, Some (tree x))
 
 -- ---- values
 

@@ -3,13 +3,13 @@ use Rattle.std.proofs.Common.{◌∙◌}
 use Rattle.std.specs.Prelude.{false, cond, Option, Some, bytes_eq}
 use Rattle.miniserde_model.specs.Tree.{Tree, members}
 use Rattle.miniserde_read.specs.types.Objects.{Name, object_of}
-use Rattle.miniserde_record.specs.Fields.{others}
+use Rattle.miniserde_record.specs.Fields.{other_members}
 use Rattle.miniserde_record.specs.FieldsMeaning.{FieldsMeaning}
 use Rattle.miniserde_enum.specs.laws.Inside.{beside-refused, beside-apart}
 
 -- the content that `of` returns for an object without its members of the tag's name; any other tree gives nothing
 abbrev pub inside_of : {C : Type 0} → Name → (Tree → Option C) → Tree → Option C
-inside_of tag of = object_of (λ ms. of (members (others tag ms)))
+inside_of tag of = object_of (λ ms. of (members (other_members tag ms)))
 
 -- the meaning of fields whose object has a tag too, by the fields' meaning n: the members of the
 -- tag's name are skipped
@@ -20,12 +20,12 @@ beside_tag tag n = record {
   State = n.State;
   empty = n.empty;
   count = n.count;
-  by_tree = λ names s k t. cond (bytes_eq k tag) (Some s) (n.by_tree names s k t);
+  next_state = λ names s k t. cond (bytes_eq k tag) (Some s) (n.next_state names s k t);
   refuses = λ names s k. cond (bytes_eq k tag) false (n.refuses names s k);
-  refused = λ names s k h t. beside-refused (bytes_eq k tag) (n.refuses names s k) (Some s) (n.by_tree names s k t) (λ e. n.refused names s k e t) h;
+  refused = λ names s k h t. beside-refused (bytes_eq k tag) (n.refuses names s k) (Some s) (n.next_state names s k t) (λ e. n.refused names s k e t) h;
   end = n.end;
-  from_members = λ names s ms. n.from_members names s (others tag ms);
-  members_agree = λ names s ms. beside-apart tag (n.by_tree names) n.end s ms ∙ n.members_agree names s (others tag ms);
-  reads = λ names ms v. n.reads names (others tag ms) v;
-  reads_agrees = λ names ms v. n.reads_agrees names (others tag ms) v;
+  from_members = λ names s ms. n.from_members names s (other_members tag ms);
+  members_agree = λ names s ms. beside-apart tag (n.next_state names) n.end s ms ∙ n.members_agree names s (other_members tag ms);
+  reads = λ names ms v. n.reads names (other_members tag ms) v;
+  reads_agrees = λ names ms v. n.reads_agrees names (other_members tag ms) v;
 }

@@ -3,23 +3,23 @@ use Rattle.std.specs.Prelude.{◌≡◌, false, Option, Some, None, option_map, 
 use Rattle.miniserde_model.specs.Tree.{Tree, null, str, members, Members, no_members, member}
 use Rattle.miniserde_read.specs.types.Objects.{Name}
 use Rattle.miniserde_read.specs.types.Words.{string_of}
-use Rattle.miniserde_record.specs.Fields.{others, last_given, Says}
+use Rattle.miniserde_record.specs.Fields.{other_members, last_content, LastMemberReads}
 
 -- by the tag, the tree is the variant of the name n with data: it is an object of which each member
 -- of the tag's name is a string and the last one is n, and the data are the object of its other
 -- members
 abbrev pub IsInternal : Name → Tree → Name → Option Tree → Type 0
-IsInternal tag (members ms) n (Some u) = Says ⊥ (λ t. t ≡ str n) string_of tag ms × (u ≡ members (others tag ms))
+IsInternal tag (members ms) n (Some u) = LastMemberReads ⊥ (λ t. t ≡ str n) string_of tag ms × (u ≡ members (other_members tag ms))
 IsInternal tag t n o = ⊥
 
 -- the text of the last member of the tag's name, if there is one and each member of that name is a string
 abbrev pub tag_of : Name → Members → Option Name
-tag_of tag ms = option_and_then (λ o. o) (last_given false string_of tag None ms)
+tag_of tag ms = option_and_then (λ o. o) (last_content false string_of tag None ms)
 
 -- the name and the data of the variant that the tree is, if it is an object with the tag: the tag's
 -- text, and the object of the members that do not have the tag's name
 abbrev pub internal_variant : Name → Tree → Option (Name × Option Tree)
-internal_variant tag (members ms) = option_map (λ n. (n, Some (members (others tag ms)))) (tag_of tag ms)
+internal_variant tag (members ms) = option_map (λ n. (n, Some (members (other_members tag ms)))) (tag_of tag ms)
 internal_variant tag _ = None
 
 -- the members of an object; any other tree has none

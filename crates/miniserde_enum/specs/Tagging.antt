@@ -11,21 +11,21 @@ pub data Tagging : Type 0 where
   internal : Name → Tagging
 
 -- by the tagging, the tree is the variant of a name, with data or without
-abbrev pub IsCase : Tagging → Tree → Name → Option Tree → Type 0
-IsCase external = IsExternal
-IsCase (internal tag) = IsInternal tag
+abbrev pub IsVariant : Tagging → Tree → Name → Option Tree → Type 0
+IsVariant external = IsExternal
+IsVariant (internal tag) = IsInternal tag
 
 -- the name and the data of the variant that the tree is by the tagging, if it is one
-abbrev pub case_of : Tagging → Tree → Option (Name × Option Tree)
-case_of external = external_variant
-case_of (internal tag) = internal_variant tag
+abbrev pub variant_of_tree : Tagging → Tree → Option (Name × Option Tree)
+variant_of_tree external = external_variant
+variant_of_tree (internal tag) = internal_variant tag
 
 -- by the tagging, the tree that is written for the variant of a name, with data or without
-abbrev pub case_written : Tagging → Name → Option Tree → Tree
-case_written external = external_tree
-case_written (internal tag) = internal_tree tag
+abbrev pub variant_tree : Tagging → Name → Option Tree → Tree
+variant_tree external = external_tree
+variant_tree (internal tag) = internal_tree tag
 
 -- the content that f returns for the name and the data of the variant that the tree is, by the
 -- tagging; `None` if the tree is no variant
-abbrev pub by_tagging : {C : Type 0} → Tagging → (Name → Option Tree → Option C) → Tree → Option C
-by_tagging tagging f t = option_and_then (λ v. f v.0 v.1) (case_of tagging t)
+abbrev pub content_by_tagging : {C : Type 0} → Tagging → (Name → Option Tree → Option C) → Tree → Option C
+content_by_tagging tagging f t = option_and_then (λ v. f v.0 v.1) (variant_of_tree tagging t)

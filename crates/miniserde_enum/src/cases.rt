@@ -3,7 +3,7 @@ ghost use Rattle.std.specs.Prelude.{◌≡◌, None, Err, IfOk, map, option_map}
 ghost use Rattle.miniserde_text.specs.Lexer.{event_of_token};
 ghost use Rattle.miniserde_model.specs.declared.error.Error.{Error};
 ghost use Rattle.miniserde_read.specs.Rest.{GivesAt, GivesNoneAt};
-ghost use Rattle.miniserde_read.specs.Events.{IsTreeEvent};
+ghost use Rattle.miniserde_read.specs.Events.{EventInRange};
 ghost use Rattle.miniserde_enum.specs.Cases.{with_data};
 ghost use Rattle.miniserde_enum.specs.CasesMeaning.{CasesMeaning, no_cases, unit_and, data_and};
 
@@ -23,8 +23,8 @@ pub trait Cases {
 
     /// Returns the variant without data whose name is `name`, or `None` if there is none. `names` has the names of the
     /// variants.
-    fn of_name(names: &[&str], name: &str) -> Option<Self::Values>
-        ensures { option_map meaning.content result ≡ meaning.by_case (map (λ n. n.now) names.now) name.now None };
+    fn unit_variant(names: &[&str], name: &str) -> Option<Self::Values>
+        ensures { option_map meaning.content result ≡ meaning.content_by_name (map (λ n. n.now) names.now) name.now None };
 
     /// Reads the data of the variant with the name `name`, whose first token is `token`, and takes no more of the
     /// source. `names` has the names of the variants. Returns `Invalid` if no variant with data has the name, or if
@@ -36,13 +36,13 @@ pub trait Cases {
         source: &mut Source<'a>,
     ) -> Result<Self::Values>
         requires going { source.old.refused ≡ None }
-        requires event { IsTreeEvent (event_of_token token source.old.scratch) }
+        requires event { EventInRange (event_of_token token source.old.scratch) }
         ensures going { IfOk result (λ _. source.new.refused ≡ None) }
         ensures ok { IfOk result (λ v.
-            GivesAt (with_data (meaning.by_case (map (λ n. n.now) names.now) name.now))
+            GivesAt (with_data (meaning.content_by_name (map (λ n. n.now) names.now) name.now))
             (event_of_token token.entry source.old.scratch) source.old.rest source.new.rest (meaning.content v)) }
         ensures invalid { result ≡ Err Error.Invalid
-            → GivesNoneAt (with_data (meaning.by_case (map (λ n. n.now) names.now) name.now))
+            → GivesNoneAt (with_data (meaning.content_by_name (map (λ n. n.now) names.now) name.now))
             (event_of_token token.entry source.old.scratch) source.old.rest };
 }
 
@@ -54,7 +54,7 @@ impl Cases for NoCase {
 
     ghost meaning = { no_cases };
 
-    fn of_name(_names: &[&str], _name: &str) -> Option<Never> {
+    fn unit_variant(_names: &[&str], _name: &str) -> Option<Never> {
         None
     }
 
@@ -78,13 +78,13 @@ impl<R: Cases> Cases for UnitCase<R> {
 
     ghost meaning = { unit_and R.meaning };
 
-    fn of_name(names: &[&str], name: &str) -> Option<OneOf<(), R::Values>> {
+    fn unit_variant(names: &[&str], name: &str) -> Option<OneOf<(), R::Values>> {
         match names.split_first() {
             Some((first, more)) => {
                 if name == *first {
                     Some(OneOf::First(()))
                 } else {
-                    match R::of_name(more, name) {
+                    match R::unit_variant(more, name) {
                         Some(value) => Some(OneOf::Later(value)),
                         None => None,
                     }
@@ -124,13 +124,13 @@ impl<T: FromJson, R: Cases> Cases for DataCase<T, R> {
 
     ghost meaning = { data_and T.means R.meaning };
 
-    fn of_name(names: &[&str], name: &str) -> Option<OneOf<T, R::Values>> {
+    fn unit_variant(names: &[&str], name: &str) -> Option<OneOf<T, R::Values>> {
         match names.split_first() {
             Some((first, more)) => {
                 if name == *first {
                     None
                 } else {
-                    match R::of_name(more, name) {
+                    match R::unit_variant(more, name) {
                         Some(value) => Some(OneOf::Later(value)),
                         None => None,
                     }

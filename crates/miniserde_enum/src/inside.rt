@@ -2,12 +2,12 @@
 ghost use Rattle.std.specs.Prelude.{◌≡◌, ◌++◌, ◌&&◌, Bool, true, List, Option, None, Err, IfOk, OnOk, OnErr, IsErrOf, map, ⊤};
 ghost use Rattle.miniserde_text.specs.Lexer.{event_of_token};
 ghost use Rattle.miniserde_model.specs.Tree.{Tree, members};
-ghost use Rattle.miniserde_model.specs.IsTree.{AreNamedTrees};
+ghost use Rattle.miniserde_model.specs.InRange.{MembersInRange};
 ghost use Rattle.miniserde_model.specs.declared.error.Error.{Error};
 ghost use Rattle.miniserde_model.specs.declared.error.Error.TheVariants.{Memory};
 ghost use Rattle.miniserde_read.specs.types.Objects.{Name};
 ghost use Rattle.miniserde_read.specs.Rest.{GivesAt, GivesNoneAt};
-ghost use Rattle.miniserde_read.specs.Events.{IsTreeEvent};
+ghost use Rattle.miniserde_read.specs.Events.{EventInRange};
 ghost use Rattle.miniserde_record.specs.Fields.{count_named};
 ghost use Rattle.miniserde_record.specs.Structs.{is_new, with_names, members_text};
 ghost use Rattle.miniserde_enum.specs.Internal.{object_members};
@@ -35,7 +35,7 @@ pub trait Inside: RoundTrip {
     /// other members mean a value of the struct, and `Memory` if an allocation fails.
     fn read_inside<'a, E: HasTag>(token: Event<'a>, source: &mut Source<'a>) -> Result<Self>
         requires going { source.old.refused ≡ None }
-        requires event { IsTreeEvent (event_of_token token source.old.scratch) }
+        requires event { EventInRange (event_of_token token source.old.scratch) }
         ensures going { IfOk result (λ _. source.new.refused ≡ None) }
         ensures ok { IfOk result (λ v. GivesAt (inside_of E.tag Self.means.from_tree)
             (event_of_token token.entry source.old.scratch) source.old.rest source.new.rest (Self.means.content v)) }
@@ -46,7 +46,7 @@ pub trait Inside: RoundTrip {
     fn write_inside(&self, w: &mut Writer) -> Result<()>
         ensures ok { OnOk result (w.new.text
             ≡ w.old.text ++ members_text w.old.first (object_members (Self.tree self.now))) }
-        ensures are_trees { OnOk result (AreNamedTrees (object_members (Self.tree self.now))) }
+        ensures all_in_range { OnOk result (MembersInRange (object_members (Self.tree self.now))) }
         ensures unrefused { OnOk result (w.new.refused ≡ w.old.refused) }
         ensures memory { OnErr result (IsErrOf result Memory) }
         ensures err { OnErr result (w.new.refused ≡ true) };
@@ -92,13 +92,13 @@ pub trait InsideCases {
         source: &mut Source<'a>,
     ) -> Result<Self::Values>
         requires going { source.old.refused ≡ None }
-        requires event { IsTreeEvent (event_of_token token source.old.scratch) }
+        requires event { EventInRange (event_of_token token source.old.scratch) }
         ensures going { IfOk result (λ _. source.new.refused ≡ None) }
         ensures ok { IfOk result (λ v.
-            GivesAt (inside_of E.tag (with_data (meaning.by_case (map (λ n. n.now) names.now) name.now)))
+            GivesAt (inside_of E.tag (with_data (meaning.content_by_name (map (λ n. n.now) names.now) name.now)))
             (event_of_token token.entry source.old.scratch) source.old.rest source.new.rest (meaning.content v)) }
         ensures invalid { result ≡ Err Error.Invalid
-            → GivesNoneAt (inside_of E.tag (with_data (meaning.by_case (map (λ n. n.now) names.now) name.now)))
+            → GivesNoneAt (inside_of E.tag (with_data (meaning.content_by_name (map (λ n. n.now) names.now) name.now)))
             (event_of_token token.entry source.old.scratch) source.old.rest };
 
     /// Does nothing. It promises that internal tagging fits if no field has the name of the tag.

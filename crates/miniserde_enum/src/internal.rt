@@ -3,13 +3,13 @@ ghost use Rattle.std.specs.Prelude.{◌≡◌, true, None, Err, IfOk, length};
 ghost use Rattle.miniserde_text.specs.Lexer.{event_of_token};
 ghost use Rattle.miniserde_model.specs.declared.error.Error.{Error};
 ghost use Rattle.miniserde_read.specs.Rest.{GivesAt, GivesNoneAt};
-ghost use Rattle.miniserde_read.specs.Events.{IsTreeEvent};
+ghost use Rattle.miniserde_read.specs.Events.{EventInRange};
 ghost use Rattle.miniserde_enum.specs.Tagging.{internal};
-ghost use Rattle.miniserde_enum.specs.CasesMeaning.{tagged_of};
+ghost use Rattle.miniserde_enum.specs.CasesMeaning.{tagged_content};
 
 use crate::inside::InsideCases;
 use crate::tag_name::TagName;
-use crate::tagged::{HasTag, Tagged};
+use crate::tagged::{HasTag, DataEnum};
 use miniserde_model::error::{Error, Result};
 use miniserde_read::Source;
 use miniserde_record::record::{NoSlot, Parts, Record, Slot, Slots, read_record};
@@ -24,7 +24,7 @@ struct Tag<E> {
 // The chain of the one field of a `Tag`.
 type TagFields<E> = Slot<TagName<E>, NoSlot>;
 
-impl<E: Tagged + HasTag> Record for Tag<E> {
+impl<E: DataEnum + HasTag> Record for Tag<E> {
     ghost use Rattle.std.specs.Prelude.{refl, [], ◌∷◌};
 
     type Values = <TagFields<E> as Slots>::Values;
@@ -53,17 +53,17 @@ impl<E: Tagged + HasTag> Record for Tag<E> {
 /// It is an object in which the last member with the tag's name names the variant, and the members
 /// of all other names are its data. Returns `Invalid` if the text, from `token` on, has no prefix
 /// that means such a value, and `Memory` if an allocation fails.
-pub fn read_tagged<'a, E: Tagged + HasTag, C: InsideCases<Values = E::Values>>(
+pub fn read_tagged<'a, E: DataEnum + HasTag, C: InsideCases<Values = E::Values>>(
     token: Event<'a>,
     source: &mut Source<'a>,
 ) -> Result<E>
     requires going { source.old.refused ≡ None }
-    requires event { IsTreeEvent (event_of_token token source.old.scratch) }
+    requires event { EventInRange (event_of_token token source.old.scratch) }
     ensures going { IfOk result (λ _. source.new.refused ≡ None) }
-    ensures ok { IfOk result (λ v. GivesAt (tagged_of C.meaning E.tag E.names)
+    ensures ok { IfOk result (λ v. GivesAt (tagged_content C.meaning E.tag E.names)
         (event_of_token token.entry source.old.scratch) source.old.rest source.new.rest
         (C.meaning.content (E.values v))) }
-    ensures invalid { result ≡ Err Error.Invalid → GivesNoneAt (tagged_of C.meaning E.tag E.names)
+    ensures invalid { result ≡ Err Error.Invalid → GivesNoneAt (tagged_content C.meaning E.tag E.names)
         (event_of_token token.entry source.old.scratch) source.old.rest }
 {
     let Event::MapStart = token else {
@@ -71,7 +71,7 @@ pub fn read_tagged<'a, E: Tagged + HasTag, C: InsideCases<Values = E::Values>>(
     };
     let mut ahead = source.fork();
     let tag = read_record::<Tag<E>, TagFields<E>>(token, &mut ahead)?;
-    let Some(name) = tag.name.known else {
+    let Some(name) = tag.name.name_among else {
         return Err(Error::Invalid);
     };
     let value = C::read_inside::<E>(E::names(), name, token, source)?;

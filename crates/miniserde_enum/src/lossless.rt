@@ -3,13 +3,13 @@ ghost use Rattle.std.specs.Prelude.{◌≡◌, true, List, Option, Some, length,
 ghost use Rattle.miniserde_model.specs.Tree.{Tree, null};
 ghost use Rattle.miniserde_read.specs.types.Objects.{Name};
 ghost use Rattle.miniserde_record.specs.Structs.{are_names, is_new};
-ghost use Rattle.miniserde_enum.specs.Tagging.{Tagging, external, internal, case_of};
+ghost use Rattle.miniserde_enum.specs.Tagging.{Tagging, external, internal, variant_of_tree};
 ghost use Rattle.miniserde_enum.specs.Cases.{CaseReal, case_tree, unit_tree, data_tree, UnitFits, DataFits, enum_tree, tagged_tree};
 ghost use Rattle.miniserde_enum.specs.CasesMeaning.{CasesMeaning, no_cases, unit_and, data_and};
 
 use crate::cases::{DataCase, NoCase, UnitCase};
 use crate::one_of::{Never, OneOf};
-use crate::tagged::{HasTag, Tagged};
+use crate::tagged::{HasTag, DataEnum};
 use miniserde_round::Lossless;
 
 /// A chain of variants whose valid values have the same content if they have the same tree. The
@@ -38,7 +38,7 @@ pub trait LosslessCases {
         ensures external { fits external }
         ensures named { (tagging : Tagging) (names : List Name) (v : Self.Values) (n : Name) (o : Option Tree) → fits tagging
             → are_names meaning.count names ≡ true → real v → is_new n names ≡ true
-            → case_of tagging (tree tagging names v) ≡ Some (n, o) → ⊥ }
+            → variant_of_tree tagging (tree tagging names v) ≡ Some (n, o) → ⊥ }
         ensures same { (tagging : Tagging) (names : List Name) (v w : Self.Values) → fits tagging
             → are_names meaning.count names ≡ true → real v → real w → tree tagging names v ≡ tree tagging names w
             → meaning.content v ≡ meaning.content w };
@@ -92,7 +92,7 @@ impl<T: Lossless, R: LosslessCases> LosslessCases for DataCase<T, R> {
 }
 
 /// Does nothing. It promises that valid values of an externally tagged enum with the same tree have the same content.
-pub fn enum_lossless<E: Tagged, C: LosslessCases<Values = E::Values>>()
+pub fn enum_lossless<E: DataEnum, C: LosslessCases<Values = E::Values>>()
     requires { length E.names ≡ C.meaning.count }
     ensures { (v w : E) → C.real (E.values v) → C.real (E.values w)
         → enum_tree E.names C.tree E.values v ≡ enum_tree E.names C.tree E.values w
@@ -103,7 +103,7 @@ pub fn enum_lossless<E: Tagged, C: LosslessCases<Values = E::Values>>()
 
 /// Does nothing. It promises that valid values of an internally tagged enum with the same tree have the same content,
 /// if its tagging fits.
-pub fn tagged_lossless<E: Tagged + HasTag, C: LosslessCases<Values = E::Values>>()
+pub fn tagged_lossless<E: DataEnum + HasTag, C: LosslessCases<Values = E::Values>>()
     requires count { length E.names ≡ C.meaning.count }
     requires fits { C.fits (internal E.tag) }
     ensures { (v w : E) → C.real (E.values v) → C.real (E.values w)

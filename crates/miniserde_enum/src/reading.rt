@@ -3,13 +3,13 @@ ghost use Rattle.std.specs.Prelude.{◌≡◌, None, Err, IfOk, map};
 ghost use Rattle.miniserde_text.specs.Lexer.{event_of_token, text_of};
 ghost use Rattle.miniserde_model.specs.declared.error.Error.{Error};
 ghost use Rattle.miniserde_read.specs.Rest.{GivesAt, GivesNoneAt};
-ghost use Rattle.miniserde_read.specs.Events.{IsTreeEvent};
+ghost use Rattle.miniserde_read.specs.Events.{EventInRange};
 ghost use Rattle.miniserde_record.specs.Members.{ReadsDue, RejectsDue};
 ghost use Rattle.miniserde_enum.specs.Cases.{with_data};
-ghost use Rattle.miniserde_enum.specs.CasesMeaning.{enum_of};
+ghost use Rattle.miniserde_enum.specs.CasesMeaning.{enum_content};
 
 use crate::cases::Cases;
-use crate::tagged::Tagged;
+use crate::tagged::DataEnum;
 use miniserde_model::error::{Error, Result};
 use miniserde_read::Source;
 use miniserde_text::json::lex::{After, Event, Kind, Text};
@@ -26,10 +26,10 @@ fn read_due_case<'a, C: Cases>(
     requires { source.old.refused ≡ None }
     ensures going { IfOk result (λ _. source.new.refused ≡ None) }
     ensures ok { IfOk result (λ v.
-        ReadsDue (with_data (C.meaning.by_case (map (λ n. n.now) names.now) name.now))
+        ReadsDue (with_data (C.meaning.content_by_name (map (λ n. n.now) names.now) name.now))
         source.old.rest source.new.rest (C.meaning.content v)) }
     ensures invalid { result ≡ Err Error.Invalid
-        → RejectsDue (with_data (C.meaning.by_case (map (λ n. n.now) names.now) name.now)) source.old.rest }
+        → RejectsDue (with_data (C.meaning.content_by_name (map (λ n. n.now) names.now) name.now)) source.old.rest }
 {
     let token = source.token()?;
     C::read_case(names, name, token, source)
@@ -48,10 +48,10 @@ fn read_named<'a, C: Cases>(
     requires { source.old.refused ≡ None }
     ensures going { IfOk result (λ _. source.new.refused ≡ None) }
     ensures ok { IfOk result (λ v.
-        ReadsDue (with_data (C.meaning.by_case (map (λ n. n.now) names.now) (text_of name.entry source.old.scratch)))
+        ReadsDue (with_data (C.meaning.content_by_name (map (λ n. n.now) names.now) (text_of name.entry source.old.scratch)))
         source.old.rest source.new.rest (C.meaning.content v)) }
     ensures invalid { result ≡ Err Error.Invalid
-        → RejectsDue (with_data (C.meaning.by_case (map (λ n. n.now) names.now) (text_of name.entry source.old.scratch)))
+        → RejectsDue (with_data (C.meaning.content_by_name (map (λ n. n.now) names.now) (text_of name.entry source.old.scratch)))
         source.old.rest }
 {
     match name {
@@ -67,26 +67,26 @@ fn read_named<'a, C: Cases>(
 /// data is its name as a string; one with data is an object of one member, whose name is the variant's. Returns
 /// `Invalid` if the text, from `token` on, has no prefix that means such a value, and `Memory` if an allocation
 /// fails.
-pub fn read_enum<'a, E: Tagged, C: Cases<Values = E::Values>>(
+pub fn read_enum<'a, E: DataEnum, C: Cases<Values = E::Values>>(
     token: Event<'a>,
     source: &mut Source<'a>,
 ) -> Result<E>
     requires going { source.old.refused ≡ None }
-    requires event { IsTreeEvent (event_of_token token source.old.scratch) }
+    requires event { EventInRange (event_of_token token source.old.scratch) }
     ensures going { IfOk result (λ _. source.new.refused ≡ None) }
-    ensures ok { IfOk result (λ v. GivesAt (enum_of C.meaning E.names)
+    ensures ok { IfOk result (λ v. GivesAt (enum_content C.meaning E.names)
         (event_of_token token.entry source.old.scratch) source.old.rest source.new.rest
         (C.meaning.content (E.values v))) }
-    ensures invalid { result ≡ Err Error.Invalid → GivesNoneAt (enum_of C.meaning E.names)
+    ensures invalid { result ≡ Err Error.Invalid → GivesNoneAt (enum_content C.meaning E.names)
         (event_of_token token.entry source.old.scratch) source.old.rest }
 {
     match token {
-        Event::Str(text) => match C::of_name(E::names(), source.text(text)) {
+        Event::Str(text) => match C::unit_variant(E::names(), source.text(text)) {
             Some(value) => Ok(E::build(value)),
             None => Err(Error::Invalid),
         },
         Event::MapStart => {
-            let Some(name) = source.name(true)? else {
+            let Some(name) = source.member(true)? else {
                 return Err(Error::Invalid);
             };
             let value = read_named::<C>(E::names(), name, source)?;

@@ -10,7 +10,7 @@ ghost use Rattle.miniserde_enum.specs.CasesMeaning.{CasesMeaning, no_cases, unit
 
 use crate::cases::{DataCase, NoCase, UnitCase};
 use crate::one_of::{Never, OneOf};
-use crate::tagged::{HasTag, Tagged};
+use crate::tagged::{HasTag, DataEnum};
 use miniserde_round::RoundTrip;
 
 /// A chain of variants whose values are read back as they were written.
@@ -89,7 +89,7 @@ impl<T: RoundTrip, R: RoundTripCases> RoundTripCases for DataCase<T, R> {
 
 /// Does nothing. It promises, of an externally tagged enum, that the tree of a valid value means a valid value, and
 /// that each valid value that it means has that tree.
-pub fn enum_round_trips<E: Tagged, C: RoundTripCases<Values = E::Values>>()
+pub fn enum_round_trips<E: DataEnum, C: RoundTripCases<Values = E::Values>>()
     requires { length E.names ≡ C.meaning.count }
     ensures { (v : E) → C.real (E.values v)
         → RoundTrips (λ v. C.real (E.values v)) (enum_tree E.names C.tree E.values)
@@ -100,7 +100,7 @@ pub fn enum_round_trips<E: Tagged, C: RoundTripCases<Values = E::Values>>()
 
 /// Does nothing. It promises, of an internally tagged enum whose tagging fits, that the tree of a valid value means a
 /// valid value, and that each valid value that it means has that tree.
-pub fn tagged_round_trips<E: Tagged + HasTag, C: RoundTripCases<Values = E::Values>>()
+pub fn tagged_round_trips<E: DataEnum + HasTag, C: RoundTripCases<Values = E::Values>>()
     requires count { length E.names ≡ C.meaning.count }
     requires fits { C.fits (internal E.tag) }
     ensures { (v : E) → C.real (E.values v)

@@ -1,12 +1,12 @@
 //! Promises that enums are stable: if a tree means a value, its normal form means a value of the
 //! same content.
 ghost use Rattle.miniserde_stable.specs.Stable.{IsStable};
-ghost use Rattle.miniserde_enum.specs.CasesMeaning.{CasesMeaning, no_cases, unit_and, data_and, enum_of, tagged_of};
+ghost use Rattle.miniserde_enum.specs.CasesMeaning.{CasesMeaning, no_cases, unit_and, data_and, enum_content, tagged_content};
 ghost use Rattle.miniserde_enum.specs.Stable.{CasesStable};
 
 use crate::cases::{DataCase, NoCase, UnitCase};
 use crate::one_of::{Never, OneOf};
-use crate::tagged::{HasTag, Tagged};
+use crate::tagged::{HasTag, DataEnum};
 use miniserde_stable::Stable;
 
 /// A chain of variants for which the normal form of data means what the data means.
@@ -20,7 +20,7 @@ pub trait StableCases {
     /// Does nothing. It promises that if data means a value of a variant, its normal form means a value of the same
     /// content.
     fn stable()
-        ensures { CasesStable meaning.by_case };
+        ensures { CasesStable meaning.content_by_name };
 }
 
 impl StableCases for NoCase {
@@ -54,16 +54,16 @@ impl<T: Stable, R: StableCases> StableCases for DataCase<T, R> {
 
 /// Does nothing. It promises that if a tree means a value of an externally tagged enum, its normal form means a value
 /// of the same content.
-pub fn enum_stable<E: Tagged, C: StableCases<Values = E::Values>>()
-    ensures { IsStable (enum_of C.meaning E.names) }
+pub fn enum_stable<E: DataEnum, C: StableCases<Values = E::Values>>()
+    ensures { IsStable (enum_content C.meaning E.names) }
 {
     C::stable()
 }
 
 /// Does nothing. It promises that if a tree means a value of an internally tagged enum, its normal form means a value
 /// of the same content.
-pub fn tagged_stable<E: Tagged + HasTag, C: StableCases<Values = E::Values>>()
-    ensures { IsStable (tagged_of C.meaning E.tag E.names) }
+pub fn tagged_stable<E: DataEnum + HasTag, C: StableCases<Values = E::Values>>()
+    ensures { IsStable (tagged_content C.meaning E.tag E.names) }
 {
     C::stable()
 }

@@ -1,8 +1,8 @@
 //! The type `TagName`, the value of a tag.
 ghost use Rattle.std.specs.Prelude.{◌≡◌, true, refl, map, option_map};
-ghost use Rattle.miniserde_enum.specs.TagName.{known, tag_name_meaning};
+ghost use Rattle.miniserde_enum.specs.TagName.{name_among, tag_name_meaning};
 
-use crate::tagged::Tagged;
+use crate::tagged::DataEnum;
 use miniserde_model::error::{Error, Result};
 use miniserde_read::{FromJson, Leaf, Source, Step, read_leaf};
 use miniserde_text::json::lex::Event;
@@ -12,24 +12,24 @@ use std::marker::PhantomData;
 /// The value of a tag of the enum `E`: the name of a variant, or `None` for a string that names no variant.
 #[derive(Drop)]
 pub(crate) struct TagName<E> {
-    pub(crate) known: Option<&'static str>,
+    pub(crate) name_among: Option<&'static str>,
     of: PhantomData<E>,
 }
 
 // Returns the first of the names that is equal to `name`, or `None` if there is none.
 fn find_name(names: &'static [&'static str], name: &str) -> Option<&'static str>
-    ensures { option_map (λ n. n.now) result ≡ known (map (λ n. n.now) names.now) name.now }
+    ensures { option_map (λ n. n.now) result ≡ name_among (map (λ n. n.now) names.now) name.now }
 {
-    for known in names {
-        if name == *known {
-            return Some(*known);
+    for name_among in names {
+        if name == *name_among {
+            return Some(*name_among);
         }
     }
     None
 }
 
-impl<E: Tagged> Leaf for TagName<E> {
-    ghost means = { tag_name_meaning E.names (λ v. option_map (λ n. n.now) v.known) };
+impl<E: DataEnum> Leaf for TagName<E> {
+    ghost means = { tag_name_meaning E.names (λ v. option_map (λ n. n.now) v.name_among) };
 
     ghost only_leaves = { (λ ts. refl, λ ms. refl) };
 
@@ -39,7 +39,7 @@ impl<E: Tagged> Leaf for TagName<E> {
     fn from_step(_alloc: Global, event: Step<'_>) -> Result<TagName<E>> {
         match event {
             Step::Str(name) => Ok(TagName {
-                known: find_name(E::names(), name),
+                name_among: find_name(E::names(), name),
                 of: PhantomData,
             }),
             _ => Err(Error::Invalid),
@@ -47,8 +47,8 @@ impl<E: Tagged> Leaf for TagName<E> {
     }
 }
 
-impl<E: Tagged> FromJson for TagName<E> {
-    ghost means = { tag_name_meaning E.names (λ v. option_map (λ n. n.now) v.known) };
+impl<E: DataEnum> FromJson for TagName<E> {
+    ghost means = { tag_name_meaning E.names (λ v. option_map (λ n. n.now) v.name_among) };
 
     ghost read_infallible = { true };
 

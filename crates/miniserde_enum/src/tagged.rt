@@ -1,10 +1,10 @@
-//! The traits of enums whose variants may have data: `Tagged`, and `HasTag` for internally tagged ones.
+//! The traits of enums whose variants may have data: `DataEnum`, and `HasTag` for internally tagged ones.
 ghost use Rattle.std.specs.Prelude.{◌≡◌, true, List, [], ◌∷◌, map};
 ghost use Rattle.miniserde_read.specs.types.Objects.{Name};
 ghost use Rattle.miniserde_record.specs.Structs.{are_distinct};
 
 /// An enum whose variants may have data, and are told apart by their names.
-pub trait Tagged: Sized + Drop {
+pub trait DataEnum: Sized + Drop {
     /// The value of one of the variants: of the first, or of a later one.
     type Values;
 

@@ -1,7 +1,7 @@
 //! Writes enums, externally or internally tagged.
 ghost use Rattle.std.specs.Prelude.{◌≡◌, ◌++◌, true, false, map, OnOk, OnErr, IsErrOf};
 ghost use Rattle.miniserde_model.specs.Compact.{compact};
-ghost use Rattle.miniserde_model.specs.IsTree.{IsTree};
+ghost use Rattle.miniserde_model.specs.InRange.{InRange};
 ghost use Rattle.miniserde_model.specs.declared.error.Error.TheVariants.{Memory};
 ghost use Rattle.miniserde_record.specs.Structs.{record_tree};
 ghost use Rattle.miniserde_enum.specs.Tagging.{external, internal};
@@ -17,7 +17,7 @@ use miniserde_ser::ser::{Fragment, Serialize, Writer};
 #[inline(always)]
 pub fn write_data<T: Serialize>(w: &mut Writer, name: &str, value: &T) -> Result<()>
     ensures ok { OnOk result (w.new.text ≡ w.old.text ++ compact (data_tree external T.tree name.now value.now)) }
-    ensures is_tree { OnOk result (IsTree (data_tree external T.tree name.now value.now)) }
+    ensures in_range { OnOk result (InRange (data_tree external T.tree name.now value.now)) }
     ensures first { OnOk result (w.new.first ≡ false) }
     ensures unrefused { OnOk result (w.new.refused ≡ false) }
     ensures stays { OnOk result (w.old.refused ≡ false) }
@@ -43,7 +43,7 @@ pub fn write_fields<M: Members>(
 ) -> Result<()>
     ensures ok { OnOk result (w.new.text ≡ w.old.text
         ++ compact (data_tree external (record_tree (map (λ n. n.now) names.now) M.trees (λ v. v)) name.now values.now)) }
-    ensures is_tree { OnOk result (IsTree
+    ensures in_range { OnOk result (InRange
         (data_tree external (record_tree (map (λ n. n.now) names.now) M.trees (λ v. v)) name.now values.now)) }
     ensures first { OnOk result (w.new.first ≡ false) }
     ensures unrefused { OnOk result (w.new.refused ≡ false) }
@@ -64,7 +64,7 @@ pub fn write_fields<M: Members>(
 pub fn write_tagged<T: Inside>(w: &mut Writer, tag: &str, name: &str, value: &T) -> Result<()>
     ensures ok { OnOk result (w.new.text
         ≡ w.old.text ++ compact (data_tree (internal tag.now) T.tree name.now value.now)) }
-    ensures is_tree { OnOk result (IsTree (data_tree (internal tag.now) T.tree name.now value.now)) }
+    ensures in_range { OnOk result (InRange (data_tree (internal tag.now) T.tree name.now value.now)) }
     ensures first { OnOk result (w.new.first ≡ false) }
     ensures unrefused { OnOk result (w.new.refused ≡ false) }
     ensures stays { OnOk result (w.old.refused ≡ false) }
@@ -92,7 +92,7 @@ pub fn write_tagged_fields<M: Members>(
 ) -> Result<()>
     ensures ok { OnOk result (w.new.text ≡ w.old.text ++ compact
         (data_tree (internal tag.now) (record_tree (map (λ n. n.now) names.now) M.trees (λ v. v)) name.now values.now)) }
-    ensures is_tree { OnOk result (IsTree
+    ensures in_range { OnOk result (InRange
         (data_tree (internal tag.now) (record_tree (map (λ n. n.now) names.now) M.trees (λ v. v)) name.now values.now)) }
     ensures first { OnOk result (w.new.first ≡ false) }
     ensures unrefused { OnOk result (w.new.refused ≡ false) }

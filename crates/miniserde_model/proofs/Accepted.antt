@@ -1,4 +1,4 @@
--- If a text spells a tree, the numbers of the tree are in range and its strings are UTF-8 (`IsTree`). By recursion
+-- If a text spells a tree, the numbers of the tree are in range and its strings are UTF-8 (`InRange`). By recursion
 -- over the tree, with `tells` for the range of a number and `piece_scalar` for the characters of a string.
 use Rattle.std.proofs.Common.{◌≡◌, ℕ, zero, suc, ◌^◌, ◌<◌, ◌≤◌, ℤ, pos, neg_ℤ, unsigned_abs, ◌≤ℤ◌, Bool, true, false, cond, nat_lt, nat_le, List, [], ◌∷◌, drop, IsUtf8, refl, sym, subst, arith, ltb-true, leb-true}
 use Rattle.std.specs.Char.{IsScalar}
@@ -11,7 +11,7 @@ use Rattle.miniserde_model.specs.Tree.{Tree, null, truth, nonneg, neg, num, str,
 use Rattle.miniserde_model.specs.Number.{IsNumber, is_plain, begins_minus, leaf}
 use Rattle.miniserde_model.specs.String.{IsShortEscape, quote, IsPair, IsPiece, raw, short, unit, pair, ArePieces, IsString}
 use Rattle.miniserde_model.specs.Value.{IsValue, AreElements, AreMoreElements, AreMembers, AreMoreMembers, IsJson}
-use Rattle.miniserde_model.specs.IsTree.{IsTree, AreTrees, AreNamedTrees}
+use Rattle.miniserde_model.specs.InRange.{InRange, AllInRange, MembersInRange}
 
 -- ---- what the leaf of a number text says of the text
 
@@ -80,7 +80,7 @@ string_utf8 : (b s : List ℕ) → IsString b s → IsUtf8 s
 string_utf8 b s p = (p.characters, (pieces_scalars p.characters p.inside p.pieces, sym p.value))
 
 mutual
-  pub value_tree : (t : Tree) (b : List ℕ) → IsValue t b → IsTree t
+  pub value_tree : (t : Tree) (b : List ℕ) → IsValue t b → InRange t
   value_tree null b p = tt
   value_tree (truth x) b p = tt
   value_tree (nonneg n) b p = (tells b (nonneg n) p).small
@@ -90,21 +90,21 @@ mutual
   value_tree (list ts) b p = elements_trees ts p.inside p.is_inside
   value_tree (members ms) b p = members_trees ms p.inside p.is_inside
 
-  elements_trees : (ts : Trees) (b : List ℕ) → AreElements ts b → AreTrees ts
+  elements_trees : (ts : Trees) (b : List ℕ) → AreElements ts b → AllInRange ts
   elements_trees no_trees b p = tt
   elements_trees (tree t ts) b p = (value_tree t p.is_first.inner p.is_first.is_inner, more_trees ts p.rest p.is_rest)
 
-  more_trees : (ts : Trees) (b : List ℕ) → AreMoreElements ts b → AreTrees ts
+  more_trees : (ts : Trees) (b : List ℕ) → AreMoreElements ts b → AllInRange ts
   more_trees no_trees b p = tt
   more_trees (tree t ts) b p = (value_tree t p.2.is_first.inner p.2.is_first.is_inner, more_trees ts p.2.rest p.2.is_rest)
 
-  members_trees : (ms : Members) (b : List ℕ) → AreMembers ms b → AreNamedTrees ms
+  members_trees : (ms : Members) (b : List ℕ) → AreMembers ms b → MembersInRange ms
   members_trees no_members b p = tt
   members_trees (member s t ms) b p = (string_utf8 p.is_first.is_name.inner s p.is_first.is_name.is_inner, value_tree t p.is_first.is_value.inner p.is_first.is_value.is_inner, more_named ms p.rest p.is_rest)
 
-  more_named : (ms : Members) (b : List ℕ) → AreMoreMembers ms b → AreNamedTrees ms
+  more_named : (ms : Members) (b : List ℕ) → AreMoreMembers ms b → MembersInRange ms
   more_named no_members b p = tt
   more_named (member s t ms) b p = (string_utf8 p.2.is_first.is_name.inner s p.2.is_first.is_name.is_inner, value_tree t p.2.is_first.is_value.inner p.2.is_first.is_value.is_inner, more_named ms p.2.rest p.2.is_rest)
 
-pub json_tree : (b : List ℕ) (t : Tree) → IsJson b t → IsTree t
+pub json_tree : (b : List ℕ) (t : Tree) → IsJson b t → InRange t
 json_tree b t p = value_tree t p.inner p.is_inner

@@ -5,7 +5,7 @@ use Rattle.std.proofs.Common.{◌≡◌, ℕ, ◌+◌, ℤ, pos, negsuc, Bool, t
 use Rattle.std.specs.Prelude.{not, ◌&&◌}
 use Rattle.std.proofs.lemmas.Map.Lookups.{exact_bytes}
 use Rattle.miniserde_model.specs.Tree.{Tree, null, truth, nonneg, neg, num, str, list, members, Trees, no_trees, tree, Members, no_members, member}
-use Rattle.miniserde_model.specs.Normal.{text_cmp, with_first_by, with_first, norm_neg, norm, norm_children, norm_members, or_else, last_of, Rise}
+use Rattle.miniserde_model.specs.Normal.{text_cmp, with_if_absent_by, with_if_absent, norm_neg, norm, norm_children, norm_members, or_else, last_of, Rise}
 use Rattle.miniserde_model.specs.Size.{size, size_of_children, size_of_members}
 use Rattle.miniserde_model.specs.Distinct.{has_name, names_distinct, names_distinct_in_children, names_distinct_in_members}
 use Rattle.miniserde_model.proofs.Lookups.{norm_keeps_last, norm_rises}
@@ -31,11 +31,11 @@ abbrev each_distinct : Members → Bool
 each_distinct no_members = true
 each_distinct (member name t ms) = names_distinct t && each_distinct ms
 
-each_with_first : (name : List ℕ) (t : Tree) (ms : Members) → names_distinct t ≡ true → each_distinct ms ≡ true → each_distinct (with_first name t ms) ≡ true
+each_with_first : (name : List ℕ) (t : Tree) (ms : Members) → names_distinct t ≡ true → each_distinct ms ≡ true → each_distinct (with_if_absent name t ms) ≡ true
 each_with_first name t no_members d e = both (names_distinct t) true d refl
 each_with_first name t (member other u ms) d e = go (text_cmp name other) (each_with_first name t ms d (second_of (names_distinct u) _ e))
   where
-    go : (o : Ordering) → each_distinct (with_first name t ms) ≡ true → each_distinct (with_first_by o name t other u ms (with_first name t ms)) ≡ true
+    go : (o : Ordering) → each_distinct (with_if_absent name t ms) ≡ true → each_distinct (with_if_absent_by o name t other u ms (with_if_absent name t ms)) ≡ true
     go Less more = both (names_distinct t) _ d e
     go Equal more = e
     go Greater more = both (names_distinct u) _ (first_of (names_distinct u) _ e) more
@@ -75,11 +75,11 @@ none_there : (a b : Option Tree) → or_else a b ≡ None → (a ≡ None) × (b
 none_there None b e = (refl, e)
 none_there (Some t) b e = absurd (cc)
 
-size_with_first : (name : List ℕ) (t : Tree) (ms : Members) → last_of name ms ≡ None → size_of_members (with_first name t ms) ≡ size t + size_of_members ms
+size_with_first : (name : List ℕ) (t : Tree) (ms : Members) → last_of name ms ≡ None → size_of_members (with_if_absent name t ms) ≡ size t + size_of_members ms
 size_with_first name t no_members e = refl
 size_with_first name t (member other u ms) e = go (text_cmp name other) refl (size_with_first name t ms (none_there (last_of name ms) _ e).0)
   where
-    go : (o : Ordering) → text_cmp name other ≡ o → size_of_members (with_first name t ms) ≡ size t + size_of_members ms → size_of_members (with_first_by o name t other u ms (with_first name t ms)) ≡ size t + (size u + size_of_members ms)
+    go : (o : Ordering) → text_cmp name other ≡ o → size_of_members (with_if_absent name t ms) ≡ size t + size_of_members ms → size_of_members (with_if_absent_by o name t other u ms (with_if_absent name t ms)) ≡ size t + (size u + size_of_members ms)
     go Less s more = refl
     go Equal s more =
         let same : other ≡ name = sym (exact_bytes name other s) in

@@ -1,5 +1,5 @@
 -- The normal form of members has at each name the normal form of the last tree of that name, and its names strictly
--- ascend. By recursion over the members: `with_first` puts one member in its place, unless a later member has its
+-- ascend. By recursion over the members: `with_if_absent` puts one member in its place, unless a later member has its
 -- name.
 use Rattle.std.proofs.Common.{◌≡◌, ℕ, ℤ, Bool, true, false, List, Option, Some, None, option_map, bytes_eq, cond, refl, sym, ap, ◌∙◌, Ordering, Less, Equal, Greater, true≢false}
 use Rattle.std.specs.Ordering.{ordering_reverse, is_eq}
@@ -7,7 +7,7 @@ use Rattle.std.proofs.lemmas.Cmp.{nat_list_cmp_total, tied_itself}
 use Rattle.std.proofs.lemmas.Map.Lookups.{exact_bytes}
 use Rattle.std.proofs.lemmas.Slice.Eq.{bytes_eq-Decides}
 use Rattle.miniserde_model.specs.Tree.{Tree, Members, no_members, member}
-use Rattle.miniserde_model.specs.Normal.{text_cmp, with_first_by, with_first, norm_by, norm_members_by, or_else, last_of, BeginsAbove, Rise}
+use Rattle.miniserde_model.specs.Normal.{text_cmp, with_if_absent_by, with_if_absent, norm_by, norm_members_by, or_else, last_of, BeginsAbove, Rise}
 
 abbrev if_same : List ℕ → List ℕ → Tree → Option Tree
 if_same name q t = cond (bytes_eq name q) (Some t) None
@@ -41,11 +41,11 @@ apart a b q g e f =
     let tied : text_cmp a b ≡ Equal = ap (text_cmp a) (sym same) ∙ tied_itself nat_list_cmp_total a in
     true≢false (ap is_eq (sym tied ∙ g))
 
-pub last_with_first : (q name : List ℕ) (t : Tree) (ms : Members) → last_of q (with_first name t ms) ≡ or_else (last_of q ms) (if_same name q t)
+pub last_with_first : (q name : List ℕ) (t : Tree) (ms : Members) → last_of q (with_if_absent name t ms) ≡ or_else (last_of q ms) (if_same name q t)
 last_with_first q name t no_members = refl
 last_with_first q name t (member other u ms) = go (text_cmp name other) refl (last_with_first q name t ms)
   where
-    go : (o : Ordering) → text_cmp name other ≡ o → last_of q (with_first name t ms) ≡ or_else (last_of q ms) (if_same name q t) → last_of q (with_first_by o name t other u ms (with_first name t ms)) ≡ or_else (or_else (last_of q ms) (if_same other q u)) (if_same name q t)
+    go : (o : Ordering) → text_cmp name other ≡ o → last_of q (with_if_absent name t ms) ≡ or_else (last_of q ms) (if_same name q t) → last_of q (with_if_absent_by o name t other u ms (with_if_absent name t ms)) ≡ or_else (or_else (last_of q ms) (if_same other q u)) (if_same name q t)
     go Less e more = refl
     go Equal e more =
         let same : name ≡ other = exact_bytes name other e in
@@ -65,20 +65,20 @@ norm_keeps_last f q (member name t ms) = last_with_first q name (norm_by f t) (n
 greater_less : (a b : List ℕ) → text_cmp a b ≡ Greater → text_cmp b a ≡ Less
 greater_less a b e = nat_list_cmp_total.antisymm b a ∙ ap ordering_reverse e
 
-above_with_first : (first name : List ℕ) (t : Tree) (ms : Members) → text_cmp first name ≡ Less → BeginsAbove first ms → BeginsAbove first (with_first name t ms)
+above_with_first : (first name : List ℕ) (t : Tree) (ms : Members) → text_cmp first name ≡ Less → BeginsAbove first ms → BeginsAbove first (with_if_absent name t ms)
 above_with_first first name t no_members p q = p
 above_with_first first name t (member other u ms) p q = go (text_cmp name other)
   where
-    go : (o : Ordering) → BeginsAbove first (with_first_by o name t other u ms (with_first name t ms))
+    go : (o : Ordering) → BeginsAbove first (with_if_absent_by o name t other u ms (with_if_absent name t ms))
     go Less = p
     go Equal = q
     go Greater = q
 
-pub rise_with_first : (name : List ℕ) (t : Tree) (ms : Members) → Rise ms → Rise (with_first name t ms)
+pub rise_with_first : (name : List ℕ) (t : Tree) (ms : Members) → Rise ms → Rise (with_if_absent name t ms)
 rise_with_first name t no_members h = (tt, tt)
 rise_with_first name t (member other u ms) h = go (text_cmp name other) refl (rise_with_first name t ms h.1)
   where
-    go : (o : Ordering) → text_cmp name other ≡ o → Rise (with_first name t ms) → Rise (with_first_by o name t other u ms (with_first name t ms))
+    go : (o : Ordering) → text_cmp name other ≡ o → Rise (with_if_absent name t ms) → Rise (with_if_absent_by o name t other u ms (with_if_absent name t ms))
     go Less e m = (e, h)
     go Equal e m = h
     go Greater e m = (above_with_first other name t ms (greater_less name other e) h.0, m)

@@ -15,7 +15,7 @@ use Rattle.miniserde_model.specs.Number.{IsDigit, IsInt, IsFraction, IsExponent,
 use Rattle.miniserde_model.specs.String.{IsRaw, IsShortEscape, quote, backslash, slash, backspace, form_feed, line_feed, carriage_return, tab, IsPiece, raw, short, unit, pair, ArePieces, IsString}
 use Rattle.miniserde_model.specs.Value.{Spaced, Named, Then, IsValue, AreElements, AreMoreElements, AreMembers, AreMoreMembers, IsJson}
 use Rattle.miniserde_model.specs.Compact.{escape_text, string_text, compact, compact_children, compact_more, compact_members, compact_more_members}
-use Rattle.miniserde_model.specs.Normal.{text_cmp, with_first_by, with_first, norm_neg, norm, norm_children, norm_members}
+use Rattle.miniserde_model.specs.Normal.{text_cmp, with_if_absent_by, with_if_absent, norm_neg, norm, norm_children, norm_members}
 use Rattle.miniserde_model.proofs.Accepted.{tells}
 use Rattle.miniserde_model.proofs.Written.{raw_text, high_stays, low_stays}
 
@@ -201,25 +201,25 @@ counted_first : (s : List ℕ) (t : Tree) (ms : Members) → counted (member s t
 unfolding counted
 counted_first s t ms = omega arith
 
-counted_placed : (o : Ordering) (s : List ℕ) (t : Tree) (r : List ℕ) (u : Tree) (ms more : Members) → counted more ≤ counted (member s t ms) → counted (with_first_by o s t r u ms more) ≤ counted (member s t (member r u ms))
+counted_placed : (o : Ordering) (s : List ℕ) (t : Tree) (r : List ℕ) (u : Tree) (ms more : Members) → counted more ≤ counted (member s t ms) → counted (with_if_absent_by o s t r u ms more) ≤ counted (member s t (member r u ms))
 counted_placed Less s t r u ms more h = omega arith
 counted_placed Equal s t r u ms more h = omega (arith, counted_cons s t (member r u ms))
 counted_placed Greater s t r u ms more h = omega (arith, counted_cons s t (member r u ms), counted_cons r u ms, counted_cons r u more, counted_cons s t ms)
 
-counted_with : (s : List ℕ) (t : Tree) (ms : Members) → counted (with_first s t ms) ≤ counted (member s t ms)
+counted_with : (s : List ℕ) (t : Tree) (ms : Members) → counted (with_if_absent s t ms) ≤ counted (member s t ms)
 counted_with s t no_members = omega arith
-counted_with s t (member r u ms) = counted_placed (text_cmp s r) s t r u ms (with_first s t ms) (counted_with s t ms)
+counted_with s t (member r u ms) = counted_placed (text_cmp s r) s t r u ms (with_if_absent s t ms) (counted_with s t ms)
 
 abbrev is_some_member : Members → Bool
 is_some_member no_members = false
 is_some_member (member s t ms) = true
 
-some_placed : (o : Ordering) (s : List ℕ) (t : Tree) (r : List ℕ) (u : Tree) (ms more : Members) → is_some_member (with_first_by o s t r u ms more) ≡ true
+some_placed : (o : Ordering) (s : List ℕ) (t : Tree) (r : List ℕ) (u : Tree) (ms more : Members) → is_some_member (with_if_absent_by o s t r u ms more) ≡ true
 some_placed Less s t r u ms more = refl
 some_placed Equal s t r u ms more = refl
 some_placed Greater s t r u ms more = refl
 
-some_with : (s : List ℕ) (t : Tree) (ms : Members) → is_some_member (with_first s t ms) ≡ true
+some_with : (s : List ℕ) (t : Tree) (ms : Members) → is_some_member (with_if_absent s t ms) ≡ true
 some_with s t no_members = refl
 some_with s t (member r u ms) = some_placed (text_cmp s r) s t r u ms _
 

@@ -16,7 +16,7 @@ use Rattle.miniserde_model.specs.Tree.{Tree, null, truth, nonneg, neg, num, str,
 use Rattle.miniserde_model.specs.Number.{IsDigit, IsInt, IsNumberText, IsNumber, is_plain, leaf}
 use Rattle.miniserde_model.specs.String.{quote, backslash, backspace, form_feed, line_feed, carriage_return, tab, IsPiece, raw, short, unit, ArePieces, IsString}
 use Rattle.miniserde_model.specs.Value.{Spaced, IsValue, AreElements, AreMoreElements, AreMembers, AreMoreMembers, IsJson}
-use Rattle.miniserde_model.specs.IsTree.{IsTree, AreTrees, AreNamedTrees}
+use Rattle.miniserde_model.specs.InRange.{InRange, AllInRange, MembersInRange}
 use Rattle.miniserde_model.specs.Compact.{escape_text, string_text, compact, compact_children, compact_more, compact_members, compact_more_members}
 
 -- ---- numbers
@@ -167,7 +167,7 @@ alone : {P : List ℕ → Type 0} (b : List ℕ) → P b → Spaced P b
 alone b p = record { before = []; inner = b; after = []; text = sym (append-nil b); is_before = tt; is_inner = p; is_after = tt }
 
 mutual
-  pub written_value : (t : Tree) → IsTree t → IsValue t (compact t)
+  pub written_value : (t : Tree) → InRange t → IsValue t (compact t)
   written_value null h = refl
   written_value (truth x) h = refl
   written_value (nonneg n) h = written_nonneg n h
@@ -177,21 +177,21 @@ mutual
   written_value (list ts) h = record { inside = compact_children ts; text = refl; is_inside = written_children ts h }
   written_value (members ms) h = record { inside = compact_members ms; text = refl; is_inside = written_members ms h }
 
-  written_children : (ts : Trees) → AreTrees ts → AreElements ts (compact_children ts)
+  written_children : (ts : Trees) → AllInRange ts → AreElements ts (compact_children ts)
   written_children no_trees h = tt
   written_children (tree t ts) h = record { first = compact t; rest = compact_more ts; text = refl; is_first = alone (compact t) (written_value t h.0); is_rest = written_more ts h.1 }
 
-  written_more : (ts : Trees) → AreTrees ts → AreMoreElements ts (compact_more ts)
+  written_more : (ts : Trees) → AllInRange ts → AreMoreElements ts (compact_more ts)
   written_more no_trees h = refl
   written_more (tree t ts) h = (compact t ++ compact_more ts, refl, record { first = compact t; rest = compact_more ts; text = refl; is_first = alone (compact t) (written_value t h.0); is_rest = written_more ts h.1 })
 
-  written_members : (ms : Members) → AreNamedTrees ms → AreMembers ms (compact_members ms)
+  written_members : (ms : Members) → MembersInRange ms → AreMembers ms (compact_members ms)
   written_members no_members h = tt
   written_members (member s t ms) h = record { first = string_text s ++ 58 ∷ compact t; rest = compact_more_members ms; text = refl; is_first = record { name = string_text s; value = compact t; text = refl; is_name = alone (string_text s) (written_string s h.0); is_value = alone (compact t) (written_value t h.1) }; is_rest = written_more_members ms h.2 }
 
-  written_more_members : (ms : Members) → AreNamedTrees ms → AreMoreMembers ms (compact_more_members ms)
+  written_more_members : (ms : Members) → MembersInRange ms → AreMoreMembers ms (compact_more_members ms)
   written_more_members no_members h = refl
   written_more_members (member s t ms) h = ((string_text s ++ 58 ∷ compact t) ++ compact_more_members ms, refl, record { first = string_text s ++ 58 ∷ compact t; rest = compact_more_members ms; text = refl; is_first = record { name = string_text s; value = compact t; text = refl; is_name = alone (string_text s) (written_string s h.0); is_value = alone (compact t) (written_value t h.1) }; is_rest = written_more_members ms h.2 })
 
-pub written : (t : Tree) → IsTree t → IsJson (compact t) t
+pub written : (t : Tree) → InRange t → IsJson (compact t) t
 written t h = alone (compact t) (written_value t h)

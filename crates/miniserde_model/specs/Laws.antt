@@ -2,7 +2,7 @@
 use Rattle.std.specs.Prelude.{◌≡◌, ◌≤◌, ◌↔◌, true, List, ◌++◌, ℕ, [], length, option_map, IsUtf8}
 use Rattle.miniserde_model.specs.Tree.{Tree, Members, no_members}
 use Rattle.miniserde_model.specs.Value.{IsValue, IsJson}
-use Rattle.miniserde_model.specs.IsTree.{IsTree}
+use Rattle.miniserde_model.specs.InRange.{InRange}
 use Rattle.miniserde_model.specs.Step.{Step, events}
 use Rattle.miniserde_model.specs.Position.{Position, start, Completes}
 use Rattle.miniserde_model.specs.Compact.{compact}
@@ -15,8 +15,8 @@ abbrev pub TextHasOneTree : Type 0
 TextHasOneTree = (b : List ℕ) (t u : Tree) → IsJson b t → IsJson b u → t ≡ u
 
 -- each tree that a text spells is in range
-abbrev pub JsonIsTree : Type 0
-JsonIsTree = (b : List ℕ) (t : Tree) → IsJson b t → IsTree t
+abbrev pub JsonInRange : Type 0
+JsonInRange = (b : List ℕ) (t : Tree) → IsJson b t → InRange t
 
 -- a text that spells a tree is UTF-8
 abbrev pub JsonIsUtf8 : Type 0
@@ -24,19 +24,19 @@ JsonIsUtf8 = (b : List ℕ) (t : Tree) → IsJson b t → IsUtf8 b
 
 -- the compact text of a tree in range spells the tree
 abbrev pub CompactSpells : Type 0
-CompactSpells = (t : Tree) → IsTree t → IsJson (compact t) t
+CompactSpells = (t : Tree) → InRange t → IsJson (compact t) t
 
 -- the compact text of a tree in range spells it without whitespace around it, and so may stand inside a text
 abbrev pub CompactIsValue : Type 0
-CompactIsValue = (t : Tree) → IsTree t → IsValue t (compact t)
+CompactIsValue = (t : Tree) → InRange t → IsValue t (compact t)
 
 -- the normal form of a tree is its own normal form
 abbrev pub NormIsNormal : Type 0
 NormIsNormal = (t : Tree) → norm (norm t) ≡ norm t
 
 -- the normal form of a tree in range is in range
-abbrev pub NormIsTree : Type 0
-NormIsTree = (t : Tree) → IsTree t → IsTree (norm t)
+abbrev pub NormInRange : Type 0
+NormInRange = (t : Tree) → InRange t → InRange (norm t)
 
 -- in the normal form of members, each name has the normal form of its last tree, or no tree if it had none
 abbrev pub NormKeepsLast : Type 0

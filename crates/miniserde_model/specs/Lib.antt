@@ -5,7 +5,7 @@ pub mod Distinct
 pub mod Error
 pub mod Step
 pub mod Examples
-pub mod IsTree
+pub mod InRange
 pub mod Laws
 pub mod Lexing
 pub mod Normal

@@ -10,18 +10,18 @@ use Rattle.miniserde_model.specs.Tree.{Tree, nonneg, neg, list, members, Trees, 
 abbrev pub text_cmp : List ℕ → List ℕ → Ordering
 text_cmp = slice_cmp nat_cmp
 
--- one step of `with_first`, for members of which the first has the name `other` and the tree u and
+-- one step of `with_if_absent`, for members of which the first has the name `other` and the tree u and
 -- the later ones are ms: the first argument is the order of `name` and `other`, and `more` is the
--- result of `with_first` for ms
-abbrev pub with_first_by : Ordering → List ℕ → Tree → List ℕ → Tree → Members → Members → Members
-with_first_by Less name t other u ms more = member name t (member other u ms)
-with_first_by Equal name t other u ms more = member other u ms
-with_first_by Greater name t other u ms more = member other u more
+-- result of `with_if_absent` for ms
+abbrev pub with_if_absent_by : Ordering → List ℕ → Tree → List ℕ → Tree → Members → Members → Members
+with_if_absent_by Less name t other u ms more = member name t (member other u ms)
+with_if_absent_by Equal name t other u ms more = member other u ms
+with_if_absent_by Greater name t other u ms more = member other u more
 
 -- the sorted members with the tree t added under the name, unless they have a member of that name
-abbrev pub with_first : List ℕ → Tree → Members → Members
-with_first name t no_members = member name t no_members
-with_first name t (member other u ms) = with_first_by (text_cmp name other) name t other u ms (with_first name t ms)
+abbrev pub with_if_absent : List ℕ → Tree → Members → Members
+with_if_absent name t no_members = member name t no_members
+with_if_absent name t (member other u ms) = with_if_absent_by (text_cmp name other) name t other u ms (with_if_absent name t ms)
 
 -- the leaf in a normal form of an integer that is written with a minus: `-0` becomes 0
 abbrev pub norm_neg : ℤ → Tree
@@ -45,7 +45,7 @@ abbrev mutual
   -- byte order of the names
   pub norm_members_by : (ℤ → Tree) → Members → Members
   norm_members_by f no_members = no_members
-  norm_members_by f (member name t ms) = with_first name (norm_by f t) (norm_members_by f ms)
+  norm_members_by f (member name t ms) = with_if_absent name (norm_by f t) (norm_members_by f ms)
 
 -- the normal form of a tree, in which no `-0` is left
 abbrev pub norm : Tree → Tree

@@ -7,7 +7,7 @@ mutual
   pub data Tree : Type 0 where
     null : Tree
     truth : Bool → Tree
-    -- an integer that is written without a minus, and below 2 ^ 64 if the tree is in range (`IsTree`)
+    -- an integer that is written without a minus, and below 2 ^ 64 if the tree is in range (`InRange`)
     nonneg : ℕ → Tree
     -- an integer that is written with a minus, at most 0 and at least - 2 ^ 63 if the tree is in range
     neg : ℤ → Tree

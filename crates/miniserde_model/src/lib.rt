@@ -5,8 +5,8 @@
 
 ghost use Rattle.miniserde_model.specs.Examples.{NormalForms, RefusedTexts, SpelledTexts};
 ghost use Rattle.miniserde_model.specs.Laws.{CanonicalIsShortest, CanonicalTextsEqual, CompactIsValue, CompactSpells, DistinctKeepsSize, EventsComplete};
-ghost use Rattle.miniserde_model.specs.Laws.{CompletionsArePrefixFree, NormIsDistinct, NormIsNormal, NormIsOnly, NormIsTree};
-ghost use Rattle.miniserde_model.specs.Laws.{NormKeepsLast, NormRises, PutGivesNorm, JsonIsTree, JsonIsUtf8, TextHasOneTree};
+ghost use Rattle.miniserde_model.specs.Laws.{CompletionsArePrefixFree, NormIsDistinct, NormIsNormal, NormIsOnly, NormInRange};
+ghost use Rattle.miniserde_model.specs.Laws.{NormKeepsLast, NormRises, PutGivesNorm, JsonInRange, JsonIsUtf8, TextHasOneTree};
 
 pub mod error;
 pub mod kind;
@@ -18,8 +18,8 @@ pub fn text_has_one_tree()
 
 /// Does nothing. It promises that the numbers of every tree that some text spells are in range, and that its strings
 /// are UTF-8.
-pub fn json_is_tree()
-    ensures { JsonIsTree }
+pub fn json_in_range()
+    ensures { JsonInRange }
 {}
 
 /// Does nothing. It promises that every text that spells a tree is UTF-8.
@@ -38,7 +38,7 @@ pub fn compact_spells()
 /// in range and strings in UTF-8.
 pub fn norm_is_normal()
     ensures idempotent { NormIsNormal }
-    ensures tree { NormIsTree }
+    ensures tree { NormInRange }
 {}
 
 /// Does nothing. It promises that the normal form of members has, in byte order of the names, one

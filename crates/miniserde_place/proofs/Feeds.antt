@@ -3,7 +3,7 @@
 use Rattle.std.proofs.Common.{◌≡◌, ℕ, Bool, true, false, Option, Some, None, is_some, Result, Ok, Err, IfErr, inl, inr, ◌⊎◌, List, [], ◌∷◌, ◌++◌, append-nil, refl, sym, ap, subst, ◌∙◌, true≢false}
 use Rattle.miniserde_model.proofs.Events.{events_complete}
 use Rattle.miniserde_model.specs.Tree.{Tree, null}
-use Rattle.miniserde_model.specs.IsTree.{IsTree}
+use Rattle.miniserde_model.specs.InRange.{InRange}
 use Rattle.miniserde_model.specs.Step.{Step, events}
 use Rattle.miniserde_model.specs.Position.{Position, start, Completes}
 use Rattle.miniserde_model.specs.declared.kind.Kind.{Kind}
@@ -17,7 +17,7 @@ use Rattle.miniserde_model.specs.declared.error.Error.{Error}
 use Rattle.miniserde_text.specs.declared.json.lex.Event as lexed
 use Rattle.miniserde_read.specs.Rest.{ValueAt}
 use Rattle.miniserde_read.specs.private.Runs.{Runs}
-use Rattle.miniserde_place.specs.private.Runs.{Moved, RunsBarred}
+use Rattle.miniserde_place.specs.private.Runs.{Moved, RejectsRuns}
 use Rattle.miniserde_read.proofs.Consumes.{live_opened}
 use Rattle.miniserde_read.proofs.Values.{value_later, whole_at}
 use Rattle.miniserde_place.proofs.Moved.{Moved-none}
@@ -31,7 +31,7 @@ first_barred at k e s f b t r v =
     let l = value_later t e s r v in
     ap k l.is ∙ b l.later (subst (λ z. Completes at z) l.is (complete_from t at f))
 
-pub later_barred : {C : Type 0} (at : Position) (k : List Step → Option C) (e : Step) (at' : Position) (k' : List Step → Option C) (s : List ℕ) → at ≡ start → PositionAdvances at k e at' k' → RunsBarred (before_child (is_some (opened_kind e))) (with_opened (opened_kind e) []) s k' at' → (t : Tree) (r : List ℕ) → ValueAt t e s r → k (events t) ≡ None
+pub later_barred : {C : Type 0} (at : Position) (k : List Step → Option C) (e : Step) (at' : Position) (k' : List Step → Option C) (s : List ℕ) → at ≡ start → PositionAdvances at k e at' k' → RejectsRuns (before_child (is_some (opened_kind e))) (with_opened (opened_kind e) []) s k' at' → (t : Tree) (r : List ℕ) → ValueAt t e s r → k (events t) ≡ None
 later_barred at k e at' k' s f d b t r v =
     let l = value_later t e s r v in
     let c : Completes at (e ∷ l.later) = subst (λ z. Completes at z) l.is (complete_from t at f) in
@@ -50,16 +50,16 @@ feed_ok x scratch s s' at k a l false [] at' k' h d p =
     let e = event_of_token x scratch in
     let runs : Runs (before_child (is_some (opened_kind e))) p.done (with_opened (opened_kind e) []) s s' = subst (λ z. Runs (before_child (is_some (opened_kind e))) z (with_opened (opened_kind e) []) s s') (append-nil p.done) (p.passed.on [] s' refl) in
     let w = whole_at x scratch p.done s s' runs in
-    (w.tree, w.is_value, subst (λ z. PositionAdvancesBy at k z at' k') w.is (PositionAdvancesBy-append at k (e ∷ []) a l p.done at' k' d p.leads))
+    (w.tree, w.is_value, subst (λ z. PositionAdvancesBy at k z at' k') w.is (PositionAdvancesBy-append at k (e ∷ []) a l p.done at' k' d p.advances))
 feed_ok x scratch s s' at k a l f (c ∷ st) at' k' h d p = absurd (true≢false (ap is_some h))
 
 -- ---- where the engine stops early
 
 pub begun_none : {C : Type 0} (at : Position) (k : List Step → Option C) → PositionBeginsTree at k at k
-begun_none at k = record { done = []; rest = events null; tree = null; in_range = tt; begins = refl; leads = λ rest h. (refl, refl) }
+begun_none at k = record { done = []; rest = events null; tree = null; in_range = tt; begins = refl; advances = λ rest h. (refl, refl) }
 
-pub begun_whole : {C : Type 0} (at : Position) (k : List Step → Option C) (t : Tree) (at' : Position) (k' : List Step → Option C) → IsTree t → PositionAdvancesBy at k (events t) at' k' → PositionBeginsTree at k at' k'
-begun_whole at k t at' k' i l = record { done = events t; rest = []; tree = t; in_range = i; begins = append-nil (events t); leads = l }
+pub begun_whole : {C : Type 0} (at : Position) (k : List Step → Option C) (t : Tree) (at' : Position) (k' : List Step → Option C) → InRange t → PositionAdvancesBy at k (events t) at' k' → PositionBeginsTree at k at' k'
+begun_whole at k t at' k' i l = record { done = events t; rest = []; tree = t; in_range = i; begins = append-nil (events t); advances = l }
 
 -- what a first token and the moves behind it lead to
 pub begun : {C : Type 0} (x : lexed.Event) (scratch s : List ℕ) (at : Position) (k : List Step → Option C) (a : Position) (l : List Step → Option C) (m' : Moment) (st' : List Kind) (s' : List ℕ) (at' : Position) (k' : List Step → Option C) → PositionAdvances at k (event_of_token x scratch) a l → Moved (before_child (is_some (opened_kind (event_of_token x scratch)))) (with_opened (opened_kind (event_of_token x scratch)) []) s a l m' st' s' at' k' → Unfinished m' st' → PositionBeginsTree at k at' k'
@@ -68,7 +68,7 @@ begun x scratch s at k a l m' st' s' at' k' d p u =
     let c = more_to_come m' st' p.passed.live u in
     let rest = c.0 ∷ c.1 in
     let t = tree_spelled x scratch (p.done ++ rest) (more_behind p.done c.0 c.1) (p.spellable rest c.2) in
-    record { done = e ∷ p.done; rest = rest; tree = t.0; in_range = t.2; begins = t.1; leads = PositionAdvancesBy-append at k (e ∷ []) a l p.done at' k' d p.leads }
+    record { done = e ∷ p.done; rest = rest; tree = t.0; in_range = t.2; begins = t.1; advances = PositionAdvancesBy-append at k (e ∷ []) a l p.done at' k' d p.advances }
 
 pub if_err : {T E : Type 0} (r : Result T E) (P : E → Type 0) → ((e : E) → P e) → IfErr r P
 if_err (Ok x) P h = tt

@@ -3,7 +3,7 @@
 use Rattle.std.proofs.Common.{◌≡◌, ℕ, Bool, true, false, Some, is_some, List, [], ◌∷◌, ◌++◌, length, codes, refl, sym, ap, subst, ◌∙◌, true≢false, arith, length-append}
 use Rattle.std.specs.Prelude.{⊤}
 use Rattle.miniserde_model.specs.Tree.{Tree}
-use Rattle.miniserde_model.specs.IsTree.{IsTree}
+use Rattle.miniserde_model.specs.InRange.{InRange}
 use Rattle.miniserde_model.specs.Step.{Step, seq, element, map, key, finish, events}
 use Rattle.miniserde_model.specs.Step as step
 use Rattle.miniserde_model.specs.Lexing.{Starts, Names}
@@ -90,11 +90,11 @@ more_behind es e rest h = omega (arith, ap length h, length-append es (e ∷ res
 leaf_ends : {A : Type 0} (es : List Step) → (es ≡ [] → ⊥) → Spellable after es [] → A
 leaf_ends es n h = absurd (n (nothing_left es h.0 h.1).0)
 
-spelled_events : (es : List Step) → Spellable due es [] → (u : Tree) × (es ≡ events u) × IsTree u
+spelled_events : (es : List Step) → Spellable due es [] → (u : Tree) × (es ≡ events u) × InRange u
 spelled_events es h = let t = spells_json es h.0 h.1 in (t.0, t.1, json_tree h.0 t.0 t.2)
 
 -- the events behind a value's first token, where there are some
-pub tree_spelled : (x : lexed.Event) (scratch : List ℕ) (es : List Step) → (es ≡ [] → ⊥) → Spellable (before_child (is_some (opened_kind (event_of_token x scratch)))) es (with_opened (opened_kind (event_of_token x scratch)) []) → (t : Tree) × (event_of_token x scratch ∷ es ≡ events t) × IsTree t
+pub tree_spelled : (x : lexed.Event) (scratch : List ℕ) (es : List Step) → (es ≡ [] → ⊥) → Spellable (before_child (is_some (opened_kind (event_of_token x scratch)))) es (with_opened (opened_kind (event_of_token x scratch)) []) → (t : Tree) × (event_of_token x scratch ∷ es ≡ events t) × InRange t
 tree_spelled variant.Null scratch es n h = leaf_ends es n h
 tree_spelled (variant.Bool b) scratch es n h = leaf_ends es n h
 tree_spelled (variant.Negative z) scratch es n h = leaf_ends es n h

@@ -10,7 +10,7 @@ ghost use Rattle.miniserde_model.specs.Step as step;
 ghost use Rattle.miniserde_model.specs.Position.{complete};
 ghost use Rattle.miniserde_read.specs.Events.{event_of};
 ghost use Rattle.miniserde_place.specs.Place.{PlaceMeaning, Takes, IsFresh, first_refusal};
-ghost use Rattle.miniserde_read.specs.Events.{IsTreeEvent};
+ghost use Rattle.miniserde_read.specs.Events.{EventInRange};
 ghost use Rattle.miniserde_place.specs.Container.{is_complete};
 ghost use Rattle.miniserde_model.specs.declared.error.Error.{Error};
 
@@ -52,7 +52,7 @@ pub trait Visitor: Drop {
     /// fails, and the first error of the place if there is one. An implementation returns each error through
     /// `refuse`.
     fn step(&mut self, event: Step<'_>) -> Result<()>
-        requires { IsTreeEvent (event_of event) }
+        requires { EventInRange (event_of event) }
         ensures takes { Takes (meaning.view self.old) (event_of event.entry) result (meaning.view self.new) }
         ensures further { further self.old (event_of event.entry) result self.new };
 

@@ -6,11 +6,11 @@ ghost use Rattle.miniserde_model.specs.Position.{start};
 ghost use Rattle.miniserde_text.specs.Lexer.{event_of_token};
 ghost use Rattle.miniserde_model.specs.declared.error.Error.{Error};
 ghost use Rattle.miniserde_read.specs.Rest.{ValueAt, GivesAt, GivesNoneAt};
-ghost use Rattle.miniserde_read.specs.Events.{IsTreeEvent};
+ghost use Rattle.miniserde_read.specs.Events.{EventInRange};
 ghost use Rattle.miniserde_text.specs.private.Moving.{before_child, due_or_after, opened_kind};
 ghost use Rattle.miniserde_text.specs.private.Stack.{innermost, with_opened};
 ghost use Rattle.miniserde_place.specs.Place.{AdvancesBy, BeginsTree, Advances, Rejects};
-ghost use Rattle.miniserde_place.specs.private.Runs.{Moved, RunsBarred};
+ghost use Rattle.miniserde_place.specs.private.Runs.{Moved, RejectsRuns};
 
 use crate::de::{Step, Visitor};
 use miniserde_model::error::{Error, Result};
@@ -21,7 +21,7 @@ use miniserde_text::json::lex::{After, Event, Kind};
 /// that token on, has no prefix that means a value of the place, and `Memory` if an allocation fails.
 pub fn read_by_place<'a, V: Visitor>(token: Event<'a>, source: &mut Source<'a>) -> Result<V::Out>
     requires going { source.old.refused ≡ None }
-    requires event { IsTreeEvent (event_of_token token source.old.scratch) }
+    requires event { EventInRange (event_of_token token source.old.scratch) }
     ensures going { IfOk result (λ _. source.new.refused ≡ None) }
     ensures ok { IfOk result (λ v. GivesAt V.meaning.from_tree (event_of_token token.entry source.old.scratch)
         source.old.rest source.new.rest (V.meaning.content v)) }
@@ -41,7 +41,7 @@ pub fn feed_from<'a, V: Visitor>(
     place: &mut V,
 ) -> Result<()>
     requires going { source.old.refused ≡ None }
-    requires event { IsTreeEvent (event_of_token token source.old.scratch) }
+    requires event { EventInRange (event_of_token token source.old.scratch) }
     requires unrefused { (V.meaning.view place.old).refused ≡ None }
     requires fresh { (V.meaning.view place.old).at ≡ start }
     ensures going { IfOk result (λ _. source.new.refused ≡ None) }
@@ -79,14 +79,14 @@ fn enter<'a, V: Visitor>(
     stack: &mut Stack,
     place: &mut V,
 ) -> Result<bool>
-    requires event { IsTreeEvent (event_of_token token source.now.scratch) }
+    requires event { EventInRange (event_of_token token source.now.scratch) }
     requires unrefused { (V.meaning.view place.old).refused ≡ None }
     ensures opens { IfOk result (λ b. b ≡ is_some (opened_kind (event_of_token token.entry source.now.scratch))) }
     ensures stack { IfOk result (λ _. stack.new ≡ with_opened (opened_kind (event_of_token token.entry source.now.scratch)) stack.old) }
-    ensures leads { IfOk result (λ _.
+    ensures advances { IfOk result (λ _.
         Advances (V.meaning.view place.old) (event_of_token token.entry source.now.scratch) (V.meaning.view place.new)) }
     ensures unrefused { IfOk result (λ _. (V.meaning.view place.new).refused ≡ None) }
-    ensures bars { result ≡ Err Error.Invalid
+    ensures rejects { result ≡ Err Error.Invalid
         → Rejects (V.meaning.view place.old) (event_of_token token.entry source.now.scratch) }
     ensures sticky { IfErr result (λ e. ((V.meaning.view place.new).refused ≡ Some e) ⊎ (place.new ≡ place.old)) }
 {
@@ -118,7 +118,7 @@ fn take_child_or_end<'a, V: Visitor>(
         (V.meaning.view place.old).at (V.meaning.view place.old).outcome
         (due_or_after is_due) stack.new source.new.rest (V.meaning.view place.new).at (V.meaning.view place.new).outcome) }
     ensures invalid { result ≡ Err Error.Invalid →
-        RunsBarred (before_child first) stack.old source.old.rest
+        RejectsRuns (before_child first) stack.old source.old.rest
         (V.meaning.view place.old).outcome (V.meaning.view place.old).at }
     ensures sticky { IfErr result (λ e. ((V.meaning.view place.new).refused ≡ Some e) ⊎ (place.new ≡ place.old)) }
 {
@@ -132,7 +132,7 @@ fn take_child_or_end<'a, V: Visitor>(
             match kind {
                 Kind::Seq => place.step(Step::Element)?,
                 Kind::Map => {
-                    let name = source.key()?;
+                    let name = source.name()?;
                     place.step(Step::Key(source.text(name)))?;
                 }
             }

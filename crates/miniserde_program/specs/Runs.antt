@@ -25,12 +25,12 @@ HasNoAnswer xs = (IsUtf8 xs → ⊥) ⊎ ((t : Tree) → IsJson xs t → ⊥)
 
 -- xs is a text that spells a tree without duplicate names, and ys is its canonical text; the normal form has as many
 -- values as the tree
-unfoldable pub IsUniqueAnswer : List ℕ → List ℕ → Type 0
-IsUniqueAnswer xs ys = IsUtf8 xs × ((t : Tree) × IsJson xs t × (names_distinct t ≡ true) × (size (norm t) ≡ size t) × (ys ≡ compact (norm t)))
+unfoldable pub IsAnswerOfUnique : List ℕ → List ℕ → Type 0
+IsAnswerOfUnique xs ys = IsUtf8 xs × ((t : Tree) × IsJson xs t × (names_distinct t ≡ true) × (size (norm t) ≡ size t) × (ys ≡ compact (norm t)))
 
 -- the bytes xs are no UTF-8, or spell no tree without duplicate names
-unfoldable pub HasNoUniqueAnswer : List ℕ → Type 0
-HasNoUniqueAnswer xs = (IsUtf8 xs → ⊥) ⊎ ((t : Tree) → IsJson xs t → names_distinct t ≡ true → ⊥)
+unfoldable pub HasNoAnswerOfUnique : List ℕ → Type 0
+HasNoAnswerOfUnique xs = (IsUtf8 xs → ⊥) ⊎ ((t : Tree) → IsJson xs t → names_distinct t ≡ true → ⊥)
 
 -- ---- the calls
 
@@ -94,11 +94,11 @@ AppendsPartOfAnswer = AppendsPartBy IsAnswer
 
 -- `new` is `old` with an output of `run_unique` for xs appended
 abbrev pub AppendsUniqueAnswer : Option (List ℕ) → Option (List ℕ) → List ℕ → Type 0
-AppendsUniqueAnswer = AppendsBy IsUniqueAnswer
+AppendsUniqueAnswer = AppendsBy IsAnswerOfUnique
 
 -- `new` is `old` with a prefix of an output of `run_unique` for xs appended
 abbrev pub AppendsPartOfUniqueAnswer : Option (List ℕ) → Option (List ℕ) → List ℕ → Type 0
-AppendsPartOfUniqueAnswer = AppendsPartBy IsUniqueAnswer
+AppendsPartOfUniqueAnswer = AppendsPartBy IsAnswerOfUnique
 
 -- ---- the program
 
@@ -122,7 +122,7 @@ line_of (Err Write) = codes "canon: write failed"
 -- on what is written, the writer's failures and flushes. Each name with a prime is the state after
 -- the run, and without one before it. `is` relates an input to its output; `none` holds of an input
 -- without an output.
-pub record Ran {T : Type 0} (is : List ℕ → List ℕ → Type 0) (none : List ℕ → Type 0) (answer : Result T Fault) (left left' : Option (List ℕ)) (read_failures read_failures' : ℕ) (written written' : Option (List ℕ)) (write_failures write_failures' flushes flushes' : ℕ) : Type 0 where
+pub record RunEffects {T : Type 0} (is : List ℕ → List ℕ → Type 0) (none : List ℕ → Type 0) (answer : Result T Fault) (left left' : Option (List ℕ)) (read_failures read_failures' : ℕ) (written written' : Option (List ℕ)) (write_failures write_failures' flushes flushes' : ℕ) : Type 0 where
   pub ok : OnOk answer (IfSome left (AppendsBy is written written'))
   pub flushed : OnOk answer (flushes' ≡ flushes + 1)
   pub read : IfRead answer (IsAtEnd left')

@@ -5,11 +5,11 @@ ghost use Rattle.std.specs.String.{string_bytes};
 ghost use Rattle.std.specs.Str.{IsUtf8};
 ghost use Rattle.std.specs.Io.KnownBytes.{Consumes, IsAtEnd, Keeps, Appends};
 ghost use Rattle.miniserde_program.specs.Counts.{inner_of, failures, flushes};
-ghost use Rattle.miniserde_program.specs.Runs.{IsAnswer, HasNoAnswer, IsUniqueAnswer, HasNoUniqueAnswer};
+ghost use Rattle.miniserde_program.specs.Runs.{IsAnswer, HasNoAnswer, IsAnswerOfUnique, HasNoAnswerOfUnique};
 ghost use Rattle.miniserde_program.specs.Runs.{fault_of, read_faults, write_faults, IfRead};
 ghost use Rattle.miniserde_program.specs.Runs.{AppendsUniqueAnswer, AppendsPartOfUniqueAnswer};
 ghost use Rattle.miniserde_program.specs.Runs.{IfSilent, AppendsPart, AppendsAnswer, AppendsPartOfAnswer, status_of, line_of};
-ghost use Rattle.miniserde_program.specs.Runs.{Ran};
+ghost use Rattle.miniserde_program.specs.Runs.{RunEffects};
 ghost use Rattle.miniserde_program.specs.declared.canon.Fault.{Fault};
 
 mod count;
@@ -71,7 +71,7 @@ pub fn run<R: Read, W: Write>(
         (AppendsAnswer (W.contents (inner_of w.old)) (W.contents (inner_of w.new))) }
 {
     let bytes = read_all(alloc, r)?;
-    let text = answer(alloc, bytes.as_slice())?;
+    let text = canonical_of_bytes(alloc, bytes.as_slice())?;
     write_out(text, w)
 }
 
@@ -94,7 +94,7 @@ pub fn run_unique<R: Read, W: Write>(
     ensures write_failures { failures w.new ≡ failures w.old + write_faults result }
 
     // These say what each error means, and what was written before it.
-    ensures invalid { IsErrOf result Fault.Invalid → IfSome (R.remaining (inner_of r.old)) HasNoUniqueAnswer }
+    ensures invalid { IsErrOf result Fault.Invalid → IfSome (R.remaining (inner_of r.old)) HasNoAnswerOfUnique }
     ensures silent { IfSilent result (Keeps (W.contents (inner_of w.old)) (W.contents (inner_of w.new))) }
     ensures part { IsErrOf result Fault.Write → IfSome (R.remaining (inner_of r.old))
         (AppendsPartOfUniqueAnswer (W.contents (inner_of w.old)) (W.contents (inner_of w.new))) }
@@ -102,7 +102,7 @@ pub fn run_unique<R: Read, W: Write>(
         (AppendsUniqueAnswer (W.contents (inner_of w.old)) (W.contents (inner_of w.new))) }
 {
     let bytes = read_all(alloc, r)?;
-    let text = answer_unique(alloc, bytes.as_slice())?;
+    let text = canonical_unique_of_bytes(alloc, bytes.as_slice())?;
     write_out(text, w)
 }
 
@@ -118,13 +118,13 @@ pub fn program<R: Read, W: Write>(
     ensures ran { length args.now ≡ 0
         → (answer : Result (Unit {0}) Fault)
         × (result.0 ≡ status_of answer) × (result.1.now ≡ line_of answer)
-        × Ran IsAnswer HasNoAnswer answer (R.remaining (inner_of r.old)) (R.remaining (inner_of r.new))
+        × RunEffects IsAnswer HasNoAnswer answer (R.remaining (inner_of r.old)) (R.remaining (inner_of r.new))
         (failures r.old) (failures r.new) (W.contents (inner_of w.old)) (W.contents (inner_of w.new))
         (failures w.old) (failures w.new) (flushes w.old) (flushes w.new) }
     ensures unique { map string_bytes args.now ≡ codes "--unique" ∷ []
         → (answer : Result (Unit {0}) Fault)
         × (result.0 ≡ status_of answer) × (result.1.now ≡ line_of answer)
-        × Ran IsUniqueAnswer HasNoUniqueAnswer answer (R.remaining (inner_of r.old)) (R.remaining (inner_of r.new))
+        × RunEffects IsAnswerOfUnique HasNoAnswerOfUnique answer (R.remaining (inner_of r.old)) (R.remaining (inner_of r.new))
         (failures r.old) (failures r.new) (W.contents (inner_of w.old)) (W.contents (inner_of w.new))
         (failures w.old) (failures w.new) (flushes w.old) (flushes w.new) }
     ensures usage { 0 < length args.now → (map string_bytes args.now ≡ codes "--unique" ∷ [] → ⊥)
@@ -177,7 +177,7 @@ fn read_all<R: Read>(alloc: Global, r: &mut Counted<R>) -> Result<Vec<u8>, Fault
 
 // Returns the canonical text of the bytes. Returns `Invalid` if they are not JSON in UTF-8, and `Memory` if an
 // allocation fails.
-fn answer(alloc: Global, bytes: &[u8]) -> Result<String, Fault>
+fn canonical_of_bytes(alloc: Global, bytes: &[u8]) -> Result<String, Fault>
     ensures ok { IfOk result (λ s. IsAnswer bytes.now (string_bytes s)) }
     ensures invalid { IsErrOf result Fault.Invalid → HasNoAnswer bytes.now }
     ensures only { OnErr result (IsErrOf result Fault.Invalid ⊎ IsErrOf result Fault.Memory) }
@@ -188,9 +188,9 @@ fn answer(alloc: Global, bytes: &[u8]) -> Result<String, Fault>
 
 // Returns the canonical text of the bytes. Returns `Invalid` if they are not JSON in UTF-8 or an object has a
 // duplicate name, and `Memory` if an allocation fails.
-fn answer_unique(alloc: Global, bytes: &[u8]) -> Result<String, Fault>
-    ensures ok { IfOk result (λ s. IsUniqueAnswer bytes.now (string_bytes s)) }
-    ensures invalid { IsErrOf result Fault.Invalid → HasNoUniqueAnswer bytes.now }
+fn canonical_unique_of_bytes(alloc: Global, bytes: &[u8]) -> Result<String, Fault>
+    ensures ok { IfOk result (λ s. IsAnswerOfUnique bytes.now (string_bytes s)) }
+    ensures invalid { IsErrOf result Fault.Invalid → HasNoAnswerOfUnique bytes.now }
     ensures only { OnErr result (IsErrOf result Fault.Invalid ⊎ IsErrOf result Fault.Memory) }
 {
     let text = text_of(bytes)?;

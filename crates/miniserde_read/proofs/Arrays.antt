@@ -9,7 +9,7 @@ use Rattle.miniserde_model.specs.Tree.{Tree, list, Trees, no_trees, tree}
 use Rattle.miniserde_model.specs.Lexing.{Follows}
 use Rattle.miniserde_model.specs.declared.kind.Kind.TheVariants.{Seq}
 use Rattle.miniserde_read.specs.types.Arrays.{exactly, array_of}
-use Rattle.miniserde_read.specs.Children.{all_children}
+use Rattle.miniserde_read.specs.Children.{after_children}
 use Rattle.miniserde_read.specs.Children.{with_last}
 use Rattle.miniserde_read.specs.Rest.{ElementsAt}
 use Rattle.miniserde_read.proofs.Lists.{ListGoes, each_all}
@@ -25,15 +25,15 @@ module _ {C : Type 0} (n : ℕ) (of : Tree → Option C) where
   one_longer : (xs : List C) (c : C) → length xs ≡ n → nat_lt n (length (xs ++ c ∷ [])) ≡ true
   one_longer xs c h = rw (length-append xs (c ∷ [])) (grind (arith, nat_tests))
 
-  too_long : (xs : List C) (us : Trees) → nat_lt n (length xs) ≡ true → option_and_then (exactly n) (all_children (with_last of) xs us) ≡ None
+  too_long : (xs : List C) (us : Trees) → nat_lt n (length xs) ≡ true → option_and_then (exactly n) (after_children (with_last of) xs us) ≡ None
   too_long xs no_trees h = not_exactly xs (grind (arith, nat_tests))
-  too_long xs (tree t us) h = elim (of t) as (λ o. option_and_then (exactly n) (option_and_then (λ r. all_children (with_last of) r us) (option_and_then (λ c. Some (xs ++ c ∷ [])) o)) ≡ None) [
+  too_long xs (tree t us) h = elim (of t) as (λ o. option_and_then (exactly n) (option_and_then (λ r. after_children (with_last of) r us) (option_and_then (λ c. Some (xs ++ c ∷ [])) o)) ≡ None) [
     | None ↦ refl
     | Some c ↦ too_long (xs ++ c ∷ []) us (longer xs c h)
   ]
 
-  too_many : (xs : List C) (t : Tree) (us : Trees) → length xs ≡ n → option_and_then (exactly n) (all_children (with_last of) xs (tree t us)) ≡ None
-  too_many xs t us h = elim (of t) as (λ o. option_and_then (exactly n) (option_and_then (λ r. all_children (with_last of) r us) (option_and_then (λ c. Some (xs ++ c ∷ [])) o)) ≡ None) [
+  too_many : (xs : List C) (t : Tree) (us : Trees) → length xs ≡ n → option_and_then (exactly n) (after_children (with_last of) xs (tree t us)) ≡ None
+  too_many xs t us h = elim (of t) as (λ o. option_and_then (exactly n) (option_and_then (λ r. after_children (with_last of) r us) (option_and_then (λ c. Some (xs ++ c ∷ [])) o)) ≡ None) [
     | None ↦ refl
     | Some c ↦ too_long (xs ++ c ∷ []) us (one_longer xs c h)
   ]
@@ -44,7 +44,7 @@ module _ {C : Type 0} (n : ℕ) (of : Tree → Option C) where
       let a = g.back ts r p in
       let k = elements_start a.0 f s b r h a.1 in
       let u = elements_there a.0 f s b k.1 r k.0 h k.2 a.1 in
-      ap (option_and_then (exactly n)) (sym (each_all of ts) ∙ a.2 ∙ ap (all_children (with_last of) m) u.is) ∙ too_many m u.one u.more l
+      ap (option_and_then (exactly n)) (sym (each_all of ts) ∙ a.2 ∙ ap (after_children (with_last of) m) u.is) ∙ too_many m u.one u.more l
 
   pub so_many : (xs : List C) → length xs ≡ n → exactly n xs ≡ Some xs
   so_many xs h = let b : nat_eq (length xs) n ≡ true = grind (arith, nat_tests) in rw b refl

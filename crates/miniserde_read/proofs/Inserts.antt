@@ -13,12 +13,12 @@ use Rattle.std.specs.Option.{MatchOption}
 use Rattle.std.specs.List.{IsDistinct}
 use Rattle.std.specs.List.Sorted.{IsStrictlySortedBy, IsPermutation}
 use Rattle.std.proofs.lemmas.List.Sorted.{IsPermutation-sym, IsPermutation-map}
-use Rattle.std.proofs.lemmas.Map.Entries.{none_below_head}
+use Rattle.std.proofs.lemmas.Map.MapContent.{none_below_head}
 use Rattle.std.proofs.lemmas.Map.{none_passes_from_lookup}
 use Rattle.std.proofs.lemmas.Map.Keys.{IsDistinct-IsPermutation, sorted_tail}
 use Rattle.miniserde_keys.specs.Keys.{Key}
-use Rattle.miniserde_read.specs.types.Maps.{Entries, entry_at, present_key_or, with_entry, map_content}
-use Rattle.miniserde_read.proofs.Entries.{same_code, same, none-at, at-permuted}
+use Rattle.miniserde_read.specs.types.Maps.{MapContent, entry_at, present_key_or, with_entry, map_content}
+use Rattle.miniserde_read.proofs.MapContent.{same_code, same, none-at, at-permuted}
 use Rattle.miniserde_text.proofs.Equal.{bytes_eq-flips}
 
 module _ {K V C : Type 0} (code : Key → Key) (content : K → Key) (value : V → C) where
@@ -91,7 +91,7 @@ module _ {K V C : Type 0} (code : Key → Key) (content : K → Key) (value : V 
 
 module _ {K V C : Type 0} (code : Key → Key) (content : K → Key) (value : V → C) where
   -- the map with what counts of each value
-  abbrev valued : Entries V → Entries C
+  abbrev valued : MapContent V → MapContent C
   valued m q = option_map {U = Key × C} (λ e. (e.0, value e.1)) (m q)
 
   map_content-valued : (es : List (K × V)) (q : Key) → map_content code content value es q ≡ valued (map_content code content (λ v. v) es) q
@@ -100,7 +100,7 @@ module _ {K V C : Type 0} (code : Key → Key) (content : K → Key) (value : V 
   all-valued : (es : List (K × V)) → map_content code content value es ≡ valued (map_content code content (λ v. v) es)
   all-valued es = λ i q. map_content-valued es q i
 
-  entry-valued : (m : Entries V) (c : Key) (v : V) (q : Key) → valued (with_entry code m c v) q ≡ with_entry code (valued m) c (value v) q
+  entry-valued : (m : MapContent V) (c : Key) (v : V) (q : Key) → valued (with_entry code m c v) q ≡ with_entry code (valued m) c (value v) q
   entry-valued m c v q = elim (bytes_eq (code c) q) as (λ b. option_map {U = Key × C} (λ e. (e.0, value e.1)) (cond b (Some (present_key_or (m q) c, v)) (m q)) ≡ cond b (Some (present_key_or (valued m q) c, value v)) (valued m q)) [
     | true ↦ elim (m q) as (λ o. ◌≡◌ {A = Option (Key × C)} (Some (present_key_or o c, value v)) (Some (present_key_or (option_map {U = Key × C} (λ e. (e.0, value e.1)) o) c, value v))) [ None ↦ refl | Some e ↦ refl ]
     | false ↦ refl

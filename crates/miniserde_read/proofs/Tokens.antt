@@ -5,9 +5,9 @@ use Rattle.miniserde_model.specs.Step.{Step, boolean, string, negative, nonnegat
 use Rattle.miniserde_model.specs.Step as step
 use Rattle.miniserde_model.specs.Lexing.{Piece, Starts}
 use Rattle.miniserde_model.proofs.Accepted.{value_tree}
-use Rattle.miniserde_read.specs.Events.{IsTreeEvent}
+use Rattle.miniserde_read.specs.Events.{EventInRange}
 
-piece_event : (e : Step) (b : List ℕ) → Piece e b → IsTreeEvent e
+piece_event : (e : Step) (b : List ℕ) → Piece e b → EventInRange e
 piece_event step.null b p = tt
 piece_event (boolean x) b p = tt
 piece_event (string x) b p = tt
@@ -20,5 +20,5 @@ piece_event element b p = tt
 piece_event (key s) b p = tt
 piece_event finish b p = tt
 
-pub start_event : (s : List ℕ) (e : Step) (r : List ℕ) → Starts s e r → IsTreeEvent e
+pub start_event : (s : List ℕ) (e : Step) (r : List ℕ) → Starts s e r → EventInRange e
 start_event s e r p = piece_event e p.0.part p.0.is_part

@@ -3,9 +3,9 @@ use Rattle.std.specs.Prelude.{List, [], ◌∷◌, ◌++◌, Option, Some, None,
 use Rattle.miniserde_model.specs.Tree.{Tree, Trees, no_trees, tree}
 
 -- the state after all the children, from the state s on, if f returns a state after each of them
-abbrev pub all_children : {S : Type 0} → (S → Tree → Option S) → S → Trees → Option S
-all_children f s no_trees = Some s
-all_children f s (tree t ts) = option_and_then (λ r. all_children f r ts) (f s t)
+abbrev pub after_children : {S : Type 0} → (S → Tree → Option S) → S → Trees → Option S
+after_children f s no_trees = Some s
+after_children f s (tree t ts) = option_and_then (λ r. after_children f r ts) (f s t)
 
 -- the list xs with the content of x appended, if f returns one
 abbrev pub with_last : {C X : Type 0} → (X → Option C) → List C → X → Option (List C)

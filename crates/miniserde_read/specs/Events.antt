@@ -23,10 +23,10 @@ event_of step.Finish = finish
 
 -- if the event is a number, a tree can have it: with a minus it is at most 0, and a number text is no integer in
 -- range
-abbrev pub IsTreeEvent : model.Step → Type 0
-IsTreeEvent (negative n) = n ≤ℤ pos 0
-IsTreeEvent (float x) = IsNumber x (num x)
-IsTreeEvent _ = ⊤
+abbrev pub EventInRange : model.Step → Type 0
+EventInRange (negative n) = n ≤ℤ pos 0
+EventInRange (float x) = IsNumber x (num x)
+EventInRange _ = ⊤
 
 -- the leaf whose only event this is, if there is such a leaf
 abbrev pub leaf_of : model.Step → Option Tree

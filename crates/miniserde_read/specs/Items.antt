@@ -1,7 +1,7 @@
 -- The meaning of a tuple: the children of a list mean its items one by one (RFC 8259, section 5).
 use Rattle.std.specs.Prelude.{◌≡◌, ◌↔◌, ℕ, Bool, List, Option, Some, None}
 use Rattle.miniserde_model.specs.Tree.{Trees}
-use Rattle.miniserde_read.specs.Meaning.{Meaning, meant}
+use Rattle.miniserde_read.specs.Meaning.{Meaning, meaning_with}
 use Rattle.miniserde_read.specs.Rest.{ElementsAt}
 use Rattle.miniserde_read.specs.types.Tuples.{NoneReads, none_of, ItemReads, item_of, TupleReads, tuple_of}
 use Rattle.miniserde_read.specs.laws.Tuples.{none-given, item-given, tuple-given}
@@ -36,7 +36,7 @@ item_and m n = record {
 -- tuple if the list's children mean the items
 abbrev pub tuple_meaning : {V W : Type 0} → ItemsMeaning V → (W → V) → Meaning W
 tuple_meaning n items =
-    meant (λ w. n.content (items w)) (tuple_of n.from_trees) (λ t w. TupleReads n.reads t (items w))
+    meaning_with (λ w. n.content (items w)) (tuple_of n.from_trees) (λ t w. TupleReads n.reads t (items w))
     (λ t w. tuple-given n.reads n.from_trees n.content n.reads_agrees t (items w))
 
 -- from s to r stand elements and a closing bracket, and `of` returns the content c for the elements; `first` says

@@ -7,7 +7,7 @@ use Rattle.miniserde_model.specs.Lexing.{Follows}
 use Rattle.miniserde_model.specs.declared.kind.Kind.TheVariants.{Seq, Map}
 use Rattle.miniserde_text.specs.Lexer.{BeginsEscaped}
 use Rattle.miniserde_read.specs.Rest.{OneElement, ValueAt}
-use Rattle.miniserde_read.specs.Source.{Remaining}
+use Rattle.miniserde_read.specs.Source.{SourceView}
 
 -- the next element in s begins as a string with a backslash; `first` says that the opening bracket was just taken
 abbrev pub EscapedElement : Bool → List ℕ → Type 0
@@ -34,14 +34,14 @@ SomeElements (suc n) first s r = AnElement first s r ⊎ ((d : List ℕ) × AnEl
 -- What holds if reading a pair returns `Memory`: if `read` of neither part ever does (a and b are
 -- true), the first event e opens a list, and one of the list's first two elements, in the text of
 -- `old`, begins as a string with a backslash. `old` and `new` are the source before and after.
-abbrev pub PairLacks : Bool → Bool → Step → Remaining → Remaining → Type 0
+abbrev pub PairLacks : Bool → Bool → Step → SourceView → SourceView → Type 0
 PairLacks a b e old new = a ≡ true → b ≡ true → (e ≡ seq) × EscapedAmong 2 true old.rest
 
 -- What holds if reading an array of n items returns `Memory`: if `read` of an item never does (a is
 -- true), the first event e opens a list, and one of the list's first n elements, in the text of
 -- `old`, begins as a string with a backslash, or from `old` to `new` stand at least one and at most
 -- n elements. `old` and `new` are the source before and after.
-abbrev pub ArrayLacks : ℕ → Bool → Step → Remaining → Remaining → Type 0
+abbrev pub ArrayLacks : ℕ → Bool → Step → SourceView → SourceView → Type 0
 ArrayLacks n a e old new = a ≡ true → (e ≡ seq) × (EscapedAmong n true old.rest ⊎ SomeElements n true old.rest new.rest)
 
 -- What holds if reading the items of a tuple from s returns `Memory`: if `read` of no item ever
@@ -54,5 +54,5 @@ ItemsLack infallible first s = AllByRecursion (λ b. b ≡ true) infallible → 
 -- `infallible` are true), the first event e opens a list, and among as many of its elements as
 -- there are items, in the text of `old`, one begins as a string with a backslash. `old` and `new`
 -- are the source before and after.
-abbrev pub TupleLacks : List Bool → Step → Remaining → Remaining → Type 0
+abbrev pub TupleLacks : List Bool → Step → SourceView → SourceView → Type 0
 TupleLacks infallible e old new = AllByRecursion (λ b. b ≡ true) infallible → (e ≡ seq) × EscapedAmong (length infallible) true old.rest

@@ -8,7 +8,7 @@ use Rattle.miniserde_text.specs.declared.json.lex.Event.{Event}
 use Rattle.miniserde_model.specs.declared.error.Error.{Error}
 
 -- what a contract sees of a source: the text that is left, the first error, if there was one, and the scratch text
-pub record Remaining : Type 0 where
+pub record SourceView : Type 0 where
   pub rest : List ℕ
   pub refused : Option Error
   pub scratch : List ℕ

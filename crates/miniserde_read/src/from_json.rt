@@ -6,8 +6,8 @@ ghost use Rattle.miniserde_text.specs.Lexer.{event_of_token};
 ghost use Rattle.miniserde_model.specs.declared.error.Error.{Error};
 ghost use Rattle.miniserde_read.specs.Meaning.{Meaning};
 ghost use Rattle.miniserde_read.specs.Rest.{GivesAt, GivesNoneAt};
-ghost use Rattle.miniserde_read.specs.Source.{Remaining};
-ghost use Rattle.miniserde_read.specs.Events.{IsTreeEvent};
+ghost use Rattle.miniserde_read.specs.Source.{SourceView};
+ghost use Rattle.miniserde_read.specs.Events.{EventInRange};
 
 mod arrays;
 mod boxes;
@@ -38,7 +38,7 @@ pub trait FromJson: Sized + Drop {
 
     // What holds if `read` returns `Memory`: a statement of the token's event and of the source before and after the
     // call.
-    ghost lacking: { step.Step → Remaining → Remaining → Type 0 } = { λ _ _ _. ⊤ };
+    ghost lacking: { step.Step → SourceView → SourceView → Type 0 } = { λ _ _ _. ⊤ };
 
     /// Returns the value of a missing field of this type, or `None` if an object without that field's member is an
     /// error.
@@ -49,7 +49,7 @@ pub trait FromJson: Sized + Drop {
     /// from that token on, has no prefix that means a value of the type, and `Memory` if an allocation fails.
     fn read<'a>(token: Event<'a>, source: &mut Source<'a>) -> Result<Self>
         requires going { source.old.refused ≡ None }
-        requires event { IsTreeEvent (event_of_token token source.old.scratch) }
+        requires event { EventInRange (event_of_token token source.old.scratch) }
         ensures going { IfOk result (λ _. source.new.refused ≡ None) }
         ensures ok { IfOk result (λ v. GivesAt means.from_tree (event_of_token token.entry source.old.scratch)
             source.old.rest source.new.rest (means.content v)) }

@@ -6,7 +6,7 @@ ghost use Rattle.miniserde_text.specs.Lexer.{event_of_token};
 ghost use Rattle.miniserde_model.specs.declared.error.Error.{Error};
 ghost use Rattle.miniserde_read.specs.Meanings.{ignored_meaning};
 ghost use Rattle.miniserde_read.specs.Rest.{ValueAt};
-ghost use Rattle.miniserde_read.specs.Events.{IsTreeEvent};
+ghost use Rattle.miniserde_read.specs.Events.{EventInRange};
 ghost use Rattle.miniserde_text.specs.private.Moving.{before_child};
 ghost use Rattle.miniserde_read.specs.private.Runs.{Reaches, NeverRuns};
 ghost use Rattle.miniserde_text.specs.private.Stack.{innermost};
@@ -39,7 +39,7 @@ impl FromJson for Ignored {
 /// that is a value, and `Memory` if an allocation fails.
 fn skip<'a>(token: Event<'a>, source: &mut Source<'a>) -> Result<()>
     requires going { source.old.refused ≡ None }
-    requires event { IsTreeEvent (event_of_token token source.old.scratch) }
+    requires event { EventInRange (event_of_token token source.old.scratch) }
     ensures going { IfOk result (λ _. source.new.refused ≡ None) }
     ensures ok { IfOk result (λ _. (t : Tree)
         × ValueAt t (event_of_token token.entry source.old.scratch) source.old.rest source.new.rest) }
@@ -80,7 +80,7 @@ fn take_child_or_end<'a>(
         After::Next => match kind {
             Kind::Seq => begin(source, stack),
             Kind::Map => {
-                source.key()?;
+                source.name()?;
                 begin(source, stack)
             }
         },

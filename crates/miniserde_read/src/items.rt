@@ -3,7 +3,7 @@ ghost use Rattle.std.specs.Prelude.{◌≡◌, Bool, List, [], ◌∷◌, None, 
 ghost use Rattle.miniserde_text.specs.Lexer.{event_of_token};
 ghost use Rattle.miniserde_model.specs.declared.error.Error.{Error};
 ghost use Rattle.miniserde_read.specs.Rest.{GivesAt, GivesNoneAt};
-ghost use Rattle.miniserde_read.specs.Events.{IsTreeEvent};
+ghost use Rattle.miniserde_read.specs.Events.{EventInRange};
 ghost use Rattle.miniserde_read.specs.Items.{ItemsMeaning, no_items, item_and, ItemsGiveAt, ItemsGiveNoneAt};
 ghost use Rattle.miniserde_read.specs.Lacking.{ItemsLack, TupleLacks};
 ghost use Rattle.miniserde_read.specs.types.Tuples.{tuple_of};
@@ -87,7 +87,7 @@ impl<T: FromJson, R: Items> Items for Item<T, R> {
 #[inline(always)]
 pub fn read_tuple<'a, I: Items>(token: Event<'a>, source: &mut Source<'a>) -> Result<I::Values>
     requires going { source.old.refused ≡ None }
-    requires event { IsTreeEvent (event_of_token token source.old.scratch) }
+    requires event { EventInRange (event_of_token token source.old.scratch) }
     ensures going { IfOk result (λ _. source.new.refused ≡ None) }
     ensures ok { IfOk result (λ v. GivesAt (tuple_of I.meaning.from_trees) (event_of_token token.entry source.old.scratch)
         source.old.rest source.new.rest (I.meaning.content v)) }

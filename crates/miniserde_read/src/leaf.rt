@@ -4,7 +4,7 @@ ghost use Rattle.miniserde_text.specs.Lexer.{event_of_token};
 ghost use Rattle.miniserde_model.specs.declared.error.Error.{Error};
 ghost use Rattle.miniserde_read.specs.Meaning.{Meaning};
 ghost use Rattle.miniserde_read.specs.Rest.{GivesAt, GivesNoneAt};
-ghost use Rattle.miniserde_read.specs.Events.{event_of, IsTreeEvent, on_leaf, OnlyLeaves};
+ghost use Rattle.miniserde_read.specs.Events.{event_of, EventInRange, on_leaf, OnlyLeaves};
 
 mod integers;
 mod words;
@@ -29,7 +29,7 @@ pub trait Leaf: Drop {
     /// Returns the value that the event means, or `Invalid` if it means none of this type. Returns `Memory` if an
     /// allocation fails.
     fn from_step(alloc: Global, event: Step<'_>) -> Result<Self>
-        requires { IsTreeEvent (event_of event) }
+        requires { EventInRange (event_of event) }
         ensures ok { IfOk result (λ v. on_leaf means.from_tree (event_of event.entry) ≡ Some (means.content v)) }
         ensures invalid { result ≡ Err Error.Invalid → on_leaf means.from_tree (event_of event.entry) ≡ None }
         ensures infallible { read_infallible ≡ true → IfErr result (λ e. e ≡ Error.Invalid) };
@@ -39,7 +39,7 @@ pub trait Leaf: Drop {
 /// fails. Takes nothing from the source.
 #[inline(always)]
 pub fn read_leaf<'a, T: Leaf>(token: Event<'a>, source: &mut Source<'a>) -> Result<T>
-    requires { IsTreeEvent (event_of_token token source.old.scratch) }
+    requires { EventInRange (event_of_token token source.old.scratch) }
     ensures stays { source.new ≡ source.old }
     ensures ok { IfOk result (λ v. GivesAt T.means.from_tree (event_of_token token.entry source.old.scratch)
         source.old.rest source.old.rest (T.means.content v)) }

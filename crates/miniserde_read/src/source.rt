@@ -31,9 +31,9 @@ pub struct Source<'a> {
 
 impl<'a> Model for Source<'a> {
     ghost use Rattle.std.specs.String.{string_bytes};
-    ghost use Rattle.miniserde_read.specs.Source.{Remaining};
+    ghost use Rattle.miniserde_read.specs.Source.{SourceView};
 
-    ghost Value = { Remaining };
+    ghost Value = { SourceView };
 
     ghost view = { λ s. record { rest = s.lexer.rest; refused = s.lexer.refused; scratch = string_bytes s.scratch } };
 }
@@ -108,7 +108,7 @@ impl<'a> Source<'a> {
     /// its colon, and returns the name. `first` says that the opening bracket was just taken, so that no comma is
     /// due. Returns `Invalid` if neither is next, and `Memory` if decoding the name fails to allocate.
     #[inline(always)]
-    pub fn name(&mut self, first: bool) -> Result<Option<Text<'a>>>
+    pub fn member(&mut self, first: bool) -> Result<Option<Text<'a>>>
         ensures going { IfOk result (λ _. self.new.refused ≡ None) }
         ensures ok { IfOk result (λ o. NameFollows o self.new.scratch first self.old.rest self.new.rest) }
         ensures invalid { result ≡ Err Error.Invalid → self.old.refused ≡ None
@@ -143,7 +143,7 @@ impl<'a> Source<'a> {
     /// Takes a member's name and its colon, and returns the name. Returns `Invalid` if they are not next, and
     /// `Memory` if decoding the name fails to allocate.
     #[inline(always)]
-    pub fn key(&mut self) -> Result<Text<'a>>
+    pub fn name(&mut self) -> Result<Text<'a>>
         ensures going { IfOk result (λ _. self.new.refused ≡ None) }
         ensures ok { IfOk result (λ t. Names self.old.rest (text_of t self.new.scratch) self.new.rest) }
         ensures invalid { result ≡ Err Error.Invalid → self.old.refused ≡ None

@@ -6,7 +6,7 @@ use Rattle.miniserde_model.specs.Tree.{Tree, Members, member}
 use Rattle.miniserde_model.specs.Step.{Step}
 use Rattle.miniserde_model.specs.Lexing.{Starts, Names, Follows}
 use Rattle.miniserde_model.specs.declared.kind.Kind.TheVariants.{Map}
-use Rattle.miniserde_read.specs.types.Objects.{Name, all_members}
+use Rattle.miniserde_read.specs.types.Objects.{Name, after_members}
 use Rattle.miniserde_read.specs.Rest.{ValueAt, MembersAt}
 use Rattle.miniserde_text.proofs.Starting.{start_less, same_start}
 use Rattle.miniserde_read.proofs.Length.{value_least}
@@ -30,11 +30,11 @@ module _ {S : Type 0} (next : S → Name → Tree → Option S) (empty : S) (beg
   pub due_goes : (f : Bool) (s b c x : List ℕ) (n : Name) (m m' : S) → ObjectGoes next empty begin f s m → Follows Map f false s b → Names b n c → ReadsDue (next m n) c x m' → ObjectGoes next empty begin false x m'
   due_goes f s b c x n m m' g h j p = object_goes next empty begin f s b c p.behind x n p.event p.one m m' g h j p.starts p.is_value p.gives
 
-  none_more : (m : S) (n : Name) (t : Tree) (us : Members) → next m n t ≡ None → all_members next m (member n t us) ≡ None
+  none_more : (m : S) (n : Name) (t : Tree) (us : Members) → next m n t ≡ None → after_members next m (member n t us) ≡ None
   none_more m n t us e = rw e refl
 
-  pub due_none : (f : Bool) (s b c : List ℕ) (n : Name) (m : S) → ObjectGoes next empty begin f s m → Follows Map f false s b → Names b n c → RejectsDue (next m n) c → (ms : Members) (r : List ℕ) → MembersAt ms true begin r → all_members next empty ms ≡ None
+  pub due_none : (f : Bool) (s b c : List ℕ) (n : Name) (m : S) → ObjectGoes next empty begin f s m → Follows Map f false s b → Names b n c → RejectsDue (next m n) c → (ms : Members) (r : List ℕ) → MembersAt ms true begin r → after_members next empty ms ≡ None
   due_none f s b c n m g h j d ms r p =
       let a = g.back ms r p in
       let u = members_there a.0 f s b c r n h j a.1 in
-      a.2 ∙ ap (all_members next m) u.is ∙ none_more m n u.one u.more (d u.one u.event u.behind u.rest u.starts u.is_value)
+      a.2 ∙ ap (after_members next m) u.is ∙ none_more m n u.one u.more (d u.one u.event u.behind u.rest u.starts u.is_value)

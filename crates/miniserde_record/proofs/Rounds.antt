@@ -14,7 +14,7 @@ use Rattle.miniserde_read.specs.Meaning.{Meaning}
 use Rattle.miniserde_read.specs.Meanings.{option_meaning}
 use Rattle.miniserde_read.specs.types.Objects.{Name}
 use Rattle.miniserde_round.specs.RoundTrip.{RoundTrips}
-use Rattle.miniserde_record.specs.Fields.{others, AllNamed, Says, count_named, OnceAnd, MissingReads, FieldsRead}
+use Rattle.miniserde_record.specs.Fields.{other_members, AllNamed, LastMemberReads, count_named, OnceAnd, MissingReads, FieldsRead}
 use Rattle.miniserde_record.specs.Marks.{has_no_members}
 use Rattle.miniserde_record.specs.Structs.{is_new, are_distinct, are_names}
 use Rattle.miniserde_record.specs.Structs.{with_names, members_text, FieldsRoundTrip}
@@ -48,7 +48,7 @@ apart n k ks h =
     (bytes_eq-flips k n ∙ elim (bytes_eq n k) as (λ b. not b ≡ true → b ≡ false) [ true ↦ λ e. absurd (cc) | false ↦ λ e. refl ] p.0, p.1)
 
 -- no later member has a new name
-others_new : (n : Name) (ns : List Name) (ts : List (Option Tree)) → is_new n ns ≡ true → others n (with_names ns ts) ≡ with_names ns ts
+others_new : (n : Name) (ns : List Name) (ts : List (Option Tree)) → is_new n ns ≡ true → other_members n (with_names ns ts) ≡ with_names ns ts
 others_new n [] ts h = refl
 others_new n (k ∷ ks) [] h = refl
 others_new n (k ∷ ks) (None ∷ ts) h = others_new n ks ts (apart n k ks h).1
@@ -73,7 +73,7 @@ pub last_own : (n : Name) (t : Tree) (ns : List Name) (ts : List (Option Tree)) 
 last_own n t ns ts h = rw (last_new n ns ts h, same n) refl
 
 -- and the others are the later ones
-pub others_own : (n : Name) (t : Tree) (ns : List Name) (ts : List (Option Tree)) → is_new n ns ≡ true → others n (member n t (with_names ns ts)) ≡ with_names ns ts
+pub others_own : (n : Name) (t : Tree) (ns : List Name) (ts : List (Option Tree)) → is_new n ns ≡ true → other_members n (member n t (with_names ns ts)) ≡ with_names ns ts
 others_own n t ns ts h = rw (same n) (others_new n ns ts h)
 
 -- of a new name no member counts
@@ -112,7 +112,7 @@ module _ {A W : Type 0} (once : Bool) (m : Meaning A) (missing : A → Type 0) (
       let last = last_own n (tree v.0) ns (trees v.1) f.0 in
       let rest = others_own n (tree v.0) ns (trees v.1) f.0 in
       let some : IsSome (m.from_tree (tree v.0)) = rw ((m.reads_agrees (tree v.0) a.0.0).0 a.0.2) refl in
-      let says : (w : A) → Type 0 = λ w. Says (missing w) (λ t. m.reads t w) m.from_tree n ms in (
+      let says : (w : A) → Type 0 = λ w. LastMemberReads (missing w) (λ t. m.reads t w) m.from_tree n ms in (
         (
           (a.0.0, b.0.0),
           (a.0.1, b.0.1),

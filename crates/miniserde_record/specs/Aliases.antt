@@ -19,6 +19,6 @@ with_field_names ps no_members = no_members
 with_field_names ps (member k t ms) = member (field_name_of ps k) t (with_field_names ps ms)
 
 -- whether, by the aliases ps, none of the names is an alias of another name
-abbrev pub are_themselves : List (Name × Name) → List Name → Bool
-are_themselves ps [] = true
-are_themselves ps (n ∷ ns) = bytes_eq (field_name_of ps n) n && are_themselves ps ns
+abbrev pub are_unaliased : List (Name × Name) → List Name → Bool
+are_unaliased ps [] = true
+are_unaliased ps (n ∷ ns) = bytes_eq (field_name_of ps n) n && are_unaliased ps ns

@@ -2,10 +2,10 @@
 use Rattle.std.proofs.Common.{◌∙◌}
 use Rattle.std.specs.Prelude.{◌≡◌, ◌↔◌, refl, ℕ, ◌+◌, Bool, true, false, cond, List, Option, Some, None, option_and_then, ⊤}
 use Rattle.miniserde_model.specs.Tree.{Tree, Members}
-use Rattle.miniserde_read.specs.Meaning.{Meaning, meant}
-use Rattle.miniserde_read.specs.types.Objects.{Name, object_of, all_members}
+use Rattle.miniserde_read.specs.Meaning.{Meaning, meaning_with}
+use Rattle.miniserde_read.specs.types.Objects.{Name, object_of, after_members}
 use Rattle.miniserde_record.specs.Aliases.{field_name_of, with_field_names}
-use Rattle.miniserde_record.specs.Fields.{field_member, field_refuses, field_end, field_given, missing_content, MissingReads, FieldsRead, StructReads}
+use Rattle.miniserde_record.specs.Fields.{field_member, field_refuses, field_end, fields_content, missing_content, MissingReads, FieldsRead, StructReads}
 use Rattle.miniserde_record.specs.Marks.{has_no_members}
 use Rattle.miniserde_record.specs.laws.Aliases.{alias-apart}
 use Rattle.miniserde_record.specs.laws.Fields.{none-refused, field-refused, none-apart, closed-apart, field-apart}
@@ -23,17 +23,17 @@ pub record FieldsMeaning (V : Type 0) : Type 1 where
   pub count : ℕ
   -- the state after one more member, if the member is no error, by the fields' names, the state
   -- before it, the member's name and its tree
-  pub by_tree : List Name → State → Name → Tree → Option State
+  pub next_state : List Name → State → Name → Tree → Option State
   -- whether a member's name is an error whatever its tree, by the fields' names and the state
-  -- before; `refused` says that `by_tree` returns no state then
+  -- before; `refused` says that `next_state` returns no state then
   pub refuses : List Name → State → Name → Bool
-  pub refused : (names : List Name) (s : State) (k : Name) → refuses names s k ≡ true → (t : Tree) → by_tree names s k t ≡ None
+  pub refused : (names : List Name) (s : State) (k : Name) → refuses names s k ≡ true → (t : Tree) → next_state names s k t ≡ None
   -- the content after the last member, if each field has a value
   pub end : State → Option Content
   -- the content that members give, field by field, by the fields' names and the state before them;
   -- `members_agree` says that they give the same one by one
   pub from_members : List Name → State → Members → Option Content
-  pub members_agree : (names : List Name) (s : State) (ms : Members) → option_and_then end (all_members (by_tree names) s ms) ≡ from_members names s ms
+  pub members_agree : (names : List Name) (s : State) (ms : Members) → option_and_then end (after_members (next_state names) s ms) ≡ from_members names s ms
   -- by the fields' names, the members mean the values; `reads_agrees` says that they do exactly if
   -- they give the values' content
   pub reads : List Name → Members → V → Type 0
@@ -47,7 +47,7 @@ no_fields = record {
   State = Unit {0};
   empty = tt;
   count = 0;
-  by_tree = λ ns s k t. Some tt;
+  next_state = λ ns s k t. Some tt;
   refuses = λ ns s k. false;
   refused = λ ns s k h t. none-refused (Some tt) h;
   end = λ s. Some tt;
@@ -66,7 +66,7 @@ closed_end = record {
   State = Unit {0};
   empty = tt;
   count = 0;
-  by_tree = λ ns s k t. None;
+  next_state = λ ns s k t. None;
   refuses = λ ns s k. true;
   refused = λ ns s k h t. refl;
   end = λ s. Some tt;
@@ -87,12 +87,12 @@ field_and once given m absent n = record {
   State = Option m.Content × n.State;
   empty = (None, n.empty);
   count = n.count + 1;
-  by_tree = field_member once m.from_tree n.by_tree;
+  next_state = field_member once m.from_tree n.next_state;
   refuses = field_refuses once n.refuses;
-  refused = field-refused once m.from_tree n.by_tree n.refuses n.refused;
+  refused = field-refused once m.from_tree n.next_state n.refuses n.refused;
   end = field_end (missing_content m given absent) n.end;
-  from_members = field_given once m.from_tree (missing_content m given absent) n.from_members;
-  members_agree = field-apart once m.from_tree (missing_content m given absent) n.by_tree n.end n.from_members n.members_agree;
+  from_members = fields_content once m.from_tree (missing_content m given absent) n.from_members;
+  members_agree = field-apart once m.from_tree (missing_content m given absent) n.next_state n.end n.from_members n.members_agree;
   reads = FieldsRead once m.reads m.from_tree (MissingReads m given absent) n.reads;
   reads_agrees = field-given once m (missing_content m given absent) (MissingReads m given absent) (missing-agrees m given absent) n.reads n.from_members n.content n.empty n.reads_agrees;
 }
@@ -106,12 +106,12 @@ with_aliases ps n = record {
   State = n.State;
   empty = n.empty;
   count = n.count;
-  by_tree = λ names s k t. n.by_tree names s (field_name_of ps k) t;
+  next_state = λ names s k t. n.next_state names s (field_name_of ps k) t;
   refuses = λ names s k. n.refuses names s (field_name_of ps k);
   refused = λ names s k h t. n.refused names s (field_name_of ps k) h t;
   end = n.end;
   from_members = λ names s ms. n.from_members names s (with_field_names ps ms);
-  members_agree = λ names s ms. alias-apart ps (n.by_tree names) n.end s ms ∙ n.members_agree names s (with_field_names ps ms);
+  members_agree = λ names s ms. alias-apart ps (n.next_state names) n.end s ms ∙ n.members_agree names s (with_field_names ps ms);
   reads = λ names ms v. n.reads names (with_field_names ps ms) v;
   reads_agrees = λ names ms v. n.reads_agrees names (with_field_names ps ms) v;
 }
@@ -119,5 +119,5 @@ with_aliases ps n = record {
 -- the meaning of a struct, by the meaning n of its fields and their names; `values` returns the fields' values
 abbrev pub struct_meaning : {V W : Type 0} → FieldsMeaning V → List Name → (W → V) → Meaning W
 struct_meaning n names values =
-    meant (λ w. n.content (values w)) (object_of (n.from_members names n.empty)) (StructReads (n.reads names) values)
+    meaning_with (λ w. n.content (values w)) (object_of (n.from_members names n.empty)) (StructReads (n.reads names) values)
     (struct-given (n.reads names) values (n.from_members names n.empty) n.content (n.reads_agrees names))

@@ -10,7 +10,7 @@ use Rattle.std.proofs.lemmas.Option.{same_Some}
 use Rattle.std.proofs.lemmas.List.Elements.{All-contains, All-from_recursion}
 use Rattle.std.proofs.lemmas.Map.Lookups.{exact_bytes}
 use Rattle.miniserde_model.specs.Tree.{Tree, Members, no_members, member}
-use Rattle.miniserde_model.specs.Normal.{text_cmp, with_first_by, with_first, last_of}
+use Rattle.miniserde_model.specs.Normal.{text_cmp, with_if_absent_by, with_if_absent, last_of}
 use Rattle.miniserde_keys.specs.Keys.{Key}
 use Rattle.miniserde_read.specs.types.Objects.{Name}
 use Rattle.miniserde_read.specs.types.Maps.{key_at, first_and_last, first_and_last_at, AllAccepted, entry_at}
@@ -46,9 +46,9 @@ module _ {K V : Type 0} (code : K → Key) (text : K → List ℕ) (f : V → Tr
 -- ---- members in the order of their names
 
 module _ {C : Type 0} (read : Name → Option Key) (code : Key → Key) (of : Tree → Option C) where
-  taken_first : (n : Name) (t : Tree) (ms : Members) → IsSome (read n) → IsSome (of t) → AllAccepted read of ms → AllAccepted read of (with_first n t ms)
+  taken_first : (n : Name) (t : Tree) (ms : Members) → IsSome (read n) → IsSome (of t) → AllAccepted read of ms → AllAccepted read of (with_if_absent n t ms)
   taken_first n t no_members r g h = (r, (g, tt))
-  taken_first n t (member o u ms) r g h = elim (text_cmp n o) as (λ c. AllAccepted read of (with_first_by c n t o u ms (with_first n t ms))) [
+  taken_first n t (member o u ms) r g h = elim (text_cmp n o) as (λ c. AllAccepted read of (with_if_absent_by c n t o u ms (with_if_absent n t ms))) [
     | Less ↦ (r, (g, h))
     | Equal ↦ h
     | Greater ↦ (h.0, (h.1.0, taken_first n t ms r g h.1.1))
@@ -59,9 +59,9 @@ module _ {C : Type 0} (read : Name → Option Key) (code : Key → Key) (of : Tr
   taken_in_order (member n t ms) h = taken_first n t (in_order ms) h.0 h.1.0 (taken_in_order ms h.1.1)
 
   -- a name at another code changes nothing
-  pub met_other : (q : Key) (n : Name) (t : Tree) (ms : Members) → key_at code q (read n) ≡ None → first_and_last_at read code q (with_first n t ms) ≡ first_and_last_at read code q ms
+  pub met_other : (q : Key) (n : Name) (t : Tree) (ms : Members) → key_at code q (read n) ≡ None → first_and_last_at read code q (with_if_absent n t ms) ≡ first_and_last_at read code q ms
   met_other q n t no_members k = rw k refl
-  met_other q n t (member o u ms) k = elim (text_cmp n o) as (λ c. first_and_last_at read code q (with_first_by c n t o u ms (with_first n t ms)) ≡ first_and_last_at read code q (member o u ms)) [
+  met_other q n t (member o u ms) k = elim (text_cmp n o) as (λ c. first_and_last_at read code q (with_if_absent_by c n t o u ms (with_if_absent n t ms)) ≡ first_and_last_at read code q (member o u ms)) [
     | Less ↦ rw k refl
     | Equal ↦ refl
     | Greater ↦ ap (first_and_last (key_at code q (read o)) u) (met_other q n t ms k)
@@ -74,11 +74,11 @@ module _ {C : Type 0} (read : Name → Option Key) (code : Key → Key) (of : Tr
   met_none (Some c) t (Some p) e = absurd (cc)
 
   -- a name at the code, where no other is
-  pub met_first : (q : Key) (n : Name) (t : Tree) (c : Key) (ms : Members) → key_at code q (read n) ≡ Some c → first_and_last_at read code q ms ≡ None → first_and_last_at read code q (with_first n t ms) ≡ Some (c, t)
+  pub met_first : (q : Key) (n : Name) (t : Tree) (c : Key) (ms : Members) → key_at code q (read n) ≡ Some c → first_and_last_at read code q ms ≡ None → first_and_last_at read code q (with_if_absent n t ms) ≡ Some (c, t)
   met_first q n t c no_members k m = rw k refl
   met_first q n t c (member o u ms) k m =
       let none = met_none (key_at code q (read o)) u (first_and_last_at read code q ms) m in
-      elim (text_cmp n o) as (λ r. text_cmp n o ≡ r → first_and_last_at read code q (with_first_by r n t o u ms (with_first n t ms)) ≡ Some (c, t)) [
+      elim (text_cmp n o) as (λ r. text_cmp n o ≡ r → first_and_last_at read code q (with_if_absent_by r n t o u ms (with_if_absent n t ms)) ≡ Some (c, t)) [
         | Less ↦ λ r. ap (first_and_last (key_at code q (read n)) t) m ∙ ap (λ z. first_and_last z t None) k
         | Equal ↦ λ r. let s : n ≡ o = exact_bytes n o r in absurd (cc (sym k ∙ ap (λ z. key_at code q (read z)) s ∙ none.0))
         | Greater ↦ λ r. rw (none.0) (met_first q n t c ms k none.1)

@@ -12,7 +12,7 @@ use Rattle.std.specs.List.Sorted.{IsStrictlySortedBy}
 use Rattle.std.proofs.lemmas.List.Elements.{All-contains, All-from_recursion}
 use Rattle.std.proofs.lemmas.Map.Keys.{IsDistinct-from_sorted}
 use Rattle.miniserde_model.specs.Tree.{Tree, members}
-use Rattle.miniserde_model.specs.Normal.{with_first}
+use Rattle.miniserde_model.specs.Normal.{with_if_absent}
 use Rattle.miniserde_keys.specs.Keys.{Key}
 use Rattle.miniserde_keys.specs.laws.Keys.{ReadsBack}
 use Rattle.miniserde_read.specs.types.Objects.{Name}
@@ -193,7 +193,7 @@ module _ {K V C : Type 0} (read : Name → Option Key) (code : Key → Key) (con
   met_in_order q (e ∷ es) h d =
       let b = back e.0 h.0.0 in
       let rest = met_in_order q es h.1 d.1 in
-      elim (bytes_eq (code_of b.0) q) as (λ c. bytes_eq (code_of b.0) q ≡ c → first_and_last_at read code q (with_first (text e.0) (f e.1) (in_order (members_of text f es))) ≡ first_and_last (cond c (Some (content b.0)) None) (f e.1) (first_and_last_at read code q (members_of text f es))) [
+      elim (bytes_eq (code_of b.0) q) as (λ c. bytes_eq (code_of b.0) q ≡ c → first_and_last_at read code q (with_if_absent (text e.0) (f e.1) (in_order (members_of text f es))) ≡ first_and_last (cond c (Some (content b.0)) None) (f e.1) (first_and_last_at read code q (members_of text f es))) [
         | false ↦ λ c. met_other read code of q (text e.0) (f e.1) (in_order (members_of text f es)) (rw (b.2, c) refl) ∙ rest
         | true ↦ λ c.
             let none = none_met q es h.1 (others_apart q e es d (sym b.3 ∙ same_code _ _ c)) in

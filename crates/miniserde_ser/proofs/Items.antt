@@ -5,12 +5,12 @@ use Rattle.std.proofs.Common.{◌≡◌, ℕ, ◌+◌, ◌<◌, List, [], ◌∷
 use Rattle.std.proofs.lemmas.List.{take_more, append-nil, length-take-le}
 use Rattle.miniserde_model.specs.Tree.{Tree}
 use Rattle.miniserde_model.specs.Compact.{compact, compact_children, compact_more}
-use Rattle.miniserde_model.specs.IsTree.{IsTree, AreTrees}
+use Rattle.miniserde_model.specs.InRange.{InRange, AllInRange}
 use Rattle.std.specs.Prelude.{Result, OnOk}
 use Rattle.std.proofs.lemmas.Result.{on_ok_weaker}
 use Rattle.miniserde_model.specs.declared.error.Error.{Error}
 use Rattle.miniserde_ser.specs.Trees.{trees_of}
-use Rattle.miniserde_ser.specs.Writer.{Writing, Appends, after_append, with_first_flag}
+use Rattle.miniserde_ser.specs.Writer.{WriterView, Appends, after_append, with_first_flag}
 
 compact_more-snoc : {A : Type 0} (f : A → Tree) (xs : List A) (x : A) → compact_more (trees_of f (xs ++ x ∷ [])) ≡ compact_more (trees_of f xs) ++ (44 ∷ []) ++ compact (f x)
 compact_more-snoc f [] x = grind (arith, append_assoc {A = ℕ}, append-nil {A = ℕ})
@@ -21,9 +21,9 @@ compact_children-snoc : {A : Type 0} (f : A → Tree) (xs : List A) (x : A) (b :
 compact_children-snoc f [] x b s n = rw (s refl) (grind (arith, append-nil {A = ℕ}))
 compact_children-snoc f (y ∷ ys) x b s n = let e : b ≡ false = n (omega arith) in rw e (grind (arith, append_assoc {A = ℕ}, compact_more-snoc f ys x))
 
-pub AreTrees-snoc : {A : Type 0} (f : A → Tree) (xs : List A) (x : A) → AreTrees (trees_of f xs) → IsTree (f x) → AreTrees (trees_of f (xs ++ x ∷ []))
-AreTrees-snoc f [] x h r = (r, tt)
-AreTrees-snoc f (y ∷ ys) x h r = (h.0, AreTrees-snoc f ys x h.1 r)
+pub AllInRange-snoc : {A : Type 0} (f : A → Tree) (xs : List A) (x : A) → AllInRange (trees_of f xs) → InRange (f x) → AllInRange (trees_of f (xs ++ x ∷ []))
+AllInRange-snoc f [] x h r = (r, tt)
+AllInRange-snoc f (y ∷ ys) x h r = (h.0, AllInRange-snoc f ys x h.1 r)
 
 pub took : {A : Type 0} (xs : List A) (i : ℕ) (x : A) → i < length xs → x ≡ get_or xs i x → take (i + 1) xs ≡ take i xs ++ x ∷ []
 took xs i x h e = take_more xs i x h ∙ ap (λ y. take i xs ++ y ∷ []) (sym e)
@@ -40,9 +40,9 @@ compact_children_step f xs i x b pre old mid new h e s n o m w =
     rw (took xs i x h e) (compact_children_turn f (take i xs) x i b pre old mid new (length-take-le i xs (omega arith)) s n o m w)
 
 -- the trees of the elements so far are trees
-pub AreTrees_step : {A : Type 0} (f : A → Tree) (xs : List A) (i : ℕ) (x : A) → i < length xs → x ≡ get_or xs i x → AreTrees (trees_of f (take i xs)) → IsTree (f x) → AreTrees (trees_of f (take (i + 1) xs))
-AreTrees_step f xs i x h e a r = rw (took xs i x h e) (AreTrees-snoc f (take i xs) x a r)
+pub AllInRange_step : {A : Type 0} (f : A → Tree) (xs : List A) (i : ℕ) (x : A) → i < length xs → x ≡ get_or xs i x → AllInRange (trees_of f (take i xs)) → InRange (f x) → AllInRange (trees_of f (take (i + 1) xs))
+AllInRange_step f xs i x h e a r = rw (took xs i x h e) (AllInRange-snoc f (take i xs) x a r)
 
 -- what a last piece makes of the text of all items before it
-pub appends_text : (old new : Writing) (bs whole : List ℕ) (first : Bool) (r : Result (Unit {0}) Error) → Appends old bs first r new → old.text ++ bs ≡ whole → OnOk r (new.text ≡ whole)
-appends_text old new bs whole first r a h = on_ok_weaker r (λ (e : new ≡ with_first_flag (after_append old bs new.capacity) first). ap (λ (w : Writing). w.text) e ∙ h) a.ok
+pub appends_text : (old new : WriterView) (bs whole : List ℕ) (first : Bool) (r : Result (Unit {0}) Error) → Appends old bs first r new → old.text ++ bs ≡ whole → OnOk r (new.text ≡ whole)
+appends_text old new bs whole first r a h = on_ok_weaker r (λ (e : new ≡ with_first_flag (after_append old bs new.capacity) first). ap (λ (w : WriterView). w.text) e ∙ h) a.ok

@@ -3,7 +3,7 @@ use Rattle.std.proofs.Common.{◌≡◌, ℕ, ◌<◌, List, [], ◌∷◌, ◌+
 use Rattle.std.proofs.lemmas.List.{append-nil}
 use Rattle.miniserde_model.specs.Tree.{Tree}
 use Rattle.miniserde_model.specs.Compact.{compact, string_text, compact_members, compact_more_members}
-use Rattle.miniserde_model.specs.IsTree.{IsTree, AreNamedTrees}
+use Rattle.miniserde_model.specs.InRange.{InRange, MembersInRange}
 use Rattle.miniserde_ser.specs.Trees.{members_of}
 
 module _ {K V : Type 0} (text : K → List ℕ) (f : V → Tree) where
@@ -23,6 +23,6 @@ module _ {K V : Type 0} (text : K → List ℕ) (f : V → Tree) where
       rw (w, m, o, grown) (simp append_assoc refl)
 
   -- the members so far have trees, and names that are texts
-  pub AreNamedTrees_step : (es : List (K × V)) (e : K × V) → AreNamedTrees (members_of text f es) → IsUtf8 (text e.0) → IsTree (f e.1) → AreNamedTrees (members_of text f (es ++ e ∷ []))
-  AreNamedTrees_step [] e h u r = (u, r, tt)
-  AreNamedTrees_step (d ∷ es) e h u r = (h.0, h.1, AreNamedTrees_step es e h.2 u r)
+  pub MembersInRange_step : (es : List (K × V)) (e : K × V) → MembersInRange (members_of text f es) → IsUtf8 (text e.0) → InRange (f e.1) → MembersInRange (members_of text f (es ++ e ∷ []))
+  MembersInRange_step [] e h u r = (u, r, tt)
+  MembersInRange_step (d ∷ es) e h u r = (h.0, h.1, MembersInRange_step es e h.2 u r)

@@ -4,7 +4,7 @@ use Rattle.miniserde_model.specs.declared.error.Error.{Error}
 use Rattle.miniserde_model.specs.declared.error.Error.TheVariants.{Memory}
 
 -- what a contract sees of a writer
-pub record Writing : Type 0 where
+pub record WriterView : Type 0 where
   -- the bytes that are written so far
   pub text : List ℕ
   -- the next element or member is the first of its container
@@ -15,24 +15,24 @@ pub record Writing : Type 0 where
   pub capacity : ℕ
 
 -- the writer after the bytes bs were appended, with room for n bytes in all
-abbrev pub after_append : Writing → List ℕ → ℕ → Writing
+abbrev pub after_append : WriterView → List ℕ → ℕ → WriterView
 after_append w bs n = record w { text = w.text ++ bs; capacity = n }
 
 -- the writer with its flag `first` set to b
-abbrev pub with_first_flag : Writing → Bool → Writing
+abbrev pub with_first_flag : WriterView → Bool → WriterView
 with_first_flag w b = record w { first = b }
 
 -- the writer after a call failed
-abbrev pub with_refused : Writing → Writing
+abbrev pub with_refused : WriterView → WriterView
 with_refused w = record w { refused = true }
 
 -- if no call failed before, the text has no room for the bytes bs
-abbrev pub LacksRoom : Writing → List ℕ → Type 0
+abbrev pub LacksRoom : WriterView → List ℕ → Type 0
 LacksRoom w bs = w.refused ≡ false → w.capacity < length w.text + length bs
 
 -- The call appends the bytes bs and sets the flag `first`; or it fails with `Memory`, for lack of room or since a
 -- call failed before, and the text and its capacity are as before.
-pub record Appends (old : Writing) (bs : List ℕ) (first : Bool) (answer : Result (Unit {0}) Error) (new : Writing) : Type 0 where
+pub record Appends (old : WriterView) (bs : List ℕ) (first : Bool) (answer : Result (Unit {0}) Error) (new : WriterView) : Type 0 where
   pub ok : OnOk answer (new ≡ with_first_flag (after_append old bs new.capacity) first)
   pub stays : OnOk answer (old.refused ≡ false)
   pub memory : OnErr answer (IsErrOf answer Memory)

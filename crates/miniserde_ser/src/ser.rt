@@ -6,7 +6,7 @@ ghost use Rattle.std.specs.Prelude.{◌≡◌, ◌++◌, true, false, OnOk, OnEr
 ghost use Rattle.miniserde_model.specs.Tree.{Tree};
 ghost use Rattle.miniserde_model.specs.Compact.{compact};
 ghost use Rattle.miniserde_text.specs.Texts.{Extends};
-ghost use Rattle.miniserde_model.specs.IsTree.{IsTree};
+ghost use Rattle.miniserde_model.specs.InRange.{InRange};
 ghost use Rattle.miniserde_model.specs.declared.error.Error.TheVariants.{Memory};
 
 mod compact;
@@ -51,9 +51,9 @@ pub struct Writer {
 
 impl Model for Writer {
     ghost use Rattle.std.specs.Prelude.{string_bytes, string_capacity};
-    ghost use Rattle.miniserde_ser.specs.Writer.{Writing};
+    ghost use Rattle.miniserde_ser.specs.Writer.{WriterView};
 
-    ghost Value = { Writing };
+    ghost Value = { WriterView };
 
     ghost view = { λ w. record {
       text = string_bytes w.text;
@@ -291,7 +291,7 @@ pub trait Serialize {
     /// writer failed; the writer then returns no text.
     fn begin(&self, w: &mut Writer) -> Result<()>
         ensures ok { OnOk result (w.new.text ≡ w.old.text ++ compact (tree self.now)) }
-        ensures is_tree { OnOk result (IsTree (tree self.now)) }
+        ensures in_range { OnOk result (InRange (tree self.now)) }
         ensures first { OnOk result (w.old.first ≡ false → w.new.first ≡ false) }
         ensures unrefused { OnOk result (w.new.refused ≡ false) }
         ensures stays { OnOk result (w.old.refused ≡ false) }

@@ -9,10 +9,10 @@ use Rattle.std.proofs.lemmas.Option.{same_Some}
 use Rattle.std.proofs.lemmas.Map.Lookups.{exact_bytes}
 use Rattle.std.proofs.lemmas.Slice.Eq.{bytes_eq-Decides}
 use Rattle.miniserde_model.specs.Tree.{Tree, members, Members, no_members, member}
-use Rattle.miniserde_model.specs.Normal.{text_cmp, with_first_by, with_first, norm, norm_members}
+use Rattle.miniserde_model.specs.Normal.{text_cmp, with_if_absent_by, with_if_absent, norm, norm_members}
 use Rattle.miniserde_keys.specs.Keys.{Key}
 use Rattle.miniserde_read.specs.types.Objects.{Name}
-use Rattle.miniserde_read.specs.types.Maps.{key_at, first_and_last, first_and_last_at, AllAccepted, Entries, no_key, map_of}
+use Rattle.miniserde_read.specs.types.Maps.{key_at, first_and_last, first_and_last_at, AllAccepted, MapContent, no_key, map_of}
 use Rattle.miniserde_read.specs.laws.Maps.{given_at, taken-given, met-taken, map-taken}
 use Rattle.miniserde_stable.specs.Stable.{IsStable}
 use Rattle.miniserde_stable.proofs.Types.{stable-by}
@@ -51,9 +51,9 @@ at_code code q (Some d) c e = elim (bytes_eq (code d) q) as (λ b. bytes_eq (cod
 -- ---- what is taken
 
 module _ {C : Type 0} (read : Name → Option Key) (code : Key → Key) (of : Tree → Option C) where
-  pub taken_first : (n : Name) (t : Tree) (ms : Members) → IsSome (read n) → IsSome (of t) → AllAccepted read of ms → AllAccepted read of (with_first n t ms)
+  pub taken_first : (n : Name) (t : Tree) (ms : Members) → IsSome (read n) → IsSome (of t) → AllAccepted read of ms → AllAccepted read of (with_if_absent n t ms)
   taken_first n t no_members r g h = (r, (g, tt))
-  taken_first n t (member o u ms) r g h = elim (text_cmp n o) as (λ c. AllAccepted read of (with_first_by c n t o u ms (with_first n t ms))) [
+  taken_first n t (member o u ms) r g h = elim (text_cmp n o) as (λ c. AllAccepted read of (with_if_absent_by c n t o u ms (with_if_absent n t ms))) [
     | Less ↦ (r, (g, h))
     | Equal ↦ h
     | Greater ↦ (h.0, (h.1.0, taken_first n t ms r g h.1.1))
@@ -63,9 +63,9 @@ module _ {C : Type 0} (read : Name → Option Key) (code : Key → Key) (of : Tr
 
 module _ (read : Name → Option Key) (code : Key → Key) (one_name : (n m : Name) (c d : Key) → read n ≡ Some c → read m ≡ Some d → code c ≡ code d → n ≡ m) where
   -- a member in its place is met as one in front is
-  met_first : (q : Key) (n : Name) (t : Tree) (ms : Members) → first_and_last_at read code q (with_first n t ms) ≡ first_and_last (key_at code q (read n)) t (first_and_last_at read code q ms)
+  met_first : (q : Key) (n : Name) (t : Tree) (ms : Members) → first_and_last_at read code q (with_if_absent n t ms) ≡ first_and_last (key_at code q (read n)) t (first_and_last_at read code q ms)
   met_first q n t no_members = refl
-  met_first q n t (member o u ms) = elim (text_cmp n o) as (λ r. text_cmp n o ≡ r → first_and_last_at read code q (with_first_by r n t o u ms (with_first n t ms)) ≡ first_and_last (key_at code q (read n)) t (first_and_last (key_at code q (read o)) u (first_and_last_at read code q ms))) [
+  met_first q n t (member o u ms) = elim (text_cmp n o) as (λ r. text_cmp n o ≡ r → first_and_last_at read code q (with_if_absent_by r n t o u ms (with_if_absent n t ms)) ≡ first_and_last (key_at code q (read n)) t (first_and_last (key_at code q (read o)) u (first_and_last_at read code q ms))) [
     | Less ↦ λ r. refl
     | Equal ↦ λ r.
         let same : n ≡ o = exact_bytes n o r in
@@ -105,7 +105,7 @@ module _ {C : Type 0} (read : Name → Option Key) (code : Key → Key) (of : Tr
     | Some c ↦ λ e i. ap (option_map {U = Key × C} (λ d. (p.0, d))) (stays p.1 c e)
   ] refl (s p refl)
 
-  members-stay : (ms : Members) (c : Entries C) → map_of read code of (members ms) ≡ Some c → map_of read code of (members (norm_members ms)) ≡ Some c
+  members-stay : (ms : Members) (c : MapContent C) → map_of read code of (members ms) ≡ Some c → map_of read code of (members (norm_members ms)) ≡ Some c
   members-stay ms c e =
       let taken = taken-given read code of no_key c ms e in
       let same : (λ q. given_at of None (first_and_last_at read code q (norm_members ms))) ≡ (λ q. given_at of None (first_and_last_at read code q ms)) = λ i q. (ap (given_at of None) (met_normal read code one_name q ms) ∙ given_normal (first_and_last_at read code q ms) (λ p f. met-taken read code of q ms p taken f)) i in

@@ -7,17 +7,17 @@ use Rattle.miniserde_model.specs.Tree.{Tree, nonneg, Members, members, no_member
 use Rattle.miniserde_model.specs.Normal.{norm}
 use Rattle.miniserde_keys.specs.Keys.{Key, of_nat, read_unsigned}
 use Rattle.miniserde_read.specs.types.Integers.{unsigned_of}
-use Rattle.miniserde_read.specs.types.Maps.{Entries, map_of}
+use Rattle.miniserde_read.specs.types.Maps.{MapContent, map_of}
 use Rattle.miniserde_stable.specs.Stable.{IsStable}
 
 -- `1` and `01`
 abbrev two_names : Members
 two_names = member (49 ∷ []) (nonneg 1) (member (48 ∷ 49 ∷ []) (nonneg 2) no_members)
 
-abbrev read : Tree → Option (Entries ℤ)
+abbrev read : Tree → Option (MapContent ℤ)
 read = map_of (read_unsigned 8) (λ c. c) (unsigned_of 8)
 
-abbrev at_one : Option (Entries ℤ) → Option (Key × ℤ)
+abbrev at_one : Option (MapContent ℤ) → Option (Key × ℤ)
 at_one o = option_and_then (λ m. m (of_nat 1)) o
 
 first : at_one (read (members two_names)) ≡ Some (of_nat 1, pos 2)
@@ -28,7 +28,7 @@ second : at_one (read (norm (members two_names))) ≡ Some (of_nat 1, pos 1)
 unfolding read_unsigned
 second = refl
 
-taken : (o : Option (Entries ℤ)) → at_one o ≡ Some (of_nat 1, pos 2) → (c : Entries ℤ) × (o ≡ Some c)
+taken : (o : Option (MapContent ℤ)) → at_one o ≡ Some (of_nat 1, pos 2) → (c : MapContent ℤ) × (o ≡ Some c)
 taken None e = absurd (cc)
 taken (Some c) e = (c, refl)
 

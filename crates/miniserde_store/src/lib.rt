@@ -4,4 +4,4 @@
 
 mod store;
 
-pub use store::{canonical_of, read_canonical, sent_itself};
+pub use store::{canonical_of, read_canonical, canonical_text_determines_content};

@@ -8,7 +8,7 @@ ghost use Rattle.miniserde_model.specs.declared.error.Error.TheVariants.{Invalid
 
 use miniserde_canonical::canonical;
 use miniserde_model::error::Result;
-use miniserde_model::json_is_tree;
+use miniserde_model::json_in_range;
 use miniserde_read::from_str;
 use miniserde_round::{Lossless, RoundTrip};
 use miniserde_ser::ser::{Serialize, to_string};
@@ -33,7 +33,7 @@ pub fn read_canonical<T: Stable>(alloc: Global, j: &str) -> Result<(T, String)>
     ensures invalid { result ≡ Err Invalid → (t : Tree) → IsJson j.now t → (v : T) → T.means.reads t v → ⊥ }
 {
     means_in_normal_form::<T>();
-    json_is_tree();
+    json_in_range();
     let value: T = from_str(alloc, j)?;
     let text = canonical(alloc, j)?;
     Ok((value, text))
@@ -50,7 +50,7 @@ pub fn canonical_of<T: Serialize>(alloc: Global, value: &T) -> Result<String>
         → norm u ≡ norm (T.tree value.now)) }
     ensures memory { OnErr result (IsErrOf result Memory) }
 {
-    json_is_tree();
+    json_in_range();
     let text = to_string(alloc, value)?;
     let canonical = canonical(alloc, text.as_str())?;
     Ok(canonical)
@@ -59,7 +59,7 @@ pub fn canonical_of<T: Serialize>(alloc: Global, value: &T) -> Result<String>
 /// Does nothing. It promises that a text whose canonical text is that of a valid value is read as a
 /// value of the same content, if it is read at all, and that two valid values with one canonical
 /// text have the same content.
-pub fn sent_itself<T: Stable + Lossless>()
+pub fn canonical_text_determines_content<T: Stable + Lossless>()
     ensures itself { (v w : T) (u : Tree) → T.real v → norm u ≡ norm (T.tree v) → T.means.reads u w
         → T.means.content w ≡ T.means.content v }
     ensures one { (v w : T) → T.real v → T.real w → norm (T.tree v) ≡ norm (T.tree w)

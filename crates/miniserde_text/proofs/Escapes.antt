@@ -9,7 +9,7 @@ use Rattle.std.proofs.lemmas.Bool.{true≢false}
 use Rattle.std.proofs.lemmas.List.{get_or_past}
 use lib.Utf8.{scalar_cases}
 use Rattle.miniserde_model.specs.String.{IsRaw, IsShortEscape, quote, backslash, slash, backspace, form_feed, line_feed, carriage_return, tab, IsUnit, IsPair, IsPiece, raw, short, unit, pair}
-use Rattle.miniserde_text.specs.private.Reading.{is_hex, is_high, is_low, begins_unit, unit_at, begins_escape, pair_of, low_at, unicode_at, short_at, escape_at}
+use Rattle.miniserde_text.specs.private.Reading.{is_hex, is_high, is_low, begins_code_unit, code_unit_at, begins_unicode_escape, pair_of, low_at, unicode_at, short_at, escape_at}
 use Rattle.miniserde_text.proofs.Runs.{or_true}
 use Rattle.std.proofs.lemmas.Option.{cond_some, same_Some}
 use Rattle.miniserde_text.proofs.Options.{chosen, none_if, then_if, map_some, bind_some, first_byte, and_parts}
@@ -32,7 +32,7 @@ and_no true = refl
 and_no false = refl
 
 -- fewer than four bytes are no unit
-pub few_bytes : (s : List ℕ) → length s < 4 → unit_at s ≡ None
+pub few_bytes : (s : List ℕ) → length s < 4 → code_unit_at s ≡ None
 few_bytes s h =
     let three : is_hex (slice_index s 3) ≡ false = ap is_hex (get_or_past s 3 0 (omega arith)) in
     ap (λ b. cond b (Some (value_of s, drop 4 s)) None) (ap (λ b. is_hex (slice_index s 0) && is_hex (slice_index s 1) && is_hex (slice_index s 2) && b) three ∙ and_no _)
@@ -49,9 +49,9 @@ record TakesUnit (s : List ℕ) (u : ℕ) (r : List ℕ) : Type 0 where
   is_unit : IsUnit (92 ∷ 117 ∷ digits) u
   text : s ≡ digits ++ r
 
-unit_takes : (s : List ℕ) (u : ℕ) (r : List ℕ) → unit_at s ≡ Some (u, r) → TakesUnit s u r
+unit_takes : (s : List ℕ) (u : ℕ) (r : List ℕ) → code_unit_at s ≡ Some (u, r) → TakesUnit s u r
 unit_takes s u r e =
-    let q = cond_some (begins_unit s) (value_of s, drop 4 s) (u, r) e in
+    let q = cond_some (begins_code_unit s) (value_of s, drop 4 s) (u, r) e in
     let c = and_parts _ (is_hex (slice_index s 3)) q.0 in
     let b = and_parts _ (is_hex (slice_index s 2)) c.0 in
     let a = and_parts (is_hex (slice_index s 0)) (is_hex (slice_index s 1)) b.0 in
@@ -88,9 +88,9 @@ record TakesLow (u : ℕ) (s : List ℕ) (c : ℕ) (r : List ℕ) : Type 0 where
 
 low_takes : (u : ℕ) (s : List ℕ) (c : ℕ) (r : List ℕ) → low_at u s ≡ Some (c, r) → TakesLow u s c r
 low_takes u s c r e =
-    let q = then_if (begins_escape s) _ (c, r) e in
+    let q = then_if (begins_unicode_escape s) _ (c, r) e in
     let b = and_parts (slice_index s 0 == 92) _ q.0 in
-    let f = bind_some _ (unit_at (drop 2 s)) (c, r) q.1 in
+    let f = bind_some _ (code_unit_at (drop 2 s)) (c, r) q.1 in
     let g = cond_some (is_low f.0.0) (pair_of u f.0.0, f.0.1) (c, r) f.2 in
     let l = unit_takes (drop 2 s) f.0.0 f.0.1 f.1 in
     record {
@@ -121,7 +121,7 @@ Escaped s c r = (q : List ℕ) × IsPiece (92 ∷ q) c × (s ≡ q ++ r)
 unicode_takes : (s : List ℕ) (c : ℕ) (r : List ℕ) → unicode_at s ≡ Some (c, r) → (q : List ℕ) × IsPiece (92 ∷ 117 ∷ q) c × (s ≡ q ++ r)
 unfolding unicode_at
 unicode_takes s c r e =
-    let f = bind_some _ (unit_at s) (c, r) e in
+    let f = bind_some _ (code_unit_at s) (c, r) e in
     let h = unit_takes s f.0.0 f.0.1 f.1 in
     elim (chosen (is_high f.0.0) _ _ _ f.2) [
       | inl p ↦
@@ -188,7 +188,7 @@ escape_takes t c r e =
 
 -- ---- what the grammar has is read
 
-unit_only : (a : List ℕ) (u : ℕ) (h : IsUnit a u) (r : List ℕ) → unit_at (h.d3 ∷ h.d2 ∷ h.d1 ∷ h.d0 ∷ r) ≡ Some (u, r)
+unit_only : (a : List ℕ) (u : ℕ) (h : IsUnit a u) (r : List ℕ) → code_unit_at (h.d3 ∷ h.d2 ∷ h.d1 ∷ h.d0 ∷ r) ≡ Some (u, r)
 unit_only a u h r = rw (hex_passes h.d3 h.hex3, hex_passes h.d2 h.hex2, hex_passes h.d1 h.hex1, hex_passes h.d0 h.hex0) (ap (λ x. Some (x, r)) (sym h.value))
 
 scalar_no_surrogate : (c : ℕ) → IsScalar c → (is_high c ≡ false) × (is_low c ≡ false)

@@ -8,7 +8,7 @@ use Rattle.miniserde_model.specs.String.{IsString}
 use Rattle.miniserde_model.specs.Lexing.{BeforeColon, IsName, Names}
 use Rattle.miniserde_model.proofs.Strings.{same_string}
 use Rattle.miniserde_text.specs.private.Reading.{after_run}
-use Rattle.miniserde_text.specs.private.Inside.{Chars, BeginsWith, TakesName}
+use Rattle.miniserde_text.specs.private.Taking.{SpellsUpToQuote, BeginsWith, TakesName}
 use Rattle.miniserde_text.proofs.Runs.{run_split, run_only_space, whitespace_of, stands_of, stands_only}
 use Rattle.miniserde_text.proofs.Options.{first_byte}
 use Rattle.miniserde_text.proofs.Strings.{string_leads, string_chars}
@@ -21,7 +21,7 @@ colon_leads P s rest colon r (b, h, j) e at d =
     let text : s ≡ part ++ r = j ∙ ap (λ x. b ++ x) (tail ∙ sym (append_assoc w.0 (58 ∷ []) r)) ∙ sym (append_assoc b (w.0 ++ 58 ∷ []) r) in
     (part, record { spelled = b; space = w.0; text = refl; is_spelled = h; is_space = whitespace_of w.0 w.1 }, text)
 
-pub name_taken : (s n rest colon r cs : List ℕ) → slice_index s 0 ≡ 34 → Chars cs (drop 1 s) rest → n ≡ encode_utf8_all cs → colon ≡ after_run is_space rest → slice_index colon 0 ≡ 58
+pub name_taken : (s n rest colon r cs : List ℕ) → slice_index s 0 ≡ 34 → SpellsUpToQuote cs (drop 1 s) rest → n ≡ encode_utf8_all cs → colon ≡ after_run is_space rest → slice_index colon 0 ≡ 58
     → r ≡ drop 1 colon → TakesName s n r
 name_taken s n rest colon r cs at h e j c d = colon_leads (λ b. IsString b n) s rest colon r (string_leads cs s n rest at h e) j c d
 
@@ -33,11 +33,11 @@ pub name_quote : (s n r : List ℕ) → TakesName s n r → slice_index s 0 ≡ 
 name_quote s n r (b, h, j) =
     ap (λ x. slice_index x 0) (name_split s r b _ h j) ∙ ap (λ x. slice_index (x ++ (h.space ++ 58 ∷ r)) 0) h.is_spelled.text
 
-pub name_string : (s n r : List ℕ) → TakesName s n r → ((cs u : List ℕ) → Chars cs (drop 1 s) u → ⊥) → ⊥
+pub name_string : (s n r : List ℕ) → TakesName s n r → ((cs u : List ℕ) → SpellsUpToQuote cs (drop 1 s) u → ⊥) → ⊥
 name_string s n r (b, h, j) never =
     never h.is_spelled.characters (h.space ++ 58 ∷ r) (string_chars h.spelled n s (h.space ++ 58 ∷ r) h.is_spelled (name_split s r b _ h j))
 
-pub name_colon : (s n r ds rest colon : List ℕ) → slice_index s 0 ≡ 34 → TakesName s n r → Chars ds (drop 1 s) rest → colon ≡ after_run is_space rest → slice_index colon 0 ≢ 58 → ⊥
+pub name_colon : (s n r ds rest colon : List ℕ) → slice_index s 0 ≡ 34 → TakesName s n r → SpellsUpToQuote ds (drop 1 s) rest → colon ≡ after_run is_space rest → slice_index colon 0 ≢ 58 → ⊥
 name_colon s n r ds rest colon at (b, h, j) x c away =
     let l = string_leads ds s (encode_utf8_all ds) rest at x refl in
     let same = same_string l.0 h.spelled rest (h.space ++ 58 ∷ r) _ n l.1 h.is_spelled (sym l.2 ∙ name_split s r b _ h j) in

@@ -13,7 +13,7 @@ use Rattle.miniserde_model.specs.Number.{IsDigit, AreDigits, IsInt, IsMinus, IsF
 use Rattle.miniserde_model.specs.Bytes.{is_number_byte, StopsAt}
 use Rattle.miniserde_model.proofs.Runs.{AllPass}
 use Rattle.miniserde_text.specs.private.Reading.{after_run, is_digit, is_sign, is_exponent_letter, after_digits, after_minus, after_int, after_fraction, after_sign, after_exponent, after_tail, before, event_of_parts, event_at, number_at}
-use Rattle.miniserde_text.specs.private.Inside.{BeginsWith}
+use Rattle.miniserde_text.specs.private.Taking.{BeginsWith}
 use Rattle.miniserde_text.proofs.Runs.{run_split, run_only, stops_at, stops_of, or_true}
 use Rattle.std.proofs.lemmas.Option.{cond_some, same_Some}
 use Rattle.miniserde_text.proofs.Options.{chosen, none_if, bind_some, first_byte, first_of_test, before_append, before_is}

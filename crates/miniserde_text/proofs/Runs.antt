@@ -9,7 +9,7 @@ use Rattle.miniserde_model.specs.Lexing.{Stands}
 use Rattle.miniserde_model.proofs.Runs.{AllPass}
 use Rattle.miniserde_model.proofs.Prefixes.{whitespace_passes}
 use Rattle.miniserde_text.specs.private.Reading.{after_run, is_digit}
-use Rattle.miniserde_text.specs.private.Inside.{BeginsWith}
+use Rattle.miniserde_text.specs.private.Taking.{BeginsWith}
 use Rattle.miniserde_text.specs.Lexer.{Blank}
 
 pub space_ascii : (c : ℕ) → is_space c ≡ true → c < 128

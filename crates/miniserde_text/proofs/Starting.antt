@@ -16,7 +16,7 @@ use Rattle.miniserde_model.specs.Bytes.{is_space}
 use Rattle.miniserde_model.proofs.Prefixes.{whitespace_passes}
 use Rattle.miniserde_model.proofs.Unique.{kind_of_byte, Head, value_head, head_no_space, string_head, same_word, same_truth}
 use Rattle.miniserde_text.specs.private.Stack.{with_opened}
-use Rattle.miniserde_text.specs.private.Moving.{opened_kind, before_child, IsLive, Passes}
+use Rattle.miniserde_text.specs.private.Moving.{opened_kind, before_child, MomentFits, Passes}
 
 -- ---- the first byte
 
@@ -171,7 +171,7 @@ starts_on element st space part w p rest r k = absurd p
 starts_on (key s) st space part w p rest r k = absurd p
 starts_on finish st space part w p rest r k = absurd p
 
-pub live_at : (o : Option Kind) (st : List Kind) → IsLive (before_child (is_some o)) (with_opened o st)
+pub live_at : (o : Option Kind) (st : List Kind) → MomentFits (before_child (is_some o)) (with_opened o st)
 live_at None st = tt
 live_at (Some k) st = tt
 

@@ -1,5 +1,5 @@
 -- Decoding a string takes exactly the characters that the grammar gives it. A run or an escape passes over some
--- characters and no others (`Passes`), which composes (`passes_then`); if no piece can begin, there is no string
+-- characters and no others (`PassesCharacters`), which composes (`passes_then`); if no piece can begin, there is no string
 -- (`no_chars`, `no_escape`).
 use Rattle.std.proofs.Common.{◌≡◌, ◌≢◌, ℕ, ◌<◌, ◌≤◌, ◌==◌, nat_lt, Bool, true, false, List, [], ◌∷◌, ◌++◌, length, take, drop, Some, None, refl, ap, sym, subst, ◌∙◌, inl, inr, arith, lt_of_not-le, append_assoc, ltb-true}
 use Rattle.std.specs.Prelude.{◌⊎◌, slice_index}
@@ -18,7 +18,7 @@ use Rattle.miniserde_model.proofs.Runs.{AllPass}
 use Rattle.miniserde_model.proofs.Strings.{same_piece}
 use Rattle.miniserde_text.specs.Lexer.{HasBackslash}
 use Rattle.miniserde_text.specs.private.Reading.{after_run, before, is_unescaped, escape_at}
-use Rattle.miniserde_text.specs.private.Inside.{Chars, Passes, Adds, BeginsWith}
+use Rattle.miniserde_text.specs.private.Taking.{SpellsUpToQuote, PassesCharacters, AddsDecoded, BeginsWith}
 use Rattle.miniserde_text.proofs.Runs.{run_split, run_stops}
 use Rattle.miniserde_text.proofs.Options.{first_byte, none_is_some, and_parts, before_is}
 use Rattle.miniserde_text.proofs.Escapes.{piece_cases, escape_takes}
@@ -53,28 +53,28 @@ piece_first p c t h = elim (piece_cases p c h) [
 
 -- ---- passing over characters
 
-passes_nil : (t : List ℕ) → Passes [] t t
+passes_nil : (t : List ℕ) → PassesCharacters [] t t
 passes_nil t = record { on = λ cs r h. h; back = λ cs r h. (cs, refl, h) }
 
-passes_then : (ds es t u v : List ℕ) → Passes ds t u → Passes es u v → Passes (ds ++ es) t v
+passes_then : (ds es t u v : List ℕ) → PassesCharacters ds t u → PassesCharacters es u v → PassesCharacters (ds ++ es) t v
 passes_then ds es t u v h k = record {
-  on = λ cs r x. subst (λ l. Chars l t r) (sym (append_assoc ds es cs)) (h.on (es ++ cs) r (k.on cs r x));
+  on = λ cs r x. subst (λ l. SpellsUpToQuote l t r) (sym (append_assoc ds es cs)) (h.on (es ++ cs) r (k.on cs r x));
   back = λ cs r x.
       let a = h.back cs r x in
       let b = k.back a.0 r a.2 in
       (b.0, a.1 ∙ ap (λ l. ds ++ l) b.1 ∙ sym (append_assoc ds es b.0), b.2);
 }
 
-back_of : (p : List ℕ) (c : ℕ) (t u : List ℕ) → IsPiece p c → t ≡ p ++ u → (cs r : List ℕ) → Chars cs t r → (es : List ℕ) × (cs ≡ (c ∷ []) ++ es) × Chars es u r
+back_of : (p : List ℕ) (c : ℕ) (t u : List ℕ) → IsPiece p c → t ≡ p ++ u → (cs r : List ℕ) → SpellsUpToQuote cs t r → (es : List ℕ) × (cs ≡ (c ∷ []) ++ es) × SpellsUpToQuote es u r
 back_of p c t u h e [] r x = elim (piece_first p c u h) [
   | inl s ↦ let f : 34 ≡ 92 = sym (ap (λ l. slice_index l 0) x) ∙ ap (λ l. slice_index l 0) e ∙ s in absurd (true≢false (ap (λ n. n == 34) f))
   | inr s ↦ let f : is_unescaped 34 ≡ true = sym (ap (λ l. is_unescaped (slice_index l 0)) x) ∙ ap (λ l. is_unescaped (slice_index l 0)) e ∙ s in absurd (true≢false (sym f))
 ]
 back_of p c t u h e (d ∷ cs) r (q, v, k, f, x) =
     let same = same_piece p q u v c d h k (sym e ∙ f) in
-    (cs, ap (λ l. l ∷ cs) (sym same.0), subst (λ l. Chars cs l r) (sym same.1) x)
+    (cs, ap (λ l. l ∷ cs) (sym same.0), subst (λ l. SpellsUpToQuote cs l r) (sym same.1) x)
 
-piece_passes : (p : List ℕ) (c : ℕ) (t u : List ℕ) → IsPiece p c → t ≡ p ++ u → Passes (c ∷ []) t u
+piece_passes : (p : List ℕ) (c : ℕ) (t u : List ℕ) → IsPiece p c → t ≡ p ++ u → PassesCharacters (c ∷ []) t u
 piece_passes p c t u h e = record {
   on = λ cs r x. (p, u, h, e, x);
   back = λ cs r x. back_of p c t u h e cs r x;
@@ -104,26 +104,26 @@ raw_piece c s h = raw (record {
 })
 
 -- a run of bytes that stand for themselves
-raws_pass : (ds u : List ℕ) → scalars ds ≡ true → AllPass is_unescaped (encode_utf8_all ds) → Passes ds (encode_utf8_all ds ++ u) u
+raws_pass : (ds u : List ℕ) → scalars ds ≡ true → AllPass is_unescaped (encode_utf8_all ds) → PassesCharacters ds (encode_utf8_all ds ++ u) u
 raws_pass [] u s h = passes_nil u
 raws_pass (d ∷ ds) u s h =
     let sc = and_parts (scalar d) _ s in
     let e = pass_split (encode_utf8 d) (encode_utf8_all ds) h in
     passes_then (d ∷ []) ds _ (encode_utf8_all ds ++ u) u (piece_passes (encode_utf8 d) d _ _ (raw_piece d sc.0 (raw_plain d e.0 (nat_lt d 128) refl)) (append_assoc (encode_utf8 d) (encode_utf8_all ds) u)) (raws_pass ds u sc.1 e.1)
 
-run_passes : (b u : List ℕ) → IsUtf8 b → AllPass is_unescaped b → (ds : List ℕ) × Passes ds (b ++ u) u × (b ≡ encode_utf8_all ds)
-run_passes b u (ds, (s, e)) h = (ds, subst (λ x. Passes ds (x ++ u) u) e (raws_pass ds u s (subst (AllPass is_unescaped) (sym e) h)), sym e)
+run_passes : (b u : List ℕ) → IsUtf8 b → AllPass is_unescaped b → (ds : List ℕ) × PassesCharacters ds (b ++ u) u × (b ≡ encode_utf8_all ds)
+run_passes b u (ds, (s, e)) h = (ds, subst (λ x. PassesCharacters ds (x ++ u) u) e (raws_pass ds u s (subst (AllPass is_unescaped) (sym e) h)), sym e)
 
 -- ---- where no piece begins
 
-pub no_chars : (t : List ℕ) → is_unescaped (slice_index t 0) ≡ false → slice_index t 0 ≢ 34 → slice_index t 0 ≢ 92 → (cs r : List ℕ) → Chars cs t r → ⊥
+pub no_chars : (t : List ℕ) → is_unescaped (slice_index t 0) ≡ false → slice_index t 0 ≢ 34 → slice_index t 0 ≢ 92 → (cs r : List ℕ) → SpellsUpToQuote cs t r → ⊥
 no_chars t special no_quote no_slash [] r h = no_quote (ap (λ x. slice_index x 0) h)
 no_chars t special no_quote no_slash (c ∷ cs) r (p, u, h, e, k) = elim (piece_first p c u h) [
   | inl s ↦ no_slash (ap (λ x. slice_index x 0) e ∙ s)
   | inr s ↦ true≢false (sym (ap (λ x. is_unescaped (slice_index x 0)) e ∙ s) ∙ special)
 ]
 
-pub no_escape : (t : List ℕ) → escape_at t ≡ None → (cs r : List ℕ) → Chars cs (92 ∷ t) r → ⊥
+pub no_escape : (t : List ℕ) → escape_at t ≡ None → (cs r : List ℕ) → SpellsUpToQuote cs (92 ∷ t) r → ⊥
 no_escape t none [] r h = true≢false (sym (ap (λ l. slice_index l 0 == 34) h))
 no_escape t none (c ∷ cs) r (p, u, h, e, k) = elim (piece_cases p c h) [
   | inl a ↦ true≢false (sym (raw_first p c u a) ∙ ap (λ x. is_unescaped (slice_index x 0)) (sym e))
@@ -140,12 +140,12 @@ utf8_front s b t e u v =
     subst IsUtf8 front (IsUtf8-take s (length b) u (IsCharBoundary-at_seam s b t e v))
 
 -- the run at the front
-pub run_of : (s t : List ℕ) → t ≡ after_run is_unescaped s → IsUtf8 s → IsUtf8 t → (ds : List ℕ) × Passes ds s t × (before s t ≡ encode_utf8_all ds)
+pub run_of : (s t : List ℕ) → t ≡ after_run is_unescaped s → IsUtf8 s → IsUtf8 t → (ds : List ℕ) × PassesCharacters ds s t × (before s t ≡ encode_utf8_all ds)
 run_of s t e u v =
     let w = run_split is_unescaped s in
     let j : s ≡ w.0 ++ t = w.2 ∙ ap (λ x. w.0 ++ x) (sym e) in
     let p = run_passes w.0 t (utf8_front s w.0 t j u v) w.1 in
-    (p.0, subst (λ x. Passes p.0 x t) (sym j) p.1, before_is s w.0 t j ∙ p.2)
+    (p.0, subst (λ x. PassesCharacters p.0 x t) (sym j) p.1, before_is s w.0 t j ∙ p.2)
 
 pub run_ends : (s t : List ℕ) → t ≡ after_run is_unescaped s → (b : List ℕ) × (s ≡ b ++ t)
 run_ends s t e = let w = run_split is_unescaped s in (w.0, w.2 ∙ ap (λ x. w.0 ++ x) (sym e))
@@ -154,7 +154,7 @@ pub run_special : (s t : List ℕ) → t ≡ after_run is_unescaped s → is_une
 run_special s t e = ap (λ x. is_unescaped (slice_index x 0)) e ∙ run_stops is_unescaped refl s
 
 pub escape_adds : (old mid new s : List ℕ) (c : ℕ) (rest next : List ℕ) → escape_at s ≡ Some (c, rest) → next ≡ after_run is_unescaped rest → IsUtf8 rest → IsUtf8 next
-    → mid ≡ old ++ encode_utf8 c → new ≡ mid ++ before rest next → Adds old new (92 ∷ s) next
+    → mid ≡ old ++ encode_utf8 c → new ≡ mid ++ before rest next → AddsDecoded old new (92 ∷ s) next
 escape_adds old mid new s c rest next e n u v m k =
     let a = escape_takes s c rest e in
     let p = piece_passes (92 ∷ a.0) c (92 ∷ s) rest a.1 (ap (λ x. 92 ∷ x) a.2) in
@@ -170,49 +170,49 @@ escape_shorter s c rest next e n =
     let b = run_ends rest next n in
     omega (arith, ap length a.2 ∙ length-append a.0 rest, ap length b.1 ∙ length-append b.0 next)
 
-pub adds_nil : (old t : List ℕ) → Adds old old t t
+pub adds_nil : (old t : List ℕ) → AddsDecoded old old t t
 adds_nil old t = ([], passes_nil t, sym (append-nil old))
 
-adds_then : (a b c t u v : List ℕ) → Adds a b t u → Adds b c u v → Adds a c t v
+adds_then : (a b c t u v : List ℕ) → AddsDecoded a b t u → AddsDecoded b c u v → AddsDecoded a c t v
 adds_then a b c t u v h k =
     (h.0 ++ k.0, passes_then h.0 k.0 t u v h.1 k.1, k.2 ∙ ap (λ x. x ++ encode_utf8_all k.0) h.2 ∙ append_assoc a _ _ ∙ ap (λ x. a ++ x) (sym (encodes-append h.0 k.0)))
 
-pub quote_ends : (ds s t : List ℕ) → Passes ds s t → slice_index t 0 ≡ 34 → Chars ds s (drop 1 t)
-quote_ends ds s t p e = subst (λ x. Chars x s (drop 1 t)) (append-nil ds) (p.on [] (drop 1 t) (first_byte t 33 e))
+pub quote_ends : (ds s t : List ℕ) → PassesCharacters ds s t → slice_index t 0 ≡ 34 → SpellsUpToQuote ds s (drop 1 t)
+quote_ends ds s t p e = subst (λ x. SpellsUpToQuote x s (drop 1 t)) (append-nil ds) (p.on [] (drop 1 t) (first_byte t 33 e))
 
-pub end_refused : (old new s t : List ℕ) → Adds old new s t → is_unescaped (slice_index t 0) ≡ false → slice_index t 0 ≢ 34 → slice_index t 0 ≢ 92 → (cs r : List ℕ) → Chars cs s r → ⊥
+pub end_refused : (old new s t : List ℕ) → AddsDecoded old new s t → is_unescaped (slice_index t 0) ≡ false → slice_index t 0 ≢ 34 → slice_index t 0 ≢ 92 → (cs r : List ℕ) → SpellsUpToQuote cs s r → ⊥
 end_refused old new s t a special q b cs r h = let back = a.1.back cs r h in no_chars t special q b back.0 r back.2
 
-pub escape_refused : (old new s t : List ℕ) → Adds old new s t → slice_index t 0 ≡ 92 → ((cs r : List ℕ) → Chars cs (92 ∷ drop 1 t) r → ⊥) → (cs r : List ℕ) → Chars cs s r → ⊥
+pub escape_refused : (old new s t : List ℕ) → AddsDecoded old new s t → slice_index t 0 ≡ 92 → ((cs r : List ℕ) → SpellsUpToQuote cs (92 ∷ drop 1 t) r → ⊥) → (cs r : List ℕ) → SpellsUpToQuote cs s r → ⊥
 escape_refused old new s t a e never cs r h =
     let back = a.1.back cs r h in
-    never back.0 r (subst (λ x. Chars back.0 x r) (first_byte t 91 e) back.2)
+    never back.0 r (subst (λ x. SpellsUpToQuote back.0 x r) (first_byte t 91 e) back.2)
 
-pub string_of : (old new s t : List ℕ) → Adds old new s t → slice_index t 0 ≡ 34 → (cs : List ℕ) × Chars cs s (drop 1 t) × (new ≡ old ++ encode_utf8_all cs)
+pub string_of : (old new s t : List ℕ) → AddsDecoded old new s t → slice_index t 0 ≡ 34 → (cs : List ℕ) × SpellsUpToQuote cs s (drop 1 t) × (new ≡ old ++ encode_utf8_all cs)
 string_of old new s t a e = (a.0, quote_ends a.0 s t a.1 e, a.2)
 
-pub adds_escape : (a b c s t u : List ℕ) → Adds a b s t → slice_index t 0 ≡ 92 → Adds b c (92 ∷ drop 1 t) u → Adds a c s u
-adds_escape a b c s t u h e k = adds_then a b c s t u h (subst (λ x. Adds b c x u) (sym (first_byte t 91 e)) k)
+pub adds_escape : (a b c s t u : List ℕ) → AddsDecoded a b s t → slice_index t 0 ≡ 92 → AddsDecoded b c (92 ∷ drop 1 t) u → AddsDecoded a c s u
+adds_escape a b c s t u h e k = adds_then a b c s t u h (subst (λ x. AddsDecoded b c x u) (sym (first_byte t 91 e)) k)
 
-pub join_chars : (ds cs s t r : List ℕ) → Passes ds s t → Chars cs t r → Chars (ds ++ cs) s r
+pub join_chars : (ds cs s t r : List ℕ) → PassesCharacters ds s t → SpellsUpToQuote cs t r → SpellsUpToQuote (ds ++ cs) s r
 join_chars ds cs s t r p h = p.on cs r h
 
-pub run_refused : (ds s t : List ℕ) → Passes ds s t → ((cs r : List ℕ) → Chars cs t r → ⊥) → (cs r : List ℕ) → Chars cs s r → ⊥
+pub run_refused : (ds s t : List ℕ) → PassesCharacters ds s t → ((cs r : List ℕ) → SpellsUpToQuote cs t r → ⊥) → (cs r : List ℕ) → SpellsUpToQuote cs s r → ⊥
 run_refused ds s t p never cs r h = let b = p.back cs r h in never b.0 r b.2
 
 -- ---- strings as the grammar has them
 
-pieces_of : (cs t r : List ℕ) → Chars cs t r → (inside : List ℕ) × ArePieces inside cs × (t ≡ inside ++ 34 ∷ r)
+pieces_of : (cs t r : List ℕ) → SpellsUpToQuote cs t r → (inside : List ℕ) × ArePieces inside cs × (t ≡ inside ++ 34 ∷ r)
 pieces_of [] t r h = ([], refl, h)
 pieces_of (c ∷ cs) t r (p, u, h, e, k) =
     let q = pieces_of cs u r k in
     (p ++ q.0, (p, q.0, refl, h, q.1), e ∙ ap (λ x. p ++ x) q.2 ∙ sym (append_assoc p q.0 (34 ∷ r)))
 
-chars_of : (cs inside r : List ℕ) → ArePieces inside cs → Chars cs (inside ++ 34 ∷ r) r
+chars_of : (cs inside r : List ℕ) → ArePieces inside cs → SpellsUpToQuote cs (inside ++ 34 ∷ r) r
 chars_of [] inside r h = ap (λ x. x ++ 34 ∷ r) h
 chars_of (c ∷ cs) inside r (p, b, e, h, k) = (p, b ++ 34 ∷ r, h, ap (λ x. x ++ 34 ∷ r) e ∙ append_assoc p b (34 ∷ r), chars_of cs b r k)
 
-pub string_leads : (cs t s r : List ℕ) → slice_index t 0 ≡ 34 → Chars cs (drop 1 t) r → s ≡ encode_utf8_all cs → BeginsWith (λ b. IsString b s) t r
+pub string_leads : (cs t s r : List ℕ) → slice_index t 0 ≡ 34 → SpellsUpToQuote cs (drop 1 t) r → s ≡ encode_utf8_all cs → BeginsWith (λ b. IsString b s) t r
 string_leads cs t s r at h e =
     let q = pieces_of cs (drop 1 t) r h in (
       34 ∷ (q.0 ++ 34 ∷ []),
@@ -220,9 +220,9 @@ string_leads cs t s r at h e =
       first_byte t 33 at ∙ ap (λ x. 34 ∷ x) (q.2 ∙ sym (append_assoc q.0 (34 ∷ []) r)),
     )
 
-pub string_chars : (b s t r : List ℕ) (h : IsString b s) → t ≡ b ++ r → Chars h.characters (drop 1 t) r
+pub string_chars : (b s t r : List ℕ) (h : IsString b s) → t ≡ b ++ r → SpellsUpToQuote h.characters (drop 1 t) r
 string_chars b s t r h j =
-    subst (λ x. Chars h.characters x r) (sym (ap (drop 1) (j ∙ ap (λ x. x ++ r) h.text) ∙ append_assoc h.inside (34 ∷ []) r)) (chars_of h.characters h.inside r h.pieces)
+    subst (λ x. SpellsUpToQuote h.characters x r) (sym (ap (drop 1) (j ∙ ap (λ x. x ++ r) h.text) ∙ append_assoc h.inside (34 ∷ []) r)) (chars_of h.characters h.inside r h.pieces)
 
 -- ---- which text is borrowed
 
@@ -256,7 +256,7 @@ slash_first [] t r at e = absurd (true≢false (sym (ap (λ l. slice_index l 0 =
 slash_first (x ∷ xs) t r at e = (xs, ap (λ y. y ∷ xs) (sym (ap (λ l. slice_index l 0) e) ∙ at))
 
 -- a run up to a backslash, and the rest of the string
-pub escaped_inside : (s t r cs : List ℕ) → t ≡ after_run is_unescaped s → slice_index t 0 ≡ 92 → Chars cs t r → (inside : List ℕ) × (s ≡ inside ++ 34 ∷ r) × HasBackslash inside
+pub escaped_inside : (s t r cs : List ℕ) → t ≡ after_run is_unescaped s → slice_index t 0 ≡ 92 → SpellsUpToQuote cs t r → (inside : List ℕ) × (s ≡ inside ++ 34 ∷ r) × HasBackslash inside
 escaped_inside s t r cs e at h =
     let run = plain_run s t e in
     let q = pieces_of cs t r h in

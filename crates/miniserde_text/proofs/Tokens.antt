@@ -24,7 +24,7 @@ use Rattle.miniserde_text.specs.declared.json.lex.Text.{Text}
 use Rattle.miniserde_text.specs.declared.json.lex.Text.TheVariants as text
 use Rattle.miniserde_text.specs.Lexer.{event_of_token, StandsFor, EventStandsFor, EventLeavesScratch, BeginsEscaped}
 use Rattle.miniserde_text.specs.private.Reading.{after_run, number_at, word_at, token_by, token_at}
-use Rattle.miniserde_text.specs.private.Inside.{Chars, BeginsWith, TakesToken, EventTakesText, TakesText, ReachesBackslash}
+use Rattle.miniserde_text.specs.private.Taking.{SpellsUpToQuote, BeginsWith, TakesToken, EventTakesText, TakesText, ReachesBackslash}
 use Rattle.miniserde_text.proofs.Runs.{stops_at, stands_of, stands_only}
 use Rattle.std.proofs.lemmas.Option.{cond_some, same_Some}
 use Rattle.miniserde_text.proofs.Options.{chosen, first_byte, none_is_some}
@@ -141,7 +141,7 @@ start_only s t e r j h = (stands_only (Piece e) s t r (piece_first e r) j h.0, h
 
 -- ---- strings
 
-pub string_taken : (cs t s r : List ℕ) → slice_index t 0 ≡ 34 → Chars cs (drop 1 t) r → s ≡ encode_utf8_all cs → TakesToken t (string s) r
+pub string_taken : (cs t s r : List ℕ) → slice_index t 0 ≡ 34 → SpellsUpToQuote cs (drop 1 t) r → s ≡ encode_utf8_all cs → TakesToken t (string s) r
 string_taken cs t s r at h e = (string_leads cs t s r at h e, tt)
 
 no_quote : (b t r : List ℕ) (k : ℕ) → Head b k → (k ≡ 4 → ⊥) → slice_index t 0 ≡ 34 → t ≡ b ++ r → ⊥
@@ -152,7 +152,7 @@ no_quote b t r k h away at j =
 no_byte : (b t r : List ℕ) (c : ℕ) → b ≡ c ∷ [] → (c ≡ 34 → ⊥) → slice_index t 0 ≡ 34 → t ≡ b ++ r → ⊥
 no_byte b t r c h away at j = away (sym (ap (λ x. slice_index x 0) (j ∙ ap (λ x. x ++ r) h)) ∙ at)
 
-pub string_refused : (t : List ℕ) → slice_index t 0 ≡ 34 → ((cs r : List ℕ) → Chars cs (drop 1 t) r → ⊥) → (e : Step) (r : List ℕ) → TakesToken t e r → ⊥
+pub string_refused : (t : List ℕ) → slice_index t 0 ≡ 34 → ((cs r : List ℕ) → SpellsUpToQuote cs (drop 1 t) r → ⊥) → (e : Step) (r : List ℕ) → TakesToken t e r → ⊥
 string_refused t at never step.null r ((b, h, j), k) = no_quote b t r 0 (value_head null b h) (λ n. omega arith) at j
 string_refused t at never (boolean x) r ((b, h, j), k) = no_quote b t r 1 (value_head (truth x) b h) (λ n. omega arith) at j
 string_refused t at never (negative n) r ((b, h, j), k) = no_quote b t r 3 (value_head (neg n) b h) (λ n. omega arith) at j

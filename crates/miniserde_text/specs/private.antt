@@ -1,5 +1,5 @@
 pub mod Escape
-pub mod Inside
+pub mod Taking
 pub mod Moving
 pub mod Reading
 pub mod Stack

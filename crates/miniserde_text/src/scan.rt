@@ -28,7 +28,7 @@ pub(crate) fn is_special(c: u8) -> bool
 
 // Returns a mask whose bit i is set if byte i of the 32 must be escaped in a string.
 #[inline(always)]
-fn specials(v: u8x32) -> u64
+fn specials_of_thirty_two(v: u8x32) -> u64
     ensures { result ≡ mask_l (map is_special v) }
 {
     let controls = v.simd_lt(u8x32::splat(0x20));
@@ -107,7 +107,7 @@ fn search(bytes: &[u8], from: usize) -> usize
 {
     let mut i = from;
     'lanes: while bytes.len() - i >= 32 {
-        let found = specials(u8x32::from_slice(&bytes[i..]));
+        let found = specials_of_thirty_two(u8x32::from_slice(&bytes[i..]));
         if found != 0 {
             return i + found.trailing_zeros() as usize;
         }

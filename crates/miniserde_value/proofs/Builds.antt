@@ -21,9 +21,9 @@ use Rattle.miniserde_read.proofs.Consumes.{Consumes-none, Consumes-append, close
 use Rattle.miniserde_read.proofs.Values.{value_later, whole_at}
 use Rattle.miniserde_value.specs.Hole.{Hole, outside, in_list, in_members, has_member, put, with_name, after_close, complete_tree, after_begin, after_step, repeats, outcome}
 use Rattle.miniserde_value.specs.Retained.{retained_tree, retained_if}
-use Rattle.miniserde_value.specs.Marks.{innermost}
+use Rattle.miniserde_value.specs.Containers.{innermost}
 use Rattle.miniserde_value.specs.laws.Unique.{gives-kept}
-use Rattle.miniserde_value.specs.private.Builds.{Builds, Makes, NeverGives, kinds, is_due}
+use Rattle.miniserde_value.specs.private.Builds.{Builds, HoleAdvancesBy, NeverGives, kinds, is_due}
 
 -- ---- the open containers
 
@@ -90,7 +90,7 @@ closes_hole once (outside ts) k i es = absurd (cc)
 closes_hole once (in_list ts h) k i es = goes_on once false (in_list ts h) finish false (after_close (in_list ts h)) (and-false once) refl es
 closes_hole once (in_members ms n h) k i es = goes_on once false (in_members ms n h) finish false (after_close (in_members ms n h)) (and-false once) refl es
 
-close_makes : (once : Bool) (h g : Hole) (k : Kind) (f : Bool) → innermost h ≡ Some k → g ≡ after_close h → Makes once (before_child f) h (finish ∷ []) after g
+close_makes : (once : Bool) (h g : Hole) (k : Kind) (f : Bool) → innermost h ≡ Some k → g ≡ after_close h → HoleAdvancesBy once (before_child f) h (finish ∷ []) after g
 close_makes once h g k f i c = λ es. ap (λ z. outcome once z h (finish ∷ es)) (not_due f) ∙ closes_hole once h k i es ∙ ap (λ z. outcome once false z es) (sym c)
 
 pub close_builds : (once : Bool) (h g : Hole) (s r : List ℕ) (k : Kind) (f : Bool) → innermost h ≡ Some k → Follows k f true s r → g ≡ after_close h → Builds once (before_child f) h s after g r
@@ -106,7 +106,7 @@ goes_to_element once (outside ts) k i q es = absurd (cc)
 goes_to_element once (in_list ts h) k i q es = goes_on once false (in_list ts h) element true (in_list ts h) (and-false once) refl es
 goes_to_element once (in_members ms n h) k i q es = absurd (cc)
 
-element_makes : (once : Bool) (h g : Hole) (k : Kind) (f : Bool) → innermost h ≡ Some k → k ≡ kind.Seq → g ≡ h → Makes once (before_child f) h (element ∷ []) due g
+element_makes : (once : Bool) (h g : Hole) (k : Kind) (f : Bool) → innermost h ≡ Some k → k ≡ kind.Seq → g ≡ h → HoleAdvancesBy once (before_child f) h (element ∷ []) due g
 element_makes once h g k f i q e = λ es. ap (λ z. outcome once z h (element ∷ es)) (not_due f) ∙ goes_to_element once h k i q es ∙ ap (λ z. outcome once true z es) (sym e)
 
 pub element_builds : (once : Bool) (h g : Hole) (s u r : List ℕ) (k : Kind) (f : Bool) → innermost h ≡ Some k → k ≡ kind.Seq → Follows k f false s u → r ≡ u → g ≡ h → Builds once (before_child f) h s due g r
@@ -122,7 +122,7 @@ goes_to_member once (outside ts) n k i q l es = absurd (cc)
 goes_to_member once (in_list ts h) n k i q l es = absurd (cc)
 goes_to_member once (in_members ms m h) n k i q l es = goes_on once false (in_members ms m h) (key n) true (in_members ms (Some n) h) l refl es
 
-key_makes : (once : Bool) (h g : Hole) (n : List ℕ) (k : Kind) (f : Bool) → innermost h ≡ Some k → k ≡ kind.Map → (once && has_member n h) ≡ false → g ≡ with_name n h → Makes once (before_child f) h (key n ∷ []) due g
+key_makes : (once : Bool) (h g : Hole) (n : List ℕ) (k : Kind) (f : Bool) → innermost h ≡ Some k → k ≡ kind.Map → (once && has_member n h) ≡ false → g ≡ with_name n h → HoleAdvancesBy once (before_child f) h (key n ∷ []) due g
 key_makes once h g n k f i q l e = λ es. ap (λ z. outcome once z h (key n ∷ es)) (not_due f) ∙ goes_to_member once h n k i q l es ∙ ap (λ z. outcome once true z es) (sym e)
 
 kinds_named : (h : Hole) (n : List ℕ) → kinds (with_name n h) ≡ kinds h
@@ -212,7 +212,7 @@ read_ok once x scratch s s' h false (outside ts) b i p =
     let m = before_child (is_some (opened_kind e)) in
     let runs : Runs m p.done (with_opened (opened_kind e) []) s s' = subst (λ z. Runs m p.done z s s') (kinds_begun e (outside []) h b) (subst (λ z. Runs m z (kinds h) s s') (append-nil p.done) (p.passed.on [] s' refl)) in
     let w = whole_at x scratch p.done s s' runs in
-    let ends : (o : Bool) → Makes o m h p.done after (outside ts) → complete_tree (outside ts) ≡ retained_if o w.tree = λ o makes.
+    let ends : (o : Bool) → HoleAdvancesBy o m h p.done after (outside ts) → complete_tree (outside ts) ≡ retained_if o w.tree = λ o makes.
     sym (makes []) ∙ ap (λ z. outcome o z h (p.done ++ [])) (not_due (is_some (opened_kind e))) ∙ ap (outcome o false h) (append-nil p.done)
     ∙ sym (start_makes o e (outside []) h b p.done) ∙ ap (outcome o true (outside [])) w.is ∙ gives-kept o w.tree in
     (w.tree, w.is_value, ends false p.makes, ends once p.repeats_none)

@@ -5,9 +5,9 @@ use Rattle.miniserde_value.specs.declared.json.value.Value.{Value}
 use Rattle.miniserde_value.specs.Values.{children}
 use Rattle.miniserde_value.specs.Looks.{value_size}
 use Rattle.miniserde_value.proofs.Trees.{fold_tree, fold_tree_out, Each, tree_ind}
-use Rattle.miniserde_value.proofs.Shapes.{sizes, size_children}
+use Rattle.miniserde_value.proofs.ContentTrees.{sizes, size_children}
 
--- The looks to come for a value in hand: `beside` another that holds values, so that the other is parked in it,
+-- The looks to come for a value in hand: `beside` another that holds values, so that the other is replaced in it,
 -- or `alone`, so that nothing is.
 pub record Cost : Type 0 where
   pub beside : ℕ
@@ -18,7 +18,7 @@ abbrev pub all_beside : List Cost → ℕ
 all_beside [] = 0
 all_beside (c ∷ cs) = suc c.beside + all_beside cs
 
--- the first is taken in hand last, when its parent is empty; the parked value comes back once
+-- the first is taken in hand last, when its parent is empty; the replaced value comes back once
 abbrev pub cost_of : List Cost → Cost
 cost_of [] = record { beside = 0; alone = 0 }
 cost_of (c ∷ cs) = record { beside = suc (all_beside (c ∷ cs)); alone = suc c.alone + all_beside cs }

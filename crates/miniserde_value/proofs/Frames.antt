@@ -9,7 +9,7 @@ use Rattle.miniserde_ser.specs.Trees.{trees_of, members_of}
 use Rattle.miniserde_value.specs.declared.json.value.Value.{Value}
 use Rattle.miniserde_value.specs.declared.json.walk.frames.Frame.{Frame}
 use Rattle.miniserde_value.specs.declared.json.walk.frames.Frame.TheVariants as frame
-use Rattle.miniserde_value.specs.Values.{shape}
+use Rattle.miniserde_value.specs.Values.{content_of}
 use Rattle.miniserde_value.specs.Visits.{element, list_ends, name, members_end, visits, child_visits, member_visits, IsOrdered, AreOrdered, AreOrderedMembers}
 use Rattle.miniserde_value.specs.Walks.{stack_left, StackOrdered}
 
@@ -25,17 +25,17 @@ pub record GaveItem (frames then : List Frame) (it next : Iter Value) (item : Va
   pub after : reverse then ≡ frame.Array next ∷ others
   pub gave : iter_rest it ≡ item ∷ iter_rest next
 
-pub item_left : (frames then : List Frame) (objects : List Entries) (it next : Iter Value) (item : Value) → GaveItem frames then it next item → stack_left (reverse frames) objects ≡ element ∷ visits (shape item) (stack_left (reverse then) objects)
+pub item_left : (frames then : List Frame) (objects : List Entries) (it next : Iter Value) (item : Value) → GaveItem frames then it next item → stack_left (reverse frames) objects ≡ element ∷ visits (content_of item) (stack_left (reverse then) objects)
 item_left frames then objects it next item g =
     let rest = stack_left g.others objects in
     ap (λ (x : List Frame). stack_left x objects) g.before
-    ∙ ap (λ (xs : List Value). child_visits (trees_of shape xs) (list_ends ∷ rest)) g.gave
-    ∙ ap (λ (x : List Frame). element ∷ visits (shape item) (stack_left x objects)) (sym g.after)
+    ∙ ap (λ (xs : List Value). child_visits (trees_of content_of xs) (list_ends ∷ rest)) g.gave
+    ∙ ap (λ (x : List Frame). element ∷ visits (content_of item) (stack_left x objects)) (sym g.after)
 
-pub item_ordered : (frames then : List Frame) (objects : List Entries) (it next : Iter Value) (item : Value) → GaveItem frames then it next item → IsOrdered (shape item) → StackOrdered (reverse then) objects → StackOrdered (reverse frames) objects
+pub item_ordered : (frames then : List Frame) (objects : List Entries) (it next : Iter Value) (item : Value) → GaveItem frames then it next item → IsOrdered (content_of item) → StackOrdered (reverse then) objects → StackOrdered (reverse frames) objects
 item_ordered frames then objects it next item g o p =
     let r = subst (λ (x : List Frame). StackOrdered x objects) g.after p in
-    let items = subst (λ (xs : List Value). AreOrdered (trees_of shape xs)) (sym g.gave) (o, r.0) in
+    let items = subst (λ (xs : List Value). AreOrdered (trees_of content_of xs)) (sym g.gave) (o, r.0) in
     subst (λ (x : List Frame). StackOrdered x objects) (sym g.before) (items, r.1)
 
 -- an object, whose iterator gave a member: all objects before, and then
@@ -50,20 +50,20 @@ pub record GaveMember (frames also : List Frame) (objects then : List Entries) (
   pub gave : ms ≡ (key, value) ∷ next
   pub named : text ≡ string_bytes key
 
-pub member_left : (frames also : List Frame) (objects then : List Entries) (ms next : Entries) (text : List ℕ) (value : Value) → GaveMember frames also objects then ms next text value → stack_left (reverse frames) (reverse objects) ≡ name text ∷ visits (shape value) (stack_left (reverse also) (reverse then))
+pub member_left : (frames also : List Frame) (objects then : List Entries) (ms next : Entries) (text : List ℕ) (value : Value) → GaveMember frames also objects then ms next text value → stack_left (reverse frames) (reverse objects) ≡ name text ∷ visits (content_of value) (stack_left (reverse also) (reverse then))
 member_left frames also objects then ms next text value g =
     let rest = stack_left g.below g.others in
     ap (λ (x : List Frame). stack_left x (reverse objects)) g.is_object
     ∙ ap (λ (x : List Entries). stack_left (frame.Object ∷ g.below) x) g.before
-    ∙ ap (λ (xs : Entries). member_visits (members_of string_bytes shape xs) (members_end ∷ rest)) g.gave
-    ∙ ap (λ (t : List ℕ). name t ∷ visits (shape value) (stack_left (frame.Object ∷ g.below) (next ∷ g.others))) (sym g.named)
-    ∙ ap (λ (x : List Entries). name text ∷ visits (shape value) (stack_left (frame.Object ∷ g.below) x)) (sym g.after)
-    ∙ ap (λ (x : List Frame). name text ∷ visits (shape value) (stack_left x (reverse then))) (sym g.is_still)
+    ∙ ap (λ (xs : Entries). member_visits (members_of string_bytes content_of xs) (members_end ∷ rest)) g.gave
+    ∙ ap (λ (t : List ℕ). name t ∷ visits (content_of value) (stack_left (frame.Object ∷ g.below) (next ∷ g.others))) (sym g.named)
+    ∙ ap (λ (x : List Entries). name text ∷ visits (content_of value) (stack_left (frame.Object ∷ g.below) x)) (sym g.after)
+    ∙ ap (λ (x : List Frame). name text ∷ visits (content_of value) (stack_left x (reverse then))) (sym g.is_still)
 
-pub member_ordered : (frames also : List Frame) (objects then : List Entries) (ms next : Entries) (text : List ℕ) (value : Value) → GaveMember frames also objects then ms next text value → IsOrdered (shape value) → StackOrdered (reverse also) (reverse then) → StackOrdered (reverse frames) (reverse objects)
+pub member_ordered : (frames also : List Frame) (objects then : List Entries) (ms next : Entries) (text : List ℕ) (value : Value) → GaveMember frames also objects then ms next text value → IsOrdered (content_of value) → StackOrdered (reverse also) (reverse then) → StackOrdered (reverse frames) (reverse objects)
 member_ordered frames also objects then ms next text value g o p =
     let r = subst (λ (x : List Entries). StackOrdered (frame.Object ∷ g.below) x) g.after (subst (λ (x : List Frame). StackOrdered x (reverse then)) g.is_still p) in
-    let members = subst (λ (xs : Entries). AreOrderedMembers (members_of string_bytes shape xs)) (sym g.gave) (o, r.0) in
+    let members = subst (λ (xs : Entries). AreOrderedMembers (members_of string_bytes content_of xs)) (sym g.gave) (o, r.0) in
     subst (λ (x : List Frame). StackOrdered x (reverse objects)) (sym g.is_object)
     (subst (λ (x : List Entries). StackOrdered (frame.Object ∷ g.below) x) (sym g.before) (members, r.1))
 

@@ -4,12 +4,12 @@ pub mod Texts
 pub mod Built
 pub mod Ordered
 pub mod Trees
-pub mod Shapes
+pub mod ContentTrees
 pub mod Costs
 pub mod Turns
-pub mod Parked
+pub mod Replaced
 pub mod Lasts
-pub mod Marks
+pub mod Containers
 pub mod Builders
 pub mod AfterBegin
 pub mod Copies

@@ -2,7 +2,7 @@
 -- order. The first is `norm_after`, the second is by recursion over the tree: a name below all others stays first.
 use Rattle.std.proofs.Common.{◌≡◌, ℕ, ℤ, pos, negsuc, List, sym, refl, ap, ap₂, ◌∙◌}
 use Rattle.miniserde_model.specs.Tree.{Tree, neg, list, members, Trees, no_trees, tree, Members, no_members, member}
-use Rattle.miniserde_model.specs.Normal.{with_first_by, with_first, norm_neg, norm, BeginsAbove, Rise}
+use Rattle.miniserde_model.specs.Normal.{with_if_absent_by, with_if_absent, norm_neg, norm, BeginsAbove, Rise}
 use Rattle.miniserde_model.proofs.Normal.{norm_after}
 use Rattle.miniserde_value.specs.Retained.{retained_tree, retained_children, retained_members}
 use Rattle.miniserde_value.specs.Visits.{IsOrdered, AreOrdered, AreOrderedMembers}
@@ -19,9 +19,9 @@ pub kept_norm : (t : Tree) → norm t ≡ retained_tree (norm t)
 kept_norm t = sym (norm_after neg norm_neg norm_neg neg_kept t)
 
 -- a name below all others stands first
-pub first_of_all : (name : List ℕ) (t : Tree) (ms : Members) → BeginsAbove name ms → with_first name t ms ≡ member name t ms
+pub first_of_all : (name : List ℕ) (t : Tree) (ms : Members) → BeginsAbove name ms → with_if_absent name t ms ≡ member name t ms
 first_of_all name t no_members b = refl
-first_of_all name t (member other u ms) b = ap (λ o. with_first_by o name t other u ms (with_first name t ms)) b
+first_of_all name t (member other u ms) b = ap (λ o. with_if_absent_by o name t other u ms (with_if_absent name t ms)) b
 
 mutual
   pub kept_ordered : (t : Tree) → IsOrdered t → retained_tree t ≡ t
@@ -35,4 +35,4 @@ mutual
 
   pub kept_members_ordered : (ms : Members) → Rise ms → AreOrderedMembers ms → retained_members ms ≡ ms
   kept_members_ordered no_members r h = refl
-  kept_members_ordered (member name t ms) r h = ap₂ (with_first name) (kept_ordered t h.0) (kept_members_ordered ms r.1 h.1) ∙ first_of_all name t ms r.0
+  kept_members_ordered (member name t ms) r h = ap₂ (with_if_absent name) (kept_ordered t h.0) (kept_members_ordered ms r.1 h.1) ∙ first_of_all name t ms r.0

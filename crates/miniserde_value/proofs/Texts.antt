@@ -3,9 +3,9 @@
 use Rattle.std.proofs.Common.{◌≡◌, ℕ, Bool, true, false, List, [], ◌∷◌, ◌++◌, refl, sym, ap, subst, ◌∙◌, append_assoc, append-nil}
 use Rattle.miniserde_model.specs.Tree.{Tree, list, members, Trees, no_trees, tree, Members, no_members, member}
 use Rattle.miniserde_model.specs.Normal.{norm, norm_children, norm_members, BeginsAbove, Rise}
-use Rattle.miniserde_model.specs.IsTree.{IsTree, AreTrees, AreNamedTrees}
+use Rattle.miniserde_model.specs.InRange.{InRange, AllInRange, MembersInRange}
 use Rattle.miniserde_model.specs.Compact.{string_text, compact, compact_children, compact_more, compact_members, compact_more_members}
-use Rattle.miniserde_value.specs.Visits.{TreeVisit, list_ends, members_end, visits, child_visits, member_visits, IsOrdered, AreOrdered, AreOrderedMembers, visits_text, AreVisits}
+use Rattle.miniserde_value.specs.Visits.{TreeVisit, list_ends, members_end, visits, child_visits, member_visits, IsOrdered, AreOrdered, AreOrderedMembers, visits_text, VisitsInRange}
 use Rattle.miniserde_model.proofs.Normal.{trees_with_first}
 use Rattle.miniserde_value.proofs.RetainedTrees.{first_of_all}
 
@@ -75,19 +75,19 @@ text_whole b t h = text_begins b t ∙ text_fronts t h [] ∙ append-nil (compac
 -- ---- the trees in range
 
 mutual
-  pub fronts_tree : (t : Tree) (rest : List TreeVisit) → AreVisits (visits t rest) → IsTree (norm t) × AreVisits rest
+  pub fronts_tree : (t : Tree) (rest : List TreeVisit) → VisitsInRange (visits t rest) → InRange (norm t) × VisitsInRange rest
   fronts_tree (list ts) rest h = fronts_trees ts (list_ends ∷ rest) h
   fronts_tree (members ms) rest h = fronts_named ms (members_end ∷ rest) h
   fronts_tree _ rest h = h
 
-  pub fronts_trees : (ts : Trees) (rest : List TreeVisit) → AreVisits (child_visits ts rest) → AreTrees (norm_children ts) × AreVisits rest
+  pub fronts_trees : (ts : Trees) (rest : List TreeVisit) → VisitsInRange (child_visits ts rest) → AllInRange (norm_children ts) × VisitsInRange rest
   fronts_trees no_trees rest h = (tt, h)
   fronts_trees (tree t ts) rest h =
       let one = fronts_tree t (child_visits ts rest) h in
       let more = fronts_trees ts rest one.1 in
       ((one.0, more.0), more.1)
 
-  pub fronts_named : (ms : Members) (rest : List TreeVisit) → AreVisits (member_visits ms rest) → AreNamedTrees (norm_members ms) × AreVisits rest
+  pub fronts_named : (ms : Members) (rest : List TreeVisit) → VisitsInRange (member_visits ms rest) → MembersInRange (norm_members ms) × VisitsInRange rest
   fronts_named no_members rest h = (tt, h)
   fronts_named (member n t ms) rest h =
       let one = fronts_tree t (member_visits ms rest) h.1 in

@@ -1,12 +1,12 @@
 -- Each turn of the loop in `counted` lowers the number of looks left by one, and the sizes of the values add up. By
--- cases: the value in hand has no child, the current value has none, or the current value is parked in the one in
+-- cases: the value in hand has no child, the current value has none, or the current value is replaced in the one in
 -- hand.
 use Rattle.std.proofs.Common.{◌≡◌, suc, ◌+◌, List, [], ◌∷◌, ◌++◌, map, refl, sym, ap, ◌∙◌, arith}
 use Rattle.std.specs.Prelude.{IsTrue, false}
 use Rattle.miniserde_value.specs.declared.json.value.Value.{Value}
 use Rattle.miniserde_value.specs.Values.{children, IsBare}
 use Rattle.miniserde_value.specs.Looks.{value_size, ReplacesFirst}
-use Rattle.miniserde_value.proofs.Shapes.{sizes, size_children, sizes_append}
+use Rattle.miniserde_value.proofs.ContentTrees.{sizes, size_children, sizes_append}
 use Rattle.miniserde_value.proofs.Costs.{Cost, cost_of, cost, looks_left, looks_from, cost_out, besides_append}
 
 pub bare_size : (v : Value) → IsBare v → value_size v ≡ 1
@@ -46,7 +46,7 @@ taken_from (v ∷ vs) d last e =
 pub taken_looks : (c d last : Value) → children c ≡ children d ++ last ∷ [] → (cost c).alone ≡ suc (looks_left d last)
 taken_looks c d last e = ap (λ (k : Cost). k.alone) (cost_out c ∙ ap (λ (ws : List Value). cost_of (map cost ws)) e) ∙ taken_from (children d) d last refl
 
--- the value p is parked in h, which is then d, and x stood there
+-- the value p is replaced in h, which is then d, and x stood there
 pub parked_size : (p x h d : Value) → ReplacesFirst p x (children h) (children d) → value_size d + value_size x ≡ value_size p + value_size h
 parked_size p x h d r =
     let a = ap sizes r.1 in
@@ -74,7 +74,7 @@ turn_next c h d last b e =
 pub turn_over : (c h d last : Value) → IsBare c → children h ≡ children d ++ last ∷ [] → looks_left c h ≡ suc (looks_left d last)
 turn_over c h d last b e = omega (arith, left_bare c h b, taken_looks h d last e)
 
--- the current one was parked in the one in hand
+-- the current one was replaced in the one in hand
 pub turn_park : (c h d x : Value) → (IsBare c → ⊥) → ReplacesFirst c x (children h) (children d) → looks_left c h ≡ suc (looks_left d x)
 turn_park c h d x n r = omega (arith, left_full c h n, parked_looks c x h d r)
 

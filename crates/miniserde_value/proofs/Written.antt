@@ -3,11 +3,11 @@
 -- unsets it.
 use Rattle.std.proofs.Common.{◌≡◌, Bool, true, false, List, [], ◌∷◌, Result, Ok, Err, OnOk, refl, ◌∙◌}
 use Rattle.miniserde_model.specs.Tree.{Tree, list, members, Trees, no_trees, tree, Members, no_members, member}
-use Rattle.miniserde_value.specs.Visits.{TreeVisit, leaf, list_ends, name, members_end, visits, child_visits, member_visits, first_flag_after, AreVisits}
+use Rattle.miniserde_value.specs.Visits.{TreeVisit, leaf, list_ends, name, members_end, visits, child_visits, member_visits, first_flag_after, VisitsInRange}
 
 -- ---- one front, and then others
 
-pub fronts_before : (m : TreeVisit) (rest : List TreeVisit) → AreVisits (m ∷ []) → AreVisits rest → AreVisits (m ∷ rest)
+pub fronts_before : (m : TreeVisit) (rest : List TreeVisit) → VisitsInRange (m ∷ []) → VisitsInRange rest → VisitsInRange (m ∷ rest)
 fronts_before (leaf t) rest h r = (h.0, r)
 fronts_before (name n) rest h r = (h.0, r)
 fronts_before _ rest h r = r

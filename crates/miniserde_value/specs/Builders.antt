@@ -2,9 +2,9 @@
 use Rattle.std.specs.Prelude.{map, reverse}
 use Rattle.miniserde_value.specs.declared.json.builder.Builder.{Builder}
 use Rattle.miniserde_value.specs.Hole.{Hole}
-use Rattle.miniserde_value.specs.Values.{shape}
-use Rattle.miniserde_value.specs.Marks.{hole_of}
+use Rattle.miniserde_value.specs.Values.{content_of}
+use Rattle.miniserde_value.specs.Containers.{hole_of}
 
 -- the hole that the builder has so far
 abbrev pub hole_in : Builder → Hole
-hole_in b = hole_of (map shape b.values.items) (reverse b.objects.items) (reverse b.marks.items)
+hole_in b = hole_of (map content_of b.values.items) (reverse b.objects.items) (reverse b.containers.items)

@@ -5,7 +5,7 @@ pub mod Rows
 pub mod Looks
 pub mod Hole
 pub mod Visits
-pub mod Marks
+pub mod Containers
 pub mod Builders
 pub mod Walks
 pub mod Writes

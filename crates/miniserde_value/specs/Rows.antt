@@ -11,11 +11,11 @@ use Rattle.std.specs.contracts.impls.StringPartialOrd.TheImpl as partial_ord
 use Rattle.miniserde_value.specs.contracts.json.value.Value.{the_row}
 
 -- the description of the type `Vec<Value>` in the logic
-abbrev pub list_row : RattleType
-list_row = vec.the_row the_row global.the_row ghosts
+abbrev pub vec_type : RattleType
+vec_type = vec.the_row the_row global.the_row ghosts
 
 -- the description of the type `BTreeMap<String, Value>` in the logic
-abbrev pub map_row : RattleType
-map_row =
+abbrev pub btree_map_type : RattleType
+btree_map_type =
     tree.the_row (text.the_row global.the_row ghosts) the_row global.the_row (ord.ghosts global.the_row ghosts ord.no_dict ord.no_dict)
     (eq.ghosts global.the_row ghosts eq.no_dict eq.no_dict) (partial_ord.ghosts global.the_row ghosts partial_ord.no_dict partial_ord.no_dict) ghosts

@@ -37,14 +37,14 @@ with_members m = record { members = m }
 
 -- the children of one level of a value: the items of an array or the values of an object; a leaf
 -- has none
-abbrev pub below : Value-F Value Array Object → List Value
-below (Value-F.Array a) = array_items a
-below (Value-F.Object o) = object_values o
-below _ = []
+abbrev pub children_step : Value-F Value Array Object → List Value
+children_step (Value-F.Array a) = array_items a
+children_step (Value-F.Object o) = object_values o
+children_step _ = []
 
 -- the children of the value
 abbrev pub children : Value → List Value
-children v = below (out-Value v)
+children v = children_step (out-Value v)
 
 -- the value is bare: it is a leaf or an empty container
 abbrev pub IsBare : Value → Type 0
@@ -53,13 +53,13 @@ IsBare v = children v ≡ []
 -- ---- the tree of a value
 
 -- one step of `shape`: the tree of one level of a value, whose parts are trees already
-abbrev pub shape_step : Value-F Tree Trees Members → Tree
-shape_step Value-F.Null = null
-shape_step (Value-F.Bool b) = truth b
-shape_step (Value-F.Number n) = number_leaf n
-shape_step (Value-F.String s) = str (string_bytes s)
-shape_step (Value-F.Array ts) = list ts
-shape_step (Value-F.Object ms) = members ms
+abbrev pub content_step : Value-F Tree Trees Members → Tree
+content_step Value-F.Null = null
+content_step (Value-F.Bool b) = truth b
+content_step (Value-F.Number n) = number_leaf n
+content_step (Value-F.String s) = str (string_bytes s)
+content_step (Value-F.Array ts) = list ts
+content_step (Value-F.Object ms) = members ms
 
 -- one step of `shape`: the children of a list, from one level of an array, whose items are trees
 -- already
@@ -71,25 +71,25 @@ abbrev pub object_step : Object-F Tree Trees Members → Members
 object_step o = members_of string_bytes (λ t. t) o.members.entries
 
 -- the content of the value, as a tree: the leaf of each number, and the parts of each container in order
-unfoldable pub shape : Value → Tree
-shape = fold-Value Tree Trees Members shape_step array_step object_step
+unfoldable pub content_of : Value → Tree
+content_of = fold-Value Tree Trees Members content_step array_step object_step
 
 -- the content of the array, as a tree
-abbrev pub array_shape : Array → Tree
-array_shape a = list (trees_of shape (array_items a))
+abbrev pub array_content : Array → Tree
+array_content a = list (trees_of content_of (array_items a))
 
 -- the names of the object, each with the content of its value, in the order of the names
 abbrev pub object_members : Object → Members
-object_members o = members_of string_bytes shape (object_entries o)
+object_members o = members_of string_bytes content_of (object_entries o)
 
 -- the content of the object, as a tree
-abbrev pub object_shape : Object → Tree
-object_shape o = members (object_members o)
+abbrev pub object_content : Object → Tree
+object_content o = members (object_members o)
 
 -- the tree that a value is written as: the normal form of its content
 abbrev pub tree_of : Value → Tree
-tree_of v = norm (shape v)
+tree_of v = norm (content_of v)
 
 -- the tree t means the value v: the content of v is the part of t that a `Value` retains
 abbrev pub ReadsValue : Tree → Value → Type 0
-ReadsValue t v = shape v ≡ retained_tree t
+ReadsValue t v = content_of v ≡ retained_tree t

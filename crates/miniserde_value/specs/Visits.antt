@@ -2,7 +2,7 @@
 use Rattle.std.specs.Prelude.{ℕ, Bool, true, false, List, [], ◌∷◌, ◌++◌, None, IsUtf8, ⊤}
 use Rattle.miniserde_model.specs.Tree.{Tree, list, members, Trees, no_trees, tree, Members, no_members, member}
 use Rattle.miniserde_model.specs.Compact.{compact, string_text}
-use Rattle.miniserde_model.specs.IsTree.{IsTree}
+use Rattle.miniserde_model.specs.InRange.{InRange}
 use Rattle.miniserde_model.specs.Normal.{norm, Rise}
 use Rattle.miniserde_value.specs.Hole.{Hole, put, with_name, after_close, in_list, in_members}
 
@@ -79,11 +79,11 @@ first_flag_after first (members_begin ∷ fs) = first_flag_after true fs
 first_flag_after first (_ ∷ fs) = first_flag_after false fs
 
 -- the visits have leaves whose normal forms are in range, and names that are UTF-8
-abbrev pub AreVisits : List TreeVisit → Type 0
-AreVisits [] = ⊤
-AreVisits (leaf t ∷ fs) = IsTree (norm t) × AreVisits fs
-AreVisits (name n ∷ fs) = IsUtf8 n × AreVisits fs
-AreVisits (_ ∷ fs) = AreVisits fs
+abbrev pub VisitsInRange : List TreeVisit → Type 0
+VisitsInRange [] = ⊤
+VisitsInRange (leaf t ∷ fs) = InRange (norm t) × VisitsInRange fs
+VisitsInRange (name n ∷ fs) = IsUtf8 n × VisitsInRange fs
+VisitsInRange (_ ∷ fs) = VisitsInRange fs
 
 -- ---- visits as a hole
 

@@ -14,7 +14,7 @@ use Rattle.miniserde_value.specs.declared.json.walk.frames.Frame.TheVariants as 
 use Rattle.miniserde_value.specs.declared.json.walk.frames.Frames.{Frames}
 use Rattle.miniserde_value.specs.declared.json.walk.Walk.{Walk}
 use Rattle.miniserde_value.specs.Numbers.{number_leaf}
-use Rattle.miniserde_value.specs.Values.{shape}
+use Rattle.miniserde_value.specs.Values.{content_of}
 use Rattle.miniserde_value.specs.Visits.{TreeVisit, leaf, list_begins, element, list_ends, members_begin, name, members_end, visits, child_visits, member_visits, IsOrdered, AreOrdered, AreOrderedMembers}
 
 -- the `TreeVisit` for a `Visit` of Rust: a number or a text that it borrows becomes a leaf or a
@@ -33,11 +33,11 @@ visit_of visit.ObjectEnd = members_end
 
 -- the visits of the items that an open array has left, the visit of its end, and then those in `rest`
 abbrev pub items_left : Iter Value → List TreeVisit → List TreeVisit
-items_left it rest = child_visits (trees_of shape (iter_rest it)) (list_ends ∷ rest)
+items_left it rest = child_visits (trees_of content_of (iter_rest it)) (list_ends ∷ rest)
 
 -- the visits of the members that an open object has left, the visit of its end, and then those in `rest`
 abbrev pub members_left : List (String Global × Value) → List TreeVisit → List TreeVisit
-members_left ms rest = member_visits (members_of string_bytes shape ms) (members_end ∷ rest)
+members_left ms rest = member_visits (members_of string_bytes content_of ms) (members_end ∷ rest)
 
 -- the visits that the open containers have left, innermost first; each open object takes its members from the list
 -- `objects`, which has them in the same order
@@ -54,7 +54,7 @@ frames_left f = stack_left (reverse f.open.items) (reverse f.objects.items)
 -- the visits of the child that is due, if one is, and then those in `rest`
 abbrev pub due_left : Option (Bor Value) → List TreeVisit → List TreeVisit
 due_left None rest = rest
-due_left (Some v) rest = visits (shape v.now) rest
+due_left (Some v) rest = visits (content_of v.now) rest
 
 -- the visits that a walk has left
 abbrev pub left : Walk → List TreeVisit
@@ -64,11 +64,11 @@ left w = due_left w.due (frames_left w.frames)
 
 -- in the items that an open array has left, the names of each object strictly rise
 abbrev pub ItemsOrdered : Iter Value → Type 0
-ItemsOrdered it = AreOrdered (trees_of shape (iter_rest it))
+ItemsOrdered it = AreOrdered (trees_of content_of (iter_rest it))
 
 -- in the values of the members that an open object has left, the names of each object strictly rise
 abbrev pub MembersOrdered : List (String Global × Value) → Type 0
-MembersOrdered ms = AreOrderedMembers (members_of string_bytes shape ms)
+MembersOrdered ms = AreOrderedMembers (members_of string_bytes content_of ms)
 
 -- in what the open containers have left, the names of each object strictly rise; `objects` has the members that the
 -- open objects have left
@@ -85,7 +85,7 @@ FramesOrdered f = StackOrdered (reverse f.open.items) (reverse f.objects.items)
 -- in the child that is due, the names of each object strictly rise
 abbrev pub DueOrdered : Option (Bor Value) → Type 0
 DueOrdered None = ⊤
-DueOrdered (Some v) = IsOrdered (shape v.now)
+DueOrdered (Some v) = IsOrdered (content_of v.now)
 
 -- in all that the walk has left, the names of each object strictly rise
 abbrev pub LeftOrdered : Walk → Type 0

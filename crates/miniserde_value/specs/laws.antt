@@ -1,6 +1,6 @@
 pub mod Outcomes
 pub mod Numbers
 pub mod Listed
-pub mod Marks
+pub mod Containers
 pub mod Unique
 pub mod Documents

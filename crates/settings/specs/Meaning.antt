@@ -6,7 +6,7 @@ use Rattle.miniserde.specs.Integers.{unsigned_of}
 use Rattle.miniserde.specs.Lists.{ListReads, list_of}
 use Rattle.miniserde.specs.Options.{OptionReads, option_of}
 use Rattle.miniserde.specs.Maps.{MapReads, map_of, map_content}
-use Rattle.miniserde.specs.Fields.{Says}
+use Rattle.miniserde.specs.Fields.{LastMemberReads}
 use Rattle.settings.specs.declared.parts.Host.{Host}
 use Rattle.settings.specs.declared.parts.Tls.{Tls}
 use Rattle.settings.specs.declared.types.Settings.{Settings}
@@ -17,22 +17,22 @@ IsBelow limit t n = (t ≡ nonneg n) × (n < limit)
 
 -- the tree has a host's members: a text `host`, and a `weight` of at most 255
 abbrev pub IsHost : Tree → Host → Type 0
-IsHost (members ms) h = Says ⊥ (λ t. t ≡ str (string_bytes h.host)) string_of (codes "host") ms × Says ⊥ (λ t. IsBelow 256 t h.weight) (unsigned_of 8) (codes "weight") ms
+IsHost (members ms) h = LastMemberReads ⊥ (λ t. t ≡ str (string_bytes h.host)) string_of (codes "host") ms × LastMemberReads ⊥ (λ t. IsBelow 256 t h.weight) (unsigned_of 8) (codes "weight") ms
 IsHost t h = ⊥
 
 -- the tree has a `Tls`'s members: a text `cert`, and `true` or `false` as `verify`
 abbrev pub IsTls : Tree → Tls → Type 0
-IsTls (members ms) s = Says ⊥ (λ t. t ≡ str (string_bytes s.cert)) string_of (codes "cert") ms × Says ⊥ (λ t. t ≡ truth s.verify) boolean_of (codes "verify") ms
+IsTls (members ms) s = LastMemberReads ⊥ (λ t. t ≡ str (string_bytes s.cert)) string_of (codes "cert") ms × LastMemberReads ⊥ (λ t. t ≡ truth s.verify) boolean_of (codes "verify") ms
 IsTls t s = ⊥
 
 -- The tree has the settings' members: a text `name`, a `port` of at most 65535, `tls` that may be null or missing, a list
 -- `hosts`, and `limits` by their names, which are below 2 ^ 64. `host` and `tls` tell what the types of these two accept.
 abbrev pub IsSettings : {C D : Type 0} → (Tree → Option C) → (Tree → Option D) → Tree → Settings → Type 0
-IsSettings host tls (members ms) s = Says ⊥ (λ t. t ≡ str (string_bytes s.name)) string_of (codes "name") ms
-    × Says ⊥ (λ t. IsBelow 65536 t s.port) (unsigned_of 16) (codes "port") ms
-    × Says (s.tls ≡ None) (λ t. OptionReads IsTls t s.tls) (option_of tls) (codes "tls") ms
-    × Says ⊥ (λ t. ListReads IsHost t s.hosts.items) (list_of host) (codes "hosts") ms
-    × Says ⊥ (λ t. MapReads Some (λ k. k) string_bytes (unsigned_of 64) (IsBelow (2 ^ 64)) t s.limits.entries) (map_of Some (λ k. k) (unsigned_of 64)) (codes "limits") ms
+IsSettings host tls (members ms) s = LastMemberReads ⊥ (λ t. t ≡ str (string_bytes s.name)) string_of (codes "name") ms
+    × LastMemberReads ⊥ (λ t. IsBelow 65536 t s.port) (unsigned_of 16) (codes "port") ms
+    × LastMemberReads (s.tls ≡ None) (λ t. OptionReads IsTls t s.tls) (option_of tls) (codes "tls") ms
+    × LastMemberReads ⊥ (λ t. ListReads IsHost t s.hosts.items) (list_of host) (codes "hosts") ms
+    × LastMemberReads ⊥ (λ t. MapReads Some (λ k. k) string_bytes (unsigned_of 64) (IsBelow (2 ^ 64)) t s.limits.entries) (map_of Some (λ k. k) (unsigned_of 64)) (codes "limits") ms
 IsSettings host tls t s = ⊥
 
 -- what counts of a host and of a `Tls`

@@ -2,7 +2,7 @@
 
 use crate::texts::nested;
 use miniserde::error::{Error, Result};
-use miniserde::json::value::rewritten;
+use miniserde::json::value::canonical_by_value;
 use miniserde::json::{canonical, canonical_both};
 use std::alloc::Global;
 use test_tables::{Wrong, expect, expect_ok, is_right, text_of};
@@ -13,7 +13,7 @@ fn is_canonical(alloc: Global, line: &str) -> Result<bool> {
     let text = text_of(line);
     let answer = canonical(alloc, text)?;
     let again = canonical(alloc, answer.as_str())?;
-    let by_value = rewritten(alloc, text)?;
+    let by_value = canonical_by_value(alloc, text)?;
     Ok(
         answer.len() <= text.len()
             && again.as_str() == answer.as_str()

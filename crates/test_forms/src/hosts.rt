@@ -11,7 +11,7 @@ use miniserde::derived::{
     Aliased, BesideTag, Closed, DataCase, Event, FromJson, Given, Global, HasAliases, HasTag,
     Inside, InsideCases, Lossless, MarkedSlot, Members, NeverNull, NoCase, NoSlot, OmitSlot,
     Omitted, Once, OneOf, Parts, Plain, Ranged, Record, Result, RoundTrip, RoundTripCases,
-    RoundTripFields, Serialize, Slot, Slots, Source, Tagged, WithDefault, Writer,
+    RoundTripFields, Serialize, Slot, Slots, Source, DataEnum, WithDefault, Writer,
     aliased_round_trips, fields_named, read_record, read_tagged, record_lossless, tag_fits,
     tagged_lossless, tagged_round_trips, write_members, write_tagged, write_tagged_fields,
 };
@@ -398,7 +398,7 @@ type RenewalCases = DataCase<Host, DataCase<RenewalMove, NoCase>>;
 
 const RENEWAL_NAMES: &[&str] = &["Add", "Move"];
 
-impl Tagged for Renewal {
+impl DataEnum for Renewal {
     ghost use Rattle.test_forms.specs.declared.hosts.TheConstants.{RENEWAL_NAMES};
     ghost use Rattle.test_forms.specs.declared.hosts.Renewal.TheVariants.{Add, Move};
 
@@ -450,7 +450,7 @@ impl HasTag for Renewal {
 
 impl FromJson for Renewal {
     ghost means = { tagged_meaning ⟦<RenewalCases as InsideCases>⟧.meaning ⟦<Renewal as HasTag>⟧.tag
-        ⟦<Renewal as Tagged>⟧.names refl ⟦<Renewal as Tagged>⟧.values };
+        ⟦<Renewal as DataEnum>⟧.names refl ⟦<Renewal as DataEnum>⟧.values };
 
     fn missing() -> Option<Renewal> {
         None
@@ -462,7 +462,7 @@ impl FromJson for Renewal {
 }
 
 impl Serialize for Renewal {
-    ghost tree = { tagged_tree ⟦<Renewal as HasTag>⟧.tag ⟦<Renewal as Tagged>⟧.names ⟦<RenewalCases as RoundTripCases>⟧.tree ⟦<Renewal as Tagged>⟧.values };
+    ghost tree = { tagged_tree ⟦<Renewal as HasTag>⟧.tag ⟦<Renewal as DataEnum>⟧.names ⟦<RenewalCases as RoundTripCases>⟧.tree ⟦<Renewal as DataEnum>⟧.values };
 
     fn begin(&self, w: &mut Writer) -> Result<()> {
         match self {
@@ -481,7 +481,7 @@ impl Serialize for Renewal {
 }
 
 impl Ranged for Renewal {
-    ghost real = { λ v. ⟦<RenewalCases as RoundTripCases>⟧.real (⟦<Renewal as Tagged>⟧.values v) };
+    ghost real = { λ v. ⟦<RenewalCases as RoundTripCases>⟧.real (⟦<Renewal as DataEnum>⟧.values v) };
 
     fn ranged(&self) {
         match self {

@@ -6,7 +6,7 @@ ghost use Rattle.std.specs.Prelude.{refl};
 
 use miniserde::derived::{
     Cases, DataCase, Event, Fragment, FromJson, Lossless, NeverNull, NoCase, OneOf, Ranged, Result,
-    RoundTrip, RoundTripCases, Serialize, Source, Stable, Tagged, UnitCase, Writer, enum_lossless,
+    RoundTrip, RoundTripCases, Serialize, Source, Stable, DataEnum, UnitCase, Writer, enum_lossless,
     enum_round_trips, enum_stable, read_enum, write_data,
 };
 
@@ -73,7 +73,7 @@ const KEY_NAMES: &[&str] = &[
     "Function", "Pasted", "Chord", "Click", "Wheel", "Other",
 ];
 
-impl Tagged for Key {
+impl DataEnum for Key {
     ghost use Rattle.test_forms.specs.declared.keys.TheConstants.{KEY_NAMES};
     ghost use Rattle.test_forms.specs.declared.keys.Key.TheVariants.{Up, Down, Left, Right, Enter, Escape, Tab, Delete, Letter, Digit, Function, Pasted, Chord, Click, Wheel, Other};
 
@@ -202,7 +202,7 @@ impl Tagged for Key {
 }
 
 impl FromJson for Key {
-    ghost means = { enum_meaning ⟦<KeyCases as Cases>⟧.meaning ⟦<Key as Tagged>⟧.names refl ⟦<Key as Tagged>⟧.values };
+    ghost means = { enum_meaning ⟦<KeyCases as Cases>⟧.meaning ⟦<Key as DataEnum>⟧.names refl ⟦<Key as DataEnum>⟧.values };
 
     fn missing() -> Option<Key> {
         None
@@ -214,7 +214,7 @@ impl FromJson for Key {
 }
 
 impl Serialize for Key {
-    ghost tree = { enum_tree ⟦<Key as Tagged>⟧.names ⟦<KeyCases as RoundTripCases>⟧.tree ⟦<Key as Tagged>⟧.values };
+    ghost tree = { enum_tree ⟦<Key as DataEnum>⟧.names ⟦<KeyCases as RoundTripCases>⟧.tree ⟦<Key as DataEnum>⟧.values };
 
     fn begin(&self, w: &mut Writer) -> Result<()> {
         match self {
@@ -239,7 +239,7 @@ impl Serialize for Key {
 }
 
 impl Ranged for Key {
-    ghost real = { λ v. ⟦<KeyCases as RoundTripCases>⟧.real (⟦<Key as Tagged>⟧.values v) };
+    ghost real = { λ v. ⟦<KeyCases as RoundTripCases>⟧.real (⟦<Key as DataEnum>⟧.values v) };
 
     fn ranged(&self) {
         match self {

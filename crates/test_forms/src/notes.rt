@@ -11,7 +11,7 @@ use miniserde::derived::{
     Cases, Closed, DataCase, Event, FourLent, FourParts, FourSlot, Fragment, FromJson, Given,
     Global, Lossless, MarkedSlot, NeverNull, NoCase, NoSlot, OmitSlot, Omitted, Once, OneOf, Parts,
     Plain, Ranged, Record, Result, RoundTrip, RoundTripCases, RoundTripFields, Serialize, Slot,
-    Slots, Source, Stable, Tagged, UnitCase, WithDefault, Writer, enum_lossless, enum_round_trips,
+    Slots, Source, Stable, DataEnum, UnitCase, WithDefault, Writer, enum_lossless, enum_round_trips,
     enum_stable, read_enum, read_record, record_lossless, record_round_trips, record_stable,
     take_four, write_fields, write_members,
 };
@@ -505,7 +505,7 @@ type EntryCases<T> = UnitCase<DataCase<EntryLog<T>, NoCase>>;
 
 const ENTRY_NAMES: &[&str] = &["Silence", "Log"];
 
-impl<T: FromJson> Tagged for Entry<T> {
+impl<T: FromJson> DataEnum for Entry<T> {
     ghost use Rattle.test_forms.specs.declared.notes.TheConstants.{ENTRY_NAMES};
     ghost use Rattle.test_forms.specs.declared.notes.Entry.TheVariants.{Silence, Log};
 
@@ -543,8 +543,8 @@ impl<T: FromJson> Tagged for Entry<T> {
 }
 
 impl<T: FromJson> FromJson for Entry<T> {
-    ghost means = { enum_meaning ⟦<EntryCases<T> as Cases>⟧.meaning ⟦<Entry<T> as Tagged>⟧.names
-        refl ⟦<Entry<T> as Tagged>⟧.values };
+    ghost means = { enum_meaning ⟦<EntryCases<T> as Cases>⟧.meaning ⟦<Entry<T> as DataEnum>⟧.names
+        refl ⟦<Entry<T> as DataEnum>⟧.values };
 
     fn missing() -> Option<Entry<T>> {
         None
@@ -556,8 +556,8 @@ impl<T: FromJson> FromJson for Entry<T> {
 }
 
 impl<T: RoundTrip + NeverNull> Serialize for Entry<T> {
-    ghost tree = { enum_tree ⟦<Entry<T> as Tagged>⟧.names ⟦<EntryCases<T> as RoundTripCases>⟧.tree
-        ⟦<Entry<T> as Tagged>⟧.values };
+    ghost tree = { enum_tree ⟦<Entry<T> as DataEnum>⟧.names ⟦<EntryCases<T> as RoundTripCases>⟧.tree
+        ⟦<Entry<T> as DataEnum>⟧.values };
 
     fn begin(&self, w: &mut Writer) -> Result<()> {
         match self {
@@ -575,7 +575,7 @@ impl<T: RoundTrip + NeverNull> Serialize for Entry<T> {
 }
 
 impl<T: RoundTrip + NeverNull> Ranged for Entry<T> {
-    ghost real = { λ v. ⟦<EntryCases<T> as RoundTripCases>⟧.real (⟦<Entry<T> as Tagged>⟧.values v) };
+    ghost real = { λ v. ⟦<EntryCases<T> as RoundTripCases>⟧.real (⟦<Entry<T> as DataEnum>⟧.values v) };
 
     fn ranged(&self) {
         match self {

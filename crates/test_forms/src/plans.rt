@@ -9,7 +9,7 @@ use miniserde::derived::{
     BesideTag, Cases, DataCase, Event, Fragment, FromJson, HasTag, Inside, InsideCases, Lossless,
     Members, NeverNull, NoCase, NoFields, NoSlot, OmitSlot, Omitted, OneOf, Parts, Plain, Ranged,
     Record, Result, RoundTrip, RoundTripCases, RoundTripFields, Serialize, Slot, Slots, Source,
-    Stable, Tagged, UnitCase, Writer, enum_lossless, enum_round_trips, enum_stable, fields_named,
+    Stable, DataEnum, UnitCase, Writer, enum_lossless, enum_round_trips, enum_stable, fields_named,
     read_enum, read_record, read_tagged, record_lossless, record_round_trips, record_stable,
     tag_fits, tagged_lossless, tagged_round_trips, tagged_stable, write_data, write_fields,
     write_members, write_tagged, write_tagged_fields,
@@ -116,7 +116,7 @@ type CommandCases = UnitCase<DataCase<String, DataCase<CommandMove, NoCase>>>;
 
 const COMMAND_NAMES: &[&str] = &["Ping", "Text", "Move"];
 
-impl Tagged for Command {
+impl DataEnum for Command {
     ghost use Rattle.test_forms.specs.declared.plans.TheConstants.{COMMAND_NAMES};
     ghost use Rattle.test_forms.specs.declared.plans.Command.TheVariants.{Ping, Text, Move};
 
@@ -155,8 +155,8 @@ impl Tagged for Command {
 }
 
 impl FromJson for Command {
-    ghost means = { enum_meaning ⟦<CommandCases as Cases>⟧.meaning ⟦<Command as Tagged>⟧.names refl
-        ⟦<Command as Tagged>⟧.values };
+    ghost means = { enum_meaning ⟦<CommandCases as Cases>⟧.meaning ⟦<Command as DataEnum>⟧.names refl
+        ⟦<Command as DataEnum>⟧.values };
 
     fn missing() -> Option<Command> {
         None
@@ -168,8 +168,8 @@ impl FromJson for Command {
 }
 
 impl Serialize for Command {
-    ghost tree = { enum_tree ⟦<Command as Tagged>⟧.names ⟦<CommandCases as RoundTripCases>⟧.tree
-        ⟦<Command as Tagged>⟧.values };
+    ghost tree = { enum_tree ⟦<Command as DataEnum>⟧.names ⟦<CommandCases as RoundTripCases>⟧.tree
+        ⟦<Command as DataEnum>⟧.values };
 
     fn begin(&self, w: &mut Writer) -> Result<()> {
         match self {
@@ -183,7 +183,7 @@ impl Serialize for Command {
 }
 
 impl Ranged for Command {
-    ghost real = { λ v. ⟦<CommandCases as RoundTripCases>⟧.real (⟦<Command as Tagged>⟧.values v) };
+    ghost real = { λ v. ⟦<CommandCases as RoundTripCases>⟧.real (⟦<Command as DataEnum>⟧.values v) };
 
     fn ranged(&self) {
         match self {
@@ -338,7 +338,7 @@ type PlanCases = UnitCase<DataCase<Task, DataCase<Vec<Task>, DataCase<(u8, u16, 
 
 const PLAN_NAMES: &[&str] = &["nothing", "one_task", "tasks", "three"];
 
-impl Tagged for Plan {
+impl DataEnum for Plan {
     ghost use Rattle.test_forms.specs.declared.plans.TheConstants.{PLAN_NAMES};
     ghost use Rattle.test_forms.specs.declared.plans.Plan.TheVariants.{Nothing, OneTask, Tasks, Three};
 
@@ -382,7 +382,7 @@ impl Tagged for Plan {
 }
 
 impl FromJson for Plan {
-    ghost means = { enum_meaning ⟦<PlanCases as Cases>⟧.meaning ⟦<Plan as Tagged>⟧.names refl ⟦<Plan as Tagged>⟧.values };
+    ghost means = { enum_meaning ⟦<PlanCases as Cases>⟧.meaning ⟦<Plan as DataEnum>⟧.names refl ⟦<Plan as DataEnum>⟧.values };
 
     fn missing() -> Option<Plan> {
         None
@@ -394,7 +394,7 @@ impl FromJson for Plan {
 }
 
 impl Serialize for Plan {
-    ghost tree = { enum_tree ⟦<Plan as Tagged>⟧.names ⟦<PlanCases as RoundTripCases>⟧.tree ⟦<Plan as Tagged>⟧.values };
+    ghost tree = { enum_tree ⟦<Plan as DataEnum>⟧.names ⟦<PlanCases as RoundTripCases>⟧.tree ⟦<Plan as DataEnum>⟧.values };
 
     fn begin(&self, w: &mut Writer) -> Result<()> {
         match self {
@@ -407,7 +407,7 @@ impl Serialize for Plan {
 }
 
 impl Ranged for Plan {
-    ghost real = { λ v. ⟦<PlanCases as RoundTripCases>⟧.real (⟦<Plan as Tagged>⟧.values v) };
+    ghost real = { λ v. ⟦<PlanCases as RoundTripCases>⟧.real (⟦<Plan as DataEnum>⟧.values v) };
 
     fn ranged(&self) {
         match self {
@@ -666,7 +666,7 @@ type ChangeCases = DataCase<NoFields, DataCase<Task, DataCase<ChangeMark, NoCase
 
 const CHANGE_NAMES: &[&str] = &["Clear", "Run", "Mark"];
 
-impl Tagged for Change {
+impl DataEnum for Change {
     ghost use Rattle.test_forms.specs.declared.plans.TheConstants.{CHANGE_NAMES};
     ghost use Rattle.test_forms.specs.declared.plans.Change.TheVariants.{Clear, Run, Mark};
 
@@ -717,7 +717,7 @@ impl HasTag for Change {
 
 impl FromJson for Change {
     ghost means = { tagged_meaning ⟦<ChangeCases as InsideCases>⟧.meaning ⟦<Change as HasTag>⟧.tag
-        ⟦<Change as Tagged>⟧.names refl ⟦<Change as Tagged>⟧.values };
+        ⟦<Change as DataEnum>⟧.names refl ⟦<Change as DataEnum>⟧.values };
 
     fn missing() -> Option<Change> {
         None
@@ -729,7 +729,7 @@ impl FromJson for Change {
 }
 
 impl Serialize for Change {
-    ghost tree = { tagged_tree ⟦<Change as HasTag>⟧.tag ⟦<Change as Tagged>⟧.names ⟦<ChangeCases as RoundTripCases>⟧.tree ⟦<Change as Tagged>⟧.values };
+    ghost tree = { tagged_tree ⟦<Change as HasTag>⟧.tag ⟦<Change as DataEnum>⟧.names ⟦<ChangeCases as RoundTripCases>⟧.tree ⟦<Change as DataEnum>⟧.values };
 
     fn begin(&self, w: &mut Writer) -> Result<()> {
         match self {
@@ -749,7 +749,7 @@ impl Serialize for Change {
 }
 
 impl Ranged for Change {
-    ghost real = { λ v. ⟦<ChangeCases as RoundTripCases>⟧.real (⟦<Change as Tagged>⟧.values v) };
+    ghost real = { λ v. ⟦<ChangeCases as RoundTripCases>⟧.real (⟦<Change as DataEnum>⟧.values v) };
 
     fn ranged(&self) {
         match self {

@@ -9,7 +9,7 @@ ghost use Rattle.std.specs.Prelude.{true, List, codes, [], ◌∷◌, ⊤, refl}
 use miniserde::derived::{
     Cases, DataCase, Event, Fragment, FromJson, Lossless, NeverNull, NoCase, NoSlot, OneOf, Parts,
     Ranged, Record, Result, RoundTrip, RoundTripCases, RoundTripFields, Serialize, Slot, Slots,
-    Source, Tagged, UnitCase, UnitEnum, Variants, Writer, enum_lossless, enum_round_trips,
+    Source, DataEnum, UnitCase, UnitEnum, Variants, Writer, enum_lossless, enum_round_trips,
     read_enum, read_record, read_variant, record_lossless, record_round_trips, variant_lossless,
     variant_round_trips, write_data, write_fields, write_members,
 };
@@ -291,7 +291,7 @@ type ChangeCases = UnitCase<
 
 const CHANGE_NAMES: &[&str] = &["signed-out", "new-url", "seen-at", "job-phase"];
 
-impl Tagged for Change {
+impl DataEnum for Change {
     ghost use Rattle.test_structs.specs.declared.renamed.TheConstants.{CHANGE_NAMES};
     ghost use Rattle.test_structs.specs.declared.renamed.Change.TheVariants.{SignedOut, NewUrl, SeenAt, JobPhase};
 
@@ -341,8 +341,8 @@ impl Tagged for Change {
 }
 
 impl FromJson for Change {
-    ghost means = { enum_meaning ⟦<ChangeCases as Cases>⟧.meaning ⟦<Change as Tagged>⟧.names refl
-        ⟦<Change as Tagged>⟧.values };
+    ghost means = { enum_meaning ⟦<ChangeCases as Cases>⟧.meaning ⟦<Change as DataEnum>⟧.names refl
+        ⟦<Change as DataEnum>⟧.values };
 
     fn missing() -> Option<Change> {
         None
@@ -354,8 +354,8 @@ impl FromJson for Change {
 }
 
 impl Serialize for Change {
-    ghost tree = { enum_tree ⟦<Change as Tagged>⟧.names ⟦<ChangeCases as RoundTripCases>⟧.tree
-        ⟦<Change as Tagged>⟧.values };
+    ghost tree = { enum_tree ⟦<Change as DataEnum>⟧.names ⟦<ChangeCases as RoundTripCases>⟧.tree
+        ⟦<Change as DataEnum>⟧.values };
 
     fn begin(&self, w: &mut Writer) -> Result<()> {
         match self {
@@ -375,7 +375,7 @@ impl Serialize for Change {
 }
 
 impl Ranged for Change {
-    ghost real = { λ v. ⟦<ChangeCases as RoundTripCases>⟧.real (⟦<Change as Tagged>⟧.values v) };
+    ghost real = { λ v. ⟦<ChangeCases as RoundTripCases>⟧.real (⟦<Change as DataEnum>⟧.values v) };
 
     fn ranged(&self) {
         match self {

@@ -10,7 +10,7 @@ use miniserde::derived::{
     BesideTag, Closed, DataCase, Empty, Event, FromJson, HasTag, Inside, InsideCases, Lossless,
     MarkedSlot, Members, NeverNull, NoCase, NoFields, NoSlot, OnceSlot, OneOf, Parts, Ranged,
     Record, Result, RoundTrip, RoundTripCases, RoundTripFields, Serialize, Slot, Slots, Source,
-    Stable, Tagged, WithDefault, Writer, fields_named, read_record, read_tagged, record_lossless,
+    Stable, DataEnum, WithDefault, Writer, fields_named, read_record, read_tagged, record_lossless,
     record_round_trips, record_stable, tag_fits, tagged_lossless, tagged_round_trips,
     tagged_stable, write_members, write_tagged, write_tagged_fields,
 };
@@ -237,7 +237,7 @@ type InnerCases = DataCase<NoFields, DataCase<InnerTwo, NoCase>>;
 
 const INNER_NAMES: &[&str] = &["Empty", "Two"];
 
-impl Tagged for Inner {
+impl DataEnum for Inner {
     ghost use Rattle.test_structs.specs.declared.tagged.TheConstants.{INNER_NAMES};
     ghost use Rattle.test_structs.specs.declared.tagged.Inner.TheVariants.{Empty, Two};
 
@@ -285,7 +285,7 @@ impl HasTag for Inner {
 
 impl FromJson for Inner {
     ghost means = { tagged_meaning ⟦<InnerCases as InsideCases>⟧.meaning ⟦<Inner as HasTag>⟧.tag
-        ⟦<Inner as Tagged>⟧.names refl ⟦<Inner as Tagged>⟧.values };
+        ⟦<Inner as DataEnum>⟧.names refl ⟦<Inner as DataEnum>⟧.values };
 
     fn missing() -> Option<Inner> {
         None
@@ -297,7 +297,7 @@ impl FromJson for Inner {
 }
 
 impl Serialize for Inner {
-    ghost tree = { tagged_tree ⟦<Inner as HasTag>⟧.tag ⟦<Inner as Tagged>⟧.names ⟦<InnerCases as RoundTripCases>⟧.tree ⟦<Inner as Tagged>⟧.values };
+    ghost tree = { tagged_tree ⟦<Inner as HasTag>⟧.tag ⟦<Inner as DataEnum>⟧.names ⟦<InnerCases as RoundTripCases>⟧.tree ⟦<Inner as DataEnum>⟧.values };
 
     fn begin(&self, w: &mut Writer) -> Result<()> {
         match self {
@@ -316,7 +316,7 @@ impl Serialize for Inner {
 }
 
 impl Ranged for Inner {
-    ghost real = { λ v. ⟦<InnerCases as RoundTripCases>⟧.real (⟦<Inner as Tagged>⟧.values v) };
+    ghost real = { λ v. ⟦<InnerCases as RoundTripCases>⟧.real (⟦<Inner as DataEnum>⟧.values v) };
 
     fn ranged(&self) {
         match self {
@@ -483,7 +483,7 @@ type ChangeCases = DataCase<
 
 const CHANGE_NAMES: &[&str] = &["reset", "set_name", "both_of", "deep", "é"];
 
-impl Tagged for Change {
+impl DataEnum for Change {
     ghost use Rattle.test_structs.specs.declared.tagged.TheConstants.{CHANGE_NAMES};
     ghost use Rattle.test_structs.specs.declared.tagged.Change.TheVariants.{Reset, SetName, BothOf, Deep, Accent};
 
@@ -546,7 +546,7 @@ impl HasTag for Change {
 
 impl FromJson for Change {
     ghost means = { tagged_meaning ⟦<ChangeCases as InsideCases>⟧.meaning ⟦<Change as HasTag>⟧.tag
-        ⟦<Change as Tagged>⟧.names refl ⟦<Change as Tagged>⟧.values };
+        ⟦<Change as DataEnum>⟧.names refl ⟦<Change as DataEnum>⟧.values };
 
     fn missing() -> Option<Change> {
         None
@@ -558,7 +558,7 @@ impl FromJson for Change {
 }
 
 impl Serialize for Change {
-    ghost tree = { tagged_tree ⟦<Change as HasTag>⟧.tag ⟦<Change as Tagged>⟧.names ⟦<ChangeCases as RoundTripCases>⟧.tree ⟦<Change as Tagged>⟧.values };
+    ghost tree = { tagged_tree ⟦<Change as HasTag>⟧.tag ⟦<Change as DataEnum>⟧.names ⟦<ChangeCases as RoundTripCases>⟧.tree ⟦<Change as DataEnum>⟧.values };
 
     fn begin(&self, w: &mut Writer) -> Result<()> {
         match self {
@@ -580,7 +580,7 @@ impl Serialize for Change {
 }
 
 impl Ranged for Change {
-    ghost real = { λ v. ⟦<ChangeCases as RoundTripCases>⟧.real (⟦<Change as Tagged>⟧.values v) };
+    ghost real = { λ v. ⟦<ChangeCases as RoundTripCases>⟧.real (⟦<Change as DataEnum>⟧.values v) };
 
     fn ranged(&self) {
         match self {

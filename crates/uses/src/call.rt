@@ -8,7 +8,7 @@ ghost use Rattle.std.specs.Prelude.{codes, refl};
 use miniserde::derived::{
     BesideTag, DataCase, Event, FromJson, HasTag, Inside, InsideCases, Lossless, Members,
     NeverNull, NoCase, NoFields, NoSlot, OneOf, Parts, Ranged, Record, Result, RoundTrip,
-    RoundTripCases, RoundTripFields, Serialize, Slot, Slots, Source, Stable, Tagged, Writer,
+    RoundTripCases, RoundTripFields, Serialize, Slot, Slots, Source, Stable, DataEnum, Writer,
     fields_named, read_record, read_tagged, record_lossless, record_round_trips, record_stable,
     tag_fits, tagged_lossless, tagged_round_trips, tagged_stable, write_members, write_tagged,
     write_tagged_fields,
@@ -236,7 +236,7 @@ type CallCases = DataCase<NoFields, DataCase<Addend, DataCase<CallReset, NoCase>
 
 const CALL_NAMES: &[&str] = &["look", "add", "reset"];
 
-impl Tagged for Call {
+impl DataEnum for Call {
     ghost use Rattle.uses.specs.declared.call.TheConstants.{CALL_NAMES};
     ghost use Rattle.uses.specs.declared.call.Call.TheVariants.{Look, Add, Reset};
 
@@ -287,7 +287,7 @@ impl HasTag for Call {
 
 impl FromJson for Call {
     ghost means = { tagged_meaning ⟦<CallCases as InsideCases>⟧.meaning ⟦<Call as HasTag>⟧.tag
-        ⟦<Call as Tagged>⟧.names refl ⟦<Call as Tagged>⟧.values };
+        ⟦<Call as DataEnum>⟧.names refl ⟦<Call as DataEnum>⟧.values };
 
     fn missing() -> Option<Call> {
         None
@@ -299,7 +299,7 @@ impl FromJson for Call {
 }
 
 impl Serialize for Call {
-    ghost tree = { tagged_tree ⟦<Call as HasTag>⟧.tag ⟦<Call as Tagged>⟧.names ⟦<CallCases as RoundTripCases>⟧.tree ⟦<Call as Tagged>⟧.values };
+    ghost tree = { tagged_tree ⟦<Call as HasTag>⟧.tag ⟦<Call as DataEnum>⟧.names ⟦<CallCases as RoundTripCases>⟧.tree ⟦<Call as DataEnum>⟧.values };
 
     fn begin(&self, w: &mut Writer) -> Result<()> {
         match self {
@@ -313,7 +313,7 @@ impl Serialize for Call {
 }
 
 impl Ranged for Call {
-    ghost real = { λ v. ⟦<CallCases as RoundTripCases>⟧.real (⟦<Call as Tagged>⟧.values v) };
+    ghost real = { λ v. ⟦<CallCases as RoundTripCases>⟧.real (⟦<Call as DataEnum>⟧.values v) };
 
     fn ranged(&self) {
         match self {
@@ -467,7 +467,7 @@ type AnswerCases = DataCase<AnswerCount, DataCase<NoFields, NoCase>>;
 
 const ANSWER_NAMES: &[&str] = &["count", "full"];
 
-impl Tagged for Answer {
+impl DataEnum for Answer {
     ghost use Rattle.uses.specs.declared.call.TheConstants.{ANSWER_NAMES};
     ghost use Rattle.uses.specs.declared.call.Answer.TheVariants.{Count, Full};
 
@@ -515,7 +515,7 @@ impl HasTag for Answer {
 
 impl FromJson for Answer {
     ghost means = { tagged_meaning ⟦<AnswerCases as InsideCases>⟧.meaning ⟦<Answer as HasTag>⟧.tag
-        ⟦<Answer as Tagged>⟧.names refl ⟦<Answer as Tagged>⟧.values };
+        ⟦<Answer as DataEnum>⟧.names refl ⟦<Answer as DataEnum>⟧.values };
 
     fn missing() -> Option<Answer> {
         None
@@ -527,7 +527,7 @@ impl FromJson for Answer {
 }
 
 impl Serialize for Answer {
-    ghost tree = { tagged_tree ⟦<Answer as HasTag>⟧.tag ⟦<Answer as Tagged>⟧.names ⟦<AnswerCases as RoundTripCases>⟧.tree ⟦<Answer as Tagged>⟧.values };
+    ghost tree = { tagged_tree ⟦<Answer as HasTag>⟧.tag ⟦<Answer as DataEnum>⟧.names ⟦<AnswerCases as RoundTripCases>⟧.tree ⟦<Answer as DataEnum>⟧.values };
 
     fn begin(&self, w: &mut Writer) -> Result<()> {
         match self {
@@ -540,7 +540,7 @@ impl Serialize for Answer {
 }
 
 impl Ranged for Answer {
-    ghost real = { λ v. ⟦<AnswerCases as RoundTripCases>⟧.real (⟦<Answer as Tagged>⟧.values v) };
+    ghost real = { λ v. ⟦<AnswerCases as RoundTripCases>⟧.real (⟦<Answer as DataEnum>⟧.values v) };
 
     fn ranged(&self) {
         match self {

@@ -7,7 +7,7 @@ ghost use Rattle.miniserde.specs.Normal.{norm};
 
 use miniserde::json::{canonical_of, from_str};
 use miniserde::laws::norm_is_normal;
-use miniserde::{Error, Lossless, Result, Serialize, Stable, means_in_normal_form, sent_itself};
+use miniserde::{Error, Lossless, Result, Serialize, Stable, means_in_normal_form, canonical_text_determines_content};
 use std::alloc::Global;
 use std::collections::BTreeMap;
 
@@ -58,7 +58,7 @@ pub fn value_of<T: Stable + Lossless>(alloc: Global, key: &str) -> Result<T>
     T::round_trips();
     means_in_normal_form::<T>();
     norm_is_normal();
-    sent_itself::<T>();
+    canonical_text_determines_content::<T>();
     let value: T = from_str(alloc, key)?;
     Ok(value)
 }

@@ -7,7 +7,7 @@ ghost use Rattle.miniserde.specs.Value.{IsJson};
 
 use miniserde::json::read_canonical;
 use miniserde::laws::{norm_is_normal, text_has_one_tree};
-use miniserde::{Error, Lossless, Result, Stable, sent_itself};
+use miniserde::{Error, Lossless, Result, Stable, canonical_text_determines_content};
 use std::alloc::Global;
 
 /// A signature, and how it is checked.
@@ -37,7 +37,7 @@ pub fn accepted<T: Stable + Lossless, S: Signature>(
     // The body means no value.
     ensures invalid { result ≡ Err Error.Invalid → (t : Tree) → IsJson body.now t → (v : T) → T.means.reads t v → ⊥ }
 {
-    sent_itself::<T>();
+    canonical_text_determines_content::<T>();
     text_has_one_tree();
     norm_is_normal();
     let (value, canonical) = read_canonical::<T>(alloc, body)?;

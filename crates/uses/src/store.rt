@@ -2,7 +2,7 @@
 ghost use Rattle.std.specs.Prelude.{◌≡◌, ◌↔◌, ℕ, IfOk, OnOk, OnErr, Err, Some, None, String, string_bytes, true, false};
 ghost use Rattle.std.specs.BTreeMap.{get, IsUnchanged};
 ghost use Rattle.std.specs.Ordering.{nat_cmp};
-ghost use Rattle.miniserde.specs.IsTree.{IsTree};
+ghost use Rattle.miniserde.specs.InRange.{InRange};
 ghost use Rattle.miniserde.specs.Tree.{Tree};
 ghost use Rattle.miniserde.specs.Value.{IsJson};
 ghost use Rattle.miniserde.specs.Compact.{compact};
@@ -32,7 +32,7 @@ pub fn put(alloc: Global, rows: &mut BTreeMap<u64, String>, number: u64, text: &
 pub fn is_row(alloc: Global, rows: &BTreeMap<u64, String>, number: u64, text: &str) -> Result<bool>
     // Where the row is the text of a normal form, it says whether the document has that one.
     ensures ok { IfOk result (λ same. (row : String Global) → get nat_cmp rows.now number ≡ Some row
-        → (u : Tree) → IsTree u → string_bytes row ≡ compact (norm u)
+        → (u : Tree) → InRange u → string_bytes row ≡ compact (norm u)
         → (t : Tree) → IsJson text.now t → (same ≡ true) ↔ (norm u ≡ norm t)) }
 
     // Where there is no row, it says no; and it is refused as invalid only where the text is no JSON.

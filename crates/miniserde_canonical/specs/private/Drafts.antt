@@ -3,7 +3,7 @@ use Rattle.std.specs.Prelude.{◌≡◌, ℕ, true, false, List, ◌++◌, lengt
 use Rattle.miniserde_model.specs.private.Reading.{Moment, due, first, after}
 use Rattle.miniserde_canonical.specs.Token.{Token}
 use Rattle.miniserde_canonical.specs.declared.draft.Draft.{Draft}
-use Rattle.miniserde_canonical.specs.private.Spreads.{Good}
+use Rattle.miniserde_canonical.specs.private.Spreads.{SplicesInOrder}
 use Rattle.miniserde_canonical.specs.private.Sorting.{Chain}
 use Rattle.miniserde_canonical.specs.private.Arranging.{State, Run}
 
@@ -19,7 +19,7 @@ pub record Wrote (d : Draft) (rest bs : List ℕ) : Type 0 where
 -- if bs are the bytes of the draft's text, the draft holds the state s
 pub record Holding (d : Draft) (bs : List ℕ) (s : State) : Type 0 where
   pub chain : Chain d.members.items s.entries d.groups.bytes.items d.groups.splices.items 0 0 bs d.out.splices.items s.last
-  pub good : Good d.groups.splices.items d.out.splices.items
+  pub good : SplicesInOrder d.groups.splices.items d.out.splices.items
   pub opened : d.opened.items ≡ s.opened
   pub distinct : d.is_distinct ≡ s.distinct
 

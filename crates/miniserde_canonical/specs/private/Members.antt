@@ -6,7 +6,7 @@ use Rattle.miniserde_model.specs.Normal.{text_cmp}
 use Rattle.miniserde_canonical.specs.declared.spread.Point.{Point}
 use Rattle.miniserde_canonical.specs.declared.member.Member.{Member}
 use Rattle.miniserde_canonical.specs.private.Names.{name_of}
-use Rattle.miniserde_canonical.specs.private.Arranging.{gap}
+use Rattle.miniserde_canonical.specs.private.Arranging.{comma_before}
 
 -- the name of the first of the members, or the empty text if there is none
 abbrev pub first_name : List Member → List ℕ
@@ -31,7 +31,7 @@ begin_of (m ∷ ms) end = m.point
 -- the point before the comma of the first of the members, or `end` if there is none
 abbrev pub before_comma : List Member → Point → Point
 before_comma [] end = end
-before_comma (m ∷ ms) end = record { bytes = m.point.bytes - length (gap m.first); splices = m.point.splices }
+before_comma (m ∷ ms) end = record { bytes = m.point.bytes - length (comma_before m.first); splices = m.point.splices }
 
 -- the point at which the first of the members ends: before the next one's comma, or at `end`
 abbrev pub end_of : List Member → Point → Point

@@ -15,6 +15,6 @@ leading_number (suc n) [] = 0
 leading_number (suc n) (c ∷ s) = c * 256 ^ n + leading_number n s
 
 -- p is the number that the first 8 bytes of s are, and each byte of s is below 256
-pub record IsPrefix (p : ℕ) (s : List ℕ) : Type 0 where
+pub record IsLeadingBytes (p : ℕ) (s : List ℕ) : Type 0 where
   pub value : p ≡ leading_number 8 s
   pub small : (i : ℕ) → get_or s i 0 < 256

@@ -5,22 +5,22 @@ use Rattle.miniserde_model.specs.Tree.{Tree, str}
 use Rattle.miniserde_model.specs.Normal.{norm_members}
 use Rattle.miniserde_canonical.specs.declared.spread.Point.{Point}
 use Rattle.miniserde_canonical.specs.declared.spread.Splice.{Splice}
-use Rattle.miniserde_canonical.specs.declared.spread.Spread.{Spread}
+use Rattle.miniserde_canonical.specs.declared.spread.SplicedText.{SplicedText}
 use Rattle.miniserde_canonical.specs.declared.member.Member.{Member}
-use Rattle.miniserde_canonical.specs.private.Spreads.{Holds, AllBefore, Good}
+use Rattle.miniserde_canonical.specs.private.Spreads.{Holds, AllBefore, SplicesInOrder}
 use Rattle.miniserde_canonical.specs.private.Names.{name_of}
 use Rattle.miniserde_canonical.specs.private.Members.{begin_of, members_at, without_repeats}
-use Rattle.miniserde_canonical.specs.private.Arranging.{Entry, next_text, entry_members, gap, members_text, count, once_each}
+use Rattle.miniserde_canonical.specs.private.Arranging.{Entry, text_before, entry_members, comma_before, members_text, count, once_each}
 
 -- The begin of the member n, which stands for the entry e, splits a text: b and h are the bytes and
 -- the splices before the member's comma, and c and g those after it. The bytes bs have indices from
 -- `at` on, and the splices hs from k on.
 pub record Seam (n : Member) (e : Entry) (at k : ℕ) (bs : List ℕ) (hs : List Splice) (b c : List ℕ) (h g : List Splice) : Type 0 where
-  pub bytes : bs ≡ b ++ (gap e.first ++ c)
+  pub bytes : bs ≡ b ++ (comma_before e.first ++ c)
   pub splices : hs ≡ h ++ g
   pub name : name_of n.name ≡ e.name
   pub first : n.first ≡ e.first
-  pub begins : n.point.bytes ≡ at + length (b ++ gap e.first)
+  pub begins : n.point.bytes ≡ at + length (b ++ comma_before e.first)
   pub behind : n.point.splices ≡ k + length h
 
 -- The bytes bs, with indices from `at` on, and the splices hs, with indices from k on, hold the
@@ -34,7 +34,7 @@ Chain _ _ ms gs at k bs hs last = ⊥
 
 -- over the groups ms and gs, the text of bs and hs ends with the texts of the entries e and es, for which the members
 -- n and ns stand; the last one's text is `last`
-pub record OwnFrom (n : Member) (ns : List Member) (e : Entry) (es : List Entry) (ms : List ℕ) (gs : List Splice) (bs : List ℕ) (hs : List Splice) (last : List ℕ) : Type 0 where
+pub record EndsWithMembersFrom (n : Member) (ns : List Member) (e : Entry) (es : List Entry) (ms : List ℕ) (gs : List Splice) (bs : List ℕ) (hs : List Splice) (last : List ℕ) : Type 0 where
   pub front : List ℕ
   pub inside : List ℕ
   pub splices_front : List Splice
@@ -48,16 +48,16 @@ pub record OwnFrom (n : Member) (ns : List Member) (e : Entry) (es : List Entry)
 
 -- over the groups ms and gs, the text of bs and hs ends with the texts of the entries es, for which the members ns
 -- stand, the last one's being `last`; without members it is any text
-abbrev pub Own : List Member → List Entry → List ℕ → List Splice → List ℕ → List Splice → List ℕ → Type 0
-Own [] [] ms gs bs hs last = ⊤
-Own (n ∷ ns) (e ∷ es) ms gs bs hs last = OwnFrom n ns e es ms gs bs hs last
-Own _ _ ms gs bs hs last = ⊥
+abbrev pub EndsWithMembers : List Member → List Entry → List ℕ → List Splice → List ℕ → List Splice → List ℕ → Type 0
+EndsWithMembers [] [] ms gs bs hs last = ⊤
+EndsWithMembers (n ∷ ns) (e ∷ es) ms gs bs hs last = EndsWithMembersFrom n ns e es ms gs bs hs last
+EndsWithMembers _ _ ms gs bs hs last = ⊥
 
 -- the text of the first of the entries, which is the text before the next one, or `last` if there
 -- is no next one; empty without entries
 abbrev pub text_at : List Entry → List ℕ → List ℕ
 text_at [] last = []
-text_at (e ∷ es) last = next_text es last
+text_at (e ∷ es) last = text_before es last
 
 -- a string with the text of the entry at the index i; the text of the last entry is `last`
 abbrev pub text_tree_at : List Entry → List ℕ → ℕ → Tree
@@ -67,7 +67,7 @@ text_tree_at es last i = str (text_at (drop i es) last)
 
 -- groups' are `groups` with bytes and splices appended that hold the text x over the groups ms and gs; if the splices
 -- hs are all for groups before an index, so are the appended ones
-pub record Gains (ms : List ℕ) (gs : List Splice) (hs : List Splice) (groups groups' : Spread) (x : List ℕ) : Type 0 where
+pub record Gains (ms : List ℕ) (gs : List Splice) (hs : List Splice) (groups groups' : SplicedText) (x : List ℕ) : Type 0 where
   pub bytes : List ℕ
   pub splices : List Splice
   pub more_bytes : groups'.bytes.items ≡ groups.bytes.items ++ bytes
@@ -77,16 +77,16 @@ pub record Gains (ms : List ℕ) (gs : List Splice) (hs : List Splice) (groups g
 
 -- to `groups`, the text of the member of ns at the index i in `out` is appended, with a comma before it unless f is
 -- true
-abbrev pub PutsMember : List Member → ℕ → Bool → Spread → Spread → Spread → Type 0
-PutsMember ns i f out groups groups' = (es : List Entry) (last ms : List ℕ) (gs : List Splice) → Own ns es ms gs out.bytes.items out.splices.items last → Gains ms gs out.splices.items groups groups' (gap f ++ text_at (drop i es) last)
+abbrev pub PutsMember : List Member → ℕ → Bool → SplicedText → SplicedText → SplicedText → Type 0
+PutsMember ns i f out groups groups' = (es : List Entry) (last ms : List ℕ) (gs : List Splice) → EndsWithMembers ns es ms gs out.bytes.items out.splices.items last → Gains ms gs out.splices.items groups groups' (comma_before f ++ text_at (drop i es) last)
 
 -- to `groups`, the texts of the members of ns at the indices in `order` are appended, without those whose name the
 -- next one has, and with commas between; n is how many these are
-abbrev pub PutsMembers : List Member → List ℕ → Spread → Spread → Spread → ℕ → Type 0
-PutsMembers ns order out groups groups' n = (es : List Entry) (last ms : List ℕ) (gs : List Splice) → Own ns es ms gs out.bytes.items out.splices.items last → Gains ms gs out.splices.items groups groups' (members_text true (without_repeats (members_at ns (text_tree_at es last) order))) × (n ≡ count (without_repeats (members_at ns (text_tree_at es last) order)))
+abbrev pub PutsMembers : List Member → List ℕ → SplicedText → SplicedText → SplicedText → ℕ → Type 0
+PutsMembers ns order out groups groups' n = (es : List Entry) (last ms : List ℕ) (gs : List Splice) → EndsWithMembers ns es ms gs out.bytes.items out.splices.items last → Gains ms gs out.splices.items groups groups' (members_text true (without_repeats (members_at ns (text_tree_at es last) order))) × (n ≡ count (without_repeats (members_at ns (text_tree_at es last) order)))
 
 -- out' is `out` up to the point, and then holds the text x over groups', which begin with ms and gs
-pub record PutAt (point : Point) (ms : List ℕ) (gs : List Splice) (out out' groups' : Spread) (x : List ℕ) : Type 0 where
+pub record PutAt (point : Point) (ms : List ℕ) (gs : List Splice) (out out' groups' : SplicedText) (x : List ℕ) : Type 0 where
   pub bytes : List ℕ
   pub splices : List Splice
   pub more_bytes : List ℕ
@@ -96,13 +96,13 @@ pub record PutAt (point : Point) (ms : List ℕ) (gs : List Splice) (out out' gr
   pub groups_bytes : groups'.bytes.items ≡ ms ++ more_bytes
   pub groups_splices : groups'.splices.items ≡ gs ++ more_splices
   pub text : Holds groups'.bytes.items groups'.splices.items point.bytes bytes splices x
-  pub good : Good gs out.splices.items → Good groups'.splices.items out'.splices.items
+  pub good : SplicesInOrder gs out.splices.items → SplicesInOrder groups'.splices.items out'.splices.items
 
 -- out' is `out` up to `point`, and then holds the text that `groups` have from the point `from` on
-abbrev pub PutsBack : Point → Point → Spread → Spread → Spread → Spread → Type 0
+abbrev pub PutsBack : Point → Point → SplicedText → SplicedText → SplicedText → SplicedText → Type 0
 PutsBack point from out out' groups groups' = (ms b : List ℕ) (gs h : List Splice) (x : List ℕ) → groups.bytes.items ≡ ms ++ b → groups.splices.items ≡ gs ++ h → from.bytes ≡ length ms → from.splices ≡ length gs → point.bytes ≤ length out.bytes.items → Holds ms gs (length ms) b h x → (AllBefore (length gs) out.splices.items → AllBefore (length gs) h) → PutAt point ms gs out out' groups' x
 
 -- out' is `out`, which ends with the text of the members ns, with that text in normal form; b says whether no two of
 -- their names are equal
-abbrev pub SortsMembers : List Member → Spread → Spread → Spread → Spread → Bool → Type 0
-SortsMembers ns out out' groups groups' b = (es : List Entry) (last : List ℕ) → Own ns es groups.bytes.items groups.splices.items out.bytes.items out.splices.items last → PutAt (begin_of ns (record { bytes = 0; splices = 0 })) groups.bytes.items groups.splices.items out out' groups' (members_text true (norm_members (entry_members es last))) × (b ≡ once_each (entry_members es last))
+abbrev pub SortsMembers : List Member → SplicedText → SplicedText → SplicedText → SplicedText → Bool → Type 0
+SortsMembers ns out out' groups groups' b = (es : List Entry) (last : List ℕ) → EndsWithMembers ns es groups.bytes.items groups.splices.items out.bytes.items out.splices.items last → PutAt (begin_of ns (record { bytes = 0; splices = 0 })) groups.bytes.items groups.splices.items out out' groups' (members_text true (norm_members (entry_members es last))) × (b ≡ once_each (entry_members es last))

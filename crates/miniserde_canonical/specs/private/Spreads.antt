@@ -43,5 +43,5 @@ AllBefore n [] = ⊤
 AllBefore n (h ∷ hs) = (h.group.to.splices ≤ n) × AllBefore n hs
 
 -- the splices gs of the groups are each for earlier groups, and the splices hs of the text for groups that exist
-abbrev pub Good : List Splice → List Splice → Type 0
-Good gs hs = Ordered 0 gs × AllBefore (length gs) hs
+abbrev pub SplicesInOrder : List Splice → List Splice → Type 0
+SplicesInOrder gs hs = Ordered 0 gs × AllBefore (length gs) hs

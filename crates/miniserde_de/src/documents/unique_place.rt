@@ -16,7 +16,7 @@ pub struct UniquePlace {
 impl Visitor for UniquePlace {
     type Out = Unique;
 
-    ghost use Rattle.miniserde_de.specs.Places.{unique_place_meaning, steps_once};
+    ghost use Rattle.miniserde_de.specs.Places.{unique_place_meaning, UniqueTakes};
 
     ghost meaning = { unique_place_meaning };
 
@@ -26,7 +26,7 @@ impl Visitor for UniquePlace {
 
     // An event that is accepted does to the hole what it does in the place of a `Value`. A
     // duplicate name fails.
-    ghost further = { steps_once };
+    ghost further = { UniqueTakes };
 
     fn begin(alloc: Global) -> Result<UniquePlace> {
         Ok(UniquePlace {

@@ -2,10 +2,10 @@
 ghost use Rattle.std.specs.Prelude.{◌≡◌, true, [], Option, Some, None, Err, IfOk, OnOk};
 ghost use Rattle.miniserde_model.specs.declared.error.Error.TheVariants.{Invalid};
 ghost use Rattle.miniserde_read.specs.Events.{event_of};
-ghost use Rattle.miniserde_read.specs.Events.{IsTreeEvent};
+ghost use Rattle.miniserde_read.specs.Events.{EventInRange};
 ghost use Rattle.miniserde_value.specs.Hole.{outside, after_between, after_step};
 ghost use Rattle.miniserde_value.specs.Hole.{repeats};
-ghost use Rattle.miniserde_de.specs.Kinds.{is_start};
+ghost use Rattle.miniserde_de.specs.DocumentMeanings.{is_start};
 
 use crate::de::{Deserialize, Step, Visitor};
 use miniserde_model::error::{Error, Result};
@@ -46,7 +46,7 @@ impl ValuePlace {
     // innermost container. Returns whether a value is due after the event. Returns `Invalid` if the
     // event is none of these or does not fit the container, and `Memory` if an allocation fails.
     #[inline(always)]
-    fn resume(&mut self, event: Step<'_>) -> Result<bool>
+    fn step_between_values(&mut self, event: Step<'_>) -> Result<bool>
         ensures ok { IfOk result (λ due.
             after_between (event_of event.entry) (hole_at self.old) ≡ Some (due, hole_at self.new)) }
         ensures invalid { result ≡ Err Invalid → after_between (event_of event.entry) (hole_at self.old) ≡ None }
@@ -70,7 +70,7 @@ impl ValuePlace {
     // place does not keep the error yet.
     #[inline(always)]
     fn accept(&mut self, event: Step<'_>) -> Result<()>
-        requires { IsTreeEvent (event_of event) }
+        requires { EventInRange (event_of event) }
         ensures ok { OnOk result (after_step (due_in self.old) (hole_at self.old) (event_of event.entry)
             ≡ Some (due_in self.new, hole_at self.new)) }
         ensures invalid { result ≡ Err Invalid
@@ -81,7 +81,7 @@ impl ValuePlace {
             self.builder.begin(event)?;
             self.due = false;
         } else {
-            self.due = self.resume(event)?;
+            self.due = self.step_between_values(event)?;
         }
         Ok(())
     }
@@ -108,7 +108,7 @@ impl ValuePlace {
 impl Visitor for ValuePlace {
     type Out = Value;
 
-    ghost use Rattle.miniserde_de.specs.Places.{value_place_meaning, steps};
+    ghost use Rattle.miniserde_de.specs.Places.{value_place_meaning, ValueTakes};
 
     ghost meaning = { value_place_meaning };
 
@@ -118,7 +118,7 @@ impl Visitor for ValuePlace {
 
     // An event that is accepted changes the hole as `after_step` says. The first error is `Invalid`
     // only if the event does not fit the hole.
-    ghost further = { steps };
+    ghost further = { ValueTakes };
 
     fn begin(alloc: Global) -> Result<ValuePlace> {
         Ok(ValuePlace::new(alloc))

@@ -4,7 +4,7 @@ ghost use Rattle.miniserde_model.specs.Position.{complete};
 ghost use Rattle.miniserde_model.specs.declared.error.Error.{Error};
 ghost use Rattle.miniserde_read.specs.Events.{event_of};
 ghost use Rattle.miniserde_place.specs.Place.{Takes, IsFresh, first_refusal};
-ghost use Rattle.miniserde_read.specs.Events.{IsTreeEvent};
+ghost use Rattle.miniserde_read.specs.Events.{EventInRange};
 ghost use Rattle.miniserde_place.specs.Container.{is_complete};
 ghost use Rattle.miniserde_de.specs.FieldPlaces.{FieldPlacesMeaning, no_field_places, field_place_and};
 
@@ -45,7 +45,7 @@ pub trait Fields: Drop {
 
     /// Hands an event to the place of the current value, and returns its error.
     fn step(&mut self, event: Step<'_>) -> Result<()>
-        requires { IsTreeEvent (event_of event) }
+        requires { EventInRange (event_of event) }
         ensures { Takes (meaning.child self.old) (event_of event.entry) result (meaning.child self.new) };
 
     /// Keeps an error in the place of the current value, unless that keeps one already. Returns the first error of

@@ -8,7 +8,7 @@ use Rattle.miniserde_read.specs.Meaning.{Meaning}
 use Rattle.miniserde_read.specs.Meanings.{string_meaning}
 use Rattle.miniserde_read.specs.types.Objects.{Name}
 use Rattle.miniserde_read.specs.types.Words.{string_of}
-use Rattle.miniserde_record.specs.Fields.{others, last_given, Says}
+use Rattle.miniserde_record.specs.Fields.{other_members, last_content, LastMemberReads}
 use Rattle.miniserde_record.specs.laws.Meanings.{read-given, given-read}
 use Rattle.miniserde_enum.specs.Internal.{IsInternal, tag_of, internal_variant}
 
@@ -32,9 +32,9 @@ flat None = refl
 flat (Some o) = or-none o
 
 -- each member of the tag's name is a string and the last one is n, exactly if `tag_of` returns n
-pub tag-agrees : (tag n : Name) (ms : Members) → Says ⊥ (λ t. t ≡ str n) string_of tag ms ↔ (tag_of tag ms ≡ Some n)
+pub tag-agrees : (tag n : Name) (ms : Members) → LastMemberReads ⊥ (λ t. t ≡ str n) string_of tag ms ↔ (tag_of tag ms ≡ Some n)
 tag-agrees tag n ms =
-    let o = last_given false string_of tag None ms in (
+    let o = last_content false string_of tag None ms in (
       λ h. sym (flat o) ∙ read-given names None (λ _. ⊥) no-default false tag ms n h,
       λ e. given-read names None (λ _. ⊥) no-default false tag ms n (flat o ∙ e),
     )
@@ -50,10 +50,10 @@ no-data None u n e = cc
 no-data (Some k) u n e = let i = ap (λ z. z.1) (same_Some _ _ e) in cc
 
 pub internal-agrees : (tag : Name) (t : Tree) (n : Name) (o : Option Tree) → IsInternal tag t n o ↔ (internal_variant tag t ≡ Some (n, o))
-internal-agrees tag (members ms) n None = (λ h. absurd h, λ e. absurd (no-data (tag_of tag ms) (members (others tag ms)) n e))
+internal-agrees tag (members ms) n None = (λ h. absurd h, λ e. absurd (no-data (tag_of tag ms) (members (other_members tag ms)) n e))
 internal-agrees tag (members ms) n (Some u) =
     let is = tag-agrees tag n ms in (
       λ h. rw (is.0 h.0, h.1) refl,
-      λ e. let p = tagged (tag_of tag ms) (members (others tag ms)) u n e in (is.1 p.0, p.1),
+      λ e. let p = tagged (tag_of tag ms) (members (other_members tag ms)) u n e in (is.1 p.0, p.1),
     )
 internal-agrees tag t n o = (λ h. absurd h, λ e. absurd (cc))

@@ -19,10 +19,10 @@ Spellable m es st = (b : List ℕ) × Spells m es st b
 pub record Moved {C : Type 0} (m : Moment) (st : List Kind) (s : List ℕ) (at : Position) (k : List Step → Option C) (m' : Moment) (st' : List Kind) (s' : List ℕ) (at' : Position) (k' : List Step → Option C) : Type 0 where
   pub done : List Step
   pub passed : Consumes m st s done m' st' s'
-  pub leads : PositionAdvancesBy at k done at' k'
+  pub advances : PositionAdvancesBy at k done at' k'
   pub spellable : (es : List Step) → Spellable m' es st' → Spellable m (done ++ es) st
 
 -- from m on, inside the open containers st, the outcome k gives nothing for any events that a
 -- prefix of the text s spells and that complete the position `at`
-abbrev pub RunsBarred : {C : Type 0} → Moment → List Kind → List ℕ → (List Step → Option C) → Position → Type 0
-RunsBarred m st s k at = (es : List Step) (r : List ℕ) → Runs m es st s r → Completes at es → k es ≡ None
+abbrev pub RejectsRuns : {C : Type 0} → Moment → List Kind → List ℕ → (List Step → Option C) → Position → Type 0
+RejectsRuns m st s k at = (es : List Step) (r : List ℕ) → Runs m es st s r → Completes at es → k es ≡ None

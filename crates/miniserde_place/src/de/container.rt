@@ -3,7 +3,7 @@ ghost use Rattle.std.specs.Prelude.{◌≡◌, true, Some, None, Ok, Err, IfOk};
 ghost use Rattle.miniserde_model.specs.Position.{complete};
 ghost use Rattle.miniserde_read.specs.Events.{event_of};
 ghost use Rattle.miniserde_place.specs.Place.{Advances, Rejects, IsFresh};
-ghost use Rattle.miniserde_read.specs.Events.{IsTreeEvent};
+ghost use Rattle.miniserde_read.specs.Events.{EventInRange};
 ghost use Rattle.miniserde_model.specs.declared.error.Error.{Error};
 
 mod collect;
@@ -46,12 +46,12 @@ impl<C: Collect> ContainerPlace<C> {
     // `Invalid` if the event does none of these, and `Memory` if an allocation fails.
     #[inline(never)]
     fn step_between_children(&mut self, event: Step<'_>) -> Result<()>
-        requires tree { IsTreeEvent (event_of event) }
+        requires tree { EventInRange (event_of event) }
         requires complete { self.old.stage ≡ Stage.Child → (C.collector_meaning.child self.old.collector).at ≡ complete }
-        ensures leads { IfOk result (λ _.
+        ensures advances { IfOk result (λ _.
             Advances (container_view C.collector_meaning self.old) (event_of event.entry) (container_view C.collector_meaning self.new)) }
         ensures unrefused { IfOk result (λ _. (container_view C.collector_meaning self.new).refused ≡ None) }
-        ensures bars { result ≡ Err Error.Invalid → (container_view C.collector_meaning self.old).refused ≡ None
+        ensures rejects { result ≡ Err Error.Invalid → (container_view C.collector_meaning self.old).refused ≡ None
             → Rejects (container_view C.collector_meaning self.old) (event_of event.entry) }
         ensures sticky { (r : Error) → (container_view C.collector_meaning self.old).refused ≡ Some r → result ≡ Err r }
         ensures opens { IfOk result (λ _. self.old.stage ≡ Stage.Fresh
@@ -71,10 +71,10 @@ impl<C: Collect> ContainerPlace<C> {
                 self.stage = Stage::Between;
                 Ok(())
             }
-            Stage::Between => self.go_on(event),
+            Stage::Between => self.step_between_children(event),
             Stage::Child => {
                 self.collector.join()?;
-                self.go_on(event)
+                self.step_between_children(event)
             }
             Stage::Done => Err(Error::Invalid),
             Stage::Refused(error) => Err(error),
@@ -83,11 +83,11 @@ impl<C: Collect> ContainerPlace<C> {
 
     // Takes an event between two children: begins the next child, or ends the container. Returns `Invalid` if the
     // event does neither, or if the container does not allow it, and `Memory` if an allocation fails.
-    fn go_on(&mut self, event: Step<'_>) -> Result<()>
-        ensures leads { IfOk result (λ _.
+    fn step_between_children(&mut self, event: Step<'_>) -> Result<()>
+        ensures advances { IfOk result (λ _.
             Advances (view_between C.collector_meaning self.old.collector) (event_of event.entry) (container_view C.collector_meaning self.new)) }
         ensures unrefused { IfOk result (λ _. (container_view C.collector_meaning self.new).refused ≡ None) }
-        ensures bars { result ≡ Err Error.Invalid
+        ensures rejects { result ≡ Err Error.Invalid
             → Rejects (view_between C.collector_meaning self.old.collector) (event_of event.entry) }
         ensures begins { IfOk result (λ _. BeginsChild (event_of event.entry) → (self.new.stage ≡ Stage.Child)
             × IsFresh (C.collector_meaning.rules.child (C.collector_meaning.state self.old.collector) (event_of event.entry))
@@ -115,11 +115,11 @@ impl<C: Collect> ContainerPlace<C> {
 }
 
 impl<C: Collect> Visitor for ContainerPlace<C> {
-    ghost use Rattle.miniserde_place.specs.Stage.{place_of, ContainerSteps};
+    ghost use Rattle.miniserde_place.specs.Stage.{container_place_meaning, ContainerSteps};
 
     type Out = C::Out;
 
-    ghost meaning = { place_of C.collector_meaning };
+    ghost meaning = { container_place_meaning C.collector_meaning };
 
     ghost begin_infallible = { true };
 

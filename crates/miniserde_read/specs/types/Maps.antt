@@ -3,7 +3,7 @@
 use Rattle.std.specs.Prelude.{List, [], ◌∷◌, Option, Some, None, option_and_then, option_map, IsSome, bytes_eq, ◌≡◌, ⊤, if◌then◌else◌, true, false, codes, refl}
 use Rattle.miniserde_model.specs.Tree.{Tree, members, Members, no_members, member, null, truth}
 use Rattle.miniserde_keys.specs.Keys.{Key}
-use Rattle.miniserde_read.specs.types.Objects.{Name, object_of, all_members}
+use Rattle.miniserde_read.specs.types.Objects.{Name, object_of, after_members}
 use Rattle.miniserde_read.specs.types.Words.{boolean_of}
 
 -- ---- what a map's tree means
@@ -52,12 +52,12 @@ MapReads read code content of R _ es = ⊥
 -- ---- maps, member by member
 
 -- the content of a map: for each code, the key and the value's content, if there is an entry
-abbrev pub Entries : Type 0 → Type 0
-Entries C = Key → Option (Key × C)
+abbrev pub MapContent : Type 0 → Type 0
+MapContent C = Key → Option (Key × C)
 
 -- the content of the empty map
-abbrev pub no_key : {C : Type 0} → Entries C
-no_key q = None
+abbrev pub no_entries : {C : Type 0} → MapContent C
+no_entries q = None
 
 -- the key of the entry, if there is one, and else the key c
 abbrev pub present_key_or : {C : Type 0} → Option (Key × C) → Key → Key
@@ -65,21 +65,21 @@ present_key_or None c = c
 present_key_or (Some e) c = e.0
 
 -- the content m of a map with the value d at the code of the key c; a key that is there with that code stays
-abbrev pub with_entry : {C : Type 0} → (Key → Key) → Entries C → Key → C → Entries C
+abbrev pub with_entry : {C : Type 0} → (Key → Key) → MapContent C → Key → C → MapContent C
 with_entry code m c d q = if bytes_eq (code c) q then Some (present_key_or (m q) c, d) else m q
 
 -- the content of a map with the entries es; `content` returns the content of a key, and `value` that of a value
-abbrev pub map_content : {K V C : Type 0} → (Key → Key) → (K → Key) → (V → C) → List (K × V) → Entries C
+abbrev pub map_content : {K V C : Type 0} → (Key → Key) → (K → Key) → (V → C) → List (K × V) → MapContent C
 map_content code content value es q = option_map (λ e. (content e.0, value e.1)) (entry_at (λ k. code (content k)) q es)
 
 -- the content m of a map with one more member, if `read` returns a key for its name k and f a
 -- content for its value x, which is a tree or the events of one
-abbrev pub map_member : {C X : Type 0} → (Name → Option Key) → (Key → Key) → (X → Option C) → Entries C → Name → X → Option (Entries C)
+abbrev pub map_member : {C X : Type 0} → (Name → Option Key) → (Key → Key) → (X → Option C) → MapContent C → Name → X → Option (MapContent C)
 map_member read code f m k x = option_and_then (λ c. option_map (with_entry code m c) (f x)) (read k)
 
 -- the content of the map that an object means, by `read` and `code`, and by `of` for the trees of its members
-abbrev pub map_of : {C : Type 0} → (Name → Option Key) → (Key → Key) → (Tree → Option C) → Tree → Option (Entries C)
-map_of read code of = object_of (all_members (map_member read code of) no_key)
+abbrev pub map_of : {C : Type 0} → (Name → Option Key) → (Key → Key) → (Tree → Option C) → Tree → Option (MapContent C)
+map_of read code of = object_of (after_members (map_member read code of) no_entries)
 
 -- Worked cases: the map of `{"a":true,"a":false}` has false at "a", and `{"a":null}` is no map of booleans.
 pub last_value : option_map (λ m. m (codes "a")) (map_of Some (λ k. k) boolean_of (members (member (codes "a") (truth true) (member (codes "a") (truth false) no_members)))) ≡ Some (Some (codes "a", false))

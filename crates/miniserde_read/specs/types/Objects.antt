@@ -7,9 +7,9 @@ abbrev pub Name : Type 0
 Name = List ℕ
 
 -- the state after all the members, from the state s on, if f returns a state after each of them
-abbrev pub all_members : {S : Type 0} → (S → Name → Tree → Option S) → S → Members → Option S
-all_members f s no_members = Some s
-all_members f s (member k t ms) = option_and_then (λ r. all_members f r ms) (f s k t)
+abbrev pub after_members : {S : Type 0} → (S → Name → Tree → Option S) → S → Members → Option S
+after_members f s no_members = Some s
+after_members f s (member k t ms) = option_and_then (λ r. after_members f r ms) (f s k t)
 
 -- what f returns for the members of an object; `None` for any other tree
 abbrev pub object_of : {R : Type 0} → (Members → Option R) → Tree → Option R

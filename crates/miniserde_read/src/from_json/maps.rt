@@ -5,7 +5,7 @@ ghost use Rattle.miniserde_model.specs.declared.error.Error.{Error};
 ghost use Rattle.miniserde_model.specs.declared.error.Error.TheVariants.{Memory};
 ghost use Rattle.miniserde_read.specs.Meanings.{map_meaning};
 ghost use Rattle.miniserde_read.specs.Rest.{GivesAt, GivesNoneAt};
-ghost use Rattle.miniserde_read.specs.Events.{IsTreeEvent};
+ghost use Rattle.miniserde_read.specs.Events.{EventInRange};
 ghost use Rattle.miniserde_read.specs.types.Maps.{map_content, with_entry};
 
 use super::FromJson;
@@ -87,7 +87,7 @@ fn read_table<'a, V: FromJson, M: Table<Value = V>>(
     source: &mut Source<'a>,
 ) -> Result<M>
     requires going { source.old.refused ≡ None }
-    requires event { IsTreeEvent (event_of_token token source.old.scratch) }
+    requires event { EventInRange (event_of_token token source.old.scratch) }
     ensures going { IfOk result (λ _. source.new.refused ≡ None) }
     ensures ok { IfOk result (λ v.
         GivesAt (map_meaning M.Key.read M.Key.code M.Key.content V.means M.entries).from_tree
@@ -102,7 +102,7 @@ fn read_table<'a, V: FromJson, M: Table<Value = V>>(
     };
     let mut table = M::new(source.alloc());
     let mut first = true;
-    while let Some(name) = source.name(first)? {
+    while let Some(name) = source.member(first)? {
         let key = <M::Key as MapKey>::from_key(source.alloc(), source.text(name))?;
         let token = source.token()?;
         let value = V::read(token, source)?;

@@ -6,25 +6,25 @@ use Rattle.miniserde_model.specs.Tree.{Tree, Members, no_members, member}
 use Rattle.miniserde_model.specs.Normal.{or_else, last_of}
 use Rattle.miniserde_read.specs.Meaning.{Meaning}
 use Rattle.miniserde_read.specs.types.Objects.{Name}
-use Rattle.miniserde_record.specs.Fields.{others, Says, count_named, OnceAnd, MissingReads, FieldsRead}
+use Rattle.miniserde_record.specs.Fields.{other_members, LastMemberReads, count_named, OnceAnd, MissingReads, FieldsRead}
 use Rattle.miniserde_record.specs.laws.Said.{left, is_other}
 use Rattle.miniserde_record.specs.Marks.{has_no_members, is_among, all_among}
 
 -- ---- once
 
 -- as many members have the name k if the members of another name are left out
-count-apart : (n k : Name) → bytes_eq n k ≡ false → (ms : Members) → count_named k (others n ms) ≡ count_named k ms
+count-apart : (n k : Name) → bytes_eq n k ≡ false → (ms : Members) → count_named k (other_members n ms) ≡ count_named k ms
 count-apart n k d no_members = refl
-count-apart n k d (member j t ms) = elim (bytes_eq j n) as (λ b. bytes_eq j n ≡ b → count_named k (cond b (others n ms) (member j t (others n ms))) ≡ cond (bytes_eq j k) (suc (count_named k ms)) (count_named k ms)) [
+count-apart n k d (member j t ms) = elim (bytes_eq j n) as (λ b. bytes_eq j n ≡ b → count_named k (cond b (other_members n ms) (member j t (other_members n ms))) ≡ cond (bytes_eq j k) (suc (count_named k ms)) (count_named k ms)) [
   | true ↦ λ e. let other : bytes_eq j k ≡ false = subst (λ i. bytes_eq i k ≡ false) (sym ((bytes_eq-Decides j n).0 e)) d in rw other (count-apart n k d ms)
   | false ↦ λ e. rw (count-apart n k d ms) refl
 ] refl
 
 count-left : (k : Name) (ns : List Name) → is_other k ns ≡ true → (ms : Members) → count_named k (left ns ms) ≡ count_named k ms
 count-left k [] d ms = refl
-count-left k (n ∷ ns) d ms = elim (bytes_eq n k) as (λ b. bytes_eq n k ≡ b → (not b && is_other k ns) ≡ true → count_named k (left ns (others n ms)) ≡ count_named k ms) [
+count-left k (n ∷ ns) d ms = elim (bytes_eq n k) as (λ b. bytes_eq n k ≡ b → (not b && is_other k ns) ≡ true → count_named k (left ns (other_members n ms)) ≡ count_named k ms) [
   | true ↦ λ e d. absurd (cc)
-  | false ↦ λ e d. count-left k ns d (others n ms) ∙ count-apart n k e ms
+  | false ↦ λ e d. count-left k ns d (other_members n ms) ∙ count-apart n k e ms
 ] refl d
 
 -- at most one of the members that the earlier fields leave has the name k exactly if at most one of all members has
@@ -33,9 +33,9 @@ once-says k ns d ms = let c = count-left k ns d ms in (λ e. subst (λ m. m ≤ 
 
 -- ---- closed
 
-all-named-more : (n : Name) (ns : List Name) (ms : Members) → all_among ns (others n ms) ≡ all_among (n ∷ ns) ms
+all-named-more : (n : Name) (ns : List Name) (ms : Members) → all_among ns (other_members n ms) ≡ all_among (n ∷ ns) ms
 all-named-more n ns no_members = refl
-all-named-more n ns (member k t ms) = elim (bytes_eq k n) as (λ b. all_among ns (cond b (others n ms) (member k t (others n ms))) ≡ ((b || is_among ns k) && all_among (n ∷ ns) ms)) [
+all-named-more n ns (member k t ms) = elim (bytes_eq k n) as (λ b. all_among ns (cond b (other_members n ms) (member k t (other_members n ms))) ≡ ((b || is_among ns k) && all_among (n ∷ ns) ms)) [
   | true ↦ all-named-more n ns ms
   | false ↦ ap (λ b. is_among ns k && b) (all-named-more n ns ms)
 ]
@@ -47,7 +47,7 @@ none-named (member k t ms) = refl
 -- `closed`: no member is left after the last field exactly if each member's name is a field's
 pub closed-named : (ns : List Name) (ms : Members) → has_no_members (left ns ms) ≡ all_among ns ms
 closed-named [] ms = none-named ms
-closed-named (n ∷ ns) ms = closed-named ns (others n ms) ∙ all-named-more n ns ms
+closed-named (n ∷ ns) ms = closed-named ns (other_members n ms) ∙ all-named-more n ns ms
 
 -- ---- default
 
@@ -76,12 +76,12 @@ module _ {A V : Type 0} (once : Bool) (m : Meaning A) (given : Tree) (absent : O
       let one : bytes_eq n n ≡ true = (bytes_eq-Decides n n).1 refl in
       let zero = none-zero n ms e in
       let count : count_named n (member n given ms) ≡ 1 = rw (one, zero) refl in
-      let rests : rest ns (others n ms) v.1 ≡ rest ns (others n (member n given ms)) v.1 = rw one refl in
-      let says : Says (R given) R m.from_tree n ms ↔ Says absent R m.from_tree n (member n given ms) = rw (one, e) (
+      let rests : rest ns (other_members n ms) v.1 ≡ rest ns (other_members n (member n given ms)) v.1 = rw one refl in
+      let says : LastMemberReads (R given) R m.from_tree n ms ↔ LastMemberReads absent R m.from_tree n (member n given ms) = rw (one, e) (
         λ h. ((λ _. rw ((m.reads_agrees given v.0).0 h.1) refl, h.0), h.1),
         λ h. (h.0.1, h.1),
       ) in
-      elim once as (λ b. (OnceAnd b n ms (Says (R given) R m.from_tree n ms) × rest ns (others n ms) v.1) ↔ (OnceAnd b n (member n given ms) (Says absent R m.from_tree n (member n given ms)) × rest ns (others n (member n given ms)) v.1)) [
+      elim once as (λ b. (OnceAnd b n ms (LastMemberReads (R given) R m.from_tree n ms) × rest ns (other_members n ms) v.1) ↔ (OnceAnd b n (member n given ms) (LastMemberReads absent R m.from_tree n (member n given ms)) × rest ns (other_members n (member n given ms)) v.1)) [
         | false ↦ (λ h. (says.0 h.0, subst (λ P. P) rests h.1), λ h. (says.1 h.0, subst (λ P. P) (sym rests) h.1))
         | true ↦ (λ h. ((omega (arith, count), says.0 h.0.1), subst (λ P. P) rests h.1), λ h. ((omega (arith, zero), says.1 h.0.1), subst (λ P. P) (sym rests) h.1))
       ]

@@ -2,7 +2,7 @@
 ghost use Rattle.std.specs.Prelude.{◌≡◌, true, List, length, map};
 ghost use Rattle.miniserde_read.specs.types.Objects.{Name};
 ghost use Rattle.miniserde_round.specs.RoundTrip.{RoundTrips};
-ghost use Rattle.miniserde_record.specs.Aliases.{field_name_of, are_themselves};
+ghost use Rattle.miniserde_record.specs.Aliases.{field_name_of, are_unaliased};
 ghost use Rattle.miniserde_record.specs.FieldsMeaning.{struct_meaning, with_aliases};
 ghost use Rattle.miniserde_record.specs.Structs.{record_tree};
 
@@ -24,7 +24,7 @@ pub trait HasAliases: Record {
         ensures { map (λ p. (p.0.now, p.1.now)) result.now ≡ aliases };
 
     // No name of a field is an alias of another field.
-    ghost apart: { are_themselves aliases Self.names ≡ true };
+    ghost apart: { are_unaliased aliases Self.names ≡ true };
 }
 
 // Returns the name of the field that has the alias `name`, or `name` itself if it is no alias.

@@ -2,7 +2,7 @@
 ghost use Rattle.std.specs.Prelude.{◌≡◌, ◌++◌, true, false, List, [], ◌∷◌, Option, Some, OnOk, OnErr, IsErrOf, map};
 ghost use Rattle.miniserde_model.specs.Tree.{Tree, members};
 ghost use Rattle.miniserde_model.specs.Compact.{compact};
-ghost use Rattle.miniserde_model.specs.IsTree.{IsTree, AreNamedTrees};
+ghost use Rattle.miniserde_model.specs.InRange.{InRange, MembersInRange};
 ghost use Rattle.miniserde_model.specs.declared.error.Error.TheVariants.{Memory};
 ghost use Rattle.miniserde_record.specs.Structs.{with_names, members_text};
 
@@ -20,7 +20,7 @@ pub trait Members {
     fn write(&self, w: &mut Writer, names: &[&str]) -> Result<()>
         ensures ok { OnOk result (w.new.text ≡ w.old.text
             ++ members_text w.old.first (with_names (map (λ n. n.now) names.now) (trees self.now))) }
-        ensures are_trees { OnOk result (AreNamedTrees
+        ensures all_in_range { OnOk result (MembersInRange
             (with_names (map (λ n. n.now) names.now) (trees self.now))) }
         ensures unrefused { OnOk result (w.new.refused ≡ w.old.refused) }
         ensures memory { OnErr result (IsErrOf result Memory) }
@@ -102,7 +102,7 @@ impl<'a, A: Serialize, B: Serialize, C: Serialize, D: Serialize, M: Members> Mem
 pub fn write_members<M: Members>(w: &mut Writer, names: &[&str], values: &M) -> Result<()>
     ensures ok { OnOk result (w.new.text ≡ w.old.text
         ++ compact (members (with_names (map (λ n. n.now) names.now) (M.trees values.now)))) }
-    ensures is_tree { OnOk result (IsTree
+    ensures in_range { OnOk result (InRange
         (members (with_names (map (λ n. n.now) names.now) (M.trees values.now)))) }
     ensures first { OnOk result (w.new.first ≡ false) }
     ensures unrefused { OnOk result (w.new.refused ≡ false) }

@@ -5,7 +5,7 @@ ghost use Rattle.miniserde_text.specs.Lexer.{event_of_token};
 ghost use Rattle.miniserde_model.specs.declared.error.Error.{Error};
 ghost use Rattle.miniserde_read.specs.Meaning.{Meaning};
 ghost use Rattle.miniserde_read.specs.Rest.{GivesAt, GivesNoneAt};
-ghost use Rattle.miniserde_read.specs.Events.{IsTreeEvent};
+ghost use Rattle.miniserde_read.specs.Events.{EventInRange};
 ghost use Rattle.miniserde_read.specs.types.Objects.{Name};
 ghost use Rattle.miniserde_round.specs.RoundTrip.{RoundTrips};
 ghost use Rattle.miniserde_stable.specs.Stable.{IsStable};
@@ -97,7 +97,7 @@ pub fn read_variant<'a, T: UnitEnum + 'static>(
     token: Event<'a>,
     source: &mut Source<'a>,
 ) -> Result<T>
-    requires { IsTreeEvent (event_of_token token source.old.scratch) }
+    requires { EventInRange (event_of_token token source.old.scratch) }
     ensures stays { source.new ≡ source.old }
     ensures ok { IfOk result (λ v. GivesAt (variant_of T.name_of T.all)
         (event_of_token token.entry source.old.scratch) source.old.rest source.old.rest v) }

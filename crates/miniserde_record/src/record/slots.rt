@@ -3,7 +3,7 @@ ghost use Rattle.std.specs.Prelude.{◌≡◌, ◌&&◌, Bool, true, false, None
 ghost use Rattle.miniserde_text.specs.Lexer.{event_of_token};
 ghost use Rattle.miniserde_model.specs.declared.error.Error.{Error};
 ghost use Rattle.miniserde_read.specs.Rest.{GivesAt, GivesNoneAt};
-ghost use Rattle.miniserde_read.specs.Events.{IsTreeEvent};
+ghost use Rattle.miniserde_read.specs.Events.{EventInRange};
 ghost use Rattle.miniserde_record.specs.FieldsMeaning.{FieldsMeaning, no_fields, field_and, struct_meaning};
 ghost use Rattle.miniserde_record.specs.Members.{ReadsDue, RejectsDue};
 
@@ -56,10 +56,10 @@ pub trait Slots: Drop {
         requires { source.old.refused ≡ None }
         ensures going { IfOk result (λ _. source.new.refused ≡ None) }
         ensures ok { IfOk result (λ _.
-            ReadsDue (meaning.by_tree (map (λ n. n.now) names.now) (state self.old) name.now)
+            ReadsDue (meaning.next_state (map (λ n. n.now) names.now) (state self.old) name.now)
             source.old.rest source.new.rest (state self.new)) }
         ensures invalid { result ≡ Err Error.Invalid
-            → RejectsDue (meaning.by_tree (map (λ n. n.now) names.now) (state self.old) name.now) source.old.rest }
+            → RejectsDue (meaning.next_state (map (λ n. n.now) names.now) (state self.old) name.now) source.old.rest }
         ensures refuses { meaning.refuses (map (λ n. n.now) names.now) (state self.old) name.now ≡ true
             → (result ≡ Err Error.Invalid) × (source.new ≡ source.old) };
 
@@ -116,10 +116,10 @@ fn read_unnamed<'a, R: Slots>(
     requires { source.old.refused ≡ None }
     ensures going { IfOk result (λ _. source.new.refused ≡ None) }
     ensures ok { IfOk result (λ _.
-        ReadsDue (R.meaning.by_tree (map (λ n. n.now) names.now) (R.state rest.old) name.now)
+        ReadsDue (R.meaning.next_state (map (λ n. n.now) names.now) (R.state rest.old) name.now)
         source.old.rest source.new.rest (R.state rest.new)) }
     ensures invalid { result ≡ Err Error.Invalid
-        → RejectsDue (R.meaning.by_tree (map (λ n. n.now) names.now) (R.state rest.old) name.now) source.old.rest }
+        → RejectsDue (R.meaning.next_state (map (λ n. n.now) names.now) (R.state rest.old) name.now) source.old.rest }
     ensures refuses { R.meaning.refuses (map (λ n. n.now) names.now) (R.state rest.old) name.now ≡ true
         → (result ≡ Err Error.Invalid) × (source.new ≡ source.old) }
 {
@@ -218,7 +218,7 @@ pub fn read_record<'a, S: Record, F: Slots<Values = S::Values>>(
     source: &mut Source<'a>,
 ) -> Result<S>
     requires going { source.old.refused ≡ None }
-    requires event { IsTreeEvent (event_of_token token source.old.scratch) }
+    requires event { EventInRange (event_of_token token source.old.scratch) }
     ensures going { IfOk result (λ _. source.new.refused ≡ None) }
     ensures ok { IfOk result (λ v. GivesAt (struct_meaning F.meaning S.names S.values).from_tree
         (event_of_token token.entry source.old.scratch) source.old.rest source.new.rest
@@ -231,7 +231,7 @@ pub fn read_record<'a, S: Record, F: Slots<Values = S::Values>>(
     };
     let mut fields = F::new();
     let mut first = true;
-    while let Some(name) = source.name(first)? {
+    while let Some(name) = source.member(first)? {
         match name {
             Text::Input(name) => fields.read_member(S::names(), name, source)?,
             Text::Scratch => {

@@ -22,9 +22,9 @@ due_or_after true = due
 due_or_after false = after
 
 -- if no container is open, the moment is not the one after an opening bracket
-abbrev pub IsLive : Moment → List Kind → Type 0
-IsLive first [] = ⊥
-IsLive _ _ = ⊤
+abbrev pub MomentFits : Moment → List Kind → Type 0
+MomentFits first [] = ⊥
+MomentFits _ _ = ⊤
 
 -- The bytes from s to s' spell the events `done`, whatever follows them. Before them m is the moment and st are the
 -- open containers, and after them m' and st'.

@@ -143,17 +143,17 @@ token_at s = token_by (slice_index s 0) s
 -- ---- the next child or the end
 
 -- whether the text is not empty and does not begin with a closing bracket
-abbrev pub begins : List ℕ → Bool
-begins [] = false
-begins (c ∷ cs) = not (is_closing c)
+abbrev pub begins_child : List ℕ → Bool
+begins_child [] = false
+begins_child (c ∷ cs) = not (is_closing c)
 
 -- If t begins with the closing bracket of the kind: `true`, and the text after it. If a child is
 -- next: `false`, and the text after the comma, or t itself if `first` says that the opening bracket
 -- was just taken. If neither: `None`.
-unfoldable pub step_at : Kind → Bool → List ℕ → Option (Bool × List ℕ)
-step_at kind first t =
+unfoldable pub punctuation_at : Kind → Bool → List ℕ → Option (Bool × List ℕ)
+punctuation_at kind first t =
     cond (slice_index t 0 == closing kind) (Some (true, drop 1 t))
-    (if first then (if begins t then Some (false, t) else None) else if slice_index t 0 == 44 then Some (false, drop 1 t) else None)
+    (if first then (if begins_child t then Some (false, t) else None) else if slice_index t 0 == 44 then Some (false, drop 1 t) else None)
 
 -- ---- escapes, after the backslash
 
@@ -163,15 +163,15 @@ abbrev pub with_suffix : List ℕ → Option (ℕ × ℕ) → Option (ℕ × Lis
 with_suffix s r = option_map (λ x. (x.0, drop x.1 s)) r
 
 -- whether the text begins with four hexadecimal digits
-abbrev pub begins_unit : List ℕ → Bool
-begins_unit s =
+abbrev pub begins_code_unit : List ℕ → Bool
+begins_code_unit s =
     is_hex (slice_index s 0) && is_hex (slice_index s 1) && is_hex (slice_index s 2) && is_hex (slice_index s 3)
 
 -- the number of the four hexadecimal digits that s begins with, and the text after them, if there
 -- are four
-abbrev pub unit_at : List ℕ → Option (ℕ × List ℕ)
-unit_at s =
-    cond (begins_unit s)
+abbrev pub code_unit_at : List ℕ → Option (ℕ × List ℕ)
+code_unit_at s =
+    cond (begins_code_unit s)
     (Some (
       digit_value (slice_index s 0) * 4096 + digit_value (slice_index s 1) * 256
           + digit_value (slice_index s 2) * 16 + digit_value (slice_index s 3),
@@ -180,8 +180,8 @@ unit_at s =
     None
 
 -- whether the text begins with `\u`
-abbrev pub begins_escape : List ℕ → Bool
-begins_escape s = (slice_index s 0 == 92) && (slice_index s 1 == 117)
+abbrev pub begins_unicode_escape : List ℕ → Bool
+begins_unicode_escape s = (slice_index s 0 == 92) && (slice_index s 1 == 117)
 
 -- the character of a high and a low surrogate
 abbrev pub pair_of : ℕ → ℕ → ℕ
@@ -191,13 +191,13 @@ pair_of high low = 0x10000 + (high - 0xd800) * 1024 + (low - 0xdc00)
 -- and the text after that escape, if there is one
 abbrev pub low_at : ℕ → List ℕ → Option (ℕ × List ℕ)
 low_at high s =
-    cond (begins_escape s)
-    (option_and_then (λ l. if is_low l.0 then Some (pair_of high l.0, l.1) else None) (unit_at (drop 2 s))) None
+    cond (begins_unicode_escape s)
+    (option_and_then (λ l. if is_low l.0 then Some (pair_of high l.0, l.1) else None) (code_unit_at (drop 2 s))) None
 
 -- the character of a `\u` escape or of a surrogate pair, and the text after it, if it is valid; s
 -- is the text after the first `\u`
 unfoldable pub unicode_at : List ℕ → Option (ℕ × List ℕ)
-unicode_at s = option_and_then (λ u. if is_high u.0 then low_at u.0 u.1 else if is_low u.0 then None else Some u) (unit_at s)
+unicode_at s = option_and_then (λ u. if is_high u.0 then low_at u.0 u.1 else if is_low u.0 then None else Some u) (code_unit_at s)
 
 -- the character of the escape of a backslash and the byte x, if there is such an escape
 abbrev pub short_at : ℕ → Option ℕ

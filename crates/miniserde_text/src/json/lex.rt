@@ -6,8 +6,8 @@
 ghost use Rattle.std.specs.Prelude.{◌≡◌, ◌≤◌, length, List, ℕ, Bool, None, Some, Err, IfOk, IfErr, IfSome};
 ghost use Rattle.std.specs.String.{string_bytes};
 ghost use Rattle.miniserde_model.specs.Whitespace.{IsWhitespace};
-ghost use Rattle.miniserde_model.specs.Step as step;
-ghost use Rattle.miniserde_model.specs.Lexing.{Starts, Names, Follows};
+ghost use Rattle.miniserde_model.specs.Step as punctuation;
+ghost use Rattle.miniserde_model.specs.LexerView.{Starts, Names, Follows};
 ghost use Rattle.miniserde_text.specs.Lexer.{event_of_token, text_of, is_close, EventStandsFor, NameStandsFor, Blank};
 ghost use Rattle.miniserde_text.specs.Lexer.{LeavesScratch, EventLeavesScratch, BeginsEscaped};
 ghost use Rattle.miniserde_model.specs.declared.error.Error.{Error};
@@ -15,14 +15,14 @@ ghost use Rattle.miniserde_model.specs.declared.error.Error.{Error};
 mod bytes;
 mod escape;
 pub(super) mod number;
+mod punctuation;
 mod space;
-mod step;
 mod string;
 mod tables;
 mod token;
 
+use self::punctuation::take_punctuation;
 use self::space::after_space;
-use self::step::take_step;
 use self::token::{take_name, take_token};
 use miniserde_model::error::{Error, Result};
 pub use miniserde_model::kind::Kind;
@@ -89,9 +89,9 @@ pub struct Lexer<'a> {
 
 impl<'a> Model for Lexer<'a> {
     ghost use Rattle.std.specs.Prelude.{drop};
-    ghost use Rattle.miniserde_text.specs.Lexer.{Lexing};
+    ghost use Rattle.miniserde_text.specs.Lexer.{LexerView};
 
-    ghost Value = { Lexing };
+    ghost Value = { LexerView };
 
     ghost view = { λ l. record { rest = drop l.at l.text.now; refused = l.refused } };
 }
@@ -151,7 +151,7 @@ impl<'a> Lexer<'a> {
         ensures text { IfOk result (λ event. EventStandsFor event self.old.rest self.new.rest) }
         ensures scratch { IfOk result (λ event. EventLeavesScratch event scratch.old scratch.new) }
         ensures invalid { result ≡ Err Error.Invalid → self.old.refused ≡ None
-            → (e : step.Step) (r : List ℕ) → Starts self.old.rest e r → ⊥ }
+            → (e : punctuation.Step) (r : List ℕ) → Starts self.old.rest e r → ⊥ }
         ensures memory { result ≡ Err Error.Memory → self.old.refused ≡ None → BeginsEscaped self.old.rest }
         ensures err { IfErr result (λ e. self.new.refused ≡ Some e) }
         ensures sticky { IfSome self.old.refused (λ e. (result ≡ Err e) × (self.new ≡ self.old)) }
@@ -214,7 +214,7 @@ impl<'a> Lexer<'a> {
         }
         let bytes = self.text.as_bytes();
         let (at, byte) = after_space(bytes, self.at);
-        match take_step(kind, first, bytes, at, byte) {
+        match take_punctuation(kind, first, bytes, at, byte) {
             Some((answer, end)) => {
                 self.at = end;
                 Ok(answer)

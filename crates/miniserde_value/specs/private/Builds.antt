@@ -23,16 +23,16 @@ is_due after = false
 -- From the moment m and the hole h, the events `done` lead to m' and h': whatever events follow,
 -- `done` and these give from h what these alone give from h'. With `once`, a duplicate name gives
 -- nothing.
-abbrev pub Makes : Bool → Moment → Hole → List Step → Moment → Hole → Type 0
-Makes once m h done m' h' = (es : List Step) → outcome once (is_due m) h (done ++ es) ≡ outcome once (is_due m') h' es
+abbrev pub HoleAdvancesBy : Bool → Moment → Hole → List Step → Moment → Hole → Type 0
+HoleAdvancesBy once m h done m' h' = (es : List Step) → outcome once (is_due m) h (done ++ es) ≡ outcome once (is_due m') h' es
 
 -- The text from s to s' spells some events, which lead from m and the hole h to m' and h'; all
 -- lists of events that s spells begin with them. With `once`, no name among them is a duplicate.
 pub record Builds (once : Bool) (m : Moment) (h : Hole) (s : List ℕ) (m' : Moment) (h' : Hole) (s' : List ℕ) : Type 0 where
   pub done : List Step
   pub passed : Consumes m (kinds h) s done m' (kinds h') s'
-  pub makes : Makes false m h done m' h'
-  pub repeats_none : Makes once m h done m' h'
+  pub makes : HoleAdvancesBy false m h done m' h'
+  pub repeats_none : HoleAdvancesBy once m h done m' h'
 
 -- from m and the hole h on, no events that a prefix of the text s spells give a tree; with `once`,
 -- a duplicate name gives nothing

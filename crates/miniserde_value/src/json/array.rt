@@ -24,7 +24,7 @@ pub struct Array {
 }
 
 impl Array {
-    ghost use Rattle.miniserde_value.specs.Rows.{list_row};
+    ghost use Rattle.miniserde_value.specs.Rows.{vec_type};
     ghost use Rattle.miniserde_value.specs.contracts.json.array.Array.{the_row};
 
     /// Returns an array without items. Allocates nothing.
@@ -64,7 +64,7 @@ impl Array {
 
     /// Returns a mutable reference to the items.
     pub fn inner_mut(&mut self) -> &mut Vec<Value>
-        ensures* writes_back { sem 𝓛 (Lends the_row list_row self.entry result with_items) }
+        ensures* writes_back { sem 𝓛 (Lends the_row vec_type self.entry result with_items) }
         ensures value { result.now ≡ self.old.items }
     {
         &mut self.items

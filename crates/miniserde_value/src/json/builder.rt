@@ -6,11 +6,11 @@ ghost use Rattle.miniserde_model.specs.Number.{IsNumber};
 ghost use Rattle.miniserde_model.specs.Tree.{no_members, num, str};
 ghost use Rattle.miniserde_model.specs.Normal.{last_of};
 ghost use Rattle.miniserde_text.specs.private.Moving.{opened_kind};
-ghost use Rattle.miniserde_read.specs.Events.{event_of, IsTreeEvent};
+ghost use Rattle.miniserde_read.specs.Events.{event_of, EventInRange};
 ghost use Rattle.miniserde_value.specs.Hole.{Hole, outside, in_list, in_members, put, with_name, after_close, complete_tree, has_member, after_begin};
-ghost use Rattle.miniserde_value.specs.Values.{shape};
-ghost use Rattle.miniserde_value.specs.Marks.{MarksFit, innermost, made_members, next_name, with_open_object};
-ghost use Rattle.miniserde_value.specs.laws.Marks.{marks-fit-once};
+ghost use Rattle.miniserde_value.specs.Values.{content_of};
+ghost use Rattle.miniserde_value.specs.Containers.{ContainersFit, innermost, made_members, next_name, with_open_object};
+ghost use Rattle.miniserde_value.specs.laws.Containers.{containers-fit-once};
 
 use super::array::Array;
 use super::number::Number;
@@ -27,7 +27,7 @@ use std::{mem, result};
 /// An open container: an array, with the index of its first item in the builder's values, or an
 /// object, whose members stand in the builder's list of open objects.
 #[derive(Clone, Copy, Drop)]
-pub(crate) enum Mark {
+pub(crate) enum OpenContainer {
     Array(usize),
     Object,
 }
@@ -62,7 +62,7 @@ impl OpenObject {
     /// Adds a value under the name that was set for it, and replaces an earlier value of that name.
     /// Drops the value if no name was set. Fails if the map cannot grow.
     pub(crate) fn put(&mut self, value: Value) -> result::Result<(), AllocError>
-        ensures { OnOk result ((h : Hole) → with_open_object self.new h ≡ put (shape value) (with_open_object self.old h)) }
+        ensures { OnOk result ((h : Hole) → with_open_object self.new h ≡ put (content_of value) (with_open_object self.old h)) }
     {
         if let Some(name) = self.name.take() {
             self.members.insert(name, value)?;
@@ -87,12 +87,12 @@ pub struct Builder {
     // The open objects, the outermost first.
     objects: Vec<OpenObject>,
     // The open containers, the outermost first.
-    marks: Vec<Mark>,
+    containers: Vec<OpenContainer>,
     // The three lists fit each other.
-    ghost fits: { MarksFit values.items objects.items marks.items } by { marks-fit-once values.items objects.items marks.items },
+    ghost fits: { ContainersFit values.items objects.items containers.items } by { containers-fit-once values.items objects.items containers.items },
 }
 
-// Removes the values from index `from` on, and returns them as a list. If `as_it_lies` is `true`
+// Removes the values from index `from` on, and returns them as a list. If `may_move_all` is `true`
 // and `from` is 0, it moves the whole list with its capacity, and allocates nothing. Else, if the
 // new list cannot be allocated, it fails and leaves `values` unchanged.
 #[inline(always)]
@@ -100,14 +100,14 @@ fn take_from(
     alloc: Global,
     values: &mut Vec<Value>,
     from: usize,
-    as_it_lies: bool,
+    may_move_all: bool,
 ) -> result::Result<Vec<Value>, AllocError>
     requires { from ≤ length values.old.items }
     ensures items { OnOk result (values.new.items ≡ take from values.old.items) }
     ensures tail { IfOk result (λ taken. taken.items ≡ drop from values.old.items) }
     ensures err { OnErr result (values.new ≡ values.old) }
 {
-    if as_it_lies && from == 0 {
+    if may_move_all && from == 0 {
         return Ok(mem::replace(values, Vec::new(alloc)));
     }
     Ok(values.split_off(from)?)
@@ -124,7 +124,7 @@ impl Builder {
             alloc,
             values: Vec::new(alloc),
             objects: Vec::new(alloc),
-            marks: Vec::new(alloc),
+            containers: Vec::new(alloc),
         }
     }
 
@@ -133,10 +133,10 @@ impl Builder {
     pub fn innermost(&self) -> Option<Kind>
         ensures { result ≡ innermost (hole_in self.now) }
     {
-        match self.marks.last() {
+        match self.containers.last() {
             None => None,
-            Some(Mark::Array(_)) => Some(Kind::Seq),
-            Some(Mark::Object) => Some(Kind::Map),
+            Some(OpenContainer::Array(_)) => Some(Kind::Seq),
+            Some(OpenContainer::Object) => Some(Kind::Map),
         }
     }
 
@@ -144,7 +144,7 @@ impl Builder {
     pub fn has_name(&self, name: &str) -> bool
         ensures { result ≡ has_member name.now (hole_in self.now) }
     {
-        if let Some(Mark::Object) = self.marks.last() {
+        if let Some(OpenContainer::Object) = self.containers.last() {
             if let Some(object) = self.objects.last() {
                 return object.has_name(name);
             }
@@ -156,9 +156,9 @@ impl Builder {
     /// allocation fails.
     #[inline(always)]
     pub(crate) fn put(&mut self, value: Value) -> result::Result<(), AllocError>
-        ensures { OnOk result (hole_in self.new ≡ put (shape value) (hole_in self.old)) }
+        ensures { OnOk result (hole_in self.new ≡ put (content_of value) (hole_in self.old)) }
     {
-        if let Some(Mark::Object) = self.marks.last() {
+        if let Some(OpenContainer::Object) = self.containers.last() {
             return match self.objects.last_mut() {
                 Some(object) => object.put(value),
                 None => unreachable!(),
@@ -195,7 +195,7 @@ impl Builder {
     pub(crate) fn open_array(&mut self) -> result::Result<(), AllocError>
         ensures { OnOk result (hole_in self.new ≡ in_list [] (hole_in self.old)) }
     {
-        self.marks.push(Mark::Array(self.values.len()))?;
+        self.containers.push(OpenContainer::Array(self.values.len()))?;
         Ok(())
     }
 
@@ -206,7 +206,7 @@ impl Builder {
         ensures { OnOk result (hole_in self.new ≡ in_members no_members None (hole_in self.old)) }
     {
         self.objects.push(OpenObject::new(self.alloc))?;
-        self.marks.push(Mark::Object)?;
+        self.containers.push(OpenContainer::Object)?;
         Ok(())
     }
 
@@ -214,8 +214,8 @@ impl Builder {
     /// begins no value, and `Memory` if an allocation fails.
     #[inline(always)]
     pub fn begin(&mut self, event: Step<'_>) -> Result<bool>
-        requires { IsTreeEvent (event_of event) }
-        ensures opens { IfOk result (λ with_open_object. with_open_object ≡ is_some (opened_kind (event_of event.entry))) }
+        requires { EventInRange (event_of event) }
+        ensures opens { IfOk result (λ opens. opens ≡ is_some (opened_kind (event_of event.entry))) }
         ensures ok { OnOk result (after_begin (event_of event.entry) (hole_in self.old) ≡ Some (hole_in self.new)) }
         ensures invalid { result ≡ Err Invalid → after_begin (event_of event.entry) (hole_in self.old) ≡ None }
     {
@@ -246,7 +246,7 @@ impl Builder {
         ensures ok { OnOk result (hole_in self.new ≡ with_name name.now (hole_in self.old)) }
         ensures memory { OnErr result (IsErrOf result Memory) }
     {
-        if let Some(Mark::Object) = self.marks.last() {
+        if let Some(OpenContainer::Object) = self.containers.last() {
             let name = String::from_str(self.alloc, name)?;
             match self.objects.last_mut() {
                 Some(object) => object.name(name),
@@ -263,14 +263,14 @@ impl Builder {
         ensures ok { OnOk result (hole_in self.new ≡ after_close (hole_in self.old)) }
         ensures memory { OnErr result (IsErrOf result Memory) }
     {
-        match self.marks.pop() {
+        match self.containers.pop() {
             None => (),
-            Some(Mark::Array(from)) => {
-                let is_outermost = self.marks.is_empty();
+            Some(OpenContainer::Array(from)) => {
+                let is_outermost = self.containers.is_empty();
                 let items = take_from(self.alloc, &mut self.values, from, is_outermost)?;
                 self.put(Value::Array(Array::from_inner(items)))?;
             }
-            Some(Mark::Object) => match self.objects.pop() {
+            Some(OpenContainer::Object) => match self.objects.pop() {
                 Some(OpenObject { members, name: _ }) => {
                     self.put(Value::Object(Object::from_inner(members)))?;
                 }
@@ -283,15 +283,15 @@ impl Builder {
     /// Returns the one finished value, or `None` if a container is open or there is not exactly one
     /// such value.
     pub fn into_value(self) -> Option<Value>
-        ensures { option_map shape result ≡ complete_tree (hole_in self) }
+        ensures { option_map content_of result ≡ complete_tree (hole_in self) }
     {
         let Builder {
             alloc: _,
             mut values,
             objects: _,
-            marks,
+            containers,
         } = self;
-        if !marks.is_empty() {
+        if !containers.is_empty() {
             return None;
         }
         if values.len() > 1 {

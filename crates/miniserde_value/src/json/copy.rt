@@ -1,7 +1,7 @@
 //! Copies documents, without recursion.
 ghost use Rattle.std.specs.Prelude.{◌≡◌, ◌∷◌, [], IfOk, OnOk, OnErr, IsErrOf};
 ghost use Rattle.miniserde_model.specs.declared.error.Error.TheVariants.{Memory};
-ghost use Rattle.miniserde_value.specs.Values.{shape, array_shape, object_shape};
+ghost use Rattle.miniserde_value.specs.Values.{content_of, array_content, object_content};
 ghost use Rattle.miniserde_value.specs.Builders.{hole_in};
 ghost use Rattle.miniserde_value.specs.Visits.{hole_after};
 ghost use Rattle.miniserde_value.specs.Walks.{visit_of, left, LeftOrdered};
@@ -51,7 +51,7 @@ fn add_all(alloc: Global, mut walk: Walk<'_>, builder: &mut Builder) -> Result<(
 impl Array {
     /// Returns a copy of the array, or `Memory` if an allocation fails.
     pub fn try_clone(&self, alloc: Global) -> Result<Array>
-        ensures ok { IfOk result (λ copy. array_shape copy ≡ array_shape self.now) }
+        ensures ok { IfOk result (λ copy. array_content copy ≡ array_content self.now) }
         ensures memory { OnErr result (IsErrOf result Memory) }
     {
         let mut builder = Builder::new(alloc);
@@ -70,7 +70,7 @@ impl Array {
 impl Object {
     /// Returns a copy of the object, or `Memory` if an allocation fails.
     pub fn try_clone(&self, alloc: Global) -> Result<Object>
-        ensures ok { IfOk result (λ copy. object_shape copy ≡ object_shape self.now) }
+        ensures ok { IfOk result (λ copy. object_content copy ≡ object_content self.now) }
         ensures memory { OnErr result (IsErrOf result Memory) }
     {
         let mut builder = Builder::new(alloc);
@@ -89,7 +89,7 @@ impl Object {
 impl Value {
     /// Returns a copy of the value, or `Memory` if an allocation fails.
     pub fn try_clone(&self, alloc: Global) -> Result<Value>
-        ensures ok { IfOk result (λ copy. shape copy ≡ shape self.now) }
+        ensures ok { IfOk result (λ copy. content_of copy ≡ content_of self.now) }
         ensures memory { OnErr result (IsErrOf result Memory) }
     {
         match self {

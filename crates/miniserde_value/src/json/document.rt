@@ -65,7 +65,7 @@ impl Stable for Document {
 
 /// Does nothing. It promises that neither `Number` nor `Value` is stable: for both types `-0` means another value
 /// than its normal form does.
-pub fn negated_zero()
+pub fn negated_zero_is_not_stable()
     ensures number { IsStable ⟦<Number as FromJson>⟧.means.from_tree → ⊥ }
     ensures value { IsStable ⟦<Value as FromJson>⟧.means.from_tree → ⊥ }
 {}

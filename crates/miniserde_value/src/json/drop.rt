@@ -44,7 +44,7 @@ fn take_last(value: &mut Value, looks: &mut Looks) -> Option<Value>
 #[inline(always)]
 fn replace_first(value: &mut Value, parent: Value, looks: &mut Looks) -> Value
     requires { children value.old ≡ [] → ⊥ }
-    ensures parked { ReplacesFirst parent result (children value.old) (children value.new) }
+    ensures replaced { ReplacesFirst parent result (children value.old) (children value.new) }
     ensures visited { looks.new.visited ≡ looks.old.visited + 1 }
     ensures released { looks.new.released ≡ looks.old.released }
 {

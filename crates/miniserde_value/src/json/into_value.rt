@@ -1,5 +1,5 @@
 //! Conversions of Rust's values to `Value`, for the macro `value!`.
-#![tactic(auto, using(crate::proofs::Shapes::shape_null, crate::proofs::Shapes::shape_bool, crate::proofs::Shapes::shape_number, crate::proofs::Shapes::shape_string, crate::proofs::Shapes::shape_array, crate::proofs::Shapes::shape_object))]
+#![tactic(auto, using(crate::proofs::ContentTrees::content_of_null, crate::proofs::ContentTrees::content_of_bool, crate::proofs::ContentTrees::content_of_number, crate::proofs::ContentTrees::content_of_string, crate::proofs::ContentTrees::content_of_array, crate::proofs::ContentTrees::content_of_object))]
 
 ghost use Rattle.std.specs.Prelude.{◌≡◌, IfOk, OnErr, IsErrOf, string_bytes};
 ghost use Rattle.miniserde_model.specs.Tree.{Tree, null, truth, nonneg, str};
@@ -7,7 +7,7 @@ ghost use Rattle.miniserde_model.specs.declared.error.Error.TheVariants.{Memory}
 ghost use Rattle.miniserde_ser.specs.Fragment.{integer};
 ghost use Rattle.miniserde_ser.specs.Trees.{option_tree};
 ghost use Rattle.miniserde_value.specs.Numbers.{number_leaf};
-ghost use Rattle.miniserde_value.specs.Values.{shape, array_shape, object_shape};
+ghost use Rattle.miniserde_value.specs.Values.{content_of, array_content, object_content};
 
 use super::array::Array;
 use super::number::Number;
@@ -24,34 +24,34 @@ pub trait IntoValue {
     /// Returns the value as a `Value`. It copies a borrowed text, and moves an owned value. Its only error is
     /// `Memory`.
     fn into_value(self, alloc: Global) -> Result<Value>
-        ensures ok { IfOk result (λ v. shape v ≡ value_tree self) }
+        ensures ok { IfOk result (λ v. content_of v ≡ value_tree self) }
         ensures memory { OnErr result (IsErrOf result Memory) };
 }
 
 /// Returns `null`. Allocates nothing.
 pub fn null_value() -> Value
-    ensures { shape result ≡ null }
+    ensures { content_of result ≡ null }
 {
     Value::Null
 }
 
 /// Returns an array as a `Value`. Allocates nothing.
 pub fn array_value(array: Array) -> Value
-    ensures { shape result ≡ array_shape array }
+    ensures { content_of result ≡ array_content array }
 {
     Value::Array(array)
 }
 
 /// Returns an object as a `Value`. Allocates nothing.
 pub fn object_value(object: Object) -> Value
-    ensures { shape result ≡ object_shape object }
+    ensures { content_of result ≡ object_content object }
 {
     Value::Object(object)
 }
 
 // Returns an integer of at least 0 as a `Value`: as a `U64`.
 fn unsigned(n: u64) -> Value
-    ensures { shape result ≡ nonneg n }
+    ensures { content_of result ≡ nonneg n }
 {
     Value::Number(Number::U64(n))
 }
@@ -59,7 +59,7 @@ fn unsigned(n: u64) -> Value
 // Returns an integer as a `Value`: as an `I64` if it is negative, and else as a `U64`. So the text that it is written
 // as is read as the same `Value`.
 fn signed(n: i64) -> Value
-    ensures { shape result ≡ integer n }
+    ensures { content_of result ≡ integer n }
 {
     if n < 0 {
         Value::Number(Number::I64(n))
@@ -189,7 +189,7 @@ impl IntoValue for Number {
 }
 
 impl IntoValue for Array {
-    ghost value_tree = { array_shape };
+    ghost value_tree = { array_content };
 
     fn into_value(self, _alloc: Global) -> Result<Value> {
         Ok(array_value(self))
@@ -197,7 +197,7 @@ impl IntoValue for Array {
 }
 
 impl IntoValue for Object {
-    ghost value_tree = { object_shape };
+    ghost value_tree = { object_content };
 
     fn into_value(self, _alloc: Global) -> Result<Value> {
         Ok(object_value(self))
@@ -205,7 +205,7 @@ impl IntoValue for Object {
 }
 
 impl IntoValue for Value {
-    ghost value_tree = { shape };
+    ghost value_tree = { content_of };
 
     fn into_value(self, _alloc: Global) -> Result<Value> {
         Ok(self)

@@ -10,7 +10,7 @@ ghost use Rattle.std.specs.BTreeMap.IterMut.{IterMutCanStep, iter_mut_rest};
 ghost use Rattle.std.specs.Map.Iter.{GivesInOrder, ShowsInOrder, LendsValuesInOrder, deref_pair};
 ghost use Rattle.std.specs.String.{string_cmp};
 ghost use Rattle.miniserde_value.specs.declared.json.value.Value.{Value as V};
-ghost use Rattle.miniserde_value.specs.Values.{object_entries, object_members, object_values, shape, with_members};
+ghost use Rattle.miniserde_value.specs.Values.{object_entries, object_members, object_values, content_of, with_members};
 ghost use Rattle.miniserde_value.specs.Looks.{ReplacesFirst};
 
 use super::drop::safely;
@@ -27,7 +27,7 @@ pub struct Object {
 }
 
 impl Object {
-    ghost use Rattle.miniserde_value.specs.Rows.{map_row};
+    ghost use Rattle.miniserde_value.specs.Rows.{btree_map_type};
     ghost use Rattle.miniserde_value.specs.contracts.json.object.Object.{the_row};
 
     /// Returns an object without members. Allocates nothing.
@@ -71,7 +71,7 @@ impl Object {
 
     /// Returns a mutable reference to the map of the members.
     pub fn inner_mut(&mut self) -> &mut BTreeMap<String, Value>
-        ensures* writes_back { sem 𝓛 (Lends the_row map_row self.entry result with_members) }
+        ensures* writes_back { sem 𝓛 (Lends the_row btree_map_type self.entry result with_members) }
         ensures value { result.now ≡ self.old.members }
     {
         &mut self.members
@@ -80,7 +80,7 @@ impl Object {
     /// Adds a member, or replaces the value of the same name. If an allocation fails, returns `Memory` and leaves the
     /// members unchanged.
     pub fn put(&mut self, alloc: Global, name: &str, value: Value) -> Result<()>
-        ensures ok { OnOk result (object_members self.new ≡ put name.now (shape value) (object_members self.old)) }
+        ensures ok { OnOk result (object_members self.new ≡ put name.now (content_of value) (object_members self.old)) }
         ensures memory { OnErr result (IsErrOf result Memory) }
         ensures err { OnErr result (object_entries self.new ≡ object_entries self.old) }
     {
@@ -100,7 +100,7 @@ impl Object {
     /// Replaces the value of the first member of an object that is not empty, and returns the old value.
     pub(crate) fn replace_first(&mut self, value: Value) -> Value
         requires { object_values self.old ≡ [] → ⊥ }
-        ensures parked { ReplacesFirst value result (object_values self.old) (object_values self.new) }
+        ensures replaced { ReplacesFirst value result (object_values self.old) (object_values self.new) }
         ensures names { keys self.new.members ≡ keys self.old.members }
     {
         match self.members.first_entry() {

@@ -5,13 +5,13 @@ ghost use Rattle.miniserde_model.specs.declared.error.Error.TheVariants.{Invalid
 ghost use Rattle.miniserde_text.specs.Lexer.{event_of_token};
 ghost use Rattle.miniserde_text.specs.private.Moving.{before_child, opened_kind};
 ghost use Rattle.miniserde_read.specs.Rest.{GivesAt, GivesNoneAt};
-ghost use Rattle.miniserde_read.specs.Events.{IsTreeEvent};
+ghost use Rattle.miniserde_read.specs.Events.{EventInRange};
 ghost use Rattle.miniserde_read.specs.private.Runs.{NeverRuns};
 ghost use Rattle.miniserde_value.specs.Builders.{hole_in};
 ghost use Rattle.miniserde_value.specs.Hole.{after_begin, has_member, with_name};
-ghost use Rattle.miniserde_value.specs.Marks.{innermost};
+ghost use Rattle.miniserde_value.specs.Containers.{innermost};
 ghost use Rattle.miniserde_value.specs.Retained.{retained_if};
-ghost use Rattle.miniserde_value.specs.Values.{shape};
+ghost use Rattle.miniserde_value.specs.Values.{content_of};
 ghost use Rattle.miniserde_value.specs.private.Builds.{Builds, NeverGives, kinds};
 
 use super::builder::Builder;
@@ -25,10 +25,10 @@ use miniserde_text::json::lex::{After, Event, Kind};
 /// name. Returns `Memory` if an allocation fails.
 pub(crate) fn read_value<'a>(token: Event<'a>, source: &mut Source<'a>, once: bool) -> Result<Value>
     requires going { source.old.refused ≡ None }
-    requires event { IsTreeEvent (event_of_token token source.old.scratch) }
+    requires event { EventInRange (event_of_token token source.old.scratch) }
     ensures going { IfOk result (λ _. source.new.refused ≡ None) }
     ensures ok { IfOk result (λ v. GivesAt (retained_if once) (event_of_token token.entry source.old.scratch)
-        source.old.rest source.new.rest (shape v)) }
+        source.old.rest source.new.rest (content_of v)) }
     ensures invalid { result ≡ Err Invalid
         → GivesNoneAt (retained_if once) (event_of_token token.entry source.old.scratch) source.old.rest }
 {
@@ -71,8 +71,8 @@ fn take_child_or_end<'a>(
         }
         After::Next => {
             if let Kind::Map = kind {
-                let name = source.key()?;
-                name_next(builder, source.text(name), once)?;
+                let name = source.name()?;
+                set_next_name(builder, source.text(name), once)?;
             }
             begin(source, builder)
         }
@@ -82,7 +82,7 @@ fn take_child_or_end<'a>(
 /// Sets the name of the next value in the innermost open object. Returns `Invalid` if `once` is
 /// `true` and the object has a member of that name already, and `Memory` if an allocation fails.
 #[inline(always)]
-fn name_next(builder: &mut Builder, name: &str, once: bool) -> Result<()>
+fn set_next_name(builder: &mut Builder, name: &str, once: bool) -> Result<()>
     ensures ok { OnOk result (hole_in builder.new ≡ with_name name.now (hole_in builder.old)) }
     ensures new { OnOk result ((once && has_member name.now (hole_in builder.old)) ≡ false) }
     ensures invalid { result ≡ Err Invalid → (once && has_member name.now (hole_in builder.old)) ≡ true }

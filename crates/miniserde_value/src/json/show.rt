@@ -8,7 +8,7 @@ use std::fmt::{Debug, Error, Formatter, Result, Write};
 
 // The state of the output: how many containers are open, and whether the innermost has no item or member yet.
 #[derive(Clone, Copy, Drop)]
-struct Shown {
+struct Nesting {
     levels: u64,
     first: bool,
 }
@@ -25,12 +25,12 @@ fn begin_line<W: Write>(f: &mut Formatter<W>, levels: u64) -> Result {
 // Writes what stands before an item or a name. For `{:#?}` it is a line break with indentation,
 // after a comma unless the item is the first; for `{:?}` a comma and a space, unless the item is
 // the first.
-fn begin_part<W: Write>(f: &mut Formatter<W>, shown: Shown) -> Result {
-    match (f.alternate(), shown.first) {
-        (true, true) => begin_line(f, shown.levels),
+fn write_separator<W: Write>(f: &mut Formatter<W>, nesting: Nesting) -> Result {
+    match (f.alternate(), nesting.first) {
+        (true, true) => begin_line(f, nesting.levels),
         (true, false) => {
             f.write_str(",")?;
-            begin_line(f, shown.levels)
+            begin_line(f, nesting.levels)
         }
         (false, true) => Ok(()),
         (false, false) => f.write_str(", "),
@@ -39,16 +39,16 @@ fn begin_part<W: Write>(f: &mut Formatter<W>, shown: Shown) -> Result {
 
 // Writes the closing bracket of the innermost open container. For `{:#?}` it has a line of its own,
 // unless the container is empty.
-fn end<W: Write>(f: &mut Formatter<W>, shown: Shown, bracket: &str) -> Result {
-    if f.alternate() && !shown.first {
+fn end<W: Write>(f: &mut Formatter<W>, nesting: Nesting, bracket: &str) -> Result {
+    if f.alternate() && !nesting.first {
         f.write_str(",")?;
-        begin_line(f, shown.levels.saturating_sub(1))?;
+        begin_line(f, nesting.levels.saturating_sub(1))?;
     }
     f.write_str(bracket)
 }
 
-// Writes the text of one visit. `shown` is the state before it.
-fn show<W: Write>(f: &mut Formatter<W>, visit: Visit<'_>, shown: Shown) -> Result {
+// Writes the text of one visit. `nesting` is the state before it.
+fn show<W: Write>(f: &mut Formatter<W>, visit: Visit<'_>, nesting: Nesting) -> Result {
     match visit {
         Visit::Null => f.write_str("Null"),
         Visit::Bool(b) => write!(f, "Bool({b})"),
@@ -56,30 +56,30 @@ fn show<W: Write>(f: &mut Formatter<W>, visit: Visit<'_>, shown: Shown) -> Resul
         Visit::String(text) => write!(f, "String({text:?})"),
         Visit::Array => f.write_str("Array ["),
         Visit::Object => f.write_str("Object {"),
-        Visit::Element => begin_part(f, shown),
+        Visit::Element => write_separator(f, nesting),
         Visit::Name(name) => {
-            begin_part(f, shown)?;
+            write_separator(f, nesting)?;
             write!(f, "{name:?}: ")
         }
-        Visit::ArrayEnd => end(f, shown, "]"),
-        Visit::ObjectEnd => end(f, shown, "}"),
+        Visit::ArrayEnd => end(f, nesting, "]"),
+        Visit::ObjectEnd => end(f, nesting, "}"),
     }
 }
 
-// Returns the state of the output after a visit. `shown` is the state before it.
-fn after(visit: Visit<'_>, shown: Shown) -> Shown {
+// Returns the state of the output after a visit. `nesting` is the state before it.
+fn after(visit: Visit<'_>, nesting: Nesting) -> Nesting {
     match visit {
-        Visit::Array | Visit::Object => Shown {
-            levels: shown.levels.saturating_add(1),
+        Visit::Array | Visit::Object => Nesting {
+            levels: nesting.levels.saturating_add(1),
             first: true,
         },
-        Visit::ArrayEnd | Visit::ObjectEnd => Shown {
-            levels: shown.levels.saturating_sub(1),
+        Visit::ArrayEnd | Visit::ObjectEnd => Nesting {
+            levels: nesting.levels.saturating_sub(1),
             first: false,
         },
-        _ => Shown {
+        _ => Nesting {
             first: false,
-            ..shown
+            ..nesting
         },
     }
 }
@@ -87,13 +87,13 @@ fn after(visit: Visit<'_>, shown: Shown) -> Shown {
 // Writes the text of all visits of a walk, which begins after an opening bracket. Fails also if the
 // walk fails to allocate.
 fn show_all<W: Write>(mut walk: Walk<'_>, f: &mut Formatter<W>) -> Result {
-    let mut shown = Shown {
+    let mut nesting = Nesting {
         levels: 1,
         first: true,
     };
     while let Some(visit) = walk.next().map_err(|_| Error)? {
-        show(f, visit, shown)?;
-        shown = after(visit, shown);
+        show(f, visit, nesting)?;
+        nesting = after(visit, nesting);
     }
     Ok(())
 }

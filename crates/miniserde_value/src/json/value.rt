@@ -9,7 +9,7 @@ ghost use Rattle.miniserde_model.specs.Value.{IsJson};
 ghost use Rattle.miniserde_model.specs.declared.error.Error.TheVariants.{Invalid};
 ghost use Rattle.miniserde_value.specs.declared.json.value.Value.{Value as V};
 ghost use Rattle.miniserde_value.specs.Looks.{value_size};
-ghost use Rattle.miniserde_value.specs.Values.{ReadsValue, shape, tree_of};
+ghost use Rattle.miniserde_value.specs.Values.{ReadsValue, content_of, tree_of};
 
 use super::array::Array;
 use super::number::Number;
@@ -33,12 +33,12 @@ pub enum Value {
 
 impl Value {
     ghost use Rattle.std.specs.Prelude.{Some, option_map};
-    ghost use Rattle.miniserde_value.specs.Values.{shape, array_shape, object_shape};
+    ghost use Rattle.miniserde_value.specs.Values.{content_of, array_content, object_content};
     ghost use Rattle.miniserde_value.specs.Kinds.{only_list, only_members};
 
     /// Returns the array, or `None` if the value is no array. Allocates nothing.
     pub fn into_array(self) -> Option<Array>
-        ensures { option_map array_shape result ≡ only_list (Some (shape self)) }
+        ensures { option_map array_content result ≡ only_list (Some (content_of self)) }
     {
         match self {
             Value::Array(array) => Some(array),
@@ -48,7 +48,7 @@ impl Value {
 
     /// Returns the object, or `None` if the value is no object. Allocates nothing.
     pub fn into_object(self) -> Option<Object>
-        ensures { option_map object_shape result ≡ only_members (Some (shape self)) }
+        ensures { option_map object_content result ≡ only_members (Some (content_of self)) }
     {
         match self {
             Value::Object(object) => Some(object),
@@ -76,13 +76,13 @@ pub fn read_is_normal()
 
 /// Does nothing. It promises that a `Value` contains as many values as its tree, if no object in it has a duplicate
 /// name. That holds of every `Value` of a program, since no `BTreeMap` has a duplicate key.
-pub fn size_is_of_tree()
-    ensures { (v : V) → names_distinct (shape v) ≡ true → size (tree_of v) ≡ value_size v }
+pub fn size_is_tree_size()
+    ensures { (v : V) → names_distinct (content_of v) ≡ true → size (tree_of v) ≡ value_size v }
 {}
 
 /// Reads a JSON text as a `Value` and writes that, which gives the canonical text. Returns `Invalid` if the text is
 /// not JSON (RFC 8259), and `Memory` if an allocation fails.
-pub fn rewritten(alloc: Global, j: &str) -> Result<String>
+pub fn canonical_by_value(alloc: Global, j: &str) -> Result<String>
     // It is the compact text of the normal form of the text's tree.
     ensures ok { IfOk result (λ c. (t : Tree) × IsJson j.now t × (string_bytes c ≡ compact (norm t))) }
     ensures text { IfOk result (λ c. (t : Tree) → IsJson j.now t → string_bytes c ≡ compact (norm t)) }

@@ -1,6 +1,6 @@
 //! The walk over a borrowed document: it visits all parts in order, without recursion.
 ghost use Rattle.std.specs.Prelude.{◌≡◌, ◌∷◌, [], None, IfOk, OnOk, MatchOption};
-ghost use Rattle.miniserde_value.specs.Values.{shape, array_shape, object_shape};
+ghost use Rattle.miniserde_value.specs.Values.{content_of, array_content, object_content};
 ghost use Rattle.miniserde_value.specs.Visits.{visits, list_begins, members_begin, IsOrdered};
 ghost use Rattle.miniserde_value.specs.Walks.{visit_of, left, LeftOrdered};
 
@@ -43,8 +43,8 @@ impl<'a> Walk<'a> {
     /// Returns a walk over the items of an array, with the array's end last. Fails if its stack
     /// fails to allocate.
     pub(crate) fn array(alloc: Global, array: &'a Array) -> result::Result<Walk<'a>, AllocError>
-        ensures left { IfOk result (λ w. list_begins ∷ left w ≡ visits (array_shape array.entry.now) []) }
-        ensures ordered { IfOk result (λ w. LeftOrdered w → IsOrdered (array_shape array.entry.now)) }
+        ensures left { IfOk result (λ w. list_begins ∷ left w ≡ visits (array_content array.entry.now) []) }
+        ensures ordered { IfOk result (λ w. LeftOrdered w → IsOrdered (array_content array.entry.now)) }
     {
         let mut frames = Frames::new(alloc);
         frames.push_array(array.inner().iter())?;
@@ -54,8 +54,8 @@ impl<'a> Walk<'a> {
     /// Returns a walk over the members of an object, with the object's end last. Fails if its stack
     /// fails to allocate.
     pub(crate) fn object(alloc: Global, object: &'a Object) -> result::Result<Walk<'a>, AllocError>
-        ensures left { IfOk result (λ w. members_begin ∷ left w ≡ visits (object_shape object.entry.now) []) }
-        ensures ordered { IfOk result (λ w. LeftOrdered w → IsOrdered (object_shape object.entry.now)) }
+        ensures left { IfOk result (λ w. members_begin ∷ left w ≡ visits (object_content object.entry.now) []) }
+        ensures ordered { IfOk result (λ w. LeftOrdered w → IsOrdered (object_content object.entry.now)) }
     {
         let mut frames = Frames::new(alloc);
         frames.push_object(object.inner().iter())?;
@@ -74,7 +74,7 @@ impl<'a> Walk<'a> {
                 self.due = None;
                 Ok(Some(self.begin(value)?))
             }
-            None => Ok(self.resume()),
+            None => Ok(self.next_in_container()),
         }
     }
 
@@ -82,9 +82,9 @@ impl<'a> Walk<'a> {
     // allocate.
     fn begin(&mut self, value: &'a Value) -> result::Result<Visit<'a>, AllocError>
         requires { self.old.due ≡ None }
-        ensures left { IfOk result (λ f. visits (shape value.entry.now) (left self.old) ≡ visit_of f ∷ left self.new) }
+        ensures left { IfOk result (λ f. visits (content_of value.entry.now) (left self.old) ≡ visit_of f ∷ left self.new) }
         ensures ordered { OnOk result (LeftOrdered self.new
-            → IsOrdered (shape value.entry.now) × LeftOrdered self.old) }
+            → IsOrdered (content_of value.entry.now) × LeftOrdered self.old) }
     {
         match value {
             Value::Null => Ok(Visit::Null),
@@ -104,7 +104,7 @@ impl<'a> Walk<'a> {
 
     // Returns the next visit of the innermost open container, or `None` if none is open. Notes the
     // child to visit next, if the visit starts an element or a member.
-    fn resume(&mut self) -> Option<Visit<'a>>
+    fn next_in_container(&mut self) -> Option<Visit<'a>>
         requires { self.old.due ≡ None }
         ensures left { MatchOption result (left self.old ≡ []) (λ f. left self.old ≡ visit_of f ∷ left self.new) }
         ensures ordered { MatchOption result (LeftOrdered self.old)

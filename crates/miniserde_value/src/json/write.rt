@@ -1,12 +1,12 @@
 //! Writes documents, without recursion.
 ghost use Rattle.std.specs.Prelude.{◌≡◌, ◌++◌, ◌∷◌, List, [], true, false, OnOk, OnErr, IsErrOf};
-ghost use Rattle.miniserde_model.specs.IsTree.{IsTree};
+ghost use Rattle.miniserde_model.specs.InRange.{InRange};
 ghost use Rattle.miniserde_model.specs.Normal.{norm};
 ghost use Rattle.miniserde_model.specs.declared.error.Error.TheVariants.{Memory};
 ghost use Rattle.miniserde_ser.specs.Fragment.{fragment_tree};
 ghost use Rattle.miniserde_value.specs.Numbers.{number_leaf};
-ghost use Rattle.miniserde_value.specs.Values.{shape, array_shape, object_shape};
-ghost use Rattle.miniserde_value.specs.Visits.{TreeVisit, visits, visits_text, first_flag_after, AreVisits, IsOrdered};
+ghost use Rattle.miniserde_value.specs.Values.{content_of, array_content, object_content};
+ghost use Rattle.miniserde_value.specs.Visits.{TreeVisit, visits, visits_text, first_flag_after, VisitsInRange, IsOrdered};
 ghost use Rattle.miniserde_value.specs.Walks.{visit_of, frames_left, FramesOrdered};
 ghost use Rattle.miniserde_value.specs.Writes.{Writes};
 
@@ -22,7 +22,7 @@ impl Number {
     // Returns the leaf that is written for the number.
     fn fragment(&self) -> Fragment<'_>
         ensures leaf { fragment_tree result ≡ norm (number_leaf self.now) }
-        ensures is_tree { IsTree (norm (number_leaf self.now)) }
+        ensures in_range { InRange (norm (number_leaf self.now)) }
     {
         match self {
             Number::U64(n) => Fragment::U64(*n),
@@ -41,7 +41,7 @@ impl Number {
 fn put(visit: Visit<'_>, w: &mut Writer) -> Result<()>
     ensures ok { OnOk result ((rest : List TreeVisit) → w.new.text ++ visits_text w.new.first rest
         ≡ w.old.text ++ visits_text w.old.first (visit_of visit.entry ∷ rest)) }
-    ensures is_tree { OnOk result (AreVisits (visit_of visit.entry ∷ [])) }
+    ensures in_range { OnOk result (VisitsInRange (visit_of visit.entry ∷ [])) }
     ensures first { OnOk result (w.new.first ≡ first_flag_after w.old.first (visit_of visit.entry ∷ [])) }
     ensures stays { OnOk result (w.old.refused ≡ false) }
     ensures unrefused { OnOk result (w.new.refused ≡ false) }
@@ -66,10 +66,10 @@ fn put(visit: Visit<'_>, w: &mut Writer) -> Result<()>
 // or an earlier call of the writer failed.
 #[inline(always)]
 fn put_array<'a>(array: &'a Array, frames: &mut Frames<'a>, w: &mut Writer) -> Result<()>
-    ensures ok { OnOk result (Writes w.old (visits (array_shape array.entry.now) (frames_left frames.old))
+    ensures ok { OnOk result (Writes w.old (visits (array_content array.entry.now) (frames_left frames.old))
         w.new (frames_left frames.new)) }
     ensures ordered { OnOk result (FramesOrdered frames.new
-        → IsOrdered (array_shape array.entry.now) × FramesOrdered frames.old) }
+        → IsOrdered (array_content array.entry.now) × FramesOrdered frames.old) }
     ensures memory { OnErr result (IsErrOf result Memory) }
     ensures err { OnErr result (w.new.refused ≡ true) }
 {
@@ -83,10 +83,10 @@ fn put_array<'a>(array: &'a Array, frames: &mut Frames<'a>, w: &mut Writer) -> R
 // fails or an earlier call of the writer failed.
 #[inline(always)]
 fn put_object<'a>(object: &'a Object, frames: &mut Frames<'a>, w: &mut Writer) -> Result<()>
-    ensures ok { OnOk result (Writes w.old (visits (object_shape object.entry.now) (frames_left frames.old))
+    ensures ok { OnOk result (Writes w.old (visits (object_content object.entry.now) (frames_left frames.old))
         w.new (frames_left frames.new)) }
     ensures ordered { OnOk result (FramesOrdered frames.new
-        → IsOrdered (object_shape object.entry.now) × FramesOrdered frames.old) }
+        → IsOrdered (object_content object.entry.now) × FramesOrdered frames.old) }
     ensures memory { OnErr result (IsErrOf result Memory) }
     ensures err { OnErr result (w.new.refused ≡ true) }
 {
@@ -100,10 +100,10 @@ fn put_object<'a>(object: &'a Object, frames: &mut Frames<'a>, w: &mut Writer) -
 // allocation fails or an earlier call of the writer failed.
 #[inline(always)]
 fn put_value<'a>(value: &'a Value, frames: &mut Frames<'a>, w: &mut Writer) -> Result<()>
-    ensures ok { OnOk result (Writes w.old (visits (shape value.entry.now) (frames_left frames.old))
+    ensures ok { OnOk result (Writes w.old (visits (content_of value.entry.now) (frames_left frames.old))
         w.new (frames_left frames.new)) }
     ensures ordered { OnOk result (FramesOrdered frames.new
-        → IsOrdered (shape value.entry.now) × FramesOrdered frames.old) }
+        → IsOrdered (content_of value.entry.now) × FramesOrdered frames.old) }
     ensures memory { OnErr result (IsErrOf result Memory) }
     ensures err { OnErr result (w.new.refused ≡ true) }
 {
@@ -144,7 +144,7 @@ impl Serialize for Number {
 }
 
 impl Serialize for Array {
-    ghost tree = { λ a. norm (array_shape a) };
+    ghost tree = { λ a. norm (array_content a) };
 
     fn begin(&self, w: &mut Writer) -> Result<()> {
         let mut frames = Frames::new(w.alloc());
@@ -154,7 +154,7 @@ impl Serialize for Array {
 }
 
 impl Serialize for Object {
-    ghost tree = { λ o. norm (object_shape o) };
+    ghost tree = { λ o. norm (object_content o) };
 
     fn begin(&self, w: &mut Writer) -> Result<()> {
         let mut frames = Frames::new(w.alloc());

@@ -8,7 +8,7 @@ use Rattle.miniserde.specs.Words.{string_of}
 use Rattle.miniserde.specs.Integers.{ReadsUnsigned}
 use Rattle.miniserde.specs.Options.{OptionReads, option_of}
 use Rattle.miniserde.specs.Meanings.{unsigned_meaning, string_meaning}
-use Rattle.miniserde.specs.Fields.{others}
+use Rattle.miniserde.specs.Fields.{other_members}
 use Rattle.miniserde.specs.Said.{says, none_counts}
 use Rattle.examples.specs.Versions.{state_of}
 use Rattle.examples.specs.contracts.tasks.OldStateFromJson.TheImpl as was
@@ -29,8 +29,8 @@ returns c (members ms) v w r no_retries no_note =
     let u64 = unsigned_meaning 64 in
     let u32 = unsigned_meaning 32 in
     let text = string_meaning string_bytes in
-    let ms2 = others n1 ms in
-    let ms3 = others n2 ms2 in
+    let ms2 = other_members n1 ms in
+    let ms3 = other_members n2 ms2 in
     let f1 = same_field u64.reads u64.from_tree u64.content u64.reads_agrees n1 ms v.id w.id r.0 in
     let f2 = same_field text.reads text.from_tree text.content text.reads_agrees n2 ms2 v.title w.name r.1.0 in
     let f3 = other_field was.ghosts.means.reads was.ghosts.means.from_tree was.ghosts.means.reads_agrees is.ghosts.means.reads is.ghosts.means.from_tree is.ghosts.means.reads_agrees state_of c.states_kept.ensures n3 ms3 v.state w.state r.1.1.0 in

@@ -6,8 +6,8 @@ use Rattle.miniserde_enum.proofs.round_trips.tagged_round_trips.Goals as goal
 
 pub returns : goal.returns
 returns g c = λ v r.
-    let s = g.E.Tagged in
+    let s = g.E.DataEnum in
     let f = g.C.RoundTripCases in
     let tagging = (internal g.E.HasTag.tag) in
-    enum-round_trips f.real (f.tree tagging s.names) (f.meaning.reads tagging s.names) s.values g.met.E.Tagged.bijective v
-    (c.round_trips.ensures.round_trips tagging s.names (s.values v) c.requires.fits (distinct_names f.meaning.count s.names c.requires.count g.met.E.Tagged.distinct_names) r)
+    enum-round_trips f.real (f.tree tagging s.names) (f.meaning.reads tagging s.names) s.values g.met.E.DataEnum.bijective v
+    (c.round_trips.ensures.round_trips tagging s.names (s.values v) c.requires.fits (distinct_names f.meaning.count s.names c.requires.count g.met.E.DataEnum.distinct_names) r)

@@ -3,5 +3,5 @@ use Rattle.miniserde_enum.proofs.stable.tagged_stable.Goals as goal
 
 pub returns : goal.returns
 returns g c =
-    let names = g.E.Tagged.names in
-    tagged-stable g.E.HasTag.tag (g.C.StableCases.meaning.by_case names) (c.stable.ensures names)
+    let names = g.E.DataEnum.names in
+    tagged-stable g.E.HasTag.tag (g.C.StableCases.meaning.content_by_name names) (c.stable.ensures names)

@@ -23,7 +23,7 @@ returns-in_err-step-in-Close-clause-invalid g c = λ e.
     let p : Follows c.args.kind c.args.first true c.args.source.now.rest c.after.new.self.rest = subst (λ z. Follows c.args.kind c.args.first (is_close z) c.args.source.now.rest c.after.new.self.rest) c.in-Close.is c.in_ok-after.ensures.ok in
     barred_one (before_child c.args.first) _ _ (g.V.Visitor.meaning.view c.args.place.now).at (g.V.Visitor.meaning.view c.args.place.now).outcome finish _ _ _
     (close_passed _ _ _ _ c.args.kind c.args.first c.requires.inside p c.pop.ensures)
-    (c.in_err-step-in-Close.ensures.takes.bars (cc (w.1, w.2, e)) c.requires.unrefused)
+    (c.in_err-step-in-Close.ensures.takes.rejects (cc (w.1, w.2, e)) c.requires.unrefused)
 
 pub returns-in_err-step-in-Seq-clause-invalid : goal.returns-in_err-step-in-Seq-clause-invalid
 returns-in_err-step-in-Seq-clause-invalid g c = λ e.
@@ -31,7 +31,7 @@ returns-in_err-step-in-Seq-clause-invalid g c = λ e.
     let p : Follows c.args.kind c.args.first false c.args.source.now.rest c.after.new.self.rest = subst (λ z. Follows c.args.kind c.args.first (is_close z) c.args.source.now.rest c.after.new.self.rest) c.in-Next.is c.in_ok-after.ensures.ok in
     barred_one (before_child c.args.first) _ _ (g.V.Visitor.meaning.view c.args.place.now).at (g.V.Visitor.meaning.view c.args.place.now).outcome element _ _ _
     (element_passed _ _ _ c.args.kind c.args.first c.requires.inside c.in-Seq.is p)
-    (c.in_err-step-in-Seq.ensures.takes.bars (cc (w.1, w.2, e)) c.requires.unrefused)
+    (c.in_err-step-in-Seq.ensures.takes.rejects (cc (w.1, w.2, e)) c.requires.unrefused)
 
 pub returns-in_err-name-in-Map-clause-invalid : goal.returns-in_err-name-in-Map-clause-invalid
 returns-in_err-name-in-Map-clause-invalid g c = λ e.
@@ -43,10 +43,10 @@ pub returns-in_err-step-in-Map-clause-invalid : goal.returns-in_err-step-in-Map-
 returns-in_err-step-in-Map-clause-invalid g c = λ e.
     let w = err_from_is_err_and c.from_residual-in_err-step-in-Map.result c.from_residual-in_err-step-in-Map.ensures.1 in
     let p : Follows c.args.kind c.args.first false c.args.source.now.rest c.after.new.self.rest = subst (λ z. Follows c.args.kind c.args.first (is_close z) c.args.source.now.rest c.after.new.self.rest) c.in-Next.is c.in_ok-after.ensures.ok in
-    let n : Names c.after.new.self.rest c.text.result.now c.key.new.self.rest = subst (λ z. Names c.after.new.self.rest z c.key.new.self.rest) (sym c.text.ensures) c.in_ok-name-in-Map.ensures.ok in
+    let n : Names c.after.new.self.rest c.text.result.now c.name.new.self.rest = subst (λ z. Names c.after.new.self.rest z c.name.new.self.rest) (sym c.text.ensures) c.in_ok-name-in-Map.ensures.ok in
     barred_one (before_child c.args.first) _ _ (g.V.Visitor.meaning.view c.args.place.now).at (g.V.Visitor.meaning.view c.args.place.now).outcome (key c.text.result.now) _ _ _
     (key_passed _ _ _ _ _ c.args.kind c.args.first c.requires.inside c.in-Map.is p n)
-    (c.in_err-step-in-Map.ensures.takes.bars (cc (w.1, w.2, e)) c.requires.unrefused)
+    (c.in_err-step-in-Map.ensures.takes.rejects (cc (w.1, w.2, e)) c.requires.unrefused)
 
 pub returns-in_ok-step-in-Close-clause-moved : goal.returns-in_ok-step-in-Close-clause-moved
 returns-in_ok-step-in-Close-clause-moved g c =
@@ -54,7 +54,7 @@ returns-in_ok-step-in-Close-clause-moved g c =
     moved_one (before_child c.args.first) _ _ (g.V.Visitor.meaning.view c.args.place.now).at (g.V.Visitor.meaning.view c.args.place.now).outcome finish _ _ _ (g.V.Visitor.meaning.view c.step.new.self).at (g.V.Visitor.meaning.view c.step.new.self).outcome
     (close_passed _ _ _ _ c.args.kind c.args.first c.requires.inside p c.pop.ensures)
     (close_spellable _ _ c.args.kind c.args.first c.requires.inside c.pop.ensures)
-    c.in_ok-step-in-Close.ensures.takes.leads
+    c.in_ok-step-in-Close.ensures.takes.advances
 
 pub returns-in_ok-step-in-Seq-clause-moved : goal.returns-in_ok-step-in-Seq-clause-moved
 returns-in_ok-step-in-Seq-clause-moved g c =
@@ -62,20 +62,20 @@ returns-in_ok-step-in-Seq-clause-moved g c =
     moved_one (before_child c.args.first) _ _ (g.V.Visitor.meaning.view c.args.place.now).at (g.V.Visitor.meaning.view c.args.place.now).outcome element _ _ _ (g.V.Visitor.meaning.view c.step-in-Seq.new.self).at (g.V.Visitor.meaning.view c.step-in-Seq.new.self).outcome
     (element_passed _ _ _ c.args.kind c.args.first c.requires.inside c.in-Seq.is p)
     (element_spellable _ c.args.kind c.args.first c.requires.inside c.in-Seq.is)
-    c.in_ok-step-in-Seq.ensures.takes.leads
+    c.in_ok-step-in-Seq.ensures.takes.advances
 
 pub returns-in_ok-step-in-Map-clause-moved : goal.returns-in_ok-step-in-Map-clause-moved
 returns-in_ok-step-in-Map-clause-moved g c =
     let p : Follows c.args.kind c.args.first false c.args.source.now.rest c.after.new.self.rest = subst (λ z. Follows c.args.kind c.args.first (is_close z) c.args.source.now.rest c.after.new.self.rest) c.in-Next.is c.in_ok-after.ensures.ok in
-    let n : Names c.after.new.self.rest c.text.result.now c.key.new.self.rest = subst (λ z. Names c.after.new.self.rest z c.key.new.self.rest) (sym c.text.ensures) c.in_ok-name-in-Map.ensures.ok in
+    let n : Names c.after.new.self.rest c.text.result.now c.name.new.self.rest = subst (λ z. Names c.after.new.self.rest z c.name.new.self.rest) (sym c.text.ensures) c.in_ok-name-in-Map.ensures.ok in
     moved_one (before_child c.args.first) _ _ (g.V.Visitor.meaning.view c.args.place.now).at (g.V.Visitor.meaning.view c.args.place.now).outcome (key c.text.result.now) _ _ _ (g.V.Visitor.meaning.view c.step-in-Map.new.self).at (g.V.Visitor.meaning.view c.step-in-Map.new.self).outcome
     (key_passed _ _ _ _ _ c.args.kind c.args.first c.requires.inside c.in-Map.is p n)
     (key_spellable _ _ _ _ c.args.kind c.args.first c.requires.inside c.in-Map.is n)
-    c.in_ok-step-in-Map.ensures.takes.leads
+    c.in_ok-step-in-Map.ensures.takes.advances
 
 pub returns-in_ok-step-in-Map-clause-less : goal.returns-in_ok-step-in-Map-clause-less
 returns-in_ok-step-in-Map-clause-less g c =
     let p : Follows c.args.kind c.args.first false c.args.source.now.rest c.after.new.self.rest = subst (λ z. Follows c.args.kind c.args.first (is_close z) c.args.source.now.rest c.after.new.self.rest) c.in-Next.is c.in_ok-after.ensures.ok in
     let a = follows_least c.args.kind c.args.first false c.args.source.now.rest c.after.new.self.rest p in
-    let b = stands_least c.after.new.self.rest c.key.new.self.rest c.in_ok-name-in-Map.ensures.ok in
+    let b = stands_least c.after.new.self.rest c.name.new.self.rest c.in_ok-name-in-Map.ensures.ok in
     (omega (arith, a, b), λ e. absurd (true≢false e))

@@ -5,7 +5,7 @@ ghost use Rattle.miniserde_model.specs.Step as step;
 ghost use Rattle.miniserde_model.specs.Position.{complete};
 ghost use Rattle.miniserde_read.specs.Events.{event_of};
 ghost use Rattle.miniserde_place.specs.Place.{Takes, IsFresh, first_refusal};
-ghost use Rattle.miniserde_read.specs.Events.{IsTreeEvent};
+ghost use Rattle.miniserde_read.specs.Events.{EventInRange};
 ghost use Rattle.miniserde_place.specs.Container.{CollectorMeaning, BeginsChild, opening_event, is_complete};
 ghost use Rattle.miniserde_model.specs.declared.error.Error.{Error};
 
@@ -47,7 +47,7 @@ pub trait Collect: Drop {
 
     /// Hands an event to the place of the current child, and returns its error.
     fn step(&mut self, event: Step<'_>) -> Result<()>
-        requires { IsTreeEvent (event_of event) }
+        requires { EventInRange (event_of event) }
         ensures { Takes (collector_meaning.child self.old) (event_of event.entry) result (collector_meaning.child self.new) };
 
     /// Keeps an error in the place of the current child, unless that keeps one already. Returns the

@@ -5,7 +5,7 @@ ghost use Rattle.std.specs.List.{IsDistinct};
 ghost use Rattle.std.specs.Str.{bytes_eq};
 ghost use Rattle.miniserde_model.specs.Tree.{members};
 ghost use Rattle.miniserde_model.specs.Compact.{compact};
-ghost use Rattle.miniserde_model.specs.IsTree.{IsTree};
+ghost use Rattle.miniserde_model.specs.InRange.{InRange};
 ghost use Rattle.miniserde_model.specs.Normal.{text_cmp};
 ghost use Rattle.miniserde_model.specs.declared.error.Error.TheVariants.{Memory};
 ghost use Rattle.miniserde_ser.specs.Trees.{members_of, in_order};
@@ -64,7 +64,7 @@ fn sort_entries<V>(entries: &mut Vec<(String, &V)>) -> result::Result<(), AllocE
 fn write_entries<V: Serialize>(entries: &[(String, &V)], w: &mut Writer) -> Result<()>
     ensures ok { OnOk result (w.new.text ≡ w.old.text
         ++ compact (members (members_of string_bytes (λ v. V.tree v.now) entries.entry.now))) }
-    ensures is_tree { OnOk result (IsTree (members (members_of string_bytes (λ v. V.tree v.now) entries.entry.now))) }
+    ensures in_range { OnOk result (InRange (members (members_of string_bytes (λ v. V.tree v.now) entries.entry.now))) }
     ensures first { OnOk result (w.new.first ≡ false) }
     ensures unrefused { OnOk result (w.new.refused ≡ false) }
     ensures stays { OnOk result (w.old.refused ≡ false) }

@@ -2,7 +2,7 @@
 ghost use Rattle.std.specs.Prelude.{◌≡◌, ◌++◌, false, true, OnOk, OnErr, IsErrOf};
 ghost use Rattle.miniserde_model.specs.Tree.{list};
 ghost use Rattle.miniserde_model.specs.Compact.{compact};
-ghost use Rattle.miniserde_model.specs.IsTree.{IsTree};
+ghost use Rattle.miniserde_model.specs.InRange.{InRange};
 ghost use Rattle.miniserde_model.specs.declared.error.Error.TheVariants.{Memory};
 ghost use Rattle.miniserde_ser.specs.Trees.{trees_of};
 
@@ -12,9 +12,9 @@ use std::collections::VecDeque;
 
 // Writes a list of the items. Returns `Memory` if an allocation fails or an earlier call of the
 // writer failed.
-fn begin_all<T: Serialize>(items: &[T], w: &mut Writer) -> Result<()>
+fn write_items<T: Serialize>(items: &[T], w: &mut Writer) -> Result<()>
     ensures ok { OnOk result (w.new.text ≡ w.old.text ++ compact (list (trees_of T.tree items.now))) }
-    ensures is_tree { OnOk result (IsTree (list (trees_of T.tree items.now))) }
+    ensures in_range { OnOk result (InRange (list (trees_of T.tree items.now))) }
     ensures first { OnOk result (w.new.first ≡ false) }
     ensures unrefused { OnOk result (w.new.refused ≡ false) }
     ensures stays { OnOk result (w.old.refused ≡ false) }
@@ -33,7 +33,7 @@ impl<T: Serialize> Serialize for &[T] {
     ghost tree = { λ s. list (trees_of T.tree s.now) };
 
     fn begin(&self, w: &mut Writer) -> Result<()> {
-        begin_all(*self, w)
+        write_items(*self, w)
     }
 }
 
@@ -41,7 +41,7 @@ impl<T: Serialize, const N: usize> Serialize for [T; N] {
     ghost tree = { λ xs. list (trees_of T.tree xs) };
 
     fn begin(&self, w: &mut Writer) -> Result<()> {
-        begin_all(self, w)
+        write_items(self, w)
     }
 }
 
@@ -49,7 +49,7 @@ impl<T: Serialize> Serialize for Vec<T> {
     ghost tree = { λ v. list (trees_of T.tree v.items) };
 
     fn begin(&self, w: &mut Writer) -> Result<()> {
-        begin_all(self.as_slice(), w)
+        write_items(self.as_slice(), w)
     }
 }
 

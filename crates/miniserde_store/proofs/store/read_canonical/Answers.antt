@@ -12,5 +12,5 @@ returns-clause-canonical g c =
 pub returns-clause-one : goal.returns-clause-one
 returns-clause-one g c = λ b u w j e h.
     let r = c.in_ok-value.ensures.ok in
-    let same = (c.in_ok-text.ensures.tells r.0 r.1 u (c.json_is_tree.ensures b u j)).0 e in
+    let same = (c.in_ok-text.ensures.tells r.0 r.1 u (c.json_in_range.ensures b u j)).0 e in
     c.means_in_normal_form.ensures.one u r.0 w c.in_ok-value.value same h r.2

@@ -66,7 +66,7 @@ pub(super) fn byte_after(bytes: &[u8], at: usize, n: usize) -> u8
 
 /// Returns the index `n` bytes after `at`. The last of these bytes is ASCII and not 0, so the index is a character
 /// boundary. Only the contract looks at `bytes`.
-pub(super) fn skip(bytes: &[u8], at: usize, n: usize) -> usize
+pub(super) fn index_after(bytes: &[u8], at: usize, n: usize) -> usize
     requires some { 0 < n }
     requires there { 0 < slice_index (drop at bytes.now) (n - 1) }
     requires ascii { slice_index (drop at bytes.now) (n - 1) < 128 }

@@ -1,16 +1,16 @@
 //! Decodes the escapes of strings (RFC 8259, section 7).
 ghost use Rattle.std.specs.Prelude.{◌≡◌, ◌<◌, ◌≤◌, true, drop, length, IfSome};
 ghost use Rattle.std.specs.Char.{digit_value};
-ghost use Rattle.miniserde_text.specs.private.Reading.{with_suffix, unit_at, is_high, is_low};
-ghost use Rattle.miniserde_text.specs.private.Reading.{begins_escape, pair_of, low_at, unicode_at, short_at};
+ghost use Rattle.miniserde_text.specs.private.Reading.{with_suffix, code_unit_at, is_high, is_low};
+ghost use Rattle.miniserde_text.specs.private.Reading.{begins_unicode_escape, pair_of, low_at, unicode_at, short_at};
 ghost use Rattle.miniserde_text.specs.private.Reading.{escape_at, FollowsAscii};
 
-use super::bytes::{byte_after, byte_at, skip};
+use super::bytes::{byte_after, byte_at, index_after};
 use super::tables;
 
 // Returns the value of a digit of base 36, or 36 if the byte is no such digit. A result below 16 is that of a
 // hexadecimal digit.
-fn hex(c: u8) -> u32
+fn digit_value(c: u8) -> u32
     ensures value { result ≡ digit_value c }
     ensures ascii { result < 16 → (0 < c) × (c < 128) }
     ensures small { result ≤ 36 }
@@ -20,21 +20,21 @@ fn hex(c: u8) -> u32
 
 // Takes four hexadecimal digits from `at` on. Returns their value and the index after them, or
 // `None` if they are not there.
-fn unit(bytes: &[u8], at: usize) -> Option<(u32, usize)>
+fn take_code_unit(bytes: &[u8], at: usize) -> Option<(u32, usize)>
     requires { at ≤ length bytes.now }
-    ensures value { with_suffix bytes.now result ≡ unit_at (drop at bytes.now) }
+    ensures value { with_suffix bytes.now result ≡ code_unit_at (drop at bytes.now) }
     ensures small { IfSome result (λ x. x.0 < 65536) }
     ensures follows { IfSome result (λ x. FollowsAscii bytes.now x.1) }
 {
     if bytes.len() - at < 4 {
         return None;
     }
-    let a = hex(byte_after(bytes, at, 0));
-    let b = hex(byte_after(bytes, at, 1));
-    let c = hex(byte_after(bytes, at, 2));
-    let d = hex(byte_after(bytes, at, 3));
+    let a = digit_value(byte_after(bytes, at, 0));
+    let b = digit_value(byte_after(bytes, at, 1));
+    let c = digit_value(byte_after(bytes, at, 2));
+    let d = digit_value(byte_after(bytes, at, 3));
     if a < 16 && b < 16 && c < 16 && d < 16 {
-        Some((a * 4096 + b * 256 + c * 16 + d, skip(bytes, at, 4)))
+        Some((a * 4096 + b * 256 + c * 16 + d, index_after(bytes, at, 4)))
     } else {
         None
     }
@@ -55,9 +55,9 @@ fn is_low(u: u32) -> bool
 }
 
 // Returns whether the two bytes at `at` are `\u`.
-fn begins_escape(bytes: &[u8], at: usize) -> bool
+fn begins_unicode_escape(bytes: &[u8], at: usize) -> bool
     requires { at ≤ length bytes.now }
-    ensures { result ≡ begins_escape (drop at bytes.now) }
+    ensures { result ≡ begins_unicode_escape (drop at bytes.now) }
 {
     byte_after(bytes, at, 0) == b'\\' && byte_after(bytes, at, 1) == b'u'
 }
@@ -79,10 +79,10 @@ fn low(high: u32, bytes: &[u8], at: usize) -> Option<(char, usize)>
     ensures value { with_suffix bytes.now result ≡ low_at high (drop at bytes.now) }
     ensures follows { IfSome result (λ x. FollowsAscii bytes.now x.1) }
 {
-    if !begins_escape(bytes, at) {
+    if !begins_unicode_escape(bytes, at) {
         return None;
     }
-    let (low, end) = unit(bytes, skip(bytes, at, 2))?;
+    let (low, end) = take_code_unit(bytes, index_after(bytes, at, 2))?;
     if !is_low(low) {
         return None;
     }
@@ -97,7 +97,7 @@ fn unicode(bytes: &[u8], at: usize) -> Option<(char, usize)>
     ensures value { with_suffix bytes.now result ≡ unicode_at (drop at bytes.now) }
     ensures follows { IfSome result (λ x. FollowsAscii bytes.now x.1) }
 {
-    let (code, end) = unit(bytes, at)?;
+    let (code, end) = take_code_unit(bytes, at)?;
     if is_high(code) {
         return low(code, bytes, end);
     }
@@ -125,8 +125,8 @@ pub(super) fn take_escape(bytes: &[u8], at: usize) -> Option<(char, usize)>
 {
     let letter = byte_at(bytes, at);
     if letter == b'u' {
-        return unicode(bytes, skip(bytes, at, 1));
+        return unicode(bytes, index_after(bytes, at, 1));
     }
     let c = short(letter)?;
-    Some((c, skip(bytes, at, 1)))
+    Some((c, index_after(bytes, at, 1)))
 }

@@ -11,7 +11,9 @@ ghost use Rattle.miniserde_text.specs.private.Reading.{after_fraction, after_sig
 ghost use Rattle.miniserde_text.specs.private.Reading.{after_tail, event_of_parts, number_at, suffix_at, FollowsAscii};
 
 use super::Event;
-use super::bytes::{byte_at, is_digit, is_exponent_letter, is_sign, part, skip, text_between};
+use super::bytes::{
+    byte_at, index_after, is_digit, is_exponent_letter, is_sign, part, text_between,
+};
 use super::tables::is_number_byte;
 
 // Returns the index after the digits at `at`, of which there may be none.
@@ -33,7 +35,7 @@ fn after_digits(bytes: &[u8], at: usize) -> Option<usize>
     ensures follows { IfSome result (λ r. FollowsAscii bytes.now r) }
 {
     if is_digit(byte_at(bytes, at)) {
-        Some(after_run_of_digits(bytes, skip(bytes, at, 1)))
+        Some(after_run_of_digits(bytes, index_after(bytes, at, 1)))
     } else {
         None
     }
@@ -47,7 +49,7 @@ fn after_minus(bytes: &[u8], at: usize, first: u8) -> usize
     ensures within { result ≤ length bytes.now }
 {
     if first == b'-' {
-        skip(bytes, at, 1)
+        index_after(bytes, at, 1)
     } else {
         at
     }
@@ -60,7 +62,7 @@ fn after_int(bytes: &[u8], at: usize) -> Option<usize>
     ensures follows { IfSome result (λ r. FollowsAscii bytes.now r) }
 {
     if byte_at(bytes, at) == b'0' {
-        Some(skip(bytes, at, 1))
+        Some(index_after(bytes, at, 1))
     } else {
         after_digits(bytes, at)
     }
@@ -73,7 +75,7 @@ fn after_fraction(bytes: &[u8], at: usize) -> Option<usize>
     ensures follows { IfSome result (λ r. FollowsAscii bytes.now r) }
 {
     if byte_at(bytes, at) == b'.' {
-        after_digits(bytes, skip(bytes, at, 1))
+        after_digits(bytes, index_after(bytes, at, 1))
     } else {
         Some(at)
     }
@@ -84,7 +86,7 @@ fn after_sign(bytes: &[u8], at: usize) -> usize
     ensures { drop result bytes.now ≡ after_sign (drop at bytes.now) }
 {
     if is_sign(byte_at(bytes, at)) {
-        skip(bytes, at, 1)
+        index_after(bytes, at, 1)
     } else {
         at
     }
@@ -97,7 +99,7 @@ fn after_exponent(bytes: &[u8], at: usize) -> Option<usize>
     ensures follows { IfSome result (λ r. FollowsAscii bytes.now r) }
 {
     if is_exponent_letter(byte_at(bytes, at)) {
-        after_digits(bytes, after_sign(bytes, skip(bytes, at, 1)))
+        after_digits(bytes, after_sign(bytes, index_after(bytes, at, 1)))
     } else {
         Some(at)
     }

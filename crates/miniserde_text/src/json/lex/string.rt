@@ -5,10 +5,10 @@ ghost use Rattle.std.specs.Str.{encode_utf8_all, IsCharBoundary};
 ghost use Rattle.std.specs.String.{string_bytes};
 ghost use Rattle.miniserde_text.specs.Lexer.{text_of, LeavesScratch};
 ghost use Rattle.miniserde_text.specs.private.Reading.{after_run, before, is_unescaped, FollowsAscii};
-ghost use Rattle.miniserde_text.specs.private.Inside.{Chars, Adds, TakesText, ReachesBackslash};
+ghost use Rattle.miniserde_text.specs.private.Taking.{SpellsUpToQuote, AddsDecoded, TakesText, ReachesBackslash};
 
 use super::Text;
-use super::bytes::{byte_at, skip, text_between};
+use super::bytes::{byte_at, index_after, text_between};
 use super::escape::take_escape;
 use crate::scan::{special, special_in_lanes};
 use miniserde_model::error::{Error, Result};
@@ -18,7 +18,7 @@ use std::result;
 // Returns the index of the first byte at or after `at` that is a quote, a backslash or below 0x20, or the length of
 // the text. It tests 16 bytes at once, since most strings begin with a run of other bytes.
 #[inline(always)]
-fn after_unescaped(text: &str, at: usize) -> usize
+fn after_unescaped_in_lanes(text: &str, at: usize) -> usize
     requires { at ≤ length text.now }
     ensures value { drop result text.now ≡ after_run is_unescaped (drop at text.now) }
     ensures order { at ≤ result }
@@ -31,7 +31,7 @@ fn after_unescaped(text: &str, at: usize) -> usize
 // or the length of the text. It tests the first byte before any others, since after an escape the
 // next byte often begins another escape.
 #[inline(always)]
-fn after_more(text: &str, at: usize) -> usize
+fn after_unescaped(text: &str, at: usize) -> usize
     requires { at ≤ length text.now }
     ensures value { drop result text.now ≡ after_run is_unescaped (drop at text.now) }
     ensures order { at ≤ result }
@@ -56,16 +56,16 @@ fn push_run(scratch: &mut String, run: &str) -> result::Result<(), AllocError>
 // `Memory` if the scratch text cannot grow.
 fn take_run(text: &str, at: usize, scratch: &mut String) -> Result<usize>
     ensures ok { IfOk result (λ r.
-        Adds (string_bytes scratch.old) (string_bytes scratch.new) (92 ∷ drop at text.now) (drop r text.now)) }
+        AddsDecoded (string_bytes scratch.old) (string_bytes scratch.new) (92 ∷ drop at text.now) (drop r text.now)) }
     ensures stops { IfOk result (λ r. is_unescaped (slice_index (drop r text.now) 0) ≡ false) }
     ensures shorter { IfOk result (λ r. length (drop r text.now) ≤ length (drop at text.now)) }
     ensures invalid { result ≡ Err Error.Invalid
-        → (cs r : List ℕ) → Chars cs (92 ∷ drop at text.now) r → ⊥ }
+        → (cs r : List ℕ) → SpellsUpToQuote cs (92 ∷ drop at text.now) r → ⊥ }
 {
     let Some((c, rest)) = take_escape(text.as_bytes(), at) else {
         return Err(Error::Invalid);
     };
-    let next = after_more(text, rest);
+    let next = after_unescaped(text, rest);
     scratch.push(c)?;
     push_run(scratch, text_between(text, rest, next))?;
     Ok(next)
@@ -76,18 +76,18 @@ fn take_run(text: &str, at: usize, scratch: &mut String) -> Result<usize>
 // end, or `Memory` if the scratch text cannot grow.
 fn take_escaped(text: &str, at: usize, scratch: &mut String) -> Result<usize>
     requires { is_unescaped (slice_index (drop at text.now) 0) ≡ false }
-    ensures ok { IfOk result (λ r. (cs : List ℕ) × Chars cs (drop at text.now) (drop r text.now)
+    ensures ok { IfOk result (λ r. (cs : List ℕ) × SpellsUpToQuote cs (drop at text.now) (drop r text.now)
         × (string_bytes scratch.new ≡ string_bytes scratch.old ++ encode_utf8_all cs)) }
     ensures within { IfOk result (λ r. r ≤ length text.now) }
-    ensures invalid { result ≡ Err Error.Invalid → (cs r : List ℕ) → Chars cs (drop at text.now) r → ⊥ }
+    ensures invalid { result ≡ Err Error.Invalid → (cs r : List ℕ) → SpellsUpToQuote cs (drop at text.now) r → ⊥ }
 {
     let bytes = text.as_bytes();
     let mut tail = at;
     while byte_at(bytes, tail) == b'\\' {
-        tail = take_run(text, skip(bytes, tail, 1), scratch)?;
+        tail = take_run(text, index_after(bytes, tail, 1), scratch)?;
     }
     if byte_at(bytes, tail) == b'"' {
-        Ok(skip(bytes, tail, 1))
+        Ok(index_after(bytes, tail, 1))
     } else {
         Err(Error::Invalid)
     }
@@ -102,10 +102,10 @@ fn decode(text: &str, at: usize, tail: usize, scratch: &mut String) -> Result<us
     requires order { at ≤ tail }
     requires boundary { IsCharBoundary text.now tail }
     requires stops { is_unescaped (slice_index (drop tail text.now) 0) ≡ false }
-    ensures ok { IfOk result (λ r. (cs : List ℕ) × Chars cs (drop tail text.now) (drop r text.now)
+    ensures ok { IfOk result (λ r. (cs : List ℕ) × SpellsUpToQuote cs (drop tail text.now) (drop r text.now)
         × (string_bytes scratch.new ≡ before (drop at text.now) (drop tail text.now) ++ encode_utf8_all cs)) }
     ensures within { IfOk result (λ r. r ≤ length text.now) }
-    ensures invalid { result ≡ Err Error.Invalid → (cs r : List ℕ) → Chars cs (drop tail text.now) r → ⊥ }
+    ensures invalid { result ≡ Err Error.Invalid → (cs r : List ℕ) → SpellsUpToQuote cs (drop tail text.now) r → ⊥ }
 {
     scratch.clear();
     scratch.push_str(text_between(text, at, tail))?;
@@ -120,10 +120,10 @@ fn take_decoded(text: &str, at: usize, tail: usize, scratch: &mut String) -> Res
     requires order { at ≤ tail }
     requires boundary { IsCharBoundary text.now tail }
     requires stops { is_unescaped (slice_index (drop tail text.now) 0) ≡ false }
-    ensures ok { IfOk result (λ r. (cs : List ℕ) × Chars cs (drop tail text.now) (drop r text.now)
+    ensures ok { IfOk result (λ r. (cs : List ℕ) × SpellsUpToQuote cs (drop tail text.now) (drop r text.now)
         × (string_bytes scratch.new ≡ before (drop at text.now) (drop tail text.now) ++ encode_utf8_all cs)) }
     ensures within { IfOk result (λ r. r ≤ length text.now) }
-    ensures invalid { result ≡ Err Error.Invalid → (cs r : List ℕ) → Chars cs (drop tail text.now) r → ⊥ }
+    ensures invalid { result ≡ Err Error.Invalid → (cs r : List ℕ) → SpellsUpToQuote cs (drop tail text.now) r → ⊥ }
 {
     match decode(text, at, tail, scratch) {
         Ok(end) => Ok(end),
@@ -141,20 +141,20 @@ pub(super) fn take_string<'a>(
     scratch: &mut String,
 ) -> Result<(Text<'a>, usize)>
     requires { FollowsAscii text.now at }
-    ensures ok { IfOk result (λ x. (cs : List ℕ) × Chars cs (drop at text.now) (drop x.1 text.now)
+    ensures ok { IfOk result (λ x. (cs : List ℕ) × SpellsUpToQuote cs (drop at text.now) (drop x.1 text.now)
         × (text_of x.0 (string_bytes scratch.new) ≡ encode_utf8_all cs)) }
     ensures text { IfOk result (λ x. TakesText x.0 (drop at text.now) (drop x.1 text.now)) }
     ensures within { IfOk result (λ x. x.1 ≤ length text.now) }
     ensures unchanged { IfOk result (λ x. LeavesScratch x.0 scratch.old scratch.new) }
     ensures memory { result ≡ Err Error.Memory → ReachesBackslash (drop at text.now) }
-    ensures invalid { result ≡ Err Error.Invalid → (cs r : List ℕ) → Chars cs (drop at text.now) r → ⊥ }
+    ensures invalid { result ≡ Err Error.Invalid → (cs r : List ℕ) → SpellsUpToQuote cs (drop at text.now) r → ⊥ }
 {
-    let tail = after_unescaped(text, at);
+    let tail = after_unescaped_in_lanes(text, at);
     let bytes = text.as_bytes();
     match byte_at(bytes, tail) {
         b'"' => Ok((
             Text::Input(text_between(text, at, tail)),
-            skip(bytes, tail, 1),
+            index_after(bytes, tail, 1),
         )),
         b'\\' => {
             let end = take_decoded(text, at, tail, scratch)?;

@@ -5,35 +5,35 @@ ghost use Rattle.std.specs.String.{string_bytes};
 ghost use Rattle.miniserde_model.specs.Step as step;
 ghost use Rattle.miniserde_text.specs.Lexer.{event_of_token, text_of, LeavesScratch, EventLeavesScratch};
 ghost use Rattle.miniserde_text.specs.private.Reading.{word_at, token_by};
-ghost use Rattle.miniserde_text.specs.private.Inside.{TakesToken, TakesName, EventTakesText, NameTakesText};
-ghost use Rattle.miniserde_text.specs.private.Inside.{ReachesBackslash};
+ghost use Rattle.miniserde_text.specs.private.Taking.{TakesToken, TakesName, EventTakesText, NameTakesText};
+ghost use Rattle.miniserde_text.specs.private.Taking.{ReachesBackslash};
 
-use super::bytes::skip;
+use super::bytes::index_after;
 use super::number::take_number;
 use super::space::after_space;
 use super::string::take_string;
 use super::{Event, Text};
 use miniserde_model::error::{Error, Result};
 
-// Takes `word`, whose last byte is ASCII and not 0. Returns `event` and the index after the word, or `None` if the
+// Takes `word`, whose last byte is ASCII and not 0. Returns `token` and the index after the word, or `None` if the
 // text does not have the word at `at`.
 #[tactic(auto, unfolding(crate::specs::private::Reading::word_at))]
 fn take_word<'a>(
     bytes: &[u8],
     at: usize,
     word: &[u8],
-    event: Event<'a>,
+    token: Event<'a>,
 ) -> Option<(Event<'a>, usize)>
     requires within { at ≤ length bytes.now }
     requires some { 0 < length word.now }
     requires there { 0 < slice_index word.now (length word.now - 1) }
     requires ascii { slice_index word.now (length word.now - 1) < 128 }
     ensures value { option_map (λ x. (event_of_token x.0 [], drop x.1 bytes.now)) result
-        ≡ word_at word.now (event_of_token event.entry []) (drop at bytes.now) }
+        ≡ word_at word.now (event_of_token token.entry []) (drop at bytes.now) }
     ensures within { IfSome result (λ x. x.1 ≤ length bytes.now) }
 {
     if bytes[at..].starts_with(word) {
-        Some((event, skip(bytes, at, word.len())))
+        Some((token, index_after(bytes, at, word.len())))
     } else {
         None
     }
@@ -55,8 +55,8 @@ fn take_plain<'a>(text: &'a str, at: usize, first: u8) -> Option<(Event<'a>, usi
         b'n' => take_word(bytes, at, b"null", Event::Null),
         b't' => take_word(bytes, at, b"true", Event::Bool(true)),
         b'f' => take_word(bytes, at, b"false", Event::Bool(false)),
-        b'[' => Some((Event::SeqStart, skip(bytes, at, 1))),
-        b'{' => Some((Event::MapStart, skip(bytes, at, 1))),
+        b'[' => Some((Event::SeqStart, index_after(bytes, at, 1))),
+        b'{' => Some((Event::MapStart, index_after(bytes, at, 1))),
         _ => take_number(text, at, first),
     }
 }
@@ -83,7 +83,7 @@ pub(super) fn take_token<'a>(
         → (e : step.Step) (r : List ℕ) → TakesToken (drop at text.now) e r → ⊥ }
 {
     if first == b'"' {
-        let (text, end) = take_string(text, skip(text.as_bytes(), at, 1), scratch)?;
+        let (text, end) = take_string(text, index_after(text.as_bytes(), at, 1), scratch)?;
         return Ok((Event::Str(text), end));
     }
     match take_plain(text, at, first) {
@@ -115,10 +115,10 @@ pub(super) fn take_name<'a>(
         return Err(Error::Invalid);
     }
     let bytes = text.as_bytes();
-    let (name, end) = take_string(text, skip(bytes, at, 1), scratch)?;
+    let (name, end) = take_string(text, index_after(bytes, at, 1), scratch)?;
     let (colon, byte) = after_space(bytes, end);
     if byte != b':' {
         return Err(Error::Invalid);
     }
-    Ok((name, skip(bytes, colon, 1)))
+    Ok((name, index_after(bytes, colon, 1)))
 }

@@ -8,4 +8,4 @@ returns-clause-same g c = λ v p j.
     let r = c.in_ok-value.ensures.ok in
     let t = g.T.Serialize.tree v in
     let one = c.in_ok-value.ensures.one r.0 (norm t) r.1 j in
-    c.sent_itself.ensures.itself v c.in_ok-value.value r.0 p (ap norm one ∙ c.norm_is_normal.ensures.idempotent t) r.2
+    c.canonical_text_determines_content.ensures.itself v c.in_ok-value.value r.0 p (ap norm one ∙ c.norm_is_normal.ensures.idempotent t) r.2

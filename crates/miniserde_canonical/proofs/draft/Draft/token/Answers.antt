@@ -21,9 +21,9 @@ returns-in_ok-push c = λ rest part rest' s s' r e f g p h.
 
 pub returns-in_default : goal.returns-in_default
 returns-in_default c = λ rest part rest' s s' r e f g p h.
-    let x = first_token_text (first_token (event_of_token c.args.event c.args.scratch.now)) in
+    let x = first_token_text (first_token (event_of_token c.args.token c.args.scratch.now)) in
     record {
       bytes = r.bytes ++ x;
       wrote = c.in_ok-text.ensures.wrote rest part rest' r.bytes r.wrote e f g p;
-      holding = holding_added c.text.new.self r.bytes s s' x (front_adds c.args.event c.args.scratch.now s s' c.in_default.not-MapStart h) (keep_holding c.args.self.now c.text.new.self r.bytes s c.in_ok-text.ensures.only_text r.holding);
+      holding = holding_added c.text.new.self r.bytes s s' x (front_adds c.args.token c.args.scratch.now s s' c.in_default.not-MapStart h) (keep_holding c.args.self.now c.text.new.self r.bytes s c.in_ok-text.ensures.only_text r.holding);
     }

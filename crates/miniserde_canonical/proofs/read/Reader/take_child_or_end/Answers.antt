@@ -8,7 +8,7 @@ use Rattle.miniserde_model.specs.Lexing.{Follows}
 use Rattle.miniserde_text.specs.Lexer.{text_of, is_close}
 use Rattle.miniserde_canonical.specs.Token.{name, element}
 use Rattle.miniserde_text.specs.private.Moving.{before_child}
-use Rattle.miniserde_canonical.specs.private.Arranging.{gap, State, TokenStep}
+use Rattle.miniserde_canonical.specs.private.Arranging.{comma_before, State, TokenStep}
 use Rattle.miniserde_canonical.specs.private.Drafts.{Wrote, Holding, Represents}
 use Rattle.miniserde_canonical.specs.private.Moving.{end_token}
 use Rattle.miniserde_canonical.proofs.Steps.{close_forces, element_forces, key_forces, after_barred, name_barred}
@@ -74,7 +74,7 @@ returns-in_ok-name-in-Map-clause-reads c =
     let b2 = c.in_ok-at-in-Map.ensures.blank in
     let q = c.in_ok-text-in-Map.ensures.ok.2 in
     let p : Follows k c.args.first false mid behind = subst (λ z. Follows k c.args.first (is_close z) mid behind) c.in-Next.is c.in_ok-after.ensures.ok.2 in
-    let takes = subst (λ z. (before : List ℕ) (s s' : State) → Wrote d2 at (before ++ gap s.first) → Holding d2 before s → s.first ≡ c.args.first → TokenStep (name (text_of text z)) s s' → Represents c.name-in-Map.new.self new s') c.as_str.ensures.value (λ before s s' t h f a. c.in_ok-name-in-Map.ensures at q.part new before s s' t h (at_once at new q b2.stops) c.in_ok-at-in-Map.ensures.at c.left-end.ensures (name_spelled text x at new q c.in_ok-text-in-Map.ensures.text) f a) in
+    let takes = subst (λ z. (before : List ℕ) (s s' : State) → Wrote d2 at (before ++ comma_before s.first) → Holding d2 before s → s.first ≡ c.args.first → TokenStep (name (text_of text z)) s s' → Represents c.name-in-Map.new.self new s') c.as_str.ensures.value (λ before s s' t h f a. c.in_ok-name-in-Map.ensures at q.part new before s s' t h (at_once at new q b2.stops) c.in_ok-at-in-Map.ensures.at c.left-end.ensures (name_spelled text x at new q c.in_ok-text-in-Map.ensures.text) f a) in
     (name n ∷ [], reads_key (before_child c.args.first) _ _ _ n (key_forces _ _ _ _ _ k c.args.first c.requires.inside c.in-Map.is (follows_behind k c.args.first false old mid behind b p) (names_behind behind at n new b2 q)), takes_name c.args.first n old mid behind at q.part new d d1 d2 c.name-in-Map.new.self (skipped d d1 old mid c.in_ok-before.ensures.wrote c.in_ok-before.ensures.only_text) (comma_at k c.args.first mid behind b.stops p) c.in_ok-at-in-Map.ensures.wrote c.in_ok-at-in-Map.ensures.only_text takes)
 
 pub returns-in_ok-name-in-Map-clause-less : goal.returns-in_ok-name-in-Map-clause-less

@@ -4,7 +4,7 @@ use Rattle.std.proofs.Common.{rules, ◌≡◌, ◌++◌, ◌∷◌, [], List, m
 use Rattle.std.proofs.lemmas.List.{map_more, take_all}
 use Rattle.miniserde_canonical.specs.declared.spread.Splice.{Splice}
 use Rattle.miniserde_canonical.specs.private.Spreads.{shifted_splice, bytes_in, splices_in}
-use Rattle.miniserde_canonical.proofs.spread.Spread.append.Goals as goal
+use Rattle.miniserde_canonical.proofs.spread.SplicedText.append.Goals as goal
 
 pub loop-splice-init : goal.loop-splice-init
 loop-splice-init c = record { bytes = refl; splices = sym (append-nil _) }

@@ -1,6 +1,6 @@
 use Rattle.std.proofs.Common.{◌≡◌, ◌++◌, map, take}
 use Rattle.miniserde_canonical.specs.private.Spreads.{shifted_splice}
-use Rattle.miniserde_canonical.proofs.spread.Spread.append.Given as goal
+use Rattle.miniserde_canonical.proofs.spread.SplicedText.append.Given as goal
 
 abbrev pub invariant-loop-splice : goal.invariant-loop-splice
 invariant-loop-splice l = record {

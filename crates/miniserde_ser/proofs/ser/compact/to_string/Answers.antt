@@ -11,4 +11,4 @@ returns-clause-spells g c =
     let t = g.T.Serialize.tree c.args.value.now in
     let e : c.begin.new.w.text ≡ compact t = c.in_ok-begin.ensures.ok ∙ ap (λ w. w.text ++ compact t) c.new-w.ensures in
     IfOk-weaker c.into_string.result (λ s. string_bytes s ≡ c.begin.new.w.text) (λ s. IsJson (string_bytes s) t)
-    (λ s h. subst (λ z. IsJson z t) (sym (h ∙ e)) (written t c.in_ok-begin.ensures.is_tree)) c.into_string.ensures.ok
+    (λ s h. subst (λ z. IsJson z t) (sym (h ∙ e)) (written t c.in_ok-begin.ensures.in_range)) c.into_string.ensures.ok

@@ -55,12 +55,12 @@ loop-hand-preserved-in-Some-take_last-2 c =
     }
 
 pub loop-hand-smaller : goal.loop-hand-smaller
-loop-hand-smaller c = omega (arith, turn_park _ _ _ _ (λ b. false_true (c.if-is_bare-2.ensures.1 b)) c.replace_first-first.ensures.parked)
+loop-hand-smaller c = omega (arith, turn_park _ _ _ _ (λ b. false_true (c.if-is_bare-2.ensures.1 b)) c.replace_first-first.ensures.replaced)
 
 pub loop-hand-preserved : goal.loop-hand-preserved
 loop-hand-preserved c =
     let e = c.replace_first-first.ensures in
     record {
-      released = omega (arith, e.released, parked_size _ _ _ _ e.parked);
-      visited = omega (arith, e.visited, turn_park _ _ _ _ (λ b. false_true (c.if-is_bare-2.ensures.1 b)) e.parked);
+      released = omega (arith, e.released, parked_size _ _ _ _ e.replaced);
+      visited = omega (arith, e.visited, turn_park _ _ _ _ (λ b. false_true (c.if-is_bare-2.ensures.1 b)) e.replaced);
     }

@@ -3,7 +3,7 @@ use Rattle.std.proofs.Common.{◌≡◌, Some, is_some, subst, sym, ap, ◌∙�
 use Rattle.std.specs.Prelude.{IfOk, OnOk}
 use Rattle.miniserde_text.specs.Lexer.{event_of_token}
 use Rattle.miniserde_text.specs.private.Moving.{opened_kind}
-use Rattle.miniserde_read.specs.Events.{IsTreeEvent}
+use Rattle.miniserde_read.specs.Events.{EventInRange}
 use Rattle.miniserde_read.proofs.Tokens.{start_event}
 use Rattle.miniserde_value.specs.Builders.{hole_in}
 use Rattle.miniserde_value.specs.Hole.{after_begin}
@@ -11,7 +11,7 @@ use Rattle.miniserde_value.proofs.Builds.{begins, entered}
 use Rattle.miniserde_value.proofs.json.reader.begin.Goals as goal
 
 pub begin-requires : goal.begin-requires
-begin-requires c = subst (λ z. IsTreeEvent z) (sym c.step.ensures) (start_event _ _ _ c.in_ok-token.ensures.ok)
+begin-requires c = subst (λ z. EventInRange z) (sym c.step.ensures) (start_event _ _ _ c.in_ok-token.ensures.ok)
 
 pub returns-clause-builds : goal.returns-clause-builds
 returns-clause-builds c =

@@ -8,7 +8,7 @@ use Rattle.miniserde_text.specs.private.Moving.{opened_kind, before_child}
 use Rattle.miniserde_value.specs.Builders.{hole_in}
 use Rattle.miniserde_value.specs.Hole.{after_begin}
 use Rattle.miniserde_value.specs.Retained.{retained_tree}
-use Rattle.miniserde_value.specs.Values.{shape}
+use Rattle.miniserde_value.specs.Values.{content_of}
 use Rattle.miniserde_value.proofs.Builds.{begins, builds_init, Builds-append, never_behind, read_ok, read_none}
 use Rattle.miniserde_value.proofs.json.reader.read_value.Goals as goal
 
@@ -44,11 +44,11 @@ pub unreachable-requires : goal.unreachable-requires
 unreachable-requires c =
     let e = event_of_token c.args.token c.args.source.now.scratch in
     let read = read_ok c.args.once c.args.token c.args.source.now.scratch c.args.source.now.rest c.loop-kind.source.rest (hole_in c.begin.new.self) c.loop-kind.first (hole_in c.loop-kind.builder) (ap (after_begin e) (sym c.new-builder.ensures) ∙ ap (λ z. after_begin z (hole_in c.new-builder.result)) (sym c.step.ensures) ∙ c.in_ok-first.ensures.ok) (sym c.innermost.ensures ∙ c.in_default.is) c.loop-kind.invariant.builds in
-    let none : None ≡ Some (retained_tree read.0) = ap (option_map shape) (sym c.in-None.is) ∙ c.into_value.ensures ∙ read.2 in
+    let none : None ≡ Some (retained_tree read.0) = ap (option_map content_of) (sym c.in-None.is) ∙ c.into_value.ensures ∙ read.2 in
     cc
 
 pub returns-clause-ok : goal.returns-clause-ok
 returns-clause-ok c =
     let e = event_of_token c.args.token c.args.source.now.scratch in
     let read = read_ok c.args.once c.args.token c.args.source.now.scratch c.args.source.now.rest c.loop-kind.source.rest (hole_in c.begin.new.self) c.loop-kind.first (hole_in c.loop-kind.builder) (ap (after_begin e) (sym c.new-builder.ensures) ∙ ap (λ z. after_begin z (hole_in c.new-builder.result)) (sym c.step.ensures) ∙ c.in_ok-first.ensures.ok) (sym c.innermost.ensures ∙ c.in_default.is) c.loop-kind.invariant.builds in
-    (read.0, read.1, sym read.3 ∙ sym c.into_value.ensures ∙ ap (option_map shape) c.in-Some-into_value.is)
+    (read.0, read.1, sym read.3 ∙ sym c.into_value.ensures ∙ ap (option_map content_of) c.in-Some-into_value.is)

@@ -13,7 +13,7 @@ use Rattle.miniserde_value.specs.Hole.{has_member, with_name}
 use Rattle.miniserde_value.specs.private.Builds.{Builds, kinds}
 use Rattle.miniserde_value.proofs.Builds.{kinds_innermost, close_builds, element_builds, key_builds, Builds-append, stuck, never_behind, repeat_gives}
 use Rattle.miniserde_value.proofs.json.reader.take_child_or_end.Goals as goal
-use Rattle.miniserde_value.proofs.json.reader.take_child_or_end.Goals.{in-Map+in_ok-name-in-Next+in_ok-name_next-in-Next, in_default}
+use Rattle.miniserde_value.proofs.json.reader.take_child_or_end.Goals.{in-Map+in_ok-name-in-Next+in_ok-set_next_name-in-Next, in_default}
 
 pub returns-in_err-after-clause-invalid : goal.returns-in_err-after-clause-invalid
 returns-in_err-after-clause-invalid c = λ e.
@@ -28,12 +28,12 @@ returns-in_err-name-in-Next-clause-invalid c = λ e.
     let p : Follows c.args.kind c.args.first false c.args.source.now.rest c.after.new.self.rest = subst (λ z. Follows c.args.kind c.args.first (is_close z) c.args.source.now.rest c.after.new.self.rest) c.in-Next.is c.in_ok-after.ensures.ok in
     stuck c.args.once (before_child c.args.first) h _ (name_ends (kinds h) _ _ c.args.kind c.args.first (kinds_innermost h ∙ c.requires.inside) c.in-Map.is p (c.in_err-name-in-Next.ensures.invalid (cc (w.1, w.2, e)) c.in_ok-after.ensures.going))
 
-pub returns-in_err-name_next-in-Next-clause-invalid : goal.returns-in_err-name_next-in-Next-clause-invalid
-returns-in_err-name_next-in-Next-clause-invalid c = λ e.
-    let w = err_from_is_err_and c.from_residual-in_err-name_next-in-Next.result c.from_residual-in_err-name_next-in-Next.ensures.1 in
+pub returns-in_err-set_next_name-in-Next-clause-invalid : goal.returns-in_err-set_next_name-in-Next-clause-invalid
+returns-in_err-set_next_name-in-Next-clause-invalid c = λ e.
+    let w = err_from_is_err_and c.from_residual-in_err-set_next_name-in-Next.result c.from_residual-in_err-set_next_name-in-Next.ensures.1 in
     let h = hole_in c.args.builder.now in
     let p : Follows c.args.kind c.args.first false c.args.source.now.rest c.after.new.self.rest = subst (λ z. Follows c.args.kind c.args.first (is_close z) c.args.source.now.rest c.after.new.self.rest) c.in-Next.is c.in_ok-after.ensures.ok in
-    repeat_gives c.args.once h c.args.source.now.rest _ _ _ c.args.kind c.args.first c.requires.inside c.in-Map.is p c.in_ok-name-in-Next.ensures.ok (ap (λ z. c.args.once && has_member z h) (sym c.text.ensures) ∙ c.in_err-name_next-in-Next.ensures.invalid (cc (w.1, w.2, e)))
+    repeat_gives c.args.once h c.args.source.now.rest _ _ _ c.args.kind c.args.first c.requires.inside c.in-Map.is p c.in_ok-name-in-Next.ensures.ok (ap (λ z. c.args.once && has_member z h) (sym c.text.ensures) ∙ c.in_err-set_next_name-in-Next.ensures.invalid (cc (w.1, w.2, e)))
 
 pub returns-in_ok-close-in-Close-clause-builds : goal.returns-in_ok-close-in-Close-clause-builds
 returns-in_ok-close-in-Close-clause-builds c =
@@ -46,7 +46,7 @@ returns-after-kind-clause-builds c =
     let s = c.args.source.now.rest in
     let p : Follows c.args.kind c.args.first false s c.after.new.self.rest = subst (λ z. Follows c.args.kind c.args.first (is_close z) s c.after.new.self.rest) c.in-Next.is c.in_ok-after.ensures.ok in
     let one : Builds c.args.once (before_child c.args.first) h s due (hole_in c.match-kind.builder) c.match-kind.source.rest = elim c.match-kind.branch [
-      | in-Map+in_ok-name-in-Next+in_ok-name_next-in-Next w ↦ key_builds c.args.once h (hole_in c.match-kind.builder) s c.after.new.self.rest _ w.key.new.self.rest c.match-kind.source.rest c.args.kind c.args.first c.requires.inside w.in-Map.is p w.in_ok-name-in-Next.ensures.ok (ap (λ z. c.args.once && has_member z h) (sym w.text.ensures) ∙ w.in_ok-name_next-in-Next.ensures.new) (ap (λ z. z.rest) w.source-is) (ap hole_in w.builder-is ∙ w.in_ok-name_next-in-Next.ensures.ok ∙ ap (λ z. with_name z h) w.text.ensures)
+      | in-Map+in_ok-name-in-Next+in_ok-set_next_name-in-Next w ↦ key_builds c.args.once h (hole_in c.match-kind.builder) s c.after.new.self.rest _ w.name.new.self.rest c.match-kind.source.rest c.args.kind c.args.first c.requires.inside w.in-Map.is p w.in_ok-name-in-Next.ensures.ok (ap (λ z. c.args.once && has_member z h) (sym w.text.ensures) ∙ w.in_ok-set_next_name-in-Next.ensures.new) (ap (λ z. z.rest) w.source-is) (ap hole_in w.builder-is ∙ w.in_ok-set_next_name-in-Next.ensures.ok ∙ ap (λ z. with_name z h) w.text.ensures)
       | in_default w ↦ element_builds c.args.once h (hole_in c.match-kind.builder) s c.after.new.self.rest c.match-kind.source.rest c.args.kind c.args.first c.requires.inside w.in_default.is p (ap (λ z. z.rest) w.source-is) (ap hole_in w.builder-is)
     ] in
     let g = hole_in c.match-kind.builder in
@@ -61,7 +61,7 @@ returns-after-kind-clause-invalid c = λ e.
     let s = c.args.source.now.rest in
     let p : Follows c.args.kind c.args.first false s c.after.new.self.rest = subst (λ z. Follows c.args.kind c.args.first (is_close z) s c.after.new.self.rest) c.in-Next.is c.in_ok-after.ensures.ok in
     let one : Builds c.args.once (before_child c.args.first) h s due (hole_in c.match-kind.builder) c.match-kind.source.rest = elim c.match-kind.branch [
-      | in-Map+in_ok-name-in-Next+in_ok-name_next-in-Next w ↦ key_builds c.args.once h (hole_in c.match-kind.builder) s c.after.new.self.rest _ w.key.new.self.rest c.match-kind.source.rest c.args.kind c.args.first c.requires.inside w.in-Map.is p w.in_ok-name-in-Next.ensures.ok (ap (λ z. c.args.once && has_member z h) (sym w.text.ensures) ∙ w.in_ok-name_next-in-Next.ensures.new) (ap (λ z. z.rest) w.source-is) (ap hole_in w.builder-is ∙ w.in_ok-name_next-in-Next.ensures.ok ∙ ap (λ z. with_name z h) w.text.ensures)
+      | in-Map+in_ok-name-in-Next+in_ok-set_next_name-in-Next w ↦ key_builds c.args.once h (hole_in c.match-kind.builder) s c.after.new.self.rest _ w.name.new.self.rest c.match-kind.source.rest c.args.kind c.args.first c.requires.inside w.in-Map.is p w.in_ok-name-in-Next.ensures.ok (ap (λ z. c.args.once && has_member z h) (sym w.text.ensures) ∙ w.in_ok-set_next_name-in-Next.ensures.new) (ap (λ z. z.rest) w.source-is) (ap hole_in w.builder-is ∙ w.in_ok-set_next_name-in-Next.ensures.ok ∙ ap (λ z. with_name z h) w.text.ensures)
       | in_default w ↦ element_builds c.args.once h (hole_in c.match-kind.builder) s c.after.new.self.rest c.match-kind.source.rest c.args.kind c.args.first c.requires.inside w.in_default.is p (ap (λ z. z.rest) w.source-is) (ap hole_in w.builder-is)
     ] in
     never_behind c.args.once (before_child c.args.first) h s due (hole_in c.match-kind.builder) c.match-kind.source.rest one (stuck c.args.once due _ _ (c.begin.ensures.invalid e))

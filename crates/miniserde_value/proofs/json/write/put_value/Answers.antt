@@ -3,12 +3,12 @@
 use Rattle.std.proofs.Common.{◌≡◌, ℕ, List, ◌∷◌, refl, sym, ap, subst, ◌∙◌}
 use Rattle.std.proofs.lemmas.Result.{on_ok_weaker}
 use Rattle.miniserde_model.specs.Tree.{str}
-use Rattle.miniserde_model.specs.IsTree.{IsTree}
-use Rattle.miniserde_value.specs.Values.{shape, array_shape, object_shape}
+use Rattle.miniserde_model.specs.InRange.{InRange}
+use Rattle.miniserde_value.specs.Values.{content_of, array_content, object_content}
 use Rattle.miniserde_value.specs.Visits.{leaf}
 use Rattle.miniserde_value.specs.Walks.{frames_left}
 use Rattle.miniserde_value.proofs.Walks.{begin_null, begin_bool, begin_number, begin_string, ordered_null, ordered_bool, ordered_number, ordered_string}
-use Rattle.miniserde_value.proofs.Shapes.{shape_array, shape_object}
+use Rattle.miniserde_value.proofs.ContentTrees.{content_of_array, content_of_object}
 use Rattle.miniserde_value.proofs.Writes.{on_leaf}
 use Rattle.miniserde_value.proofs.json.write.put_value.Goals as goal
 
@@ -25,7 +25,7 @@ pub returns-in-Bool-clause-ordered : goal.returns-in-Bool-clause-ordered
 returns-in-Bool-clause-ordered c = on_ok_weaker c.fragment-in-Bool.result (λ _ o. (ordered_bool _ _ c.in-Bool.is, o)) c.fragment-in-Bool.ensures.stays
 
 pub returns-in-Number-clause-ok : goal.returns-in-Number-clause-ok
-returns-in-Number-clause-ok c = on_leaf c.fragment-in-Number-2.result c.args.w.now c.fragment-in-Number-2.new.self _ _ _ _ _ (begin_number _ _ _ c.in-Number.is) c.fragment-in-Number.ensures.leaf (subst IsTree (sym c.fragment-in-Number.ensures.leaf) c.fragment-in-Number.ensures.is_tree) c.fragment-in-Number-2.ensures.ok c.fragment-in-Number-2.ensures.stays
+returns-in-Number-clause-ok c = on_leaf c.fragment-in-Number-2.result c.args.w.now c.fragment-in-Number-2.new.self _ _ _ _ _ (begin_number _ _ _ c.in-Number.is) c.fragment-in-Number.ensures.leaf (subst InRange (sym c.fragment-in-Number.ensures.leaf) c.fragment-in-Number.ensures.in_range) c.fragment-in-Number-2.ensures.ok c.fragment-in-Number-2.ensures.stays
 
 pub returns-in-Number-clause-ordered : goal.returns-in-Number-clause-ordered
 returns-in-Number-clause-ordered c = on_ok_weaker c.fragment-in-Number-2.result (λ _ o. (ordered_number _ _ c.in-Number.is, o)) c.fragment-in-Number-2.ensures.stays
@@ -38,20 +38,20 @@ returns-in-String-clause-ordered c = on_ok_weaker c.fragment-in-String.result (�
 
 pub returns-in-Array-clause-ok : goal.returns-in-Array-clause-ok
 returns-in-Array-clause-ok c =
-    let e : shape c.args.value.now ≡ array_shape c.in-Array.array = ap shape c.in-Array.is ∙ shape_array c.in-Array.array in
+    let e : content_of c.args.value.now ≡ array_content c.in-Array.array = ap content_of c.in-Array.is ∙ content_of_array c.in-Array.array in
     rw e c.put_array.ensures.ok
 
 pub returns-in-Array-clause-ordered : goal.returns-in-Array-clause-ordered
 returns-in-Array-clause-ordered c =
-    let e : shape c.args.value.now ≡ array_shape c.in-Array.array = ap shape c.in-Array.is ∙ shape_array c.in-Array.array in
+    let e : content_of c.args.value.now ≡ array_content c.in-Array.array = ap content_of c.in-Array.is ∙ content_of_array c.in-Array.array in
     rw e c.put_array.ensures.ordered
 
 pub returns-in-Object-clause-ok : goal.returns-in-Object-clause-ok
 returns-in-Object-clause-ok c =
-    let e : shape c.args.value.now ≡ object_shape c.in-Object.object = ap shape c.in-Object.is ∙ shape_object c.in-Object.object in
+    let e : content_of c.args.value.now ≡ object_content c.in-Object.object = ap content_of c.in-Object.is ∙ content_of_object c.in-Object.object in
     rw e c.put_object.ensures.ok
 
 pub returns-in-Object-clause-ordered : goal.returns-in-Object-clause-ordered
 returns-in-Object-clause-ordered c =
-    let e : shape c.args.value.now ≡ object_shape c.in-Object.object = ap shape c.in-Object.is ∙ shape_object c.in-Object.object in
+    let e : content_of c.args.value.now ≡ object_content c.in-Object.object = ap content_of c.in-Object.is ∙ content_of_object c.in-Object.object in
     rw e c.put_object.ensures.ordered

@@ -5,5 +5,5 @@ use Rattle.miniserde_record.proofs.record.members.UnitMembers.write.Goals as goa
 pub returns-clause-ok : goal.returns-clause-ok
 returns-clause-ok c = rw (with_names_none (map (λ n. n.now) c.args._names.now), no_text c.args._w.now.first) (sym (append-nil _))
 
-pub returns-clause-are_trees : goal.returns-clause-are_trees
-returns-clause-are_trees c = rw (with_names_none (map (λ n. n.now) c.args._names.now)) tt
+pub returns-clause-all_in_range : goal.returns-clause-all_in_range
+returns-clause-all_in_range c = rw (with_names_none (map (λ n. n.now) c.args._names.now)) tt

@@ -2,7 +2,7 @@ use Rattle.std.proofs.Common.{arith, ap, take, string_bytes, Bor}
 use Rattle.std.proofs.lemmas.List.{length-take-le}
 use Rattle.miniserde_model.specs.Tree.{Tree}
 use Rattle.miniserde_ser.proofs.Items.{took}
-use Rattle.miniserde_ser.proofs.Members.{compact_members_step, AreNamedTrees_step}
+use Rattle.miniserde_ser.proofs.Members.{compact_members_step, MembersInRange_step}
 use Rattle.miniserde_ser.proofs.ser.impls.hashed.write_entries.Goals as goal
 
 pub loop-entry-preserved : goal.loop-entry-preserved
@@ -16,7 +16,7 @@ loop-entry-preserved g c =
     let utf8 = rw c.as_str.ensures.value at c.in_ok-key.ensures.utf8 in
     rw (took entries i entry (omega arith) c.entry-item.is) (record {
       text = compact_members_step string_bytes f (take i entries) entry i c.loop-entry.w.first _ _ _ _ (length-take-le i entries (omega arith)) inv.start inv.later inv.text (ap (λ s. s.text) at) c.in_ok-begin.ensures.ok;
-      are_trees = AreNamedTrees_step string_bytes f (take i entries) entry inv.are_trees utf8 c.in_ok-begin.ensures.is_tree;
+      all_in_range = MembersInRange_step string_bytes f (take i entries) entry inv.all_in_range utf8 c.in_ok-begin.ensures.in_range;
       start = λ z. absurd (omega arith);
       later = λ _. c.in_ok-begin.ensures.first (ap (λ s. s.first) at);
       unrefused = c.in_ok-begin.ensures.unrefused;

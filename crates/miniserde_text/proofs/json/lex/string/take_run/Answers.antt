@@ -23,18 +23,18 @@ returns-clause-ok c =
     let text = c.args.text.now in
     let s = drop c.args.at text in
     let rest = drop c.in-Some.rest text in
-    let next = drop c.after_more-next.result text in
+    let next = drop c.after_unescaped-next.result text in
     let read : escape_at s ≡ Some (c.in-Some.c, rest) = grind arith in
     let pushed : string_bytes c.push.new.self ≡ string_bytes c.args.scratch.now ++ encode_utf8 c.in-Some.c = grind arith in
     let border = follows_boundary text c.in-Some.rest c.utf8.text (subst (λ x. FollowsAscii x c.in-Some.rest) c.as_bytes.ensures.value c.in-Some.ensures.follows) in
-    escape_adds _ _ _ s c.in-Some.c rest next read c.after_more-next.ensures.value (IsUtf8-drop text c.in-Some.rest c.utf8.text border)
-    (IsUtf8-drop text c.after_more-next.result c.utf8.text c.after_more-next.ensures.boundary) pushed (c.in_ok-push_run.ensures ∙ ap (λ x. string_bytes c.push.new.self ++ x) c.text_between.ensures)
+    escape_adds _ _ _ s c.in-Some.c rest next read c.after_unescaped-next.ensures.value (IsUtf8-drop text c.in-Some.rest c.utf8.text border)
+    (IsUtf8-drop text c.after_unescaped-next.result c.utf8.text c.after_unescaped-next.ensures.boundary) pushed (c.in_ok-push_run.ensures ∙ ap (λ x. string_bytes c.push.new.self ++ x) c.text_between.ensures)
 
 pub returns-clause-stops : goal.returns-clause-stops
-returns-clause-stops c = run_special (drop c.in-Some.rest c.args.text.now) _ c.after_more-next.ensures.value
+returns-clause-stops c = run_special (drop c.in-Some.rest c.args.text.now) _ c.after_unescaped-next.ensures.value
 
 pub returns-clause-shorter : goal.returns-clause-shorter
 returns-clause-shorter c =
     let text = c.args.text.now in
     let read : escape_at (drop c.args.at text) ≡ Some (c.in-Some.c, drop c.in-Some.rest text) = grind arith in
-    escape_shorter (drop c.args.at text) c.in-Some.c (drop c.in-Some.rest text) _ read c.after_more-next.ensures.value
+    escape_shorter (drop c.args.at text) c.in-Some.c (drop c.in-Some.rest text) _ read c.after_unescaped-next.ensures.value

@@ -6,36 +6,36 @@ use Rattle.std.proofs.lemmas.Result.{err_from_is_err_and}
 use Rattle.std.proofs.lemmas.Str.{encodes-append, IsUtf8-drop}
 use Rattle.miniserde_model.specs.declared.error.Error.TheVariants.{Invalid}
 use Rattle.miniserde_text.specs.private.Reading.{after_run, before, is_unescaped, FollowsAscii}
-use Rattle.miniserde_text.specs.private.Inside.{Chars, Passes}
+use Rattle.miniserde_text.specs.private.Taking.{SpellsUpToQuote, PassesCharacters}
 use Rattle.miniserde_text.proofs.Indices.{follows_boundary}
 use Rattle.miniserde_text.proofs.Strings.{run_of, run_special, quote_ends, no_chars, join_chars, run_refused, run_inside, escaped_inside, reaches_backslash}
 use Rattle.miniserde_text.proofs.json.lex.string.take_string.Goals as goal
 
 pub take_decoded-requires-clause-stops : goal.take_decoded-requires-clause-stops
-take_decoded-requires-clause-stops c = run_special (drop c.args.at c.args.text.now) (drop c.after_unescaped-tail.result c.args.text.now) c.after_unescaped-tail.ensures.value
+take_decoded-requires-clause-stops c = run_special (drop c.args.at c.args.text.now) (drop c.after_unescaped_in_lanes-tail.result c.args.text.now) c.after_unescaped_in_lanes-tail.ensures.value
 
 pub text_between-requires-clause-from : goal.text_between-requires-clause-from
 text_between-requires-clause-from c = follows_boundary c.args.text.now c.args.at c.utf8.text c.requires
 
 module _ (text : List ℕ) (at tail : ℕ) (utf8 : IsUtf8 text) (follows : FollowsAscii text at) (value : drop tail text ≡ after_run is_unescaped (drop at text)) (boundary : IsCharBoundary text tail) where
-  run : (ds : List ℕ) × Passes ds (drop at text) (drop tail text) × (before (drop at text) (drop tail text) ≡ encode_utf8_all ds)
+  run : (ds : List ℕ) × PassesCharacters ds (drop at text) (drop tail text) × (before (drop at text) (drop tail text) ≡ encode_utf8_all ds)
   run = run_of (drop at text) (drop tail text) value (IsUtf8-drop text at utf8 (follows_boundary text at utf8 follows)) (IsUtf8-drop text tail utf8 boundary)
 
 pub returns-in-34-clause-ok : goal.returns-in-34-clause-ok
 returns-in-34-clause-ok c =
     let text = c.args.text.now in
     let s = drop c.args.at text in
-    let tail = c.after_unescaped-tail in
+    let tail = c.after_unescaped_in_lanes-tail in
     let t = drop tail.result text in
     let p = run text c.args.at tail.result c.utf8.text c.requires tail.ensures.value tail.ensures.boundary in
     let at : slice_index t 0 ≡ 34 = grind arith in
-    let next : drop c.skip.result text ≡ drop 1 t = grind arith in
-    (p.0, subst (λ x. Chars p.0 s x) (sym next) (quote_ends p.0 s t p.1 at), c.text_between.ensures ∙ p.2)
+    let next : drop c.index_after.result text ≡ drop 1 t = grind arith in
+    (p.0, subst (λ x. SpellsUpToQuote p.0 s x) (sym next) (quote_ends p.0 s t p.1 at), c.text_between.ensures ∙ p.2)
 
 pub returns-in_ok-end-in-92-clause-ok : goal.returns-in_ok-end-in-92-clause-ok
 returns-in_ok-end-in-92-clause-ok c =
     let text = c.args.text.now in
-    let tail = c.after_unescaped-tail in
+    let tail = c.after_unescaped_in_lanes-tail in
     let p = run text c.args.at tail.result c.utf8.text c.requires tail.ensures.value tail.ensures.boundary in
     let q = c.in_ok-end-in-92.ensures.ok in
     (p.0 ++ q.0, join_chars p.0 q.0 (drop c.args.at text) (drop tail.result text) (drop c.in_ok-end-in-92.end text) p.1 q.1, q.2 ∙ ap (λ x. x ++ encode_utf8_all q.0) p.2 ∙ sym (encodes-append p.0 q.0))
@@ -43,7 +43,7 @@ returns-in_ok-end-in-92-clause-ok c =
 pub returns-in_err-end-in-92-clause-invalid : goal.returns-in_err-end-in-92-clause-invalid
 returns-in_err-end-in-92-clause-invalid c is cs r h =
     let text = c.args.text.now in
-    let tail = c.after_unescaped-tail in
+    let tail = c.after_unescaped_in_lanes-tail in
     let p = run text c.args.at tail.result c.utf8.text c.requires tail.ensures.value tail.ensures.boundary in
     let q = err_from_is_err_and c.from_residual.result c.from_residual.ensures.1 in
     let e : c.in_err-end-in-92.field-0.0 ≡ Invalid = cc (q.1, q.2) in
@@ -53,7 +53,7 @@ pub returns-in_default-clause-invalid : goal.returns-in_default-clause-invalid
 returns-in_default-clause-invalid c is cs r h =
     let text = c.args.text.now in
     let s = drop c.args.at text in
-    let tail = c.after_unescaped-tail in
+    let tail = c.after_unescaped_in_lanes-tail in
     let t = drop tail.result text in
     let p = run text c.args.at tail.result c.utf8.text c.requires tail.ensures.value tail.ensures.boundary in
     run_refused p.0 s t p.1 (no_chars t (run_special s t tail.ensures.value) (λ e. grind arith) (λ e. grind arith)) cs r h
@@ -61,23 +61,23 @@ returns-in_default-clause-invalid c is cs r h =
 pub returns-in-34-clause-text : goal.returns-in-34-clause-text
 returns-in-34-clause-text c =
     let text = c.args.text.now in
-    let t = drop c.after_unescaped-tail.result text in
+    let t = drop c.after_unescaped_in_lanes-tail.result text in
     let at : slice_index t 0 ≡ 34 = grind arith in
-    let next : drop c.skip.result text ≡ drop 1 t = grind arith in
-    let q = run_inside (drop c.args.at text) t c.text_between.result.now (drop c.skip.result text) c.after_unescaped-tail.ensures.value at c.text_between.ensures next in
+    let next : drop c.index_after.result text ≡ drop 1 t = grind arith in
+    let q = run_inside (drop c.args.at text) t c.text_between.result.now (drop c.index_after.result text) c.after_unescaped_in_lanes-tail.ensures.value at c.text_between.ensures next in
     (q.0, q.1, (q.2, q.3))
 
 pub returns-in_ok-end-in-92-clause-text : goal.returns-in_ok-end-in-92-clause-text
 returns-in_ok-end-in-92-clause-text c =
     let text = c.args.text.now in
-    let t = drop c.after_unescaped-tail.result text in
+    let t = drop c.after_unescaped_in_lanes-tail.result text in
     let at : slice_index t 0 ≡ 92 = grind arith in
     let q = c.in_ok-end-in-92.ensures.ok in
-    escaped_inside (drop c.args.at text) t (drop c.in_ok-end-in-92.end text) q.0 c.after_unescaped-tail.ensures.value at q.1
+    escaped_inside (drop c.args.at text) t (drop c.in_ok-end-in-92.end text) q.0 c.after_unescaped_in_lanes-tail.ensures.value at q.1
 
 pub returns-in_err-end-in-92-clause-memory : goal.returns-in_err-end-in-92-clause-memory
 returns-in_err-end-in-92-clause-memory c is =
     let text = c.args.text.now in
-    let t = drop c.after_unescaped-tail.result text in
+    let t = drop c.after_unescaped_in_lanes-tail.result text in
     let at : slice_index t 0 ≡ 92 = grind arith in
-    reaches_backslash (drop c.args.at text) t c.after_unescaped-tail.ensures.value at
+    reaches_backslash (drop c.args.at text) t c.after_unescaped_in_lanes-tail.ensures.value at

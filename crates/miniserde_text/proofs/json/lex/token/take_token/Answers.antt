@@ -5,23 +5,23 @@ use Rattle.std.proofs.lemmas.Result.{err_from_is_err_and}
 use Rattle.miniserde_model.specs.declared.error.Error.TheVariants.{Invalid, Memory}
 use Rattle.miniserde_text.specs.Lexer.{event_of_token}
 use Rattle.miniserde_text.specs.private.Reading.{token_at}
-use Rattle.miniserde_text.specs.private.Inside.{Chars, ReachesBackslash}
+use Rattle.miniserde_text.specs.private.Taking.{SpellsUpToQuote, ReachesBackslash}
 use Rattle.miniserde_text.proofs.Tokens.{string_taken, string_refused, read_taken, front_refused, read_text, keeps, string_text}
 use Rattle.miniserde_text.proofs.json.lex.token.take_token.Goals as goal
 
 pub returns-in_err-text-clause-invalid : goal.returns-in_err-text-clause-invalid
 returns-in_err-text-clause-invalid c is e r h =
     let s = drop c.args.at c.args.text.now in
-    let next : drop c.skip.result c.args.text.now ≡ drop 1 s = grind arith in
+    let next : drop c.index_after.result c.args.text.now ≡ drop 1 s = grind arith in
     let q = err_from_is_err_and c.from_residual.result c.from_residual.ensures.1 in
     let v : c.in_err-text.field-0.0 ≡ Invalid = cc (q.1, q.2) in
     let at : slice_index s 0 ≡ 34 = grind arith in
-    string_refused s at (subst (λ x. (cs r : List ℕ) → Chars cs x r → ⊥) next (c.in_err-text.ensures.invalid (ap Err v))) e r h
+    string_refused s at (subst (λ x. (cs r : List ℕ) → SpellsUpToQuote cs x r → ⊥) next (c.in_err-text.ensures.invalid (ap Err v))) e r h
 
 pub returns-in_err-text-clause-memory : goal.returns-in_err-text-clause-memory
 returns-in_err-text-clause-memory c is =
     let s = drop c.args.at c.args.text.now in
-    let next : drop c.skip.result c.args.text.now ≡ drop 1 s = grind arith in
+    let next : drop c.index_after.result c.args.text.now ≡ drop 1 s = grind arith in
     let q = err_from_is_err_and c.from_residual.result c.from_residual.ensures.1 in
     let v : c.in_err-text.field-0.0 ≡ Memory = cc (q.1, q.2) in
     let at : slice_index s 0 ≡ 34 = grind arith in
@@ -30,17 +30,17 @@ returns-in_err-text-clause-memory c is =
 pub returns-then-first-eq34-clause-ok : goal.returns-then-first-eq34-clause-ok
 returns-then-first-eq34-clause-ok c =
     let s = drop c.args.at c.args.text.now in
-    let next : drop c.skip.result c.args.text.now ≡ drop 1 s = grind arith in
+    let next : drop c.index_after.result c.args.text.now ≡ drop 1 s = grind arith in
     let at : slice_index s 0 ≡ 34 = grind arith in
     let q = c.in_ok-text.ensures.ok in
-    string_taken q.0 s _ (drop c.in_ok-text.end c.args.text.now) at (subst (λ x. Chars q.0 x (drop c.in_ok-text.end c.args.text.now)) next q.1) q.2
+    string_taken q.0 s _ (drop c.in_ok-text.end c.args.text.now) at (subst (λ x. SpellsUpToQuote q.0 x (drop c.in_ok-text.end c.args.text.now)) next q.1) q.2
 
 pub returns-then-first-eq34-clause-text : goal.returns-then-first-eq34-clause-text
 returns-then-first-eq34-clause-text c =
     let s = drop c.args.at c.args.text.now in
-    let next : drop c.skip.result c.args.text.now ≡ drop 1 s = grind arith in
+    let next : drop c.index_after.result c.args.text.now ≡ drop 1 s = grind arith in
     let at : slice_index s 0 ≡ 34 = grind arith in
-    string_text c.in_ok-text.text s (drop c.skip.result c.args.text.now) (drop c.in_ok-text.end c.args.text.now) at next c.in_ok-text.ensures.text
+    string_text c.in_ok-text.text s (drop c.index_after.result c.args.text.now) (drop c.in_ok-text.end c.args.text.now) at next c.in_ok-text.ensures.text
 
 pub returns-in-Some-clause-ok : goal.returns-in-Some-clause-ok
 returns-in-Some-clause-ok c =

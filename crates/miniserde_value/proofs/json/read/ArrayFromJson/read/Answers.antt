@@ -5,7 +5,7 @@ use Rattle.miniserde_text.specs.Lexer.{event_of_token}
 use Rattle.miniserde_read.proofs.Same.{value_same}
 use Rattle.miniserde_value.specs.Retained.{retained_tree}
 use Rattle.miniserde_value.specs.Kinds.{only_list}
-use Rattle.miniserde_value.specs.Values.{array_shape}
+use Rattle.miniserde_value.specs.Values.{array_content}
 use Rattle.miniserde_value.proofs.Openings.{no_list}
 use Rattle.miniserde_value.proofs.json.read.ArrayFromJson.read.Goals as goal
 
@@ -22,4 +22,4 @@ pub returns-in-None-clause-invalid : goal.returns-in-None-clause-invalid
 returns-in-None-clause-invalid c = λ e t r v.
     let read = c.in_ok-read_value-in-SeqStart.ensures.ok in
     let same = value_same t read.0 (event_of_token c.args.token c.args.source.now.scratch) c.args.source.now.rest r _ v read.1 in
-    ap (λ (u : Tree). only_list (Some (retained_tree u))) same.0 ∙ ap only_list read.2 ∙ sym c.into_array.ensures ∙ ap (option_map array_shape) c.in-None.is
+    ap (λ (u : Tree). only_list (Some (retained_tree u))) same.0 ∙ ap only_list read.2 ∙ sym c.into_array.ensures ∙ ap (option_map array_content) c.in-None.is

@@ -7,7 +7,7 @@ use Rattle.miniserde_model.specs.Tree.{str}
 use Rattle.std.specs.Borrow.{Bor}
 use Rattle.std.specs.Slice.Iter.{iter_rest}
 use Rattle.miniserde_value.specs.declared.json.value.Value.{Value}
-use Rattle.miniserde_value.specs.Values.{array_items, shape}
+use Rattle.miniserde_value.specs.Values.{array_items, content_of}
 use Rattle.miniserde_value.specs.Visits.{leaf, visits, list_begins, members_begin}
 use Rattle.miniserde_value.specs.Walks.{left, frames_left, due_left}
 use Rattle.miniserde_value.proofs.Walks.{begin_null, begin_bool, begin_number, begin_string, begin_array, begin_object, ordered_null, ordered_bool, ordered_number, ordered_string, ordered_array, Opened, ordered_object}
@@ -41,7 +41,7 @@ returns-in-String-clause-ordered c = λ o. (ordered_string _ _ c.in-String.is, o
 pub returns-in_ok-push_array-in-Array-clause-left : goal.returns-in_ok-push_array-in-Array-clause-left
 returns-in_ok-push_array-in-Array-clause-left c =
     let items : iter_rest c.iter.result ≡ array_items c.in-Array.array = c.iter.ensures.rest ∙ c.deref.ensures.value ∙ ap (λ (v : Vec Value Global). v.items) c.inner.ensures in
-    ap (λ (d : Option (Bor Value)). visits (shape c.args.value.now) (due_left d (frames_left c.args.self.now.frames))) c.requires
+    ap (λ (d : Option (Bor Value)). visits (content_of c.args.value.now) (due_left d (frames_left c.args.self.now.frames))) c.requires
     ∙ begin_array c.args.value.now _ c.iter.result _ (frames_left c.push_array.new.self) c.in-Array.is items c.in_ok-push_array-in-Array.ensures.left
     ∙ ap (λ (d : Option (Bor Value)). list_begins ∷ due_left d (frames_left c.push_array.new.self)) (sym c.requires)
 
@@ -52,7 +52,7 @@ returns-in_ok-push_array-in-Array-clause-ordered c =
 
 pub returns-in_ok-push_object-in-Object-clause-left : goal.returns-in_ok-push_object-in-Object-clause-left
 returns-in_ok-push_object-in-Object-clause-left c =
-    ap (λ (d : Option (Bor Value)). visits (shape c.args.value.now) (due_left d (frames_left c.args.self.now.frames))) c.requires
+    ap (λ (d : Option (Bor Value)). visits (content_of c.args.value.now) (due_left d (frames_left c.args.self.now.frames))) c.requires
     ∙ begin_object c.args.value.now _ c.iter-in-Object.result _ (frames_left c.push_object.new.self) c.in-Object.is (search rules) c.in_ok-push_object-in-Object.ensures.left
     ∙ ap (λ (d : Option (Bor Value)). members_begin ∷ due_left d (frames_left c.push_object.new.self)) (sym c.requires)
 

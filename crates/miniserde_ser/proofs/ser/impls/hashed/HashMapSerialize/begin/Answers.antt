@@ -17,5 +17,5 @@ in_order_of g c =
 pub returns-clause-ok : goal.returns-clause-ok
 returns-clause-ok g c = rw (in_order_of g c) at c.write_entries.ensures.ok
 
-pub returns-clause-is_tree : goal.returns-clause-is_tree
-returns-clause-is_tree g c = rw (in_order_of g c) at c.write_entries.ensures.is_tree
+pub returns-clause-in_range : goal.returns-clause-in_range
+returns-clause-in_range g c = rw (in_order_of g c) at c.write_entries.ensures.in_range

@@ -1,7 +1,7 @@
 use Rattle.std.proofs.Common.{◌≡◌, ◌∷◌, [], rules, arith, ap, length, length-append, map}
 use Rattle.std.specs.Map.Iter.{deref_pair}
 use Rattle.std.proofs.lemmas.List.{map-append, length-map}
-use Rattle.miniserde_ser.proofs.Members.{compact_members_step, AreNamedTrees_step}
+use Rattle.miniserde_ser.proofs.Members.{compact_members_step, MembersInRange_step}
 use Rattle.miniserde_ser.proofs.ser.impls.maps.BTreeMapSerialize.begin.Goals as goal
 
 pub loop-key-preserved : goal.loop-key-preserved
@@ -15,7 +15,7 @@ loop-key-preserved g c =
     let utf8 = rw named at c.in_ok-key.ensures.utf8 in
     rw (map-append deref_pair done ((c.in-Some.key, c.in-Some.value) ∷ [])) (record {
       text = compact_members_step text f (map deref_pair done) (c.in-Some.key.now, c.in-Some.value.now) (length done) c.loop-key.w.first _ _ _ _ (length-map done deref_pair) inv.start inv.later inv.text (ap (λ s. s.text) at) c.in_ok-begin.ensures.ok;
-      are_trees = AreNamedTrees_step text f (map deref_pair done) (c.in-Some.key.now, c.in-Some.value.now) inv.are_trees utf8 c.in_ok-begin.ensures.is_tree;
+      all_in_range = MembersInRange_step text f (map deref_pair done) (c.in-Some.key.now, c.in-Some.value.now) inv.all_in_range utf8 c.in_ok-begin.ensures.in_range;
       start = λ z. absurd (omega (arith, length-append done ((c.in-Some.key, c.in-Some.value) ∷ []), z));
       later = λ _. c.in_ok-begin.ensures.first (ap (λ s. s.first) at);
       unrefused = c.in_ok-begin.ensures.unrefused;

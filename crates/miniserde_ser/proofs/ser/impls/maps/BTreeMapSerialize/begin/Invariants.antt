@@ -1,14 +1,14 @@
 use Rattle.std.proofs.Common.{◌≡◌, ◌++◌, [], ◌∷◌, false, true, ◌<◌, length, map}
 use Rattle.std.specs.Map.Iter.{deref_pair}
 use Rattle.miniserde_model.specs.Compact.{compact_members}
-use Rattle.miniserde_model.specs.IsTree.{AreNamedTrees}
+use Rattle.miniserde_model.specs.InRange.{MembersInRange}
 use Rattle.miniserde_ser.specs.Trees.{members_of}
 use Rattle.miniserde_ser.proofs.ser.impls.maps.BTreeMapSerialize.begin.Given as goal
 
 abbrev pub invariant-loop-key : goal.invariant-loop-key
 invariant-loop-key g l = record {
   text : l.w.text ≡ (l.fn.w.text ++ 123 ∷ []) ++ compact_members (members_of g.K.MapKey.text g.V.Serialize.tree (map deref_pair l.yielded));
-  are_trees : AreNamedTrees (members_of g.K.MapKey.text g.V.Serialize.tree (map deref_pair l.yielded));
+  all_in_range : MembersInRange (members_of g.K.MapKey.text g.V.Serialize.tree (map deref_pair l.yielded));
   start : length l.yielded ≡ 0 → l.w.first ≡ true;
   later : 0 < length l.yielded → l.w.first ≡ false;
   unrefused : l.w.refused ≡ false;

@@ -1,6 +1,6 @@
 use Rattle.std.proofs.Common.{◌∷◌, [], arith, ap, length-append, map}
 use Rattle.std.proofs.lemmas.List.{map-append, length-map}
-use Rattle.miniserde_ser.proofs.Items.{compact_children_turn, AreTrees-snoc}
+use Rattle.miniserde_ser.proofs.Items.{compact_children_turn, AllInRange-snoc}
 use Rattle.miniserde_ser.proofs.ser.impls.sequences.VecDequeSerialize.begin.Goals as goal
 
 pub loop-x-preserved : goal.loop-x-preserved
@@ -12,7 +12,7 @@ loop-x-preserved g c =
     let e = c.in_ok-element.ensures.ok in
     rw (map-append (λ x. x.now) done (c.in-Some.x ∷ [])) (record {
       text = compact_children_turn f so_far c.in-Some.x.now _ c.loop-x.w.first _ _ _ _ (length-map done (λ x. x.now)) inv.start inv.later inv.text (ap (λ s. s.text) e) c.in_ok-begin.ensures.ok;
-      are_trees = AreTrees-snoc f so_far c.in-Some.x.now inv.are_trees c.in_ok-begin.ensures.is_tree;
+      all_in_range = AllInRange-snoc f so_far c.in-Some.x.now inv.all_in_range c.in_ok-begin.ensures.in_range;
       start = λ z. absurd (omega (arith, length-append done (c.in-Some.x ∷ []), z));
       later = λ _. c.in_ok-begin.ensures.first (ap (λ s. s.first) e);
       unrefused = c.in_ok-begin.ensures.unrefused;

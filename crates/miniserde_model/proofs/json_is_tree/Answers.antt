@@ -1,5 +1,0 @@
-use Rattle.miniserde_model.proofs.Accepted.{json_tree}
-use Rattle.miniserde_model.proofs.json_is_tree.Goals as goal
-
-pub returns : goal.returns
-returns c = json_tree

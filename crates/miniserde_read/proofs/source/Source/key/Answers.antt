@@ -1,7 +1,0 @@
-use Rattle.std.proofs.Common.{sym, ap, subst, ◌∙◌}
-use Rattle.miniserde_model.specs.Lexing.{Names}
-use Rattle.miniserde_read.proofs.source.Source.key.Goals as goal
-
-pub returns-clause-invalid : goal.returns-clause-invalid
-returns-clause-invalid c = λ e k n r p.
-    c.name.ensures.invalid e (ap (λ v. v.refused) c.self.view_is ∙ k) n r (subst (λ z. Names z n r) (sym (ap (λ v. v.rest) c.self.view_is)) p)

@@ -1,0 +1,6 @@
+use Rattle.std.proofs.Common.{arith}
+use Rattle.miniserde_text.proofs.Lanes.{mask_is}
+use Rattle.miniserde_text.proofs.scan.specials_of_thirty_two.Goals as goal
+
+pub returns : goal.returns
+returns c = mask_is 32 c.args.v (omega arith) c.fits-v.0

@@ -1,0 +1,76 @@
+-- The marks of a builder still fit its values and open objects after a call that changes them. By induction over the
+-- marks from the innermost on, and by cases of whether the call fails to allocate.
+use Rattle.std.proofs.Common.{◌≡◌, ◌<◌, ◌≤◌, ℕ, suc, List, [], ◌∷◌, ◌++◌, None, Result, Ok, Err, is_ok, Vec, Global, length, take, set, get_or, reverse, refl, sym, ap, ◌∙◌, subst, arith}
+use Rattle.std.specs.Prelude.{if◌then◌else◌, OnOk, OnErr}
+use Rattle.std.proofs.lemmas.List.{length-reverse, length-take}
+use Rattle.miniserde_model.specs.Tree.{Tree}
+use Rattle.miniserde_value.specs.declared.json.value.Value.{Value}
+use Rattle.miniserde_value.specs.declared.json.builder.OpenObject.{OpenObject}
+use Rattle.miniserde_value.specs.declared.json.builder.OpenContainer.{OpenContainer}
+use Rattle.miniserde_value.specs.declared.json.builder.OpenContainer.TheVariants as container
+use Rattle.miniserde_value.specs.Hole.{Hole, complete_tree}
+use Rattle.miniserde_value.specs.Containers.{with_open_object, outer_objects, hole_of, Fits}
+use Rattle.miniserde_value.proofs.Lasts.{reverse_added, reverse_last, reverse_set, reverse_ends}
+
+-- marks that fit still fit where there are more values
+pub fits_longer : (n k : ℕ) (os : List OpenObject) (ms : List OpenContainer) → n ≤ k → Fits n os ms → Fits k os ms
+fits_longer n k os [] h f = tt
+fits_longer n k os (container.Array v ∷ ms) h f = (omega (arith, h, f.0), f.1)
+fits_longer n k os (container.Object ∷ ms) h f = (f.0, fits_longer n k (outer_objects os) ms h f.1)
+
+-- and where one more object is open
+pub fits_more : (n : ℕ) (o : OpenObject) (os : List OpenObject) (ms : List OpenContainer) → Fits n os ms → Fits n (o ∷ os) ms
+fits_more n o os [] f = tt
+fits_more n o os (container.Array v ∷ ms) f = (f.0, fits_more v o os ms f.1)
+fits_more n o [] (container.Object ∷ ms) f = absurd (omega (arith, f.0))
+fits_more n o (p ∷ os) (container.Object ∷ ms) f = (omega arith, fits_more n p os ms f.1)
+
+-- and where the innermost open object is another
+pub fits_other : (n : ℕ) (o p : OpenObject) (os : List OpenObject) (ms : List OpenContainer) → Fits n (o ∷ os) ms → Fits n (p ∷ os) ms
+fits_other n o p os [] f = tt
+fits_other n o p os (container.Array v ∷ ms) f = (f.0, fits_other v o p os ms f.1)
+fits_other n o p os (container.Object ∷ ms) f = (omega arith, f.1)
+
+-- the same, where it stands last
+pub fits_changed : (n : ℕ) (os : List OpenObject) (k : ℕ) (p : OpenObject) (ms : List OpenContainer) → length os ≡ suc k → Fits n (reverse os) ms → Fits n (reverse (set os k p)) ms
+fits_changed n os k p ms h f =
+    subst (λ (qs : List OpenObject). Fits n qs ms) (sym (reverse_set os k p h))
+    (fits_other n (get_or os k p) p (reverse (take k os)) ms (subst (λ (qs : List OpenObject). Fits n qs ms) (reverse_last os k p h) f))
+
+-- marks fit after an object was opened, whether or not there was memory for its mark
+pub fits_opened : {A E : Type 0} (r : Result A E) (n : ℕ) (os qs : List OpenObject) (o : OpenObject) (ms ns : List OpenContainer) → qs ≡ os ++ o ∷ [] → ns ≡ (if is_ok r then ms ++ container.Object ∷ [] else ms) → Fits n (reverse os) (reverse ms) → Fits n (reverse qs) (reverse ns)
+fits_opened (Ok u) n os qs o ms ns e d f =
+    subst (λ (l : List OpenObject). Fits n l (reverse ns)) (sym (reverse_added os qs o e))
+    (subst (λ (l : List OpenContainer). Fits n (o ∷ reverse os) l) (sym (reverse_added ms ns container.Object d)) (omega arith, f))
+fits_opened (Err u) n os qs o ms ns e d f =
+    subst (λ (l : List OpenObject). Fits n l (reverse ns)) (sym (reverse_added os qs o e))
+    (subst (λ (l : List OpenContainer). Fits n (o ∷ reverse os) (reverse l)) (sym d) (fits_more n o (reverse os) (reverse ms) f))
+
+-- marks fit after values were taken out, whether or not there was memory for it
+pub fits_split : {A E : Type 0} (r : Result A E) (old new : Vec Value Global) (v : ℕ) (os : List OpenObject) (ms : List OpenContainer) → OnOk r (new.items ≡ take v old.items) → OnErr r (new ≡ old) → (v ≤ length old.items) × Fits v os ms → Fits (length new.items) os ms
+fits_split (Ok u) old new v os ms a b f =
+    let same : length new.items ≡ length (take v old.items) = ap length a in
+    fits_longer v (length new.items) os ms (omega (arith, same, f.0, length-take v old.items)) f.1
+fits_split (Err u) old new v os ms a b f =
+    let same : length new.items ≡ length old.items = ap (λ (w : Vec Value Global). length w.items) b in
+    fits_longer v (length new.items) os ms (omega (arith, same, f.0)) f.1
+
+-- ---- where an object is the innermost container, it alone changes
+
+pub object_changed : (f : Hole → Hole) (vs : List Tree) (os : List OpenObject) (k : ℕ) (o p : OpenObject) (ms below : List OpenContainer) → length os ≡ suc k → o ≡ get_or os k o → reverse ms ≡ container.Object ∷ below → ((h : Hole) → with_open_object p h ≡ f (with_open_object o h)) → hole_of vs (reverse (set os k p)) (reverse ms) ≡ f (hole_of vs (reverse os) (reverse ms))
+object_changed f vs os k o p ms below len is top h =
+    ap (hole_of vs (reverse (set os k p))) top
+    ∙ ap (λ (qs : List OpenObject). hole_of vs qs (container.Object ∷ below)) (reverse_set os k p len)
+    ∙ h (hole_of vs (reverse (take k os)) below)
+    ∙ ap (λ (qs : List OpenObject). f (hole_of vs qs (container.Object ∷ below))) (sym (reverse_ends os k o o len is))
+    ∙ ap (λ (ns : List OpenContainer). f (hole_of vs (reverse os) ns)) (sym top)
+
+-- ---- the value that is whole
+
+open_has_none : (vs : List Tree) (os : List OpenObject) (ms : List OpenContainer) → 0 < length ms → None ≡ complete_tree (hole_of vs os ms)
+open_has_none vs os [] h = absurd (omega (arith, h))
+open_has_none vs os (container.Array v ∷ ms) h = refl
+open_has_none vs os (container.Object ∷ ms) h = refl
+
+pub whole_open : (vs : List Tree) (os : List OpenObject) (ms : List OpenContainer) → 0 < length ms → None ≡ complete_tree (hole_of vs os (reverse ms))
+whole_open vs os ms h = open_has_none vs os (reverse ms) (omega (arith, h, length-reverse ms))
