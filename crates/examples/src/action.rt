@@ -6,11 +6,11 @@ ghost use Rattle.miniserde.specs.Structs.{names_of, record_tree};
 ghost use Rattle.std.specs.Prelude.{codes, refl};
 
 use miniserde::derived::{
-    BesideTag, DataCase, Event, FromJson, HasTag, Inside, InsideCases, Lossless, Members,
+    BesideTag, DataCase, DataEnum, Event, FromJson, HasTag, Inside, InsideCases, Lossless, Members,
     NeverNull, NoCase, NoFields, NoSlot, OneOf, Parts, Ranged, Record, Result, RoundTrip,
-    RoundTripCases, RoundTripFields, Serialize, Slot, Slots, Source, Stable, DataEnum, Writer,
-    fields_named, read_record, read_tagged, record_lossless, record_round_trips, record_stable,
-    tag_fits, tagged_lossless, tagged_round_trips, tagged_stable, write_members, write_tagged,
+    RoundTripCases, RoundTripFields, Serialize, Slot, Slots, Source, Stable, Writer, fields_named,
+    read_record, read_tagged, record_lossless, record_round_trips, record_stable, tag_fits,
+    tagged_lossless, tagged_round_trips, tagged_stable, write_members, write_tagged,
     write_tagged_fields,
 };
 

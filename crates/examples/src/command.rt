@@ -6,9 +6,9 @@ ghost use Rattle.miniserde.specs.Structs.{names_of, record_tree};
 ghost use Rattle.std.specs.Prelude.{refl};
 
 use miniserde::derived::{
-    Cases, DataCase, Event, Fragment, FromJson, Lossless, NeverNull, NoCase, NoSlot, OneOf, Parts,
-    Ranged, Record, Result, RoundTrip, RoundTripCases, RoundTripFields, Serialize, Slot, Slots,
-    Source, Stable, DataEnum, UnitCase, Writer, enum_lossless, enum_round_trips, enum_stable,
+    Cases, DataCase, DataEnum, Event, Fragment, FromJson, Lossless, NeverNull, NoCase, NoSlot,
+    OneOf, Parts, Ranged, Record, Result, RoundTrip, RoundTripCases, RoundTripFields, Serialize,
+    Slot, Slots, Source, Stable, UnitCase, Writer, enum_lossless, enum_round_trips, enum_stable,
     read_enum, read_record, record_lossless, record_round_trips, record_stable, write_data,
     write_fields, write_members,
 };
@@ -153,8 +153,8 @@ impl DataEnum for Command {
 }
 
 impl FromJson for Command {
-    ghost means = { enum_meaning ⟦<CommandCases as Cases>⟧.meaning ⟦<Command as DataEnum>⟧.names refl
-        ⟦<Command as DataEnum>⟧.values };
+    ghost means = { enum_meaning ⟦<CommandCases as Cases>⟧.meaning ⟦<Command as DataEnum>⟧.names
+        refl ⟦<Command as DataEnum>⟧.values };
 
     fn missing() -> Option<Command> {
         None

@@ -7,10 +7,10 @@ ghost use Rattle.miniserde.specs.Tree.{nonneg};
 ghost use Rattle.std.specs.Prelude.{refl};
 
 use miniserde::derived::{
-    Cases, DataCase, Event, Fragment, FromJson, Given, Global, Lossless, MarkedSlot, NeverNull,
-    NoCase, NoSlot, Once, OneOf, Parts, Ranged, Record, Result, RoundTrip, RoundTripCases,
-    RoundTripFields, Serialize, Slot, Slots, Source, Stable, DataEnum, UnitCase, WithDefault, Writer,
-    enum_lossless, enum_round_trips, enum_stable, read_enum, read_record, record_lossless,
+    Cases, DataCase, DataEnum, Event, Fragment, FromJson, Given, Global, Lossless, MarkedSlot,
+    NeverNull, NoCase, NoSlot, Once, OneOf, Parts, Ranged, Record, Result, RoundTrip,
+    RoundTripCases, RoundTripFields, Serialize, Slot, Slots, Source, Stable, UnitCase, WithDefault,
+    Writer, enum_lossless, enum_round_trips, enum_stable, read_enum, read_record, record_lossless,
     record_round_trips, record_stable, write_data, write_fields, write_members,
 };
 

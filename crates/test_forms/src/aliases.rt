@@ -1,6 +1,7 @@
 //! Fields that are read by other names too.
 
-use crate::hosts::{Host, Only, Renewal};
+use crate::hosts::{Host, Only};
+use crate::renewals::Renewal;
 use test_tables::{Wrong, expect_prefixes_invalid, expect_read_itself};
 
 const HOSTS: &str = r#"{"name":"a","port":1} => same

@@ -2,14 +2,18 @@
 ghost use Rattle.std.specs.Prelude.{◌≡◌, ℕ, List, Option, None, Some, IfOk, Err, option_map, string_bytes, vec_len};
 ghost use Rattle.miniserde.specs.Tree.{Tree};
 ghost use Rattle.miniserde.specs.Value.{IsJson};
-ghost use Rattle.test_forms.specs.declared.plans.Change.TheVariants.{Clear, Run, Mark};
+ghost use Rattle.test_forms.specs.declared.changes.Change.TheVariants.{Clear, Run, Mark};
 ghost use Rattle.test_forms.specs.declared.plans.Plan.TheVariants.{Nothing, OneTask, Tasks, Three};
 
+use crate::changes::Change;
+use crate::commands::Command;
+use crate::entries::Entry;
 use crate::hosts::Host;
 use crate::keys::Key;
-use crate::notes::{Entry, Note};
-use crate::plans::{Change, Command, Page, Plan};
-use crate::shop::Ledger;
+use crate::ledgers::Ledger;
+use crate::notes::Note;
+use crate::pages::Page;
+use crate::plans::Plan;
 use miniserde::json::from_str;
 use miniserde::{Error, FromJson, Result, read_itself};
 use std::alloc::Global;

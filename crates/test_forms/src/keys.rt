@@ -5,9 +5,9 @@ ghost use Rattle.miniserde.specs.Structs.{names_of};
 ghost use Rattle.std.specs.Prelude.{refl};
 
 use miniserde::derived::{
-    Cases, DataCase, Event, Fragment, FromJson, Lossless, NeverNull, NoCase, OneOf, Ranged, Result,
-    RoundTrip, RoundTripCases, Serialize, Source, Stable, DataEnum, UnitCase, Writer, enum_lossless,
-    enum_round_trips, enum_stable, read_enum, write_data,
+    Cases, DataCase, DataEnum, Event, Fragment, FromJson, Lossless, NeverNull, NoCase, OneOf,
+    Ranged, Result, RoundTrip, RoundTripCases, Serialize, Source, Stable, UnitCase, Writer,
+    enum_lossless, enum_round_trips, enum_stable, read_enum, write_data,
 };
 
 /// An enum of sixteen.

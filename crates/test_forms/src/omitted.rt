@@ -1,7 +1,9 @@
 //! Fields that are not written if they are `None`.
 
-use crate::notes::{Bare, Bill, Entry, Note, Slip};
-use crate::plans::Command;
+use crate::bills::Bill;
+use crate::commands::Command;
+use crate::entries::{Entry, Slip};
+use crate::notes::{Bare, Note};
 use test_tables::{
     Wrong, expect_one_value, expect_prefixes_invalid, expect_read_again, expect_read_itself,
 };

@@ -1,8 +1,11 @@
 //! Texts of types of each form that `./derive` takes, one in another.
 
+use crate::changes::Change;
+use crate::commands::Command;
 use crate::keys::Key;
-use crate::plans::{Change, Command, Page, Plan};
-use crate::shop::Ledger;
+use crate::ledgers::Ledger;
+use crate::pages::Page;
+use crate::plans::Plan;
 use test_tables::{Wrong, expect_one_value, expect_read_again, expect_read_itself};
 
 const PLANS: &str = r#""nothing" => same

@@ -1,5 +1,5 @@
 /// A host, which earlier versions named otherwise.
-pub struct Host { // lossless
+pub struct Host { // inside, lossless
     pub name: String, // alias "host", alias "hostname"
     pub port: u16, // default 80, once, alias "p"
     pub note: Option<String>, // omit, alias "remark"
@@ -8,13 +8,4 @@ pub struct Host { // lossless
 /// A host and nothing else.
 pub struct Only { // closed, lossless
     pub host: Host, // rename "of", alias "host"
-}
-
-/// A change of hosts.
-pub enum Renewal { // tag "kind", lossless
-    Add(Host),
-    Move {
-        from: String, // alias "old"
-        to: String, // alias "new"
-    },
 }

@@ -2,17 +2,25 @@
 #![tactic(auto)]
 
 #[cfg(test)]
+mod accounts;
+#[cfg(test)]
+mod changes;
+#[cfg(test)]
 mod generic;
 #[cfg(test)]
 mod generics;
 #[cfg(test)]
 mod hosts;
 #[cfg(test)]
+mod inner;
+#[cfg(test)]
 mod jobs;
 #[cfg(test)]
-mod queues;
+mod listeners;
 #[cfg(test)]
-mod renamed;
+mod phases;
+#[cfg(test)]
+mod queues;
 #[cfg(test)]
 mod renames;
 #[cfg(test)]
@@ -21,8 +29,6 @@ mod server;
 mod stable;
 #[cfg(test)]
 mod structs;
-#[cfg(test)]
-mod tagged;
 #[cfg(test)]
 mod tags;
 #[cfg(test)]

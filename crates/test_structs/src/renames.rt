@@ -1,6 +1,7 @@
 //! Names in a style: a struct in camelCase, a unit enum in SCREAMING_SNAKE_CASE, and an enum with data in kebab-case.
 
-use crate::renamed::{Account, Change, Phase};
+use crate::accounts::{Account, Change};
+use crate::phases::Phase;
 use test_tables::{Wrong, expect_read_itself};
 
 const ACCOUNTS: &str = r#"{"userId":1,"admin":true,"htmlUrl":"u"} => same

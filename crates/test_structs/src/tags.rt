@@ -1,6 +1,7 @@
 //! Internally tagged enums: closed and generic structs beside a tag, and tagged enums in tagged enums.
 
-use crate::tagged::{Change, Inner};
+use crate::changes::Change;
+use crate::inner::Inner;
 use test_tables::{Wrong, expect_one_value, expect_prefixes_invalid, expect_read_itself};
 
 const CHANGES: &str = r#"{"type":"reset"} => same

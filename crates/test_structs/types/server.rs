@@ -1,10 +1,5 @@
+use crate::listeners::Listener;
 use std::collections::BTreeMap;
-
-/// Where a server listens.
-pub struct Listener { // lossless, stable
-    pub address: String,
-    pub port: u16,
-}
 
 /// Thirty settings of a server. An unknown name is invalid.
 pub struct Server { // closed, lossless, stable

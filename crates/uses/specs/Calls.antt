@@ -2,8 +2,8 @@
 use Rattle.std.specs.Prelude.{◌≡◌, ℕ, ◌+◌, ◌≤◌, ◌^◌}
 use Rattle.uses.specs.declared.call.Call.{Call}
 use Rattle.uses.specs.declared.call.Call.TheVariants.{Look, Add, Reset}
-use Rattle.uses.specs.declared.call.Answer.{Answer}
-use Rattle.uses.specs.declared.call.Answer.TheVariants.{Count, Full}
+use Rattle.uses.specs.declared.answer.Answer.{Answer}
+use Rattle.uses.specs.declared.answer.Answer.TheVariants.{Count, Full}
 
 -- the count that a call asks for
 abbrev pub asked : ℕ → Call → ℕ

@@ -4,7 +4,8 @@ ghost use Rattle.miniserde.specs.Tree.{Tree};
 ghost use Rattle.miniserde.specs.Value.{IsJson};
 ghost use Rattle.uses.specs.Calls.{Counted};
 
-use crate::call::{Answer, Call};
+use crate::answer::Answer;
+use crate::call::Call;
 use miniserde::json::{from_str, to_string};
 use miniserde::{Error, FromJson, Result, Serialize};
 use std::alloc::Global;
@@ -12,7 +13,7 @@ use std::alloc::Global;
 /// What answers calls.
 pub trait Handler {
     ghost use Rattle.uses.specs.declared.call.Call.{Call};
-    ghost use Rattle.uses.specs.declared.call.Answer.{Answer};
+    ghost use Rattle.uses.specs.declared.answer.Answer.{Answer};
 
     // It answers the call so, and is then as it is at the end.
     ghost Answers: { Self → Call → Answer → Self → Type 0 };

@@ -2,6 +2,7 @@
 //! keyed by values, a signed body, calls of a counter, and the field that is wrong.
 #![tactic(auto)]
 
+mod answer;
 mod bodies;
 mod cache;
 mod call;

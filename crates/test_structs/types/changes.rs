@@ -1,15 +1,10 @@
 use crate::generic::Both;
+use crate::inner::Inner;
 
 /// A name, and nothing else.
 pub struct Name { // closed, lossless, stable
     pub name: String, // once
     pub of: Option<u8>, // default
-}
-
-/// What is inside a change.
-pub enum Inner { // tag "type", lossless, stable
-    Empty,
-    Two { v: u8, types: Vec<u8> },
 }
 
 /// A change, whose tag has the name of an inner one's.

@@ -1,97 +1,17 @@
-//! The types of `renamed.rs`, with the impls that `./derive` writes.
+//! The types of `accounts.rs`, with the impls that `./derive` writes.
 ghost use Rattle.miniserde.specs.Cases.{each_case, enum_tree, first_case, later_case, any_of_never};
 ghost use Rattle.miniserde.specs.CasesMeaning.{enum_meaning};
 ghost use Rattle.miniserde.specs.FieldsMeaning.{struct_meaning};
 ghost use Rattle.miniserde.specs.Structs.{names_of, record_tree};
-ghost use Rattle.miniserde.specs.Tree.{str};
-ghost use Rattle.std.specs.Prelude.{true, List, codes, [], ◌∷◌, ⊤, refl};
+ghost use Rattle.std.specs.Prelude.{refl};
 
+use crate::phases::Phase;
 use miniserde::derived::{
-    Cases, DataCase, Event, Fragment, FromJson, Lossless, NeverNull, NoCase, NoSlot, OneOf, Parts,
-    Ranged, Record, Result, RoundTrip, RoundTripCases, RoundTripFields, Serialize, Slot, Slots,
-    Source, DataEnum, UnitCase, UnitEnum, Variants, Writer, enum_lossless, enum_round_trips,
-    read_enum, read_record, read_variant, record_lossless, record_round_trips, variant_lossless,
-    variant_round_trips, write_data, write_fields, write_members,
+    Cases, DataCase, DataEnum, Event, Fragment, FromJson, Lossless, NeverNull, NoCase, NoSlot,
+    OneOf, Parts, Ranged, Record, Result, RoundTrip, RoundTripCases, RoundTripFields, Serialize,
+    Slot, Slots, Source, UnitCase, Writer, enum_lossless, enum_round_trips, read_enum, read_record,
+    record_lossless, record_round_trips, write_data, write_fields, write_members,
 };
-
-/// How far a job is.
-#[derive(Clone, Copy, PartialEq, Eq, Debug, Drop)]
-pub enum Phase {
-    NotBegun,
-    InProgress,
-    Done,
-}
-
-impl UnitEnum for Phase {
-    ghost use Rattle.test_structs.specs.declared.renamed.Phase.TheVariants.{NotBegun, InProgress, Done};
-
-    ghost all = { NotBegun ∷ InProgress ∷ Done ∷ [] };
-
-    ghost name_of = { elim [
-      | NotBegun ↦ codes "NOT_BEGUN"
-      | InProgress ↦ codes "IN_PROGRESS"
-      | Done
-          ↦ codes "done"
-    ] };
-
-    ghost found = { elim [ NotBegun ↦ refl | InProgress ↦ refl | Done ↦ refl ] };
-
-    fn values() -> &'static [Phase] {
-        &[Phase::NotBegun, Phase::InProgress, Phase::Done]
-    }
-
-    fn name(&self) -> &'static str {
-        match self {
-            Phase::NotBegun => "NOT_BEGUN",
-            Phase::InProgress => "IN_PROGRESS",
-            Phase::Done => "done",
-        }
-    }
-}
-
-impl FromJson for Phase {
-    ghost means = { ⟦<Phase as Variants>⟧.meaning };
-
-    ghost read_infallible = { true };
-
-    fn missing() -> Option<Phase> {
-        None
-    }
-
-    fn read<'a>(token: Event<'a>, source: &mut Source<'a>) -> Result<Phase> {
-        read_variant(token, source)
-    }
-}
-
-impl Serialize for Phase {
-    ghost tree = { λ v. str (⟦<Phase as UnitEnum>⟧.name_of v) };
-
-    fn begin(&self, w: &mut Writer) -> Result<()> {
-        w.fragment(Fragment::Str(self.name()))
-    }
-}
-
-impl Ranged for Phase {
-    ghost real = { λ _. ⊤ };
-
-    fn ranged(&self) {}
-}
-
-impl RoundTrip for Phase {
-    fn round_trips() {
-        variant_round_trips::<Phase>()
-    }
-}
-
-impl Lossless for Phase {
-    fn lossless() {
-        variant_lossless::<Phase>()
-    }
-}
-
-impl NeverNull for Phase {
-    fn never_null() {}
-}
 
 /// An account of a site.
 #[derive(Drop)]
@@ -107,7 +27,7 @@ type AccountFields = Slot<u64, Slot<bool, Slot<Option<String>, NoSlot>>>;
 const ACCOUNT_NAMES: &[&str] = &["userId", "admin", "htmlUrl"];
 
 impl Record for Account {
-    ghost use Rattle.test_structs.specs.declared.renamed.TheConstants.{ACCOUNT_NAMES};
+    ghost use Rattle.test_structs.specs.declared.accounts.TheConstants.{ACCOUNT_NAMES};
 
     type Values = <AccountFields as Slots>::Values;
 
@@ -202,7 +122,7 @@ type ChangeJobPhaseFields = Slot<u64, Slot<Phase, NoSlot>>;
 const CHANGE_JOB_PHASE_NAMES: &[&str] = &["job_id", "new_phase"];
 
 impl Record for ChangeJobPhase {
-    ghost use Rattle.test_structs.specs.declared.renamed.TheConstants.{CHANGE_JOB_PHASE_NAMES};
+    ghost use Rattle.test_structs.specs.declared.accounts.TheConstants.{CHANGE_JOB_PHASE_NAMES};
 
     type Values = <ChangeJobPhaseFields as Slots>::Values;
 
@@ -292,8 +212,8 @@ type ChangeCases = UnitCase<
 const CHANGE_NAMES: &[&str] = &["signed-out", "new-url", "seen-at", "job-phase"];
 
 impl DataEnum for Change {
-    ghost use Rattle.test_structs.specs.declared.renamed.TheConstants.{CHANGE_NAMES};
-    ghost use Rattle.test_structs.specs.declared.renamed.Change.TheVariants.{SignedOut, NewUrl, SeenAt, JobPhase};
+    ghost use Rattle.test_structs.specs.declared.accounts.TheConstants.{CHANGE_NAMES};
+    ghost use Rattle.test_structs.specs.declared.accounts.Change.TheVariants.{SignedOut, NewUrl, SeenAt, JobPhase};
 
     type Values = <ChangeCases as Cases>::Values;
 

@@ -1,9 +1,4 @@
-/// How far a job is.
-pub enum Phase { // rename_all "SCREAMING_SNAKE_CASE", lossless
-    NotBegun,
-    InProgress,
-    Done, // rename "done"
-}
+use crate::phases::Phase;
 
 /// An account of a site.
 pub struct Account { // lossless, rename_all "camelCase"

@@ -1,0 +1,323 @@
+//! The types of `commands.rs`, with the impls that `./derive` writes.
+ghost use Rattle.miniserde.specs.Cases.{each_case, enum_tree, first_case, later_case, any_of_never};
+ghost use Rattle.miniserde.specs.CasesMeaning.{enum_meaning};
+ghost use Rattle.miniserde.specs.FieldsMeaning.{struct_meaning};
+ghost use Rattle.miniserde.specs.Structs.{names_of, record_tree};
+ghost use Rattle.std.specs.Prelude.{refl};
+
+use miniserde::derived::{
+    BesideTag, Cases, DataCase, DataEnum, Event, Fragment, FromJson, HasTag, Inside, Lossless,
+    Members, NeverNull, NoCase, NoSlot, OneOf, Parts, Ranged, Record, Result, RoundTrip,
+    RoundTripCases, RoundTripFields, Serialize, Slot, Slots, Source, Stable, UnitCase, Writer,
+    enum_lossless, enum_round_trips, enum_stable, fields_named, read_enum, read_record,
+    record_lossless, record_round_trips, record_stable, write_data, write_fields, write_members,
+};
+
+/// The fields of `Command::Move`.
+#[derive(Drop)]
+pub struct CommandMove {
+    pub x: i64,
+    pub y: i64,
+}
+
+// Its fields, and their names.
+type CommandMoveFields = Slot<i64, Slot<i64, NoSlot>>;
+
+const COMMAND_MOVE_NAMES: &[&str] = &["x", "y"];
+
+impl Record for CommandMove {
+    ghost use Rattle.test_forms.specs.declared.commands.TheConstants.{COMMAND_MOVE_NAMES};
+
+    type Values = <CommandMoveFields as Slots>::Values;
+
+    ghost names = { names_of COMMAND_MOVE_NAMES };
+
+    ghost values = { λ v. (v.x, (v.y, tt)) };
+
+    ghost made = { λ x. record { x = x.0; y = x.1.0 } };
+
+    ghost bijective = { (λ v. refl, λ x. refl) };
+
+    ghost distinct_names = { refl };
+
+    fn names() -> &'static [&'static str] {
+        COMMAND_MOVE_NAMES
+    }
+
+    fn build(parts: Self::Values) -> CommandMove {
+        let Parts(x, Parts(y, ())) = parts;
+        CommandMove { x, y }
+    }
+}
+
+impl FromJson for CommandMove {
+    ghost means = { struct_meaning ⟦<CommandMoveFields as Slots>⟧.meaning ⟦<CommandMove as Record>⟧.names ⟦<CommandMove as Record>⟧.values };
+
+    fn missing() -> Option<CommandMove> {
+        None
+    }
+
+    fn read<'a>(token: Event<'a>, source: &mut Source<'a>) -> Result<CommandMove> {
+        read_record::<CommandMove, CommandMoveFields>(token, source)
+    }
+}
+
+impl Serialize for CommandMove {
+    ghost tree = { record_tree ⟦<CommandMove as Record>⟧.names ⟦<CommandMoveFields as RoundTripFields>⟧.trees ⟦<CommandMove as Record>⟧.values };
+
+    fn begin(&self, w: &mut Writer) -> Result<()> {
+        write_members(w, COMMAND_MOVE_NAMES, &Parts(&self.x, Parts(&self.y, ())))
+    }
+}
+
+impl Ranged for CommandMove {
+    ghost real = { λ v. ⟦<CommandMoveFields as RoundTripFields>⟧.real (⟦<CommandMove as Record>⟧.values v) };
+
+    fn ranged(&self) {
+        self.x.ranged();
+        self.y.ranged();
+    }
+}
+
+impl RoundTrip for CommandMove {
+    fn round_trips() {
+        record_round_trips::<CommandMove, CommandMoveFields>()
+    }
+}
+
+impl Lossless for CommandMove {
+    fn lossless() {
+        record_lossless::<CommandMove, CommandMoveFields>()
+    }
+}
+
+impl NeverNull for CommandMove {
+    fn never_null() {}
+}
+
+impl Stable for CommandMove {
+    fn stable() {
+        record_stable::<CommandMove, CommandMoveFields>()
+    }
+}
+
+/// What a machine is told.
+#[derive(Drop)]
+pub enum Command {
+    Ping,
+    Text(String),
+    Move { x: i64, y: i64 },
+}
+
+// Its variants, and their names.
+type CommandCases = UnitCase<DataCase<String, DataCase<CommandMove, NoCase>>>;
+
+const COMMAND_NAMES: &[&str] = &["Ping", "Text", "Move"];
+
+impl DataEnum for Command {
+    ghost use Rattle.test_forms.specs.declared.commands.TheConstants.{COMMAND_NAMES};
+    ghost use Rattle.test_forms.specs.declared.commands.Command.TheVariants.{Ping, Text, Move};
+
+    type Values = <CommandCases as Cases>::Values;
+
+    ghost names = { names_of COMMAND_NAMES };
+
+    ghost values = { elim [
+      | Ping ↦ first_case tt
+      | Text x0 ↦ later_case (first_case x0)
+      | Move x0 x1
+          ↦ later_case (later_case (first_case (record { x = x0; y = x1 })))
+    ] };
+
+    ghost bijective = { each_case _ (λ x. (Ping, refl)) (each_case _ (λ x. (Text x, refl))
+        (each_case _ (λ x. (Move x.x x.y, refl)) (any_of_never _))) };
+
+    ghost distinct_names = { refl };
+
+    fn names() -> &'static [&'static str] {
+        COMMAND_NAMES
+    }
+
+    fn build(value: Self::Values) -> Command {
+        match value {
+            OneOf::First(()) => Command::Ping,
+            OneOf::Later(value) => match value {
+                OneOf::First(a) => Command::Text(a),
+                OneOf::Later(value) => match value {
+                    OneOf::First(CommandMove { x, y }) => Command::Move { x, y },
+                    OneOf::Later(value) => match value {},
+                },
+            },
+        }
+    }
+}
+
+impl FromJson for Command {
+    ghost means = { enum_meaning ⟦<CommandCases as Cases>⟧.meaning ⟦<Command as DataEnum>⟧.names
+        refl ⟦<Command as DataEnum>⟧.values };
+
+    fn missing() -> Option<Command> {
+        None
+    }
+
+    fn read<'a>(token: Event<'a>, source: &mut Source<'a>) -> Result<Command> {
+        read_enum::<Command, CommandCases>(token, source)
+    }
+}
+
+impl Serialize for Command {
+    ghost tree = { enum_tree ⟦<Command as DataEnum>⟧.names ⟦<CommandCases as RoundTripCases>⟧.tree
+        ⟦<Command as DataEnum>⟧.values };
+
+    fn begin(&self, w: &mut Writer) -> Result<()> {
+        match self {
+            Command::Ping => w.fragment(Fragment::Str("Ping")),
+            Command::Text(a) => write_data(w, "Text", a),
+            Command::Move { x, y } => {
+                write_fields(w, "Move", COMMAND_MOVE_NAMES, &Parts(x, Parts(y, ())))
+            },
+        }
+    }
+}
+
+impl Ranged for Command {
+    ghost real = { λ v. ⟦<CommandCases as RoundTripCases>⟧.real (⟦<Command as DataEnum>⟧.values v) };
+
+    fn ranged(&self) {
+        match self {
+            Command::Ping => {}
+            Command::Text(a) => a.ranged(),
+            Command::Move { x, y } => {
+                x.ranged();
+                y.ranged();
+            },
+        }
+    }
+}
+
+impl RoundTrip for Command {
+    fn round_trips() {
+        enum_round_trips::<Command, CommandCases>()
+    }
+}
+
+impl Lossless for Command {
+    fn lossless() {
+        enum_lossless::<Command, CommandCases>()
+    }
+}
+
+impl NeverNull for Command {
+    fn never_null() {}
+}
+
+impl Stable for Command {
+    fn stable() {
+        enum_stable::<Command, CommandCases>()
+    }
+}
+
+/// A command with its name: an enum in a struct.
+#[derive(Drop)]
+pub struct Task {
+    pub name: String,
+    pub command: Command,
+}
+
+// Its fields, and their names.
+type TaskFields = Slot<String, Slot<Command, NoSlot>>;
+
+const TASK_NAMES: &[&str] = &["task", "command"];
+
+impl Record for Task {
+    ghost use Rattle.test_forms.specs.declared.commands.TheConstants.{TASK_NAMES};
+
+    type Values = <TaskFields as Slots>::Values;
+
+    ghost names = { names_of TASK_NAMES };
+
+    ghost values = { λ v. (v.name, (v.command, tt)) };
+
+    ghost made = { λ x. record { name = x.0; command = x.1.0 } };
+
+    ghost bijective = { (λ v. refl, λ x. refl) };
+
+    ghost distinct_names = { refl };
+
+    fn names() -> &'static [&'static str] {
+        TASK_NAMES
+    }
+
+    fn build(parts: Self::Values) -> Task {
+        let Parts(name, Parts(command, ())) = parts;
+        Task { name, command }
+    }
+}
+
+impl FromJson for Task {
+    ghost means = { struct_meaning ⟦<TaskFields as Slots>⟧.meaning ⟦<Task as Record>⟧.names ⟦<Task as Record>⟧.values };
+
+    fn missing() -> Option<Task> {
+        None
+    }
+
+    fn read<'a>(token: Event<'a>, source: &mut Source<'a>) -> Result<Task> {
+        read_record::<Task, TaskFields>(token, source)
+    }
+}
+
+impl Serialize for Task {
+    ghost tree = { record_tree ⟦<Task as Record>⟧.names ⟦<TaskFields as RoundTripFields>⟧.trees
+        ⟦<Task as Record>⟧.values };
+
+    fn begin(&self, w: &mut Writer) -> Result<()> {
+        write_members(w, TASK_NAMES, &Parts(&self.name, Parts(&self.command, ())))
+    }
+}
+
+impl Ranged for Task {
+    ghost real = { λ v. ⟦<TaskFields as RoundTripFields>⟧.real (⟦<Task as Record>⟧.values v) };
+
+    fn ranged(&self) {
+        self.name.ranged();
+        self.command.ranged();
+    }
+}
+
+impl RoundTrip for Task {
+    fn round_trips() {
+        record_round_trips::<Task, TaskFields>()
+    }
+}
+
+impl Lossless for Task {
+    fn lossless() {
+        record_lossless::<Task, TaskFields>()
+    }
+}
+
+impl NeverNull for Task {
+    fn never_null() {}
+}
+
+impl Stable for Task {
+    fn stable() {
+        record_stable::<Task, TaskFields>()
+    }
+}
+
+impl Inside for Task {
+    ghost fields = { ⟦<Task as Record>⟧.names };
+
+    fn read_inside<'a, E: HasTag>(token: Event<'a>, source: &mut Source<'a>) -> Result<Task> {
+        read_record::<Task, BesideTag<E, TaskFields>>(token, source)
+    }
+
+    fn write_inside(&self, w: &mut Writer) -> Result<()> {
+        Members::write(&Parts(&self.name, Parts(&self.command, ())), w, TASK_NAMES)
+    }
+
+    fn is_object() {
+        fields_named()
+    }
+}
