@@ -5,7 +5,7 @@ use Rattle.miniserde_model.specs.Step.{Step}
 use Rattle.miniserde_model.specs.Position.{Position, Completes}
 use Rattle.miniserde_model.specs.declared.kind.Kind.{Kind}
 use Rattle.miniserde_model.specs.private.Reading.{Moment}
-use Rattle.miniserde_text.specs.private.Moving.{IsLive}
+use Rattle.miniserde_text.specs.private.Moving.{MomentFits}
 use Rattle.miniserde_read.specs.private.Runs.{Consumes, NeverRuns}
 use Rattle.miniserde_read.proofs.Consumes.{Consumes-none, Consumes-append}
 use Rattle.miniserde_place.specs.Place.{PositionAdvances, PositionRejects}
@@ -35,7 +35,7 @@ Moved-append m st s at k n su u a l m' st' s' at' k' p q = record {
   spellable = λ es h. subst (λ z. Spellable m z st) (sym (append_assoc p.done q.done es)) (p.spellable (q.done ++ es) (q.spellable es h));
 }
 
-pub Moved-none : {C : Type 0} (m : Moment) (st : List Kind) (s : List ℕ) (at : Position) (k : List Step → Option C) → IsLive m st → Moved m st s at k m st s at k
+pub Moved-none : {C : Type 0} (m : Moment) (st : List Kind) (s : List ℕ) (at : Position) (k : List Step → Option C) → MomentFits m st → Moved m st s at k m st s at k
 Moved-none m st s at k l = record { done = []; passed = Consumes-none m st s l; advances = λ rest h. (refl, refl); spellable = λ es h. h }
 
 pub moved_one : {C : Type 0} (m : Moment) (st : List Kind) (s : List ℕ) (at : Position) (k : List Step → Option C) (e : Step) (m' : Moment) (st' : List Kind) (s' : List ℕ) (at' : Position) (k' : List Step → Option C) → Consumes m st s (e ∷ []) m' st' s' → ((es : List Step) → Spellable m' es st' → Spellable m (e ∷ es) st) → PositionAdvances at k e at' k' → Moved m st s at k m' st' s' at' k'

@@ -16,7 +16,7 @@ use Rattle.miniserde_text.specs.Lexer.{event_of_token}
 use Rattle.miniserde_text.specs.declared.json.lex.Event as lexed
 use Rattle.miniserde_text.specs.declared.json.lex.Event.TheVariants as variant
 use Rattle.miniserde_text.specs.private.Stack.{with_opened, innermost, outer}
-use Rattle.miniserde_text.specs.private.Moving.{opened_kind, before_child, IsLive}
+use Rattle.miniserde_text.specs.private.Moving.{opened_kind, before_child, MomentFits}
 use Rattle.miniserde_text.proofs.Stacks.{split_top}
 use Rattle.miniserde_text.proofs.Starting.{front, passes_start}
 use Rattle.miniserde_place.specs.private.Runs.{Spellable}
@@ -74,7 +74,7 @@ inside_unfinished true (c ∷ st) k h = tt
 inside_unfinished false (c ∷ st) k h = tt
 
 -- what is unfinished can be completed, and by no fewer than one event
-pub more_to_come : (m : Moment) (st : List Kind) → IsLive m st → Unfinished m st → (e : Step) × (rest : List Step) × Spellable m (e ∷ rest) st
+pub more_to_come : (m : Moment) (st : List Kind) → MomentFits m st → Unfinished m st → (e : Step) × (rest : List Step) × Spellable m (e ∷ rest) st
 more_to_come after [] l u = absurd u
 more_to_come after (k ∷ st) l u = let r = closers st in (finish, r.0, with_finish k false st r.0 r.1)
 more_to_come due st l u = let r = closers st in (step.null, r.0, (codes "null" ++ r.1.0, front [] (codes "null") r.1.0 tt refl r.1.1))

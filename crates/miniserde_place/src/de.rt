@@ -48,9 +48,9 @@ pub trait Visitor: Drop {
         ensures memory { IfErr result (λ r. r ≡ Error.Memory) }
         ensures infallible { begin_infallible ≡ true → IsOk result };
 
-    /// Takes one event. Returns `Invalid` if no value of the type has the event here, `Memory` if an allocation
-    /// fails, and the first error of the place if there is one. An implementation returns each error through
-    /// `refuse`.
+    /// Takes one event. Returns `Invalid` only if no value of the type has the event here; a place may take such
+    /// an event too, and fail at a later one or in `take`. Returns `Memory` if an allocation fails, and the first
+    /// error of the place if there is one. The place keeps each error that it returns, as `refuse` does.
     fn step(&mut self, event: Step<'_>) -> Result<()>
         requires { EventInRange (event_of event) }
         ensures takes { Takes (meaning.view self.old) (event_of event.entry) result (meaning.view self.new) }

@@ -8,7 +8,7 @@ use Rattle.miniserde_model.specs.declared.kind.Kind.{Kind}
 use Rattle.miniserde_model.specs.declared.kind.Kind.TheVariants.{Seq, Map}
 use Rattle.miniserde_model.specs.private.Reading.{Moment, due, after}
 use Rattle.miniserde_text.specs.private.Stack.{with_opened, innermost, outer}
-use Rattle.miniserde_text.specs.private.Moving.{opened_kind, before_child, IsLive}
+use Rattle.miniserde_text.specs.private.Moving.{opened_kind, before_child, MomentFits}
 use Rattle.miniserde_text.proofs.Stacks.{split_top}
 use Rattle.miniserde_read.specs.private.Runs.{Runs, Consumes, Reaches, NeverRuns}
 use Rattle.miniserde_text.proofs.Starting.{live_at, same_start, same_name}
@@ -143,7 +143,7 @@ Consumes-append m st s es n su u fs m' st' s' p q = record {
 }
 
 -- no event
-pub Consumes-none : (m : Moment) (st : List Kind) (s : List ℕ) → IsLive m st → Consumes m st s [] m st s
+pub Consumes-none : (m : Moment) (st : List Kind) (s : List ℕ) → MomentFits m st → Consumes m st s [] m st s
 Consumes-none m st s l = record { on = λ es r h. h; back = λ es r h. (es, refl, h); live = l }
 
 pub Reaches-one : (m : Moment) (st : List Kind) (s : List ℕ) (e : Step) (m' : Moment) (st' : List Kind) (s' : List ℕ) → Consumes m st s (e ∷ []) m' st' s' → Reaches m st s m' st' s'
@@ -157,7 +157,7 @@ pub ends_behind : (m : Moment) (st : List Kind) (s : List ℕ) (m' : Moment) (st
 ends_behind m st s m' st' s' p n es r h = let a = p.passed.back es r h in n a.0 r a.2
 
 -- where e opens the only container
-pub live_opened : (e : Step) → IsLive (before_child (is_some (opened_kind e))) (with_opened (opened_kind e) [])
+pub live_opened : (e : Step) → MomentFits (before_child (is_some (opened_kind e))) (with_opened (opened_kind e) [])
 live_opened e = live_at (opened_kind e) []
 
 -- the first event of a value

@@ -13,12 +13,12 @@ use Rattle.std.specs.Option.{MatchOption}
 use Rattle.std.specs.List.{IsDistinct}
 use Rattle.std.specs.List.Sorted.{IsStrictlySortedBy, IsPermutation}
 use Rattle.std.proofs.lemmas.List.Sorted.{IsPermutation-sym, IsPermutation-map}
-use Rattle.std.proofs.lemmas.Map.MapContent.{none_below_head}
+use Rattle.std.proofs.lemmas.Map.Entries.{none_below_head}
 use Rattle.std.proofs.lemmas.Map.{none_passes_from_lookup}
 use Rattle.std.proofs.lemmas.Map.Keys.{IsDistinct-IsPermutation, sorted_tail}
 use Rattle.miniserde_keys.specs.Keys.{Key}
 use Rattle.miniserde_read.specs.types.Maps.{MapContent, entry_at, present_key_or, with_entry, map_content}
-use Rattle.miniserde_read.proofs.MapContent.{same_code, same, none-at, at-permuted}
+use Rattle.miniserde_read.proofs.Entries.{same_code, same, none-at, at-permuted}
 use Rattle.miniserde_text.proofs.Equal.{bytes_eq-flips}
 
 module _ {K V C : Type 0} (code : Key → Key) (content : K → Key) (value : V → C) where

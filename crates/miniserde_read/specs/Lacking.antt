@@ -26,7 +26,8 @@ abbrev pub EscapedAmong : ℕ → Bool → List ℕ → Type 0
 EscapedAmong zero first s = ⊥
 EscapedAmong (suc n) first s = EscapedElement first s ⊎ ((d : List ℕ) × AnElement first s d × EscapedAmong n false d)
 
--- from s to r stand elements, at least one and at most n, with a comma before each that is not the first
+-- from s to r stand elements, at least one and at most n, each with a comma before it; the first of them has none
+-- if `first` says that it is the first one of its list
 abbrev pub SomeElements : ℕ → Bool → List ℕ → List ℕ → Type 0
 SomeElements zero first s r = ⊥
 SomeElements (suc n) first s r = AnElement first s r ⊎ ((d : List ℕ) × AnElement first s d × SomeElements n false d r)

@@ -12,7 +12,7 @@ use Rattle.miniserde_model.specs.Tree.{Tree, members, Members, no_members, membe
 use Rattle.miniserde_model.specs.Normal.{text_cmp, with_if_absent_by, with_if_absent, norm, norm_members}
 use Rattle.miniserde_keys.specs.Keys.{Key}
 use Rattle.miniserde_read.specs.types.Objects.{Name}
-use Rattle.miniserde_read.specs.types.Maps.{key_at, first_and_last, first_and_last_at, AllAccepted, MapContent, no_key, map_of}
+use Rattle.miniserde_read.specs.types.Maps.{key_at, first_and_last, first_and_last_at, AllAccepted, MapContent, no_entries, map_of}
 use Rattle.miniserde_read.specs.laws.Maps.{given_at, taken-given, met-taken, map-taken}
 use Rattle.miniserde_stable.specs.Stable.{IsStable}
 use Rattle.miniserde_stable.proofs.Types.{stable-by}
@@ -107,7 +107,7 @@ module _ {C : Type 0} (read : Name → Option Key) (code : Key → Key) (of : Tr
 
   members-stay : (ms : Members) (c : MapContent C) → map_of read code of (members ms) ≡ Some c → map_of read code of (members (norm_members ms)) ≡ Some c
   members-stay ms c e =
-      let taken = taken-given read code of no_key c ms e in
+      let taken = taken-given read code of no_entries c ms e in
       let same : (λ q. given_at of None (first_and_last_at read code q (norm_members ms))) ≡ (λ q. given_at of None (first_and_last_at read code q ms)) = λ i q. (ap (given_at of None) (met_normal read code one_name q ms) ∙ given_normal (first_and_last_at read code q ms) (λ p f. met-taken read code of q ms p taken f)) i in
       map-taken read code of (norm_members ms) (taken_normal ms taken) ∙ ap Some same ∙ sym (map-taken read code of ms taken) ∙ e
 

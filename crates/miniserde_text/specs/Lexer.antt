@@ -6,7 +6,7 @@ use Rattle.miniserde_model.specs.Whitespace.{IsWhitespace}
 use Rattle.miniserde_model.specs.Value.{Between}
 use Rattle.miniserde_model.specs.Step.{boolean, string, negative, nonnegative, float, seq, map}
 use Rattle.miniserde_model.specs.Step as step
-use Rattle.miniserde_model.specs.LexerView.{Stands, BeforeColon}
+use Rattle.miniserde_model.specs.Lexing.{Stands, BeforeColon}
 use Rattle.miniserde_model.specs.declared.error.Error.{Error}
 use Rattle.miniserde_text.specs.declared.json.lex.Text.{Text}
 use Rattle.miniserde_text.specs.declared.json.lex.Text.TheVariants.{Input, Scratch}

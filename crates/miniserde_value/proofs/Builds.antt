@@ -14,7 +14,7 @@ use Rattle.miniserde_model.specs.declared.kind.Kind.TheVariants as kind
 use Rattle.miniserde_text.specs.declared.json.lex.Event as token
 use Rattle.miniserde_text.specs.declared.json.lex.Event.TheVariants as variant
 use Rattle.miniserde_text.specs.private.Stack.{with_opened, outer, innermost as innermost_kind}
-use Rattle.miniserde_text.specs.private.Moving.{opened_kind, before_child, IsLive}
+use Rattle.miniserde_text.specs.private.Moving.{opened_kind, before_child, MomentFits}
 use Rattle.miniserde_read.specs.Rest.{ValueAt}
 use Rattle.miniserde_read.specs.private.Runs.{Runs, Consumes, NeverRuns}
 use Rattle.miniserde_read.proofs.Consumes.{Consumes-none, Consumes-append, close_passed, element_passed, key_passed, value_passed, live_opened}
@@ -202,7 +202,7 @@ repeat_gives once h s b n u k f i q p w l es r g =
 pub builds_init : (once : Bool) (e : Step) (h : Hole) (f : Bool) (s : List ℕ) → f ≡ is_some (opened_kind e) → after_begin e (outside []) ≡ Some h → Builds once (before_child (is_some (opened_kind e))) h s (before_child f) h s
 builds_init once e h f s q b =
     subst (λ z. Builds once (before_child (is_some (opened_kind e))) h s (before_child z) h s) (sym q)
-    (record { done = []; passed = Consumes-none (before_child (is_some (opened_kind e))) (kinds h) s (subst (λ z. IsLive (before_child (is_some (opened_kind e))) z) (sym (kinds_begun e (outside []) h b)) (live_opened e)); makes = λ es. refl; repeats_none = λ es. refl })
+    (record { done = []; passed = Consumes-none (before_child (is_some (opened_kind e))) (kinds h) s (subst (λ z. MomentFits (before_child (is_some (opened_kind e))) z) (sym (kinds_begun e (outside []) h b)) (live_opened e)); makes = λ es. refl; repeats_none = λ es. refl })
 
 -- no container is left open
 pub read_ok : (once : Bool) (x : token.Event) (scratch s s' : List ℕ) (h : Hole) (f : Bool) (g : Hole) → after_begin (event_of_token x scratch) (outside []) ≡ Some h → innermost g ≡ None → Builds once (before_child (is_some (opened_kind (event_of_token x scratch)))) h s (before_child f) g s' → (t : Tree) × ValueAt t (event_of_token x scratch) s s' × (complete_tree g ≡ Some (retained_tree t)) × (complete_tree g ≡ retained_if once t)

@@ -71,10 +71,10 @@ impl<C: Collect> ContainerPlace<C> {
                 self.stage = Stage::Between;
                 Ok(())
             }
-            Stage::Between => self.step_between_children(event),
+            Stage::Between => self.begin_child_or_end(event),
             Stage::Child => {
                 self.collector.join()?;
-                self.step_between_children(event)
+                self.begin_child_or_end(event)
             }
             Stage::Done => Err(Error::Invalid),
             Stage::Refused(error) => Err(error),
@@ -83,7 +83,7 @@ impl<C: Collect> ContainerPlace<C> {
 
     // Takes an event between two children: begins the next child, or ends the container. Returns `Invalid` if the
     // event does neither, or if the container does not allow it, and `Memory` if an allocation fails.
-    fn step_between_children(&mut self, event: Step<'_>) -> Result<()>
+    fn begin_child_or_end(&mut self, event: Step<'_>) -> Result<()>
         ensures advances { IfOk result (λ _.
             Advances (view_between C.collector_meaning self.old.collector) (event_of event.entry) (container_view C.collector_meaning self.new)) }
         ensures unrefused { IfOk result (λ _. (container_view C.collector_meaning self.new).refused ≡ None) }

@@ -6,7 +6,7 @@ use Rattle.miniserde_model.specs.declared.kind.Kind.{Kind}
 use Rattle.miniserde_model.specs.declared.kind.Kind.TheVariants.{Seq, Map}
 use Rattle.miniserde_model.specs.private.Reading.{Moment, due, first, after}
 use Rattle.miniserde_text.specs.private.Stack.{with_opened}
-use Rattle.miniserde_text.specs.private.Moving.{opened_kind, before_child, IsLive}
+use Rattle.miniserde_text.specs.private.Moving.{opened_kind, before_child, MomentFits}
 
 -- from the moment on, inside the open containers st, the text from s to r spells the events, after
 -- which no container is open
@@ -27,7 +27,7 @@ Runs _ _ _ _ _ = ⊥
 pub record Consumes (m : Moment) (st : List Kind) (s : List ℕ) (done : List Step) (m' : Moment) (st' : List Kind) (s' : List ℕ) : Type 0 where
   pub on : (es : List Step) (r : List ℕ) → Runs m' es st' s' r → Runs m (done ++ es) st s r
   pub back : (es : List Step) (r : List ℕ) → Runs m es st s r → (rest : List Step) × (es ≡ done ++ rest) × Runs m' rest st' s' r
-  pub live : IsLive m' st'
+  pub live : MomentFits m' st'
 
 -- the text from s to s' spells some events, and leads from m inside st to m' inside st'
 -- (`Consumes`)

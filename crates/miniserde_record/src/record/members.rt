@@ -15,8 +15,9 @@ pub trait Members {
     // The tree of each value, in their order, or none for a value that is not written.
     ghost trees: { Self → List (Option Tree) };
 
-    /// Appends a member for each value, whose name is the one at the value's index in `names`. An
-    /// `Omitted` that is `None` has no member. Returns `Memory` if the writer fails.
+    /// Appends a member for each value, whose name is the one at the value's index in `names`. Values
+    /// beyond the last name have no member, and neither has an `Omitted` that is `None`. Returns
+    /// `Memory` if the writer fails.
     fn write(&self, w: &mut Writer, names: &[&str]) -> Result<()>
         ensures ok { OnOk result (w.new.text ≡ w.old.text
             ++ members_text w.old.first (with_names (map (λ n. n.now) names.now) (trees self.now))) }

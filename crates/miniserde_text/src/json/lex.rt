@@ -7,7 +7,7 @@ ghost use Rattle.std.specs.Prelude.{◌≡◌, ◌≤◌, length, List, ℕ, Boo
 ghost use Rattle.std.specs.String.{string_bytes};
 ghost use Rattle.miniserde_model.specs.Whitespace.{IsWhitespace};
 ghost use Rattle.miniserde_model.specs.Step as punctuation;
-ghost use Rattle.miniserde_model.specs.LexerView.{Starts, Names, Follows};
+ghost use Rattle.miniserde_model.specs.Lexing.{Starts, Names, Follows};
 ghost use Rattle.miniserde_text.specs.Lexer.{event_of_token, text_of, is_close, EventStandsFor, NameStandsFor, Blank};
 ghost use Rattle.miniserde_text.specs.Lexer.{LeavesScratch, EventLeavesScratch, BeginsEscaped};
 ghost use Rattle.miniserde_model.specs.declared.error.Error.{Error};

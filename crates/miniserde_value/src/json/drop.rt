@@ -56,8 +56,8 @@ fn replace_first(value: &mut Value, parent: Value, looks: &mut Looks) -> Value
     }
 }
 
-/// Drops a value without recursion. Counts in `looks` how often a value was looked at, and how many values were
-/// dropped. Allocates nothing.
+/// Drops a value without recursion. Counts in `looks` one look for the value, one each time a value is to be taken
+/// out of a container, and each dropped value. Tests whether a value is bare are not counted. Allocates nothing.
 pub fn counted(value: Value, looks: &mut Looks)
     ensures released { looks.new.released ≡ looks.old.released + value_size value }
     ensures at_least { looks.old.visited + value_size value ≤ looks.new.visited }
@@ -69,6 +69,8 @@ pub fn counted(value: Value, looks: &mut Looks)
         None => return drop_bare(current, looks),
         Some(last) => last,
     };
+    // `hand` was taken out of `current`. If both have children, `current` is put where the first child of `hand` was,
+    // and that child is the next `hand`: a parent waits inside its child, so no stack is needed.
     loop {
         if is_bare(&hand) {
             drop_bare(hand, looks);

@@ -8,13 +8,13 @@ use Rattle.miniserde_place.specs.Stage.{stage_view}
 use Rattle.miniserde_place.proofs.de.container.ContainerPlace.step_between_children.Goals as goal
 
 pub returns-in-Between-clause-rejects : goal.returns-in-Between-clause-rejects
-returns-in-Between-clause-rejects g c = rw c.in-Between.is (λ e n. c.step_between_children.ensures.rejects e)
+returns-in-Between-clause-rejects g c = rw c.in-Between.is (λ e n. c.begin_child_or_end.ensures.rejects e)
 
 pub returns-in_ok-join-in-Child-clause-advances : goal.returns-in_ok-join-in-Child-clause-advances
 returns-in_ok-join-in-Child-clause-advances g c =
     let k = g.C.Collect.collector_meaning in
     let q = k.child c.args.self.now.collector in
-    let t = stage_view k c.step_between_children-in-Child.new.self.stage c.step_between_children-in-Child.new.self.collector in
+    let t = stage_view k c.begin_child_or_end-in-Child.new.self.stage c.begin_child_or_end-in-Child.new.self.collector in
     let s = k.state c.join.new.self in
     let p = c.requires.complete c.in-Child.is in
-    rw c.in-Child.is (IfOk-weaker c.step_between_children-in-Child.result (λ _. PositionAdvances (1, false) (between_children k.rules s) (event_of c.args.event) t.at t.outcome) (λ _. PositionAdvances (position_in_container q.at) (inside_child k.rules q.outcome q.at) (event_of c.args.event) t.at t.outcome) (λ _ l. PositionAdvances-join k.rules q.at q.outcome s (event_of c.args.event) t.at t.outcome p c.in_ok-join-in-Child.ensures.joined l) c.step_between_children-in-Child.ensures.advances)
+    rw c.in-Child.is (IfOk-weaker c.begin_child_or_end-in-Child.result (λ _. PositionAdvances (1, false) (between_children k.rules s) (event_of c.args.event) t.at t.outcome) (λ _. PositionAdvances (position_in_container q.at) (inside_child k.rules q.outcome q.at) (event_of c.args.event) t.at t.outcome) (λ _ l. PositionAdvances-join k.rules q.at q.outcome s (event_of c.args.event) t.at t.outcome p c.in_ok-join-in-Child.ensures.joined l) c.begin_child_or_end-in-Child.ensures.advances)

@@ -15,8 +15,8 @@ last c =
     let both : s ≡ w ++ drop (length w) s = (starts_is Decides-eqb s w c.starts_with.result is).0 c.if-starts_with.true in
     front_reads 0 s w _ both (length w - 1) (omega arith)
 
-pub skip-requires-clause-there : goal.skip-requires-clause-there
-skip-requires-clause-there c = omega (arith, last c)
+pub index_after-requires-clause-there : goal.index_after-requires-clause-there
+index_after-requires-clause-there c = omega (arith, last c)
 
-pub skip-requires-clause-ascii : goal.skip-requires-clause-ascii
-skip-requires-clause-ascii c = omega (arith, last c)
+pub index_after-requires-clause-ascii : goal.index_after-requires-clause-ascii
+index_after-requires-clause-ascii c = omega (arith, last c)

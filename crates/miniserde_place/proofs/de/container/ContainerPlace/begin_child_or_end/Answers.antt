@@ -3,7 +3,7 @@ use Rattle.std.proofs.lemmas.Result.{err_from_is_err_and}
 use Rattle.miniserde_read.specs.Events.{event_of}
 use Rattle.miniserde_place.specs.Container.{BeginsChild}
 use Rattle.miniserde_place.specs.laws.Container.{PositionAdvances-begin, PositionRejects-begin}
-use Rattle.miniserde_place.proofs.de.container.ContainerPlace.step_between_children.Goals as goal
+use Rattle.miniserde_place.proofs.de.container.ContainerPlace.begin_child_or_end.Goals as goal
 
 pub returns-in_ok-begin_child-in-Element-clause-advances : goal.returns-in_ok-begin_child-in-Element-clause-advances
 returns-in_ok-begin_child-in-Element-clause-advances g c =
