@@ -47,7 +47,7 @@ pub use Rattle.miniserde_place.specs.Stage
 pub use Rattle.miniserde_de.specs.Fed
 pub use Rattle.miniserde_de.specs.PlaceMeanings
 pub use Rattle.miniserde_de.specs.FieldPlaces
-pub use Rattle.miniserde_de.specs.Kinds as PlaceKinds
+pub use Rattle.miniserde_de.specs.DocumentMeanings as DocumentTypes
 pub use Rattle.miniserde_de.specs.Places
 pub use Rattle.miniserde_de.specs.Tied
 pub use Rattle.miniserde_ser.specs.Fragment

@@ -72,6 +72,9 @@ IfSilent (Err Memory) p = p
 IfSilent (Err Read) p = p
 IfSilent (Err Write) p = ⊤
 
+-- `old` and `new` are the bytes that a writer has before and after, if they are known. If `old` is `None`, nothing is
+-- said of `new`.
+
 -- `new` is `old` with a prefix of bs appended
 abbrev pub AppendsPart : Option (List ℕ) → Option (List ℕ) → List ℕ → Type 0
 AppendsPart old new bs = (front : List ℕ) × (rest : List ℕ) × (bs ≡ front ++ rest) × Appends old new front

@@ -21,8 +21,8 @@ event_of step.Map = map
 event_of (step.Key k) = key k.now
 event_of step.Finish = finish
 
--- if the event is a number, a tree can have it: with a minus it is at most 0, and a number text is no integer in
--- range
+-- An event of a text: an integer that is written with a minus is at most 0, and the text of a `float` is a number
+-- (RFC 8259, section 6) that is no integer from -2^63 to 2^64-1. Rust's types have the bounds of the integers.
 abbrev pub EventInRange : model.Step → Type 0
 EventInRange (negative n) = n ≤ℤ pos 0
 EventInRange (float x) = IsNumber x (num x)

@@ -185,39 +185,39 @@ fn put_text(value: &str, out: &mut String)
     }
 }
 
-// Returns whether `out` has room for the text and `marks` more bytes, even if each byte of the text is escaped as
+// Returns whether `out` has room for the text and `extra` more bytes, even if each byte of the text is escaped as
 // six.
 #[inline(always)]
-fn has_ample_room(value: &str, marks: usize, out: &String) -> bool
+fn has_ample_room(value: &str, extra: usize, out: &String) -> bool
     ensures { result ≡ true
-        → string_len out.now + length (escapes value.now) + marks ≤ string_capacity out.now }
+        → string_len out.now + length (escapes value.now) + extra ≤ string_capacity out.now }
 {
     let free = out.capacity() - out.len();
-    marks <= free && value.len() <= (free - marks) / 6
+    extra <= free && value.len() <= (free - extra) / 6
 }
 
-// Counts the bytes of the escaped text, and reserves room for them and `marks` more bytes. Fails if that allocation
+// Counts the bytes of the escaped text, and reserves room for them and `extra` more bytes. Fails if that allocation
 // fails.
-fn grow(value: &str, marks: usize, out: &mut String) -> result::Result<(), AllocError>
-    ensures { MakesRoom out.old (length (escapes value.now) + marks) result out.new }
+fn grow(value: &str, extra: usize, out: &mut String) -> result::Result<(), AllocError>
+    ensures { MakesRoom out.old (length (escapes value.now) + extra) result out.new }
 {
     let Some(len) = escaped_len(value) else {
         // No memory holds so long a text.
         return Err(AllocError);
     };
-    out.reserve(len.saturating_add(marks))
+    out.reserve(len.saturating_add(extra))
 }
 
-// Reserves room for the escaped text and `marks` more bytes, and fails if that allocation fails. The bytes of the
+// Reserves room for the escaped text and `extra` more bytes, and fails if that allocation fails. The bytes of the
 // escaped text are counted only if `has_ample_room` returns `false`.
 #[inline(always)]
-fn make_room(value: &str, marks: usize, out: &mut String) -> result::Result<(), AllocError>
-    ensures { MakesRoom out.old (length (escapes value.now) + marks) result out.new }
+fn make_room(value: &str, extra: usize, out: &mut String) -> result::Result<(), AllocError>
+    ensures { MakesRoom out.old (length (escapes value.now) + extra) result out.new }
 {
-    if has_ample_room(value, marks, out) {
+    if has_ample_room(value, extra, out) {
         Ok(())
     } else {
-        grow(value, marks, out)
+        grow(value, extra, out)
     }
 }
 
@@ -239,7 +239,7 @@ fn put_name_start(first: bool, out: &mut String)
 // Returns how many bytes the punctuation of a member takes: two quotes, a colon, and a comma unless the member is the
 // first.
 #[inline(always)]
-fn marks_of(first: bool) -> usize
+fn punctuation_len(first: bool) -> usize
     ensures { result ≡ (if first then 3 else 4) }
 {
     if first { 3 } else { 4 }
@@ -254,7 +254,7 @@ pub fn put_name(first: bool, name: &str, out: &mut String) -> Result<()>
         ((if first then [] else codes ",") ++ string_text name.now ++ codes ":") result out.new }
     ensures memory { OnErr result (IsErrOf result Memory) }
 {
-    make_room(name, marks_of(first), out)?;
+    make_room(name, punctuation_len(first), out)?;
     put_name_start(first, out);
     put_text(name, out);
     out.push_str("\":").unwrap();

@@ -52,7 +52,7 @@ IsBare v = children v ≡ []
 
 -- ---- the tree of a value
 
--- one step of `shape`: the tree of one level of a value, whose parts are trees already
+-- one step of `content_of`: the tree of one level of a value, whose parts are trees already
 abbrev pub content_step : Value-F Tree Trees Members → Tree
 content_step Value-F.Null = null
 content_step (Value-F.Bool b) = truth b
@@ -61,12 +61,12 @@ content_step (Value-F.String s) = str (string_bytes s)
 content_step (Value-F.Array ts) = list ts
 content_step (Value-F.Object ms) = members ms
 
--- one step of `shape`: the children of a list, from one level of an array, whose items are trees
+-- one step of `content_of`: the children of a list, from one level of an array, whose items are trees
 -- already
 abbrev pub array_step : Array-F Tree Trees Members → Trees
 array_step a = trees_of (λ t. t) a.items.items
 
--- one step of `shape`: the members, from one level of an object, whose values are trees already
+-- one step of `content_of`: the members, from one level of an object, whose values are trees already
 abbrev pub object_step : Object-F Tree Trees Members → Members
 object_step o = members_of string_bytes (λ t. t) o.members.entries
 

@@ -210,8 +210,9 @@ impl Builder {
         Ok(())
     }
 
-    /// Takes the first event of a value. Returns whether it opens a container. Returns `Invalid` for an event that
-    /// begins no value, and `Memory` if an allocation fails.
+    /// Takes the first event of a value, which goes to the innermost open container. If that is an object, call
+    /// `name` before it: a value without a name is dropped. Returns whether the event opens a container. Returns
+    /// `Invalid` for an event that begins no value, and `Memory` if an allocation fails.
     #[inline(always)]
     pub fn begin(&mut self, event: Step<'_>) -> Result<bool>
         requires { EventInRange (event_of event) }

@@ -16,7 +16,8 @@ enum Part<P, Q> {
     Second(Q),
 }
 
-/// The collector of a pair: its parts so far, and the place of the current part.
+/// The collector of a pair: its parts so far, and the place of the current part. If there is no current part, a
+/// contract sees a place whose first error is `Invalid`, so `step` and `refuse` return `Invalid`.
 #[derive(Drop)]
 pub struct PairOf<P, A, Q, B> {
     first: Option<A>,

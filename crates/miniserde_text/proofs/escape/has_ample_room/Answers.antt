@@ -3,7 +3,7 @@ use Rattle.std.proofs.lemmas.Bool.{leb-true}
 use Rattle.miniserde_text.proofs.Escaping.{length_escapes_six}
 use Rattle.miniserde_text.proofs.escape.has_ample_room.Goals as goal
 
-pub returns-then-marks-free : goal.returns-then-marks-free
-returns-then-marks-free c = λ ample.
+pub returns-then-extra-free : goal.returns-then-extra-free
+returns-then-extra-free c = λ ample.
     let few = leb-true _ _ ample in
-    omega (arith, few, c.if-marks-free.true, c.capacity.ensures, c.len.ensures, length_escapes_six c.args.value.now)
+    omega (arith, few, c.if-extra-free.true, c.capacity.ensures, c.len.ensures, length_escapes_six c.args.value.now)

@@ -25,5 +25,5 @@ pub returns-in_err-make_room-clause-appends : goal.returns-in_err-make_room-clau
 returns-in_err-make_room-clause-appends c =
     let out = c.args.out.now in
     let full = c.in_err-make_room.ensures.room in
-    let lacks : string_capacity out < string_len out + length (if◌then◌else◌ {A = List ℕ} c.args.first [] (44 ∷ []) ++ string_text c.args.name.now ++ 58 ∷ []) = omega (arith, full, length_name c.args.first c.args.name.now, c.marks_of.ensures) in
+    let lacks : string_capacity out < string_len out + length (if◌then◌else◌ {A = List ℕ} c.args.first [] (44 ∷ []) ++ string_text c.args.name.now ++ 58 ∷ []) = omega (arith, full, length_name c.args.first c.args.name.now, c.punctuation_len.ensures) in
     search (rules, lacks)
