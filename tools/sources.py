@@ -69,7 +69,7 @@ class Impl:
 STARTS = re.compile(r"(pub|fn|impl|trait|struct|enum|type|mod|use|ghost|const|static|final)\b")
 NAMED = re.compile(r"(pub(?:\([a-z ]+\))? )?(?:final )?(?:unsafe )?(fn|trait|struct|enum|type|mod|const|static) (\w+)")
 USED = re.compile(r"(pub(?:\([a-z ]+\))? )?use (.*);$")
-GHOST_USED = re.compile(r"ghost use Rattle\.(\w+)\.specs\.([\w.]+?)(?:\.\{(.*)\}| as (\w+));")
+SPECS_USED = re.compile(r"(?:pub |ghost )?use Rattle\.(\w+)\.specs\.([\w.]+?)(?:\.\{(.*)\}| as (\w+))?;?$")
 STRING = re.compile(r'"(?:[^"\\]|\\.)*"')
 
 
@@ -177,6 +177,13 @@ def named_in(text):
 
 
 # ---- reading the crates
+
+
+def named_again():
+    """Returns the files of definitions that `miniserde` names again, by their names there: each a crate and a file."""
+    lines = (ROOT / "crates" / USER / "specs/Lib.antt").read_text().splitlines()
+    found = filter(None, map(SPECS_USED.match, lines))
+    return {it[4] or it[2].split(".")[-1]: (it[1], it[2]) for it in found}
 
 
 class Sources:
