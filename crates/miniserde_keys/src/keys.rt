@@ -34,8 +34,8 @@ pub trait MapKey: Ranged + Sized + Eq + Drop {
     // Whether `from_key` never returns `Memory`.
     ghost from_key_infallible: { Bool } = { false };
 
-    /// Reads a key from the name of a member. Returns `Invalid` if the name is no key of the type, and `Memory` if an
-    /// allocation fails.
+    /// Reads a key from the name of a member. Fails if the name is no key of the type, or if an allocation fails.
+    /// Returns `Invalid` only if the name is no key.
     fn from_key(alloc: Global, k: &str) -> Result<Self>
         ensures value { IfOk result (λ v. read k.now ≡ Some (content v)) }
         ensures invalid { result ≡ Err Error.Invalid → read k.now ≡ None }

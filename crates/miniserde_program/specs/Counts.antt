@@ -6,8 +6,8 @@ use Rattle.miniserde_program.specs.declared.canon.counted.Counted.{Counted}
 abbrev pub inner_of : {T : Type 0} → Counted T → T
 inner_of c = c.inner
 
--- how many calls of the reader or writer failed; a write that takes none of its bytes counts as
--- failed
+-- how many calls of the reader or writer failed: reads, writes and flushes; a write that takes none
+-- of its bytes counts as failed, unless it has none
 abbrev pub failures : {T : Type 0} → Counted T → ℕ
 failures c = c.failed.value
 

@@ -56,7 +56,7 @@ write_faults (Err Memory) = 0
 write_faults (Err Read) = 0
 write_faults (Err Write) = 1
 
--- p holds if the result says that the reader was read to its end
+-- p holds if the result says that the reader was read to its end, which `Memory` and `Read` leave open
 abbrev pub IfRead : {T : Type 0} → Result T Fault → Type 0 → Type 0
 IfRead (Ok x) p = p
 IfRead (Err Invalid) p = p
@@ -64,7 +64,7 @@ IfRead (Err Memory) p = ⊤
 IfRead (Err Read) p = ⊤
 IfRead (Err Write) p = p
 
--- p holds if the result says that nothing was written
+-- p holds if the result says that nothing was written: it is `Invalid`, `Memory` or `Read`
 abbrev pub IfSilent : {T : Type 0} → Result T Fault → Type 0 → Type 0
 IfSilent (Ok x) p = ⊤
 IfSilent (Err Invalid) p = p
@@ -72,8 +72,8 @@ IfSilent (Err Memory) p = p
 IfSilent (Err Read) p = p
 IfSilent (Err Write) p = ⊤
 
--- `old` and `new` are the bytes that a writer has before and after, if they are known. If `old` is `None`, nothing is
--- said of `new`.
+-- Below, `old` and `new` are the bytes that a writer has before and after, or `None` if its type does not tell them to
+-- a contract. If `old` is `None`, nothing is said of `new`.
 
 -- `new` is `old` with a prefix of bs appended
 abbrev pub AppendsPart : Option (List ℕ) → Option (List ℕ) → List ℕ → Type 0
@@ -123,8 +123,9 @@ line_of (Err Write) = codes "canon: write failed"
 
 -- The effects of a run with the result `answer`: on what the reader has left and its failures, and
 -- on what is written, the writer's failures and flushes. Each name with a prime is the state after
--- the run, and without one before it. `is` relates an input to its output; `none` holds of an input
--- without an output.
+-- the run, and without one before it. `left` and `written` are `None` if the type of the reader or
+-- the writer does not tell them to a contract. `is` relates an input to its output; `none` holds of an
+-- input without an output.
 pub record RunEffects {T : Type 0} (is : List ℕ → List ℕ → Type 0) (none : List ℕ → Type 0) (answer : Result T Fault) (left left' : Option (List ℕ)) (read_failures read_failures' : ℕ) (written written' : Option (List ℕ)) (write_failures write_failures' flushes flushes' : ℕ) : Type 0 where
   pub ok : OnOk answer (IfSome left (AppendsBy is written written'))
   pub flushed : OnOk answer (flushes' ≡ flushes + 1)

@@ -106,9 +106,9 @@ pub fn run_unique<R: Read, W: Write>(
     write_out(text, w)
 }
 
-/// Runs the program by its arguments: `run` without any, and `run_unique` for `--unique`. Returns the exit status,
-/// and the line for standard error, which is empty after success. For other arguments it calls neither, and returns 2
-/// and the usage.
+/// Runs the program by `args`, the words after the program's name: `run` without any, and `run_unique` for `--unique`
+/// alone. Returns the exit status, and the line for standard error, which is empty after success. For other arguments
+/// it calls neither, and returns 2 and the usage.
 pub fn program<R: Read, W: Write>(
     alloc: Global,
     args: &[String],
@@ -210,7 +210,7 @@ fn text_of(bytes: &[u8]) -> Result<&str, Fault>
 }
 
 /// Writes the text to `w`, and flushes `w` once. Returns `Write` if a write or the flush fails, or
-/// if a write takes no byte.
+/// if a write takes no byte. After a write that failed it does not flush.
 fn write_out<W: Write>(text: String, w: &mut Counted<W>) -> Result<(), Fault>
     ensures ok { OnOk result (Appends (W.contents (inner_of w.old)) (W.contents (inner_of w.new)) (string_bytes text)) }
     ensures flushed { OnOk result (flushes w.new ≡ flushes w.old + 1) }

@@ -1,4 +1,4 @@
--- Stable types: the normal form of a tree gives the content that the tree gives.
+-- Stable types: if a tree gives a content, its normal form gives the same content.
 use Rattle.std.specs.Prelude.{◌≡◌, Option, Some}
 use Rattle.miniserde_model.specs.Tree.{Tree}
 use Rattle.miniserde_model.specs.Normal.{norm}

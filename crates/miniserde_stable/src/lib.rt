@@ -1,5 +1,5 @@
-//! The trait `Stable` of types for which the normal form of a tree means what the tree means, for std's types. The
-//! same is promised of structs in `miniserde_record`, and of enums in `miniserde_enum`.
+//! The trait `Stable` of types for which a tree that means a value and its normal form mean the same value, for std's
+//! types. The same is promised of structs in `miniserde_record`, and of enums in `miniserde_enum`.
 #![tactic(auto)]
 
 mod exact;

@@ -1,4 +1,4 @@
-//! The trait `Stable` of types for which the normal form of a tree means what the tree means.
+//! The trait `Stable` of types for which a tree that means a value and its normal form mean the same value.
 ghost use Rattle.std.specs.Prelude.{◌≡◌, pos, Some, None};
 ghost use Rattle.miniserde_model.specs.Tree.{Tree, neg};
 ghost use Rattle.miniserde_model.specs.Normal.{norm};

@@ -47,8 +47,8 @@ is_close after.Next = false
 abbrev pub HasBackslash : List ℕ → Type 0
 HasBackslash x = (a b : List ℕ) × (x ≡ a ++ 92 ∷ b)
 
--- The text of a string is as the bytes `inside` its quotes demand: borrowed, and then equal to
--- them, if they contain no backslash, and decoded if they contain one.
+-- The text of a string fits the bytes `inside` its quotes: if it is borrowed, it equals them, and
+-- they contain no backslash; if it is decoded, they contain one.
 abbrev pub StandsFor : Text → List ℕ → Type 0
 StandsFor (Input x) inside = (inside ≡ x.now) × (HasBackslash inside → ⊥)
 StandsFor Scratch inside = HasBackslash inside
@@ -64,13 +64,14 @@ EventStandsFor _ s r = ⊤
 abbrev pub NameStandsFor : Text → List ℕ → List ℕ → Type 0
 NameStandsFor t s r = Stands (BeforeColon (Between 34 (StandsFor t) 34)) s r
 
--- if the text is borrowed, the scratch text `new` equals `old`, and so does its capacity
+-- if the text is borrowed, the scratch texts `old` and `new`, each a `String` with its capacity,
+-- are equal
 abbrev pub LeavesScratch : {S : Type 0} → Text → S → S → Type 0
 LeavesScratch (Input x) old new = new ≡ old
 LeavesScratch Scratch old new = ⊤
 
--- unless the token is a string that was decoded, the scratch text `new` equals `old`, and so does
--- its capacity
+-- unless the token is a string that was decoded, the scratch texts `old` and `new`, each a `String`
+-- with its capacity, are equal
 abbrev pub EventLeavesScratch : {S : Type 0} → Event → S → S → Type 0
 EventLeavesScratch (event.Str t) old new = LeavesScratch t old new
 EventLeavesScratch _ old new = new ≡ old

@@ -26,6 +26,7 @@ pub fn put_digits(n: u64, out: &mut String)
     let mut digits = [b'0'; 40];
     let start = write_digits(n, &mut digits, LONGEST);
     let len = out.len() + (LONGEST - start);
+    // The digits end at index 20. The copy takes them, and of the zeros after them as many as make 20 bytes.
     let copied = unsafe { str::from_utf8_unchecked(&digits[start..start + LONGEST]) };
     out.push_str(copied).unwrap();
     out.truncate(len);

@@ -1,5 +1,5 @@
-//! Writes texts as JSON strings by the escape rule: each control character, quote and backslash is escaped in its
-//! shortest form, and every other byte stands for itself.
+//! Writes texts as JSON strings by the escape rule: each byte below 0x20, quote and backslash is escaped in its
+//! shortest form, and every other byte stands for itself. A plain byte is one that is not escaped.
 ghost use Rattle.std.specs.Prelude.{◌≡◌, ◌≢◌, ℕ, ◌+◌, ◌/◌, ◌%◌, ◌^◌, ◌<◌, ◌≤◌, [], ◌∷◌, ◌++◌, length, true, false};
 ghost use Rattle.std.specs.Prelude.{codes, if◌then◌else◌, ◌-◌, take, drop, slice_index, OnOk, OnErr, IfSome, IfNone, IsErrOf, string_bytes, string_len};
 ghost use Rattle.std.specs.Prelude.{string_capacity};
@@ -221,7 +221,8 @@ fn make_room(value: &str, extra: usize, out: &mut String) -> result::Result<(), 
     }
 }
 
-// Appends a comma unless the member is the first, and the quote before the member's name. `out` has room for both.
+// Appends a comma, unless `first` says that the member is the first of its object, and the quote before the member's
+// name. `out` has room for both.
 #[inline(always)]
 fn put_name_start(first: bool, out: &mut String)
     requires { string_len out.old + 2 ≤ string_capacity out.old }
@@ -236,8 +237,8 @@ fn put_name_start(first: bool, out: &mut String)
     }
 }
 
-// Returns how many bytes the punctuation of a member takes: two quotes, a colon, and a comma unless the member is the
-// first.
+// Returns how many bytes the punctuation of a member takes: two quotes, a colon, and a comma, unless `first` says that
+// the member is the first of its object.
 #[inline(always)]
 fn punctuation_len(first: bool) -> usize
     ensures { result ≡ (if first then 3 else 4) }
@@ -245,8 +246,9 @@ fn punctuation_len(first: bool) -> usize
     if first { 3 } else { 4 }
 }
 
-/// Appends what stands before a member's value: a comma unless the member is the first, its name as a string, and a
-/// colon. If `out` cannot grow, returns `Memory` and leaves `out` unchanged.
+/// Appends what stands before a member's value: a comma, unless `first` says that the member is the first of its
+/// object, the member's name as a string, and a colon. If `out` cannot grow, returns `Memory` and leaves `out`
+/// unchanged.
 #[doc(hidden)]
 #[inline(always)]
 pub fn put_name(first: bool, name: &str, out: &mut String) -> Result<()>

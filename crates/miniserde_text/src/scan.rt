@@ -99,7 +99,7 @@ fn search_few(bytes: &[u8], from: usize) -> usize
 }
 
 // Returns the index of the first byte at or after `from` that must be escaped, or the length. Searches 32 bytes at a
-// time.
+// time. Kept out of line, as `search_few` is.
 #[inline(never)]
 fn search(bytes: &[u8], from: usize) -> usize
     requires { from ≤ length bytes.now }

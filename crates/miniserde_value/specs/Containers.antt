@@ -23,7 +23,7 @@ next_name o = option_map string_bytes o.name
 abbrev pub with_open_object : OpenObject → Hole → Hole
 with_open_object o h = in_members (made_members o) (next_name o) h
 
--- the members so far of the first of the open objects
+-- the members so far of the first of the open objects, or no members if there is no object
 abbrev pub first_members : List OpenObject → Members
 first_members [] = no_members
 first_members (o ∷ os) = made_members o
@@ -33,13 +33,15 @@ abbrev pub first_next_name : List OpenObject → Option (List ℕ)
 first_next_name [] = None
 first_next_name (o ∷ os) = next_name o
 
--- the open objects without the first
+-- the open objects without the first, if there is one
 abbrev pub outer_objects : List OpenObject → List OpenObject
 outer_objects [] = []
 outer_objects (o ∷ os) = os
 
--- The hole of the values vs, the open objects os and the open containers ms, innermost first: an array has the values
--- from its index on, and those before it are in the containers around it; an object is the first of os.
+-- The hole of the values vs in the order in which they came, the open objects os and the open containers ms, both
+-- innermost first. An array has the values from its index on. Those before the index are in the arrays around it, or
+-- are complete values outside of all containers. The objects among ms are those of os, in the same order; an object
+-- beyond the last of os has no members.
 abbrev pub hole_of : List Tree → List OpenObject → List OpenContainer → Hole
 hole_of vs os [] = outside vs
 hole_of vs os (container.Array v ∷ ms) = in_list (drop v vs) (hole_of (take v vs) os ms)

@@ -39,7 +39,7 @@ has_member n (in_list ts h) = false
 has_member n (in_members ms k h) = is_some (last_of n ms)
 
 -- the hole after its innermost container, if one is open, closes and is added as a value to the
--- hole around it
+-- hole around it; the name of a value that has not come is dropped
 abbrev pub after_close : Hole → Hole
 after_close (outside ts) = outside ts
 after_close (in_list ts h) = put (list (trees_of (λ t. t) ts)) h

@@ -4,7 +4,8 @@ use Rattle.miniserde_model.specs.Tree.{Tree, nonneg, neg, num}
 use Rattle.miniserde_value.specs.declared.json.number.Number.{Number}
 use Rattle.miniserde_value.specs.declared.json.number.Number.TheVariants.{U64, I64, Text}
 
--- the leaf that means the number; that of an `I64` is `neg` even if it is not negative, to tell it from a `U64`
+-- the leaf that means the number; that of an `I64` is `neg` even if it is not negative, to tell it from a `U64`; no
+-- text spells a `neg` above 0
 abbrev pub number_leaf : Number → Tree
 number_leaf (U64 n) = nonneg n
 number_leaf (I64 z) = neg z

@@ -1,4 +1,5 @@
--- The logic's descriptions of the types that a `Value` holds, for clauses on a `&mut` to one.
+-- The logic's descriptions (`RattleType`) of the types that an `Array` and an `Object` consist of. The contracts of
+-- `inner_mut` cite them, to say what a `&mut` to such a part writes back.
 use denote.RattleType.{RattleType}
 use Rattle.std.specs.contracts.alloc.Global as global
 use Rattle.std.specs.contracts.vec.Vec as vec

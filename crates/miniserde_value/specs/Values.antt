@@ -15,6 +15,9 @@ use Rattle.miniserde_value.specs.Retained.{retained_tree}
 
 -- ---- the parts of a value
 
+-- `Value-F`, `Array-F` and `Object-F` are one level of a `Value`, an `Array` and an `Object`. Their three arguments are
+-- the types that stand inside instead of a `Value`, an `Array` and an `Object`.
+
 -- the items of an array
 abbrev pub array_items : Array → List Value
 array_items a = a.items.items
@@ -70,7 +73,8 @@ array_step a = trees_of (λ t. t) a.items.items
 abbrev pub object_step : Object-F Tree Trees Members → Members
 object_step o = members_of string_bytes (λ t. t) o.members.entries
 
--- the content of the value, as a tree: the leaf of each number, and the parts of each container in order
+-- the content of the value, as a tree: the leaf of each number, and the parts of each container in order; `fold-Value`
+-- applies the three steps from the innermost levels outwards
 unfoldable pub content_of : Value → Tree
 content_of = fold-Value Tree Trees Members content_step array_step object_step
 

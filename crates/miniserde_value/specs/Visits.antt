@@ -58,7 +58,8 @@ abbrev pub comma : Bool → List ℕ
 comma true = []
 comma false = 44 ∷ []
 
--- the text that the visits write; `first` says that the next element or member is the first of its container
+-- the text that the visits write, each leaf in its normal form; `first` says that the next element or member is the
+-- first of its container
 abbrev pub visits_text : Bool → List TreeVisit → List ℕ
 visits_text first [] = []
 visits_text first (leaf t ∷ fs) = compact (norm t) ++ visits_text first fs

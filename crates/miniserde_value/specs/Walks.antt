@@ -40,7 +40,7 @@ abbrev pub members_left : List (String Global × Value) → List TreeVisit → L
 members_left ms rest = member_visits (members_of string_bytes content_of ms) (members_end ∷ rest)
 
 -- the visits that the open containers have left, innermost first; each open object takes its members from the list
--- `objects`, which has them in the same order
+-- `objects`, which has them in the same order; nothing is left from an object on for which the list has no members
 abbrev pub stack_left : List Frame → List (List (String Global × Value)) → List TreeVisit
 stack_left [] objects = []
 stack_left (frame.Array a ∷ frames) objects = items_left a (stack_left frames objects)
@@ -71,7 +71,7 @@ abbrev pub MembersOrdered : List (String Global × Value) → Type 0
 MembersOrdered ms = AreOrderedMembers (members_of string_bytes content_of ms)
 
 -- in what the open containers have left, the names of each object strictly rise; `objects` has the members that the
--- open objects have left
+-- open objects have left, and nothing is said from an object on for which it has none
 abbrev pub StackOrdered : List Frame → List (List (String Global × Value)) → Type 0
 StackOrdered [] objects = ⊤
 StackOrdered (frame.Array a ∷ frames) objects = ItemsOrdered a × StackOrdered frames objects

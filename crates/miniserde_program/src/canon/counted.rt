@@ -8,7 +8,8 @@ use std::io;
 use std::io::{Read, Write};
 
 /// A reader or a writer that counts its failed calls and its flushes. A write that takes none of
-/// its bytes counts as failed. Only contracts see the counts, which take no memory.
+/// its bytes counts as failed, unless it has none. Only contracts see the counts, which take no
+/// memory.
 #[derive(Drop)]
 pub struct Counted<T> {
     inner: T,

@@ -1,5 +1,7 @@
 -- Reading as functions on lists, in the order of the code (RFC 8259, sections 6 and 7).
 -- Only private clauses cite them: lemmas show that each reads exactly what the grammar has.
+-- `slice_index s n` is the byte of s at the index n, or 0 if there is none. A function that returns an
+-- `Option` returns `None` if its text does not begin with what it takes.
 use Rattle.std.specs.Prelude.{◌≡◌, ℕ, ◌<◌, ◌≤◌, ◌-◌, ◌+◌, ◌*◌, ◌^◌, ◌&&◌, ◌||◌, nat_le, nat_lt, pos, neg_ℤ, if◌then◌else◌, option_map, List, [], ◌∷◌, ◌++◌, Bool, true, false, cond, not, ◌==◌, nat_eq, Option, Some, None, option_and_then, length, take, drop, codes, slice_index}
 use Rattle.std.specs.List.{starts_with}
 use Rattle.std.specs.Char.{digit_value}
@@ -55,11 +57,11 @@ after_run p (c ∷ cs) = if p c then after_run p cs else c ∷ cs
 abbrev pub EndsWith : List ℕ → List ℕ → Type 0
 EndsWith s r = (b : List ℕ) × (s ≡ b ++ r)
 
--- the byte of s right before the index i is ASCII
+-- s has a byte right before the index i, and that byte is ASCII
 abbrev pub FollowsAscii : List ℕ → ℕ → Type 0
 FollowsAscii s i = (0 < i) × (i ≤ length s) × (slice_index s (i - 1) < 128)
 
--- the suffix of s from the index, if there is an index
+-- the suffix of s from the index r on, or `None` if r is `None`
 abbrev pub suffix_at : List ℕ → Option ℕ → Option (List ℕ)
 suffix_at s r = option_map (λ i. drop i s) r
 
@@ -100,8 +102,8 @@ after_exponent s = if is_exponent_letter (slice_index s 0) then after_digits (af
 abbrev pub after_tail : List ℕ → Option (List ℕ)
 after_tail s = option_and_then after_exponent (after_fraction s)
 
--- the event of the number text b, by whether it begins with a minus, by its integer part, and by the bytes after that
--- part
+-- the event of the number text b, by whether it begins with a minus, by its integer part without the minus, and by the
+-- bytes after that part
 abbrev pub event_of_parts : List ℕ → Bool → List ℕ → List ℕ → Step
 event_of_parts b minus int [] =
     if minus then
@@ -109,14 +111,15 @@ event_of_parts b minus int [] =
     else (if nat_lt (digits_value 10 int) (2 ^ 64) then nonnegative (digits_value 10 int) else float b)
 event_of_parts b minus int (c ∷ cs) = float b
 
--- the event of the number that stands from s to r and whose integer part ends at w, and the text r;
--- `None` if r begins with a byte of a number
+-- the event of the number that s begins with, and r, the text after the number; w is the text after
+-- the number's integer part; `None` if r begins with a byte that a number can have
 abbrev pub event_at : List ℕ → List ℕ → List ℕ → Option (Step × List ℕ)
 event_at s w r =
     cond (is_number_byte (slice_index r 0)) None
     (Some (event_of_parts (before s r) (slice_index s 0 == 45) (before (after_minus s) w) (before w r), r))
 
--- the event of the number that s begins with, and the text after it, if there is such a number
+-- the event of the number that s begins with, and the text after it; `None` if there is no number, or
+-- if the text after it begins with a byte that a number can have
 unfoldable pub number_at : List ℕ → Option (Step × List ℕ)
 number_at s = option_and_then (λ w. option_and_then (λ r. event_at s w r) (after_tail w)) (after_int (after_minus s))
 
@@ -147,9 +150,10 @@ abbrev pub begins_child : List ℕ → Bool
 begins_child [] = false
 begins_child (c ∷ cs) = not (is_closing c)
 
--- If t begins with the closing bracket of the kind: `true`, and the text after it. If a child is
--- next: `false`, and the text after the comma, or t itself if `first` says that the opening bracket
--- was just taken. If neither: `None`.
+-- If t begins with the closing bracket of the kind: `true`, and the text after it. Else, if `first`
+-- says that the opening bracket was just taken: `false` and t itself, if t begins with a byte that is
+-- no closing bracket. Else, without `first`, if t begins with a comma: `false`, and the text after the
+-- comma, whatever it begins with. Else `None`.
 unfoldable pub punctuation_at : Kind → Bool → List ℕ → Option (Bool × List ℕ)
 punctuation_at kind first t =
     cond (slice_index t 0 == closing kind) (Some (true, drop 1 t))
@@ -194,8 +198,8 @@ low_at high s =
     cond (begins_unicode_escape s)
     (option_and_then (λ l. if is_low l.0 then Some (pair_of high l.0, l.1) else None) (code_unit_at (drop 2 s))) None
 
--- the character of a `\u` escape or of a surrogate pair, and the text after it, if it is valid; s
--- is the text after the first `\u`
+-- the character of a `\u` escape or of a surrogate pair, and the text after it; s is the text after
+-- the first `\u`; `None` if a digit is missing, or if a surrogate has no partner
 unfoldable pub unicode_at : List ℕ → Option (ℕ × List ℕ)
 unicode_at s = option_and_then (λ u. if is_high u.0 then low_at u.0 u.1 else if is_low u.0 then None else Some u) (code_unit_at s)
 
@@ -210,8 +214,8 @@ short_at x =
     else if x == 116 then Some 9
     else None
 
--- the character of an escape, and the text after the escape, if it is valid; s is the text after
--- the backslash
+-- the character of an escape or of a surrogate pair, and the text after it, if there is such an
+-- escape; s is the text after the backslash
 unfoldable pub escape_at : List ℕ → Option (ℕ × List ℕ)
 escape_at s =
     cond (slice_index s 0 == 117) (unicode_at (drop 1 s))

@@ -14,7 +14,8 @@ abbrev pub kind_by : ℕ → Kind
 kind_by zero = Seq
 kind_by (suc b) = Map
 
--- the kind that the bit at index n of the words ws holds, if each word has 64 bits
+-- the kind that the bit at index n of the words ws holds, if each word has 64 bits; a bit beyond the
+-- words counts as 0
 abbrev pub kind_at : List ℕ → ℕ → Kind
 kind_at ws n = kind_by (bit_at (get_or ws (n / 64) 0) (n % 64))
 
@@ -24,7 +25,7 @@ abbrev pub stack_of : List ℕ → ℕ → List Kind
 stack_of ws zero = []
 stack_of ws (suc n) = kind_at ws n ∷ stack_of ws n
 
--- the kinds of the open containers after one of the given kind opens inside those of kinds st; without a kind, st
+-- the kinds of the open containers after a container of the kind opens inside those of kinds st; without a kind, st
 abbrev pub with_opened : Option Kind → List Kind → List Kind
 with_opened None st = st
 with_opened (Some k) st = k ∷ st
@@ -34,7 +35,7 @@ abbrev pub innermost : List Kind → Option Kind
 innermost [] = None
 innermost (k ∷ st) = Some k
 
--- the kinds of the open containers without the innermost one
+-- the kinds of the open containers without the innermost one, if one is open
 abbrev pub outer : List Kind → List Kind
 outer [] = []
 outer (k ∷ st) = st

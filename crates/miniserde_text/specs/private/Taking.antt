@@ -17,13 +17,15 @@ abbrev pub SpellsUpToQuote : List ℕ → List ℕ → List ℕ → Type 0
 SpellsUpToQuote [] t r = t ≡ 34 ∷ r
 SpellsUpToQuote (c ∷ cs) t r = (p : List ℕ) × (t' : List ℕ) × IsPiece p c × (t ≡ p ++ t') × SpellsUpToQuote cs t' r
 
--- the text t is pieces of the characters ds and then t', and any characters that t spells up to a
--- closing quote begin with ds
+-- The text t spells the characters ds before t'. `on`: if t' spells some characters up to a quote, t
+-- spells ds and then those, up to the same quote. `back`: if t spells some characters up to a quote,
+-- they begin with ds, and t' spells the rest of them, up to the same quote.
 pub record PassesCharacters (ds t t' : List ℕ) : Type 0 where
   pub on : (cs r : List ℕ) → SpellsUpToQuote cs t' r → SpellsUpToQuote (ds ++ cs) t r
   pub back : (cs r : List ℕ) → SpellsUpToQuote cs t r → (es : List ℕ) × (cs ≡ ds ++ es) × SpellsUpToQuote es t' r
 
--- `new` is `old` with the UTF-8 bytes of some characters appended, whose pieces stand from t to t'
+-- `new` is `old` with the UTF-8 bytes of some characters appended, which t spells before t'
+-- (`PassesCharacters`)
 abbrev pub AddsDecoded : List ℕ → List ℕ → List ℕ → List ℕ → Type 0
 AddsDecoded old new t t' = (ds : List ℕ) × PassesCharacters ds t t' × (new ≡ old ++ encode_utf8_all ds)
 
@@ -33,7 +35,8 @@ BeginsWith P t r = (b : List ℕ) × P b × (t ≡ b ++ r)
 
 -- ---- after whitespace
 
--- the text t begins with the token of the event e, and r is the text after it
+-- the text t begins with the token of the event e, and r is the text after it; if e is a number, r
+-- does not begin with a byte that a number can have (`Ends`)
 abbrev pub TakesToken : List ℕ → tree.Step → List ℕ → Type 0
 TakesToken t e r = BeginsWith (Piece e) t r × Ends e r
 
@@ -54,8 +57,8 @@ NameTakesText x t r = BeginsWith (BeforeColon (Between 34 (StandsFor x) 34)) t r
 
 -- ---- after a quote
 
--- s is the inside of a string, its closing quote and r, and the string's text x is decoded if the
--- inside has a backslash, and else borrowed
+-- s is some bytes `inside`, a quote and r, and the text x of a string is decoded if `inside` has a
+-- backslash, and else borrowed and equal to `inside`
 abbrev pub TakesText : Text → List ℕ → List ℕ → Type 0
 TakesText x s r = (inside : List ℕ) × (s ≡ inside ++ 34 ∷ r) × StandsFor x inside
 

@@ -55,6 +55,7 @@ fn few_are_plain(bytes: &[u8]) -> bool
     ensures { result ≡ true → (k : ℕ) → k < length bytes.now → is_special (slice_index bytes.now k) ≡ false }
 {
     let n = bytes.len();
+    // The first byte, the one in the middle and the last are all that there are.
     n == 0 || !is_special(bytes[0]) && !is_special(bytes[n / 2]) && !is_special(bytes[n - 1])
 }
 
@@ -65,6 +66,7 @@ pub(crate) fn is_short_and_plain(bytes: &[u8]) -> bool
     ensures plain { result ≡ true → (k : ℕ) → k < length bytes.now → is_special (slice_index bytes.now k) ≡ false }
 {
     let n = bytes.len();
+    // `&` tests both vectors without a branch between them.
     if n < 4 {
         few_are_plain(bytes)
     } else if n < 8 {

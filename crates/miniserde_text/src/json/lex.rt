@@ -126,6 +126,7 @@ impl<'a> Lexer<'a> {
         ensures sticky { self.new.refused ≡ self.old.refused }
     {
         let bytes = self.text.as_bytes();
+        // A byte above the space is no whitespace, so most calls end here.
         if self.at < bytes.len() && bytes[self.at] > b' ' {
             return;
         }
@@ -142,8 +143,8 @@ impl<'a> Lexer<'a> {
     }
 
     /// Takes whitespace and the first token of a value: a word, a number, a string, `[` or `{`. A string with a
-    /// backslash is decoded into `scratch`. Returns `Invalid` if no token is next, and `Memory` if decoding fails to
-    /// allocate.
+    /// backslash is decoded into `scratch`. Returns `Memory` if decoding fails to allocate, and otherwise `Invalid` if
+    /// no token is next. After an error `scratch` may contain anything.
     #[inline(always)]
     pub fn start(&mut self, scratch: &mut String) -> Result<Event<'a>>
         ensures ok { IfOk result (λ event. (self.old.refused ≡ None) × (self.new.refused ≡ None)
@@ -170,7 +171,8 @@ impl<'a> Lexer<'a> {
     }
 
     /// Takes whitespace and the name of a member: a string, whitespace and `:`. A name with a backslash is decoded
-    /// into `scratch`. Returns `Invalid` if none is next, and `Memory` if decoding fails to allocate.
+    /// into `scratch`. Returns `Memory` if decoding fails to allocate, and otherwise `Invalid` if no name is next.
+    /// After an error `scratch` may contain anything.
     #[inline(always)]
     pub fn name(&mut self, scratch: &mut String) -> Result<Text<'a>>
         ensures ok { IfOk result (λ t. (self.old.refused ≡ None) × (self.new.refused ≡ None)
@@ -197,8 +199,9 @@ impl<'a> Lexer<'a> {
     }
 
     /// Takes whitespace, and the closing bracket of a container of the kind or the comma before its
-    /// next child. Returns which of the two is next, or `Invalid` if neither is. `first` says that
-    /// the opening bracket was just taken, so that no comma is due.
+    /// next child. Returns `Close` or `Next`, or `Invalid` if neither is there. `first` says that the
+    /// opening bracket was just taken. Then no comma is due: the call returns `Next` if the next byte
+    /// is no closing bracket, and does not take that byte.
     #[inline(always)]
     pub fn after(&mut self, kind: Kind, first: bool) -> Result<After>
         ensures ok { IfOk result (λ a. (self.old.refused ≡ None) × (self.new.refused ≡ None)
@@ -243,7 +246,7 @@ impl<'a> Lexer<'a> {
         self.refuse(Error::Invalid)
     }
 
-    // Keeps an error as the first error of the lexer, and returns it.
+    // Keeps an error as the first error of the lexer, which has none yet, and returns it.
     fn refuse<T>(&mut self, e: Error) -> Result<T>
         ensures answer { result ≡ Err e }
         ensures sticky { self.new ≡ record { rest = self.old.rest; refused = Some e } }

@@ -10,7 +10,8 @@ use miniserde_model::error::{Error, Result};
 use std::alloc::Global;
 use std::marker::Model;
 
-/// The text of a number that is no plain integer from -2^63 to 2^64-1. A contract sees its bytes.
+/// The text of a number with a fraction or an exponent, or of an integer below -2^63 or above 2^64-1. A contract sees
+/// its bytes.
 #[derive(Debug, Drop)]
 pub struct NumberText {
     text: Box<String>,
@@ -29,7 +30,8 @@ impl Model for NumberText {
 }
 
 impl NumberText {
-    /// Returns whether the whole of `t` is the text of a number that is no plain integer from -2^63 to 2^64-1.
+    /// Returns whether the whole of `t` is the text of a number with a fraction or an exponent, or of an integer below
+    /// -2^63 or above 2^64-1.
     pub fn is_text(t: &str) -> bool
         ensures { IsTrue result ↔ IsNumber t.now (num t.now) }
     {

@@ -64,13 +64,14 @@ impl Array {
 
     /// Returns a mutable reference to the items.
     pub fn inner_mut(&mut self) -> &mut Vec<Value>
+        // When the borrow ends, the array has the items that the reference then has.
         ensures* writes_back { sem 𝓛 (Lends the_row vec_type self.entry result with_items) }
         ensures value { result.now ≡ self.old.items }
     {
         &mut self.items
     }
 
-    /// Appends an item. If the array cannot grow, returns `Memory` and leaves the array unchanged.
+    /// Appends an item. If the array cannot grow, drops the item, returns `Memory` and leaves the array unchanged.
     pub fn push(&mut self, item: Value) -> Result<()>
         ensures ok { OnOk result (array_items self.new ≡ array_items self.old ++ item ∷ []) }
         ensures memory { OnErr result (IsErrOf result Memory) }

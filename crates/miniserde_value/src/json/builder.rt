@@ -60,7 +60,7 @@ impl OpenObject {
     }
 
     /// Adds a value under the name that was set for it, and replaces an earlier value of that name.
-    /// Drops the value if no name was set. Fails if the map cannot grow.
+    /// If no name was set, drops the value and returns `Ok`. Fails if the map cannot grow.
     pub(crate) fn put(&mut self, value: Value) -> result::Result<(), AllocError>
         ensures { OnOk result ((h : Hole) → with_open_object self.new h ≡ put (content_of value) (with_open_object self.old h)) }
     {
@@ -79,6 +79,7 @@ impl OpenObject {
 }
 
 /// A document that is being built. A contract sees it as its hole: the open containers, with what each has so far.
+/// After a call that fails to allocate, nothing is promised of the hole.
 #[derive(Drop)]
 pub struct Builder {
     alloc: Global,
@@ -152,8 +153,8 @@ impl Builder {
         false
     }
 
-    /// Adds a complete value to the innermost open container, or to the finished values if none is open. Fails if an
-    /// allocation fails.
+    /// Adds a complete value to the innermost open container, or to the finished values if none is open. In an object
+    /// without a name for it, the value is dropped, and the call returns `Ok`. Fails if an allocation fails.
     #[inline(always)]
     pub(crate) fn put(&mut self, value: Value) -> result::Result<(), AllocError>
         ensures { OnOk result (hole_in self.new ≡ put (content_of value) (hole_in self.old)) }
@@ -169,7 +170,7 @@ impl Builder {
     }
 
     /// Copies a text, and adds it as a string to the innermost open container, or to the finished values if none is
-    /// open. Fails if an allocation fails.
+    /// open, as `put` does. Fails if an allocation fails.
     fn put_text(&mut self, text: &str) -> result::Result<(), AllocError>
         ensures { OnOk result (hole_in self.new ≡ put (str text.now) (hole_in self.old)) }
     {
@@ -178,7 +179,7 @@ impl Builder {
     }
 
     /// Copies the text of a number, and adds the number to the innermost open container, or to the finished values if
-    /// none is open. Returns `Memory` if an allocation fails.
+    /// none is open, as `put` does. Returns `Memory` if an allocation fails.
     fn put_number(&mut self, text: &str) -> Result<()>
         requires { IsNumber text.now (num text.now) }
         ensures ok { OnOk result (hole_in self.new ≡ put (num text.now) (hole_in self.old)) }
@@ -210,9 +211,10 @@ impl Builder {
         Ok(())
     }
 
-    /// Takes the first event of a value, which goes to the innermost open container. If that is an object, call
-    /// `name` before it: a value without a name is dropped. Returns whether the event opens a container. Returns
-    /// `Invalid` for an event that begins no value, and `Memory` if an allocation fails.
+    /// Takes the first event of a value, which goes to the innermost open container, or to the finished values if none
+    /// is open. If the container is an object, call `name` before it: a value without a name is dropped. Returns
+    /// whether the event opens a container. Returns `Invalid` for an event that begins no value, and `Memory` if an
+    /// allocation fails.
     #[inline(always)]
     pub fn begin(&mut self, event: Step<'_>) -> Result<bool>
         requires { EventInRange (event_of event) }
@@ -240,8 +242,8 @@ impl Builder {
         Ok(false)
     }
 
-    /// Sets the name of the next value, if the innermost open container is an object. Returns `Memory` if an
-    /// allocation fails.
+    /// Sets the name of the next value, if the innermost open container is an object; else does nothing. Returns
+    /// `Memory` if an allocation fails.
     #[inline(always)]
     pub fn name(&mut self, name: &str) -> Result<()>
         ensures ok { OnOk result (hole_in self.new ≡ with_name name.now (hole_in self.old)) }
@@ -258,7 +260,8 @@ impl Builder {
     }
 
     /// Closes the innermost open container, if one is open, and adds it to the container around it,
-    /// or to the finished values if there is none. Returns `Memory` if an allocation fails.
+    /// or to the finished values if there is none, as `put` does. Returns `Memory` if an allocation
+    /// fails.
     #[inline(always)]
     pub fn close(&mut self) -> Result<()>
         ensures ok { OnOk result (hole_in self.new ≡ after_close (hole_in self.old)) }
@@ -267,6 +270,7 @@ impl Builder {
         match self.containers.pop() {
             None => (),
             Some(OpenContainer::Array(from)) => {
+                // After an inner array more values may come, so the list of values keeps its capacity.
                 let is_outermost = self.containers.is_empty();
                 let items = take_from(self.alloc, &mut self.values, from, is_outermost)?;
                 self.put(Value::Array(Array::from_inner(items)))?;

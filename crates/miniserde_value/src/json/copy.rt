@@ -35,8 +35,8 @@ fn add(alloc: Global, visit: Visit<'_>, builder: &mut Builder) -> Result<()>
     Ok(())
 }
 
-// Hands all visits that a walk has left to the builder, as `add` does. Returns `Memory` if an
-// allocation fails.
+// Hands all visits that a walk has left to the builder, as `add` does. Promises that in what the
+// walk had left the names of each object rise. Returns `Memory` if an allocation fails.
 fn add_all(alloc: Global, mut walk: Walk<'_>, builder: &mut Builder) -> Result<()>
     ensures built { OnOk result (hole_in builder.new ≡ hole_after (hole_in builder.old) (left walk.entry)) }
     ensures ordered { OnOk result (LeftOrdered walk.entry) }
@@ -55,6 +55,7 @@ impl Array {
         ensures memory { OnErr result (IsErrOf result Memory) }
     {
         let mut builder = Builder::new(alloc);
+        // The walk begins after the opening bracket.
         builder.open_array()?;
         add_all(alloc, Walk::array(alloc, self)?, &mut builder)?;
         match builder.into_value() {
@@ -74,6 +75,7 @@ impl Object {
         ensures memory { OnErr result (IsErrOf result Memory) }
     {
         let mut builder = Builder::new(alloc);
+        // The walk begins after the opening bracket.
         builder.open_object()?;
         add_all(alloc, Walk::object(alloc, self)?, &mut builder)?;
         match builder.into_value() {

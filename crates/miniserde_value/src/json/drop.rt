@@ -56,8 +56,9 @@ fn replace_first(value: &mut Value, parent: Value, looks: &mut Looks) -> Value
     }
 }
 
-/// Drops a value without recursion. Counts in `looks` one look for the value, one each time a value is to be taken
-/// out of a container, and each dropped value. Tests whether a value is bare are not counted. Allocates nothing.
+/// Drops a value without recursion. Counts in `looks` one look for the value, one for each time a value is taken out of
+/// a container, and each dropped value. Not counted are tests whether a value is bare, and a try to take a value out of
+/// a container that has none left. Allocates nothing.
 pub fn counted(value: Value, looks: &mut Looks)
     ensures released { looks.new.released ≡ looks.old.released + value_size value }
     ensures at_least { looks.old.visited + value_size value ≤ looks.new.visited }

@@ -12,7 +12,7 @@ use std::fmt;
 pub enum Number {
     U64(u64),
     I64(i64),
-    /// A number that is no plain integer from -2^63 to 2^64-1, as its text.
+    /// A number with a fraction or an exponent, or an integer below -2^63 or above 2^64-1, as its text.
     Text(NumberText),
 }
 
@@ -51,6 +51,7 @@ impl fmt::Display for Number {
     }
 }
 
+/// Shows `Number(`, the number as it is written in JSON, and `)`.
 impl fmt::Debug for Number {
     fn fmt<W: fmt::Write>(&self, f: &mut fmt::Formatter<W>) -> fmt::Result {
         write!(f, "Number({self})")

@@ -71,14 +71,15 @@ impl Object {
 
     /// Returns a mutable reference to the map of the members.
     pub fn inner_mut(&mut self) -> &mut BTreeMap<String, Value>
+        // When the borrow ends, the object has the members that the reference then has.
         ensures* writes_back { sem 𝓛 (Lends the_row btree_map_type self.entry result with_members) }
         ensures value { result.now ≡ self.old.members }
     {
         &mut self.members
     }
 
-    /// Adds a member, or replaces the value of the same name. If an allocation fails, returns `Memory` and leaves the
-    /// members unchanged.
+    /// Adds a member, or replaces the value of the same name. If an allocation fails, drops the value, returns `Memory`
+    /// and leaves the members unchanged.
     pub fn put(&mut self, alloc: Global, name: &str, value: Value) -> Result<()>
         ensures ok { OnOk result (object_members self.new ≡ put name.now (content_of value) (object_members self.old)) }
         ensures memory { OnErr result (IsErrOf result Memory) }
@@ -97,7 +98,8 @@ impl Object {
         members
     }
 
-    /// Replaces the value of the first member of an object that is not empty, and returns the old value.
+    /// Replaces the value of the first member of an object that is not empty, and returns the old value. The names stay
+    /// as they are.
     pub(crate) fn replace_first(&mut self, value: Value) -> Value
         requires { object_values self.old ≡ [] → ⊥ }
         ensures replaced { ReplacesFirst value result (object_values self.old) (object_values self.new) }

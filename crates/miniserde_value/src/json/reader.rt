@@ -20,9 +20,9 @@ use miniserde_model::error::{Error, Result};
 use miniserde_read::Source;
 use miniserde_text::json::lex::{After, Event, Kind};
 
-/// Reads one value, whose first token is `token`, and takes no more of the source. Returns `Invalid` if the text,
-/// from that token on, has no prefix that is a value, or if `once` is `true` and an object in it has a duplicate
-/// name. Returns `Memory` if an allocation fails.
+/// Reads one value, whose first token is `token`, and takes no more of the source. Returns `Memory` if an allocation
+/// fails. Otherwise returns `Invalid` if the text, from that token on, has no prefix that is a value, or if `once` is
+/// `true` and an object in the value has a duplicate name.
 pub(crate) fn read_value<'a>(token: Event<'a>, source: &mut Source<'a>, once: bool) -> Result<Value>
     requires going { source.old.refused ≡ None }
     requires event { EventInRange (event_of_token token source.old.scratch) }

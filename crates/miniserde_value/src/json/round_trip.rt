@@ -1,4 +1,5 @@
-//! Promises that documents are read back as they were written, and that some are never written `null`.
+//! Promises that the text of a document is read as a document with the same tree, and that documents of some types are
+//! never written `null`.
 
 use super::array::Array;
 use super::number::Number;

@@ -38,7 +38,7 @@ fn write_separator<W: Write>(f: &mut Formatter<W>, nesting: Nesting) -> Result {
 }
 
 // Writes the closing bracket of the innermost open container. For `{:#?}` it has a line of its own,
-// unless the container is empty.
+// after a comma behind the last item, unless the container is empty.
 fn end<W: Write>(f: &mut Formatter<W>, nesting: Nesting, bracket: &str) -> Result {
     if f.alternate() && !nesting.first {
         f.write_str(",")?;
@@ -115,6 +115,7 @@ impl Debug for Array {
 impl Debug for Object {
     fn fmt<W: Write>(&self, f: &mut Formatter<W>) -> Result {
         f.write_str("Object {")?;
+        // The walk's stack uses the allocator of the first name, since the map tells none.
         let Some((name, _)) = self.inner().iter().next() else {
             return f.write_str("}");
         };
@@ -125,7 +126,8 @@ impl Debug for Object {
     }
 }
 
-/// Shows the value as std shows enums, lists and maps, without recursion. Fails also if the walk fails to allocate.
+/// Shows a leaf as its variant, such as `Bool(true)`, on one line also for `{:#?}`. Shows a container as std shows a
+/// list or a map, after the word `Array` or `Object`, without recursion. Fails also if the walk fails to allocate.
 impl Debug for Value {
     fn fmt<W: Write>(&self, f: &mut Formatter<W>) -> Result {
         match self {

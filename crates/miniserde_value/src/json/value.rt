@@ -36,7 +36,7 @@ impl Value {
     ghost use Rattle.miniserde_value.specs.Values.{content_of, array_content, object_content};
     ghost use Rattle.miniserde_value.specs.Kinds.{only_list, only_members};
 
-    /// Returns the array, or `None` if the value is no array. Allocates nothing.
+    /// Returns the array, or drops the value and returns `None` if it is no array. Allocates nothing.
     pub fn into_array(self) -> Option<Array>
         ensures { option_map array_content result ≡ only_list (Some (content_of self)) }
     {
@@ -46,7 +46,7 @@ impl Value {
         }
     }
 
-    /// Returns the object, or `None` if the value is no object. Allocates nothing.
+    /// Returns the object, or drops the value and returns `None` if it is no object. Allocates nothing.
     pub fn into_object(self) -> Option<Object>
         ensures { option_map object_content result ≡ only_members (Some (content_of self)) }
     {
@@ -67,15 +67,15 @@ impl Default for Value {
     }
 }
 
-/// Does nothing. It promises that the `Value` that a tree means is written as the normal form of that tree, and
+/// Does nothing. It promises that each `Value` that a tree means is written as the normal form of that tree, and
 /// contains as many values as that form.
 pub fn read_is_normal()
     ensures tree { (t : Tree) (v : V) → ReadsValue t v → tree_of v ≡ norm t }
     ensures size { (t : Tree) (v : V) → ReadsValue t v → value_size v ≡ size (norm t) }
 {}
 
-/// Does nothing. It promises that a `Value` contains as many values as its tree, if no object in it has a duplicate
-/// name. That holds of every `Value` of a program, since no `BTreeMap` has a duplicate key.
+/// Does nothing. It promises that a `Value` contains as many values as the tree that it is written as, if no object in
+/// it has a duplicate name. No object in a `Value` of a program has one, since no `BTreeMap` has a duplicate key.
 pub fn size_is_tree_size()
     ensures { (v : V) → names_distinct (content_of v) ≡ true → size (tree_of v) ≡ value_size v }
 {}
@@ -87,7 +87,7 @@ pub fn canonical_by_value(alloc: Global, j: &str) -> Result<String>
     ensures ok { IfOk result (λ c. (t : Tree) × IsJson j.now t × (string_bytes c ≡ compact (norm t))) }
     ensures text { IfOk result (λ c. (t : Tree) → IsJson j.now t → string_bytes c ≡ compact (norm t)) }
 
-    // If the text is `Invalid`, it has no tree. No text has two trees.
+    // If the result is `Invalid`, the text has no tree. No text has two trees.
     ensures invalid { result ≡ Err Invalid → (t : Tree) → IsJson j.now t → ⊥ }
     ensures one { (t u : Tree) → IsJson j.now t → IsJson j.now u → t ≡ u }
 {

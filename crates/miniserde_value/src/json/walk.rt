@@ -30,7 +30,8 @@ pub(crate) enum Visit<'a> {
     ObjectEnd,
 }
 
-/// A walk over an array or an object, from after its opening bracket to its end. It has a stack of its own.
+/// A walk over an array or an object, from after its opening bracket to its end. It has a stack of its own. After an
+/// error nothing is promised of the visits left.
 #[derive(Drop)]
 pub(crate) struct Walk<'a> {
     // The child to visit next, if its `Element` or `Name` was just returned.

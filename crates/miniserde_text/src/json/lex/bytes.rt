@@ -64,8 +64,8 @@ pub(super) fn byte_after(bytes: &[u8], at: usize, n: usize) -> u8
     }
 }
 
-/// Returns the index `n` bytes after `at`. The last of these bytes is ASCII and not 0, so the index is a character
-/// boundary. Only the contract looks at `bytes`.
+/// Returns the index `n` bytes after `at`. The last of these bytes is ASCII, so the index is a character boundary. It
+/// is not 0, which a byte beyond the end counts as. Only the contract uses `bytes`.
 pub(super) fn index_after(bytes: &[u8], at: usize, n: usize) -> usize
     requires some { 0 < n }
     requires there { 0 < slice_index (drop at bytes.now) (n - 1) }

@@ -154,6 +154,7 @@ fn integer_event<'a>(minus: bool, n: u64) -> Option<Event<'a>>
     if !minus {
         Some(Event::Nonnegative(n))
     } else if n <= 1 << 63 {
+        // By way of `i128`, since `i64` has no 2^63 to negate.
         Some(Event::Negative((-(n as i128)) as i64))
     } else {
         None
@@ -195,9 +196,9 @@ fn leading_digits(bytes: &[u8]) -> (usize, u64)
 }
 
 // Takes an integer of at most 19 digits in one pass. Returns its token and the index after it, or
-// `None` if there is none; a number of another form may still be there. `first` is the byte at
-// `at`. The loop is over a slice that begins with the digits, so that it keeps one counter and not
-// two.
+// `None` if there is none, or if it is below -2^63; a number that is kept as its text may still be
+// there. `first` is the byte at `at`. The loop is over a slice that begins with the digits, so that it
+// keeps one counter and not two.
 #[inline(always)]
 fn short_number<'a>(bytes: &[u8], at: usize, first: u8) -> Option<(Event<'a>, usize)>
     requires within { at ≤ length bytes.now }

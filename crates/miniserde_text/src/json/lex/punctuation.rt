@@ -34,9 +34,10 @@ fn begins_child(bytes: &[u8], at: usize, byte: u8) -> bool
 }
 
 /// Takes the closing bracket of a container of the kind, or the comma before its next child.
-/// `first` says that the opening bracket is just before `at`, so that no comma is due. Returns
-/// `Close` or `Next` with the index after the bracket or the comma, or `None` if neither is there.
-/// `byte` is the byte at `at`, or 0 if there is none.
+/// Returns `Close` or `Next` with the index after the bracket or the comma, or `None` if neither is
+/// there. `first` says that nothing but whitespace is between the opening bracket and `at`. Then no
+/// comma is due: the call returns `Next` with `at` itself if a byte is there that is no closing
+/// bracket. `byte` is the byte at `at`, or 0 if there is none.
 #[tactic(auto, unfolding(crate::specs::private::Reading::punctuation_at))]
 pub(super) fn take_punctuation(
     kind: Kind,

@@ -51,7 +51,7 @@ fn push_run(scratch: &mut String, run: &str) -> result::Result<(), AllocError>
     Ok(())
 }
 
-// Takes an escape whose backslash is the byte before `at`, and the run of plain bytes after it. Appends both,
+// Takes an escape whose backslash is the byte before `at`, and the run of unescaped bytes after it. Appends both,
 // decoded, to the scratch text, and returns the index after them. Returns `Invalid` if the escape is wrong, and
 // `Memory` if the scratch text cannot grow.
 fn take_run(text: &str, at: usize, scratch: &mut String) -> Result<usize>
@@ -71,9 +71,10 @@ fn take_run(text: &str, at: usize, scratch: &mut String) -> Result<usize>
     Ok(next)
 }
 
-// Takes the rest of a string, which begins with a backslash or the closing quote, and appends it, decoded, to the
-// scratch text. Returns the index after the closing quote, `Invalid` if an escape is wrong or the string does not
-// end, or `Memory` if the scratch text cannot grow.
+// Takes the rest of a string, and appends it, decoded, to the scratch text. At `at` is a backslash, the closing quote,
+// a byte below 0x20, or the end of the text. Returns the index after the closing quote, or `Memory` if the scratch text
+// cannot grow. Returns `Invalid` if an escape is wrong, or if a byte below 0x20 or the end of the text comes before the
+// closing quote.
 fn take_escaped(text: &str, at: usize, scratch: &mut String) -> Result<usize>
     requires { is_unescaped (slice_index (drop at text.now) 0) ≡ false }
     ensures ok { IfOk result (λ r. (cs : List ℕ) × SpellsUpToQuote cs (drop at text.now) (drop r text.now)
@@ -94,8 +95,9 @@ fn take_escaped(text: &str, at: usize, scratch: &mut String) -> Result<usize>
 }
 
 // Decodes a string into the scratch text, and returns the index after its closing quote. `at` is the index after its
-// opening quote, and `tail` that of its first backslash. Returns `Invalid` if an escape is wrong or the string does
-// not end, and `Memory` if the scratch text cannot grow. Kept out of line, since few strings have a backslash.
+// opening quote, and `tail` that of its first backslash. Returns `Memory` if the scratch text cannot grow. Returns
+// `Invalid` if an escape is wrong, or if a byte below 0x20 or the end of the text comes before the closing quote. Kept
+// out of line, since few strings have a backslash.
 #[inline(never)]
 fn decode(text: &str, at: usize, tail: usize, scratch: &mut String) -> Result<usize>
     requires follows { FollowsAscii text.now at }

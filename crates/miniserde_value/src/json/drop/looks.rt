@@ -7,12 +7,12 @@ ghost use Rattle.miniserde_value.specs.Values.{IsBare};
 use super::super::value::Value;
 use std::marker::{Model, PhantomData};
 
-/// How often a drop looked at a value, and how many values it dropped. It takes no bytes, since only contracts see
-/// the counts.
+/// How many looks a drop made (`counted` says what counts as one), and how many values it dropped. It takes no bytes,
+/// since only contracts see the counts.
 #[derive(Drop)]
 pub struct Looks {
     marker: PhantomData<u8>,
-    // How often a value was looked at.
+    // How many looks were counted.
     pub ghost visited: { ℕ },
     // How many values were dropped.
     pub ghost released: { ℕ },
@@ -32,7 +32,7 @@ impl Looks {
         }
     }
 
-    // Counts one look at a value.
+    // Counts one look.
     pub(crate) fn look(&mut self)
         ensures { (self.new.visited ≡ self.old.visited + 1) × (self.new.released ≡ self.old.released) }
     {}

@@ -63,7 +63,8 @@ impl<'a> Frames<'a> {
     }
 
     /// Returns the next visit of the innermost open container, and the child to visit after it, if any. Closes the
-    /// container at its end. Returns `None` if no container is open.
+    /// container at its end. Returns `None` if no container is open, or if an open object has no iterator, which never
+    /// happens.
     #[inline(always)]
     pub(crate) fn next(&mut self) -> Option<(Visit<'a>, Option<&'a Value>)>
         ensures left { MatchOption result (frames_left self.old ≡ [])
