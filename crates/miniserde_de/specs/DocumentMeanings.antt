@@ -17,8 +17,8 @@ abbrev pub accepted_outcome : (Step → Bool) → List Step → Option Tree → 
 accepted_outcome begins [] o = o
 accepted_outcome begins (e ∷ es) o = if begins e then o else None
 
--- the tree that the events to come give from the hole h on, where `due` says whether a value is
--- due; if no event was taken before, `begins` must hold for the first of them
+-- The tree that the events to come give from the hole h on, where `due` says whether a value is due. If no event was
+-- taken before, `begins` must hold for the first of them. A duplicate name is no error (the flag `false` of `outcome`).
 abbrev pub document_outcome : (Step → Bool) → Bool → Hole → List Step → Option Tree
 document_outcome begins due h es = if is_start due h then accepted_outcome begins es (outcome false due h es) else outcome false due h es
 

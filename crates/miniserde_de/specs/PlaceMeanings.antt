@@ -1,7 +1,8 @@
 -- The meanings of the places of std's types, by the meanings of their parts' places. A part is an
 -- item of a list or an array, one of the two values of a pair, a value of a map, or the value
 -- inside an option or a box. P is the place of a part, V the type of the part, C the collector, and
--- W the whole.
+-- W the whole. `child_view` and `view_through` make of the view of a child's place one whose
+-- outcome is the state after that child.
 use Rattle.std.specs.Prelude.{ℕ, false, true, List, [], ◌∷◌, ◌++◌, map, length, nat_le, ◌&&◌, is_some, Option, Some, None, option_map}
 use Rattle.miniserde_model.specs.Step.{Step}
 use Rattle.miniserde_model.specs.Position.{start, complete}

@@ -1,4 +1,6 @@
--- The meanings of the places of documents and numbers, and what an event does to such a place.
+-- The meanings of the places of documents and numbers, and what an event does to such a place. The first flag of
+-- `outcome` and of `after_step_once` says whether a duplicate name gives nothing; the second flag says whether a value
+-- is due.
 use Rattle.std.specs.Prelude.{◌≡◌, Bool, true, false, [], Option, Some, None, Result, Err, OnOk, refl}
 use Rattle.miniserde_model.specs.Tree.{Tree}
 use Rattle.miniserde_model.specs.Step.{Step}
