@@ -15,7 +15,8 @@ use std::alloc::Global;
 
 /// Returns the canonical text of a JSON text. It does not depend on whitespace, on how strings are escaped, or on the
 /// order of members with different names; of members with the same name the last stays. A number that no integer type
-/// holds keeps its text. Returns `Invalid` if the text is not JSON (RFC 8259), and `Memory` if an allocation fails.
+/// holds keeps its text, and `-0` becomes `0`. Returns `Invalid` if the text is not JSON (RFC 8259), and `Memory` if an
+/// allocation fails.
 pub fn canonical(alloc: Global, j: &str) -> Result<String>
     // It is the compact text of the normal form of the text's tree.
     ensures ok { IfOk result (λ c. (t : Tree) × IsJson j.now t × (string_bytes c ≡ compact (norm t))) }
@@ -25,7 +26,8 @@ pub fn canonical(alloc: Global, j: &str) -> Result<String>
     ensures spells { IfOk result (λ c. (t : Tree) → IsJson j.now t → IsJson (string_bytes c) (norm t)) }
     ensures normal { IfOk result (λ _. (t : Tree) → IsJson j.now t → norm (norm t) ≡ norm t) }
 
-    // Another tree has the same canonical text exactly if it has the same normal form.
+    // Another tree that a text can spell (`InRange`) has the same canonical text exactly if it has the same normal
+    // form.
     ensures tells { IfOk result (λ c. (t : Tree) → IsJson j.now t → (u : Tree) → InRange u
         → (string_bytes c ≡ compact (norm u)) ↔ (norm u ≡ norm t)) }
 
@@ -33,11 +35,11 @@ pub fn canonical(alloc: Global, j: &str) -> Result<String>
     ensures shortest { IfOk result (λ c. (t : Tree) → IsJson j.now t → (b : List ℕ) → (u : Tree)
         → IsJson b u → norm u ≡ norm t → length (string_bytes c) ≤ length b) }
 
-    // If the text is `Invalid`, it has no tree. No text has two trees.
+    // If the result is `Invalid`, the text has no tree. No text has two trees.
     ensures invalid { result ≡ Err Invalid → (t : Tree) → IsJson j.now t → ⊥ }
     ensures one { (t u : Tree) → IsJson j.now t → IsJson j.now u → t ≡ u }
 
-    // The canonical text of a canonical text is itself.
+    // The canonical text of a canonical text is itself, and the result for it is not `Invalid`.
     ensures idempotent { (b : List ℕ) (t : Tree) → IsJson b t → j.now ≡ compact (norm t)
         → IfOk result (λ c. string_bytes c ≡ j.now) × (result ≡ Err Invalid → ⊥) }
 {
@@ -56,7 +58,8 @@ pub fn canonical_unique(alloc: Global, j: &str) -> Result<String>
     ensures spells { IfOk result (λ c. (t : Tree) → IsJson j.now t → IsJson (string_bytes c) (norm t)) }
     ensures normal { IfOk result (λ _. (t : Tree) → IsJson j.now t → norm (norm t) ≡ norm t) }
 
-    // Another tree has the same canonical text exactly if it has the same normal form.
+    // Another tree that a text can spell (`InRange`) has the same canonical text exactly if it has the same normal
+    // form.
     ensures tells { IfOk result (λ c. (t : Tree) → IsJson j.now t → (u : Tree) → InRange u
         → (string_bytes c ≡ compact (norm u)) ↔ (norm u ≡ norm t)) }
 
@@ -68,11 +71,11 @@ pub fn canonical_unique(alloc: Global, j: &str) -> Result<String>
     ensures distinct { IfOk result (λ _. (t : Tree) → IsJson j.now t → names_distinct t ≡ true) }
     ensures size { IfOk result (λ _. (t : Tree) → IsJson j.now t → size (norm t) ≡ size t) }
 
-    // If the text is `Invalid`, it has no tree without duplicate names. No text has two trees.
+    // If the result is `Invalid`, the text has no tree without duplicate names. No text has two trees.
     ensures invalid { result ≡ Err Invalid → (t : Tree) → IsJson j.now t → names_distinct t ≡ true → ⊥ }
     ensures one { (t u : Tree) → IsJson j.now t → IsJson j.now u → t ≡ u }
 
-    // The canonical text of a canonical text is itself.
+    // The canonical text of a canonical text is itself, and the result for it is not `Invalid`.
     ensures idempotent { (b : List ℕ) (t : Tree) → IsJson b t → j.now ≡ compact (norm t)
         → IfOk result (λ c. string_bytes c ≡ j.now) × (result ≡ Err Invalid → ⊥) }
 {
@@ -105,5 +108,6 @@ fn canonicalize(alloc: Global, j: &str) -> Result<(String, bool)>
     ensures invalid { result ≡ Err Invalid → (t : Tree) → IsJson j.now t → ⊥ }
 {
     let (bytes, is_distinct) = read(alloc, j)?;
+    // The bytes are UTF-8: they are the compact text of a tree that a text can spell.
     Ok((unsafe { String::from_utf8_unchecked(bytes) }, is_distinct))
 }

@@ -1,8 +1,13 @@
 //! The draft: the canonical text of what was read so far.
 //!
-//! Input that is canonical already is copied in runs of bytes; whitespace, an escaped string or `-0` ends a run. If
-//! the names of an object ascend, its text stays. If not, its members are sorted in the groups: a short group is
-//! copied back, and a long one leaves a splice in the text, so that its bytes move only once more.
+//! Input that is canonical already is copied in runs of bytes; whitespace, an escaped string or `-0` ends a run. If the
+//! names of an object ascend, its text stays. If not, its members are sorted in the groups: a short group is copied
+//! back, and a long one leaves a splice in the text, so that its bytes move only once more.
+//!
+//! In the clauses, `rest` is the input that is left before a call and `rest'` after it, `part` is what the call takes,
+//! and `bs` is the text with its run. `Wrote d rest bs` says that the draft d has that text, and `Holding d bs s` that
+//! d is then at the state s: the canonical text so far, with the members of the open objects. `Represents d rest s`
+//! says both.
 ghost use Rattle.std.specs.Prelude.{◌≡◌, ◌++◌, ◌∷◌, [], ℕ, List, length, IfOk, OnOk};
 ghost use Rattle.miniserde_model.specs.Compact.{string_text};
 ghost use Rattle.miniserde_model.specs.Lexing.{closing};
@@ -21,7 +26,7 @@ use crate::spread::{Point, SplicedText, part};
 use miniserde_text::json::lex::{Event, Kind, Text};
 use std::alloc::{AllocError, Global};
 
-/// The span of a token in the input.
+/// The span of a token, or of whitespace, in the input.
 #[derive(Clone, Copy, Drop)]
 pub(crate) struct InputSpan {
     /// How many bytes of the input are left at its start.
@@ -37,13 +42,13 @@ pub(crate) struct Draft<'a> {
     input: &'a str,
     // How many bytes of the input are left at the start of the run that is not in the text yet.
     left: usize,
-    // The text so far. It has the members of the open objects in the order of the input.
+    // The text so far, without the run. It has the members of the open objects in the order of the input.
     pub(crate) out: SplicedText,
-    // The sorted members of closed objects that were out of order.
+    // The sorted members of closed objects that were out of order, if they were not copied back.
     pub(crate) groups: SplicedText,
     // The members so far of all open objects, those of the outermost object first.
     members: Vec<Member<'a>>,
-    // For each open object, how many of `members` come before its own.
+    // For each open object, the outermost first, how many of `members` come before its own.
     opened: Vec<usize>,
     // Whether no closed object had a duplicate name.
     pub(crate) is_distinct: bool,
@@ -73,7 +78,7 @@ impl<'a> Draft<'a> {
     }
 
     /// Appends the current run of input to the text, up to where `left` bytes of input are left. The next run begins
-    /// there. Fails if the text cannot grow.
+    /// there. Fails if the text cannot grow. If `left` is above the count at the start of the run, nothing is appended.
     #[inline(always)]
     pub(crate) fn flush(&mut self, left: usize) -> Result<(), AllocError>
         ensures wrote { OnOk result ((rest bs : List ℕ) → Wrote self.old rest bs → left ≡ length rest
@@ -93,8 +98,8 @@ impl<'a> Draft<'a> {
         Ok(())
     }
 
-    /// Leaves out whitespace: appends the run before it to the text, and begins the next run after it. Fails if the
-    /// text cannot grow.
+    /// Leaves out whitespace: appends the run before it to the text, and begins the next run after it. Does nothing if
+    /// the span is empty. Fails if the text cannot grow.
     #[inline(always)]
     pub(crate) fn skip(&mut self, space: InputSpan) -> Result<(), AllocError>
         ensures wrote { OnOk result ((rest w rest' bs : List ℕ) → Wrote self.old rest bs → rest ≡ w ++ rest'
@@ -109,8 +114,8 @@ impl<'a> Draft<'a> {
         Ok(())
     }
 
-    /// Takes the first token of a value, whose span in the input is `token`, and opens an object if
-    /// the token does. Fails if an allocation fails.
+    /// Takes the first token of a value, whose span in the input is `span`, and opens an object if the token does.
+    /// `scratch` has the text of a decoded string. Fails if an allocation fails.
     #[inline(always)]
     pub(crate) fn token(
         &mut self,
@@ -130,9 +135,8 @@ impl<'a> Draft<'a> {
         Ok(())
     }
 
-    // Takes the text of the first token of a value, whose span in the input is `token`. `-0` and a
-    // string with escapes are written anew; any other token stays in the run. Fails if an
-    // allocation fails.
+    // Takes the text of the first token of a value, whose span in the input is `span`. `-0` and a string with escapes
+    // are written anew; any other token stays in the run. Fails if an allocation fails.
     #[inline(always)]
     fn text(&mut self, token: Event<'_>, scratch: &str, span: InputSpan) -> Result<(), AllocError>
         ensures wrote { OnOk result ((rest part rest' bs : List ℕ) → Wrote self.old rest bs → rest ≡ part ++ rest'
@@ -153,8 +157,7 @@ impl<'a> Draft<'a> {
         Ok(())
     }
 
-    // Takes `-0`, whose span in the input is `token`, and appends `0` for it. Fails if the text
-    // cannot grow.
+    // Takes `-0`, whose span in the input is `span`, and appends `0` for it. Fails if the text cannot grow.
     fn zero(&mut self, span: InputSpan) -> Result<(), AllocError>
         ensures wrote { OnOk result ((rest part rest' bs : List ℕ) → Wrote self.old rest bs → rest ≡ part ++ rest'
             → span.at ≡ length rest → span.end ≡ length rest' → Wrote self.new rest' (bs ++ 48 ∷ [])) }
@@ -166,8 +169,8 @@ impl<'a> Draft<'a> {
         Ok(())
     }
 
-    // Takes a string, whose span in the input is `token`. One that was decoded into `scratch` is
-    // escaped anew; any other stays in the run. Fails if an allocation fails.
+    // Takes a string, whose span in the input is `span`. One that was decoded into `scratch` is escaped anew; any other
+    // stays in the run. Fails if an allocation fails.
     #[inline(always)]
     fn string(&mut self, text: Text<'_>, scratch: &str, span: InputSpan) -> Result<(), AllocError>
         ensures wrote { OnOk result ((rest part rest' bs : List ℕ) → Wrote self.old rest bs → rest ≡ part ++ rest'
@@ -183,9 +186,9 @@ impl<'a> Draft<'a> {
         Ok(())
     }
 
-    /// Takes the name of a member with its colon, whose span in the input is `token`, and adds the
-    /// member to those of the innermost object. `first` says that it is the first of them. Fails if
-    /// an allocation fails.
+    /// Takes the name of a member with its colon, whose span in the input is `span`, and adds the member to those of
+    /// the innermost object. `first` says that the member is the first of its object. If it is not, its comma is in the
+    /// text or the run already. Fails if an allocation fails, or if an index overflows.
     #[inline(always)]
     pub(crate) fn name(
         &mut self,
@@ -201,6 +204,7 @@ impl<'a> Draft<'a> {
             → NameSpelled text.entry part → s.first ≡ first
             → TokenStep (name (text_of text.entry scratch.now)) s s' → Represents self.new rest' s') }
     {
+        // The member begins at the end of the text, once the run up to its name is there.
         let run = self.left.saturating_sub(span.at);
         let point = Point {
             bytes: self.out.bytes.len().checked_add(run).ok_or(AllocError)?,
@@ -212,8 +216,8 @@ impl<'a> Draft<'a> {
         Ok(())
     }
 
-    // Appends a name with its colon, whose span in the input is `token`. If the input has both as
-    // they are to be written, they stay in the run. Fails if an allocation fails.
+    // Appends a name with its colon, whose span in the input is `span`. If the input has both as they are to be
+    // written, they stay in the run. Fails if an allocation fails.
     #[inline(always)]
     fn spell(&mut self, text: Text<'_>, scratch: &str, span: InputSpan) -> Result<(), AllocError>
         requires { TextPlain text }
@@ -232,8 +236,8 @@ impl<'a> Draft<'a> {
         Ok(())
     }
 
-    /// Takes the closing bracket of a container of the kind, and closes the container. `at` is how
-    /// many bytes of the input are left from the bracket on. Fails if an allocation fails.
+    /// Takes the closing bracket of a container of the kind, and closes the container. The bracket stays in the run.
+    /// `at` is how many bytes of the input are left from the bracket on. Fails if an allocation fails.
     #[inline(always)]
     pub(crate) fn end(&mut self, kind: Kind, at: usize) -> Result<(), AllocError>
         ensures { OnOk result ((rest rest' : List ℕ) (s : State) → Represents self.old rest s
@@ -247,8 +251,8 @@ impl<'a> Draft<'a> {
         Ok(())
     }
 
-    // Closes the innermost object, and puts its members in order if they are not. `at` is how many bytes of the input
-    // are left from its bracket on. Fails if an allocation fails.
+    // Closes the innermost object, and puts its members in order if they are not. Does nothing if no object is open.
+    // `at` is how many bytes of the input are left from its bracket on. Fails if an allocation fails.
     fn close(&mut self, at: usize) -> Result<(), AllocError>
         ensures { OnOk result ((rest : List ℕ) (s : State) → Represents self.old rest s → at ≡ length rest
             → (m : State) × Closes s m × Represents self.new rest m) }
@@ -256,6 +260,7 @@ impl<'a> Draft<'a> {
         let Some(before) = self.opened.pop() else {
             return Ok(());
         };
+        // Never so: an object that closes removes its own members alone.
         if self.members.len() < before {
             return Ok(());
         }

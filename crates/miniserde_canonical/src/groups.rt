@@ -6,7 +6,8 @@ ghost use Rattle.miniserde_canonical.specs.private.Waiting.{SpanHolds, Waits, sp
 use crate::spread::{Point, Span, SplicedText, part};
 use std::alloc::{AllocError, Global};
 
-/// Returns the bytes of a text with each splice filled with its group. Fails if an allocation fails.
+/// Returns the bytes of a text with each splice filled with its group. A text without splices is moved, and not copied.
+/// Fails if an allocation fails.
 pub(crate) fn fill_splices(
     alloc: Global,
     text: SplicedText,
@@ -32,8 +33,8 @@ pub(crate) fn fill_splices(
     Ok(out)
 }
 
-// Appends the text of a group, with its own splices filled. `later` is room for the spans that are to be appended.
-// Fails if an allocation fails.
+// Appends the text of a group to `out`, with its own splices filled. `later` is room for the spans that are to be
+// appended, the last one first. Fails if an allocation fails.
 fn put_group(
     group: Span,
     groups: &SplicedText,
@@ -52,8 +53,9 @@ fn put_group(
     Ok(())
 }
 
-// Appends the text of a span, up to its first splice if it has one. Then it pushes the rest of the span to `later`,
-// and on top of it the group of that splice. Fails if an allocation fails.
+// Appends the text of a span to `out`, up to its first splice if it has one. In that case it pushes the rest of the
+// span to `later`, and on top of it the group of that splice. A splice that the groups do not have counts as none.
+// Fails if an allocation fails. By the clause `less`, the loop over `later` ends.
 fn put_span(
     span: Span,
     groups: &SplicedText,

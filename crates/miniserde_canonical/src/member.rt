@@ -7,7 +7,7 @@ use crate::spread::Point;
 use miniserde_text::json::lex::Text;
 use std::alloc::{AllocError, Global};
 
-/// A name: borrowed from the input, or decoded.
+/// A name: borrowed from the input, or decoded. A decoded one is boxed, which keeps a `Name` small.
 #[derive(Drop)]
 pub(crate) enum Name<'a> {
     Input(&'a str),
@@ -15,7 +15,7 @@ pub(crate) enum Name<'a> {
 }
 
 impl<'a> Name<'a> {
-    /// Returns the name of a lexer's text: borrowed from the input, or copied from the scratch text. Fails if the
+    /// Returns the name for a text of the lexer: borrowed from the input, or copied from the scratch text. Fails if the
     /// copy fails to allocate.
     #[inline(always)]
     pub(crate) fn new(alloc: Global, text: Text<'a>, scratch: &str) -> Result<Name<'a>, AllocError>
@@ -50,12 +50,14 @@ fn boxed(alloc: Global, text: &str) -> Result<Box<String>, AllocError>
 #[derive(Drop)]
 pub(crate) struct Member<'a> {
     pub(crate) name: Name<'a>,
-    /// The first eight bytes of the name as a number whose highest byte is the first.
+    /// The first eight bytes of the name as a number whose highest byte is the first. If the name is shorter, the bytes
+    /// after it count as 0.
     pub(crate) leading_bytes: u64,
     /// The point of the text at which the member begins, after its comma.
     pub(crate) point: Point,
-    /// Whether it is the first of its object, so that it has no comma.
+    /// Whether it is the first of its object, so that no comma stands before it.
     pub(crate) first: bool,
+    // `leading_bytes` is that number for `name`.
     ghost leads: { IsLeadingBytes leading_bytes (name_of name) },
 }
 

@@ -1,4 +1,5 @@
-//! The order of an object's members by their names, and the span of each member in the text.
+//! The order of an object's members by their names, and the span of each member in the text. In a comparison, an index
+//! out of range counts as that of a member with the empty name.
 ghost use Rattle.std.specs.Prelude.{◌≡◌, ◌<◌, ◌+◌, ℕ, List, length, drop, true, false, OnOk, IsSortedByKey, slice_index_or};
 ghost use Rattle.std.specs.List.{range_with_len};
 ghost use Rattle.std.specs.declared.cmp.Ordering.TheVariants.{Less};
@@ -13,7 +14,8 @@ use crate::spread::{Point, Span};
 use std::alloc::AllocError;
 use std::cmp::Ordering;
 
-/// Returns whether the names strictly ascend in byte order.
+/// Returns whether the names strictly ascend in byte order. The clauses promise that they do if the result is `true`,
+/// and that there is a member if it is `false`.
 pub(crate) fn rises(members: &[Member<'_>]) -> bool
     ensures rises { result ≡ true → NamesRise members.now }
     ensures some { result ≡ false → 0 < length members.now }
@@ -26,7 +28,8 @@ pub(crate) fn rises(members: &[Member<'_>]) -> bool
     true
 }
 
-// Returns whether the name of `a` is below the name of `b` in byte order.
+// Returns whether the name of `a` is below the name of `b` in byte order. The clause promises it for the result `true`
+// alone.
 #[inline(always)]
 fn below(a: &Member<'_>, b: &Member<'_>) -> bool
     ensures { result ≡ true → text_cmp (name_of a.now.name) (name_of b.now.name) ≡ Less }
@@ -51,7 +54,7 @@ fn compare_names(a: &Member<'_>, b: &Member<'_>) -> Ordering
     a.name.text().cmp(b.name.text())
 }
 
-/// Fills `order` with the indices of the members, in ascending order. Fails if `order` cannot grow.
+/// Replaces the contents of `order` with the indices of the members, in ascending order. Fails if `order` cannot grow.
 pub(crate) fn fill(members: &[Member<'_>], order: &mut Vec<usize>) -> Result<(), AllocError>
     ensures { OnOk result (order.new.items ≡ range_with_len 0 (length members.now)) }
 {
@@ -106,7 +109,8 @@ pub(crate) fn repeats(members: &[Member<'_>], order: &[usize], k: usize) -> bool
     k + 1 < order.len() && name_at(members, order[k]) == name_at(members, order[k + 1])
 }
 
-/// Returns the span of the member at index `i`, without the comma after it. The last member ends at `end`.
+/// Returns the span of the member at index `i`, without the comma after it. The last member ends at `end`. If the index
+/// is out of range, the span is empty and stands at `end`.
 #[inline(always)]
 pub(crate) fn span_of(members: &[Member<'_>], i: usize, end: Point) -> Span
     ensures from { result.from ≡ begin_of (drop i members.now) end }
@@ -128,7 +132,8 @@ fn comma_len(first: bool) -> usize
     if first { 0 } else { 1 }
 }
 
-// Returns the point at which the member before index `i` ends. The last member ends at `end`.
+// Returns the point at which the member before index `i` ends: before the comma of the member at index `i`, or at `end`
+// if there is none.
 fn end_at(members: &[Member<'_>], i: usize, end: Point) -> Point
     ensures { result ≡ before_comma (drop i members.now) end }
 {

@@ -9,7 +9,8 @@ use miniserde_text::escape::escape_str;
 use miniserde_text::json::lex::Text;
 use std::alloc::AllocError;
 
-/// Appends a comma, unless the child after it is the first of its container. Fails if `out` cannot grow.
+/// Appends a comma to `out`, unless `first` says that the child after it is the first of its container. Fails if `out`
+/// cannot grow.
 #[inline(always)]
 pub(crate) fn put_comma(first: bool, out: &mut Vec<u8>) -> Result<(), AllocError>
     ensures { OnOk result (out.new.items ≡ out.old.items ++ comma_before first) }
@@ -20,8 +21,8 @@ pub(crate) fn put_comma(first: bool, out: &mut Vec<u8>) -> Result<(), AllocError
     Ok(())
 }
 
-/// Appends a string, by the text that the lexer returned for it and the scratch text. `escape_text`
-/// is room for its escaped text. Fails if an allocation fails.
+/// Appends a string, by the text that the lexer returned for it and the scratch text. `escape_room` is room for its
+/// escaped text. Fails if an allocation fails.
 #[inline(always)]
 pub(crate) fn put_string(
     text: Text<'_>,
@@ -38,7 +39,7 @@ pub(crate) fn put_string(
     }
 }
 
-/// Appends a decoded text as a string, by the escape rule. `escape_text` is room for its escaped text. Fails if an
+/// Appends a decoded text as a string, by the escape rule. `escape_room` is room for its escaped text. Fails if an
 /// allocation fails.
 pub(crate) fn put_escaped(
     text: &str,
@@ -63,14 +64,16 @@ fn put_plain(text: &str, out: &mut Vec<u8>) -> Result<(), AllocError>
     Ok(())
 }
 
-/// Returns whether the input has a name and its colon as they are to be written: without escapes, and without
-/// whitespace before the colon. `len` is how many bytes both have in the input.
+/// Returns `true` for a name that the input has as it is to be written, with its colon: without a backslash, and
+/// without whitespace before the colon. Returns `false` for every other name, even if its escapes are the ones to be
+/// written. `len` is how many bytes name and colon have in the input.
 #[inline(always)]
 pub(crate) fn is_as_written(text: Text<'_>, len: usize) -> bool
     ensures { (scratch part : List ℕ) → result ≡ true → len ≡ length part → NameSpelled text.entry part
         → part ≡ string_text (text_of text.entry scratch) ++ 58 ∷ [] }
 {
     match text {
+        // Two quotes and the colon.
         Text::Input(s) => len == s.len() + 3,
         Text::Scratch => false,
     }

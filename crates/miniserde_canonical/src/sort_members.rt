@@ -12,9 +12,11 @@ use std::alloc::AllocError;
 const SHORT: usize = 1024;
 
 /// Sorts the members of an object, which are at the end of the text `out`, by name, and keeps the
-/// last of equal names alone. The sorted text replaces the members if it has no splice and at most
-/// `SHORT` bytes, or any number for the outermost object; else a splice replaces them. `order` is
-/// room for indices. Returns whether the names are distinct. Fails if an allocation fails.
+/// last of equal names alone. The sorted text is made at the end of `groups`. If it has no splice
+/// and at most `SHORT` bytes, it is moved to `out` and replaces the members. `outermost` says that
+/// the object is in no other one: then the number of bytes does not count. In all other cases the
+/// text stays in `groups`, and a splice for it replaces the members. `order` is room for indices.
+/// Returns whether the names are distinct. Fails if an allocation fails.
 pub(crate) fn sort_members(
     members: &[Member<'_>],
     outermost: bool,
@@ -34,8 +36,9 @@ pub(crate) fn sort_members(
     Ok(number == members.len())
 }
 
-// Appends to the groups the members of the text `out` in the order `order`, except each whose name
-// the next in that order has too. Returns how many it appended. Fails if an allocation fails.
+// Appends to the groups the members of the text `out` in the order `order`, with commas between
+// them, except each whose name the next in that order has too. Returns how many it appended. Fails
+// if an allocation fails.
 fn put_members(
     members: &[Member<'_>],
     order: &[usize],
@@ -71,8 +74,8 @@ fn put_member(
     Ok(())
 }
 
-// Truncates the text at `point`, and appends what the groups have after `from`. If that has no
-// splice and at most `longest` bytes, it is moved to the text, and else a splice for it is
+// Truncates the text `out` at `point`, and appends what the groups have after `from`. If that has
+// no splice and at most `longest` bytes, it is moved to the text, and else a splice for it is
 // appended. Fails if an allocation fails.
 fn put_back(
     point: Point,

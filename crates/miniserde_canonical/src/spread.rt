@@ -18,14 +18,15 @@ pub(crate) struct Span {
     pub(crate) to: Point,
 }
 
-/// A splice: the span `group` of the groups belongs before the byte at index `at`.
+/// A splice: the span `group` of the groups belongs before the byte at index `at`, or at the end of the text if there
+/// is no such byte.
 #[derive(Clone, Copy, Drop)]
 pub(crate) struct Splice {
     pub(crate) at: usize,
     pub(crate) group: Span,
 }
 
-/// A text with splices.
+/// A text with splices, which are in the order of the text.
 #[derive(Drop)]
 pub(crate) struct SplicedText {
     pub(crate) bytes: Vec<u8>,
@@ -64,7 +65,8 @@ impl SplicedText {
         self.splices.truncate(point.splices);
     }
 
-    /// Appends a span of another text, with its splices. Fails if an allocation fails.
+    /// Appends a span of another text, with its splices. If the span is out of order or range in the bytes of that
+    /// text, or in its splices, appends none of these. Fails if an allocation fails or an index overflows.
     #[inline(always)]
     pub(crate) fn append(&mut self, other: &SplicedText, span: Span) -> Result<(), AllocError>
         ensures bytes { OnOk result (Within span other.now.bytes.items other.now.splices.items
@@ -85,8 +87,8 @@ impl SplicedText {
     }
 }
 
-// Returns the splice as it is after the text from index `from` on moved to index `at`. Fails if the
-// new index overflows.
+// Returns the splice as it is after the text from index `from` on moved to index `at`. A splice before `from` counts as
+// one at `from`. Fails if the new index overflows.
 fn shifted_splice(splice: Splice, from: usize, at: usize) -> Result<Splice, AllocError>
     ensures { IfOk result (λ h. h ≡ shifted_splice from at splice) }
 {

@@ -12,13 +12,13 @@ is_start true (in_list ts h) = false
 is_start true (in_members ms n h) = false
 is_start false h = false
 
--- the outcome o, if `begins` holds for the first of the events or there is no event
+-- the outcome o, if `begins` holds for the first of the events or there is no event; else nothing
 abbrev pub accepted_outcome : (Step → Bool) → List Step → Option Tree → Option Tree
 accepted_outcome begins [] o = o
 accepted_outcome begins (e ∷ es) o = if begins e then o else None
 
--- the tree that the events to come give from the hole h on, where `due` says whether a value is
--- due; if no event was taken before, `begins` must hold for the first of them
+-- The tree that the events to come give from the hole h on, where `due` says whether a value is due. If no event was
+-- taken before, `begins` must hold for the first of them. A duplicate name is no error (the flag `false` of `outcome`).
 abbrev pub document_outcome : (Step → Bool) → Bool → Hole → List Step → Option Tree
 document_outcome begins due h es = if is_start due h then accepted_outcome begins es (outcome false due h es) else outcome false due h es
 
@@ -27,7 +27,7 @@ document_outcome begins due h es = if is_start due h then accepted_outcome begin
 pub record DocumentMeaning (V : Type 0) : Type 1 where
   -- the meaning of the type by trees
   pub meant : Meaning V
-  -- whether the place takes the event as its first; if not, no document of the type begins with it
+  -- whether the type allows the event as the first; if not, no document of the type begins with it
   pub begins : Step → Bool
   -- the content of the document that is built from a tree, if there is a tree and the document is of the type
   pub only : Option Tree → Option meant.Content

@@ -1,4 +1,5 @@
--- The meaning of a struct's fields that are read from events, and of the struct's collector.
+-- The meaning of a struct's fields that are read from events, and of the struct's collector. The current field is the
+-- one whose member is being read. A member whose name no field has is skipped, by a place at the end of the fields.
 use Rattle.std.specs.Prelude.{◌≡◌, refl, Bool, true, false, List, Option, Some, None, option_map}
 use Rattle.miniserde_model.specs.Tree.{Tree}
 use Rattle.miniserde_model.specs.Step.{Step, key, events}
@@ -19,13 +20,15 @@ pub record FieldPlacesMeaning (F V : Type 0) : Type 1 where
   pub meant : FieldsMeaning V
   -- the state of the fields so far
   pub state : F → meant.State
-  -- the state after one more member, by the fields' names, the state, the member's name and its events
+  -- the state after one more member, if the member is no error, by the fields' names, the state before it, the member's
+  -- name and the events of its value
   pub by_events : List Name → meant.State → Name → List Step → Option meant.State
   -- a member's events lead to the same state as its tree
   pub events_agree : (names : List Name) (s : meant.State) (k : Name) (t : Tree) → by_events names s k (events t) ≡ meant.next_state names s k t
   -- a member for whose name `meant.refuses` holds gives no state, whatever its events
   pub refused : (names : List Name) (s : meant.State) (k : Name) → meant.refuses names s k ≡ true → (es : List Step) → by_events names s k es ≡ None
-  -- the view of the current field's place; its outcome is the state after that field's member
+  -- the view of the current field's place, or of the place of a skipped member; its outcome is the state after that
+  -- member
   pub child : F → PlaceView meant.State
 
 -- the meaning of no field: a place skips each member, and `skipped` returns the view of that place
@@ -39,17 +42,16 @@ no_field_places skipped = record {
   child = λ f. view_through (λ _. Some tt) (skipped f);
 }
 
--- The view of the current field's place. If the first field is current, its place is given and
--- `view` returns the place's view; else the view is `later`. v is the first field's content so far,
--- and s the state of the later fields.
+-- The view of the current field's place. Its outcome is the state of all fields: v is the first field's content so far,
+-- and s the state of the later fields. The last argument is the first field's place if that field is current, and
+-- `view` returns the view of it. If it is `None`, `later` is the view of the current place among the later fields.
 abbrev pub field_view : {P A S : Type 0} → (P → PlaceView A) → Option A → S → PlaceView S → Option P → PlaceView (Option A × S)
 field_view view v s later None = view_through (λ r. Some (v, r)) later
 field_view view v s later (Some p) = view_through (λ a. Some (Some a, s)) (view p)
 
--- The meaning of a field and of the fields after it. `once` says whether a duplicate of its name
--- fails, m is the meaning of its place, and `absent` its value if it is missing. `value` returns
--- its value so far, `child` its place if it is the current field, and `rest` the later fields,
--- which have the meaning n.
+-- The meaning of a field and of the fields after it. `once` says whether a duplicate of its name fails, m is the
+-- meaning of its place, and `absent` its value if it is missing, if it has one then. `value` returns its value so far,
+-- `child` its place if it is the current field, and `rest` the later fields, which have the meaning n.
 abbrev pub field_place_and : {P T F R V : Type 0} → Bool → PlaceMeaning P T → Option T → (F → Option T) → (F → Option P) → (F → R) → FieldPlacesMeaning R V → FieldPlacesMeaning F (T × V)
 field_place_and once m absent value child rest n = record {
   meant = field_and once None (type_meaning m) absent n.meant;

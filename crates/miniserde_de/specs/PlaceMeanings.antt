@@ -1,5 +1,8 @@
--- The meanings of the places of std's types, by the meanings of their parts' places.
--- P is the place of a part, V the type of the part, C the collector, and W the whole.
+-- The meanings of the places of std's types, by the meanings of their parts' places. A part is an
+-- item of a list or an array, one of the two values of a pair, a value of a map, or the value
+-- inside an option or a box. P is the place of a part, V the type of the part, C the collector, and
+-- W the whole. `child_view` and `view_through` make of the view of a child's place one whose
+-- outcome is the state after that child.
 use Rattle.std.specs.Prelude.{ℕ, false, true, List, [], ◌∷◌, ◌++◌, map, length, nat_le, ◌&&◌, is_some, Option, Some, None, option_map}
 use Rattle.miniserde_model.specs.Step.{Step}
 use Rattle.miniserde_model.specs.Position.{start, complete}
@@ -58,8 +61,9 @@ array_collector n m items child whole = record {
   refuses = λ s _. nat_le n (length s);
 }
 
--- the view of the place of a pair's current part, if there is one; f and g return the views of the
--- first and the second part's place, and a and b are the contents of the parts so far
+-- the view of the place of a pair's current part, or `no_child` if there is none; f and g return
+-- the views of the first and the second part's place, and a and b are the contents of the parts so
+-- far
 abbrev pub part_view : {P Q A B : Type 0} → (P → PlaceView A) → (Q → PlaceView B) → Option A → Option B → Part P Q → PlaceView (Option A × Option B)
 part_view f g a b Neither = no_child
 part_view f g a b (First p) = view_through (λ x. Some (Some x, b)) (f p)
@@ -84,7 +88,8 @@ pair_collector m n first second child one two = record {
 -- The meaning of a map's collector. `read` returns the content of the key that a name is read as,
 -- `code` the part of this content that `Eq` compares, and `key` the content of a key; m is the
 -- meaning of a value's place. `entries` returns the entries so far, `pending` the current key,
--- `child` the current value's place, and `whole` a complete map's entries.
+-- `child` the current value's place, and `whole` a complete map's entries. Without a current key, a
+-- value gives nothing.
 abbrev pub map_collector : {K P V C W : Type 0} → (Name → Option Key) → (Key → Key) → (K → Key) → PlaceMeaning P V → (C → List (K × V)) → (C → Option K) → (C → Option P) → (W → List (K × V)) → CollectorMeaning C W
 map_collector read code key m entries pending child whole = record {
   meant = map_meaning read code key (type_meaning m) whole;
@@ -98,8 +103,9 @@ map_collector read code key m entries pending child whole = record {
   refuses = λ _ _. false;
 }
 
--- the view of the place of an optional value by its state: f is the outcome of a fresh place of the
--- value inside, and `view` returns the view of that place
+-- The view of the place of an optional value by its state: f is the outcome of a fresh place of the
+-- value inside, and `view` returns the view of that place. If an error came while there was no such
+-- place, the position is `start`, and nothing has an outcome.
 abbrev pub option_view : {P A : Type 0} → (List Step → Option A) → (P → PlaceView A) → OptionState P → PlaceView (Option A)
 option_view f view (Fresh _) = record { at = start; outcome = option_mean f; refused = None }
 option_view f view Null = record { at = complete; outcome = nothing_more None; refused = None }

@@ -1,4 +1,6 @@
--- The meanings of the places of documents and numbers, and what an event does to such a place.
+-- The meanings of the places of documents and numbers, and what an event does to such a place. The first flag of
+-- `outcome` and of `after_step_once` says whether a duplicate name gives nothing; the second flag says whether a value
+-- is due.
 use Rattle.std.specs.Prelude.{◌≡◌, Bool, true, false, [], Option, Some, None, Result, Err, OnOk, refl}
 use Rattle.miniserde_model.specs.Tree.{Tree}
 use Rattle.miniserde_model.specs.Step.{Step}
@@ -66,8 +68,8 @@ abbrev pub unique_place_meaning : PlaceMeaning UniquePlace Unique
 unique_place_meaning = place_meaning unique_meaning (outcome true true (outside [])) once-whole
     (λ p. record { at = (depth (hole_at p.place), due_in p.place); outcome = outcome true (due_in p.place) (hole_at p.place); refused = refusal_of p.place })
 
--- the meaning of the place of a type of documents (`Array`, `Object` or `Document`), by the meaning
--- k of that type
+-- the meaning of the place of a type of documents (`Array`, `Object` or `Document`), by the meaning k of that type; K
+-- is the type's marker
 abbrev pub document_place_meaning : {K V : Type 0} → DocumentMeaning V → PlaceMeaning (DocumentTypePlace K) V
 document_place_meaning k = place_meaning k.meant (λ es. k.only (document_outcome k.begins true (outside []) es)) k.whole
     (λ p. record { at = (depth (hole_at p.place), due_in p.place); outcome = λ es. k.only (document_outcome k.begins (due_in p.place) (hole_at p.place) es); refused = refusal_of p.place })

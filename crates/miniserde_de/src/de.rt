@@ -26,7 +26,8 @@ pub trait Deserialize: FromJson {
     /// The place of the type.
     type Place: Visitor<Out = Self>;
 
-    /// Does nothing. It promises that the place means what the type does: the same trees mean the same values.
+    /// Does nothing. It promises that the place means what the type does: the same trees mean the same values, and the
+    /// same trees give a content.
     fn tied()
         ensures { Agree (type_meaning Self.Place.meaning) Self.means };
 

@@ -1,4 +1,5 @@
-//! Promises about `feed` followed by `take`. No function here does anything when it runs.
+//! Promises about `feed`, which hands a fresh place the events of a text (`miniserde_place`), followed by `take`. No
+//! function here does anything when it runs.
 ghost use Rattle.std.specs.Prelude.{◌≡◌, Some, None, []};
 ghost use Rattle.miniserde_model.specs.Tree.{Tree};
 ghost use Rattle.miniserde_model.specs.Step.{events};
@@ -10,8 +11,9 @@ use crate::de::Deserialize;
 use miniserde_model::events_complete;
 use miniserde_place::de::Visitor;
 
-/// Does nothing. It promises that after the events of a tree a place that was fresh is complete, and that its value
-/// is then the one that the tree means for the place.
+/// Does nothing. It promises what a place gives for the events of a tree. The outcome of these events in a fresh place
+/// is the content that the tree gives, or `None` if the tree gives none. After them the place is complete, and its
+/// outcome without further events is the same.
 pub fn events_give<V: Visitor>()
     // This is about the place before `feed`: with it the clause `invalid` of `feed` speaks of the tree.
     ensures fresh { (p : PlaceView V.meaning.Content) → IsFresh V.meaning.from_events p → (t : Tree)
@@ -25,8 +27,9 @@ pub fn events_give<V: Visitor>()
     events_complete();
 }
 
-/// Does nothing. It promises that after the events of a tree a place of the type that was fresh is complete, and that
-/// its value is then one that the tree means for the type.
+/// Does nothing. It promises what the place of a type gives for the events of a tree. After them a place that was fresh
+/// is complete, and a value that it gives is one that the tree means. If it gives none, the tree means none. If these
+/// events have no outcome in a fresh place, the tree means none either.
 pub fn events_mean<T: Deserialize>()
     // The place is complete, and `take` returns a value that the tree means.
     ensures complete { (t : Tree) (p : PlaceView T.Place.meaning.Content) → IsFed T.Place.meaning t p → p.at ≡ complete }

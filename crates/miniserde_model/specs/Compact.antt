@@ -6,7 +6,8 @@ use Rattle.miniserde_model.specs.Tree.{Tree, null, truth, nonneg, neg, num, str,
 use Rattle.miniserde_model.specs.Value.{word}
 use Rattle.std.proofs.Common.{ap, arith, get_or}
 
--- the bytes that stand inside a string for one byte of its text: an escape if the byte needs one, or itself
+-- the bytes that stand inside a string for one byte of its text: its shortest escape, with hexadecimal digits in lower
+-- case, if the byte needs one, or else itself
 abbrev pub escape_text : ℕ → List ℕ
 escape_text x =
     if x == 0x08 then reverse_solidus ∷ letter_b ∷ [] else

@@ -20,7 +20,7 @@ pub record SpelledTexts : Type 0 where
   pub escapes : IsJson (codes "\"\\u0041\\/\"") (str (codes "A/"))
   pub repeated_name : IsJson (codes "{\"a\":1,\"a\":2}") (members (member (codes "a") (nonneg 1) (member (codes "a") (nonneg 2) no_members)))
 
--- trees with their normal forms and their compact texts
+-- trees with their normal forms or compact texts
 pub record NormalForms : Type 0 where
   pub last_stays : norm (members (member (codes "a") (nonneg 1) (member (codes "a") (nonneg 2) no_members))) ≡ members (member (codes "a") (nonneg 2) no_members)
   pub last_stays_text : compact (norm (members (member (codes "a") (nonneg 1) (member (codes "a") (nonneg 2) no_members)))) ≡ codes "{\"a\":2}"

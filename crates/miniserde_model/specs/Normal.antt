@@ -10,9 +10,9 @@ use Rattle.miniserde_model.specs.Tree.{Tree, nonneg, neg, list, members, Trees, 
 abbrev pub text_cmp : List ℕ → List ℕ → Ordering
 text_cmp = slice_cmp nat_cmp
 
--- one step of `with_if_absent`, for members of which the first has the name `other` and the tree u and
--- the later ones are ms: the first argument is the order of `name` and `other`, and `more` is the
--- result of `with_if_absent` for ms
+-- One step of `with_if_absent`, which adds the tree t under `name`, for members of which the first has the name `other`
+-- and the tree u and the later ones are ms. The first argument is the order of `name` and `other`, and `more` is the
+-- result of `with_if_absent` for ms.
 abbrev pub with_if_absent_by : Ordering → List ℕ → Tree → List ℕ → Tree → Members → Members → Members
 with_if_absent_by Less name t other u ms more = member name t (member other u ms)
 with_if_absent_by Equal name t other u ms more = member other u ms
@@ -83,9 +83,9 @@ Rise (member name t ms) = BeginsAbove name ms × Rise ms
 
 -- ---- the normal form as a reader makes it, from the left
 
--- one step of `put`, for members of which the first has the name `other` and the tree u and the
--- later ones are ms: the first argument is the order of `name` and `other`, and `more` is the
--- result of `put` for ms
+-- One step of `put`, which adds the tree t under `name`, for members of which the first has the name `other` and the
+-- tree u and the later ones are ms. The first argument is the order of `name` and `other`, and `more` is the result of
+-- `put` for ms.
 abbrev pub put_first_by : Ordering → List ℕ → Tree → List ℕ → Tree → Members → Members → Members
 put_first_by Less name t other u ms more = member name t (member other u ms)
 put_first_by Equal name t other u ms more = member name t ms

@@ -31,7 +31,7 @@ Allowed p element = (p.1 ≡ false) × (0 < p.0)
 Allowed p (key _) = (p.1 ≡ false) × (0 < p.0)
 Allowed p finish = (p.1 ≡ false) × (0 < p.0)
 
--- the position after one event at the position p
+-- the position after one event at the position p, whether the event may come there or not
 abbrev pub next : Position → Step → Position
 next p step.null = (p.0, false)
 next p (boolean _) = (p.0, false)

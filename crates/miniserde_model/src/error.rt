@@ -11,7 +11,7 @@ use std::{error, fmt};
 pub enum Error {
     /// The input is not what the call accepts. The error tells no position and no detail.
     Invalid,
-    /// An allocation failed.
+    /// An allocation failed, or a length overflowed.
     Memory,
 }
 

@@ -1,6 +1,9 @@
-//! What a JSON text means: the definitions stand in `specs/`, and each function here promises a law over them and
-//! does nothing. The module `error` has the error of the library, `kind` the kinds of containers. No text is read or
-//! written here.
+//! What a JSON text means: the definitions stand in `specs/`, and each function here promises a law over them and does
+//! nothing. The module `error` has the error of the library, `kind` the kinds of containers. No text is read or written
+//! here.
+//!
+//! A tree is in range (`InRange`) exactly if some text spells it: its integers fit 64 bits, its number texts are other
+//! numbers, and its strings are UTF-8.
 #![tactic(auto)]
 
 ghost use Rattle.miniserde_model.specs.Examples.{NormalForms, RefusedTexts, SpelledTexts};
@@ -27,8 +30,8 @@ pub fn json_is_utf8()
     ensures { JsonIsUtf8 }
 {}
 
-/// Does nothing. It promises that the compact text of a tree spells the tree, both as a whole text and as a value
-/// without whitespace around it.
+/// Does nothing. It promises that the compact text of a tree in range spells the tree, both as a whole text and as a
+/// value without whitespace around it.
 pub fn compact_spells()
     ensures text { CompactSpells }
     ensures value { CompactIsValue }
@@ -58,7 +61,8 @@ pub fn norm_of_distinct()
     ensures size { DistinctKeepsSize }
 {}
 
-/// Does nothing. It promises that two trees have equal canonical texts exactly if they have equal normal forms.
+/// Does nothing. It promises that two trees, each of which some text spells, have equal canonical texts exactly if they
+/// have equal normal forms.
 pub fn canonical_texts_equal()
     ensures { CanonicalTextsEqual }
 {}
@@ -69,14 +73,14 @@ pub fn canonical_is_shortest()
 {}
 
 /// Does nothing. It promises that a value is complete after the events of its tree, and that no list of events that
-/// completes a value is a proper prefix of another such list.
+/// completes a position is a proper prefix of another one that completes the same position.
 pub fn events_complete()
     ensures one { EventsComplete }
     ensures only { CompletionsArePrefixFree }
 {}
 
-/// Does nothing. It promises worked examples: texts with their trees, normal forms with their compact texts, and
-/// texts without a tree.
+/// Does nothing. It promises worked examples: texts with their trees, trees with their normal forms or compact texts,
+/// and texts without a tree.
 pub fn worked_examples()
     ensures spelled { SpelledTexts }
     ensures normal { NormalForms }

@@ -1,5 +1,6 @@
-//! The traits of types whose values are read back as they were written, for std's types. The same is promised of
-//! structs in `miniserde_record`, and of enums in `miniserde_enum`.
+//! The traits of types whose values are read back from their texts, with the same tree (`RoundTrip`) or with the same
+//! content (`Lossless`), for std's types. `NeverNull` is for the latter. The same is promised of structs in
+//! `miniserde_record`, and of enums in `miniserde_enum`.
 #![tactic(auto)]
 
 mod lossless;

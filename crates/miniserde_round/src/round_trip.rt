@@ -1,4 +1,4 @@
-//! The trait `RoundTrip` of types whose values are read back as they were written.
+//! The trait `RoundTrip` of types whose values are read back from their texts as values with the same tree.
 ghost use Rattle.std.specs.Prelude.{◌≡◌, IfOk, Ok, Err};
 ghost use Rattle.miniserde_model.specs.Tree.{Tree};
 ghost use Rattle.miniserde_model.specs.Value.{IsJson};
@@ -46,7 +46,8 @@ pub fn read_back<T: RoundTrip>(alloc: Global, text: &str) -> Result<T>
     Ok(read)
 }
 
-/// Writes a value and reads it back. Returns a value with the same tree, or `Memory` if an allocation fails.
+/// Writes a value and reads it back. Returns a value with the same tree, or `Memory` if an allocation fails. If all
+/// valid values with that tree have the same content, the result has it too.
 pub fn write_and_read<T: RoundTrip>(alloc: Global, value: &T) -> Result<T>
     ensures same { IfOk result (λ v. T.tree v ≡ T.tree value.now) }
     ensures itself { ((v : T) → T.real v → T.tree v ≡ T.tree value.now

@@ -1,4 +1,5 @@
-//! The promises of `RoundTrip`, `Lossless` and `NeverNull` for tuples of three to six items.
+//! The promises of `RoundTrip`, `Lossless` and `NeverNull` for tuples of three to six items. A
+//! tuple is written as a list, so it is never `null`.
 
 use crate::lossless::{Lossless, NeverNull};
 use crate::round_trip::RoundTrip;

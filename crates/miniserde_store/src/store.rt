@@ -29,7 +29,7 @@ pub fn read_canonical<T: Stable>(alloc: Global, j: &str) -> Result<(T, String)>
     ensures one { IfOk result (λ r. (b : List ℕ) (u : Tree) (w : T) → IsJson b u → string_bytes r.1 ≡ compact (norm u)
         → T.means.reads u w → T.means.content w ≡ T.means.content r.0) }
 
-    // If the text is `Invalid`, it means no value.
+    // If the result is `Invalid`, the text means no value.
     ensures invalid { result ≡ Err Invalid → (t : Tree) → IsJson j.now t → (v : T) → T.means.reads t v → ⊥ }
 {
     means_in_normal_form::<T>();

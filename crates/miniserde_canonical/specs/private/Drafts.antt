@@ -1,5 +1,6 @@
 -- How a draft holds a state, and what canonical tokens do to a draft. A state (`State`) is the canonical text so far,
--- with the members of the open objects; canonical tokens (`Token`) are leaves, brackets, names and elements' beginnings.
+-- with the members of the open objects; canonical tokens (`Token`) are leaves, brackets, names and elements'
+-- beginnings.
 use Rattle.std.specs.Prelude.{◌≡◌, ℕ, true, false, List, ◌++◌, length, ⊤}
 use Rattle.miniserde_model.specs.private.Reading.{Moment, due, first, after}
 use Rattle.miniserde_canonical.specs.Token.{Token}
@@ -17,7 +18,8 @@ pub record Wrote (d : Draft) (rest bs : List ℕ) : Type 0 where
   pub left : d.left ≡ length (run ++ rest)
   pub text : d.out.bytes.items ++ run ≡ bs
 
--- if bs are the bytes of the draft's text, the draft holds the state s
+-- If bs are the bytes of the draft's text with its run, the draft holds the state s: its members are the entries of s,
+-- with its splices filled its text is the text of s, and `opened` and `distinct` agree. The draft has no flag `first`.
 pub record Holding (d : Draft) (bs : List ℕ) (s : State) : Type 0 where
   pub chain : Chain d.members.items s.entries d.groups.bytes.items d.groups.splices.items 0 0 bs d.out.splices.items s.last
   pub good : SplicesInOrder d.groups.splices.items d.out.splices.items
@@ -30,7 +32,8 @@ pub record Represents (d : Draft) (rest : List ℕ) (s : State) : Type 0 where
   pub wrote : Wrote d rest bytes
   pub holding : Holding d bytes s
 
--- from d to d' nothing changes but the bytes of the text and the run of input that is not in it yet
+-- From d to d' the splices, the groups, the members, the open objects and `is_distinct` stay. The bytes of the text and
+-- the run may change, and so may `order` and `escaped`, which are room.
 pub record ChangesOnlyText (d d' : Draft) : Type 0 where
   pub splices : d'.out.splices.items ≡ d.out.splices.items
   pub groups : d'.groups.bytes.items ≡ d.groups.bytes.items

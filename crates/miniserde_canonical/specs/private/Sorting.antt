@@ -1,5 +1,6 @@
--- How the members of an object that closes are put in order, in the text and in the groups.
--- ms and gs: the bytes and splices of the groups; bs and hs: the bytes and splices of a text.
+-- How the members of an object that closes are put in order, in the text and in the groups. ms and gs: the bytes and
+-- splices of the groups; bs and hs: the bytes and splices of a text. They hold the text that the bytes are once each
+-- splice is filled with its group (`Holds`).
 use Rattle.std.specs.Prelude.{◌≡◌, ◌≤◌, ◌+◌, ℕ, Bool, true, List, [], ◌∷◌, ◌++◌, length, take, drop, ⊤}
 use Rattle.miniserde_model.specs.Tree.{Tree, str}
 use Rattle.miniserde_model.specs.Normal.{norm_members}

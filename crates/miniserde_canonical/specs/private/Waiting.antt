@@ -1,4 +1,5 @@
--- The spans of groups that wait to be written; the last of them is written first.
+-- The spans of groups that wait to be written; the last of them is written first. A span holds the
+-- text that its bytes are once each of its splices is filled with its group (`Holds`).
 use Rattle.std.specs.Prelude.{◌≡◌, ◌-◌, ◌+◌, ◌^◌, ℕ, List, [], ◌∷◌, ◌++◌}
 use Rattle.miniserde_canonical.specs.declared.spread.Span.{Span}
 use Rattle.miniserde_canonical.specs.declared.spread.Splice.{Splice}
@@ -14,11 +15,12 @@ abbrev pub Waits : List ℕ → List Splice → List Span → List ℕ → Type 
 Waits ms gs [] x = x ≡ []
 Waits ms gs (p ∷ ps) x = (y z : List ℕ) × Waits ms gs ps y × SpanHolds ms gs p z × (x ≡ y ++ z)
 
--- a bound on the calls that write the span: each splice counts for more than all splices before it
+-- a bound on the calls of `put_span` that write the span: each splice counts for more than all
+-- splices before it
 abbrev pub span_measure : Span → ℕ
 span_measure p = 1 + (2 ^ (1 + p.to.splices) - 2 ^ (1 + p.from.splices))
 
--- a bound on the calls that write the spans
+-- a bound on the calls of `put_span` that write the spans
 abbrev pub spans_measure : List Span → ℕ
 spans_measure [] = 0
 spans_measure (p ∷ ps) = span_measure p + spans_measure ps

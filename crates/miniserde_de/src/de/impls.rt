@@ -1,4 +1,5 @@
-//! The places of std's types, in one module for each shape of value.
+//! The places of std's types, in one module for each shape of value. `VecDeque` and tuples of more
+//! than two items have none.
 
 mod arrays;
 mod boxes;

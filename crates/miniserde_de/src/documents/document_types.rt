@@ -32,7 +32,8 @@ pub trait DocumentType: Drop {
     // Which trees mean which documents of the type, and which events begin them.
     ghost document_meaning: { DocumentMeaning Self.Out };
 
-    /// Returns whether the place takes the event as its first. If not, no document of this type begins with it.
+    /// Returns whether the type allows the event as the first. If not, no document of this type begins with it. If so,
+    /// the place of the `Value` may still refuse it.
     fn begins(event: &Step<'_>) -> bool
         ensures { result ≡ document_meaning.begins (event_of event.now) };
 
@@ -45,6 +46,7 @@ pub trait DocumentType: Drop {
 #[derive(Drop)]
 pub struct DocumentTypePlace<K> {
     place: ValuePlace,
+    // The marker of the type of documents. It takes no memory.
     document_meaning: PhantomData<K>,
 }
 
@@ -59,8 +61,7 @@ impl<K: DocumentType> Visitor for DocumentTypePlace<K> {
 
     ghost take_infallible = { true };
 
-    // An event with which a document of the type may begin does to the hole what it does in the
-    // place of a `Value`.
+    // An event for which `begins` holds does to the hole what it does in the place of a `Value`, wherever it comes.
     ghost further = { λ old e answer new. K.document_meaning.begins e ≡ true → ValueTakes old.place e answer new.place };
 
     fn begin(alloc: Global) -> Result<DocumentTypePlace<K>> {
@@ -136,6 +137,7 @@ impl DocumentType for DocumentMarker {
     ghost document_meaning = { documents };
 
     fn begins(_event: &Step<'_>) -> bool {
+        // An event that begins no value is refused by the place of the `Value`.
         true
     }
 

@@ -7,7 +7,8 @@ use miniserde_place::de::leaf::LeafPlace;
 use miniserde_value::json::number::Number;
 use std::alloc::Global;
 
-/// The place of a `Number`.
+/// The place of a `Number`: the place of a leaf. It is a struct of its own, since the toolchain
+/// refuses `LeafPlace<Number>` as the place of `Number` (`docs/DECISIONS.md`).
 #[derive(Drop)]
 pub struct NumberPlace {
     place: LeafPlace<Number>,

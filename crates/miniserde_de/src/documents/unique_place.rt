@@ -7,7 +7,8 @@ use miniserde_model::error::{Error, Result};
 use miniserde_value::json::unique::Unique;
 use std::alloc::Global;
 
-/// The place of a `Unique`. The event of a duplicate name fails with `Invalid`.
+/// The place of a `Unique`. The event of a duplicate name fails with `Invalid`, or with the error
+/// that the place keeps already.
 #[derive(Drop)]
 pub struct UniquePlace {
     place: ValuePlace,
@@ -25,7 +26,8 @@ impl Visitor for UniquePlace {
     ghost take_infallible = { true };
 
     // An event that is accepted does to the hole what it does in the place of a `Value`. A
-    // duplicate name fails.
+    // duplicate name fails. The first error is `Invalid` only for a duplicate name or an event that
+    // does not fit the hole.
     ghost further = { UniqueTakes };
 
     fn begin(alloc: Global) -> Result<UniquePlace> {

@@ -42,9 +42,9 @@ impl ValuePlace {
         }
     }
 
-    // Takes an event between two values: the start of an element or a member, or the end of the
-    // innermost container. Returns whether a value is due after the event. Returns `Invalid` if the
-    // event is none of these or does not fit the container, and `Memory` if an allocation fails.
+    // Takes an event between two values: the start of an element or a member, or the end of the innermost container.
+    // Returns whether a value is due after the event. Returns `Invalid` if the event is none of these, if it does not
+    // fit the container, or if no container is open, and `Memory` if an allocation fails.
     #[inline(always)]
     fn step_between_values(&mut self, event: Step<'_>) -> Result<bool>
         ensures ok { IfOk result (λ due.
@@ -66,8 +66,8 @@ impl ValuePlace {
         }
     }
 
-    // Takes an event. Returns `Invalid` if no value has the event here, and `Memory` if an allocation fails. The
-    // place does not keep the error yet.
+    // Takes an event. Returns `Invalid` if no value has the event here, and `Memory` if an allocation fails. The place
+    // does not keep the error: `step` does that.
     #[inline(always)]
     fn accept(&mut self, event: Step<'_>) -> Result<()>
         requires { EventInRange (event_of event) }

@@ -1,4 +1,5 @@
-//! The fields of a struct that are collected from events, as a chain.
+//! The fields of a struct that are collected from events, as a chain. The current value is that of the member that is
+//! being read. A member whose name no field has is skipped: the end of the chain takes its value, and drops it.
 ghost use Rattle.std.specs.Prelude.{◌≡◌, ◌&&◌, Bool, true, false, Option, None, Some, Ok, Err, [], IfOk, option_map, is_some, map};
 ghost use Rattle.miniserde_model.specs.Position.{complete};
 ghost use Rattle.miniserde_model.specs.declared.error.Error.{Error};
@@ -32,8 +33,9 @@ pub trait Fields: Drop {
     fn new() -> Self
         ensures { meaning.state result ≡ meaning.meant.empty };
 
-    /// Begins the value of a member whose name is `name`. `names` has the names of the fields. Returns `Invalid` if
-    /// the field of that name takes one member alone and has a value already, and `Memory` if an allocation fails.
+    /// Begins a fresh place for the value of a member whose name is `name`. `names` has the names of the fields of this
+    /// chain, in their order. A field for which it has no name takes no member. Returns `Invalid` if the field of that
+    /// name takes one member alone and has a value already, and `Memory` if an allocation fails.
     fn begin_child(&mut self, alloc: Global, names: &[&str], name: &str) -> Result<()>
         ensures fresh { IfOk result (λ _. IsFresh
             (meaning.by_events (map (λ n. n.now) names.now) (meaning.state self.old) name.now)
@@ -58,8 +60,9 @@ pub trait Fields: Drop {
     fn is_child_complete(&self) -> bool
         ensures { result ≡ is_complete (meaning.child self.now).at };
 
-    /// Adds the current value, which is complete, to the values so far. Returns the error that its place keeps,
-    /// `Invalid` if the events mean no value, or `Memory` if an allocation fails.
+    /// Adds the current value, which is complete, to the values so far. It replaces an earlier value of the same field.
+    /// A skipped value adds nothing. Returns the error that its place keeps, `Invalid` if the events mean no value, or
+    /// `Memory` if an allocation fails.
     fn join(&mut self) -> Result<()>
         ensures joined { IfOk result (λ _. (meaning.child self.old).outcome [] ≡ Some (meaning.state self.new)) }
         ensures invalid { result ≡ Err Error.Invalid → (meaning.child self.old).refused ≡ None
@@ -77,7 +80,8 @@ pub trait Fields: Drop {
         ensures { option_map meaning.meant.content result ≡ meaning.meant.end (meaning.state self) };
 }
 
-/// The end of a chain of fields. Members of all other names are skipped.
+/// The end of a chain of fields. It takes the values of members whose name no field has, and drops them. If no member
+/// was begun, events go to its place too.
 #[derive(Drop)]
 pub struct NoField {
     skipped: Ignore,
@@ -124,8 +128,8 @@ impl Fields for NoField {
     }
 }
 
-/// A field of the type `T`, and the fields `R` after it. It has its value so far, and its place `P`
-/// while a member of its name is read. `O` says whether the field takes one member alone.
+/// A field of the type `T`, and the fields `R` after it. It has its value so far, and its place `P` while a member of
+/// its name is read. `O` is its mark, `Plain` or `Once<Plain>`, and says whether the field takes one member alone.
 pub struct FieldOf<P, T, O, R> {
     value: Option<T>,
     child: Option<P>,
@@ -133,14 +137,16 @@ pub struct FieldOf<P, T, O, R> {
     rest: R,
 }
 
-/// A field of the type `T`, and the fields after it. If its name is a duplicate, the last member counts.
+/// A field of the type `T`, and the fields after it. If its name is a duplicate, the last member counts, and the values
+/// of the others must be of the type too.
 pub type Field<T, R> = FieldOf<<T as Deserialize>::Place, T, Plain, R>;
 
-/// A field of the type `T` that takes one member alone, and the fields after it. If its name is a
-/// duplicate, the second `key` event with that name fails with `Invalid`. Duplicates of other
-/// names, and inside of values, are no error.
+/// A field of the type `T` that takes one member alone, and the fields after it. If its name is a duplicate, the second
+/// `key` event with that name fails with `Invalid`. Of duplicates of other names, and inside of values, it says
+/// nothing.
 pub type OnceField<T, R> = FieldOf<<T as Deserialize>::Place, T, Once<Plain>, R>;
 
+// Written out, so that the mark `O` need not be `Drop`.
 impl<P: Drop, T: Drop, O, R: Drop> Drop for FieldOf<P, T, O, R> {
     fn drop(self) {
         let FieldOf {
@@ -188,6 +194,7 @@ impl<T: Deserialize, O: Repeats, R: Fields> Fields for FieldOf<T::Place, T, O, R
                     self.rest.begin_child(alloc, more, name)
                 }
             }
+            // `names` has no name for this field.
             None => {
                 self.child = None;
                 self.rest.begin_child(alloc, names, name)

@@ -22,7 +22,8 @@ pub struct RecordOf<S, F> {
     record: PhantomData<S>,
 }
 
-/// The place of a struct. Each struct has a place type of its own, with this place inside.
+/// The place of a struct. `./derive` writes a place type for a struct of a user, with this place
+/// inside.
 pub type RecordPlace<S> = ContainerPlace<RecordOf<S, <S as PlacedRecord>::Fields>>;
 
 impl<S: PlacedRecord + 'static> Collect for RecordOf<S, S::Fields> {

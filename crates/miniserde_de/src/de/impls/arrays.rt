@@ -8,7 +8,9 @@ use miniserde_model::error::{Error, Result};
 use miniserde_place::de::container::{Collect, ContainerPlace};
 use std::alloc::Global;
 
-/// The collector of an array: a list of at most `N` items so far.
+/// The collector of an array: a list of at most `N` items so far. The start of an item after the
+/// `N`-th fails with `Invalid`. If there is no current item, `step`, `refuse` and `join` return
+/// `Invalid`, as those of `ListOf` do.
 #[derive(Drop)]
 pub struct ArrayOf<P, T, const N: usize> {
     list: ListOf<P, T>,

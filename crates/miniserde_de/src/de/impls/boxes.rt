@@ -6,7 +6,8 @@ use super::super::{Deserialize, Step, Visitor};
 use miniserde_model::error::{Error, Result};
 use std::alloc::Global;
 
-/// The place of a `Box`: the place of the value inside, which is boxed when it is taken.
+/// The place of a `Box`: the place of the value inside. `take` boxes the value, and returns
+/// `Memory` if that fails to allocate.
 #[derive(Drop)]
 pub struct BoxPlace<P> {
     alloc: Global,
@@ -23,6 +24,7 @@ where
 
     ghost begin_infallible = { P.begin_infallible };
 
+    // An event does what it does in the place of the value inside.
     ghost further = { λ old e answer new. P.further old.place e answer new.place };
 
     fn begin(alloc: Global) -> Result<BoxPlace<P>> {

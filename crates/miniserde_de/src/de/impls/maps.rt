@@ -1,4 +1,5 @@
-//! The places of `BTreeMap` and `HashMap`.
+//! The places of `BTreeMap` and `HashMap`. If the names of two members are read as equal keys, the
+//! map has the first key and the last value.
 ghost use Rattle.std.specs.Prelude.{◌≡◌, [], List, Option, None, Ok, IfOk, OnErr, IsErrOf};
 ghost use Rattle.miniserde_model.specs.declared.error.Error.TheVariants.{Memory};
 ghost use Rattle.miniserde_read.specs.types.Maps.{map_content, with_entry};
@@ -13,7 +14,8 @@ use std::collections::{BTreeMap, HashMap};
 use std::hash::{BuildHasher, Hash};
 
 /// The collector of a map: the entries so far, and the key and the place of the current value, if
-/// there is one.
+/// there is one. If there is no current value, a contract sees a place whose first error is
+/// `Invalid`, so `step`, `refuse` and `join` return `Invalid`.
 #[derive(Drop)]
 pub struct MapOf<M, K, P> {
     table: M,
@@ -85,6 +87,7 @@ impl<P: Visitor, M: Table<Value = P::Out>> Collect for MapOf<M, M::Key, P> {
     fn join(&mut self) -> Result<()> {
         match (self.child.take(), self.key.take()) {
             (Some(place), Some(key)) => self.table.put(key, place.take()?),
+            // Never so, since `begin_child` sets both. An error of the place would come first.
             (Some(place), None) => {
                 place.take()?;
                 Err(Error::Invalid)

@@ -12,14 +12,14 @@ enum OptionState<P> {
     Fresh(Global),
     // The event `null` came.
     Null,
-    // Another event came first, and the place of the value takes all events.
+    // Another event came first. It and all later ones go to the place of the value, which keeps its own first error.
     Inner(P),
-    // The first error.
+    // The first error, which came while there was no place of the value.
     Refused(Error),
 }
 
-/// The place of an `Option`. If its first event is not `null`, it begins the place of the value, which takes all
-/// events.
+/// The place of an `Option`. If its first event is not `null`, it begins the place of the value, which takes this event
+/// and all later ones. After `null`, the next event fails with `Invalid`.
 #[derive(Drop)]
 pub struct OptionPlace<P> {
     state: OptionState<P>,

@@ -1,4 +1,4 @@
-//! The place of pairs.
+//! The place of pairs. The parts of a pair are its first and its second value.
 ghost use Rattle.std.specs.Prelude.{Option, None, ◌&&◌};
 ghost use Rattle.miniserde_de.specs.PlaceMeanings.{pair_collector};
 
@@ -17,7 +17,7 @@ enum Part<P, Q> {
 }
 
 /// The collector of a pair: its parts so far, and the place of the current part. If there is no current part, a
-/// contract sees a place whose first error is `Invalid`, so `step` and `refuse` return `Invalid`.
+/// contract sees a place whose first error is `Invalid`, so `step`, `refuse` and `join` return `Invalid`.
 #[derive(Drop)]
 pub struct PairOf<P, A, Q, B> {
     first: Option<A>,

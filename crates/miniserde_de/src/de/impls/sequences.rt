@@ -7,7 +7,9 @@ use miniserde_model::error::{Error, Result};
 use miniserde_place::de::container::{Collect, ContainerPlace};
 use std::alloc::Global;
 
-/// The collector of a list: its items so far, and the place of the current item.
+/// The collector of a list: its items so far, and the place of the current item. If there is no
+/// current item, a contract sees a place whose first error is `Invalid`, so `step`, `refuse` and
+/// `join` return `Invalid`.
 #[derive(Drop)]
 pub struct ListOf<P, T> {
     items: Vec<T>,
