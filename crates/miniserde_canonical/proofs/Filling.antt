@@ -9,16 +9,16 @@ use Rattle.std.proofs.lemmas.List.{take-append-drop, length-take-le, length-drop
 use Rattle.miniserde_canonical.specs.declared.spread.Span.{Span}
 use Rattle.miniserde_canonical.specs.declared.spread.Splice.{Splice}
 use Rattle.miniserde_canonical.specs.private.Spreads.{part_between, bytes_in, splices_in, Holds, Ordered}
-use Rattle.miniserde_canonical.specs.private.Waiting.{SpanHolds, Waits, span_measure, spans_measure}
+use Rattle.miniserde_canonical.specs.private.Waiting.{SpanHolds, SpansHold, span_measure, spans_measure}
 use Rattle.miniserde_canonical.proofs.Spreads.{between_mid, between_end, between_none, plain_text, at_splice}
 
 -- ---- spans that wait
 
-pub waits_push : (ms : List ℕ) (gs : List Splice) (ps : List Span) (q : Span) (x y : List ℕ) → Waits ms gs ps x → SpanHolds ms gs q y → Waits ms gs (ps ++ q ∷ []) (y ++ x)
+pub waits_push : (ms : List ℕ) (gs : List Splice) (ps : List Span) (q : Span) (x y : List ℕ) → SpansHold ms gs ps x → SpanHolds ms gs q y → SpansHold ms gs (ps ++ q ∷ []) (y ++ x)
 waits_push ms gs [] q x y w u = ([], y, refl, u, ap (λ z. y ++ z) w ∙ append-nil y)
 waits_push ms gs (p ∷ ps) q x y w u = (y ++ w.0, w.1, waits_push ms gs ps q w.0 y w.2 u, w.3, ap (λ z. y ++ z) w.4 ∙ sym (append_assoc y w.0 w.1))
 
-pub waits_pop : (ms : List ℕ) (gs : List Splice) (ps : List Span) (q : Span) (x : List ℕ) → Waits ms gs (ps ++ q ∷ []) x → (y z : List ℕ) × SpanHolds ms gs q y × Waits ms gs ps z × (x ≡ y ++ z)
+pub waits_pop : (ms : List ℕ) (gs : List Splice) (ps : List Span) (q : Span) (x : List ℕ) → SpansHold ms gs (ps ++ q ∷ []) x → (y z : List ℕ) × SpanHolds ms gs q y × SpansHold ms gs ps z × (x ≡ y ++ z)
 waits_pop ms gs [] q x w = (w.1, [], w.3, refl, w.4 ∙ ap (λ z. z ++ w.1) w.2 ∙ sym (append-nil w.1))
 waits_pop ms gs (p ∷ ps) q x w =
     let m = waits_pop ms gs ps q w.0 w.2 in
@@ -55,7 +55,7 @@ first_splice a b gs d l h =
 -- ---- one span
 
 -- where a splice stands in a span: the bytes before it, and two spans that wait
-pub span_splice : (ms bs : List ℕ) (gs ks : List Splice) (p q : Span) (splice d : Splice) (out part out' : List ℕ) (later mid later' : List Span) → bs ≡ ms → ks ≡ gs → p.from.splices < p.to.splices → p.from.splices < length ks → splice ≡ get_or ks p.from.splices d → q ≡ record { from = record { bytes = splice.at; splices = p.from.splices + 1 }; to = p.to } → (p.from.bytes ≤ splice.at → splice.at ≤ length bs → part ≡ part_between p.from.bytes splice.at bs) → out' ≡ out ++ part → mid ≡ later ++ q ∷ [] → later' ≡ mid ++ splice.group ∷ [] → (x y : List ℕ) → SpanHolds ms gs p x → Waits ms gs later y → (z : List ℕ) × Waits ms gs later' z × (out' ++ z ≡ out ++ (x ++ y))
+pub span_splice : (ms bs : List ℕ) (gs ks : List Splice) (p q : Span) (splice d : Splice) (out part out' : List ℕ) (later mid later' : List Span) → bs ≡ ms → ks ≡ gs → p.from.splices < p.to.splices → p.from.splices < length ks → splice ≡ get_or ks p.from.splices d → q ≡ record { from = record { bytes = splice.at; splices = p.from.splices + 1 }; to = p.to } → (p.from.bytes ≤ splice.at → splice.at ≤ length bs → part ≡ part_between p.from.bytes splice.at bs) → out' ≡ out ++ part → mid ≡ later ++ q ∷ [] → later' ≡ mid ++ splice.group ∷ [] → (x y : List ℕ) → SpanHolds ms gs p x → SpansHold ms gs later y → (z : List ℕ) × SpansHold ms gs later' z × (out' ++ z ≡ out ++ (x ++ y))
 span_splice ms bs gs ks p q splice d out part out' later mid later' eb ek l below there e f' g j k = λ x y s w.
     let v = s.0 in
     let h : p.from.splices < length gs = subst (λ z. p.from.splices < length z) ek below in
@@ -67,14 +67,14 @@ span_splice ms bs gs ks p q splice d out part out' later mid later' eb ek l belo
     let bytes : part ≡ a.before = f (omega (arith, a.point)) (omega (arith, behind.0, v.1)) ∙ before_splice p.from.bytes p.to.bytes splice.at ms a.before a.behind v.0 v.1 a.bytes a.point in
     let r : Span = record { from = record { bytes = splice.at; splices = p.from.splices + 1 }; to = p.to } in
     let rest : SpanHolds ms gs r a.rest = ((behind.0, v.1, omega (arith, l), v.3), subst (λ z. Holds ms gs splice.at z (part_between (p.from.splices + 1) p.to.splices gs) a.rest) (sym behind.1) a.after) in
-    let one : Waits ms gs mid (a.rest ++ y) = subst (λ z. Waits ms gs z (a.rest ++ y)) (sym (j ∙ ap (λ z. later ++ z ∷ []) e)) (waits_push ms gs later r y a.rest w rest) in
-    let two : Waits ms gs later' (a.group ++ (a.rest ++ y)) = subst (λ z. Waits ms gs z (a.group ++ (a.rest ++ y))) (sym k) (waits_push ms gs mid splice.group (a.rest ++ y) a.group one (a.within, a.inside)) in
+    let one : SpansHold ms gs mid (a.rest ++ y) = subst (λ z. SpansHold ms gs z (a.rest ++ y)) (sym (j ∙ ap (λ z. later ++ z ∷ []) e)) (waits_push ms gs later r y a.rest w rest) in
+    let two : SpansHold ms gs later' (a.group ++ (a.rest ++ y)) = subst (λ z. SpansHold ms gs z (a.group ++ (a.rest ++ y))) (sym k) (waits_push ms gs mid splice.group (a.rest ++ y) a.group one (a.within, a.inside)) in
     (a.group ++ (a.rest ++ y), two, ap (λ z. z ++ (a.group ++ (a.rest ++ y))) (g ∙ ap (λ z. out ++ z) bytes) ∙ rejoin out a.before a.group a.rest y ∙ ap (λ z. out ++ (z ++ y)) (sym a.text))
   where
     rejoin : (a b c d y : List ℕ) → (a ++ b) ++ (c ++ (d ++ y)) ≡ a ++ ((b ++ (c ++ d)) ++ y)
     rejoin a b c d y = simp append_assoc refl
 
-pub span_plain : (ms bs : List ℕ) (gs ks : List Splice) (p : Span) (out part out' : List ℕ) (later : List Span) → bs ≡ ms → ks ≡ gs → (p.from.splices < p.to.splices → p.from.splices < length ks → ⊥) → (p.from.bytes ≤ p.to.bytes → p.to.bytes ≤ length bs → part ≡ part_between p.from.bytes p.to.bytes bs) → out' ≡ out ++ part → (x y : List ℕ) → SpanHolds ms gs p x → Waits ms gs later y → (z : List ℕ) × Waits ms gs later z × (out' ++ z ≡ out ++ (x ++ y))
+pub span_plain : (ms bs : List ℕ) (gs ks : List Splice) (p : Span) (out part out' : List ℕ) (later : List Span) → bs ≡ ms → ks ≡ gs → (p.from.splices < p.to.splices → p.from.splices < length ks → ⊥) → (p.from.bytes ≤ p.to.bytes → p.to.bytes ≤ length bs → part ≡ part_between p.from.bytes p.to.bytes bs) → out' ≡ out ++ part → (x y : List ℕ) → SpanHolds ms gs p x → SpansHold ms gs later y → (z : List ℕ) × SpansHold ms gs later z × (out' ++ z ≡ out ++ (x ++ y))
 span_plain ms bs gs ks p out part out' later eb ek n' f' g = λ x y s w.
     let v = s.0 in
     let n : p.from.splices < p.to.splices → p.from.splices < length gs → ⊥ = λ a b. n' a (subst (λ z. p.from.splices < length z) (sym ek) b) in
@@ -125,25 +125,25 @@ less_plain p later = omega arith
 
 -- ---- a group
 
-pub group_begins : (ms : List ℕ) (gs : List Splice) (p : Span) (out : List ℕ) (later later' : List Span) → later ≡ [] → later' ≡ later ++ p ∷ [] → (x : List ℕ) → SpanHolds ms gs p x → (z : List ℕ) × Waits ms gs later' z × (out ++ z ≡ out ++ x)
+pub group_begins : (ms : List ℕ) (gs : List Splice) (p : Span) (out : List ℕ) (later later' : List Span) → later ≡ [] → later' ≡ later ++ p ∷ [] → (x : List ℕ) → SpanHolds ms gs p x → (z : List ℕ) × SpansHold ms gs later' z × (out ++ z ≡ out ++ x)
 group_begins ms gs p out later later' e f = λ x s.
     let is : later' ≡ p ∷ [] = f ∙ ap (λ z. z ++ p ∷ []) e in
-    (x, subst (λ z. Waits ms gs z x) (sym is) ([], x, refl, s, refl), refl)
+    (x, subst (λ z. SpansHold ms gs z x) (sym is) ([], x, refl, s, refl), refl)
 
-pub group_goes : (ms : List ℕ) (gs : List Splice) (p q : Span) (start out out' : List ℕ) (later rest later' : List Span) → later ≡ rest ++ q ∷ [] → ((x : List ℕ) → SpanHolds ms gs p x → (z : List ℕ) × Waits ms gs later z × (out ++ z ≡ start ++ x)) → ((x y : List ℕ) → SpanHolds ms gs q x → Waits ms gs rest y → (z : List ℕ) × Waits ms gs later' z × (out' ++ z ≡ out ++ (x ++ y))) → (x : List ℕ) → SpanHolds ms gs p x → (z : List ℕ) × Waits ms gs later' z × (out' ++ z ≡ start ++ x)
+pub group_goes : (ms : List ℕ) (gs : List Splice) (p q : Span) (start out out' : List ℕ) (later rest later' : List Span) → later ≡ rest ++ q ∷ [] → ((x : List ℕ) → SpanHolds ms gs p x → (z : List ℕ) × SpansHold ms gs later z × (out ++ z ≡ start ++ x)) → ((x y : List ℕ) → SpanHolds ms gs q x → SpansHold ms gs rest y → (z : List ℕ) × SpansHold ms gs later' z × (out' ++ z ≡ out ++ (x ++ y))) → (x : List ℕ) → SpanHolds ms gs p x → (z : List ℕ) × SpansHold ms gs later' z × (out' ++ z ≡ start ++ x)
 group_goes ms gs p q start out out' later rest later' e f g = λ x s.
     let t = f x s in
-    let u = waits_pop ms gs rest q t.0 (subst (λ z. Waits ms gs z t.0) e t.1) in
+    let u = waits_pop ms gs rest q t.0 (subst (λ z. SpansHold ms gs z t.0) e t.1) in
     let v = g u.0 u.1 u.2 u.3 in
     (v.0, v.1, v.2 ∙ ap (λ z. out ++ z) (sym u.4) ∙ t.2)
 
 pub group_less : (q : Span) (later rest later' : List Span) → later ≡ rest ++ q ∷ [] → spans_measure later' < spans_measure rest + span_measure q → spans_measure later' < spans_measure later
 group_less q later rest later' e h = omega (arith, h, ap spans_measure e ∙ loads_push rest q)
 
-pub group_ends : (ms : List ℕ) (gs : List Splice) (p : Span) (start out : List ℕ) (later : List Span) → later ≡ [] → ((x : List ℕ) → SpanHolds ms gs p x → (z : List ℕ) × Waits ms gs later z × (out ++ z ≡ start ++ x)) → (x : List ℕ) → SpanHolds ms gs p x → out ≡ start ++ x
+pub group_ends : (ms : List ℕ) (gs : List Splice) (p : Span) (start out : List ℕ) (later : List Span) → later ≡ [] → ((x : List ℕ) → SpanHolds ms gs p x → (z : List ℕ) × SpansHold ms gs later z × (out ++ z ≡ start ++ x)) → (x : List ℕ) → SpanHolds ms gs p x → out ≡ start ++ x
 group_ends ms gs p start out later e f = λ x s.
     let t = f x s in
-    let none : t.0 ≡ [] = subst (λ z. Waits ms gs z t.0) e t.1 in
+    let none : t.0 ≡ [] = subst (λ z. SpansHold ms gs z t.0) e t.1 in
     sym (append-nil out) ∙ ap (λ z. out ++ z) (sym none) ∙ t.2
 
 -- ---- a whole text

@@ -1,7 +1,7 @@
 //! Fills the splices of a text with their groups.
 ghost use Rattle.std.specs.Prelude.{◌≡◌, ◌++◌, ◌+◌, ◌<◌, ℕ, List, IfOk, OnOk};
 ghost use Rattle.miniserde_canonical.specs.private.Spreads.{Holds, SplicesInOrder, Ordered};
-ghost use Rattle.miniserde_canonical.specs.private.Waiting.{SpanHolds, Waits, span_measure, spans_measure};
+ghost use Rattle.miniserde_canonical.specs.private.Waiting.{SpanHolds, SpansHold, span_measure, spans_measure};
 
 use crate::spread::{Point, Span, SplicedText, part};
 use std::alloc::{AllocError, Global};
@@ -63,8 +63,8 @@ fn put_span(
     later: &mut Vec<Span>,
 ) -> Result<(), AllocError>
     ensures ok { OnOk result ((x y : List ℕ) → SpanHolds groups.now.bytes.items groups.now.splices.items span x
-        → Waits groups.now.bytes.items groups.now.splices.items later.old.items y
-        → (z : List ℕ) × Waits groups.now.bytes.items groups.now.splices.items later.new.items z
+        → SpansHold groups.now.bytes.items groups.now.splices.items later.old.items y
+        → (z : List ℕ) × SpansHold groups.now.bytes.items groups.now.splices.items later.new.items z
         × (out.new.items ++ z ≡ out.old.items ++ (x ++ y))) }
     ensures less { OnOk result (Ordered 0 groups.now.splices.items
         → spans_measure later.new.items < spans_measure later.old.items + span_measure span) }

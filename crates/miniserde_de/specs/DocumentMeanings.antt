@@ -34,4 +34,4 @@ pub record DocumentMeaning (V : Type 0) : Type 1 where
   -- without a tree there is no content
   pub none : only None ≡ None
   -- the events of a tree give what the tree gives
-  pub whole : (t : Tree) → only (document_outcome begins true (outside []) (events t)) ≡ meant.from_tree t
+  pub events_agree : (t : Tree) → only (document_outcome begins true (outside []) (events t)) ≡ meant.from_tree t

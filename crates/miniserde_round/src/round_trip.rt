@@ -57,8 +57,8 @@ pub fn write_and_read<T: RoundTrip>(alloc: Global, value: &T) -> Result<T>
 {
     value.ranged();
     let text = to_string(alloc, value)?;
-    let round_trips: T = read_back(alloc, text.as_str())?;
-    Ok(round_trips)
+    let read: T = read_back(alloc, text.as_str())?;
+    Ok(read)
 }
 
 impl RoundTrip for () {

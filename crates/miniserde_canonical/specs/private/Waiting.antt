@@ -11,9 +11,9 @@ SpanHolds ms gs p x = Within p ms gs × Holds ms gs p.from.bytes (bytes_in p ms)
 
 -- the spans of the groups, which have the bytes ms and the splices gs, hold the text x if they are
 -- written from the last one to the first
-abbrev pub Waits : List ℕ → List Splice → List Span → List ℕ → Type 0
-Waits ms gs [] x = x ≡ []
-Waits ms gs (p ∷ ps) x = (y z : List ℕ) × Waits ms gs ps y × SpanHolds ms gs p z × (x ≡ y ++ z)
+abbrev pub SpansHold : List ℕ → List Splice → List Span → List ℕ → Type 0
+SpansHold ms gs [] x = x ≡ []
+SpansHold ms gs (p ∷ ps) x = (y z : List ℕ) × SpansHold ms gs ps y × SpanHolds ms gs p z × (x ≡ y ++ z)
 
 -- a bound on the calls of `put_span` that write the span: each splice counts for more than all
 -- splices before it

@@ -47,7 +47,7 @@ pub trait DocumentType: Drop {
 pub struct DocumentTypePlace<K> {
     place: ValuePlace,
     // The marker of the type of documents. It takes no memory.
-    document_meaning: PhantomData<K>,
+    marker: PhantomData<K>,
 }
 
 impl<K: DocumentType> Visitor for DocumentTypePlace<K> {
@@ -67,7 +67,7 @@ impl<K: DocumentType> Visitor for DocumentTypePlace<K> {
     fn begin(alloc: Global) -> Result<DocumentTypePlace<K>> {
         Ok(DocumentTypePlace {
             place: ValuePlace::new(alloc),
-            document_meaning: PhantomData,
+            marker: PhantomData,
         })
     }
 
