@@ -8,14 +8,14 @@ pub returns-clause-same : goal.returns-clause-same
 returns-clause-same g c =
     let t = g.T.Serialize.tree c.args.value.now in
     let spells : IsJson c.as_str.result.now t = subst (λ z. IsJson z t) (sym c.as_str.ensures.value) c.in_ok-text.ensures.spells in
-    c.in_ok-round_trips.ensures.same c.args.value.now c.ranged.ensures spells
+    c.in_ok-read.ensures.same c.args.value.now c.ranged.ensures spells
 
 pub returns-clause-itself : goal.returns-clause-itself
-returns-clause-itself g c = λ only. only c.in_ok-round_trips.round_trips c.in_ok-round_trips.ensures.valid (returns-clause-same g c)
+returns-clause-itself g c = λ only. only c.in_ok-read.read c.in_ok-read.ensures.valid (returns-clause-same g c)
 
-pub returns-in_err-round_trips-clause-memory : goal.returns-in_err-round_trips-clause-memory
-returns-in_err-round_trips-clause-memory g c = λ e.
-    let w = err_from_is_err_and c.from_residual-in_err-round_trips.result c.from_residual-in_err-round_trips.ensures.1 in
+pub returns-in_err-read-clause-memory : goal.returns-in_err-read-clause-memory
+returns-in_err-read-clause-memory g c = λ e.
+    let w = err_from_is_err_and c.from_residual-in_err-read.result c.from_residual-in_err-read.ensures.1 in
     let t = g.T.Serialize.tree c.args.value.now in
     let spells : IsJson c.as_str.result.now t = subst (λ z. IsJson z t) (sym c.as_str.ensures.value) c.in_ok-text.ensures.spells in
-    c.in_err-round_trips.ensures.stored (cc (w.1, w.2, e)) c.args.value.now c.ranged.ensures spells
+    c.in_err-read.ensures.stored (cc (w.1, w.2, e)) c.args.value.now c.ranged.ensures spells
