@@ -1,4 +1,5 @@
 -- The variants of an enum one after another: their content, their trees and their values, by their names.
+-- The data of a variant are a tree, or `None` if it has none. The names are a list in the order of the variants.
 use Rattle.std.specs.Prelude.{◌≡◌, List, [], ◌∷◌, Option, Some, None, option_map, option_and_then, bytes_eq, if◌then◌else◌}
 use Rattle.miniserde_model.specs.Tree.{Tree, null}
 use Rattle.miniserde_read.specs.types.Objects.{Name}
@@ -10,7 +11,7 @@ use Rattle.miniserde_enum.specs.Tagging.{Tagging, external, internal, IsVariant,
 -- ---- the content of a variant, by a name and its data
 
 -- the content for the name k and the data o, by the variants' names: what `first` returns for the
--- data if k is the first variant's name, and else what `later` returns
+-- data if k is the first variant's name, and else what `later` returns; `None` if there are no names
 abbrev pub variant_content : {C D : Type 0} → (Option Tree → Option C) → (List Name → Name → Option Tree → Option D) → List Name → Name → Option Tree → Option (OneOf C D)
 variant_content first later [] k o = None
 variant_content first later (n ∷ ns) k o = if bytes_eq k n then option_map First (first o) else option_map Later (later ns k o)
@@ -30,8 +31,8 @@ with_data f t = f (Some t)
 
 -- ---- which trees mean which variant
 
--- by the variants' names, the tree means a value of the first variant, as `one` says, or of a later one, as `later`
--- says
+-- by the variants' names, the tree t means the value v: as `one` says if v is of the first variant, and else as `later`
+-- says; without names it means none
 abbrev pub CaseReads : {T W : Type 0} → (Name → Tree → T → Type 0) → (List Name → Tree → W → Type 0) → List Name → Tree → OneOf T W → Type 0
 CaseReads one later [] t v = ⊥
 CaseReads one later (n ∷ ns) t (First x) = one n t x
@@ -56,7 +57,7 @@ abbrev pub data_tree : {T : Type 0} → Tagging → (T → Tree) → Name → T 
 data_tree tagging f n x = variant_tree tagging n (Some (f x))
 
 -- the tree of the value v, by the variants' names: `one` returns it for the first variant's name
--- and value, and `later` for the later names and a later variant's value
+-- and value, and `later` for the later names and a later variant's value; null if there are no names
 abbrev pub case_tree : {T W : Type 0} → (Name → T → Tree) → (List Name → W → Tree) → List Name → OneOf T W → Tree
 case_tree one later [] v = null
 case_tree one later (n ∷ ns) (First x) = one n x

@@ -5,9 +5,9 @@ use Rattle.miniserde_read.specs.types.Objects.{Name}
 use Rattle.miniserde_read.specs.types.Words.{string_of}
 use Rattle.miniserde_record.specs.Fields.{other_members, last_content, LastMemberReads}
 
--- by the tag, the tree is the variant of the name n with data: it is an object of which each member
--- of the tag's name is a string and the last one is n, and the data are the object of its other
--- members
+-- by the tag's name, the tree is the variant of the name n with the data o: it is an object of which
+-- each member of the tag's name is a string and the last one is n, and the data are the object of
+-- its other members; no tree is a variant without data
 abbrev pub IsInternal : Name → Tree → Name → Option Tree → Type 0
 IsInternal tag (members ms) n (Some u) = LastMemberReads ⊥ (λ t. t ≡ str n) string_of tag ms × (u ≡ members (other_members tag ms))
 IsInternal tag t n o = ⊥

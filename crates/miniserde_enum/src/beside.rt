@@ -48,11 +48,13 @@ impl<E: HasTag, F: Slots> Slots for BesideTag<E, F> {
         match E::tag().split_first() {
             Some((tag, _)) => {
                 if name == *tag {
+                    // `NoSlot` skips the value of each member.
                     NoSlot::new().read_member(names, name, source)
                 } else {
                     self.fields.read_member(names, name, source)
                 }
             }
+            // `tag` returns one name, so this does not happen.
             None => self.fields.read_member(names, name, source),
         }
     }

@@ -13,7 +13,8 @@ use miniserde_read::{FromJson, Source};
 use miniserde_text::json::lex::Event;
 use std::marker::PhantomData;
 
-/// A chain of the variants of an enum.
+/// A chain of the variants of an enum. The variants' names are a list in their order; a variant beyond the last name
+/// has none.
 pub trait Cases {
     /// The value of one of the variants.
     type Values;
@@ -26,9 +27,10 @@ pub trait Cases {
     fn unit_variant(names: &[&str], name: &str) -> Option<Self::Values>
         ensures { option_map meaning.content result ≡ meaning.content_by_name (map (λ n. n.now) names.now) name.now None };
 
-    /// Reads the data of the variant with the name `name`, whose first token is `token`, and takes no more of the
-    /// source. `names` has the names of the variants. Returns `Invalid` if no variant with data has the name, or if
-    /// the text, from `token` on, has no prefix that means its data; `Memory` if an allocation fails.
+    /// Reads the data of the variant with the name `name`, and takes no more of the source. `token` is the first token
+    /// of the data, and must be the one that was taken last. `names` has the names of the variants. Returns `Invalid`
+    /// if no variant with data has the name, or if the text, from `token` on, has no prefix that means its data;
+    /// `Memory` if an allocation fails.
     fn read_case<'a>(
         names: &[&str],
         name: &str,

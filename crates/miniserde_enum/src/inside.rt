@@ -42,7 +42,8 @@ pub trait Inside: RoundTrip {
         ensures invalid { result ≡ Err Error.Invalid → GivesNoneAt (inside_of E.tag Self.means.from_tree)
             (event_of_token token.entry source.old.scratch) source.old.rest };
 
-    /// Appends the members of the struct, without brackets. Returns `Memory` if the writer fails.
+    /// Appends the members of the struct, without brackets. A comma stands before each member that is not the first of
+    /// its object. Returns `Memory` if the writer fails.
     fn write_inside(&self, w: &mut Writer) -> Result<()>
         ensures ok { OnOk result (w.new.text
             ≡ w.old.text ++ members_text w.old.first (object_members (Self.tree self.now))) }
@@ -77,7 +78,7 @@ pub trait InsideCases {
     // that variant with that data.
     ghost fits: { Tagging → Type 0 };
 
-    // Whether no field of any of the variants has the given name.
+    // Whether no field of any of the variants has the name.
     ghost apart: { Name → Bool };
 
     /// Reads one object, whose first token is `token`, as the data of the variant with the name

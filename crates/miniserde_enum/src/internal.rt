@@ -50,9 +50,10 @@ impl<E: DataEnum + HasTag> Record for Tag<E> {
 }
 
 /// Reads an internally tagged enum, whose first token is `token`, and takes no more of the source.
-/// It is an object in which the last member with the tag's name names the variant, and the members
-/// of all other names are its data. Returns `Invalid` if the text, from `token` on, has no prefix
-/// that means such a value, and `Memory` if an allocation fails.
+/// It is an object in which each member with the tag's name is a string and the last one names the
+/// variant, and the members of all other names are its data. The call reads the object twice.
+/// Returns `Invalid` if the text, from `token` on, has no prefix that means such a value, and
+/// `Memory` if an allocation fails.
 pub fn read_tagged<'a, E: DataEnum + HasTag, C: InsideCases<Values = E::Values>>(
     token: Event<'a>,
     source: &mut Source<'a>,
@@ -69,6 +70,7 @@ pub fn read_tagged<'a, E: DataEnum + HasTag, C: InsideCases<Values = E::Values>>
     let Event::MapStart = token else {
         return Err(Error::Invalid);
     };
+    // The tag may be the last member, so a fork of the source reads it ahead of the data.
     let mut ahead = source.fork();
     let tag = read_record::<Tag<E>, TagFields<E>>(token, &mut ahead)?;
     let Some(name) = tag.name.name_among else {

@@ -57,6 +57,7 @@ fn read_named<'a, C: Cases>(
     match name {
         Text::Input(name) => read_due_case::<C>(names, name, source),
         Text::Scratch => {
+            // The data may replace the scratch text, so the name is moved out of the source.
             let name = source.take_scratch();
             read_due_case::<C>(names, name.as_str(), source)
         }

@@ -35,7 +35,7 @@ pub trait HasTag {
     // The tag's name.
     ghost tag: { Name };
 
-    /// Returns a list of one name, the tag's.
+    /// Returns a list of one name, the tag's. It is a list since the tag is read as the one field of a struct.
     fn tag() -> &'static [&'static str]
         ensures { map (λ s. s.now) result.now ≡ tag ∷ [] };
 }

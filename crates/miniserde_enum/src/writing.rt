@@ -32,8 +32,9 @@ pub fn write_data<T: Serialize>(w: &mut Writer, name: &str, value: &T) -> Result
 
 /// Writes the variant `name` with named fields of an externally tagged enum: an object of one
 /// member, which has the variant's name and an object of the fields. That object has a member for
-/// each of the values, whose name is the one at the value's index in `names`; an `Omitted` that is
-/// `None` has no member. Returns `Memory` if the writer fails.
+/// each of the values, whose name is the one at the value's index in `names`. Values beyond the last
+/// name have no member, and neither has an `Omitted` that is `None`. Returns `Memory` if the writer
+/// fails.
 #[inline(always)]
 pub fn write_fields<M: Members>(
     w: &mut Writer,
@@ -58,8 +59,8 @@ pub fn write_fields<M: Members>(
 }
 
 /// Writes the variant `name` with the data `value` of an internally tagged enum: an object of the
-/// member `tag`, whose value is the variant's name, and the members of the data. Returns `Memory`
-/// if the writer fails.
+/// member `tag`, whose value is the variant's name, and the members of the data. It does not check
+/// that no member of the data has the name `tag`. Returns `Memory` if the writer fails.
 #[inline(always)]
 pub fn write_tagged<T: Inside>(w: &mut Writer, tag: &str, name: &str, value: &T) -> Result<()>
     ensures ok { OnOk result (w.new.text
@@ -80,8 +81,9 @@ pub fn write_tagged<T: Inside>(w: &mut Writer, tag: &str, name: &str, value: &T)
 
 /// Writes the variant `name` with named fields of an internally tagged enum: an object of the
 /// member `tag`, whose value is the variant's name, and a member for each of the values, whose name
-/// is the one at the value's index in `names`. An `Omitted` that is `None` has no member. Returns
-/// `Memory` if the writer fails.
+/// is the one at the value's index in `names`. Values beyond the last name have no member, and
+/// neither has an `Omitted` that is `None`. The call does not check that no name in `names` is
+/// `tag`. Returns `Memory` if the writer fails.
 #[inline(always)]
 pub fn write_tagged_fields<M: Members>(
     w: &mut Writer,

@@ -32,17 +32,17 @@ pub trait Visitor: Drop {
     // Which trees mean which values, and what a contract sees of the place.
     ghost meaning: { PlaceMeaning Self Self.Out };
 
-    // Whether `begin` never fails to allocate.
+    // If true, `begin` never fails to allocate.
     ghost begin_infallible: { Bool } = { false };
 
-    // Whether `take` never fails to allocate: its error is then `Memory` only if the place keeps that error already.
+    // If true, `take` never fails to allocate: its error is `Memory` only if the place keeps that error already.
     ghost take_infallible: { Bool } = { false };
 
     // What each call that takes an event promises besides: a statement of the place before, the
     // event, the result and the place after. By default nothing.
     ghost further: { Self → step.Step → Result (Unit {0}) Error → Self → Type 0 } = { λ _ _ _ _. ⊤ };
 
-    /// Returns a fresh place. Its only error is `Memory`.
+    /// Returns a fresh place, or `Memory` if an allocation fails.
     fn begin(alloc: Global) -> Result<Self>
         ensures fresh { IfOk result (λ p. IsFresh meaning.from_events (meaning.view p)) }
         ensures memory { IfErr result (λ r. r ≡ Error.Memory) }
@@ -103,7 +103,7 @@ pub trait Visitor: Drop {
         self.step(Step::Str(s))
     }
 
-    /// Takes an integer that is written with `-`.
+    /// Takes an integer that is written with `-`, which is at most 0.
     final fn negative(&mut self, n: i64) -> Result<()>
         requires { n ≤ℤ pos 0 }
         ensures takes { Takes (meaning.view self.old) (step.negative n) result (meaning.view self.new) }

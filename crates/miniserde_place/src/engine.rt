@@ -17,8 +17,9 @@ use miniserde_model::error::{Error, Result};
 use miniserde_read::{Source, Stack};
 use miniserde_text::json::lex::{After, Event, Kind};
 
-/// Reads one value, whose first token is `token`, by a fresh place of its own. Returns `Invalid` if the text, from
-/// that token on, has no prefix that means a value of the place, and `Memory` if an allocation fails.
+/// Reads one value, whose first token is `token`, by a fresh place of its own, and takes no more of the source. `token`
+/// must be the one that was taken last. Returns `Invalid` if the text, from that token on, has no prefix that means a
+/// value of the place, and `Memory` if an allocation fails.
 pub fn read_by_place<'a, V: Visitor>(token: Event<'a>, source: &mut Source<'a>) -> Result<V::Out>
     requires going { source.old.refused ≡ None }
     requires event { EventInRange (event_of_token token source.old.scratch) }
@@ -34,7 +35,8 @@ pub fn read_by_place<'a, V: Visitor>(token: Event<'a>, source: &mut Source<'a>) 
 }
 
 /// Hands a fresh place the events of one value, whose first token is `token`. Returns the first error of the source
-/// or of the place, or `Memory` if the engine's stack of kinds cannot grow.
+/// or of the place, or `Memory` if the engine's stack of kinds cannot grow. After an error, either the place keeps it,
+/// or the place has no error and has taken a prefix of the events of some tree.
 pub fn feed_from<'a, V: Visitor>(
     token: Event<'a>,
     source: &mut Source<'a>,
@@ -95,10 +97,10 @@ fn enter<'a, V: Visitor>(
     Ok(opened)
 }
 
-/// Takes the closing bracket of the innermost open container, which is of the kind `kind`, or else
-/// the comma and the name before its next child. Hands the place the event of that: `finish`,
-/// `element` or `key`. Returns whether a child's value is due, or the error of the source or the
-/// place. `first` says that the container's opening bracket was just taken.
+/// Takes the closing bracket of the innermost open container, which is of the kind `kind`, and pops
+/// that kind; or takes the comma and the name before its next child. Hands the place the event of
+/// that: `finish`, `element` or `key`. Returns whether a child's value is due, or the error of the
+/// source or the place. `first` says that the container's opening bracket was just taken.
 fn take_child_or_end<'a, V: Visitor>(
     source: &mut Source<'a>,
     stack: &mut Stack,

@@ -55,8 +55,8 @@ impl Visitor for Ignore {
         Ok(Ignore::new())
     }
 
-    /// Takes any event. Returns the error that the place keeps, if there is one, and `Memory` if 2^64 containers
-    /// would be open.
+    /// Takes any event. A `finish` without an open container leaves the number of open containers at 0. Returns the
+    /// error that the place keeps, if there is one, and `Memory` if 2^64 containers would be open.
     fn step(&mut self, event: Step<'_>) -> Result<()> {
         if let Some(error) = self.refused {
             return Err(error);

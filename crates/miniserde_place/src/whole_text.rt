@@ -13,8 +13,10 @@ use miniserde_model::error::{Error, Result};
 use miniserde_read::Source;
 use std::alloc::Global;
 
-/// Hands a fresh place the events of the value that a whole text spells, in order. Returns the
-/// first error of the place, `Invalid` if the text is not JSON, or `Memory` if an allocation fails.
+/// Hands a fresh place the events of the value that a whole text spells, in order, while it reads
+/// the text. Returns the first error of the place, `Invalid` if the text is not JSON, or `Memory` if
+/// an allocation fails. After an error, either the place keeps it, or the place has no error and has
+/// taken a prefix of the events of some tree.
 pub fn feed<V: Visitor>(alloc: Global, j: &str, place: &mut V) -> Result<()>
     requires unrefused { (V.meaning.view place.old).refused ≡ None }
     requires fresh { (V.meaning.view place.old).at ≡ start }

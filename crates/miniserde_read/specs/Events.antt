@@ -22,7 +22,8 @@ event_of (step.Key k) = key k.now
 event_of step.Finish = finish
 
 -- An event of a text: an integer that is written with a minus is at most 0, and the text of a `float` is a number
--- (RFC 8259, section 6) that is no integer from -2^63 to 2^64-1. Rust's types have the bounds of the integers.
+-- (RFC 8259, section 6) with a fraction or an exponent, or an integer below -2^63 or above 2^64-1. The bounds of the
+-- other integers are those of Rust's types.
 abbrev pub EventInRange : model.Step → Type 0
 EventInRange (negative n) = n ≤ℤ pos 0
 EventInRange (float x) = IsNumber x (num x)

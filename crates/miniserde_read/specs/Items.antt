@@ -6,7 +6,7 @@ use Rattle.miniserde_read.specs.Rest.{ElementsAt}
 use Rattle.miniserde_read.specs.types.Tuples.{NoneReads, none_of, ItemReads, item_of, TupleReads, tuple_of}
 use Rattle.miniserde_read.specs.laws.Tuples.{none-given, item-given, tuple-given}
 
--- the meaning of the items V of a tuple: which children of a list mean which items
+-- the meaning of a tuple's items, which have the type V as nested pairs: which children of a list mean which items
 pub record ItemsMeaning (V : Type 0) : Type 1 where
   -- the content of the items, and the type of that content
   pub Content : Type 0

@@ -21,7 +21,8 @@ EscapedMember first s = (b : List ℕ) × Follows Map first false s b × BeginsE
 abbrev pub AnElement : Bool → List ℕ → List ℕ → Type 0
 AnElement first s r = (t : Tree) × OneElement (ValueAt t) (λ d r. d ≡ r) first s r
 
--- one of the next n elements in s begins as a string with a backslash, and those before it are values
+-- one of the next n elements in s begins as a string with a backslash, and those before it are values; `first` says
+-- that the opening bracket was just taken
 abbrev pub EscapedAmong : ℕ → Bool → List ℕ → Type 0
 EscapedAmong zero first s = ⊥
 EscapedAmong (suc n) first s = EscapedElement first s ⊎ ((d : List ℕ) × AnElement first s d × EscapedAmong n false d)

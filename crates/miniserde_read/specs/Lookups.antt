@@ -12,7 +12,7 @@ last_in name (members ms) = last_of name ms
 last_in name _ = None
 
 -- the tree of the last member whose key has the code q, if the tree is an object that has such a member; `read`
--- returns the key that a name is read as, and `code` the code of a key
+-- returns the content of the key that a name is read as, and `code` the code for that content
 abbrev pub last_at : (Name → Option Key) → (Key → Key) → Key → Tree → Option Tree
 last_at read code q (members ms) = option_map (λ e. e.1) (first_and_last_at read code q ms)
 last_at read code q _ = None

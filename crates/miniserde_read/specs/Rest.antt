@@ -1,4 +1,6 @@
 -- The trees that a text spells after a value's first token, in the steps of a lexer: `Starts`, `Names` and `Follows`.
+-- `Starts` takes the first token of a value from the text, `Names` a member's name and colon, and `Follows` the
+-- closing bracket of a container or the comma before its next child. The last argument of each is the text after that.
 use Rattle.std.specs.Prelude.{◌≡◌, ℕ, Bool, true, false, List, Option, Some, None}
 use Rattle.miniserde_model.specs.Tree.{Tree, null, truth, nonneg, neg, num, str, list, members, Trees, no_trees, tree, Members, no_members, member}
 use Rattle.miniserde_model.specs.Step.{Step, boolean, string, negative, nonnegative, float, seq, map}

@@ -33,11 +33,11 @@ pub trait FromJson: Sized + Drop {
     // is an error.
     ghost absent: { Option Self } = { None };
 
-    // Whether `read` never returns `Memory`.
+    // If true, `read` never returns `Memory`.
     ghost read_infallible: { Bool } = { false };
 
     // What holds if `read` returns `Memory`: a statement of the token's event and of the source before and after the
-    // call.
+    // call. By default it says nothing.
     ghost lacking: { step.Step → SourceView → SourceView → Type 0 } = { λ _ _ _. ⊤ };
 
     /// Returns the value of a missing field of this type, or `None` if an object without that field's member is an
@@ -45,8 +45,9 @@ pub trait FromJson: Sized + Drop {
     fn missing() -> Option<Self>
         ensures { result ≡ absent };
 
-    /// Reads one value, whose first token is `token`, and takes no more of the source. Returns `Invalid` if the text,
-    /// from that token on, has no prefix that means a value of the type, and `Memory` if an allocation fails.
+    /// Reads one value, whose first token is `token`, and takes no more of the source. `token` must be the one that
+    /// was taken last, and the source must have no error. Returns `Invalid` if the text, from that token on, has no
+    /// prefix that means a value of the type, and `Memory` if an allocation fails.
     fn read<'a>(token: Event<'a>, source: &mut Source<'a>) -> Result<Self>
         requires going { source.old.refused ≡ None }
         requires event { EventInRange (event_of_token token source.old.scratch) }

@@ -55,9 +55,10 @@ fn skip<'a>(token: Event<'a>, source: &mut Source<'a>) -> Result<()>
 }
 
 /// Takes the closing bracket of the innermost container, whose kind is `kind`, or everything up to
-/// the first token of its next child, with that token. `first` says that the opening bracket was
-/// just taken. Returns whether a container was opened, `Invalid` if neither is next, or `Memory` if
-/// an allocation fails.
+/// the first token of its next child, with that token. Pops the kind of a container that is closed,
+/// and pushes that of one that is opened. `first` says that the opening bracket was just taken.
+/// Returns whether a container was opened, `Invalid` if neither is next, or `Memory` if an
+/// allocation fails.
 fn take_child_or_end<'a>(
     source: &mut Source<'a>,
     stack: &mut Stack,

@@ -21,7 +21,7 @@ pub trait Items {
     // Which elements of a list mean which values.
     ghost meaning: { ItemsMeaning Self.Values };
 
-    // For each item, whether its `read` never returns `Memory`.
+    // The `read_infallible` of each item: if it is true, `read` of the item never returns `Memory`.
     ghost infallible: { List Bool };
 
     /// Reads the rest of a list: one element for each item of the chain, and the closing bracket.
@@ -81,9 +81,9 @@ impl<T: FromJson, R: Items> Items for Item<T, R> {
     }
 }
 
-/// Reads a list of exactly these items, whose first token is `token`, and takes no more of the source. Returns
-/// `Invalid` if the text, from that token on, has no prefix that means such a list, and `Memory` if an allocation
-/// fails.
+/// Reads a list of one element for each item of the chain `I`, whose first token is `token`, and takes no more of the
+/// source. `token` must be the one that was taken last. Returns `Invalid` if the text, from that token on, has no
+/// prefix that is a list whose elements mean the items, and `Memory` if an allocation fails.
 #[inline(always)]
 pub fn read_tuple<'a, I: Items>(token: Event<'a>, source: &mut Source<'a>) -> Result<I::Values>
     requires going { source.old.refused ≡ None }

@@ -19,12 +19,12 @@ pub fn from_str<T: FromJson>(alloc: Global, j: &str) -> Result<T>
     ensures content { IfOk result (λ v.
         (t : Tree) × IsJson j.now t × (T.means.from_tree t ≡ Some (T.means.content v))) }
 
-    // If the text is `Invalid`, it has no tree, or one that means no value.
+    // If the result is `Invalid`, the text has no tree, or one that means no value.
     ensures invalid { result ≡ Err Error.Invalid
         → (t : Tree) → IsJson j.now t → (v : T) → T.means.reads t v → ⊥ }
     ensures none { result ≡ Err Error.Invalid → (t : Tree) → IsJson j.now t → T.means.from_tree t ≡ None }
 
-    // If reading the type never fails to allocate, only a text whose value is a string with a backslash gives
+    // If reading the type never fails to allocate, only a text that begins as a string with a backslash gives
     // `Memory`.
     ensures memory { T.read_infallible ≡ true → result ≡ Err Error.Memory → HasEscape j.now }
 
@@ -46,7 +46,7 @@ pub fn from_slice<T: FromJson>(alloc: Global, bytes: &[u8]) -> Result<T>
     ensures content { IfOk result (λ v.
         (t : Tree) × IsJson bytes.now t × (T.means.from_tree t ≡ Some (T.means.content v))) }
 
-    // If the bytes are `Invalid`, they have no tree, or one that means no value.
+    // If the result is `Invalid`, the bytes have no tree, or one that means no value.
     ensures invalid { result ≡ Err Error.Invalid
         → (t : Tree) → IsJson bytes.now t → (v : T) → T.means.reads t v → ⊥ }
     ensures none { result ≡ Err Error.Invalid → (t : Tree) → IsJson bytes.now t → T.means.from_tree t ≡ None }
@@ -54,7 +54,7 @@ pub fn from_slice<T: FromJson>(alloc: Global, bytes: &[u8]) -> Result<T>
     // Bytes that are not UTF-8 are `Invalid`, never `Memory`.
     ensures utf8 { (IsUtf8 bytes.now → ⊥) → result ≡ Err Error.Invalid }
 
-    // If reading the type never fails to allocate, only bytes whose value is a string with a backslash give `Memory`.
+    // If reading the type never fails to allocate, only bytes that begin as a string with a backslash give `Memory`.
     ensures memory { T.read_infallible ≡ true → result ≡ Err Error.Memory → HasEscape bytes.now }
 
     // No bytes have two trees.

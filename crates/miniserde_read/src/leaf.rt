@@ -23,7 +23,7 @@ pub trait Leaf: Drop {
     // No list and no object means a value.
     ghost only_leaves: { OnlyLeaves means.from_tree };
 
-    // Whether `from_step` never returns `Memory`.
+    // If true, `from_step` never returns `Memory`.
     ghost read_infallible: { Bool } = { false };
 
     /// Returns the value that the event means, or `Invalid` if it means none of this type. Returns `Memory` if an
@@ -36,7 +36,7 @@ pub trait Leaf: Drop {
 }
 
 /// Returns the value that the token means, or `Invalid` if it means none of this type, or `Memory` if an allocation
-/// fails. Takes nothing from the source.
+/// fails. `token` must be the one that was taken last. Takes nothing from the source.
 #[inline(always)]
 pub fn read_leaf<'a, T: Leaf>(token: Event<'a>, source: &mut Source<'a>) -> Result<T>
     requires { EventInRange (event_of_token token source.old.scratch) }

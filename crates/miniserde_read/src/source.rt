@@ -20,7 +20,7 @@ use std::marker::Model;
 use std::mem;
 
 /// The rest of a JSON text, with a scratch text for decoded strings. The source keeps its first error, and every
-/// later call that takes tokens returns it.
+/// later call that can fail returns it.
 #[derive(Drop)]
 pub struct Source<'a> {
     lexer: Lexer<'a>,

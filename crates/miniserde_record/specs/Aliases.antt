@@ -8,7 +8,8 @@ use Rattle.miniserde_read.specs.types.Objects.{Name}
 abbrev pub aliases_of : record { now : List (record { now : Name } × record { now : Name }) } → List (Name × Name)
 aliases_of ps = map (λ p. (p.0.now, p.1.now)) ps.now
 
--- by a list of aliases, the name of the field that has the alias k, or k itself if it is no alias
+-- by a list of aliases, the name of the field that has the alias k, or k itself if it is no alias;
+-- if an alias is a duplicate, the first one counts
 abbrev pub field_name_of : List (Name × Name) → Name → Name
 field_name_of [] k = k
 field_name_of (p ∷ ps) k = if bytes_eq k p.0 then p.1 else field_name_of ps k

@@ -28,10 +28,10 @@ pub record FieldsMeaning (V : Type 0) : Type 1 where
   -- before; `refused` says that `next_state` returns no state then
   pub refuses : List Name → State → Name → Bool
   pub refused : (names : List Name) (s : State) (k : Name) → refuses names s k ≡ true → (t : Tree) → next_state names s k t ≡ None
-  -- the content after the last member, if each field has a value
+  -- the content by the state after the last member, if each field has a value or may be missing
   pub end : State → Option Content
   -- the content that members give, field by field, by the fields' names and the state before them;
-  -- `members_agree` says that they give the same one by one
+  -- `members_agree` says that they give the same by `next_state`, one by one, and `end`
   pub from_members : List Name → State → Members → Option Content
   pub members_agree : (names : List Name) (s : State) (ms : Members) → option_and_then end (after_members (next_state names) s ms) ≡ from_members names s ms
   -- by the fields' names, the members mean the values; `reads_agrees` says that they do exactly if

@@ -30,8 +30,9 @@ with_refused w = record w { refused = true }
 abbrev pub LacksRoom : WriterView → List ℕ → Type 0
 LacksRoom w bs = w.refused ≡ false → w.capacity < length w.text + length bs
 
--- The call appends the bytes bs and sets the flag `first`; or it fails with `Memory`, for lack of room or since a
--- call failed before, and the text and its capacity are as before.
+-- The call appends the bytes bs and sets the flag `first` to the argument of that name; or it fails with `Memory`, for
+-- lack of room or since a call failed before. If it fails, the text and its capacity are as before, and each later call
+-- fails.
 pub record Appends (old : WriterView) (bs : List ℕ) (first : Bool) (answer : Result (Unit {0}) Error) (new : WriterView) : Type 0 where
   pub ok : OnOk answer (new ≡ with_first_flag (after_append old bs new.capacity) first)
   pub stays : OnOk answer (old.refused ≡ false)

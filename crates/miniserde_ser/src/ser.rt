@@ -155,8 +155,8 @@ impl Writer {
         }
     }
 
-    // Appends a punctuation mark. `first` says whether an element or a member right after it is the first. Returns
-    // `Memory` if the text cannot grow or an earlier call failed.
+    // Appends `mark`, a bracket or a comma. `first` says whether an element or a member right after it is the first of
+    // its container. Returns `Memory` if the text cannot grow or an earlier call failed.
     #[inline(always)]
     fn punctuate(&mut self, mark: &str, first: bool) -> Result<()>
         ensures { Appends self.old mark.now first result self.new }
@@ -228,7 +228,8 @@ impl Writer {
     }
 
     /// Begins a member of an object: appends a comma unless the member is the first, then its name as a string, and a
-    /// colon. It does what `key` does, and is inlined into its caller.
+    /// colon. Returns `Memory` if the text cannot grow or an earlier call failed. It does what `key` does, and is
+    /// inlined into its caller.
     #[inline(always)]
     pub fn key_inline(&mut self, k: &str) -> Result<()>
         ensures appends { Appends self.old
@@ -287,8 +288,9 @@ pub trait Serialize {
     /// The tree of a value.
     ghost tree: { Self → Tree };
 
-    /// Appends the compact text of the value. Returns `Memory` if an allocation fails or an earlier call of the
-    /// writer failed; the writer then returns no text.
+    /// Appends the compact text of the value. If the next element or member was not the first of its container, it
+    /// still is not. Returns `Memory` if an allocation fails or an earlier call of the writer failed; the writer then
+    /// returns no text.
     fn begin(&self, w: &mut Writer) -> Result<()>
         ensures ok { OnOk result (w.new.text ≡ w.old.text ++ compact (tree self.now)) }
         ensures in_range { OnOk result (InRange (tree self.now)) }

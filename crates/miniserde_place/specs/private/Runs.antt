@@ -1,5 +1,6 @@
 -- How an engine goes on in the middle of a text, with the place that it hands events to.
 -- m, st and s: the moment, the open containers and the rest of the text; at and k: the place's position and outcome.
+-- m', st', s', at' and k' are the same later.
 use Rattle.std.specs.Prelude.{◌≡◌, ℕ, List, ◌++◌, Option, None}
 use Rattle.miniserde_model.specs.Step.{Step}
 use Rattle.miniserde_model.specs.Position.{Position, Completes}

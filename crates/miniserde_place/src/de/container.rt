@@ -24,7 +24,8 @@ pub(crate) enum Stage {
     Child,
     /// The container has ended.
     Done,
-    /// The first error of the place.
+    /// The place failed, with this first error. If the place of the current child fails, the stage stays `Child`, and
+    /// that place keeps the error.
     Refused(Error),
 }
 
@@ -43,7 +44,8 @@ impl<C: Collect> ContainerPlace<C> {
 
     // Takes an event that is not one of an incomplete child: it opens the container, begins its next child or ends
     // it. A complete child is added to the container first. Returns the first error of the place if it keeps one,
-    // `Invalid` if the event does none of these, and `Memory` if an allocation fails.
+    // `Invalid` if the event does none of these, if the container does not allow it or if the complete child's events
+    // mean no value, and `Memory` if an allocation fails. The caller keeps the error.
     #[inline(never)]
     fn step_between_children(&mut self, event: Step<'_>) -> Result<()>
         requires tree { EventInRange (event_of event) }

@@ -1,4 +1,4 @@
--- The integers that trees mean, for a type of a given number of bits (RFC 8259, section 6).
+-- The integers that trees mean, for a type of any number of bits (RFC 8259, section 6).
 use Rattle.std.specs.Prelude.{◌≡◌, ◌<◌, ◌-◌, ◌^◌, ℕ, ℤ, pos, negsuc, Bool, true, Option, Some, None, nat_lt, if◌then◌else◌, refl}
 use Rattle.miniserde_model.specs.Tree.{Tree, nonneg, neg}
 

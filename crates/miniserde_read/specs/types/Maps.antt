@@ -1,5 +1,6 @@
 -- The maps that trees mean: objects whose names are read as keys (RFC 8259, section 4).
--- `read` returns the content of the key that a name is read as, and `code` the part of a key that `Eq` compares.
+-- A `Key` is the content of a key. `read` returns the content of the key that a name is read as, and `code` the part of
+-- a content that `Eq` compares.
 use Rattle.std.specs.Prelude.{List, [], ◌∷◌, Option, Some, None, option_and_then, option_map, IsSome, bytes_eq, ◌≡◌, ⊤, if◌then◌else◌, true, false, codes, refl}
 use Rattle.miniserde_model.specs.Tree.{Tree, members, Members, no_members, member, null, truth}
 use Rattle.miniserde_keys.specs.Keys.{Key}
@@ -43,8 +44,9 @@ MeansAt content R None (Some e) = ⊥
 MeansAt content R (Some p) None = ⊥
 MeansAt content R (Some p) (Some e) = (content e.0 ≡ p.0) × R p.1 e.1
 
--- The tree is an object, of which each member is accepted. At each code q, the entry of es has the key of the first
--- member with a key of that code, and the tree of the last such member means its value by R.
+-- The tree is an object, of which each member is accepted (`AllAccepted`). At each code q, es has an entry exactly if
+-- the object has a member whose key has that code. The entry then has the key of the first such member, and the tree
+-- of the last one means its value by R.
 abbrev pub MapReads : {K V C : Type 0} → (Name → Option Key) → (Key → Key) → (K → Key) → (Tree → Option C) → (Tree → V → Type 0) → Tree → List (K × V) → Type 0
 MapReads read code content of R (members ms) es = AllAccepted read of ms × ((q : Key) → MeansAt content R (first_and_last_at read code q ms) (entry_at (λ k. code (content k)) q es))
 MapReads read code content of R _ es = ⊥

@@ -19,7 +19,8 @@ abbrev pub ItemReads : {T V : Type 0} → (Tree → T → Type 0) → (Trees →
 ItemReads R S no_trees v = ⊥
 ItemReads R S (tree t ts) v = R t v.0 × S ts v.1
 
--- the contents that f returns for the first child and g for the later ones, if both return one
+-- the contents that f returns for the first child and g for the later ones, if both return one; `None` without
+-- children
 abbrev pub item_of : {A B : Type 0} → (Tree → Option A) → (Trees → Option B) → Trees → Option (A × B)
 item_of f g no_trees = None
 item_of f g (tree t ts) = both (f t, g ts)

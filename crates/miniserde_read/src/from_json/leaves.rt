@@ -6,7 +6,8 @@ use crate::source::Source;
 use miniserde_model::error::Result;
 use miniserde_text::json::lex::Event;
 
-/// A type of std whose values are single tokens. Such a type of another crate has its own `impl FromJson`.
+/// A type of std whose values are single tokens. It reads itself by its `Leaf`. Such a type of another crate has its
+/// own `impl FromJson`.
 pub trait StdLeaf: Leaf {}
 
 impl StdLeaf for () {}

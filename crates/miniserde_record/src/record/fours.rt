@@ -1,4 +1,5 @@
-//! Takes the values of fields out of their chain, four at a time.
+//! Takes the values of fields out of their chain, four at a time. One nested pattern for all fields of a long struct
+//! takes too long to check.
 ghost use Rattle.std.specs.Prelude.{◌≡◌};
 
 use super::structs::Parts;

@@ -22,7 +22,7 @@ pub trait LosslessFields {
     // Which values are valid.
     ghost real: { Self.Values → Type 0 };
 
-    // The tree of each value, in their order, or none for a value that is not written.
+    // The tree of each value, in their order, or `None` for a value that is not written.
     ghost trees: { Self.Values → List (Option Tree) };
 
     /// Does nothing. It promises that there are as many trees as fields, and that valid values with the same trees

@@ -10,14 +10,15 @@ use super::structs::Parts;
 use miniserde_model::error::Result;
 use miniserde_ser::ser::{Serialize, Writer};
 
-/// A chain of lent values, which are written as members.
+/// A chain of lent values, which are written as members: `Parts` of a value and the rest of the chain, with `()` at the
+/// end.
 pub trait Members {
-    // The tree of each value, in their order, or none for a value that is not written.
+    // The tree of each value, in their order, or `None` for a value that is not written.
     ghost trees: { Self → List (Option Tree) };
 
-    /// Appends a member for each value, whose name is the one at the value's index in `names`. Values
-    /// beyond the last name have no member, and neither has an `Omitted` that is `None`. Returns
-    /// `Memory` if the writer fails.
+    /// Appends a member for each value, with a comma before it unless it is the first of its object.
+    /// Its name is the one at the value's index in `names`. Values beyond the last name have no
+    /// member, and neither has an `Omitted` that is `None`. Returns `Memory` if the writer fails.
     fn write(&self, w: &mut Writer, names: &[&str]) -> Result<()>
         ensures ok { OnOk result (w.new.text ≡ w.old.text
             ++ members_text w.old.first (with_names (map (λ n. n.now) names.now) (trees self.now))) }
@@ -88,6 +89,7 @@ impl<'a, A: Serialize, B: Serialize, C: Serialize, D: Serialize, M: Members> Mem
 
     #[inline(always)]
     fn write(&self, w: &mut Writer, names: &[&str]) -> Result<()> {
+        // A chain of `Parts` with the same values writes them. `Lent` puts the later ones into it without a move.
         Parts(
             self.0,
             Parts(self.1, Parts(self.2, Parts(self.3, Lent(&self.4)))),
@@ -97,8 +99,8 @@ impl<'a, A: Serialize, B: Serialize, C: Serialize, D: Serialize, M: Members> Mem
 }
 
 /// Writes an object that has a member for each of the values, whose name is the one at the value's
-/// index in `names`. An `Omitted` that is `None` has no member. Returns `Memory` if the writer
-/// fails.
+/// index in `names`. Values beyond the last name have no member, and neither has an `Omitted` that
+/// is `None`. Returns `Memory` if the writer fails.
 #[inline(always)]
 pub fn write_members<M: Members>(w: &mut Writer, names: &[&str], values: &M) -> Result<()>
     ensures ok { OnOk result (w.new.text ≡ w.old.text

@@ -90,8 +90,9 @@ impl<T: UnitEnum + 'static> Leaf for Variant<T> {
     }
 }
 
-/// Returns the value of a unit enum whose name is the string `token`. Returns `Invalid` if no value
-/// has that name, or if the token is no string. Takes nothing from the source.
+/// Returns the value of a unit enum whose name is the string `token`, which must be the token that
+/// was taken last. Returns `Invalid` if no value has that name, or if the token is no string. Takes
+/// nothing from the source.
 #[inline(always)]
 pub fn read_variant<'a, T: UnitEnum + 'static>(
     token: Event<'a>,
@@ -111,8 +112,8 @@ pub fn read_variant<'a, T: UnitEnum + 'static>(
     }
 }
 
-/// Does nothing. It promises that each value of a unit enum is read back as itself, in the form that `RoundTrip`
-/// needs.
+/// Does nothing. It promises that the tree of each value of a unit enum means a value, and that each value that it
+/// means has that tree, in the form that `RoundTrip` needs.
 pub fn variant_round_trips<T: UnitEnum>()
     ensures { (v : T) → ⊤
         → RoundTrips (λ _. ⊤) (λ v. str (T.name_of v)) (λ t v. t ≡ str (T.name_of v)) (str (T.name_of v)) }

@@ -42,8 +42,8 @@ impl<T: FromJson, M: Repeats> Mark<Option<T>> for Omit<M> {
     }
 }
 
-/// An optional field that is not written if it is `None`, and the fields after it. It is read like
-/// any other optional field.
+/// A field of the type `Option<T>` that is not written if it is `None`, and the fields `R` after it.
+/// It is read like any other optional field. `M` says whether a duplicate of its name is an error.
 pub struct OmitSlot<T, M, R> {
     slot: MarkedSlot<Option<T>, Omit<M>, R>,
 }

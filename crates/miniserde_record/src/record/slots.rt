@@ -40,7 +40,7 @@ pub trait Slots: Drop {
     // The contents of the values that were read so far.
     ghost state: { Self → meaning.State };
 
-    // Whether `end` never returns `Memory`.
+    // If true, `end` never returns `Memory`.
     ghost end_infallible: { Bool } = { false };
 
     /// Returns the fields without values.
@@ -48,10 +48,12 @@ pub trait Slots: Drop {
         ensures { state result ≡ meaning.empty };
 
     /// Reads a member's value, after the member's name and colon, into the field that has the name
-    /// `name`, or skips the value if no field has it. `names` lists the names of these fields.
-    /// Returns `Invalid` if no prefix of the text means a value of the field, and `Memory` if an
-    /// allocation fails. Returns `Invalid` before it reads anything if the field is marked `once`
-    /// and has a value, or if no field has the name and the struct is marked `closed`.
+    /// `name`; it replaces the value that the field has so far. Skips the value if no field has the
+    /// name. `names` lists the names of these fields in their order; a field beyond the last name
+    /// has none. Returns `Invalid` if no prefix of the text means a value of the field, or is a
+    /// value to skip, and `Memory` if an allocation fails. Returns `Invalid` before it reads
+    /// anything if the field is marked `once` and has a value, or if no field has the name and the
+    /// struct is marked `closed`.
     fn read_member<'a>(&mut self, names: &[&str], name: &str, source: &mut Source<'a>) -> Result<()>
         requires { source.old.refused ≡ None }
         ensures going { IfOk result (λ _. source.new.refused ≡ None) }
@@ -104,8 +106,8 @@ impl Slots for NoSlot {
 }
 
 // Reads a member's value into the later fields `rest`, by their `read_member`, if `names` has no
-// name for the field before them. It is kept out of line, since it is never called: a struct has a
-// name for each field.
+// name for the field before them. A struct has a name for each field, so this does not happen; the
+// function is kept out of line, since in line it would double the code of each slot.
 #[inline(never)]
 fn read_unnamed<'a, R: Slots>(
     rest: &mut R,
@@ -126,7 +128,7 @@ fn read_unnamed<'a, R: Slots>(
     rest.read_member(names, name, source)
 }
 
-/// A field with the mark `M`, and the fields after it.
+/// A field of the type `T` with the mark `M`, and the fields `R` after it.
 pub struct MarkedSlot<T, M, R> {
     value: Option<T>,
     mark: PhantomData<M>,
@@ -235,6 +237,7 @@ pub fn read_record<'a, S: Record, F: Slots<Values = S::Values>>(
         match name {
             Text::Input(name) => fields.read_member(S::names(), name, source)?,
             Text::Scratch => {
+                // The value may replace the scratch text, so the name is moved out of the source.
                 let name = source.take_scratch();
                 fields.read_member(S::names(), name.as_str(), source)?;
             }

@@ -16,7 +16,7 @@ pub trait Record: Sized + Drop {
     // The values of a struct's fields, in their order.
     ghost values: { Self → Self.Values };
 
-    // The struct whose fields have the given values.
+    // The struct whose fields have these values.
     ghost made: { Self.Values → Self };
 
     /// Returns the fields' names, in their order.

@@ -13,7 +13,9 @@ use super::super::Step;
 use miniserde_model::error::{Error, Result};
 use std::alloc::Global;
 
-/// A collector: the children of a container so far, and the place of the current child.
+/// A collector: the children of a container so far, and the place of the current child. A `ContainerPlace` calls
+/// `step`, `refuse` and `join` only if there is a current child. If there is none, a collector may show the view
+/// `no_child`, whose first error is `Invalid`; then these three return `Invalid`, `refuse` for any error.
 pub trait Collect: Drop {
     /// The type of the containers.
     type Out;
@@ -22,7 +24,7 @@ pub trait Collect: Drop {
     // current child's place.
     ghost collector_meaning: { CollectorMeaning Self Self.Out };
 
-    // Whether `join` returns `Memory` only if the place of the current child keeps that error.
+    // If true, `join` returns `Memory` only if the place of the current child keeps that error.
     ghost join_infallible: { Bool } = { false };
 
     /// Returns a collector without children. Allocates nothing.
@@ -33,8 +35,9 @@ pub trait Collect: Drop {
     fn opens(event: &Step<'_>) -> bool
         ensures { IsTrue result ↔ (event_of event.now ≡ opening_event collector_meaning.is_object) };
 
-    /// Begins a fresh place for the child that the event begins. Returns `Invalid` if the container
-    /// can have no such child here, and `Memory` if an allocation fails.
+    /// Begins a fresh place for the child that the event begins. It replaces the place of the current
+    /// child, if there is one. Returns `Invalid` if the container can have no such child here, and
+    /// `Memory` if an allocation fails.
     fn begin_child(&mut self, alloc: Global, event: Step<'_>) -> Result<()>
         requires { BeginsChild (event_of event) }
         ensures fresh { IfOk result (λ _. IsFresh
@@ -75,7 +78,8 @@ pub trait Collect: Drop {
     fn can_end(&self) -> bool
         ensures { result ≡ is_some (collector_meaning.rules.end (collector_meaning.state self.now)) };
 
-    /// Returns the value of the container, or `None` if it may not end after the children so far.
+    /// Returns the value of the container, or `None` if it may not end after the children so far. A
+    /// current child that was not added is dropped.
     fn end(self) -> Option<Self::Out>
         ensures { MatchOption result (collector_meaning.rules.end (collector_meaning.state self) ≡ None)
             (λ v. collector_meaning.rules.end (collector_meaning.state self) ≡ Some (collector_meaning.meant.content v)) };

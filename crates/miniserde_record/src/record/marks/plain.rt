@@ -24,7 +24,7 @@ pub trait Mark<T: FromJson>: Repeats {
     // field has, if any.
     ghost given: { Option Tree };
 
-    // Whether `missing` never fails to allocate.
+    // If true, `missing` never fails to allocate.
     ghost missing_infallible: { Bool } = { false };
 
     /// Returns the value of a missing field, or `None` if a missing field is an error. Returns
