@@ -94,7 +94,7 @@ def variants_text(it, path):
 
 {wrapped("values", f"elim [ {values} ]")}
 
-{wrapped("bijective", made_clause(it.parts))}
+{wrapped("surjective", made_clause(it.parts))}
 
     ghost distinct_names = {{ refl }};
 

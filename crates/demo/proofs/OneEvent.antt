@@ -14,7 +14,7 @@ pub one_event : {C : Type 0} (from_events : List Step → Option C) (old new : P
 one_event from_events old new e w f t =
     let r = t.advances [] (subst (λ p. Completes p (e ∷ [])) (sym f.fresh) w) in
     let at : new.at ≡ complete = r.0 ∙ ap (λ p. next p e) f.fresh ∙ w.1 in
-    (t.marks, ap is_complete at, r.1 ∙ f.outcome (e ∷ []) w)
+    (t.records, ap is_complete at, r.1 ∙ f.outcome (e ∷ []) w)
 
 -- a number that fits means itself
 pub fits : (n m : ℕ) → n ≡ m → m < 2 ^ 32 → unsigned_of 32 (nonneg n) ≡ Some (pos n)

@@ -249,8 +249,8 @@ impl DataEnum for Action {
       | Move x0 x1 ↦ later_case (later_case (first_case (record { x = x0; y = x1 })))
     ] };
 
-    ghost bijective = { each_case _ (λ x. (Ping, refl)) (each_case _ (λ x. (Say x, refl)) (each_case
-        _ (λ x. (Move x.x x.y, refl)) (any_of_never _))) };
+    ghost surjective = { each_case _ (λ x. (Ping, refl)) (each_case _ (λ x. (Say x, refl))
+        (each_case _ (λ x. (Move x.x x.y, refl)) (any_of_never _))) };
 
     ghost distinct_names = { refl };
 

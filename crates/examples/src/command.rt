@@ -129,7 +129,7 @@ impl DataEnum for Command {
           ↦ later_case (later_case (first_case (record { x = x0; y = x1 })))
     ] };
 
-    ghost bijective = { each_case _ (λ x. (Ping, refl)) (each_case _ (λ x. (Text x, refl))
+    ghost surjective = { each_case _ (λ x. (Ping, refl)) (each_case _ (λ x. (Text x, refl))
         (each_case _ (λ x. (Move x.x x.y, refl)) (any_of_never _))) };
 
     ghost distinct_names = { refl };

@@ -155,7 +155,7 @@ impl<T: FromJson> DataEnum for Reply<T> {
       | Gone ↦ later_case (later_case (later_case (first_case tt)))
     ] };
 
-    ghost bijective = { each_case _ (λ x. (Done x, refl)) (each_case _ (λ x. (
+    ghost surjective = { each_case _ (λ x. (Done x, refl)) (each_case _ (λ x. (
       Between x.0 x.1,
       refl,
     )) (each_case _ (λ x. (Failed x.code x.why, refl)) (each_case _ (λ x. (Gone, refl))

@@ -23,7 +23,7 @@ pub trait DataEnum: Sized + Drop {
         ensures { values result ≡ value };
 
     // For each of `Values`, some value of the enum has that variant with that data.
-    ghost bijective: { (x : Self.Values) → (v : Self) × (values v ≡ x) };
+    ghost surjective: { (x : Self.Values) → (v : Self) × (values v ≡ x) };
 
     // No two variants have the same name.
     ghost distinct_names: { are_distinct names ≡ true };

@@ -59,7 +59,7 @@ pub trait Visitor: Drop {
     /// Keeps an error, unless the place has one already. Returns the first error of the place.
     fn refuse(&mut self, error: Error) -> Error
         ensures answer { result ≡ first_refusal (meaning.view self.old).refused error }
-        ensures marks { (meaning.view self.new).refused ≡ Some result };
+        ensures records { (meaning.view self.new).refused ≡ Some result };
 
     /// Returns whether the value is complete.
     fn is_complete(&self) -> bool

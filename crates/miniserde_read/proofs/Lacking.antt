@@ -11,7 +11,7 @@ use Rattle.miniserde_model.specs.Step.{Step}
 use Rattle.miniserde_model.specs.Lexing.{Starts, Follows}
 use Rattle.miniserde_model.specs.declared.kind.Kind.TheVariants.{Seq}
 use Rattle.miniserde_text.specs.Lexer.{BeginsEscaped}
-use Rattle.miniserde_read.specs.Escaped.{HasEscape}
+use Rattle.miniserde_read.specs.Escaped.{BeginsWithEscapedString}
 use Rattle.miniserde_read.specs.Rest.{ValueAt}
 use Rattle.miniserde_read.specs.Lacking.{EscapedElement, AnElement, EscapedAmong, SomeElements}
 
@@ -52,7 +52,7 @@ no_quotes [] h = tt
 no_quotes (c ∷ cs) h = (no_quote c h.0, no_quotes cs h.1)
 
 -- what a lexer says of a text that it fails to decode, of the whole text
-pub has_escape : (j : List ℕ) → BeginsEscaped j → HasEscape j
+pub has_escape : (j : List ℕ) → BeginsEscaped j → BeginsWithEscapedString j
 has_escape j (r, p) = (
   p.space,
   p.is_part.inside,

@@ -4,5 +4,5 @@ use Rattle.std.specs.List.{AllByRecursion}
 use Rattle.miniserde_model.specs.Whitespace.{IsWhitespace}
 
 -- the text j is whitespace, a quote, bytes without a quote, a backslash, and any rest
-abbrev pub HasEscape : List ℕ → Type 0
-HasEscape j = (space inside rest : List ℕ) × IsWhitespace space × AllByRecursion (λ c. c ≢ 34) inside × (j ≡ space ++ 34 ∷ (inside ++ 92 ∷ rest))
+abbrev pub BeginsWithEscapedString : List ℕ → Type 0
+BeginsWithEscapedString j = (space inside rest : List ℕ) × IsWhitespace space × AllByRecursion (λ c. c ≢ 34) inside × (j ≡ space ++ 34 ∷ (inside ++ 92 ∷ rest))

@@ -3,7 +3,7 @@ ghost use Rattle.std.specs.Prelude.{◌≡◌, true, List, ℕ, None, Some, Ok, 
 ghost use Rattle.miniserde_model.specs.Tree.{Tree};
 ghost use Rattle.miniserde_model.specs.Value.{IsJson};
 ghost use Rattle.miniserde_model.specs.declared.error.Error.{Error};
-ghost use Rattle.miniserde_read.specs.Escaped.{HasEscape};
+ghost use Rattle.miniserde_read.specs.Escaped.{BeginsWithEscapedString};
 
 use crate::from_json::FromJson;
 use crate::source::Source;
@@ -26,7 +26,7 @@ pub fn from_str<T: FromJson>(alloc: Global, j: &str) -> Result<T>
 
     // If reading the type never fails to allocate, only a text that begins as a string with a backslash gives
     // `Memory`.
-    ensures memory { T.read_infallible ≡ true → result ≡ Err Error.Memory → HasEscape j.now }
+    ensures memory { T.read_infallible ≡ true → result ≡ Err Error.Memory → BeginsWithEscapedString j.now }
 
     // No text has two trees.
     ensures one { (t u : Tree) → IsJson j.now t → IsJson j.now u → t ≡ u }
@@ -55,7 +55,7 @@ pub fn from_slice<T: FromJson>(alloc: Global, bytes: &[u8]) -> Result<T>
     ensures utf8 { (IsUtf8 bytes.now → ⊥) → result ≡ Err Error.Invalid }
 
     // If reading the type never fails to allocate, only bytes that begin as a string with a backslash give `Memory`.
-    ensures memory { T.read_infallible ≡ true → result ≡ Err Error.Memory → HasEscape bytes.now }
+    ensures memory { T.read_infallible ≡ true → result ≡ Err Error.Memory → BeginsWithEscapedString bytes.now }
 
     // No bytes have two trees.
     ensures one { (t u : Tree) → IsJson bytes.now t → IsJson bytes.now u → t ≡ u }

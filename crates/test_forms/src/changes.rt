@@ -157,7 +157,7 @@ impl DataEnum for Change {
       | Mark x0 x1 ↦ later_case (later_case (first_case (record { at = x0; note = x1 })))
     ] };
 
-    ghost bijective = { each_case _ (λ x. (Clear, refl)) (each_case _ (λ x. (Run x, refl))
+    ghost surjective = { each_case _ (λ x. (Clear, refl)) (each_case _ (λ x. (Run x, refl))
         (each_case _ (λ x. (Mark x.at x.note, refl)) (any_of_never _))) };
 
     ghost distinct_names = { refl };

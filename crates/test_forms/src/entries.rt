@@ -233,7 +233,7 @@ impl<T: FromJson> DataEnum for Entry<T> {
           { level = x0; of = x1; slip = x2 }))
     ] };
 
-    ghost bijective = { each_case _ (λ x. (Silence, refl)) (each_case _ (λ x. (
+    ghost surjective = { each_case _ (λ x. (Silence, refl)) (each_case _ (λ x. (
       Log x.level x.of
           x.slip,
       refl,

@@ -125,7 +125,7 @@ impl DataEnum for Key {
           x0)))))))))))))))
     ] };
 
-    ghost bijective = { each_case _ (λ x. (Up, refl)) (each_case _ (λ x. (Down, refl)) (each_case _
+    ghost surjective = { each_case _ (λ x. (Up, refl)) (each_case _ (λ x. (Down, refl)) (each_case _
         (λ x. (Left, refl)) (each_case _ (λ x. (Right, refl)) (each_case _ (λ x. (Enter, refl))
         (each_case _ (λ x. (Escape, refl)) (each_case _ (λ x. (Tab, refl)) (each_case _ (λ x.
         (Delete, refl)) (each_case _ (λ x. (Letter x, refl)) (each_case _ (λ x. (Digit x, refl))

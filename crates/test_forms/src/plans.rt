@@ -41,7 +41,7 @@ impl DataEnum for Plan {
           (later_case (first_case (x0, x1, x2))))
     ] };
 
-    ghost bijective = { each_case _ (λ x. (Nothing, refl)) (each_case _ (λ x. (OneTask x, refl))
+    ghost surjective = { each_case _ (λ x. (Nothing, refl)) (each_case _ (λ x. (OneTask x, refl))
         (each_case _ (λ x. (Tasks x, refl)) (each_case _ (λ x. (Three x.0 x.1 x.2, refl))
         (any_of_never _)))) };
 

@@ -169,7 +169,7 @@ impl DataEnum for Renewal {
       }))
     ] };
 
-    ghost bijective = { each_case _ (λ x. (Add x, refl)) (each_case _ (λ x. (
+    ghost surjective = { each_case _ (λ x. (Add x, refl)) (each_case _ (λ x. (
       Move x.from x.to,
       refl,
     )) (any_of_never _)) };

@@ -227,7 +227,7 @@ impl DataEnum for Change {
           later_case (later_case (later_case (first_case (record { job_id = x0; new_phase = x1 }))))
     ] };
 
-    ghost bijective = { each_case _ (λ x. (SignedOut, refl)) (each_case _ (λ x. (NewUrl x, refl))
+    ghost surjective = { each_case _ (λ x. (SignedOut, refl)) (each_case _ (λ x. (NewUrl x, refl))
         (each_case _ (λ x. (SeenAt x.0 x.1 x.2, refl)) (each_case _ (λ x. (
           JobPhase x.job_id
               x.new_phase,

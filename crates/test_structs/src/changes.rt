@@ -270,7 +270,7 @@ impl DataEnum for Change {
           later_case (later_case (later_case (later_case (first_case (record {})))))
     ] };
 
-    ghost bijective = { each_case _ (λ x. (Reset, refl)) (each_case _ (λ x. (SetName x, refl))
+    ghost surjective = { each_case _ (λ x. (Reset, refl)) (each_case _ (λ x. (SetName x, refl))
         (each_case _ (λ x. (BothOf x, refl)) (each_case _ (λ x. (Deep x.inner x.list, refl))
         (each_case _ (λ x. (Accent, refl)) (any_of_never _))))) };
 

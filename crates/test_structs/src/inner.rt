@@ -144,8 +144,10 @@ impl DataEnum for Inner {
           (record { v = x0; types = x1 }))
     ] };
 
-    ghost bijective = { each_case _ (λ x. (Empty, refl)) (each_case _ (λ x. (Two x.v x.types, refl))
-        (any_of_never _)) };
+    ghost surjective = { each_case _ (λ x. (Empty, refl)) (each_case _ (λ x. (
+      Two x.v x.types,
+      refl,
+    )) (any_of_never _)) };
 
     ghost distinct_names = { refl };
 

@@ -144,7 +144,7 @@ impl DataEnum for Answer {
           (first_case (record {}))
     ] };
 
-    ghost bijective = { each_case _ (λ x. (Count x.now, refl)) (each_case _ (λ x. (Full, refl))
+    ghost surjective = { each_case _ (λ x. (Count x.now, refl)) (each_case _ (λ x. (Full, refl))
         (any_of_never _)) };
 
     ghost distinct_names = { refl };

@@ -250,8 +250,8 @@ impl DataEnum for Call {
       | Reset x0 ↦ later_case (later_case (first_case (record { to = x0 })))
     ] };
 
-    ghost bijective = { each_case _ (λ x. (Look, refl)) (each_case _ (λ x. (Add x, refl)) (each_case
-        _ (λ x. (Reset x.to, refl)) (any_of_never _))) };
+    ghost surjective = { each_case _ (λ x. (Look, refl)) (each_case _ (λ x. (Add x, refl))
+        (each_case _ (λ x. (Reset x.to, refl)) (any_of_never _))) };
 
     ghost distinct_names = { refl };
 

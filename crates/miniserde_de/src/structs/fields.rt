@@ -54,7 +54,7 @@ pub trait Fields: Drop {
     /// that place.
     fn refuse(&mut self, error: Error) -> Error
         ensures answer { result ≡ first_refusal (meaning.child self.old).refused error }
-        ensures marks { (meaning.child self.new).refused ≡ Some result };
+        ensures records { (meaning.child self.new).refused ≡ Some result };
 
     /// Returns whether the current value is complete.
     fn is_child_complete(&self) -> bool

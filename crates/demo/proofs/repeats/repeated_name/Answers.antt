@@ -16,4 +16,4 @@ returns c =
     let had = number.closes one.0 one.1 ∙ one.2 in
     let n = c.from.result in
     let given = ap (option_map (λ (z : ℤ). (Some z, (None, tt)))) (fits n c.args.code c.from.ensures c.ranges.code.fits) in
-    (c.key-2.ensures.further.refuses (Some (pos n), (None, tt)) (had ∙ given) tt refl).1 refl c.in_ok-nonnegative.ensures.takes.marks
+    (c.key-2.ensures.further.refuses (Some (pos n), (None, tt)) (had ∙ given) tt refl).1 refl c.in_ok-nonnegative.ensures.takes.records

@@ -57,7 +57,7 @@ pub trait Collect: Drop {
     /// first error of that place.
     fn refuse(&mut self, error: Error) -> Error
         ensures answer { result ≡ first_refusal (collector_meaning.child self.old).refused error }
-        ensures marks { (collector_meaning.child self.new).refused ≡ Some result };
+        ensures records { (collector_meaning.child self.new).refused ≡ Some result };
 
     /// Returns whether the current child is complete.
     fn is_child_complete(&self) -> bool
