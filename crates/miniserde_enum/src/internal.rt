@@ -9,7 +9,7 @@ ghost use Rattle.miniserde_enum.specs.CasesMeaning.{tagged_content};
 
 use crate::inside::InsideCases;
 use crate::tag_name::TagName;
-use crate::tagged::{HasTag, DataEnum};
+use crate::tagged::{DataEnum, HasTag};
 use miniserde_model::error::{Error, Result};
 use miniserde_read::Source;
 use miniserde_record::record::{NoSlot, Parts, Record, Slot, Slots, read_record};

@@ -26,5 +26,5 @@ pub use one_of::{Never, OneOf};
 pub use reading::read_enum;
 pub use round_trips::{RoundTripCases, enum_round_trips, tagged_round_trips};
 pub use stable::{StableCases, enum_stable, tagged_stable};
-pub use tagged::{HasTag, DataEnum};
+pub use tagged::{DataEnum, HasTag};
 pub use writing::{write_data, write_fields, write_tagged, write_tagged_fields};

@@ -9,7 +9,7 @@ ghost use Rattle.miniserde_enum.specs.CasesMeaning.{CasesMeaning, no_cases, unit
 
 use crate::cases::{DataCase, NoCase, UnitCase};
 use crate::one_of::{Never, OneOf};
-use crate::tagged::{HasTag, DataEnum};
+use crate::tagged::{DataEnum, HasTag};
 use miniserde_round::Lossless;
 
 /// A chain of variants whose valid values have the same content if they have the same tree. The

@@ -10,7 +10,7 @@ ghost use Rattle.miniserde_enum.specs.CasesMeaning.{CasesMeaning, no_cases, unit
 
 use crate::cases::{DataCase, NoCase, UnitCase};
 use crate::one_of::{Never, OneOf};
-use crate::tagged::{HasTag, DataEnum};
+use crate::tagged::{DataEnum, HasTag};
 use miniserde_round::RoundTrip;
 
 /// A chain of variants whose values are read back as they were written.

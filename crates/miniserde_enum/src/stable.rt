@@ -6,7 +6,7 @@ ghost use Rattle.miniserde_enum.specs.Stable.{CasesStable};
 
 use crate::cases::{DataCase, NoCase, UnitCase};
 use crate::one_of::{Never, OneOf};
-use crate::tagged::{HasTag, DataEnum};
+use crate::tagged::{DataEnum, HasTag};
 use miniserde_stable::Stable;
 
 /// A chain of variants for which the normal form of data means what the data means.

@@ -4,4 +4,4 @@
 
 mod store;
 
-pub use store::{canonical_of, read_canonical, canonical_text_determines_content};
+pub use store::{canonical_of, canonical_text_determines_content, read_canonical};

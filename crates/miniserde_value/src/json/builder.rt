@@ -196,7 +196,8 @@ impl Builder {
     pub(crate) fn open_array(&mut self) -> result::Result<(), AllocError>
         ensures { OnOk result (hole_in self.new ≡ in_list [] (hole_in self.old)) }
     {
-        self.containers.push(OpenContainer::Array(self.values.len()))?;
+        self.containers
+            .push(OpenContainer::Array(self.values.len()))?;
         Ok(())
     }
 
