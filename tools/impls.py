@@ -15,17 +15,23 @@ def quoted(name):
     return f"«{name}»" if name in RESERVED else name
 
 
-def nested(items, last, word):
-    """Nested items, as Word(a, Word(b, last))."""
+def nested(items, last, word=""):
+    """Nested items, as (a, (b, last)), or with a word in front of each bracket."""
     text = last
     for item in reversed(items):
         text = f"{word}({item}, {text})"
     return text
 
 
-def tuple_of(items):
-    """A tuple of items, or the one item."""
-    return f"({', '.join(items)})" if len(items) > 1 else items[0]
+def values_of(names):
+    """The values of the fields as nested pairs. Those of more than twelve fields are made two by two, from the last on."""
+    if len(names) <= 12:
+        return nested([f"v.{name}" for name in names], "tt")
+    lines, rest = [], "tt"
+    for at in range((len(names) - 1) // 2 * 2, 0, -2):
+        lines.append(f"let rest{at} = {nested([f'v.{name}' for name in names[at : at + 2]], rest)} in")
+        rest = f"rest{at}"
+    return "\n".join([*lines, nested([f"v.{name}" for name in names[:2]], rest)])
 
 
 def wrapped(head, text):
@@ -250,7 +256,7 @@ def record_text(it, path):
 
     ghost names = {{ names_of {const} }};
 
-{wrapped("values", "λ v. " + tuple_of([f"v.{part}" for part in names] + ["tt"]))}
+{wrapped("values", "λ v. " + values_of([str(part) for part in names]))}
 
 {made_of(names)}
 
