@@ -26,9 +26,9 @@ is_due after = false
 abbrev pub HoleAdvancesBy : Bool → Moment → Hole → List Step → Moment → Hole → Type 0
 HoleAdvancesBy once m h done m' h' = (es : List Step) → outcome once (is_due m) h (done ++ es) ≡ outcome once (is_due m') h' es
 
--- The text from s to s' spells some events, which lead from m and the hole h to m' and h'; all
--- lists of events that s spells begin with them. They lead to h' if duplicate names are allowed
--- (`makes`), and also if, with `once`, a duplicate name gives nothing (`repeats_none`).
+-- The text from s to s' spells the events `done`, and any events that a prefix of s spells until no
+-- container is open begin with them (`passed`). They lead from m and the hole h to m' and h', if
+-- duplicate names are allowed (`makes`), and by `once` (`repeats_none`).
 pub record Builds (once : Bool) (m : Moment) (h : Hole) (s : List ℕ) (m' : Moment) (h' : Hole) (s' : List ℕ) : Type 0 where
   pub done : List Step
   pub passed : Consumes m (kinds h) s done m' (kinds h') s'

@@ -1,5 +1,5 @@
-//! Reads `Number`, `Value`, `Array`, `Object` and `Unique` from a text, at any depth and without recursion. All their
-//! values are valid (`Ranged`).
+//! Reads `Number`, `Value`, `Array`, `Object` and `Unique` from a text, at any depth and without recursion. `Ranged`
+//! asks nothing of them: `real` holds of each of their values.
 ghost use Rattle.std.specs.Prelude.{⊤};
 
 use super::array::Array;
