@@ -50,5 +50,7 @@ pub mod unique {
 pub mod value {
     pub use miniserde_de::documents::ValuePlace;
     pub use miniserde_value::json::into_value::{IntoValue, array_value, null_value, object_value};
-    pub use miniserde_value::json::value::{Value, read_is_normal, canonical_by_value, size_is_tree_size};
+    pub use miniserde_value::json::value::{
+        Value, canonical_by_value, read_is_normal, size_is_tree_size,
+    };
 }

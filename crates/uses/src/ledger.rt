@@ -7,7 +7,10 @@ ghost use Rattle.miniserde.specs.Normal.{norm};
 
 use miniserde::json::{canonical_of, from_str};
 use miniserde::laws::norm_is_normal;
-use miniserde::{Error, Lossless, Result, Serialize, Stable, means_in_normal_form, canonical_text_determines_content};
+use miniserde::{
+    Error, Lossless, Result, Serialize, Stable, canonical_text_determines_content,
+    means_in_normal_form,
+};
 use std::alloc::Global;
 use std::collections::BTreeMap;
 
