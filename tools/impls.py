@@ -15,17 +15,12 @@ def quoted(name):
     return f"«{name}»" if name in RESERVED else name
 
 
-def nested(items, last, word):
-    """Nested items, as Word(a, Word(b, last))."""
+def nested(items, last, word=""):
+    """Nested items, as (a, (b, last)), or with a word in front of each bracket."""
     text = last
     for item in reversed(items):
         text = f"{word}({item}, {text})"
     return text
-
-
-def tuple_of(items):
-    """A tuple of items, or the one item."""
-    return f"({', '.join(items)})" if len(items) > 1 else items[0]
 
 
 def wrapped(head, text):
@@ -250,7 +245,7 @@ def record_text(it, path):
 
     ghost names = {{ names_of {const} }};
 
-{wrapped("values", "λ v. " + tuple_of([f"v.{part}" for part in names] + ["tt"]))}
+{wrapped("values", "λ v. " + nested([f"v.{part}" for part in names], "tt"))}
 
 {made_of(names)}
 

@@ -31,7 +31,7 @@ impl Record for Nested {
 
     ghost names = { names_of NESTED_NAMES };
 
-    ghost values = { λ v. (v.y, v.z, tt) };
+    ghost values = { λ v. (v.y, (v.z, tt)) };
 
     ghost made = { λ x. record { y = x.0; z = x.1.0 } };
 
@@ -169,7 +169,7 @@ impl Record for Example {
 
     ghost names = { names_of EXAMPLE_NAMES };
 
-    ghost values = { λ v. (v.x, v.t1, v.t2, v.t3, v.nested, tt) };
+    ghost values = { λ v. (v.x, (v.t1, (v.t2, (v.t3, (v.nested, tt))))) };
 
     ghost made = { λ x. record {
       x = x.0;

@@ -30,7 +30,7 @@ impl Record for StrictDemo {
 
     ghost names = { names_of STRICT_DEMO_NAMES };
 
-    ghost values = { λ v. (v.code, v.message, tt) };
+    ghost values = { λ v. (v.code, (v.message, tt)) };
 
     ghost made = { λ x. record { code = x.0; message = x.1.0 } };
 

@@ -30,7 +30,7 @@ impl Record for Demo {
 
     ghost names = { names_of DEMO_NAMES };
 
-    ghost values = { λ v. (v.code, v.message, tt) };
+    ghost values = { λ v. (v.code, (v.message, tt)) };
 
     ghost made = { λ x. record { code = x.0; message = x.1.0 } };
 
@@ -154,7 +154,7 @@ impl Record for Point {
 
     ghost names = { names_of POINT_NAMES };
 
-    ghost values = { λ v. (v.x, v.y, tt) };
+    ghost values = { λ v. (v.x, (v.y, tt)) };
 
     ghost made = { λ x. record { x = x.0; y = x.1.0 } };
 

@@ -33,7 +33,7 @@ impl Record for Say {
 
     ghost names = { names_of SAY_NAMES };
 
-    ghost values = { λ v. (v.text, v.to, tt) };
+    ghost values = { λ v. (v.text, (v.to, tt)) };
 
     ghost made = { λ x. record { text = x.0; to = x.1.0 } };
 
@@ -137,7 +137,7 @@ impl Record for ActionMove {
 
     ghost names = { names_of ACTION_MOVE_NAMES };
 
-    ghost values = { λ v. (v.x, v.y, tt) };
+    ghost values = { λ v. (v.x, (v.y, tt)) };
 
     ghost made = { λ x. record { x = x.0; y = x.1.0 } };
 

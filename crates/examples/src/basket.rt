@@ -27,7 +27,7 @@ impl Record for Basket {
 
     ghost names = { names_of BASKET_NAMES };
 
-    ghost values = { λ v. (v.owner, v.prices, tt) };
+    ghost values = { λ v. (v.owner, (v.prices, tt)) };
 
     ghost made = { λ x. record { owner = x.0; prices = x.1.0 } };
 

@@ -32,7 +32,7 @@ impl Record for CommandMove {
 
     ghost names = { names_of COMMAND_MOVE_NAMES };
 
-    ghost values = { λ v. (v.x, v.y, tt) };
+    ghost values = { λ v. (v.x, (v.y, tt)) };
 
     ghost made = { λ x. record { x = x.0; y = x.1.0 } };
 

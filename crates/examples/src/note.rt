@@ -29,7 +29,7 @@ impl Record for Note {
 
     ghost names = { names_of NOTE_NAMES };
 
-    ghost values = { λ v. (v.title, v.text, v.stars, tt) };
+    ghost values = { λ v. (v.title, (v.text, (v.stars, tt))) };
 
     ghost made = { λ x. record { title = x.0; text = x.1.0; stars = x.1.1.0 } };
 

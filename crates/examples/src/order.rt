@@ -30,7 +30,7 @@ impl Record for Order {
 
     ghost names = { names_of ORDER_NAMES };
 
-    ghost values = { λ v. (v.id, v.quantity, v.paid, v.note, tt) };
+    ghost values = { λ v. (v.id, (v.quantity, (v.paid, (v.note, tt)))) };
 
     ghost made = { λ x. record { id = x.0; quantity = x.1.0; paid = x.1.1.0; note = x.1.1.1.0 } };
 

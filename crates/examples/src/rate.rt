@@ -27,7 +27,7 @@ impl Record for Rate {
 
     ghost names = { names_of RATE_NAMES };
 
-    ghost values = { λ v. (v.currency, v.ratio, tt) };
+    ghost values = { λ v. (v.currency, (v.ratio, tt)) };
 
     ghost made = { λ x. record { currency = x.0; ratio = x.1.0 } };
 

@@ -49,7 +49,7 @@ impl Record for ReplyFailed {
 
     ghost names = { names_of REPLY_FAILED_NAMES };
 
-    ghost values = { λ v. (v.code, v.why, tt) };
+    ghost values = { λ v. (v.code, (v.why, tt)) };
 
     ghost made = { λ x. record { code = x.0; why = x.1.0 } };
 

@@ -84,7 +84,7 @@ impl Record for Service {
 
     ghost names = { names_of SERVICE_NAMES };
 
-    ghost values = { λ v. (v.id, v.host, v.port, v.secure, v.tags, v.note, tt) };
+    ghost values = { λ v. (v.id, (v.host, (v.port, (v.secure, (v.tags, (v.note, tt)))))) };
 
     ghost made = { λ x. record {
       id = x.0;

@@ -94,7 +94,7 @@ impl Record for OldTask {
 
     ghost names = { names_of OLD_TASK_NAMES };
 
-    ghost values = { λ v. (v.id, v.title, v.state, v.colour, tt) };
+    ghost values = { λ v. (v.id, (v.title, (v.state, (v.colour, tt)))) };
 
     ghost made = { λ x. record { id = x.0; title = x.1.0; state = x.1.1.0; colour = x.1.1.1.0 } };
 
@@ -267,7 +267,7 @@ impl Record for Task {
 
     ghost names = { names_of TASK_NAMES };
 
-    ghost values = { λ v. (v.id, v.name, v.state, v.retries, v.note, tt) };
+    ghost values = { λ v. (v.id, (v.name, (v.state, (v.retries, (v.note, tt))))) };
 
     ghost made = { λ x. record {
       id = x.0;

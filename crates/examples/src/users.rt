@@ -27,7 +27,7 @@ impl Record for OldUser {
 
     ghost names = { names_of OLD_USER_NAMES };
 
-    ghost values = { λ v. (v.id, v.mail, tt) };
+    ghost values = { λ v. (v.id, (v.mail, tt)) };
 
     ghost made = { λ x. record { id = x.0; mail = x.1.0 } };
 
@@ -100,7 +100,7 @@ impl Record for User {
 
     ghost names = { names_of USER_NAMES };
 
-    ghost values = { λ v. (v.id, v.email, tt) };
+    ghost values = { λ v. (v.id, (v.email, tt)) };
 
     ghost made = { λ x. record { id = x.0; email = x.1.0 } };
 

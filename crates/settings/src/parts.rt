@@ -30,7 +30,7 @@ impl Record for Host {
 
     ghost names = { names_of HOST_NAMES };
 
-    ghost values = { λ v. (v.host, v.weight, tt) };
+    ghost values = { λ v. (v.host, (v.weight, tt)) };
 
     ghost made = { λ x. record { host = x.0; weight = x.1.0 } };
 
@@ -158,7 +158,7 @@ impl Record for Tls {
 
     ghost names = { names_of TLS_NAMES };
 
-    ghost values = { λ v. (v.cert, v.verify, tt) };
+    ghost values = { λ v. (v.cert, (v.verify, tt)) };
 
     ghost made = { λ x. record { cert = x.0; verify = x.1.0 } };
 

@@ -41,7 +41,7 @@ impl Record for Settings {
 
     ghost names = { names_of SETTINGS_NAMES };
 
-    ghost values = { λ v. (v.name, v.port, v.tls, v.hosts, v.limits, tt) };
+    ghost values = { λ v. (v.name, (v.port, (v.tls, (v.hosts, (v.limits, tt))))) };
 
     ghost made = { λ x. record {
       name = x.0;

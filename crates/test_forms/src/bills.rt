@@ -42,7 +42,7 @@ impl Record for Amount {
 
     ghost names = { names_of AMOUNT_NAMES };
 
-    ghost values = { λ v. (v.total, v.places, tt) };
+    ghost values = { λ v. (v.total, (v.places, tt)) };
 
     ghost made = { λ x. record { total = x.0; places = x.1.0 } };
 
@@ -124,7 +124,7 @@ impl Record for Bill {
 
     ghost names = { names_of BILL_NAMES };
 
-    ghost values = { λ v. (v.amount, v.number, tt) };
+    ghost values = { λ v. (v.amount, (v.number, tt)) };
 
     ghost made = { λ x. record { amount = x.0; number = x.1.0 } };
 

@@ -34,7 +34,7 @@ impl Record for ChangeMark {
 
     ghost names = { names_of CHANGE_MARK_NAMES };
 
-    ghost values = { λ v. (v.at, v.note, tt) };
+    ghost values = { λ v. (v.at, (v.note, tt)) };
 
     ghost made = { λ x. record { at = x.0; note = x.1.0 } };
 

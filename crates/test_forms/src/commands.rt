@@ -32,7 +32,7 @@ impl Record for CommandMove {
 
     ghost names = { names_of COMMAND_MOVE_NAMES };
 
-    ghost values = { λ v. (v.x, v.y, tt) };
+    ghost values = { λ v. (v.x, (v.y, tt)) };
 
     ghost made = { λ x. record { x = x.0; y = x.1.0 } };
 
@@ -236,7 +236,7 @@ impl Record for Task {
 
     ghost names = { names_of TASK_NAMES };
 
-    ghost values = { λ v. (v.name, v.command, tt) };
+    ghost values = { λ v. (v.name, (v.command, tt)) };
 
     ghost made = { λ x. record { name = x.0; command = x.1.0 } };
 

@@ -58,7 +58,7 @@ impl Record for Address {
 
     ghost names = { names_of ADDRESS_NAMES };
 
-    ghost values = { λ v. (v.street, v.city, v.zip, v.country, tt) };
+    ghost values = { λ v. (v.street, (v.city, (v.zip, (v.country, tt)))) };
 
     ghost made = { λ x. record { street = x.0; city = x.1.0; zip = x.1.1.0; country = x.1.1.1.0 } };
 
@@ -144,7 +144,7 @@ impl Record for Customer {
 
     ghost names = { names_of CUSTOMER_NAMES };
 
-    ghost values = { λ v. (v.id, v.name, v.addresses, v.flags, tt) };
+    ghost values = { λ v. (v.id, (v.name, (v.addresses, (v.flags, tt)))) };
 
     ghost made = { λ x. record { id = x.0; name = x.1.0; addresses = x.1.1.0; flags = x.1.1.1.0 } };
 

@@ -32,7 +32,7 @@ impl<T: FromJson> Record for Slip<T> {
 
     ghost names = { names_of SLIP_NAMES };
 
-    ghost values = { λ v. (v.of, v.by, tt) };
+    ghost values = { λ v. (v.of, (v.by, tt)) };
 
     ghost made = { λ x. record { of = x.0; by = x.1.0 } };
 
@@ -126,7 +126,7 @@ impl<T: FromJson> Record for EntryLog<T> {
 
     ghost names = { names_of ENTRY_LOG_NAMES };
 
-    ghost values = { λ v. (v.level, v.of, v.slip, tt) };
+    ghost values = { λ v. (v.level, (v.of, (v.slip, tt))) };
 
     ghost made = { λ x. record { level = x.0; of = x.1.0; slip = x.1.1.0 } };
 

@@ -48,7 +48,7 @@ impl Record for Host {
 
     ghost names = { names_of HOST_NAMES };
 
-    ghost values = { λ v. (v.name, v.port, v.note, tt) };
+    ghost values = { λ v. (v.name, (v.port, (v.note, tt))) };
 
     ghost made = { λ x. record { name = x.0; port = x.1.0; note = x.1.1.0 } };
 

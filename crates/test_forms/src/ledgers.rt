@@ -31,7 +31,7 @@ impl Record for Day {
 
     ghost names = { names_of DAY_NAMES };
 
-    ghost values = { λ v. (v.date, v.orders, v.by_country, tt) };
+    ghost values = { λ v. (v.date, (v.orders, (v.by_country, tt))) };
 
     ghost made = { λ x. record { date = x.0; orders = x.1.0; by_country = x.1.1.0 } };
 
@@ -113,7 +113,7 @@ impl Record for Ledger {
 
     ghost names = { names_of LEDGER_NAMES };
 
-    ghost values = { λ v. (v.days, v.next, v.rates, tt) };
+    ghost values = { λ v. (v.days, (v.next, (v.rates, tt))) };
 
     ghost made = { λ x. record { days = x.0; next = x.1.0; rates = x.1.1.0 } };
 

@@ -52,7 +52,34 @@ impl Record for Note {
 
     ghost names = { names_of NOTE_NAMES };
 
-    ghost values = { λ v. (v.text, v.name, v.stars, v.points, v.a, v.b, v.c, v.d, v.task, tt) };
+    ghost values = { λ v. (
+      v.text,
+      (
+        v.name,
+        (
+          v.stars,
+          (
+            v.points,
+            (
+              v.a,
+              (
+                v.b,
+                (
+                  v.c,
+                  (
+                    v.d,
+                    (
+                      v.task,
+                      tt,
+                    ),
+                  ),
+                ),
+              ),
+            ),
+          ),
+        ),
+      ),
+    ) };
 
     ghost made = { λ x. record {
       text = x.0;
@@ -192,7 +219,7 @@ impl Record for Bare {
 
     ghost names = { names_of BARE_NAMES };
 
-    ghost values = { λ v. (v.one, v.two, tt) };
+    ghost values = { λ v. (v.one, (v.two, tt)) };
 
     ghost made = { λ x. record { one = x.0; two = x.1.0 } };
 

@@ -120,7 +120,7 @@ impl Record for Item {
 
     ghost names = { names_of ITEM_NAMES };
 
-    ghost values = { λ v. (v.sku, v.count, v.cents, v.notes, tt) };
+    ghost values = { λ v. (v.sku, (v.count, (v.cents, (v.notes, tt)))) };
 
     ghost made = { λ x. record { sku = x.0; count = x.1.0; cents = x.1.1.0; notes = x.1.1.1.0 } };
 
@@ -221,7 +221,25 @@ impl Record for Order {
 
     ghost names = { names_of ORDER_NAMES };
 
-    ghost values = { λ v. (v.number, v.customer, v.items, v.state, v.discount, v.kind, v.extra, tt) };
+    ghost values = { λ v. (
+      v.number,
+      (
+        v.customer,
+        (
+          v.items,
+          (
+            v.state,
+            (
+              v.discount,
+              (
+                v.kind,
+                (v.extra, tt),
+              ),
+            ),
+          ),
+        ),
+      ),
+    ) };
 
     ghost made = { λ x. record {
       number = x.0;

@@ -28,7 +28,7 @@ impl<T: FromJson> Record for Page<T> {
 
     ghost names = { names_of PAGE_NAMES };
 
-    ghost values = { λ v. (v.items, v.next, tt) };
+    ghost values = { λ v. (v.items, (v.next, tt)) };
 
     ghost made = { λ x. record { items = x.0; next = x.1.0 } };
 

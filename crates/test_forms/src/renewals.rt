@@ -34,7 +34,7 @@ impl Record for RenewalMove {
 
     ghost names = { names_of RENEWAL_MOVE_NAMES };
 
-    ghost values = { λ v. (v.from, v.to, tt) };
+    ghost values = { λ v. (v.from, (v.to, tt)) };
 
     ghost made = { λ x. record { from = x.0; to = x.1.0 } };
 

@@ -33,7 +33,7 @@ impl Record for Account {
 
     ghost names = { names_of ACCOUNT_NAMES };
 
-    ghost values = { λ v. (v.user_id, v.is_admin, v.html_url, tt) };
+    ghost values = { λ v. (v.user_id, (v.is_admin, (v.html_url, tt))) };
 
     ghost made = { λ x. record { user_id = x.0; is_admin = x.1.0; html_url = x.1.1.0 } };
 
@@ -128,7 +128,7 @@ impl Record for ChangeJobPhase {
 
     ghost names = { names_of CHANGE_JOB_PHASE_NAMES };
 
-    ghost values = { λ v. (v.job_id, v.new_phase, tt) };
+    ghost values = { λ v. (v.job_id, (v.new_phase, tt)) };
 
     ghost made = { λ x. record { job_id = x.0; new_phase = x.1.0 } };
 

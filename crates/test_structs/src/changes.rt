@@ -35,7 +35,7 @@ impl Record for Name {
 
     ghost names = { names_of NAME_NAMES };
 
-    ghost values = { λ v. (v.name, v.of, tt) };
+    ghost values = { λ v. (v.name, (v.of, tt)) };
 
     ghost made = { λ x. record { name = x.0; of = x.1.0 } };
 
@@ -140,7 +140,7 @@ impl Record for ChangeDeep {
 
     ghost names = { names_of CHANGE_DEEP_NAMES };
 
-    ghost values = { λ v. (v.inner, v.list, tt) };
+    ghost values = { λ v. (v.inner, (v.list, tt)) };
 
     ghost made = { λ x. record { inner = x.0; list = x.1.0 } };
 

@@ -32,7 +32,7 @@ impl<A: FromJson, B: FromJson> Record for Both<A, B> {
 
     ghost names = { names_of BOTH_NAMES };
 
-    ghost values = { λ v. (v.one, v.two, tt) };
+    ghost values = { λ v. (v.one, (v.two, tt)) };
 
     ghost made = { λ x. record { one = x.0; two = x.1.0 } };
 
@@ -161,7 +161,7 @@ impl<T: FromJson, E: FromJson> Record for Reply<T, E> {
 
     ghost names = { names_of REPLY_NAMES };
 
-    ghost values = { λ v. (v.data, v.error, v.more, v.by_name, v.pages, tt) };
+    ghost values = { λ v. (v.data, (v.error, (v.more, (v.by_name, (v.pages, tt))))) };
 
     ghost made = { λ x. record {
       «data» = x.0;

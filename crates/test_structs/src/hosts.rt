@@ -29,7 +29,7 @@ impl Record for Port {
 
     ghost names = { names_of PORT_NAMES };
 
-    ghost values = { λ v. (v.number, v.open, tt) };
+    ghost values = { λ v. (v.number, (v.open, tt)) };
 
     ghost made = { λ x. record { number = x.0; «open» = x.1.0 } };
 
@@ -103,7 +103,7 @@ impl Record for Host {
 
     ghost names = { names_of HOST_NAMES };
 
-    ghost values = { λ v. (v.name, v.ports, v.weight, tt) };
+    ghost values = { λ v. (v.name, (v.ports, (v.weight, tt))) };
 
     ghost made = { λ x. record { name = x.0; ports = x.1.0; weight = x.1.1.0 } };
 
@@ -187,7 +187,7 @@ impl Record for Config {
 
     ghost names = { names_of CONFIG_NAMES };
 
-    ghost values = { λ v. (v.hosts, v.main, v.backup, v.limits, tt) };
+    ghost values = { λ v. (v.hosts, (v.main, (v.backup, (v.limits, tt)))) };
 
     ghost made = { λ x. record {
       hosts = x.0;

@@ -32,7 +32,7 @@ impl Record for InnerTwo {
 
     ghost names = { names_of INNER_TWO_NAMES };
 
-    ghost values = { λ v. (v.v, v.types, tt) };
+    ghost values = { λ v. (v.v, (v.types, tt)) };
 
     ghost made = { λ x. record { v = x.0; types = x.1.0 } };
 

@@ -34,7 +34,7 @@ impl<T: FromJson> Record for Jobs<T> {
 
     ghost names = { names_of JOBS_NAMES };
 
-    ghost values = { λ v. (v.waiting, v.late, v.done, tt) };
+    ghost values = { λ v. (v.waiting, (v.late, (v.done, tt))) };
 
     ghost made = { λ x. record { waiting = x.0; late = x.1.0; done = x.1.1.0 } };
 

@@ -28,7 +28,7 @@ impl Record for Listener {
 
     ghost names = { names_of LISTENER_NAMES };
 
-    ghost values = { λ v. (v.address, v.port, tt) };
+    ghost values = { λ v. (v.address, (v.port, tt)) };
 
     ghost made = { λ x. record { address = x.0; port = x.1.0 } };
 

@@ -55,18 +55,28 @@ impl Record for User {
 
     ghost values = { λ v. (
       v.id,
-      v.name,
-      v.age,
-      v.admin,
-      v.score,
-      v.tags,
-      v.email,
-      v.shift,
-      v.groups,
-      v.note,
-      v.size,
-      v.live,
-      tt,
+      (
+        v.name,
+        (
+          v.age,
+          (
+            v.admin,
+            (
+              v.score,
+              (
+                v.tags,
+                (
+                  v.email,
+                  (
+                    v.shift,
+                    (v.groups, (v.note, (v.size, (v.live, tt)))),
+                  ),
+                ),
+              ),
+            ),
+          ),
+        ),
+      ),
     ) };
 
     ghost made = { λ x. record {

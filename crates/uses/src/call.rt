@@ -33,7 +33,7 @@ impl Record for Addend {
 
     ghost names = { names_of ADDEND_NAMES };
 
-    ghost values = { λ v. (v.by, v.note, tt) };
+    ghost values = { λ v. (v.by, (v.note, tt)) };
 
     ghost made = { λ x. record { by = x.0; note = x.1.0 } };
 

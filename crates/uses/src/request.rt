@@ -29,7 +29,7 @@ impl Record for Item {
 
     ghost names = { names_of ITEM_NAMES };
 
-    ghost values = { λ v. (v.goods, v.count, tt) };
+    ghost values = { λ v. (v.goods, (v.count, tt)) };
 
     ghost made = { λ x. record { goods = x.0; count = x.1.0 } };
 
@@ -104,7 +104,7 @@ impl Record for Request {
 
     ghost names = { names_of REQUEST_NAMES };
 
-    ghost values = { λ v. (v.client, v.note, v.items, v.besides, tt) };
+    ghost values = { λ v. (v.client, (v.note, (v.items, (v.besides, tt)))) };
 
     ghost made = { λ x. record {
       client = x.0;

@@ -29,7 +29,7 @@ impl Record for Transfer {
 
     ghost names = { names_of TRANSFER_NAMES };
 
-    ghost values = { λ v. (v.from, v.to, v.cents, tt) };
+    ghost values = { λ v. (v.from, (v.to, (v.cents, tt))) };
 
     ghost made = { λ x. record { from = x.0; to = x.1.0; cents = x.1.1.0 } };
 
