@@ -60,12 +60,16 @@ fn a_number_is_kept_by_its_size(rt: HostRuntime) -> std::result::Result<(), Wron
         is_kept_as_signed(alloc, "-9223372036854775808", i64::MIN),
         "the least",
     )?;
+    expect_ok(is_kept_as_signed(alloc, "-1", -1), "minus one")?;
     expect_ok(is_kept_as_signed(alloc, "-0", 0), "minus zero")?;
+    expect_ok(is_kept_as_unsigned(alloc, "1", 1), "one")?;
     expect_ok(
         is_kept_as_unsigned(alloc, "18446744073709551615", u64::MAX),
         "the greatest",
     )?;
-    expect_ok(is_kept_as_text(alloc, "18446744073709551616"), "one above")
+    expect_ok(is_kept_as_text(alloc, "18446744073709551616"), "one above")?;
+    expect_ok(is_kept_as_text(alloc, "1.0"), "a point")?;
+    expect_ok(is_kept_as_text(alloc, "1e2"), "an exponent")
 }
 
 const NUMBERS: &str = r#"0 => same

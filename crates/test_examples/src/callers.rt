@@ -1,5 +1,6 @@
 //! Callers with contracts of their own.
 
+use examples::batches::settled_all;
 use examples::by_events::read_by_events;
 use examples::counter::elements;
 use examples::limits::limit_of;
@@ -29,6 +30,27 @@ const ORDERS: &str =
 fn an_order_is_settled(rt: HostRuntime) -> std::result::Result<(), Wrong> {
     for line in ORDERS.lines() {
         expect(is_right(settled(rt.alloc(), text_of(line)), line), line)?;
+    }
+    Ok(())
+}
+
+const BATCHES: &str = r#"[] => same
+[{"id":7,"quantity":2,"paid":false,"note":"by noon"}] => [{"id":7,"quantity":2,"paid":true,"note":"by noon"}]
+ [ {"id":1,"quantity":0,"paid":true} , {"paid":false,"id":2,"quantity":1,"of":[1]},{"id":3,"quantity":1,"paid":false,"note":null} ]  => [{"id":1,"quantity":0,"paid":true,"note":null},{"id":2,"quantity":1,"paid":true,"note":null},{"id":3,"quantity":1,"paid":true,"note":null}]
+
+{}
+null
+[null]
+{"id":7,"quantity":2,"paid":false}
+[[{"id":7,"quantity":2,"paid":false}]]
+[{"id":7,"quantity":2,"paid":false},]
+[{"id":7,"quantity":2,"paid":false},{"id":8,"quantity":2}]
+[{"id":7,"quantity":2,"paid":false}] 1"#;
+
+#[test]
+fn each_order_is_settled(rt: HostRuntime) -> std::result::Result<(), Wrong> {
+    for line in BATCHES.lines() {
+        expect(is_right(settled_all(rt.alloc(), text_of(line)), line), line)?;
     }
     Ok(())
 }
@@ -117,6 +139,10 @@ fn a_limit_is_that_of_its_last_member(rt: HostRuntime) -> std::result::Result<()
         "the only",
     )?;
     expect(matches!(limit_of(alloc, limits, "c"), Ok(None)), "none")?;
+    expect(
+        matches!(limit_of(alloc, "{}", "a"), Ok(None)),
+        "none at all",
+    )?;
     expect(
         matches!(limit_of(alloc, r#"{"a":-1}"#, "b"), Err(Error::Invalid)),
         "no limit",

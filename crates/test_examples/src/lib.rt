@@ -15,6 +15,8 @@ mod pages;
 #[cfg(test)]
 mod percents;
 #[cfg(test)]
+mod ports;
+#[cfg(test)]
 mod services;
 #[cfg(test)]
 mod versions;

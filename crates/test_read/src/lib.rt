@@ -1,9 +1,5 @@
-//! Tests of types that read themselves from a text and have no place.
+//! Tests of values that are skipped.
 #![tactic(auto)]
 
 #[cfg(test)]
-mod port;
-#[cfg(test)]
 mod skipped;
-#[cfg(test)]
-mod table;

@@ -9,6 +9,8 @@ mod lists;
 #[cfg(test)]
 mod maps;
 #[cfg(test)]
+mod number_texts;
+#[cfg(test)]
 mod queues;
 #[cfg(test)]
 mod scalars;

@@ -1,0 +1,100 @@
+//! Seven texts, of numbers and of a digit in quotes, at each type of numbers and at keys.
+
+use miniserde::json::{Number, Value};
+use std::collections::BTreeMap;
+use test_tables::{Wrong, expect_read_again, expect_read_itself};
+
+const UNSIGNED: &str = r#"1 => same
+-1
+-0
+1.0
+1e2
+18446744073709551616
+"1""#;
+
+#[test]
+fn an_unsigned_integer_has_no_minus(rt: HostRuntime) -> Result<(), Wrong> {
+    let alloc = rt.alloc();
+    expect_read_itself::<u8>(alloc, UNSIGNED)?;
+    expect_read_itself::<u16>(alloc, UNSIGNED)?;
+    expect_read_itself::<u32>(alloc, UNSIGNED)?;
+    expect_read_itself::<u64>(alloc, UNSIGNED)?;
+    expect_read_itself::<usize>(alloc, UNSIGNED)
+}
+
+const SIGNED: &str = r#"1 => same
+-1 => same
+-0 => 0
+1.0
+1e2
+18446744073709551616
+"1""#;
+
+#[test]
+fn a_signed_integer_may_have_a_minus(rt: HostRuntime) -> Result<(), Wrong> {
+    let alloc = rt.alloc();
+    expect_read_itself::<i8>(alloc, SIGNED)?;
+    expect_read_itself::<i16>(alloc, SIGNED)?;
+    expect_read_itself::<i32>(alloc, SIGNED)?;
+    expect_read_itself::<i64>(alloc, SIGNED)?;
+    expect_read_itself::<isize>(alloc, SIGNED)
+}
+
+const NUMBERS: &str = r#"1 => same
+-1 => same
+-0 => 0
+1.0 => same
+1e2 => same
+18446744073709551616 => same
+"1""#;
+
+const VALUES: &str = r#"1 => same
+-1 => same
+-0 => 0
+1.0 => same
+1e2 => same
+18446744073709551616 => same
+"1" => same"#;
+
+#[test]
+fn a_number_or_a_document_takes_each_number(rt: HostRuntime) -> Result<(), Wrong> {
+    expect_read_again::<Number>(rt.alloc(), NUMBERS)?;
+    expect_read_again::<Value>(rt.alloc(), VALUES)
+}
+
+const STRINGS: &str = r#"1
+-1
+-0
+1.0
+1e2
+18446744073709551616
+"1" => same"#;
+
+#[test]
+fn a_string_takes_no_number(rt: HostRuntime) -> Result<(), Wrong> {
+    expect_read_itself::<String>(rt.alloc(), STRINGS)
+}
+
+const UNSIGNED_KEYS: &str = r#"{"1":true} => same
+{"-1":true}
+{"-0":true}
+{"1.0":true}
+{"1e2":true}
+{"18446744073709551616":true}
+{"\"1\"":true}
+{1:true}"#;
+
+const SIGNED_KEYS: &str = r#"{"1":true} => same
+{"-1":true} => same
+{"-0":true} => {"0":true}
+{"1.0":true}
+{"1e2":true}
+{"18446744073709551616":true}
+{"\"1\"":true}
+{1:true}"#;
+
+#[test]
+fn a_key_is_an_integer_between_quotes(rt: HostRuntime) -> Result<(), Wrong> {
+    expect_read_itself::<BTreeMap<u64, bool>>(rt.alloc(), UNSIGNED_KEYS)?;
+    expect_read_itself::<BTreeMap<i64, bool>>(rt.alloc(), SIGNED_KEYS)
+}
