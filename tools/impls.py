@@ -23,17 +23,6 @@ def nested(items, last, word=""):
     return text
 
 
-def values_of(names):
-    """The values of the fields as nested pairs. Those of more than twelve fields are made two by two, from the last on."""
-    if len(names) <= 12:
-        return nested([f"v.{name}" for name in names], "tt")
-    lines, rest = [], "tt"
-    for at in range((len(names) - 1) // 2 * 2, 0, -2):
-        lines.append(f"let rest{at} = {nested([f'v.{name}' for name in names[at : at + 2]], rest)} in")
-        rest = f"rest{at}"
-    return "\n".join([*lines, nested([f"v.{name}" for name in names[:2]], rest)])
-
-
 def wrapped(head, text):
     """A line of a clause, in more than one where it is long."""
     whole = f"    ghost {head} = {{ {text} }};"
@@ -256,7 +245,7 @@ def record_text(it, path):
 
     ghost names = {{ names_of {const} }};
 
-{wrapped("values", "λ v. " + values_of([str(part) for part in names]))}
+{wrapped("values", "λ v. " + nested([f"v.{part}" for part in names], "tt"))}
 
 {made_of(names)}
 

@@ -149,37 +149,97 @@ impl Record for Server {
 
     ghost names = { names_of SERVER_NAMES };
 
-    ghost values = { λ v. let rest28 = (v.flags, (v.note, tt)) in
-        let rest26 = (
-          v.secret,
+    ghost values = { λ v. (
+      v.name,
+      (
+        v.id,
+        (
+          v.region,
           (
-            v.tags,
-            rest28,
+            v.zone,
+            (
+              v.version,
+              (
+                v.active,
+                (
+                  v.owner,
+                  (
+                    v.aliases,
+                    (
+                      v.weights,
+                      (
+                        v.listener,
+                        (
+                          v.more_listeners,
+                          (
+                            v.backup,
+                            (
+                              v.by_zone,
+                              (
+                                v.limits,
+                                (
+                                  v.labels,
+                                  (
+                                    v.memory,
+                                    (
+                                      v.processors,
+                                      (
+                                        v.nice,
+                                        (
+                                          v.offset,
+                                          (
+                                            v.window,
+                                            (
+                                              v.cache,
+                                              (
+                                                v.log,
+                                                (
+                                                  v.verbose,
+                                                  (
+                                                    v.retries,
+                                                    (
+                                                      v.timeout,
+                                                      (
+                                                        v.proxy,
+                                                        (
+                                                          v.secret,
+                                                          (
+                                                            v.tags,
+                                                            (
+                                                              v.flags,
+                                                              (
+                                                                v.note,
+                                                                tt,
+                                                              ),
+                                                            ),
+                                                          ),
+                                                        ),
+                                                      ),
+                                                    ),
+                                                  ),
+                                                ),
+                                              ),
+                                            ),
+                                          ),
+                                        ),
+                                      ),
+                                    ),
+                                  ),
+                                ),
+                              ),
+                            ),
+                          ),
+                        ),
+                      ),
+                    ),
+                  ),
+                ),
+              ),
+            ),
           ),
-        ) in
-        let rest24 = (v.timeout, (v.proxy, rest26)) in
-        let rest22 = (
-          v.verbose,
-          (v.retries, rest24),
-        ) in
-        let rest20 = (v.cache, (v.log, rest22)) in
-        let rest18 = (
-          v.offset,
-          (v.window, rest20),
-        ) in
-        let rest16 = (v.processors, (v.nice, rest18)) in
-        let rest14 =
-        (v.labels, (v.memory, rest16)) in
-        let rest12 = (v.by_zone, (v.limits, rest14)) in
-        let rest10
-        = (v.more_listeners, (v.backup, rest12)) in
-        let rest8 = (v.weights, (v.listener, rest10))
-        in
-        let rest6 = (v.owner, (v.aliases, rest8)) in
-        let rest4 = (v.version, (v.active, rest6))
-        in
-        let rest2 = (v.region, (v.zone, rest4)) in
-        (v.name, (v.id, rest2)) };
+        ),
+      ),
+    ) };
 
     ghost made = { λ x. record {
       name = x.0;
