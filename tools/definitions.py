@@ -4,7 +4,7 @@ from dataclasses import dataclass, field, replace
 
 from omitted import check_omitted, mark_never_null
 from refusals import (
-    NAME, Refused, check_attributes, check_cycles, check_field_name, check_foreign_marks, check_inside, check_param, check_params, check_places, check_stable,
+    NAME, Refused, check_attribute, check_cycles, check_field_name, check_foreign_marks, check_inside, check_param, check_params, check_places, check_stable,
     check_tagged, check_type, check_values, check_written, split_at_commas,
 )
 
@@ -265,6 +265,10 @@ def definitions_of(text):
     """The types of a file, in order, and its `use` lines; comments and blank lines stay above what they stood above."""
     found, uses, above, now, variant = [], [], [], None, None
     for number, bare in lines_of(text):
+        if bare.startswith("#["):
+            check_attribute(bare, number)
+        if re.match(r"\}", bare) and any(line.startswith("#[") for line in above):
+            raise Refused(f"line {number}: no field or variant stands below the attribute: {bare}")
         if not bare or bare.startswith("//") or bare.startswith("#["):
             above += [bare] if bare or above or now and now.parts else []
             continue
@@ -326,7 +330,6 @@ def check(found, uses):
     known = names_known(found, uses)
     mark_inside(found, known)
     for it in found:
-        check_attributes(it)
         check_foreign_marks(it)
         check_tagged(it)
         check_written(it)

@@ -44,13 +44,13 @@ UNREAD = {
 }
 # What stands for attributes of serde.
 SERDE = {
-    "rename": '`// rename "x"` behind the field or the variant',
-    "rename_all": '`// rename_all "camelCase"` behind the first line of the type',
-    "alias": '`// alias "x"` behind the field',
-    "default": "`// default`, or `// default VALUE`, behind the field",
-    "skip_serializing_if": "`// omit` behind the field",
-    "deny_unknown_fields": "`// closed` behind the first line of the struct",
-    "tag": '`// tag "kind"` behind the first line of the enum',
+    "rename": ("rename {}", "the field or the variant"),
+    "rename_all": ("rename_all {}", "the first line of the type"),
+    "alias": ("alias {}", "the field"),
+    "default": ("default", "the field"),
+    "skip_serializing_if": ("omit", "the field"),
+    "deny_unknown_fields": ("closed", "the first line of the type"),
+    "tag": ("tag {}", "the first line of the type"),
 }
 INSTEAD = {name: instead for names, instead in UNREAD.items() for name in names.split()}
 
@@ -202,17 +202,32 @@ def check_values(part, bare, inside):
         raise Refused(f"line {part.line}: a variant has six values at most: name its fields, as `{part.name} {{ a: A, b: B, c: C }}`: {bare}")
 
 
-def check_attributes(it):
+def check_attribute(line, number):
     """Refuses an attribute of serde, which no impl here knows, and one that does not stand on a line of its own."""
-    for part in [it, *it.parts, *(each for part in it.parts for each in part.fields)]:
-        for line in part.above:
-            found = re.match(r"#\[serde\(\s*(\w*)", line)
-            if found and found.group(1) in SERDE:
-                raise Refused(f"line {part.line}: no impl here knows attributes of serde: write {SERDE[found.group(1)]} for {line}")
-            if found:
-                raise Refused(f"line {part.line}: no impl here knows attributes of serde; docs/FROM-SERDE.md says what stands for them: {line}")
-            if line.startswith("#[") and not line.endswith("]"):
-                raise Refused(f"line {part.line}: an attribute stands on a line of its own: {line}")
+    found = re.match(r"#\[serde\((.*)\)\s*\]", line)
+    if found:
+        raise Refused(f"line {number}: no impl here knows attributes of serde{instead_of(split_at_commas(found.group(1)))}: {line}")
+    bare, depth = re.sub(r'"(?:[^"\\]|\\.)*"', "", line), 0
+    for at, sign in enumerate(bare):
+        depth += (sign == "[") - (sign == "]")
+        if sign == "]" and depth == 0 and not bare[at + 1 :].strip():
+            return
+        if sign == "]" and depth == 0:
+            break
+    raise Refused(f"line {number}: an attribute stands on a line of its own: {line}")
+
+
+def instead_of(parts):
+    """Returns what stands for the parts of an attribute of serde, each with its own value."""
+    names = [re.match(r"\w*", part).group() for part in parts]
+    none = [name for name in names if name not in SERDE]
+    if none:
+        return f" (docs/FROM-SERDE.md), and nothing stands for `{none[0]}`"
+    words = []
+    for name, part in zip(names, parts):
+        value = part.partition("=")[2].strip()
+        words.append("default VALUE" if name == "default" and value else SERDE[name][0].format(value))
+    return f": write `// {', '.join(words)}` behind {SERDE[names[0]][1]}"
 
 
 def check_tagged(it):
