@@ -37,6 +37,12 @@ def wrapped(head, text):
     return "\n".join([*lines, now])
 
 
+def values_of(names):
+    """The clause of the fields' values. Of many fields it stands on one line, since `rt fmt` gives each three lines else."""
+    pairs = "λ v. " + nested([f"v.{part}" for part in names], "tt")
+    return wrapped("values", pairs) if len(names) <= 12 else f"    ghost values = {{ {pairs} }};"
+
+
 def made_of(names):
     """The clause that makes a struct of the values of its fields."""
     made = [f"{quoted(name)} = x{'.1' * at}.0" for at, name in enumerate(names)]
@@ -245,7 +251,7 @@ def record_text(it, path):
 
     ghost names = {{ names_of {const} }};
 
-{wrapped("values", "λ v. " + nested([f"v.{part}" for part in names], "tt"))}
+{values_of(names)}
 
 {made_of(names)}
 
