@@ -293,6 +293,21 @@ def check_places(found, uses):
                 raise Refused(f"line {part.line}: `{it.name}` has a place, and its field `{part.name}` has none: mark `{each}` with `// events` too")
 
 
+def check_lossless(found, uses):
+    """Refuses a `lossless` type with a field that is not: a document, an `Option` of an `Option`, or a type of the same file without the word."""
+    plain = {it.name for it in found if "lossless" not in it.words}
+    documents = {"Array", "Number", "Object", "Unique", "Value"} - names_beside("miniserde::json", found, uses)
+    for it in found:
+        for part in it.parts if "lossless" in it.words else []:
+            for name in re.findall(rf"(?:(?<![\w:])|(?<=json::)){NAME}", part.of):
+                if name in documents:
+                    raise Refused(f"line {part.line}: `{name}` is not lossless, since it tells what its text does not, as `-0` from `0`: write `miniserde::json::Document`, or leave out `lossless`: {part.of}")
+                if name in plain:
+                    raise Refused(f"line {part.line}: `{it.shown}` is lossless, and its {part_word(it)} `{part.name}` is not: mark `{name}` with `// lossless` too")
+            if re.search(r"\bOption<\s*Option<", part.of):
+                raise Refused(f"line {part.line}: an `Option` of an `Option` is not lossless, since `Some(None)` is written `null`: leave out `lossless`: {part.of}")
+
+
 def check_stable(found, uses):
     """Refuses a `stable` type with a field that is not: a document, a map with integer keys, or a type of the same file without the word."""
     plain = {it.name for it in found if "stable" not in it.words}
