@@ -1,0 +1,9 @@
+//! Types that read themselves from a text, and keys of maps.
+
+pub use miniserde_keys::{InjectiveKey, MapKey, Ranged};
+pub use miniserde_read::{FromJson, Ignored, Source, Step};
+
+/// Types whose values have one event.
+pub mod leaf {
+    pub use miniserde_read::{Leaf, read_leaf};
+}

@@ -1,0 +1,52 @@
+//! A caller with a contract, over `miniserde_core`.
+ghost use Rattle.std.specs.Prelude.{◌≡◌, IfOk, string_bytes};
+ghost use Rattle.miniserde_core.specs.Tree.{Tree};
+ghost use Rattle.miniserde_core.specs.Value.{IsJson};
+ghost use Rattle.miniserde_core.specs.Compact.{compact};
+ghost use Rattle.test_core.specs.Parcels.{sent_of};
+
+use crate::parcel::{Parcel, State};
+use miniserde_core::json::{from_str, to_string};
+use miniserde_core::{FromJson, Result, Serialize};
+use std::alloc::Global;
+
+/// Reads a parcel, and writes it as one that was sent.
+pub fn sent(alloc: Global, text: &str) -> Result<String>
+    ensures { let tree = ⟦<Parcel as Serialize>⟧.tree in IfOk result (λ s. (t : Tree) × (v : Parcel) × IsJson text.now t
+        × ⟦<Parcel as FromJson>⟧.means.reads t v × (string_bytes s ≡ compact (tree (sent_of v)))) }
+{
+    let mut parcel: Parcel = from_str(alloc, text)?;
+    parcel.state = State::Sent;
+    let written = to_string(alloc, &parcel)?;
+    Ok(written)
+}
+
+// Returns whether a text of a parcel gives that text of one that was sent, or is invalid if there is none.
+fn gives(alloc: Global, text: &str, wanted: Option<&str>) -> bool {
+    match (sent(alloc, text), wanted) {
+        (Ok(written), Some(wanted)) => written.as_str() == wanted,
+        (Err(_), None) => true,
+        _ => false,
+    }
+}
+
+#[test]
+fn parcels_are_read_and_written(rt: HostRuntime) {
+    let cases = [
+        (
+            "{\"id\":7,\"state\":\"packed\",\"extra\":{\"b\":-0,\"a\":[1.50]}}",
+            Some("{\"id\":7,\"state\":\"sent\",\"weights\":[],\"extra\":{\"a\":[1.50],\"b\":0}}"),
+        ),
+        (
+            "{\"extra\":null,\"note\":\"x\",\"weights\":[1,2],\"state\":\"sent\",\"id\":0}",
+            Some("{\"id\":0,\"state\":\"sent\",\"weights\":[1,2],\"note\":\"x\",\"extra\":null}"),
+        ),
+        ("{\"id\":7,\"id\":7,\"state\":\"packed\",\"extra\":1}", None),
+        ("{\"id\":7,\"state\":\"Packed\",\"extra\":1}", None),
+        ("{\"id\":7,\"state\":\"packed\",\"extra\":1,\"more\":1}", None),
+        ("{\"id\":7,\"state\":\"packed\"}", None),
+    ];
+    for (text, wanted) in cases {
+        assert!(rt; gives(rt.alloc(), text, wanted));
+    }
+}

@@ -1,0 +1,220 @@
+//! The types of `parcel.rs`, with the impls that `./derive` writes.
+ghost use Rattle.miniserde_core.specs.FieldsMeaning.{struct_meaning};
+ghost use Rattle.miniserde_core.specs.Structs.{names_of, record_tree};
+ghost use Rattle.miniserde_core.specs.Tree.{str};
+ghost use Rattle.std.specs.Prelude.{true, List, codes, [], ◌∷◌, ⊤, refl};
+
+use miniserde_core::derived::{
+    Closed, Empty, Event, FourParts, Fragment, FromJson, Lossless, MarkedSlot, NeverNull, OmitSlot,
+    Omitted, OnceSlot, Parts, Plain, Ranged, Record, Result, RoundTrip, RoundTripFields, Serialize,
+    Slot, Slots, Source, Stable, UnitEnum, Variants, WithDefault, Writer, read_record,
+    read_variant, record_lossless, record_round_trips, record_stable, take_four, variant_lossless,
+    variant_round_trips, variant_stable, write_members,
+};
+use miniserde_core::json::Document;
+
+/// Where a parcel is.
+#[derive(Clone, Copy, PartialEq, Eq, Debug, Drop)]
+pub enum State {
+    Packed,
+    Sent,
+}
+
+impl UnitEnum for State {
+    ghost use Rattle.test_core.specs.declared.parcel.State.TheVariants.{Packed, Sent};
+
+    ghost all = { Packed ∷ Sent ∷ [] };
+
+    ghost name_of = { elim [ Packed ↦ codes "packed" | Sent ↦ codes "sent" ] };
+
+    ghost found = { elim [ Packed ↦ refl | Sent ↦ refl ] };
+
+    fn values() -> &'static [State] {
+        &[State::Packed, State::Sent]
+    }
+
+    fn name(&self) -> &'static str {
+        match self {
+            State::Packed => "packed",
+            State::Sent => "sent",
+        }
+    }
+}
+
+impl FromJson for State {
+    ghost means = { ⟦<State as Variants>⟧.meaning };
+
+    ghost read_infallible = { true };
+
+    fn missing() -> Option<State> {
+        None
+    }
+
+    fn read<'a>(token: Event<'a>, source: &mut Source<'a>) -> Result<State> {
+        read_variant(token, source)
+    }
+}
+
+impl Serialize for State {
+    ghost tree = { λ v. str (⟦<State as UnitEnum>⟧.name_of v) };
+
+    fn begin(&self, w: &mut Writer) -> Result<()> {
+        w.fragment(Fragment::Str(self.name()))
+    }
+}
+
+impl Ranged for State {
+    ghost real = { λ _. ⊤ };
+
+    fn ranged(&self) {}
+}
+
+impl RoundTrip for State {
+    fn round_trips() {
+        variant_round_trips::<State>()
+    }
+}
+
+impl Lossless for State {
+    fn lossless() {
+        variant_lossless::<State>()
+    }
+}
+
+impl NeverNull for State {
+    fn never_null() {}
+}
+
+impl Stable for State {
+    fn stable() {
+        variant_stable::<State>()
+    }
+}
+
+/// A parcel, with what its sender wrote on it.
+#[derive(Drop)]
+pub struct Parcel {
+    pub id: u64,
+    pub state: State,
+    pub weights: Vec<u32>,
+    pub note: Option<String>,
+    pub extra: Document,
+}
+
+// Its fields, and their names.
+type ParcelFields = OnceSlot<
+    u64,
+    Slot<
+        State,
+        MarkedSlot<Vec<u32>, WithDefault<Empty>, OmitSlot<String, Plain, Slot<Document, Closed>>>,
+    >,
+>;
+
+const PARCEL_NAMES: &[&str] = &["id", "state", "weights", "note", "extra"];
+
+impl Record for Parcel {
+    ghost use Rattle.test_core.specs.declared.parcel.TheConstants.{PARCEL_NAMES};
+
+    type Values = <ParcelFields as Slots>::Values;
+
+    ghost names = { names_of PARCEL_NAMES };
+
+    ghost values = { λ v. (v.id, (v.state, (v.weights, (v.note, (v.extra, tt))))) };
+
+    ghost made = { λ x. record {
+      id = x.0;
+      state = x.1.0;
+      weights = x.1.1.0;
+      note = x.1.1.1.0;
+      extra = x.1.1.1.1.0;
+    } };
+
+    ghost bijective = { (λ v. refl, λ x. refl) };
+
+    ghost distinct_names = { refl };
+
+    fn names() -> &'static [&'static str] {
+        PARCEL_NAMES
+    }
+
+    fn build(parts: Self::Values) -> Parcel {
+        let FourParts(id, state, weights, note, parts) = take_four(parts);
+        let Parts(extra, ()) = parts;
+        Parcel {
+            id,
+            state,
+            weights,
+            note,
+            extra,
+        }
+    }
+}
+
+impl FromJson for Parcel {
+    ghost means = { struct_meaning ⟦<ParcelFields as Slots>⟧.meaning ⟦<Parcel as Record>⟧.names
+        ⟦<Parcel as Record>⟧.values };
+
+    fn missing() -> Option<Parcel> {
+        None
+    }
+
+    fn read<'a>(token: Event<'a>, source: &mut Source<'a>) -> Result<Parcel> {
+        read_record::<Parcel, ParcelFields>(token, source)
+    }
+}
+
+impl Serialize for Parcel {
+    ghost tree = { record_tree ⟦<Parcel as Record>⟧.names ⟦<ParcelFields as RoundTripFields>⟧.trees
+        ⟦<Parcel as Record>⟧.values };
+
+    fn begin(&self, w: &mut Writer) -> Result<()> {
+        write_members(
+            w,
+            PARCEL_NAMES,
+            &Parts(
+                &self.id,
+                Parts(
+                    &self.state,
+                    Parts(
+                        &self.weights,
+                        Parts(Omitted(&self.note), Parts(&self.extra, ())),
+                    ),
+                ),
+            ),
+        )
+    }
+}
+
+impl Ranged for Parcel {
+    ghost real = { λ v. ⟦<ParcelFields as RoundTripFields>⟧.real (⟦<Parcel as Record>⟧.values v) };
+
+    fn ranged(&self) {
+        self.id.ranged();
+        self.state.ranged();
+        self.weights.ranged();
+        self.note.ranged();
+        self.extra.ranged();
+    }
+}
+
+impl RoundTrip for Parcel {
+    fn round_trips() {
+        record_round_trips::<Parcel, ParcelFields>()
+    }
+}
+
+impl Lossless for Parcel {
+    fn lossless() {
+        record_lossless::<Parcel, ParcelFields>()
+    }
+}
+
+impl NeverNull for Parcel {
+    fn never_null() {}
+}
+
+impl Stable for Parcel {
+    fn stable() {
+        record_stable::<Parcel, ParcelFields>()
+    }
+}
