@@ -340,5 +340,5 @@ def check(found, uses):
     check_omitted(found, uses)
     mark_never_null(found)
     check_places(found, uses)
-    check_lossless(found, uses)
     check_stable(found, uses)
+    check_lossless(found, uses)
