@@ -43,7 +43,10 @@ fn parcels_are_read_and_written(rt: HostRuntime) {
         ),
         ("{\"id\":7,\"id\":7,\"state\":\"packed\",\"extra\":1}", None),
         ("{\"id\":7,\"state\":\"Packed\",\"extra\":1}", None),
-        ("{\"id\":7,\"state\":\"packed\",\"extra\":1,\"more\":1}", None),
+        (
+            "{\"id\":7,\"state\":\"packed\",\"extra\":1,\"more\":1}",
+            None,
+        ),
         ("{\"id\":7,\"state\":\"packed\"}", None),
     ];
     for (text, wanted) in cases {
