@@ -21,35 +21,45 @@ pub fn sent(alloc: Global, text: &str) -> Result<String>
     Ok(written)
 }
 
-// Returns whether a text of a parcel gives that text of one that was sent, or is invalid if there is none.
-fn gives(alloc: Global, text: &str, wanted: Option<&str>) -> bool {
-    match (sent(alloc, text), wanted) {
-        (Ok(written), Some(wanted)) => written.as_str() == wanted,
-        (Err(_), None) => true,
-        _ => false,
-    }
-}
+#[cfg(test)]
+mod tests {
+    use super::sent;
+    use std::alloc::Global;
 
-#[test]
-fn parcels_are_read_and_written(rt: HostRuntime) {
-    let cases = [
-        (
-            "{\"id\":7,\"state\":\"packed\",\"extra\":{\"b\":-0,\"a\":[1.50]}}",
-            Some("{\"id\":7,\"state\":\"sent\",\"weights\":[],\"extra\":{\"a\":[1.50],\"b\":0}}"),
-        ),
-        (
-            "{\"extra\":null,\"note\":\"x\",\"weights\":[1,2],\"state\":\"sent\",\"id\":0}",
-            Some("{\"id\":0,\"state\":\"sent\",\"weights\":[1,2],\"note\":\"x\",\"extra\":null}"),
-        ),
-        ("{\"id\":7,\"id\":7,\"state\":\"packed\",\"extra\":1}", None),
-        ("{\"id\":7,\"state\":\"Packed\",\"extra\":1}", None),
-        (
-            "{\"id\":7,\"state\":\"packed\",\"extra\":1,\"more\":1}",
-            None,
-        ),
-        ("{\"id\":7,\"state\":\"packed\"}", None),
-    ];
-    for (text, wanted) in cases {
-        assert!(rt; gives(rt.alloc(), text, wanted));
+    // Returns whether a text of a parcel gives that text of one that was sent, or is invalid if there is none.
+    fn gives(alloc: Global, text: &str, wanted: Option<&str>) -> bool {
+        match (sent(alloc, text), wanted) {
+            (Ok(written), Some(wanted)) => written.as_str() == wanted,
+            (Err(_), None) => true,
+            _ => false,
+        }
+    }
+
+    #[test]
+    fn parcels_are_read_and_written(rt: HostRuntime) {
+        let cases = [
+            (
+                "{\"id\":7,\"state\":\"packed\",\"extra\":{\"b\":-0,\"a\":[1.50]}}",
+                Some(
+                    "{\"id\":7,\"state\":\"sent\",\"weights\":[],\"extra\":{\"a\":[1.50],\"b\":0}}",
+                ),
+            ),
+            (
+                "{\"extra\":null,\"note\":\"x\",\"weights\":[1,2],\"state\":\"sent\",\"id\":0}",
+                Some(
+                    "{\"id\":0,\"state\":\"sent\",\"weights\":[1,2],\"note\":\"x\",\"extra\":null}",
+                ),
+            ),
+            ("{\"id\":7,\"id\":7,\"state\":\"packed\",\"extra\":1}", None),
+            ("{\"id\":7,\"state\":\"Packed\",\"extra\":1}", None),
+            (
+                "{\"id\":7,\"state\":\"packed\",\"extra\":1,\"more\":1}",
+                None,
+            ),
+            ("{\"id\":7,\"state\":\"packed\"}", None),
+        ];
+        for (text, wanted) in cases {
+            assert!(rt; gives(rt.alloc(), text, wanted));
+        }
     }
 }
