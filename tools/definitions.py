@@ -4,7 +4,7 @@ from dataclasses import dataclass, field, replace
 
 from omitted import check_omitted, mark_never_null
 from refusals import (
-    NAME, Refused, check_attribute, check_cycles, check_field_name, check_foreign_marks, check_inside, check_param, check_params, check_places, check_lossless, check_stable,
+    NAME, Refused, check_attribute, check_cycles, check_field_name, check_foreign_marks, check_inside, check_lossless, check_param, check_params, check_places, check_stable,
     check_tagged, check_type, check_values, check_written, split_at_commas,
 )
 

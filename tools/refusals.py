@@ -293,33 +293,32 @@ def check_places(found, uses):
                 raise Refused(f"line {part.line}: `{it.name}` has a place, and its field `{part.name}` has none: mark `{each}` with `// events` too")
 
 
-def check_lossless(found, uses):
-    """Refuses a `lossless` type with a field that is not: a document, an `Option` of an `Option`, or a type of the same file without the word."""
-    plain = {it.name for it in found if "lossless" not in it.words}
+def with_word(found, uses, word, reason):
+    """Yields the fields of the types with a word, and refuses those that are documents or of types of the file without the word."""
+    plain = {it.name for it in found if word not in it.words}
     documents = {"Array", "Number", "Object", "Unique", "Value"} - names_beside("miniserde::json", found, uses)
     for it in found:
-        for part in it.parts if "lossless" in it.words else []:
+        for part in it.parts if word in it.words else []:
+            yield part
             for name in re.findall(rf"(?:(?<![\w:])|(?<=json::)){NAME}", part.of):
                 if name in documents:
-                    raise Refused(f"line {part.line}: `{name}` is not lossless, since it tells what its text does not, as `-0` from `0`: write `miniserde::json::Document`, or leave out `lossless`: {part.of}")
+                    raise Refused(f"line {part.line}: `{name}` is not {word}, since it {reason}: {part.of}")
                 if name in plain:
-                    raise Refused(f"line {part.line}: `{it.shown}` is lossless, and its {part_word(it)} `{part.name}` is not: mark `{name}` with `// lossless` too")
-            if re.search(r"\bOption<\s*Option<", part.of):
-                raise Refused(f"line {part.line}: an `Option` of an `Option` is not lossless, since `Some(None)` is written `null`: leave out `lossless`: {part.of}")
+                    raise Refused(f"line {part.line}: `{it.shown}` is {word}, and its {part_word(it)} `{part.name}` is not: mark `{name}` with `// {word}` too")
+
+
+def check_lossless(found, uses):
+    """Refuses a `lossless` type with a field that is not, as an `Option` of an `Option`."""
+    reason = "tells what its text does not, as `-0` from `0`: write `miniserde::json::Document`, or leave out `lossless`"
+    for part in with_word(found, uses, "lossless", reason):
+        if re.search(r"\bOption<\s*Option<", part.of):
+            raise Refused(f"line {part.line}: an `Option` of an `Option` is not lossless, since `Some(None)` is written `null`: leave out `lossless`: {part.of}")
 
 
 def check_stable(found, uses):
-    """Refuses a `stable` type with a field that is not: a document, a map with integer keys, or a type of the same file without the word."""
-    plain = {it.name for it in found if "stable" not in it.words}
-    documents = {"Array", "Number", "Object", "Unique", "Value"} - names_beside("miniserde::json", found, uses)
-    for it in found:
-        for part in it.parts if "stable" in it.words else []:
-            if part.aliases:
-                raise Refused(f"line {part.line}: a struct with an alias is not stable, since sorting two names of a field changes which is the last: leave out `stable`")
-            for name in re.findall(rf"(?:(?<![\w:])|(?<=json::)){NAME}", part.of):
-                if name in documents:
-                    raise Refused(f"line {part.line}: `{name}` is not stable, since it tells `-0` from `0`: write `miniserde::json::Document`: {part.of}")
-                if name in plain:
-                    raise Refused(f"line {part.line}: `{it.shown}` is stable, and its {part_word(it)} `{part.name}` is not: mark `{name}` with `// stable` too")
-            if re.search(r"\b(?:BTreeMap|HashMap)<\s*[ui](?:8|16|32|64|size)\b", part.of):
-                raise Refused(f"line {part.line}: a map with integer keys is not stable, since `1` and `01` are one key: write `String` keys: {part.of}")
+    """Refuses a `stable` type with a field that is not, as one with an alias or a map with integer keys."""
+    for part in with_word(found, uses, "stable", "tells `-0` from `0`: write `miniserde::json::Document`"):
+        if part.aliases:
+            raise Refused(f"line {part.line}: a struct with an alias is not stable, since sorting two names of a field changes which is the last: leave out `stable`")
+        if re.search(r"\b(?:BTreeMap|HashMap)<\s*[ui](?:8|16|32|64|size)\b", part.of):
+            raise Refused(f"line {part.line}: a map with integer keys is not stable, since `1` and `01` are one key: write `String` keys: {part.of}")
