@@ -1,7 +1,6 @@
 //! The part of `miniserde` that structs, unit enums and documents need, at the paths of `miniserde`. Whoever lists this
-//! crate alone waits for fewer proofs at the first check. Enums with data, places, canonical texts, `value!`, `scan`
-//! and the functions that only state laws are in `miniserde`. The items are the same, so a type of this crate's is one
-//! of that crate's too.
+//! crate alone waits for fewer proofs at the first check. Enums with data, places, canonical texts, `value!`, `laws`
+//! and `scan` are in `miniserde`. The items are the same, so a type of this crate's is one of that crate's too.
 #![tactic(auto)]
 
 pub mod de;

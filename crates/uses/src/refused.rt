@@ -67,7 +67,7 @@ fn first_refused(alloc: Global, text: &str) -> Result<Part>
 
 /// Returns the first field that keeps a text from meaning settings.
 pub fn refused(alloc: Global, text: &str) -> Result<Option<Part>>
-    // The text is JSON, and means no settings. Of the field, no member is there, or one has no value of its type.
+    // The text spells a tree that means no settings, and no struct of that field alone.
     ensures some { IfOk result (λ answer. IfSome answer (λ part. (t : Tree) × IsJson text.now t
         × ((s : Settings) → ⟦<Settings as FromJson>⟧.means.reads t s → ⊥) × IsRefused part t)) }
 

@@ -15,10 +15,10 @@ use miniserde_value::json::value::Value;
 use std::alloc::Global;
 use std::marker::PhantomData;
 
-/// The place of an `Array`. Its first event fails with `Invalid` if it opens no list.
+/// The place of an `Array`. No value begins with an event that opens no list.
 pub type ArrayPlace = DocumentTypePlace<ArrayMarker>;
 
-/// The place of an `Object`. Its first event fails with `Invalid` if it opens no object.
+/// The place of an `Object`. No value begins with an event that opens no object.
 pub type ObjectPlace = DocumentTypePlace<ObjectMarker>;
 
 /// The place of a `Document`.

@@ -19,7 +19,7 @@ enum OptionState<P> {
 }
 
 /// The place of an `Option`. If its first event is not `null`, it begins the place of the value, which takes this event
-/// and all later ones. After `null`, the next event fails with `Invalid`.
+/// and all later ones. After `null` its value is `None`.
 #[derive(Drop)]
 pub struct OptionPlace<P> {
     state: OptionState<P>,
