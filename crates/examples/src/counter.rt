@@ -11,7 +11,7 @@ use miniserde::laws::events_give;
 use miniserde::{Error, Result};
 use std::alloc::Global;
 
-/// A place for a list of anything. It keeps nothing but the number of the elements.
+/// A place for a list of anything. It counts the elements, and keeps none of them.
 #[derive(Drop)]
 pub struct Counter {
     begun: bool,

@@ -30,7 +30,7 @@ pub fn next_of<T: FromJson>(alloc: Global, text: &str) -> Result<Option<String>>
     Ok(next)
 }
 
-/// Writes a page of anything, reads it again, and returns the page that it was.
+/// Writes a page of anything, reads it again, and returns a page with the same content.
 pub fn copy_of<T: Lossless>(alloc: Global, page: &Page<T>) -> Result<Page<T>>
     ensures { IfOk result (λ p. ⟦<Page<T> as FromJson>⟧.means.content p
         ≡ ⟦<Page<T> as FromJson>⟧.means.content page.now) }

@@ -5,7 +5,7 @@ ghost use Rattle.examples.specs.Rates.{kept_text};
 use crate::rate::Rate;
 use miniserde::json::Number;
 
-/// The text of a rate's fraction, as `1.50`; none where it is an integer.
+/// Returns the text of a rate's ratio, as `1.50`, or `None` if the ratio is an integer of 64 bits.
 pub fn fraction(rate: &Rate) -> Option<&str>
     ensures { option_map (λ s. s.now) result ≡ kept_text rate.now.ratio }
 {

@@ -10,7 +10,7 @@ use miniserde::json::{from_str, to_string};
 use miniserde::{FromJson, Result, Serialize};
 use std::alloc::Global;
 
-/// Reads an order, adds one to its quantity, and writes it.
+/// Reads an order, adds one to its quantity, unless that is the largest `u32`, and writes it.
 pub fn one_more(alloc: Global, text: &str) -> Result<String>
     // The text means an order, and the answer is the compact text of the order with one more.
     ensures { IfOk result (λ s. (t : Tree) × (v : Order) × IsJson text.now t

@@ -8,7 +8,7 @@ use crate::put::put_comma;
 use crate::spread::{Point, Span, Splice, SplicedText};
 use std::alloc::AllocError;
 
-/// The length in bytes of the longest text of sorted members that is copied back to the text.
+/// The most bytes of sorted members that are copied back to the text, unless their object is in no other one.
 const SHORT: usize = 1024;
 
 /// Sorts the members of an object, which are at the end of the text `out`, by name, and keeps the

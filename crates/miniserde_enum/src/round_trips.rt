@@ -1,4 +1,4 @@
-//! Promises that enums are read back as they were written.
+//! Promises that valid enums are read back as enums with the same trees.
 ghost use Rattle.std.specs.Prelude.{◌≡◌, true, List, length, ⊤};
 ghost use Rattle.miniserde_model.specs.Tree.{Tree, null};
 ghost use Rattle.miniserde_read.specs.types.Objects.{Name};
@@ -13,7 +13,7 @@ use crate::one_of::{Never, OneOf};
 use crate::tagged::{DataEnum, HasTag};
 use miniserde_round::RoundTrip;
 
-/// A chain of variants whose values are read back as they were written.
+/// A chain of variants whose valid values are read back as values with the same trees.
 pub trait RoundTripCases {
     /// The value of one of the variants.
     type Values;

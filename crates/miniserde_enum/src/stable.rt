@@ -9,7 +9,7 @@ use crate::one_of::{Never, OneOf};
 use crate::tagged::{DataEnum, HasTag};
 use miniserde_stable::Stable;
 
-/// A chain of variants for which the normal form of data means what the data means.
+/// A chain of variants for which the normal form of data means what the data means, if it means anything.
 pub trait StableCases {
     /// The value of one of the variants.
     type Values;

@@ -31,7 +31,7 @@ pub trait MapKey: Ranged + Sized + Eq + Drop {
     // The text of a key.
     ghost text: { Self → List ℕ };
 
-    // Whether `from_key` never returns `Memory`.
+    // If true, `from_key` never returns `Memory`.
     ghost from_key_infallible: { Bool } = { false };
 
     /// Reads a key from the name of a member. Fails if the name is no key of the type, or if an allocation fails.

@@ -19,7 +19,7 @@ pub trait Ranged {
     // Which values are valid.
     ghost real: { Self → Type 0 };
 
-    /// Does nothing. It promises that the value is valid.
+    /// Changes nothing. It promises that the value is valid.
     fn ranged(&self)
         ensures { real self.now };
 }

@@ -52,7 +52,7 @@ pub fn run<R: Read, W: Write>(
     r: &mut Counted<R>,
     w: &mut Counted<W>,
 ) -> Result<(), Fault>
-    // If the result is `Ok`, the canonical text and nothing else was written, and it was flushed once.
+    // Bytes are told of streams with a model. At `Ok` the canonical text alone was written, and flushed once.
     ensures ok { OnOk result (IfSome (R.remaining (inner_of r.old))
         (AppendsAnswer (W.contents (inner_of w.old)) (W.contents (inner_of w.new)))) }
     ensures flushed { OnOk result (flushes w.new ≡ flushes w.old + 1) }
@@ -62,7 +62,7 @@ pub fn run<R: Read, W: Write>(
     ensures read_failures { failures r.new ≡ failures r.old + read_faults result }
     ensures write_failures { failures w.new ≡ failures w.old + write_faults result }
 
-    // These say what each error means, and what was written before it.
+    // These say what `Invalid` means, and what was written before each error.
     ensures invalid { IsErrOf result Fault.Invalid → IfSome (R.remaining (inner_of r.old)) HasNoAnswer }
     ensures silent { IfSilent result (Keeps (W.contents (inner_of w.old)) (W.contents (inner_of w.new))) }
     ensures part { IsErrOf result Fault.Write → IfSome (R.remaining (inner_of r.old))
@@ -83,7 +83,7 @@ pub fn run_unique<R: Read, W: Write>(
     r: &mut Counted<R>,
     w: &mut Counted<W>,
 ) -> Result<(), Fault>
-    // If the result is `Ok`, the canonical text and nothing else was written, and it was flushed once.
+    // Bytes are told of streams with a model. At `Ok` the canonical text alone was written, and flushed once.
     ensures ok { OnOk result (IfSome (R.remaining (inner_of r.old))
         (AppendsUniqueAnswer (W.contents (inner_of w.old)) (W.contents (inner_of w.new)))) }
     ensures flushed { OnOk result (flushes w.new ≡ flushes w.old + 1) }
@@ -93,7 +93,7 @@ pub fn run_unique<R: Read, W: Write>(
     ensures read_failures { failures r.new ≡ failures r.old + read_faults result }
     ensures write_failures { failures w.new ≡ failures w.old + write_faults result }
 
-    // These say what each error means, and what was written before it.
+    // These say what `Invalid` means, and what was written before each error.
     ensures invalid { IsErrOf result Fault.Invalid → IfSome (R.remaining (inner_of r.old)) HasNoAnswerOfUnique }
     ensures silent { IfSilent result (Keeps (W.contents (inner_of w.old)) (W.contents (inner_of w.new))) }
     ensures part { IsErrOf result Fault.Write → IfSome (R.remaining (inner_of r.old))

@@ -17,8 +17,8 @@ use miniserde_model::error::{Error, Result};
 use miniserde_text::json::lex::{After, Event, Kind};
 use miniserde_text::stack::Stack;
 
-/// Any JSON value, of which nothing is kept. Reading it takes no recursion. It takes one bit of memory for each open
-/// container, and room for the longest string that has a backslash.
+/// Any JSON value, of which nothing is kept. Reading it takes no recursion. It takes one bit of memory for each level
+/// of depth, in words of 64, and room for the longest decoded string that has a backslash.
 #[derive(Drop)]
 pub struct Ignored {}
 

@@ -24,7 +24,7 @@ pub fn from_str<T: FromJson>(alloc: Global, j: &str) -> Result<T>
         → (t : Tree) → IsJson j.now t → (v : T) → T.means.reads t v → ⊥ }
     ensures none { result ≡ Err Error.Invalid → (t : Tree) → IsJson j.now t → T.means.from_tree t ≡ None }
 
-    // If reading the type never fails to allocate, only a text that begins as a string with a backslash gives
+    // If `read_infallible` is true, only a text that begins as a string with a backslash gives
     // `Memory`.
     ensures memory { T.read_infallible ≡ true → result ≡ Err Error.Memory → BeginsWithEscapedString j.now }
 
@@ -54,7 +54,7 @@ pub fn from_slice<T: FromJson>(alloc: Global, bytes: &[u8]) -> Result<T>
     // Bytes that are not UTF-8 are `Invalid`, never `Memory`.
     ensures utf8 { (IsUtf8 bytes.now → ⊥) → result ≡ Err Error.Invalid }
 
-    // If reading the type never fails to allocate, only bytes that begin as a string with a backslash give `Memory`.
+    // If `read_infallible` is true, only bytes that begin as a string with a backslash give `Memory`.
     ensures memory { T.read_infallible ≡ true → result ≡ Err Error.Memory → BeginsWithEscapedString bytes.now }
 
     // No bytes have two trees.

@@ -24,7 +24,7 @@ use std::mem;
 #[derive(Drop)]
 pub struct Source<'a> {
     lexer: Lexer<'a>,
-    // The decoded text of the last name or string that has a backslash.
+    // The decoded text of the last name or string that has a backslash, until it is moved out.
     scratch: String,
     alloc: Global,
 }
@@ -51,7 +51,7 @@ impl<'a> Source<'a> {
         }
     }
 
-    /// Returns a second source with the same rest of the text and the same first error, and an empty scratch text.
+    /// Returns a second source with the same rest of the text and the same first error. Its scratch text is its own.
     /// Allocates nothing.
     pub fn fork(&self) -> Source<'a>
         ensures rest { result.rest ≡ self.now.rest }
@@ -179,8 +179,8 @@ impl<'a> Source<'a> {
         }
     }
 
-    /// Moves the scratch text out of the source, and leaves an empty one. It is the text of the name or string that
-    /// was taken last, if that has a backslash.
+    /// Moves the scratch text out of the source. It is the text of the name or string that was taken last, if that has
+    /// a backslash and was not moved out before.
     #[inline(always)]
     pub fn take_scratch(&mut self) -> String
         ensures text { string_bytes result ≡ self.old.scratch }

@@ -35,8 +35,8 @@ pub fn normal_form_means_more()
     ensures normal { ⟦<u8 as FromJson>⟧.means.from_tree (norm (neg (pos 0))) ≡ Some (pos 0) }
 {}
 
-/// Does nothing. It promises that `BTreeMap<u8, u8>` is not stable, as an example of a map with
-/// integer keys: `{"1":1,"01":2}` has 2 at key 1, and its normal form `{"01":2,"1":1}` has 1 there.
+/// Does nothing. It promises that `BTreeMap<u8, u8>` is not stable, as an example of a map with integer keys. The
+/// reason: `{"1":1,"01":2}` has 2 at key 1, and its normal form `{"01":2,"1":1}` has 1 there.
 pub fn two_names_of_a_key()
     ensures { IsStable ⟦<BTreeMap<u8, u8> as FromJson>⟧.means.from_tree → ⊥ }
 {}

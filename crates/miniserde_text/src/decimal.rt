@@ -7,7 +7,7 @@ use std::str;
 // The length in bytes of the longest text of an integer of 64 bits.
 const LONGEST: usize = 20;
 
-/// Returns whether `out` has room for 20 more bytes, the longest text of an integer of 64 bits.
+/// Returns true only if `out` has room for 20 more bytes, the longest text of an integer of 64 bits.
 #[inline(always)]
 pub fn has_room(out: &String) -> bool
     ensures { result ≡ true → string_len out.now + 20 ≤ string_capacity out.now }

@@ -185,8 +185,8 @@ fn put_text(value: &str, out: &mut String)
     }
 }
 
-// Returns whether `out` has room for the text and `extra` more bytes, even if each byte of the text is escaped as
-// six.
+// Returns true only if `out` has room for the text and `extra` more bytes, even if each byte of the text is
+// escaped as six.
 #[inline(always)]
 fn has_ample_room(value: &str, extra: usize, out: &String) -> bool
     ensures { result ≡ true

@@ -1,4 +1,4 @@
-//! A store keyed by values: a key is the canonical text of one, and each value comes back as it went in.
+//! A store keyed by values: a key is the canonical text of one, and each value comes back with the same content.
 ghost use Rattle.std.specs.Prelude.{◌≡◌, ℕ, List, IfOk, OnOk, OnErr, IsErrOf, Err, Some};
 ghost use Rattle.std.specs.BTreeMap.{get_by_text, IsUnchanged};
 ghost use Rattle.miniserde.specs.Value.{IsJson};

@@ -26,7 +26,11 @@ pub fn accepted<T: Stable + Lossless, S: Signature>(
     signature: &S,
     body: &str,
 ) -> Result<Option<T>>
-    // A text that means the value is signed. If it is the canonical text of a value, the answer is that value.
+    // The body means the value, and its canonical text is signed.
+    ensures value { IfOk result (λ answer. IfSome answer (λ read. (t : Tree) × IsJson body.now t × T.means.reads t read
+        × S.signed signature.now (compact (norm t)))) }
+
+    // A text that means the value is signed. If it is the canonical text of a value, the answer has its content.
     ensures some { IfOk result (λ answer. IfSome answer (λ read. (text : List ℕ) × S.signed signature.now text
         × ((u : Tree) × IsJson text u × T.means.reads u read)
         × ((v : T) → T.real v → IsJson text (norm (T.tree v)) → T.means.content read ≡ T.means.content v))) }

@@ -28,7 +28,7 @@ pub fn put(alloc: Global, rows: &mut BTreeMap<u64, String>, number: u64, text: &
     Ok(())
 }
 
-/// Whether the row of the number says what the text says.
+/// Returns whether the row of the number, a canonical text, is that of the text.
 pub fn is_row(alloc: Global, rows: &BTreeMap<u64, String>, number: u64, text: &str) -> Result<bool>
     // Where the row is the text of a normal form, it says whether the document has that one.
     ensures ok { IfOk result (λ same. (row : String Global) → get nat_cmp rows.now number ≡ Some row

@@ -23,7 +23,7 @@ pub trait HasAliases: Record {
     fn aliases() -> &'static [(&'static str, &'static str)]
         ensures { map (λ p. (p.0.now, p.1.now)) result.now ≡ aliases };
 
-    // No name of a field is an alias of another field.
+    // By the first entry of each alias, no name of a field is an alias of another field.
     ghost apart: { are_unaliased aliases Self.names ≡ true };
 }
 

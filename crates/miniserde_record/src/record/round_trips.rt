@@ -1,4 +1,4 @@
-//! Promises that structs are read back as they were written.
+//! Promises that valid structs are read back as structs with the same trees.
 ghost use Rattle.std.specs.Prelude.{◌≡◌, true, List, [], ◌∷◌, length, Option, Some, ⊤};
 ghost use Rattle.miniserde_model.specs.Tree.{Tree};
 ghost use Rattle.miniserde_read.specs.types.Objects.{Name};
@@ -11,7 +11,7 @@ use super::slots::{MarkedSlot, NoSlot};
 use super::structs::{Parts, Record};
 use miniserde_round::RoundTrip;
 
-/// A chain of fields whose values are read back as they were written.
+/// A chain of fields whose valid values are read back as values with the same trees.
 pub trait RoundTripFields {
     /// The fields' values, in their order.
     type Values;

@@ -106,7 +106,7 @@ impl Slots for NoSlot {
 }
 
 // Reads a member's value into the later fields `rest`, by their `read_member`, if `names` has no
-// name for the field before them. A struct has a name for each field, so this does not happen; the
+// name for the field before them. A derived struct has a name for each, so this does not happen; the
 // function is kept out of line, since in line it would double the code of each slot.
 #[inline(never)]
 fn read_unnamed<'a, R: Slots>(

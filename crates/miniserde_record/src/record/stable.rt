@@ -9,7 +9,7 @@ use super::slots::{MarkedSlot, NoSlot};
 use super::structs::{Parts, Record};
 use miniserde_stable::Stable;
 
-/// A chain of fields for which the normal form of members means what the members mean.
+/// A chain of fields for which the normal form of members means what the members mean, if they mean anything.
 pub trait StableFields {
     /// The fields' values, in their order.
     type Values;

@@ -18,7 +18,7 @@ fn specials_of_four(v: u8x4) -> u64
     (controls | quotes | backslashes).to_bitmask()
 }
 
-// Returns whether none of the 16 bytes from `at` on needs an escape in a string.
+// Returns true only if none of the 16 bytes from `at` on needs an escape in a string.
 #[inline(always)]
 fn sixteen_are_plain(bytes: &[u8], at: usize) -> bool
     requires { at + 16 ≤ length bytes.now }
@@ -28,7 +28,7 @@ fn sixteen_are_plain(bytes: &[u8], at: usize) -> bool
     found == 0
 }
 
-// Returns whether none of the 8 bytes from `at` on needs an escape in a string.
+// Returns true only if none of the 8 bytes from `at` on needs an escape in a string.
 #[inline(always)]
 fn eight_are_plain(bytes: &[u8], at: usize) -> bool
     requires { at + 8 ≤ length bytes.now }
@@ -38,7 +38,7 @@ fn eight_are_plain(bytes: &[u8], at: usize) -> bool
     found == 0
 }
 
-// Returns whether none of the 4 bytes from `at` on needs an escape in a string.
+// Returns true only if none of the 4 bytes from `at` on needs an escape in a string.
 #[inline(always)]
 fn four_are_plain(bytes: &[u8], at: usize) -> bool
     requires { at + 4 ≤ length bytes.now }
@@ -48,7 +48,7 @@ fn four_are_plain(bytes: &[u8], at: usize) -> bool
     found == 0
 }
 
-// Returns whether none of the bytes, at most three, needs an escape in a string.
+// Returns true only if none of the bytes, at most three, needs an escape in a string.
 #[inline(always)]
 fn few_are_plain(bytes: &[u8]) -> bool
     requires { length bytes.now ≤ 3 }
@@ -59,7 +59,7 @@ fn few_are_plain(bytes: &[u8]) -> bool
     n == 0 || !is_special(bytes[0]) && !is_special(bytes[n / 2]) && !is_special(bytes[n - 1])
 }
 
-/// Returns whether the text has fewer than 32 bytes and none of them needs an escape in a string.
+/// Returns true only if the text has fewer than 32 bytes and none of them needs an escape in a string.
 #[inline(always)]
 pub(crate) fn is_short_and_plain(bytes: &[u8]) -> bool
     ensures short { result ≡ true → length bytes.now < 32 }

@@ -60,7 +60,7 @@ pub enum Event<'a> {
 pub enum After {
     /// Its closing bracket, which is taken.
     Close,
-    /// One more element or member. The comma before it, if it needs one, is taken.
+    /// An element or a member must follow. The comma before it, if it needs one, is taken.
     Next,
 }
 
@@ -226,7 +226,7 @@ impl<'a> Lexer<'a> {
         }
     }
 
-    /// Returns `Invalid` if more than whitespace is left. Takes nothing.
+    /// Returns `Invalid` if more than whitespace is left. If it returns `Ok`, it takes nothing.
     pub fn end(&mut self) -> Result<()>
         ensures ok { IfOk result (λ _. (self.old.refused ≡ None) × (self.new ≡ self.old)
             × IsWhitespace self.old.rest) }

@@ -63,8 +63,8 @@ impl Stable for Document {
     fn stable() {}
 }
 
-/// Does nothing. It promises that neither `Number` nor `Value` is stable: for both types `-0` means another value
-/// than its normal form does.
+/// Does nothing. It promises that neither `Number` nor `Value` is stable. The reason is `-0`, whose sign both of them
+/// keep.
 pub fn negated_zero_is_not_stable()
     ensures number { IsStable ⟦<Number as FromJson>⟧.means.from_tree → ⊥ }
     ensures value { IsStable ⟦<Value as FromJson>⟧.means.from_tree → ⊥ }

@@ -5,8 +5,8 @@ use super::value::Value;
 use miniserde_model::error::Result;
 use miniserde_ser::ser::{Serialize, Writer};
 
-/// Any JSON value, read from a text in which no object has a duplicate name. Names are compared after decoding, so
-/// `"a"` and `"\u0061"` are duplicates.
+/// Any JSON value. A text in which an object has a duplicate name is not read as one. Names are compared after
+/// decoding, so `"a"` and `"\u0061"` are duplicates.
 #[derive(Drop)]
 pub struct Unique {
     value: Value,

@@ -8,8 +8,8 @@ use std::alloc::Global;
 use std::marker::PhantomData;
 
 /// The mark of a field for which a duplicate of its name is an error, and that has the mark `M`
-/// too. The duplicate fails with `Invalid` before its value is read. Duplicates of other names, and
-/// inside of values, are no error.
+/// too. The duplicate fails with `Invalid` before its value is read. Of duplicates of other names, and
+/// inside of values, it says nothing.
 pub struct Once<M> {
     mark: PhantomData<M>,
 }

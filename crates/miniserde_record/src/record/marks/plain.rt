@@ -35,7 +35,7 @@ pub trait Mark<T: FromJson>: Repeats {
         ensures infallible { missing_infallible ≡ true → IsOk result };
 }
 
-/// No mark: the last member of the field's name counts, and the type says which value a missing field has.
+/// No mark: the last member of the field's name counts, and the type says which value a missing field has, if any.
 pub struct Plain {}
 
 impl Repeats for Plain {

@@ -1,5 +1,5 @@
-//! The counts of a drop, and the function that drops a leaf or an empty container. No function outside of this file
-//! can raise the count of dropped values.
+//! The counts of a drop, and the function that drops a leaf or an empty container. Outside of this file only a
+//! call of `drop_bare` can raise the count of dropped values.
 ghost use Rattle.std.specs.Prelude.{◌≡◌, ℕ, ◌+◌};
 ghost use Rattle.std.specs.Borrow.{ftrue};
 ghost use Rattle.miniserde_value.specs.Values.{IsBare};
