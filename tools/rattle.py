@@ -2,6 +2,7 @@
 import functools
 import pathlib
 import re
+import shutil
 import subprocess
 import sys
 
@@ -68,11 +69,21 @@ class Crate:
         below = [(it.rlib / "format").stat().st_mtime for it in self.libraries if (it.rlib / "format").is_file()]
         return built >= max([*(file.stat().st_mtime for file in self.sources()), *below])
 
+    def build(self):
+        """Builds the crate's library, and ends the run if it cannot be built."""
+        if subprocess.run(["rt", "lib"], cwd=self.folder, stdout=subprocess.DEVNULL).returncode:
+            sys.exit(f"{self.name} was not built: `rt lib` in its folder says why")
+
+    def build_again(self):
+        """Builds the crate's library from nothing."""
+        shutil.rmtree(self.folder / "out", ignore_errors=True)
+        self.build()
+
     def build_below(self):
         """Builds the libraries below the crate that no gate and no check has left behind."""
         for library in self.below():
-            if not library.is_built() and subprocess.run(["rt", "lib"], cwd=library.folder, stdout=subprocess.DEVNULL).returncode:
-                sys.exit(f"{library.name}, a library of {self.name}, was not built: `rt lib` in its folder says why")
+            if not library.is_built():
+                library.build()
 
     def program(self, suffix=""):
         """Returns the crate's program, or with `_tests` that of its tests; ends the run if it is older than its sources.

@@ -35,7 +35,7 @@ fn miniserde_canonical::canonicalize::canonical_unique: not proved
   one side (expected) is shown computed, as a hole's goal is
 fn miniserde_canonical::read::read: not proved
 """,
-        (True, "refused at `returns-in_err-end-clause-invalid`"),
+        (True, "an answer by hand broke at `returns-in_err-end-clause-invalid`"),
     ),
     (
         "a name that another function's answer misses",
@@ -46,7 +46,7 @@ fn miniserde_canonical::read::read: not proved
   has no field `from_residual`
 fn miniserde_canonical::read::read: not proved
 """,
-        (True, "refused at `returns-in_err-end-clause-invalid`"),
+        (True, "an answer by hand broke at `returns-in_err-end-clause-invalid`"),
     ),
     (
         "a clause is left unproved",
