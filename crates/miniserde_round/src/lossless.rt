@@ -11,7 +11,7 @@ use std::alloc::Global;
 use std::collections::{BTreeMap, HashMap, VecDeque};
 use std::hash::{BuildHasher, Hash};
 
-/// A type whose valid values have the same content if they have the same tree, so each is read back as itself.
+/// A type whose valid values have the same content if they have the same tree, so each is read back with its content.
 pub trait Lossless: RoundTrip {
     /// Does nothing. It promises that two valid values with the same tree have the same content.
     fn lossless()

@@ -1,5 +1,5 @@
 //! A request layer: the body of a request is a call, what answers calls is given, and its answer is the body that goes back.
-ghost use Rattle.std.specs.Prelude.{◌≡◌, IfOk, None, Err, String, string_bytes};
+ghost use Rattle.std.specs.Prelude.{◌≡◌, IfOk, IfErr, None, Err, String, string_bytes};
 ghost use Rattle.miniserde.specs.Tree.{Tree};
 ghost use Rattle.miniserde.specs.Value.{IsJson};
 ghost use Rattle.uses.specs.Calls.{Counted};
@@ -10,17 +10,28 @@ use miniserde::json::{from_str, to_string};
 use miniserde::{Error, FromJson, Result, Serialize};
 use std::alloc::Global;
 
-/// What answers calls.
+/// What answers calls. It makes the answer first and changes last, so that nothing has changed if the answer cannot be
+/// written.
 pub trait Handler {
     ghost use Rattle.uses.specs.declared.call.Call.{Call};
     ghost use Rattle.uses.specs.declared.answer.Answer.{Answer};
 
+    /// What a call changes.
+    type Change: Drop;
+
     // It answers the call so, and is then as it is at the end.
     ghost Answers: { Self → Call → Answer → Self → Type 0 };
 
-    /// Answers a call.
-    fn answer(&mut self, call: Call) -> Answer
-        ensures { Answers self.old call result self.new };
+    // The change makes the one of the other.
+    ghost Becomes: { Self → Self.Change → Self → Type 0 };
+
+    /// Returns the answer to a call, and what is then to be changed.
+    fn answer(&self, call: Call) -> (Answer, Self::Change)
+        ensures { (h : Self) → Becomes self.now result.1 h → Answers self.now call result.0 h };
+
+    /// Makes a change.
+    fn change(&mut self, change: Self::Change)
+        ensures { Becomes self.old change self.new };
 }
 
 /// Answers the call of a body.
@@ -30,14 +41,18 @@ pub fn serve<H: Handler>(alloc: Global, handler: &mut H, body: &str) -> Result<S
         × ⟦<Call as FromJson>⟧.means.reads t c × H.Answers handler.old c a handler.new
         × IsJson (string_bytes j) (⟦<Answer as Serialize>⟧.tree a)) }
 
-    // The body means no call, and the handler is as it was.
+    // The body means no call.
     ensures invalid { result ≡ Err Error.Invalid → (t : Tree) → IsJson body.now t
         → ⟦<Call as FromJson>⟧.means.from_tree t ≡ None }
-    ensures stays { result ≡ Err Error.Invalid → handler.new ≡ handler.old }
+
+    // After an error the handler is as it was. So a call that failed to allocate may be made again.
+    ensures stays { IfErr result (λ _. handler.new ≡ handler.old) }
 {
     let call: Call = from_str(alloc, body)?;
-    let answer = handler.answer(call);
-    to_string(alloc, &answer)
+    let (answer, change) = handler.answer(call);
+    let reply = to_string(alloc, &answer)?;
+    handler.change(change);
+    Ok(reply)
 }
 
 /// A counter.
@@ -47,20 +62,26 @@ pub struct Counter {
 }
 
 impl Handler for Counter {
+    /// The new count.
+    type Change = u64;
+
     ghost Answers = { λ before c a after. Counted before.count c a after.count };
 
-    fn answer(&mut self, call: Call) -> Answer {
+    ghost Becomes = { λ before count after. after.count ≡ count };
+
+    fn answer(&self, call: Call) -> (Answer, u64) {
         let count = match call {
             Call::Look => Some(self.count),
             Call::Add(addend) => self.count.checked_add(u64::from(addend.by)),
             Call::Reset { to } => Some(to),
         };
         match count {
-            Some(count) => {
-                self.count = count;
-                Answer::Count { now: count }
-            }
-            None => Answer::Full,
+            Some(count) => (Answer::Count { now: count }, count),
+            None => (Answer::Full, self.count),
         }
+    }
+
+    fn change(&mut self, count: u64) {
+        self.count = count;
     }
 }

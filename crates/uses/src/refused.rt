@@ -65,7 +65,8 @@ fn first_refused(alloc: Global, text: &str) -> Result<Part>
     Ok(Part::Limits)
 }
 
-/// Returns a field that keeps a text from meaning settings. The body takes the first of the struct.
+/// Returns a field that keeps a text from meaning settings, if there is one. If there are several, it may be any of
+/// them.
 pub fn refused(alloc: Global, text: &str) -> Result<Option<Part>>
     // The text spells a tree that means no settings, and no struct of that field alone.
     ensures some { IfOk result (λ answer. IfSome answer (λ part. (t : Tree) × IsJson text.now t
