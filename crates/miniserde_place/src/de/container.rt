@@ -1,5 +1,5 @@
 //! The one place that serves all types of containers. The trait `Collect` says how they differ.
-ghost use Rattle.std.specs.Prelude.{◌≡◌, true, Some, None, Ok, Err, IfOk};
+ghost use Rattle.std.specs.Prelude.{◌≡◌, ◌≢◌, true, Some, None, Ok, Err, IfOk};
 ghost use Rattle.miniserde_model.specs.Position.{complete};
 ghost use Rattle.miniserde_read.specs.Events.{event_of};
 ghost use Rattle.miniserde_place.specs.Place.{Advances, Rejects, IsFresh};
@@ -39,8 +39,9 @@ pub struct ContainerPlace<C> {
 }
 
 impl<C: Collect> ContainerPlace<C> {
-    ghost use Rattle.miniserde_place.specs.Stage.{container_view, view_between, children, RefusesChild};
-    ghost use Rattle.miniserde_place.specs.Container.{BeginsChild};
+    ghost use Rattle.miniserde_place.specs.Stage.{container_view, view_between, children, open_child};
+    ghost use Rattle.miniserde_place.specs.Stage.{RefusesChild, RefusesOther, CannotFollow};
+    ghost use Rattle.miniserde_place.specs.Container.{BeginsChild, opening_event, no_child};
 
     // Takes an event that is not one of an incomplete child: it opens the container, begins its next child or ends
     // it. A complete child is added to the container first. Returns the first error of the place if it keeps one,
@@ -62,6 +63,12 @@ impl<C: Collect> ContainerPlace<C> {
             → BeginsChild (event_of event.entry) → (self.new.stage ≡ Stage.Child)
             × IsFresh (C.collector_meaning.rules.child s (event_of event.entry)) (C.collector_meaning.child self.new.collector)) }
         ensures refuses { RefusesChild C.collector_meaning C.join_infallible self.old (event_of event.entry) result self.new }
+        ensures opens_childless { IfOk result (λ _. self.old.stage ≡ Stage.Fresh
+            → open_child C.collector_meaning self.new ≡ no_child) }
+        ensures opens_only { self.old.stage ≡ Stage.Fresh
+            → event_of event.entry ≢ opening_event C.collector_meaning.is_object → result ≡ Err Error.Invalid }
+        ensures refuses_other { RefusesOther C.collector_meaning C.join_infallible self.old (event_of event.entry) result }
+        ensures ended { self.old.stage ≡ Stage.Done → result ≡ Err Error.Invalid }
     {
         match self.stage {
             Stage::Fresh => {
@@ -97,6 +104,8 @@ impl<C: Collect> ContainerPlace<C> {
         ensures refuses { BeginsChild (event_of event.entry)
             → C.collector_meaning.refuses (C.collector_meaning.state self.old.collector) (event_of event.entry) ≡ true
             → result ≡ Err Error.Invalid }
+        ensures refuses_other { CannotFollow C.collector_meaning (C.collector_meaning.state self.old.collector) (event_of event.entry)
+            → result ≡ Err Error.Invalid }
     {
         match event {
             Step::Element | Step::Key(_) => {
@@ -127,8 +136,9 @@ impl<C: Collect> Visitor for ContainerPlace<C> {
 
     ghost take_infallible = { true };
 
-    // What each event does to the children. An event fails if it begins a child for which the
-    // collector's `refuses` holds.
+    // What each event does to the children. An event fails if it begins a child for which the collector's `refuses`
+    // holds, or if it cannot follow the children so far. Before the container opens and after its end, an event that
+    // does not fit is `Invalid`.
     ghost further = { ContainerSteps C.collector_meaning C.join_infallible };
 
     fn begin(alloc: Global) -> Result<ContainerPlace<C>> {
