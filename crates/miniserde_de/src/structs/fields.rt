@@ -130,6 +130,7 @@ impl Fields for NoField {
 
 /// A field of the type `T`, and the fields `R` after it. It has its value so far, and its place `P` while a member of
 /// its name is read. `O` is its mark, `Plain` or `Once<Plain>`, and says whether the field takes one member alone.
+#[derive(Drop)]
 pub struct FieldOf<P, T, O, R> {
     value: Option<T>,
     child: Option<P>,
@@ -145,21 +146,6 @@ pub type Field<T, R> = FieldOf<<T as Deserialize>::Place, T, Plain, R>;
 /// `key` event with that name fails with `Invalid`. Of duplicates of other names, and inside of values, it says
 /// nothing.
 pub type OnceField<T, R> = FieldOf<<T as Deserialize>::Place, T, Once<Plain>, R>;
-
-// Written out, so that the mark `O` need not be `Drop`.
-impl<P: Drop, T: Drop, O, R: Drop> Drop for FieldOf<P, T, O, R> {
-    fn drop(self) {
-        let FieldOf {
-            value,
-            child,
-            once: _,
-            rest,
-        } = self;
-        drop(value);
-        drop(child);
-        drop(rest);
-    }
-}
 
 impl<T: Deserialize, O: Repeats, R: Fields> Fields for FieldOf<T::Place, T, O, R> {
     type Values = Parts<T, R::Values>;

@@ -11,6 +11,7 @@ use std::alloc::Global;
 /// Four fields of the types `A` to `D` with the places `P`, `Q`, `S` and `U`, and the fields `R`
 /// after them. `O` is the mark of all four, and says whether each takes one member alone. The time
 /// to check a proof doubles with each nested field, and a block of four counts as one.
+#[derive(Drop)]
 pub struct FourOf<P, A, Q, B, S, C, U, D, O, R> {
     fields: FieldOf<P, A, O, FieldOf<Q, B, O, FieldOf<S, C, O, FieldOf<U, D, O, R>>>>,
 }
@@ -42,15 +43,6 @@ pub type OnceFour<A, B, C, D, R> = FourOf<
     Once<Plain>,
     R,
 >;
-
-// Written out, so that the mark `O` need not be `Drop`.
-impl<P: Drop, A: Drop, Q: Drop, B: Drop, S: Drop, C: Drop, U: Drop, D: Drop, O, R: Drop> Drop
-    for FourOf<P, A, Q, B, S, C, U, D, O, R> {
-    fn drop(self) {
-        let FourOf { fields } = self;
-        drop(fields);
-    }
-}
 
 impl<A: Deserialize, B: Deserialize, C: Deserialize, D: Deserialize, O: Repeats, R: Fields> Fields
     for FourOf<A::Place, A, B::Place, B, C::Place, C, D::Place, D, O, R> {
