@@ -4,6 +4,8 @@
 use Rattle.std.specs.Prelude.{◌≡◌, Bool, true, false, [], Option, Some, None, Result, Err, OnOk, refl}
 use Rattle.miniserde_model.specs.Tree.{Tree}
 use Rattle.miniserde_model.specs.Step.{Step}
+use Rattle.miniserde_model.specs.Position.{Position, start, complete}
+use Rattle.miniserde_read.specs.Events.{on_leaf}
 use Rattle.miniserde_model.specs.declared.error.Error.{Error}
 use Rattle.miniserde_model.specs.declared.error.Error.TheVariants.{Invalid}
 use Rattle.miniserde_place.specs.Place.{PlaceView, PlaceMeaning, place_meaning, first_refusal}
@@ -14,7 +16,7 @@ use Rattle.miniserde_de.specs.declared.documents.unique_place.UniquePlace.{Uniqu
 use Rattle.miniserde_de.specs.declared.documents.document_types.DocumentTypePlace.{DocumentTypePlace}
 use Rattle.miniserde_value.specs.Hole.{Hole, outside, depth, after_step, after_step_once, outcome, repeats}
 use Rattle.miniserde_value.specs.Builders.{hole_in}
-use Rattle.miniserde_place.specs.Leaf.{from_one_event, leaf_view}
+use Rattle.miniserde_place.specs.Leaf.{from_one_event, leaf_at, leaf_view}
 use Rattle.miniserde_place.specs.LeafPlace.{value_of, refusal_of as leaf_refusal}
 use Rattle.miniserde_place.specs.laws.Leaf.{one-event}
 use Rattle.miniserde_value.specs.declared.json.number.Number.{Number}
@@ -45,22 +47,51 @@ value_view p = record { at = (depth (hole_at p), due_in p); outcome = outcome fa
 abbrev pub value_place_meaning : PlaceMeaning ValuePlace Value
 value_place_meaning = place_meaning value_meaning (outcome false true (outside [])) outcome-whole value_view
 
+-- the result of a call that hands an event to a place
+abbrev pub Answer : Type 0
+Answer = Result (Unit {0}) Error
+
+-- the position of the place: how many containers are open, and whether a value is due
+abbrev pub place_at : ValuePlace → Position
+place_at p = (depth (hole_at p), due_in p)
+
 -- A call hands the event e to the place of a `Value`. If it succeeds, the new hole is the one after
--- e. If it returns `Invalid` and the place had no error before, e does not fit the old hole.
+-- e. If it returns `Invalid` and the place had no error before, e does not fit the old hole. If e
+-- does not fit the old hole, the call returns `Invalid`, or the earlier error of the place.
 abbrev pub ValueTakes : ValuePlace → Step → Result (Unit {0}) Error → ValuePlace → Type 0
 ValueTakes old e answer new =
     OnOk answer (after_step (due_in old) (hole_at old) e ≡ Some (due_in new, hole_at new))
     × (answer ≡ Err Invalid → refusal_of old ≡ None → after_step (due_in old) (hole_at old) e ≡ None)
+    × (after_step (due_in old) (hole_at old) e ≡ None → answer ≡ Err (first_refusal (refusal_of old) Invalid))
 
 -- A call hands the event e to the place of a `Unique`. If e is a duplicate name, the call returns
 -- `Invalid`, or the earlier error of the place. If it succeeds, the new hole is the one after e. If
 -- it returns `Invalid` and the place had no error before, e is a duplicate name or does not fit the
--- old hole.
+-- old hole. If e does not fit the old hole, the call returns `Invalid`, or the earlier error of the
+-- place.
 abbrev pub UniqueTakes : UniquePlace → Step → Result (Unit {0}) Error → UniquePlace → Type 0
 UniqueTakes old e answer new =
     (repeats e (hole_at old.place) ≡ true → answer ≡ Err (first_refusal (refusal_of old.place) Invalid))
     × OnOk answer (after_step_once true (due_in old.place) (hole_at old.place) e ≡ Some (due_in new.place, hole_at new.place))
     × (answer ≡ Err Invalid → refusal_of old.place ≡ None → after_step_once true (due_in old.place) (hole_at old.place) e ≡ None)
+    × (after_step (due_in old.place) (hole_at old.place) e ≡ None → answer ≡ Err (first_refusal (refusal_of old.place) Invalid))
+
+-- A call hands the event e to a place, which is `old` before it and `new` after it, and builds documents of the meaning
+-- k. An event for which `begins` holds does what it does in the place of a `Value`. The call returns `Invalid`, or the
+-- earlier error of the place, if e is the first event and `begins` does not hold for it, if e does not fit the old hole,
+-- and if the document is complete.
+pub record DocumentTakes {V : Type 0} (k : DocumentMeaning V) (old : ValuePlace) (e : Step) (answer : Answer) (new : ValuePlace) : Type 0 where
+  pub value : k.begins e ≡ true → ValueTakes old e answer new
+  pub first : place_at old ≡ start → k.begins e ≡ false → answer ≡ Err (first_refusal (refusal_of old) Invalid)
+  pub unfit : after_step (due_in old) (hole_at old) e ≡ None → answer ≡ Err (first_refusal (refusal_of old) Invalid)
+  pub ended : place_at old ≡ complete → answer ≡ Err (first_refusal (refusal_of old) Invalid)
+
+-- A call hands the event e to the place of a `Number`. It returns `Invalid`, or the earlier error of the place, if e is
+-- no number, or if the place has its number already.
+abbrev pub NumberTakes : NumberPlace → Step → Result (Unit {0}) Error → Type 0
+NumberTakes old e answer =
+    (on_leaf number_of e ≡ None → answer ≡ Err (first_refusal (leaf_refusal old.place) Invalid))
+    × (leaf_at (value_of old.place) ≡ complete → answer ≡ Err (first_refusal (leaf_refusal old.place) Invalid))
 
 -- the meaning of the place of a `Unique`: a tree without duplicate names means those whose content is the retained
 -- tree

@@ -4,6 +4,7 @@ use crate::events::{expect_events, hand_all};
 use demo::{Demo, Nested, StrictDemo, Tag};
 use miniserde::de::{Deserialize, Visitor, ignore};
 use miniserde::error::{Error, Result};
+use miniserde::json::{Array, Number, Object};
 use std::alloc::Global;
 use std::collections::BTreeMap;
 use test_tables::{Wrong, expect, expect_ok};
@@ -103,6 +104,78 @@ fn a_struct_ends_with_all_its_fields(rt: HostRuntime) -> std::result::Result<(),
     expect_events::<StrictDemo>(
         alloc,
         "map key=code nonnegative=1 key=message string= finish => {\"code\":1,\"message\":\"\"}\nmap key=code nonnegative=1 key=code",
+    )
+}
+
+#[test]
+fn a_number_is_one_event(rt: HostRuntime) -> std::result::Result<(), Wrong> {
+    expect_events::<Number>(
+        rt.alloc(),
+        "negative => -1
+nonnegative=7 => 7
+float => 1.5
+
+null
+true
+string=1
+seq
+map
+element
+key=a
+finish
+nonnegative=1 nonnegative=2
+float null",
+    )
+}
+
+#[test]
+fn an_array_begins_as_a_list(rt: HostRuntime) -> std::result::Result<(), Wrong> {
+    expect_events::<Array>(
+        rt.alloc(),
+        "seq finish => []
+seq element nonnegative=1 element seq element null finish element map finish finish => [1,[null],{}]
+
+map
+map finish
+null
+nonnegative=1
+string=a
+element
+finish
+seq
+seq element
+seq nonnegative=1
+seq key=a
+seq element finish
+seq element nonnegative=1
+seq finish finish
+seq finish seq",
+    )
+}
+
+#[test]
+fn an_object_begins_as_a_map(rt: HostRuntime) -> std::result::Result<(), Wrong> {
+    expect_events::<Object>(
+        rt.alloc(),
+        "map finish => {}
+map key=b nonnegative=1 key=a seq finish finish => {\"a\":[],\"b\":1}
+map key=a nonnegative=1 key=a null finish => {\"a\":null}
+
+seq
+seq finish
+null
+true
+float
+key=a
+finish
+map
+map key=a
+map nonnegative=1
+map element
+map key=a finish
+map key=a null
+map finish finish
+map finish map",
     )
 }
 

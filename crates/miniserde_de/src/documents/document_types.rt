@@ -53,7 +53,7 @@ pub struct DocumentTypePlace<K> {
 impl<K: DocumentType> Visitor for DocumentTypePlace<K> {
     type Out = K::Out;
 
-    ghost use Rattle.miniserde_de.specs.Places.{document_place_meaning, ValueTakes};
+    ghost use Rattle.miniserde_de.specs.Places.{document_place_meaning, DocumentTakes};
 
     ghost meaning = { document_place_meaning K.document_meaning };
 
@@ -61,8 +61,10 @@ impl<K: DocumentType> Visitor for DocumentTypePlace<K> {
 
     ghost take_infallible = { true };
 
-    // An event for which `begins` holds does to the hole what it does in the place of a `Value`, wherever it comes.
-    ghost further = { λ old e answer new. K.document_meaning.begins e ≡ true → ValueTakes old.place e answer new.place };
+    // An event for which `begins` holds does to the hole what it does in the place of a `Value`, wherever it comes. A
+    // first event for which it does not hold, and any event that does not fit, is `Invalid`, unless the place keeps an
+    // error already.
+    ghost further = { λ old e answer new. DocumentTakes K.document_meaning old.place e answer new.place };
 
     fn begin(alloc: Global) -> Result<DocumentTypePlace<K>> {
         Ok(DocumentTypePlace {

@@ -1,5 +1,7 @@
 //! The place of `Number`.
-ghost use Rattle.std.specs.Prelude.{true};
+ghost use Rattle.std.specs.Prelude.{◌≡◌, true, is_some};
+ghost use Rattle.miniserde_read.specs.Events.{event_of, on_leaf};
+ghost use Rattle.miniserde_value.specs.Numbers.{number_of};
 
 use crate::de::{Deserialize, Step, Visitor};
 use miniserde_model::error::{Error, Result};
@@ -14,16 +16,30 @@ pub struct NumberPlace {
     place: LeafPlace<Number>,
 }
 
+// Returns whether the event is a number.
+fn is_number(event: &Step<'_>) -> bool
+    ensures { result ≡ is_some (on_leaf number_of (event_of event.now)) }
+{
+    matches!(
+        event,
+        Step::Negative(_) | Step::Nonnegative(_) | Step::Float(_)
+    )
+}
+
 impl Visitor for NumberPlace {
     type Out = Number;
 
-    ghost use Rattle.miniserde_de.specs.Places.{number_place_meaning};
+    ghost use Rattle.miniserde_de.specs.Places.{number_place_meaning, NumberTakes};
 
     ghost meaning = { number_place_meaning };
 
     ghost begin_infallible = { true };
 
     ghost take_infallible = { true };
+
+    // An event that is no number, and any event behind the number, is `Invalid`, unless the place keeps an error
+    // already.
+    ghost further = { λ old e answer new. NumberTakes old e answer };
 
     fn begin(alloc: Global) -> Result<NumberPlace> {
         Ok(NumberPlace {
@@ -32,6 +48,10 @@ impl Visitor for NumberPlace {
     }
 
     fn step(&mut self, event: Step<'_>) -> Result<()> {
+        // `further` of the place inside does not say of these that they are `Invalid`.
+        if self.place.is_complete() || !is_number(&event) {
+            return Err(self.place.refuse(Error::Invalid));
+        }
         self.place.step(event)
     }
 

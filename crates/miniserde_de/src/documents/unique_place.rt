@@ -26,8 +26,8 @@ impl Visitor for UniquePlace {
     ghost take_infallible = { true };
 
     // An event that is accepted does to the hole what it does in the place of a `Value`. A
-    // duplicate name fails. The first error is `Invalid` only for a duplicate name or an event that
-    // does not fit the hole.
+    // duplicate name, and an event that does not fit the hole, is `Invalid`, unless the place keeps an
+    // error already, and no other first error is `Invalid`.
     ghost further = { UniqueTakes };
 
     fn begin(alloc: Global) -> Result<UniquePlace> {

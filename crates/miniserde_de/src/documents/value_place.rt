@@ -50,6 +50,7 @@ impl ValuePlace {
         ensures ok { IfOk result (λ due.
             after_between (event_of event.entry) (hole_at self.old) ≡ Some (due, hole_at self.new)) }
         ensures invalid { result ≡ Err Invalid → after_between (event_of event.entry) (hole_at self.old) ≡ None }
+        ensures refuses { after_between (event_of event.entry) (hole_at self.old) ≡ None → result ≡ Err Invalid }
         ensures refused { refusal_of self.new ≡ refusal_of self.old }
     {
         match (event, self.builder.innermost()) {
@@ -75,6 +76,8 @@ impl ValuePlace {
             ≡ Some (due_in self.new, hole_at self.new)) }
         ensures invalid { result ≡ Err Invalid
             → after_step (due_in self.old) (hole_at self.old) (event_of event.entry) ≡ None }
+        ensures refuses { after_step (due_in self.old) (hole_at self.old) (event_of event.entry) ≡ None
+            → result ≡ Err Invalid }
         ensures refused { refusal_of self.new ≡ refusal_of self.old }
     {
         if self.due {
@@ -116,8 +119,8 @@ impl Visitor for ValuePlace {
 
     ghost take_infallible = { true };
 
-    // An event that is accepted changes the hole as `after_step` says. The first error is `Invalid`
-    // only if the event does not fit the hole.
+    // An event that is accepted changes the hole as `after_step` says. An event that does not fit the hole is
+    // `Invalid`, unless the place keeps an error already, and no other first error is `Invalid`.
     ghost further = { ValueTakes };
 
     fn begin(alloc: Global) -> Result<ValuePlace> {

@@ -222,6 +222,7 @@ impl Builder {
         ensures opens { IfOk result (λ opens. opens ≡ is_some (opened_kind (event_of event.entry))) }
         ensures ok { OnOk result (after_begin (event_of event.entry) (hole_in self.old) ≡ Some (hole_in self.new)) }
         ensures invalid { result ≡ Err Invalid → after_begin (event_of event.entry) (hole_in self.old) ≡ None }
+        ensures refuses { after_begin (event_of event.entry) (hole_in self.old) ≡ None → result ≡ Err Invalid }
     {
         match event {
             Step::Null => self.put(Value::Null)?,

@@ -80,12 +80,15 @@ fn take_child_or_end<'a>(
 }
 
 /// Sets the name of the next value in the innermost open object. Returns `Invalid` if `once` is
-/// `true` and the object has a member of that name already, and `Memory` if an allocation fails.
+/// `true` and the object has a member of that name already: the builder is then unchanged. Returns `Memory` if an
+/// allocation fails.
 #[inline(always)]
 fn set_next_name(builder: &mut Builder, name: &str, once: bool) -> Result<()>
     ensures ok { OnOk result (hole_in builder.new ≡ with_name name.now (hole_in builder.old)) }
     ensures new { OnOk result ((once && has_member name.now (hole_in builder.old)) ≡ false) }
     ensures invalid { result ≡ Err Invalid → (once && has_member name.now (hole_in builder.old)) ≡ true }
+    ensures refuses { (once && has_member name.now (hole_in builder.old)) ≡ true
+        → (result ≡ Err Invalid) × (builder.new ≡ builder.old) }
 {
     if once {
         if builder.has_name(name) {
