@@ -49,13 +49,30 @@ def case_clause(it, at, part):
     return f"{' '.join([quoted(part.name), *names])} ↦ {'later_case (' * at}first_case {data}{')' * at}"
 
 
-def made_clause(parts):
-    """The clause that makes the enum of each value of a variant."""
+def data_names(part, data):
+    """The values of a variant by the name `data` of its data, in a clause."""
+    if part.fields:
+        return [f"{data}.{it.name}" for it in part.fields]
+    return [data] if len(part.values) == 1 else [f"{data}.{at}" for at in range(len(part.values))]
+
+
+def each_clause(parts, text):
+    """The clause that has `text` for each variant and the name `x` of its data."""
     if not parts:
         return "any_of_never _"
-    first = parts[0]
-    data = [f"x.{it.name}" for it in first.fields] or (["x"] if len(first.values) == 1 else [f"x.{at}" for at in range(len(first.values))])
-    return f"each_case _ (λ x. ({' '.join([quoted(first.name), *data])}, refl)) ({made_clause(parts[1:])})"
+    return f"each_case _ (λ x. {text(parts[0])}) ({each_clause(parts[1:], text)})"
+
+
+def made_clause(parts):
+    """The clause that makes the enum of each value of a variant."""
+    return each_clause(parts, lambda part: " ".join([quoted(part.name), *data_names(part, "x")]))
+
+
+def bijective_clause(parts):
+    """The law that the clauses of `values` and `made` are inverse to each other, by computing variant by variant."""
+    names = lambda part: [f"x{each}" for each in range(len(part.fields) or len(part.values))]
+    taken = " | ".join(f"{' '.join([quoted(part.name), *names(part)])} ↦ refl" for part in parts)
+    return f"(elim [ {taken} ], {each_clause(parts, lambda part: 'refl')})"
 
 
 def built_of(it, parts):
@@ -94,7 +111,9 @@ def variants_text(it, path):
 
 {wrapped("values", f"elim [ {values} ]")}
 
-{wrapped("surjective", made_clause(it.parts))}
+{wrapped("made", made_clause(it.parts))}
+
+{wrapped("bijective", bijective_clause(it.parts))}
 
     ghost distinct_names = {{ refl }};
 

@@ -249,8 +249,14 @@ impl DataEnum for Action {
       | Move x0 x1 ↦ later_case (later_case (first_case (record { x = x0; y = x1 })))
     ] };
 
-    ghost surjective = { each_case _ (λ x. (Ping, refl)) (each_case _ (λ x. (Say x, refl))
-        (each_case _ (λ x. (Move x.x x.y, refl)) (any_of_never _))) };
+    ghost made = { each_case _ (λ x. Ping) (each_case _ (λ x. Say x) (each_case _ (λ x. Move x.x
+        x.y) (any_of_never _))) };
+
+    ghost bijective = { (
+      elim [ Ping ↦ refl | Say x0 ↦ refl | Move x0 x1 ↦ refl ],
+      each_case _ (λ x.
+          refl) (each_case _ (λ x. refl) (each_case _ (λ x. refl) (any_of_never _))),
+    ) };
 
     ghost distinct_names = { refl };
 

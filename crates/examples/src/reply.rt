@@ -155,11 +155,20 @@ impl<T: FromJson> DataEnum for Reply<T> {
       | Gone ↦ later_case (later_case (later_case (first_case tt)))
     ] };
 
-    ghost surjective = { each_case _ (λ x. (Done x, refl)) (each_case _ (λ x. (
-      Between x.0 x.1,
-      refl,
-    )) (each_case _ (λ x. (Failed x.code x.why, refl)) (each_case _ (λ x. (Gone, refl))
-        (any_of_never _)))) };
+    ghost made = { each_case _ (λ x. Done x) (each_case _ (λ x. Between x.0 x.1) (each_case _ (λ x.
+        Failed x.code x.why) (each_case _ (λ x. Gone) (any_of_never _)))) };
+
+    ghost bijective = { (
+      elim [
+        | Done x0 ↦ refl
+        | Between x0 x1 ↦ refl
+        | Failed x0 x1 ↦ refl
+        | Gone ↦
+            refl
+      ],
+      each_case _ (λ x. refl) (each_case _ (λ x. refl) (each_case _ (λ x. refl) (each_case
+          _ (λ x. refl) (any_of_never _)))),
+    ) };
 
     ghost distinct_names = { refl };
 

@@ -100,10 +100,12 @@ module _ {T W C D : Type 0} (variant : Tree → Option (Name × Option Tree)) (c
 -- ---- the enum of a variant's value
 
 -- what holds of the values of the variants holds of the enum
-pub enum-round_trips : {V W : Type 0} (real : V → Type 0) (tree : V → Tree) (reads : Tree → V → Type 0) (values : W → V) → ((x : V) → (v : W) × (values v ≡ x)) → (v : W) → RoundTrips real tree reads (tree (values v)) → RoundTrips (λ v. real (values v)) (λ v. tree (values v)) (λ t v. reads t (values v)) (tree (values v))
-enum-round_trips real tree reads values whole v a =
-    let w = whole a.0.0 in
-    let same = sym w.1 in (
-      (w.0, subst real same a.0.1, subst (reads (tree (values v))) same a.0.2),
+pub enum-round_trips : {V W : Type 0} (real : V → Type 0) (tree : V → Tree) (reads : Tree → V → Type 0)
+    (values : W → V) (made : V → W) → ((x : V) → values (made x) ≡ x) → (v : W)
+    → RoundTrips real tree reads (tree (values v))
+    → RoundTrips (λ v. real (values v)) (λ v. tree (values v)) (λ t v. reads t (values v)) (tree (values v))
+enum-round_trips real tree reads values made same v a =
+    let is = sym (same a.0.0) in (
+      (made a.0.0, subst real is a.0.1, subst (reads (tree (values v))) is a.0.2),
       λ w q h. a.1 (values w) q h,
     )

@@ -101,8 +101,8 @@ abbrev pub case_content : {T W C D : Type 0} → (T → C) → (W → D) → One
 case_content f g (First x) = First (f x)
 case_content f g (Later w) = Later (g w)
 
--- a property that all values of the first variant have, and all values of the later variants, holds of the value v
-pub each_case : {T W : Type 0} (P : OneOf T W → Type 0) → ((x : T) → P (First x)) → ((w : W) → P (Later w)) → (v : OneOf T W) → P v
+-- of the value v, what f returns for the data of the first variant, or g for a later variant's value
+abbrev pub each_case : {T W : Type 0} (P : OneOf T W → Type 0) → ((x : T) → P (First x)) → ((w : W) → P (Later w)) → (v : OneOf T W) → P v
 each_case P f g (First x) = f x
 each_case P f g (Later w) = g w
 

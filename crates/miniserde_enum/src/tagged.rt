@@ -14,6 +14,9 @@ pub trait DataEnum: Sized + Drop {
     // A value of the enum as one of `Values`: its variant with the data of the variant.
     ghost values: { Self → Self.Values };
 
+    // The value of the enum that has this variant with this data.
+    ghost made: { Self.Values → Self };
+
     /// Returns the variants' names, in their order.
     fn names() -> &'static [&'static str]
         ensures { map (λ s. s.now) result.now ≡ names };
@@ -22,8 +25,9 @@ pub trait DataEnum: Sized + Drop {
     fn build(value: Self::Values) -> Self
         ensures { values result ≡ value };
 
-    // For each of `Values`, some value of the enum has that variant with that data.
-    ghost surjective: { (x : Self.Values) → (v : Self) × (values v ≡ x) };
+    // `made` and `values` are inverse to each other: a value of the enum is its variant with the
+    // data and nothing else, and no two variants are alike.
+    ghost bijective: { ((v : Self) → made (values v) ≡ v) × ((x : Self.Values) → values (made x) ≡ x) };
 
     // No two variants have the same name.
     ghost distinct_names: { are_distinct names ≡ true };

@@ -157,8 +157,14 @@ impl DataEnum for Change {
       | Mark x0 x1 ↦ later_case (later_case (first_case (record { at = x0; note = x1 })))
     ] };
 
-    ghost surjective = { each_case _ (λ x. (Clear, refl)) (each_case _ (λ x. (Run x, refl))
-        (each_case _ (λ x. (Mark x.at x.note, refl)) (any_of_never _))) };
+    ghost made = { each_case _ (λ x. Clear) (each_case _ (λ x. Run x) (each_case _ (λ x. Mark x.at
+        x.note) (any_of_never _))) };
+
+    ghost bijective = { (
+      elim [ Clear ↦ refl | Run x0 ↦ refl | Mark x0 x1 ↦ refl ],
+      each_case _ (λ
+          x. refl) (each_case _ (λ x. refl) (each_case _ (λ x. refl) (any_of_never _))),
+    ) };
 
     ghost distinct_names = { refl };
 

@@ -233,11 +233,14 @@ impl<T: FromJson> DataEnum for Entry<T> {
           { level = x0; of = x1; slip = x2 }))
     ] };
 
-    ghost surjective = { each_case _ (λ x. (Silence, refl)) (each_case _ (λ x. (
-      Log x.level x.of
-          x.slip,
-      refl,
-    )) (any_of_never _)) };
+    ghost made = { each_case _ (λ x. Silence) (each_case _ (λ x. Log x.level x.of x.slip)
+        (any_of_never _)) };
+
+    ghost bijective = { (
+      elim [ Silence ↦ refl | Log x0 x1 x2 ↦ refl ],
+      each_case _ (λ x. refl)
+          (each_case _ (λ x. refl) (any_of_never _)),
+    ) };
 
     ghost distinct_names = { refl };
 

@@ -125,15 +125,39 @@ impl DataEnum for Key {
           x0)))))))))))))))
     ] };
 
-    ghost surjective = { each_case _ (λ x. (Up, refl)) (each_case _ (λ x. (Down, refl)) (each_case _
-        (λ x. (Left, refl)) (each_case _ (λ x. (Right, refl)) (each_case _ (λ x. (Enter, refl))
-        (each_case _ (λ x. (Escape, refl)) (each_case _ (λ x. (Tab, refl)) (each_case _ (λ x.
-        (Delete, refl)) (each_case _ (λ x. (Letter x, refl)) (each_case _ (λ x. (Digit x, refl))
-        (each_case _ (λ x. (Function x, refl)) (each_case _ (λ x. (Pasted x, refl)) (each_case _ (λ
-        x. (Chord x, refl)) (each_case _ (λ x. (Click x.0 x.1, refl)) (each_case _ (λ x. (
-          Wheel x,
-          refl,
-        )) (each_case _ (λ x. (Other x, refl)) (any_of_never _)))))))))))))))) };
+    ghost made = { each_case _ (λ x. Up) (each_case _ (λ x. Down) (each_case _ (λ x. Left)
+        (each_case _ (λ x. Right) (each_case _ (λ x. Enter) (each_case _ (λ x. Escape) (each_case _
+        (λ x. Tab) (each_case _ (λ x. Delete) (each_case _ (λ x. Letter x) (each_case _ (λ x. Digit
+        x) (each_case _ (λ x. Function x) (each_case _ (λ x. Pasted x) (each_case _ (λ x. Chord x)
+        (each_case _ (λ x. Click x.0 x.1) (each_case _ (λ x. Wheel x) (each_case _ (λ x. Other x)
+        (any_of_never _)))))))))))))))) };
+
+    ghost bijective = { (
+      elim [
+        | Up ↦ refl
+        | Down ↦ refl
+        | Left ↦ refl
+        | Right ↦ refl
+        | Enter ↦ refl
+        | Escape ↦ refl
+        | Tab ↦ refl
+        | Delete ↦ refl
+        | Letter x0 ↦ refl
+        | Digit x0 ↦ refl
+        | Function
+            x0 ↦ refl
+        | Pasted x0 ↦ refl
+        | Chord x0 ↦ refl
+        | Click x0 x1 ↦ refl
+        | Wheel x0 ↦ refl
+        | Other x0 ↦ refl
+      ],
+      each_case _ (λ x. refl) (each_case _ (λ x. refl) (each_case _ (λ x. refl)
+          (each_case _ (λ x. refl) (each_case _ (λ x. refl) (each_case _ (λ x. refl) (each_case _ (λ
+          x. refl) (each_case _ (λ x. refl) (each_case _ (λ x. refl) (each_case _ (λ x. refl)
+          (each_case _ (λ x. refl) (each_case _ (λ x. refl) (each_case _ (λ x. refl) (each_case _ (λ
+          x. refl) (each_case _ (λ x. refl) (each_case _ (λ x. refl) (any_of_never _)))))))))))))))),
+    ) };
 
     ghost distinct_names = { refl };
 

@@ -41,9 +41,20 @@ impl DataEnum for Plan {
           (later_case (first_case (x0, x1, x2))))
     ] };
 
-    ghost surjective = { each_case _ (λ x. (Nothing, refl)) (each_case _ (λ x. (OneTask x, refl))
-        (each_case _ (λ x. (Tasks x, refl)) (each_case _ (λ x. (Three x.0 x.1 x.2, refl))
-        (any_of_never _)))) };
+    ghost made = { each_case _ (λ x. Nothing) (each_case _ (λ x. OneTask x) (each_case _ (λ x. Tasks
+        x) (each_case _ (λ x. Three x.0 x.1 x.2) (any_of_never _)))) };
+
+    ghost bijective = { (
+      elim [
+        | Nothing ↦ refl
+        | OneTask x0 ↦ refl
+        | Tasks x0 ↦ refl
+        | Three x0 x1
+            x2 ↦ refl
+      ],
+      each_case _ (λ x. refl) (each_case _ (λ x. refl) (each_case _ (λ x. refl)
+          (each_case _ (λ x. refl) (any_of_never _)))),
+    ) };
 
     ghost distinct_names = { refl };
 

@@ -169,10 +169,13 @@ impl DataEnum for Renewal {
       }))
     ] };
 
-    ghost surjective = { each_case _ (λ x. (Add x, refl)) (each_case _ (λ x. (
-      Move x.from x.to,
-      refl,
-    )) (any_of_never _)) };
+    ghost made = { each_case _ (λ x. Add x) (each_case _ (λ x. Move x.from x.to) (any_of_never _)) };
+
+    ghost bijective = { (
+      elim [ Add x0 ↦ refl | Move x0 x1 ↦ refl ],
+      each_case _ (λ x. refl)
+          (each_case _ (λ x. refl) (any_of_never _)),
+    ) };
 
     ghost distinct_names = { refl };
 

@@ -227,12 +227,19 @@ impl DataEnum for Change {
           later_case (later_case (later_case (first_case (record { job_id = x0; new_phase = x1 }))))
     ] };
 
-    ghost surjective = { each_case _ (λ x. (SignedOut, refl)) (each_case _ (λ x. (NewUrl x, refl))
-        (each_case _ (λ x. (SeenAt x.0 x.1 x.2, refl)) (each_case _ (λ x. (
-          JobPhase x.job_id
-              x.new_phase,
-          refl,
-        )) (any_of_never _)))) };
+    ghost made = { each_case _ (λ x. SignedOut) (each_case _ (λ x. NewUrl x) (each_case _ (λ x.
+        SeenAt x.0 x.1 x.2) (each_case _ (λ x. JobPhase x.job_id x.new_phase) (any_of_never _)))) };
+
+    ghost bijective = { (
+      elim [
+        | SignedOut ↦ refl
+        | NewUrl x0 ↦ refl
+        | SeenAt x0 x1 x2 ↦ refl
+        | JobPhase x0 x1 ↦ refl
+      ],
+      each_case _ (λ x. refl) (each_case _ (λ x. refl) (each_case _ (λ x.
+          refl) (each_case _ (λ x. refl) (any_of_never _)))),
+    ) };
 
     ghost distinct_names = { refl };
 

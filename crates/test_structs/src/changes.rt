@@ -270,9 +270,21 @@ impl DataEnum for Change {
           later_case (later_case (later_case (later_case (first_case (record {})))))
     ] };
 
-    ghost surjective = { each_case _ (λ x. (Reset, refl)) (each_case _ (λ x. (SetName x, refl))
-        (each_case _ (λ x. (BothOf x, refl)) (each_case _ (λ x. (Deep x.inner x.list, refl))
-        (each_case _ (λ x. (Accent, refl)) (any_of_never _))))) };
+    ghost made = { each_case _ (λ x. Reset) (each_case _ (λ x. SetName x) (each_case _ (λ x. BothOf
+        x) (each_case _ (λ x. Deep x.inner x.list) (each_case _ (λ x. Accent) (any_of_never _))))) };
+
+    ghost bijective = { (
+      elim [
+        | Reset ↦ refl
+        | SetName x0 ↦ refl
+        | BothOf x0 ↦ refl
+        | Deep x0 x1 ↦
+            refl
+        | Accent ↦ refl
+      ],
+      each_case _ (λ x. refl) (each_case _ (λ x. refl) (each_case _ (λ x.
+          refl) (each_case _ (λ x. refl) (each_case _ (λ x. refl) (any_of_never _))))),
+    ) };
 
     ghost distinct_names = { refl };
 

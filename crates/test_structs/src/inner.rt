@@ -144,10 +144,13 @@ impl DataEnum for Inner {
           (record { v = x0; types = x1 }))
     ] };
 
-    ghost surjective = { each_case _ (λ x. (Empty, refl)) (each_case _ (λ x. (
-      Two x.v x.types,
-      refl,
-    )) (any_of_never _)) };
+    ghost made = { each_case _ (λ x. Empty) (each_case _ (λ x. Two x.v x.types) (any_of_never _)) };
+
+    ghost bijective = { (
+      elim [ Empty ↦ refl | Two x0 x1 ↦ refl ],
+      each_case _ (λ x. refl)
+          (each_case _ (λ x. refl) (any_of_never _)),
+    ) };
 
     ghost distinct_names = { refl };
 

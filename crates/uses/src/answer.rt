@@ -144,8 +144,13 @@ impl DataEnum for Answer {
           (first_case (record {}))
     ] };
 
-    ghost surjective = { each_case _ (λ x. (Count x.now, refl)) (each_case _ (λ x. (Full, refl))
-        (any_of_never _)) };
+    ghost made = { each_case _ (λ x. Count x.now) (each_case _ (λ x. Full) (any_of_never _)) };
+
+    ghost bijective = { (
+      elim [ Count x0 ↦ refl | Full ↦ refl ],
+      each_case _ (λ x. refl) (each_case
+          _ (λ x. refl) (any_of_never _)),
+    ) };
 
     ghost distinct_names = { refl };
 

@@ -250,8 +250,14 @@ impl DataEnum for Call {
       | Reset x0 ↦ later_case (later_case (first_case (record { to = x0 })))
     ] };
 
-    ghost surjective = { each_case _ (λ x. (Look, refl)) (each_case _ (λ x. (Add x, refl))
-        (each_case _ (λ x. (Reset x.to, refl)) (any_of_never _))) };
+    ghost made = { each_case _ (λ x. Look) (each_case _ (λ x. Add x) (each_case _ (λ x. Reset x.to)
+        (any_of_never _))) };
+
+    ghost bijective = { (
+      elim [ Look ↦ refl | Add x0 ↦ refl | Reset x0 ↦ refl ],
+      each_case _ (λ x.
+          refl) (each_case _ (λ x. refl) (each_case _ (λ x. refl) (any_of_never _))),
+    ) };
 
     ghost distinct_names = { refl };
 
