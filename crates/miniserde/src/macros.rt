@@ -29,20 +29,11 @@ macro_rules! value_of {
         }
     };
 
-    // Pushes the items to the array `$array`, one by one.
+    // Pushes the items to the array `$array`, one by one. An item of one token is `null`, an array, an object, a word or
+    // a literal; any other is an expression.
     (@items $alloc:ident $out:lifetime $array:ident) => {};
-    (@items $alloc:ident $out:lifetime $array:ident null $(, $($rest:tt)*)?) => {
-        let item = $crate::json::value::null_value();
-        $crate::value_of!(@try $out $crate::json::Array::push(&mut $array, item));
-        $crate::value_of!(@items $alloc $out $array $($($rest)*)?);
-    };
-    (@items $alloc:ident $out:lifetime $array:ident [$($inner:tt)*] $(, $($rest:tt)*)?) => {
-        let item = $crate::value_of!($alloc $out; [$($inner)*]);
-        $crate::value_of!(@try $out $crate::json::Array::push(&mut $array, item));
-        $crate::value_of!(@items $alloc $out $array $($($rest)*)?);
-    };
-    (@items $alloc:ident $out:lifetime $array:ident {$($inner:tt)*} $(, $($rest:tt)*)?) => {
-        let item = $crate::value_of!($alloc $out; {$($inner)*});
+    (@items $alloc:ident $out:lifetime $array:ident $item:tt $(, $($rest:tt)*)?) => {
+        let item = $crate::value_of!($alloc $out; $item);
         $crate::value_of!(@try $out $crate::json::Array::push(&mut $array, item));
         $crate::value_of!(@items $alloc $out $array $($($rest)*)?);
     };
@@ -54,18 +45,8 @@ macro_rules! value_of {
 
     // Puts the members into the object `$object`, one by one.
     (@members $alloc:ident $out:lifetime $object:ident) => {};
-    (@members $alloc:ident $out:lifetime $object:ident $name:tt : null $(, $($rest:tt)*)?) => {
-        let member = $crate::json::value::null_value();
-        $crate::value_of!(@try $out $crate::json::Object::put(&mut $object, $alloc, $name, member));
-        $crate::value_of!(@members $alloc $out $object $($($rest)*)?);
-    };
-    (@members $alloc:ident $out:lifetime $object:ident $name:tt : [$($inner:tt)*] $(, $($rest:tt)*)?) => {
-        let member = $crate::value_of!($alloc $out; [$($inner)*]);
-        $crate::value_of!(@try $out $crate::json::Object::put(&mut $object, $alloc, $name, member));
-        $crate::value_of!(@members $alloc $out $object $($($rest)*)?);
-    };
-    (@members $alloc:ident $out:lifetime $object:ident $name:tt : {$($inner:tt)*} $(, $($rest:tt)*)?) => {
-        let member = $crate::value_of!($alloc $out; {$($inner)*});
+    (@members $alloc:ident $out:lifetime $object:ident $name:tt : $value:tt $(, $($rest:tt)*)?) => {
+        let member = $crate::value_of!($alloc $out; $value);
         $crate::value_of!(@try $out $crate::json::Object::put(&mut $object, $alloc, $name, member));
         $crate::value_of!(@members $alloc $out $object $($($rest)*)?);
     };

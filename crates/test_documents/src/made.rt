@@ -89,6 +89,121 @@ fn are_names(alloc: Global) -> Result<bool> {
     is_written(alloc, &named, NAMES)
 }
 
+/// Returns whether items of each form, in each place of three, are written as expected.
+fn are_items(alloc: Global) -> Result<bool> {
+    let n = 1u8;
+    Ok(
+        is_written(alloc, &value!(in alloc; [null, null])?, "[null,null]")?
+            && is_written(
+                alloc,
+                &value!(in alloc; [[], [[]], [[null], []]])?,
+                "[[],[[]],[[null],[]]]",
+            )?
+            && is_written(
+                alloc,
+                &value!(in alloc; [{}, {"a": {}}, {}])?,
+                r#"[{},{"a":{}},{}]"#,
+            )?
+            && is_written(alloc, &value!(in alloc; [-n_of(n), -n_of(n)])?, "[-1,-1]")?
+            && is_written(
+                alloc,
+                &value!(in alloc; [null, [1], {"a": 2}, -3, n])?,
+                r#"[null,[1],{"a":2},-3,1]"#,
+            )?
+            && is_written(
+                alloc,
+                &value!(in alloc; [n, -3, {"a": 2}, [1], null])?,
+                r#"[1,-3,{"a":2},[1],null]"#,
+            )?,
+    )
+}
+
+/// Returns a number as `i64`, so that an item is an expression of several tokens.
+fn n_of(n: u8) -> i64 {
+    n as i64
+}
+
+/// Returns whether of equal names the last counts: null, an array, an object or an expression behind each of the four.
+fn are_last(alloc: Global) -> Result<bool> {
+    let n = 2u8;
+    Ok(
+        is_written(
+            alloc,
+            &value!(in alloc; {"a": null, "a": null})?,
+            r#"{"a":null}"#,
+        )? && is_written(
+            alloc,
+            &value!(in alloc; {"a": null, "a": [1]})?,
+            r#"{"a":[1]}"#,
+        )? && is_written(
+            alloc,
+            &value!(in alloc; {"a": null, "a": {"b": 1}})?,
+            r#"{"a":{"b":1}}"#,
+        )? && is_written(
+            alloc,
+            &value!(in alloc; {"a": null, "a": -n_of(n)})?,
+            r#"{"a":-2}"#,
+        )? && is_written(
+            alloc,
+            &value!(in alloc; {"a": [1], "a": null})?,
+            r#"{"a":null}"#,
+        )? && is_written(
+            alloc,
+            &value!(in alloc; {"a": [1], "a": [2]})?,
+            r#"{"a":[2]}"#,
+        )? && is_written(
+            alloc,
+            &value!(in alloc; {"a": [1], "a": {"b": 1}})?,
+            r#"{"a":{"b":1}}"#,
+        )? && is_written(
+            alloc,
+            &value!(in alloc; {"a": [1], "a": -n_of(n)})?,
+            r#"{"a":-2}"#,
+        )? && is_written(
+            alloc,
+            &value!(in alloc; {"a": {"b": 1}, "a": null})?,
+            r#"{"a":null}"#,
+        )? && is_written(
+            alloc,
+            &value!(in alloc; {"a": {"b": 1}, "a": [1]})?,
+            r#"{"a":[1]}"#,
+        )? && is_written(
+            alloc,
+            &value!(in alloc; {"a": {"b": 1}, "a": {"c": 2}})?,
+            r#"{"a":{"c":2}}"#,
+        )? && is_written(
+            alloc,
+            &value!(in alloc; {"a": {"b": 1}, "a": n})?,
+            r#"{"a":2}"#,
+        )?,
+    )
+}
+
+/// Returns whether of equal names the last counts, with an expression first, and members come in byte order of names.
+fn are_in_order(alloc: Global) -> Result<bool> {
+    let n = 2u8;
+    let order = value!(in alloc; {"b": 1, "": [], "ab": {}, "a": -n_of(n), "B": null})?;
+    Ok(
+        is_written(
+            alloc,
+            &value!(in alloc; {"a": -n_of(n), "a": null})?,
+            r#"{"a":null}"#,
+        )? && is_written(
+            alloc,
+            &value!(in alloc; {"a": -n_of(n), "a": [1]})?,
+            r#"{"a":[1]}"#,
+        )? && is_written(
+            alloc,
+            &value!(in alloc; {"a": -n_of(n), "a": {"b": 1}})?,
+            r#"{"a":{"b":1}}"#,
+        )? && is_written(
+            alloc,
+            &value!(in alloc; {"a": n, "a": -n_of(n)})?,
+            r#"{"a":-2}"#,
+        )? && is_written(alloc, &order, r#"{"":[],"B":null,"a":-2,"ab":{},"b":1}"#)?,
+    )
+}
+
 #[test]
 fn json_with_expressions_makes_its_value(rt: HostRuntime) -> std::result::Result<(), Wrong> {
     let alloc = rt.alloc();
@@ -99,4 +214,12 @@ fn json_with_expressions_makes_its_value(rt: HostRuntime) -> std::result::Result
     expect_ok(are_texts(alloc), "texts")?;
     expect_ok(are_moved(alloc), "documents")?;
     expect_ok(are_names(alloc), "names")
+}
+
+#[test]
+fn each_form_of_json_with_expressions_counts(rt: HostRuntime) -> std::result::Result<(), Wrong> {
+    let alloc = rt.alloc();
+    expect_ok(are_items(alloc), "items")?;
+    expect_ok(are_last(alloc), "equal names")?;
+    expect_ok(are_in_order(alloc), "order")
 }

@@ -4,7 +4,7 @@ use crate::outcome::Outcome;
 use miniserde::de::MapKey;
 use miniserde::json::{Array, Object, Value, canonical, canonical_unique, from_str, to_string};
 use miniserde::ser::{Fragment, Writer, escape_str};
-use miniserde::{Error, Result};
+use miniserde::{Error, Result, value};
 use settings::loader::{load, reloaded, save};
 use std::alloc::Global;
 
@@ -21,6 +21,7 @@ pub fn run(alloc: Global, job: &str, text: &str) -> Option<Outcome> {
         "key-string" => Some(string_key(alloc, text)),
         "escape" => Some(escaped(alloc, text)),
         "writer" => Some(Outcome::of(alloc, written(alloc))),
+        "made" => Some(Outcome::of(alloc, made(alloc, text))),
         _ => None,
     }
 }
@@ -145,4 +146,13 @@ fn written(alloc: Global) -> Result<String> {
         (Err(error), true) => Err(error),
         _ => Err(Error::Invalid),
     }
+}
+
+/// Makes a value by `value!` with parts of each form, two names of which are given twice, and writes it.
+fn made(alloc: Global, text: &str) -> Result<String> {
+    let made = value!(in alloc; {
+        "text": [text], "size": null, "items": [null, [text], {(text): text}, text.len()],
+        "text": text, "size": text.len(), "null": null, "list": [[], [{}]], "object": {"null": null}
+    })?;
+    to_string(alloc, &made)
 }
