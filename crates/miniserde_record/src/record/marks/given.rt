@@ -1,5 +1,5 @@
 //! The mark of fields that have a given value if they are missing.
-ghost use Rattle.std.specs.Prelude.{◌≡◌, false, Some, Ok, Err, IfOk, IfErr};
+ghost use Rattle.std.specs.Prelude.{◌≡◌, false, Some, Ok, Err, IfOk, IfErr, IsSome};
 ghost use Rattle.miniserde_model.specs.Tree.{Tree};
 ghost use Rattle.miniserde_model.specs.declared.error.Error.{Error};
 
@@ -14,10 +14,12 @@ pub trait Given<T: FromJson> {
     // The tree that the field's member would have.
     ghost given: { Tree };
 
-    /// Returns a value that the tree `given` means, or `Memory` if it fails to allocate.
+    /// Returns a value that the tree `given` means, or `Memory` if it fails to allocate. It promises
+    /// in each case that the tree means a value.
     fn make(alloc: Global) -> Result<T>
         ensures ok { IfOk result (λ v. T.means.from_tree given ≡ Some (T.means.content v)) }
-        ensures memory { IfErr result (λ e. e ≡ Error.Memory) };
+        ensures memory { IfErr result (λ e. e ≡ Error.Memory) }
+        ensures meant { IsSome (T.means.from_tree given) };
 }
 
 /// The mark of a field that has the value of `D` if it is missing.
