@@ -1,6 +1,7 @@
 //! Reads internally tagged enums: objects in which one member, the tag, names the variant.
 ghost use Rattle.std.specs.Prelude.{◌≡◌, true, None, Err, IfOk, length};
 ghost use Rattle.miniserde_text.specs.Lexer.{event_of_token};
+ghost use Rattle.miniserde_model.specs.Step as step;
 ghost use Rattle.miniserde_model.specs.declared.error.Error.{Error};
 ghost use Rattle.miniserde_read.specs.Rest.{GivesAt, GivesNoneAt};
 ghost use Rattle.miniserde_read.specs.Events.{EventInRange};
@@ -53,7 +54,7 @@ impl<E: DataEnum + HasTag> Record for Tag<E> {
 /// It is an object in which each member with the tag's name is a string and the last one names the
 /// variant, and the members of all other names are its data. The call reads the object twice.
 /// Returns `Invalid` if the text, from `token` on, has no prefix that means such a value, and
-/// `Memory` if an allocation fails.
+/// `Memory` if an allocation fails. A token that opens no object is `Invalid`.
 pub fn read_tagged<'a, E: DataEnum + HasTag, C: InsideCases<Values = E::Values>>(
     token: Event<'a>,
     source: &mut Source<'a>,
@@ -66,6 +67,7 @@ pub fn read_tagged<'a, E: DataEnum + HasTag, C: InsideCases<Values = E::Values>>
         (C.meaning.content (E.values v))) }
     ensures invalid { result ≡ Err Error.Invalid → GivesNoneAt (tagged_content C.meaning E.tag E.names)
         (event_of_token token.entry source.old.scratch) source.old.rest }
+    ensures memory { result ≡ Err Error.Memory → event_of_token token.entry source.old.scratch ≡ step.map }
 {
     let Event::MapStart = token else {
         return Err(Error::Invalid);

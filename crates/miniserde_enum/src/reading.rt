@@ -1,6 +1,7 @@
 //! Reads externally tagged enums: the name of a variant alone, or an object of one member.
 ghost use Rattle.std.specs.Prelude.{◌≡◌, None, Err, IfOk, map};
 ghost use Rattle.miniserde_text.specs.Lexer.{event_of_token, text_of};
+ghost use Rattle.miniserde_model.specs.Step as step;
 ghost use Rattle.miniserde_model.specs.declared.error.Error.{Error};
 ghost use Rattle.miniserde_read.specs.Rest.{GivesAt, GivesNoneAt};
 ghost use Rattle.miniserde_read.specs.Events.{EventInRange};
@@ -67,7 +68,7 @@ fn read_named<'a, C: Cases>(
 /// Reads an externally tagged enum, whose first token is `token`, and takes no more of the source. A variant without
 /// data is its name as a string; one with data is an object of one member, whose name is the variant's. Returns
 /// `Invalid` if the text, from `token` on, has no prefix that means such a value, and `Memory` if an allocation
-/// fails.
+/// fails. A token that opens no object is never `Memory`: it is the name of a variant without data, or `Invalid`.
 pub fn read_enum<'a, E: DataEnum, C: Cases<Values = E::Values>>(
     token: Event<'a>,
     source: &mut Source<'a>,
@@ -80,6 +81,7 @@ pub fn read_enum<'a, E: DataEnum, C: Cases<Values = E::Values>>(
         (C.meaning.content (E.values v))) }
     ensures invalid { result ≡ Err Error.Invalid → GivesNoneAt (enum_content C.meaning E.names)
         (event_of_token token.entry source.old.scratch) source.old.rest }
+    ensures memory { result ≡ Err Error.Memory → event_of_token token.entry source.old.scratch ≡ step.map }
 {
     match token {
         Event::Str(text) => match C::unit_variant(E::names(), source.text(text)) {

@@ -1,6 +1,7 @@
 //! Reads structs from a text, member by member.
 ghost use Rattle.std.specs.Prelude.{◌≡◌, ◌&&◌, Bool, true, false, None, Some, Ok, Err, IfOk, IfErr, map, Option};
 ghost use Rattle.miniserde_text.specs.Lexer.{event_of_token};
+ghost use Rattle.miniserde_model.specs.Step as step;
 ghost use Rattle.miniserde_model.specs.declared.error.Error.{Error};
 ghost use Rattle.miniserde_read.specs.Rest.{GivesAt, GivesNoneAt};
 ghost use Rattle.miniserde_read.specs.Events.{EventInRange};
@@ -214,7 +215,8 @@ impl<T: FromJson, M: Mark<T>, R: Slots> Slots for MarkedSlot<T, M, R> {
 
 /// Reads a struct by the chain `F` of its fields, and takes no more of the source; `token` is the
 /// struct's first token. Returns `Invalid` if the text, from that token on, has no prefix that
-/// means such a struct, and `Memory` if an allocation fails.
+/// means such a struct, and `Memory` if an allocation fails. A token that opens no object is
+/// `Invalid`.
 pub fn read_record<'a, S: Record, F: Slots<Values = S::Values>>(
     token: Event<'a>,
     source: &mut Source<'a>,
@@ -227,6 +229,7 @@ pub fn read_record<'a, S: Record, F: Slots<Values = S::Values>>(
         ((struct_meaning F.meaning S.names S.values).content v)) }
     ensures invalid { result ≡ Err Error.Invalid → GivesNoneAt (struct_meaning F.meaning S.names S.values).from_tree
         (event_of_token token.entry source.old.scratch) source.old.rest }
+    ensures memory { result ≡ Err Error.Memory → event_of_token token.entry source.old.scratch ≡ step.map }
 {
     let Event::MapStart = token else {
         return Err(Error::Invalid);
