@@ -10,16 +10,10 @@ use std::marker::PhantomData;
 
 /// The fields `F` of a variant of the enum `E`, whose object has the tag too. Members with the tag's name are
 /// skipped.
+#[derive(Drop)]
 pub struct BesideTag<E, F> {
     fields: F,
     tag: PhantomData<E>,
-}
-
-impl<E, F: Drop> Drop for BesideTag<E, F> {
-    fn drop(self) {
-        let BesideTag { fields, tag: _ } = self;
-        drop(fields);
-    }
 }
 
 impl<E: HasTag, F: Slots> Slots for BesideTag<E, F> {

@@ -42,16 +42,10 @@ fn field_name<'a>(aliases: &[(&'static str, &'static str)], name: &'a str) -> &'
 
 /// The fields `F` of the struct `S`, which are read by their aliases too: a member whose name is an alias counts as
 /// one with the name of the field.
+#[derive(Drop)]
 pub struct Aliased<S, F> {
     fields: F,
     of: PhantomData<S>,
-}
-
-impl<S, F: Drop> Drop for Aliased<S, F> {
-    fn drop(self) {
-        let Aliased { fields, of: _ } = self;
-        drop(fields);
-    }
 }
 
 impl<S: HasAliases, F: Slots> Slots for Aliased<S, F> {

@@ -13,16 +13,9 @@ use std::alloc::Global;
 
 /// Four fields of the types `A`, `B`, `C` and `D` with the marks `M`, `N`, `O` and `P`, and the
 /// fields `Z` after them.
+#[derive(Drop)]
 pub struct MarkedFour<A, M, B, N, C, O, D, P, Z> {
     slots: MarkedSlot<A, M, MarkedSlot<B, N, MarkedSlot<C, O, MarkedSlot<D, P, Z>>>>,
-}
-
-impl<A: Drop, M, B: Drop, N, C: Drop, O, D: Drop, P, Z: Drop> Drop
-    for MarkedFour<A, M, B, N, C, O, D, P, Z> {
-    fn drop(self) {
-        let MarkedFour { slots } = self;
-        drop(slots);
-    }
 }
 
 impl<

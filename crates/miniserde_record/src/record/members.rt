@@ -55,13 +55,8 @@ impl<'a, T: Serialize, M: Members> Members for Parts<&'a T, M> {
 }
 
 /// A reference to a chain of lent values, which is written as the chain is.
+#[derive(Drop)]
 pub struct Lent<'m, M>(pub &'m M);
-
-impl<'m, M> Drop for Lent<'m, M> {
-    fn drop(self) {
-        let Lent(_) = self;
-    }
-}
 
 impl<'m, M: Members> Members for Lent<'m, M> {
     ghost trees = { λ l. M.trees l.0.now };
@@ -73,14 +68,8 @@ impl<'m, M: Members> Members for Lent<'m, M> {
 }
 
 /// Four lent values, and the values after them.
+#[derive(Drop)]
 pub struct FourLent<'a, A, B, C, D, M>(pub &'a A, pub &'a B, pub &'a C, pub &'a D, pub M);
-
-impl<'a, A, B, C, D, M: Drop> Drop for FourLent<'a, A, B, C, D, M> {
-    fn drop(self) {
-        let FourLent(_, _, _, _, more) = self;
-        drop(more);
-    }
-}
 
 impl<'a, A: Serialize, B: Serialize, C: Serialize, D: Serialize, M: Members> Members
     for FourLent<'a, A, B, C, D, M> {

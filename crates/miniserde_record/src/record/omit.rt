@@ -44,15 +44,9 @@ impl<T: FromJson, M: Repeats> Mark<Option<T>> for Omit<M> {
 
 /// A field of the type `Option<T>` that is not written if it is `None`, and the fields `R` after it.
 /// It is read like any other optional field. `M` says whether a duplicate of its name is an error.
+#[derive(Drop)]
 pub struct OmitSlot<T, M, R> {
     slot: MarkedSlot<Option<T>, Omit<M>, R>,
-}
-
-impl<T: Drop, M, R: Drop> Drop for OmitSlot<T, M, R> {
-    fn drop(self) {
-        let OmitSlot { slot } = self;
-        drop(slot);
-    }
 }
 
 impl<T: FromJson, M: Repeats, R: Slots> Slots for OmitSlot<T, M, R> {
@@ -129,13 +123,8 @@ impl<T: Stable, M: Repeats, R: StableFields> StableFields for OmitSlot<T, M, R> 
 }
 
 /// A lent optional value, of which no member is written if it is `None`.
+#[derive(Drop)]
 pub struct Omitted<'a, T>(pub &'a Option<T>);
-
-impl<'a, T> Drop for Omitted<'a, T> {
-    fn drop(self) {
-        let Omitted(_) = self;
-    }
-}
 
 impl<'a, T: Serialize, M: Members> Members for Parts<Omitted<'a, T>, M> {
     ghost trees = { λ l. option_map T.tree l.0.0.now ∷ M.trees l.1 };

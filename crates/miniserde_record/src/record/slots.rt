@@ -130,6 +130,7 @@ fn read_unnamed<'a, R: Slots>(
 }
 
 /// A field of the type `T` with the mark `M`, and the fields `R` after it.
+#[derive(Drop)]
 pub struct MarkedSlot<T, M, R> {
     value: Option<T>,
     mark: PhantomData<M>,
@@ -141,18 +142,6 @@ pub type Slot<T, R> = MarkedSlot<T, Plain, R>;
 
 /// A field for which a duplicate of its name is an error, and the fields after it.
 pub type OnceSlot<T, R> = MarkedSlot<T, Once<Plain>, R>;
-
-impl<T: Drop, M, R: Drop> Drop for MarkedSlot<T, M, R> {
-    fn drop(self) {
-        let MarkedSlot {
-            value,
-            mark: _,
-            rest,
-        } = self;
-        drop(value);
-        drop(rest);
-    }
-}
 
 impl<T: FromJson, M: Mark<T>, R: Slots> Slots for MarkedSlot<T, M, R> {
     ghost use Rattle.std.specs.Prelude.{option_map};
