@@ -2,7 +2,7 @@
 -- one whose member is being read. A member whose name no field has is skipped, by a place at the end of the fields.
 use Rattle.std.specs.Prelude.{◌≡◌, refl, Bool, true, false, List, Option, Some, None, option_map}
 use Rattle.miniserde_model.specs.Tree.{Tree}
-use Rattle.miniserde_model.specs.Step.{Step, key, events}
+use Rattle.miniserde_model.specs.Step.{Step, element, key, events}
 use Rattle.miniserde_place.specs.Place.{PlaceView, PlaceMeaning}
 use Rattle.miniserde_place.specs.Container.{CollectorMeaning, view_through}
 use Rattle.miniserde_read.specs.types.Objects.{Name}
@@ -73,9 +73,10 @@ wrapper_field_places inner n = record {
   child = λ g. n.child (inner g);
 }
 
--- whether the event begins a member for whose name `refuses` holds
+-- whether the event begins an element, which no object has, or a member for whose name `refuses` holds
 abbrev pub refuses_member : (Name → Bool) → Step → Bool
 refuses_member refuses (key k) = refuses k
+refuses_member refuses element = true
 refuses_member refuses _ = false
 
 -- the meaning of a struct's collector, by the meaning n of its fields and by their names; `values`

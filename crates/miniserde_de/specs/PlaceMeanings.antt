@@ -3,8 +3,10 @@
 -- inside an option or a box. P is the place of a part, V the type of the part, C the collector, and
 -- W the whole. `child_view` and `view_through` make of the view of a child's place one whose
 -- outcome is the state after that child.
-use Rattle.std.specs.Prelude.{ℕ, false, true, List, [], ◌∷◌, ◌++◌, map, length, nat_le, ◌&&◌, is_some, Option, Some, None, option_map}
+use Rattle.std.specs.Prelude.{◌≡◌, ℕ, false, true, List, [], ◌∷◌, ◌++◌, map, length, nat_le, ◌&&◌, ◌||◌, is_some, Option, Some, None, option_map, Result, Err, ⊤}
 use Rattle.miniserde_model.specs.Step.{Step}
+use Rattle.miniserde_model.specs.declared.error.Error.{Error}
+use Rattle.miniserde_model.specs.declared.error.Error.TheVariants.{Invalid}
 use Rattle.miniserde_model.specs.Position.{start, complete}
 use Rattle.miniserde_keys.specs.Keys.{Key}
 use Rattle.miniserde_place.specs.Leaf.{nothing_more}
@@ -16,7 +18,7 @@ use Rattle.miniserde_de.specs.declared.de.impls.options.OptionState.{OptionState
 use Rattle.miniserde_de.specs.declared.de.impls.options.OptionState.TheVariants.{Fresh, Null, Inner, Refused}
 use Rattle.miniserde_de.specs.declared.de.impls.pairs.Part.{Part}
 use Rattle.miniserde_de.specs.declared.de.impls.pairs.Part.TheVariants.{Neither, First, Second}
-use Rattle.miniserde_de.specs.Lists.{list_rules}
+use Rattle.miniserde_de.specs.Lists.{list_rules, is_member}
 use Rattle.miniserde_de.specs.laws.Lists.{list-meant}
 use Rattle.miniserde_de.specs.Arrays.{array_rules}
 use Rattle.miniserde_de.specs.laws.Arrays.{array-meant}
@@ -25,7 +27,7 @@ use Rattle.miniserde_de.specs.laws.Pairs.{pair-meant}
 use Rattle.miniserde_de.specs.Options.{option_mean}
 use Rattle.miniserde_de.specs.laws.Options.{option-meant}
 use Rattle.miniserde_read.specs.types.Objects.{Name}
-use Rattle.miniserde_de.specs.Objects.{object_rules}
+use Rattle.miniserde_de.specs.Objects.{object_rules, is_element}
 use Rattle.miniserde_read.specs.Meanings.{list_meaning, array_meaning, pair_meaning, option_meaning, box_meaning, map_meaning}
 use Rattle.miniserde_read.specs.types.Maps.{map_member, map_content, no_entries, with_entry}
 use Rattle.miniserde_de.specs.laws.Maps.{map-meant}
@@ -42,12 +44,12 @@ list_collector m items child whole = record {
   rules = list_rules m.from_events;
   events_agree = list-meant m.from_events m.from_tree m.events_agree;
   child = λ c. child_view (λ x. Some (map m.content (items c) ++ x ∷ [])) m.view (child c);
-  refuses = λ _ _. false;
+  refuses = λ _ e. is_member e;
 }
 
 -- The meaning of the collector of an array of n items, by the meaning m of an item's place: `items`
 -- returns the items so far, `child` the current item's place, and `whole` the items of a complete
--- array. An item after the n-th fails.
+-- array. An item after the n-th fails, and so does a member.
 abbrev pub array_collector : {P V C W : Type 0} → ℕ → PlaceMeaning P V → (C → List V) → (C → Option P) → (W → List V) → CollectorMeaning C W
 array_collector n m items child whole = record {
   meant = array_meaning n (type_meaning m) whole;
@@ -58,7 +60,7 @@ array_collector n m items child whole = record {
   rules = array_rules n m.from_events;
   events_agree = array-meant n m.from_events m.from_tree m.events_agree;
   child = λ c. child_view (λ x. Some (map m.content (items c) ++ x ∷ [])) m.view (child c);
-  refuses = λ s _. nat_le n (length s);
+  refuses = λ s e. is_member e || nat_le n (length s);
 }
 
 -- the view of the place of a pair's current part, or `no_child` if there is none; f and g return
@@ -71,7 +73,7 @@ part_view f g a b (Second q) = view_through (λ y. Some (a, Some y)) (g q)
 
 -- The meaning of a pair's collector, by the meanings m and n of its parts' places: `first` and
 -- `second` return the parts so far, `child` the current part's place, and `one` and `two` the parts
--- of a complete pair. A third part fails.
+-- of a complete pair. A third part fails, and so does a member.
 abbrev pub pair_collector : {P Q V U C W : Type 0} → PlaceMeaning P V → PlaceMeaning Q U → (C → Option V) → (C → Option U) → (C → Part P Q) → (W → V) → (W → U) → CollectorMeaning C W
 pair_collector m n first second child one two = record {
   meant = pair_meaning (type_meaning m) (type_meaning n) one two;
@@ -82,7 +84,7 @@ pair_collector m n first second child one two = record {
   rules = pair_rules m.from_events n.from_events;
   events_agree = pair-meant m.from_events n.from_events m.from_tree n.from_tree m.events_agree n.events_agree;
   child = λ c. part_view m.view n.view (option_map m.content (first c)) (option_map n.content (second c)) (child c);
-  refuses = λ s _. is_some s.0 && is_some s.1;
+  refuses = λ s e. is_member e || (is_some s.0 && is_some s.1);
 }
 
 -- The meaning of a map's collector. `read` returns the content of the key that a name is read as,
@@ -100,7 +102,7 @@ map_collector read code key m entries pending child whole = record {
   rules = object_rules (map_member read code m.from_events) (λ s. Some s);
   events_agree = map-meant read code m.from_events m.from_tree m.events_agree;
   child = λ c. child_view (λ x. option_map (λ k. with_entry code (map_content code key m.content (entries c)) (key k) x) (pending c)) m.view (child c);
-  refuses = λ _ _. false;
+  refuses = λ _ e. is_element e;
 }
 
 -- The view of the place of an optional value by its state: f is the outcome of a fresh place of the
@@ -111,6 +113,14 @@ option_view f view (Fresh _) = record { at = start; outcome = option_mean f; ref
 option_view f view Null = record { at = complete; outcome = nothing_more None; refused = None }
 option_view f view (Inner p) = record { at = (view p).at; outcome = λ es. option_map Some ((view p).outcome es); refused = (view p).refused }
 option_view f view (Refused r) = record { at = start; outcome = λ _. None; refused = Some r }
+
+-- What an event does besides in the place of an optional value, which goes from one state to another: in the place of
+-- the value inside, what f says of it; behind `null`, it fails with `Invalid`.
+abbrev pub OptionTakes : {P : Type 0} → (P → Step → Result (Unit {0}) Error → P → Type 0)
+    → OptionState P → Step → Result (Unit {0}) Error → OptionState P → Type 0
+OptionTakes f (Inner p) e answer (Inner q) = f p e answer q
+OptionTakes f Null e answer s = answer ≡ Err Invalid
+OptionTakes f _ e answer s = ⊤
 
 -- the meaning of the place of an optional value, by the meaning m of the place of the value inside
 abbrev pub option_place_meaning : {P V : Type 0} → PlaceMeaning P V → PlaceMeaning (OptionPlace P) (Option V)

@@ -26,7 +26,7 @@ pub struct OptionPlace<P> {
 }
 
 impl<P: Visitor> Visitor for OptionPlace<P> {
-    ghost use Rattle.miniserde_de.specs.PlaceMeanings.{option_place_meaning};
+    ghost use Rattle.miniserde_de.specs.PlaceMeanings.{option_place_meaning, OptionTakes};
 
     type Out = Option<P::Out>;
 
@@ -35,6 +35,9 @@ impl<P: Visitor> Visitor for OptionPlace<P> {
     ghost begin_infallible = { true };
 
     ghost take_infallible = { P.take_infallible };
+
+    // In the place of the value inside, an event does what it does there. Behind `null`, it is `Invalid`.
+    ghost further = { λ old e answer new. OptionTakes P.further old.state e answer new.state };
 
     fn begin(alloc: Global) -> Result<OptionPlace<P>> {
         Ok(OptionPlace {
