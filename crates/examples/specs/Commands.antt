@@ -1,9 +1,25 @@
--- What a command asks for.
-use Rattle.std.specs.Prelude.{ℤ, Option, Some, None}
+-- What a command asks for, and which trees mean one: variant by variant, in the words of a user.
+use Rattle.std.specs.Prelude.{◌≡◌, ℤ, Option, Some, None, string_bytes, codes}
+use Rattle.miniserde.specs.Tree.{Tree, str, members, member, no_members}
+use Rattle.miniserde.specs.Integers.{signed_of, ReadsSigned}
+use Rattle.miniserde.specs.Fields.{LastMemberReads}
 use Rattle.examples.specs.declared.command.Command.{Command}
-use Rattle.examples.specs.declared.command.Command.TheVariants.{Move}
+use Rattle.examples.specs.declared.command.Command.TheVariants.{Ping, Text, Move}
 
 -- the step of a command that moves
 abbrev pub step_in : Command → Option (ℤ × ℤ)
 step_in (Move x y) = Some (x, y)
 step_in c = None
+
+-- the tree is an object whose last member `x` is the integer x of 64 bits, and whose last member `y` is y
+abbrev pub IsStep : Tree → ℤ → ℤ → Type 0
+IsStep (members ms) x y = LastMemberReads ⊥ (λ t. ReadsSigned 64 t x) (signed_of 64) (codes "x") ms
+    × LastMemberReads ⊥ (λ t. ReadsSigned 64 t y) (signed_of 64) (codes "y") ms
+IsStep t x y = ⊥
+
+-- `Ping` is the string `Ping`. `Text` and `Move` are an object of one member of that name: its value is the string of
+-- the text, or the step.
+abbrev pub IsCommand : Tree → Command → Type 0
+IsCommand t Ping = t ≡ str (codes "Ping")
+IsCommand t (Text text) = t ≡ members (member (codes "Text") (str (string_bytes text)) no_members)
+IsCommand t (Move x y) = (step : Tree) × (t ≡ members (member (codes "Move") step no_members)) × IsStep step x y

@@ -1,10 +1,10 @@
-//! Callers of an enum whose variants may have data.
+//! Callers of an enum whose variants may have data, and which trees mean it, in the words of a user.
 ghost use Rattle.std.specs.Prelude.{◌≡◌, ◌↔◌, true, None, IfOk, Err, codes};
 ghost use Rattle.miniserde.specs.Tree.{Tree, str};
 ghost use Rattle.miniserde.specs.Value.{IsJson};
-ghost use Rattle.examples.specs.Commands.{step_in};
+ghost use Rattle.examples.specs.Commands.{step_in, IsStep, IsCommand};
 
-use crate::command::Command;
+use crate::command::{Command, CommandMove};
 use miniserde::json::from_str;
 use miniserde::{Error, FromJson, Result};
 use std::alloc::Global;
@@ -36,4 +36,16 @@ pub fn step_of(alloc: Global, text: &str) -> Result<Option<(i64, i64)>>
         Command::Move { x, y } => Ok(Some((x, y))),
         _ => Ok(None),
     }
+}
+
+// Does nothing. It promises which trees mean the data of a `Move`.
+fn step_meant()
+    ensures { (t : Tree) → (m : CommandMove) → ⟦<CommandMove as FromJson>⟧.means.reads t m ↔ IsStep t m.x m.y }
+{}
+
+/// Does nothing. It promises which trees mean a command.
+pub fn command_meant()
+    ensures { (t : Tree) → (c : Command) → ⟦<Command as FromJson>⟧.means.reads t c ↔ IsCommand t c }
+{
+    step_meant()
 }
