@@ -41,29 +41,24 @@ fn are_members(alloc: Global) -> Result<bool> {
 fn are_objects(alloc: Global) -> Result<bool> {
     let small = numbered(alloc, ("[", "]"), ("{\"b\":", ",\"a\":1}"), MIXED)?;
     let small_expected = numbered(alloc, ("[", "]"), ("{\"a\":1,\"b\":", "}"), MIXED)?;
-    let value = repeated(alloc, 2_000, ("\"", "\""), "v")?;
+    let value = repeated(alloc, 2_000, "\"", "v", "\"")?;
     let value = value.as_str();
     let piece = format!(in alloc; "{{\"b\":{value},\"a\":1}},")?;
     let piece_expected = format!(in alloc; "{{\"a\":1,\"b\":{value}}},")?;
-    let large = repeated(alloc, 1_000, ("[", "0]"), piece.as_str())?;
-    let large_expected = repeated(alloc, 1_000, ("[", "0]"), piece_expected.as_str())?;
+    let large = repeated(alloc, 1_000, "[", piece.as_str(), "0]")?;
+    let large_expected = repeated(alloc, 1_000, "[", piece_expected.as_str(), "0]")?;
     Ok(
         is_canonical(alloc, small.as_str(), small_expected.as_str())?
             && is_canonical(alloc, large.as_str(), large_expected.as_str())?,
     )
 }
 
-/// Returns whether objects in one another are put in order, each of which is longer than the one in it.
+/// Returns whether nested objects are put in order, each of which is longer than the one inside.
 fn are_nested(alloc: Global) -> Result<bool> {
-    let opened = repeated(alloc, MANY, ("", "0"), "{\"b\":\"some length\",\"a\":")?;
-    let text = repeated(alloc, MANY, (opened.as_str(), ""), "}")?;
-    let opened = repeated(alloc, MANY, ("", "0"), "{\"a\":")?;
-    let expected = repeated(
-        alloc,
-        MANY,
-        (opened.as_str(), ""),
-        ",\"b\":\"some length\"}",
-    )?;
+    let opened = repeated(alloc, MANY, "", "{\"b\":\"some length\",\"a\":", "0")?;
+    let text = repeated(alloc, MANY, opened.as_str(), "}", "")?;
+    let opened = repeated(alloc, MANY, "", "{\"a\":", "0")?;
+    let expected = repeated(alloc, MANY, opened.as_str(), ",\"b\":\"some length\"}", "")?;
     is_canonical(alloc, text.as_str(), expected.as_str())
 }
 
@@ -84,15 +79,15 @@ fn many_objects_are_canonical(rt: HostRuntime) -> std::result::Result<(), Wrong>
 
 #[test]
 fn many_levels_are_canonical(rt: HostRuntime) -> std::result::Result<(), Wrong> {
-    expect_ok(are_nested(rt.alloc()), "objects in one another")
+    expect_ok(are_nested(rt.alloc()), "nested objects")
 }
 
 /// Returns whether a long string, name and number are canonical: without an escape, with many, and spelled with more.
 fn are_texts(alloc: Global) -> Result<bool> {
-    let plain = repeated(alloc, MANY, ("{\"", "\":0}"), "é")?;
-    let escaped = repeated(alloc, MANY, ("[\"", "\"]"), "\\u0001")?;
-    let spelled = repeated(alloc, MANY, ("{\"", "\":-0}"), "\\u00E9")?;
-    let digits = repeated(alloc, MANY, ("[-1.", "e5]"), "0")?;
+    let plain = repeated(alloc, MANY, "{\"", "é", "\":0}")?;
+    let escaped = repeated(alloc, MANY, "[\"", "\\u0001", "\"]")?;
+    let spelled = repeated(alloc, MANY, "{\"", "\\u00E9", "\":-0}")?;
+    let digits = repeated(alloc, MANY, "[-1.", "0", "e5]")?;
     Ok(
         is_canonical(alloc, plain.as_str(), plain.as_str())?
             && is_canonical(alloc, escaped.as_str(), escaped.as_str())?

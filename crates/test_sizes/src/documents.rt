@@ -64,9 +64,9 @@ fn many_items_or_members_are_a_document(rt: HostRuntime) -> std::result::Result<
 
 /// Returns whether a long string and a long name are a document: without an escape, with many, and spelled with more.
 fn are_texts(alloc: Global) -> Result<bool> {
-    let plain = repeated(alloc, MANY, ("{\"", "\":[]}"), "é")?;
-    let escaped = repeated(alloc, MANY, ("[\"", "\"]"), "\\u0001")?;
-    let spelled = repeated(alloc, MANY, ("{\"", "\":[]}"), "\\u00E9")?;
+    let plain = repeated(alloc, MANY, "{\"", "é", "\":[]}")?;
+    let escaped = repeated(alloc, MANY, "[\"", "\\u0001", "\"]")?;
+    let spelled = repeated(alloc, MANY, "{\"", "\\u00E9", "\":[]}")?;
     Ok(
         is_document(alloc, plain.as_str(), plain.as_str())?
             && is_document(alloc, escaped.as_str(), escaped.as_str())?
@@ -76,8 +76,8 @@ fn are_texts(alloc: Global) -> Result<bool> {
 
 /// Returns whether a number of many digits is read, copied and written: as a number text, alone and in a document.
 fn are_digits(alloc: Global) -> Result<bool> {
-    let text = repeated(alloc, MANY, ("-1", "e5"), "0")?;
-    let listed = repeated(alloc, MANY, ("[1.", "]"), "5")?;
+    let text = repeated(alloc, MANY, "-1", "0", "e5")?;
+    let listed = repeated(alloc, MANY, "[1.", "5", "]")?;
     let number = NumberText::new(alloc, text.as_str())?;
     let copy = number.try_clone(alloc)?;
     let read: Number = from_str(alloc, text.as_str())?;
@@ -115,13 +115,13 @@ fn are_added(alloc: Global) -> Result<bool> {
 
 /// Returns whether `value!` takes a long text as an expression and as a name.
 fn is_made(alloc: Global) -> Result<bool> {
-    let long = repeated(alloc, MANY, ("", ""), "é")?;
+    let long = repeated(alloc, MANY, "", "é", "")?;
     let named = value!(in alloc; {(long.as_str()): null})?;
     let listed = value!(in alloc; [long.as_str(), &long, long])?;
-    let name = repeated(alloc, MANY, ("{\"", "\":null}"), "é")?;
-    let first = repeated(alloc, MANY, ("[\"", "\",\""), "é")?;
-    let second = repeated(alloc, MANY, (first.as_str(), "\",\""), "é")?;
-    let items = repeated(alloc, MANY, (second.as_str(), "\"]"), "é")?;
+    let name = repeated(alloc, MANY, "{\"", "é", "\":null}")?;
+    let first = repeated(alloc, MANY, "[\"", "é", "\",\"")?;
+    let second = repeated(alloc, MANY, first.as_str(), "é", "\",\"")?;
+    let items = repeated(alloc, MANY, second.as_str(), "é", "\"]")?;
     Ok(is_written(alloc, &named, name.as_str())? && is_written(alloc, &listed, items.as_str())?)
 }
 

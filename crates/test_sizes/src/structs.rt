@@ -26,10 +26,10 @@ fn are_skipped(alloc: Global) -> Result<bool> {
         ("\"", "\":{}"),
         MIXED,
     )?;
-    let opened = repeated(alloc, MANY, ("{\"code\":1,\"z\":", "0"), "[")?;
-    let deep = repeated(alloc, MANY, (opened.as_str(), ",\"message\":\"m\"}"), "]")?;
-    let name = repeated(alloc, MANY, ("{\"code\":1,\"", "\":\""), "\\n")?;
-    let long = repeated(alloc, MANY, (name.as_str(), "\",\"message\":\"m\"}"), "\\n")?;
+    let opened = repeated(alloc, MANY, "{\"code\":1,\"z\":", "[", "0")?;
+    let deep = repeated(alloc, MANY, opened.as_str(), "]", ",\"message\":\"m\"}")?;
+    let name = repeated(alloc, MANY, "{\"code\":1,\"", "\\n", "\":\"")?;
+    let long = repeated(alloc, MANY, name.as_str(), "\\n", "\",\"message\":\"m\"}")?;
     Ok(
         is_struct(alloc, many.as_str(), SHORT)?
             && is_struct(alloc, deep.as_str(), SHORT)?
@@ -39,7 +39,7 @@ fn are_skipped(alloc: Global) -> Result<bool> {
 
 /// Returns whether a struct with a long text, and a list of many structs, are read and written.
 fn are_structs(alloc: Global) -> Result<bool> {
-    let long = repeated(alloc, MANY, ("{\"code\":1,\"message\":\"", "\"}"), "\\n")?;
+    let long = repeated(alloc, MANY, "{\"code\":1,\"message\":\"", "\\n", "\"}")?;
     let part = ("{\"code\":", ",\"message\":\"m\"}");
     let many = numbered(alloc, ("[", "]"), part, MIXED)?;
     Ok(

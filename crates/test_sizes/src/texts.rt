@@ -37,12 +37,18 @@ pub fn numbered(
     Ok(text)
 }
 
-/// Returns a piece so many times between its ends.
-pub fn repeated(alloc: Global, count: u64, ends: (&str, &str), piece: &str) -> Result<String> {
-    let mut text = String::from_str(alloc, ends.0)?;
+/// Returns a piece so many times, between a text before and one behind.
+pub fn repeated(
+    alloc: Global,
+    count: u64,
+    before: &str,
+    piece: &str,
+    behind: &str,
+) -> Result<String> {
+    let mut text = String::from_str(alloc, before)?;
     for _ in 0..count {
         text.push_str(piece)?;
     }
-    text.push_str(ends.1)?;
+    text.push_str(behind)?;
     Ok(text)
 }

@@ -50,9 +50,9 @@ fn many_members_are_read_and_written(rt: HostRuntime) -> std::result::Result<(),
 
 /// Returns whether long strings are taken: without an escape, with many, and spelled with more than they are written with.
 fn are_strings(alloc: Global) -> Result<bool> {
-    let plain = repeated(alloc, MANY, ("\"", "\""), "é")?;
-    let escaped = repeated(alloc, MANY, ("\"", "\""), "\\n")?;
-    let spelled = repeated(alloc, MANY, ("\"", "\""), "\\u00e9")?;
+    let plain = repeated(alloc, MANY, "\"", "é", "\"")?;
+    let escaped = repeated(alloc, MANY, "\"", "\\n", "\"")?;
+    let spelled = repeated(alloc, MANY, "\"", "\\u00e9", "\"")?;
     Ok(
         is_taken::<String>(alloc, plain.as_str())?
             && is_taken::<String>(alloc, escaped.as_str())?
@@ -64,9 +64,9 @@ fn are_strings(alloc: Global) -> Result<bool> {
 
 /// Returns whether a long name is taken, without an escape and with many.
 fn are_names(alloc: Global) -> Result<bool> {
-    let plain = repeated(alloc, MANY, ("{\"", "\":1}"), "é")?;
-    let escaped = repeated(alloc, MANY, ("{\"", "\":1}"), "\\\"")?;
-    let spelled = repeated(alloc, MANY, ("{\"", "\":1}"), "\\u00e9")?;
+    let plain = repeated(alloc, MANY, "{\"", "é", "\":1}")?;
+    let escaped = repeated(alloc, MANY, "{\"", "\\\"", "\":1}")?;
+    let spelled = repeated(alloc, MANY, "{\"", "\\u00e9", "\":1}")?;
     Ok(
         is_taken::<BTreeMap<String, u8>>(alloc, escaped.as_str())?
             && is_round_trip::<Hashed<String, u8>>(alloc, plain.as_str())?
@@ -83,8 +83,8 @@ fn a_long_string_is_read_and_written(rt: HostRuntime) -> std::result::Result<(),
 
 /// Returns whether an integer is taken with much whitespace around it.
 fn is_among_spaces(alloc: Global) -> Result<bool> {
-    let before = repeated(alloc, MANY, ("", "7"), " ")?;
-    let behind = repeated(alloc, MANY, (before.as_str(), ""), "\n")?;
+    let before = repeated(alloc, MANY, "", " ", "7")?;
+    let behind = repeated(alloc, MANY, before.as_str(), "\n", "")?;
     Ok(
         is_read::<i64>(alloc, behind.as_str(), "7")?
             && is_stable::<i64>(alloc, behind.as_str(), "7")?,

@@ -5,6 +5,8 @@
 #[cfg(test)]
 mod documented;
 #[cfg(test)]
+mod empty;
+#[cfg(test)]
 mod lists;
 #[cfg(test)]
 mod maps;

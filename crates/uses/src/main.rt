@@ -108,6 +108,20 @@ const OTHER: &str = r#"{"from":"a","to":"b","cents":50}"#;
 
 const SIGNED: &str = r#"{"cents":5,"from":"a","to":"b"}"#;
 
+/// Returns whether a body of more than four kilobytes is accepted if its canonical text was signed.
+fn is_large_body_accepted(alloc: Global) -> Result<bool> {
+    let mut name = String::new(alloc);
+    for _ in 0..5000 {
+        name.push_str("n")?;
+    }
+    let signed = format!(in alloc; "{{\"cents\":5,\"from\":\"{name}\",\"to\":\"b\"}}")?;
+    let body = format!(in alloc; "{{\"from\":\"{name}\",\"to\":\"b\",\"cents\":5}}")?;
+    match run_transfer(alloc, signed.as_str(), body.as_str())? {
+        Some(transfer) => Ok(transfer.as_str() == body.as_str()),
+        None => Ok(false),
+    }
+}
+
 /// Prints the transfers of bodies whose canonical text was signed.
 fn tell_transfers(rt: &HostRuntime) -> io::Result<()> {
     for body in [SAME, OTHER] {
@@ -116,6 +130,10 @@ fn tell_transfers(rt: &HostRuntime) -> io::Result<()> {
             Ok(None) => println!(rt; "signed: nothing")?,
             Err(error) => println!(rt; "signed: {error}")?,
         }
+    }
+    match is_large_body_accepted(rt.alloc()) {
+        Ok(accepted) => println!(rt; "signed, and large: {accepted}")?,
+        Err(error) => println!(rt; "signed, and large: {error}")?,
     }
     Ok(())
 }
