@@ -11,7 +11,7 @@ abbrev pub step_in : Command → Option (ℤ × ℤ)
 step_in (Move x y) = Some (x, y)
 step_in c = None
 
--- the tree is an object whose last member `x` is the integer x of 64 bits, and whose last member `y` is y
+-- the tree is an object: each member `x` is an integer of 64 bits, and the last one is x; so of `y` and y
 abbrev pub IsStep : Tree → ℤ → ℤ → Type 0
 IsStep (members ms) x y = LastMemberReads ⊥ (λ t. ReadsSigned 64 t x) (signed_of 64) (codes "x") ms
     × LastMemberReads ⊥ (λ t. ReadsSigned 64 t y) (signed_of 64) (codes "y") ms

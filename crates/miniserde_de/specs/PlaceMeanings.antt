@@ -114,8 +114,8 @@ option_view f view Null = record { at = complete; outcome = nothing_more None; r
 option_view f view (Inner p) = record { at = (view p).at; outcome = λ es. option_map Some ((view p).outcome es); refused = (view p).refused }
 option_view f view (Refused r) = record { at = start; outcome = λ _. None; refused = Some r }
 
--- What an event does besides in the place of an optional value, which goes from one state to another: in the place of
--- the value inside, what f says of it; behind `null`, it fails with `Invalid`.
+-- A call hands the event e to the place of an optional value. If the place inside has begun, f holds of the call; after
+-- `null`, it fails with `Invalid`. Of a first event nothing is said.
 abbrev pub OptionTakes : {P : Type 0} → (P → Step → Result (Unit {0}) Error → P → Type 0)
     → OptionState P → Step → Result (Unit {0}) Error → OptionState P → Type 0
 OptionTakes f (Inner p) e answer (Inner q) = f p e answer q

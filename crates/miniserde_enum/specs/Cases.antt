@@ -101,7 +101,7 @@ abbrev pub case_content : {T W C D : Type 0} → (T → C) → (W → D) → One
 case_content f g (First x) = First (f x)
 case_content f g (Later w) = Later (g w)
 
--- of the value v, what f returns for the data of the first variant, or g for a later variant's value
+-- f of the data if the value is of the first variant, and else g of the later variant's value
 abbrev pub each_case : {T W : Type 0} (P : OneOf T W → Type 0) → ((x : T) → P (First x)) → ((w : W) → P (Later w)) → (v : OneOf T W) → P v
 each_case P f g (First x) = f x
 each_case P f g (Later w) = g w

@@ -54,7 +54,7 @@ impl<E: DataEnum + HasTag> Record for Tag<E> {
 /// It is an object in which each member with the tag's name is a string and the last one names the
 /// variant, and the members of all other names are its data. The call reads the object twice.
 /// Returns `Invalid` if the text, from `token` on, has no prefix that means such a value, and
-/// `Memory` if an allocation fails. A token that opens no object is `Invalid`.
+/// `Memory` if an allocation fails. Returns `Invalid` if the token opens no object.
 pub fn read_tagged<'a, E: DataEnum + HasTag, C: InsideCases<Values = E::Values>>(
     token: Event<'a>,
     source: &mut Source<'a>,

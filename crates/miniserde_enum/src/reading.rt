@@ -68,7 +68,7 @@ fn read_named<'a, C: Cases>(
 /// Reads an externally tagged enum, whose first token is `token`, and takes no more of the source. A variant without
 /// data is its name as a string; one with data is an object of one member, whose name is the variant's. Returns
 /// `Invalid` if the text, from `token` on, has no prefix that means such a value, and `Memory` if an allocation
-/// fails. A token that opens no object is never `Memory`: it is the name of a variant without data, or `Invalid`.
+/// fails. If the token opens no object, returns the variant without data of that name, or `Invalid`.
 pub fn read_enum<'a, E: DataEnum, C: Cases<Values = E::Values>>(
     token: Event<'a>,
     source: &mut Source<'a>,

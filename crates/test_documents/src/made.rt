@@ -89,7 +89,7 @@ fn are_names(alloc: Global) -> Result<bool> {
     is_written(alloc, &named, NAMES)
 }
 
-/// Returns whether items of each form, in each place of three, are written as expected.
+/// Returns whether items of each form, first, last and between others, are written as expected.
 fn are_items(alloc: Global) -> Result<bool> {
     let n = 1u8;
     Ok(
@@ -123,7 +123,7 @@ fn n_of(n: u8) -> i64 {
     n as i64
 }
 
-/// Returns whether of equal names the last counts: null, an array, an object or an expression behind each of the four.
+/// Returns whether of equal names the last counts: null, an array, an object or an expression, behind others.
 fn are_last(alloc: Global) -> Result<bool> {
     let n = 2u8;
     Ok(

@@ -21,6 +21,7 @@ fn is_document(alloc: Global, text: &str, expected: &str) -> Result<bool> {
             && is_fed::<Unique>(alloc, text, expected)?
             && is_read::<Unique>(alloc, text, expected)?
             && is_stable::<Document>(alloc, text, expected)?
+            && is_fed::<Document>(alloc, text, expected)?
             && canonical_by_value(alloc, text)?.as_str() == expected,
     )
 }

@@ -16,6 +16,7 @@ fn are_lists(alloc: Global) -> Result<bool> {
     let texts = numbered(alloc, ("[", "]"), ("\"", "\\n\""), MIXED)?;
     Ok(
         is_taken::<Vec<u64>>(alloc, numbers.as_str())?
+            && is_fed::<Vec<u64>>(alloc, numbers.as_str(), numbers.as_str())?
             && is_taken::<VecDeque<i32>>(alloc, numbers.as_str())?
             && is_taken::<Vec<String>>(alloc, texts.as_str())?,
     )

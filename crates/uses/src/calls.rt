@@ -10,7 +10,7 @@ use miniserde::json::{from_str, to_string};
 use miniserde::{Error, FromJson, Result, Serialize};
 use std::alloc::Global;
 
-/// What answers calls. It makes the answer first and changes last, so that nothing has changed if the answer cannot be
+/// Answers calls: `answer` changes nothing, and `change` makes the change. `serve` calls `change` after the answer is
 /// written.
 pub trait Handler {
     ghost use Rattle.uses.specs.declared.call.Call.{Call};
@@ -22,7 +22,7 @@ pub trait Handler {
     // It answers the call so, and is then as it is at the end.
     ghost Answers: { Self → Call → Answer → Self → Type 0 };
 
-    // The change makes the one of the other.
+    // The change turns the first handler into the second.
     ghost Becomes: { Self → Self.Change → Self → Type 0 };
 
     /// Returns the answer to a call, and what is then to be changed.

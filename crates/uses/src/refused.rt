@@ -44,7 +44,7 @@ fn fields_tell()
         → (s : Settings) × ⟦<Settings as FromJson>⟧.means.reads t s }
 {}
 
-// The first field that is refused, in the order of the struct, of a text that means no settings.
+// Returns a field that is refused, of a text that means no settings.
 fn first_refused(alloc: Global, text: &str) -> Result<Part>
     requires { (t : Tree) → IsJson text.now t → (s : Settings) → ⟦<Settings as FromJson>⟧.means.reads t s → ⊥ }
     ensures { IfOk result (λ part. (t : Tree) → IsJson text.now t → IsRefused part t) }

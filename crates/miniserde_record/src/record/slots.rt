@@ -204,8 +204,8 @@ impl<T: FromJson, M: Mark<T>, R: Slots> Slots for MarkedSlot<T, M, R> {
 
 /// Reads a struct by the chain `F` of its fields, and takes no more of the source; `token` is the
 /// struct's first token. Returns `Invalid` if the text, from that token on, has no prefix that
-/// means such a struct, and `Memory` if an allocation fails. A token that opens no object is
-/// `Invalid`.
+/// means such a struct, and `Memory` if an allocation fails. Returns `Invalid`
+/// if the token opens no object.
 pub fn read_record<'a, S: Record, F: Slots<Values = S::Values>>(
     token: Event<'a>,
     source: &mut Source<'a>,

@@ -14,8 +14,8 @@ pub trait Given<T: FromJson> {
     // The tree that the field's member would have.
     ghost given: { Tree };
 
-    /// Returns a value that the tree `given` means, or `Memory` if it fails to allocate. It promises
-    /// in each case that the tree means a value.
+    /// Returns a value that the tree `given` means, or `Memory` if it fails to allocate. Even
+    /// if it fails, the tree means a value.
     fn make(alloc: Global) -> Result<T>
         ensures ok { IfOk result (λ v. T.means.from_tree given ≡ Some (T.means.content v)) }
         ensures memory { IfErr result (λ e. e ≡ Error.Memory) }
