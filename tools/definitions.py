@@ -39,7 +39,7 @@ class Definition:
     `tag` is the name of the member that names the variant, None for a struct and for an enum that is externally tagged.
     `shown` is what messages call it: of the struct that is written for a variant's fields the variant. `never_null` says that
     a field that may be left out needs the law that the type is not written as `null`, and `bounded` are the parameters of which
-    it does.
+    it does. `has_laws` says that the type's crate has the crate of the round trip.
     """
 
     kind: str
@@ -56,6 +56,7 @@ class Definition:
     variant: str = ""
     never_null: bool = False
     bounded: set = field(default_factory=set)
+    has_laws: bool = True
 
     @property
     def shown(self):

@@ -1,5 +1,5 @@
 """The impls that `./derive` writes for an enum whose variants may have data."""
-from impls import const_of, head_of, impl_of, laws_text, lent_of, of, quoted, typed, wrapped
+from impls import WRITTEN, const_of, head_of, impl_of, laws_text, lent_of, of, quoted, typed, wrapped
 
 
 def cases_of(it, parts):
@@ -93,7 +93,7 @@ def tagged_text(it, path):
 type {typed(it, "Cases")} = {cases_of(it, it.parts)};
 
 const {const_of(it.name)}: &[&str] = &[{", ".join(f'"{part.written}"' for part in it.parts)}];
-{variants_text(it, path)}{tag_text(it, path)}{reading_text(it)}{writing_text(it)}{again_text(it)}{laws_text(it, "enum", f"{typed(it)}, {typed(it, 'Cases')}")}"""
+{variants_text(it, path)}{tag_text(it, path)}{reading_text(it)}{writing_text(it)}{ranged_text(it)}{laws_text(it, "enum", f"{typed(it)}, {typed(it, 'Cases')}")}"""
 
 
 def variants_text(it, path):
@@ -190,9 +190,9 @@ def writing_text(it):
     name, cases = typed(it), typed(it, "Cases")
     fields = {field.name for part in it.parts for field in part.fields}
     writer = next(word for word in ("w", "writer", "out", "to") if word not in fields)
-    tree = f"{traits_of(it)[1]}_tree{tag_word(it)} {of('DataEnum', 'names', name)} {of('RoundTripCases', 'tree', cases)} {of('DataEnum', 'values', name)}"
+    tree = f"{traits_of(it)[1]}_tree{tag_word(it)} {of('DataEnum', 'names', name)} {of('WrittenCases', 'tree', cases)} {of('DataEnum', 'values', name)}"
     return f"""
-{impl_of(it, "RoundTrip")} Serialize for {name} {{
+{impl_of(it, WRITTEN)} Serialize for {name} {{
 {wrapped("tree", tree)}
 
     fn begin(&self, {writer}: &mut Writer) -> Result<()> {{
@@ -210,25 +210,18 @@ def ranged_of(part):
     return calls[0] if len(part.values) == 1 else f"{{ {' '.join(f'{call};' for call in calls)} }}" if calls else "{}"
 
 
-def again_text(it):
-    """The impls that say that what was written of an enum is read back."""
+def ranged_text(it):
+    """The impl that says which values of an enum are valid."""
     name, cases = typed(it), typed(it, "Cases")
-    real = f"λ v. {of('RoundTripCases', 'real', cases)} ({of('DataEnum', 'values', name)} v)"
-    fits = f"tag_fits::<{name}, {cases}>();\n        " if it.tag is not None else ""
+    real = f"λ v. {of('WrittenCases', 'real', cases)} ({of('DataEnum', 'values', name)} v)"
     return f"""
-{impl_of(it, "RoundTrip")} Ranged for {name} {{
+{impl_of(it, WRITTEN)} Ranged for {name} {{
 {wrapped("real", real)}
 
     fn ranged(&self) {{
         match self {{
 {arms(it, ranged_of)}
         }}
-    }}
-}}
-
-{impl_of(it, "RoundTrip")} RoundTrip for {name} {{
-    fn round_trips() {{
-        {fits}{traits_of(it)[1]}_round_trips::<{name}, {cases}>()
     }}
 }}
 """

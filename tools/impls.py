@@ -67,6 +67,9 @@ def impl_of(it, bound):
     return f"impl<{', '.join(f'{name}: {bound}{besides[name]}' for name in it.params)}>" if it.params else "impl"
 
 
+# The bounds of a parameter of a type that is written: its names and values are said by an impl for types that are read.
+WRITTEN = "FromJson + Ranged + Serialize"
+
 # What each type derives. An enum without data is small, so it is copied and compared.
 DERIVES = {"struct": ["Drop"], "tagged": ["Drop"], "enum": ["Clone", "Copy", "PartialEq", "Eq", "Debug", "Drop"]}
 # Derives of serde and the original, which the impls stand for.
@@ -109,16 +112,17 @@ def printed_for(it):
 
 
 def laws_text(it, kind, types):
-    """The impls of the laws that are asked for, each by the call for its kind of type."""
+    """The impls of the laws, each by the call for its kind of type: the round trip if the crate has it, and those that are asked for."""
 
     tagged = it.kind == "tagged" and it.tag is not None
+    aliased = it.kind == "struct" and has_aliases(it)
 
-    def law(word, bounds):
-        fits = f"tag_fits::<{types}>();\n        " if tagged and word == "lossless" else ""
+    def law(word, bounds, trait, call=None):
+        fits = f"tag_fits::<{types}>();\n        " if tagged and word != "stable" else ""
         return f"""
-{bounds} {word.capitalize()} for {typed(it)} {{
+{bounds} {trait} for {typed(it)} {{
     fn {word}() {{
-        {fits}{"tagged" if tagged else kind}_{word}::<{types}>()
+        {fits}{call or ("tagged" if tagged else kind)}_{word}::<{types}>()
     }}
 }}
 """
@@ -128,9 +132,10 @@ def laws_text(it, kind, types):
     fn never_null() {{}}
 }}
 """
-    lossless = law("lossless", lossless_impl(it)) if "lossless" in it.words else ""
-    never_null = never_null if "lossless" in it.words or it.never_null else ""
-    return lossless + never_null + (law("stable", impl_of(it, "Stable")) if "stable" in it.words else "")
+    round_trip = law("round_trips", impl_of(it, "RoundTrip"), "RoundTrip", "aliased" if aliased else None) if it.has_laws else ""
+    lossless = law("lossless", lossless_impl(it), "Lossless") if "lossless" in it.words else ""
+    never_null = never_null if it.has_laws and ("lossless" in it.words or it.never_null) else ""
+    return round_trip + lossless + never_null + (law("stable", impl_of(it, "Stable"), "Stable") if "stable" in it.words else "")
 
 
 def lossless_impl(it):
@@ -325,12 +330,12 @@ def reading_text(it):
 
 
 def writing_text(it):
-    """The impls that write a struct, and say that what was written is read back."""
+    """The impls that write a struct, and say which of its values are valid."""
     name, fields = typed(it), typed(it, "Fields")
-    tree = f"record_tree {of('Record', 'names', name)} {of('RoundTripFields', 'trees', fields)} {of('Record', 'values', name)}"
-    real = f"λ v. {of('RoundTripFields', 'real', fields)} ({of('Record', 'values', name)} v)"
+    tree = f"record_tree {of('Record', 'names', name)} {of('WrittenFields', 'trees', fields)} {of('Record', 'values', name)}"
+    real = f"λ v. {of('WrittenFields', 'real', fields)} ({of('Record', 'values', name)} v)"
     return f"""
-{impl_of(it, "RoundTrip")} Serialize for {name} {{
+{impl_of(it, WRITTEN)} Serialize for {name} {{
 {wrapped("tree", tree)}
 
     fn begin(&self, w: &mut Writer) -> Result<()> {{
@@ -338,17 +343,11 @@ def writing_text(it):
     }}
 }}
 
-{impl_of(it, "RoundTrip")} Ranged for {name} {{
+{impl_of(it, WRITTEN)} Ranged for {name} {{
 {wrapped("real", real)}
 
     fn ranged(&self) {{
 {chr(10).join(f"        self.{part.name}.ranged();" for part in it.parts)}
-    }}
-}}
-
-{impl_of(it, "RoundTrip")} RoundTrip for {name} {{
-    fn round_trips() {{
-        {"aliased" if has_aliases(it) else "record"}_round_trips::<{name}, {fields}>()
     }}
 }}
 """
@@ -360,7 +359,7 @@ def inside_text(it):
         return ""
     name, tagged = typed(it), next(each for each in ("E", "K", "W", "X", "Y") if each not in it.params)
     return f"""
-{impl_of(it, "RoundTrip")} Inside for {name} {{
+{impl_of(it, WRITTEN)} Inside for {name} {{
     ghost fields = {{ {of('Record', 'names', name)} }};
 
     fn read_inside<'a, {tagged}: HasTag>(token: Event<'a>, source: &mut Source<'a>) -> Result<{name}> {{

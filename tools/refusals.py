@@ -13,11 +13,17 @@ NAMED = (
     "Aliased BesideTag Cases Closed DataCase Deserialize Empty Error Event Field Four FourLent FourParts FourSlot Fragment FromJson Given "
     "Global HasAliases HasTag Inside InsideCases Lossless MarkedFour MarkedSlot Members NamePlace NeverNull NoCase NoField NoFields NoSlot "
     "OmitSlot Omitted Once OnceField OnceFour OnceSlot OneOf Parts PlacedRecord Plain Ranged Record RecordPlace Result RoundTrip "
-    "RoundTripCases RoundTripFields Serialize Slot Slots Source Stable Step DataEnum UnitCase UnitEnum Variants Visitor WithDefault Writer "
+    "Serialize Slot Slots Source Stable Step DataEnum UnitCase UnitEnum Variants Visitor WithDefault Writer WrittenCases WrittenFields "
     "aliased_round_trips enum_lossless enum_round_trips enum_stable fields_named read_enum read_record read_tagged read_variant "
     "record_lossless record_round_trips record_stable tag_fits tagged_lossless tagged_round_trips tagged_stable take_four variant_lossless "
     "variant_round_trips variant_stable write_data write_fields write_members write_tagged write_tagged_fields"
 )
+# Those of the laws, by their crate: a crate over `miniserde_core` lists it too.
+OF_LAWS = {
+    "miniserde_laws": "Lossless NeverNull RoundTrip aliased_round_trips enum_lossless enum_round_trips record_lossless record_round_trips "
+    "tagged_lossless tagged_round_trips variant_lossless variant_round_trips",
+    "miniserde_stored": "Stable enum_stable record_stable tagged_stable variant_stable",
+}
 # Names of Rust's prelude and of the clauses, which derived code uses as they are.
 OF_RUST = "Box Err List None Ok Option Self Some String Vec"
 

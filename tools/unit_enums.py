@@ -29,7 +29,7 @@ impl Serialize for {name} {{
         w.fragment(Fragment::Str(self.name()))
     }}
 }}
-{again_text(name)}{laws_text(it, "variant", name)}{name_place_text(it)}"""
+{ranged_text(name)}{laws_text(it, "variant", name)}{name_place_text(it)}"""
 
 
 def unit_text(it, path):
@@ -59,18 +59,12 @@ impl UnitEnum for {name} {{
 """
 
 
-def again_text(name):
-    """The impls that say that an enum's written name is read back."""
+def ranged_text(name):
+    """The impl that says that each value of an enum is valid."""
     return f"""
 impl Ranged for {name} {{
     ghost real = {{ λ _. ⊤ }};
 
     fn ranged(&self) {{}}
-}}
-
-impl RoundTrip for {name} {{
-    fn round_trips() {{
-        variant_round_trips::<{name}>()
-    }}
 }}
 """

@@ -8,7 +8,7 @@ use crate::tag::Tag;
 use miniserde::derived::{
     Deserialize, Error, Event, Field, Four, FourLent, FourParts, FourSlot, FromJson, Global,
     Lossless, NeverNull, NoField, NoSlot, Parts, PlacedRecord, Ranged, Record, RecordPlace, Result,
-    RoundTrip, RoundTripFields, Serialize, Slot, Slots, Source, Stable, Step, Visitor, Writer,
+    RoundTrip, Serialize, Slot, Slots, Source, Stable, Step, Visitor, Writer, WrittenFields,
     read_record, record_lossless, record_round_trips, record_stable, take_four, write_members,
 };
 
@@ -63,7 +63,7 @@ impl FromJson for Nested {
 }
 
 impl Serialize for Nested {
-    ghost tree = { record_tree ⟦<Nested as Record>⟧.names ⟦<NestedFields as RoundTripFields>⟧.trees
+    ghost tree = { record_tree ⟦<Nested as Record>⟧.names ⟦<NestedFields as WrittenFields>⟧.trees
         ⟦<Nested as Record>⟧.values };
 
     fn begin(&self, w: &mut Writer) -> Result<()> {
@@ -72,7 +72,7 @@ impl Serialize for Nested {
 }
 
 impl Ranged for Nested {
-    ghost real = { λ v. ⟦<NestedFields as RoundTripFields>⟧.real (⟦<Nested as Record>⟧.values v) };
+    ghost real = { λ v. ⟦<NestedFields as WrittenFields>⟧.real (⟦<Nested as Record>⟧.values v) };
 
     fn ranged(&self) {
         self.y.ranged();
@@ -214,7 +214,8 @@ impl FromJson for Example {
 }
 
 impl Serialize for Example {
-    ghost tree = { record_tree ⟦<Example as Record>⟧.names ⟦<ExampleFields as RoundTripFields>⟧.trees ⟦<Example as Record>⟧.values };
+    ghost tree = { record_tree ⟦<Example as Record>⟧.names ⟦<ExampleFields as WrittenFields>⟧.trees
+        ⟦<Example as Record>⟧.values };
 
     fn begin(&self, w: &mut Writer) -> Result<()> {
         write_members(
@@ -232,7 +233,7 @@ impl Serialize for Example {
 }
 
 impl Ranged for Example {
-    ghost real = { λ v. ⟦<ExampleFields as RoundTripFields>⟧.real (⟦<Example as Record>⟧.values v) };
+    ghost real = { λ v. ⟦<ExampleFields as WrittenFields>⟧.real (⟦<Example as Record>⟧.values v) };
 
     fn ranged(&self) {
         self.x.ranged();

@@ -6,8 +6,8 @@ ghost use Rattle.std.specs.Prelude.{refl};
 
 use miniserde::derived::{
     Deserialize, Error, Event, FromJson, Global, NoField, NoSlot, OnceField, OnceSlot, Parts,
-    PlacedRecord, Ranged, Record, RecordPlace, Result, RoundTrip, RoundTripFields, Serialize,
-    Slots, Source, Stable, Step, Visitor, Writer, read_record, record_round_trips, record_stable,
+    PlacedRecord, Ranged, Record, RecordPlace, Result, RoundTrip, Serialize, Slots, Source, Stable,
+    Step, Visitor, Writer, WrittenFields, read_record, record_round_trips, record_stable,
     write_members,
 };
 
@@ -61,7 +61,7 @@ impl FromJson for StrictDemo {
 }
 
 impl Serialize for StrictDemo {
-    ghost tree = { record_tree ⟦<StrictDemo as Record>⟧.names ⟦<StrictDemoFields as RoundTripFields>⟧.trees ⟦<StrictDemo as Record>⟧.values };
+    ghost tree = { record_tree ⟦<StrictDemo as Record>⟧.names ⟦<StrictDemoFields as WrittenFields>⟧.trees ⟦<StrictDemo as Record>⟧.values };
 
     fn begin(&self, w: &mut Writer) -> Result<()> {
         write_members(
@@ -73,7 +73,8 @@ impl Serialize for StrictDemo {
 }
 
 impl Ranged for StrictDemo {
-    ghost real = { λ v. ⟦<StrictDemoFields as RoundTripFields>⟧.real (⟦<StrictDemo as Record>⟧.values v) };
+    ghost real = { λ v. ⟦<StrictDemoFields as WrittenFields>⟧.real (⟦<StrictDemo as Record>⟧.values
+        v) };
 
     fn ranged(&self) {
         self.code.ranged();

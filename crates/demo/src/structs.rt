@@ -6,9 +6,8 @@ ghost use Rattle.std.specs.Prelude.{refl};
 
 use miniserde::derived::{
     Deserialize, Error, Event, Field, FromJson, Global, NoField, NoSlot, Parts, PlacedRecord,
-    Ranged, Record, RecordPlace, Result, RoundTrip, RoundTripFields, Serialize, Slot, Slots,
-    Source, Stable, Step, Visitor, Writer, read_record, record_round_trips, record_stable,
-    write_members,
+    Ranged, Record, RecordPlace, Result, RoundTrip, Serialize, Slot, Slots, Source, Stable, Step,
+    Visitor, Writer, WrittenFields, read_record, record_round_trips, record_stable, write_members,
 };
 
 /// A struct of two fields.
@@ -61,8 +60,7 @@ impl FromJson for Demo {
 }
 
 impl Serialize for Demo {
-    ghost tree = { record_tree ⟦<Demo as Record>⟧.names ⟦<DemoFields as RoundTripFields>⟧.trees
-        ⟦<Demo as Record>⟧.values };
+    ghost tree = { record_tree ⟦<Demo as Record>⟧.names ⟦<DemoFields as WrittenFields>⟧.trees ⟦<Demo as Record>⟧.values };
 
     fn begin(&self, w: &mut Writer) -> Result<()> {
         write_members(w, DEMO_NAMES, &Parts(&self.code, Parts(&self.message, ())))
@@ -70,7 +68,7 @@ impl Serialize for Demo {
 }
 
 impl Ranged for Demo {
-    ghost real = { λ v. ⟦<DemoFields as RoundTripFields>⟧.real (⟦<Demo as Record>⟧.values v) };
+    ghost real = { λ v. ⟦<DemoFields as WrittenFields>⟧.real (⟦<Demo as Record>⟧.values v) };
 
     fn ranged(&self) {
         self.code.ranged();
@@ -186,7 +184,7 @@ impl FromJson for Point {
 }
 
 impl Serialize for Point {
-    ghost tree = { record_tree ⟦<Point as Record>⟧.names ⟦<PointFields as RoundTripFields>⟧.trees
+    ghost tree = { record_tree ⟦<Point as Record>⟧.names ⟦<PointFields as WrittenFields>⟧.trees
         ⟦<Point as Record>⟧.values };
 
     fn begin(&self, w: &mut Writer) -> Result<()> {
@@ -195,7 +193,7 @@ impl Serialize for Point {
 }
 
 impl Ranged for Point {
-    ghost real = { λ v. ⟦<PointFields as RoundTripFields>⟧.real (⟦<Point as Record>⟧.values v) };
+    ghost real = { λ v. ⟦<PointFields as WrittenFields>⟧.real (⟦<Point as Record>⟧.values v) };
 
     fn ranged(&self) {
         self.x.ranged();

@@ -8,7 +8,7 @@ ghost use Rattle.std.specs.Prelude.{codes, refl};
 use miniserde::derived::{
     BesideTag, DataCase, DataEnum, Event, FromJson, HasTag, Inside, InsideCases, Lossless, Members,
     NeverNull, NoCase, NoFields, NoSlot, OneOf, Parts, Ranged, Record, Result, RoundTrip,
-    RoundTripCases, RoundTripFields, Serialize, Slot, Slots, Source, Stable, Writer, fields_named,
+    Serialize, Slot, Slots, Source, Stable, Writer, WrittenCases, WrittenFields, fields_named,
     read_record, read_tagged, record_lossless, record_round_trips, record_stable, tag_fits,
     tagged_lossless, tagged_round_trips, tagged_stable, write_members, write_tagged,
     write_tagged_fields,
@@ -64,7 +64,7 @@ impl FromJson for Say {
 }
 
 impl Serialize for Say {
-    ghost tree = { record_tree ⟦<Say as Record>⟧.names ⟦<SayFields as RoundTripFields>⟧.trees ⟦<Say as Record>⟧.values };
+    ghost tree = { record_tree ⟦<Say as Record>⟧.names ⟦<SayFields as WrittenFields>⟧.trees ⟦<Say as Record>⟧.values };
 
     fn begin(&self, w: &mut Writer) -> Result<()> {
         write_members(w, SAY_NAMES, &Parts(&self.text, Parts(&self.to, ())))
@@ -72,7 +72,7 @@ impl Serialize for Say {
 }
 
 impl Ranged for Say {
-    ghost real = { λ v. ⟦<SayFields as RoundTripFields>⟧.real (⟦<Say as Record>⟧.values v) };
+    ghost real = { λ v. ⟦<SayFields as WrittenFields>⟧.real (⟦<Say as Record>⟧.values v) };
 
     fn ranged(&self) {
         self.text.ranged();
@@ -168,7 +168,7 @@ impl FromJson for ActionMove {
 }
 
 impl Serialize for ActionMove {
-    ghost tree = { record_tree ⟦<ActionMove as Record>⟧.names ⟦<ActionMoveFields as RoundTripFields>⟧.trees ⟦<ActionMove as Record>⟧.values };
+    ghost tree = { record_tree ⟦<ActionMove as Record>⟧.names ⟦<ActionMoveFields as WrittenFields>⟧.trees ⟦<ActionMove as Record>⟧.values };
 
     fn begin(&self, w: &mut Writer) -> Result<()> {
         write_members(w, ACTION_MOVE_NAMES, &Parts(&self.x, Parts(&self.y, ())))
@@ -176,7 +176,8 @@ impl Serialize for ActionMove {
 }
 
 impl Ranged for ActionMove {
-    ghost real = { λ v. ⟦<ActionMoveFields as RoundTripFields>⟧.real (⟦<ActionMove as Record>⟧.values v) };
+    ghost real = { λ v. ⟦<ActionMoveFields as WrittenFields>⟧.real (⟦<ActionMove as Record>⟧.values
+        v) };
 
     fn ranged(&self) {
         self.x.ranged();
@@ -304,7 +305,7 @@ impl FromJson for Action {
 }
 
 impl Serialize for Action {
-    ghost tree = { tagged_tree ⟦<Action as HasTag>⟧.tag ⟦<Action as DataEnum>⟧.names ⟦<ActionCases as RoundTripCases>⟧.tree ⟦<Action as DataEnum>⟧.values };
+    ghost tree = { tagged_tree ⟦<Action as HasTag>⟧.tag ⟦<Action as DataEnum>⟧.names ⟦<ActionCases as WrittenCases>⟧.tree ⟦<Action as DataEnum>⟧.values };
 
     fn begin(&self, w: &mut Writer) -> Result<()> {
         match self {
@@ -324,7 +325,7 @@ impl Serialize for Action {
 }
 
 impl Ranged for Action {
-    ghost real = { λ v. ⟦<ActionCases as RoundTripCases>⟧.real (⟦<Action as DataEnum>⟧.values v) };
+    ghost real = { λ v. ⟦<ActionCases as WrittenCases>⟧.real (⟦<Action as DataEnum>⟧.values v) };
 
     fn ranged(&self) {
         match self {

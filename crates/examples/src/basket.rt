@@ -4,8 +4,8 @@ ghost use Rattle.miniserde.specs.Structs.{names_of, record_tree};
 ghost use Rattle.std.specs.Prelude.{refl};
 
 use miniserde::derived::{
-    Event, FromJson, NoSlot, Parts, Ranged, Record, Result, RoundTrip, RoundTripFields, Serialize,
-    Slot, Slots, Source, Writer, read_record, record_round_trips, write_members,
+    Event, FromJson, NoSlot, Parts, Ranged, Record, Result, RoundTrip, Serialize, Slot, Slots,
+    Source, Writer, WrittenFields, read_record, record_round_trips, write_members,
 };
 
 /// What somebody buys: the prices, one by one.
@@ -59,7 +59,7 @@ impl FromJson for Basket {
 }
 
 impl Serialize for Basket {
-    ghost tree = { record_tree ⟦<Basket as Record>⟧.names ⟦<BasketFields as RoundTripFields>⟧.trees
+    ghost tree = { record_tree ⟦<Basket as Record>⟧.names ⟦<BasketFields as WrittenFields>⟧.trees
         ⟦<Basket as Record>⟧.values };
 
     fn begin(&self, w: &mut Writer) -> Result<()> {
@@ -72,7 +72,7 @@ impl Serialize for Basket {
 }
 
 impl Ranged for Basket {
-    ghost real = { λ v. ⟦<BasketFields as RoundTripFields>⟧.real (⟦<Basket as Record>⟧.values v) };
+    ghost real = { λ v. ⟦<BasketFields as WrittenFields>⟧.real (⟦<Basket as Record>⟧.values v) };
 
     fn ranged(&self) {
         self.owner.ranged();

@@ -5,8 +5,8 @@ ghost use Rattle.std.specs.Prelude.{refl};
 
 use miniserde::derived::{
     Event, FromJson, Lossless, NeverNull, NoSlot, OmitSlot, Omitted, Parts, Plain, Ranged, Record,
-    Result, RoundTrip, RoundTripFields, Serialize, Slot, Slots, Source, Stable, Writer,
-    read_record, record_lossless, record_round_trips, record_stable, write_members,
+    Result, RoundTrip, Serialize, Slot, Slots, Source, Stable, Writer, WrittenFields, read_record,
+    record_lossless, record_round_trips, record_stable, write_members,
 };
 
 /// A note, of which only the title is always written.
@@ -60,8 +60,7 @@ impl FromJson for Note {
 }
 
 impl Serialize for Note {
-    ghost tree = { record_tree ⟦<Note as Record>⟧.names ⟦<NoteFields as RoundTripFields>⟧.trees
-        ⟦<Note as Record>⟧.values };
+    ghost tree = { record_tree ⟦<Note as Record>⟧.names ⟦<NoteFields as WrittenFields>⟧.trees ⟦<Note as Record>⟧.values };
 
     fn begin(&self, w: &mut Writer) -> Result<()> {
         write_members(
@@ -76,7 +75,7 @@ impl Serialize for Note {
 }
 
 impl Ranged for Note {
-    ghost real = { λ v. ⟦<NoteFields as RoundTripFields>⟧.real (⟦<Note as Record>⟧.values v) };
+    ghost real = { λ v. ⟦<NoteFields as WrittenFields>⟧.real (⟦<Note as Record>⟧.values v) };
 
     fn ranged(&self) {
         self.title.ranged();

@@ -5,7 +5,7 @@ ghost use Rattle.std.specs.Prelude.{refl};
 
 use miniserde::derived::{
     Event, FourLent, FourParts, FourSlot, FromJson, Lossless, NeverNull, NoSlot, Ranged, Record,
-    Result, RoundTrip, RoundTripFields, Serialize, Slots, Source, Writer, read_record,
+    Result, RoundTrip, Serialize, Slots, Source, Writer, WrittenFields, read_record,
     record_lossless, record_round_trips, take_four, write_members,
 };
 
@@ -67,7 +67,7 @@ impl FromJson for Order {
 }
 
 impl Serialize for Order {
-    ghost tree = { record_tree ⟦<Order as Record>⟧.names ⟦<OrderFields as RoundTripFields>⟧.trees
+    ghost tree = { record_tree ⟦<Order as Record>⟧.names ⟦<OrderFields as WrittenFields>⟧.trees
         ⟦<Order as Record>⟧.values };
 
     fn begin(&self, w: &mut Writer) -> Result<()> {
@@ -80,7 +80,7 @@ impl Serialize for Order {
 }
 
 impl Ranged for Order {
-    ghost real = { λ v. ⟦<OrderFields as RoundTripFields>⟧.real (⟦<Order as Record>⟧.values v) };
+    ghost real = { λ v. ⟦<OrderFields as WrittenFields>⟧.real (⟦<Order as Record>⟧.values v) };
 
     fn ranged(&self) {
         self.id.ranged();

@@ -5,7 +5,7 @@ ghost use Rattle.std.specs.Prelude.{refl};
 
 use miniserde::derived::{
     Event, FromJson, Lossless, NeverNull, NoSlot, Parts, Ranged, Record, Result, RoundTrip,
-    RoundTripFields, Serialize, Slot, Slots, Source, Stable, Writer, read_record, record_lossless,
+    Serialize, Slot, Slots, Source, Stable, Writer, WrittenFields, read_record, record_lossless,
     record_round_trips, record_stable, write_members,
 };
 
@@ -59,16 +59,17 @@ impl<T: FromJson> FromJson for Page<T> {
     }
 }
 
-impl<T: RoundTrip> Serialize for Page<T> {
-    ghost tree = { record_tree ⟦<Page<T> as Record>⟧.names ⟦<PageFields<T> as RoundTripFields>⟧.trees ⟦<Page<T> as Record>⟧.values };
+impl<T: FromJson + Ranged + Serialize> Serialize for Page<T> {
+    ghost tree = { record_tree ⟦<Page<T> as Record>⟧.names ⟦<PageFields<T> as WrittenFields>⟧.trees
+        ⟦<Page<T> as Record>⟧.values };
 
     fn begin(&self, w: &mut Writer) -> Result<()> {
         write_members(w, PAGE_NAMES, &Parts(&self.items, Parts(&self.next, ())))
     }
 }
 
-impl<T: RoundTrip> Ranged for Page<T> {
-    ghost real = { λ v. ⟦<PageFields<T> as RoundTripFields>⟧.real (⟦<Page<T> as Record>⟧.values v) };
+impl<T: FromJson + Ranged + Serialize> Ranged for Page<T> {
+    ghost real = { λ v. ⟦<PageFields<T> as WrittenFields>⟧.real (⟦<Page<T> as Record>⟧.values v) };
 
     fn ranged(&self) {
         self.items.ranged();

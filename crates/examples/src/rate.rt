@@ -4,8 +4,8 @@ ghost use Rattle.miniserde.specs.Structs.{names_of, record_tree};
 ghost use Rattle.std.specs.Prelude.{refl};
 
 use miniserde::derived::{
-    Event, FromJson, NoSlot, Parts, Ranged, Record, Result, RoundTrip, RoundTripFields, Serialize,
-    Slot, Slots, Source, Writer, read_record, record_round_trips, write_members,
+    Event, FromJson, NoSlot, Parts, Ranged, Record, Result, RoundTrip, Serialize, Slot, Slots,
+    Source, Writer, WrittenFields, read_record, record_round_trips, write_members,
 };
 
 /// How much of one money another is: its name and a fraction, which keeps its text.
@@ -58,8 +58,7 @@ impl FromJson for Rate {
 }
 
 impl Serialize for Rate {
-    ghost tree = { record_tree ⟦<Rate as Record>⟧.names ⟦<RateFields as RoundTripFields>⟧.trees
-        ⟦<Rate as Record>⟧.values };
+    ghost tree = { record_tree ⟦<Rate as Record>⟧.names ⟦<RateFields as WrittenFields>⟧.trees ⟦<Rate as Record>⟧.values };
 
     fn begin(&self, w: &mut Writer) -> Result<()> {
         write_members(
@@ -71,7 +70,7 @@ impl Serialize for Rate {
 }
 
 impl Ranged for Rate {
-    ghost real = { λ v. ⟦<RateFields as RoundTripFields>⟧.real (⟦<Rate as Record>⟧.values v) };
+    ghost real = { λ v. ⟦<RateFields as WrittenFields>⟧.real (⟦<Rate as Record>⟧.values v) };
 
     fn ranged(&self) {
         self.currency.ranged();

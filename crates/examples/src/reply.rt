@@ -8,9 +8,9 @@ ghost use Rattle.std.specs.Prelude.{refl};
 
 use miniserde::derived::{
     Cases, DataCase, DataEnum, Event, Fragment, FromJson, Given, Global, Lossless, MarkedSlot,
-    NeverNull, NoCase, NoSlot, Once, OneOf, Parts, Ranged, Record, Result, RoundTrip,
-    RoundTripCases, RoundTripFields, Serialize, Slot, Slots, Source, Stable, UnitCase, WithDefault,
-    Writer, enum_lossless, enum_round_trips, enum_stable, read_enum, read_record, record_lossless,
+    NeverNull, NoCase, NoSlot, Once, OneOf, Parts, Ranged, Record, Result, RoundTrip, Serialize,
+    Slot, Slots, Source, Stable, UnitCase, WithDefault, Writer, WrittenCases, WrittenFields,
+    enum_lossless, enum_round_trips, enum_stable, read_enum, read_record, record_lossless,
     record_round_trips, record_stable, write_data, write_fields, write_members,
 };
 
@@ -80,7 +80,7 @@ impl FromJson for ReplyFailed {
 }
 
 impl Serialize for ReplyFailed {
-    ghost tree = { record_tree ⟦<ReplyFailed as Record>⟧.names ⟦<ReplyFailedFields as RoundTripFields>⟧.trees ⟦<ReplyFailed as Record>⟧.values };
+    ghost tree = { record_tree ⟦<ReplyFailed as Record>⟧.names ⟦<ReplyFailedFields as WrittenFields>⟧.trees ⟦<ReplyFailed as Record>⟧.values };
 
     fn begin(&self, w: &mut Writer) -> Result<()> {
         write_members(
@@ -92,7 +92,7 @@ impl Serialize for ReplyFailed {
 }
 
 impl Ranged for ReplyFailed {
-    ghost real = { λ v. ⟦<ReplyFailedFields as RoundTripFields>⟧.real (⟦<ReplyFailed as Record>⟧.values v) };
+    ghost real = { λ v. ⟦<ReplyFailedFields as WrittenFields>⟧.real (⟦<ReplyFailed as Record>⟧.values v) };
 
     fn ranged(&self) {
         self.code.ranged();
@@ -206,8 +206,8 @@ impl<T: FromJson> FromJson for Reply<T> {
     }
 }
 
-impl<T: RoundTrip> Serialize for Reply<T> {
-    ghost tree = { enum_tree ⟦<Reply<T> as DataEnum>⟧.names ⟦<ReplyCases<T> as RoundTripCases>⟧.tree
+impl<T: FromJson + Ranged + Serialize> Serialize for Reply<T> {
+    ghost tree = { enum_tree ⟦<Reply<T> as DataEnum>⟧.names ⟦<ReplyCases<T> as WrittenCases>⟧.tree
         ⟦<Reply<T> as DataEnum>⟧.values };
 
     fn begin(&self, w: &mut Writer) -> Result<()> {
@@ -227,8 +227,8 @@ impl<T: RoundTrip> Serialize for Reply<T> {
     }
 }
 
-impl<T: RoundTrip> Ranged for Reply<T> {
-    ghost real = { λ v. ⟦<ReplyCases<T> as RoundTripCases>⟧.real (⟦<Reply<T> as DataEnum>⟧.values v) };
+impl<T: FromJson + Ranged + Serialize> Ranged for Reply<T> {
+    ghost real = { λ v. ⟦<ReplyCases<T> as WrittenCases>⟧.real (⟦<Reply<T> as DataEnum>⟧.values v) };
 
     fn ranged(&self) {
         match self {

@@ -6,8 +6,8 @@ ghost use Rattle.std.specs.Prelude.{true, refl};
 
 use miniserde::derived::{
     Closed, Empty, Event, FourLent, FourParts, FromJson, Given, Global, Lossless, MarkedFour,
-    MarkedSlot, NeverNull, Once, Parts, Plain, Ranged, Record, Result, RoundTrip, RoundTripFields,
-    Serialize, Slot, Slots, Source, Stable, WithDefault, Writer, read_record, record_lossless,
+    MarkedSlot, NeverNull, Once, Parts, Plain, Ranged, Record, Result, RoundTrip, Serialize, Slot,
+    Slots, Source, Stable, WithDefault, Writer, WrittenFields, read_record, record_lossless,
     record_round_trips, record_stable, take_four, write_members,
 };
 
@@ -131,7 +131,8 @@ impl FromJson for Service {
 }
 
 impl Serialize for Service {
-    ghost tree = { record_tree ⟦<Service as Record>⟧.names ⟦<ServiceFields as RoundTripFields>⟧.trees ⟦<Service as Record>⟧.values };
+    ghost tree = { record_tree ⟦<Service as Record>⟧.names ⟦<ServiceFields as WrittenFields>⟧.trees
+        ⟦<Service as Record>⟧.values };
 
     fn begin(&self, w: &mut Writer) -> Result<()> {
         write_members(
@@ -149,7 +150,7 @@ impl Serialize for Service {
 }
 
 impl Ranged for Service {
-    ghost real = { λ v. ⟦<ServiceFields as RoundTripFields>⟧.real (⟦<Service as Record>⟧.values v) };
+    ghost real = { λ v. ⟦<ServiceFields as WrittenFields>⟧.real (⟦<Service as Record>⟧.values v) };
 
     fn ranged(&self) {
         self.id.ranged();

@@ -6,8 +6,8 @@ ghost use Rattle.std.specs.Prelude.{true, List, codes, [], ◌∷◌, ⊤, refl}
 
 use miniserde::derived::{
     Event, FourLent, FourParts, FourSlot, Fragment, FromJson, Given, Global, MarkedFour, NoSlot,
-    Parts, Plain, Ranged, Record, Result, RoundTrip, RoundTripFields, Serialize, Slot, Slots,
-    Source, UnitEnum, Variants, WithDefault, Writer, read_record, read_variant, record_round_trips,
+    Parts, Plain, Ranged, Record, Result, RoundTrip, Serialize, Slot, Slots, Source, UnitEnum,
+    Variants, WithDefault, Writer, WrittenFields, read_record, read_variant, record_round_trips,
     take_four, variant_round_trips, write_members,
 };
 
@@ -131,7 +131,8 @@ impl FromJson for OldTask {
 }
 
 impl Serialize for OldTask {
-    ghost tree = { record_tree ⟦<OldTask as Record>⟧.names ⟦<OldTaskFields as RoundTripFields>⟧.trees ⟦<OldTask as Record>⟧.values };
+    ghost tree = { record_tree ⟦<OldTask as Record>⟧.names ⟦<OldTaskFields as WrittenFields>⟧.trees
+        ⟦<OldTask as Record>⟧.values };
 
     fn begin(&self, w: &mut Writer) -> Result<()> {
         write_members(
@@ -143,7 +144,7 @@ impl Serialize for OldTask {
 }
 
 impl Ranged for OldTask {
-    ghost real = { λ v. ⟦<OldTaskFields as RoundTripFields>⟧.real (⟦<OldTask as Record>⟧.values v) };
+    ghost real = { λ v. ⟦<OldTaskFields as WrittenFields>⟧.real (⟦<OldTask as Record>⟧.values v) };
 
     fn ranged(&self) {
         self.id.ranged();
@@ -311,8 +312,7 @@ impl FromJson for Task {
 }
 
 impl Serialize for Task {
-    ghost tree = { record_tree ⟦<Task as Record>⟧.names ⟦<TaskFields as RoundTripFields>⟧.trees
-        ⟦<Task as Record>⟧.values };
+    ghost tree = { record_tree ⟦<Task as Record>⟧.names ⟦<TaskFields as WrittenFields>⟧.trees ⟦<Task as Record>⟧.values };
 
     fn begin(&self, w: &mut Writer) -> Result<()> {
         write_members(
@@ -330,7 +330,7 @@ impl Serialize for Task {
 }
 
 impl Ranged for Task {
-    ghost real = { λ v. ⟦<TaskFields as RoundTripFields>⟧.real (⟦<Task as Record>⟧.values v) };
+    ghost real = { λ v. ⟦<TaskFields as WrittenFields>⟧.real (⟦<Task as Record>⟧.values v) };
 
     fn ranged(&self) {
         self.id.ranged();

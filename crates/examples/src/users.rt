@@ -4,8 +4,8 @@ ghost use Rattle.miniserde.specs.Structs.{names_of, record_tree};
 ghost use Rattle.std.specs.Prelude.{refl};
 
 use miniserde::derived::{
-    Event, FromJson, NoSlot, Parts, Ranged, Record, Result, RoundTrip, RoundTripFields, Serialize,
-    Slot, Slots, Source, Writer, read_record, record_round_trips, write_members,
+    Event, FromJson, NoSlot, Parts, Ranged, Record, Result, RoundTrip, Serialize, Slot, Slots,
+    Source, Writer, WrittenFields, read_record, record_round_trips, write_members,
 };
 
 /// A user, as version 1 stores it.
@@ -59,7 +59,8 @@ impl FromJson for OldUser {
 }
 
 impl Serialize for OldUser {
-    ghost tree = { record_tree ⟦<OldUser as Record>⟧.names ⟦<OldUserFields as RoundTripFields>⟧.trees ⟦<OldUser as Record>⟧.values };
+    ghost tree = { record_tree ⟦<OldUser as Record>⟧.names ⟦<OldUserFields as WrittenFields>⟧.trees
+        ⟦<OldUser as Record>⟧.values };
 
     fn begin(&self, w: &mut Writer) -> Result<()> {
         write_members(w, OLD_USER_NAMES, &Parts(&self.id, Parts(&self.mail, ())))
@@ -67,7 +68,7 @@ impl Serialize for OldUser {
 }
 
 impl Ranged for OldUser {
-    ghost real = { λ v. ⟦<OldUserFields as RoundTripFields>⟧.real (⟦<OldUser as Record>⟧.values v) };
+    ghost real = { λ v. ⟦<OldUserFields as WrittenFields>⟧.real (⟦<OldUser as Record>⟧.values v) };
 
     fn ranged(&self) {
         self.id.ranged();
@@ -131,8 +132,7 @@ impl FromJson for User {
 }
 
 impl Serialize for User {
-    ghost tree = { record_tree ⟦<User as Record>⟧.names ⟦<UserFields as RoundTripFields>⟧.trees
-        ⟦<User as Record>⟧.values };
+    ghost tree = { record_tree ⟦<User as Record>⟧.names ⟦<UserFields as WrittenFields>⟧.trees ⟦<User as Record>⟧.values };
 
     fn begin(&self, w: &mut Writer) -> Result<()> {
         write_members(w, USER_NAMES, &Parts(&self.id, Parts(&self.email, ())))
@@ -140,7 +140,7 @@ impl Serialize for User {
 }
 
 impl Ranged for User {
-    ghost real = { λ v. ⟦<UserFields as RoundTripFields>⟧.real (⟦<User as Record>⟧.values v) };
+    ghost real = { λ v. ⟦<UserFields as WrittenFields>⟧.real (⟦<User as Record>⟧.values v) };
 
     fn ranged(&self) {
         self.id.ranged();

@@ -37,7 +37,7 @@ pub use Rattle.miniserde_read.specs.types.Tuples
 pub use Rattle.miniserde_read.specs.types.Options
 pub use Rattle.miniserde_read.specs.types.Objects
 pub use Rattle.miniserde_read.specs.types.Maps
-pub use Rattle.miniserde_stable.specs.Stable
+pub use Rattle.miniserde_stored.specs.Stable
 pub use Rattle.miniserde_place.specs.Place
 pub use Rattle.miniserde_place.specs.Leaf
 pub use Rattle.miniserde_place.specs.LeafPlace
@@ -45,11 +45,11 @@ pub use Rattle.miniserde_place.specs.Ignore
 pub use Rattle.miniserde_place.specs.Container
 pub use Rattle.miniserde_place.specs.Stage
 pub use Rattle.miniserde_de.specs.Fed
-pub use Rattle.miniserde_de.specs.PlaceMeanings
-pub use Rattle.miniserde_de.specs.FieldPlaces
+pub use Rattle.miniserde_places.specs.PlaceMeanings
+pub use Rattle.miniserde_places.specs.FieldPlaces
 pub use Rattle.miniserde_de.specs.DocumentMeanings as DocumentTypes
 pub use Rattle.miniserde_de.specs.Places
-pub use Rattle.miniserde_de.specs.Tied
+pub use Rattle.miniserde_places.specs.Tied
 pub use Rattle.miniserde_ser.specs.Fragment
 pub use Rattle.miniserde_ser.specs.Trees
 pub use Rattle.miniserde_ser.specs.Writer
@@ -60,14 +60,14 @@ pub use Rattle.miniserde_value.specs.Looks
 pub use Rattle.miniserde_value.specs.Hole
 pub use Rattle.miniserde_value.specs.Kinds
 pub use Rattle.miniserde_value.specs.Meanings as DocumentMeanings
-pub use Rattle.miniserde_round.specs.RoundTrip
+pub use Rattle.miniserde_laws.specs.RoundTrip
 pub use Rattle.miniserde_record.specs.Aliases
 pub use Rattle.miniserde_record.specs.Fields
 pub use Rattle.miniserde_record.specs.FieldsMeaning
 pub use Rattle.miniserde_record.specs.Marks
 pub use Rattle.miniserde_record.specs.Members
 pub use Rattle.miniserde_record.specs.Names
-pub use Rattle.miniserde_record.specs.Stable as StableFields
+pub use Rattle.miniserde_stored.specs.StableFields
 pub use Rattle.miniserde_record.specs.Structs
 pub use Rattle.miniserde_record.specs.Variants
 pub use Rattle.miniserde_record.specs.laws.Said

@@ -4,7 +4,7 @@ pub use miniserde_canonical::{canonical, canonical_both, canonical_unique};
 pub use miniserde_place::feed;
 pub use miniserde_read::{from_slice, from_str};
 pub use miniserde_ser::ser::to_string;
-pub use miniserde_store::{canonical_of, read_canonical};
+pub use miniserde_stored::{canonical_of, read_canonical};
 pub use miniserde_text::json::lex;
 pub use miniserde_text::json::number::NumberText;
 pub use miniserde_value::json::array::Array;
@@ -24,7 +24,8 @@ pub mod array {
 /// The type `Document`, its place, and the promise that neither `Value` nor `Number` is stable.
 pub mod document {
     pub use miniserde_de::documents::DocumentPlace;
-    pub use miniserde_value::json::document::{Document, negated_zero_is_not_stable};
+    pub use miniserde_stored::negated_zero_is_not_stable;
+    pub use miniserde_value::json::document::Document;
 }
 
 /// The types `Number` and `NumberText`, and the place of `Number`.
@@ -49,7 +50,7 @@ pub mod unique {
 /// The type `Value`, its place, promises about it, and what `value!` calls.
 pub mod value {
     pub use miniserde_de::documents::ValuePlace;
-    pub use miniserde_value::json::into_value::{IntoValue, array_value, null_value, object_value};
+    pub use miniserde_into_value::{IntoValue, array_value, null_value, object_value};
     pub use miniserde_value::json::value::{
         Value, canonical_by_value, read_is_normal, size_is_tree_size,
     };

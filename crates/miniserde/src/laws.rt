@@ -1,9 +1,28 @@
-//! Promises about the definitions and about places, for users' proofs. Each call does nothing, and its contract is
-//! the promise.
+//! Promises about the definitions, about places and about types, for users' proofs. Each call does nothing, and its
+//! contract is the promise.
+ghost use Rattle.std.specs.Prelude.{◌≡◌};
+ghost use Rattle.miniserde_model.specs.Normal.{norm};
+ghost use Rattle.miniserde_model.specs.Tree.{Tree};
 
 pub use miniserde_de::events::{events_give, events_mean};
+use miniserde_laws::{Lossless, RoundTrip};
 pub use miniserde_model::{
     canonical_is_shortest, canonical_texts_equal, compact_spells, events_complete, json_in_range,
     json_is_utf8, norm_is_normal, norm_of_distinct, norm_of_members, text_has_one_tree,
     worked_examples,
 };
+use miniserde_stored::{Stable, means_in_normal_form};
+
+/// Does nothing. It promises that a text whose canonical text is that of a valid value is read as a
+/// value of the same content, if it is read at all, and that two valid values with one canonical
+/// text have the same content.
+pub fn canonical_text_determines_content<T: Stable + Lossless>()
+    ensures itself { (v w : T) (u : Tree) → T.real v → norm u ≡ norm (T.tree v) → T.means.reads u w
+        → T.means.content w ≡ T.means.content v }
+    ensures one { (v w : T) → T.real v → T.real w → norm (T.tree v) ≡ norm (T.tree w)
+        → T.means.content v ≡ T.means.content w }
+{
+    means_in_normal_form::<T>();
+    T::round_trips();
+    T::lossless();
+}

@@ -1,4 +1,4 @@
 //! The writer of compact JSON text, and the trait of values that write themselves with it.
 
-pub use miniserde_round::RoundTrip;
+pub use miniserde_laws::RoundTrip;
 pub use miniserde_ser::ser::{Fragment, Serialize, Writer, escape_str};

@@ -1,5 +1,5 @@
 //! The canonical text of any JSON text, without a tree in memory. Canonical texts of values of a type are in
-//! `miniserde_store`.
+//! `miniserde_stored`.
 #![tactic(auto)]
 
 mod canonicalize;

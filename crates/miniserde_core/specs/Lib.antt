@@ -37,7 +37,6 @@ pub use Rattle.miniserde_read.specs.types.Tuples
 pub use Rattle.miniserde_read.specs.types.Options
 pub use Rattle.miniserde_read.specs.types.Objects
 pub use Rattle.miniserde_read.specs.types.Maps
-pub use Rattle.miniserde_stable.specs.Stable
 pub use Rattle.miniserde_ser.specs.Fragment
 pub use Rattle.miniserde_ser.specs.Trees
 pub use Rattle.miniserde_ser.specs.Writer
@@ -48,15 +47,19 @@ pub use Rattle.miniserde_value.specs.Looks
 pub use Rattle.miniserde_value.specs.Hole
 pub use Rattle.miniserde_value.specs.Kinds
 pub use Rattle.miniserde_value.specs.Meanings as DocumentMeanings
-pub use Rattle.miniserde_round.specs.RoundTrip
 pub use Rattle.miniserde_record.specs.Aliases
 pub use Rattle.miniserde_record.specs.Fields
 pub use Rattle.miniserde_record.specs.FieldsMeaning
 pub use Rattle.miniserde_record.specs.Marks
 pub use Rattle.miniserde_record.specs.Members
 pub use Rattle.miniserde_record.specs.Names
-pub use Rattle.miniserde_record.specs.Stable as StableFields
 pub use Rattle.miniserde_record.specs.Structs
 pub use Rattle.miniserde_record.specs.Variants
 pub use Rattle.miniserde_record.specs.laws.Said
 pub use Rattle.miniserde_record.specs.laws.Marks as MarkLaws
+pub use Rattle.miniserde_enum.specs.Cases
+pub use Rattle.miniserde_enum.specs.CasesMeaning
+pub use Rattle.miniserde_enum.specs.External
+pub use Rattle.miniserde_enum.specs.Tagging
+pub use Rattle.miniserde_enum.specs.Inside
+pub use Rattle.miniserde_enum.specs.Internal

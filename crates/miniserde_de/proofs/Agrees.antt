@@ -13,7 +13,7 @@ use Rattle.miniserde_read.specs.types.Objects.{Name, after_members}
 use Rattle.miniserde_read.specs.types.Maps.{AllAccepted, MapReads, MeansAt, MapContent, no_entries, with_entry, map_member, map_of}
 use Rattle.miniserde_read.specs.Meaning.{Meaning}
 use Rattle.miniserde_read.specs.Meanings.{list_meaning, array_meaning, option_meaning, box_meaning, pair_meaning, map_meaning}
-use Rattle.miniserde_de.specs.Tied.{Agree}
+use Rattle.miniserde_places.specs.Tied.{Agree}
 
 pub agree_back : {V : Type 0} (m n : Meaning V) → Agree m n → Agree n m
 agree_back m n a = record { same = λ t v. ((a.same t v).1, (a.same t v).0); some = λ t. sym (a.some t) }

@@ -8,7 +8,7 @@ use Rattle.miniserde_model.specs.Position.{Position, complete, next, next_by, Co
 use Rattle.miniserde_model.specs.Laws.{EventsComplete}
 use Rattle.miniserde_place.specs.Place.{PlaceMeaning, PlaceView, IsFresh}
 use Rattle.miniserde_read.specs.Meaning.{Meaning}
-use Rattle.miniserde_de.specs.Tied.{Agree, type_meaning}
+use Rattle.miniserde_places.specs.Tied.{Agree, type_meaning}
 use Rattle.miniserde_de.specs.Fed.{IsFed}
 
 -- events that complete a position lead to the end

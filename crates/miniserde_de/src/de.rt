@@ -6,7 +6,7 @@ ghost use Rattle.std.specs.Prelude.{◌≡◌, ◌≢◌, true, IsOk, Option, So
 ghost use Rattle.miniserde_model.specs.Position.{complete};
 ghost use Rattle.miniserde_model.specs.declared.error.Error.{Error};
 ghost use Rattle.miniserde_place.specs.Place.{IsFresh};
-ghost use Rattle.miniserde_de.specs.Tied.{Agree, type_meaning};
+ghost use Rattle.miniserde_places.specs.Tied.{Agree, type_meaning};
 
 mod impls;
 

@@ -1,11 +1,42 @@
-//! The places of structs and of unit enums.
+//! The chains of fields that a struct's place collects, by the types of the fields.
 
-mod fields;
-mod fours;
-mod name_place;
-mod record_place;
+use crate::de::Deserialize;
+use miniserde_places::structs::{FieldOf, FourOf};
+use miniserde_record::record::{Once, Plain};
 
-pub use fields::{Field, FieldOf, Fields, NoField, OnceField};
-pub use fours::{Four, FourOf, OnceFour};
-pub use name_place::NamePlace;
-pub use record_place::{PlacedRecord, RecordPlace};
+/// A field of the type `T`, and the fields after it. If its name is a duplicate, the last member counts, and the values
+/// of the others must be of the type too.
+pub type Field<T, R> = FieldOf<<T as Deserialize>::Place, T, Plain, R>;
+
+/// A field of the type `T` that takes one member alone, and the fields after it. If its name is a duplicate, the second
+/// `key` event with that name fails with `Invalid`. Of duplicates of other names, and inside of values, it says
+/// nothing.
+pub type OnceField<T, R> = FieldOf<<T as Deserialize>::Place, T, Once<Plain>, R>;
+
+/// Four fields of these types, and the fields after them.
+pub type Four<A, B, C, D, R> = FourOf<
+    <A as Deserialize>::Place,
+    A,
+    <B as Deserialize>::Place,
+    B,
+    <C as Deserialize>::Place,
+    C,
+    <D as Deserialize>::Place,
+    D,
+    Plain,
+    R,
+>;
+
+/// Four fields of these types that each take one member alone, and the fields after them.
+pub type OnceFour<A, B, C, D, R> = FourOf<
+    <A as Deserialize>::Place,
+    A,
+    <B as Deserialize>::Place,
+    B,
+    <C as Deserialize>::Place,
+    C,
+    <D as Deserialize>::Place,
+    D,
+    Once<Plain>,
+    R,
+>;

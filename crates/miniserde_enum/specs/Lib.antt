@@ -6,6 +6,5 @@ pub mod Internal
 pub mod NoFields
 pub mod Objects
 pub mod Tagging
-pub mod Stable
 pub mod TagName
 pub mod laws

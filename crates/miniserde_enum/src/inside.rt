@@ -19,14 +19,14 @@ ghost use Rattle.miniserde_enum.specs.CasesMeaning.{CasesMeaning, no_cases, data
 use crate::cases::{DataCase, NoCase};
 use crate::one_of::{Never, OneOf};
 use crate::tagged::HasTag;
+use miniserde_keys::Ranged;
 use miniserde_model::error::{Error, Result};
-use miniserde_read::Source;
-use miniserde_round::RoundTrip;
-use miniserde_ser::ser::Writer;
+use miniserde_read::{FromJson, Source};
+use miniserde_ser::ser::{Serialize, Writer};
 use miniserde_text::json::lex::Event;
 
 /// A struct whose members may be in one object with the tag of an enum.
-pub trait Inside: RoundTrip {
+pub trait Inside: Ranged + Serialize + FromJson {
     // The names of the struct's fields.
     ghost fields: { List Name };
 

@@ -10,9 +10,7 @@ use miniserde_keys::Ranged;
 use miniserde_model::error::Result;
 use miniserde_read::{FromJson, Source};
 use miniserde_record::record::{NoSlot, Record, Slots, read_record, write_members};
-use miniserde_round::{Lossless, NeverNull, RoundTrip};
 use miniserde_ser::ser::{Serialize, Writer};
-use miniserde_stable::Stable;
 use miniserde_text::json::lex::Event;
 
 /// A struct without fields: it is read from any object, and written as `{}`.
@@ -65,22 +63,6 @@ impl Ranged for NoFields {
     ghost real = { λ v. ⊤ };
 
     fn ranged(&self) {}
-}
-
-impl RoundTrip for NoFields {
-    fn round_trips() {}
-}
-
-impl Lossless for NoFields {
-    fn lossless() {}
-}
-
-impl NeverNull for NoFields {
-    fn never_null() {}
-}
-
-impl Stable for NoFields {
-    fn stable() {}
 }
 
 impl Inside for NoFields {

@@ -1,5 +1,2 @@
-pub mod Aliases
 pub mod Due
-pub mod Named
-pub mod Rounds
-pub mod Stables
+pub mod Names

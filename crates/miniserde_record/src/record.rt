@@ -3,28 +3,21 @@
 mod aliases;
 mod blocks;
 mod fours;
-mod lossless;
 mod marks;
 mod members;
 mod names;
 mod omit;
-mod round_trips;
 mod slots;
-mod stable;
 mod structs;
+mod written;
 
-pub use aliases::{Aliased, HasAliases, aliased_round_trips};
+pub use aliases::{Aliased, HasAliases};
 pub use blocks::{FourSlot, MarkedFour};
 pub use fours::{FourParts, take_four};
-pub use lossless::{LosslessFields, record_lossless};
 pub use marks::{Closed, Empty, Given, Mark, Once, Plain, Repeats, WithDefault};
 pub use members::{FourLent, Lent, Members, write_members};
-pub use names::{
-    UnitEnum, Variant, Variants, read_variant, variant_lossless, variant_round_trips,
-    variant_stable,
-};
+pub use names::{UnitEnum, Variant, Variants, read_variant};
 pub use omit::{Omit, OmitSlot, Omitted};
-pub use round_trips::{RoundTripFields, record_round_trips};
 pub use slots::{MarkedSlot, NoSlot, OnceSlot, Slot, Slots, read_record};
-pub use stable::{StableFields, record_stable};
 pub use structs::{Parts, Record};
+pub use written::WrittenFields;

@@ -17,8 +17,6 @@ pub mod Variants
 pub mod Frames
 pub mod Walks
 pub mod Written
-pub mod Documents
-pub mod Contents
 pub mod Builds
 pub mod Openings
 pub mod Writes

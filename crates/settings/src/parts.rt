@@ -6,9 +6,9 @@ ghost use Rattle.std.specs.Prelude.{refl};
 
 use miniserde::derived::{
     Deserialize, Error, Event, Field, FromJson, Global, Lossless, NeverNull, NoField, NoSlot,
-    Parts, PlacedRecord, Ranged, Record, RecordPlace, Result, RoundTrip, RoundTripFields,
-    Serialize, Slot, Slots, Source, Step, Visitor, Writer, read_record, record_lossless,
-    record_round_trips, write_members,
+    Parts, PlacedRecord, Ranged, Record, RecordPlace, Result, RoundTrip, Serialize, Slot, Slots,
+    Source, Step, Visitor, Writer, WrittenFields, read_record, record_lossless, record_round_trips,
+    write_members,
 };
 
 /// A host, and how much of the work it gets.
@@ -61,8 +61,7 @@ impl FromJson for Host {
 }
 
 impl Serialize for Host {
-    ghost tree = { record_tree ⟦<Host as Record>⟧.names ⟦<HostFields as RoundTripFields>⟧.trees
-        ⟦<Host as Record>⟧.values };
+    ghost tree = { record_tree ⟦<Host as Record>⟧.names ⟦<HostFields as WrittenFields>⟧.trees ⟦<Host as Record>⟧.values };
 
     fn begin(&self, w: &mut Writer) -> Result<()> {
         write_members(w, HOST_NAMES, &Parts(&self.host, Parts(&self.weight, ())))
@@ -70,7 +69,7 @@ impl Serialize for Host {
 }
 
 impl Ranged for Host {
-    ghost real = { λ v. ⟦<HostFields as RoundTripFields>⟧.real (⟦<Host as Record>⟧.values v) };
+    ghost real = { λ v. ⟦<HostFields as WrittenFields>⟧.real (⟦<Host as Record>⟧.values v) };
 
     fn ranged(&self) {
         self.host.ranged();
@@ -189,7 +188,7 @@ impl FromJson for Tls {
 }
 
 impl Serialize for Tls {
-    ghost tree = { record_tree ⟦<Tls as Record>⟧.names ⟦<TlsFields as RoundTripFields>⟧.trees ⟦<Tls as Record>⟧.values };
+    ghost tree = { record_tree ⟦<Tls as Record>⟧.names ⟦<TlsFields as WrittenFields>⟧.trees ⟦<Tls as Record>⟧.values };
 
     fn begin(&self, w: &mut Writer) -> Result<()> {
         write_members(w, TLS_NAMES, &Parts(&self.cert, Parts(&self.verify, ())))
@@ -197,7 +196,7 @@ impl Serialize for Tls {
 }
 
 impl Ranged for Tls {
-    ghost real = { λ v. ⟦<TlsFields as RoundTripFields>⟧.real (⟦<Tls as Record>⟧.values v) };
+    ghost real = { λ v. ⟦<TlsFields as WrittenFields>⟧.real (⟦<Tls as Record>⟧.values v) };
 
     fn ranged(&self) {
         self.cert.ranged();

@@ -8,7 +8,7 @@ use crate::parts::{Host, Tls};
 use miniserde::derived::{
     Deserialize, Error, Event, Field, Four, FourLent, FourParts, FourSlot, FromJson, Global,
     Lossless, NeverNull, NoField, NoSlot, Parts, PlacedRecord, Ranged, Record, RecordPlace, Result,
-    RoundTrip, RoundTripFields, Serialize, Slot, Slots, Source, Step, Visitor, Writer, read_record,
+    RoundTrip, Serialize, Slot, Slots, Source, Step, Visitor, Writer, WrittenFields, read_record,
     record_lossless, record_round_trips, take_four, write_members,
 };
 use std::collections::BTreeMap;
@@ -86,7 +86,7 @@ impl FromJson for Settings {
 }
 
 impl Serialize for Settings {
-    ghost tree = { record_tree ⟦<Settings as Record>⟧.names ⟦<SettingsFields as RoundTripFields>⟧.trees ⟦<Settings as Record>⟧.values };
+    ghost tree = { record_tree ⟦<Settings as Record>⟧.names ⟦<SettingsFields as WrittenFields>⟧.trees ⟦<Settings as Record>⟧.values };
 
     fn begin(&self, w: &mut Writer) -> Result<()> {
         write_members(
@@ -104,7 +104,7 @@ impl Serialize for Settings {
 }
 
 impl Ranged for Settings {
-    ghost real = { λ v. ⟦<SettingsFields as RoundTripFields>⟧.real (⟦<Settings as Record>⟧.values v) };
+    ghost real = { λ v. ⟦<SettingsFields as WrittenFields>⟧.real (⟦<Settings as Record>⟧.values v) };
 
     fn ranged(&self) {
         self.name.ranged();

@@ -41,14 +41,24 @@ mod tests {
             (
                 "{\"id\":7,\"state\":\"packed\",\"extra\":{\"b\":-0,\"a\":[1.50]}}",
                 Some(
-                    "{\"id\":7,\"state\":\"sent\",\"weights\":[],\"extra\":{\"a\":[1.50],\"b\":0}}",
+                    "{\"id\":7,\"state\":\"sent\",\"weights\":[],\"tasks\":[],\"extra\":{\"a\":[1.50],\"b\":0}}",
                 ),
             ),
             (
                 "{\"extra\":null,\"note\":\"x\",\"weights\":[1,2],\"state\":\"sent\",\"id\":0}",
                 Some(
-                    "{\"id\":0,\"state\":\"sent\",\"weights\":[1,2],\"note\":\"x\",\"extra\":null}",
+                    "{\"id\":0,\"state\":\"sent\",\"weights\":[1,2],\"tasks\":[],\"note\":\"x\",\"extra\":null}",
                 ),
+            ),
+            (
+                "{\"id\":1,\"state\":\"sent\",\"tasks\":[\"Closed\",{\"Weighed\":9},{\"Labelled\":{\"large\":true,\"text\":\"a\"}}],\"extra\":1}",
+                Some(
+                    "{\"id\":1,\"state\":\"sent\",\"weights\":[],\"tasks\":[\"Closed\",{\"Weighed\":9},{\"Labelled\":{\"text\":\"a\",\"large\":true}}],\"extra\":1}",
+                ),
+            ),
+            (
+                "{\"id\":1,\"state\":\"sent\",\"tasks\":[{\"Weighed\":-9}],\"extra\":1}",
+                None,
             ),
             ("{\"id\":7,\"id\":7,\"state\":\"packed\",\"extra\":1}", None),
             ("{\"id\":7,\"state\":\"Packed\",\"extra\":1}", None),

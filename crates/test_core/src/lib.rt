@@ -1,5 +1,6 @@
-//! Tests of `miniserde_core`: a struct, a unit enum and a document over it alone. Nothing here is for users.
+//! Tests of `miniserde_core` with the crates of the laws: a struct, enums and a document. Nothing here is for users.
 #![tactic(auto)]
 
 pub mod calls;
 pub mod parcel;
+pub mod task;

@@ -4,14 +4,18 @@ ghost use Rattle.miniserde_core.specs.Structs.{names_of, record_tree};
 ghost use Rattle.miniserde_core.specs.Tree.{str};
 ghost use Rattle.std.specs.Prelude.{true, List, codes, [], ◌∷◌, ⊤, refl};
 
+use crate::task::Task;
 use miniserde_core::derived::{
-    Closed, Empty, Event, FourParts, Fragment, FromJson, Lossless, MarkedSlot, NeverNull, OmitSlot,
-    Omitted, OnceSlot, Parts, Plain, Ranged, Record, Result, RoundTrip, RoundTripFields, Serialize,
-    Slot, Slots, Source, Stable, UnitEnum, Variants, WithDefault, Writer, read_record,
-    read_variant, record_lossless, record_round_trips, record_stable, take_four, variant_lossless,
-    variant_round_trips, variant_stable, write_members,
+    Closed, Empty, Event, FourLent, FourParts, Fragment, FromJson, MarkedFour, OmitSlot, Omitted,
+    Once, Parts, Plain, Ranged, Record, Result, Serialize, Slot, Slots, Source, UnitEnum, Variants,
+    WithDefault, Writer, WrittenFields, read_record, read_variant, take_four, write_members,
 };
 use miniserde_core::json::Document;
+use miniserde_laws::{
+    Lossless, NeverNull, RoundTrip, record_lossless, record_round_trips, variant_lossless,
+    variant_round_trips,
+};
+use miniserde_stored::{Stable, record_stable, variant_stable};
 
 /// Where a parcel is.
 #[derive(Clone, Copy, PartialEq, Eq, Debug, Drop)]
@@ -97,20 +101,25 @@ pub struct Parcel {
     pub id: u64,
     pub state: State,
     pub weights: Vec<u32>,
+    pub tasks: Vec<Task>,
     pub note: Option<String>,
     pub extra: Document,
 }
 
 // Its fields, and their names.
-type ParcelFields = OnceSlot<
+type ParcelFields = MarkedFour<
     u64,
-    Slot<
-        State,
-        MarkedSlot<Vec<u32>, WithDefault<Empty>, OmitSlot<String, Plain, Slot<Document, Closed>>>,
-    >,
+    Once<Plain>,
+    State,
+    Plain,
+    Vec<u32>,
+    WithDefault<Empty>,
+    Vec<Task>,
+    WithDefault<Empty>,
+    OmitSlot<String, Plain, Slot<Document, Closed>>,
 >;
 
-const PARCEL_NAMES: &[&str] = &["id", "state", "weights", "note", "extra"];
+const PARCEL_NAMES: &[&str] = &["id", "state", "weights", "tasks", "note", "extra"];
 
 impl Record for Parcel {
     ghost use Rattle.test_core.specs.declared.parcel.TheConstants.{PARCEL_NAMES};
@@ -119,14 +128,15 @@ impl Record for Parcel {
 
     ghost names = { names_of PARCEL_NAMES };
 
-    ghost values = { λ v. (v.id, (v.state, (v.weights, (v.note, (v.extra, tt))))) };
+    ghost values = { λ v. (v.id, (v.state, (v.weights, (v.tasks, (v.note, (v.extra, tt)))))) };
 
     ghost made = { λ x. record {
       id = x.0;
       state = x.1.0;
       weights = x.1.1.0;
-      note = x.1.1.1.0;
-      extra = x.1.1.1.1.0;
+      tasks = x.1.1.1.0;
+      note = x.1.1.1.1.0;
+      extra = x.1.1.1.1.1.0;
     } };
 
     ghost bijective = { (λ v. refl, λ x. refl) };
@@ -138,12 +148,13 @@ impl Record for Parcel {
     }
 
     fn build(parts: Self::Values) -> Parcel {
-        let FourParts(id, state, weights, note, parts) = take_four(parts);
-        let Parts(extra, ()) = parts;
+        let FourParts(id, state, weights, tasks, parts) = take_four(parts);
+        let Parts(note, Parts(extra, ())) = parts;
         Parcel {
             id,
             state,
             weights,
+            tasks,
             note,
             extra,
         }
@@ -164,34 +175,32 @@ impl FromJson for Parcel {
 }
 
 impl Serialize for Parcel {
-    ghost tree = { record_tree ⟦<Parcel as Record>⟧.names ⟦<ParcelFields as RoundTripFields>⟧.trees
+    ghost tree = { record_tree ⟦<Parcel as Record>⟧.names ⟦<ParcelFields as WrittenFields>⟧.trees
         ⟦<Parcel as Record>⟧.values };
 
     fn begin(&self, w: &mut Writer) -> Result<()> {
         write_members(
             w,
             PARCEL_NAMES,
-            &Parts(
+            &FourLent(
                 &self.id,
-                Parts(
-                    &self.state,
-                    Parts(
-                        &self.weights,
-                        Parts(Omitted(&self.note), Parts(&self.extra, ())),
-                    ),
-                ),
+                &self.state,
+                &self.weights,
+                &self.tasks,
+                Parts(Omitted(&self.note), Parts(&self.extra, ())),
             ),
         )
     }
 }
 
 impl Ranged for Parcel {
-    ghost real = { λ v. ⟦<ParcelFields as RoundTripFields>⟧.real (⟦<Parcel as Record>⟧.values v) };
+    ghost real = { λ v. ⟦<ParcelFields as WrittenFields>⟧.real (⟦<Parcel as Record>⟧.values v) };
 
     fn ranged(&self) {
         self.id.ranged();
         self.state.ranged();
         self.weights.ranged();
+        self.tasks.ranged();
         self.note.ranged();
         self.extra.ranged();
     }

@@ -1,3 +1,5 @@
+use crate::task::Task;
+
 /// Where a parcel is.
 pub enum State { // rename_all "lowercase", lossless, stable
     Packed,
@@ -9,6 +11,7 @@ pub struct Parcel { // closed, lossless, stable
     pub id: u64, // once
     pub state: State,
     pub weights: Vec<u32>, // default
+    pub tasks: Vec<Task>, // default
     pub note: Option<String>, // omit
     pub extra: Document,
 }

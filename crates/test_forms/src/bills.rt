@@ -6,8 +6,8 @@ ghost use Rattle.std.specs.Prelude.{refl};
 
 use miniserde::derived::{
     Event, FromJson, Given, Global, MarkedSlot, NeverNull, NoSlot, OmitSlot, Omitted, Parts, Plain,
-    Ranged, Record, Result, RoundTrip, RoundTripFields, Serialize, Slot, Slots, Source,
-    WithDefault, Writer, read_record, record_round_trips, write_members,
+    Ranged, Record, Result, RoundTrip, Serialize, Slot, Slots, Source, WithDefault, Writer,
+    WrittenFields, read_record, record_round_trips, write_members,
 };
 use miniserde::json::Number;
 
@@ -74,7 +74,7 @@ impl FromJson for Amount {
 }
 
 impl Serialize for Amount {
-    ghost tree = { record_tree ⟦<Amount as Record>⟧.names ⟦<AmountFields as RoundTripFields>⟧.trees
+    ghost tree = { record_tree ⟦<Amount as Record>⟧.names ⟦<AmountFields as WrittenFields>⟧.trees
         ⟦<Amount as Record>⟧.values };
 
     fn begin(&self, w: &mut Writer) -> Result<()> {
@@ -87,7 +87,7 @@ impl Serialize for Amount {
 }
 
 impl Ranged for Amount {
-    ghost real = { λ v. ⟦<AmountFields as RoundTripFields>⟧.real (⟦<Amount as Record>⟧.values v) };
+    ghost real = { λ v. ⟦<AmountFields as WrittenFields>⟧.real (⟦<Amount as Record>⟧.values v) };
 
     fn ranged(&self) {
         self.total.ranged();
@@ -155,8 +155,7 @@ impl FromJson for Bill {
 }
 
 impl Serialize for Bill {
-    ghost tree = { record_tree ⟦<Bill as Record>⟧.names ⟦<BillFields as RoundTripFields>⟧.trees
-        ⟦<Bill as Record>⟧.values };
+    ghost tree = { record_tree ⟦<Bill as Record>⟧.names ⟦<BillFields as WrittenFields>⟧.trees ⟦<Bill as Record>⟧.values };
 
     fn begin(&self, w: &mut Writer) -> Result<()> {
         write_members(
@@ -168,7 +167,7 @@ impl Serialize for Bill {
 }
 
 impl Ranged for Bill {
-    ghost real = { λ v. ⟦<BillFields as RoundTripFields>⟧.real (⟦<Bill as Record>⟧.values v) };
+    ghost real = { λ v. ⟦<BillFields as WrittenFields>⟧.real (⟦<Bill as Record>⟧.values v) };
 
     fn ranged(&self) {
         self.amount.ranged();

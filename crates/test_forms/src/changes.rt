@@ -9,10 +9,10 @@ use crate::commands::Task;
 use miniserde::derived::{
     BesideTag, DataCase, DataEnum, Event, FromJson, HasTag, Inside, InsideCases, Lossless, Members,
     NeverNull, NoCase, NoFields, NoSlot, OmitSlot, Omitted, OneOf, Parts, Plain, Ranged, Record,
-    Result, RoundTrip, RoundTripCases, RoundTripFields, Serialize, Slot, Slots, Source, Stable,
-    Writer, fields_named, read_record, read_tagged, record_lossless, record_round_trips,
-    record_stable, tag_fits, tagged_lossless, tagged_round_trips, tagged_stable, write_members,
-    write_tagged, write_tagged_fields,
+    Result, RoundTrip, Serialize, Slot, Slots, Source, Stable, Writer, WrittenCases, WrittenFields,
+    fields_named, read_record, read_tagged, record_lossless, record_round_trips, record_stable,
+    tag_fits, tagged_lossless, tagged_round_trips, tagged_stable, write_members, write_tagged,
+    write_tagged_fields,
 };
 
 /// The fields of `Change::Mark`.
@@ -65,7 +65,7 @@ impl FromJson for ChangeMark {
 }
 
 impl Serialize for ChangeMark {
-    ghost tree = { record_tree ⟦<ChangeMark as Record>⟧.names ⟦<ChangeMarkFields as RoundTripFields>⟧.trees ⟦<ChangeMark as Record>⟧.values };
+    ghost tree = { record_tree ⟦<ChangeMark as Record>⟧.names ⟦<ChangeMarkFields as WrittenFields>⟧.trees ⟦<ChangeMark as Record>⟧.values };
 
     fn begin(&self, w: &mut Writer) -> Result<()> {
         write_members(
@@ -77,7 +77,8 @@ impl Serialize for ChangeMark {
 }
 
 impl Ranged for ChangeMark {
-    ghost real = { λ v. ⟦<ChangeMarkFields as RoundTripFields>⟧.real (⟦<ChangeMark as Record>⟧.values v) };
+    ghost real = { λ v. ⟦<ChangeMarkFields as WrittenFields>⟧.real (⟦<ChangeMark as Record>⟧.values
+        v) };
 
     fn ranged(&self) {
         self.at.ranged();
@@ -212,7 +213,7 @@ impl FromJson for Change {
 }
 
 impl Serialize for Change {
-    ghost tree = { tagged_tree ⟦<Change as HasTag>⟧.tag ⟦<Change as DataEnum>⟧.names ⟦<ChangeCases as RoundTripCases>⟧.tree ⟦<Change as DataEnum>⟧.values };
+    ghost tree = { tagged_tree ⟦<Change as HasTag>⟧.tag ⟦<Change as DataEnum>⟧.names ⟦<ChangeCases as WrittenCases>⟧.tree ⟦<Change as DataEnum>⟧.values };
 
     fn begin(&self, w: &mut Writer) -> Result<()> {
         match self {
@@ -232,7 +233,7 @@ impl Serialize for Change {
 }
 
 impl Ranged for Change {
-    ghost real = { λ v. ⟦<ChangeCases as RoundTripCases>⟧.real (⟦<Change as DataEnum>⟧.values v) };
+    ghost real = { λ v. ⟦<ChangeCases as WrittenCases>⟧.real (⟦<Change as DataEnum>⟧.values v) };
 
     fn ranged(&self) {
         match self {

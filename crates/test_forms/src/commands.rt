@@ -7,10 +7,10 @@ ghost use Rattle.std.specs.Prelude.{refl};
 
 use miniserde::derived::{
     BesideTag, Cases, DataCase, DataEnum, Event, Fragment, FromJson, HasTag, Inside, Lossless,
-    Members, NeverNull, NoCase, NoSlot, OneOf, Parts, Ranged, Record, Result, RoundTrip,
-    RoundTripCases, RoundTripFields, Serialize, Slot, Slots, Source, Stable, UnitCase, Writer,
-    enum_lossless, enum_round_trips, enum_stable, fields_named, read_enum, read_record,
-    record_lossless, record_round_trips, record_stable, write_data, write_fields, write_members,
+    Members, NeverNull, NoCase, NoSlot, OneOf, Parts, Ranged, Record, Result, RoundTrip, Serialize,
+    Slot, Slots, Source, Stable, UnitCase, Writer, WrittenCases, WrittenFields, enum_lossless,
+    enum_round_trips, enum_stable, fields_named, read_enum, read_record, record_lossless,
+    record_round_trips, record_stable, write_data, write_fields, write_members,
 };
 
 /// The fields of `Command::Move`.
@@ -63,7 +63,7 @@ impl FromJson for CommandMove {
 }
 
 impl Serialize for CommandMove {
-    ghost tree = { record_tree ⟦<CommandMove as Record>⟧.names ⟦<CommandMoveFields as RoundTripFields>⟧.trees ⟦<CommandMove as Record>⟧.values };
+    ghost tree = { record_tree ⟦<CommandMove as Record>⟧.names ⟦<CommandMoveFields as WrittenFields>⟧.trees ⟦<CommandMove as Record>⟧.values };
 
     fn begin(&self, w: &mut Writer) -> Result<()> {
         write_members(w, COMMAND_MOVE_NAMES, &Parts(&self.x, Parts(&self.y, ())))
@@ -71,7 +71,7 @@ impl Serialize for CommandMove {
 }
 
 impl Ranged for CommandMove {
-    ghost real = { λ v. ⟦<CommandMoveFields as RoundTripFields>⟧.real (⟦<CommandMove as Record>⟧.values v) };
+    ghost real = { λ v. ⟦<CommandMoveFields as WrittenFields>⟧.real (⟦<CommandMove as Record>⟧.values v) };
 
     fn ranged(&self) {
         self.x.ranged();
@@ -172,7 +172,7 @@ impl FromJson for Command {
 }
 
 impl Serialize for Command {
-    ghost tree = { enum_tree ⟦<Command as DataEnum>⟧.names ⟦<CommandCases as RoundTripCases>⟧.tree
+    ghost tree = { enum_tree ⟦<Command as DataEnum>⟧.names ⟦<CommandCases as WrittenCases>⟧.tree
         ⟦<Command as DataEnum>⟧.values };
 
     fn begin(&self, w: &mut Writer) -> Result<()> {
@@ -187,7 +187,7 @@ impl Serialize for Command {
 }
 
 impl Ranged for Command {
-    ghost real = { λ v. ⟦<CommandCases as RoundTripCases>⟧.real (⟦<Command as DataEnum>⟧.values v) };
+    ghost real = { λ v. ⟦<CommandCases as WrittenCases>⟧.real (⟦<Command as DataEnum>⟧.values v) };
 
     fn ranged(&self) {
         match self {
@@ -273,8 +273,7 @@ impl FromJson for Task {
 }
 
 impl Serialize for Task {
-    ghost tree = { record_tree ⟦<Task as Record>⟧.names ⟦<TaskFields as RoundTripFields>⟧.trees
-        ⟦<Task as Record>⟧.values };
+    ghost tree = { record_tree ⟦<Task as Record>⟧.names ⟦<TaskFields as WrittenFields>⟧.trees ⟦<Task as Record>⟧.values };
 
     fn begin(&self, w: &mut Writer) -> Result<()> {
         write_members(w, TASK_NAMES, &Parts(&self.name, Parts(&self.command, ())))
@@ -282,7 +281,7 @@ impl Serialize for Task {
 }
 
 impl Ranged for Task {
-    ghost real = { λ v. ⟦<TaskFields as RoundTripFields>⟧.real (⟦<Task as Record>⟧.values v) };
+    ghost real = { λ v. ⟦<TaskFields as WrittenFields>⟧.real (⟦<Task as Record>⟧.values v) };
 
     fn ranged(&self) {
         self.name.ranged();

@@ -6,8 +6,8 @@ ghost use Rattle.std.specs.Prelude.{refl};
 
 use miniserde::derived::{
     Event, FourLent, FourParts, FourSlot, FromJson, Given, Global, MarkedFour, NoSlot, Plain,
-    Ranged, Record, Result, RoundTrip, RoundTripFields, Serialize, Slots, Source, WithDefault,
-    Writer, read_record, record_round_trips, take_four, write_members,
+    Ranged, Record, Result, RoundTrip, Serialize, Slots, Source, WithDefault, Writer,
+    WrittenFields, read_record, record_round_trips, take_four, write_members,
 };
 use std::collections::BTreeMap;
 
@@ -95,7 +95,8 @@ impl FromJson for Address {
 }
 
 impl Serialize for Address {
-    ghost tree = { record_tree ⟦<Address as Record>⟧.names ⟦<AddressFields as RoundTripFields>⟧.trees ⟦<Address as Record>⟧.values };
+    ghost tree = { record_tree ⟦<Address as Record>⟧.names ⟦<AddressFields as WrittenFields>⟧.trees
+        ⟦<Address as Record>⟧.values };
 
     fn begin(&self, w: &mut Writer) -> Result<()> {
         write_members(
@@ -107,7 +108,7 @@ impl Serialize for Address {
 }
 
 impl Ranged for Address {
-    ghost real = { λ v. ⟦<AddressFields as RoundTripFields>⟧.real (⟦<Address as Record>⟧.values v) };
+    ghost real = { λ v. ⟦<AddressFields as WrittenFields>⟧.real (⟦<Address as Record>⟧.values v) };
 
     fn ranged(&self) {
         self.street.ranged();
@@ -181,7 +182,7 @@ impl FromJson for Customer {
 }
 
 impl Serialize for Customer {
-    ghost tree = { record_tree ⟦<Customer as Record>⟧.names ⟦<CustomerFields as RoundTripFields>⟧.trees ⟦<Customer as Record>⟧.values };
+    ghost tree = { record_tree ⟦<Customer as Record>⟧.names ⟦<CustomerFields as WrittenFields>⟧.trees ⟦<Customer as Record>⟧.values };
 
     fn begin(&self, w: &mut Writer) -> Result<()> {
         write_members(
@@ -193,7 +194,7 @@ impl Serialize for Customer {
 }
 
 impl Ranged for Customer {
-    ghost real = { λ v. ⟦<CustomerFields as RoundTripFields>⟧.real (⟦<Customer as Record>⟧.values v) };
+    ghost real = { λ v. ⟦<CustomerFields as WrittenFields>⟧.real (⟦<Customer as Record>⟧.values v) };
 
     fn ranged(&self) {
         self.id.ranged();

@@ -7,8 +7,8 @@ ghost use Rattle.std.specs.Prelude.{refl};
 
 use miniserde::derived::{
     Cases, DataCase, DataEnum, Event, Fragment, FromJson, Lossless, NeverNull, NoCase, NoSlot,
-    OmitSlot, Omitted, OneOf, Parts, Plain, Ranged, Record, Result, RoundTrip, RoundTripCases,
-    RoundTripFields, Serialize, Slot, Slots, Source, Stable, UnitCase, Writer, enum_lossless,
+    OmitSlot, Omitted, OneOf, Parts, Plain, Ranged, Record, Result, RoundTrip, Serialize, Slot,
+    Slots, Source, Stable, UnitCase, Writer, WrittenCases, WrittenFields, enum_lossless,
     enum_round_trips, enum_stable, read_enum, read_record, record_lossless, record_round_trips,
     record_stable, write_fields, write_members,
 };
@@ -63,8 +63,9 @@ impl<T: FromJson> FromJson for Slip<T> {
     }
 }
 
-impl<T: RoundTrip + NeverNull> Serialize for Slip<T> {
-    ghost tree = { record_tree ⟦<Slip<T> as Record>⟧.names ⟦<SlipFields<T> as RoundTripFields>⟧.trees ⟦<Slip<T> as Record>⟧.values };
+impl<T: FromJson + Ranged + Serialize> Serialize for Slip<T> {
+    ghost tree = { record_tree ⟦<Slip<T> as Record>⟧.names ⟦<SlipFields<T> as WrittenFields>⟧.trees
+        ⟦<Slip<T> as Record>⟧.values };
 
     fn begin(&self, w: &mut Writer) -> Result<()> {
         write_members(
@@ -75,8 +76,8 @@ impl<T: RoundTrip + NeverNull> Serialize for Slip<T> {
     }
 }
 
-impl<T: RoundTrip + NeverNull> Ranged for Slip<T> {
-    ghost real = { λ v. ⟦<SlipFields<T> as RoundTripFields>⟧.real (⟦<Slip<T> as Record>⟧.values v) };
+impl<T: FromJson + Ranged + Serialize> Ranged for Slip<T> {
+    ghost real = { λ v. ⟦<SlipFields<T> as WrittenFields>⟧.real (⟦<Slip<T> as Record>⟧.values v) };
 
     fn ranged(&self) {
         self.of.ranged();
@@ -156,8 +157,8 @@ impl<T: FromJson> FromJson for EntryLog<T> {
     }
 }
 
-impl<T: RoundTrip + NeverNull> Serialize for EntryLog<T> {
-    ghost tree = { record_tree ⟦<EntryLog<T> as Record>⟧.names ⟦<EntryLogFields<T> as RoundTripFields>⟧.trees ⟦<EntryLog<T> as Record>⟧.values };
+impl<T: FromJson + Ranged + Serialize> Serialize for EntryLog<T> {
+    ghost tree = { record_tree ⟦<EntryLog<T> as Record>⟧.names ⟦<EntryLogFields<T> as WrittenFields>⟧.trees ⟦<EntryLog<T> as Record>⟧.values };
 
     fn begin(&self, w: &mut Writer) -> Result<()> {
         write_members(
@@ -171,8 +172,8 @@ impl<T: RoundTrip + NeverNull> Serialize for EntryLog<T> {
     }
 }
 
-impl<T: RoundTrip + NeverNull> Ranged for EntryLog<T> {
-    ghost real = { λ v. ⟦<EntryLogFields<T> as RoundTripFields>⟧.real (⟦<EntryLog<T> as Record>⟧.values v) };
+impl<T: FromJson + Ranged + Serialize> Ranged for EntryLog<T> {
+    ghost real = { λ v. ⟦<EntryLogFields<T> as WrittenFields>⟧.real (⟦<EntryLog<T> as Record>⟧.values v) };
 
     fn ranged(&self) {
         self.level.ranged();
@@ -272,8 +273,8 @@ impl<T: FromJson> FromJson for Entry<T> {
     }
 }
 
-impl<T: RoundTrip + NeverNull> Serialize for Entry<T> {
-    ghost tree = { enum_tree ⟦<Entry<T> as DataEnum>⟧.names ⟦<EntryCases<T> as RoundTripCases>⟧.tree
+impl<T: FromJson + Ranged + Serialize> Serialize for Entry<T> {
+    ghost tree = { enum_tree ⟦<Entry<T> as DataEnum>⟧.names ⟦<EntryCases<T> as WrittenCases>⟧.tree
         ⟦<Entry<T> as DataEnum>⟧.values };
 
     fn begin(&self, w: &mut Writer) -> Result<()> {
@@ -291,8 +292,8 @@ impl<T: RoundTrip + NeverNull> Serialize for Entry<T> {
     }
 }
 
-impl<T: RoundTrip + NeverNull> Ranged for Entry<T> {
-    ghost real = { λ v. ⟦<EntryCases<T> as RoundTripCases>⟧.real (⟦<Entry<T> as DataEnum>⟧.values v) };
+impl<T: FromJson + Ranged + Serialize> Ranged for Entry<T> {
+    ghost real = { λ v. ⟦<EntryCases<T> as WrittenCases>⟧.real (⟦<Entry<T> as DataEnum>⟧.values v) };
 
     fn ranged(&self) {
         match self {

@@ -8,9 +8,8 @@ ghost use Rattle.std.specs.Prelude.{refl};
 use miniserde::derived::{
     Aliased, BesideTag, Closed, Event, FromJson, Given, Global, HasAliases, HasTag, Inside,
     Lossless, MarkedSlot, Members, NeverNull, NoSlot, OmitSlot, Omitted, Once, Parts, Plain,
-    Ranged, Record, Result, RoundTrip, RoundTripFields, Serialize, Slot, Slots, Source,
-    WithDefault, Writer, aliased_round_trips, fields_named, read_record, record_lossless,
-    write_members,
+    Ranged, Record, Result, RoundTrip, Serialize, Slot, Slots, Source, WithDefault, Writer,
+    WrittenFields, aliased_round_trips, fields_named, read_record, record_lossless, write_members,
 };
 
 /// A host, which earlier versions named otherwise.
@@ -98,8 +97,7 @@ impl FromJson for Host {
 }
 
 impl Serialize for Host {
-    ghost tree = { record_tree ⟦<Host as Record>⟧.names ⟦<HostFields as RoundTripFields>⟧.trees
-        ⟦<Host as Record>⟧.values };
+    ghost tree = { record_tree ⟦<Host as Record>⟧.names ⟦<HostFields as WrittenFields>⟧.trees ⟦<Host as Record>⟧.values };
 
     fn begin(&self, w: &mut Writer) -> Result<()> {
         write_members(
@@ -114,7 +112,7 @@ impl Serialize for Host {
 }
 
 impl Ranged for Host {
-    ghost real = { λ v. ⟦<HostFields as RoundTripFields>⟧.real (⟦<Host as Record>⟧.values v) };
+    ghost real = { λ v. ⟦<HostFields as WrittenFields>⟧.real (⟦<Host as Record>⟧.values v) };
 
     fn ranged(&self) {
         self.name.ranged();
@@ -225,8 +223,7 @@ impl FromJson for Only {
 }
 
 impl Serialize for Only {
-    ghost tree = { record_tree ⟦<Only as Record>⟧.names ⟦<OnlyFields as RoundTripFields>⟧.trees
-        ⟦<Only as Record>⟧.values };
+    ghost tree = { record_tree ⟦<Only as Record>⟧.names ⟦<OnlyFields as WrittenFields>⟧.trees ⟦<Only as Record>⟧.values };
 
     fn begin(&self, w: &mut Writer) -> Result<()> {
         write_members(w, ONLY_NAMES, &Parts(&self.host, ()))
@@ -234,7 +231,7 @@ impl Serialize for Only {
 }
 
 impl Ranged for Only {
-    ghost real = { λ v. ⟦<OnlyFields as RoundTripFields>⟧.real (⟦<Only as Record>⟧.values v) };
+    ghost real = { λ v. ⟦<OnlyFields as WrittenFields>⟧.real (⟦<Only as Record>⟧.values v) };
 
     fn ranged(&self) {
         self.host.ranged();

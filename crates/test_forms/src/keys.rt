@@ -6,7 +6,7 @@ ghost use Rattle.std.specs.Prelude.{refl};
 
 use miniserde::derived::{
     Cases, DataCase, DataEnum, Event, Fragment, FromJson, Lossless, NeverNull, NoCase, OneOf,
-    Ranged, Result, RoundTrip, RoundTripCases, Serialize, Source, Stable, UnitCase, Writer,
+    Ranged, Result, RoundTrip, Serialize, Source, Stable, UnitCase, Writer, WrittenCases,
     enum_lossless, enum_round_trips, enum_stable, read_enum, write_data,
 };
 
@@ -238,7 +238,7 @@ impl FromJson for Key {
 }
 
 impl Serialize for Key {
-    ghost tree = { enum_tree ⟦<Key as DataEnum>⟧.names ⟦<KeyCases as RoundTripCases>⟧.tree ⟦<Key as DataEnum>⟧.values };
+    ghost tree = { enum_tree ⟦<Key as DataEnum>⟧.names ⟦<KeyCases as WrittenCases>⟧.tree ⟦<Key as DataEnum>⟧.values };
 
     fn begin(&self, w: &mut Writer) -> Result<()> {
         match self {
@@ -263,7 +263,7 @@ impl Serialize for Key {
 }
 
 impl Ranged for Key {
-    ghost real = { λ v. ⟦<KeyCases as RoundTripCases>⟧.real (⟦<Key as DataEnum>⟧.values v) };
+    ghost real = { λ v. ⟦<KeyCases as WrittenCases>⟧.real (⟦<Key as DataEnum>⟧.values v) };
 
     fn ranged(&self) {
         match self {

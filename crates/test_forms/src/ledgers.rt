@@ -5,8 +5,8 @@ ghost use Rattle.std.specs.Prelude.{refl};
 
 use crate::orders::Order;
 use miniserde::derived::{
-    Event, FromJson, NoSlot, Parts, Ranged, Record, Result, RoundTrip, RoundTripFields, Serialize,
-    Slot, Slots, Source, Writer, read_record, record_round_trips, write_members,
+    Event, FromJson, NoSlot, Parts, Ranged, Record, Result, RoundTrip, Serialize, Slot, Slots,
+    Source, Writer, WrittenFields, read_record, record_round_trips, write_members,
 };
 use miniserde::json::Number;
 use std::collections::BTreeMap;
@@ -66,7 +66,7 @@ impl FromJson for Day {
 }
 
 impl Serialize for Day {
-    ghost tree = { record_tree ⟦<Day as Record>⟧.names ⟦<DayFields as RoundTripFields>⟧.trees ⟦<Day as Record>⟧.values };
+    ghost tree = { record_tree ⟦<Day as Record>⟧.names ⟦<DayFields as WrittenFields>⟧.trees ⟦<Day as Record>⟧.values };
 
     fn begin(&self, w: &mut Writer) -> Result<()> {
         write_members(
@@ -78,7 +78,7 @@ impl Serialize for Day {
 }
 
 impl Ranged for Day {
-    ghost real = { λ v. ⟦<DayFields as RoundTripFields>⟧.real (⟦<Day as Record>⟧.values v) };
+    ghost real = { λ v. ⟦<DayFields as WrittenFields>⟧.real (⟦<Day as Record>⟧.values v) };
 
     fn ranged(&self) {
         self.date.ranged();
@@ -145,7 +145,7 @@ impl FromJson for Ledger {
 }
 
 impl Serialize for Ledger {
-    ghost tree = { record_tree ⟦<Ledger as Record>⟧.names ⟦<LedgerFields as RoundTripFields>⟧.trees
+    ghost tree = { record_tree ⟦<Ledger as Record>⟧.names ⟦<LedgerFields as WrittenFields>⟧.trees
         ⟦<Ledger as Record>⟧.values };
 
     fn begin(&self, w: &mut Writer) -> Result<()> {
@@ -158,7 +158,7 @@ impl Serialize for Ledger {
 }
 
 impl Ranged for Ledger {
-    ghost real = { λ v. ⟦<LedgerFields as RoundTripFields>⟧.real (⟦<Ledger as Record>⟧.values v) };
+    ghost real = { λ v. ⟦<LedgerFields as WrittenFields>⟧.real (⟦<Ledger as Record>⟧.values v) };
 
     fn ranged(&self) {
         self.days.ranged();

@@ -6,9 +6,9 @@ ghost use Rattle.std.specs.Prelude.{refl};
 use crate::commands::Task;
 use miniserde::derived::{
     Closed, Event, FourLent, FourParts, FourSlot, FromJson, Lossless, NeverNull, NoSlot, OmitSlot,
-    Omitted, Once, Parts, Plain, Ranged, Record, Result, RoundTrip, RoundTripFields, Serialize,
-    Slot, Slots, Source, Stable, Writer, read_record, record_lossless, record_round_trips,
-    record_stable, take_four, write_members,
+    Omitted, Once, Parts, Plain, Ranged, Record, Result, RoundTrip, Serialize, Slot, Slots, Source,
+    Stable, Writer, WrittenFields, read_record, record_lossless, record_round_trips, record_stable,
+    take_four, write_members,
 };
 
 /// A note, of which only the name is always written.
@@ -132,8 +132,7 @@ impl FromJson for Note {
 }
 
 impl Serialize for Note {
-    ghost tree = { record_tree ⟦<Note as Record>⟧.names ⟦<NoteFields as RoundTripFields>⟧.trees
-        ⟦<Note as Record>⟧.values };
+    ghost tree = { record_tree ⟦<Note as Record>⟧.names ⟦<NoteFields as WrittenFields>⟧.trees ⟦<Note as Record>⟧.values };
 
     fn begin(&self, w: &mut Writer) -> Result<()> {
         write_members(
@@ -163,7 +162,7 @@ impl Serialize for Note {
 }
 
 impl Ranged for Note {
-    ghost real = { λ v. ⟦<NoteFields as RoundTripFields>⟧.real (⟦<Note as Record>⟧.values v) };
+    ghost real = { λ v. ⟦<NoteFields as WrittenFields>⟧.real (⟦<Note as Record>⟧.values v) };
 
     fn ranged(&self) {
         self.text.ranged();
@@ -250,8 +249,7 @@ impl FromJson for Bare {
 }
 
 impl Serialize for Bare {
-    ghost tree = { record_tree ⟦<Bare as Record>⟧.names ⟦<BareFields as RoundTripFields>⟧.trees
-        ⟦<Bare as Record>⟧.values };
+    ghost tree = { record_tree ⟦<Bare as Record>⟧.names ⟦<BareFields as WrittenFields>⟧.trees ⟦<Bare as Record>⟧.values };
 
     fn begin(&self, w: &mut Writer) -> Result<()> {
         write_members(
@@ -263,7 +261,7 @@ impl Serialize for Bare {
 }
 
 impl Ranged for Bare {
-    ghost real = { λ v. ⟦<BareFields as RoundTripFields>⟧.real (⟦<Bare as Record>⟧.values v) };
+    ghost real = { λ v. ⟦<BareFields as WrittenFields>⟧.real (⟦<Bare as Record>⟧.values v) };
 
     fn ranged(&self) {
         self.one.ranged();

@@ -7,9 +7,9 @@ ghost use Rattle.std.specs.Prelude.{true, List, codes, [], ◌∷◌, ⊤, refl}
 use crate::customers::Customer;
 use miniserde::derived::{
     Closed, Event, FourLent, FourParts, Fragment, FromJson, Given, Global, MarkedFour, NoSlot,
-    Once, Parts, Plain, Ranged, Record, Result, RoundTrip, RoundTripFields, Serialize, Slot, Slots,
-    Source, UnitEnum, Variants, WithDefault, Writer, read_record, read_variant, record_round_trips,
-    take_four, variant_round_trips, write_members,
+    Once, Parts, Plain, Ranged, Record, Result, RoundTrip, Serialize, Slot, Slots, Source,
+    UnitEnum, Variants, WithDefault, Writer, WrittenFields, read_record, read_variant,
+    record_round_trips, take_four, variant_round_trips, write_members,
 };
 use miniserde::json::Value;
 
@@ -156,8 +156,7 @@ impl FromJson for Item {
 }
 
 impl Serialize for Item {
-    ghost tree = { record_tree ⟦<Item as Record>⟧.names ⟦<ItemFields as RoundTripFields>⟧.trees
-        ⟦<Item as Record>⟧.values };
+    ghost tree = { record_tree ⟦<Item as Record>⟧.names ⟦<ItemFields as WrittenFields>⟧.trees ⟦<Item as Record>⟧.values };
 
     fn begin(&self, w: &mut Writer) -> Result<()> {
         write_members(
@@ -169,7 +168,7 @@ impl Serialize for Item {
 }
 
 impl Ranged for Item {
-    ghost real = { λ v. ⟦<ItemFields as RoundTripFields>⟧.real (⟦<Item as Record>⟧.values v) };
+    ghost real = { λ v. ⟦<ItemFields as WrittenFields>⟧.real (⟦<Item as Record>⟧.values v) };
 
     fn ranged(&self) {
         self.sku.ranged();
@@ -288,7 +287,7 @@ impl FromJson for Order {
 }
 
 impl Serialize for Order {
-    ghost tree = { record_tree ⟦<Order as Record>⟧.names ⟦<OrderFields as RoundTripFields>⟧.trees
+    ghost tree = { record_tree ⟦<Order as Record>⟧.names ⟦<OrderFields as WrittenFields>⟧.trees
         ⟦<Order as Record>⟧.values };
 
     fn begin(&self, w: &mut Writer) -> Result<()> {
@@ -307,7 +306,7 @@ impl Serialize for Order {
 }
 
 impl Ranged for Order {
-    ghost real = { λ v. ⟦<OrderFields as RoundTripFields>⟧.real (⟦<Order as Record>⟧.values v) };
+    ghost real = { λ v. ⟦<OrderFields as WrittenFields>⟧.real (⟦<Order as Record>⟧.values v) };
 
     fn ranged(&self) {
         self.number.ranged();

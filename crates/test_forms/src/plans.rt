@@ -7,7 +7,7 @@ ghost use Rattle.std.specs.Prelude.{refl};
 use crate::commands::Task;
 use miniserde::derived::{
     Cases, DataCase, DataEnum, Event, Fragment, FromJson, Lossless, NeverNull, NoCase, OneOf,
-    Ranged, Result, RoundTrip, RoundTripCases, Serialize, Source, Stable, UnitCase, Writer,
+    Ranged, Result, RoundTrip, Serialize, Source, Stable, UnitCase, Writer, WrittenCases,
     enum_lossless, enum_round_trips, enum_stable, read_enum, write_data,
 };
 
@@ -93,7 +93,7 @@ impl FromJson for Plan {
 }
 
 impl Serialize for Plan {
-    ghost tree = { enum_tree ⟦<Plan as DataEnum>⟧.names ⟦<PlanCases as RoundTripCases>⟧.tree ⟦<Plan as DataEnum>⟧.values };
+    ghost tree = { enum_tree ⟦<Plan as DataEnum>⟧.names ⟦<PlanCases as WrittenCases>⟧.tree ⟦<Plan as DataEnum>⟧.values };
 
     fn begin(&self, w: &mut Writer) -> Result<()> {
         match self {
@@ -106,7 +106,7 @@ impl Serialize for Plan {
 }
 
 impl Ranged for Plan {
-    ghost real = { λ v. ⟦<PlanCases as RoundTripCases>⟧.real (⟦<Plan as DataEnum>⟧.values v) };
+    ghost real = { λ v. ⟦<PlanCases as WrittenCases>⟧.real (⟦<Plan as DataEnum>⟧.values v) };
 
     fn ranged(&self) {
         match self {

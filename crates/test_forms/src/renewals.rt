@@ -10,7 +10,7 @@ use crate::hosts::Host;
 use miniserde::derived::{
     Aliased, BesideTag, DataCase, DataEnum, Event, FromJson, HasAliases, HasTag, Inside,
     InsideCases, Lossless, Members, NeverNull, NoCase, NoSlot, OneOf, Parts, Ranged, Record,
-    Result, RoundTrip, RoundTripCases, RoundTripFields, Serialize, Slot, Slots, Source, Writer,
+    Result, RoundTrip, Serialize, Slot, Slots, Source, Writer, WrittenCases, WrittenFields,
     aliased_round_trips, fields_named, read_record, read_tagged, record_lossless, tag_fits,
     tagged_lossless, tagged_round_trips, write_members, write_tagged, write_tagged_fields,
 };
@@ -80,7 +80,7 @@ impl FromJson for RenewalMove {
 }
 
 impl Serialize for RenewalMove {
-    ghost tree = { record_tree ⟦<RenewalMove as Record>⟧.names ⟦<RenewalMoveFields as RoundTripFields>⟧.trees ⟦<RenewalMove as Record>⟧.values };
+    ghost tree = { record_tree ⟦<RenewalMove as Record>⟧.names ⟦<RenewalMoveFields as WrittenFields>⟧.trees ⟦<RenewalMove as Record>⟧.values };
 
     fn begin(&self, w: &mut Writer) -> Result<()> {
         write_members(
@@ -92,7 +92,7 @@ impl Serialize for RenewalMove {
 }
 
 impl Ranged for RenewalMove {
-    ghost real = { λ v. ⟦<RenewalMoveFields as RoundTripFields>⟧.real (⟦<RenewalMove as Record>⟧.values v) };
+    ghost real = { λ v. ⟦<RenewalMoveFields as WrittenFields>⟧.real (⟦<RenewalMove as Record>⟧.values v) };
 
     fn ranged(&self) {
         self.from.ranged();
@@ -221,7 +221,7 @@ impl FromJson for Renewal {
 
 impl Serialize for Renewal {
     ghost tree = { tagged_tree ⟦<Renewal as HasTag>⟧.tag ⟦<Renewal as DataEnum>⟧.names
-        ⟦<RenewalCases as RoundTripCases>⟧.tree ⟦<Renewal as DataEnum>⟧.values };
+        ⟦<RenewalCases as WrittenCases>⟧.tree ⟦<Renewal as DataEnum>⟧.values };
 
     fn begin(&self, w: &mut Writer) -> Result<()> {
         match self {
@@ -240,7 +240,7 @@ impl Serialize for Renewal {
 }
 
 impl Ranged for Renewal {
-    ghost real = { λ v. ⟦<RenewalCases as RoundTripCases>⟧.real (⟦<Renewal as DataEnum>⟧.values v) };
+    ghost real = { λ v. ⟦<RenewalCases as WrittenCases>⟧.real (⟦<Renewal as DataEnum>⟧.values v) };
 
     fn ranged(&self) {
         match self {

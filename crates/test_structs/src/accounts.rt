@@ -8,8 +8,8 @@ ghost use Rattle.std.specs.Prelude.{refl};
 use crate::phases::Phase;
 use miniserde::derived::{
     Cases, DataCase, DataEnum, Event, Fragment, FromJson, Lossless, NeverNull, NoCase, NoSlot,
-    OneOf, Parts, Ranged, Record, Result, RoundTrip, RoundTripCases, RoundTripFields, Serialize,
-    Slot, Slots, Source, UnitCase, Writer, enum_lossless, enum_round_trips, read_enum, read_record,
+    OneOf, Parts, Ranged, Record, Result, RoundTrip, Serialize, Slot, Slots, Source, UnitCase,
+    Writer, WrittenCases, WrittenFields, enum_lossless, enum_round_trips, read_enum, read_record,
     record_lossless, record_round_trips, write_data, write_fields, write_members,
 };
 
@@ -69,7 +69,8 @@ impl FromJson for Account {
 }
 
 impl Serialize for Account {
-    ghost tree = { record_tree ⟦<Account as Record>⟧.names ⟦<AccountFields as RoundTripFields>⟧.trees ⟦<Account as Record>⟧.values };
+    ghost tree = { record_tree ⟦<Account as Record>⟧.names ⟦<AccountFields as WrittenFields>⟧.trees
+        ⟦<Account as Record>⟧.values };
 
     fn begin(&self, w: &mut Writer) -> Result<()> {
         write_members(
@@ -84,7 +85,7 @@ impl Serialize for Account {
 }
 
 impl Ranged for Account {
-    ghost real = { λ v. ⟦<AccountFields as RoundTripFields>⟧.real (⟦<Account as Record>⟧.values v) };
+    ghost real = { λ v. ⟦<AccountFields as WrittenFields>⟧.real (⟦<Account as Record>⟧.values v) };
 
     fn ranged(&self) {
         self.user_id.ranged();
@@ -159,7 +160,7 @@ impl FromJson for ChangeJobPhase {
 }
 
 impl Serialize for ChangeJobPhase {
-    ghost tree = { record_tree ⟦<ChangeJobPhase as Record>⟧.names ⟦<ChangeJobPhaseFields as RoundTripFields>⟧.trees ⟦<ChangeJobPhase as Record>⟧.values };
+    ghost tree = { record_tree ⟦<ChangeJobPhase as Record>⟧.names ⟦<ChangeJobPhaseFields as WrittenFields>⟧.trees ⟦<ChangeJobPhase as Record>⟧.values };
 
     fn begin(&self, w: &mut Writer) -> Result<()> {
         write_members(
@@ -171,7 +172,7 @@ impl Serialize for ChangeJobPhase {
 }
 
 impl Ranged for ChangeJobPhase {
-    ghost real = { λ v. ⟦<ChangeJobPhaseFields as RoundTripFields>⟧.real (⟦<ChangeJobPhase as Record>⟧.values v) };
+    ghost real = { λ v. ⟦<ChangeJobPhaseFields as WrittenFields>⟧.real (⟦<ChangeJobPhase as Record>⟧.values v) };
 
     fn ranged(&self) {
         self.job_id.ranged();
@@ -281,7 +282,7 @@ impl FromJson for Change {
 }
 
 impl Serialize for Change {
-    ghost tree = { enum_tree ⟦<Change as DataEnum>⟧.names ⟦<ChangeCases as RoundTripCases>⟧.tree
+    ghost tree = { enum_tree ⟦<Change as DataEnum>⟧.names ⟦<ChangeCases as WrittenCases>⟧.tree
         ⟦<Change as DataEnum>⟧.values };
 
     fn begin(&self, w: &mut Writer) -> Result<()> {
@@ -302,7 +303,7 @@ impl Serialize for Change {
 }
 
 impl Ranged for Change {
-    ghost real = { λ v. ⟦<ChangeCases as RoundTripCases>⟧.real (⟦<Change as DataEnum>⟧.values v) };
+    ghost real = { λ v. ⟦<ChangeCases as WrittenCases>⟧.real (⟦<Change as DataEnum>⟧.values v) };
 
     fn ranged(&self) {
         match self {

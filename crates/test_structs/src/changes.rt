@@ -10,8 +10,8 @@ use crate::inner::Inner;
 use miniserde::derived::{
     BesideTag, Closed, DataCase, DataEnum, Empty, Event, FromJson, HasTag, Inside, InsideCases,
     Lossless, MarkedSlot, Members, NeverNull, NoCase, NoFields, NoSlot, OnceSlot, OneOf, Parts,
-    Ranged, Record, Result, RoundTrip, RoundTripCases, RoundTripFields, Serialize, Slot, Slots,
-    Source, Stable, WithDefault, Writer, fields_named, read_record, read_tagged, record_lossless,
+    Ranged, Record, Result, RoundTrip, Serialize, Slot, Slots, Source, Stable, WithDefault, Writer,
+    WrittenCases, WrittenFields, fields_named, read_record, read_tagged, record_lossless,
     record_round_trips, record_stable, tag_fits, tagged_lossless, tagged_round_trips,
     tagged_stable, write_members, write_tagged, write_tagged_fields,
 };
@@ -66,8 +66,7 @@ impl FromJson for Name {
 }
 
 impl Serialize for Name {
-    ghost tree = { record_tree ⟦<Name as Record>⟧.names ⟦<NameFields as RoundTripFields>⟧.trees
-        ⟦<Name as Record>⟧.values };
+    ghost tree = { record_tree ⟦<Name as Record>⟧.names ⟦<NameFields as WrittenFields>⟧.trees ⟦<Name as Record>⟧.values };
 
     fn begin(&self, w: &mut Writer) -> Result<()> {
         write_members(w, NAME_NAMES, &Parts(&self.name, Parts(&self.of, ())))
@@ -75,7 +74,7 @@ impl Serialize for Name {
 }
 
 impl Ranged for Name {
-    ghost real = { λ v. ⟦<NameFields as RoundTripFields>⟧.real (⟦<Name as Record>⟧.values v) };
+    ghost real = { λ v. ⟦<NameFields as WrittenFields>⟧.real (⟦<Name as Record>⟧.values v) };
 
     fn ranged(&self) {
         self.name.ranged();
@@ -171,7 +170,7 @@ impl FromJson for ChangeDeep {
 }
 
 impl Serialize for ChangeDeep {
-    ghost tree = { record_tree ⟦<ChangeDeep as Record>⟧.names ⟦<ChangeDeepFields as RoundTripFields>⟧.trees ⟦<ChangeDeep as Record>⟧.values };
+    ghost tree = { record_tree ⟦<ChangeDeep as Record>⟧.names ⟦<ChangeDeepFields as WrittenFields>⟧.trees ⟦<ChangeDeep as Record>⟧.values };
 
     fn begin(&self, w: &mut Writer) -> Result<()> {
         write_members(
@@ -183,7 +182,8 @@ impl Serialize for ChangeDeep {
 }
 
 impl Ranged for ChangeDeep {
-    ghost real = { λ v. ⟦<ChangeDeepFields as RoundTripFields>⟧.real (⟦<ChangeDeep as Record>⟧.values v) };
+    ghost real = { λ v. ⟦<ChangeDeepFields as WrittenFields>⟧.real (⟦<ChangeDeep as Record>⟧.values
+        v) };
 
     fn ranged(&self) {
         self.inner.ranged();
@@ -338,7 +338,7 @@ impl FromJson for Change {
 }
 
 impl Serialize for Change {
-    ghost tree = { tagged_tree ⟦<Change as HasTag>⟧.tag ⟦<Change as DataEnum>⟧.names ⟦<ChangeCases as RoundTripCases>⟧.tree ⟦<Change as DataEnum>⟧.values };
+    ghost tree = { tagged_tree ⟦<Change as HasTag>⟧.tag ⟦<Change as DataEnum>⟧.names ⟦<ChangeCases as WrittenCases>⟧.tree ⟦<Change as DataEnum>⟧.values };
 
     fn begin(&self, w: &mut Writer) -> Result<()> {
         match self {
@@ -360,7 +360,7 @@ impl Serialize for Change {
 }
 
 impl Ranged for Change {
-    ghost real = { λ v. ⟦<ChangeCases as RoundTripCases>⟧.real (⟦<Change as DataEnum>⟧.values v) };
+    ghost real = { λ v. ⟦<ChangeCases as WrittenCases>⟧.real (⟦<Change as DataEnum>⟧.values v) };
 
     fn ranged(&self) {
         match self {

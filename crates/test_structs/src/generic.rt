@@ -7,9 +7,9 @@ ghost use Rattle.std.specs.Prelude.{refl};
 use miniserde::derived::{
     BesideTag, Closed, Empty, Event, FourLent, FourParts, FromJson, Given, Global, HasTag, Inside,
     Lossless, MarkedFour, MarkedSlot, Members, NeverNull, NoSlot, OnceSlot, Parts, Plain, Ranged,
-    Record, Result, RoundTrip, RoundTripFields, Serialize, Slot, Slots, Source, Stable,
-    WithDefault, Writer, fields_named, read_record, record_lossless, record_round_trips,
-    record_stable, take_four, write_members,
+    Record, Result, RoundTrip, Serialize, Slot, Slots, Source, Stable, WithDefault, Writer,
+    WrittenFields, fields_named, read_record, record_lossless, record_round_trips, record_stable,
+    take_four, write_members,
 };
 use std::collections::BTreeMap;
 
@@ -62,16 +62,17 @@ impl<A: FromJson, B: FromJson> FromJson for Both<A, B> {
     }
 }
 
-impl<A: RoundTrip, B: RoundTrip> Serialize for Both<A, B> {
-    ghost tree = { record_tree ⟦<Both<A, B> as Record>⟧.names ⟦<BothFields<A, B> as RoundTripFields>⟧.trees ⟦<Both<A, B> as Record>⟧.values };
+impl<A: FromJson + Ranged + Serialize, B: FromJson + Ranged + Serialize> Serialize for Both<A, B> {
+    ghost tree = { record_tree ⟦<Both<A, B> as Record>⟧.names ⟦<BothFields<A, B> as WrittenFields>⟧.trees ⟦<Both<A, B> as Record>⟧.values };
 
     fn begin(&self, w: &mut Writer) -> Result<()> {
         write_members(w, BOTH_NAMES, &Parts(&self.one, Parts(&self.two, ())))
     }
 }
 
-impl<A: RoundTrip, B: RoundTrip> Ranged for Both<A, B> {
-    ghost real = { λ v. ⟦<BothFields<A, B> as RoundTripFields>⟧.real (⟦<Both<A, B> as Record>⟧.values v) };
+impl<A: FromJson + Ranged + Serialize, B: FromJson + Ranged + Serialize> Ranged for Both<A, B> {
+    ghost real = { λ v. ⟦<BothFields<A, B> as WrittenFields>⟧.real (⟦<Both<A, B> as Record>⟧.values
+        v) };
 
     fn ranged(&self) {
         self.one.ranged();
@@ -101,7 +102,7 @@ impl<A: Stable, B: Stable> Stable for Both<A, B> {
     }
 }
 
-impl<A: RoundTrip, B: RoundTrip> Inside for Both<A, B> {
+impl<A: FromJson + Ranged + Serialize, B: FromJson + Ranged + Serialize> Inside for Both<A, B> {
     ghost fields = { ⟦<Both<A, B> as Record>⟧.names };
 
     fn read_inside<'a, E: HasTag>(token: Event<'a>, source: &mut Source<'a>) -> Result<Both<A, B>> {
@@ -204,8 +205,8 @@ impl<T: FromJson, E: FromJson> FromJson for Reply<T, E> {
     }
 }
 
-impl<T: RoundTrip, E: RoundTrip> Serialize for Reply<T, E> {
-    ghost tree = { record_tree ⟦<Reply<T, E> as Record>⟧.names ⟦<ReplyFields<T, E> as RoundTripFields>⟧.trees ⟦<Reply<T, E> as Record>⟧.values };
+impl<T: FromJson + Ranged + Serialize, E: FromJson + Ranged + Serialize> Serialize for Reply<T, E> {
+    ghost tree = { record_tree ⟦<Reply<T, E> as Record>⟧.names ⟦<ReplyFields<T, E> as WrittenFields>⟧.trees ⟦<Reply<T, E> as Record>⟧.values };
 
     fn begin(&self, w: &mut Writer) -> Result<()> {
         write_members(
@@ -222,8 +223,8 @@ impl<T: RoundTrip, E: RoundTrip> Serialize for Reply<T, E> {
     }
 }
 
-impl<T: RoundTrip, E: RoundTrip> Ranged for Reply<T, E> {
-    ghost real = { λ v. ⟦<ReplyFields<T, E> as RoundTripFields>⟧.real (⟦<Reply<T, E> as Record>⟧.values v) };
+impl<T: FromJson + Ranged + Serialize, E: FromJson + Ranged + Serialize> Ranged for Reply<T, E> {
+    ghost real = { λ v. ⟦<ReplyFields<T, E> as WrittenFields>⟧.real (⟦<Reply<T, E> as Record>⟧.values v) };
 
     fn ranged(&self) {
         self.data.ranged();

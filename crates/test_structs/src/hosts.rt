@@ -5,7 +5,7 @@ ghost use Rattle.std.specs.Prelude.{refl};
 
 use miniserde::derived::{
     Event, FourLent, FourParts, FourSlot, FromJson, NoSlot, Parts, Ranged, Record, Result,
-    RoundTrip, RoundTripFields, Serialize, Slot, Slots, Source, Writer, read_record,
+    RoundTrip, Serialize, Slot, Slots, Source, Writer, WrittenFields, read_record,
     record_round_trips, take_four, write_members,
 };
 use std::collections::BTreeMap;
@@ -60,8 +60,7 @@ impl FromJson for Port {
 }
 
 impl Serialize for Port {
-    ghost tree = { record_tree ⟦<Port as Record>⟧.names ⟦<PortFields as RoundTripFields>⟧.trees
-        ⟦<Port as Record>⟧.values };
+    ghost tree = { record_tree ⟦<Port as Record>⟧.names ⟦<PortFields as WrittenFields>⟧.trees ⟦<Port as Record>⟧.values };
 
     fn begin(&self, w: &mut Writer) -> Result<()> {
         write_members(w, PORT_NAMES, &Parts(&self.number, Parts(&self.open, ())))
@@ -69,7 +68,7 @@ impl Serialize for Port {
 }
 
 impl Ranged for Port {
-    ghost real = { λ v. ⟦<PortFields as RoundTripFields>⟧.real (⟦<Port as Record>⟧.values v) };
+    ghost real = { λ v. ⟦<PortFields as WrittenFields>⟧.real (⟦<Port as Record>⟧.values v) };
 
     fn ranged(&self) {
         self.number.ranged();
@@ -138,8 +137,7 @@ impl FromJson for Host {
 }
 
 impl Serialize for Host {
-    ghost tree = { record_tree ⟦<Host as Record>⟧.names ⟦<HostFields as RoundTripFields>⟧.trees
-        ⟦<Host as Record>⟧.values };
+    ghost tree = { record_tree ⟦<Host as Record>⟧.names ⟦<HostFields as WrittenFields>⟧.trees ⟦<Host as Record>⟧.values };
 
     fn begin(&self, w: &mut Writer) -> Result<()> {
         write_members(
@@ -151,7 +149,7 @@ impl Serialize for Host {
 }
 
 impl Ranged for Host {
-    ghost real = { λ v. ⟦<HostFields as RoundTripFields>⟧.real (⟦<Host as Record>⟧.values v) };
+    ghost real = { λ v. ⟦<HostFields as WrittenFields>⟧.real (⟦<Host as Record>⟧.values v) };
 
     fn ranged(&self) {
         self.name.ranged();
@@ -229,7 +227,7 @@ impl FromJson for Config {
 }
 
 impl Serialize for Config {
-    ghost tree = { record_tree ⟦<Config as Record>⟧.names ⟦<ConfigFields as RoundTripFields>⟧.trees
+    ghost tree = { record_tree ⟦<Config as Record>⟧.names ⟦<ConfigFields as WrittenFields>⟧.trees
         ⟦<Config as Record>⟧.values };
 
     fn begin(&self, w: &mut Writer) -> Result<()> {
@@ -242,7 +240,7 @@ impl Serialize for Config {
 }
 
 impl Ranged for Config {
-    ghost real = { λ v. ⟦<ConfigFields as RoundTripFields>⟧.real (⟦<Config as Record>⟧.values v) };
+    ghost real = { λ v. ⟦<ConfigFields as WrittenFields>⟧.real (⟦<Config as Record>⟧.values v) };
 
     fn ranged(&self) {
         self.hosts.ranged();

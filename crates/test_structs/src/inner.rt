@@ -8,7 +8,7 @@ ghost use Rattle.std.specs.Prelude.{codes, refl};
 use miniserde::derived::{
     BesideTag, DataCase, DataEnum, Empty, Event, FromJson, HasTag, Inside, InsideCases, Lossless,
     Members, NeverNull, NoCase, NoFields, NoSlot, OneOf, Parts, Ranged, Record, Result, RoundTrip,
-    RoundTripCases, RoundTripFields, Serialize, Slot, Slots, Source, Stable, Writer, fields_named,
+    Serialize, Slot, Slots, Source, Stable, Writer, WrittenCases, WrittenFields, fields_named,
     read_record, read_tagged, record_lossless, record_round_trips, record_stable, tag_fits,
     tagged_lossless, tagged_round_trips, tagged_stable, write_members, write_tagged_fields,
 };
@@ -64,7 +64,7 @@ impl FromJson for InnerTwo {
 }
 
 impl Serialize for InnerTwo {
-    ghost tree = { record_tree ⟦<InnerTwo as Record>⟧.names ⟦<InnerTwoFields as RoundTripFields>⟧.trees ⟦<InnerTwo as Record>⟧.values };
+    ghost tree = { record_tree ⟦<InnerTwo as Record>⟧.names ⟦<InnerTwoFields as WrittenFields>⟧.trees ⟦<InnerTwo as Record>⟧.values };
 
     fn begin(&self, w: &mut Writer) -> Result<()> {
         write_members(w, INNER_TWO_NAMES, &Parts(&self.v, Parts(&self.types, ())))
@@ -72,7 +72,7 @@ impl Serialize for InnerTwo {
 }
 
 impl Ranged for InnerTwo {
-    ghost real = { λ v. ⟦<InnerTwoFields as RoundTripFields>⟧.real (⟦<InnerTwo as Record>⟧.values v) };
+    ghost real = { λ v. ⟦<InnerTwoFields as WrittenFields>⟧.real (⟦<InnerTwo as Record>⟧.values v) };
 
     fn ranged(&self) {
         self.v.ranged();
@@ -195,7 +195,7 @@ impl FromJson for Inner {
 }
 
 impl Serialize for Inner {
-    ghost tree = { tagged_tree ⟦<Inner as HasTag>⟧.tag ⟦<Inner as DataEnum>⟧.names ⟦<InnerCases as RoundTripCases>⟧.tree ⟦<Inner as DataEnum>⟧.values };
+    ghost tree = { tagged_tree ⟦<Inner as HasTag>⟧.tag ⟦<Inner as DataEnum>⟧.names ⟦<InnerCases as WrittenCases>⟧.tree ⟦<Inner as DataEnum>⟧.values };
 
     fn begin(&self, w: &mut Writer) -> Result<()> {
         match self {
@@ -214,7 +214,7 @@ impl Serialize for Inner {
 }
 
 impl Ranged for Inner {
-    ghost real = { λ v. ⟦<InnerCases as RoundTripCases>⟧.real (⟦<Inner as DataEnum>⟧.values v) };
+    ghost real = { λ v. ⟦<InnerCases as WrittenCases>⟧.real (⟦<Inner as DataEnum>⟧.values v) };
 
     fn ranged(&self) {
         match self {

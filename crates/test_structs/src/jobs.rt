@@ -5,9 +5,8 @@ ghost use Rattle.std.specs.Prelude.{refl};
 
 use miniserde::derived::{
     Empty, Event, FromJson, Lossless, MarkedSlot, NeverNull, NoSlot, OnceSlot, Parts, Ranged,
-    Record, Result, RoundTrip, RoundTripFields, Serialize, Slot, Slots, Source, Stable,
-    WithDefault, Writer, read_record, record_lossless, record_round_trips, record_stable,
-    write_members,
+    Record, Result, RoundTrip, Serialize, Slot, Slots, Source, Stable, WithDefault, Writer,
+    WrittenFields, read_record, record_lossless, record_round_trips, record_stable, write_members,
 };
 use std::collections::VecDeque;
 
@@ -69,8 +68,9 @@ impl<T: FromJson> FromJson for Jobs<T> {
     }
 }
 
-impl<T: RoundTrip> Serialize for Jobs<T> {
-    ghost tree = { record_tree ⟦<Jobs<T> as Record>⟧.names ⟦<JobsFields<T> as RoundTripFields>⟧.trees ⟦<Jobs<T> as Record>⟧.values };
+impl<T: FromJson + Ranged + Serialize> Serialize for Jobs<T> {
+    ghost tree = { record_tree ⟦<Jobs<T> as Record>⟧.names ⟦<JobsFields<T> as WrittenFields>⟧.trees
+        ⟦<Jobs<T> as Record>⟧.values };
 
     fn begin(&self, w: &mut Writer) -> Result<()> {
         write_members(
@@ -81,8 +81,8 @@ impl<T: RoundTrip> Serialize for Jobs<T> {
     }
 }
 
-impl<T: RoundTrip> Ranged for Jobs<T> {
-    ghost real = { λ v. ⟦<JobsFields<T> as RoundTripFields>⟧.real (⟦<Jobs<T> as Record>⟧.values v) };
+impl<T: FromJson + Ranged + Serialize> Ranged for Jobs<T> {
+    ghost real = { λ v. ⟦<JobsFields<T> as WrittenFields>⟧.real (⟦<Jobs<T> as Record>⟧.values v) };
 
     fn ranged(&self) {
         self.waiting.ranged();

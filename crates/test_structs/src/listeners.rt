@@ -5,7 +5,7 @@ ghost use Rattle.std.specs.Prelude.{refl};
 
 use miniserde::derived::{
     Event, FromJson, Lossless, NeverNull, NoSlot, Parts, Ranged, Record, Result, RoundTrip,
-    RoundTripFields, Serialize, Slot, Slots, Source, Stable, Writer, read_record, record_lossless,
+    Serialize, Slot, Slots, Source, Stable, Writer, WrittenFields, read_record, record_lossless,
     record_round_trips, record_stable, write_members,
 };
 
@@ -60,7 +60,7 @@ impl FromJson for Listener {
 }
 
 impl Serialize for Listener {
-    ghost tree = { record_tree ⟦<Listener as Record>⟧.names ⟦<ListenerFields as RoundTripFields>⟧.trees ⟦<Listener as Record>⟧.values };
+    ghost tree = { record_tree ⟦<Listener as Record>⟧.names ⟦<ListenerFields as WrittenFields>⟧.trees ⟦<Listener as Record>⟧.values };
 
     fn begin(&self, w: &mut Writer) -> Result<()> {
         write_members(
@@ -72,7 +72,7 @@ impl Serialize for Listener {
 }
 
 impl Ranged for Listener {
-    ghost real = { λ v. ⟦<ListenerFields as RoundTripFields>⟧.real (⟦<Listener as Record>⟧.values v) };
+    ghost real = { λ v. ⟦<ListenerFields as WrittenFields>⟧.real (⟦<Listener as Record>⟧.values v) };
 
     fn ranged(&self) {
         self.address.ranged();

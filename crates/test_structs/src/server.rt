@@ -7,8 +7,8 @@ ghost use Rattle.std.specs.Prelude.{refl};
 use crate::listeners::Listener;
 use miniserde::derived::{
     Closed, Event, FourLent, FourParts, FourSlot, FromJson, Given, Global, Lossless, MarkedFour,
-    NeverNull, Once, Parts, Plain, Ranged, Record, Result, RoundTrip, RoundTripFields, Serialize,
-    Slot, Slots, Source, Stable, WithDefault, Writer, read_record, record_lossless,
+    NeverNull, Once, Parts, Plain, Ranged, Record, Result, RoundTrip, Serialize, Slot, Slots,
+    Source, Stable, WithDefault, Writer, WrittenFields, read_record, record_lossless,
     record_round_trips, record_stable, take_four, write_members,
 };
 use std::collections::BTreeMap;
@@ -250,7 +250,7 @@ impl FromJson for Server {
 }
 
 impl Serialize for Server {
-    ghost tree = { record_tree ⟦<Server as Record>⟧.names ⟦<ServerFields as RoundTripFields>⟧.trees
+    ghost tree = { record_tree ⟦<Server as Record>⟧.names ⟦<ServerFields as WrittenFields>⟧.trees
         ⟦<Server as Record>⟧.values };
 
     fn begin(&self, w: &mut Writer) -> Result<()> {
@@ -305,7 +305,7 @@ impl Serialize for Server {
 }
 
 impl Ranged for Server {
-    ghost real = { λ v. ⟦<ServerFields as RoundTripFields>⟧.real (⟦<Server as Record>⟧.values v) };
+    ghost real = { λ v. ⟦<ServerFields as WrittenFields>⟧.real (⟦<Server as Record>⟧.values v) };
 
     fn ranged(&self) {
         self.name.ranged();

@@ -5,7 +5,7 @@ ghost use Rattle.std.specs.Prelude.{refl};
 
 use miniserde::derived::{
     Event, FourLent, FourParts, FourSlot, FromJson, NoSlot, Ranged, Record, Result, RoundTrip,
-    RoundTripFields, Serialize, Slots, Source, Writer, read_record, record_round_trips, take_four,
+    Serialize, Slots, Source, Writer, WrittenFields, read_record, record_round_trips, take_four,
     write_members,
 };
 
@@ -136,8 +136,7 @@ impl FromJson for User {
 }
 
 impl Serialize for User {
-    ghost tree = { record_tree ⟦<User as Record>⟧.names ⟦<UserFields as RoundTripFields>⟧.trees
-        ⟦<User as Record>⟧.values };
+    ghost tree = { record_tree ⟦<User as Record>⟧.names ⟦<UserFields as WrittenFields>⟧.trees ⟦<User as Record>⟧.values };
 
     fn begin(&self, w: &mut Writer) -> Result<()> {
         write_members(
@@ -161,7 +160,7 @@ impl Serialize for User {
 }
 
 impl Ranged for User {
-    ghost real = { λ v. ⟦<UserFields as RoundTripFields>⟧.real (⟦<User as Record>⟧.values v) };
+    ghost real = { λ v. ⟦<UserFields as WrittenFields>⟧.real (⟦<User as Record>⟧.values v) };
 
     fn ranged(&self) {
         self.id.ranged();

@@ -8,7 +8,7 @@ ghost use Rattle.std.specs.Prelude.{codes, refl};
 use miniserde::derived::{
     BesideTag, DataCase, DataEnum, Event, FromJson, HasTag, Inside, InsideCases, Lossless, Members,
     NeverNull, NoCase, NoFields, NoSlot, OneOf, Parts, Ranged, Record, Result, RoundTrip,
-    RoundTripCases, RoundTripFields, Serialize, Slot, Slots, Source, Stable, Writer, fields_named,
+    Serialize, Slot, Slots, Source, Stable, Writer, WrittenCases, WrittenFields, fields_named,
     read_record, read_tagged, record_lossless, record_round_trips, record_stable, tag_fits,
     tagged_lossless, tagged_round_trips, tagged_stable, write_members, write_tagged_fields,
 };
@@ -62,7 +62,7 @@ impl FromJson for AnswerCount {
 }
 
 impl Serialize for AnswerCount {
-    ghost tree = { record_tree ⟦<AnswerCount as Record>⟧.names ⟦<AnswerCountFields as RoundTripFields>⟧.trees ⟦<AnswerCount as Record>⟧.values };
+    ghost tree = { record_tree ⟦<AnswerCount as Record>⟧.names ⟦<AnswerCountFields as WrittenFields>⟧.trees ⟦<AnswerCount as Record>⟧.values };
 
     fn begin(&self, w: &mut Writer) -> Result<()> {
         write_members(w, ANSWER_COUNT_NAMES, &Parts(&self.now, ()))
@@ -70,7 +70,7 @@ impl Serialize for AnswerCount {
 }
 
 impl Ranged for AnswerCount {
-    ghost real = { λ v. ⟦<AnswerCountFields as RoundTripFields>⟧.real (⟦<AnswerCount as Record>⟧.values v) };
+    ghost real = { λ v. ⟦<AnswerCountFields as WrittenFields>⟧.real (⟦<AnswerCount as Record>⟧.values v) };
 
     fn ranged(&self) {
         self.now.ranged();
@@ -195,7 +195,7 @@ impl FromJson for Answer {
 }
 
 impl Serialize for Answer {
-    ghost tree = { tagged_tree ⟦<Answer as HasTag>⟧.tag ⟦<Answer as DataEnum>⟧.names ⟦<AnswerCases as RoundTripCases>⟧.tree ⟦<Answer as DataEnum>⟧.values };
+    ghost tree = { tagged_tree ⟦<Answer as HasTag>⟧.tag ⟦<Answer as DataEnum>⟧.names ⟦<AnswerCases as WrittenCases>⟧.tree ⟦<Answer as DataEnum>⟧.values };
 
     fn begin(&self, w: &mut Writer) -> Result<()> {
         match self {
@@ -208,7 +208,7 @@ impl Serialize for Answer {
 }
 
 impl Ranged for Answer {
-    ghost real = { λ v. ⟦<AnswerCases as RoundTripCases>⟧.real (⟦<Answer as DataEnum>⟧.values v) };
+    ghost real = { λ v. ⟦<AnswerCases as WrittenCases>⟧.real (⟦<Answer as DataEnum>⟧.values v) };
 
     fn ranged(&self) {
         match self {

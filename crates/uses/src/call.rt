@@ -8,7 +8,7 @@ ghost use Rattle.std.specs.Prelude.{codes, refl};
 use miniserde::derived::{
     BesideTag, DataCase, DataEnum, Event, FromJson, HasTag, Inside, InsideCases, Lossless, Members,
     NeverNull, NoCase, NoFields, NoSlot, OneOf, Parts, Ranged, Record, Result, RoundTrip,
-    RoundTripCases, RoundTripFields, Serialize, Slot, Slots, Source, Stable, Writer, fields_named,
+    Serialize, Slot, Slots, Source, Stable, Writer, WrittenCases, WrittenFields, fields_named,
     read_record, read_tagged, record_lossless, record_round_trips, record_stable, tag_fits,
     tagged_lossless, tagged_round_trips, tagged_stable, write_members, write_tagged,
     write_tagged_fields,
@@ -65,7 +65,7 @@ impl FromJson for Addend {
 }
 
 impl Serialize for Addend {
-    ghost tree = { record_tree ⟦<Addend as Record>⟧.names ⟦<AddendFields as RoundTripFields>⟧.trees
+    ghost tree = { record_tree ⟦<Addend as Record>⟧.names ⟦<AddendFields as WrittenFields>⟧.trees
         ⟦<Addend as Record>⟧.values };
 
     fn begin(&self, w: &mut Writer) -> Result<()> {
@@ -74,7 +74,7 @@ impl Serialize for Addend {
 }
 
 impl Ranged for Addend {
-    ghost real = { λ v. ⟦<AddendFields as RoundTripFields>⟧.real (⟦<Addend as Record>⟧.values v) };
+    ghost real = { λ v. ⟦<AddendFields as WrittenFields>⟧.real (⟦<Addend as Record>⟧.values v) };
 
     fn ranged(&self) {
         self.by.ranged();
@@ -169,7 +169,7 @@ impl FromJson for CallReset {
 }
 
 impl Serialize for CallReset {
-    ghost tree = { record_tree ⟦<CallReset as Record>⟧.names ⟦<CallResetFields as RoundTripFields>⟧.trees ⟦<CallReset as Record>⟧.values };
+    ghost tree = { record_tree ⟦<CallReset as Record>⟧.names ⟦<CallResetFields as WrittenFields>⟧.trees ⟦<CallReset as Record>⟧.values };
 
     fn begin(&self, w: &mut Writer) -> Result<()> {
         write_members(w, CALL_RESET_NAMES, &Parts(&self.to, ()))
@@ -177,8 +177,7 @@ impl Serialize for CallReset {
 }
 
 impl Ranged for CallReset {
-    ghost real = { λ v. ⟦<CallResetFields as RoundTripFields>⟧.real (⟦<CallReset as Record>⟧.values
-        v) };
+    ghost real = { λ v. ⟦<CallResetFields as WrittenFields>⟧.real (⟦<CallReset as Record>⟧.values v) };
 
     fn ranged(&self) {
         self.to.ranged();
@@ -305,7 +304,7 @@ impl FromJson for Call {
 }
 
 impl Serialize for Call {
-    ghost tree = { tagged_tree ⟦<Call as HasTag>⟧.tag ⟦<Call as DataEnum>⟧.names ⟦<CallCases as RoundTripCases>⟧.tree ⟦<Call as DataEnum>⟧.values };
+    ghost tree = { tagged_tree ⟦<Call as HasTag>⟧.tag ⟦<Call as DataEnum>⟧.names ⟦<CallCases as WrittenCases>⟧.tree ⟦<Call as DataEnum>⟧.values };
 
     fn begin(&self, w: &mut Writer) -> Result<()> {
         match self {
@@ -319,7 +318,7 @@ impl Serialize for Call {
 }
 
 impl Ranged for Call {
-    ghost real = { λ v. ⟦<CallCases as RoundTripCases>⟧.real (⟦<Call as DataEnum>⟧.values v) };
+    ghost real = { λ v. ⟦<CallCases as WrittenCases>⟧.real (⟦<Call as DataEnum>⟧.values v) };
 
     fn ranged(&self) {
         match self {

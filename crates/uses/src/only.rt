@@ -4,8 +4,8 @@ ghost use Rattle.miniserde.specs.Structs.{names_of, record_tree};
 ghost use Rattle.std.specs.Prelude.{refl};
 
 use miniserde::derived::{
-    Event, FromJson, NoSlot, Parts, Ranged, Record, Result, RoundTrip, RoundTripFields, Serialize,
-    Slot, Slots, Source, Writer, read_record, record_round_trips, write_members,
+    Event, FromJson, NoSlot, Parts, Ranged, Record, Result, RoundTrip, Serialize, Slot, Slots,
+    Source, Writer, WrittenFields, read_record, record_round_trips, write_members,
 };
 use settings::parts::{Host, Tls};
 use std::collections::BTreeMap;
@@ -60,7 +60,7 @@ impl FromJson for OnlyName {
 }
 
 impl Serialize for OnlyName {
-    ghost tree = { record_tree ⟦<OnlyName as Record>⟧.names ⟦<OnlyNameFields as RoundTripFields>⟧.trees ⟦<OnlyName as Record>⟧.values };
+    ghost tree = { record_tree ⟦<OnlyName as Record>⟧.names ⟦<OnlyNameFields as WrittenFields>⟧.trees ⟦<OnlyName as Record>⟧.values };
 
     fn begin(&self, w: &mut Writer) -> Result<()> {
         write_members(w, ONLY_NAME_NAMES, &Parts(&self.name, ()))
@@ -68,7 +68,7 @@ impl Serialize for OnlyName {
 }
 
 impl Ranged for OnlyName {
-    ghost real = { λ v. ⟦<OnlyNameFields as RoundTripFields>⟧.real (⟦<OnlyName as Record>⟧.values v) };
+    ghost real = { λ v. ⟦<OnlyNameFields as WrittenFields>⟧.real (⟦<OnlyName as Record>⟧.values v) };
 
     fn ranged(&self) {
         self.name.ranged();
@@ -131,7 +131,7 @@ impl FromJson for OnlyPort {
 }
 
 impl Serialize for OnlyPort {
-    ghost tree = { record_tree ⟦<OnlyPort as Record>⟧.names ⟦<OnlyPortFields as RoundTripFields>⟧.trees ⟦<OnlyPort as Record>⟧.values };
+    ghost tree = { record_tree ⟦<OnlyPort as Record>⟧.names ⟦<OnlyPortFields as WrittenFields>⟧.trees ⟦<OnlyPort as Record>⟧.values };
 
     fn begin(&self, w: &mut Writer) -> Result<()> {
         write_members(w, ONLY_PORT_NAMES, &Parts(&self.port, ()))
@@ -139,7 +139,7 @@ impl Serialize for OnlyPort {
 }
 
 impl Ranged for OnlyPort {
-    ghost real = { λ v. ⟦<OnlyPortFields as RoundTripFields>⟧.real (⟦<OnlyPort as Record>⟧.values v) };
+    ghost real = { λ v. ⟦<OnlyPortFields as WrittenFields>⟧.real (⟦<OnlyPort as Record>⟧.values v) };
 
     fn ranged(&self) {
         self.port.ranged();
@@ -202,7 +202,8 @@ impl FromJson for OnlyTls {
 }
 
 impl Serialize for OnlyTls {
-    ghost tree = { record_tree ⟦<OnlyTls as Record>⟧.names ⟦<OnlyTlsFields as RoundTripFields>⟧.trees ⟦<OnlyTls as Record>⟧.values };
+    ghost tree = { record_tree ⟦<OnlyTls as Record>⟧.names ⟦<OnlyTlsFields as WrittenFields>⟧.trees
+        ⟦<OnlyTls as Record>⟧.values };
 
     fn begin(&self, w: &mut Writer) -> Result<()> {
         write_members(w, ONLY_TLS_NAMES, &Parts(&self.tls, ()))
@@ -210,7 +211,7 @@ impl Serialize for OnlyTls {
 }
 
 impl Ranged for OnlyTls {
-    ghost real = { λ v. ⟦<OnlyTlsFields as RoundTripFields>⟧.real (⟦<OnlyTls as Record>⟧.values v) };
+    ghost real = { λ v. ⟦<OnlyTlsFields as WrittenFields>⟧.real (⟦<OnlyTls as Record>⟧.values v) };
 
     fn ranged(&self) {
         self.tls.ranged();
@@ -272,7 +273,7 @@ impl FromJson for OnlyHosts {
 }
 
 impl Serialize for OnlyHosts {
-    ghost tree = { record_tree ⟦<OnlyHosts as Record>⟧.names ⟦<OnlyHostsFields as RoundTripFields>⟧.trees ⟦<OnlyHosts as Record>⟧.values };
+    ghost tree = { record_tree ⟦<OnlyHosts as Record>⟧.names ⟦<OnlyHostsFields as WrittenFields>⟧.trees ⟦<OnlyHosts as Record>⟧.values };
 
     fn begin(&self, w: &mut Writer) -> Result<()> {
         write_members(w, ONLY_HOSTS_NAMES, &Parts(&self.hosts, ()))
@@ -280,8 +281,7 @@ impl Serialize for OnlyHosts {
 }
 
 impl Ranged for OnlyHosts {
-    ghost real = { λ v. ⟦<OnlyHostsFields as RoundTripFields>⟧.real (⟦<OnlyHosts as Record>⟧.values
-        v) };
+    ghost real = { λ v. ⟦<OnlyHostsFields as WrittenFields>⟧.real (⟦<OnlyHosts as Record>⟧.values v) };
 
     fn ranged(&self) {
         self.hosts.ranged();
@@ -343,7 +343,7 @@ impl FromJson for OnlyLimits {
 }
 
 impl Serialize for OnlyLimits {
-    ghost tree = { record_tree ⟦<OnlyLimits as Record>⟧.names ⟦<OnlyLimitsFields as RoundTripFields>⟧.trees ⟦<OnlyLimits as Record>⟧.values };
+    ghost tree = { record_tree ⟦<OnlyLimits as Record>⟧.names ⟦<OnlyLimitsFields as WrittenFields>⟧.trees ⟦<OnlyLimits as Record>⟧.values };
 
     fn begin(&self, w: &mut Writer) -> Result<()> {
         write_members(w, ONLY_LIMITS_NAMES, &Parts(&self.limits, ()))
@@ -351,7 +351,8 @@ impl Serialize for OnlyLimits {
 }
 
 impl Ranged for OnlyLimits {
-    ghost real = { λ v. ⟦<OnlyLimitsFields as RoundTripFields>⟧.real (⟦<OnlyLimits as Record>⟧.values v) };
+    ghost real = { λ v. ⟦<OnlyLimitsFields as WrittenFields>⟧.real (⟦<OnlyLimits as Record>⟧.values
+        v) };
 
     fn ranged(&self) {
         self.limits.ranged();

@@ -5,7 +5,7 @@ ghost use Rattle.std.specs.Prelude.{refl};
 
 use miniserde::derived::{
     Event, FourLent, FourParts, FourSlot, FromJson, NoSlot, Parts, Ranged, Record, Result,
-    RoundTrip, RoundTripFields, Serialize, Slot, Slots, Source, Writer, read_record,
+    RoundTrip, Serialize, Slot, Slots, Source, Writer, WrittenFields, read_record,
     record_round_trips, take_four, write_members,
 };
 use miniserde::json::Value;
@@ -60,8 +60,7 @@ impl FromJson for Item {
 }
 
 impl Serialize for Item {
-    ghost tree = { record_tree ⟦<Item as Record>⟧.names ⟦<ItemFields as RoundTripFields>⟧.trees
-        ⟦<Item as Record>⟧.values };
+    ghost tree = { record_tree ⟦<Item as Record>⟧.names ⟦<ItemFields as WrittenFields>⟧.trees ⟦<Item as Record>⟧.values };
 
     fn begin(&self, w: &mut Writer) -> Result<()> {
         write_members(w, ITEM_NAMES, &Parts(&self.goods, Parts(&self.count, ())))
@@ -69,7 +68,7 @@ impl Serialize for Item {
 }
 
 impl Ranged for Item {
-    ghost real = { λ v. ⟦<ItemFields as RoundTripFields>⟧.real (⟦<Item as Record>⟧.values v) };
+    ghost real = { λ v. ⟦<ItemFields as WrittenFields>⟧.real (⟦<Item as Record>⟧.values v) };
 
     fn ranged(&self) {
         self.goods.ranged();
@@ -146,7 +145,8 @@ impl FromJson for Request {
 }
 
 impl Serialize for Request {
-    ghost tree = { record_tree ⟦<Request as Record>⟧.names ⟦<RequestFields as RoundTripFields>⟧.trees ⟦<Request as Record>⟧.values };
+    ghost tree = { record_tree ⟦<Request as Record>⟧.names ⟦<RequestFields as WrittenFields>⟧.trees
+        ⟦<Request as Record>⟧.values };
 
     fn begin(&self, w: &mut Writer) -> Result<()> {
         write_members(
@@ -158,7 +158,7 @@ impl Serialize for Request {
 }
 
 impl Ranged for Request {
-    ghost real = { λ v. ⟦<RequestFields as RoundTripFields>⟧.real (⟦<Request as Record>⟧.values v) };
+    ghost real = { λ v. ⟦<RequestFields as WrittenFields>⟧.real (⟦<Request as Record>⟧.values v) };
 
     fn ranged(&self) {
         self.client.ranged();

@@ -5,7 +5,7 @@ ghost use Rattle.std.specs.Prelude.{refl};
 
 use miniserde::derived::{
     Event, FromJson, Lossless, NeverNull, NoSlot, Parts, Ranged, Record, Result, RoundTrip,
-    RoundTripFields, Serialize, Slot, Slots, Source, Stable, Writer, read_record, record_lossless,
+    Serialize, Slot, Slots, Source, Stable, Writer, WrittenFields, read_record, record_lossless,
     record_round_trips, record_stable, write_members,
 };
 
@@ -61,7 +61,7 @@ impl FromJson for Transfer {
 }
 
 impl Serialize for Transfer {
-    ghost tree = { record_tree ⟦<Transfer as Record>⟧.names ⟦<TransferFields as RoundTripFields>⟧.trees ⟦<Transfer as Record>⟧.values };
+    ghost tree = { record_tree ⟦<Transfer as Record>⟧.names ⟦<TransferFields as WrittenFields>⟧.trees ⟦<Transfer as Record>⟧.values };
 
     fn begin(&self, w: &mut Writer) -> Result<()> {
         write_members(
@@ -73,7 +73,7 @@ impl Serialize for Transfer {
 }
 
 impl Ranged for Transfer {
-    ghost real = { λ v. ⟦<TransferFields as RoundTripFields>⟧.real (⟦<Transfer as Record>⟧.values v) };
+    ghost real = { λ v. ⟦<TransferFields as WrittenFields>⟧.real (⟦<Transfer as Record>⟧.values v) };
 
     fn ranged(&self) {
         self.from.ranged();

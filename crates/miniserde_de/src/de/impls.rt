@@ -1,17 +1,7 @@
-//! The places of std's types, in one module for each shape of value. `VecDeque` and tuples of more
-//! than two items have none.
+//! Which places std's types have. `VecDeque` and tuples of more than two items have none.
 
-mod arrays;
-mod boxes;
+mod containers;
 mod leaves;
-mod maps;
-mod options;
-mod pairs;
-mod sequences;
 
-pub use arrays::ArrayPlace;
-pub use boxes::BoxPlace;
-pub use maps::{BTreeMapPlace, HashMapPlace};
-pub use options::OptionPlace;
-pub use pairs::PairPlace;
-pub use sequences::VecPlace;
+pub use containers::{ArrayPlace, BTreeMapPlace, HashMapPlace, PairPlace, VecPlace};
+pub use miniserde_places::{BoxPlace, OptionPlace};

@@ -1,12 +1,9 @@
 //! Reads structs whose fields have aliases.
-ghost use Rattle.std.specs.Prelude.{◌≡◌, true, List, length, map};
+ghost use Rattle.std.specs.Prelude.{◌≡◌, true, List, map};
 ghost use Rattle.miniserde_read.specs.types.Objects.{Name};
-ghost use Rattle.miniserde_round.specs.RoundTrip.{RoundTrips};
 ghost use Rattle.miniserde_record.specs.Aliases.{field_name_of, are_unaliased};
-ghost use Rattle.miniserde_record.specs.FieldsMeaning.{struct_meaning, with_aliases};
-ghost use Rattle.miniserde_record.specs.Structs.{record_tree};
+ghost use Rattle.miniserde_record.specs.FieldsMeaning.{with_aliases};
 
-use super::round_trips::{RoundTripFields, record_round_trips};
 use super::slots::Slots;
 use super::structs::Record;
 use miniserde_model::error::Result;
@@ -79,15 +76,4 @@ impl<S: HasAliases, F: Slots> Slots for Aliased<S, F> {
         let Aliased { fields, of: _ } = self;
         fields.end(alloc)
     }
-}
-
-/// Does nothing. It promises that a valid struct with aliases, which is written with the names of its fields, is read
-/// back as a value with the same tree.
-pub fn aliased_round_trips<S: HasAliases, F: RoundTripFields<Values = S::Values>>()
-    requires { length S.names ≡ F.meaning.count }
-    ensures { (v : S) → F.real (S.values v)
-        → RoundTrips (λ v. F.real (S.values v)) (record_tree S.names F.trees S.values)
-        (struct_meaning (with_aliases S.aliases F.meaning) S.names S.values).reads (record_tree S.names F.trees S.values v) }
-{
-    record_round_trips::<S, F>()
 }

@@ -1,14 +1,11 @@
 //! Unit enums: each value is read from its name and written as its name, a string.
-ghost use Rattle.std.specs.Prelude.{◌≡◌, true, Option, None, Some, Ok, Err, List, IfOk, IfErr, ⊤, refl};
-ghost use Rattle.miniserde_model.specs.Tree.{str};
+ghost use Rattle.std.specs.Prelude.{◌≡◌, true, Option, None, Some, Ok, Err, List, IfOk, IfErr, refl};
 ghost use Rattle.miniserde_text.specs.Lexer.{event_of_token};
 ghost use Rattle.miniserde_model.specs.declared.error.Error.{Error};
 ghost use Rattle.miniserde_read.specs.Meaning.{Meaning};
 ghost use Rattle.miniserde_read.specs.Rest.{GivesAt, GivesNoneAt};
 ghost use Rattle.miniserde_read.specs.Events.{EventInRange};
 ghost use Rattle.miniserde_read.specs.types.Objects.{Name};
-ghost use Rattle.miniserde_round.specs.RoundTrip.{RoundTrips};
-ghost use Rattle.miniserde_stable.specs.Stable.{IsStable};
 ghost use Rattle.miniserde_record.specs.Names.{find_variant, variant_of};
 ghost use Rattle.miniserde_record.specs.Variants.{variant_meaning};
 
@@ -111,21 +108,3 @@ pub fn read_variant<'a, T: UnitEnum + 'static>(
         Err(error) => Err(error),
     }
 }
-
-/// Does nothing. It promises that the tree of each value of a unit enum means a value, and that each value that it
-/// means has that tree, in the form that `RoundTrip` needs.
-pub fn variant_round_trips<T: UnitEnum>()
-    ensures { (v : T) → ⊤
-        → RoundTrips (λ _. ⊤) (λ v. str (T.name_of v)) (λ t v. t ≡ str (T.name_of v)) (str (T.name_of v)) }
-{}
-
-/// Does nothing. It promises that no two values of a unit enum have the same tree, in the form that `Lossless` needs.
-pub fn variant_lossless<T: UnitEnum>()
-    ensures { (v w : T) → ⊤ → ⊤ → str (T.name_of v) ≡ str (T.name_of w) → v ≡ w }
-{}
-
-/// Does nothing. It promises that if a tree means a value of a unit enum, the normal form of the tree means that
-/// value.
-pub fn variant_stable<T: UnitEnum>()
-    ensures { IsStable (variant_of T.name_of T.all) }
-{}

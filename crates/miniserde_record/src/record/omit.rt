@@ -1,20 +1,15 @@
 //! Optional fields that are not written if they are `None`.
 ghost use Rattle.std.specs.Prelude.{◌∷◌, true, None, option_map};
-ghost use Rattle.miniserde_record.specs.FieldsMeaning.{field_and};
 
-use super::lossless::LosslessFields;
 use super::marks::{Mark, Repeats};
 use super::members::Members;
-use super::round_trips::RoundTripFields;
 use super::slots::{MarkedSlot, Slots};
-use super::stable::StableFields;
 use super::structs::Parts;
+use super::written::WrittenFields;
 use miniserde_keys::Ranged;
 use miniserde_model::error::Result;
 use miniserde_read::{FromJson, Source};
-use miniserde_round::{Lossless, NeverNull, RoundTrip};
 use miniserde_ser::ser::{Serialize, Writer};
-use miniserde_stable::Stable;
 use std::alloc::Global;
 use std::marker::PhantomData;
 
@@ -80,46 +75,12 @@ impl<T: FromJson, M: Repeats, R: Slots> Slots for OmitSlot<T, M, R> {
     }
 }
 
-impl<T: RoundTrip + NeverNull, M: Repeats, R: RoundTripFields> RoundTripFields
-    for OmitSlot<T, M, R> {
+impl<T: Ranged + Serialize, M, R: WrittenFields> WrittenFields for OmitSlot<T, M, R> {
     type Values = Parts<Option<T>, R::Values>;
-
-    ghost meaning = { field_and M.once None ⟦<Option<T> as FromJson>⟧.means ⟦<Option<T> as FromJson>⟧.absent R.meaning };
 
     ghost real = { λ v. ⟦<Option<T> as Ranged>⟧.real v.0 × R.real v.1 };
 
     ghost trees = { λ v. option_map T.tree v.0 ∷ R.trees v.1 };
-
-    fn round_trips() {
-        <Option<T> as RoundTrip>::round_trips();
-        T::never_null();
-        R::round_trips();
-    }
-}
-
-impl<T: Lossless + NeverNull, M: Repeats, R: LosslessFields> LosslessFields for OmitSlot<T, M, R> {
-    type Values = Parts<Option<T>, R::Values>;
-
-    ghost meaning = { field_and M.once None ⟦<Option<T> as FromJson>⟧.means ⟦<Option<T> as FromJson>⟧.absent R.meaning };
-
-    ghost real = { λ v. ⟦<Option<T> as Ranged>⟧.real v.0 × R.real v.1 };
-
-    ghost trees = { λ v. option_map T.tree v.0 ∷ R.trees v.1 };
-
-    fn lossless() {
-        T::lossless();
-        R::lossless();
-    }
-}
-
-impl<T: Stable, M: Repeats, R: StableFields> StableFields for OmitSlot<T, M, R> {
-    type Values = Parts<Option<T>, R::Values>;
-
-    ghost meaning = { ⟦<MarkedSlot<Option<T>, Omit<M>, R> as StableFields>⟧.meaning };
-
-    fn stable() {
-        <MarkedSlot<Option<T>, Omit<M>, R> as StableFields>::stable()
-    }
 }
 
 /// A lent optional value, of which no member is written if it is `None`.

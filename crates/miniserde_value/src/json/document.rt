@@ -1,15 +1,11 @@
 //! The type `Document`, a JSON value whose content is the tree that it is written as.
 ghost use Rattle.std.specs.Prelude.{⊤};
-ghost use Rattle.miniserde_stable.specs.Stable.{IsStable};
 
-use super::number::Number;
 use super::value::Value;
 use miniserde_keys::Ranged;
 use miniserde_model::error::Result;
 use miniserde_read::{FromJson, Source};
-use miniserde_round::{Lossless, RoundTrip};
 use miniserde_ser::ser::{Serialize, Writer};
-use miniserde_stable::Stable;
 use miniserde_text::json::lex::Event;
 
 /// A JSON value whose content is the tree that it is written as: `-0` counts as 0, and the order of
@@ -51,22 +47,3 @@ impl Ranged for Document {
 
     fn ranged(&self) {}
 }
-
-impl RoundTrip for Document {
-    fn round_trips() {}
-}
-
-impl Lossless for Document {
-    fn lossless() {}
-}
-
-impl Stable for Document {
-    fn stable() {}
-}
-
-/// Does nothing. It promises that neither `Number` nor `Value` is stable. The reason is `-0`, whose sign both of them
-/// keep.
-pub fn negated_zero_is_not_stable()
-    ensures number { IsStable ⟦<Number as FromJson>⟧.means.from_tree → ⊥ }
-    ensures value { IsStable ⟦<Value as FromJson>⟧.means.from_tree → ⊥ }
-{}

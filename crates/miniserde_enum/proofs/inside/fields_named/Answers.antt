@@ -1,4 +1,4 @@
-use Rattle.miniserde_record.proofs.Rounds.{count_new}
+use Rattle.miniserde_record.proofs.Names.{count_new}
 use Rattle.miniserde_enum.proofs.inside.fields_named.Goals as goal
 
 pub returns : goal.returns

@@ -2,10 +2,8 @@
 ghost use Rattle.std.specs.Prelude.{true, [], ⊤};
 ghost use Rattle.miniserde_record.specs.FieldsMeaning.{closed_end};
 
-use crate::record::lossless::LosslessFields;
-use crate::record::round_trips::RoundTripFields;
 use crate::record::slots::Slots;
-use crate::record::stable::StableFields;
+use crate::record::written::WrittenFields;
 use miniserde_model::error::{Error, Result};
 use miniserde_read::Source;
 use std::alloc::Global;
@@ -42,34 +40,10 @@ impl Slots for Closed {
     }
 }
 
-impl RoundTripFields for Closed {
+impl WrittenFields for Closed {
     type Values = ();
-
-    ghost meaning = { closed_end };
 
     ghost real = { λ _. ⊤ };
 
     ghost trees = { λ _. [] };
-
-    fn round_trips() {}
-}
-
-impl LosslessFields for Closed {
-    type Values = ();
-
-    ghost meaning = { closed_end };
-
-    ghost real = { λ _. ⊤ };
-
-    ghost trees = { λ _. [] };
-
-    fn lossless() {}
-}
-
-impl StableFields for Closed {
-    type Values = ();
-
-    ghost meaning = { closed_end };
-
-    fn stable() {}
 }

@@ -1,6 +1,6 @@
 use Rattle.miniserde_record.specs.Structs.{is_new}
 use Rattle.miniserde_enum.specs.laws.Cases.{both}
-use Rattle.miniserde_enum.proofs.Tags.{inside-fits}
+use Rattle.miniserde_enum.proofs.Fits.{inside-fits}
 use Rattle.miniserde_enum.proofs.inside.DataCaseInsideCases.fit.Goals as goal
 
 pub returns : goal.returns

@@ -1,5 +1,5 @@
 use Rattle.std.proofs.Common.{map, sym, append-nil}
-use Rattle.miniserde_record.proofs.Rounds.{with_names_none, no_text}
+use Rattle.miniserde_record.proofs.Names.{with_names_none, no_text}
 use Rattle.miniserde_record.proofs.record.members.UnitMembers.write.Goals as goal
 
 pub returns-clause-ok : goal.returns-clause-ok

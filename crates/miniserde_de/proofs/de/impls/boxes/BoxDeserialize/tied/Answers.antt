@@ -1,6 +1,0 @@
-use Rattle.miniserde_de.specs.Tied.{type_meaning}
-use Rattle.miniserde_de.proofs.Agrees.{box_agree}
-use Rattle.miniserde_de.proofs.de.impls.boxes.BoxDeserialize.tied.Goals as goal
-
-pub returns : goal.returns
-returns g c = box_agree (type_meaning g.T.Place.Visitor.meaning) g.T.FromJson.means (λ b. b.value) c.tied.ensures

@@ -1,0 +1,6 @@
+use Rattle.miniserde_places.specs.Tied.{type_meaning}
+use Rattle.miniserde_de.proofs.Agrees.{option_agree}
+use Rattle.miniserde_de.proofs.de.impls.containers.OptionDeserialize.tied.Goals as goal
+
+pub returns : goal.returns
+returns g c = option_agree (type_meaning g.T.Place.Visitor.meaning) g.T.FromJson.means c.tied.ensures

@@ -1,6 +1,0 @@
-use Rattle.miniserde_de.specs.Tied.{type_meaning}
-use Rattle.miniserde_de.proofs.Agrees.{map_agree}
-use Rattle.miniserde_de.proofs.de.impls.maps.HashMapDeserialize.tied.Goals as goal
-
-pub returns : goal.returns
-returns g c = map_agree g.K.MapKey.read g.K.MapKey.code g.K.MapKey.content (type_meaning g.V.Place.Visitor.meaning) g.V.FromJson.means (λ v. v.entries) c.tied.ensures

@@ -1,6 +1,0 @@
-use Rattle.miniserde_de.specs.Tied.{type_meaning}
-use Rattle.miniserde_de.proofs.Agrees.{option_agree}
-use Rattle.miniserde_de.proofs.de.impls.options.OptionDeserialize.tied.Goals as goal
-
-pub returns : goal.returns
-returns g c = option_agree (type_meaning g.T.Place.Visitor.meaning) g.T.FromJson.means c.tied.ensures

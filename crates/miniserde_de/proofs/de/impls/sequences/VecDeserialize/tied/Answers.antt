@@ -1,6 +1,0 @@
-use Rattle.miniserde_de.specs.Tied.{type_meaning}
-use Rattle.miniserde_de.proofs.Agrees.{list_agree}
-use Rattle.miniserde_de.proofs.de.impls.sequences.VecDeserialize.tied.Goals as goal
-
-pub returns : goal.returns
-returns g c = list_agree (type_meaning g.T.Place.Visitor.meaning) g.T.FromJson.means (λ v. v.items) c.tied.ensures

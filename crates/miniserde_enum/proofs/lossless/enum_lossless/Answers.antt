@@ -1,9 +1,0 @@
-use Rattle.miniserde_record.proofs.Rounds.{distinct_names}
-use Rattle.miniserde_enum.specs.Tagging.{external}
-use Rattle.miniserde_enum.proofs.lossless.enum_lossless.Goals as goal
-
-pub returns : goal.returns
-returns g c = λ v w r q e.
-    let s = g.E.DataEnum in
-    let f = g.C.LosslessCases in
-    c.lossless.ensures.same external s.names (s.values v) (s.values w) c.lossless.ensures.external (distinct_names f.meaning.count s.names c.requires g.met.E.DataEnum.distinct_names) r q e

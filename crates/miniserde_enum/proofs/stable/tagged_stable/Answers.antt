@@ -1,7 +1,0 @@
-use Rattle.miniserde_enum.proofs.Tags.{tagged-stable}
-use Rattle.miniserde_enum.proofs.stable.tagged_stable.Goals as goal
-
-pub returns : goal.returns
-returns g c =
-    let names = g.E.DataEnum.names in
-    tagged-stable g.E.HasTag.tag (g.C.StableCases.meaning.content_by_name names) (c.stable.ensures names)

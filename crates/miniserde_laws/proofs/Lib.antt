@@ -1,0 +1,12 @@
+pub mod RoundTrips
+pub mod Agree
+pub mod Maps
+pub mod Sorted
+pub mod Hashed
+pub mod LosslessLists
+pub mod LosslessMaps
+pub mod Fields
+pub mod Named
+pub mod Aliases
+pub mod Cases
+pub mod NormalDocuments

@@ -1,0 +1,5 @@
+use Rattle.miniserde_laws.proofs.NormalDocuments.{round_trips-value}
+use Rattle.miniserde_laws.proofs.documents.ValueRoundTrip.round_trips.Goals as goal
+
+pub returns : goal.returns
+returns c = λ v r. round_trips-value v

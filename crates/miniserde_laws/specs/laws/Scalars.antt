@@ -1,0 +1,71 @@
+-- The laws of `bool`, integers and texts: their trees mean the values that have them, no two values have one tree, and
+-- no tree is `null`. By the definitions of the trees.
+use Rattle.std.proofs.Common.{◌≡◌, ◌<◌, ◌^◌, ◌-◌, ℕ, ℤ, pos, negsuc, true, nat_lt, List, refl, sym, ap, subst, arith}
+use Rattle.std.specs.Prelude.{Bool, FitsSigned, ⊤}
+use Rattle.std.proofs.lemmas.Bool.Decides.{nat_tests}
+use mir.Syntax.{Width}
+use mir.Val.{hbits}
+use Rattle.miniserde_model.specs.Tree.{Tree, null, truth, nonneg, neg, str}
+use Rattle.miniserde_read.specs.types.Integers.{fits_signed, ReadsUnsigned, ReadsSigned}
+use Rattle.miniserde_ser.specs.Fragment.{integer}
+use Rattle.miniserde_laws.specs.RoundTrip.{RoundTrips}
+
+-- ---- the tree of a value is read back
+
+-- a tree that means exactly the values that have it
+pub leaf-round_trips : {T : Type 0} (f : T → Tree) (v : T) → RoundTrips (λ _. ⊤) f (λ t w. t ≡ f w) (f v)
+leaf-round_trips f v = ((v, tt, refl), λ w r e. sym e)
+
+pub unsigned-round_trips : (bits n : ℕ) → n < 2 ^ bits → RoundTrips (λ n. n < 2 ^ bits) nonneg (ReadsUnsigned bits) (nonneg n)
+unsigned-round_trips bits n h = ((n, h, (refl, h)), λ w r e. sym e.0)
+
+integer-read : (bits : ℕ) (z : ℤ) → fits_signed bits z ≡ true → ReadsSigned bits (integer z) z
+integer-read bits (pos n) h = (refl, h)
+integer-read bits (negsuc n) h = (refl, h)
+
+integer-same : (bits : ℕ) (z w : ℤ) → ReadsSigned bits (integer z) w → integer w ≡ integer z
+integer-same bits (pos n) w h = ap integer (sym h.0)
+integer-same bits (negsuc n) w h = ap integer (sym h.0)
+
+passes : (k n : ℕ) → n < k → nat_lt n k ≡ true
+passes k n h = grind (arith, nat_tests)
+
+-- a number of a signed type passes its test
+signed-real : (bits : ℕ) (w : Width) → hbits w ≡ bits - 1 → (z : ℤ) → FitsSigned w z → fits_signed bits z ≡ true
+signed-real bits w e (pos n) h = passes (2 ^ (bits - 1)) n (subst (λ k. n < 2 ^ k) e h.sfits)
+signed-real bits w e (negsuc n) h = passes (2 ^ (bits - 1)) n (subst (λ k. n < 2 ^ k) e h.sfits)
+
+pub signed-round_trips : (bits : ℕ) (w : Width) → hbits w ≡ bits - 1 → (z : ℤ) → FitsSigned w z → RoundTrips (FitsSigned w) integer (ReadsSigned bits) (integer z)
+signed-round_trips bits w e z h = ((z, h, integer-read bits z (signed-real bits w e z h)), λ v r i. integer-same bits z v i)
+
+-- ---- no two values have one tree
+
+pub boolean-same : (v w : Bool) → ⊤ → ⊤ → truth v ≡ truth w → v ≡ w
+boolean-same v w r s e = cc
+
+pub text-same : {T : Type 0} (bytes : T → List ℕ) (v w : T) → ⊤ → ⊤ → str (bytes v) ≡ str (bytes w) → bytes v ≡ bytes w
+text-same bytes v w r s e = cc
+
+pub unsigned-same : (bits v w : ℕ) → v < 2 ^ bits → w < 2 ^ bits → nonneg v ≡ nonneg w → pos v ≡ pos w
+unsigned-same bits v w r s e = let i : v ≡ w = cc in ap pos i
+
+pub signed-same : (w : Width) (v u : ℤ) → FitsSigned w v → FitsSigned w u → integer v ≡ integer u → v ≡ u
+signed-same w (pos n) (pos m) r s e = let i : n ≡ m = cc in ap pos i
+signed-same w (pos n) (negsuc m) r s e = absurd (cc)
+signed-same w (negsuc n) (pos m) r s e = absurd (cc)
+signed-same w (negsuc n) (negsuc m) r s e = cc
+
+-- ---- no tree is `null`
+
+pub boolean-not_null : (v : Bool) → ⊤ → truth v ≡ null → ⊥
+boolean-not_null v r e = cc
+
+pub text-not_null : {T : Type 0} (bytes : T → List ℕ) (v : T) → ⊤ → str (bytes v) ≡ null → ⊥
+text-not_null bytes v r e = cc
+
+pub unsigned-not_null : (bits v : ℕ) → v < 2 ^ bits → nonneg v ≡ null → ⊥
+unsigned-not_null bits v r e = cc
+
+pub signed-not_null : (w : Width) (v : ℤ) → FitsSigned w v → integer v ≡ null → ⊥
+signed-not_null w (pos n) r e = cc
+signed-not_null w (negsuc n) r e = cc

@@ -1,0 +1,95 @@
+-- The meaning of a struct's fields that are read from events, and of the struct's collector. The current field is the
+-- one whose member is being read. A member whose name no field has is skipped, by a place at the end of the fields.
+use Rattle.std.specs.Prelude.{◌≡◌, refl, Bool, true, false, List, Option, Some, None, option_map}
+use Rattle.miniserde_model.specs.Tree.{Tree}
+use Rattle.miniserde_model.specs.Step.{Step, element, key, events}
+use Rattle.miniserde_place.specs.Place.{PlaceView, PlaceMeaning}
+use Rattle.miniserde_place.specs.Container.{CollectorMeaning, view_through}
+use Rattle.miniserde_read.specs.types.Objects.{Name}
+use Rattle.miniserde_places.specs.Objects.{object_rules}
+use Rattle.miniserde_places.specs.Tied.{type_meaning}
+use Rattle.miniserde_places.specs.laws.Objects.{object-meant}
+use Rattle.miniserde_record.specs.Fields.{field_member}
+use Rattle.miniserde_record.specs.FieldsMeaning.{FieldsMeaning, no_fields, field_and, struct_meaning}
+use Rattle.miniserde_record.specs.laws.Fields.{none-refused, field-refused, field-meant}
+
+-- the meaning of a struct's fields that are read from events: F is the type of the fields so far,
+-- with the current field's place, and V the type of the fields' values
+pub record FieldPlacesMeaning (F V : Type 0) : Type 1 where
+  -- the meaning of the fields by trees
+  pub meant : FieldsMeaning V
+  -- the state of the fields so far
+  pub state : F → meant.State
+  -- the state after one more member, if the member is no error, by the fields' names, the state before it, the member's
+  -- name and the events of its value
+  pub by_events : List Name → meant.State → Name → List Step → Option meant.State
+  -- a member's events lead to the same state as its tree
+  pub events_agree : (names : List Name) (s : meant.State) (k : Name) (t : Tree) → by_events names s k (events t) ≡ meant.next_state names s k t
+  -- a member for whose name `meant.refuses` holds gives no state, whatever its events
+  pub refused : (names : List Name) (s : meant.State) (k : Name) → meant.refuses names s k ≡ true → (es : List Step) → by_events names s k es ≡ None
+  -- the view of the current field's place, or of the place of a skipped member; its outcome is the state after that
+  -- member
+  pub child : F → PlaceView meant.State
+
+-- the meaning of no field: a place skips each member, and `skipped` returns the view of that place
+abbrev pub no_field_places : {F : Type 0} → (F → PlaceView (Unit {0})) → FieldPlacesMeaning F (Unit {0})
+no_field_places skipped = record {
+  meant = no_fields;
+  state = λ _. tt;
+  by_events = λ ns s k es. Some tt;
+  events_agree = λ ns s k t. refl;
+  refused = λ ns s k h es. none-refused (Some tt) h;
+  child = λ f. view_through (λ _. Some tt) (skipped f);
+}
+
+-- The view of the current field's place. Its outcome is the state of all fields: v is the first field's content so far,
+-- and s the state of the later fields. The last argument is the first field's place if that field is current, and
+-- `view` returns the view of it. If it is `None`, `later` is the view of the current place among the later fields.
+abbrev pub field_view : {P A S : Type 0} → (P → PlaceView A) → Option A → S → PlaceView S → Option P → PlaceView (Option A × S)
+field_view view v s later None = view_through (λ r. Some (v, r)) later
+field_view view v s later (Some p) = view_through (λ a. Some (Some a, s)) (view p)
+
+-- The meaning of a field and of the fields after it. `once` says whether a duplicate of its name fails, m is the
+-- meaning of its place, and `absent` its value if it is missing, if it has one then. `value` returns its value so far,
+-- `child` its place if it is the current field, and `rest` the later fields, which have the meaning n.
+abbrev pub field_place_and : {P T F R V : Type 0} → Bool → PlaceMeaning P T → Option T → (F → Option T) → (F → Option P) → (F → R) → FieldPlacesMeaning R V → FieldPlacesMeaning F (T × V)
+field_place_and once m absent value child rest n = record {
+  meant = field_and once None (type_meaning m) absent n.meant;
+  state = λ f. (option_map m.content (value f), n.state (rest f));
+  by_events = field_member once m.from_events n.by_events;
+  events_agree = field-meant once m.from_events m.from_tree n.by_events n.meant.next_state m.events_agree n.events_agree;
+  refused = field-refused once m.from_events n.by_events n.meant.refuses n.refused;
+  child = λ f. field_view m.view (option_map m.content (value f)) (n.state (rest f)) (n.child (rest f)) (child f);
+}
+
+-- the meaning of a wrapper around fields: `inner` returns the fields, and n is their meaning
+abbrev pub wrapper_field_places : {F G V : Type 0} → (G → F) → FieldPlacesMeaning F V → FieldPlacesMeaning G V
+wrapper_field_places inner n = record {
+  meant = n.meant;
+  state = λ g. n.state (inner g);
+  by_events = n.by_events;
+  events_agree = n.events_agree;
+  refused = n.refused;
+  child = λ g. n.child (inner g);
+}
+
+-- whether the event begins an element, which no object has, or a member for whose name `refuses` holds
+abbrev pub refuses_member : (Name → Bool) → Step → Bool
+refuses_member refuses (key k) = refuses k
+refuses_member refuses element = true
+refuses_member refuses _ = false
+
+-- the meaning of a struct's collector, by the meaning n of its fields and by their names; `values`
+-- returns the fields' values of a struct, and `fields` a collector's fields so far
+abbrev pub struct_collector : {F V C W : Type 0} → FieldPlacesMeaning F V → List Name → (W → V) → (C → F) → CollectorMeaning C W
+struct_collector n names values fields = record {
+  meant = struct_meaning n.meant names values;
+  State = n.meant.State;
+  state = λ c. n.state (fields c);
+  empty = n.meant.empty;
+  is_object = true;
+  rules = object_rules (n.by_events names) n.meant.end;
+  events_agree = object-meant (n.by_events names) (n.meant.next_state names) n.meant.end (n.events_agree names) n.meant.empty (n.meant.from_members names n.meant.empty) (n.meant.members_agree names n.meant.empty);
+  child = λ c. n.child (fields c);
+  refuses = λ s e. refuses_member (n.meant.refuses names s) e;
+}

@@ -1,0 +1,10 @@
+pub mod Children
+pub mod Lists
+pub mod Arrays
+pub mod Pairs
+pub mod Options
+pub mod Objects
+pub mod PlaceMeanings
+pub mod FieldPlaces
+pub mod Tied
+pub mod laws

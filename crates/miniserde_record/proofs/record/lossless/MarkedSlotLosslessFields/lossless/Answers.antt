@@ -1,5 +1,0 @@
-use Rattle.std.proofs.Common.{arith}
-use Rattle.miniserde_record.proofs.record.lossless.MarkedSlotLosslessFields.lossless.Goals as goal
-
-pub returns-clause-each : goal.returns-clause-each
-returns-clause-each g c = λ v. let e = c.lossless-2.ensures.each v.1 in omega (arith, e)

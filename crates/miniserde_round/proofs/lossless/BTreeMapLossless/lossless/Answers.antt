@@ -1,9 +1,0 @@
-use Rattle.std.proofs.Common.{sym, ◌∙◌}
-use Rattle.miniserde_round.proofs.LosslessMaps.{one_sorted}
-use Rattle.miniserde_round.proofs.lossless.BTreeMapLossless.lossless.Goals as goal
-
-pub returns : goal.returns
-returns g c = λ v w p q e.
-    let k = g.K.MapKey in
-    let laws = g.met.K.MapKey in
-    one_sorted k.read k.code k.content k.text g.V.Serialize.tree g.V.FromJson.means.content g.K.Ranged.real g.V.Ranged.real laws.back g.met.K.InjectiveKey.injective c.lossless.ensures g.K.Ord.cmp (λ a b. sym (g.met.K.Ord.matches_eq a b) ∙ laws.alike a b) v.entries w.entries p q e

@@ -1,5 +1,0 @@
-use Rattle.miniserde_round.proofs.LosslessLists.{one_list}
-use Rattle.miniserde_round.proofs.lossless.VecDequeLossless.lossless.Goals as goal
-
-pub returns : goal.returns
-returns g c = λ v w p q e. one_list g.T.Ranged.real g.T.Serialize.tree g.T.FromJson.means.content c.lossless.ensures v.items w.items p q e

@@ -1,5 +1,0 @@
-use Rattle.miniserde_stable.proofs.Types.{stable-array}
-use Rattle.miniserde_stable.proofs.stable.ArrayStable.stable.Goals as goal
-
-pub returns : goal.returns
-returns g c = stable-array g.T.FromJson.means.from_tree c.stable.ensures g.row.N

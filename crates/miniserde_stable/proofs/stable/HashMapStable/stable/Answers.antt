@@ -1,5 +1,0 @@
-use Rattle.miniserde_stable.proofs.Maps.{stable-map}
-use Rattle.miniserde_stable.proofs.stable.HashMapStable.stable.Goals as goal
-
-pub returns : goal.returns
-returns g c = let k = g.K.MapKey in stable-map k.read k.code g.V.FromJson.means.from_tree c.stable.ensures g.met.K.ExactKey.one_name

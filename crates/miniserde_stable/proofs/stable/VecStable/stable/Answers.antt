@@ -1,5 +1,0 @@
-use Rattle.miniserde_stable.proofs.Types.{stable-list}
-use Rattle.miniserde_stable.proofs.stable.VecStable.stable.Goals as goal
-
-pub returns : goal.returns
-returns g c = stable-list g.T.FromJson.means.from_tree c.stable.ensures

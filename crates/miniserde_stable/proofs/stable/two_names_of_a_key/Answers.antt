@@ -1,5 +1,0 @@
-use Rattle.miniserde_stable.proofs.Twice.{unstable-map}
-use Rattle.miniserde_stable.proofs.stable.two_names_of_a_key.Goals as goal
-
-pub returns : goal.returns
-returns c = unstable-map

@@ -1,0 +1,5 @@
+use Rattle.miniserde_stored.proofs.Twice.{unstable-map}
+use Rattle.miniserde_stored.proofs.stable.two_names_of_a_key.Goals as goal
+
+pub returns : goal.returns
+returns c = unstable-map

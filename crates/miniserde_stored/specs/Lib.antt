@@ -1,0 +1,4 @@
+pub mod Stable
+pub mod StableCases
+pub mod StableFields
+pub mod laws

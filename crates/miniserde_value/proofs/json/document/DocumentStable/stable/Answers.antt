@@ -1,5 +1,0 @@
-use Rattle.miniserde_value.proofs.Contents.{stable-document}
-use Rattle.miniserde_value.proofs.json.document.DocumentStable.stable.Goals as goal
-
-pub returns : goal.returns
-returns c = stable-document

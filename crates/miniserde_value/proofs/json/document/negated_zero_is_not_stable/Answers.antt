@@ -1,8 +1,0 @@
-use Rattle.miniserde_value.proofs.Contents.{unstable-number, unstable-value}
-use Rattle.miniserde_value.proofs.json.document.negated_zero_is_not_stable.Goals as goal
-
-pub returns-clause-number : goal.returns-clause-number
-returns-clause-number c = unstable-number
-
-pub returns-clause-value : goal.returns-clause-value
-returns-clause-value c = unstable-value
