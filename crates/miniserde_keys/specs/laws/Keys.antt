@@ -1,7 +1,9 @@
 -- What `parse` returns as a key, and the laws of keys: equal keys have equal codes and one text, and a key's text is
 -- parsed as it. Each test of a text is first turned into the fact that it decides.
-use Rattle.std.proofs.Common.{◌≡◌, ◌≢◌, ◌∙◌, ℕ, zero, suc, ◌+◌, ◌-◌, ◌^◌, ◌<◌, ◌≤◌, ℤ, pos, negsuc, neg_ℤ, Bool, true, false, cond, nat_eq, List, [], ◌∷◌, length, drop, get_or, Option, Some, None, refl, sym, ap, subst, inl, inr, arith, append-nil}
-use Rattle.std.specs.Prelude.{decimal, ◌⊎◌, ⊤}
+use Rattle.std.proofs.Common.{◌≡◌, ◌≢◌, ◌∙◌, ℕ, zero, suc, ◌+◌, ◌-◌, ◌^◌, ◌<◌, ◌≤◌, ℤ, pos, negsuc, neg_ℤ, Bool}
+use Rattle.std.proofs.Common.{true, false, cond, nat_eq, List, [], ◌∷◌, length, drop, get_or, Option, Some, None}
+use Rattle.std.proofs.Common.{refl, sym, ap, subst, inl, inr, arith, append-nil}
+use Rattle.std.specs.Prelude.{decimal, ◌⊎◌, ⊤, Result, Ok, Err, OkIff, MatchResult}
 use Rattle.std.specs.Bool.{beq, Decides}
 use Rattle.std.specs.Ordering.{int_eq}
 use Rattle.std.specs.Char.{IsScalar, encode_utf8}
@@ -9,18 +11,21 @@ use Rattle.std.specs.Int.{IsInRange}
 use Rattle.std.specs.Int.RustNames.{FitsSigned}
 use Rattle.std.specs.Fmt.{signed_decimal}
 use Rattle.std.specs.Str.{all_ascii_digits, bytes_eq, chars, encode_utf8_all, is_utf8}
-use Rattle.std.specs.Str.Parse.{IsNumeral, digits_value, starts_with_minus, without_leading_plus, without_leading_sign, signed_digits_value}
-use Rattle.std.proofs.lemmas.Bool.Decides.{same_from_decides, Decides-like, Decides-and, Decides-ltb, Decides-eqb, Decides-int_eq, nat_tests}
+use Rattle.std.specs.Str.Parse.{IsNumeral, ParsesUnsigned, ParsesSigned, digits_value, starts_with_minus}
+use Rattle.std.specs.Str.Parse.{without_leading_plus, without_leading_sign, signed_digits_value}
+use Rattle.std.proofs.lemmas.Bool.Decides.{same_from_decides, Decides-like, Decides-and, Decides-ltb, Decides-eqb}
+use Rattle.std.proofs.lemmas.Bool.Decides.{Decides-int_eq, nat_tests}
 use Rattle.std.proofs.lemmas.Bool.{true≢false}
 use Rattle.std.proofs.lemmas.Slice.Eq.{bytes_eq-Decides}
-use Rattle.std.proofs.lemmas.Int.{to_z-of_z}
 use Rattle.std.proofs.lemmas.Fmt.{decimal_is_IsNumeral}
-use Rattle.std.proofs.lemmas.Str.{IsUtf8-from_is_utf8, is_utf8-from_IsUtf8, encodes-chars, scalars-chars, chars_past_char, chars-nil, IsUtf8-encode}
+use Rattle.std.proofs.lemmas.Str.{IsUtf8-from_is_utf8, is_utf8-from_IsUtf8, encodes-chars, scalars-chars}
+use Rattle.std.proofs.lemmas.Str.{chars_past_char, chars-nil, IsUtf8-encode}
 use Rattle.std.proofs.lemmas.Str.Parse.{IsNumeralModel, numerals_by_value, tells_all_ascii_digits, without_leading_plus_none, not_in_digits}
 use lib.Utf8.{scalars}
 use mir.Syntax.{Width, w8, w16, w32, w64, w128}
 use mir.Val.{hbits}
-use Rattle.miniserde_keys.specs.Keys.{Key, of_nat, of_int, of_bool, bool_text, read_bool, single_char, read_char, are_digits_below, read_digits, read_unsigned, read_signed}
+use Rattle.miniserde_keys.specs.Keys.{Key, of_nat, of_int, of_bool, bool_text, read_bool, single_char, read_char}
+use Rattle.miniserde_keys.specs.Keys.{are_digits_below, read_digits, read_unsigned, read_signed}
 
 -- the text of each valid key is parsed as a valid key that is equal to it: one with the same code
 abbrev pub ReadsBack : {K : Type 0} → (K → Type 0) → (K → Key) → (Key → Key) → (List ℕ → Option Key) → (K → List ℕ) → Type 0
@@ -34,22 +39,22 @@ nat-alike a b =
     same_from_decides _ _ (Decides-eqb a b)
     (Decides-like _ (λ e. cc) (λ e. ap of_nat e) (bytes_eq-Decides (of_nat a) (of_nat b)))
 
-pub nat-text : (text : ℕ → List ℕ) (a b : ℕ) → of_nat a ≡ of_nat b → text a ≡ text b
-nat-text text a b e = let same : a ≡ b = cc in ap text same
+pub nat-same : (a b : ℕ) → of_nat a ≡ of_nat b → a ≡ b
+nat-same a b e = cc
 
-int_same : (a b : ℤ) → of_int a ≡ of_int b → a ≡ b
-int_same (pos m) (pos n) e = cc
-int_same (pos m) (negsuc n) e = cc
-int_same (negsuc m) (pos n) e = cc
-int_same (negsuc m) (negsuc n) e = cc
+pub nat-text : (text : ℕ → List ℕ) (a b : ℕ) → of_nat a ≡ of_nat b → text a ≡ text b
+nat-text text a b e = ap text (nat-same a b e)
+
+pub int-same : (a b : ℤ) → of_int a ≡ of_int b → a ≡ b
+int-same (pos m) (pos n) e = cc
+int-same (pos m) (negsuc n) e = cc
+int-same (negsuc m) (pos n) e = cc
+int-same (negsuc m) (negsuc n) e = cc
 
 pub int-alike : (a b : ℤ) → int_eq a b ≡ bytes_eq (of_int a) (of_int b)
 int-alike a b =
     same_from_decides _ _ (Decides-int_eq a b)
-    (Decides-like _ (int_same a b) (λ e. ap of_int e) (bytes_eq-Decides (of_int a) (of_int b)))
-
-pub int-text : (text : ℤ → List ℕ) (a b : ℤ) → of_int a ≡ of_int b → text a ≡ text b
-int-text text a b e = ap text (int_same a b e)
+    (Decides-like _ (int-same a b) (λ e. ap of_int e) (bytes_eq-Decides (of_int a) (of_int b)))
 
 pub bool-alike : (a b : Bool) → beq a b ≡ bytes_eq (of_bool a) (of_bool b)
 bool-alike true true = refl
@@ -87,6 +92,14 @@ reads_if : {P : Type 0} (b : Bool) (code : List ℕ) → Decides b P → ReadsIf
 reads_if true code d = inl (d.0 refl, refl)
 reads_if false code d = inr (λ p. true≢false (sym (d.1 p)), refl)
 
+-- if r is v exactly if P holds, r is what is read
+as_read : {A E P : Type 0} (content : A → Key) (k : Option Key) (v : A) (r : Result A E) → ReadsIf P k (content v)
+    → OkIff r P v → MatchResult r (λ n. k ≡ Some (content n)) (λ _. k ≡ None)
+as_read content k v (Ok x) (inl d) gives = d.1 ∙ ap (λ n. Some (content n)) (sym gives.1)
+as_read content k v (Ok x) (inr d) gives = absurd (d.0 gives.0)
+as_read content k v (Err x) (inl d) gives = absurd (gives d.0)
+as_read content k v (Err x) (inr d) gives = d.1
+
 -- if R says that the number of the digits is below the limit, then they are read exactly if they are digits and R
 -- holds
 digits_read : (limit : ℕ) (code : ℕ → List ℕ) (ds : List ℕ) (R : Type 0) → (R → digits_value 10 ds < limit)
@@ -116,18 +129,22 @@ no_minus n h = let other = first_digit n 45 h (λ r. absurd (omega (arith, r.0))
 
 -- ---- unsigned integers
 
-pub unsigned_reads : (bits : ℕ) (bs : List ℕ)
+unsigned_reads : (bits : ℕ) (bs : List ℕ)
     → ReadsIf (IsNumeral 10 (without_leading_plus bs) × (digits_value 10 (without_leading_plus bs) < 2 ^ bits))
     (read_unsigned bits bs) (of_nat (digits_value 10 (without_leading_plus bs)))
 unfolding read_unsigned
 unsigned_reads bits bs = digits_read (2 ^ bits) of_nat (without_leading_plus bs) _ (λ h. h) (λ h. h)
 
-pub unsigned-back : (bits : ℕ) → 2 ^ bits ≤ 2 ^ 64
-    → ReadsBack (λ n. n < 2 ^ bits) of_nat (λ c. c) (read_unsigned bits) decimal
+pub unsigned-back : (bits : ℕ) → 2 ^ bits ≤ 2 ^ 64 → (n : ℕ) → n < 2 ^ bits
+    → read_unsigned bits (decimal n) ≡ Some (of_nat n)
 unfolding read_unsigned
 unsigned-back bits wide n h =
-    let small : n < 2 ^ 64 = omega arith in
-    (n, h, rw (no_plus n small) (decimal_some (2 ^ bits) of_nat n small h), refl)
+    let small : n < 2 ^ 64 = omega arith in rw (no_plus n small) (decimal_some (2 ^ bits) of_nat n small h)
+
+-- what std's `parse` returns is what the text is read as
+pub unsigned-parses : {E : Type 0} (bits : ℕ) (bs : List ℕ) (r : Result ℕ E) → ParsesUnsigned bits 10 bs r
+    → MatchResult r (λ n. read_unsigned bits bs ≡ Some (of_nat n)) (λ _. read_unsigned bits bs ≡ None)
+unsigned-parses bits bs r gives = as_read of_nat _ _ r (unsigned_reads bits bs) gives
 
 -- ---- signed integers
 
@@ -171,33 +188,24 @@ signed_reads : (bits : ℕ) (w : Width) → hbits w ≡ bits - 1 → (bs : List 
 unfolding read_signed
 signed_reads bits w e bs = rw (sym e) (reads_by w (starts_with_minus bs) (drop 1 bs) (without_leading_plus bs))
 
-pub signed8 : (bs : List ℕ) → ReadsSigned 8 w8 bs
-signed8 = signed_reads 8 w8 refl
-
-pub signed16 : (bs : List ℕ) → ReadsSigned 16 w16 bs
-signed16 = signed_reads 16 w16 refl
-
-pub signed32 : (bs : List ℕ) → ReadsSigned 32 w32 bs
-signed32 = signed_reads 32 w32 refl
-
-pub signed64 : (bs : List ℕ) → ReadsSigned 64 w64 bs
-signed64 = signed_reads 64 w64 refl
-
-pub signed-back : (bits : ℕ) (w : Width) → hbits w ≡ bits - 1 → 2 ^ hbits w ≤ 2 ^ 63
-    → ReadsBack (FitsSigned w) of_int (λ c. c) (read_signed bits) signed_decimal
+pub signed-back : (bits : ℕ) (w : Width) → hbits w ≡ bits - 1 → 2 ^ hbits w ≤ 2 ^ 63 → (n : ℤ) → FitsSigned w n
+    → read_signed bits (signed_decimal n) ≡ Some (of_int n)
 unfolding read_signed
 signed-back bits w e wide (pos n) h =
     let below : n < 2 ^ hbits w = h.sfits in
     let small : n < 2 ^ 64 = omega arith in
     let own = decimal_some (2 ^ hbits w) (λ n. of_int (pos n)) n small below in
-    (pos n, h, rw (sym e, no_minus n small, no_plus n small) own, refl)
+    rw (sym e, no_minus n small, no_plus n small) own
 signed-back bits w e wide (negsuc n) h =
     let below : n < 2 ^ hbits w = h.sfits in
     let own = decimal_some (2 ^ hbits w + 1) (λ n. of_int (neg_ℤ (pos n))) (suc n) (omega arith) (omega arith) in
-    (negsuc n, h, rw (sym e) own, refl)
+    rw (sym e) own
 
--- the lemmas for `from_key` of integers
-pub ruleset integer_reads = (unsigned_reads, signed8, signed16, signed32, signed64, to_z-of_z)
+-- what std's `parse` returns is what the text is read as
+pub signed-parses : {E : Type 0} (bits : ℕ) (w : Width) → hbits w ≡ bits - 1 → (bs : List ℕ) (r : Result ℤ E)
+    → ParsesSigned w 10 bs r
+    → MatchResult r (λ n. read_signed bits bs ≡ Some (of_int n)) (λ _. read_signed bits bs ≡ None)
+signed-parses bits w e bs r gives = as_read of_int _ _ r (signed_reads bits w e bs) gives
 
 -- ---- characters
 
