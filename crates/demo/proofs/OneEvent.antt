@@ -10,7 +10,9 @@ use Rattle.miniserde.specs.Place.{PlaceView, IsFresh, Takes}
 use Rattle.miniserde.specs.Container.{is_complete}
 
 -- a fresh place that took the one event of a value is complete, and has what the event gives
-pub one_event : {C : Type 0} (from_events : List Step → Option C) (old new : PlaceView C) (e : Step) → Completes start (e ∷ []) → IsFresh from_events old → Takes old e (Ok tt) new → (new.refused ≡ None) × (is_complete new.at ≡ true) × (new.outcome [] ≡ from_events (e ∷ []))
+pub one_event : {C : Type 0} (from_events : List Step → Option C) (old new : PlaceView C) (e : Step)
+    → Completes start (e ∷ []) → IsFresh from_events old → Takes old e (Ok tt) new → (new.refused ≡ None)
+    × (is_complete new.at ≡ true) × (new.outcome [] ≡ from_events (e ∷ []))
 one_event from_events old new e w f t =
     let r = t.advances [] (subst (λ p. Completes p (e ∷ [])) (sym f.fresh) w) in
     let at : new.at ≡ complete = r.0 ∙ ap (λ p. next p e) f.fresh ∙ w.1 in

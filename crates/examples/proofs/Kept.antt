@@ -9,10 +9,14 @@ use Rattle.miniserde.specs.Objects.{Name}
 use Rattle.miniserde.specs.Fields.{AllNamed, LastMemberReads}
 
 -- a tree of a needed field means a second value exactly if that one has the first one's content
-pub same_field : {A C : Type 0} (R : Tree → A → Type 0) (of : Tree → Option C) (content : A → C) → ((t : Tree) (v : A) → R t v ↔ (of t ≡ Some (content v))) → (n : Name) (ms : Members) (v w : A) → LastMemberReads (None ≡ Some (content v)) (λ t. R t v) of n ms → LastMemberReads (None ≡ Some (content w)) (λ t. R t w) of n ms ↔ (content w ≡ content v)
+pub same_field : {A C : Type 0} (R : Tree → A → Type 0) (of : Tree → Option C) (content : A → C)
+    → ((t : Tree) (v : A) → R t v ↔ (of t ≡ Some (content v))) → (n : Name) (ms : Members) (v w : A)
+    → LastMemberReads (None ≡ Some (content v)) (λ t. R t v) of n ms
+    → LastMemberReads (None ≡ Some (content w)) (λ t. R t w) of n ms ↔ (content w ≡ content v)
 same_field {A} R of content agrees n ms v w r =
     let means : A → Option Tree → Type 0 = λ v o. MatchOption o (None ≡ Some (content v)) (λ t. R t v) in
-    let go : (o : Option Tree) → means v o → means w o ↔ (content w ≡ content v) = λ o. elim o as (λ o. means v o → means w o ↔ (content w ≡ content v)) [
+    let go : (o : Option Tree) → means v o → means w o ↔ (content w ≡ content v) =
+    λ o. elim o as (λ o. means v o → means w o ↔ (content w ≡ content v)) [
       | None ↦ λ h. absurd (cc)
       | Some t ↦ λ h. let e = (agrees t v).0 h in (λ g. let f = (agrees t w).0 g in cc, λ q. (agrees t w).1 (e ∙ ap Some (sym q)))
     ] in
@@ -23,25 +27,37 @@ same_field {A} R of content agrees n ms v w r =
 pub none_named : {C : Type 0} (of : Tree → Option C) (n : Name) (ms : Members) → last_of n ms ≡ None → AllNamed of n ms
 none_named of n no_members e = tt
 none_named of n (member k t ms) e =
-    let go : (o : Option Tree) (b : Bool) → or_else o (cond b (Some t) None) ≡ None → (o ≡ None) × (b ≡ false) = λ o b. elim o as (λ o. or_else o (cond b (Some t) None) ≡ None → (o ≡ None) × (b ≡ false)) [
-      | None ↦ elim b as (λ b. cond b (Some t) None ≡ None → (◌≡◌ {A = Option Tree} None None) × (b ≡ false)) [ true ↦ λ e. absurd (cc) | false ↦ λ e. (refl, refl) ]
+    let go : (o : Option Tree) (b : Bool) → or_else o (cond b (Some t) None) ≡ None → (o ≡ None) × (b ≡ false) =
+    λ o b. elim o as (λ o. or_else o (cond b (Some t) None) ≡ None → (o ≡ None) × (b ≡ false)) [
+      | None ↦ elim b as (λ b. cond b (Some t) None ≡ None → (◌≡◌ {A = Option Tree} None None) × (b ≡ false))
+          [ true ↦ λ e. absurd (cc) | false ↦ λ e. (refl, refl) ]
       | Some u ↦ λ e. absurd (cc)
     ] in
     let s = go (last_of n ms) (bytes_eq k n) e in
     (λ q. absurd (cc), none_named of n ms s.0)
 
 -- a missing field is as where none is met
-pub says_missing : {C : Type 0} (missing : Type 0) (Is : Tree → Type 0) (of : Tree → Option C) (n : Name) (ms : Members) → last_of n ms ≡ None → LastMemberReads missing Is of n ms ↔ missing
-says_missing missing Is of n ms e = (λ h. subst (λ o. MatchOption o missing Is) e h.1, λ m. (none_named of n ms e, subst (λ o. MatchOption o missing Is) (sym e) m))
+pub says_missing : {C : Type 0} (missing : Type 0) (Is : Tree → Type 0) (of : Tree → Option C) (n : Name)
+    (ms : Members) → last_of n ms ≡ None → LastMemberReads missing Is of n ms ↔ missing
+says_missing missing Is of n ms e = (
+  λ h. subst (λ o. MatchOption o missing Is) e h.1,
+  λ m.
+      (none_named of n ms e, subst (λ o. MatchOption o missing Is) (sym e) m),
+)
 
 -- each member of a name is accepted by a second word that accepts what the first one does
-all_among : {C D : Type 0} (of : Tree → Option C) (to : Tree → Option D) → ((t : Tree) → IsSome (of t) → IsSome (to t)) → (n : Name) (ms : Members) → AllNamed of n ms → AllNamed to n ms
+all_among : {C D : Type 0} (of : Tree → Option C) (to : Tree → Option D)
+    → ((t : Tree) → IsSome (of t) → IsSome (to t)) → (n : Name) (ms : Members) → AllNamed of n ms → AllNamed to n ms
 all_among of to more n no_members h = tt
 all_among of to more n (member k t ms) h = (λ e. more t (h.0 e), all_among of to more n ms h.1)
 
 -- the same of a field of an enum, of which each tree means the value of a second enum that `to` gives
-pub other_field : {A B : Type 0} (R : Tree → A → Type 0) (of : Tree → Option A) → ((t : Tree) (v : A) → R t v ↔ (of t ≡ Some v)) → (S : Tree → B → Type 0) (by : Tree → Option B) → ((t : Tree) (w : B) → S t w ↔ (by t ≡ Some w)) → (to : A → B) → ((t : Tree) (v : A) (w : B) → R t v → S t w ↔ (w ≡ to v))
-    → (n : Name) (ms : Members) (v : A) (w : B) → LastMemberReads (None ≡ Some v) (λ t. R t v) of n ms → LastMemberReads (None ≡ Some w) (λ t. S t w) by n ms ↔ (w ≡ to v)
+pub other_field : {A B : Type 0} (R : Tree → A → Type 0) (of : Tree → Option A)
+    → ((t : Tree) (v : A) → R t v ↔ (of t ≡ Some v)) → (S : Tree → B → Type 0) (by : Tree → Option B)
+    → ((t : Tree) (w : B) → S t w ↔ (by t ≡ Some w)) → (to : A → B)
+    → ((t : Tree) (v : A) (w : B) → R t v → S t w ↔ (w ≡ to v))
+    → (n : Name) (ms : Members) (v : A) (w : B) → LastMemberReads (None ≡ Some v) (λ t. R t v) of n ms
+    → LastMemberReads (None ≡ Some w) (λ t. S t w) by n ms ↔ (w ≡ to v)
 other_field {A} {B} R of agrees S by gives to law n ms v w r =
     let more : (t : Tree) → IsSome (of t) → IsSome (by t) = λ t. elim (of t) as (λ o. of t ≡ o → IsSome o → IsSome (by t)) [
       | None ↦ λ e h. absurd (cc)

@@ -28,6 +28,7 @@ IsService (members ms) s = (all_among names ms ≡ true)
     × (count_named (codes "port") ms ≤ 1)
     × LastMemberReads (s.port ≡ 8080) (λ t. IsBelow 65536 t s.port) (unsigned_of 16) (codes "port") ms
     × LastMemberReads (s.secure ≡ true) (λ t. t ≡ truth s.secure) boolean_of (codes "secure") ms
-    × LastMemberReads (s.tags.items ≡ []) (λ t. ListReads (λ u x. u ≡ str (string_bytes x)) t s.tags.items) (list_of string_of) (codes "tags") ms
+    × LastMemberReads (s.tags.items ≡ []) (λ t. ListReads (λ u x. u ≡ str (string_bytes x)) t s.tags.items)
+    (list_of string_of) (codes "tags") ms
     × LastMemberReads (s.note ≡ None) (λ t. OptionReads (λ u x. u ≡ str (string_bytes x)) t s.note) (option_of string_of) (codes "note") ms
 IsService t s = ⊥

@@ -23,7 +23,8 @@ state_of = elim [ old.Open ↦ new.Open | old.Done ↦ new.Done ]
 
 -- the task of version 2 has what the old one has but its colour, three retries, and no note
 abbrev pub IsUpgraded : OldTask → Task → Type 0
-IsUpgraded v w = (w.id ≡ v.id) × (string_bytes w.name ≡ string_bytes v.title) × (w.state ≡ state_of v.state) × (w.retries ≡ 3) × (w.note ≡ None)
+IsUpgraded v w = (w.id ≡ v.id) × (string_bytes w.name ≡ string_bytes v.title) × (w.state ≡ state_of v.state)
+    × (w.retries ≡ 3) × (w.note ≡ None)
 
 -- the user of version 2 has the old one's number and address
 abbrev pub IsSameUser : OldUser → User → Type 0

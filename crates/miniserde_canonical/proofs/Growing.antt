@@ -1,15 +1,20 @@
 -- A run over the tokens of a tree makes the compact text of its normal form. By recursion over the tree: a leaf adds
 -- its text, and the end of an object arranges the texts of its members by name.
-use Rattle.std.proofs.Common.{◌≡◌, ◌≤◌, ℕ, suc, Bool, true, false, ◌&&◌, nat_eq, List, [], ◌∷◌, ◌++◌, length, take, drop, refl, sym, ap, ap₂, subst, ◌∙◌, append_assoc, append-nil, arith, Ordering, Less, Equal, Greater, inl, inr, length-append}
+use Rattle.std.proofs.Common.{◌≡◌, ◌≤◌, ℕ, suc, Bool, true, false, ◌&&◌, nat_eq, List, [], ◌∷◌, ◌++◌, length, take}
+use Rattle.std.proofs.Common.{drop, refl, sym, ap, ap₂, subst, ◌∙◌, append_assoc, append-nil, arith, Ordering, Less}
+use Rattle.std.proofs.Common.{Equal, Greater, inl, inr, length-append}
 use Rattle.std.proofs.Math.Bool.{and-true, and_assoc}
 use Rattle.std.proofs.Math.Seq.{take-append_seam, drop-append_seam}
 use Rattle.std.proofs.lemmas.Bool.{eq-eqb}
-use Rattle.miniserde_model.specs.Tree.{Tree, null, truth, nonneg, neg, num, str, list, members, Trees, no_trees, tree, Members, no_members, member}
+use Rattle.miniserde_model.specs.Tree.{Tree, null, truth, nonneg, neg, num, str, list, members, Trees, no_trees}
+use Rattle.miniserde_model.specs.Tree.{tree, Members, no_members, member}
 use Rattle.miniserde_model.specs.Compact.{compact, compact_children, compact_more, compact_members, compact_more_members, string_text}
 use Rattle.miniserde_model.specs.Distinct.{names_distinct, names_distinct_in_children, names_distinct_in_members}
 use Rattle.miniserde_model.specs.Normal.{norm, norm_children, norm_members, with_if_absent, with_if_absent_by, text_cmp, BeginsAbove, Rise}
 use Rattle.miniserde_canonical.specs.Token.{Token, leaf, name, array_end, object, object_end, tokens, child_tokens, member_tokens}
-use Rattle.miniserde_canonical.specs.private.Arranging.{comma_before, Entry, State, start, text_before, entry_members, members_text, entries_text, count, once_each, Arranged, Closes, TokenStep, Run}
+use Rattle.miniserde_canonical.specs.private.Arranging.{comma_before, Entry, State, start, text_before}
+use Rattle.miniserde_canonical.specs.private.Arranging.{entry_members, members_text, entries_text, count, once_each}
+use Rattle.miniserde_canonical.specs.private.Arranging.{Arranged, Closes, TokenStep, Run}
 use Rattle.miniserde_canonical.proofs.Repeats.{values_distinct, distinct_counted}
 
 -- ---- runs
@@ -32,7 +37,8 @@ record Grows (s s' : State) (x : List ℕ) (d : Bool) : Type 0 where
   pub distinct : s'.distinct ≡ (s.distinct && d)
 
 grows_none : (s s' : State) → s ≡ s' → Grows s s' [] true
-grows_none s s' e = subst (λ z. Grows s z [] true) e (record { last = sym (append-nil s.last); entries = refl; opened = refl; distinct = sym (and-true s.distinct) })
+grows_none s s' e = subst (λ z. Grows s z [] true) e
+    (record { last = sym (append-nil s.last); entries = refl; opened = refl; distinct = sym (and-true s.distinct) })
 
 grows_append : (s m s' : State) (x y : List ℕ) (d e : Bool) → Grows s m x d → Grows m s' y e → Grows s s' (x ++ y) (d && e)
 grows_append s m s' x y d e p q = record {
@@ -74,18 +80,35 @@ record Lines (s s' : State) (ms : Members) : Type 0 where
   pub lays : Lays added ms s.last s.first s'.last
 
 lines_none : (s s' : State) → s ≡ s' → Lines s s' no_members
-lines_none s s' e = subst (λ z. Lines s z no_members) e (record { added = []; entries = sym (append-nil s.entries); opened = refl; distinct = sym (and-true s.distinct); lays = refl })
+lines_none s s' e = subst (λ z. Lines s z no_members) e
+    (record {
+      added = [];
+      entries = sym (append-nil s.entries);
+      opened = refl;
+      distinct =
+          sym (and-true s.distinct);
+      lays = refl;
+    })
 
-lines_cons : (n : List ℕ) (t : Tree) (ms : Members) (s m u s' : State) → TokenStep (name n) s m → Grows m u (compact (norm t)) (names_distinct t) → u.first ≡ false → Lines u s' ms → Lines s s' (member n t ms)
+lines_cons : (n : List ℕ) (t : Tree) (ms : Members) (s m u s' : State) → TokenStep (name n) s m
+    → Grows m u (compact (norm t)) (names_distinct t) → u.first ≡ false → Lines u s' ms → Lines s s' (member n t ms)
 lines_cons n t ms s m u s' a g f l =
     let e : Entry = record { text = s.last; first = s.first; name = n } in
-    let text : u.last ≡ row n (norm t) = g.last ∙ ap (λ z. z ++ compact (norm t)) a.1 ∙ append_assoc (string_text n) (58 ∷ []) (compact (norm t)) in
+    let text : u.last ≡ row n (norm t) = g.last ∙ ap (λ z. z ++ compact (norm t)) a.1 ∙ append_assoc (string_text n)
+    (58 ∷ []) (compact (norm t)) in
     record {
       added = e ∷ l.added;
       entries = l.entries ∙ ap (λ z. z ++ l.added) (g.entries ∙ a.0) ∙ append_assoc s.entries (e ∷ []) l.added;
       opened = l.opened ∙ g.opened ∙ a.2;
-      distinct = l.distinct ∙ ap (λ z. z && values_distinct ms) (g.distinct ∙ ap (λ z. z && names_distinct t) a.3) ∙ and_assoc s.distinct (names_distinct t) (values_distinct ms);
-      lays = (refl, refl, refl, subst (λ z. Lays l.added ms (row n (norm t)) z s'.last) f (subst (λ z. Lays l.added ms z u.first s'.last) text l.lays));
+      distinct = l.distinct ∙ ap (λ z. z && values_distinct ms) (g.distinct ∙ ap (λ z. z && names_distinct t) a.3)
+          ∙ and_assoc s.distinct (names_distinct t) (values_distinct ms);
+      lays = (
+        refl,
+        refl,
+        refl,
+        subst (λ z. Lays l.added ms (row n (norm t)) z s'.last) f
+            (subst (λ z. Lays l.added ms z u.first s'.last) text l.lays),
+      );
     }
 
 lays_next : (es : List Entry) (ms : Members) (l : List ℕ) (f : Bool) (last : List ℕ) → Lays es ms l f last → text_before es last ≡ l
@@ -94,15 +117,18 @@ lays_next (e ∷ es) (member n t ms) l f last h = h.0
 lays_next [] (member n t ms) l f last h = absurd h
 lays_next (e ∷ es) no_members l f last h = absurd h
 
-lays_ended : (es : List Entry) (ms : Members) (l : List ℕ) (f : Bool) (last : List ℕ) → Lays es ms l f last → entry_members es last ≡ rows_of (mapped ms)
+lays_ended : (es : List Entry) (ms : Members) (l : List ℕ) (f : Bool) (last : List ℕ) → Lays es ms l f last
+    → entry_members es last ≡ rows_of (mapped ms)
 lays_ended [] no_members l f last h = refl
 lays_ended (e ∷ es) (member n t ms) l f last h =
     ap (λ z. member z (str (text_before es last)) (entry_members es last)) h.2
-    ∙ ap₂ (λ (x : List ℕ) (y : Members). member n (str x) y) (lays_next es ms (row n (norm t)) false last h.3) (lays_ended es ms (row n (norm t)) false last h.3)
+    ∙ ap₂ (λ (x : List ℕ) (y : Members). member n (str x) y) (lays_next es ms (row n (norm t)) false last h.3)
+    (lays_ended es ms (row n (norm t)) false last h.3)
 lays_ended [] (member n t ms) l f last h = absurd h
 lays_ended (e ∷ es) no_members l f last h = absurd h
 
-lays_whole : (es : List Entry) (ms : Members) (l : List ℕ) (f : Bool) (last : List ℕ) → Lays es ms l f last → entries_text es last ≡ l ++ members_text f (rows_of (mapped ms))
+lays_whole : (es : List Entry) (ms : Members) (l : List ℕ) (f : Bool) (last : List ℕ) → Lays es ms l f last
+    → entries_text es last ≡ l ++ members_text f (rows_of (mapped ms))
 lays_whole [] no_members l f last h = h ∙ sym (append-nil l)
 lays_whole (e ∷ es) (member n t ms) l f last h =
     ap₂ (λ (x : List ℕ) (y : Bool). x ++ (comma_before y ++ entries_text es last)) h.0 h.1
@@ -141,7 +167,10 @@ rows_first : (n : List ℕ) (t : Tree) (ms : Members) → with_if_absent n (str 
 rows_first n t no_members = refl
 rows_first n t (member m u ms) = go (text_cmp n m) (rows_first n t ms)
   where
-    go : (o : Ordering) → with_if_absent n (str (row n t)) (rows_of ms) ≡ rows_of (with_if_absent n t ms) → with_if_absent_by o n (str (row n t)) m (str (row m u)) (rows_of ms) (with_if_absent n (str (row n t)) (rows_of ms)) ≡ rows_of (with_if_absent_by o n t m u ms (with_if_absent n t ms))
+    go : (o : Ordering) → with_if_absent n (str (row n t)) (rows_of ms) ≡ rows_of (with_if_absent n t ms)
+        → with_if_absent_by o n (str (row n t)) m (str (row m u)) (rows_of ms)
+        (with_if_absent n (str (row n t)) (rows_of ms))
+        ≡ rows_of (with_if_absent_by o n t m u ms (with_if_absent n t ms))
     go Less e = refl
     go Equal e = refl
     go Greater e = ap (λ z. member m (str (row m u)) z) e
@@ -164,7 +193,8 @@ record Made (s s' : State) (l : List ℕ) (ms : Members) : Type 0 where
   pub last : s'.last ≡ l ++ compact_members (norm_members ms)
   pub distinct : s'.distinct ≡ (s.distinct && nat_eq (count (norm_members ms)) (count ms))
 
-made_same : (es : List Entry) (ms : Members) (l : List ℕ) (s s' : State) → Lays es ms l true s.last → Rise (entry_members es s.last) → s'.last ≡ entries_text es s.last → s'.distinct ≡ s.distinct → Made s s' l ms
+made_same : (es : List Entry) (ms : Members) (l : List ℕ) (s s' : State) → Lays es ms l true s.last
+    → Rise (entry_members es s.last) → s'.last ≡ entries_text es s.last → s'.distinct ≡ s.distinct → Made s s' l ms
 made_same es ms l s s' h r e d =
     let n : norm_members ms ≡ mapped ms = rise_norm ms (rows_rise (mapped ms) (subst Rise (lays_ended es ms l true s.last h) r)) in
     let same : nat_eq (count (norm_members ms)) (count ms) ≡ true = eq-eqb _ _ (ap count n ∙ mapped_count ms) in
@@ -173,15 +203,23 @@ made_same es ms l s s' h r e d =
       distinct = d ∙ sym (and-true s.distinct) ∙ ap (λ z. s.distinct && z) (sym same);
     }
 
-made_sorted : (e : Entry) (es : List Entry) (ms : Members) (l : List ℕ) (s s' : State) → Lays (e ∷ es) ms l true s.last → s'.last ≡ e.text ++ (comma_before e.first ++ members_text true (norm_members (entry_members (e ∷ es) s.last))) → s'.distinct ≡ (s.distinct && once_each (entry_members (e ∷ es) s.last)) → Made s s' l ms
+made_sorted : (e : Entry) (es : List Entry) (ms : Members) (l : List ℕ) (s s' : State)
+    → Lays (e ∷ es) ms l true s.last
+    → s'.last ≡ e.text ++ (comma_before e.first ++ members_text true (norm_members (entry_members (e ∷ es) s.last)))
+    → s'.distinct ≡ (s.distinct && once_each (entry_members (e ∷ es) s.last)) → Made s s' l ms
 made_sorted e es no_members l s s' h p d = absurd h
 made_sorted e es (member n t ms) l s s' h p d =
     let r : entry_members (e ∷ es) s.last ≡ rows_of (mapped (member n t ms)) = lays_ended (e ∷ es) (member n t ms) l true s.last h in
-    let sorted : norm_members (entry_members (e ∷ es) s.last) ≡ rows_of (norm_members (member n t ms)) = ap norm_members r ∙ rows_norm (member n t ms) in
-    let many : count (entry_members (e ∷ es) s.last) ≡ count (member n t ms) = ap count r ∙ rows_count (mapped (member n t ms)) ∙ mapped_count (member n t ms) in
-    let kept : count (norm_members (entry_members (e ∷ es) s.last)) ≡ count (norm_members (member n t ms)) = ap count sorted ∙ rows_count (norm_members (member n t ms)) in
+    let sorted : norm_members (entry_members (e ∷ es) s.last) ≡ rows_of (norm_members (member n t ms)) =
+    ap norm_members r ∙ rows_norm (member n t ms) in
+    let many : count (entry_members (e ∷ es) s.last) ≡ count (member n t ms) =
+    ap count r ∙ rows_count (mapped (member n t ms)) ∙ mapped_count (member n t ms) in
+    let kept : count (norm_members (entry_members (e ∷ es) s.last)) ≡ count (norm_members (member n t ms)) =
+    ap count sorted ∙ rows_count (norm_members (member n t ms)) in
     record {
-      last = p ∙ ap₂ (λ (x : List ℕ) (y : Bool). x ++ (comma_before y ++ members_text true (norm_members (entry_members (e ∷ es) s.last)))) h.0 h.1 ∙ ap (λ z. l ++ z) (ap (members_text true) sorted ∙ spelled_first (norm_members (member n t ms)));
+      last = p ∙ ap₂ (λ (x : List ℕ) (y : Bool).
+          x ++ (comma_before y ++ members_text true (norm_members (entry_members (e ∷ es) s.last)))) h.0 h.1
+          ∙ ap (λ z. l ++ z) (ap (members_text true) sorted ∙ spelled_first (norm_members (member n t ms)));
       distinct = d ∙ ap₂ (λ (x y : ℕ). s.distinct && nat_eq x y) kept many;
     }
 
@@ -190,7 +228,8 @@ made es ms l s s' h (inl a) = made_same es ms l s s' h a.0 a.1 a.2
 made (e ∷ es) ms l s s' h (inr a) = made_sorted e es ms l s s' h a.0 a.1
 made [] ms l s s' h (inr a) = absurd a
 
-object_grows : (ms : Members) (s m u k : State) → TokenStep object s m → Lines m u ms → Closes u k → Grows s k (123 ∷ compact_members (norm_members ms)) (names_distinct_in_members ms)
+object_grows : (ms : Members) (s m u k : State) → TokenStep object s m → Lines m u ms → Closes u k
+    → Grows s k (123 ∷ compact_members (norm_members ms)) (names_distinct_in_members ms)
 object_grows ms s m u k a l c =
     let named : u.entries ≡ s.entries ++ l.added = l.entries ∙ ap (λ z. z ++ l.added) a.1 in
     let within : length s.entries ≤ length u.entries = omega (arith, ap length named, length-append s.entries l.added) in
@@ -200,10 +239,13 @@ object_grows ms s m u k a l c =
     let r : Arranged l.added u k = subst (λ z. Arranged z u k) own d.2 in
     let x = made l.added ms m.last u k lays r in
     record {
-      last = x.last ∙ ap (λ z. z ++ compact_members (norm_members ms)) a.0 ∙ append_assoc s.last (123 ∷ []) (compact_members (norm_members ms));
+      last = x.last ∙ ap (λ z. z ++ compact_members (norm_members ms)) a.0 ∙ append_assoc s.last (123 ∷ [])
+          (compact_members (norm_members ms));
       entries = d.1 ∙ ap (take (length s.entries)) named ∙ take-append_seam s.entries l.added;
       opened = d.0;
-      distinct = x.distinct ∙ ap (λ z. z && nat_eq (count (norm_members ms)) (count ms)) (l.distinct ∙ ap (λ z. z && values_distinct ms) a.3) ∙ and_assoc s.distinct (values_distinct ms) (nat_eq (count (norm_members ms)) (count ms)) ∙ ap (λ z. s.distinct && z) (sym (distinct_counted ms));
+      distinct = x.distinct ∙ ap (λ z. z && nat_eq (count (norm_members ms)) (count ms))
+          (l.distinct ∙ ap (λ z. z && values_distinct ms) a.3) ∙ and_assoc s.distinct (values_distinct ms)
+          (nat_eq (count (norm_members ms)) (count ms)) ∙ ap (λ z. s.distinct && z) (sym (distinct_counted ms));
     }
 
 -- ---- trees
@@ -226,7 +268,9 @@ abbrev Whole : State → State → List ℕ → Bool → Type 0
 Whole s s' x d = Grows s s' x d × (s'.first ≡ false)
 
 leaf_grows : (t : Tree) (s m s' : State) → TokenStep (leaf t) s m → m ≡ s' → Whole s s' (compact t) true
-leaf_grows t s m s' a e = subst (λ z. Whole s z (compact t) true) e (record { last = a.0.0; entries = a.0.1; opened = a.0.2; distinct = a.0.3 ∙ sym (and-true s.distinct) }, a.1)
+leaf_grows t s m s' a e =
+    subst (λ z. Whole s z (compact t) true) e
+    (record { last = a.0.0; entries = a.0.1; opened = a.0.2; distinct = a.0.3 ∙ sym (and-true s.distinct) }, a.1)
 
 mutual
   tree_grows : (t : Tree) (s s' : State) → Run (tokens t) s s' → Whole s s' (compact (norm t)) (names_distinct t)
@@ -240,28 +284,60 @@ mutual
       let m = r.0 in
       let t = run_split (child_tokens ts) (array_end ∷ []) m s' r.2 in
       let e = t.2 in
-      let begun : Grows s m (91 ∷ []) true = record { last = r.1.0.0; entries = r.1.0.1; opened = r.1.0.2; distinct = r.1.0.3 ∙ sym (and-true s.distinct) } in
-      let closed : Grows t.0 e.0 (93 ∷ []) true = record { last = e.1.0.0; entries = e.1.0.1; opened = e.1.0.2; distinct = e.1.0.3 ∙ sym (and-true t.0.distinct) } in
-      let inside : Grows m t.0 (compact_children (norm_children ts)) (names_distinct_in_children ts) = grows_as m t.0 _ _ _ _ (first_text m.first (norm_children ts) r.1.1) refl (children_grow ts m t.0 t.1) in
-      let all = grows_append s m e.0 (91 ∷ []) _ true _ begun (grows_append m t.0 e.0 (compact_children (norm_children ts)) (93 ∷ []) (names_distinct_in_children ts) true inside closed) in
-      subst (λ z. Whole s z (compact (norm (list ts))) (names_distinct_in_children ts)) e.2 (grows_as s e.0 _ _ _ _ refl (and-true (names_distinct_in_children ts)) all, e.1.1)
+      let begun : Grows s m (91 ∷ []) true =
+      record {
+        last = r.1.0.0;
+        entries = r.1.0.1;
+        opened = r.1.0.2;
+        distinct =
+            r.1.0.3 ∙ sym (and-true s.distinct);
+      } in
+      let closed : Grows t.0 e.0 (93 ∷ []) true =
+      record {
+        last = e.1.0.0;
+        entries = e.1.0.1;
+        opened = e.1.0.2;
+        distinct =
+            e.1.0.3 ∙ sym (and-true t.0.distinct);
+      } in
+      let inside : Grows m t.0 (compact_children (norm_children ts)) (names_distinct_in_children ts) =
+      grows_as m t.0 _ _ _ _ (first_text m.first (norm_children ts) r.1.1) refl (children_grow ts m t.0 t.1) in
+      let all = grows_append s m e.0 (91 ∷ []) _ true _ begun
+      (grows_append m t.0 e.0 (compact_children (norm_children ts)) (93 ∷ []) (names_distinct_in_children ts)
+      true inside closed) in
+      subst (λ z. Whole s z (compact (norm (list ts))) (names_distinct_in_children ts)) e.2
+      (grows_as s e.0 _ _ _ _ refl (and-true (names_distinct_in_children ts)) all, e.1.1)
   tree_grows (members ms) s s' r =
       let m = r.0 in
       let t = run_split (member_tokens ms) (object_end ∷ []) m s' r.2 in
       let e = t.2 in
       let k = e.1.0 in
-      let closed : Grows k e.0 (125 ∷ []) true = record { last = e.1.2.0; entries = e.1.2.1; opened = e.1.2.2; distinct = e.1.2.3 ∙ sym (and-true k.distinct) } in
-      let all = grows_append s k e.0 (123 ∷ compact_members (norm_members ms)) (125 ∷ []) (names_distinct_in_members ms) true (object_grows ms s m t.0 k r.1 (members_grow ms m t.0 t.1) e.1.1) closed in
-      subst (λ z. Whole s z (compact (norm (members ms))) (names_distinct_in_members ms)) e.2 (grows_as s e.0 _ _ _ _ refl (and-true (names_distinct_in_members ms)) all, e.1.3)
+      let closed : Grows k e.0 (125 ∷ []) true =
+      record {
+        last = e.1.2.0;
+        entries = e.1.2.1;
+        opened = e.1.2.2;
+        distinct =
+            e.1.2.3 ∙ sym (and-true k.distinct);
+      } in
+      let all = grows_append s k e.0 (123 ∷ compact_members (norm_members ms)) (125 ∷ [])
+      (names_distinct_in_members ms) true (object_grows ms s m t.0 k r.1 (members_grow ms m t.0 t.1) e.1.1)
+      closed in
+      subst (λ z. Whole s z (compact (norm (members ms))) (names_distinct_in_members ms)) e.2
+      (grows_as s e.0 _ _ _ _ refl (and-true (names_distinct_in_members ms)) all, e.1.3)
 
-  children_grow : (ts : Trees) (s s' : State) → Run (child_tokens ts) s s' → Grows s s' (children_text s.first (norm_children ts)) (names_distinct_in_children ts)
+  children_grow : (ts : Trees) (s s' : State) → Run (child_tokens ts) s s'
+      → Grows s s' (children_text s.first (norm_children ts)) (names_distinct_in_children ts)
   children_grow no_trees s s' r = grows_none s s' r
   children_grow (tree t ts) s s' r =
       let m = r.0 in
       let u = run_split (tokens t) (child_tokens ts) m s' r.2 in
       let a = tree_grows t m u.0 u.1 in
-      let begun : Grows s m (comma_before s.first) true = record { last = r.1.0; entries = r.1.1; opened = r.1.2; distinct = r.1.3 ∙ sym (and-true s.distinct) } in
-      let rest : Grows u.0 s' (children_text false (norm_children ts)) (names_distinct_in_children ts) = grows_as u.0 s' _ _ _ _ (ap (λ z. children_text z (norm_children ts)) a.1) refl (children_grow ts u.0 s' u.2) in
+      let begun : Grows s m (comma_before s.first) true =
+      record { last = r.1.0; entries = r.1.1; opened = r.1.2; distinct = r.1.3 ∙ sym (and-true s.distinct) } in
+      let rest : Grows u.0 s' (children_text false (norm_children ts)) (names_distinct_in_children ts) =
+      grows_as u.0 s' _ _ _ _ (ap (λ z. children_text z (norm_children ts)) a.1) refl
+      (children_grow ts u.0 s' u.2) in
       grows_append s m s' (comma_before s.first) _ true _ begun (grows_append m u.0 s' (compact (norm t)) _ (names_distinct t) _ a.0 rest)
 
   members_grow : (ms : Members) (s s' : State) → Run (member_tokens ms) s s' → Lines s s' ms
@@ -272,5 +348,6 @@ mutual
       let a = tree_grows t m u.0 u.1 in
       lines_cons n t ms s m u.0 s' r.1 a.0 a.1 (members_grow ms u.0 s' u.2)
 
-pub run_makes : (t : Tree) (s : State) → Run (tokens t) start s → (s.last ≡ compact (norm t)) × (s.entries ≡ []) × (s.distinct ≡ names_distinct t)
+pub run_makes : (t : Tree) (s : State) → Run (tokens t) start s → (s.last ≡ compact (norm t)) × (s.entries ≡ [])
+    × (s.distinct ≡ names_distinct t)
 run_makes t s r = let g = tree_grows t start s r in (g.0.last, g.0.entries, g.0.distinct)

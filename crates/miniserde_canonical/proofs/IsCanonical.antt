@@ -22,16 +22,20 @@ canonical_text j c h t p = h.2 ∙ ap (λ z. compact (norm z)) (one_tree j h.0 t
 pub canonical_spelled : (j c : List ℕ) → IsCanonical j c → (t : Tree) → IsJson j t → IsJson c (norm t)
 canonical_spelled j c h t p = subst (λ z. IsJson z (norm t)) (sym (canonical_text j c h t p)) (canonical_spells j t p)
 
-pub canonical_told : (j c : List ℕ) → IsCanonical j c → (t : Tree) → IsJson j t → (u : Tree) → InRange u → (c ≡ compact (norm u)) ↔ (norm u ≡ norm t)
+pub canonical_told : (j c : List ℕ) → IsCanonical j c → (t : Tree) → IsJson j t → (u : Tree) → InRange u
+    → (c ≡ compact (norm u)) ↔ (norm u ≡ norm t)
 canonical_told j c h t p u r = (
-  λ e. one_tree c (norm u) (norm t) (subst (λ z. IsJson z (norm u)) (sym e) (written (norm u) (norm_tree u r))) (canonical_spelled j c h t p),
+  λ e. one_tree c (norm u) (norm t) (subst (λ z. IsJson z (norm u)) (sym e) (written (norm u) (norm_tree u r)))
+      (canonical_spelled j c h t p),
   λ e. canonical_text j c h t p ∙ ap compact (sym e),
 )
 
-pub canonical_least : (j c : List ℕ) → IsCanonical j c → (t : Tree) → IsJson j t → (b : List ℕ) (u : Tree) → IsJson b u → norm u ≡ norm t → length c ≤ length b
+pub canonical_least : (j c : List ℕ) → IsCanonical j c → (t : Tree) → IsJson j t → (b : List ℕ) (u : Tree)
+    → IsJson b u → norm u ≡ norm t → length c ≤ length b
 canonical_least j c h t p b u q e = subst (λ z. length z ≤ length b) (sym (canonical_text j c h t p)) (shortest b t u q e)
 
-pub both_told : (a b c d : List ℕ) → IsCanonical a c → IsCanonical b d → (t u : Tree) → IsJson a t → IsJson b u → (c ≡ d) ↔ (norm t ≡ norm u)
+pub both_told : (a b c d : List ℕ) → IsCanonical a c → IsCanonical b d → (t u : Tree) → IsJson a t → IsJson b u
+    → (c ≡ d) ↔ (norm t ≡ norm u)
 both_told a b c d h i t u p q =
     let x = canonical_text a c h t p in
     let y = canonical_text b d i u q in

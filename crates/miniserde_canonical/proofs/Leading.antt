@@ -1,6 +1,7 @@
 -- If the first eight bytes of a name are below those of another as a number, the name is below the other. By
 -- induction over the bytes: the first bytes differ and decide, or they are equal and the rest decides.
-use Rattle.std.proofs.Common.{◌≡◌, ◌<◌, ◌≤◌, ◌+◌, ◌*◌, ◌^◌, ℕ, zero, suc, List, [], ◌∷◌, get_or, refl, sym, ap, ◌∙◌, arith, Less, Equal, Greater, inl, inr}
+use Rattle.std.proofs.Common.{◌≡◌, ◌<◌, ◌≤◌, ◌+◌, ◌*◌, ◌^◌, ℕ, zero, suc, List, [], ◌∷◌, get_or, refl, sym, ap, ◌∙◌}
+use Rattle.std.proofs.Common.{arith, Less, Equal, Greater, inl, inr}
 use Rattle.std.specs.Int.{from_be_bytes, w64}
 use Rattle.std.specs.Ordering.{ordering_then, ordering_reverse}
 use Rattle.std.specs.Cmp.{nat_cmp_is}
@@ -57,7 +58,9 @@ prefix_below p q a b h k l = lead_below 8 a b h.small k.small (omega (arith, h.v
 pub prefix_above : (p q : ℕ) (a b : List ℕ) → IsLeadingBytes p a → IsLeadingBytes q b → q < p → text_cmp a b ≡ Greater
 prefix_above p q a b h k l = nat_list_cmp_total.antisymm a b ∙ ap ordering_reverse (prefix_below q p b a k h l)
 
-pub first_eight : (s : List ℕ) → from_be_bytes w64 (get_or s 0 0 ∷ get_or s 1 0 ∷ get_or s 2 0 ∷ get_or s 3 0 ∷ get_or s 4 0 ∷ get_or s 5 0 ∷ get_or s 6 0 ∷ get_or s 7 0 ∷ []) ≡ leading_number 8 s
+pub first_eight : (s : List ℕ)
+    → from_be_bytes w64 (get_or s 0 0 ∷ get_or s 1 0 ∷ get_or s 2 0 ∷ get_or s 3 0 ∷ get_or s 4 0 ∷ get_or s 5 0 ∷
+    get_or s 6 0 ∷ get_or s 7 0 ∷ []) ≡ leading_number 8 s
 first_eight [] = omega arith
 first_eight (a ∷ []) = omega arith
 first_eight (a ∷ b ∷ []) = omega arith
@@ -68,5 +71,7 @@ first_eight (a ∷ b ∷ c ∷ d ∷ e ∷ f ∷ []) = omega arith
 first_eight (a ∷ b ∷ c ∷ d ∷ e ∷ f ∷ g ∷ []) = omega arith
 first_eight (a ∷ b ∷ c ∷ d ∷ e ∷ f ∷ g ∷ h ∷ s) = omega arith
 
-pub eight_of : (s : List ℕ) (a b c d e f g h : ℕ) → a ≡ get_or s 0 0 → b ≡ get_or s 1 0 → c ≡ get_or s 2 0 → d ≡ get_or s 3 0 → e ≡ get_or s 4 0 → f ≡ get_or s 5 0 → g ≡ get_or s 6 0 → h ≡ get_or s 7 0 → from_be_bytes w64 (a ∷ b ∷ c ∷ d ∷ e ∷ f ∷ g ∷ h ∷ []) ≡ leading_number 8 s
+pub eight_of : (s : List ℕ) (a b c d e f g h : ℕ) → a ≡ get_or s 0 0 → b ≡ get_or s 1 0 → c ≡ get_or s 2 0
+    → d ≡ get_or s 3 0 → e ≡ get_or s 4 0 → f ≡ get_or s 5 0 → g ≡ get_or s 6 0 → h ≡ get_or s 7 0
+    → from_be_bytes w64 (a ∷ b ∷ c ∷ d ∷ e ∷ f ∷ g ∷ h ∷ []) ≡ leading_number 8 s
 eight_of s a b c d e f g h i j k l m n o p = omega (arith, i, j, k, l, m, n, o, p, first_eight s)

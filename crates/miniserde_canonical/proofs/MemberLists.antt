@@ -1,6 +1,9 @@
 -- The members of an object, sorted by name and reduced to the last of equal names, are its normal form. Their names
 -- rise, each name has its last tree, and by `norm_only` no other members have both properties.
-use Rattle.std.proofs.Common.{◌≡◌, ◌<◌, ℕ, zero, suc, ◌+◌, List, [], ◌∷◌, ◌++◌, length, drop, get_or, refl, sym, ap, ap₂, subst, ◌∙◌, arith, drop-cons, add-one, Ordering, Less, Equal, Greater, bytes_eq, Bool, true, false, cond, not, ◌&&◌, Option, Some, None, option_map, is_some, is_lt, filter, true≢false, IsSortedByKey}
+use Rattle.std.proofs.Common.{◌≡◌, ◌<◌, ℕ, zero, suc, ◌+◌, List, [], ◌∷◌, ◌++◌, length, drop, get_or, refl, sym, ap}
+use Rattle.std.proofs.Common.{ap₂, subst, ◌∙◌, arith, drop-cons, add-one, Ordering, Less, Equal, Greater, bytes_eq}
+use Rattle.std.proofs.Common.{Bool, true, false, cond, not, ◌&&◌, Option, Some, None, option_map, is_some, is_lt}
+use Rattle.std.proofs.Common.{filter, true≢false, IsSortedByKey}
 use Rattle.std.specs.Ordering.{ordering_reverse}
 use Rattle.std.specs.List.{range_with_len}
 use Rattle.std.specs.List.Sorted.{IsStableBy, ties}
@@ -13,7 +16,8 @@ use Rattle.miniserde_model.specs.Normal.{text_cmp, norm_neg, norm, norm_members,
 use Rattle.miniserde_model.proofs.OneNormal.{norm_only}
 use Rattle.miniserde_canonical.specs.declared.member.Member.{Member}
 use Rattle.miniserde_canonical.specs.private.Names.{name_of}
-use Rattle.miniserde_canonical.specs.private.Members.{first_name, name_in, NamesRise, named_members, members_at, begins_with_name, without_repeats}
+use Rattle.miniserde_canonical.specs.private.Members.{first_name, name_in, NamesRise, named_members, members_at}
+use Rattle.miniserde_canonical.specs.private.Members.{begins_with_name, without_repeats}
 use Rattle.miniserde_canonical.specs.private.Arranging.{Entry, text_before, entry_members, count}
 use Rattle.miniserde_canonical.specs.private.Sorting.{text_at, text_tree_at}
 
@@ -29,7 +33,8 @@ numbers_more a n = ap (range_with_len a) (add-one n) ∙ more a n
   where
     more : (a n : ℕ) → range_with_len a (suc n) ≡ range_with_len a n ++ (a + n) ∷ []
     more a zero = let same : a ≡ a + 0 = omega arith in ap (λ z. z ∷ []) same
-    more a (suc n) = let same : a + 1 + n ≡ a + suc n = omega arith in ap (λ z. a ∷ z) (more (a + 1) n ∙ ap (λ z. range_with_len (a + 1) n ++ z ∷ []) same)
+    more a (suc n) = let same : a + 1 + n ≡ a + suc n =
+        omega arith in ap (λ z. a ∷ z) (more (a + 1) n ∙ ap (λ z. range_with_len (a + 1) n ++ z ∷ []) same)
 
 drop_tail : {X : Type 0} (i : ℕ) (xs : List X) (y : X) (ys : List X) → drop i xs ≡ y ∷ ys → drop (i + 1) xs ≡ ys
 drop_tail {X = X} i xs y ys e = ap (λ z. drop z xs) (add-one i) ∙ tail i xs e
@@ -39,15 +44,20 @@ drop_tail {X = X} i xs y ys e = ap (λ z. drop z xs) (add-one i) ∙ tail i xs e
     tail zero (x ∷ xs) e = let same : xs ≡ ys = cc in same
     tail (suc i) (x ∷ xs) e = tail i xs e
 
-rows_from : (i : ℕ) (all ns : List Member) (alles es : List Entry) (last : List ℕ) → drop i all ≡ ns → drop i alles ≡ es → Agree ns es → members_at all (text_tree_at alles last) (range_with_len i (length ns)) ≡ entry_members es last
+rows_from : (i : ℕ) (all ns : List Member) (alles es : List Entry) (last : List ℕ) → drop i all ≡ ns
+    → drop i alles ≡ es → Agree ns es → members_at all (text_tree_at alles last) (range_with_len i (length ns))
+    ≡ entry_members es last
 rows_from i all [] alles [] last e f a = refl
 rows_from i all (n ∷ ns) alles (x ∷ es) last e f a =
-    ap₂ (λ (p : List Member) (q : List Entry). member (first_name p) (str (text_at q last)) (members_at all (text_tree_at alles last) (range_with_len (i + 1) (length ns)))) e f
-    ∙ ap₂ (λ (p : List ℕ) (q : Members). member p (str (text_before es last)) q) a.0 (rows_from (i + 1) all ns alles es last (drop_tail i all n ns e) (drop_tail i alles x es f) a.1)
+    ap₂ (λ (p : List Member) (q : List Entry). member (first_name p) (str (text_at q last))
+    (members_at all (text_tree_at alles last) (range_with_len (i + 1) (length ns)))) e f
+    ∙ ap₂ (λ (p : List ℕ) (q : Members). member p (str (text_before es last)) q) a.0
+    (rows_from (i + 1) all ns alles es last (drop_tail i all n ns e) (drop_tail i alles x es f) a.1)
 rows_from i all [] alles (x ∷ es) last e f a = absurd a
 rows_from i all (n ∷ ns) alles [] last e f a = absurd a
 
-pub rows_all : (ns : List Member) (es : List Entry) (last : List ℕ) → Agree ns es → members_at ns (text_tree_at es last) (range_with_len 0 (length ns)) ≡ entry_members es last
+pub rows_all : (ns : List Member) (es : List Entry) (last : List ℕ) → Agree ns es
+    → members_at ns (text_tree_at es last) (range_with_len 0 (length ns)) ≡ entry_members es last
 rows_all ns es last a = rows_from 0 ns ns es es last refl refl a
 
 pub ended_count : (ns : List Member) (es : List Entry) (last : List ℕ) → Agree ns es → count (entry_members es last) ≡ length ns
@@ -70,20 +80,32 @@ rise_all (n ∷ m ∷ ns) (e ∷ []) last a h = absurd a.1
 
 -- ---- one row
 
-row_at : (ns : List Member) (r : ℕ → Tree) (order : List ℕ) (k d : ℕ) → k < length order → members_at ns r (drop k order) ≡ member (name_in ns (get_or order k d)) (r (get_or order k d)) (members_at ns r (drop (k + 1) order))
-row_at ns r order k d l = ap (members_at ns r) (drop-cons order k d l) ∙ ap (λ z. member (name_in ns (get_or order k d)) (r (get_or order k d)) (members_at ns r (drop z order))) (sym (add-one k))
+row_at : (ns : List Member) (r : ℕ → Tree) (order : List ℕ) (k d : ℕ) → k < length order
+    → members_at ns r (drop k order) ≡ member (name_in ns (get_or order k d)) (r (get_or order k d))
+    (members_at ns r (drop (k + 1) order))
+row_at ns r order k d l =
+    ap (members_at ns r) (drop-cons order k d l)
+    ∙ ap (λ z. member (name_in ns (get_or order k d)) (r (get_or order k d)) (members_at ns r (drop z order)))
+    (sym (add-one k))
 
-pub kept_skip : (ns : List Member) (r : ℕ → Tree) (order : List ℕ) (k d : ℕ) → k < length order → begins_with_name (name_in ns (get_or order k d)) (members_at ns r (drop (k + 1) order)) ≡ true → without_repeats (members_at ns r (drop k order)) ≡ without_repeats (members_at ns r (drop (k + 1) order))
+pub kept_skip : (ns : List Member) (r : ℕ → Tree) (order : List ℕ) (k d : ℕ) → k < length order
+    → begins_with_name (name_in ns (get_or order k d)) (members_at ns r (drop (k + 1) order)) ≡ true
+    → without_repeats (members_at ns r (drop k order)) ≡ without_repeats (members_at ns r (drop (k + 1) order))
 kept_skip ns r order k d l e =
     let i = get_or order k d in
     let rest = members_at ns r (drop (k + 1) order) in
-    ap without_repeats (row_at ns r order k d l) ∙ ap (λ z. cond z (without_repeats rest) (member (name_in ns i) (r i) (without_repeats rest))) e
+    ap without_repeats (row_at ns r order k d l)
+    ∙ ap (λ z. cond z (without_repeats rest) (member (name_in ns i) (r i) (without_repeats rest))) e
 
-pub kept_take : (ns : List Member) (r : ℕ → Tree) (order : List ℕ) (k d : ℕ) → k < length order → begins_with_name (name_in ns (get_or order k d)) (members_at ns r (drop (k + 1) order)) ≡ false → without_repeats (members_at ns r (drop k order)) ≡ member (name_in ns (get_or order k d)) (r (get_or order k d)) (without_repeats (members_at ns r (drop (k + 1) order)))
+pub kept_take : (ns : List Member) (r : ℕ → Tree) (order : List ℕ) (k d : ℕ) → k < length order
+    → begins_with_name (name_in ns (get_or order k d)) (members_at ns r (drop (k + 1) order)) ≡ false
+    → without_repeats (members_at ns r (drop k order)) ≡ member (name_in ns (get_or order k d))
+    (r (get_or order k d)) (without_repeats (members_at ns r (drop (k + 1) order)))
 kept_take ns r order k d l e =
     let i = get_or order k d in
     let rest = members_at ns r (drop (k + 1) order) in
-    ap without_repeats (row_at ns r order k d l) ∙ ap (λ z. cond z (without_repeats rest) (member (name_in ns i) (r i) (without_repeats rest))) e
+    ap without_repeats (row_at ns r order k d l)
+    ∙ ap (λ z. cond z (without_repeats rest) (member (name_in ns i) (r i) (without_repeats rest))) e
 
 -- ---- sorted members without repeats rise
 
@@ -107,7 +129,12 @@ Orders (member n t ms) = HeadsOrder n ms × Orders ms
 orders_sorted : {X : Type 0} (n : X → List ℕ) (r : X → Tree) (ms : List X) → IsSortedByKey n text_cmp ms → Orders (named_members n r ms)
 orders_sorted n r [] s = tt
 orders_sorted n r (m ∷ []) s = (tt, tt)
-orders_sorted n r (m ∷ k ∷ ms) s = (s 0 m (omega arith) (omega arith), orders_sorted n r (k ∷ ms) (λ i c l h. let next : suc i + 1 ≡ suc (i + 1) = omega arith in rw next at (s (suc i) c (omega arith) (omega arith))))
+orders_sorted n r (m ∷ k ∷ ms) s = (
+  s 0 m (omega arith) (omega arith),
+  orders_sorted n r (k ∷ ms)
+      (λ i c l h. let next : suc i + 1 ≡ suc (i + 1) =
+      omega arith in rw next at (s (suc i) c (omega arith) (omega arith))),
+)
 
 kept_above : (n : List ℕ) (ms : Members) → BeginsAbove n ms → BeginsAbove n (without_repeats ms)
 kept_above n no_members b = tt
@@ -117,7 +144,8 @@ kept_above n (member m t ms) b = go (begins_with_name m ms) refl (λ a. kept_abo
     carried no_members e = absurd (true≢false (sym e))
     carried (member k u ks) e = subst (λ z. text_cmp n z ≡ Less) ((bytes_eq-Decides m k).0 e) b
 
-    go : (o : Bool) → begins_with_name m ms ≡ o → (BeginsAbove n ms → BeginsAbove n (without_repeats ms)) → BeginsAbove n (cond o (without_repeats ms) (member m t (without_repeats ms)))
+    go : (o : Bool) → begins_with_name m ms ≡ o → (BeginsAbove n ms → BeginsAbove n (without_repeats ms))
+        → BeginsAbove n (cond o (without_repeats ms) (member m t (without_repeats ms)))
     go true e more = more (carried ms e)
     go false e more = b
 
@@ -129,13 +157,15 @@ kept_rise (member n t ms) o = go (begins_with_name n ms) refl (kept_rise ms o.1)
     above no_members h e = tt
     above (member k u ks) h e = less n k h e
 
-    go : (b : Bool) → begins_with_name n ms ≡ b → Rise (without_repeats ms) → Rise (cond b (without_repeats ms) (member n t (without_repeats ms)))
+    go : (b : Bool) → begins_with_name n ms ≡ b → Rise (without_repeats ms)
+        → Rise (cond b (without_repeats ms) (member n t (without_repeats ms)))
     go true e r = r
     go false e r = (kept_above n ms (above ms o.0 e), r)
 
 -- ---- the last of a name stays
 
-absorbed : (b : Bool) (a : Option Tree) (u t : Tree) → or_else a (cond b (Some u) None) ≡ or_else (or_else a (cond b (Some u) None)) (cond b (Some t) None)
+absorbed : (b : Bool) (a : Option Tree) (u t : Tree)
+    → or_else a (cond b (Some u) None) ≡ or_else (or_else a (cond b (Some u) None)) (cond b (Some t) None)
 absorbed true None u t = refl
 absorbed true (Some v) u t = refl
 absorbed false None u t = refl
@@ -147,9 +177,14 @@ kept_last q (member n t ms) = go (begins_with_name n ms) refl (kept_last q ms)
   where
     hidden : (ks : Members) → begins_with_name n ks ≡ true → last_of q ks ≡ or_else (last_of q ks) (cond (bytes_eq n q) (Some t) None)
     hidden no_members e = absurd (true≢false (sym e))
-    hidden (member k u ks) e = absorbed (bytes_eq k q) (last_of q ks) u t ∙ ap (λ z. or_else (or_else (last_of q ks) (cond (bytes_eq k q) (Some u) None)) (cond (bytes_eq z q) (Some t) None)) (sym ((bytes_eq-Decides n k).0 e))
+    hidden (member k u ks) e =
+        absorbed (bytes_eq k q) (last_of q ks) u t
+        ∙ ap (λ z. or_else (or_else (last_of q ks) (cond (bytes_eq k q) (Some u) None))
+        (cond (bytes_eq z q) (Some t) None)) (sym ((bytes_eq-Decides n k).0 e))
 
-    go : (b : Bool) → begins_with_name n ms ≡ b → last_of q (without_repeats ms) ≡ last_of q ms → last_of q (cond b (without_repeats ms) (member n t (without_repeats ms))) ≡ or_else (last_of q ms) (cond (bytes_eq n q) (Some t) None)
+    go : (b : Bool) → begins_with_name n ms ≡ b → last_of q (without_repeats ms) ≡ last_of q ms
+        → last_of q (cond b (without_repeats ms) (member n t (without_repeats ms))) ≡ or_else (last_of q ms)
+        (cond (bytes_eq n q) (Some t) None)
     go true e h = h ∙ hidden ms e
     go false e h = ap (λ z. or_else z (cond (bytes_eq n q) (Some t) None)) h
 
@@ -169,35 +204,52 @@ ties_same n x e = go (text_cmp (n x) (n e)) refl
       where
         look : (b : Bool) → bytes_eq (n e) (n x) ≡ b → b ≡ false
         look false g = refl
-        look true g = absurd (neq (sym h ∙ ap (λ z. text_cmp (n x) z) ((bytes_eq-Decides (n e) (n x)).0 g) ∙ tied_itself nat_list_cmp_total (n x)))
+        look true g = absurd (neq
+            (sym h ∙ ap (λ z. text_cmp (n x) z) ((bytes_eq-Decides (n e) (n x)).0 g)
+            ∙ tied_itself nat_list_cmp_total (n x)))
 
     go : (o : Ordering) → text_cmp (n x) (n e) ≡ o → ties (below n) x e ≡ bytes_eq (n e) (n x)
     go Less h = ap₂ (λ (a b : Ordering). not (is_lt a) && not (is_lt b)) h (turned Less h) ∙ sym (apart Less h (λ f. cc))
-    go Equal h = ap₂ (λ (a b : Ordering). not (is_lt a) && not (is_lt b)) h (turned Equal h) ∙ sym ((bytes_eq-Decides (n e) (n x)).1 (sym (exact_bytes (n x) (n e) h)))
+    go Equal h = ap₂ (λ (a b : Ordering). not (is_lt a) && not (is_lt b)) h (turned Equal h)
+        ∙ sym ((bytes_eq-Decides (n e) (n x)).1 (sym (exact_bytes (n x) (n e) h)))
     go Greater h = ap₂ (λ (a b : Ordering). not (is_lt a) && not (is_lt b)) h (turned Greater h) ∙ sym (apart Greater h (λ f. cc))
 
 or_else_none : (a : Option Tree) → or_else a None ≡ a
 or_else_none None = refl
 or_else_none (Some t) = refl
 
-last_filtered : {X : Type 0} (n : X → List ℕ) (r : X → Tree) (x : X) (ms : List X) → last_of (n x) (named_members n r (filter (ties (below n) x) ms)) ≡ last_of (n x) (named_members n r ms)
+last_filtered : {X : Type 0} (n : X → List ℕ) (r : X → Tree) (x : X) (ms : List X)
+    → last_of (n x) (named_members n r (filter (ties (below n) x) ms)) ≡ last_of (n x) (named_members n r ms)
 last_filtered n r x [] = refl
 last_filtered n r x (m ∷ ms) = go (bytes_eq (n m) (n x)) refl (last_filtered n r x ms)
   where
-    go : (b : Bool) → bytes_eq (n m) (n x) ≡ b → last_of (n x) (named_members n r (filter (ties (below n) x) ms)) ≡ last_of (n x) (named_members n r ms) → last_of (n x) (named_members n r (filter (ties (below n) x) (m ∷ ms))) ≡ last_of (n x) (named_members n r (m ∷ ms))
-    go true e h = ap (λ z. last_of (n x) (named_members n r (cond z (m ∷ filter (ties (below n) x) ms) (filter (ties (below n) x) ms)))) (ties_same n x m ∙ e) ∙ ap (λ z. or_else z (cond (bytes_eq (n m) (n x)) (Some (r m)) None)) h
-    go false e h = ap (λ z. last_of (n x) (named_members n r (cond z (m ∷ filter (ties (below n) x) ms) (filter (ties (below n) x) ms)))) (ties_same n x m ∙ e) ∙ h ∙ sym (ap (λ z. or_else (last_of (n x) (named_members n r ms)) (cond z (Some (r m)) None)) e ∙ or_else_none (last_of (n x) (named_members n r ms)))
+    go : (b : Bool) → bytes_eq (n m) (n x) ≡ b → last_of (n x) (named_members n r (filter (ties (below n) x) ms))
+        ≡ last_of (n x) (named_members n r ms)
+        → last_of (n x) (named_members n r (filter (ties (below n) x) (m ∷ ms)))
+        ≡ last_of (n x) (named_members n r (m ∷ ms))
+    go true e h = ap (λ z. last_of (n x)
+        (named_members n r (cond z (m ∷ filter (ties (below n) x) ms) (filter (ties (below n) x) ms))))
+        (ties_same n x m ∙ e) ∙ ap (λ z. or_else z (cond (bytes_eq (n m) (n x)) (Some (r m)) None)) h
+    go false e h = ap (λ z. last_of (n x)
+        (named_members n r (cond z (m ∷ filter (ties (below n) x) ms) (filter (ties (below n) x) ms))))
+        (ties_same n x m ∙ e) ∙ h
+        ∙ sym (ap (λ z. or_else (last_of (n x) (named_members n r ms)) (cond z (Some (r m)) None)) e
+        ∙ or_else_none (last_of (n x) (named_members n r ms)))
 
-named : {X : Type 0} (n : X → List ℕ) (r : X → Tree) (q : List ℕ) (ms : List X) (t : Tree) → last_of q (named_members n r ms) ≡ Some t → (e : X) × ((n e) ≡ q)
+named : {X : Type 0} (n : X → List ℕ) (r : X → Tree) (q : List ℕ) (ms : List X) (t : Tree)
+    → last_of q (named_members n r ms) ≡ Some t → (e : X) × ((n e) ≡ q)
 named n r q [] t h = absurd (true≢false (sym (ap is_some h)))
 named {X = X} n r q (m ∷ ms) t h = go (last_of q (named_members n r ms)) (bytes_eq (n m) q) refl refl h (λ u w. named n r q ms u w)
   where
-    go : (o : Option Tree) (b : Bool) → last_of q (named_members n r ms) ≡ o → bytes_eq (n m) q ≡ b → or_else o (cond b (Some (r m)) None) ≡ Some t → ((u : Tree) → last_of q (named_members n r ms) ≡ Some u → (e : X) × ((n e) ≡ q)) → (e : X) × ((n e) ≡ q)
+    go : (o : Option Tree) (b : Bool) → last_of q (named_members n r ms) ≡ o → bytes_eq (n m) q ≡ b
+        → or_else o (cond b (Some (r m)) None) ≡ Some t
+        → ((u : Tree) → last_of q (named_members n r ms) ≡ Some u → (e : X) × ((n e) ≡ q)) → (e : X) × ((n e) ≡ q)
     go (Some u) b w s g more = more u w
     go None true w s g more = (m, (bytes_eq-Decides (n m) q).0 s)
     go None false w s g more = absurd (true≢false (sym (ap is_some g)))
 
-pub stable_last : {X : Type 0} (n : X → List ℕ) (r : X → Tree) (xs ys : List X) → IsStableBy (below n) xs ys → (q : List ℕ) → last_of q (named_members n r ys) ≡ last_of q (named_members n r xs)
+pub stable_last : {X : Type 0} (n : X → List ℕ) (r : X → Tree) (xs ys : List X) → IsStableBy (below n) xs ys
+    → (q : List ℕ) → last_of q (named_members n r ys) ≡ last_of q (named_members n r xs)
 stable_last {X = X} n r xs ys s q = go (last_of q (named_members n r ys)) (last_of q (named_members n r xs)) refl refl
   where
     at : (e : X) → last_of (n e) (named_members n r ys) ≡ last_of (n e) (named_members n r xs)
@@ -206,24 +258,33 @@ stable_last {X = X} n r xs ys s q = go (last_of q (named_members n r ys)) (last_
     at_name : (e : X) → (n e) ≡ q → last_of q (named_members n r ys) ≡ last_of q (named_members n r xs)
     at_name e h = subst (λ z. last_of z (named_members n r ys) ≡ last_of z (named_members n r xs)) h (at e)
 
-    go : (a b : Option Tree) → last_of q (named_members n r ys) ≡ a → last_of q (named_members n r xs) ≡ b → last_of q (named_members n r ys) ≡ last_of q (named_members n r xs)
+    go : (a b : Option Tree) → last_of q (named_members n r ys) ≡ a → last_of q (named_members n r xs) ≡ b
+        → last_of q (named_members n r ys) ≡ last_of q (named_members n r xs)
     go None None f g = f ∙ sym g
     go (Some t) b f g = let e = named n r q ys t f in at_name e.0 e.1
     go None (Some t) f g = let e = named n r q xs t g in at_name e.0 e.1
 
 -- ---- the rows of a sorted object are its normal form
 
-normal_tree : (b : Bool) (o : Option Tree) (x : List ℕ) → option_map norm o ≡ o → option_map norm (or_else o (cond b (Some (str x)) None)) ≡ or_else o (cond b (Some (str x)) None)
+normal_tree : (b : Bool) (o : Option Tree) (x : List ℕ) → option_map norm o ≡ o
+    → option_map norm (or_else o (cond b (Some (str x)) None)) ≡ or_else o (cond b (Some (str x)) None)
 normal_tree true None x h = refl
 normal_tree false None x h = refl
 normal_tree b (Some t) x h = h
 
-normal_last : (q : List ℕ) (es : List Entry) (last : List ℕ) → option_map norm (last_of q (entry_members es last)) ≡ last_of q (entry_members es last)
+normal_last : (q : List ℕ) (es : List Entry) (last : List ℕ) → option_map norm (last_of q (entry_members es last))
+    ≡ last_of q (entry_members es last)
 normal_last q [] last = refl
-normal_last q (e ∷ es) last = normal_tree (bytes_eq e.name q) (last_of q (entry_members es last)) (text_before es last) (normal_last q es last)
+normal_last q (e ∷ es) last = normal_tree (bytes_eq e.name q) (last_of q (entry_members es last))
+    (text_before es last) (normal_last q es last)
 
-pub kept_normal : (ns : List Member) (es : List Entry) (last : List ℕ) (old new : List ℕ) → Agree ns es → old ≡ range_with_len 0 (length ns) → IsSortedByKey (name_in ns) text_cmp new → ((r : ℕ → Tree) (q : List ℕ) → last_of q (members_at ns r new) ≡ last_of q (members_at ns r old)) → without_repeats (members_at ns (text_tree_at es last) new) ≡ norm_members (entry_members es last)
+pub kept_normal : (ns : List Member) (es : List Entry) (last : List ℕ) (old new : List ℕ) → Agree ns es
+    → old ≡ range_with_len 0 (length ns) → IsSortedByKey (name_in ns) text_cmp new
+    → ((r : ℕ → Tree) (q : List ℕ) → last_of q (members_at ns r new) ≡ last_of q (members_at ns r old))
+    → without_repeats (members_at ns (text_tree_at es last) new) ≡ norm_members (entry_members es last)
 kept_normal ns es last old new a e s h =
     let r = text_tree_at es last in
     let all : members_at ns r old ≡ entry_members es last = ap (members_at ns r) e ∙ rows_all ns es last a in
-    norm_only norm_neg (entry_members es last) (without_repeats (members_at ns r new)) (kept_rise (members_at ns r new) (orders_sorted (name_in ns) r new s)) (λ q. kept_last q (members_at ns r new) ∙ h r q ∙ ap (last_of q) all ∙ sym (normal_last q es last))
+    norm_only norm_neg (entry_members es last) (without_repeats (members_at ns r new))
+    (kept_rise (members_at ns r new) (orders_sorted (name_in ns) r new s))
+    (λ q. kept_last q (members_at ns r new) ∙ h r q ∙ ap (last_of q) all ∙ sym (normal_last q es last))

@@ -1,6 +1,7 @@
 -- The span of each member of an object holds its text. By recursion over the index: `own_tail` removes the first
 -- member until `own_first` reads the span of the member asked for.
-use Rattle.std.proofs.Common.{◌≡◌, ◌≤◌, ◌-◌, ◌+◌, ℕ, zero, suc, List, [], ◌∷◌, ◌++◌, length, drop, refl, sym, ap, subst, ◌∙◌, append_assoc, arith, length-append}
+use Rattle.std.proofs.Common.{◌≡◌, ◌≤◌, ◌-◌, ◌+◌, ℕ, zero, suc, List, [], ◌∷◌, ◌++◌, length, drop, refl, sym, ap}
+use Rattle.std.proofs.Common.{subst, ◌∙◌, append_assoc, arith, length-append}
 use Rattle.std.proofs.lemmas.List.{drop_all}
 use Rattle.miniserde_canonical.specs.declared.spread.Point.{Point}
 use Rattle.miniserde_canonical.specs.declared.spread.Splice.{Splice}
@@ -15,31 +16,57 @@ use Rattle.miniserde_canonical.proofs.MemberLists.{Agree}
 
 -- from a point to another the text holds x
 abbrev pub HoldsBetween : List ℕ → List Splice → List ℕ → List Splice → Point → Point → List ℕ → Type 0
-HoldsBetween ms gs bs hs a b x = ((a.bytes ≤ b.bytes) × (b.bytes ≤ length bs) × (a.splices ≤ b.splices) × (b.splices ≤ length hs)) × Holds ms gs a.bytes (part_between a.bytes b.bytes bs) (part_between a.splices b.splices hs) x
+HoldsBetween ms gs bs hs a b x =
+    ((a.bytes ≤ b.bytes) × (b.bytes ≤ length bs) × (a.splices ≤ b.splices) × (b.splices ≤ length hs))
+    × Holds ms gs a.bytes (part_between a.bytes b.bytes bs) (part_between a.splices b.splices hs) x
 
-holds_between : (ms : List ℕ) (gs : List Splice) (bs : List ℕ) (hs : List Splice) (a b : Point) (x y : List ℕ) (h : List Splice) → (a.bytes ≤ b.bytes) × (b.bytes ≤ length bs) × (a.splices ≤ b.splices) × (b.splices ≤ length hs) → part_between a.bytes b.bytes bs ≡ y → part_between a.splices b.splices hs ≡ h → Holds ms gs a.bytes y h x → HoldsBetween ms gs bs hs a b x
-holds_between ms gs bs hs a b x y h w e f u = (w, subst (λ z. Holds ms gs a.bytes z (part_between a.splices b.splices hs) x) (sym e) (subst (λ z. Holds ms gs a.bytes y z x) (sym f) u))
+holds_between : (ms : List ℕ) (gs : List Splice) (bs : List ℕ) (hs : List Splice) (a b : Point) (x y : List ℕ)
+    (h : List Splice) → (a.bytes ≤ b.bytes) × (b.bytes ≤ length bs) × (a.splices ≤ b.splices)
+    × (b.splices ≤ length hs) → part_between a.bytes b.bytes bs ≡ y → part_between a.splices b.splices hs ≡ h
+    → Holds ms gs a.bytes y h x → HoldsBetween ms gs bs hs a b x
+holds_between ms gs bs hs a b x y h w e f u = (
+  w,
+  subst (λ z. Holds ms gs a.bytes z (part_between a.splices b.splices hs) x) (sym e)
+      (subst (λ z. Holds ms gs a.bytes y z x) (sym f) u),
+)
 
-own_first : (n : Member) (ns : List Member) (e : Entry) (es : List Entry) (ms : List ℕ) (gs : List Splice) (bs : List ℕ) (hs : List Splice) (last : List ℕ) (end : Point) → end.bytes ≡ length bs → end.splices ≡ length hs → EndsWithMembersFrom n ns e es ms gs bs hs last → HoldsBetween ms gs bs hs n.point (before_comma ns end) (text_before es last)
+own_first : (n : Member) (ns : List Member) (e : Entry) (es : List Entry) (ms : List ℕ) (gs : List Splice)
+    (bs : List ℕ) (hs : List Splice) (last : List ℕ) (end : Point) → end.bytes ≡ length bs → end.splices ≡ length hs
+    → EndsWithMembersFrom n ns e es ms gs bs hs last → HoldsBetween ms gs bs hs n.point (before_comma ns end)
+    (text_before es last)
 own_first n [] e [] ms gs bs hs last end p q o =
     let long = ap length o.bytes ∙ length-append o.front o.inside in
     let many = ap length o.splices ∙ length-append o.splices_front o.splices_inside in
-    holds_between ms gs bs hs n.point end last o.inside o.splices_inside (omega (arith, p, o.begins, long), omega (arith, p), omega (arith, q, o.behind, many), omega (arith, q)) (between_end n.point.bytes end.bytes bs o.front o.inside o.bytes o.begins p) (between_end n.point.splices end.splices hs o.splices_front o.splices_inside o.splices o.behind q) o.chain
+    holds_between ms gs bs hs n.point end last o.inside o.splices_inside
+    (omega (arith, p, o.begins, long), omega (arith, p), omega (arith, q, o.behind, many), omega (arith, q))
+    (between_end n.point.bytes end.bytes bs o.front o.inside o.bytes o.begins p)
+    (between_end n.point.splices end.splices hs o.splices_front o.splices_inside o.splices o.behind q) o.chain
 own_first n (m ∷ ns) e (f ∷ es) ms gs bs hs last end p q o =
     let r = o.chain in
     let s = r.4 in
     let text : bs ≡ o.front ++ (r.0 ++ (comma_before f.first ++ r.1)) = o.bytes ∙ ap (λ z. o.front ++ z) s.bytes in
     let splices : hs ≡ o.splices_front ++ (r.2 ++ r.3) = o.splices ∙ ap (λ z. o.splices_front ++ z) s.splices in
     let comma : length (comma_before m.first) ≡ length (comma_before f.first) = ap (λ z. length (comma_before z)) s.first in
-    let wide : m.point.bytes - length (comma_before m.first) ≡ n.point.bytes + length r.0 = omega (arith, s.begins, length-append r.0 (comma_before f.first), comma) in
+    let wide : m.point.bytes - length (comma_before m.first) ≡ n.point.bytes + length r.0 =
+    omega (arith, s.begins, length-append r.0 (comma_before f.first), comma) in
     let long = ap length text ∙ length-append o.front (r.0 ++ (comma_before f.first ++ r.1)) in
     let more = length-append r.0 (comma_before f.first ++ r.1) in
     let many = ap length splices ∙ length-append o.splices_front (r.2 ++ r.3) in
-    holds_between ms gs bs hs n.point (before_comma (m ∷ ns) end) f.text r.0 r.2 (omega (arith, wide), omega (arith, wide, o.begins, long, more), omega (arith, s.behind), omega (arith, s.behind, o.behind, many, length-append r.2 r.3)) (between_mid n.point.bytes (m.point.bytes - length (comma_before m.first)) bs o.front r.0 (comma_before f.first ++ r.1) text o.begins wide) (between_mid n.point.splices m.point.splices hs o.splices_front r.2 r.3 splices o.behind s.behind) r.5
+    holds_between ms gs bs hs n.point (before_comma (m ∷ ns) end) f.text r.0 r.2 (
+      omega (arith, wide),
+      omega (arith, wide, o.begins, long, more),
+      omega (arith, s.behind),
+      omega (arith, s.behind, o.behind, many, length-append r.2 r.3),
+    )
+    (between_mid n.point.bytes (m.point.bytes - length (comma_before m.first)) bs o.front r.0
+    (comma_before f.first ++ r.1) text o.begins wide)
+    (between_mid n.point.splices m.point.splices hs o.splices_front r.2 r.3 splices o.behind s.behind) r.5
 own_first n [] e (f ∷ es) ms gs bs hs last end p q o = absurd o.chain
 own_first n (m ∷ ns) e [] ms gs bs hs last end p q o = absurd o.chain
 
-own_tail : (n : Member) (ns : List Member) (e : Entry) (es : List Entry) (ms : List ℕ) (gs : List Splice) (bs : List ℕ) (hs : List Splice) (last : List ℕ) → EndsWithMembersFrom n ns e es ms gs bs hs last → EndsWithMembers ns es ms gs bs hs last
+own_tail : (n : Member) (ns : List Member) (e : Entry) (es : List Entry) (ms : List ℕ) (gs : List Splice)
+    (bs : List ℕ) (hs : List Splice) (last : List ℕ) → EndsWithMembersFrom n ns e es ms gs bs hs last
+    → EndsWithMembers ns es ms gs bs hs last
 own_tail n [] e [] ms gs bs hs last o = tt
 own_tail n (m ∷ ns) e (f ∷ es) ms gs bs hs last o =
     let r = o.chain in
@@ -63,34 +90,49 @@ own_tail n (m ∷ ns) e (f ∷ es) ms gs bs hs last o =
 own_tail n [] e (f ∷ es) ms gs bs hs last o = absurd o.chain
 own_tail n (m ∷ ns) e [] ms gs bs hs last o = absurd o.chain
 
-own_none : (ns : List Member) (es : List Entry) (ms : List ℕ) (gs : List Splice) (bs : List ℕ) (hs : List Splice) (last : List ℕ) (end : Point) → end.bytes ≡ length bs → end.splices ≡ length hs → ns ≡ [] → es ≡ [] → HoldsBetween ms gs bs hs (begin_of ns end) (end_of ns end) (text_at es last)
-own_none [] [] ms gs bs hs last end p q e f = holds_between ms gs bs hs end end [] [] [] (omega arith, omega (arith, p), omega arith, omega (arith, q)) (between_none end.bytes end.bytes bs (omega arith)) (between_none end.splices end.splices hs (omega arith)) none
+own_none : (ns : List Member) (es : List Entry) (ms : List ℕ) (gs : List Splice) (bs : List ℕ) (hs : List Splice)
+    (last : List ℕ) (end : Point) → end.bytes ≡ length bs → end.splices ≡ length hs → ns ≡ [] → es ≡ []
+    → HoldsBetween ms gs bs hs (begin_of ns end) (end_of ns end) (text_at es last)
+own_none [] [] ms gs bs hs last end p q e f =
+    holds_between ms gs bs hs end end [] [] [] (omega arith, omega (arith, p), omega arith, omega (arith, q))
+    (between_none end.bytes end.bytes bs (omega arith)) (between_none end.splices end.splices hs (omega arith)) none
 own_none (n ∷ ns) es ms gs bs hs last end p q e f = absurd (omega (arith, ap length e))
 own_none [] (x ∷ es) ms gs bs hs last end p q e f = absurd (omega (arith, ap length f))
 
-pub own_span : (i : ℕ) (ns : List Member) (es : List Entry) (ms : List ℕ) (gs : List Splice) (bs : List ℕ) (hs : List Splice) (last : List ℕ) (end : Point) → end.bytes ≡ length bs → end.splices ≡ length hs → EndsWithMembers ns es ms gs bs hs last → HoldsBetween ms gs bs hs (begin_of (drop i ns) end) (end_of (drop i ns) end) (text_at (drop i es) last)
-own_span i [] [] ms gs bs hs last end p q o = own_none (drop i []) (drop i []) ms gs bs hs last end p q (drop_all {X = Member} i [] (omega arith)) (drop_all {X = Entry} i [] (omega arith))
+pub own_span : (i : ℕ) (ns : List Member) (es : List Entry) (ms : List ℕ) (gs : List Splice) (bs : List ℕ)
+    (hs : List Splice) (last : List ℕ) (end : Point) → end.bytes ≡ length bs → end.splices ≡ length hs
+    → EndsWithMembers ns es ms gs bs hs last
+    → HoldsBetween ms gs bs hs (begin_of (drop i ns) end) (end_of (drop i ns) end) (text_at (drop i es) last)
+own_span i [] [] ms gs bs hs last end p q o =
+    own_none (drop i []) (drop i []) ms gs bs hs last end p q (drop_all {X = Member} i [] (omega arith))
+    (drop_all {X = Entry} i [] (omega arith))
 own_span zero (n ∷ ns) (e ∷ es) ms gs bs hs last end p q o = own_first n ns e es ms gs bs hs last end p q o
-own_span (suc i) (n ∷ ns) (e ∷ es) ms gs bs hs last end p q o = own_span i ns es ms gs bs hs last end p q (own_tail n ns e es ms gs bs hs last o)
+own_span (suc i) (n ∷ ns) (e ∷ es) ms gs bs hs last end p q o =
+    own_span i ns es ms gs bs hs last end p q (own_tail n ns e es ms gs bs hs last o)
 own_span i [] (e ∷ es) ms gs bs hs last end p q o = absurd o
 own_span i (n ∷ ns) [] ms gs bs hs last end p q o = absurd o
 
 -- ---- names
 
-pub chain_agrees : (ns : List Member) (es : List Entry) (ms : List ℕ) (gs : List Splice) (at k : ℕ) (bs : List ℕ) (hs : List Splice) (last : List ℕ) → Chain ns es ms gs at k bs hs last → Agree ns es
+pub chain_agrees : (ns : List Member) (es : List Entry) (ms : List ℕ) (gs : List Splice) (at k : ℕ) (bs : List ℕ)
+    (hs : List Splice) (last : List ℕ) → Chain ns es ms gs at k bs hs last → Agree ns es
 chain_agrees [] [] ms gs at k bs hs last h = tt
 chain_agrees (n ∷ ns) (e ∷ es) ms gs at k bs hs last h = (h.4.name, chain_agrees ns es ms gs n.point.bytes n.point.splices h.1 h.3 last h.6)
 chain_agrees [] (e ∷ es) ms gs at k bs hs last h = absurd h
 chain_agrees (n ∷ ns) [] ms gs at k bs hs last h = absurd h
 
-pub own_agrees : (ns : List Member) (es : List Entry) (ms : List ℕ) (gs : List Splice) (bs : List ℕ) (hs : List Splice) (last : List ℕ) → EndsWithMembers ns es ms gs bs hs last → Agree ns es
+pub own_agrees : (ns : List Member) (es : List Entry) (ms : List ℕ) (gs : List Splice) (bs : List ℕ)
+    (hs : List Splice) (last : List ℕ) → EndsWithMembers ns es ms gs bs hs last → Agree ns es
 own_agrees [] [] ms gs bs hs last o = tt
-own_agrees (n ∷ ns) (e ∷ es) ms gs bs hs last o = (o.name, chain_agrees ns es ms gs n.point.bytes n.point.splices o.inside o.splices_inside last o.chain)
+own_agrees (n ∷ ns) (e ∷ es) ms gs bs hs last o =
+    (o.name, chain_agrees ns es ms gs n.point.bytes n.point.splices o.inside o.splices_inside last o.chain)
 own_agrees [] (e ∷ es) ms gs bs hs last o = absurd o
 own_agrees (n ∷ ns) [] ms gs bs hs last o = absurd o
 
 -- what is cut off a chain begins with a member
-pub cut_own : (ms0 : List Member) (es0 : List Entry) (n : Member) (e : Entry) (ns : List Member) (es : List Entry) (ms : List ℕ) (gs : List Splice) (bs : List ℕ) (hs : List Splice) (last : List ℕ) → Cut ms0 es0 n e ns es ms gs 0 0 bs hs last → EndsWithMembers (n ∷ ns) (e ∷ es) ms gs bs hs last
+pub cut_own : (ms0 : List Member) (es0 : List Entry) (n : Member) (e : Entry) (ns : List Member) (es : List Entry)
+    (ms : List ℕ) (gs : List Splice) (bs : List ℕ) (hs : List Splice) (last : List ℕ)
+    → Cut ms0 es0 n e ns es ms gs 0 0 bs hs last → EndsWithMembers (n ∷ ns) (e ∷ es) ms gs bs hs last
 cut_own ms0 es0 n e ns es ms gs bs hs last c =
     let s = c.seam in
     record {

@@ -1,6 +1,8 @@
 -- A normal form has as many members as its object if no name is duplicated, and else fewer. By induction over the
 -- members: `with_if_absent` adds a member if its name is new, and adds none otherwise.
-use Rattle.std.proofs.Common.{◌≡◌, ◌≤◌, ◌<◌, ℕ, suc, nat_eq, Bool, true, false, not, ◌&&◌, List, Option, Some, None, option_map, bytes_eq, cond, is_some, refl, sym, ap, ◌∙◌, arith, Ordering, Less, Equal, Greater, true≢false}
+use Rattle.std.proofs.Common.{◌≡◌, ◌≤◌, ◌<◌, ℕ, suc, nat_eq, Bool, true, false, not, ◌&&◌, List, Option, Some, None}
+use Rattle.std.proofs.Common.{option_map, bytes_eq, cond, is_some, refl, sym, ap, ◌∙◌, arith, Ordering, Less, Equal}
+use Rattle.std.proofs.Common.{Greater, true≢false}
 use Rattle.std.proofs.lemmas.Cmp.{nat_list_cmp_total, tied_itself}
 use Rattle.std.proofs.lemmas.Map.Lookups.{exact_bytes}
 use Rattle.std.proofs.lemmas.Slice.Eq.{bytes_eq-Decides}
@@ -38,18 +40,22 @@ first_there : (n : List ℕ) (t : Tree) (ms : Members) → Rise ms → has_name 
 first_there n t no_members r h = absurd (true≢false (sym h))
 first_there n t (member other u ms) r h = go (text_cmp n other) refl (first_there n t ms r.1)
   where
-    go : (o : Ordering) → text_cmp n other ≡ o → (has_name n ms ≡ true → count (with_if_absent n t ms) ≡ count ms) → count (with_if_absent_by o n t other u ms (with_if_absent n t ms)) ≡ count (member other u ms)
+    go : (o : Ordering) → text_cmp n other ≡ o → (has_name n ms ≡ true → count (with_if_absent n t ms) ≡ count ms)
+        → count (with_if_absent_by o n t other u ms (with_if_absent n t ms)) ≡ count (member other u ms)
     go Less s more = absurd (true≢false (sym h ∙ ap is_some (absent n (member other u ms) s r)))
     go Equal s more = refl
     go Greater s more =
-        let there : has_name n ms ≡ true = sym (ap is_some (ap (λ (b : Bool). or_else (last_of n ms) (cond b (Some u) None)) (unlike n other s) ∙ or_none (last_of n ms))) ∙ h in
+        let there : has_name n ms ≡ true =
+        sym (ap is_some (ap (λ (b : Bool). or_else (last_of n ms) (cond b (Some u) None)) (unlike n other s)
+        ∙ or_none (last_of n ms))) ∙ h in
         ap suc (more there)
 
 first_new : (n : List ℕ) (t : Tree) (ms : Members) → last_of n ms ≡ None → count (with_if_absent n t ms) ≡ suc (count ms)
 first_new n t no_members e = refl
 first_new n t (member other u ms) e = go (text_cmp n other) refl (first_new n t ms (none_there (last_of n ms) _ e).0)
   where
-    go : (o : Ordering) → text_cmp n other ≡ o → count (with_if_absent n t ms) ≡ suc (count ms) → count (with_if_absent_by o n t other u ms (with_if_absent n t ms)) ≡ suc (count (member other u ms))
+    go : (o : Ordering) → text_cmp n other ≡ o → count (with_if_absent n t ms) ≡ suc (count ms)
+        → count (with_if_absent_by o n t other u ms (with_if_absent n t ms)) ≡ suc (count (member other u ms))
     go Less s more = refl
     go Equal s more =
         let same : bytes_eq other n ≡ true = (bytes_eq-Decides other n).1 (sym (exact_bytes n other s)) in
@@ -83,10 +89,19 @@ counts_most : (p : Bool) (a b : ℕ) → Counts p a b → a ≤ b
 counts_most true a b h = omega (arith, h)
 counts_most false a b h = omega (arith, h)
 
-one_more : (n : List ℕ) (t : Tree) (ms : Members) (p b : Bool) → has_name n ms ≡ b → Counts p (count (norm_members ms)) (count ms) → Counts (not b && p) (count (with_if_absent n t (norm_members ms))) (suc (count ms))
-one_more n t ms p true e h = omega (arith, counts_most p _ _ h, first_there n t (norm_members ms) (norm_rises norm_neg ms) (norm_has n ms ∙ e))
+one_more : (n : List ℕ) (t : Tree) (ms : Members) (p b : Bool) → has_name n ms ≡ b
+    → Counts p (count (norm_members ms)) (count ms)
+    → Counts (not b && p) (count (with_if_absent n t (norm_members ms))) (suc (count ms))
+one_more n t ms p true e h =
+    omega (
+      arith,
+      counts_most p _ _ h,
+      first_there n t (norm_members ms) (norm_rises norm_neg ms)
+          (norm_has n ms ∙ e),
+    )
 one_more n t ms true false e h = first_new n t (norm_members ms) (none_of (last_of n (norm_members ms)) (norm_has n ms ∙ e)) ∙ ap suc h
-one_more n t ms false false e h = omega (arith, h, first_new n t (norm_members ms) (none_of (last_of n (norm_members ms)) (norm_has n ms ∙ e)))
+one_more n t ms false false e h =
+    omega (arith, h, first_new n t (norm_members ms) (none_of (last_of n (norm_members ms)) (norm_has n ms ∙ e)))
 
 counts_names : (ms : Members) → Counts (names_once ms) (count (norm_members ms)) (count ms)
 counts_names no_members = refl
@@ -110,7 +125,8 @@ mixed false false v n = refl
 
 distinct_parts : (ms : Members) → names_distinct_in_members ms ≡ (values_distinct ms && names_once ms)
 distinct_parts no_members = refl
-distinct_parts (member n t ms) = ap (λ z. not (has_name n ms) && (names_distinct t && z)) (distinct_parts ms) ∙ mixed (not (has_name n ms)) (names_distinct t) (values_distinct ms) (names_once ms)
+distinct_parts (member n t ms) = ap (λ z. not (has_name n ms) && (names_distinct t && z)) (distinct_parts ms)
+    ∙ mixed (not (has_name n ms)) (names_distinct t) (values_distinct ms) (names_once ms)
 
 pub distinct_counted : (ms : Members) → names_distinct_in_members ms ≡ (values_distinct ms && nat_eq (count (norm_members ms)) (count ms))
 distinct_counted ms = distinct_parts ms ∙ ap (λ z. values_distinct ms && z) (sym (told_by (names_once ms) _ _ (counts_names ms)))

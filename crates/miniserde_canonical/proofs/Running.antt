@@ -1,6 +1,7 @@
 -- Each step of a draft extends its run of the input, flushes it, or begins a new run. The invariant `Wrote` splits
 -- the input into a front, the run and the rest, and each lemma moves bytes from one part to the next.
-use Rattle.std.proofs.Common.{◌≡◌, ◌≤◌, ◌-◌, ◌+◌, ℕ, ℤ, pos, negsuc, zero, suc, decimal, List, [], ◌∷◌, ◌++◌, length, refl, sym, ap, subst, ◌∙◌, append_assoc, append-nil, arith, length-append}
+use Rattle.std.proofs.Common.{◌≡◌, ◌≤◌, ◌-◌, ◌+◌, ℕ, ℤ, pos, negsuc, zero, suc, decimal, List, [], ◌∷◌, ◌++◌}
+use Rattle.std.proofs.Common.{length, refl, sym, ap, subst, ◌∙◌, append_assoc, append-nil, arith, length-append}
 use Rattle.std.proofs.lemmas.Int.{ints}
 use Rattle.std.proofs.lemmas.Fmt.{decimal_digit}
 use Rattle.miniserde_model.specs.Tree.{neg, num}
@@ -35,7 +36,8 @@ wrote_on d rest part rest' bs w e =
     }
 
 -- a new run begins where rest' is left
-pub rewound : (d d' : Draft) (rest w rest' bs y : List ℕ) → Wrote d rest bs → rest ≡ w ++ rest' → d'.input.now ≡ d.input.now → d'.left ≡ length rest' → d'.out.bytes.items ≡ y → Wrote d' rest' y
+pub rewound : (d d' : Draft) (rest w rest' bs y : List ℕ) → Wrote d rest bs → rest ≡ w ++ rest'
+    → d'.input.now ≡ d.input.now → d'.left ≡ length rest' → d'.out.bytes.items ≡ y → Wrote d' rest' y
 rewound d d' rest w rest' bs y t e i l o = record {
   front = t.front ++ (t.run ++ w);
   run = [];
@@ -47,7 +49,10 @@ rewound d d' rest w rest' bs y t e i l o = record {
     rejoin : (a b c x : List ℕ) → a ++ (b ++ (c ++ x)) ≡ (a ++ (b ++ c)) ++ x
     rejoin a b c x = simp append_assoc refl
 
-pub flushed : (d d' : Draft) (l all a b : ℕ) (piece text : List ℕ) → a ≡ all - d.left → b ≡ all - l → d'.input.now ≡ d.input.now → d'.left ≡ l → d'.out.bytes.items ≡ d.out.bytes.items ++ piece → text ≡ d.input.now → all ≡ length d.input.now → (a ≤ b → b ≤ length text → piece ≡ part_between a b text) → (rest bs : List ℕ) → Wrote d rest bs → l ≡ length rest → Wrote d' rest bs × (d'.out.bytes.items ≡ bs)
+pub flushed : (d d' : Draft) (l all a b : ℕ) (piece text : List ℕ) → a ≡ all - d.left → b ≡ all - l
+    → d'.input.now ≡ d.input.now → d'.left ≡ l → d'.out.bytes.items ≡ d.out.bytes.items ++ piece
+    → text ≡ d.input.now → all ≡ length d.input.now → (a ≤ b → b ≤ length text → piece ≡ part_between a b text)
+    → (rest bs : List ℕ) → Wrote d rest bs → l ≡ length rest → Wrote d' rest bs × (d'.out.bytes.items ≡ bs)
 flushed d d' l all a b piece text ea eb i dl o t an f = λ rest bs w e.
     let long = ap length w.input ∙ length-append w.front (w.run ++ rest) in
     let tail = length-append w.run rest in
@@ -62,7 +67,8 @@ no_bytes : (w : List ℕ) → length w ≡ 0 → w ≡ []
 no_bytes [] e = refl
 no_bytes (c ∷ w) e = absurd (omega (arith, e))
 
-pub skipped_none : (d : Draft) (a b : ℕ) → a ≡ b → (rest w rest' bs : List ℕ) → Wrote d rest bs → rest ≡ w ++ rest' → a ≡ length rest → b ≡ length rest' → Wrote d rest' bs
+pub skipped_none : (d : Draft) (a b : ℕ) → a ≡ b → (rest w rest' bs : List ℕ) → Wrote d rest bs → rest ≡ w ++ rest'
+    → a ≡ length rest → b ≡ length rest' → Wrote d rest' bs
 skipped_none d a b s = λ rest w rest' bs t e f g.
     let empty : w ≡ [] = no_bytes w (omega (arith, s, f, g, ap length e, length-append w rest')) in
     subst (λ z. Wrote d z bs) (e ∙ ap (λ z. z ++ rest') empty) t
@@ -74,7 +80,9 @@ as_negative (pos zero) part p n = absurd (n refl)
 as_negative (pos (suc k)) part p n = let low = (value_tree (neg (pos (suc k))) part p).0 in absurd (omega (arith, ints, low))
 as_negative (negsuc k) part p n = sym (neg_text part (negsuc k) p)
 
-pub as_it_is : (e : Event) (scratch part : List ℕ) → SpellsToken e scratch part → ((z : ℤ) → e ≡ event.Negative z → ⊥) → ((t : Text) → e ≡ event.Str t → ⊥) → part ≡ first_token_text (first_token (event_of_token e scratch))
+pub as_it_is : (e : Event) (scratch part : List ℕ) → SpellsToken e scratch part
+    → ((z : ℤ) → e ≡ event.Negative z → ⊥) → ((t : Text) → e ≡ event.Str t → ⊥)
+    → part ≡ first_token_text (first_token (event_of_token e scratch))
 as_it_is event.Null scratch part p n m = p.0
 as_it_is (event.Bool b) scratch part p n m = p.0
 as_it_is (event.Negative z) scratch part p n m = absurd (n z refl)
@@ -84,18 +92,34 @@ as_it_is (event.Str t) scratch part p n m = absurd (m t refl)
 as_it_is event.SeqStart scratch part p n m = p.0
 as_it_is event.MapStart scratch part p n m = p.0
 
-pub name_stands : (t : Text) (scratch part : List ℕ) (len : ℕ) → NameSpelled t part → len ≡ length part → ((x : _) → t ≡ Input x → len ≡ length x.now + 3) → (t ≡ Scratch → ⊥) → part ≡ string_text (text_of t scratch) ++ 58 ∷ []
+pub name_stands : (t : Text) (scratch part : List ℕ) (len : ℕ) → NameSpelled t part → len ≡ length part
+    → ((x : _) → t ≡ Input x → len ≡ length x.now + 3) → (t ≡ Scratch → ⊥) → part ≡ string_text (text_of t scratch)
+    ++ 58 ∷ []
 name_stands (Input x) scratch part len p e f n =
-    let empty : p.space ≡ [] = no_bytes p.space (omega (arith, e, f x refl, ap length p.text, p.long, length-append (string_text x.now) (p.space ++ 58 ∷ []), length-append p.space (58 ∷ []))) in
+    let empty : p.space ≡ [] =
+    no_bytes p.space (omega (
+      arith,
+      e,
+      f x refl,
+      ap length p.text,
+      p.long,
+      length-append (string_text x.now)
+          (p.space ++ 58 ∷ []),
+      length-append p.space (58 ∷ []),
+    )) in
     p.text ∙ ap (λ z. string_text x.now ++ (z ++ 58 ∷ [])) empty
 name_stands Scratch scratch part len p e f n = absurd (n refl)
 
 -- where the run would end
-pub run_length : (d : Draft) (rest bs : List ℕ) (at point : ℕ) → Wrote d rest bs → at ≡ length rest → point ≡ length d.out.bytes.items + (d.left - at) → point ≡ length bs
-run_length d rest bs at point w e f = omega (arith, e, f, w.left, length-append w.run rest, ap length w.text, length-append d.out.bytes.items w.run)
+pub run_length : (d : Draft) (rest bs : List ℕ) (at point : ℕ) → Wrote d rest bs → at ≡ length rest
+    → point ≡ length d.out.bytes.items + (d.left - at) → point ≡ length bs
+run_length d rest bs at point w e f =
+    omega (arith, e, f, w.left, length-append w.run rest, ap length w.text, length-append d.out.bytes.items w.run)
 
 -- a string that is borrowed stands there as it is written
-pub string_stands : (t : Text) (d : Draft) (scratch rest part rest' bs : List ℕ) → (t ≡ Scratch → ⊥) → Wrote d rest bs → rest ≡ part ++ rest' → TextSpelled t part → Wrote d rest' (bs ++ string_text (text_of t scratch))
+pub string_stands : (t : Text) (d : Draft) (scratch rest part rest' bs : List ℕ) → (t ≡ Scratch → ⊥)
+    → Wrote d rest bs → rest ≡ part ++ rest' → TextSpelled t part
+    → Wrote d rest' (bs ++ string_text (text_of t scratch))
 string_stands (Input x) d scratch rest part rest' bs n w e p = subst (λ z. Wrote d rest' (bs ++ z)) p (wrote_on d rest part rest' bs w e)
 string_stands Scratch d scratch rest part rest' bs n w e p = absurd (n refl)
 

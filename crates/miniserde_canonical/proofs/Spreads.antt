@@ -1,17 +1,20 @@
 -- A text with splices holds its text also after it is joined with another, moved, or given more groups. By induction
 -- over `Holds` (the end, a byte, a splice), and over the list of splices for the order of the groups.
-use Rattle.std.proofs.Common.{◌≡◌, ◌≤◌, ◌-◌, ◌+◌, ℕ, zero, suc, List, [], ◌∷◌, ◌++◌, map, length, take, drop, refl, sym, ap, ap₂, subst, ◌∙◌, append_assoc, append-nil, arith, length-append}
+use Rattle.std.proofs.Common.{◌≡◌, ◌≤◌, ◌-◌, ◌+◌, ℕ, zero, suc, List, [], ◌∷◌, ◌++◌, map, length, take, drop, refl}
+use Rattle.std.proofs.Common.{sym, ap, ap₂, subst, ◌∙◌, append_assoc, append-nil, arith, length-append}
 use Rattle.std.proofs.Math.Seq.{take-append_seam, drop-append_seam}
 use Rattle.std.proofs.lemmas.List.{take-append-le, drop-append-le, length-drop, take_all, drop_all}
 use Rattle.miniserde_canonical.specs.declared.spread.Span.{Span}
 use Rattle.miniserde_canonical.specs.declared.spread.Splice.{Splice}
-use Rattle.miniserde_canonical.specs.private.Spreads.{part_between, Within, bytes_in, splices_in, shifted_splice, Holds, none, byte, splice, Ordered, AllBefore}
+use Rattle.miniserde_canonical.specs.private.Spreads.{part_between, Within, bytes_in, splices_in, shifted_splice}
+use Rattle.miniserde_canonical.specs.private.Spreads.{Holds, none, byte, splice, Ordered, AllBefore}
 use Rattle.miniserde_canonical.specs.private.Waiting.{SpanHolds}
 
 -- ---- between two points
 
 pub between_more : {X : Type 0} (a b : ℕ) (xs ys : List X) → a ≤ b → b ≤ length xs → part_between a b (xs ++ ys) ≡ part_between a b xs
-between_more a b xs ys h i = ap (take (b - a)) (drop-append-le a xs ys (omega arith)) ∙ take-append-le (b - a) (drop a xs) ys (omega (arith, length-drop a xs))
+between_more a b xs ys h i = ap (take (b - a)) (drop-append-le a xs ys (omega arith)) ∙ take-append-le (b - a)
+    (drop a xs) ys (omega (arith, length-drop a xs))
 
 pub between_end : {X : Type 0} (a b : ℕ) (all xs ys : List X) → all ≡ xs ++ ys → a ≡ length xs → b ≡ length all → part_between a b all ≡ ys
 between_end a b all xs ys e f g =
@@ -19,7 +22,8 @@ between_end a b all xs ys e f g =
     let wide : length ys ≤ b - a = omega (arith, f, g, ap length e, length-append xs ys) in
     ap (take (b - a)) at ∙ take_all (b - a) ys wide
 
-pub between_mid : {X : Type 0} (a b : ℕ) (all xs ys zs : List X) → all ≡ xs ++ (ys ++ zs) → a ≡ length xs → b ≡ a + length ys → part_between a b all ≡ ys
+pub between_mid : {X : Type 0} (a b : ℕ) (all xs ys zs : List X) → all ≡ xs ++ (ys ++ zs) → a ≡ length xs
+    → b ≡ a + length ys → part_between a b all ≡ ys
 between_mid a b all xs ys zs e f g =
     let wide : b - a ≡ length ys = omega (arith, g) in
     ap₂ take wide (ap₂ drop f e ∙ drop-append_seam xs (ys ++ zs)) ∙ take-append_seam ys zs
@@ -37,30 +41,41 @@ pub plain_text : {ms : List ℕ} {gs : List Splice} {at : ℕ} {bs x : List ℕ}
 plain_text none = refl
 plain_text (byte c u) = ap (λ z. c ∷ z) (plain_text u)
 
-pub holds_append : {ms : List ℕ} {gs : List Splice} {at : ℕ} {bs : List ℕ} {hs : List Splice} {x : List ℕ} (to : ℕ) (cs : List ℕ) (ks : List Splice) (y : List ℕ) → Holds ms gs at bs hs x → to ≡ at + length bs → Holds ms gs to cs ks y → Holds ms gs at (bs ++ cs) (hs ++ ks) (x ++ y)
-holds_append {ms = ms} {gs = gs} {at = at} to cs ks y none e v = let same : to ≡ at = omega (arith, e) in subst (λ z. Holds ms gs z cs ks y) same v
+pub holds_append : {ms : List ℕ} {gs : List Splice} {at : ℕ} {bs : List ℕ} {hs : List Splice} {x : List ℕ} (to : ℕ)
+    (cs : List ℕ) (ks : List Splice) (y : List ℕ) → Holds ms gs at bs hs x → to ≡ at + length bs
+    → Holds ms gs to cs ks y → Holds ms gs at (bs ++ cs) (hs ++ ks) (x ++ y)
+holds_append {ms = ms} {gs = gs} {at = at} to cs ks y none e v = let same : to ≡ at = omega (arith, e) in
+    subst (λ z. Holds ms gs z cs ks y) same v
 holds_append {at = at} to cs ks y (byte {bs = bs} c u) e v = byte c (holds_append to cs ks y u (omega (arith, e)) v)
 holds_append {ms = ms} {gs = gs} {at = at} to cs ks y (splice {bs = bs} {hs = hs} {x = x} {y = w} h i p u q) e v =
     subst (λ z. Holds ms gs at (bs ++ cs) (h ∷ (hs ++ ks)) z) (sym (append_assoc w x y)) (splice h i p u (holds_append to cs ks y q e v))
 
 -- behind some bytes without splices
-pub holds_behind : (ms : List ℕ) (gs : List Splice) (at to : ℕ) (x bs : List ℕ) (hs : List Splice) (y : List ℕ) → to ≡ at + length x → Holds ms gs to bs hs y → Holds ms gs at (x ++ bs) hs (x ++ y)
+pub holds_behind : (ms : List ℕ) (gs : List Splice) (at to : ℕ) (x bs : List ℕ) (hs : List Splice) (y : List ℕ)
+    → to ≡ at + length x → Holds ms gs to bs hs y → Holds ms gs at (x ++ bs) hs (x ++ y)
 holds_behind ms gs at to x bs hs y e v = holds_append to bs hs y (holds_plain ms gs at x) e v
 
 pub within_more : (p : Span) (ms ns : List ℕ) (gs ks : List Splice) → Within p ms gs → Within p (ms ++ ns) (gs ++ ks)
 within_more p ms ns gs ks w = (w.0, omega (arith, w.1, length-append ms ns), w.2, omega (arith, w.3, length-append gs ks))
 
-pub holds_more : {ms : List ℕ} {gs : List Splice} {at : ℕ} {bs : List ℕ} {hs : List Splice} {x : List ℕ} (ns : List ℕ) (ks : List Splice) → Holds ms gs at bs hs x → Holds (ms ++ ns) (gs ++ ks) at bs hs x
+pub holds_more : {ms : List ℕ} {gs : List Splice} {at : ℕ} {bs : List ℕ} {hs : List Splice} {x : List ℕ}
+    (ns : List ℕ) (ks : List Splice) → Holds ms gs at bs hs x → Holds (ms ++ ns) (gs ++ ks) at bs hs x
 holds_more ns ks none = none
 holds_more ns ks (byte c u) = byte c (holds_more ns ks u)
 holds_more ns ks (splice {ms = ms} {gs = gs} {y = y} h e w u v) =
     let p = h.group in
-    let one : Holds (ms ++ ns) (gs ++ ks) p.from.bytes (bytes_in p (ms ++ ns)) (splices_in p gs) y = subst (λ z. Holds (ms ++ ns) (gs ++ ks) p.from.bytes z (splices_in p gs) y) (sym (between_more p.from.bytes p.to.bytes ms ns w.0 w.1)) (holds_more ns ks u) in
-    let two : Holds (ms ++ ns) (gs ++ ks) p.from.bytes (bytes_in p (ms ++ ns)) (splices_in p (gs ++ ks)) y = subst (λ z. Holds (ms ++ ns) (gs ++ ks) p.from.bytes (bytes_in p (ms ++ ns)) z y) (sym (between_more p.from.splices p.to.splices gs ks w.2 w.3)) one in
+    let one : Holds (ms ++ ns) (gs ++ ks) p.from.bytes (bytes_in p (ms ++ ns)) (splices_in p gs) y =
+    subst (λ z. Holds (ms ++ ns) (gs ++ ks) p.from.bytes z (splices_in p gs) y)
+    (sym (between_more p.from.bytes p.to.bytes ms ns w.0 w.1)) (holds_more ns ks u) in
+    let two : Holds (ms ++ ns) (gs ++ ks) p.from.bytes (bytes_in p (ms ++ ns)) (splices_in p (gs ++ ks)) y =
+    subst (λ z. Holds (ms ++ ns) (gs ++ ks) p.from.bytes (bytes_in p (ms ++ ns)) z y)
+    (sym (between_more p.from.splices p.to.splices gs ks w.2 w.3)) one in
     splice h e (within_more p ms ns gs ks w) two (holds_more ns ks v)
 
 -- the same text where its bytes begin at another index
-pub holds_moved : {ms : List ℕ} {gs : List Splice} {at : ℕ} {bs : List ℕ} {hs : List Splice} {x : List ℕ} (from to here : ℕ) → from ≤ at → here ≡ to + (at - from) → Holds ms gs at bs hs x → Holds ms gs here bs (map (shifted_splice from to) hs) x
+pub holds_moved : {ms : List ℕ} {gs : List Splice} {at : ℕ} {bs : List ℕ} {hs : List Splice} {x : List ℕ}
+    (from to here : ℕ) → from ≤ at → here ≡ to + (at - from) → Holds ms gs at bs hs x
+    → Holds ms gs here bs (map (shifted_splice from to) hs) x
 holds_moved from to here l e none = none
 holds_moved {at = at} from to here l e (byte c u) =
     let next : suc here ≡ to + (suc at - from) = omega (arith, l, e) in
@@ -70,15 +85,21 @@ holds_moved {at = at} from to here l e (splice h i w u v) =
     splice (shifted_splice from to h) point w u (holds_moved from to here l e v)
 
 -- the group of what was put at the end
-pub group_holds : (ms b : List ℕ) (gs h : List Splice) (x : List ℕ) (p : Span) → p.from.bytes ≡ length ms → p.from.splices ≡ length gs → p.to.bytes ≡ length (ms ++ b) → p.to.splices ≡ length (gs ++ h) → Holds ms gs (length ms) b h x → SpanHolds (ms ++ b) (gs ++ h) p x
+pub group_holds : (ms b : List ℕ) (gs h : List Splice) (x : List ℕ) (p : Span) → p.from.bytes ≡ length ms
+    → p.from.splices ≡ length gs → p.to.bytes ≡ length (ms ++ b) → p.to.splices ≡ length (gs ++ h)
+    → Holds ms gs (length ms) b h x → SpanHolds (ms ++ b) (gs ++ h) p x
 group_holds ms b gs h x p e f g i u =
     let one : Holds (ms ++ b) (gs ++ h) p.from.bytes b h x = subst (λ z. Holds (ms ++ b) (gs ++ h) z b h x) (sym e) (holds_more b h u) in
-    let two : Holds (ms ++ b) (gs ++ h) p.from.bytes (bytes_in p (ms ++ b)) h x = subst (λ z. Holds (ms ++ b) (gs ++ h) p.from.bytes z h x) (sym (between_end p.from.bytes p.to.bytes (ms ++ b) ms b refl e g)) one in (
+    let two : Holds (ms ++ b) (gs ++ h) p.from.bytes (bytes_in p (ms ++ b)) h x =
+    subst (λ z. Holds (ms ++ b) (gs ++ h) p.from.bytes z h x)
+    (sym (between_end p.from.bytes p.to.bytes (ms ++ b) ms b refl e g)) one in (
       (omega (arith, e, g, length-append ms b), omega (arith, g), omega (arith, f, i, length-append gs h), omega (arith, i)),
-      subst (λ z. Holds (ms ++ b) (gs ++ h) p.from.bytes (bytes_in p (ms ++ b)) z x) (sym (between_end p.from.splices p.to.splices (gs ++ h) gs h refl f i)) two,
+      subst (λ z. Holds (ms ++ b) (gs ++ h) p.from.bytes (bytes_in p (ms ++ b)) z x)
+          (sym (between_end p.from.splices p.to.splices (gs ++ h) gs h refl f i)) two,
     )
 
-pub splice_holds : (ms : List ℕ) (gs : List Splice) (at : ℕ) (h : Splice) (x : List ℕ) → h.at ≡ at → SpanHolds ms gs h.group x → Holds ms gs at [] (h ∷ []) x
+pub splice_holds : (ms : List ℕ) (gs : List Splice) (at : ℕ) (h : Splice) (x : List ℕ) → h.at ≡ at
+    → SpanHolds ms gs h.group x → Holds ms gs at [] (h ∷ []) x
 splice_holds ms gs at h x e s = subst (λ z. Holds ms gs at [] (h ∷ []) z) (append-nil x) (splice h e s.0 s.1 none)
 
 -- the first splice of a text
@@ -94,12 +115,38 @@ pub record AtHole (ms : List ℕ) (gs : List Splice) (at : ℕ) (bs : List ℕ) 
   pub after : Holds ms gs h.at behind hs rest
   pub text : x ≡ before ++ (group ++ rest)
 
-pub at_splice : {ms : List ℕ} {gs : List Splice} {at : ℕ} {bs : List ℕ} {h : Splice} {hs : List Splice} {x : List ℕ} → Holds ms gs at bs (h ∷ hs) x → AtHole ms gs at bs h hs x
+pub at_splice : {ms : List ℕ} {gs : List Splice} {at : ℕ} {bs : List ℕ} {h : Splice} {hs : List Splice} {x : List ℕ}
+    → Holds ms gs at bs (h ∷ hs) x → AtHole ms gs at bs h hs x
 at_splice {at = at} {h = k} (byte c u) =
     let r = at_splice u in
-    record { before = c ∷ r.before; behind = r.behind; group = r.group; rest = r.rest; bytes = ap (λ z. c ∷ z) r.bytes; point = omega (arith, r.point); within = r.within; inside = r.inside; after = r.after; text = ap (λ z. c ∷ z) r.text }
+    record {
+      before = c ∷ r.before;
+      behind = r.behind;
+      group = r.group;
+      rest = r.rest;
+      bytes =
+          ap (λ z. c ∷ z) r.bytes;
+      point = omega (arith, r.point);
+      within = r.within;
+      inside = r.inside;
+      after =
+          r.after;
+      text = ap (λ z. c ∷ z) r.text;
+    }
 at_splice {ms = ms} {gs = gs} (splice {bs = bs} {hs = hs} {x = x} {y = y} h e w u v) =
-    record { before = []; behind = bs; group = y; rest = x; bytes = refl; point = omega (arith, e); within = w; inside = u; after = subst (λ z. Holds ms gs z bs hs x) (sym e) v; text = refl }
+    record {
+      before = [];
+      behind = bs;
+      group = y;
+      rest = x;
+      bytes = refl;
+      point = omega (arith, e);
+      within =
+          w;
+      inside = u;
+      after = subst (λ z. Holds ms gs z bs hs x) (sym e) v;
+      text = refl;
+    }
 
 -- ---- groups in order
 

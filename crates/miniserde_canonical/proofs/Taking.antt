@@ -1,6 +1,7 @@
 -- The draft of a reader takes each token that the reader takes. `Taken` is the invariant of the reader's loop: the
 -- tokens so far, a run over them from the start, and a draft that represents the state of the run.
-use Rattle.std.proofs.Common.{◌≡◌, ◌≤◌, ℕ, Bool, true, false, None, is_some, List, [], ◌∷◌, ◌++◌, length, refl, sym, ap, subst, ◌∙◌, arith, length-append, append_assoc}
+use Rattle.std.proofs.Common.{◌≡◌, ◌≤◌, ℕ, Bool, true, false, None, is_some, List, [], ◌∷◌, ◌++◌, length, refl, sym}
+use Rattle.std.proofs.Common.{ap, subst, ◌∙◌, arith, length-append, append_assoc}
 use Rattle.miniserde_model.specs.Tree.{Tree}
 use Rattle.miniserde_model.specs.Value.{IsJson}
 use Rattle.miniserde_model.specs.Whitespace.{IsWhitespace}
@@ -38,10 +39,19 @@ use Rattle.miniserde_canonical.proofs.Wholes.{ReadsTokens-append, end_ok}
 abbrev fronted : Token → State → State
 fronted (leaf t) s = record { entries = s.entries; last = s.last ++ compact t; opened = s.opened; first = false; distinct = s.distinct }
 fronted array s = record { entries = s.entries; last = s.last ++ 91 ∷ []; opened = s.opened; first = true; distinct = s.distinct }
-fronted object s = record { entries = s.entries; last = s.last ++ 123 ∷ []; opened = s.opened ++ length s.entries ∷ []; first = true; distinct = s.distinct }
+fronted object s = record {
+  entries = s.entries;
+  last = s.last ++ 123 ∷ [];
+  opened =
+      s.opened ++ length s.entries ∷ [];
+  first = true;
+  distinct = s.distinct;
+}
 fronted _ s = s
 
-front_step : (e : Step) (b : List ℕ) → Piece e b → (s : State) → TokenStep (first_token e) s (fronted (first_token e) s) × Recalls (before_child (is_some (opened_kind e))) (fronted (first_token e) s)
+front_step : (e : Step) (b : List ℕ) → Piece e b → (s : State)
+    → TokenStep (first_token e) s (fronted (first_token e) s) × Recalls (before_child (is_some (opened_kind e)))
+    (fronted (first_token e) s)
 front_step step.null b p s = (((refl, refl, refl, refl), refl), refl)
 front_step (boolean x) b p s = (((refl, refl, refl, refl), refl), refl)
 front_step (string x) b p s = (((refl, refl, refl, refl), refl), refl)
@@ -54,7 +64,10 @@ front_step element b p s = absurd p
 front_step (key x) b p s = absurd p
 front_step finish b p s = absurd p
 
-pub takes_front : (e : Step) (b rest mid rest' : List ℕ) (o : Bool) (d d1 d' : Draft) → Piece e b → o ≡ is_some (opened_kind e) → ((s : State) → Represents d rest s → Represents d1 mid s) → ((s s' : State) → Represents d1 mid s → TokenStep (first_token e) s s' → Represents d' rest' s') → Takes due rest (first_token e ∷ []) (before_child o) rest' d d'
+pub takes_front : (e : Step) (b rest mid rest' : List ℕ) (o : Bool) (d d1 d' : Draft) → Piece e b
+    → o ≡ is_some (opened_kind e) → ((s : State) → Represents d rest s → Represents d1 mid s)
+    → ((s s' : State) → Represents d1 mid s → TokenStep (first_token e) s s' → Represents d' rest' s')
+    → Takes due rest (first_token e ∷ []) (before_child o) rest' d d'
 takes_front e b rest mid rest' o d d1 d' p q k f = λ s r h.
     let t = front_step e b p s in
     let s' = fronted (first_token e) s in
@@ -65,21 +78,52 @@ recalled true s h = h
 recalled false s h = h
 
 -- whitespace changes nothing
-pub skipped : (d d' : Draft) (rest rest' : List ℕ) → ((bs : List ℕ) → Wrote d rest bs → Wrote d' rest' bs) → ChangesOnlyText d d' → (s : State) → Represents d rest s → Represents d' rest' s
+pub skipped : (d d' : Draft) (rest rest' : List ℕ) → ((bs : List ℕ) → Wrote d rest bs → Wrote d' rest' bs)
+    → ChangesOnlyText d d' → (s : State) → Represents d rest s → Represents d' rest' s
 skipped d d' rest rest' f k s r = record { bytes = r.bytes; wrote = f r.bytes r.wrote; holding = keep_holding d d' r.bytes s k r.holding }
 
-pub takes_element : (f : Bool) (rest mid rest' : List ℕ) (d d' : Draft) → ((s : State) → Represents d rest s → Represents d' mid s) → mid ≡ comma_before f ++ rest' → Takes (before_child f) rest (token.element ∷ []) due rest' d d'
+pub takes_element : (f : Bool) (rest mid rest' : List ℕ) (d d' : Draft)
+    → ((s : State) → Represents d rest s → Represents d' mid s) → mid ≡ comma_before f ++ rest'
+    → Takes (before_child f) rest (token.element ∷ []) due rest' d d'
 takes_element f rest mid rest' d d' k e = λ s r h.
-    let s' : State = record { entries = s.entries; last = s.last ++ comma_before s.first; opened = s.opened; first = s.first; distinct = s.distinct } in
+    let s' : State = record {
+      entries = s.entries;
+      last = s.last ++ comma_before s.first;
+      opened = s.opened;
+      first =
+          s.first;
+      distinct = s.distinct;
+    } in
     let a : TokenStep token.element s s' = (refl, refl, refl, refl) in
     let q = k s r in
-    let comma : mid ≡ comma_before s.first ++ rest' = e ∙ ap (λ z. comma_before z ++ rest') (sym (recalled f s h)) in
-    (s', (s', a, refl), record { bytes = q.bytes ++ comma_before s.first; wrote = wrote_on d' mid (comma_before s.first) rest' q.bytes q.wrote comma; holding = holding_added d' q.bytes s s' (comma_before s.first) a q.holding }, tt)
+    let comma : mid ≡ comma_before s.first ++ rest' = e ∙ ap (λ z. comma_before z ++ rest') (sym (recalled f s h)) in (
+      s',
+      (s', a, refl),
+      record {
+        bytes = q.bytes ++ comma_before s.first;
+        wrote =
+            wrote_on d' mid (comma_before s.first) rest' q.bytes q.wrote comma;
+        holding =
+            holding_added d' q.bytes s s' (comma_before s.first) a q.holding;
+      },
+      tt,
+    )
 
 -- behind a comma, if any, and whitespace, a name
-pub takes_name : (f : Bool) (n rest mid rest1 rest2 part rest' : List ℕ) (d d1 d2 d' : Draft) → ((s : State) → Represents d rest s → Represents d1 mid s) → mid ≡ comma_before f ++ rest1 → ((bs : List ℕ) → Wrote d1 rest1 bs → Wrote d2 rest2 bs) → ChangesOnlyText d1 d2 → ((before : List ℕ) (s s' : State) → Wrote d2 rest2 (before ++ comma_before s.first) → Holding d2 before s → s.first ≡ f → TokenStep (name n) s s' → Represents d' rest' s') → Takes (before_child f) rest (name n ∷ []) due rest' d d'
+pub takes_name : (f : Bool) (n rest mid rest1 rest2 part rest' : List ℕ) (d d1 d2 d' : Draft)
+    → ((s : State) → Represents d rest s → Represents d1 mid s) → mid ≡ comma_before f ++ rest1
+    → ((bs : List ℕ) → Wrote d1 rest1 bs → Wrote d2 rest2 bs) → ChangesOnlyText d1 d2
+    → ((before : List ℕ) (s s' : State) → Wrote d2 rest2 (before ++ comma_before s.first) → Holding d2 before s
+    → s.first ≡ f → TokenStep (name n) s s' → Represents d' rest' s')
+    → Takes (before_child f) rest (name n ∷ []) due rest' d d'
 takes_name f n rest mid rest1 rest2 part rest' d d1 d2 d' k e w p g = λ s r h.
-    let s' : State = record { entries = s.entries ++ record { text = s.last; first = s.first; name = n } ∷ []; last = string_text n ++ 58 ∷ []; opened = s.opened; first = s.first; distinct = s.distinct } in
+    let s' : State = record {
+      entries = s.entries ++ record { text = s.last; first = s.first; name = n } ∷ [];
+      last = string_text n ++ 58 ∷ [];
+      opened = s.opened;
+      first = s.first;
+      distinct = s.distinct;
+    } in
     let a : TokenStep (name n) s s' = (refl, refl, refl, refl) in
     let q = k s r in
     let i = recalled f s h in
@@ -91,7 +135,10 @@ end_recalls : (k : Kind) (s s' : State) → TokenStep (end_token k) s s' → s'.
 end_recalls Seq s s' a = a.1
 end_recalls Map s s' a = a.3
 
-pub takes_end : (m : Moment) (k : Kind) (rest mid rest' : List ℕ) (d d1 d' : Draft) → ((s : State) → Represents d rest s → Represents d1 mid s) → ((s : State) → Represents d1 mid s → (s' : State) × TokenStep (end_token k) s s' × Represents d' rest' s') → Takes m rest (end_token k ∷ []) after rest' d d'
+pub takes_end : (m : Moment) (k : Kind) (rest mid rest' : List ℕ) (d d1 d' : Draft)
+    → ((s : State) → Represents d rest s → Represents d1 mid s)
+    → ((s : State) → Represents d1 mid s → (s' : State) × TokenStep (end_token k) s s' × Represents d' rest' s')
+    → Takes m rest (end_token k ∷ []) after rest' d d'
 takes_end m k rest mid rest' d d1 d' w f = λ s r h.
     let t = f s (w s r) in
     (t.0, (t.0, t.1, refl), t.2, end_recalls k s t.0 t.1)
@@ -106,17 +153,40 @@ pub record Taken (j : List ℕ) (m : Moment) (st : List Kind) (rest : List ℕ) 
   pub represents : Represents d rest state
   pub recalls : Recalls m state
 
-pub taken_first : (j s : List ℕ) (st su : List Kind) (ks : List Token) (m : Moment) (rest : List ℕ) (d d' : Draft) → su ≡ [] → s ≡ j → Represents d j start → ReadsTokens due su s ks m st rest → Takes due j ks m rest d d' → Taken j m st rest d'
+pub taken_first : (j s : List ℕ) (st su : List Kind) (ks : List Token) (m : Moment) (rest : List ℕ) (d d' : Draft)
+    → su ≡ [] → s ≡ j → Represents d j start → ReadsTokens due su s ks m st rest → Takes due j ks m rest d d'
+    → Taken j m st rest d'
 taken_first j s st su ks m rest d d' e f r p t =
     let a = t start r tt in
-    record { tokens = ks; state = a.0; reads = subst (λ z. ReadsTokens due z j ks m st rest) e (subst (λ z. ReadsTokens due su z ks m st rest) f p); run = a.1; represents = a.2; recalls = a.3 }
+    record {
+      tokens = ks;
+      state = a.0;
+      reads =
+          subst (λ z. ReadsTokens due z j ks m st rest) e (subst (λ z. ReadsTokens due su z ks m st rest) f p);
+      run = a.1;
+      represents = a.2;
+      recalls = a.3;
+    }
 
-pub taken_more : (j : List ℕ) (m m' : Moment) (st st' : List Kind) (rest rest' : List ℕ) (ks : List Token) (d d' : Draft) → Taken j m st rest d → ReadsTokens m st rest ks m' st' rest' → Takes m rest ks m' rest' d d' → Taken j m' st' rest' d'
+pub taken_more : (j : List ℕ) (m m' : Moment) (st st' : List Kind) (rest rest' : List ℕ) (ks : List Token)
+    (d d' : Draft) → Taken j m st rest d → ReadsTokens m st rest ks m' st' rest' → Takes m rest ks m' rest' d d'
+    → Taken j m' st' rest' d'
 taken_more j m m' st st' rest rest' ks d d' t p f =
     let a = f t.state t.represents t.recalls in
-    record { tokens = t.tokens ++ ks; state = a.0; reads = ReadsTokens-append due [] j t.tokens m st rest ks m' st' rest' t.reads p; run = run_append t.tokens ks start t.state a.0 t.run a.1; represents = a.2; recalls = a.3 }
+    record {
+      tokens = t.tokens ++ ks;
+      state = a.0;
+      reads =
+          ReadsTokens-append due [] j t.tokens m st rest ks m' st' rest' t.reads p;
+      run =
+          run_append t.tokens ks start t.state a.0 t.run a.1;
+      represents = a.2;
+      recalls = a.3;
+    }
 
-pub taken_all : (j : List ℕ) (f : Bool) (st : List Kind) (rest : List ℕ) (d : Draft) → innermost st ≡ None → IsWhitespace rest → Taken j (before_child f) st rest d → (t : Tree) × (s : State) × IsJson j t × Run (tokens t) start s × Represents d rest s
+pub taken_all : (j : List ℕ) (f : Bool) (st : List Kind) (rest : List ℕ) (d : Draft) → innermost st ≡ None
+    → IsWhitespace rest → Taken j (before_child f) st rest d → (t : Tree) × (s : State) × IsJson j t
+    × Run (tokens t) start s × Represents d rest s
 taken_all j f st rest d e w k =
     let t = end_ok j k.tokens f st rest e k.reads w in
     (t.0, k.state, t.1, subst (λ z. Run z start k.state) t.2 k.run, k.represents)
@@ -132,7 +202,16 @@ follows_less k false false s r p = stands_less s r p
 -- ---- behind whitespace
 
 stands_behind : {P : List ℕ → Type 0} (s m r : List ℕ) → Blank s m → Stands P m r → Stands P s r
-stands_behind s m r b p = record { space = b.space ++ p.space; part = p.part; text = b.text ∙ ap (λ z. b.space ++ z) p.text ∙ sym (append_assoc b.space p.space (p.part ++ r)); is_space = space_append b.space p.space b.white p.is_space; is_part = p.is_part }
+stands_behind s m r b p =
+    record {
+      space = b.space ++ p.space;
+      part = p.part;
+      text =
+          b.text ∙ ap (λ z. b.space ++ z) p.text ∙ sym (append_assoc b.space p.space (p.part ++ r));
+      is_space =
+          space_append b.space p.space b.white p.is_space;
+      is_part = p.is_part;
+    }
 
 pub starts_behind : (s m : List ℕ) (e : Step) (r : List ℕ) → Blank s m → Starts m e r → Starts s e r
 starts_behind s m e r b p = (stands_behind s m r b p.0, p.1)
@@ -148,7 +227,8 @@ follows_behind k false false s m r b p = stands_behind s m r b p
 -- what stands behind whitespace stands at its end
 stands_at : {P : List ℕ → Type 0} (s m r : List ℕ) → Blank s m → (p : Stands P s r) → StopsAt is_space (p.part ++ r) → Stands P m r
 stands_at s m r b p h =
-    let same = same_run is_space b.space p.space m (p.part ++ r) (whitespace_passes b.space b.white) (whitespace_passes p.space p.is_space) b.stops h (sym b.text ∙ p.text) in
+    let same = same_run is_space b.space p.space m (p.part ++ r) (whitespace_passes b.space b.white)
+    (whitespace_passes p.space p.is_space) b.stops h (sym b.text ∙ p.text) in
     record { space = []; part = p.part; text = same.1; is_space = tt; is_part = p.is_part }
 
 pub starts_at : (s m : List ℕ) (e : Step) (r : List ℕ) → Blank s m → Starts s e r → Starts m e r
@@ -163,7 +243,8 @@ byte_stops c part r h e = subst (λ z. StopsAt is_space (z ++ r)) (sym e) h
 pub follows_at : (k : Kind) (f c : Bool) (s m r : List ℕ) → Blank s m → Follows k f c s r → Follows k f c m r
 follows_at Seq f true s m r b p = stands_at s m r b p (byte_stops 93 p.part r refl p.is_part)
 follows_at Map f true s m r b p = stands_at s m r b p (byte_stops 125 p.part r refl p.is_part)
-follows_at k true false s m r b p = (stands_at s m r b p.0 (subst (λ z. StopsAt is_space (z ++ r)) (sym p.0.is_part) (begins_stops r p.1)), p.1)
+follows_at k true false s m r b p =
+    (stands_at s m r b p.0 (subst (λ z. StopsAt is_space (z ++ r)) (sym p.0.is_part) (begins_stops r p.1)), p.1)
 follows_at k false false s m r b p = stands_at s m r b p (byte_stops 44 p.part r refl p.is_part)
 
 -- what is taken between children where no whitespace stands

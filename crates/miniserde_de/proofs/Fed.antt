@@ -27,7 +27,8 @@ module _ {P V : Type 0} (m : PlaceMeaning P V) (w : EventsComplete) where
       (r.0 ∙ ends h.0.at (events t) here, r.1 ∙ ap h.0.outcome (append-nil (events t)) ∙ fresh_gives h.0 h.1 t)
 
 -- where the meanings agree, what the place's gives of a tree is what the type's means
-module _ {P V : Type 0} (m : PlaceMeaning P V) (n : Meaning V) (a : Agree (type_meaning m) n) (t : Tree) (o : Option m.Content) (e : o ≡ m.from_tree t) where
+module _ {P V : Type 0} (m : PlaceMeaning P V) (n : Meaning V) (a : Agree (type_meaning m) n) (t : Tree)
+    (o : Option m.Content) (e : o ≡ m.from_tree t) where
   pub given_reads : (v : V) → o ≡ Some (m.content v) → n.reads t v
   given_reads v h = (a.same t v).0 ((m.reads_agrees t v).1 (sym e ∙ h))
 

@@ -80,7 +80,8 @@ UniqueTakes old e answer new =
 -- k. An event for which `begins` holds does what it does in the place of a `Value`. The call returns `Invalid`, or the
 -- earlier error of the place, if e is the first event and `begins` does not hold for it, if e does not fit the old hole,
 -- and if the document is complete.
-pub record DocumentTakes {V : Type 0} (k : DocumentMeaning V) (old : ValuePlace) (e : Step) (answer : Answer) (new : ValuePlace) : Type 0 where
+pub record DocumentTakes {V : Type 0} (k : DocumentMeaning V) (old : ValuePlace) (e : Step) (answer : Answer)
+    (new : ValuePlace) : Type 0 where
   pub value : k.begins e ≡ true → ValueTakes old e answer new
   pub first : place_at old ≡ start → k.begins e ≡ false → answer ≡ Err (first_refusal (refusal_of old) Invalid)
   pub unfit : after_step (due_in old) (hole_at old) e ≡ None → answer ≡ Err (first_refusal (refusal_of old) Invalid)
@@ -97,13 +98,24 @@ NumberTakes old e answer =
 -- tree
 abbrev pub unique_place_meaning : PlaceMeaning UniquePlace Unique
 unique_place_meaning = place_meaning unique_meaning (outcome true true (outside [])) once-whole
-    (λ p. record { at = (depth (hole_at p.place), due_in p.place); outcome = outcome true (due_in p.place) (hole_at p.place); refused = refusal_of p.place })
+    (λ p. record {
+      at = (depth (hole_at p.place), due_in p.place);
+      outcome =
+          outcome true (due_in p.place) (hole_at p.place);
+      refused = refusal_of p.place;
+    })
 
 -- the meaning of the place of a type of documents (`Array`, `Object` or `Document`), by the meaning k of that type; K
 -- is the type's marker
 abbrev pub document_place_meaning : {K V : Type 0} → DocumentMeaning V → PlaceMeaning (DocumentTypePlace K) V
 document_place_meaning k = place_meaning k.meant (λ es. k.only (document_outcome k.begins true (outside []) es)) k.events_agree
-    (λ p. record { at = (depth (hole_at p.place), due_in p.place); outcome = λ es. k.only (document_outcome k.begins (due_in p.place) (hole_at p.place) es); refused = refusal_of p.place })
+    (λ p. record {
+      at = (depth (hole_at p.place), due_in p.place);
+      outcome =
+          λ es. k.only (document_outcome k.begins (due_in p.place) (hole_at p.place) es);
+      refused =
+          refusal_of p.place;
+    })
 
 -- the meaning of the place of a `Number`: the leaf of a number means that number
 abbrev pub number_place_meaning : PlaceMeaning NumberPlace Number

@@ -24,8 +24,11 @@ module _ (tag : Name) where
   last d no_members e = refl
   last d (member k t ms) e = let p = one-more (bytes_eq k tag) (count_named tag ms) e in rw p.0 (last d ms p.1)
 
-  written : (n : Name) (ms : Members) → count_named tag ms ≡ 0 → internal_variant tag (members (member tag (str n) ms)) ≡ Some (n, Some (members ms))
+  written : (n : Name) (ms : Members) → count_named tag ms ≡ 0
+      → internal_variant tag (members (member tag (str n) ms)) ≡ Some (n, Some (members ms))
   written n ms e = rw (same-name tag, last (Some n) ms e, lacking ms e) refl
 
-  pub inside-fits : {T : Type 0} (real : T → Type 0) (tree : T → Tree) → ((x : T) → tree x ≡ members (object_members (tree x))) → ((x : T) → count_named tag (object_members (tree x)) ≡ 0) → DataFits real tree (internal tag)
+  pub inside-fits : {T : Type 0} (real : T → Type 0) (tree : T → Tree)
+      → ((x : T) → tree x ≡ members (object_members (tree x)))
+      → ((x : T) → count_named tag (object_members (tree x)) ≡ 0) → DataFits real tree (internal tag)
   inside-fits real tree object named n x r = written n (object_members (tree x)) (named x) ∙ ap (λ t. Some (n, Some t)) (sym (object x))

@@ -27,24 +27,46 @@ module _ {C : Type 0} (f : Name → Option Tree → Option C) where
   -- what the members give one by one is what the object gives
   pub one_all : (ms : Members) → last (after_members (one_next f) None ms) ≡ content_by_tagging external f (members ms)
   one_all no_members = refl
-  one_all (member k t no_members) = elim (f k (Some t)) as (λ o. last (option_and_then (λ r. Some r) (option_map Some o)) ≡ o) [ None ↦ refl | Some c ↦ refl ]
-  one_all (member k t (member j u ms)) = elim (f k (Some t)) as (λ o. last (option_and_then (λ r. option_and_then (λ q. after_members (one_next f) q ms) (one_next f r j u)) (option_map Some o)) ≡ None) [ None ↦ refl | Some c ↦ refl ]
+  one_all (member k t no_members) =
+      elim (f k (Some t)) as (λ o. last (option_and_then (λ r. Some r) (option_map Some o)) ≡ o)
+      [ None ↦ refl | Some c ↦ refl ]
+  one_all (member k t (member j u ms)) =
+      elim (f k (Some t)) as (λ o.
+      last (option_and_then (λ r. option_and_then (λ q. after_members (one_next f) q ms) (one_next f r j u))
+      (option_map Some o)) ≡ None) [ None ↦ refl | Some c ↦ refl ]
 
   -- no object that goes on there is a variant
-  pub one_none : (t : Tree) (s r : List ℕ) (m : Option (Option C)) → ValueAt t map s r → ((ms : Members) (x : List ℕ) → MembersAt ms true s x → after_members (one_next f) None ms ≡ m) → last m ≡ None → content_by_tagging external f t ≡ None
-  one_none t s r m p h n = let o = opened_object t s r p in ap (content_by_tagging external f) o.1 ∙ sym (one_all o.0) ∙ ap last (h o.0 r o.2) ∙ n
+  pub one_none : (t : Tree) (s r : List ℕ) (m : Option (Option C)) → ValueAt t map s r
+      → ((ms : Members) (x : List ℕ) → MembersAt ms true s x → after_members (one_next f) None ms ≡ m)
+      → last m ≡ None → content_by_tagging external f t ≡ None
+  one_none t s r m p h n = let o = opened_object t s r p in ap (content_by_tagging external f) o.1
+      ∙ sym (one_all o.0) ∙ ap last (h o.0 r o.2) ∙ n
 
   -- the object goes on behind its first member
-  pub one_goes : (s b c x : List ℕ) (n : Name) (v : C) → Follows Map true false s b → Names b n c → ReadsDue (with_data (f n)) c x v → ObjectGoes (one_next f) None s false x (Some v)
+  pub one_goes : (s b c x : List ℕ) (n : Name) (v : C) → Follows Map true false s b → Names b n c
+      → ReadsDue (with_data (f n)) c x v → ObjectGoes (one_next f) None s false x (Some v)
   one_goes s b c x n v h j p =
       due_goes (one_next f) None s true s b c x n None (Some v) (object_begins (one_next f) None s) h j
-      (record { one = p.one; event = p.event; behind = p.behind; starts = p.starts; is_value = p.is_value; gives = ap (option_map Some) p.gives })
+      (record {
+        one = p.one;
+        event = p.event;
+        behind = p.behind;
+        starts = p.starts;
+        is_value = p.is_value;
+        gives =
+            ap (option_map Some) p.gives;
+      })
 
-  pub one_rejected : (s b c : List ℕ) (n : Name) → Follows Map true false s b → Names b n c → RejectsDue (with_data (f n)) c → (ms : Members) (r : List ℕ) → MembersAt ms true s r → after_members (one_next f) None ms ≡ None
-  one_rejected s b c n h j d = due_none (one_next f) None s true s b c n None (object_begins (one_next f) None s) h j (λ t e b r p v. ap (option_map Some) (d t e b r p v))
+  pub one_rejected : (s b c : List ℕ) (n : Name) → Follows Map true false s b → Names b n c
+      → RejectsDue (with_data (f n)) c → (ms : Members) (r : List ℕ) → MembersAt ms true s r
+      → after_members (one_next f) None ms ≡ None
+  one_rejected s b c n h j d = due_none (one_next f) None s true s b c n None (object_begins (one_next f) None s) h
+      j (λ t e b r p v. ap (option_map Some) (d t e b r p v))
 
   -- a second member gives nothing
-  pub one_full : (z s b : List ℕ) (v : C) → ObjectGoes (one_next f) None z false s (Some v) → Follows Map false false s b → (ms : Members) (r : List ℕ) → MembersAt ms true z r → after_members (one_next f) None ms ≡ None
+  pub one_full : (z s b : List ℕ) (v : C) → ObjectGoes (one_next f) None z false s (Some v)
+      → Follows Map false false s b → (ms : Members) (r : List ℕ) → MembersAt ms true z r
+      → after_members (one_next f) None ms ≡ None
   one_full z s b v l h ms r p =
       let o = l.back ms r p in
       let k = members_name o.0 false s b r h o.1 in

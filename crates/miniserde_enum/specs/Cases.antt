@@ -12,7 +12,8 @@ use Rattle.miniserde_enum.specs.Tagging.{Tagging, external, internal, IsVariant,
 
 -- the content for the name k and the data o, by the variants' names: what `first` returns for the
 -- data if k is the first variant's name, and else what `later` returns; `None` if there are no names
-abbrev pub variant_content : {C D : Type 0} → (Option Tree → Option C) → (List Name → Name → Option Tree → Option D) → List Name → Name → Option Tree → Option (OneOf C D)
+abbrev pub variant_content : {C D : Type 0} → (Option Tree → Option C) → (List Name → Name → Option Tree → Option D)
+    → List Name → Name → Option Tree → Option (OneOf C D)
 variant_content first later [] k o = None
 variant_content first later (n ∷ ns) k o = if bytes_eq k n then option_map First (first o) else option_map Later (later ns k o)
 
@@ -79,7 +80,8 @@ UnitFits tagging = (n : Name) → variant_of_tree tagging (variant_tree tagging 
 
 -- by the tagging, the tree that is written for a name with valid data gives back that name and the tree of the data
 abbrev pub DataFits : {T : Type 0} → (T → Type 0) → (T → Tree) → Tagging → Type 0
-DataFits {T} real tree tagging = (n : Name) (x : T) → real x → variant_of_tree tagging (variant_tree tagging n (Some (tree x))) ≡ Some (n, Some (tree x))
+DataFits {T} real tree tagging = (n : Name) (x : T) → real x
+    → variant_of_tree tagging (variant_tree tagging n (Some (tree x))) ≡ Some (n, Some (tree x))
 
 -- ---- values
 

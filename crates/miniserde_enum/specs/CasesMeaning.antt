@@ -25,7 +25,8 @@ pub record CasesMeaning (V : Type 0) : Type 1 where
   -- the tree means the value, by the tagging and the variants' names
   pub reads : Tagging → List Name → Tree → V → Type 0
   -- a tree means a value exactly if it gives the value's content, by names of which no two are equal
-  pub agrees : (tagging : Tagging) (names : List Name) → are_distinct names ≡ true → (t : Tree) (v : V) → reads tagging names t v ↔ (content_by_tagging tagging (content_by_name names) t ≡ Some (content v))
+  pub agrees : (tagging : Tagging) (names : List Name) → are_distinct names ≡ true → (t : Tree) (v : V)
+      → reads tagging names t v ↔ (content_by_tagging tagging (content_by_name names) t ≡ Some (content v))
 
 -- the meaning of no variants: no tree means a value
 abbrev pub no_cases : CasesMeaning Never
@@ -58,9 +59,13 @@ data_and m n = record {
   content = case_content m.content n.content;
   count = n.count + 1;
   content_by_name = variant_content (data_content m.from_tree) n.content_by_name;
-  fresh = case-fresh (data_content m.from_tree) (DataReads m.reads) m.content (data-agrees m.reads m.from_tree m.content m.reads_agrees) n.content_by_name n.reads n.content n.fresh n.agrees;
+  fresh = case-fresh (data_content m.from_tree) (DataReads m.reads) m.content
+      (data-agrees m.reads m.from_tree m.content m.reads_agrees) n.content_by_name n.reads n.content n.fresh
+      n.agrees;
   reads = λ tagging. CaseReads (DataReads m.reads tagging) (n.reads tagging);
-  agrees = case-agrees (data_content m.from_tree) (DataReads m.reads) m.content (data-agrees m.reads m.from_tree m.content m.reads_agrees) n.content_by_name n.reads n.content n.fresh n.agrees;
+  agrees = case-agrees (data_content m.from_tree) (DataReads m.reads) m.content
+      (data-agrees m.reads m.from_tree m.content m.reads_agrees) n.content_by_name n.reads n.content n.fresh
+      n.agrees;
 }
 
 -- the content that a tree gives for an externally tagged enum, by the meaning n of its variants and their names
@@ -90,7 +95,8 @@ tagged_reads n tag names values t v = n.reads (internal tag) names t (values v)
 
 -- the meaning of an enum that is tagged by `tag`, by the meaning n of its variants and their names; `values` returns
 -- the value of the variant
-abbrev pub tagged_meaning : {V W : Type 0} (n : CasesMeaning V) → Name → (names : List Name) → are_distinct names ≡ true → (W → V) → Meaning W
+abbrev pub tagged_meaning : {V W : Type 0} (n : CasesMeaning V) → Name → (names : List Name)
+    → are_distinct names ≡ true → (W → V) → Meaning W
 tagged_meaning n tag names distinct values =
     meaning_with (λ v. n.content (values v)) (tagged_content n tag names) (tagged_reads n tag names values)
     (λ t v. n.agrees (internal tag) names distinct t (values v))

@@ -34,7 +34,8 @@ internal_tree tag n None = null
 internal_tree tag n (Some u) = members (member tag (str n) (object_members u))
 
 -- Worked cases: `{"kind":"Ping"}` is the variant `Ping` by the tag `kind`, and `{}` has no tag.
-pub tag_is_name : internal_variant (codes "kind") (members (member (codes "kind") (str (codes "Ping")) no_members)) ≡ Some (codes "Ping", Some (members no_members))
+pub tag_is_name : internal_variant (codes "kind") (members (member (codes "kind") (str (codes "Ping")) no_members))
+    ≡ Some (codes "Ping", Some (members no_members))
 tag_is_name = refl
 
 pub no_tag : internal_variant (codes "kind") (members no_members) ≡ None

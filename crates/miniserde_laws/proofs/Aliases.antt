@@ -8,7 +8,8 @@ use Rattle.miniserde_record.specs.Aliases.{field_name_of, with_field_names, are_
 use Rattle.miniserde_record.specs.Structs.{with_names}
 use Rattle.miniserde_record.proofs.Names.{both}
 
-pub written_counts : (ps : List (Name × Name)) (ns : List Name) (ts : List (Option Tree)) → are_unaliased ps ns ≡ true → with_field_names ps (with_names ns ts) ≡ with_names ns ts
+pub written_counts : (ps : List (Name × Name)) (ns : List Name) (ts : List (Option Tree))
+    → are_unaliased ps ns ≡ true → with_field_names ps (with_names ns ts) ≡ with_names ns ts
 written_counts ps [] ts h = refl
 written_counts ps (n ∷ ns) [] h = refl
 written_counts ps (n ∷ ns) (None ∷ ts) h = written_counts ps ns ts (both (bytes_eq (field_name_of ps n) n) (are_unaliased ps ns) h).1

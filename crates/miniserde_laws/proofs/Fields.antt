@@ -1,7 +1,8 @@
 -- The fields of a struct with distinct names are read back from its written members. Field by field: the member in
 -- front is the only one of its name (`last_own`), the later ones are left for the later fields (`others_own`), and an
 -- omitted `None` is read as a missing field (`round_trips-omitted`).
-use Rattle.std.proofs.Common.{◌≡◌, ℕ, ◌+◌, ◌≤◌, Bool, true, false, not, ◌&&◌, nat_eq, List, [], ◌∷◌, length, Option, Some, None, refl, sym, ap, subst, ◌∙◌, true≢false, arith}
+use Rattle.std.proofs.Common.{◌≡◌, ℕ, ◌+◌, ◌≤◌, Bool, true, false, not, ◌&&◌, nat_eq, List, [], ◌∷◌, length, Option}
+use Rattle.std.proofs.Common.{Some, None, refl, sym, ap, subst, ◌∙◌, true≢false, arith}
 use Rattle.std.specs.Prelude.{IsSome, MatchOption, option_map, bytes_eq, ⊤}
 use Rattle.std.proofs.lemmas.Bool.Decides.{nat_tests}
 use Rattle.miniserde_model.specs.Tree.{Tree, null, Members, no_members, member}
@@ -34,14 +35,16 @@ pub no_names : (k : ℕ) → are_names (k + 1) [] ≡ true → ⊥
 no_names k h = let e : 0 ≡ k + 1 = grind (arith, nat_tests, (both (nat_eq 0 (k + 1)) true h).0) in omega (arith, e)
 
 -- no later member has a new name
-others_new : (n : Name) (ns : List Name) (ts : List (Option Tree)) → is_new n ns ≡ true → other_members n (with_names ns ts) ≡ with_names ns ts
+others_new : (n : Name) (ns : List Name) (ts : List (Option Tree)) → is_new n ns ≡ true
+    → other_members n (with_names ns ts) ≡ with_names ns ts
 others_new n [] ts h = refl
 others_new n (k ∷ ks) [] h = refl
 others_new n (k ∷ ks) (None ∷ ts) h = others_new n ks ts (apart n k ks h).1
 others_new n (k ∷ ks) (Some t ∷ ts) h = let p = apart n k ks h in rw p.0 (ap (member k t) (others_new n ks ts p.1))
 
 -- so each one that has it means something
-pub all_new : {C : Type 0} (of : Tree → Option C) (n : Name) (ns : List Name) (ts : List (Option Tree)) → is_new n ns ≡ true → AllNamed of n (with_names ns ts)
+pub all_new : {C : Type 0} (of : Tree → Option C) (n : Name) (ns : List Name) (ts : List (Option Tree))
+    → is_new n ns ≡ true → AllNamed of n (with_names ns ts)
 all_new of n [] ts h = tt
 all_new of n (k ∷ ks) [] h = tt
 all_new of n (k ∷ ks) (None ∷ ts) h = all_new of n ks ts (apart n k ks h).1
@@ -55,15 +58,18 @@ last_new n (k ∷ ks) (None ∷ ts) h = last_new n ks ts (apart n k ks h).1
 last_new n (k ∷ ks) (Some t ∷ ts) h = let p = apart n k ks h in rw (p.0, last_new n ks ts p.1) refl
 
 -- a new name's own member is its last one
-pub last_own : (n : Name) (t : Tree) (ns : List Name) (ts : List (Option Tree)) → is_new n ns ≡ true → last_of n (member n t (with_names ns ts)) ≡ Some t
+pub last_own : (n : Name) (t : Tree) (ns : List Name) (ts : List (Option Tree)) → is_new n ns ≡ true
+    → last_of n (member n t (with_names ns ts)) ≡ Some t
 last_own n t ns ts h = rw (last_new n ns ts h, same n) refl
 
 -- and the others are the later ones
-pub others_own : (n : Name) (t : Tree) (ns : List Name) (ts : List (Option Tree)) → is_new n ns ≡ true → other_members n (member n t (with_names ns ts)) ≡ with_names ns ts
+pub others_own : (n : Name) (t : Tree) (ns : List Name) (ts : List (Option Tree)) → is_new n ns ≡ true
+    → other_members n (member n t (with_names ns ts)) ≡ with_names ns ts
 others_own n t ns ts h = rw (same n) (others_new n ns ts h)
 
 -- so its own member is one alone
-count_own : (n : Name) (t : Tree) (ns : List Name) (ts : List (Option Tree)) → is_new n ns ≡ true → count_named n (member n t (with_names ns ts)) ≤ 1
+count_own : (n : Name) (t : Tree) (ns : List Name) (ts : List (Option Tree)) → is_new n ns ≡ true
+    → count_named n (member n t (with_names ns ts)) ≤ 1
 count_own n t ns ts h = rw (same n, count_new n ns ts h) (omega (arith))
 
 -- `once`, where one member alone has the name
@@ -78,10 +84,12 @@ once_and true n ms P h = h.1
 module _ {A W : Type 0} (once : Bool) (m : Meaning A) (missing : A → Type 0) (real_a : A → Type 0) (tree : A → Tree)
     (real_r : W → Type 0) (trees : W → List (Option Tree)) (count : ℕ) (reads_r : List Name → Members → W → Type 0)
     (first : (v : A) → real_a v → RoundTrips real_a tree m.reads (tree v))
-    (later : (names : List Name) (v : W) → are_names count names ≡ true → real_r v → FieldsRoundTrip real_r trees reads_r names (trees v)) where
+    (later : (names : List Name) (v : W) → are_names count names ≡ true → real_r v
+    → FieldsRoundTrip real_r trees reads_r names (trees v)) where
   -- a written field is there, so what a missing one has is not asked for
   pub round_trips-field : (names : List Name) (v : A × W) → are_names (count + 1) names ≡ true → real_a v.0 × real_r v.1
-      → FieldsRoundTrip (λ (v : A × W). real_a v.0 × real_r v.1) (λ v. Some (tree v.0) ∷ trees v.1) (FieldsRead once m.reads m.from_tree missing reads_r) names (Some (tree v.0) ∷ trees v.1)
+      → FieldsRoundTrip (λ (v : A × W). real_a v.0 × real_r v.1) (λ v. Some (tree v.0) ∷ trees v.1)
+      (FieldsRead once m.reads m.from_tree missing reads_r) names (Some (tree v.0) ∷ trees v.1)
   round_trips-field [] v f r = absurd (no_names count f)
   round_trips-field (n ∷ ns) v f r =
       let f = more_names count n ns f in
@@ -96,7 +104,10 @@ module _ {A W : Type 0} (once : Bool) (m : Meaning A) (missing : A → Type 0) (
           (a.0.0, b.0.0),
           (a.0.1, b.0.1),
           (
-            and_once once n ms (says a.0.0) (count_own n (tree v.0) ns (trees v.1) f.0) ((λ _. some, all_new m.from_tree n ns (trees v.1) f.0), subst (λ o. MatchOption o (missing a.0.0) (λ t. m.reads t a.0.0)) (sym last) a.0.2),
+            and_once once n ms (says a.0.0) (count_own n (tree v.0) ns (trees v.1) f.0) (
+              (λ _. some, all_new m.from_tree n ns (trees v.1) f.0),
+              subst (λ o. MatchOption o (missing a.0.0) (λ t. m.reads t a.0.0)) (sym last) a.0.2,
+            ),
             subst (λ ms. reads_r ns ms b.0.0) (sym rest) b.0.2,
           ),
         ),
@@ -110,9 +121,11 @@ module _ {A W : Type 0} (once : Bool) (m : Meaning A) (missing : A → Type 0) (
 
 module _ {A W : Type 0} (once : Bool) (m : Meaning A) (real_a : A → Type 0) (tree : A → Tree)
     (real_r : W → Type 0) (trees : W → List (Option Tree)) (count : ℕ) (reads_r : List Name → Members → W → Type 0)
-    (first : (v : Option A) → OptionReal real_a v → RoundTrips (OptionReal real_a) (option_tree tree) (option_meaning m).reads (option_tree tree v))
+    (first : (v : Option A) → OptionReal real_a v
+    → RoundTrips (OptionReal real_a) (option_tree tree) (option_meaning m).reads (option_tree tree v))
     (never : (v : A) → real_a v → tree v ≡ null → ⊥)
-    (later : (names : List Name) (v : W) → are_names count names ≡ true → real_r v → FieldsRoundTrip real_r trees reads_r names (trees v)) where
+    (later : (names : List Name) (v : W) → are_names count names ≡ true → real_r v
+    → FieldsRoundTrip real_r trees reads_r names (trees v)) where
   -- nothing is written of `None`, which is what a missing field has
   abbrev missing : Option A → Type 0
   missing v = MissingReads (option_meaning m) None (Some None) v
@@ -121,13 +134,16 @@ module _ {A W : Type 0} (once : Bool) (m : Meaning A) (real_a : A → Type 0) (t
   reads ns ms v = FieldsRead once (option_meaning m).reads (option_meaning m).from_tree missing reads_r ns ms v
 
   pub round_trips-omitted : (names : List Name) (v : Option A × W) → are_names (count + 1) names ≡ true → OptionReal real_a v.0 × real_r v.1
-      → FieldsRoundTrip (λ (v : Option A × W). OptionReal real_a v.0 × real_r v.1) (λ v. option_map tree v.0 ∷ trees v.1) reads names (option_map tree v.0 ∷ trees v.1)
+      → FieldsRoundTrip (λ (v : Option A × W). OptionReal real_a v.0 × real_r v.1)
+      (λ v. option_map tree v.0 ∷ trees v.1) reads names (option_map tree v.0 ∷ trees v.1)
   round_trips-omitted [] v f r = absurd (no_names count f)
   round_trips-omitted (n ∷ ns) (Some x, w) f r =
-      let a = round_trips-field once (option_meaning m) missing (OptionReal real_a) (option_tree tree) real_r trees count reads_r first later (n ∷ ns) (Some x, w) f r in
+      let a = round_trips-field once (option_meaning m) missing (OptionReal real_a) (option_tree tree) real_r trees
+      count reads_r first later (n ∷ ns) (Some x, w) f r in
       (a.0, λ u s e. written u s (a.1 u s e))
     where
-      written : (u : Option A × W) → OptionReal real_a u.0 × real_r u.1 → Some (option_tree tree u.0) ∷ trees u.1 ≡ Some (tree x) ∷ trees w → option_map tree u.0 ∷ trees u.1 ≡ Some (tree x) ∷ trees w
+      written : (u : Option A × W) → OptionReal real_a u.0 × real_r u.1 → Some (option_tree tree u.0) ∷ trees u.1
+          ≡ Some (tree x) ∷ trees w → option_map tree u.0 ∷ trees u.1 ≡ Some (tree x) ∷ trees w
       written (None, u) s e = absurd (never x r.0 (sym (cc)))
       written (Some y, u) s e = e
   round_trips-omitted (n ∷ ns) (None, w) f r =
@@ -139,7 +155,11 @@ module _ {A W : Type 0} (once : Bool) (m : Meaning A) (real_a : A → Type 0) (t
         (
           (None, b.0.0),
           (tt, b.0.1),
-          (and_once once n ms _ (rw (count_new n ns (trees w) f.0) (omega (arith))) (all_new (option_meaning m).from_tree n ns (trees w) f.0, rw last refl), subst (λ ms. reads_r ns ms b.0.0) (sym rest) b.0.2),
+          (
+            and_once once n ms _ (rw (count_new n ns (trees w) f.0) (omega (arith)))
+                (all_new (option_meaning m).from_tree n ns (trees w) f.0, rw last refl),
+            subst (λ ms. reads_r ns ms b.0.0) (sym rest) b.0.2,
+          ),
         ),
         λ u s e. rw (
           none u.0 (subst (λ o. MatchOption o (missing u.0) (λ t. (option_meaning m).reads t u.0)) last (once_and once n ms _ e.0).1),
@@ -152,5 +172,6 @@ module _ {A W : Type 0} (once : Bool) (m : Meaning A) (real_a : A → Type 0) (t
       none (Some y) h = absurd (cc)
 
 -- no member is left behind the last field
-pub round_trips-closed : (names : List Name) → FieldsRoundTrip {V = Unit {0}} (λ _. ⊤) (λ _. []) (λ ns ms v. has_no_members ms ≡ true) names []
+pub round_trips-closed : (names : List Name)
+    → FieldsRoundTrip {V = Unit {0}} (λ _. ⊤) (λ _. []) (λ ns ms v. has_no_members ms ≡ true) names []
 round_trips-closed names = ((tt, tt, ap has_no_members (with_names_none names)), λ v r e. refl)

@@ -1,7 +1,8 @@
 -- A map that was written is read as a map with the same members. Each key and each value is read back by its own
 -- round trip (`read_of`), the member met at a code means the entry read there (`met_read`), and sorted or distinct
 -- keys stay so (`sorted_read`, `unique_read`).
-use Rattle.std.proofs.Common.{◌≡◌, ℕ, Bool, true, false, cond, List, [], ◌∷◌, Option, Some, None, refl, sym, ap, ap₂, ◌∙◌, subst, true≢false}
+use Rattle.std.proofs.Common.{◌≡◌, ℕ, Bool, true, false, cond, List, [], ◌∷◌, Option, Some, None, refl, sym, ap}
+use Rattle.std.proofs.Common.{ap₂, ◌∙◌, subst, true≢false}
 use Rattle.std.specs.Prelude.{IsSome, bytes_eq}
 use Rattle.std.specs.Map.{keys_of}
 use Rattle.std.specs.Ordering.{is_eq, ordering_reverse}
@@ -26,8 +27,11 @@ use Rattle.miniserde_laws.proofs.Agree.{written, Agree}
 use Rattle.miniserde_laws.proofs.Sorted.{sorted_same}
 use Rattle.miniserde_laws.proofs.Hashed.{hashed_same, taken_in_order, met_other, met_first}
 
-module _ {K V C : Type 0} (read : Name → Option Key) (code : Key → Key) (content : K → Key) (text : K → List ℕ) (key_real : K → Type 0) (real : V → Type 0) (f : V → Tree) (of : Tree → Option C) (R : Tree → V → Type 0)
-    (gives : (t : Tree) (v : V) → R t v → IsSome (of t)) (back : ReadsBack key_real content code read text) (one_text : (a b : K) → code (content a) ≡ code (content b) → text a ≡ text b) (round_trips : (v : V) → real v → RoundTrips real f R (f v)) where
+module _ {K V C : Type 0} (read : Name → Option Key) (code : Key → Key) (content : K → Key) (text : K → List ℕ)
+    (key_real : K → Type 0) (real : V → Type 0) (f : V → Tree) (of : Tree → Option C) (R : Tree → V → Type 0)
+    (gives : (t : Tree) (v : V) → R t v → IsSome (of t)) (back : ReadsBack key_real content code read text)
+    (one_text : (a b : K) → code (content a) ≡ code (content b) → text a ≡ text b)
+    (round_trips : (v : V) → real v → RoundTrips real f R (f v)) where
   abbrev code_of : K → Key
   code_of k = code (content k)
 
@@ -59,7 +63,9 @@ module _ {K V C : Type 0} (read : Name → Option Key) (code : Key → Key) (con
   key_parts (e ∷ es) h = (h.0.0, key_parts es h.1)
 
   -- their keys pass where keys of the same codes do
-  keys_read : (P Q : K → Type 0) → ((k w : K) → code_of w ≡ code_of k → P k → Q w) → (es : List (K × V)) (h : Parts es) → AllByRecursion P (keys_of es) → AllByRecursion Q (keys_of (read_of es h))
+  keys_read : (P Q : K → Type 0) → ((k w : K) → code_of w ≡ code_of k → P k → Q w)
+      → (es : List (K × V)) (h : Parts es) → AllByRecursion P (keys_of es)
+      → AllByRecursion Q (keys_of (read_of es h))
   keys_read P Q move [] h a = tt
   keys_read P Q move (e ∷ es) h a = (move e.0 (back e.0 h.0.0).0 (back e.0 h.0.0).3 a.0, keys_read P Q move es h.1 a.1)
 
@@ -86,7 +92,8 @@ module _ {K V C : Type 0} (read : Name → Option Key) (code : Key → Key) (con
   unfolding IsDistinct
   others_apart q e es d s = go (keys_of es) d.0
     where
-      go : (ks : List K) → AllByRecursion (λ k. bytes_eq (code_of e.0) (code_of k) ≡ false) ks → AllByRecursion (λ k. bytes_eq (code_of k) q ≡ false) ks
+      go : (ks : List K) → AllByRecursion (λ k. bytes_eq (code_of e.0) (code_of k) ≡ false) ks
+          → AllByRecursion (λ k. bytes_eq (code_of k) q ≡ false) ks
       go [] a = tt
       go (k ∷ ks) a = (
         elim (bytes_eq (code_of k) q) as (λ b. bytes_eq (code_of k) q ≡ b → b ≡ false) [
@@ -97,13 +104,18 @@ module _ {K V C : Type 0} (read : Name → Option Key) (code : Key → Key) (con
       )
 
   -- the members mean the entries that are read
-  met_read : (q : Key) (es : List (K × V)) (h : Parts es) → Alone es → MeansAt content R (first_and_last_at read code q (members_of text f es)) (entry_at code_of q (read_of es h))
+  met_read : (q : Key) (es : List (K × V)) (h : Parts es) → Alone es
+      → MeansAt content R (first_and_last_at read code q (members_of text f es)) (entry_at code_of q (read_of es h))
   unfolding IsDistinct
   met_read q [] h d = tt
   met_read q (e ∷ es) h d =
       let b = back e.0 h.0.0 in
       let v = (round_trips e.1 h.0.1).0 in
-      rw b.2 (elim (bytes_eq (code_of b.0) q) as (λ c. bytes_eq (code_of b.0) q ≡ c → MeansAt content R (first_and_last (cond c (Some (content b.0)) None) (f e.1) (first_and_last_at read code q (members_of text f es))) (cond c (Some (b.0, v.0)) (entry_at code_of q (read_of es h.1)))) [
+      rw b.2 (elim (bytes_eq (code_of b.0) q)
+      as (λ c. bytes_eq (code_of b.0) q ≡ c
+      → MeansAt content R (first_and_last (cond c (Some (content b.0)) None) (f e.1)
+      (first_and_last_at read code q (members_of text f es)))
+      (cond c (Some (b.0, v.0)) (entry_at code_of q (read_of es h.1)))) [
         | true ↦ λ c. rw (none_met q es h.1 (others_apart q e es d (sym b.3 ∙ same_code _ _ c))) (refl, v.2)
         | false ↦ λ c. met_read q es h.1 d.1
       ] refl)
@@ -111,20 +123,29 @@ module _ {K V C : Type 0} (read : Name → Option Key) (code : Key → Key) (con
   -- ---- each entry that the members mean is written as they are
 
   -- where one member was met
-  one_written : (q : Key) (e : K × V) (k : Key) → real e.1 → code_of e.0 ≡ q → (o : Option (K × V)) → ((g : K × V) → o ≡ Some g → real g.1 × (code_of g.0 ≡ q)) → MeansAt content R (Some (k, f e.1)) o → Some (text e.0, f e.1) ≡ written code_of text f o
+  one_written : (q : Key) (e : K × V) (k : Key) → real e.1 → code_of e.0 ≡ q → (o : Option (K × V))
+      → ((g : K × V) → o ≡ Some g → real g.1 × (code_of g.0 ≡ q)) → MeansAt content R (Some (k, f e.1)) o
+      → Some (text e.0, f e.1) ≡ written code_of text f o
   one_written q e k i at None r m = absurd m
   one_written q e k i at (Some g) r m =
       let own = r g refl in
       rw (one_text e.0 g.0 (at ∙ sym own.1), (round_trips e.1 i).1 g.1 own.0 m.1) refl
 
-  met_written : (q : Key) (es : List (K × V)) → Parts es → Alone es → (o : Option (K × V)) → ((g : K × V) → o ≡ Some g → real g.1 × (code_of g.0 ≡ q)) → MeansAt content R (first_and_last_at read code q (members_of text f es)) o → written code_of text f (entry_at code_of q es) ≡ written code_of text f o
+  met_written : (q : Key) (es : List (K × V)) → Parts es → Alone es → (o : Option (K × V))
+      → ((g : K × V) → o ≡ Some g → real g.1 × (code_of g.0 ≡ q))
+      → MeansAt content R (first_and_last_at read code q (members_of text f es)) o
+      → written code_of text f (entry_at code_of q es) ≡ written code_of text f o
   unfolding IsDistinct
   met_written q [] h d None r m = refl
   met_written q [] h d (Some g) r m = absurd m
   met_written q (e ∷ es) h d o r m =
       let b = back e.0 h.0.0 in
       let first = ap (λ c. bytes_eq c q) (sym b.3) in
-      rw first (elim (bytes_eq (code_of b.0) q) as (λ c. bytes_eq (code_of b.0) q ≡ c → MeansAt content R (first_and_last (cond c (Some (content b.0)) None) (f e.1) (first_and_last_at read code q (members_of text f es))) o → written code_of text f (cond c (Some e) (entry_at code_of q es)) ≡ written code_of text f o) [
+      rw first (elim (bytes_eq (code_of b.0) q)
+      as (λ c. bytes_eq (code_of b.0) q ≡ c
+      → MeansAt content R (first_and_last (cond c (Some (content b.0)) None) (f e.1)
+      (first_and_last_at read code q (members_of text f es))) o
+      → written code_of text f (cond c (Some e) (entry_at code_of q es)) ≡ written code_of text f o) [
         | true ↦ λ c n.
             let at : code_of e.0 ≡ q = sym b.3 ∙ same_code _ _ c in
             one_written q e (content b.0) h.0.1 at o r (rw (none_met q es h.1 (others_apart q e es d at)) at n)
@@ -145,7 +166,8 @@ module _ {K V C : Type 0} (read : Name → Option Key) (code : Key → Key) (con
 
   -- ---- maps in the order of their keys
 
-  module _ (cmp : K → K → Ordering) (total : IsTotalOrder cmp) (agrees : (a b : K) → is_eq (cmp a b) ≡ bytes_eq (code_of a) (code_of b)) where
+  module _ (cmp : K → K → Ordering) (total : IsTotalOrder cmp)
+      (agrees : (a b : K) → is_eq (cmp a b) ≡ bytes_eq (code_of a) (code_of b)) where
     abbrev InOrder : List (K × V) → Type 0
     InOrder es = IsStrictlySortedBy cmp (keys_of es)
 
@@ -169,8 +191,11 @@ module _ {K V C : Type 0} (read : Name → Option Key) (code : Key → Key) (con
     distinct_codes : (es : List (K × V)) → InOrder es → Alone es
     distinct_codes es o = subst (λ r. IsDistinct r (keys_of es)) (λ i a b. agrees a b i) (IsDistinct-from_sorted cmp (keys_of es) o)
 
-    pub round_trips-sorted : {M : Type 0} (entries : M → List (K × V)) (with : M → List (K × V) → M) → ((m : M) (es : List (K × V)) → entries (with m es) ≡ es) → (m : M) → InOrder (entries m) × Parts (entries m)
-        → RoundTrips (λ w. InOrder (entries w) × Parts (entries w)) (λ w. members (members_of text f (entries w))) (λ t w. Reads t (entries w)) (members (members_of text f (entries m)))
+    pub round_trips-sorted : {M : Type 0} (entries : M → List (K × V)) (with : M → List (K × V) → M)
+        → ((m : M) (es : List (K × V)) → entries (with m es) ≡ es) → (m : M) → InOrder (entries m)
+        × Parts (entries m)
+        → RoundTrips (λ w. InOrder (entries w) × Parts (entries w)) (λ w. members (members_of text f (entries w)))
+        (λ t w. Reads t (entries w)) (members (members_of text f (entries m)))
     round_trips-sorted entries with same m r =
         let es = entries m in
         let d = distinct_codes es r.0 in
@@ -181,23 +206,32 @@ module _ {K V C : Type 0} (read : Name → Option Key) (code : Key → Key) (con
             subst (λ fs. InOrder fs × Parts fs) s (sorted_read es r.1 r.0, parts_read es r.1),
             subst (Reads t) s (taken es r.1, λ q. met_read q es r.1 d),
           ),
-          λ w p e. ap members (sym (sorted_same code_of text f cmp total agrees es (entries w) r.0 p.0 (met_agree es (entries w) r.1 d p.1 e.1))),
+          λ w p e. ap members (sym
+              (sorted_same code_of text f cmp total agrees es (entries w) r.0 p.0
+              (met_agree es (entries w) r.1 d p.1 e.1))),
         )
 
   -- ---- hashed maps
 
   -- what is met in order is what is met
-  met_in_order : (q : Key) (es : List (K × V)) → Parts es → Alone es → first_and_last_at read code q (in_order (members_of text f es)) ≡ first_and_last_at read code q (members_of text f es)
+  met_in_order : (q : Key) (es : List (K × V)) → Parts es → Alone es
+      → first_and_last_at read code q (in_order (members_of text f es)) ≡ first_and_last_at read code q
+      (members_of text f es)
   unfolding IsDistinct
   met_in_order q [] h d = refl
   met_in_order q (e ∷ es) h d =
       let b = back e.0 h.0.0 in
       let rest = met_in_order q es h.1 d.1 in
-      elim (bytes_eq (code_of b.0) q) as (λ c. bytes_eq (code_of b.0) q ≡ c → first_and_last_at read code q (with_if_absent (text e.0) (f e.1) (in_order (members_of text f es))) ≡ first_and_last (cond c (Some (content b.0)) None) (f e.1) (first_and_last_at read code q (members_of text f es))) [
+      elim (bytes_eq (code_of b.0) q)
+      as (λ c. bytes_eq (code_of b.0) q ≡ c
+      → first_and_last_at read code q (with_if_absent (text e.0) (f e.1) (in_order (members_of text f es)))
+      ≡ first_and_last (cond c (Some (content b.0)) None) (f e.1)
+      (first_and_last_at read code q (members_of text f es))) [
         | false ↦ λ c. met_other read code of q (text e.0) (f e.1) (in_order (members_of text f es)) (rw (b.2, c) refl) ∙ rest
         | true ↦ λ c.
             let none = none_met q es h.1 (others_apart q e es d (sym b.3 ∙ same_code _ _ c)) in
-            met_first read code of q (text e.0) (f e.1) (content b.0) (in_order (members_of text f es)) (rw (b.2, c) refl) (rest ∙ none) ∙ ap (first_and_last (Some (content b.0)) (f e.1)) (sym none)
+            met_first read code of q (text e.0) (f e.1) (content b.0) (in_order (members_of text f es))
+            (rw (b.2, c) refl) (rest ∙ none) ∙ ap (first_and_last (Some (content b.0)) (f e.1)) (sym none)
       ] refl ∙ rw b.2 refl
 
   module _ (eq : K → K → Bool) (alike : (a b : K) → eq a b ≡ bytes_eq (code_of a) (code_of b)) where
@@ -221,8 +255,12 @@ module _ {K V C : Type 0} (read : Name → Option Key) (code : Key → Key) (con
     names_apart : (es : List (K × V)) → Unique es × Parts es → IsDistinct bytes_eq (names text f es)
     names_apart es r = distinct_names eq key_real content code read text alike back es (key_parts es r.1) r.0
 
-    pub round_trips-hashed : {M : Type 0} (entries : M → List (K × V)) (with : M → List (K × V) → M) → ((m : M) (es : List (K × V)) → entries (with m es) ≡ es) → (m : M) → Unique (entries m) × Parts (entries m)
-        → RoundTrips (λ w. Unique (entries w) × Parts (entries w)) (λ w. members (in_order (members_of text f (entries w)))) (λ t w. Reads t (entries w)) (members (in_order (members_of text f (entries m))))
+    pub round_trips-hashed : {M : Type 0} (entries : M → List (K × V)) (with : M → List (K × V) → M)
+        → ((m : M) (es : List (K × V)) → entries (with m es) ≡ es) → (m : M) → Unique (entries m)
+        × Parts (entries m)
+        → RoundTrips (λ w. Unique (entries w) × Parts (entries w))
+        (λ w. members (in_order (members_of text f (entries w)))) (λ t w. Reads t (entries w))
+        (members (in_order (members_of text f (entries m))))
     round_trips-hashed entries with same m r =
         let es = entries m in
         let d = alone es r.0 in
@@ -236,5 +274,6 @@ module _ {K V C : Type 0} (read : Name → Option Key) (code : Key → Key) (con
           ),
           λ w p e.
               let a = met_agree es (entries w) r.1 d p.1 (λ q. rw (met_in_order q es r.1 d) at (e.1 q)) in
-              ap members (sym (hashed_same code_of text f es (entries w) d (alone (entries w) p.0) (names_apart es r) (names_apart (entries w) p) a)),
+              ap members (sym (hashed_same code_of text f es (entries w) d (alone (entries w) p.0)
+              (names_apart es r) (names_apart (entries w) p) a)),
         )

@@ -24,7 +24,9 @@ use Rattle.miniserde_value.specs.declared.json.document.Document.{Document}
 use Rattle.miniserde_value.specs.declared.json.unique.Unique.{Unique}
 use Rattle.miniserde_value.specs.Retained.{retained_tree}
 use Rattle.miniserde_value.specs.Numbers.{number_leaf, ReadsNumber}
-use Rattle.miniserde_value.specs.Values.{array_items, object_entries, object_values, with_items, with_members, children_step, children, content_of, array_content, object_content, tree_of, ReadsValue}
+use Rattle.miniserde_value.specs.Values.{array_items, object_entries, object_values, with_items, with_members}
+use Rattle.miniserde_value.specs.Values.{children_step, children, content_of, array_content, object_content}
+use Rattle.miniserde_value.specs.Values.{tree_of, ReadsValue}
 use Rattle.miniserde_value.proofs.RetainedTrees.{norm_kept, kept_norm}
 use Rattle.miniserde_value.proofs.ContentTrees.{level, content_of_out, content_of_number, content_of_array, content_of_object}
 use Rattle.miniserde_value.proofs.Trees.{Each, tree_ind}
@@ -47,7 +49,8 @@ normal_number (Text x) = (Text x, refl)
 abbrev Normal : Value → Type 0
 Normal v = (w : Value) × (content_of w ≡ norm (content_of v))
 
-normal_items : (vs : List Value) → Each Normal vs → (ws : List Value) × (length ws ≡ length vs) × (trees_of content_of ws ≡ norm_children (trees_of content_of vs))
+normal_items : (vs : List Value) → Each Normal vs → (ws : List Value) × (length ws ≡ length vs)
+    × (trees_of content_of ws ≡ norm_children (trees_of content_of vs))
 normal_items [] h = ([], refl, refl)
 normal_items (v ∷ vs) h = let r = normal_items vs h.1 in (h.0.0 ∷ r.0, omega (arith, r.1), ap₂ tree h.0.1 r.2)
 
@@ -63,13 +66,17 @@ abbrev shown : Entries → Members
 shown es = members_of string_bytes content_of es
 
 -- one more entry in the place of its name
-placed_entry : (e : String Global × Value) (es : Entries) → (fs : Entries) × (shown fs ≡ with_if_absent (string_bytes e.0) (content_of e.1) (shown es))
+placed_entry : (e : String Global × Value) (es : Entries) → (fs : Entries)
+    × (shown fs ≡ with_if_absent (string_bytes e.0) (content_of e.1) (shown es))
 placed_entry e [] = (e ∷ [], refl)
-placed_entry e (g ∷ es) = elim (text_cmp (string_bytes e.0) (string_bytes g.0)) as (λ o. (fs : Entries) × (shown fs ≡ with_if_absent_by o (string_bytes e.0) (content_of e.1) (string_bytes g.0) (content_of g.1) (shown es) (with_if_absent (string_bytes e.0) (content_of e.1) (shown es)))) [
-  | Less ↦ (e ∷ g ∷ es, refl)
-  | Equal ↦ (g ∷ es, refl)
-  | Greater ↦ let r = placed_entry e es in (g ∷ r.0, ap (member (string_bytes g.0) (content_of g.1)) r.1)
-]
+placed_entry e (g ∷ es) =
+    elim (text_cmp (string_bytes e.0) (string_bytes g.0))
+    as (λ o. (fs : Entries) × (shown fs ≡ with_if_absent_by o (string_bytes e.0) (content_of e.1) (string_bytes g.0)
+    (content_of g.1) (shown es) (with_if_absent (string_bytes e.0) (content_of e.1) (shown es)))) [
+      | Less ↦ (e ∷ g ∷ es, refl)
+      | Equal ↦ (g ∷ es, refl)
+      | Greater ↦ let r = placed_entry e es in (g ∷ r.0, ap (member (string_bytes g.0) (content_of g.1)) r.1)
+    ]
 
 normal_entries : (es : Entries) → Each Normal (values_of es) → (fs : Entries) × (shown fs ≡ norm_members (shown es))
 normal_entries [] h = ([], refl)
@@ -116,12 +123,16 @@ round_trips-value v =
     let n = normal v in
     ((n.0, tt, n.1 ∙ kept_norm (content_of v)), λ w r e. same (content_of w) (content_of v) e)
 
-pub round_trips-array : (a : Array) → RoundTrips (λ _. ⊤) (λ a. norm (array_content a)) (λ t a. array_content a ≡ retained_tree t) (norm (array_content a))
+pub round_trips-array : (a : Array)
+    → RoundTrips (λ _. ⊤) (λ a. norm (array_content a)) (λ t a. array_content a ≡ retained_tree t)
+    (norm (array_content a))
 round_trips-array a =
     let n = normal_array a (all_normal (array_items a)) in
     ((n.0, tt, n.1 ∙ kept_norm (array_content a)), λ w r e. same (array_content w) (array_content a) e)
 
-pub round_trips-object : (o : Object) → RoundTrips (λ _. ⊤) (λ o. norm (object_content o)) (λ t o. object_content o ≡ retained_tree t) (norm (object_content o))
+pub round_trips-object : (o : Object)
+    → RoundTrips (λ _. ⊤) (λ o. norm (object_content o)) (λ t o. object_content o ≡ retained_tree t)
+    (norm (object_content o))
 round_trips-object o =
     let n = normal_object o (all_normal (object_values o)) in
     ((n.0, tt, n.1 ∙ kept_norm (object_content o)), λ w r e. same (object_content w) (object_content o) e)
@@ -129,8 +140,11 @@ round_trips-object o =
 -- a normal form has no duplicate name
 pub round_trips-unique : (u : Unique) → RoundTrips (λ _. ⊤) (λ u. norm (content_of u.value)) ReadsUnique (norm (content_of u.value))
 round_trips-unique u =
-    let n = normal u.value in
-    ((record { value = n.0 }, tt, (norm_distinct (content_of u.value), n.1 ∙ kept_norm (content_of u.value))), λ w r e. same (content_of w.value) (content_of u.value) e.1)
+    let n = normal u.value in (
+      (record { value = n.0 }, tt, (norm_distinct (content_of u.value), n.1 ∙ kept_norm (content_of u.value))),
+      λ w r e. same (content_of w.value) (content_of u.value) e.1,
+    )
 
-pub round_trips-document : (d : Document) → RoundTrips {T = Document} (λ _. ⊤) (λ d. tree_of d.value) (λ t d. tree_of d.value ≡ norm t) (tree_of d.value)
+pub round_trips-document : (d : Document) → RoundTrips {T = Document} (λ _. ⊤) (λ d. tree_of d.value)
+    (λ t d. tree_of d.value ≡ norm t) (tree_of d.value)
 round_trips-document d = ((d, tt, sym (norm_twice _)), λ w r e. e ∙ norm_twice _)

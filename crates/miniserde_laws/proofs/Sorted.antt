@@ -28,7 +28,8 @@ module _ {K V : Type 0} (code : K → Key) (text : K → List ℕ) (f : V → Tr
   InOrder es = IsStrictlySortedBy cmp (keys_of es)
 
   -- what is written of the first entry
-  first_written : (q : Key) (e : K × V) (es : List (K × V)) → code e.0 ≡ q → written code text f (entry_at code q (e ∷ es)) ≡ Some (text e.0, f e.1)
+  first_written : (q : Key) (e : K × V) (es : List (K × V)) → code e.0 ≡ q
+      → written code text f (entry_at code q (e ∷ es)) ≡ Some (text e.0, f e.1)
   first_written q e es s = rw (code_same (code e.0) q s) refl
 
   -- below the first key there is none
@@ -43,15 +44,19 @@ module _ {K V : Type 0} (code : K → Key) (text : K → List ℕ) (f : V → Tr
       rw apart (later_none k es a.1)
 
   -- entries agree behind two equal keys
-  rest_agrees : (e g : K × V) (es fs : List (K × V)) → code e.0 ≡ code g.0 → InOrder (e ∷ es) → InOrder (g ∷ fs) → Agree code text f (e ∷ es) (g ∷ fs) → Agree code text f es fs
-  rest_agrees e g es fs s o p a q = elim (bytes_eq (code e.0) q) as (λ b. bytes_eq (code e.0) q ≡ b → written code text f (entry_at code q es) ≡ written code text f (entry_at code q fs)) [
-    | true ↦ λ b.
-        let at : code e.0 ≡ q = same_code _ _ b in
-        let here : entry_at code q es ≡ None = rw at at (later_none e.0 es (sorted_head cmp e.0 (keys_of es) o)) in
-        let there : entry_at code q fs ≡ None = rw (sym s ∙ at) at (later_none g.0 fs (sorted_head cmp g.0 (keys_of fs) p)) in
-        rw (here, there) refl
-    | false ↦ λ b. let no : bytes_eq (code g.0) q ≡ false = ap (λ c. bytes_eq c q) (sym s) ∙ b in rw (b, no) at (a q)
-  ] refl
+  rest_agrees : (e g : K × V) (es fs : List (K × V)) → code e.0 ≡ code g.0 → InOrder (e ∷ es) → InOrder (g ∷ fs)
+      → Agree code text f (e ∷ es) (g ∷ fs) → Agree code text f es fs
+  rest_agrees e g es fs s o p a q =
+      elim (bytes_eq (code e.0) q)
+      as (λ b. bytes_eq (code e.0) q ≡ b → written code text f (entry_at code q es) ≡ written code text f
+      (entry_at code q fs)) [
+        | true ↦ λ b.
+            let at : code e.0 ≡ q = same_code _ _ b in
+            let here : entry_at code q es ≡ None = rw at at (later_none e.0 es (sorted_head cmp e.0 (keys_of es) o)) in
+            let there : entry_at code q fs ≡ None = rw (sym s ∙ at) at (later_none g.0 fs (sorted_head cmp g.0 (keys_of fs) p)) in
+            rw (here, there) refl
+        | false ↦ λ b. let no : bytes_eq (code g.0) q ≡ false = ap (λ c. bytes_eq c q) (sym s) ∙ b in rw (b, no) at (a q)
+      ] refl
 
   pub sorted_same : (es fs : List (K × V)) → InOrder es → InOrder fs → Agree code text f es fs → members_of text f es ≡ members_of text f fs
   sorted_same [] [] o p a = refl
@@ -64,7 +69,12 @@ module _ {K V : Type 0} (code : K → Key) (text : K → List ℕ) (f : V → Tr
         | Equal ↦ λ c.
             let s : code e.0 ≡ code g.0 = same_code _ _ (sym (agrees e.0 g.0) ∙ ap is_eq c) in
             let one = same_Some _ _ (sym left ∙ a (code e.0) ∙ first_written (code e.0) g fs (sym s)) in
-            rw (ap (λ z. z.0) one, ap (λ z. z.1) one, sorted_same es fs (sorted_tail cmp e.0 (keys_of es) o) (sorted_tail cmp g.0 (keys_of fs) p) (rest_agrees e g es fs s o p a)) refl
+            rw (
+              ap (λ z. z.0) one,
+              ap (λ z. z.1) one,
+              sorted_same es fs (sorted_tail cmp e.0 (keys_of es) o)
+                  (sorted_tail cmp g.0 (keys_of fs) p) (rest_agrees e g es fs s o p a),
+            ) refl
         | Less ↦ λ c. absurd (cc (sym left ∙ a (code e.0) ∙ ap (written code text f) (below_none e.0 g fs p c)))
         | Greater ↦ λ c.
             let turned : cmp g.0 e.0 ≡ Less = total.antisymm g.0 e.0 ∙ ap ordering_reverse c in

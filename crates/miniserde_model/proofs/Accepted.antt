@@ -1,13 +1,16 @@
 -- If a text spells a tree, the numbers of the tree are in range and its strings are UTF-8 (`InRange`). By recursion
 -- over the tree, with `tells` for the range of a number and `piece_scalar` for the characters of a string.
-use Rattle.std.proofs.Common.{◌≡◌, ℕ, zero, suc, ◌^◌, ◌<◌, ◌≤◌, ℤ, pos, neg_ℤ, unsigned_abs, ◌≤ℤ◌, Bool, true, false, cond, nat_lt, nat_le, List, [], ◌∷◌, drop, IsUtf8, refl, sym, subst, arith, ltb-true, leb-true}
+use Rattle.std.proofs.Common.{◌≡◌, ℕ, zero, suc, ◌^◌, ◌<◌, ◌≤◌, ℤ, pos, neg_ℤ, unsigned_abs, ◌≤ℤ◌, Bool, true}
+use Rattle.std.proofs.Common.{false, cond, nat_lt, nat_le, List, [], ◌∷◌, drop, IsUtf8, refl, sym, subst, arith}
+use Rattle.std.proofs.Common.{ltb-true, leb-true}
 use Rattle.std.specs.Char.{IsScalar}
 use Rattle.std.specs.Str.Parse.{digits_value}
 use Rattle.std.proofs.lemmas.Bool.{and_from}
 use Rattle.std.proofs.lemmas.Bool.Decides.{nat_tests}
 use Rattle.std.proofs.lemmas.Int.{ints}
 use lib.Utf8.{scalar, scalars}
-use Rattle.miniserde_model.specs.Tree.{Tree, null, truth, nonneg, neg, num, str, list, members, Trees, no_trees, tree, Members, no_members, member}
+use Rattle.miniserde_model.specs.Tree.{Tree, null, truth, nonneg, neg, num, str, list, members, Trees, no_trees}
+use Rattle.miniserde_model.specs.Tree.{tree, Members, no_members, member}
 use Rattle.miniserde_model.specs.Number.{IsNumber, is_plain, begins_minus, leaf}
 use Rattle.miniserde_model.specs.String.{IsShortEscape, quote, IsPair, IsPiece, raw, short, unit, pair, ArePieces, IsString}
 use Rattle.miniserde_model.specs.Value.{IsValue, AreElements, AreMoreElements, AreMembers, AreMoreMembers, IsJson}
@@ -46,8 +49,10 @@ unfolding leaf
 leaf_tells b =
     on_test (TellsLeaf b) (is_plain b) _ _
     (λ p. on_test (TellsLeaf b) (begins_minus b) _ _
-    (λ m. on_test (TellsLeaf b) (nat_le (digits_value 10 (drop 1 b)) (2 ^ 63)) _ _ (λ l. record { plain = p; minus = m; value = refl; small = leb-true _ _ l }) (λ l. refl))
-    (λ m. on_test (TellsLeaf b) (nat_lt (digits_value 10 b) (2 ^ 64)) _ _ (λ l. record { plain = p; bare = m; value = refl; small = ltb-true _ _ l }) (λ l. refl)))
+    (λ m. on_test (TellsLeaf b) (nat_le (digits_value 10 (drop 1 b)) (2 ^ 63)) _ _
+    (λ l. record { plain = p; minus = m; value = refl; small = leb-true _ _ l }) (λ l. refl))
+    (λ m. on_test (TellsLeaf b) (nat_lt (digits_value 10 b) (2 ^ 64)) _ _
+    (λ l. record { plain = p; bare = m; value = refl; small = ltb-true _ _ l }) (λ l. refl)))
     (λ p. refl)
 
 pub tells : (b : List ℕ) (t : Tree) → IsNumber b t → TellsLeaf b t
@@ -100,11 +105,20 @@ mutual
 
   members_trees : (ms : Members) (b : List ℕ) → AreMembers ms b → MembersInRange ms
   members_trees no_members b p = tt
-  members_trees (member s t ms) b p = (string_utf8 p.is_first.is_name.inner s p.is_first.is_name.is_inner, value_tree t p.is_first.is_value.inner p.is_first.is_value.is_inner, more_named ms p.rest p.is_rest)
+  members_trees (member s t ms) b p = (
+    string_utf8 p.is_first.is_name.inner s p.is_first.is_name.is_inner,
+    value_tree t p.is_first.is_value.inner
+        p.is_first.is_value.is_inner,
+    more_named ms p.rest p.is_rest,
+  )
 
   more_named : (ms : Members) (b : List ℕ) → AreMoreMembers ms b → MembersInRange ms
   more_named no_members b p = tt
-  more_named (member s t ms) b p = (string_utf8 p.2.is_first.is_name.inner s p.2.is_first.is_name.is_inner, value_tree t p.2.is_first.is_value.inner p.2.is_first.is_value.is_inner, more_named ms p.2.rest p.2.is_rest)
+  more_named (member s t ms) b p = (
+    string_utf8 p.2.is_first.is_name.inner s p.2.is_first.is_name.is_inner,
+    value_tree t p.2.is_first.is_value.inner p.2.is_first.is_value.is_inner,
+    more_named ms p.2.rest p.2.is_rest,
+  )
 
 pub json_tree : (b : List ℕ) (t : Tree) → IsJson b t → InRange t
 json_tree b t p = value_tree t p.inner p.is_inner

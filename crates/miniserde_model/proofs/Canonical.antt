@@ -13,5 +13,10 @@ use Rattle.miniserde_model.proofs.Accepted.{json_tree}
 pub canonical_spells : (b : List ℕ) (t : Tree) → IsJson b t → IsJson (compact (norm t)) (norm t)
 canonical_spells b t p = written (norm t) (norm_tree t (json_tree b t p))
 
-pub canonical_texts_equal : (a b : List ℕ) (t u : Tree) → IsJson a t → IsJson b u → (compact (norm t) ≡ compact (norm u)) ↔ (norm t ≡ norm u)
-canonical_texts_equal a b t u p q = (λ e. one_tree (compact (norm t)) (norm t) (norm u) (canonical_spells a t p) (subst (λ z. IsJson z (norm u)) (sym e) (canonical_spells b u q)), λ e. ap compact e)
+pub canonical_texts_equal : (a b : List ℕ) (t u : Tree) → IsJson a t → IsJson b u
+    → (compact (norm t) ≡ compact (norm u)) ↔ (norm t ≡ norm u)
+canonical_texts_equal a b t u p q = (
+  λ e. one_tree (compact (norm t)) (norm t) (norm u) (canonical_spells a t p)
+      (subst (λ z. IsJson z (norm u)) (sym e) (canonical_spells b u q)),
+  λ e. ap compact e,
+)

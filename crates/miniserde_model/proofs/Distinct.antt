@@ -1,11 +1,15 @@
 -- A normal form has no duplicate name, and it has as many values as its tree if that has no duplicate name. By
 -- recursion over the tree: the names of the normal form strictly ascend (`norm_rises`), and a member with a new name
 -- adds its own size (`size_with_first`).
-use Rattle.std.proofs.Common.{◌≡◌, ℕ, ◌+◌, ℤ, pos, negsuc, Bool, true, false, List, Option, Some, None, option_map, bytes_eq, cond, is_some, refl, sym, ap, ap₂, ◌∙◌, arith, Ordering, Less, Equal, Greater, true≢false}
+use Rattle.std.proofs.Common.{◌≡◌, ℕ, ◌+◌, ℤ, pos, negsuc, Bool, true, false, List, Option, Some, None, option_map}
+use Rattle.std.proofs.Common.{bytes_eq, cond, is_some, refl, sym, ap, ap₂, ◌∙◌, arith, Ordering, Less, Equal}
+use Rattle.std.proofs.Common.{Greater, true≢false}
 use Rattle.std.specs.Prelude.{not, ◌&&◌}
 use Rattle.std.proofs.lemmas.Map.Lookups.{exact_bytes}
-use Rattle.miniserde_model.specs.Tree.{Tree, null, truth, nonneg, neg, num, str, list, members, Trees, no_trees, tree, Members, no_members, member}
-use Rattle.miniserde_model.specs.Normal.{text_cmp, with_if_absent_by, with_if_absent, norm_neg, norm, norm_children, norm_members, or_else, last_of, Rise}
+use Rattle.miniserde_model.specs.Tree.{Tree, null, truth, nonneg, neg, num, str, list, members, Trees, no_trees}
+use Rattle.miniserde_model.specs.Tree.{tree, Members, no_members, member}
+use Rattle.miniserde_model.specs.Normal.{text_cmp, with_if_absent_by, with_if_absent, norm_neg, norm, norm_children}
+use Rattle.miniserde_model.specs.Normal.{norm_members, or_else, last_of, Rise}
 use Rattle.miniserde_model.specs.Size.{size, size_of_children, size_of_members}
 use Rattle.miniserde_model.specs.Distinct.{has_name, names_distinct, names_distinct_in_children, names_distinct_in_members}
 use Rattle.miniserde_model.proofs.Lookups.{norm_keeps_last, norm_rises}
@@ -31,11 +35,13 @@ abbrev each_distinct : Members → Bool
 each_distinct no_members = true
 each_distinct (member name t ms) = names_distinct t && each_distinct ms
 
-each_with_first : (name : List ℕ) (t : Tree) (ms : Members) → names_distinct t ≡ true → each_distinct ms ≡ true → each_distinct (with_if_absent name t ms) ≡ true
+each_with_first : (name : List ℕ) (t : Tree) (ms : Members) → names_distinct t ≡ true → each_distinct ms ≡ true
+    → each_distinct (with_if_absent name t ms) ≡ true
 each_with_first name t no_members d e = both (names_distinct t) true d refl
 each_with_first name t (member other u ms) d e = go (text_cmp name other) (each_with_first name t ms d (second_of (names_distinct u) _ e))
   where
-    go : (o : Ordering) → each_distinct (with_if_absent name t ms) ≡ true → each_distinct (with_if_absent_by o name t other u ms (with_if_absent name t ms)) ≡ true
+    go : (o : Ordering) → each_distinct (with_if_absent name t ms) ≡ true
+        → each_distinct (with_if_absent_by o name t other u ms (with_if_absent name t ms)) ≡ true
     go Less more = both (names_distinct t) _ d e
     go Equal more = e
     go Greater more = both (names_distinct u) _ (first_of (names_distinct u) _ e) more
@@ -44,7 +50,9 @@ each_with_first name t (member other u ms) d e = go (text_cmp name other) (each_
 rising_distinct : (ms : Members) → Rise ms → each_distinct ms ≡ true → names_distinct_in_members ms ≡ true
 rising_distinct no_members r e = refl
 rising_distinct (member name t ms) r e =
-    both _ _ (ap (λ o. not (is_some o)) (absent name ms r.0 r.1)) (both (names_distinct t) _ (first_of (names_distinct t) _ e) (rising_distinct ms r.1 (second_of (names_distinct t) _ e)))
+    both _ _ (ap (λ o. not (is_some o)) (absent name ms r.0 r.1))
+    (both (names_distinct t) _ (first_of (names_distinct t) _ e)
+    (rising_distinct ms r.1 (second_of (names_distinct t) _ e)))
 
 neg_distinct : (z : ℤ) → names_distinct (norm_neg z) ≡ true
 neg_distinct (pos n) = refl
@@ -75,15 +83,21 @@ none_there : (a b : Option Tree) → or_else a b ≡ None → (a ≡ None) × (b
 none_there None b e = (refl, e)
 none_there (Some t) b e = absurd (cc)
 
-size_with_first : (name : List ℕ) (t : Tree) (ms : Members) → last_of name ms ≡ None → size_of_members (with_if_absent name t ms) ≡ size t + size_of_members ms
+size_with_first : (name : List ℕ) (t : Tree) (ms : Members) → last_of name ms ≡ None
+    → size_of_members (with_if_absent name t ms) ≡ size t + size_of_members ms
 size_with_first name t no_members e = refl
-size_with_first name t (member other u ms) e = go (text_cmp name other) refl (size_with_first name t ms (none_there (last_of name ms) _ e).0)
+size_with_first name t (member other u ms) e =
+    go (text_cmp name other) refl (size_with_first name t ms (none_there (last_of name ms) _ e).0)
   where
-    go : (o : Ordering) → text_cmp name other ≡ o → size_of_members (with_if_absent name t ms) ≡ size t + size_of_members ms → size_of_members (with_if_absent_by o name t other u ms (with_if_absent name t ms)) ≡ size t + (size u + size_of_members ms)
+    go : (o : Ordering) → text_cmp name other ≡ o → size_of_members (with_if_absent name t ms)
+        ≡ size t + size_of_members ms
+        → size_of_members (with_if_absent_by o name t other u ms (with_if_absent name t ms))
+        ≡ size t + (size u + size_of_members ms)
     go Less s more = refl
     go Equal s more =
         let same : other ≡ name = sym (exact_bytes name other s) in
-        let here : ◌≡◌ {A = Option Tree} (cond (bytes_eq other name) (Some u) None) (Some u) = ap (λ (b : Bool). cond b (Some u) None) (ap (λ n. bytes_eq n name) same ∙ same_itself name) in
+        let here : ◌≡◌ {A = Option Tree} (cond (bytes_eq other name) (Some u) None) (Some u) =
+        ap (λ (b : Bool). cond b (Some u) None) (ap (λ n. bytes_eq n name) same ∙ same_itself name) in
         let none : cond (bytes_eq other name) (Some u) None ≡ None = (none_there (last_of name ms) _ e).1 in
         absurd (true≢false (ap is_some (sym here ∙ none)))
     go Greater s more = omega (arith, more)
@@ -109,7 +123,8 @@ mutual
 
   children_size : (ts : Trees) → names_distinct_in_children ts ≡ true → size_of_children (norm_children ts) ≡ size_of_children ts
   children_size no_trees d = refl
-  children_size (tree t ts) d = ap₂ (λ m n. m + n) (distinct_size t (first_of (names_distinct t) _ d)) (children_size ts (second_of (names_distinct t) _ d))
+  children_size (tree t ts) d = ap₂ (λ m n. m + n) (distinct_size t (first_of (names_distinct t) _ d))
+      (children_size ts (second_of (names_distinct t) _ d))
 
   members_size : (ms : Members) → names_distinct_in_members ms ≡ true → size_of_members (norm_members ms) ≡ size_of_members ms
   members_size no_members d = refl

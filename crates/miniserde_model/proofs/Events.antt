@@ -1,9 +1,12 @@
 -- The events of a tree complete a value, and no list of events that completes a value is a proper prefix of another.
 -- The first is by recursion over the tree, with the later events as a parameter (`goes`); the second is by recursion
 -- over the events, as no event is allowed behind a complete value (`none_allowed`).
-use Rattle.std.proofs.Common.{◌≡◌, ℕ, ◌+◌, ◌-◌, true, false, List, [], ◌∷◌, ◌++◌, refl, sym, subst, append_assoc, append-nil, arith, true≢false}
-use Rattle.miniserde_model.specs.Tree.{Tree, null, truth, nonneg, neg, num, str, list, members, Trees, no_trees, tree, Members, no_members, member}
-use Rattle.miniserde_model.specs.Step.{Step, boolean, string, negative, nonnegative, float, seq, element, map, key, finish, events, child_events, member_events}
+use Rattle.std.proofs.Common.{◌≡◌, ℕ, ◌+◌, ◌-◌, true, false, List, [], ◌∷◌, ◌++◌, refl, sym, subst, append_assoc}
+use Rattle.std.proofs.Common.{append-nil, arith, true≢false}
+use Rattle.miniserde_model.specs.Tree.{Tree, null, truth, nonneg, neg, num, str, list, members, Trees, no_trees}
+use Rattle.miniserde_model.specs.Tree.{tree, Members, no_members, member}
+use Rattle.miniserde_model.specs.Step.{Step, boolean, string, negative, nonnegative, float, seq, element, map, key}
+use Rattle.miniserde_model.specs.Step.{finish, events, child_events, member_events}
 use Rattle.miniserde_model.specs.Step as step
 use Rattle.miniserde_model.specs.Position.{Position, start, complete, Allowed, next, Completes}
 
@@ -19,16 +22,35 @@ mutual
   goes (neg m) n rest h = (refl, h)
   goes (num x) n rest h = (refl, h)
   goes (str s) n rest h = (refl, h)
-  goes (list ts) n rest h = (refl, subst (λ z. Completes (n + 1, false) z) (sym (append_assoc (child_events ts) (finish ∷ []) rest)) (children_go ts n (finish ∷ rest) (closes_to n rest h)))
-  goes (members ms) n rest h = (refl, subst (λ z. Completes (n + 1, false) z) (sym (append_assoc (member_events ms) (finish ∷ []) rest)) (members_go ms n (finish ∷ rest) (closes_to n rest h)))
+  goes (list ts) n rest h = (
+    refl,
+    subst (λ z. Completes (n + 1, false) z) (sym (append_assoc (child_events ts) (finish ∷ []) rest))
+        (children_go ts n (finish ∷ rest) (closes_to n rest h)),
+  )
+  goes (members ms) n rest h = (
+    refl,
+    subst (λ z. Completes (n + 1, false) z) (sym (append_assoc (member_events ms) (finish ∷ []) rest))
+        (members_go ms n (finish ∷ rest) (closes_to n rest h)),
+  )
 
   children_go : (ts : Trees) (n : ℕ) (rest : List Step) → Completes (n + 1, false) rest → Completes (n + 1, false) (child_events ts ++ rest)
   children_go no_trees n rest h = h
-  children_go (tree t ts) n rest h = ((refl, omega arith), subst (λ z. Completes (n + 1, true) z) (sym (append_assoc (events t) (child_events ts) rest)) (goes t (n + 1) (child_events ts ++ rest) (children_go ts n rest h)))
+  children_go (tree t ts) n rest h = (
+    (refl, omega arith),
+    subst (λ z. Completes (n + 1, true) z)
+        (sym (append_assoc (events t) (child_events ts) rest))
+        (goes t (n + 1) (child_events ts ++ rest) (children_go ts n rest h)),
+  )
 
-  members_go : (ms : Members) (n : ℕ) (rest : List Step) → Completes (n + 1, false) rest → Completes (n + 1, false) (member_events ms ++ rest)
+  members_go : (ms : Members) (n : ℕ) (rest : List Step) → Completes (n + 1, false) rest
+      → Completes (n + 1, false) (member_events ms ++ rest)
   members_go no_members n rest h = h
-  members_go (member name t ms) n rest h = ((refl, omega arith), subst (λ z. Completes (n + 1, true) z) (sym (append_assoc (events t) (member_events ms) rest)) (goes t (n + 1) (member_events ms ++ rest) (members_go ms n rest h)))
+  members_go (member name t ms) n rest h = (
+    (refl, omega arith),
+    subst (λ z. Completes (n + 1, true) z)
+        (sym (append_assoc (events t) (member_events ms) rest))
+        (goes t (n + 1) (member_events ms ++ rest) (members_go ms n rest h)),
+  )
 
 pub events_complete : (t : Tree) → Completes start (events t)
 events_complete t = subst (λ z. Completes start z) (append-nil (events t)) (goes t 0 [] refl)

@@ -1,6 +1,7 @@
 -- The examples of texts with their trees, and of normal forms with their compact texts, hold. For each text the proof
 -- builds a derivation of the grammar; each normal form and each compact text is computed.
-use Rattle.std.proofs.Common.{◌≡◌, ℕ, ◌≤◌, pos, negsuc, Bool, true, ◌&&◌, nat_le, List, [], ◌∷◌, ◌++◌, codes, encode_utf8, refl, sym, ap, append-nil, arith, inl, inr}
+use Rattle.std.proofs.Common.{◌≡◌, ℕ, ◌≤◌, pos, negsuc, Bool, true, ◌&&◌, nat_le, List, [], ◌∷◌, ◌++◌, codes}
+use Rattle.std.proofs.Common.{encode_utf8, refl, sym, ap, append-nil, arith, inl, inr}
 use Rattle.std.specs.List.{AllByRecursion}
 use Rattle.std.proofs.lemmas.Bool.{and_parts}
 use Rattle.std.proofs.lemmas.Bool.Decides.{nat_tests}
@@ -33,7 +34,19 @@ int c cs low high h = inr ((low, high), digits cs h)
 
 -- a number text of whole part w behind m
 plain : (m w : List ℕ) → IsMinus m → IsInt w → IsNumberText (m ++ w)
-plain m w p q = record { minus = m; int = w; fraction = []; exponent = []; text = ap (λ z. m ++ z) (sym (append-nil w)); is_minus = p; is_int = q; is_fraction = inl refl; is_exponent = inl refl }
+plain m w p q = record {
+  minus = m;
+  int = w;
+  fraction = [];
+  exponent = [];
+  text =
+      ap (λ z. m ++ z) (sym (append-nil w));
+  is_minus = p;
+  is_int = q;
+  is_fraction = inl refl;
+  is_exponent =
+      inl refl;
+}
 
 -- the number texts
 
@@ -51,7 +64,11 @@ largest = (plain [] (codes "18446744073709551615") (inl refl) (int 49 (codes "84
 
 above_largest : IsValue (num (codes "18446744073709551616")) (codes "18446744073709551616")
 unfolding leaf
-above_largest = (plain [] (codes "18446744073709551616") (inl refl) (int 49 (codes "8446744073709551616") (omega arith) (omega arith) refl), refl)
+above_largest = (
+  plain [] (codes "18446744073709551616") (inl refl)
+      (int 49 (codes "8446744073709551616") (omega arith) (omega arith) refl),
+  refl,
+)
 
 negated_zero : IsValue (neg (pos 0)) (codes "-0")
 unfolding leaf
@@ -59,11 +76,19 @@ negated_zero = (plain (codes "-") (codes "0") (inr refl) (inl (refl, refl)), ref
 
 smallest : IsValue (neg (negsuc 9223372036854775807)) (codes "-9223372036854775808")
 unfolding leaf
-smallest = (plain (codes "-") (codes "9223372036854775808") (inr refl) (int 57 (codes "223372036854775808") (omega arith) (omega arith) refl), refl)
+smallest = (
+  plain (codes "-") (codes "9223372036854775808") (inr refl)
+      (int 57 (codes "223372036854775808") (omega arith) (omega arith) refl),
+  refl,
+)
 
 below_smallest : IsValue (num (codes "-9223372036854775809")) (codes "-9223372036854775809")
 unfolding leaf
-below_smallest = (plain (codes "-") (codes "9223372036854775809") (inr refl) (int 57 (codes "223372036854775809") (omega arith) (omega arith) refl), refl)
+below_smallest = (
+  plain (codes "-") (codes "9223372036854775809") (inr refl)
+      (int 57 (codes "223372036854775809") (omega arith) (omega arith) refl),
+  refl,
+)
 
 fraction : IsValue (num (codes "1.50")) (codes "1.50")
 unfolding leaf
@@ -117,8 +142,32 @@ surrogate_pair = record {
       high = 0xD83D;
       low = 0xDE00;
       text = refl;
-      is_first = record { d3 = 100; d2 = 56; d1 = 51; d0 = 100; hex3 = omega arith; hex2 = omega arith; hex1 = omega arith; hex0 = omega arith; text = refl; value = refl };
-      is_second = record { d3 = 100; d2 = 101; d1 = 48; d0 = 48; hex3 = omega arith; hex2 = omega arith; hex1 = omega arith; hex0 = omega arith; text = refl; value = refl };
+      is_first = record {
+        d3 = 100;
+        d2 = 56;
+        d1 = 51;
+        d0 = 100;
+        hex3 = omega arith;
+        hex2 = omega arith;
+        hex1 =
+            omega arith;
+        hex0 = omega arith;
+        text = refl;
+        value = refl;
+      };
+      is_second = record {
+        d3 = 100;
+        d2 = 101;
+        d1 = 48;
+        d0 = 48;
+        hex3 = omega arith;
+        hex2 = omega arith;
+        hex1 =
+            omega arith;
+        hex0 = omega arith;
+        text = refl;
+        value = refl;
+      };
       is_high = (omega arith, omega arith);
       is_low = (omega arith, omega arith);
       character = refl;
@@ -134,7 +183,25 @@ escapes = record {
   inside = codes "\\u0041\\/";
   characters = codes "A/";
   text = refl;
-  pieces = (codes "\\u0041", codes "\\/", refl, unit refl (record { d3 = 48; d2 = 48; d1 = 52; d0 = 49; hex3 = omega arith; hex2 = omega arith; hex1 = omega arith; hex0 = omega arith; text = refl; value = refl }), (codes "\\/", [], refl, short 47 slash refl, refl));
+  pieces = (
+    codes "\\u0041",
+    codes "\\/",
+    refl,
+    unit refl (record {
+      d3 = 48;
+      d2 = 48;
+      d1 = 52;
+      d0 = 49;
+      hex3 = omega arith;
+      hex2 = omega arith;
+      hex1 =
+          omega arith;
+      hex0 = omega arith;
+      text = refl;
+      value = refl;
+    }),
+    (codes "\\/", [], refl, short 47 slash refl, refl),
+  );
   value = refl;
 }
 
@@ -144,7 +211,20 @@ name_a = record {
   inside = codes "a";
   characters = codes "a";
   text = refl;
-  pieces = (codes "a", [], refl, raw (record { scalar = refl; printable = omega arith; not_quote = λ e. omega arith; not_backslash = λ e. omega arith; text = refl }), refl);
+  pieces = (
+    codes "a",
+    [],
+    refl,
+    raw (record {
+      scalar = refl;
+      printable = omega arith;
+      not_quote = λ e. omega arith;
+      not_backslash =
+          λ e. omega arith;
+      text = refl;
+    }),
+    refl,
+  );
   value = refl;
 }
 
@@ -154,9 +234,20 @@ bare : {P : List ℕ → Type 0} (b : List ℕ) → P b → Spaced P b
 bare b p = record { before = []; inner = b; after = []; text = sym (append-nil b); is_before = tt; is_inner = p; is_after = tt }
 
 empty_list : IsJson (codes " [ ] ") (list no_trees)
-empty_list = record { before = codes " "; inner = codes "[ ]"; after = codes " "; text = refl; is_before = (inl refl, tt); is_inner = record { inside = codes " "; text = refl; is_inside = (inl refl, tt) }; is_after = (inl refl, tt) }
+empty_list = record {
+  before = codes " ";
+  inner = codes "[ ]";
+  after = codes " ";
+  text = refl;
+  is_before =
+      (inl refl, tt);
+  is_inner = record { inside = codes " "; text = refl; is_inside = (inl refl, tt) };
+  is_after =
+      (inl refl, tt);
+}
 
-three_numbers : IsValue (list (tree (nonneg 1) (tree (nonneg 2) (tree (nonneg 18446744073709551615) no_trees)))) (codes "[1, 2 ,18446744073709551615]")
+three_numbers : IsValue (list (tree (nonneg 1) (tree (nonneg 2) (tree (nonneg 18446744073709551615) no_trees))))
+    (codes "[1, 2 ,18446744073709551615]")
 three_numbers = record {
   inside = codes "1, 2 ,18446744073709551615";
   text = refl;
@@ -172,8 +263,28 @@ three_numbers = record {
         first = codes " 2 ";
         rest = codes ",18446744073709551615";
         text = refl;
-        is_first = record { before = codes " "; inner = codes "2"; after = codes " "; text = refl; is_before = (inl refl, tt); is_inner = numeral_2; is_after = (inl refl, tt) };
-        is_rest = (codes "18446744073709551615", refl, record { first = codes "18446744073709551615"; rest = []; text = refl; is_first = bare (codes "18446744073709551615") largest; is_rest = refl });
+        is_first = record {
+          before = codes " ";
+          inner = codes "2";
+          after = codes " ";
+          text = refl;
+          is_before =
+              (inl refl, tt);
+          is_inner = numeral_2;
+          is_after = (inl refl, tt);
+        };
+        is_rest = (
+          codes "18446744073709551615",
+          refl,
+          record {
+            first = codes "18446744073709551615";
+            rest = [];
+            text = refl;
+            is_first =
+                bare (codes "18446744073709551615") largest;
+            is_rest = refl;
+          },
+        );
       },
     );
   };
@@ -187,7 +298,14 @@ repeated_name = record {
     first = codes "\"a\":1";
     rest = codes ",\"a\":2";
     text = refl;
-    is_first = record { name = codes "\"a\""; value = codes "1"; text = refl; is_name = bare (codes "\"a\"") name_a; is_value = bare (codes "1") numeral_1 };
+    is_first = record {
+      name = codes "\"a\"";
+      value = codes "1";
+      text = refl;
+      is_name =
+          bare (codes "\"a\"") name_a;
+      is_value = bare (codes "1") numeral_1;
+    };
     is_rest = (
       codes "\"a\":2",
       refl,
@@ -195,7 +313,14 @@ repeated_name = record {
         first = codes "\"a\":2";
         rest = [];
         text = refl;
-        is_first = record { name = codes "\"a\""; value = codes "2"; text = refl; is_name = bare (codes "\"a\"") name_a; is_value = bare (codes "2") numeral_2 };
+        is_first = record {
+          name = codes "\"a\"";
+          value = codes "2";
+          text = refl;
+          is_name =
+              bare (codes "\"a\"") name_a;
+          is_value = bare (codes "2") numeral_2;
+        };
         is_rest = refl;
       },
     );
@@ -235,4 +360,13 @@ unfolding encode
 character_bytes = refl
 
 pub normal_forms : NormalForms
-normal_forms = record { last_stays = refl; last_stays_text = last_stays_text; names_rise = refl; no_negated_zero = refl; list_text = list_text; escaped_text = escaped_text; character_bytes = character_bytes }
+normal_forms = record {
+  last_stays = refl;
+  last_stays_text = last_stays_text;
+  names_rise = refl;
+  no_negated_zero =
+      refl;
+  list_text = list_text;
+  escaped_text = escaped_text;
+  character_bytes = character_bytes;
+}

@@ -18,7 +18,9 @@ use Rattle.miniserde_model.proofs.Prefixes.{goes_on, space_ends_number, whitespa
 use Rattle.miniserde_model.proofs.Unique.{value_heads, same_value}
 
 front_byte_stops : (c : ℕ) (K : List ℕ → Type 0) (b : List ℕ) → goes_on c ≡ false → StandsThen (IsByte c) K b → StopsAt is_number_byte b
-front_byte_stops c K b h p = subst (StopsAt is_number_byte) (sym (p.text ∙ ap (λ z. p.space ++ (z ++ p.rest)) p.is_part)) (space_ends_number p.space (c ∷ p.rest) p.is_space h)
+front_byte_stops c K b h p =
+    subst (StopsAt is_number_byte) (sym (p.text ∙ ap (λ z. p.space ++ (z ++ p.rest)) p.is_part))
+    (space_ends_number p.space (c ∷ p.rest) p.is_space h)
 
 all_space_stops : (b : List ℕ) → IsWhitespace b → StopsAt is_number_byte b
 all_space_stops [] h = tt
@@ -34,9 +36,14 @@ after_stops (finish ∷ es) (Map ∷ st) b p = front_byte_stops 125 _ b refl p
 after_stops _ _ b p = absurd p
 
 -- where a value stands at the front and ends there, the events are its, and the rest spells the rest
-pub forced_value : (t : Tree) (es : List Step) (st : List Kind) (b : List ℕ) (p : StandsThen (IsValue t) (StopsAt is_number_byte) b) → Spells due es st b → (left : List Step) × (es ≡ events t ++ left) × Spells after left st p.rest
+pub forced_value : (t : Tree) (es : List Step) (st : List Kind) (b : List ℕ)
+    (p : StandsThen (IsValue t) (StopsAt is_number_byte) b) → Spells due es st b → (left : List Step)
+    × (es ≡ events t ++ left) × Spells after left st p.rest
 forced_value t es st b p s =
     let v = find_value (length es) es st b (omega arith) s in
-    let one = same_run is_space p.space v.space _ _ (whitespace_passes p.space p.is_space) (whitespace_passes v.space v.is_space) ((value_heads t).no_space p.part p.rest p.is_part) ((value_heads v.found).no_space v.value v.rest v.is_value) (sym p.text ∙ v.text) in
-    let two = same_value t v.found p.part v.value p.rest v.rest p.is_part v.is_value p.is_rest (after_stops v.left st v.rest v.is_rest) one.1 in
+    let one = same_run is_space p.space v.space _ _ (whitespace_passes p.space p.is_space)
+    (whitespace_passes v.space v.is_space) ((value_heads t).no_space p.part p.rest p.is_part)
+    ((value_heads v.found).no_space v.value v.rest v.is_value) (sym p.text ∙ v.text) in
+    let two = same_value t v.found p.part v.value p.rest v.rest p.is_part v.is_value p.is_rest
+    (after_stops v.left st v.rest v.is_rest) one.1 in
     (v.left, v.is ∙ ap (λ u. events u ++ v.left) (sym two.0), subst (Spells after v.left st) (sym two.1) v.is_rest)

@@ -1,19 +1,25 @@
 -- The normal form is idempotent, and it keeps numbers in range and strings in UTF-8 (`InRange`). By recursion over the
 -- tree; two lists of members are equal if their names ascend and they have the same last tree at each name
 -- (`one_rising`).
-use Rattle.std.proofs.Common.{◌≡◌, ℕ, ◌^◌, ◌≤◌, ℤ, pos, negsuc, unsigned_abs, ◌≤ℤ◌, List, IsUtf8, option_map, refl, sym, ap, ap₂, ◌∙◌, arith, Ordering, Less, Equal, Greater}
+use Rattle.std.proofs.Common.{◌≡◌, ℕ, ◌^◌, ◌≤◌, ℤ, pos, negsuc, unsigned_abs, ◌≤ℤ◌, List, IsUtf8, option_map, refl}
+use Rattle.std.proofs.Common.{sym, ap, ap₂, ◌∙◌, arith, Ordering, Less, Equal, Greater}
 use Rattle.std.proofs.lemmas.Int.{ints}
-use Rattle.miniserde_model.specs.Tree.{Tree, null, truth, nonneg, neg, num, str, list, members, Trees, no_trees, tree, Members, no_members, member}
+use Rattle.miniserde_model.specs.Tree.{Tree, null, truth, nonneg, neg, num, str, list, members, Trees, no_trees}
+use Rattle.miniserde_model.specs.Tree.{tree, Members, no_members, member}
 use Rattle.miniserde_model.specs.InRange.{InRange, AllInRange, MembersInRange}
-use Rattle.miniserde_model.specs.Normal.{text_cmp, with_if_absent_by, with_if_absent, norm_neg, norm_by, norm_children_by, norm_members_by, norm, norm_children, norm_members}
+use Rattle.miniserde_model.specs.Normal.{text_cmp, with_if_absent_by, with_if_absent, norm_neg, norm_by}
+use Rattle.miniserde_model.specs.Normal.{norm_children_by, norm_members_by, norm, norm_children, norm_members}
 use Rattle.miniserde_model.proofs.Lookups.{last_with_first, norm_keeps_last, norm_rises}
 use Rattle.miniserde_model.proofs.OneNormal.{one_rising}
 
 -- a member in its place and one in front have one normal form
-norm_with_first : (f : ℤ → Tree) (name : List ℕ) (t : Tree) (ms : Members) → norm_members_by f (with_if_absent name t ms) ≡ with_if_absent name (norm_by f t) (norm_members_by f ms)
+norm_with_first : (f : ℤ → Tree) (name : List ℕ) (t : Tree) (ms : Members)
+    → norm_members_by f (with_if_absent name t ms) ≡ with_if_absent name (norm_by f t) (norm_members_by f ms)
 norm_with_first f name t ms =
-    one_rising (norm_members_by f (with_if_absent name t ms)) (norm_members_by f (member name t ms)) (norm_rises f (with_if_absent name t ms)) (norm_rises f (member name t ms))
-    (λ q. norm_keeps_last f q (with_if_absent name t ms) ∙ ap (option_map (norm_by f)) (last_with_first q name t ms) ∙ sym (norm_keeps_last f q (member name t ms)))
+    one_rising (norm_members_by f (with_if_absent name t ms)) (norm_members_by f (member name t ms))
+    (norm_rises f (with_if_absent name t ms)) (norm_rises f (member name t ms))
+    (λ q. norm_keeps_last f q (with_if_absent name t ms) ∙ ap (option_map (norm_by f)) (last_with_first q name t ms)
+    ∙ sym (norm_keeps_last f q (member name t ms)))
 
 -- the form by f of the one by g is the one by h, where it is so of negative numbers
 mutual
@@ -23,13 +29,16 @@ mutual
   norm_after f g h e (members ms) = ap members (members_after f g h e ms)
   norm_after f g h e _ = refl
 
-  children_after : (f g h : ℤ → Tree) → ((z : ℤ) → norm_by f (g z) ≡ h z) → (ts : Trees) → norm_children_by f (norm_children_by g ts) ≡ norm_children_by h ts
+  children_after : (f g h : ℤ → Tree) → ((z : ℤ) → norm_by f (g z) ≡ h z) → (ts : Trees)
+      → norm_children_by f (norm_children_by g ts) ≡ norm_children_by h ts
   children_after f g h e no_trees = refl
   children_after f g h e (tree t ts) = ap₂ tree (norm_after f g h e t) (children_after f g h e ts)
 
-  members_after : (f g h : ℤ → Tree) → ((z : ℤ) → norm_by f (g z) ≡ h z) → (ms : Members) → norm_members_by f (norm_members_by g ms) ≡ norm_members_by h ms
+  members_after : (f g h : ℤ → Tree) → ((z : ℤ) → norm_by f (g z) ≡ h z) → (ms : Members)
+      → norm_members_by f (norm_members_by g ms) ≡ norm_members_by h ms
   members_after f g h e no_members = refl
-  members_after f g h e (member name t ms) = norm_with_first f name (norm_by g t) (norm_members_by g ms) ∙ ap₂ (with_if_absent name) (norm_after f g h e t) (members_after f g h e ms)
+  members_after f g h e (member name t ms) = norm_with_first f name (norm_by g t) (norm_members_by g ms)
+      ∙ ap₂ (with_if_absent name) (norm_after f g h e t) (members_after f g h e ms)
 
 neg_twice : (z : ℤ) → norm (norm_neg z) ≡ norm_neg z
 neg_twice (pos n) = refl
@@ -40,14 +49,18 @@ norm_twice = norm_after norm_neg norm_neg norm_neg neg_twice
 
 -- ---- a tree of Rust's values stays one
 
-trees_placed : (o : Ordering) (name : List ℕ) (t : Tree) (other : List ℕ) (u : Tree) (ms more : Members) → IsUtf8 name → InRange t → MembersInRange (member other u ms) → MembersInRange more → MembersInRange (with_if_absent_by o name t other u ms more)
+trees_placed : (o : Ordering) (name : List ℕ) (t : Tree) (other : List ℕ) (u : Tree) (ms more : Members)
+    → IsUtf8 name → InRange t → MembersInRange (member other u ms) → MembersInRange more
+    → MembersInRange (with_if_absent_by o name t other u ms more)
 trees_placed Less name t other u ms more n h k m = (n, h, k)
 trees_placed Equal name t other u ms more n h k m = k
 trees_placed Greater name t other u ms more n h k m = (k.0, k.1, m)
 
-pub trees_with_first : (name : List ℕ) (t : Tree) (ms : Members) → IsUtf8 name → InRange t → MembersInRange ms → MembersInRange (with_if_absent name t ms)
+pub trees_with_first : (name : List ℕ) (t : Tree) (ms : Members) → IsUtf8 name → InRange t → MembersInRange ms
+    → MembersInRange (with_if_absent name t ms)
 trees_with_first name t no_members n h k = (n, h, tt)
-trees_with_first name t (member other u ms) n h k = trees_placed (text_cmp name other) name t other u ms _ n h k (trees_with_first name t ms n h k.2)
+trees_with_first name t (member other u ms) n h k =
+    trees_placed (text_cmp name other) name t other u ms _ n h k (trees_with_first name t ms n h k.2)
 
 tree_neg : (z : ℤ) → z ≤ℤ pos 0 → unsigned_abs z ≤ 2 ^ 63 → InRange (norm_neg z)
 tree_neg (pos n) h k = omega (arith, ints)

@@ -43,11 +43,13 @@ exponent_pass x (inr h) = rw h.3 (e_pass h.0 h.4, pass_append is_number_byte h.1
 
 pub number_pass : (x : List ℕ) → IsNumberText x → AllPass is_number_byte x
 number_pass x n =
-    let tail = pass_append is_number_byte n.fraction n.exponent (fraction_pass n.fraction n.is_fraction) (exponent_pass n.exponent n.is_exponent) in
+    let tail = pass_append is_number_byte n.fraction n.exponent (fraction_pass n.fraction n.is_fraction)
+    (exponent_pass n.exponent n.is_exponent) in
     let more = pass_append is_number_byte n.int (n.fraction ++ n.exponent) (whole_pass n.int n.is_int) tail in
     rw n.text (pass_append is_number_byte n.minus _ (minus_pass n.minus n.is_minus) more)
 
-pub same_number : (a b x y : List ℕ) (t u : Tree) → IsNumber a t → IsNumber b u → StopsAt is_number_byte x → StopsAt is_number_byte y → a ++ x ≡ b ++ y → (t ≡ u) × (x ≡ y)
+pub same_number : (a b x y : List ℕ) (t u : Tree) → IsNumber a t → IsNumber b u → StopsAt is_number_byte x
+    → StopsAt is_number_byte y → a ++ x ≡ b ++ y → (t ≡ u) × (x ≡ y)
 same_number a b x y t u p q sx sy e =
     let run = same_run is_number_byte a b x y (number_pass a p.0) (number_pass b q.0) sx sy e in
     (sym p.1 ∙ ap leaf run.0 ∙ q.1, run.1)

@@ -1,14 +1,16 @@
 -- Members whose names strictly ascend are determined by the last tree at each name, and putting members into a map
 -- one by one, from the left, gives their normal form. By recursion over both lists of members (`one_rising`): the map
 -- and the normal form ascend, and they have the same last tree at each name (`last_put_all`, `norm_keeps_last`).
-use Rattle.std.proofs.Common.{◌≡◌, ℕ, ℤ, Bool, true, false, List, Option, Some, None, option_map, bytes_eq, cond, is_some, refl, sym, ap, ap₂, subst, ◌∙◌, Ordering, Less, Equal, Greater, true≢false}
+use Rattle.std.proofs.Common.{◌≡◌, ℕ, ℤ, Bool, true, false, List, Option, Some, None, option_map, bytes_eq, cond}
+use Rattle.std.proofs.Common.{is_some, refl, sym, ap, ap₂, subst, ◌∙◌, Ordering, Less, Equal, Greater, true≢false}
 use Rattle.std.specs.Ordering.{ordering_reverse, is_eq}
 use Rattle.std.proofs.lemmas.Bool.{false_from_ne_true}
 use Rattle.std.proofs.lemmas.Cmp.{nat_list_cmp_total, tied_itself}
 use Rattle.std.proofs.lemmas.Map.Lookups.{exact_bytes}
 use Rattle.std.proofs.lemmas.Slice.Eq.{bytes_eq-Decides}
 use Rattle.miniserde_model.specs.Tree.{Tree, Members, no_members, member}
-use Rattle.miniserde_model.specs.Normal.{text_cmp, norm_by, norm_members_by, or_else, last_of, BeginsAbove, Rise, put_first_by, put, put_all_by}
+use Rattle.miniserde_model.specs.Normal.{text_cmp, norm_by, norm_members_by, or_else, last_of, BeginsAbove, Rise}
+use Rattle.miniserde_model.specs.Normal.{put_first_by, put, put_all_by}
 use Rattle.miniserde_model.proofs.Lookups.{norm_keeps_last, norm_rises, mapped}
 
 not_same : (a b : List ℕ) → text_cmp a b ≡ Less → bytes_eq b a ≡ false
@@ -44,15 +46,18 @@ or_else_none (Some t) = refl
 abbrev Alike : Members → Members → Type 0
 Alike ms ns = (q : List ℕ) → last_of q ms ≡ last_of q ns
 
-tails_alike : (name : List ℕ) (t : Tree) (ms ns : Members) → BeginsAbove name ms → Rise ms → BeginsAbove name ns → Rise ns → Alike (member name t ms) (member name t ns) → Alike ms ns
+tails_alike : (name : List ℕ) (t : Tree) (ms ns : Members) → BeginsAbove name ms → Rise ms → BeginsAbove name ns
+    → Rise ns → Alike (member name t ms) (member name t ns) → Alike ms ns
 tails_alike name t ms ns bm rm bn rn h q = go (bytes_eq name q) refl
   where
     go : (b : Bool) → bytes_eq name q ≡ b → last_of q ms ≡ last_of q ns
     go true e = let same : name ≡ q = (bytes_eq-Decides name q).0 e in
         subst (λ z. last_of z ms ≡ last_of z ns) same (absent name ms bm rm ∙ sym (absent name ns bn rn))
-    go false e = sym (or_else_none (last_of q ms)) ∙ ap (λ y. or_else (last_of q ms) (cond y (Some t) None)) (sym e) ∙ h q ∙ ap (λ y. or_else (last_of q ns) (cond y (Some t) None)) e ∙ or_else_none (last_of q ns)
+    go false e = sym (or_else_none (last_of q ms)) ∙ ap (λ y. or_else (last_of q ms) (cond y (Some t) None)) (sym e)
+        ∙ h q ∙ ap (λ y. or_else (last_of q ns) (cond y (Some t) None)) e ∙ or_else_none (last_of q ns)
 
-same_first : (name : List ℕ) (t u : Tree) (ms ns : Members) → Rise (member name t ms) → Rise (member name u ns) → Alike (member name t ms) (member name u ns) → (t ≡ u) × Alike ms ns
+same_first : (name : List ℕ) (t u : Tree) (ms ns : Members) → Rise (member name t ms) → Rise (member name u ns)
+    → Alike (member name t ms) (member name u ns) → (t ≡ u) × Alike ms ns
 same_first name t u ms ns r s h =
     let some : Some t ≡ Some u = sym (at_first name t ms r.0 r.1) ∙ h name ∙ at_first name u ns s.0 s.1 in
     let same : t ≡ u = cc in
@@ -66,23 +71,28 @@ one_rising (member name t ms) (member other u ns) r s h = go (text_cmp name othe
   where
     go : (o : Ordering) → text_cmp name other ≡ o → (Alike ms ns → ms ≡ ns) → member name t ms ≡ member other u ns
     go Less e more = absurd (none_some _ t (h name ∙ absent name (member other u ns) e s) (at_first name t ms r.0 r.1))
-    go Greater e more = absurd (none_some _ u (sym (h other) ∙ absent other (member name t ms) (nat_list_cmp_total.antisymm other name ∙ ap ordering_reverse e) r) (at_first other u ns s.0 s.1))
+    go Greater e more = absurd
+        (none_some _ u (sym (h other) ∙ absent other (member name t ms)
+        (nat_list_cmp_total.antisymm other name ∙ ap ordering_reverse e) r) (at_first other u ns s.0 s.1))
     go Equal e more =
         let same : name ≡ other = exact_bytes name other e in
-        let both = same_first name t u ms ns r (subst (λ z. Rise (member z u ns)) (sym same) s) (λ q. h q ∙ ap (λ z. last_of q (member z u ns)) (sym same)) in
+        let both = same_first name t u ms ns r (subst (λ z. Rise (member z u ns)) (sym same) s)
+        (λ q. h q ∙ ap (λ z. last_of q (member z u ns)) (sym same)) in
         let rest : ms ≡ ns = more both.1 in
         cc (both.0)
 
 -- ---- from the left
 
 -- the first of a name hides a later one of it, where there is no later one
-first_hides : (b : Bool) (a : Option Tree) (u t : Tree) → (b ≡ true → a ≡ None) → or_else a (cond b (Some t) None) ≡ or_else (cond b (Some t) None) (or_else a (cond b (Some u) None))
+first_hides : (b : Bool) (a : Option Tree) (u t : Tree) → (b ≡ true → a ≡ None)
+    → or_else a (cond b (Some t) None) ≡ or_else (cond b (Some t) None) (or_else a (cond b (Some u) None))
 first_hides true None u t h = refl
 first_hides true (Some v) u t h = absurd (none_some _ v (h refl) refl)
 first_hides false a u t h = refl
 
 -- a name that is there once may stand first or last
-hidden : (b : Bool) (a : Option Tree) (t : Tree) → (b ≡ true → a ≡ None) → or_else a (cond b (Some t) None) ≡ or_else (cond b (Some t) None) a
+hidden : (b : Bool) (a : Option Tree) (t : Tree) → (b ≡ true → a ≡ None)
+    → or_else a (cond b (Some t) None) ≡ or_else (cond b (Some t) None) a
 hidden true None t h = refl
 hidden true (Some v) t h = absurd (none_some _ v (h refl) refl)
 hidden false a t h = or_else_none a
@@ -94,21 +104,31 @@ or_else_assoc (Some t) b c = refl
 above_itself : (name q : List ℕ) (ms : Members) → BeginsAbove name ms → Rise ms → bytes_eq name q ≡ true → last_of q ms ≡ None
 above_itself name q ms b r e = subst (λ z. last_of z ms ≡ None) ((bytes_eq-Decides name q).0 e) (absent name ms b r)
 
-pub last_put : (q name : List ℕ) (t : Tree) (ms : Members) → Rise ms → last_of q (put name t ms) ≡ or_else (cond (bytes_eq name q) (Some t) None) (last_of q ms)
+pub last_put : (q name : List ℕ) (t : Tree) (ms : Members) → Rise ms
+    → last_of q (put name t ms) ≡ or_else (cond (bytes_eq name q) (Some t) None) (last_of q ms)
 last_put q name t no_members r = sym (or_else_none _)
 last_put q name t (member other u ms) r = go (text_cmp name other) refl (last_put q name t ms r.1)
   where
-    go : (o : Ordering) → text_cmp name other ≡ o → last_of q (put name t ms) ≡ or_else (cond (bytes_eq name q) (Some t) None) (last_of q ms) → last_of q (put_first_by o name t other u ms (put name t ms)) ≡ or_else (cond (bytes_eq name q) (Some t) None) (last_of q (member other u ms))
+    go : (o : Ordering) → text_cmp name other ≡ o
+        → last_of q (put name t ms) ≡ or_else (cond (bytes_eq name q) (Some t) None) (last_of q ms)
+        → last_of q (put_first_by o name t other u ms (put name t ms))
+        ≡ or_else (cond (bytes_eq name q) (Some t) None) (last_of q (member other u ms))
     go Less e more = hidden (bytes_eq name q) (last_of q (member other u ms)) t (λ f. above_itself name q (member other u ms) e r f)
     go Equal e more =
         let same : name ≡ other = exact_bytes name other e in
-        first_hides (bytes_eq name q) (last_of q ms) u t (λ f. above_itself name q ms (subst (λ z. BeginsAbove z ms) (sym same) r.0) r.1 f) ∙ ap (λ z. or_else (cond (bytes_eq name q) (Some t) None) (or_else (last_of q ms) (cond (bytes_eq z q) (Some u) None))) same
-    go Greater e more = ap (λ z. or_else z (cond (bytes_eq other q) (Some u) None)) more ∙ or_else_assoc (cond (bytes_eq name q) (Some t) None) (last_of q ms) (cond (bytes_eq other q) (Some u) None)
+        first_hides (bytes_eq name q) (last_of q ms) u t
+        (λ f. above_itself name q ms (subst (λ z. BeginsAbove z ms) (sym same) r.0) r.1 f)
+        ∙ ap (λ z. or_else (cond (bytes_eq name q) (Some t) None)
+        (or_else (last_of q ms) (cond (bytes_eq z q) (Some u) None))) same
+    go Greater e more = ap (λ z. or_else z (cond (bytes_eq other q) (Some u) None)) more
+        ∙ or_else_assoc (cond (bytes_eq name q) (Some t) None) (last_of q ms)
+        (cond (bytes_eq other q) (Some u) None)
 
 greater_less : (a b : List ℕ) → text_cmp a b ≡ Greater → text_cmp b a ≡ Less
 greater_less a b e = nat_list_cmp_total.antisymm b a ∙ ap ordering_reverse e
 
-above_put : (first name : List ℕ) (t : Tree) (ms : Members) → text_cmp first name ≡ Less → BeginsAbove first ms → BeginsAbove first (put name t ms)
+above_put : (first name : List ℕ) (t : Tree) (ms : Members) → text_cmp first name ≡ Less → BeginsAbove first ms
+    → BeginsAbove first (put name t ms)
 above_put first name t no_members p q = p
 above_put first name t (member other u ms) p q = go (text_cmp name other)
   where
@@ -130,7 +150,8 @@ rise_put_all : (f : ℤ → Tree) (made ms : Members) → Rise made → Rise (pu
 rise_put_all f made no_members h = h
 rise_put_all f made (member name t ms) h = rise_put_all f (put name (norm_by f t) made) ms (rise_put name (norm_by f t) made h)
 
-last_put_all : (f : ℤ → Tree) (q : List ℕ) (made ms : Members) → Rise made → last_of q (put_all_by f made ms) ≡ or_else (option_map (norm_by f) (last_of q ms)) (last_of q made)
+last_put_all : (f : ℤ → Tree) (q : List ℕ) (made ms : Members) → Rise made
+    → last_of q (put_all_by f made ms) ≡ or_else (option_map (norm_by f) (last_of q ms)) (last_of q made)
 last_put_all f q made no_members h = refl
 last_put_all f q made (member name t ms) h =
     last_put_all f q (put name (norm_by f t) made) ms (rise_put name (norm_by f t) made h)
@@ -140,8 +161,10 @@ last_put_all f q made (member name t ms) h =
 
 -- members that are read from the left into a map are those of the normal form
 pub put_all_norm : (f : ℤ → Tree) (ms : Members) → put_all_by f no_members ms ≡ norm_members_by f ms
-put_all_norm f ms = one_rising _ _ (rise_put_all f no_members ms tt) (norm_rises f ms) (λ q. last_put_all f q no_members ms tt ∙ or_else_none _ ∙ sym (norm_keeps_last f q ms))
+put_all_norm f ms = one_rising _ _ (rise_put_all f no_members ms tt) (norm_rises f ms)
+    (λ q. last_put_all f q no_members ms tt ∙ or_else_none _ ∙ sym (norm_keeps_last f q ms))
 
 -- members that rise by their names and have at each name the normal form of the last tree are the normal form
-pub norm_only : (f : ℤ → Tree) (ms ns : Members) → Rise ns → ((q : List ℕ) → last_of q ns ≡ option_map (norm_by f) (last_of q ms)) → ns ≡ norm_members_by f ms
+pub norm_only : (f : ℤ → Tree) (ms ns : Members) → Rise ns
+    → ((q : List ℕ) → last_of q ns ≡ option_map (norm_by f) (last_of q ms)) → ns ≡ norm_members_by f ms
 norm_only f ms ns r h = one_rising ns (norm_members_by f ms) r (norm_rises f ms) (λ q. h q ∙ sym (norm_keeps_last f q ms))

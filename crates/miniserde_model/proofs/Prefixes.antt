@@ -1,7 +1,8 @@
 -- If a text splits in two ways into a part that the grammar derives and a rest, both parts stand for the same value
 -- and both rests are equal. `Prefix` states this for two predicates, and one lemma carries it through each construct:
 -- surrounding whitespace, a name with its colon, a sequence, and a pair of brackets.
-use Rattle.std.proofs.Common.{◌≡◌, ℕ, Bool, true, false, ◌||◌, List, [], ◌∷◌, ◌++◌, refl, sym, ap, ◌∙◌, append_assoc, arith, inl, inr, true≢false}
+use Rattle.std.proofs.Common.{◌≡◌, ℕ, Bool, true, false, ◌||◌, List, [], ◌∷◌, ◌++◌, refl, sym, ap, ◌∙◌}
+use Rattle.std.proofs.Common.{append_assoc, arith, inl, inr, true≢false}
 use Rattle.std.proofs.lemmas.Bool.Decides.{nat_tests}
 use Rattle.miniserde_model.specs.Whitespace.{IsSpace, IsWhitespace}
 use Rattle.miniserde_model.specs.Value.{Spaced, Named, Then, Between}
@@ -58,40 +59,58 @@ space_ends_number [] x h s = end_no_number x s
 space_ends_number (c ∷ w) x h s = space_no_number c h.0
 
 regroup : (a x : List ℕ) {P : List ℕ → Type 0} (p : Spaced P a) → a ++ x ≡ p.before ++ (p.inner ++ (p.after ++ x))
-regroup a x p = ap (λ z. z ++ x) p.text ∙ append_assoc p.before (p.inner ++ p.after) x ∙ ap (λ z. p.before ++ z) (append_assoc p.inner p.after x)
+regroup a x p = ap (λ z. z ++ x) p.text ∙ append_assoc p.before (p.inner ++ p.after) x ∙ ap (λ z. p.before ++ z)
+    (append_assoc p.inner p.after x)
 
-pub same_spaced : {P Q : List ℕ → Type 0} {R : Type 0} → Heads P → Heads Q → Prefix P Q (StopsAt is_number_byte) R → Prefix (Spaced P) (Spaced Q) AtEnd R
+pub same_spaced : {P Q : List ℕ → Type 0} {R : Type 0} → Heads P → Heads Q → Prefix P Q (StopsAt is_number_byte) R
+    → Prefix (Spaced P) (Spaced Q) AtEnd R
 same_spaced hp hq same a b x y p q sx sy e =
     let f : p.before ++ (p.inner ++ (p.after ++ x)) ≡ q.before ++ (q.inner ++ (q.after ++ y)) = sym (regroup a x p) ∙ e ∙ regroup b y q in
-    let one = same_run is_space p.before q.before _ _ (whitespace_passes p.before p.is_before) (whitespace_passes q.before q.is_before) (hp.no_space p.inner _ p.is_inner) (hq.no_space q.inner _ q.is_inner) f in
-    let two = same p.inner q.inner _ _ p.is_inner q.is_inner (space_ends_number p.after x p.is_after sx) (space_ends_number q.after y q.is_after sy) one.1 in
-    let three = same_run is_space p.after q.after x y (whitespace_passes p.after p.is_after) (whitespace_passes q.after q.is_after) (end_no_space x sx) (end_no_space y sy) two.1 in
+    let one = same_run is_space p.before q.before _ _ (whitespace_passes p.before p.is_before)
+    (whitespace_passes q.before q.is_before) (hp.no_space p.inner _ p.is_inner)
+    (hq.no_space q.inner _ q.is_inner) f in
+    let two = same p.inner q.inner _ _ p.is_inner q.is_inner (space_ends_number p.after x p.is_after sx)
+    (space_ends_number q.after y q.is_after sy) one.1 in
+    let three = same_run is_space p.after q.after x y (whitespace_passes p.after p.is_after)
+    (whitespace_passes q.after q.is_after) (end_no_space x sx) (end_no_space y sy) two.1 in
     (two.0, three.1)
 
-pub same_named : {N M V U : List ℕ → Type 0} {R S : Type 0} → Prefix (Spaced N) (Spaced M) AtEnd R → Prefix (Spaced V) (Spaced U) AtEnd S → Prefix (Named N V) (Named M U) AtEnd (R × S)
+pub same_named : {N M V U : List ℕ → Type 0} {R S : Type 0} → Prefix (Spaced N) (Spaced M) AtEnd R
+    → Prefix (Spaced V) (Spaced U) AtEnd S → Prefix (Named N V) (Named M U) AtEnd (R × S)
 same_named names values a b x y p q sx sy e =
-    let f : p.name ++ 58 ∷ (p.value ++ x) ≡ q.name ++ 58 ∷ (q.value ++ y) = sym (append_assoc p.name (58 ∷ p.value) x) ∙ ap (λ z. z ++ x) (sym p.text) ∙ e ∙ ap (λ z. z ++ y) q.text ∙ append_assoc q.name (58 ∷ q.value) y in
+    let f : p.name ++ 58 ∷ (p.value ++ x) ≡ q.name ++ 58 ∷ (q.value ++ y) =
+    sym (append_assoc p.name (58 ∷ p.value) x) ∙ ap (λ z. z ++ x) (sym p.text) ∙ e ∙ ap (λ z. z ++ y) q.text
+    ∙ append_assoc q.name (58 ∷ q.value) y in
     let one = names p.name q.name _ _ p.is_name q.is_name refl refl f in
     let g : p.value ++ x ≡ q.value ++ y = cc (one.1) in
     let two = values p.value q.value x y p.is_value q.is_value sx sy g in
     ((one.0, two.0), two.1)
 
-pub same_then : {P Q M N : List ℕ → Type 0} {R S : Type 0} (z : ℕ) → ((b x : List ℕ) → M b → Closes z x → AtEnd (b ++ x)) → ((b x : List ℕ) → N b → Closes z x → AtEnd (b ++ x)) → Prefix P Q AtEnd R → Prefix M N (Closes z) S → Prefix (Then P M) (Then Q N) (Closes z) (R × S)
+pub same_then : {P Q M N : List ℕ → Type 0} {R S : Type 0} (z : ℕ)
+    → ((b x : List ℕ) → M b → Closes z x → AtEnd (b ++ x)) → ((b x : List ℕ) → N b → Closes z x → AtEnd (b ++ x))
+    → Prefix P Q AtEnd R → Prefix M N (Closes z) S → Prefix (Then P M) (Then Q N) (Closes z) (R × S)
 same_then z em en first rest a b x y p q sx sy e =
-    let f : p.first ++ (p.rest ++ x) ≡ q.first ++ (q.rest ++ y) = sym (append_assoc p.first p.rest x) ∙ ap (λ z. z ++ x) (sym p.text) ∙ e ∙ ap (λ z. z ++ y) q.text ∙ append_assoc q.first q.rest y in
+    let f : p.first ++ (p.rest ++ x) ≡ q.first ++ (q.rest ++ y) =
+    sym (append_assoc p.first p.rest x) ∙ ap (λ z. z ++ x) (sym p.text) ∙ e ∙ ap (λ z. z ++ y) q.text
+    ∙ append_assoc q.first q.rest y in
     let one = first p.first q.first _ _ p.is_first q.is_first (em p.rest x p.is_rest sx) (en q.rest y q.is_rest sy) f in
     let two = rest p.rest q.rest x y p.is_rest q.is_rest sx sy one.1 in
     ((one.0, two.0), two.1)
 
-pub same_between : {M N : List ℕ → Type 0} {S : Type 0} (left right : ℕ) → Prefix M N (Closes right) S → Prefix (Between left M right) (Between left N right) (StopsAt is_number_byte) S
+pub same_between : {M N : List ℕ → Type 0} {S : Type 0} (left right : ℕ) → Prefix M N (Closes right) S
+    → Prefix (Between left M right) (Between left N right) (StopsAt is_number_byte) S
 same_between left right same a b x y p q sx sy e =
-    let f : ◌≡◌ {A = List ℕ} (left ∷ (p.inside ++ right ∷ x)) (left ∷ (q.inside ++ right ∷ y)) = ap (λ z. left ∷ z) (sym (append_assoc p.inside (right ∷ []) x)) ∙ ap (λ z. z ++ x) (sym p.text) ∙ e ∙ ap (λ z. z ++ y) q.text ∙ ap (λ z. left ∷ z) (append_assoc q.inside (right ∷ []) y) in
+    let f : ◌≡◌ {A = List ℕ} (left ∷ (p.inside ++ right ∷ x)) (left ∷ (q.inside ++ right ∷ y)) =
+    ap (λ z. left ∷ z) (sym (append_assoc p.inside (right ∷ []) x)) ∙ ap (λ z. z ++ x) (sym p.text) ∙ e
+    ∙ ap (λ z. z ++ y) q.text ∙ ap (λ z. left ∷ z) (append_assoc q.inside (right ∷ []) y) in
     let g : p.inside ++ right ∷ x ≡ q.inside ++ right ∷ y = cc in
     let one = same p.inside q.inside (right ∷ x) (right ∷ y) p.is_inside q.is_inside (x, refl) (y, refl) g in
     (one.0, cc (one.1))
 
 -- whitespace and a closing bracket are no value
-pub space_no_piece : {Q : List ℕ → Type 0} (z : ℕ) → is_space z ≡ false → Heads Q → BeginsNot z Q → (a b x y : List ℕ) → IsWhitespace a → Spaced Q b → a ++ z ∷ x ≡ b ++ y → ⊥
+pub space_no_piece : {Q : List ℕ → Type 0} (z : ℕ) → is_space z ≡ false → Heads Q → BeginsNot z Q
+    → (a b x y : List ℕ) → IsWhitespace a → Spaced Q b → a ++ z ∷ x ≡ b ++ y → ⊥
 space_no_piece z hz hq nq a b x y w q e =
-    let one = same_run is_space a q.before (z ∷ x) (q.inner ++ (q.after ++ y)) (whitespace_passes a w) (whitespace_passes q.before q.is_before) hz (hq.no_space q.inner _ q.is_inner) (e ∙ regroup b y q) in
+    let one = same_run is_space a q.before (z ∷ x) (q.inner ++ (q.after ++ y)) (whitespace_passes a w)
+    (whitespace_passes q.before q.is_before) hz (hq.no_space q.inner _ q.is_inner) (e ∙ regroup b y q) in
     nq q.inner (q.after ++ y) x q.is_inner (sym one.1)

@@ -1,12 +1,15 @@
 -- If a text spells a list of events, the list begins with the events of a tree, and the text begins with a spelling
 -- of that tree. By recursion over the number of events: `find_value`, `find_elements` and `find_members` each find
 -- one construct, and the events and the text that it leaves.
-use Rattle.std.proofs.Common.{◌≡◌, ℕ, zero, suc, ◌≤◌, List, [], ◌∷◌, ◌++◌, length, refl, sym, ap, ◌∙◌, append_assoc, append-nil, arith, length-append}
-use Rattle.miniserde_model.specs.Tree.{Tree, null, truth, nonneg, neg, num, str, list, members, Trees, no_trees, tree, Members, no_members, member}
+use Rattle.std.proofs.Common.{◌≡◌, ℕ, zero, suc, ◌≤◌, List, [], ◌∷◌, ◌++◌, length, refl, sym, ap, ◌∙◌, append_assoc}
+use Rattle.std.proofs.Common.{append-nil, arith, length-append}
+use Rattle.miniserde_model.specs.Tree.{Tree, null, truth, nonneg, neg, num, str, list, members, Trees, no_trees}
+use Rattle.miniserde_model.specs.Tree.{tree, Members, no_members, member}
 use Rattle.miniserde_model.specs.String.{IsString}
 use Rattle.miniserde_model.specs.Whitespace.{IsWhitespace}
 use Rattle.miniserde_model.specs.Value.{Spaced, Named, IsValue, AreElements, AreMoreElements, AreMembers, AreMoreMembers, IsJson}
-use Rattle.miniserde_model.specs.Step.{Step, boolean, string, negative, nonnegative, float, seq, element, map, key, finish, events, child_events, member_events}
+use Rattle.miniserde_model.specs.Step.{Step, boolean, string, negative, nonnegative, float, seq, element, map, key}
+use Rattle.miniserde_model.specs.Step.{finish, events, child_events, member_events}
 use Rattle.miniserde_model.specs.Step as step
 use Rattle.miniserde_model.specs.Lexing.{IsName}
 use Rattle.miniserde_model.specs.declared.kind.Kind.{Kind}
@@ -75,27 +78,50 @@ shorter n es st b v h = omega (arith, ap length v.is, length-append (events v.fo
 padded : (t : Tree) (x v y : List ℕ) → IsWhitespace x → IsValue t v → IsWhitespace y → Spaced (IsValue t) (x ++ (v ++ y))
 padded t x v y h p k = record { before = x; inner = v; after = y; text = refl; is_before = h; is_inner = p; is_after = k }
 
-opened : (c z : ℕ) (b space part rest inside more : List ℕ) → b ≡ space ++ (part ++ rest) → part ≡ c ∷ [] → rest ≡ inside ++ z ∷ more → b ≡ space ++ ((c ∷ (inside ++ z ∷ [])) ++ more)
-opened c z b space part rest inside more e p r = e ∙ ap (λ x. space ++ (x ++ rest)) p ∙ ap (λ x. space ++ (c ∷ x)) (r ∙ sym (append_assoc inside (z ∷ []) more))
+opened : (c z : ℕ) (b space part rest inside more : List ℕ) → b ≡ space ++ (part ++ rest) → part ≡ c ∷ []
+    → rest ≡ inside ++ z ∷ more → b ≡ space ++ ((c ∷ (inside ++ z ∷ [])) ++ more)
+opened c z b space part rest inside more e p r = e ∙ ap (λ x. space ++ (x ++ rest)) p ∙ ap (λ x. space ++ (c ∷ x))
+    (r ∙ sym (append_assoc inside (z ∷ []) more))
 
 joined : (z : ℕ) (b x v r y m rest : List ℕ) → b ≡ x ++ (v ++ r) → r ≡ y ++ (m ++ z ∷ rest) → b ≡ ((x ++ (v ++ y)) ++ m) ++ z ∷ rest
 joined z b x v r y m rest e f = e ∙ ap (λ s. x ++ (v ++ s)) f ∙ simp append_assoc
 
-events_joined : (e : Step) (es fs gs hs left : List Step) → es ≡ fs ++ gs → gs ≡ hs ++ finish ∷ left → e ∷ es ≡ (e ∷ (fs ++ hs)) ++ finish ∷ left
+events_joined : (e : Step) (es fs gs hs left : List Step) → es ≡ fs ++ gs → gs ≡ hs ++ finish ∷ left
+    → e ∷ es ≡ (e ∷ (fs ++ hs)) ++ finish ∷ left
 events_joined e es fs gs hs left p q = ap (λ z. e ∷ z) (p ∙ ap (λ z. fs ++ z) q ∙ sym (append_assoc fs hs (finish ∷ left)))
 
-named : {V : List ℕ → Type 0} (name x part y : List ℕ) → IsWhitespace x → IsName name part → Spaced V y → (m : List ℕ) × (Named (λ n. IsString n name) V m) × (m ≡ x ++ (part ++ y))
+named : {V : List ℕ → Type 0} (name x part y : List ℕ) → IsWhitespace x → IsName name part → Spaced V y
+    → (m : List ℕ) × (Named (λ n. IsString n name) V m) × (m ≡ x ++ (part ++ y))
 named name x part y h p v =
     let flat : (x ++ (p.spelled ++ p.space)) ++ 58 ∷ y ≡ x ++ ((p.spelled ++ (p.space ++ 58 ∷ [])) ++ y) = simp append_assoc in (
       (x ++ (p.spelled ++ p.space)) ++ 58 ∷ y,
-      record { name = x ++ (p.spelled ++ p.space); value = y; text = refl; is_name = record { before = x; inner = p.spelled; after = p.space; text = refl; is_before = h; is_inner = p.is_spelled; is_after = p.is_space }; is_value = v },
+      record {
+        name = x ++ (p.spelled ++ p.space);
+        value = y;
+        text = refl;
+        is_name =
+            record {
+              before = x;
+              inner = p.spelled;
+              after = p.space;
+              text = refl;
+              is_before = h;
+              is_inner =
+                  p.is_spelled;
+              is_after = p.is_space;
+            };
+        is_value = v;
+      },
       flat ∙ ap (λ z. x ++ (z ++ y)) (sym p.text),
     )
 
 -- the text of a member and of more, where `m` is the member's
-joined_member : (z : ℕ) (b x part r m y v t w more rest : List ℕ) → b ≡ x ++ (part ++ r) → m ≡ x ++ (part ++ (y ++ (v ++ w))) → r ≡ y ++ (v ++ t) → t ≡ w ++ (more ++ z ∷ rest) → b ≡ (m ++ more) ++ z ∷ rest
+joined_member : (z : ℕ) (b x part r m y v t w more rest : List ℕ) → b ≡ x ++ (part ++ r)
+    → m ≡ x ++ (part ++ (y ++ (v ++ w))) → r ≡ y ++ (v ++ t) → t ≡ w ++ (more ++ z ∷ rest)
+    → b ≡ (m ++ more) ++ z ∷ rest
 joined_member z b x part r m y v t w more rest e f g h =
-    let flat : x ++ (part ++ (y ++ (v ++ (w ++ (more ++ z ∷ rest))))) ≡ ((x ++ (part ++ (y ++ (v ++ w)))) ++ more) ++ z ∷ rest = simp append_assoc in
+    let flat : x ++ (part ++ (y ++ (v ++ (w ++ (more ++ z ∷ rest))))) ≡ ((x ++ (part ++ (y ++ (v ++ w)))) ++ more)
+    ++ z ∷ rest = simp append_assoc in
     e ∙ ap (λ s. x ++ (part ++ s)) (g ∙ ap (λ s. y ++ (v ++ s)) h) ∙ flat ∙ ap (λ s. (s ++ more) ++ z ∷ rest) (sym f)
 
 comma_text : (b space part rest tail : List ℕ) → b ≡ space ++ (part ++ rest) → part ≡ 44 ∷ [] → rest ≡ tail → b ≡ space ++ (44 ∷ tail)
@@ -103,61 +129,304 @@ comma_text b space part rest tail e p r = e ∙ ap (λ z. space ++ (z ++ rest)) 
 
 mutual
   pub find_value : (n : ℕ) (es : List Step) (st : List Kind) (b : List ℕ) → length es ≤ n → Spells due es st b → FoundValue es st b
-  find_value n (step.null ∷ es) st b h p = record { found = null; left = es; space = p.space; value = p.part; rest = p.rest; is = refl; text = p.text; is_space = p.is_space; is_value = p.is_part; is_rest = p.is_rest }
-  find_value n (boolean x ∷ es) st b h p = record { found = truth x; left = es; space = p.space; value = p.part; rest = p.rest; is = refl; text = p.text; is_space = p.is_space; is_value = p.is_part; is_rest = p.is_rest }
-  find_value n (string s ∷ es) st b h p = record { found = str s; left = es; space = p.space; value = p.part; rest = p.rest; is = refl; text = p.text; is_space = p.is_space; is_value = p.is_part; is_rest = p.is_rest }
-  find_value n (negative z ∷ es) st b h p = record { found = neg z; left = es; space = p.space; value = p.part; rest = p.rest; is = refl; text = p.text; is_space = p.is_space; is_value = p.is_part; is_rest = p.is_rest }
-  find_value n (nonnegative m ∷ es) st b h p = record { found = nonneg m; left = es; space = p.space; value = p.part; rest = p.rest; is = refl; text = p.text; is_space = p.is_space; is_value = p.is_part; is_rest = p.is_rest }
-  find_value n (float x ∷ es) st b h p = record { found = num x; left = es; space = p.space; value = p.part; rest = p.rest; is = refl; text = p.text; is_space = p.is_space; is_value = p.is_part; is_rest = p.is_rest }
+  find_value n (step.null ∷ es) st b h p =
+      record {
+        found = null;
+        left = es;
+        space = p.space;
+        value = p.part;
+        rest = p.rest;
+        is = refl;
+        text =
+            p.text;
+        is_space = p.is_space;
+        is_value = p.is_part;
+        is_rest = p.is_rest;
+      }
+  find_value n (boolean x ∷ es) st b h p =
+      record {
+        found = truth x;
+        left = es;
+        space = p.space;
+        value = p.part;
+        rest = p.rest;
+        is = refl;
+        text =
+            p.text;
+        is_space = p.is_space;
+        is_value = p.is_part;
+        is_rest = p.is_rest;
+      }
+  find_value n (string s ∷ es) st b h p =
+      record {
+        found = str s;
+        left = es;
+        space = p.space;
+        value = p.part;
+        rest = p.rest;
+        is = refl;
+        text =
+            p.text;
+        is_space = p.is_space;
+        is_value = p.is_part;
+        is_rest = p.is_rest;
+      }
+  find_value n (negative z ∷ es) st b h p =
+      record {
+        found = neg z;
+        left = es;
+        space = p.space;
+        value = p.part;
+        rest = p.rest;
+        is = refl;
+        text =
+            p.text;
+        is_space = p.is_space;
+        is_value = p.is_part;
+        is_rest = p.is_rest;
+      }
+  find_value n (nonnegative m ∷ es) st b h p =
+      record {
+        found = nonneg m;
+        left = es;
+        space = p.space;
+        value = p.part;
+        rest = p.rest;
+        is = refl;
+        text =
+            p.text;
+        is_space = p.is_space;
+        is_value = p.is_part;
+        is_rest = p.is_rest;
+      }
+  find_value n (float x ∷ es) st b h p =
+      record {
+        found = num x;
+        left = es;
+        space = p.space;
+        value = p.part;
+        rest = p.rest;
+        is = refl;
+        text =
+            p.text;
+        is_space = p.is_space;
+        is_value = p.is_part;
+        is_rest = p.is_rest;
+      }
   find_value (suc n) (seq ∷ es) st b h p =
       let f = find_elements n es st p.rest (omega arith) p.is_rest in
-      record { found = list f.found; left = f.left; space = p.space; value = 91 ∷ (f.inside ++ 93 ∷ []); rest = f.rest; is = ap (λ z. seq ∷ z) (f.is ∙ sym (append_assoc (child_events f.found) (finish ∷ []) f.left)); text = opened 91 93 b p.space p.part p.rest f.inside f.rest p.text p.is_part f.text; is_space = p.is_space; is_value = record { inside = f.inside; text = refl; is_inside = f.is_inside }; is_rest = f.is_rest }
+      record {
+        found = list f.found;
+        left = f.left;
+        space = p.space;
+        value = 91 ∷ (f.inside ++ 93 ∷ []);
+        rest =
+            f.rest;
+        is = ap (λ z. seq ∷ z) (f.is ∙ sym (append_assoc (child_events f.found) (finish ∷ []) f.left));
+        text = opened 91 93 b p.space p.part p.rest f.inside f.rest p.text p.is_part f.text;
+        is_space =
+            p.is_space;
+        is_value = record { inside = f.inside; text = refl; is_inside = f.is_inside };
+        is_rest =
+            f.is_rest;
+      }
   find_value (suc n) (map ∷ es) st b h p =
       let f = find_members n es st p.rest (omega arith) p.is_rest in
-      record { found = members f.found; left = f.left; space = p.space; value = 123 ∷ (f.inside ++ 125 ∷ []); rest = f.rest; is = ap (λ z. map ∷ z) (f.is ∙ sym (append_assoc (member_events f.found) (finish ∷ []) f.left)); text = opened 123 125 b p.space p.part p.rest f.inside f.rest p.text p.is_part f.text; is_space = p.is_space; is_value = record { inside = f.inside; text = refl; is_inside = f.is_inside }; is_rest = f.is_rest }
+      record {
+        found = members f.found;
+        left = f.left;
+        space = p.space;
+        value = 123 ∷ (f.inside ++ 125 ∷ []);
+        rest =
+            f.rest;
+        is = ap (λ z. map ∷ z) (f.is ∙ sym (append_assoc (member_events f.found) (finish ∷ []) f.left));
+        text = opened 123 125 b p.space p.part p.rest f.inside f.rest p.text p.is_part f.text;
+        is_space =
+            p.is_space;
+        is_value = record { inside = f.inside; text = refl; is_inside = f.is_inside };
+        is_rest =
+            f.is_rest;
+      }
   find_value zero (seq ∷ es) st b h p = absurd (omega arith)
   find_value zero (map ∷ es) st b h p = absurd (omega arith)
   find_value n _ st b h p = absurd p
 
-  find_elements : (n : ℕ) (es : List Step) (st : List Kind) (b : List ℕ) → length es ≤ n → Spells first es (Seq ∷ st) b → FoundElements es st b
-  find_elements n (finish ∷ es) st b h p = record { found = no_trees; left = es; inside = p.space; rest = p.rest; is = refl; text = p.text ∙ ap (λ z. p.space ++ (z ++ p.rest)) p.is_part; is_inside = p.is_space; is_rest = p.is_rest }
+  find_elements : (n : ℕ) (es : List Step) (st : List Kind) (b : List ℕ) → length es ≤ n
+      → Spells first es (Seq ∷ st) b → FoundElements es st b
+  find_elements n (finish ∷ es) st b h p =
+      record {
+        found = no_trees;
+        left = es;
+        inside = p.space;
+        rest = p.rest;
+        is = refl;
+        text =
+            p.text ∙ ap (λ z. p.space ++ (z ++ p.rest)) p.is_part;
+        is_inside = p.is_space;
+        is_rest = p.is_rest;
+      }
   find_elements (suc n) (element ∷ es) st b h p =
       let v = find_value n es (Seq ∷ st) b (omega arith) p in
       let m = find_more n v.left st v.rest (shorter n es _ b v (omega arith)) v.is_rest in
-      record { found = tree v.found m.found; left = m.left; inside = (v.space ++ (v.value ++ m.space)) ++ m.more; rest = m.rest; is = events_joined element es (events v.found) v.left (child_events m.found) m.left v.is m.is; text = joined 93 b v.space v.value v.rest m.space m.more m.rest v.text m.text; is_inside = record { first = v.space ++ (v.value ++ m.space); rest = m.more; text = refl; is_first = padded v.found v.space v.value m.space v.is_space v.is_value m.is_space; is_rest = m.is_more }; is_rest = m.is_rest }
+      record {
+        found = tree v.found m.found;
+        left = m.left;
+        inside = (v.space ++ (v.value ++ m.space)) ++ m.more;
+        rest = m.rest;
+        is = events_joined element es (events v.found) v.left (child_events m.found) m.left v.is
+            m.is;
+        text = joined 93 b v.space v.value v.rest m.space m.more m.rest v.text m.text;
+        is_inside =
+            record {
+              first = v.space ++ (v.value ++ m.space);
+              rest = m.more;
+              text = refl;
+              is_first =
+                  padded v.found v.space v.value m.space v.is_space v.is_value m.is_space;
+              is_rest = m.is_more;
+            };
+        is_rest = m.is_rest;
+      }
   find_elements zero (element ∷ es) st b h p = absurd (omega arith)
   find_elements n _ st b h p = absurd p
 
   find_more : (n : ℕ) (es : List Step) (st : List Kind) (b : List ℕ) → length es ≤ n → Spells after es (Seq ∷ st) b → FoundMore es st b
-  find_more n (finish ∷ es) st b h p = record { found = no_trees; left = es; space = p.space; more = []; rest = p.rest; is = refl; text = p.text ∙ ap (λ z. p.space ++ (z ++ p.rest)) p.is_part; is_space = p.is_space; is_more = refl; is_rest = p.is_rest }
+  find_more n (finish ∷ es) st b h p =
+      record {
+        found = no_trees;
+        left = es;
+        space = p.space;
+        more = [];
+        rest = p.rest;
+        is = refl;
+        text =
+            p.text ∙ ap (λ z. p.space ++ (z ++ p.rest)) p.is_part;
+        is_space = p.is_space;
+        is_more = refl;
+        is_rest =
+            p.is_rest;
+      }
   find_more (suc n) (element ∷ es) st b h p =
       let v = find_value n es (Seq ∷ st) p.rest (omega arith) p.is_rest in
       let m = find_more n v.left st v.rest (shorter n es _ p.rest v (omega arith)) v.is_rest in
       let c = (v.space ++ (v.value ++ m.space)) ++ m.more in
       let tail : p.rest ≡ c ++ 93 ∷ m.rest = joined 93 p.rest v.space v.value v.rest m.space m.more m.rest v.text m.text in
-      record { found = tree v.found m.found; left = m.left; space = p.space; more = 44 ∷ c; rest = m.rest; is = events_joined element es (events v.found) v.left (child_events m.found) m.left v.is m.is; text = comma_text b p.space p.part p.rest (c ++ 93 ∷ m.rest) p.text p.is_part tail; is_space = p.is_space; is_more = (c, refl, record { first = v.space ++ (v.value ++ m.space); rest = m.more; text = refl; is_first = padded v.found v.space v.value m.space v.is_space v.is_value m.is_space; is_rest = m.is_more }); is_rest = m.is_rest }
+      record {
+        found = tree v.found m.found;
+        left = m.left;
+        space = p.space;
+        more = 44 ∷ c;
+        rest = m.rest;
+        is =
+            events_joined element es (events v.found) v.left (child_events m.found) m.left v.is m.is;
+        text =
+            comma_text b p.space p.part p.rest (c ++ 93 ∷ m.rest) p.text p.is_part tail;
+        is_space =
+            p.is_space;
+        is_more = (
+          c,
+          refl,
+          record {
+            first = v.space ++ (v.value ++ m.space);
+            rest = m.more;
+            text = refl;
+            is_first =
+                padded v.found v.space v.value m.space v.is_space v.is_value m.is_space;
+            is_rest = m.is_more;
+          },
+        );
+        is_rest = m.is_rest;
+      }
   find_more zero (element ∷ es) st b h p = absurd (omega arith)
   find_more n _ st b h p = absurd p
 
-  find_members : (n : ℕ) (es : List Step) (st : List Kind) (b : List ℕ) → length es ≤ n → Spells first es (Map ∷ st) b → FoundMembers es st b
-  find_members n (finish ∷ es) st b h p = record { found = no_members; left = es; inside = p.space; rest = p.rest; is = refl; text = p.text ∙ ap (λ z. p.space ++ (z ++ p.rest)) p.is_part; is_inside = p.is_space; is_rest = p.is_rest }
+  find_members : (n : ℕ) (es : List Step) (st : List Kind) (b : List ℕ) → length es ≤ n
+      → Spells first es (Map ∷ st) b → FoundMembers es st b
+  find_members n (finish ∷ es) st b h p =
+      record {
+        found = no_members;
+        left = es;
+        inside = p.space;
+        rest = p.rest;
+        is = refl;
+        text =
+            p.text ∙ ap (λ z. p.space ++ (z ++ p.rest)) p.is_part;
+        is_inside = p.is_space;
+        is_rest = p.is_rest;
+      }
   find_members (suc n) (key s ∷ es) st b h p =
       let v = find_value n es (Map ∷ st) p.rest (omega arith) p.is_rest in
       let m = find_more_members n v.left st v.rest (shorter n es _ p.rest v (omega arith)) v.is_rest in
-      let d = named s p.space p.part (v.space ++ (v.value ++ m.space)) p.is_space p.is_part (padded v.found v.space v.value m.space v.is_space v.is_value m.is_space) in
-      record { found = member s v.found m.found; left = m.left; inside = d.0 ++ m.more; rest = m.rest; is = events_joined (key s) es (events v.found) v.left (member_events m.found) m.left v.is m.is; text = joined_member 125 b p.space p.part p.rest d.0 v.space v.value v.rest m.space m.more m.rest p.text d.2 v.text m.text; is_inside = record { first = d.0; rest = m.more; text = refl; is_first = d.1; is_rest = m.is_more }; is_rest = m.is_rest }
+      let d = named s p.space p.part (v.space ++ (v.value ++ m.space)) p.is_space p.is_part
+      (padded v.found v.space v.value m.space v.is_space v.is_value m.is_space) in
+      record {
+        found = member s v.found m.found;
+        left = m.left;
+        inside = d.0 ++ m.more;
+        rest = m.rest;
+        is =
+            events_joined (key s) es (events v.found) v.left (member_events m.found) m.left v.is m.is;
+        text =
+            joined_member 125 b p.space p.part p.rest d.0 v.space v.value v.rest m.space m.more m.rest p.text d.2
+            v.text m.text;
+        is_inside =
+            record { first = d.0; rest = m.more; text = refl; is_first = d.1; is_rest = m.is_more };
+        is_rest =
+            m.is_rest;
+      }
   find_members zero (key s ∷ es) st b h p = absurd (omega arith)
   find_members n _ st b h p = absurd p
 
-  find_more_members : (n : ℕ) (es : List Step) (st : List Kind) (b : List ℕ) → length es ≤ n → Spells after es (Map ∷ st) b → FoundMoreMembers es st b
-  find_more_members n (finish ∷ es) st b h p = record { found = no_members; left = es; space = p.space; more = []; rest = p.rest; is = refl; text = p.text ∙ ap (λ z. p.space ++ (z ++ p.rest)) p.is_part; is_space = p.is_space; is_more = refl; is_rest = p.is_rest }
+  find_more_members : (n : ℕ) (es : List Step) (st : List Kind) (b : List ℕ) → length es ≤ n
+      → Spells after es (Map ∷ st) b → FoundMoreMembers es st b
+  find_more_members n (finish ∷ es) st b h p =
+      record {
+        found = no_members;
+        left = es;
+        space = p.space;
+        more = [];
+        rest = p.rest;
+        is = refl;
+        text =
+            p.text ∙ ap (λ z. p.space ++ (z ++ p.rest)) p.is_part;
+        is_space = p.is_space;
+        is_more = refl;
+        is_rest =
+            p.is_rest;
+      }
   find_more_members (suc n) (key s ∷ es) st b h q =
       let p = q.is_rest in
       let v = find_value n es (Map ∷ st) p.rest (omega arith) p.is_rest in
       let m = find_more_members n v.left st v.rest (shorter n es _ p.rest v (omega arith)) v.is_rest in
-      let d = named s p.space p.part (v.space ++ (v.value ++ m.space)) p.is_space p.is_part (padded v.found v.space v.value m.space v.is_space v.is_value m.is_space) in
-      let tail : q.rest ≡ (d.0 ++ m.more) ++ 125 ∷ m.rest = joined_member 125 q.rest p.space p.part p.rest d.0 v.space v.value v.rest m.space m.more m.rest p.text d.2 v.text m.text in
-      record { found = member s v.found m.found; left = m.left; space = q.space; more = 44 ∷ (d.0 ++ m.more); rest = m.rest; is = events_joined (key s) es (events v.found) v.left (member_events m.found) m.left v.is m.is; text = comma_text b q.space q.part q.rest ((d.0 ++ m.more) ++ 125 ∷ m.rest) q.text q.is_part tail; is_space = q.is_space; is_more = (d.0 ++ m.more, refl, record { first = d.0; rest = m.more; text = refl; is_first = d.1; is_rest = m.is_more }); is_rest = m.is_rest }
+      let d = named s p.space p.part (v.space ++ (v.value ++ m.space)) p.is_space p.is_part
+      (padded v.found v.space v.value m.space v.is_space v.is_value m.is_space) in
+      let tail : q.rest ≡ (d.0 ++ m.more) ++ 125 ∷ m.rest =
+      joined_member 125 q.rest p.space p.part p.rest d.0 v.space v.value v.rest m.space m.more m.rest p.text d.2
+      v.text m.text in
+      record {
+        found = member s v.found m.found;
+        left = m.left;
+        space = q.space;
+        more = 44 ∷ (d.0 ++ m.more);
+        rest =
+            m.rest;
+        is = events_joined (key s) es (events v.found) v.left (member_events m.found) m.left v.is m.is;
+        text = comma_text b q.space q.part q.rest ((d.0 ++ m.more) ++ 125 ∷ m.rest) q.text q.is_part tail;
+        is_space = q.is_space;
+        is_more = (
+          d.0 ++ m.more,
+          refl,
+          record {
+            first = d.0;
+            rest = m.more;
+            text = refl;
+            is_first = d.1;
+            is_rest =
+                m.is_more;
+          },
+        );
+        is_rest = m.is_rest;
+      }
   find_more_members zero (key s ∷ es) st b h p = absurd (omega arith)
   find_more_members n _ st b h p = absurd p
 
@@ -173,5 +442,17 @@ nothing_left (e ∷ es) b p = absurd (go e p)
 pub spells_json : (es : List Step) (b : List ℕ) → Spells due es [] b → (t : Tree) × (es ≡ events t) × IsJson b t
 spells_json es b p =
     let v = find_value (length es) es [] b (omega arith) p in
-    let end = nothing_left v.left v.rest v.is_rest in
-    (v.found, v.is ∙ ap (λ z. events v.found ++ z) end.0 ∙ append-nil (events v.found), record { before = v.space; inner = v.value; after = v.rest; text = v.text; is_before = v.is_space; is_inner = v.is_value; is_after = end.1 })
+    let end = nothing_left v.left v.rest v.is_rest in (
+      v.found,
+      v.is ∙ ap (λ z. events v.found ++ z) end.0 ∙ append-nil (events v.found),
+      record {
+        before = v.space;
+        inner = v.value;
+        after = v.rest;
+        text = v.text;
+        is_before =
+            v.is_space;
+        is_inner = v.is_value;
+        is_after = end.1;
+      },
+    )

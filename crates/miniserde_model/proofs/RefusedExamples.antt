@@ -1,7 +1,8 @@
 -- Each of the examples of invalid texts has no tree. The proof takes the text apart up to the byte that no rule
 -- allows: the first byte of a value (`at_front`), a byte of a number (`whole_number`), the start of an element
 -- (`element_first`), or the first character of a string (`behind_quote`).
-use Rattle.std.proofs.Common.{◌≡◌, ℕ, ◌+◌, ◌*◌, ◌<◌, false, List, [], ◌∷◌, ◌++◌, codes, length, length-append, refl, sym, ap, subst, ◌∙◌, append_assoc, append-nil, arith, inl, inr}
+use Rattle.std.proofs.Common.{◌≡◌, ℕ, ◌+◌, ◌*◌, ◌<◌, false, List, [], ◌∷◌, ◌++◌, codes, length, length-append, refl}
+use Rattle.std.proofs.Common.{sym, ap, subst, ◌∙◌, append_assoc, append-nil, arith, inl, inr}
 use Rattle.std.specs.List.{AllByRecursion}
 use Rattle.std.specs.Char.{digit_value}
 use Rattle.std.proofs.lemmas.Str.{char_from_byte}
@@ -45,8 +46,17 @@ value_kind t c r v x p e =
 
 at_front : (c : ℕ) (r : List ℕ) (t : Tree) → is_space c ≡ false → IsJson (c ∷ r) t → AtFront c r t
 at_front c r t s p =
-    let split = same_run is_space [] p.before (c ∷ r) (p.inner ++ p.after) tt (whitespace_passes p.before p.is_before) s ((value_heads t).no_space p.inner p.after p.is_inner) p.text in
-    record { value = p.inner; space = p.after; text = split.1; is_value = p.is_inner; is_space = p.is_after; of_kind = value_kind t c r p.inner p.after p.is_inner split.1 }
+    let split = same_run is_space [] p.before (c ∷ r) (p.inner ++ p.after) tt
+    (whitespace_passes p.before p.is_before) s ((value_heads t).no_space p.inner p.after p.is_inner) p.text in
+    record {
+      value = p.inner;
+      space = p.after;
+      text = split.1;
+      is_value = p.is_inner;
+      is_space =
+          p.is_after;
+      of_kind = value_kind t c r p.inner p.after p.is_inner split.1;
+    }
 
 no_value : (c : ℕ) (r : List ℕ) → is_space c ≡ false → kind_of_byte c ≡ 7 → HasNoTree (c ∷ r)
 no_value c r s k t p = let f = at_front c r t s p in omega (arith, k, f.of_kind, kind_below t)
@@ -65,12 +75,15 @@ number_of (num x) b k p = p.0
 number_of _ b k p = absurd (omega arith)
 
 -- a text of number bytes alone that has a tree is a number text
-whole_number : (c : ℕ) (r : List ℕ) (t : Tree) → kind_of_byte c ≡ 3 → AllPass is_number_byte (c ∷ r) → IsJson (c ∷ r) t → IsNumberText (c ∷ r)
+whole_number : (c : ℕ) (r : List ℕ) (t : Tree) → kind_of_byte c ≡ 3 → AllPass is_number_byte (c ∷ r)
+    → IsJson (c ∷ r) t → IsNumberText (c ∷ r)
 whole_number c r t k h p =
     let f = at_front c r t (known_no_space c (omega (arith, k))) p in
     let n = number_of t f.value (sym k ∙ f.of_kind) f.is_value in
-    let e : f.value ++ (f.space ++ []) ≡ (c ∷ r) ++ [] = ap (λ z. f.value ++ z) (append-nil f.space) ∙ sym f.text ∙ sym (append-nil (c ∷ r)) in
-    let run = same_run is_number_byte f.value (c ∷ r) (f.space ++ []) [] (number_pass f.value n) h (space_ends_number f.space [] f.is_space tt) tt e in
+    let e : f.value ++ (f.space ++ []) ≡ (c ∷ r) ++ [] = ap (λ z. f.value ++ z) (append-nil f.space) ∙ sym f.text
+    ∙ sym (append-nil (c ∷ r)) in
+    let run = same_run is_number_byte f.value (c ∷ r) (f.space ++ []) [] (number_pass f.value n) h
+    (space_ends_number f.space [] f.is_space tt) tt e in
     subst IsNumberText run.0 n
 
 unsigned : (c : ℕ) (r m w : List ℕ) → IsMinus m → (c ≡ 45 → ⊥) → c ∷ r ≡ m ++ w → c ∷ r ≡ w
@@ -131,7 +144,8 @@ no_fraction_digits t p =
 
 -- lists, one byte or value after another
 
-front_byte : (c d : ℕ) (r : List ℕ) (K : List ℕ → Type 0) → is_space c ≡ false → is_space d ≡ false → StandsThen (IsByte d) K (c ∷ r) → (c ≡ d) × K r
+front_byte : (c d : ℕ) (r : List ℕ) (K : List ℕ → Type 0) → is_space c ≡ false → is_space d ≡ false
+    → StandsThen (IsByte d) K (c ∷ r) → (c ≡ d) × K r
 front_byte c d r K hc hd p =
     let stop : StopsAt is_space (p.part ++ p.rest) = rw (p.is_part) hd in
     let split = same_run is_space [] p.space (c ∷ r) (p.part ++ p.rest) tt (whitespace_passes p.space p.is_space) hc stop p.text in
@@ -139,10 +153,12 @@ front_byte c d r K hc hd p =
     let rest : r ≡ p.rest = cc in
     (cc, subst K (sym rest) p.is_rest)
 
-no_value_due : (c : ℕ) (r : List ℕ) (es : List Step) (st : List Kind) → is_space c ≡ false → kind_of_byte c ≡ 7 → Spells due es st (c ∷ r) → ⊥
+no_value_due : (c : ℕ) (r : List ℕ) (es : List Step) (st : List Kind) → is_space c ≡ false → kind_of_byte c ≡ 7
+    → Spells due es st (c ∷ r) → ⊥
 no_value_due c r es st s k p =
     let v = find_value (length es) es st (c ∷ r) (omega arith) p in
-    let split = same_run is_space [] v.space (c ∷ r) (v.value ++ v.rest) tt (whitespace_passes v.space v.is_space) s ((value_heads v.found).no_space v.value v.rest v.is_value) v.text in
+    let split = same_run is_space [] v.space (c ∷ r) (v.value ++ v.rest) tt (whitespace_passes v.space v.is_space) s
+    ((value_heads v.found).no_space v.value v.rest v.is_value) v.text in
     omega (arith, k, value_kind v.found c r v.value v.rest v.is_value split.1, kind_below v.found)
 
 opened : (r : List ℕ) (t : Tree) → 5 ≡ kind t → IsJson (91 ∷ r) t → (es : List Step) × Spells first es (Seq ∷ []) r
@@ -154,20 +170,25 @@ list_opened : (r : List ℕ) (t : Tree) → IsJson (91 ∷ r) t → (es : List S
 list_opened r t p = opened r t (at_front 91 r t refl p).of_kind p
 
 -- a byte that is no `]` begins an element
-element_first : (c : ℕ) (r : List ℕ) (es : List Step) (st : List Kind) → is_space c ≡ false → (c ≡ 93 → ⊥) → Spells first es (Seq ∷ st) (c ∷ r) → (left : List Step) × Spells due left (Seq ∷ st) (c ∷ r)
+element_first : (c : ℕ) (r : List ℕ) (es : List Step) (st : List Kind) → is_space c ≡ false → (c ≡ 93 → ⊥)
+    → Spells first es (Seq ∷ st) (c ∷ r) → (left : List Step) × Spells due left (Seq ∷ st) (c ∷ r)
 element_first c r (element ∷ es) st s n p = (es, p)
 element_first c r (finish ∷ es) st s n p = absurd (n (front_byte c 93 r _ s refl p).0)
 element_first c r _ st s n p = absurd p
 
-comma_after : (r : List ℕ) (es : List Step) (st : List Kind) → Spells after es (Seq ∷ st) (44 ∷ r) → (left : List Step) × Spells due left (Seq ∷ st) r
+comma_after : (r : List ℕ) (es : List Step) (st : List Kind) → Spells after es (Seq ∷ st) (44 ∷ r)
+    → (left : List Step) × Spells due left (Seq ∷ st) r
 comma_after r (element ∷ es) st p = (es, (front_byte 44 44 r _ refl refl p).1)
 comma_after r (finish ∷ es) st p = let same : ◌≡◌ {A = ℕ} 44 93 = (front_byte 44 93 r _ refl refl p).0 in absurd (omega arith)
 comma_after r _ st p = absurd p
 
 -- a value and a comma
-value_comma : (t : Tree) (b r : List ℕ) (es : List Step) (st : List Kind) → IsValue t b → Spells due es (Seq ∷ st) (b ++ 44 ∷ r) → (left : List Step) × Spells due left (Seq ∷ st) r
+value_comma : (t : Tree) (b r : List ℕ) (es : List Step) (st : List Kind) → IsValue t b
+    → Spells due es (Seq ∷ st) (b ++ 44 ∷ r) → (left : List Step) × Spells due left (Seq ∷ st) r
 value_comma t b r es st v p =
-    let f = forced_value t es (Seq ∷ st) (b ++ 44 ∷ r) (record { space = []; part = b; rest = 44 ∷ r; text = refl; is_space = tt; is_part = v; is_rest = refl }) p in
+    let f = forced_value t es (Seq ∷ st) (b ++ 44 ∷ r)
+    (record { space = []; part = b; rest = 44 ∷ r; text = refl; is_space = tt; is_part = v; is_rest = refl }) p
+    in
     comma_after r f.0 st f.2
 
 wrong_bracket : HasNoTree (codes "[}")
@@ -199,14 +220,25 @@ record FirstPiece (b : List ℕ) : Type 0 where
   is_piece : IsPiece piece character
 
 first_piece : (z : ℕ) (r y inside cs : List ℕ) → (z ≡ 34 → ⊥) → ArePieces inside cs → inside ++ 34 ∷ y ≡ z ∷ r → FirstPiece (z ∷ r)
-first_piece z r y inside [] n p e = let f : ◌≡◌ {A = List ℕ} (34 ∷ y) (z ∷ r) = ap (λ w. w ++ 34 ∷ y) (sym p) ∙ e in let same : z ≡ 34 = cc in absurd (n same)
-first_piece z r y inside (c ∷ cs) n p e = record { piece = p.0; rest = p.1 ++ 34 ∷ y; character = c; text = sym (append_assoc p.0 p.1 (34 ∷ y)) ∙ ap (λ w. w ++ 34 ∷ y) (sym p.2) ∙ e; is_piece = p.3 }
+first_piece z r y inside [] n p e = let f : ◌≡◌ {A = List ℕ} (34 ∷ y) (z ∷ r) = ap (λ w. w ++ 34 ∷ y) (sym p) ∙ e in
+    let same : z ≡ 34 = cc in absurd (n same)
+first_piece z r y inside (c ∷ cs) n p e =
+    record {
+      piece = p.0;
+      rest = p.1 ++ 34 ∷ y;
+      character = c;
+      text =
+          sym (append_assoc p.0 p.1 (34 ∷ y)) ∙ ap (λ w. w ++ 34 ∷ y) (sym p.2) ∙ e;
+      is_piece = p.3;
+    }
 
 behind_quote : (z : ℕ) (r : List ℕ) (t : Tree) → (z ≡ 34 → ⊥) → IsJson (34 ∷ z ∷ r) t → FirstPiece (z ∷ r)
 behind_quote z r t n p =
     let f = at_front 34 (z ∷ r) t refl p in
     let s = string_of t f.value f.of_kind f.is_value in
-    let g : ◌≡◌ {A = List ℕ} (34 ∷ (s.1.inside ++ 34 ∷ f.space)) (34 ∷ z ∷ r) = ap (λ w. 34 ∷ w) (sym (append_assoc s.1.inside (34 ∷ []) f.space)) ∙ ap (λ w. w ++ f.space) (sym s.1.text) ∙ sym f.text in
+    let g : ◌≡◌ {A = List ℕ} (34 ∷ (s.1.inside ++ 34 ∷ f.space)) (34 ∷ z ∷ r) =
+    ap (λ w. 34 ∷ w) (sym (append_assoc s.1.inside (34 ∷ []) f.space)) ∙ ap (λ w. w ++ f.space) (sym s.1.text)
+    ∙ sym f.text in
     first_piece z r f.space s.1.inside s.1.characters n s.1.pieces (cc)
 
 -- a character that stands for itself, where its first byte is ASCII
@@ -215,22 +247,28 @@ raw_byte a x r c z low p e = char_from_byte (z ∷ r) x c (sym e ∙ ap (λ w. w
 
 control_no_piece : (a x r : List ℕ) (c z : ℕ) → z < 32 → IsPiece a c → a ++ x ≡ z ∷ r → ⊥
 control_no_piece a x r c z low (raw p) e = let same = raw_byte a x r c z (omega arith) p e in omega (arith, p.printable)
-control_no_piece a x r c z low (short l s k) e = let f : ◌≡◌ {A = List ℕ} (92 ∷ l ∷ x) (z ∷ r) = ap (λ w. w ++ x) (sym k) ∙ e in let same : 92 ≡ z = cc in omega arith
-control_no_piece a x r c z low (unit s p) e = let f : ◌≡◌ {A = List ℕ} (92 ∷ 117 ∷ p.d3 ∷ p.d2 ∷ p.d1 ∷ p.d0 ∷ x) (z ∷ r) = ap (λ w. w ++ x) (sym p.text) ∙ e in let same : 92 ≡ z = cc in omega arith
+control_no_piece a x r c z low (short l s k) e = let f : ◌≡◌ {A = List ℕ} (92 ∷ l ∷ x) (z ∷ r) =
+    ap (λ w. w ++ x) (sym k) ∙ e in let same : 92 ≡ z = cc in omega arith
+control_no_piece a x r c z low (unit s p) e = let f : ◌≡◌ {A = List ℕ} (92 ∷ 117 ∷ p.d3 ∷ p.d2 ∷ p.d1 ∷ p.d0 ∷ x)
+    (z ∷ r) = ap (λ w. w ++ x) (sym p.text) ∙ e in let same : 92 ≡ z = cc in omega arith
 control_no_piece a x r c z low (pair p) e =
     let u = p.is_first in
-    let f : ◌≡◌ {A = List ℕ} (92 ∷ 117 ∷ u.d3 ∷ u.d2 ∷ u.d1 ∷ u.d0 ∷ (p.second ++ x)) (z ∷ r) = ap (λ w. w ++ (p.second ++ x)) (sym u.text) ∙ sym (append_assoc p.first p.second x) ∙ ap (λ w. w ++ x) (sym p.text) ∙ e in
+    let f : ◌≡◌ {A = List ℕ} (92 ∷ 117 ∷ u.d3 ∷ u.d2 ∷ u.d1 ∷ u.d0 ∷ (p.second ++ x)) (z ∷ r) =
+    ap (λ w. w ++ (p.second ++ x)) (sym u.text) ∙ sym (append_assoc p.first p.second x) ∙ ap (λ w. w ++ x)
+    (sym p.text) ∙ e in
     let same : 92 ≡ z = cc in
     omega arith
 
 control_byte : HasNoTree (34 ∷ 0x1F ∷ 34 ∷ [])
-control_byte t p = let f = behind_quote 31 (34 ∷ []) t (λ e. omega arith) p in control_no_piece f.piece f.rest (34 ∷ []) f.character 31 (omega arith) f.is_piece f.text
+control_byte t p = let f = behind_quote 31 (34 ∷ []) t (λ e. omega arith) p in
+    control_no_piece f.piece f.rest (34 ∷ []) f.character 31 (omega arith) f.is_piece f.text
 
 short_not_u : (l c : ℕ) → IsShortEscape l c → l ≡ 117 → ⊥
 short_not_u l c quote e = omega arith
 short_not_u l c _ e = omega arith
 
-unit_value : (d3 d2 d1 d0 u : ℕ) → d3 ≡ 100 → d2 ≡ 56 → d1 ≡ 48 → d0 ≡ 48 → u ≡ digit_value d3 * 4096 + digit_value d2 * 256 + digit_value d1 * 16 + digit_value d0 → u ≡ 0xD800
+unit_value : (d3 d2 d1 d0 u : ℕ) → d3 ≡ 100 → d2 ≡ 56 → d1 ≡ 48 → d0 ≡ 48
+    → u ≡ digit_value d3 * 4096 + digit_value d2 * 256 + digit_value d1 * 16 + digit_value d0 → u ≡ 0xD800
 unit_value d3 d2 d1 d0 u e3 e2 e1 e0 e = rw (e3, e2, e1, e0) at e
 
 no_lone_surrogate : (a x r : List ℕ) (c : ℕ) → IsPiece a c → a ++ x ≡ 92 ∷ 117 ∷ 100 ∷ 56 ∷ 48 ∷ 48 ∷ 34 ∷ r → ⊥
@@ -239,20 +277,25 @@ no_lone_surrogate a x r c (short l s k) e =
     let f : ◌≡◌ {A = List ℕ} (92 ∷ l ∷ x) (92 ∷ 117 ∷ 100 ∷ 56 ∷ 48 ∷ 48 ∷ 34 ∷ r) = ap (λ w. w ++ x) (sym k) ∙ e in
     short_not_u l c s (cc)
 no_lone_surrogate a x r c (unit s p) e =
-    let f : ◌≡◌ {A = List ℕ} (92 ∷ 117 ∷ p.d3 ∷ p.d2 ∷ p.d1 ∷ p.d0 ∷ x) (92 ∷ 117 ∷ 100 ∷ 56 ∷ 48 ∷ 48 ∷ 34 ∷ r) = ap (λ w. w ++ x) (sym p.text) ∙ e in
+    let f : ◌≡◌ {A = List ℕ} (92 ∷ 117 ∷ p.d3 ∷ p.d2 ∷ p.d1 ∷ p.d0 ∷ x) (92 ∷ 117 ∷ 100 ∷ 56 ∷ 48 ∷ 48 ∷ 34 ∷ r) =
+    ap (λ w. w ++ x) (sym p.text) ∙ e in
     let value = unit_value p.d3 p.d2 p.d1 p.d0 c (cc) (cc) (cc) (cc) p.value in
     elim (scalar_cases c s) [ inl low ↦ omega arith | inr high ↦ omega arith ]
 no_lone_surrogate a x r c (pair p) e =
     let u = p.is_first in
     let v = p.is_second in
-    let f : ◌≡◌ {A = List ℕ} (92 ∷ 117 ∷ u.d3 ∷ u.d2 ∷ u.d1 ∷ u.d0 ∷ (p.second ++ x)) (92 ∷ 117 ∷ 100 ∷ 56 ∷ 48 ∷ 48 ∷ 34 ∷ r) = ap (λ w. w ++ (p.second ++ x)) (sym u.text) ∙ sym (append_assoc p.first p.second x) ∙ ap (λ w. w ++ x) (sym p.text) ∙ e in
+    let f : ◌≡◌ {A = List ℕ} (92 ∷ 117 ∷ u.d3 ∷ u.d2 ∷ u.d1 ∷ u.d0 ∷ (p.second ++ x))
+    (92 ∷ 117 ∷ 100 ∷ 56 ∷ 48 ∷ 48 ∷ 34 ∷ r) =
+    ap (λ w. w ++ (p.second ++ x)) (sym u.text) ∙ sym (append_assoc p.first p.second x) ∙ ap (λ w. w ++ x)
+    (sym p.text) ∙ e in
     let rest : p.second ++ x ≡ 34 ∷ r = cc in
     let g : ◌≡◌ {A = List ℕ} (92 ∷ 117 ∷ v.d3 ∷ v.d2 ∷ v.d1 ∷ v.d0 ∷ x) (34 ∷ r) = ap (λ w. w ++ x) (sym v.text) ∙ rest in
     let same : ◌≡◌ {A = ℕ} 92 34 = cc in
     omega arith
 
 lone_surrogate : HasNoTree (codes "\"\\ud800\"")
-lone_surrogate t p = let f = behind_quote 92 (codes "ud800\"") t (λ e. omega arith) p in no_lone_surrogate f.piece f.rest [] f.character f.is_piece f.text
+lone_surrogate t p = let f = behind_quote 92 (codes "ud800\"") t (λ e. omega arith) p in
+    no_lone_surrogate f.piece f.rest [] f.character f.is_piece f.text
 
 pub refused_texts : RefusedTexts
 refused_texts = record {

@@ -10,7 +10,8 @@ clash : (p : ℕ → Bool) (c : ℕ) (cs x : List ℕ) → p c ≡ true → Stop
 clash p c cs [] h s e = cc
 clash p c cs (d ∷ x) h s e = let same : d ≡ c = cc in true≢false (sym h ∙ ap p (sym same) ∙ s)
 
-pub same_run : (p : ℕ → Bool) (a b x y : List ℕ) → AllPass p a → AllPass p b → StopsAt p x → StopsAt p y → a ++ x ≡ b ++ y → (a ≡ b) × (x ≡ y)
+pub same_run : (p : ℕ → Bool) (a b x y : List ℕ) → AllPass p a → AllPass p b → StopsAt p x → StopsAt p y
+    → a ++ x ≡ b ++ y → (a ≡ b) × (x ≡ y)
 same_run p [] [] x y ha hb sx sy e = (refl, e)
 same_run p [] (d ∷ b) x y ha hb sx sy e = absurd (clash p d (b ++ y) x hb.0 sx e)
 same_run p (c ∷ a) [] x y ha hb sx sy e = absurd (clash p c (a ++ x) y ha.0 sy (sym e))

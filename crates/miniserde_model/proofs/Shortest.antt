@@ -1,7 +1,10 @@
 -- No text with the same normal form is shorter than the compact text of that form. By recursion over the tree: its
 -- compact text is no longer than any text that spells it (`value_len`), and the compact text of its normal form is no
 -- longer than its own (`norm_len`).
-use Rattle.std.proofs.Common.{◌≡◌, ℕ, zero, suc, ◌+◌, ◌^◌, ◌<◌, ◌≤◌, ℤ, pos, negsuc, neg_ℤ, unsigned_abs, Bool, true, false, not, ◌||◌, ◌==◌, List, [], ◌∷◌, ◌++◌, length, get_or, drop, decimal, flat_map, encode_utf8, encode_utf8_all, refl, sym, ap, ap₂, ◌∙◌, append-nil, arith, inl, inr, length-append, rules, Ordering, Less, Equal, Greater, true≢false}
+use Rattle.std.proofs.Common.{◌≡◌, ℕ, zero, suc, ◌+◌, ◌^◌, ◌<◌, ◌≤◌, ℤ, pos, negsuc, neg_ℤ, unsigned_abs, Bool}
+use Rattle.std.proofs.Common.{true, false, not, ◌||◌, ◌==◌, List, [], ◌∷◌, ◌++◌, length, get_or, drop, decimal}
+use Rattle.std.proofs.Common.{flat_map, encode_utf8, encode_utf8_all, refl, sym, ap, ap₂, ◌∙◌, append-nil, arith}
+use Rattle.std.proofs.Common.{inl, inr, length-append, rules, Ordering, Less, Equal, Greater, true≢false}
 use Rattle.std.specs.List.{AllByRecursion}
 use Rattle.std.specs.Str.Parse.{digits_value}
 use Rattle.std.proofs.lemmas.Bool.{cases_lt, and_parts}
@@ -10,11 +13,15 @@ use Rattle.std.proofs.lemmas.Fmt.{decimal-digits_value}
 use Rattle.std.proofs.lemmas.List.Concat.{flat_map-append}
 use Rattle.std.proofs.lemmas.Str.{encode_ascii, length-encode, len_utf8_bounds}
 use Rattle.std.proofs.lemmas.Str.Parse.{IsNumeralModel, numerals_by_value}
-use Rattle.miniserde_model.specs.Tree.{Tree, null, truth, nonneg, neg, num, str, list, members, Trees, no_trees, tree, Members, no_members, member}
+use Rattle.miniserde_model.specs.Tree.{Tree, null, truth, nonneg, neg, num, str, list, members, Trees, no_trees}
+use Rattle.miniserde_model.specs.Tree.{tree, Members, no_members, member}
 use Rattle.miniserde_model.specs.Number.{IsDigit, IsInt, IsFraction, IsExponent, IsNumberText, IsNumber, is_plain, begins_minus}
-use Rattle.miniserde_model.specs.String.{IsRaw, IsShortEscape, quote, backslash, slash, backspace, form_feed, line_feed, carriage_return, tab, IsPiece, raw, short, unit, pair, ArePieces, IsString}
+use Rattle.miniserde_model.specs.String.{IsRaw, IsShortEscape, quote, backslash, slash, backspace, form_feed}
+use Rattle.miniserde_model.specs.String.{line_feed, carriage_return, tab, IsPiece, raw, short, unit, pair}
+use Rattle.miniserde_model.specs.String.{ArePieces, IsString}
 use Rattle.miniserde_model.specs.Value.{Spaced, Named, Then, IsValue, AreElements, AreMoreElements, AreMembers, AreMoreMembers, IsJson}
-use Rattle.miniserde_model.specs.Compact.{escape_text, string_text, compact, compact_children, compact_more, compact_members, compact_more_members}
+use Rattle.miniserde_model.specs.Compact.{escape_text, string_text, compact, compact_children, compact_more}
+use Rattle.miniserde_model.specs.Compact.{compact_members, compact_more_members}
 use Rattle.miniserde_model.specs.Normal.{text_cmp, with_if_absent_by, with_if_absent, norm_neg, norm, norm_children, norm_members}
 use Rattle.miniserde_model.proofs.Accepted.{tells}
 use Rattle.miniserde_model.proofs.Written.{raw_text, high_stays, low_stays}
@@ -27,7 +34,8 @@ plain_end (c ∷ a) b e = plain_end a b (and_parts _ _ e).1
 
 plain_front : (a b : List ℕ) → is_plain (a ++ b) ≡ true → is_plain a ≡ true
 plain_front [] b e = refl
-plain_front (c ∷ a) b e = let p = and_parts (not ((c == 46) || (c == 101) || (c == 69))) (is_plain (a ++ b)) e in rw (p.0) (plain_front a b p.1)
+plain_front (c ∷ a) b e = let p = and_parts (not ((c == 46) || (c == 101) || (c == 69))) (is_plain (a ++ b)) e in
+    rw (p.0) (plain_front a b p.1)
 
 no_fraction : (x : List ℕ) → IsFraction x → is_plain x ≡ true → x ≡ []
 no_fraction x (inl h) e = h
@@ -93,12 +101,15 @@ neg_text b z p =
     let l = tells b (neg z) p in
     let t = plain_text b p.0 l.plain in
     elim p.0.is_minus [
-      | inl none ↦ absurd (true≢false (sym l.minus ∙ ap begins_minus (t ∙ ap (λ y. y ++ p.0.int) none ∙ sym (append-nil p.0.int)) ∙ whole_no_minus p.0.int [] p.0.is_int))
+      | inl none ↦ absurd (true≢false
+          (sym l.minus ∙ ap begins_minus (t ∙ ap (λ y. y ++ p.0.int) none ∙ sym (append-nil p.0.int))
+          ∙ whole_no_minus p.0.int [] p.0.is_int))
       | inr sign ↦
           let w : b ≡ 45 ∷ p.0.int = t ∙ ap (λ y. y ++ p.0.int) sign in
           let v : digits_value 10 (drop 1 b) ≡ digits_value 10 p.0.int = ap (λ y. digits_value 10 (drop 1 y)) w in
           let small : digits_value 10 p.0.int < 2 ^ 64 = omega (arith, l.small, v) in
-          ap (λ y. 45 ∷ decimal y) (ap unsigned_abs l.value ∙ abs_negated _ ∙ v) ∙ ap (λ y. 45 ∷ y) (whole_decimal p.0.int p.0.is_int small) ∙ sym w
+          ap (λ y. 45 ∷ decimal y) (ap unsigned_abs l.value ∙ abs_negated _ ∙ v) ∙ ap (λ y. 45 ∷ y)
+          (whole_decimal p.0.int p.0.is_int small) ∙ sym w
     ]
 
 -- ---- strings
@@ -132,18 +143,42 @@ piece_len : (b : List ℕ) (c : ℕ) → IsPiece b c → length (flat_map escape
 piece_len b c (raw p) = raw_len b c p
 piece_len b c (short l s t) = rw t (short_len l c s)
 piece_len b c (unit s p) = rw (p.text) (char_len c)
-piece_len b c (pair p) = omega (arith, char_len c, ap length p.text, length-append p.first p.second, ap length p.is_first.text, ap length p.is_second.text)
+piece_len b c (pair p) =
+    omega (
+      arith,
+      char_len c,
+      ap length p.text,
+      length-append p.first p.second,
+      ap length p.is_first.text,
+      ap length p.is_second.text,
+    )
 
 pieces_len : (cs b : List ℕ) → ArePieces b cs → length (flat_map escape_text (encode_utf8_all cs)) ≤ length b
 pieces_len [] b p = omega arith
 pieces_len (c ∷ cs) b p =
-    omega (arith, ap length (flat_map-append escape_text (encode_utf8 c) (encode_utf8_all cs)), length-append (flat_map escape_text (encode_utf8 c)) (flat_map escape_text (encode_utf8_all cs)), piece_len p.0 c p.3, pieces_len cs p.1 p.4, ap length p.2, length-append p.0 p.1)
+    omega (
+      arith,
+      ap length (flat_map-append escape_text (encode_utf8 c) (encode_utf8_all cs)),
+      length-append (flat_map escape_text (encode_utf8 c)) (flat_map escape_text (encode_utf8_all cs)),
+      piece_len p.0 c p.3,
+      pieces_len cs p.1 p.4,
+      ap length p.2,
+      length-append p.0 p.1,
+    )
 
 string_len : (b s : List ℕ) → IsString b s → length (string_text s) ≤ length b
 unfolding string_text
 string_len b s p =
     let inner = pieces_len p.characters p.inside p.pieces in
-    omega (arith, inner, ap (λ z. length (flat_map escape_text z)) p.value, length-append (flat_map escape_text s) (34 ∷ []), ap length p.text, length-append p.inside (34 ∷ []))
+    omega (
+      arith,
+      inner,
+      ap (λ z. length (flat_map escape_text z)) p.value,
+      length-append (flat_map escape_text s)
+          (34 ∷ []),
+      ap length p.text,
+      length-append p.inside (34 ∷ []),
+    )
 
 -- ---- the compact text is the shortest that spells its tree
 
@@ -154,7 +189,13 @@ then_len : {P M : List ℕ → Type 0} (b : List ℕ) (p : Then P M b) → lengt
 then_len b p = omega (arith, ap length p.text, length-append p.first p.rest)
 
 named_len : {N V : List ℕ → Type 0} (b : List ℕ) (p : Named N V b) → length p.is_name.inner + 1 + length p.is_value.inner ≤ length b
-named_len b p = omega (arith, ap length p.text, length-append p.name (58 ∷ p.value), spaced_len p.name p.is_name, spaced_len p.value p.is_value)
+named_len b p = omega (
+  arith,
+  ap length p.text,
+  length-append p.name (58 ∷ p.value),
+  spaced_len p.name p.is_name,
+  spaced_len p.value p.is_value,
+)
 
 mutual
   pub value_len : (t : Tree) (b : List ℕ) → IsValue t b → length (compact t) ≤ length b
@@ -164,28 +205,79 @@ mutual
   value_len (neg z) b p = omega (arith, ap length (neg_text b z p))
   value_len (num x) b p = rw (tells b (num x) p) (omega arith)
   value_len (str s) b p = string_len b s p
-  value_len (list ts) b p = omega (arith, elements_len ts p.inside p.is_inside, length-append (compact_children ts) (93 ∷ []), ap length p.text, length-append p.inside (93 ∷ []))
-  value_len (members ms) b p = omega (arith, members_len ms p.inside p.is_inside, length-append (compact_members ms) (125 ∷ []), ap length p.text, length-append p.inside (125 ∷ []))
+  value_len (list ts) b p =
+      omega (
+        arith,
+        elements_len ts p.inside p.is_inside,
+        length-append (compact_children ts) (93 ∷ []),
+        ap length p.text,
+        length-append p.inside (93 ∷ []),
+      )
+  value_len (members ms) b p =
+      omega (
+        arith,
+        members_len ms p.inside p.is_inside,
+        length-append (compact_members ms) (125 ∷ []),
+        ap length p.text,
+        length-append p.inside (125 ∷ []),
+      )
 
   elements_len : (ts : Trees) (b : List ℕ) → AreElements ts b → length (compact_children ts) ≤ length b
   elements_len no_trees b p = omega arith
   elements_len (tree t ts) b p =
-      omega (arith, length-append (compact t) (compact_more ts), value_len t p.is_first.inner p.is_first.is_inner, more_len ts p.rest p.is_rest, spaced_len p.first p.is_first, then_len b p)
+      omega (
+        arith,
+        length-append (compact t) (compact_more ts),
+        value_len t p.is_first.inner p.is_first.is_inner,
+        more_len ts p.rest p.is_rest,
+        spaced_len p.first p.is_first,
+        then_len b p,
+      )
 
   more_len : (ts : Trees) (b : List ℕ) → AreMoreElements ts b → length (compact_more ts) ≤ length b
   more_len no_trees b p = omega arith
   more_len (tree t ts) b p =
-      omega (arith, length-append (compact t) (compact_more ts), value_len t p.2.is_first.inner p.2.is_first.is_inner, more_len ts p.2.rest p.2.is_rest, spaced_len p.2.first p.2.is_first, then_len p.0 p.2, ap length p.1)
+      omega (
+        arith,
+        length-append (compact t) (compact_more ts),
+        value_len t p.2.is_first.inner
+            p.2.is_first.is_inner,
+        more_len ts p.2.rest p.2.is_rest,
+        spaced_len p.2.first p.2.is_first,
+        then_len p.0 p.2,
+        ap length p.1,
+      )
 
   members_len : (ms : Members) (b : List ℕ) → AreMembers ms b → length (compact_members ms) ≤ length b
   members_len no_members b p = omega arith
   members_len (member s t ms) b p =
-      omega (arith, length-append (string_text s ++ 58 ∷ compact t) (compact_more_members ms), length-append (string_text s) (58 ∷ compact t), string_len p.is_first.is_name.inner s p.is_first.is_name.is_inner, value_len t p.is_first.is_value.inner p.is_first.is_value.is_inner, more_members_len ms p.rest p.is_rest, named_len p.first p.is_first, then_len b p)
+      omega (
+        arith,
+        length-append (string_text s ++ 58 ∷ compact t) (compact_more_members ms),
+        length-append (string_text s) (58 ∷ compact t),
+        string_len p.is_first.is_name.inner s
+            p.is_first.is_name.is_inner,
+        value_len t p.is_first.is_value.inner p.is_first.is_value.is_inner,
+        more_members_len ms p.rest p.is_rest,
+        named_len p.first p.is_first,
+        then_len b p,
+      )
 
   more_members_len : (ms : Members) (b : List ℕ) → AreMoreMembers ms b → length (compact_more_members ms) ≤ length b
   more_members_len no_members b p = omega arith
   more_members_len (member s t ms) b p =
-      omega (arith, length-append (string_text s ++ 58 ∷ compact t) (compact_more_members ms), length-append (string_text s) (58 ∷ compact t), string_len p.2.is_first.is_name.inner s p.2.is_first.is_name.is_inner, value_len t p.2.is_first.is_value.inner p.2.is_first.is_value.is_inner, more_members_len ms p.2.rest p.2.is_rest, named_len p.2.first p.2.is_first, then_len p.0 p.2, ap length p.1)
+      omega (
+        arith,
+        length-append (string_text s ++ 58 ∷ compact t) (compact_more_members ms),
+        length-append (string_text s) (58 ∷ compact t),
+        string_len p.2.is_first.is_name.inner s
+            p.2.is_first.is_name.is_inner,
+        value_len t p.2.is_first.is_value.inner p.2.is_first.is_value.is_inner,
+        more_members_len ms p.2.rest p.2.is_rest,
+        named_len p.2.first p.2.is_first,
+        then_len p.0 p.2,
+        ap length p.1,
+      )
 
 -- ---- the normal form has no longer text
 
@@ -193,18 +285,27 @@ mutual
 counted : Members → ℕ
 counted ms = length (compact_more_members ms)
 
-counted_cons : (s : List ℕ) (t : Tree) (ms : Members) → counted (member s t ms) ≡ 2 + length (string_text s) + length (compact t) + counted ms
+counted_cons : (s : List ℕ) (t : Tree) (ms : Members)
+    → counted (member s t ms) ≡ 2 + length (string_text s) + length (compact t) + counted ms
 unfolding counted
-counted_cons s t ms = omega (arith, length-append (string_text s ++ 58 ∷ compact t) (compact_more_members ms), length-append (string_text s) (58 ∷ compact t))
+counted_cons s t ms = omega (
+  arith,
+  length-append (string_text s ++ 58 ∷ compact t) (compact_more_members ms),
+  length-append (string_text s)
+      (58 ∷ compact t),
+)
 
 counted_first : (s : List ℕ) (t : Tree) (ms : Members) → counted (member s t ms) ≡ 1 + length (compact_members (member s t ms))
 unfolding counted
 counted_first s t ms = omega arith
 
-counted_placed : (o : Ordering) (s : List ℕ) (t : Tree) (r : List ℕ) (u : Tree) (ms more : Members) → counted more ≤ counted (member s t ms) → counted (with_if_absent_by o s t r u ms more) ≤ counted (member s t (member r u ms))
+counted_placed : (o : Ordering) (s : List ℕ) (t : Tree) (r : List ℕ) (u : Tree) (ms more : Members)
+    → counted more ≤ counted (member s t ms) → counted (with_if_absent_by o s t r u ms more) ≤ counted
+    (member s t (member r u ms))
 counted_placed Less s t r u ms more h = omega arith
 counted_placed Equal s t r u ms more h = omega (arith, counted_cons s t (member r u ms))
-counted_placed Greater s t r u ms more h = omega (arith, counted_cons s t (member r u ms), counted_cons r u ms, counted_cons r u more, counted_cons s t ms)
+counted_placed Greater s t r u ms more h =
+    omega (arith, counted_cons s t (member r u ms), counted_cons r u ms, counted_cons r u more, counted_cons s t ms)
 
 counted_with : (s : List ℕ) (t : Tree) (ms : Members) → counted (with_if_absent s t ms) ≤ counted (member s t ms)
 counted_with s t no_members = omega arith
@@ -214,7 +315,8 @@ abbrev is_some_member : Members → Bool
 is_some_member no_members = false
 is_some_member (member s t ms) = true
 
-some_placed : (o : Ordering) (s : List ℕ) (t : Tree) (r : List ℕ) (u : Tree) (ms more : Members) → is_some_member (with_if_absent_by o s t r u ms more) ≡ true
+some_placed : (o : Ordering) (s : List ℕ) (t : Tree) (r : List ℕ) (u : Tree) (ms more : Members)
+    → is_some_member (with_if_absent_by o s t r u ms more) ≡ true
 some_placed Less s t r u ms more = refl
 some_placed Equal s t r u ms more = refl
 some_placed Greater s t r u ms more = refl
@@ -239,25 +341,66 @@ mutual
   norm_len (neg z) = neg_len z
   norm_len (num x) = omega arith
   norm_len (str s) = omega arith
-  norm_len (list ts) = omega (arith, norm_children_len ts, length-append (compact_children ts) (93 ∷ []), length-append (compact_children (norm_children ts)) (93 ∷ []))
-  norm_len (members ms) = omega (arith, norm_members_len ms, length-append (compact_members ms) (125 ∷ []), length-append (compact_members (norm_members ms)) (125 ∷ []))
+  norm_len (list ts) = omega (
+    arith,
+    norm_children_len ts,
+    length-append (compact_children ts) (93 ∷ []),
+    length-append (compact_children (norm_children ts)) (93 ∷ []),
+  )
+  norm_len (members ms) = omega (
+    arith,
+    norm_members_len ms,
+    length-append (compact_members ms) (125 ∷ []),
+    length-append (compact_members (norm_members ms)) (125 ∷ []),
+  )
 
   norm_children_len : (ts : Trees) → length (compact_children (norm_children ts)) ≤ length (compact_children ts)
   norm_children_len no_trees = omega arith
-  norm_children_len (tree t ts) = omega (arith, norm_len t, norm_more_len ts, length-append (compact t) (compact_more ts), length-append (compact (norm t)) (compact_more (norm_children ts)))
+  norm_children_len (tree t ts) =
+      omega (
+        arith,
+        norm_len t,
+        norm_more_len ts,
+        length-append (compact t) (compact_more ts),
+        length-append (compact (norm t)) (compact_more (norm_children ts)),
+      )
 
   norm_more_len : (ts : Trees) → length (compact_more (norm_children ts)) ≤ length (compact_more ts)
   norm_more_len no_trees = omega arith
-  norm_more_len (tree t ts) = omega (arith, norm_len t, norm_more_len ts, length-append (compact t) (compact_more ts), length-append (compact (norm t)) (compact_more (norm_children ts)))
+  norm_more_len (tree t ts) =
+      omega (
+        arith,
+        norm_len t,
+        norm_more_len ts,
+        length-append (compact t) (compact_more ts),
+        length-append (compact (norm t)) (compact_more (norm_children ts)),
+      )
 
   norm_members_len : (ms : Members) → length (compact_members (norm_members ms)) ≤ length (compact_members ms)
   norm_members_len no_members = omega arith
   norm_members_len (member s t ms) =
-      omega (arith, first_counted (norm_members (member s t ms)) (some_with s (norm t) (norm_members ms)), counted_first s t ms, counted_with s (norm t) (norm_members ms), counted_cons s (norm t) (norm_members ms), counted_cons s t ms, norm_len t, norm_counted ms)
+      omega (
+        arith,
+        first_counted (norm_members (member s t ms)) (some_with s (norm t) (norm_members ms)),
+        counted_first s t ms,
+        counted_with s (norm t) (norm_members ms),
+        counted_cons s (norm t) (norm_members ms),
+        counted_cons s t ms,
+        norm_len t,
+        norm_counted ms,
+      )
 
   norm_counted : (ms : Members) → counted (norm_members ms) ≤ counted ms
   norm_counted no_members = omega arith
-  norm_counted (member s t ms) = omega (arith, counted_with s (norm t) (norm_members ms), counted_cons s (norm t) (norm_members ms), counted_cons s t ms, norm_len t, norm_counted ms)
+  norm_counted (member s t ms) =
+      omega (
+        arith,
+        counted_with s (norm t) (norm_members ms),
+        counted_cons s (norm t) (norm_members ms),
+        counted_cons s t ms,
+        norm_len t,
+        norm_counted ms,
+      )
 
 -- no text whose tree has this normal form is shorter
 pub shortest : (b : List ℕ) (t u : Tree) → IsJson b u → norm u ≡ norm t → length (compact (norm t)) ≤ length b

@@ -4,7 +4,9 @@ use Rattle.std.proofs.Common.{◌≡◌, ℕ, List, [], ◌∷◌, ◌++◌, ref
 use Rattle.std.specs.Char.{IsScalar}
 use Rattle.std.proofs.lemmas.Str.{encode_same, char_from_byte}
 use lib.Utf8.{scalar_cases}
-use Rattle.miniserde_model.specs.String.{IsRaw, IsShortEscape, quote, backslash, slash, backspace, form_feed, line_feed, carriage_return, tab, IsUnit, IsPair, IsPiece, raw, short, unit, pair, ArePieces, IsString}
+use Rattle.miniserde_model.specs.String.{IsRaw, IsShortEscape, quote, backslash, slash, backspace, form_feed}
+use Rattle.miniserde_model.specs.String.{line_feed, carriage_return, tab, IsUnit, IsPair, IsPiece, raw, short, unit}
+use Rattle.miniserde_model.specs.String.{pair, ArePieces, IsString}
 
 same_short : (l c d : ℕ) → IsShortEscape l c → IsShortEscape l d → c ≡ d
 same_short l c d quote quote = refl
@@ -22,7 +24,8 @@ no_short_u l c _ e = omega arith
 
 same_unit : (a b x y : List ℕ) (u v : ℕ) → IsUnit a u → IsUnit b v → a ++ x ≡ b ++ y → (u ≡ v) × (x ≡ y)
 same_unit a b x y u v p q e =
-    let f : ◌≡◌ {A = List ℕ} (92 ∷ 117 ∷ p.d3 ∷ p.d2 ∷ p.d1 ∷ p.d0 ∷ x) (92 ∷ 117 ∷ q.d3 ∷ q.d2 ∷ q.d1 ∷ q.d0 ∷ y) = ap (λ z. z ++ x) (sym p.text) ∙ e ∙ ap (λ z. z ++ y) q.text in
+    let f : ◌≡◌ {A = List ℕ} (92 ∷ 117 ∷ p.d3 ∷ p.d2 ∷ p.d1 ∷ p.d0 ∷ x) (92 ∷ 117 ∷ q.d3 ∷ q.d2 ∷ q.d1 ∷ q.d0 ∷ y) =
+    ap (λ z. z ++ x) (sym p.text) ∙ e ∙ ap (λ z. z ++ y) q.text in
     let s3 : p.d3 ≡ q.d3 = cc in
     let s2 : p.d2 ≡ q.d2 = cc in
     let s1 : p.d1 ≡ q.d1 = cc in
@@ -31,7 +34,9 @@ same_unit a b x y u v p q e =
 
 same_pair : (a b x y : List ℕ) (c d : ℕ) → IsPair a c → IsPair b d → a ++ x ≡ b ++ y → (c ≡ d) × (x ≡ y)
 same_pair a b x y c d p q e =
-    let f : p.first ++ (p.second ++ x) ≡ q.first ++ (q.second ++ y) = sym (append_assoc p.first p.second x) ∙ ap (λ z. z ++ x) (sym p.text) ∙ e ∙ ap (λ z. z ++ y) q.text ∙ append_assoc q.first q.second y in
+    let f : p.first ++ (p.second ++ x) ≡ q.first ++ (q.second ++ y) =
+    sym (append_assoc p.first p.second x) ∙ ap (λ z. z ++ x) (sym p.text) ∙ e ∙ ap (λ z. z ++ y) q.text
+    ∙ append_assoc q.first q.second y in
     let one = same_unit p.first q.first _ _ p.high q.high p.is_first q.is_first f in
     let two = same_unit p.second q.second _ _ p.low q.low p.is_second q.is_second one.1 in
     (cc, two.1)
@@ -57,7 +62,11 @@ unit_escape : (a x : List ℕ) (u : ℕ) → IsUnit a u → Escape 117 a x
 unit_escape a x u p = record { tail = p.d3 ∷ p.d2 ∷ p.d1 ∷ p.d0 ∷ x; is = ap (λ z. z ++ x) p.text }
 
 pair_escape : (a x : List ℕ) (c : ℕ) → IsPair a c → Escape 117 a x
-pair_escape a x c p = record { tail = p.is_first.d3 ∷ p.is_first.d2 ∷ p.is_first.d1 ∷ p.is_first.d0 ∷ (p.second ++ x); is = ap (λ z. z ++ x) p.text ∙ append_assoc p.first p.second x ∙ ap (λ z. z ++ (p.second ++ x)) p.is_first.text }
+pair_escape a x c p = record {
+  tail = p.is_first.d3 ∷ p.is_first.d2 ∷ p.is_first.d1 ∷ p.is_first.d0 ∷ (p.second ++ x);
+  is =
+      ap (λ z. z ++ x) p.text ∙ append_assoc p.first p.second x ∙ ap (λ z. z ++ (p.second ++ x)) p.is_first.text;
+}
 
 short_no_u : (a b x y : List ℕ) (l c : ℕ) → IsShortEscape l c → a ≡ 92 ∷ l ∷ [] → Escape 117 b y → a ++ x ≡ b ++ y → ⊥
 short_no_u a b x y l c s t u e =
@@ -88,20 +97,29 @@ same_piece a b x y c d (pair p) (pair q) e = same_pair a b x y c d p q e
 -- no piece begins with a quote
 piece_no_quote : (a x r : List ℕ) (c : ℕ) → IsPiece a c → a ++ x ≡ 34 ∷ r → ⊥
 piece_no_quote a x r c (raw p) e = p.not_quote (char_from_byte (34 ∷ r) x c (sym e ∙ ap (λ z. z ++ x) p.text) (omega arith) (omega arith))
-piece_no_quote a x r c (short l s t) e = let f : ◌≡◌ {A = List ℕ} (92 ∷ l ∷ x) (34 ∷ r) = ap (λ z. z ++ x) (sym t) ∙ e in let n : ◌≡◌ {A = ℕ} 92 34 = cc in omega arith
-piece_no_quote a x r c (unit s p) e = let u = unit_escape a x c p in let f : ◌≡◌ {A = List ℕ} (92 ∷ 117 ∷ u.tail) (34 ∷ r) = sym u.is ∙ e in let n : ◌≡◌ {A = ℕ} 92 34 = cc in omega arith
-piece_no_quote a x r c (pair p) e = let u = pair_escape a x c p in let f : ◌≡◌ {A = List ℕ} (92 ∷ 117 ∷ u.tail) (34 ∷ r) = sym u.is ∙ e in let n : ◌≡◌ {A = ℕ} 92 34 = cc in omega arith
+piece_no_quote a x r c (short l s t) e = let f : ◌≡◌ {A = List ℕ} (92 ∷ l ∷ x) (34 ∷ r) =
+    ap (λ z. z ++ x) (sym t) ∙ e in let n : ◌≡◌ {A = ℕ} 92 34 = cc in omega arith
+piece_no_quote a x r c (unit s p) e = let u = unit_escape a x c p in
+    let f : ◌≡◌ {A = List ℕ} (92 ∷ 117 ∷ u.tail) (34 ∷ r) = sym u.is ∙ e in let n : ◌≡◌ {A = ℕ} 92 34 =
+    cc in omega arith
+piece_no_quote a x r c (pair p) e = let u = pair_escape a x c p in
+    let f : ◌≡◌ {A = List ℕ} (92 ∷ 117 ∷ u.tail) (34 ∷ r) = sym u.is ∙ e in let n : ◌≡◌ {A = ℕ} 92 34 =
+    cc in omega arith
 
 pub same_pieces : (cs ds a b x y : List ℕ) → ArePieces a cs → ArePieces b ds → a ++ 34 ∷ x ≡ b ++ 34 ∷ y → (cs ≡ ds) × (x ≡ y)
 same_pieces [] [] a b x y p q e =
     let f : ◌≡◌ {A = List ℕ} (34 ∷ x) (34 ∷ y) = ap (λ z. z ++ 34 ∷ x) (sym p) ∙ e ∙ ap (λ z. z ++ 34 ∷ y) q in
     (refl, cc)
 same_pieces [] (d ∷ ds) a b x y p q e =
-    absurd (piece_no_quote q.0 (q.1 ++ 34 ∷ y) x d q.3 (sym (append_assoc q.0 q.1 (34 ∷ y)) ∙ ap (λ z. z ++ 34 ∷ y) (sym q.2) ∙ sym e ∙ ap (λ z. z ++ 34 ∷ x) p))
+    absurd (piece_no_quote q.0 (q.1 ++ 34 ∷ y) x d q.3
+    (sym (append_assoc q.0 q.1 (34 ∷ y)) ∙ ap (λ z. z ++ 34 ∷ y) (sym q.2) ∙ sym e ∙ ap (λ z. z ++ 34 ∷ x) p))
 same_pieces (c ∷ cs) [] a b x y p q e =
-    absurd (piece_no_quote p.0 (p.1 ++ 34 ∷ x) y c p.3 (sym (append_assoc p.0 p.1 (34 ∷ x)) ∙ ap (λ z. z ++ 34 ∷ x) (sym p.2) ∙ e ∙ ap (λ z. z ++ 34 ∷ y) q))
+    absurd (piece_no_quote p.0 (p.1 ++ 34 ∷ x) y c p.3
+    (sym (append_assoc p.0 p.1 (34 ∷ x)) ∙ ap (λ z. z ++ 34 ∷ x) (sym p.2) ∙ e ∙ ap (λ z. z ++ 34 ∷ y) q))
 same_pieces (c ∷ cs) (d ∷ ds) a b x y p q e =
-    let f : p.0 ++ (p.1 ++ 34 ∷ x) ≡ q.0 ++ (q.1 ++ 34 ∷ y) = sym (append_assoc p.0 p.1 (34 ∷ x)) ∙ ap (λ z. z ++ 34 ∷ x) (sym p.2) ∙ e ∙ ap (λ z. z ++ 34 ∷ y) q.2 ∙ append_assoc q.0 q.1 (34 ∷ y) in
+    let f : p.0 ++ (p.1 ++ 34 ∷ x) ≡ q.0 ++ (q.1 ++ 34 ∷ y) =
+    sym (append_assoc p.0 p.1 (34 ∷ x)) ∙ ap (λ z. z ++ 34 ∷ x) (sym p.2) ∙ e ∙ ap (λ z. z ++ 34 ∷ y) q.2
+    ∙ append_assoc q.0 q.1 (34 ∷ y) in
     let one = same_piece p.0 q.0 _ _ c d p.3 q.3 f in
     let more = same_pieces cs ds p.1 q.1 x y p.4 q.4 one.1 in
     (cc, more.1)
@@ -109,7 +127,9 @@ same_pieces (c ∷ cs) (d ∷ ds) a b x y p q e =
 -- no text that spells a string begins another
 pub same_string : (a b x y s t : List ℕ) → IsString a s → IsString b t → a ++ x ≡ b ++ y → (s ≡ t) × (x ≡ y)
 same_string a b x y s t p q e =
-    let f : ◌≡◌ {A = List ℕ} (34 ∷ (p.inside ++ 34 ∷ x)) (34 ∷ (q.inside ++ 34 ∷ y)) = ap (λ z. 34 ∷ z) (sym (append_assoc p.inside (34 ∷ []) x)) ∙ ap (λ z. z ++ x) (sym p.text) ∙ e ∙ ap (λ z. z ++ y) q.text ∙ ap (λ z. 34 ∷ z) (append_assoc q.inside (34 ∷ []) y) in
+    let f : ◌≡◌ {A = List ℕ} (34 ∷ (p.inside ++ 34 ∷ x)) (34 ∷ (q.inside ++ 34 ∷ y)) =
+    ap (λ z. 34 ∷ z) (sym (append_assoc p.inside (34 ∷ []) x)) ∙ ap (λ z. z ++ x) (sym p.text) ∙ e
+    ∙ ap (λ z. z ++ y) q.text ∙ ap (λ z. 34 ∷ z) (append_assoc q.inside (34 ∷ []) y) in
     let g : p.inside ++ 34 ∷ x ≡ q.inside ++ 34 ∷ y = cc in
     let both = same_pieces p.characters q.characters p.inside q.inside x y p.pieces q.pieces g in
     (cc, both.1)

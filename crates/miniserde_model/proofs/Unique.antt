@@ -1,20 +1,24 @@
 -- A text has one tree at most. By recursion over both trees: the first byte determines the kind of a value
 -- (`same_kind`), and `same_value`, `same_elements` and `same_members` show that both readings of a construct end at
 -- the same byte.
-use Rattle.std.proofs.Common.{◌≡◌, ℕ, ◌<◌, Bool, true, false, ◌==◌, ◌||◌, ◌&&◌, nat_le, cond, List, [], ◌∷◌, ◌++◌, codes, refl, sym, ap, ap₂, ◌∙◌, append_assoc, append-nil, arith, inl, inr}
+use Rattle.std.proofs.Common.{◌≡◌, ℕ, ◌<◌, Bool, true, false, ◌==◌, ◌||◌, ◌&&◌, nat_le, cond, List, [], ◌∷◌, ◌++◌}
+use Rattle.std.proofs.Common.{codes, refl, sym, ap, ap₂, ◌∙◌, append_assoc, append-nil, arith, inl, inr}
 use Rattle.std.proofs.lemmas.Bool.Decides.{nat_tests}
 use Rattle.std.proofs.lemmas.List.{append_cancel_left}
-use Rattle.miniserde_model.specs.Tree.{Tree, null, truth, nonneg, neg, num, str, list, members, Trees, no_trees, tree, Members, no_members, member}
+use Rattle.miniserde_model.specs.Tree.{Tree, null, truth, nonneg, neg, num, str, list, members, Trees, no_trees}
+use Rattle.miniserde_model.specs.Tree.{tree, Members, no_members, member}
 use Rattle.miniserde_model.specs.Number.{IsInt, IsMinus, IsNumber}
 use Rattle.miniserde_model.specs.String.{IsString}
 use Rattle.miniserde_model.specs.Whitespace.{IsWhitespace}
-use Rattle.miniserde_model.specs.Value.{Spaced, Named, Then, word, IsValue, AreElements, AreMoreElements, AreMembers, AreMoreMembers, IsJson}
+use Rattle.miniserde_model.specs.Value.{Spaced, Named, Then, word, IsValue, AreElements, AreMoreElements}
+use Rattle.miniserde_model.specs.Value.{AreMembers, AreMoreMembers, IsJson}
 use Rattle.miniserde_model.specs.Bytes.{StopsAt, is_number_byte}
 use Rattle.miniserde_model.proofs.Runs.{same_run}
 use Rattle.miniserde_model.proofs.Numbers.{same_number}
 use Rattle.miniserde_model.proofs.Strings.{same_string}
 use Rattle.miniserde_model.specs.Bytes.{is_space}
-use Rattle.miniserde_model.proofs.Prefixes.{Prefix, AtEnd, Closes, Heads, BeginsNot, whitespace_passes, same_spaced, same_named, same_then, same_between, space_no_piece}
+use Rattle.miniserde_model.proofs.Prefixes.{Prefix, AtEnd, Closes, Heads, BeginsNot, whitespace_passes, same_spaced}
+use Rattle.miniserde_model.proofs.Prefixes.{same_named, same_then, same_between, space_no_piece}
 
 -- ---- a value is told by its first byte
 
@@ -29,7 +33,10 @@ kind (list ts) = 5
 kind (members ms) = 6
 
 abbrev pub kind_of_byte : ℕ → ℕ
-kind_of_byte c = cond (c == 110) 0 (cond (c == 116) 1 (cond (c == 102) 1 (cond ((c == 45) || (nat_le 48 c && nat_le c 57)) 3 (cond (c == 34) 4 (cond (c == 91) 5 (cond (c == 123) 6 7))))))
+kind_of_byte c = cond (c == 110) 0
+    (cond (c == 116) 1 (cond (c == 102) 1
+    (cond ((c == 45) || (nat_le 48 c && nat_le c 57)) 3
+    (cond (c == 34) 4 (cond (c == 91) 5 (cond (c == 123) 6 7))))))
 
 pub record Head (b : List ℕ) (k : ℕ) : Type 0 where
   pub byte : ℕ
@@ -134,20 +141,28 @@ same_truth false false a b x y p q e = (refl, same_word (codes "false") a b x y 
 same_truth true false a b x y p q e = absurd (clash_at 116 102 a b _ _ x y (λ n. omega arith) p q e)
 same_truth false true a b x y p q e = absurd (clash_at 102 116 a b _ _ x y (λ n. omega arith) p q e)
 
-same_whitespace : (z : ℕ) → is_space z ≡ false → (a b x y : List ℕ) → IsWhitespace a → IsWhitespace b → Closes z x → Closes z y → a ++ x ≡ b ++ y → x ≡ y
-same_whitespace z hz a b x y p q cx cy e = (same_run is_space a b x y (whitespace_passes a p) (whitespace_passes b q) (rw (cx.1) hz) (rw (cy.1) hz) e).1
+same_whitespace : (z : ℕ) → is_space z ≡ false → (a b x y : List ℕ) → IsWhitespace a → IsWhitespace b → Closes z x
+    → Closes z y → a ++ x ≡ b ++ y → x ≡ y
+same_whitespace z hz a b x y p q cx cy e =
+    (same_run is_space a b x y (whitespace_passes a p) (whitespace_passes b q) (rw (cx.1) hz) (rw (cy.1) hz) e).1
 
 spaced_name : (s r : List ℕ) → Prefix (Spaced (λ n. IsString n s)) (Spaced (λ n. IsString n r)) AtEnd (s ≡ r)
 spaced_name s r = same_spaced (name_heads s) (name_heads r) (λ a b x y p q sx sy e. same_string a b x y s r p q e)
 
 -- whitespace and a bracket are no element
-no_element : (t : Tree) (M : List ℕ → Type 0) (a b x y : List ℕ) → IsWhitespace a → Then (Spaced (IsValue t)) M b → Closes 93 x → a ++ x ≡ b ++ y → ⊥
-no_element t M a b x y w p c e = space_no_piece 93 refl (value_heads t) (value_not t 93 refl) a p.first c.0 (p.rest ++ y) w p.is_first (ap (λ z. a ++ z) (sym c.1) ∙ e ∙ ap (λ z. z ++ y) p.text ∙ append_assoc p.first p.rest y)
+no_element : (t : Tree) (M : List ℕ → Type 0) (a b x y : List ℕ) → IsWhitespace a → Then (Spaced (IsValue t)) M b
+    → Closes 93 x → a ++ x ≡ b ++ y → ⊥
+no_element t M a b x y w p c e = space_no_piece 93 refl (value_heads t) (value_not t 93 refl) a p.first c.0
+    (p.rest ++ y) w p.is_first
+    (ap (λ z. a ++ z) (sym c.1) ∙ e ∙ ap (λ z. z ++ y) p.text ∙ append_assoc p.first p.rest y)
 
-no_member : (s : List ℕ) (V M : List ℕ → Type 0) (a b x y : List ℕ) → IsWhitespace a → Then (Named (λ n. IsString n s) V) M b → Closes 125 x → a ++ x ≡ b ++ y → ⊥
+no_member : (s : List ℕ) (V M : List ℕ → Type 0) (a b x y : List ℕ) → IsWhitespace a
+    → Then (Named (λ n. IsString n s) V) M b → Closes 125 x → a ++ x ≡ b ++ y → ⊥
 no_member s V M a b x y w p c e =
     let m = p.is_first in
-    space_no_piece 125 refl (name_heads s) (name_not s 125 refl) a m.name c.0 _ w m.is_name (ap (λ z. a ++ z) (sym c.1) ∙ e ∙ ap (λ z. z ++ y) p.text ∙ append_assoc p.first p.rest y ∙ ap (λ z. z ++ (p.rest ++ y)) m.text ∙ append_assoc m.name (58 ∷ m.value) (p.rest ++ y))
+    space_no_piece 125 refl (name_heads s) (name_not s 125 refl) a m.name c.0 _ w m.is_name
+    (ap (λ z. a ++ z) (sym c.1) ∙ e ∙ ap (λ z. z ++ y) p.text ∙ append_assoc p.first p.rest y
+    ∙ ap (λ z. z ++ (p.rest ++ y)) m.text ∙ append_assoc m.name (58 ∷ m.value) (p.rest ++ y))
 
 mutual
   pub same_value : (t u : Tree) → Prefix (IsValue t) (IsValue u) (StopsAt is_number_byte) (t ≡ u)
@@ -176,7 +191,8 @@ mutual
   same_elements no_trees (tree u us) a b x y p q sx sy e = absurd (no_element u _ a b x y p q sx e)
   same_elements (tree t ts) no_trees a b x y p q sx sy e = absurd (no_element t _ b a y x q p sy (sym e))
   same_elements (tree t ts) (tree u us) a b x y p q sx sy e =
-      let both = same_then 93 (more_ends ts) (more_ends us) (same_spaced (value_heads t) (value_heads u) (same_value t u)) (same_more ts us) a b x y p q sx sy e in
+      let both = same_then 93 (more_ends ts) (more_ends us)
+      (same_spaced (value_heads t) (value_heads u) (same_value t u)) (same_more ts us) a b x y p q sx sy e in
       (ap₂ tree both.0.0 both.0.1, both.1)
 
   same_more : (ts us : Trees) → Prefix (AreMoreElements ts) (AreMoreElements us) (Closes 93) (ts ≡ us)
@@ -186,7 +202,9 @@ mutual
   same_more (tree t ts) (tree u us) a b x y p q sx sy e =
       let f : ◌≡◌ {A = List ℕ} (44 ∷ (p.0 ++ x)) (44 ∷ (q.0 ++ y)) = ap (λ z. z ++ x) (sym p.1) ∙ e ∙ ap (λ z. z ++ y) q.1 in
       let g : p.0 ++ x ≡ q.0 ++ y = cc in
-      let both = same_then 93 (more_ends ts) (more_ends us) (same_spaced (value_heads t) (value_heads u) (same_value t u)) (same_more ts us) p.0 q.0 x y p.2 q.2 sx sy g in
+      let both = same_then 93 (more_ends ts) (more_ends us)
+      (same_spaced (value_heads t) (value_heads u) (same_value t u)) (same_more ts us) p.0 q.0 x y p.2 q.2 sx sy
+      g in
       (ap₂ tree both.0.0 both.0.1, both.1)
 
   same_members : (ms ns : Members) → Prefix (AreMembers ms) (AreMembers ns) (Closes 125) (ms ≡ ns)
@@ -194,7 +212,9 @@ mutual
   same_members no_members (member r u ns) a b x y p q sx sy e = absurd (no_member r _ _ a b x y p q sx e)
   same_members (member s t ms) no_members a b x y p q sx sy e = absurd (no_member s _ _ b a y x q p sy (sym e))
   same_members (member s t ms) (member r u ns) a b x y p q sx sy e =
-      let both = same_then 125 (more_members_end ms) (more_members_end ns) (same_named (spaced_name s r) (same_spaced (value_heads t) (value_heads u) (same_value t u))) (same_more_members ms ns) a b x y p q sx sy e in
+      let both = same_then 125 (more_members_end ms) (more_members_end ns)
+      (same_named (spaced_name s r) (same_spaced (value_heads t) (value_heads u) (same_value t u)))
+      (same_more_members ms ns) a b x y p q sx sy e in
       (cc (both.0.0.0, both.0.0.1, both.0.1), both.1)
 
   same_more_members : (ms ns : Members) → Prefix (AreMoreMembers ms) (AreMoreMembers ns) (Closes 125) (ms ≡ ns)
@@ -204,7 +224,9 @@ mutual
   same_more_members (member s t ms) (member r u ns) a b x y p q sx sy e =
       let f : ◌≡◌ {A = List ℕ} (44 ∷ (p.0 ++ x)) (44 ∷ (q.0 ++ y)) = ap (λ z. z ++ x) (sym p.1) ∙ e ∙ ap (λ z. z ++ y) q.1 in
       let g : p.0 ++ x ≡ q.0 ++ y = cc in
-      let both = same_then 125 (more_members_end ms) (more_members_end ns) (same_named (spaced_name s r) (same_spaced (value_heads t) (value_heads u) (same_value t u))) (same_more_members ms ns) p.0 q.0 x y p.2 q.2 sx sy g in
+      let both = same_then 125 (more_members_end ms) (more_members_end ns)
+      (same_named (spaced_name s r) (same_spaced (value_heads t) (value_heads u) (same_value t u)))
+      (same_more_members ms ns) p.0 q.0 x y p.2 q.2 sx sy g in
       (cc (both.0.0.0, both.0.0.1, both.0.1), both.1)
 
 -- a text has one tree at most

@@ -1,6 +1,9 @@
 -- The compact text of a tree spells the tree. By recursion over the tree, from the numbers (`written_nonneg`,
 -- `written_neg`) and the strings (`written_string`), where each escape is a piece of the grammar (`piece_of`).
-use Rattle.std.proofs.Common.{◌≡◌, ◌≢◌, ℕ, zero, suc, ◌/◌, ◌%◌, ◌^◌, ◌<◌, ◌≤◌, ℤ, pos, negsuc, neg_ℤ, unsigned_abs, ◌≤ℤ◌, true, false, not, ◌==◌, ◌||◌, List, [], ◌∷◌, ◌++◌, length, get_or, slice_index, decimal, flat_map, IsUtf8, encode_utf8, encode_utf8_all, refl, sym, ap, ap₂, subst, ◌∙◌, append-nil, arith, inl, inr, ◌⊎◌, lt-ltb, le-leb}
+use Rattle.std.proofs.Common.{◌≡◌, ◌≢◌, ℕ, zero, suc, ◌/◌, ◌%◌, ◌^◌, ◌<◌, ◌≤◌, ℤ, pos, negsuc, neg_ℤ, unsigned_abs}
+use Rattle.std.proofs.Common.{◌≤ℤ◌, true, false, not, ◌==◌, ◌||◌, List, [], ◌∷◌, ◌++◌, length, get_or, slice_index}
+use Rattle.std.proofs.Common.{decimal, flat_map, IsUtf8, encode_utf8, encode_utf8_all, refl, sym, ap, ap₂, subst}
+use Rattle.std.proofs.Common.{◌∙◌, append-nil, arith, inl, inr, ◌⊎◌, lt-ltb, le-leb}
 use Rattle.std.specs.List.{AllByRecursion}
 use Rattle.std.specs.Char.{IsScalar, digit_char, digit_value}
 use Rattle.std.specs.Str.Parse.{digits_value, AllDigits}
@@ -12,12 +15,15 @@ use Rattle.std.proofs.lemmas.Str.{encode_ascii, inside_one, digit_value-digit_ch
 use Rattle.std.proofs.lemmas.Str.Parse.{digit_from_value}
 use Rattle.std.proofs.lemmas.Int.{ints}
 use lib.Utf8.{scalars}
-use Rattle.miniserde_model.specs.Tree.{Tree, null, truth, nonneg, neg, num, str, list, members, Trees, no_trees, tree, Members, no_members, member}
+use Rattle.miniserde_model.specs.Tree.{Tree, null, truth, nonneg, neg, num, str, list, members, Trees, no_trees}
+use Rattle.miniserde_model.specs.Tree.{tree, Members, no_members, member}
 use Rattle.miniserde_model.specs.Number.{IsDigit, IsInt, IsNumberText, IsNumber, is_plain, leaf}
-use Rattle.miniserde_model.specs.String.{quote, backslash, backspace, form_feed, line_feed, carriage_return, tab, IsPiece, raw, short, unit, ArePieces, IsString}
+use Rattle.miniserde_model.specs.String.{quote, backslash, backspace, form_feed, line_feed, carriage_return, tab}
+use Rattle.miniserde_model.specs.String.{IsPiece, raw, short, unit, ArePieces, IsString}
 use Rattle.miniserde_model.specs.Value.{Spaced, IsValue, AreElements, AreMoreElements, AreMembers, AreMoreMembers, IsJson}
 use Rattle.miniserde_model.specs.InRange.{InRange, AllInRange, MembersInRange}
-use Rattle.miniserde_model.specs.Compact.{escape_text, string_text, compact, compact_children, compact_more, compact_members, compact_more_members}
+use Rattle.miniserde_model.specs.Compact.{escape_text, string_text, compact, compact_children, compact_more}
+use Rattle.miniserde_model.specs.Compact.{compact_members, compact_more_members}
 
 -- ---- numbers
 
@@ -27,7 +33,8 @@ from_AllDigits (c ∷ cs) h = (digit_from_value c h.0, from_AllDigits cs h.1)
 
 digits_plain : (ds : List ℕ) → AllByRecursion IsDigit ds → is_plain ds ≡ true
 digits_plain [] h = refl
-digits_plain (c ∷ cs) h = let one : not ((c == 46) || (c == 101) || (c == 69)) ≡ true = grind (arith, nat_tests) in rw (one) (digits_plain cs h.1)
+digits_plain (c ∷ cs) h = let one : not ((c == 46) || (c == 101) || (c == 69)) ≡ true = grind (arith, nat_tests) in
+    rw (one) (digits_plain cs h.1)
 
 no_minus : (ds : List ℕ) → AllByRecursion IsDigit ds → (slice_index ds 0 == 45) ≡ false
 no_minus [] h = refl
@@ -36,13 +43,15 @@ no_minus (c ∷ cs) h = grind (arith, nat_tests)
 whole_digits : (ds : List ℕ) → AllByRecursion IsDigit ds → 0 < length ds → (get_or ds 0 0 ≡ 48 → length ds ≡ 1) → IsInt ds
 whole_digits [] h l z = absurd (omega arith)
 whole_digits (c ∷ []) h l z = elim (cases_eq c 48) [ inl e ↦ inl (e, refl) | inr e ↦ inr ((omega arith, omega arith), tt) ]
-whole_digits (c ∷ (d ∷ cs)) h l z = elim (cases_eq c 48) [ inl e ↦ absurd (omega (arith, z e)) | inr e ↦ inr ((omega arith, omega arith), h.1) ]
+whole_digits (c ∷ (d ∷ cs)) h l z =
+    elim (cases_eq c 48) [ inl e ↦ absurd (omega (arith, z e)) | inr e ↦ inr ((omega arith, omega arith), h.1) ]
 
 leaf_digits : (ds : List ℕ) → AllByRecursion IsDigit ds → digits_value 10 ds < 2 ^ 64 → leaf ds ≡ nonneg (digits_value 10 ds)
 unfolding leaf
 leaf_digits ds h l = rw (digits_plain ds h, no_minus ds h, lt-ltb (digits_value 10 ds) (2 ^ 64) l) refl
 
-leaf_minus : (ds : List ℕ) → AllByRecursion IsDigit ds → digits_value 10 ds ≤ 2 ^ 63 → leaf (45 ∷ ds) ≡ neg (neg_ℤ (pos (digits_value 10 ds)))
+leaf_minus : (ds : List ℕ) → AllByRecursion IsDigit ds → digits_value 10 ds ≤ 2 ^ 63
+    → leaf (45 ∷ ds) ≡ neg (neg_ℤ (pos (digits_value 10 ds)))
 unfolding leaf
 leaf_minus ds h l = rw (digits_plain ds h, le-leb (digits_value 10 ds) (2 ^ 63) l) refl
 
@@ -53,18 +62,35 @@ decimal_whole (suc n) h =
     whole_digits (decimal (suc n)) (from_AllDigits _ d.0.1) d.0.0 (λ e. absurd (omega (arith, first_decimal (suc n) (omega arith) h)))
 
 number_text : (m w : List ℕ) → (m ≡ []) ⊎ (m ≡ 45 ∷ []) → IsInt w → IsNumberText (m ++ w)
-number_text m w p q = record { minus = m; int = w; fraction = []; exponent = []; text = ap (λ z. m ++ z) (sym (append-nil w)); is_minus = p; is_int = q; is_fraction = inl refl; is_exponent = inl refl }
+number_text m w p q = record {
+  minus = m;
+  int = w;
+  fraction = [];
+  exponent = [];
+  text =
+      ap (λ z. m ++ z) (sym (append-nil w));
+  is_minus = p;
+  is_int = q;
+  is_fraction = inl refl;
+  is_exponent =
+      inl refl;
+}
 
 written_nonneg : (n : ℕ) → n < 2 ^ 64 → IsNumber (decimal n) (nonneg n)
 written_nonneg n h =
-    let d = decimal_is_IsNumeral n h in
-    (number_text [] (decimal n) (inl refl) (decimal_whole n h), leaf_digits (decimal n) (from_AllDigits _ d.0.1) (rw (d.1) h) ∙ ap nonneg d.1)
+    let d = decimal_is_IsNumeral n h in (
+      number_text [] (decimal n) (inl refl) (decimal_whole n h),
+      leaf_digits (decimal n) (from_AllDigits _ d.0.1)
+          (rw (d.1) h) ∙ ap nonneg d.1,
+    )
 
 written_minus : (n : ℕ) → n ≤ 2 ^ 63 → IsNumber (45 ∷ decimal n) (neg (neg_ℤ (pos n)))
 written_minus n h =
     let small : n < 2 ^ 64 = omega arith in
-    let d = decimal_is_IsNumeral n small in
-    (number_text (45 ∷ []) (decimal n) (inr refl) (decimal_whole n small), leaf_minus (decimal n) (from_AllDigits _ d.0.1) (rw (d.1) h) ∙ ap (λ z. neg (neg_ℤ (pos z))) d.1)
+    let d = decimal_is_IsNumeral n small in (
+      number_text (45 ∷ []) (decimal n) (inr refl) (decimal_whole n small),
+      leaf_minus (decimal n) (from_AllDigits _ d.0.1) (rw (d.1) h) ∙ ap (λ z. neg (neg_ℤ (pos z))) d.1,
+    )
 
 negated : (z : ℤ) → z ≤ℤ pos 0 → neg_ℤ (pos (unsigned_abs z)) ≡ z
 negated (pos zero) h = refl
@@ -81,11 +107,13 @@ escaped_high x h = grind (arith, nat_tests)
 
 escape_high : (xs : List ℕ) → ((k : ℕ) → k < length xs → 128 ≤ get_or xs k 0) → flat_map escape_text xs ≡ xs
 escape_high [] h = refl
-escape_high (x ∷ xs) h = ap₂ (λ (a b : List ℕ). a ++ b) (escaped_high x (h 0 (omega arith))) (escape_high xs (λ k below. h (suc k) (omega arith)))
+escape_high (x ∷ xs) h = ap₂ (λ (a b : List ℕ). a ++ b) (escaped_high x (h 0 (omega arith)))
+    (escape_high xs (λ k below. h (suc k) (omega arith)))
 
 pub high_stays : (c : ℕ) → 128 ≤ c → flat_map escape_text (encode_utf8 c) ≡ encode_utf8 c
 high_stays c big =
-    let high : (k : ℕ) → k < length (encode_utf8 c) → 128 ≤ get_or (encode_utf8 c) k 0 = λ k below. elim (cases_lt (get_or (encode_utf8 c) k 0) 128) [
+    let high : (k : ℕ) → k < length (encode_utf8 c) → 128 ≤ get_or (encode_utf8 c) k 0 =
+    λ k below. elim (cases_lt (get_or (encode_utf8 c) k 0) 128) [
       | inl low ↦ absurd (omega (arith, inside_one c [] (encode_utf8 c) k (sym (append-nil _)) below low))
       | inr h ↦ h
     ] in
@@ -95,12 +123,21 @@ pub low_stays : (c : ℕ) → c < 128 → flat_map escape_text (encode_utf8 c) �
 low_stays c small = rw (encode_ascii c small, append-nil) refl
 
 piece_high : (c : ℕ) → IsScalar c → 128 ≤ c → IsPiece (flat_map escape_text (encode_utf8 c)) c
-piece_high c s big = rw (high_stays c big) (raw (record { scalar = s; printable = omega arith; not_quote = λ e. omega arith; not_backslash = λ e. omega arith; text = refl }))
+piece_high c s big = rw (high_stays c big)
+    (raw (record {
+      scalar = s;
+      printable = omega arith;
+      not_quote = λ e. omega arith;
+      not_backslash =
+          λ e. omega arith;
+      text = refl;
+    }))
 
 escaped_as : (n c : ℕ) → c ≡ n → IsPiece (escape_text n) n → IsPiece (escape_text c) c
 escaped_as n c e p = subst (λ z. IsPiece (escape_text z) z) (sym e) p
 
-control_text : (c : ℕ) → c < 32 → c ≢ 8 → c ≢ 9 → c ≢ 10 → c ≢ 12 → c ≢ 13 → escape_text c ≡ 92 ∷ 117 ∷ 48 ∷ 48 ∷ digit_char (c / 16) ∷ digit_char (c % 16) ∷ []
+control_text : (c : ℕ) → c < 32 → c ≢ 8 → c ≢ 9 → c ≢ 10 → c ≢ 12 → c ≢ 13
+    → escape_text c ≡ 92 ∷ 117 ∷ 48 ∷ 48 ∷ digit_char (c / 16) ∷ digit_char (c % 16) ∷ []
 control_text c low n8 n9 n10 n12 n13 = grind (arith, nat_tests)
 
 pub raw_text : (c : ℕ) → 32 ≤ c → c ≢ 34 → c ≢ 92 → escape_text c ≡ c ∷ []
@@ -110,10 +147,33 @@ piece_control : (c : ℕ) → IsScalar c → c < 32 → c ≢ 8 → c ≢ 9 → 
 piece_control c s low n8 n9 n10 n12 n13 =
     let v1 : digit_value (digit_char (c / 16)) ≡ c / 16 = digit_value-digit_char (c / 16) (omega arith) in
     let v0 : digit_value (digit_char (c % 16)) ≡ c % 16 = digit_value-digit_char (c % 16) (omega arith) in
-    rw (control_text c low n8 n9 n10 n12 n13) (unit s (record { d3 = 48; d2 = 48; d1 = digit_char (c / 16); d0 = digit_char (c % 16); hex3 = omega arith; hex2 = omega arith; hex1 = rw v1 (omega arith); hex0 = rw v0 (omega arith); text = refl; value = rw (v1, v0) (omega arith) }))
+    rw (control_text c low n8 n9 n10 n12 n13)
+    (unit s (record {
+      d3 = 48;
+      d2 = 48;
+      d1 = digit_char (c / 16);
+      d0 = digit_char (c % 16);
+      hex3 =
+          omega arith;
+      hex2 = omega arith;
+      hex1 = rw v1 (omega arith);
+      hex0 = rw v0 (omega arith);
+      text =
+          refl;
+      value = rw (v1, v0) (omega arith);
+    }))
 
 piece_raw : (c : ℕ) → IsScalar c → 32 ≤ c → c < 128 → c ≢ 34 → c ≢ 92 → IsPiece (escape_text c) c
-piece_raw c s high small n34 n92 = rw (raw_text c high n34 n92) (raw (record { scalar = s; printable = high; not_quote = n34; not_backslash = n92; text = sym (encode_ascii c small) }))
+piece_raw c s high small n34 n92 =
+    rw (raw_text c high n34 n92)
+    (raw (record {
+      scalar = s;
+      printable = high;
+      not_quote = n34;
+      not_backslash = n92;
+      text =
+          sym (encode_ascii c small);
+    }))
 
 piece_low : (c : ℕ) → IsScalar c → c < 128 → IsPiece (escape_text c) c
 piece_low c s small =
@@ -138,7 +198,11 @@ piece_low c s small =
                                         elim (cases_eq c 92) [
                                           | inl e ↦ escaped_as 92 c e (short 92 backslash refl)
                                           | inr n92 ↦
-                                              elim (cases_lt c 32) [ inl low ↦ piece_control c s low n8 n9 n10 n12 n13 | inr high ↦ piece_raw c s high small n34 n92 ]
+                                              elim (cases_lt c 32) [
+                                                | inl low ↦ piece_control c s low n8 n9 n10 n12
+                                                    n13
+                                                | inr high ↦ piece_raw c s high small n34 n92
+                                              ]
                                         ]
                                   ]
                             ]
@@ -155,11 +219,25 @@ piece_of c s = elim (cases_lt c 128) [
 
 pieces_of : (cs : List ℕ) → scalars cs ≡ true → ArePieces (flat_map escape_text (encode_utf8_all cs)) cs
 pieces_of [] h = refl
-pieces_of (c ∷ cs) h = let p = and_parts _ _ h in (flat_map escape_text (encode_utf8 c), flat_map escape_text (encode_utf8_all cs), flat_map-append escape_text (encode_utf8 c) (encode_utf8_all cs), piece_of c p.0, pieces_of cs p.1)
+pieces_of (c ∷ cs) h = let p = and_parts _ _ h in (
+  flat_map escape_text (encode_utf8 c),
+  flat_map escape_text (encode_utf8_all cs),
+  flat_map-append escape_text
+      (encode_utf8 c) (encode_utf8_all cs),
+  piece_of c p.0,
+  pieces_of cs p.1,
+)
 
 pub written_string : (s : List ℕ) → IsUtf8 s → IsString (string_text s) s
 unfolding string_text
-written_string s u = record { inside = flat_map escape_text s; characters = u.0; text = refl; pieces = subst (λ z. ArePieces (flat_map escape_text z) u.0) u.1.1 (pieces_of u.0 u.1.0); value = sym u.1.1 }
+written_string s u = record {
+  inside = flat_map escape_text s;
+  characters = u.0;
+  text = refl;
+  pieces =
+      subst (λ z. ArePieces (flat_map escape_text z) u.0) u.1.1 (pieces_of u.0 u.1.0);
+  value = sym u.1.1;
+}
 
 -- ---- values
 
@@ -179,19 +257,71 @@ mutual
 
   written_children : (ts : Trees) → AllInRange ts → AreElements ts (compact_children ts)
   written_children no_trees h = tt
-  written_children (tree t ts) h = record { first = compact t; rest = compact_more ts; text = refl; is_first = alone (compact t) (written_value t h.0); is_rest = written_more ts h.1 }
+  written_children (tree t ts) h =
+      record {
+        first = compact t;
+        rest = compact_more ts;
+        text = refl;
+        is_first =
+            alone (compact t) (written_value t h.0);
+        is_rest = written_more ts h.1;
+      }
 
   written_more : (ts : Trees) → AllInRange ts → AreMoreElements ts (compact_more ts)
   written_more no_trees h = refl
-  written_more (tree t ts) h = (compact t ++ compact_more ts, refl, record { first = compact t; rest = compact_more ts; text = refl; is_first = alone (compact t) (written_value t h.0); is_rest = written_more ts h.1 })
+  written_more (tree t ts) h = (
+    compact t ++ compact_more ts,
+    refl,
+    record {
+      first = compact t;
+      rest = compact_more ts;
+      text = refl;
+      is_first =
+          alone (compact t) (written_value t h.0);
+      is_rest = written_more ts h.1;
+    },
+  )
 
   written_members : (ms : Members) → MembersInRange ms → AreMembers ms (compact_members ms)
   written_members no_members h = tt
-  written_members (member s t ms) h = record { first = string_text s ++ 58 ∷ compact t; rest = compact_more_members ms; text = refl; is_first = record { name = string_text s; value = compact t; text = refl; is_name = alone (string_text s) (written_string s h.0); is_value = alone (compact t) (written_value t h.1) }; is_rest = written_more_members ms h.2 }
+  written_members (member s t ms) h =
+      record {
+        first = string_text s ++ 58 ∷ compact t;
+        rest = compact_more_members ms;
+        text = refl;
+        is_first =
+            record {
+              name = string_text s;
+              value = compact t;
+              text = refl;
+              is_name =
+                  alone (string_text s) (written_string s h.0);
+              is_value = alone (compact t) (written_value t h.1);
+            };
+        is_rest = written_more_members ms h.2;
+      }
 
   written_more_members : (ms : Members) → MembersInRange ms → AreMoreMembers ms (compact_more_members ms)
   written_more_members no_members h = refl
-  written_more_members (member s t ms) h = ((string_text s ++ 58 ∷ compact t) ++ compact_more_members ms, refl, record { first = string_text s ++ 58 ∷ compact t; rest = compact_more_members ms; text = refl; is_first = record { name = string_text s; value = compact t; text = refl; is_name = alone (string_text s) (written_string s h.0); is_value = alone (compact t) (written_value t h.1) }; is_rest = written_more_members ms h.2 })
+  written_more_members (member s t ms) h = (
+    (string_text s ++ 58 ∷ compact t) ++ compact_more_members ms,
+    refl,
+    record {
+      first = string_text s ++ 58 ∷ compact t;
+      rest = compact_more_members ms;
+      text = refl;
+      is_first =
+          record {
+            name = string_text s;
+            value = compact t;
+            text = refl;
+            is_name =
+                alone (string_text s) (written_string s h.0);
+            is_value = alone (compact t) (written_value t h.1);
+          };
+      is_rest = written_more_members ms h.2;
+    },
+  )
 
 pub written : (t : Tree) → InRange t → IsJson (compact t) t
 written t h = alone (compact t) (written_value t h)

@@ -97,5 +97,6 @@ structural = refl
 pub of_numbers : minus_sign ∷ plus_sign ∷ decimal_point ∷ digit_0 ∷ digit_1 ∷ digit_9 ∷ letter_e ∷ letter_E ∷ [] ≡ codes "-+.019eE"
 of_numbers = refl
 
-pub of_strings : quotation_mark ∷ reverse_solidus ∷ letter_b ∷ letter_f ∷ letter_n ∷ letter_r ∷ letter_t ∷ letter_u ∷ [] ≡ codes "\"\\bfnrtu"
+pub of_strings : quotation_mark ∷ reverse_solidus ∷ letter_b ∷ letter_f ∷ letter_n ∷ letter_r ∷ letter_t ∷ letter_u
+    ∷ [] ≡ codes "\"\\bfnrtu"
 of_strings = refl

@@ -1,6 +1,7 @@
 -- The classes of bytes that a lexer tests for, and where a run of such bytes stops (RFC 8259, sections 2, 6 and 7).
 use Rattle.std.specs.Prelude.{◌≡◌, ℕ, Bool, false, ◌||◌, ◌&&◌, nat_le, nat_lt, ◌==◌, List, [], ◌∷◌, ⊤, true, refl}
-use Rattle.miniserde_model.specs.Ascii.{quotation_mark, reverse_solidus, minus_sign, plus_sign, decimal_point, digit_0, digit_9, letter_E, letter_e, letter_n}
+use Rattle.miniserde_model.specs.Ascii.{quotation_mark, reverse_solidus, minus_sign, plus_sign, decimal_point}
+use Rattle.miniserde_model.specs.Ascii.{digit_0, digit_9, letter_E, letter_e, letter_n}
 
 -- whether the byte is a space, a tab, a line feed or a carriage return
 abbrev pub is_space : ℕ → Bool
@@ -8,7 +9,8 @@ is_space c = (c == 32) || (c == 9) || (c == 10) || (c == 13)
 
 -- whether the byte is a digit, `+`, `-`, `.`, `E` or `e`
 abbrev pub is_number_byte : ℕ → Bool
-is_number_byte c = (nat_le digit_0 c && nat_le c digit_9) || (c == plus_sign) || (c == minus_sign) || (c == decimal_point) || (c == letter_E) || (c == letter_e)
+is_number_byte c = (nat_le digit_0 c && nat_le c digit_9) || (c == plus_sign) || (c == minus_sign) ||
+    (c == decimal_point) || (c == letter_E) || (c == letter_e)
 
 -- whether the byte may not stand unescaped inside a string: a control byte below 0x20, `"` or `\`
 abbrev pub is_special : ℕ → Bool

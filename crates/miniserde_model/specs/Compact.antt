@@ -1,8 +1,12 @@
 -- The compact text of a tree: no whitespace, and no byte of a string is escaped without need (RFC 8259, section 7).
-use Rattle.std.specs.Prelude.{ℕ, ◌/◌, ◌%◌, List, [], ◌∷◌, ◌++◌, codes, decimal, unsigned_abs, ◌==◌, ◌||◌, nat_lt, if◌then◌else◌, flat_map, ◌≡◌, refl, true}
+use Rattle.std.specs.Prelude.{ℕ, ◌/◌, ◌%◌, List, [], ◌∷◌, ◌++◌, codes, decimal, unsigned_abs, ◌==◌, ◌||◌, nat_lt}
+use Rattle.std.specs.Prelude.{if◌then◌else◌, flat_map, ◌≡◌, refl, true}
 use Rattle.std.specs.Char.{digit_char}
-use Rattle.miniserde_model.specs.Ascii.{begin_array, end_array, begin_object, end_object, name_separator, value_separator, quotation_mark, reverse_solidus, minus_sign, digit_0, letter_b, letter_f, letter_n, letter_r, letter_t, letter_u}
-use Rattle.miniserde_model.specs.Tree.{Tree, null, truth, nonneg, neg, num, str, list, members, Trees, no_trees, tree, Members, no_members, member}
+use Rattle.miniserde_model.specs.Ascii.{begin_array, end_array, begin_object, end_object, name_separator}
+use Rattle.miniserde_model.specs.Ascii.{value_separator, quotation_mark, reverse_solidus, minus_sign, digit_0}
+use Rattle.miniserde_model.specs.Ascii.{letter_b, letter_f, letter_n, letter_r, letter_t, letter_u}
+use Rattle.miniserde_model.specs.Tree.{Tree, null, truth, nonneg, neg, num, str, list, members, Trees, no_trees}
+use Rattle.miniserde_model.specs.Tree.{tree, Members, no_members, member}
 use Rattle.miniserde_model.specs.Value.{word}
 use Rattle.std.proofs.Common.{ap, arith, get_or}
 

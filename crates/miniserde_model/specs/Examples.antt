@@ -8,7 +8,8 @@ use Rattle.miniserde_model.specs.Normal.{norm}
 -- texts, each with the tree that it spells
 pub record SpelledTexts : Type 0 where
   pub empty_list : IsJson (codes " [ ] ") (list no_trees)
-  pub three_numbers : IsJson (codes "[1, 2 ,18446744073709551615]") (list (tree (nonneg 1) (tree (nonneg 2) (tree (nonneg 18446744073709551615) no_trees))))
+  pub three_numbers : IsJson (codes "[1, 2 ,18446744073709551615]")
+      (list (tree (nonneg 1) (tree (nonneg 2) (tree (nonneg 18446744073709551615) no_trees))))
   pub negated_zero : IsJson (codes "-0") (neg (pos 0))
   pub above_largest : IsJson (codes "18446744073709551616") (num (codes "18446744073709551616"))
   pub smallest : IsJson (codes "-9223372036854775808") (neg (negsuc 9223372036854775807))
@@ -18,13 +19,19 @@ pub record SpelledTexts : Type 0 where
   -- a high and a low surrogate are one character
   pub surrogate_pair : IsJson (codes "\"\\ud83d\\ude00\"") (str (encode_utf8 0x1F600))
   pub escapes : IsJson (codes "\"\\u0041\\/\"") (str (codes "A/"))
-  pub repeated_name : IsJson (codes "{\"a\":1,\"a\":2}") (members (member (codes "a") (nonneg 1) (member (codes "a") (nonneg 2) no_members)))
+  pub repeated_name : IsJson (codes "{\"a\":1,\"a\":2}")
+      (members (member (codes "a") (nonneg 1) (member (codes "a") (nonneg 2) no_members)))
 
 -- trees with their normal forms or compact texts
 pub record NormalForms : Type 0 where
-  pub last_stays : norm (members (member (codes "a") (nonneg 1) (member (codes "a") (nonneg 2) no_members))) ≡ members (member (codes "a") (nonneg 2) no_members)
-  pub last_stays_text : compact (norm (members (member (codes "a") (nonneg 1) (member (codes "a") (nonneg 2) no_members)))) ≡ codes "{\"a\":2}"
-  pub names_rise : norm (members (member (codes "b") (nonneg 1) (member (codes "a") (neg (pos 0)) (member (codes "b") null no_members)))) ≡ members (member (codes "a") (nonneg 0) (member (codes "b") null no_members))
+  pub last_stays : norm (members (member (codes "a") (nonneg 1) (member (codes "a") (nonneg 2) no_members)))
+      ≡ members (member (codes "a") (nonneg 2) no_members)
+  pub last_stays_text : compact
+      (norm (members (member (codes "a") (nonneg 1) (member (codes "a") (nonneg 2) no_members))))
+      ≡ codes "{\"a\":2}"
+  pub names_rise : norm (members
+      (member (codes "b") (nonneg 1) (member (codes "a") (neg (pos 0)) (member (codes "b") null no_members))))
+      ≡ members (member (codes "a") (nonneg 0) (member (codes "b") null no_members))
   pub no_negated_zero : norm (neg (pos 0)) ≡ nonneg 0
   -- a tree that is not in normal form has its `-0` in its compact text
   pub list_text : compact (list (tree (nonneg 1) (tree (neg (pos 0)) (tree null no_trees)))) ≡ codes "[1,-0,null]"

@@ -1,5 +1,6 @@
 -- The texts of numbers, and the leaf of each of them (RFC 8259, section 6).
-use Rattle.std.specs.Prelude.{◌≡◌, ℕ, ◌^◌, ◌<◌, ◌⊎◌, pos, neg_ℤ, List, [], ◌∷◌, ◌++◌, length, drop, slice_index, Bool, true, not, ◌&&◌, ◌||◌, ◌==◌, nat_lt, nat_le, if◌then◌else◌, codes, refl}
+use Rattle.std.specs.Prelude.{◌≡◌, ℕ, ◌^◌, ◌<◌, ◌⊎◌, pos, neg_ℤ, List, [], ◌∷◌, ◌++◌, length, drop, slice_index}
+use Rattle.std.specs.Prelude.{Bool, true, not, ◌&&◌, ◌||◌, ◌==◌, nat_lt, nat_le, if◌then◌else◌, codes, refl}
 use Rattle.std.specs.Int.{IsInRange}
 use Rattle.std.specs.List.{AllByRecursion}
 use Rattle.std.specs.Str.Parse.{digits_value}
@@ -36,7 +37,8 @@ IsSign x = (x ≡ []) ⊎ ((x ≡ plus_sign ∷ []) ⊎ (x ≡ minus_sign ∷ []
 
 -- the text is empty, or `e` or `E`, then a sign or none, then one digit or more
 abbrev pub IsExponent : List ℕ → Type 0
-IsExponent x = (x ≡ []) ⊎ ((e : ℕ) × (sign ds : List ℕ) × (x ≡ e ∷ (sign ++ ds)) × ((e ≡ letter_e) ⊎ (e ≡ letter_E)) × IsSign sign × AreDigits ds)
+IsExponent x = (x ≡ []) ⊎ ((e : ℕ) × (sign ds : List ℕ) × (x ≡ e ∷ (sign ++ ds)) × ((e ≡ letter_e) ⊎ (e ≡ letter_E))
+    × IsSign sign × AreDigits ds)
 
 -- the text x is a number: a minus or none, an integer part, a fraction or none, and an exponent or none
 pub record IsNumberText (x : List ℕ) : Type 0 where
@@ -81,7 +83,18 @@ IsNumber x t = IsNumberText x × (leaf x ≡ t)
 
 -- Worked cases: `-0` is a number text, and `01` is no integer part.
 pub negated_zero : IsNumberText (codes "-0")
-negated_zero = record { minus = codes "-"; int = codes "0"; fraction = []; exponent = []; text = refl; is_minus = inr refl; is_int = inl (refl, refl); is_fraction = inl refl; is_exponent = inl refl }
+negated_zero = record {
+  minus = codes "-";
+  int = codes "0";
+  fraction = [];
+  exponent = [];
+  text = refl;
+  is_minus =
+      inr refl;
+  is_int = inl (refl, refl);
+  is_fraction = inl refl;
+  is_exponent = inl refl;
+}
 
 pub leading_zero : IsInt (digit_0 ∷ digit_1 ∷ []) → ⊥
 leading_zero (inl h) = let e : digit_1 ∷ [] ≡ [] = h.1 in absurd (cc)

@@ -1,6 +1,7 @@
 -- The events of a tree, in the order in which its text spells them (RFC 8259, section 3).
 use Rattle.std.specs.Prelude.{ℕ, ℤ, Bool, List, [], ◌∷◌, ◌++◌, ◌≡◌, refl, codes}
-use Rattle.miniserde_model.specs.Tree.{Tree, truth, nonneg, neg, num, str, list, members, Trees, no_trees, tree, Members, no_members, member}
+use Rattle.miniserde_model.specs.Tree.{Tree, truth, nonneg, neg, num, str, list, members, Trees, no_trees, tree}
+use Rattle.miniserde_model.specs.Tree.{Members, no_members, member}
 use Rattle.miniserde_model.specs.Tree as trees
 
 -- an event: a whole leaf, an opening or a closing bracket, a member's name, or the beginning of an element
@@ -48,7 +49,8 @@ abbrev mutual
   member_events (member name t ms) = key name ∷ (events t ++ member_events ms)
 
 -- Worked cases: the events of `[null,{}]`, and a list of events that `[]` does not have, since it contains a name.
-pub events_of_a_list : events (list (tree trees.null (tree (members no_members) no_trees))) ≡ seq ∷ element ∷ null ∷ element ∷ map ∷ finish ∷ finish ∷ []
+pub events_of_a_list : events (list (tree trees.null (tree (members no_members) no_trees))) ≡ seq ∷ element ∷ null ∷
+    element ∷ map ∷ finish ∷ finish ∷ []
 events_of_a_list = refl
 
 pub no_name_in_a_list : events (list no_trees) ≡ seq ∷ key [] ∷ finish ∷ [] → ⊥

@@ -2,7 +2,8 @@
 use Rattle.std.specs.Prelude.{◌≡◌, ℕ, Bool, true, false, List, [], ◌∷◌, ◌++◌, codes, refl, length}
 use Rattle.std.proofs.Common.{ap, arith, inl}
 use Rattle.miniserde_model.specs.Ascii.{begin_array, end_array, begin_object, end_object, name_separator, value_separator}
-use Rattle.miniserde_model.specs.Tree.{Tree, null, truth, nonneg, neg, num, str, list, members, Trees, no_trees, tree, Members, no_members, member}
+use Rattle.miniserde_model.specs.Tree.{Tree, null, truth, nonneg, neg, num, str, list, members, Trees, no_trees}
+use Rattle.miniserde_model.specs.Tree.{tree, Members, no_members, member}
 use Rattle.miniserde_model.specs.Number.{IsNumber}
 use Rattle.miniserde_model.specs.String.{IsString}
 use Rattle.miniserde_model.specs.Whitespace.{IsWhitespace}
@@ -76,7 +77,8 @@ abbrev mutual
   -- the bytes b spell further members, with a comma before each
   pub AreMoreMembers : Members → List ℕ → Type 0
   AreMoreMembers no_members b = b ≡ []
-  AreMoreMembers (member name t ms) b = (c : List ℕ) × (b ≡ value_separator ∷ c) × Then (Named (λ n. IsString n name) (IsValue t)) (AreMoreMembers ms) c
+  AreMoreMembers (member name t ms) b = (c : List ℕ) × (b ≡ value_separator ∷ c)
+      × Then (Named (λ n. IsString n name) (IsValue t)) (AreMoreMembers ms) c
 
 -- the bytes b, a whole text, spell the tree t
 abbrev pub IsJson : List ℕ → Tree → Type 0
@@ -88,7 +90,16 @@ HasNoTree b = (t : Tree) → IsJson b t → ⊥
 
 -- Worked cases: ` null` spells null, and `nul` does not.
 pub null_after_space : IsJson (codes " null") null
-null_after_space = record { before = codes " "; inner = codes "null"; after = []; text = refl; is_before = (inl refl, tt); is_inner = refl; is_after = tt }
+null_after_space = record {
+  before = codes " ";
+  inner = codes "null";
+  after = [];
+  text = refl;
+  is_before =
+      (inl refl, tt);
+  is_inner = refl;
+  is_after = tt;
+}
 
 pub cut_short : IsValue null (codes "nul") → ⊥
 cut_short h = omega (arith, ap length h)

@@ -1,6 +1,7 @@
 -- Some text spells the events that the engine hands on, and events that begin a value can be completed. By cases of
 -- the event, each with a text, and by recursion over the open containers, which are closed one by one.
-use Rattle.std.proofs.Common.{◌≡◌, ℕ, Bool, true, false, Some, is_some, List, [], ◌∷◌, ◌++◌, length, codes, refl, sym, ap, subst, ◌∙◌, true≢false, arith, length-append}
+use Rattle.std.proofs.Common.{◌≡◌, ℕ, Bool, true, false, Some, is_some, List, [], ◌∷◌, ◌++◌, length, codes, refl}
+use Rattle.std.proofs.Common.{sym, ap, subst, ◌∙◌, true≢false, arith, length-append}
 use Rattle.std.specs.Prelude.{⊤}
 use Rattle.miniserde_model.specs.Tree.{Tree}
 use Rattle.miniserde_model.specs.InRange.{InRange}
@@ -23,38 +24,51 @@ use Rattle.miniserde_place.specs.private.Runs.{Spellable}
 
 -- ---- one event before others
 
-with_finish : (k : Kind) (f : Bool) (st : List Kind) (es : List Step) → Spellable after es st → Spellable (before_child f) (finish ∷ es) (k ∷ st)
+with_finish : (k : Kind) (f : Bool) (st : List Kind) (es : List Step) → Spellable after es st
+    → Spellable (before_child f) (finish ∷ es) (k ∷ st)
 with_finish Seq true st es h = (93 ∷ h.0, front [] (93 ∷ []) h.0 tt refl h.1)
 with_finish Seq false st es h = (93 ∷ h.0, front [] (93 ∷ []) h.0 tt refl h.1)
 with_finish Map true st es h = (125 ∷ h.0, front [] (125 ∷ []) h.0 tt refl h.1)
 with_finish Map false st es h = (125 ∷ h.0, front [] (125 ∷ []) h.0 tt refl h.1)
 
-with_element : (f : Bool) (st : List Kind) (es : List Step) → Spellable due es (Seq ∷ st) → Spellable (before_child f) (element ∷ es) (Seq ∷ st)
+with_element : (f : Bool) (st : List Kind) (es : List Step) → Spellable due es (Seq ∷ st)
+    → Spellable (before_child f) (element ∷ es) (Seq ∷ st)
 with_element true st es h = h
 with_element false st es h = (44 ∷ h.0, front [] (44 ∷ []) h.0 tt refl h.1)
 
-with_key : (f : Bool) (st : List Kind) (s r n : List ℕ) → Names s n r → (es : List Step) → Spellable due es (Map ∷ st) → Spellable (before_child f) (key n ∷ es) (Map ∷ st)
+with_key : (f : Bool) (st : List Kind) (s r n : List ℕ) → Names s n r → (es : List Step)
+    → Spellable due es (Map ∷ st) → Spellable (before_child f) (key n ∷ es) (Map ∷ st)
 with_key true st s r n p es h = (p.part ++ h.0, front [] p.part h.0 tt p.is_part h.1)
 with_key false st s r n p es h = (44 ∷ (p.part ++ h.0), front [] (44 ∷ []) (p.part ++ h.0) tt refl (front [] p.part h.0 tt p.is_part h.1))
 
 -- ---- the same by the innermost container
 
-pub close_spellable : (st st' : List Kind) (k : Kind) (f : Bool) → innermost st ≡ Some k → st' ≡ outer st → (es : List Step) → Spellable after es st' → Spellable (before_child f) (finish ∷ es) st
+pub close_spellable : (st st' : List Kind) (k : Kind) (f : Bool) → innermost st ≡ Some k → st' ≡ outer st
+    → (es : List Step) → Spellable after es st' → Spellable (before_child f) (finish ∷ es) st
 close_spellable st st' k f h q es p =
-    subst (λ z. Spellable (before_child f) (finish ∷ es) z) (sym (split_top st k h)) (with_finish k f (outer st) es (subst (λ z. Spellable after es z) q p))
+    subst (λ z. Spellable (before_child f) (finish ∷ es) z) (sym (split_top st k h))
+    (with_finish k f (outer st) es (subst (λ z. Spellable after es z) q p))
 
-pub element_spellable : (st : List Kind) (k : Kind) (f : Bool) → innermost st ≡ Some k → k ≡ Seq → (es : List Step) → Spellable due es st → Spellable (before_child f) (element ∷ es) st
+pub element_spellable : (st : List Kind) (k : Kind) (f : Bool) → innermost st ≡ Some k → k ≡ Seq → (es : List Step)
+    → Spellable due es st → Spellable (before_child f) (element ∷ es) st
 element_spellable st k f h e es =
-    subst (λ z. Spellable due es z → Spellable (before_child f) (element ∷ es) z) (sym (split_top st Seq (h ∙ ap Some e))) (with_element f (outer st) es)
+    subst (λ z. Spellable due es z → Spellable (before_child f) (element ∷ es) z)
+    (sym (split_top st Seq (h ∙ ap Some e))) (with_element f (outer st) es)
 
-pub key_spellable : (st : List Kind) (s r n : List ℕ) (k : Kind) (f : Bool) → innermost st ≡ Some k → k ≡ Map → Names s n r → (es : List Step) → Spellable due es st → Spellable (before_child f) (key n ∷ es) st
+pub key_spellable : (st : List Kind) (s r n : List ℕ) (k : Kind) (f : Bool) → innermost st ≡ Some k → k ≡ Map
+    → Names s n r → (es : List Step) → Spellable due es st → Spellable (before_child f) (key n ∷ es) st
 key_spellable st s r n k f h e p es =
-    subst (λ z. Spellable due es z → Spellable (before_child f) (key n ∷ es) z) (sym (split_top st Map (h ∙ ap Some e))) (with_key f (outer st) s r n p es)
+    subst (λ z. Spellable due es z → Spellable (before_child f) (key n ∷ es) z)
+    (sym (split_top st Map (h ∙ ap Some e))) (with_key f (outer st) s r n p es)
 
-pub start_spellable : (st : List Kind) (s r : List ℕ) (e : Step) (f : Bool) (st' : List Kind) → Starts s e r → f ≡ is_some (opened_kind e) → st' ≡ with_opened (opened_kind e) st → (es : List Step) → Spellable (before_child f) es st' → Spellable due (e ∷ es) st
+pub start_spellable : (st : List Kind) (s r : List ℕ) (e : Step) (f : Bool) (st' : List Kind) → Starts s e r
+    → f ≡ is_some (opened_kind e) → st' ≡ with_opened (opened_kind e) st → (es : List Step)
+    → Spellable (before_child f) es st' → Spellable due (e ∷ es) st
 start_spellable st s r e f st' k p q es h =
     let g = passes_start st s e r k in
-    let i : Spellable (before_child (is_some (opened_kind e))) es (with_opened (opened_kind e) st) = subst (λ z. Spellable (before_child z) es (with_opened (opened_kind e) st)) p (subst (λ z. Spellable (before_child f) es z) q h) in
+    let i : Spellable (before_child (is_some (opened_kind e))) es (with_opened (opened_kind e) st) =
+    subst (λ z. Spellable (before_child z) es (with_opened (opened_kind e) st)) p
+    (subst (λ z. Spellable (before_child f) es z) q h) in
     (g.taken ++ i.0, g.on es i.0 i.1)
 
 -- ---- every beginning can be completed
@@ -74,7 +88,8 @@ inside_unfinished true (c ∷ st) k h = tt
 inside_unfinished false (c ∷ st) k h = tt
 
 -- what is unfinished can be completed, and by no fewer than one event
-pub more_to_come : (m : Moment) (st : List Kind) → MomentFits m st → Unfinished m st → (e : Step) × (rest : List Step) × Spellable m (e ∷ rest) st
+pub more_to_come : (m : Moment) (st : List Kind) → MomentFits m st → Unfinished m st
+    → (e : Step) × (rest : List Step) × Spellable m (e ∷ rest) st
 more_to_come after [] l u = absurd u
 more_to_come after (k ∷ st) l u = let r = closers st in (finish, r.0, with_finish k false st r.0 r.1)
 more_to_come due st l u = let r = closers st in (step.null, r.0, (codes "null" ++ r.1.0, front [] (codes "null") r.1.0 tt refl r.1.1))
@@ -94,7 +109,10 @@ spelled_events : (es : List Step) → Spellable due es [] → (u : Tree) × (es 
 spelled_events es h = let t = spells_json es h.0 h.1 in (t.0, t.1, json_tree h.0 t.0 t.2)
 
 -- the events behind a value's first token, where there are some
-pub tree_spelled : (x : lexed.Event) (scratch : List ℕ) (es : List Step) → (es ≡ [] → ⊥) → Spellable (before_child (is_some (opened_kind (event_of_token x scratch)))) es (with_opened (opened_kind (event_of_token x scratch)) []) → (t : Tree) × (event_of_token x scratch ∷ es ≡ events t) × InRange t
+pub tree_spelled : (x : lexed.Event) (scratch : List ℕ) (es : List Step) → (es ≡ [] → ⊥)
+    → Spellable (before_child (is_some (opened_kind (event_of_token x scratch)))) es
+    (with_opened (opened_kind (event_of_token x scratch)) [])
+    → (t : Tree) × (event_of_token x scratch ∷ es ≡ events t) × InRange t
 tree_spelled variant.Null scratch es n h = leaf_ends es n h
 tree_spelled (variant.Bool b) scratch es n h = leaf_ends es n h
 tree_spelled (variant.Negative z) scratch es n h = leaf_ends es n h

@@ -24,9 +24,11 @@ pub record FieldPlacesMeaning (F V : Type 0) : Type 1 where
   -- name and the events of its value
   pub by_events : List Name → meant.State → Name → List Step → Option meant.State
   -- a member's events lead to the same state as its tree
-  pub events_agree : (names : List Name) (s : meant.State) (k : Name) (t : Tree) → by_events names s k (events t) ≡ meant.next_state names s k t
+  pub events_agree : (names : List Name) (s : meant.State) (k : Name) (t : Tree)
+      → by_events names s k (events t) ≡ meant.next_state names s k t
   -- a member for whose name `meant.refuses` holds gives no state, whatever its events
-  pub refused : (names : List Name) (s : meant.State) (k : Name) → meant.refuses names s k ≡ true → (es : List Step) → by_events names s k es ≡ None
+  pub refused : (names : List Name) (s : meant.State) (k : Name) → meant.refuses names s k ≡ true → (es : List Step)
+      → by_events names s k es ≡ None
   -- the view of the current field's place, or of the place of a skipped member; its outcome is the state after that
   -- member
   pub child : F → PlaceView meant.State
@@ -52,7 +54,8 @@ field_view view v s later (Some p) = view_through (λ a. Some (Some a, s)) (view
 -- The meaning of a field and of the fields after it. `once` says whether a duplicate of its name fails, m is the
 -- meaning of its place, and `absent` its value if it is missing, if it has one then. `value` returns its value so far,
 -- `child` its place if it is the current field, and `rest` the later fields, which have the meaning n.
-abbrev pub field_place_and : {P T F R V : Type 0} → Bool → PlaceMeaning P T → Option T → (F → Option T) → (F → Option P) → (F → R) → FieldPlacesMeaning R V → FieldPlacesMeaning F (T × V)
+abbrev pub field_place_and : {P T F R V : Type 0} → Bool → PlaceMeaning P T → Option T → (F → Option T)
+    → (F → Option P) → (F → R) → FieldPlacesMeaning R V → FieldPlacesMeaning F (T × V)
 field_place_and once m absent value child rest n = record {
   meant = field_and once None (type_meaning m) absent n.meant;
   state = λ f. (option_map m.content (value f), n.state (rest f));
@@ -89,7 +92,8 @@ struct_collector n names values fields = record {
   empty = n.meant.empty;
   is_object = true;
   rules = object_rules (n.by_events names) n.meant.end;
-  events_agree = object-meant (n.by_events names) (n.meant.next_state names) n.meant.end (n.events_agree names) n.meant.empty (n.meant.from_members names n.meant.empty) (n.meant.members_agree names n.meant.empty);
+  events_agree = object-meant (n.by_events names) (n.meant.next_state names) n.meant.end (n.events_agree names)
+      n.meant.empty (n.meant.from_members names n.meant.empty) (n.meant.members_agree names n.meant.empty);
   child = λ c. n.child (fields c);
   refuses = λ s e. refuses_member (n.meant.refuses names s) e;
 }

@@ -3,7 +3,8 @@
 -- inside an option or a box. P is the place of a part, V the type of the part, C the collector, and
 -- W the whole. `child_view` and `view_through` make of the view of a child's place one whose
 -- outcome is the state after that child.
-use Rattle.std.specs.Prelude.{◌≡◌, ℕ, false, true, List, [], ◌∷◌, ◌++◌, map, length, nat_le, ◌&&◌, ◌||◌, is_some, Option, Some, None, option_map, Result, Err, ⊤}
+use Rattle.std.specs.Prelude.{◌≡◌, ℕ, false, true, List, [], ◌∷◌, ◌++◌, map, length, nat_le, ◌&&◌, ◌||◌, is_some}
+use Rattle.std.specs.Prelude.{Option, Some, None, option_map, Result, Err, ⊤}
 use Rattle.miniserde_model.specs.Step.{Step}
 use Rattle.miniserde_model.specs.declared.error.Error.{Error}
 use Rattle.miniserde_model.specs.declared.error.Error.TheVariants.{Invalid}
@@ -66,7 +67,8 @@ array_collector n m items child whole = record {
 -- the view of the place of a pair's current part, or `no_child` if there is none; f and g return
 -- the views of the first and the second part's place, and a and b are the contents of the parts so
 -- far
-abbrev pub part_view : {P Q A B : Type 0} → (P → PlaceView A) → (Q → PlaceView B) → Option A → Option B → Part P Q → PlaceView (Option A × Option B)
+abbrev pub part_view : {P Q A B : Type 0} → (P → PlaceView A) → (Q → PlaceView B) → Option A → Option B → Part P Q
+    → PlaceView (Option A × Option B)
 part_view f g a b Neither = no_child
 part_view f g a b (First p) = view_through (λ x. Some (Some x, b)) (f p)
 part_view f g a b (Second q) = view_through (λ y. Some (a, Some y)) (g q)
@@ -74,7 +76,8 @@ part_view f g a b (Second q) = view_through (λ y. Some (a, Some y)) (g q)
 -- The meaning of a pair's collector, by the meanings m and n of its parts' places: `first` and
 -- `second` return the parts so far, `child` the current part's place, and `one` and `two` the parts
 -- of a complete pair. A third part fails, and so does a member.
-abbrev pub pair_collector : {P Q V U C W : Type 0} → PlaceMeaning P V → PlaceMeaning Q U → (C → Option V) → (C → Option U) → (C → Part P Q) → (W → V) → (W → U) → CollectorMeaning C W
+abbrev pub pair_collector : {P Q V U C W : Type 0} → PlaceMeaning P V → PlaceMeaning Q U → (C → Option V)
+    → (C → Option U) → (C → Part P Q) → (W → V) → (W → U) → CollectorMeaning C W
 pair_collector m n first second child one two = record {
   meant = pair_meaning (type_meaning m) (type_meaning n) one two;
   State = Option m.Content × Option n.Content;
@@ -92,7 +95,8 @@ pair_collector m n first second child one two = record {
 -- meaning of a value's place. `entries` returns the entries so far, `pending` the current key,
 -- `child` the current value's place, and `whole` a complete map's entries. Without a current key, a
 -- value gives nothing.
-abbrev pub map_collector : {K P V C W : Type 0} → (Name → Option Key) → (Key → Key) → (K → Key) → PlaceMeaning P V → (C → List (K × V)) → (C → Option K) → (C → Option P) → (W → List (K × V)) → CollectorMeaning C W
+abbrev pub map_collector : {K P V C W : Type 0} → (Name → Option Key) → (Key → Key) → (K → Key) → PlaceMeaning P V
+    → (C → List (K × V)) → (C → Option K) → (C → Option P) → (W → List (K × V)) → CollectorMeaning C W
 map_collector read code key m entries pending child whole = record {
   meant = map_meaning read code key (type_meaning m) whole;
   State = Key → Option (Key × m.Content);
@@ -101,7 +105,9 @@ map_collector read code key m entries pending child whole = record {
   is_object = true;
   rules = object_rules (map_member read code m.from_events) (λ s. Some s);
   events_agree = map-meant read code m.from_events m.from_tree m.events_agree;
-  child = λ c. child_view (λ x. option_map (λ k. with_entry code (map_content code key m.content (entries c)) (key k) x) (pending c)) m.view (child c);
+  child = λ c. child_view (λ x.
+      option_map (λ k. with_entry code (map_content code key m.content (entries c)) (key k) x) (pending c)) m.view
+      (child c);
   refuses = λ _ e. is_element e;
 }
 
@@ -111,7 +117,8 @@ map_collector read code key m entries pending child whole = record {
 abbrev pub option_view : {P A : Type 0} → (List Step → Option A) → (P → PlaceView A) → OptionState P → PlaceView (Option A)
 option_view f view (Fresh _) = record { at = start; outcome = option_mean f; refused = None }
 option_view f view Null = record { at = complete; outcome = nothing_more None; refused = None }
-option_view f view (Inner p) = record { at = (view p).at; outcome = λ es. option_map Some ((view p).outcome es); refused = (view p).refused }
+option_view f view (Inner p) =
+    record { at = (view p).at; outcome = λ es. option_map Some ((view p).outcome es); refused = (view p).refused }
 option_view f view (Refused r) = record { at = start; outcome = λ _. None; refused = Some r }
 
 -- A call hands the event e to the place of an optional value. If the place inside has begun, f holds of the call; after
@@ -124,7 +131,8 @@ OptionTakes f _ e answer s = ⊤
 
 -- the meaning of the place of an optional value, by the meaning m of the place of the value inside
 abbrev pub option_place_meaning : {P V : Type 0} → PlaceMeaning P V → PlaceMeaning (OptionPlace P) (Option V)
-option_place_meaning m = place_meaning (option_meaning (type_meaning m)) (option_mean m.from_events) (option-meant m.from_events m.from_tree m.events_agree) (λ p. option_view m.from_events m.view p.state)
+option_place_meaning m = place_meaning (option_meaning (type_meaning m)) (option_mean m.from_events)
+    (option-meant m.from_events m.from_tree m.events_agree) (λ p. option_view m.from_events m.view p.state)
 
 -- the meaning of the place of a box: `place` returns the place of the value inside, which has the
 -- meaning m, and `value` returns the value inside a box

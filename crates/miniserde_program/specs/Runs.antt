@@ -26,7 +26,9 @@ HasNoAnswer xs = (IsUtf8 xs → ⊥) ⊎ ((t : Tree) → IsJson xs t → ⊥)
 -- xs is a text that spells a tree without duplicate names, and ys is its canonical text; the normal form has as many
 -- values as the tree
 unfoldable pub IsAnswerOfUnique : List ℕ → List ℕ → Type 0
-IsAnswerOfUnique xs ys = IsUtf8 xs × ((t : Tree) × IsJson xs t × (names_distinct t ≡ true) × (size (norm t) ≡ size t) × (ys ≡ compact (norm t)))
+IsAnswerOfUnique xs ys =
+    IsUtf8 xs × ((t : Tree) × IsJson xs t × (names_distinct t ≡ true) × (size (norm t) ≡ size t)
+    × (ys ≡ compact (norm t)))
 
 -- the bytes xs are no UTF-8, or spell no tree without duplicate names
 unfoldable pub HasNoAnswerOfUnique : List ℕ → Type 0
@@ -126,7 +128,9 @@ line_of (Err Write) = codes "canon: write failed"
 -- the run, and without one before it. `left` and `written` are `None` if the type of the reader or
 -- the writer does not tell them to a contract. `is` relates an input to its output; `none` holds of an
 -- input without an output.
-pub record RunEffects {T : Type 0} (is : List ℕ → List ℕ → Type 0) (none : List ℕ → Type 0) (answer : Result T Fault) (left left' : Option (List ℕ)) (read_failures read_failures' : ℕ) (written written' : Option (List ℕ)) (write_failures write_failures' flushes flushes' : ℕ) : Type 0 where
+pub record RunEffects {T : Type 0} (is : List ℕ → List ℕ → Type 0) (none : List ℕ → Type 0)
+    (answer : Result T Fault) (left left' : Option (List ℕ)) (read_failures read_failures' : ℕ)
+    (written written' : Option (List ℕ)) (write_failures write_failures' flushes flushes' : ℕ) : Type 0 where
   pub ok : OnOk answer (IfSome left (AppendsBy is written written'))
   pub flushed : OnOk answer (flushes' ≡ flushes + 1)
   pub read : IfRead answer (IsAtEnd left')

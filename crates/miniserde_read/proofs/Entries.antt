@@ -1,7 +1,8 @@
 -- If the keys of some entries have distinct codes, the entry at a code is the only one with that code, whatever the
 -- order of the entries. By recursion over the entries (`found`, `at-contained`), which together give the result for a
 -- permutation (`at-permuted`).
-use Rattle.std.proofs.Common.{◌≡◌, zero, suc, Bool, true, false, cond, List, [], ◌∷◌, Some, None, refl, sym, ap, ◌∙◌, subst, inl, inr, arith}
+use Rattle.std.proofs.Common.{◌≡◌, zero, suc, Bool, true, false, cond, List, [], ◌∷◌, Some, None, refl, sym, ap}
+use Rattle.std.proofs.Common.{◌∙◌, subst, inl, inr, arith}
 use Rattle.std.specs.Prelude.{◌⊎◌, bytes_eq, Contains}
 use Rattle.std.specs.Map.{keys_of}
 use Rattle.std.specs.List.{AllByRecursion, IsDistinct}
@@ -46,12 +47,16 @@ module _ {K V : Type 0} (code : K → Key) where
 
   pub found : (q : Key) (es : List (K × V)) (e : K × V) → entry_at code q es ≡ Some e → Contains es e × (code e.0 ≡ q)
   found q [] e h = absurd (cc)
-  found q (f ∷ es) e h = elim (bytes_eq (code f.0) q) as (λ b. bytes_eq (code f.0) q ≡ b → cond b (Some f) (entry_at code q es) ≡ Some e → Contains (f ∷ es) e × (code e.0 ≡ q)) [
-    | true ↦ λ b g. let s : f ≡ e = same_Some f e g in (subst (Contains (f ∷ es)) s (contains-first f es), subst (λ z. code z.0 ≡ q) s (same_code _ _ b))
-    | false ↦ λ b g. let r = found q es e g in (contains-later f e es r.0, r.1)
-  ] refl h
+  found q (f ∷ es) e h = elim (bytes_eq (code f.0) q)
+      as (λ b. bytes_eq (code f.0) q ≡ b → cond b (Some f) (entry_at code q es) ≡ Some e → Contains (f ∷ es) e
+      × (code e.0 ≡ q)) [
+        | true ↦ λ b g. let s : f ≡ e = same_Some f e g in
+            (subst (Contains (f ∷ es)) s (contains-first f es), subst (λ z. code z.0 ≡ q) s (same_code _ _ b))
+        | false ↦ λ b g. let r = found q es e g in (contains-later f e es r.0, r.1)
+      ] refl h
 
-  pub at-contained : (q : Key) (es : List (K × V)) (e : K × V) → IsDistinct (same code) (keys_of es) → Contains es e → code e.0 ≡ q → entry_at code q es ≡ Some e
+  pub at-contained : (q : Key) (es : List (K × V)) (e : K × V) → IsDistinct (same code) (keys_of es) → Contains es e
+      → code e.0 ≡ q → entry_at code q es ≡ Some e
   unfolding IsDistinct
   at-contained q [] e d c h = absurd (omega (arith, c.1))
   at-contained q (f ∷ es) e d c h = elim (contains-cases f e es c) as (λ _. entry_at code q (f ∷ es) ≡ Some e) [
@@ -63,18 +68,27 @@ module _ {K V : Type 0} (code : K → Key) where
   ]
 
   -- no key has the code
-  pub none-at : (test : K → Bool) (q : Key) → ((k : K) → test k ≡ bytes_eq (code k) q) → (es : List (K × V)) → NonePasses test es → entry_at code q es ≡ None
+  pub none-at : (test : K → Bool) (q : Key) → ((k : K) → test k ≡ bytes_eq (code k) q) → (es : List (K × V))
+      → NonePasses test es → entry_at code q es ≡ None
   none-at test q s [] a = refl
   none-at test q s (e ∷ es) a = let no : bytes_eq (code e.0) q ≡ false = sym (s e.0) ∙ a.0 in rw no (none-at test q s es a.1)
 
   -- the order of the entries doesn't count
-  pub at-permuted : (q : Key) (es fs : List (K × V)) → IsPermutation es fs → IsDistinct (same code) (keys_of es) → entry_at code q fs ≡ entry_at code q es
+  pub at-permuted : (q : Key) (es fs : List (K × V)) → IsPermutation es fs → IsDistinct (same code) (keys_of es)
+      → entry_at code q fs ≡ entry_at code q es
   at-permuted q es fs p d =
-      let d' : IsDistinct (same code) (keys_of fs) = IsDistinct-IsPermutation (same code) (λ x y. bytes_eq-flips (code x) (code y)) (keys_of es) (keys_of fs) (IsPermutation-map (λ e. e.0) es fs p) d in
+      let d' : IsDistinct (same code) (keys_of fs) =
+      IsDistinct-IsPermutation (same code) (λ x y. bytes_eq-flips (code x) (code y)) (keys_of es) (keys_of fs)
+      (IsPermutation-map (λ e. e.0) es fs p) d in
       elim (entry_at code q es) as (λ o. entry_at code q es ≡ o → entry_at code q fs ≡ o) [
         | Some e ↦ λ h. let r = found q es e h in at-contained q fs e d' (Contains-permutation es fs e p r.0) r.1
         | None ↦ λ h. elim (entry_at code q fs) as (λ o. entry_at code q fs ≡ o → o ≡ None) [
           | None ↦ λ g. refl
-          | Some e ↦ λ g. let r = found q fs e g in absurd (cc (h, at-contained q es e d (Contains-permutation fs es e (IsPermutation-sym es fs p) r.0) r.1))
+          | Some e ↦ λ g. let r = found q fs e g in
+              absurd (cc (
+                h,
+                at-contained q es e d (Contains-permutation fs es e (IsPermutation-sym es fs p) r.0)
+                    r.1,
+              ))
         ] refl
       ] refl

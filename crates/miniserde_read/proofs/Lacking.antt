@@ -15,8 +15,22 @@ use Rattle.miniserde_read.specs.Escaped.{BeginsWithEscapedString}
 use Rattle.miniserde_read.specs.Rest.{ValueAt}
 use Rattle.miniserde_read.specs.Lacking.{EscapedElement, AnElement, EscapedAmong, SomeElements}
 
-pub an_element : (f : Bool) (s b c d : List ℕ) (e : Step) (t : Tree) → Follows Seq f false s b → Starts b e c → ValueAt t e c d → AnElement f s d
-an_element f s b c d e t h k v = (t, record { begin = b; event = e; behind = c; rest = d; follows = h; starts = k; is_value = v; is_rest = refl })
+pub an_element : (f : Bool) (s b c d : List ℕ) (e : Step) (t : Tree) → Follows Seq f false s b → Starts b e c
+    → ValueAt t e c d → AnElement f s d
+an_element f s b c d e t h k v = (
+  t,
+  record {
+    begin = b;
+    event = e;
+    behind = c;
+    rest = d;
+    follows = h;
+    starts = k;
+    is_value = v;
+    is_rest =
+        refl;
+  },
+)
 
 -- Of n elements, k stand from `begin` to s.
 pub record AmongGoes (n : ℕ) (begin : List ℕ) (first : Bool) (s : List ℕ) (k : ℕ) : Type 0 where

@@ -1,7 +1,8 @@
 -- The text behind a value is no longer than the text before it. By recursion over the tree: each token leaves a text
 -- that is no longer (`follows_least`), and the first event of a value leaves a shorter one (`start_less`).
 use Rattle.std.proofs.Common.{ℕ, ◌≤◌, ◌++◌, Bool, true, false, List, length, ap, arith, length-append}
-use Rattle.miniserde_model.specs.Tree.{Tree, null, truth, nonneg, neg, num, str, list, members, Trees, no_trees, tree, Members, no_members, member}
+use Rattle.miniserde_model.specs.Tree.{Tree, null, truth, nonneg, neg, num, str, list, members, Trees, no_trees}
+use Rattle.miniserde_model.specs.Tree.{tree, Members, no_members, member}
 use Rattle.miniserde_model.specs.Step.{Step}
 use Rattle.miniserde_model.specs.Lexing.{Stands, Follows}
 use Rattle.miniserde_model.specs.declared.kind.Kind.{Kind}

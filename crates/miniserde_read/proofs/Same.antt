@@ -2,7 +2,8 @@
 -- over both trees (`value_same`): the event determines the kind of the tree, and a closing bracket and a next child
 -- exclude each other (`close_no_next`).
 use Rattle.std.proofs.Common.{◌≡◌, ℕ, Bool, true, false, List, refl, sym, ap, subst, ◌∙◌, arith}
-use Rattle.miniserde_model.specs.Tree.{Tree, null, truth, nonneg, neg, num, str, list, members, Trees, no_trees, tree, Members, no_members, member}
+use Rattle.miniserde_model.specs.Tree.{Tree, null, truth, nonneg, neg, num, str, list, members, Trees, no_trees}
+use Rattle.miniserde_model.specs.Tree.{tree, Members, no_members, member}
 use Rattle.miniserde_model.specs.Step.{Step, boolean, string, negative, nonnegative, float, seq, map}
 use Rattle.miniserde_model.specs.Step as step
 use Rattle.miniserde_model.specs.Bytes.{is_space}
@@ -35,11 +36,15 @@ close_same k f s r x p q = (same_byte (closing k) (closing k) s r x (closing_no_
 
 pub next_same : (k : Kind) (f : Bool) (s r x : List ℕ) → Follows k f false s r → Follows k f false s x → r ≡ x
 next_same k true s r x p q =
-    (same_run is_space p.0.space q.0.space r x (whitespace_passes p.0.space p.0.is_space) (whitespace_passes q.0.space q.0.is_space) (begins_stops r p.1) (begins_stops x q.1) (sym (bare s r p.0) ∙ bare s x q.0)).1
+    (same_run is_space p.0.space q.0.space r x (whitespace_passes p.0.space p.0.is_space)
+    (whitespace_passes q.0.space q.0.is_space) (begins_stops r p.1) (begins_stops x q.1)
+    (sym (bare s r p.0) ∙ bare s x q.0)).1
 next_same k false s r x p q = (same_byte 44 44 s r x refl refl p q).1
 
 pub close_no_next : (k : Kind) (f : Bool) (s r x : List ℕ) → Follows k f true s r → Follows k f false s x → ⊥
-close_no_next k true s r x p q = not_closing k x q.1 (same_first s q.1.byte (closing k) (begins_first s x q.0 q.1) (first_byte (closing k) s r (closing_no_space k) p))
+close_no_next k true s r x p q =
+    not_closing k x q.1 (same_first s q.1.byte (closing k) (begins_first s x q.0 q.1)
+    (first_byte (closing k) s r (closing_no_space k) p))
 close_no_next k false s r x p q = closing_no_comma k (same_byte (closing k) 44 s r x (closing_no_space k) refl p q).0
 
 -- ---- the first event of a tree
@@ -85,7 +90,8 @@ leaf_tree (float x) = num x
 leaf_tree (string x) = str x
 leaf_tree _ = null
 
-same_leaf : (t u : Tree) (e : Step) (s r x : List ℕ) → leaf_tree (first_event t) ≡ t → leaf_tree (first_event u) ≡ u → e ≡ first_event t → e ≡ first_event u → r ≡ s → x ≡ s → (t ≡ u) × (r ≡ x)
+same_leaf : (t u : Tree) (e : Step) (s r x : List ℕ) → leaf_tree (first_event t) ≡ t → leaf_tree (first_event u) ≡ u
+    → e ≡ first_event t → e ≡ first_event u → r ≡ s → x ≡ s → (t ≡ u) × (r ≡ x)
 same_leaf t u e s r x ht hu p q i j = (sym ht ∙ ap leaf_tree (sym p ∙ q) ∙ hu, i ∙ sym j)
 
 -- ---- one tree
@@ -100,7 +106,8 @@ mutual
   value_same (str a) (str b) e s r x p q = same_leaf (str a) (str b) e s r x refl refl p.0 q.0 p.1 q.1
   value_same (list ts) (list us) e s r x p q = let h = elements_same ts us true s r x p.1 q.1 in (ap list h.0, h.1)
   value_same (members ms) (members ns) e s r x p q = let h = members_same ms ns true s r x p.1 q.1 in (ap members h.0, h.1)
-  value_same t u e s r x p q = let k : tag (first_event t) ≡ tag (first_event u) = ap tag (sym (value_event t e s r p) ∙ value_event u e s x q) in absurd (omega (arith, k))
+  value_same t u e s r x p q = let k : tag (first_event t) ≡ tag (first_event u) =
+      ap tag (sym (value_event t e s r p) ∙ value_event u e s x q) in absurd (omega (arith, k))
 
   pub elements_same : (ts us : Trees) (f : Bool) (s r x : List ℕ) → ElementsAt ts f s r → ElementsAt us f s x → (ts ≡ us) × (r ≡ x)
   elements_same no_trees no_trees f s r x p q = (refl, close_same Seq f s r x p q)
@@ -109,7 +116,9 @@ mutual
   elements_same (tree t ts) (tree u us) f s r x p q =
       let one = next_same Seq f s p.begin q.begin p.follows q.follows in
       let two = same_start p.begin p.event q.event p.behind q.behind p.starts (subst (λ z. Starts z q.event q.behind) (sym one) q.starts) in
-      let three = value_same t u p.event p.behind p.rest q.rest p.is_value (subst (λ z. ValueAt u z p.behind q.rest) (sym two.0) (subst (λ z. ValueAt u q.event z q.rest) (sym two.1) q.is_value)) in
+      let three = value_same t u p.event p.behind p.rest q.rest p.is_value
+      (subst (λ z. ValueAt u z p.behind q.rest) (sym two.0)
+      (subst (λ z. ValueAt u q.event z q.rest) (sym two.1) q.is_value)) in
       let four = elements_same ts us false p.rest r x p.is_rest (subst (λ z. ElementsAt us false z x) (sym three.1) q.is_rest) in
       (ap (λ z. tree z ts) three.0 ∙ ap (tree u) four.0, four.1)
 
@@ -120,7 +129,10 @@ mutual
   members_same (member m t ms) (member n u ns) f s r x p q =
       let one = next_same Map f s p.begin q.begin p.follows q.follows in
       let name = same_name p.begin m n p.named q.named p.names (subst (λ z. Names z n q.named) (sym one) q.names) in
-      let two = same_start p.named p.event q.event p.behind q.behind p.starts (subst (λ z. Starts z q.event q.behind) (sym name.1) q.starts) in
-      let three = value_same t u p.event p.behind p.rest q.rest p.is_value (subst (λ z. ValueAt u z p.behind q.rest) (sym two.0) (subst (λ z. ValueAt u q.event z q.rest) (sym two.1) q.is_value)) in
+      let two = same_start p.named p.event q.event p.behind q.behind p.starts
+      (subst (λ z. Starts z q.event q.behind) (sym name.1) q.starts) in
+      let three = value_same t u p.event p.behind p.rest q.rest p.is_value
+      (subst (λ z. ValueAt u z p.behind q.rest) (sym two.0)
+      (subst (λ z. ValueAt u q.event z q.rest) (sym two.1) q.is_value)) in
       let four = members_same ms ns false p.rest r x p.is_rest (subst (λ z. MembersAt ns false z x) (sym three.1) q.is_rest) in
       (ap (λ z. member z t ms) name.0 ∙ ap (λ z. member n z ms) three.0 ∙ ap (member n u) four.0, four.1)

@@ -18,9 +18,11 @@ elements_follow no_trees f s r p = (true, r, p)
 elements_follow (tree t ts) f s r p = (false, p.begin, p.follows)
 
 -- no element is there without its first event
-pub elements_start : (ts : Trees) (f : Bool) (s b r : List ℕ) → Follows Seq f false s b → ElementsAt ts f s r → (e : Step) × (c : List ℕ) × Starts b e c
+pub elements_start : (ts : Trees) (f : Bool) (s b r : List ℕ) → Follows Seq f false s b → ElementsAt ts f s r
+    → (e : Step) × (c : List ℕ) × Starts b e c
 elements_start no_trees f s b r h p = absurd (close_no_next Seq f s r b p h)
-elements_start (tree t ts) f s b r h p = (p.event, p.behind, subst (λ z. Starts z p.event p.behind) (next_same Seq f s p.begin b p.follows h) p.starts)
+elements_start (tree t ts) f s b r h p =
+    (p.event, p.behind, subst (λ z. Starts z p.event p.behind) (next_same Seq f s p.begin b p.follows h) p.starts)
 
 pub elements_close : (ts : Trees) (f : Bool) (s b r : List ℕ) → Follows Seq f true s b → ElementsAt ts f s r → (ts ≡ no_trees) × (r ≡ b)
 elements_close no_trees f s b r h p = (refl, close_same Seq f s r b p h)
@@ -35,12 +37,21 @@ pub record ElementThere (ts : Trees) (e : Step) (c r : List ℕ) : Type 0 where
   pub is_value : ValueAt one e c rest
   pub is_rest : ElementsAt more false rest r
 
-pub elements_there : (ts : Trees) (f : Bool) (s b c r : List ℕ) (e : Step) → Follows Seq f false s b → Starts b e c → ElementsAt ts f s r → ElementThere ts e c r
+pub elements_there : (ts : Trees) (f : Bool) (s b c r : List ℕ) (e : Step) → Follows Seq f false s b → Starts b e c
+    → ElementsAt ts f s r → ElementThere ts e c r
 elements_there no_trees f s b c r e h k p = absurd (close_no_next Seq f s r b p h)
 elements_there (tree t ts) f s b c r e h k p =
     let one = next_same Seq f s p.begin b p.follows h in
     let two = same_start b p.event e p.behind c (subst (λ z. Starts z p.event p.behind) one p.starts) k in
-    record { one = t; more = ts; rest = p.rest; is = refl; is_value = subst (λ z. ValueAt t z c p.rest) two.0 (subst (λ z. ValueAt t p.event z p.rest) two.1 p.is_value); is_rest = p.is_rest }
+    record {
+      one = t;
+      more = ts;
+      rest = p.rest;
+      is = refl;
+      is_value =
+          subst (λ z. ValueAt t z c p.rest) two.0 (subst (λ z. ValueAt t p.event z p.rest) two.1 p.is_value);
+      is_rest = p.is_rest;
+    }
 
 -- ---- an object
 
@@ -48,7 +59,8 @@ pub members_follow : (ms : Members) (f : Bool) (s r : List ℕ) → MembersAt ms
 members_follow no_members f s r p = (true, r, p)
 members_follow (member n t ms) f s r p = (false, p.begin, p.follows)
 
-pub members_name : (ms : Members) (f : Bool) (s b r : List ℕ) → Follows Map f false s b → MembersAt ms f s r → (n : List ℕ) × (c : List ℕ) × Names b n c
+pub members_name : (ms : Members) (f : Bool) (s b r : List ℕ) → Follows Map f false s b → MembersAt ms f s r
+    → (n : List ℕ) × (c : List ℕ) × Names b n c
 members_name no_members f s b r h p = absurd (close_no_next Map f s r b p h)
 members_name (member n t ms) f s b r h p = (n, p.named, subst (λ z. Names z n p.named) (next_same Map f s p.begin b p.follows h) p.names)
 
@@ -67,12 +79,25 @@ pub record MemberThere (ms : Members) (n : List ℕ) (c r : List ℕ) : Type 0 w
   pub is_value : ValueAt one event behind rest
   pub is_rest : MembersAt more false rest r
 
-pub members_there : (ms : Members) (f : Bool) (s b c r n : List ℕ) → Follows Map f false s b → Names b n c → MembersAt ms f s r → MemberThere ms n c r
+pub members_there : (ms : Members) (f : Bool) (s b c r n : List ℕ) → Follows Map f false s b → Names b n c
+    → MembersAt ms f s r → MemberThere ms n c r
 members_there no_members f s b c r n h k p = absurd (close_no_next Map f s r b p h)
 members_there (member m t ms) f s b c r n h k p =
     let one = next_same Map f s p.begin b p.follows h in
     let two = same_name b m n p.named c (subst (λ z. Names z m p.named) one p.names) k in
-    record { one = t; more = ms; event = p.event; behind = p.behind; rest = p.rest; is = ap (λ z. member z t ms) two.0; starts = subst (λ z. Starts z p.event p.behind) two.1 p.starts; is_value = p.is_value; is_rest = p.is_rest }
+    record {
+      one = t;
+      more = ms;
+      event = p.event;
+      behind = p.behind;
+      rest = p.rest;
+      is =
+          ap (λ z. member z t ms) two.0;
+      starts = subst (λ z. Starts z p.event p.behind) two.1 p.starts;
+      is_value =
+          p.is_value;
+      is_rest = p.is_rest;
+    }
 
 -- the same, once the value's first event was taken too
 pub record ValueThere (ms : Members) (n : List ℕ) (e : Step) (d r : List ℕ) : Type 0 where
@@ -86,4 +111,13 @@ pub record ValueThere (ms : Members) (n : List ℕ) (e : Step) (d r : List ℕ) 
 pub value_there : (ms : Members) (n c r : List ℕ) (e : Step) (d : List ℕ) → MemberThere ms n c r → Starts c e d → ValueThere ms n e d r
 value_there ms n c r e d p k =
     let two = same_start c p.event e p.behind d p.starts k in
-    record { one = p.one; more = p.more; rest = p.rest; is = p.is; is_value = subst (λ z. ValueAt p.one z d p.rest) two.0 (subst (λ z. ValueAt p.one p.event z p.rest) two.1 p.is_value); is_rest = p.is_rest }
+    record {
+      one = p.one;
+      more = p.more;
+      rest = p.rest;
+      is = p.is;
+      is_value =
+          subst (λ z. ValueAt p.one z d p.rest) two.0
+          (subst (λ z. ValueAt p.one p.event z p.rest) two.1 p.is_value);
+      is_rest = p.is_rest;
+    }

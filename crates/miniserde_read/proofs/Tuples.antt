@@ -25,13 +25,17 @@ module _ {A B : Type 0} (of : Tree → Option A) (more : Trees → Option B) whe
   pub none_left : (ts : Trees) (f : Bool) (s b r : List ℕ) → Follows Seq f true s b → ElementsAt ts f s r → item_of of more ts ≡ None
   none_left ts f s b r h p = ap (item_of of more) (elements_close ts f s b r h p).0
 
-  pub first_none : (ts : Trees) (f : Bool) (s b c r : List ℕ) (e : Step) → Follows Seq f false s b → Starts b e c → ((t : Tree) (d : List ℕ) → ValueAt t e c d → of t ≡ None) → ElementsAt ts f s r → item_of of more ts ≡ None
+  pub first_none : (ts : Trees) (f : Bool) (s b c r : List ℕ) (e : Step) → Follows Seq f false s b → Starts b e c
+      → ((t : Tree) (d : List ℕ) → ValueAt t e c d → of t ≡ None) → ElementsAt ts f s r → item_of of more ts ≡ None
   first_none ts f s b c r e h k n p =
       let u = elements_there ts f s b c r e h k p in
       ap (item_of of more) u.is ∙ ap (λ o. both (o, more u.more)) (n u.one u.rest u.is_value)
 
-  pub later_none : (ts : Trees) (f : Bool) (s b c d r : List ℕ) (e : Step) (t : Tree) → Follows Seq f false s b → Starts b e c → ValueAt t e c d → ((us : Trees) (x : List ℕ) → ElementsAt us false d x → more us ≡ None) → ElementsAt ts f s r → item_of of more ts ≡ None
+  pub later_none : (ts : Trees) (f : Bool) (s b c d r : List ℕ) (e : Step) (t : Tree) → Follows Seq f false s b
+      → Starts b e c → ValueAt t e c d → ((us : Trees) (x : List ℕ) → ElementsAt us false d x → more us ≡ None)
+      → ElementsAt ts f s r → item_of of more ts ≡ None
   later_none ts f s b c d r e t h k v n p =
       let u = elements_there ts f s b c r e h k p in
       let same = value_same u.one t e c u.rest d u.is_value v in
-      ap (item_of of more) u.is ∙ ap (λ o. both (of u.one, o)) (n u.more r (subst (λ z. ElementsAt u.more false z r) same.1 u.is_rest)) ∙ no_rest (of u.one)
+      ap (item_of of more) u.is ∙ ap (λ o. both (of u.one, o))
+      (n u.more r (subst (λ z. ElementsAt u.more false z r) same.1 u.is_rest)) ∙ no_rest (of u.one)

@@ -1,9 +1,12 @@
 -- A text goes on as a list of events exactly if it goes on as the trees of these events. From trees to events by
 -- recursion over the tree (`due_runs`), and back by recursion over the number of events (`find_value`); `value_later`
 -- and `whole_at` state both for a value whose first event was taken.
-use Rattle.std.proofs.Common.{◌≡◌, ℕ, zero, suc, ◌≤◌, Bool, true, false, is_some, List, [], ◌∷◌, ◌++◌, length, refl, sym, ap, subst, ◌∙◌, append_assoc, arith, length-append}
-use Rattle.miniserde_model.specs.Tree.{Tree, null, truth, nonneg, neg, num, str, list, members, Trees, no_trees, tree, Members, no_members, member}
-use Rattle.miniserde_model.specs.Step.{Step, boolean, string, negative, nonnegative, float, seq, element, map, key, finish, events, child_events, member_events}
+use Rattle.std.proofs.Common.{◌≡◌, ℕ, zero, suc, ◌≤◌, Bool, true, false, is_some, List, [], ◌∷◌, ◌++◌, length, refl}
+use Rattle.std.proofs.Common.{sym, ap, subst, ◌∙◌, append_assoc, arith, length-append}
+use Rattle.miniserde_model.specs.Tree.{Tree, null, truth, nonneg, neg, num, str, list, members, Trees, no_trees}
+use Rattle.miniserde_model.specs.Tree.{tree, Members, no_members, member}
+use Rattle.miniserde_model.specs.Step.{Step, boolean, string, negative, nonnegative, float, seq, element, map, key}
+use Rattle.miniserde_model.specs.Step.{finish, events, child_events, member_events}
 use Rattle.miniserde_model.specs.Step as step
 use Rattle.miniserde_model.specs.Lexing.{Starts, Names, Follows}
 use Rattle.miniserde_model.specs.declared.kind.Kind.{Kind}
@@ -20,27 +23,74 @@ use Rattle.miniserde_read.specs.private.Runs.{Runs}
 -- ---- from the tree to its events
 
 mutual
-  pub due_runs : (t : Tree) (e : Step) (j s x : List ℕ) (es : List Step) (st : List Kind) (r : List ℕ) → Starts j e s → ValueAt t e s x → Runs after es st x r → Runs due (events t ++ es) st j r
+  pub due_runs : (t : Tree) (e : Step) (j s x : List ℕ) (es : List Step) (st : List Kind) (r : List ℕ)
+      → Starts j e s → ValueAt t e s x → Runs after es st x r → Runs due (events t ++ es) st j r
   due_runs null e j s x es st r k v h = (s, subst (λ z. Starts j z s) v.0 k, subst (λ z. Runs after es st z r) v.1 h)
   due_runs (truth b) e j s x es st r k v h = (s, subst (λ z. Starts j z s) v.0 k, subst (λ z. Runs after es st z r) v.1 h)
   due_runs (nonneg n) e j s x es st r k v h = (s, subst (λ z. Starts j z s) v.0 k, subst (λ z. Runs after es st z r) v.1 h)
   due_runs (neg n) e j s x es st r k v h = (s, subst (λ z. Starts j z s) v.0 k, subst (λ z. Runs after es st z r) v.1 h)
   due_runs (num y) e j s x es st r k v h = (s, subst (λ z. Starts j z s) v.0 k, subst (λ z. Runs after es st z r) v.1 h)
   due_runs (str y) e j s x es st r k v h = (s, subst (λ z. Starts j z s) v.0 k, subst (λ z. Runs after es st z r) v.1 h)
-  due_runs (list ts) e j s x es st r k v h = (s, subst (λ z. Starts j z s) v.0 k, subst (λ z. Runs first z (Seq ∷ st) s r) (sym (append_assoc (child_events ts) (finish ∷ []) es)) (elements_run ts true s x es st r v.1 h))
-  due_runs (members ms) e j s x es st r k v h = (s, subst (λ z. Starts j z s) v.0 k, subst (λ z. Runs first z (Map ∷ st) s r) (sym (append_assoc (member_events ms) (finish ∷ []) es)) (members_run ms true s x es st r v.1 h))
+  due_runs (list ts) e j s x es st r k v h = (
+    s,
+    subst (λ z. Starts j z s) v.0 k,
+    subst (λ z. Runs first z (Seq ∷ st) s r)
+        (sym (append_assoc (child_events ts) (finish ∷ []) es)) (elements_run ts true s x es st r v.1 h),
+  )
+  due_runs (members ms) e j s x es st r k v h = (
+    s,
+    subst (λ z. Starts j z s) v.0 k,
+    subst (λ z. Runs first z (Map ∷ st) s r)
+        (sym (append_assoc (member_events ms) (finish ∷ []) es)) (members_run ms true s x es st r v.1 h),
+  )
 
-  pub elements_run : (ts : Trees) (f : Bool) (s x : List ℕ) (es : List Step) (st : List Kind) (r : List ℕ) → ElementsAt ts f s x → Runs after es st x r → Runs (before_child f) (child_events ts ++ finish ∷ es) (Seq ∷ st) s r
+  pub elements_run : (ts : Trees) (f : Bool) (s x : List ℕ) (es : List Step) (st : List Kind) (r : List ℕ)
+      → ElementsAt ts f s x → Runs after es st x r → Runs (before_child f) (child_events ts ++ finish ∷ es)
+      (Seq ∷ st) s r
   elements_run no_trees true s x es st r p h = (x, p, h)
   elements_run no_trees false s x es st r p h = (x, p, h)
-  elements_run (tree t ts) true s x es st r p h = (p.begin, p.follows, subst (λ z. Runs due z (Seq ∷ st) p.begin r) (sym (append_assoc (events t) (child_events ts) (finish ∷ es))) (due_runs t p.event p.begin p.behind p.rest (child_events ts ++ finish ∷ es) (Seq ∷ st) r p.starts p.is_value (elements_run ts false p.rest x es st r p.is_rest h)))
-  elements_run (tree t ts) false s x es st r p h = (p.begin, p.follows, subst (λ z. Runs due z (Seq ∷ st) p.begin r) (sym (append_assoc (events t) (child_events ts) (finish ∷ es))) (due_runs t p.event p.begin p.behind p.rest (child_events ts ++ finish ∷ es) (Seq ∷ st) r p.starts p.is_value (elements_run ts false p.rest x es st r p.is_rest h)))
+  elements_run (tree t ts) true s x es st r p h = (
+    p.begin,
+    p.follows,
+    subst (λ z. Runs due z (Seq ∷ st) p.begin r)
+        (sym (append_assoc (events t) (child_events ts) (finish ∷ es)))
+        (due_runs t p.event p.begin p.behind p.rest (child_events ts ++ finish ∷ es) (Seq ∷ st) r p.starts
+        p.is_value (elements_run ts false p.rest x es st r p.is_rest h)),
+  )
+  elements_run (tree t ts) false s x es st r p h = (
+    p.begin,
+    p.follows,
+    subst (λ z. Runs due z (Seq ∷ st) p.begin r)
+        (sym (append_assoc (events t) (child_events ts) (finish ∷ es)))
+        (due_runs t p.event p.begin p.behind p.rest (child_events ts ++ finish ∷ es) (Seq ∷ st) r p.starts
+        p.is_value (elements_run ts false p.rest x es st r p.is_rest h)),
+  )
 
-  pub members_run : (ms : Members) (f : Bool) (s x : List ℕ) (es : List Step) (st : List Kind) (r : List ℕ) → MembersAt ms f s x → Runs after es st x r → Runs (before_child f) (member_events ms ++ finish ∷ es) (Map ∷ st) s r
+  pub members_run : (ms : Members) (f : Bool) (s x : List ℕ) (es : List Step) (st : List Kind) (r : List ℕ)
+      → MembersAt ms f s x → Runs after es st x r → Runs (before_child f) (member_events ms ++ finish ∷ es)
+      (Map ∷ st) s r
   members_run no_members true s x es st r p h = (x, p, h)
   members_run no_members false s x es st r p h = (x, p, h)
-  members_run (member n t ms) true s x es st r p h = (p.begin, p.named, p.follows, p.names, subst (λ z. Runs due z (Map ∷ st) p.named r) (sym (append_assoc (events t) (member_events ms) (finish ∷ es))) (due_runs t p.event p.named p.behind p.rest (member_events ms ++ finish ∷ es) (Map ∷ st) r p.starts p.is_value (members_run ms false p.rest x es st r p.is_rest h)))
-  members_run (member n t ms) false s x es st r p h = (p.begin, p.named, p.follows, p.names, subst (λ z. Runs due z (Map ∷ st) p.named r) (sym (append_assoc (events t) (member_events ms) (finish ∷ es))) (due_runs t p.event p.named p.behind p.rest (member_events ms ++ finish ∷ es) (Map ∷ st) r p.starts p.is_value (members_run ms false p.rest x es st r p.is_rest h)))
+  members_run (member n t ms) true s x es st r p h = (
+    p.begin,
+    p.named,
+    p.follows,
+    p.names,
+    subst (λ z. Runs due z (Map ∷ st) p.named r)
+        (sym (append_assoc (events t) (member_events ms) (finish ∷ es)))
+        (due_runs t p.event p.named p.behind p.rest (member_events ms ++ finish ∷ es) (Map ∷ st) r p.starts
+        p.is_value (members_run ms false p.rest x es st r p.is_rest h)),
+  )
+  members_run (member n t ms) false s x es st r p h = (
+    p.begin,
+    p.named,
+    p.follows,
+    p.names,
+    subst (λ z. Runs due z (Map ∷ st) p.named r)
+        (sym (append_assoc (events t) (member_events ms) (finish ∷ es)))
+        (due_runs t p.event p.named p.behind p.rest (member_events ms ++ finish ∷ es) (Map ∷ st) r p.starts
+        p.is_value (members_run ms false p.rest x es st r p.is_rest h)),
+  )
 
 -- the events behind the first one, where that was taken
 pub record Later (t : Tree) (e : Step) (s r : List ℕ) : Type 0 where
@@ -59,8 +109,12 @@ value_later (nonneg n) e s r v = later_as (nonneg n) (nonnegative n) e s r v.0 (
 value_later (neg n) e s r v = later_as (neg n) (negative n) e s r v.0 (record { later = []; is = refl; runs = v.1 })
 value_later (num y) e s r v = later_as (num y) (float y) e s r v.0 (record { later = []; is = refl; runs = v.1 })
 value_later (str y) e s r v = later_as (str y) (string y) e s r v.0 (record { later = []; is = refl; runs = v.1 })
-value_later (list ts) e s r v = later_as (list ts) seq e s r v.0 (record { later = child_events ts ++ finish ∷ []; is = refl; runs = elements_run ts true s r [] [] r v.1 refl })
-value_later (members ms) e s r v = later_as (members ms) map e s r v.0 (record { later = member_events ms ++ finish ∷ []; is = refl; runs = members_run ms true s r [] [] r v.1 refl })
+value_later (list ts) e s r v =
+    later_as (list ts) seq e s r v.0
+    (record { later = child_events ts ++ finish ∷ []; is = refl; runs = elements_run ts true s r [] [] r v.1 refl })
+value_later (members ms) e s r v =
+    later_as (members ms) map e s r v.0
+    (record { later = member_events ms ++ finish ∷ []; is = refl; runs = members_run ms true s r [] [] r v.1 refl })
 
 -- ---- from the events to the tree
 
@@ -98,14 +152,62 @@ joined : (e : Step) (es fs gs hs left : List Step) → es ≡ fs ++ gs → gs �
 joined e es fs gs hs left p q = ap (λ z. e ∷ z) (p ∙ ap (λ z. fs ++ z) q ∙ sym (append_assoc fs hs (finish ∷ left)))
 
 -- one element and those behind it
-add_element : (f : Bool) (es : List Step) (st : List Kind) (s b r : List ℕ) → Follows Seq f false s b → (v : FoundValue es (Seq ∷ st) b r) → FoundElements false v.left st v.end r → FoundElements f (element ∷ es) st s r
-add_element f es st s b r p v m = record { found = tree v.found m.found; left = m.left; end = m.end; is = joined element es (events v.found) v.left (child_events m.found) m.left v.is m.is; are_elements = record { begin = b; event = v.event; behind = v.behind; rest = v.end; follows = p; starts = v.starts; is_value = v.is_value; is_rest = m.are_elements }; is_rest = m.is_rest }
+add_element : (f : Bool) (es : List Step) (st : List Kind) (s b r : List ℕ) → Follows Seq f false s b
+    → (v : FoundValue es (Seq ∷ st) b r) → FoundElements false v.left st v.end r
+    → FoundElements f (element ∷ es) st s r
+add_element f es st s b r p v m =
+    record {
+      found = tree v.found m.found;
+      left = m.left;
+      end = m.end;
+      is =
+          joined element es (events v.found) v.left (child_events m.found) m.left v.is m.is;
+      are_elements =
+          record {
+            begin = b;
+            event = v.event;
+            behind = v.behind;
+            rest = v.end;
+            follows = p;
+            starts =
+                v.starts;
+            is_value = v.is_value;
+            is_rest = m.are_elements;
+          };
+      is_rest = m.is_rest;
+    }
 
-add_member : (f : Bool) (es : List Step) (st : List Kind) (s b n c r : List ℕ) → Follows Map f false s b → Names b n c → (v : FoundValue es (Map ∷ st) c r) → FoundMembers false v.left st v.end r → FoundMembers f (key n ∷ es) st s r
-add_member f es st s b n c r p q v m = record { found = member n v.found m.found; left = m.left; end = m.end; is = joined (key n) es (events v.found) v.left (member_events m.found) m.left v.is m.is; are_members = record { begin = b; named = c; event = v.event; behind = v.behind; rest = v.end; follows = p; names = q; starts = v.starts; is_value = v.is_value; is_rest = m.are_members }; is_rest = m.is_rest }
+add_member : (f : Bool) (es : List Step) (st : List Kind) (s b n c r : List ℕ) → Follows Map f false s b
+    → Names b n c → (v : FoundValue es (Map ∷ st) c r) → FoundMembers false v.left st v.end r
+    → FoundMembers f (key n ∷ es) st s r
+add_member f es st s b n c r p q v m =
+    record {
+      found = member n v.found m.found;
+      left = m.left;
+      end = m.end;
+      is =
+          joined (key n) es (events v.found) v.left (member_events m.found) m.left v.is m.is;
+      are_members =
+          record {
+            begin = b;
+            named = c;
+            event = v.event;
+            behind = v.behind;
+            rest = v.end;
+            follows = p;
+            names =
+                q;
+            starts = v.starts;
+            is_value = v.is_value;
+            is_rest = m.are_members;
+          };
+      is_rest = m.is_rest;
+    }
 
-leaf_found : (t : Tree) (e : Step) (es : List Step) (st : List Kind) (s b r : List ℕ) → e ∷ es ≡ events t ++ es → Starts s e b → ValueAt t e b b → Runs after es st b r → FoundValue (e ∷ es) st s r
-leaf_found t e es st s b r i k v h = record { found = t; left = es; event = e; behind = b; end = b; is = i; starts = k; is_value = v; is_rest = h }
+leaf_found : (t : Tree) (e : Step) (es : List Step) (st : List Kind) (s b r : List ℕ) → e ∷ es ≡ events t ++ es
+    → Starts s e b → ValueAt t e b b → Runs after es st b r → FoundValue (e ∷ es) st s r
+leaf_found t e es st s b r i k v h =
+    record { found = t; left = es; event = e; behind = b; end = b; is = i; starts = k; is_value = v; is_rest = h }
 
 mutual
   find_value : (n : ℕ) (es : List Step) (st : List Kind) (s r : List ℕ) → length es ≤ n → Runs due es st s r → FoundValue es st s r
@@ -118,19 +220,46 @@ mutual
   find_value n (float x ∷ es) st s r l h = leaf_found (num x) (float x) es st s h.0 r refl h.1 (refl, refl) h.2
   find_value (suc n) (seq ∷ es) st s r l h =
       let f = find_elements n true es st h.0 r (omega arith) h.2 in
-      record { found = list f.found; left = f.left; event = seq; behind = h.0; end = f.end; is = ap (λ z. seq ∷ z) (f.is ∙ sym (append_assoc (child_events f.found) (finish ∷ []) f.left)); starts = h.1; is_value = (refl, f.are_elements); is_rest = f.is_rest }
+      record {
+        found = list f.found;
+        left = f.left;
+        event = seq;
+        behind = h.0;
+        end = f.end;
+        is =
+            ap (λ z. seq ∷ z) (f.is ∙ sym (append_assoc (child_events f.found) (finish ∷ []) f.left));
+        starts =
+            h.1;
+        is_value = (refl, f.are_elements);
+        is_rest = f.is_rest;
+      }
   find_value (suc n) (map ∷ es) st s r l h =
       let f = find_members n true es st h.0 r (omega arith) h.2 in
-      record { found = members f.found; left = f.left; event = map; behind = h.0; end = f.end; is = ap (λ z. map ∷ z) (f.is ∙ sym (append_assoc (member_events f.found) (finish ∷ []) f.left)); starts = h.1; is_value = (refl, f.are_members); is_rest = f.is_rest }
+      record {
+        found = members f.found;
+        left = f.left;
+        event = map;
+        behind = h.0;
+        end = f.end;
+        is =
+            ap (λ z. map ∷ z) (f.is ∙ sym (append_assoc (member_events f.found) (finish ∷ []) f.left));
+        starts =
+            h.1;
+        is_value = (refl, f.are_members);
+        is_rest = f.is_rest;
+      }
   find_value zero (seq ∷ es) st s r l h = absurd (omega arith)
   find_value zero (map ∷ es) st s r l h = absurd (omega arith)
   find_value n (element ∷ es) st s r l h = absurd (h.1.0.is_part)
   find_value n (key k ∷ es) st s r l h = absurd (h.1.0.is_part)
   find_value n (finish ∷ es) st s r l h = absurd (h.1.0.is_part)
 
-  find_elements : (n : ℕ) (f : Bool) (es : List Step) (st : List Kind) (s r : List ℕ) → length es ≤ n → Runs (before_child f) es (Seq ∷ st) s r → FoundElements f es st s r
-  find_elements n true (finish ∷ es) st s r l h = record { found = no_trees; left = es; end = h.0; is = refl; are_elements = h.1; is_rest = h.2 }
-  find_elements n false (finish ∷ es) st s r l h = record { found = no_trees; left = es; end = h.0; is = refl; are_elements = h.1; is_rest = h.2 }
+  find_elements : (n : ℕ) (f : Bool) (es : List Step) (st : List Kind) (s r : List ℕ) → length es ≤ n
+      → Runs (before_child f) es (Seq ∷ st) s r → FoundElements f es st s r
+  find_elements n true (finish ∷ es) st s r l h =
+      record { found = no_trees; left = es; end = h.0; is = refl; are_elements = h.1; is_rest = h.2 }
+  find_elements n false (finish ∷ es) st s r l h =
+      record { found = no_trees; left = es; end = h.0; is = refl; are_elements = h.1; is_rest = h.2 }
   find_elements (suc n) true (element ∷ es) st s r l h =
       let v = find_value n es (Seq ∷ st) h.0 r (omega arith) h.2 in
       add_element true es st s h.0 r h.1 v (find_elements n false v.left st v.end r (shorter n es _ h.0 r v (omega arith)) v.is_rest)
@@ -141,15 +270,20 @@ mutual
   find_elements zero false (element ∷ es) st s r l h = absurd (omega arith)
   find_elements n _ _ st s r l h = absurd h
 
-  find_members : (n : ℕ) (f : Bool) (es : List Step) (st : List Kind) (s r : List ℕ) → length es ≤ n → Runs (before_child f) es (Map ∷ st) s r → FoundMembers f es st s r
-  find_members n true (finish ∷ es) st s r l h = record { found = no_members; left = es; end = h.0; is = refl; are_members = h.1; is_rest = h.2 }
-  find_members n false (finish ∷ es) st s r l h = record { found = no_members; left = es; end = h.0; is = refl; are_members = h.1; is_rest = h.2 }
+  find_members : (n : ℕ) (f : Bool) (es : List Step) (st : List Kind) (s r : List ℕ) → length es ≤ n
+      → Runs (before_child f) es (Map ∷ st) s r → FoundMembers f es st s r
+  find_members n true (finish ∷ es) st s r l h =
+      record { found = no_members; left = es; end = h.0; is = refl; are_members = h.1; is_rest = h.2 }
+  find_members n false (finish ∷ es) st s r l h =
+      record { found = no_members; left = es; end = h.0; is = refl; are_members = h.1; is_rest = h.2 }
   find_members (suc n) true (key k ∷ es) st s r l h =
       let v = find_value n es (Map ∷ st) h.1 r (omega arith) h.4 in
-      add_member true es st s h.0 k h.1 r h.2 h.3 v (find_members n false v.left st v.end r (shorter n es _ h.1 r v (omega arith)) v.is_rest)
+      add_member true es st s h.0 k h.1 r h.2 h.3 v
+      (find_members n false v.left st v.end r (shorter n es _ h.1 r v (omega arith)) v.is_rest)
   find_members (suc n) false (key k ∷ es) st s r l h =
       let v = find_value n es (Map ∷ st) h.1 r (omega arith) h.4 in
-      add_member false es st s h.0 k h.1 r h.2 h.3 v (find_members n false v.left st v.end r (shorter n es _ h.1 r v (omega arith)) v.is_rest)
+      add_member false es st s h.0 k h.1 r h.2 h.3 v
+      (find_members n false v.left st v.end r (shorter n es _ h.1 r v (omega arith)) v.is_rest)
   find_members zero true (key k ∷ es) st s r l h = absurd (omega arith)
   find_members zero false (key k ∷ es) st s r l h = absurd (omega arith)
   find_members n _ _ st s r l h = absurd h
@@ -168,22 +302,35 @@ pub record Whole (e : Step) (later : List Step) (s r : List ℕ) : Type 0 where
   pub is : e ∷ later ≡ events tree
   pub is_value : ValueAt tree e s r
 
-leaf_whole : (t : Tree) (e : Step) (es : List Step) (s r : List ℕ) → events t ≡ e ∷ [] → ((z : List ℕ) → z ≡ s → ValueAt t e s z) → Runs after es [] s r → Whole e es s r
+leaf_whole : (t : Tree) (e : Step) (es : List Step) (s r : List ℕ) → events t ≡ e ∷ []
+    → ((z : List ℕ) → z ≡ s → ValueAt t e s z) → Runs after es [] s r → Whole e es s r
 leaf_whole t e es s r i v h = let n = nothing_left es s r h in record { tree = t; is = ap (λ z. e ∷ z) n.0 ∙ sym i; is_value = v r n.1 }
 
 list_whole : (es : List Step) (s r : List ℕ) → Runs first es (Seq ∷ []) s r → Whole seq es s r
 list_whole es s r h =
     let f = find_elements (length es) true es [] s r (omega arith) h in
     let n = nothing_left f.left f.end r f.is_rest in
-    record { tree = list f.found; is = ap (λ z. seq ∷ z) (f.is ∙ ap (λ z. child_events f.found ++ finish ∷ z) n.0); is_value = (refl, subst (λ z. ElementsAt f.found true s z) (sym n.1) f.are_elements) }
+    record {
+      tree = list f.found;
+      is = ap (λ z. seq ∷ z) (f.is ∙ ap (λ z. child_events f.found ++ finish ∷ z) n.0);
+      is_value = (refl, subst (λ z. ElementsAt f.found true s z) (sym n.1) f.are_elements);
+    }
 
 object_whole : (es : List Step) (s r : List ℕ) → Runs first es (Map ∷ []) s r → Whole map es s r
 object_whole es s r h =
     let f = find_members (length es) true es [] s r (omega arith) h in
     let n = nothing_left f.left f.end r f.is_rest in
-    record { tree = members f.found; is = ap (λ z. map ∷ z) (f.is ∙ ap (λ z. member_events f.found ++ finish ∷ z) n.0); is_value = (refl, subst (λ z. MembersAt f.found true s z) (sym n.1) f.are_members) }
+    record {
+      tree = members f.found;
+      is =
+          ap (λ z. map ∷ z) (f.is ∙ ap (λ z. member_events f.found ++ finish ∷ z) n.0);
+      is_value =
+          (refl, subst (λ z. MembersAt f.found true s z) (sym n.1) f.are_members);
+    }
 
-pub whole_at : (x : lexed.Event) (scratch : List ℕ) (es : List Step) (s r : List ℕ) → Runs (before_child (is_some (opened_kind (event_of_token x scratch)))) es (with_opened (opened_kind (event_of_token x scratch)) []) s r → Whole (event_of_token x scratch) es s r
+pub whole_at : (x : lexed.Event) (scratch : List ℕ) (es : List Step) (s r : List ℕ)
+    → Runs (before_child (is_some (opened_kind (event_of_token x scratch)))) es
+    (with_opened (opened_kind (event_of_token x scratch)) []) s r → Whole (event_of_token x scratch) es s r
 whole_at variant.Null scratch es s r h = leaf_whole null step.null es s r refl (λ z i. (refl, i)) h
 whole_at (variant.Bool b) scratch es s r h = leaf_whole (truth b) (boolean b) es s r refl (λ z i. (refl, i)) h
 whole_at (variant.Negative n) scratch es s r h = leaf_whole (neg n) (negative n) es s r refl (λ z i. (refl, i)) h

@@ -15,5 +15,7 @@ pub record Meaning (V : Type 0) : Type 1 where
   pub reads_agrees : (t : Tree) (v : V) → reads t v ↔ (from_tree t ≡ Some (content v))
 
 -- the meaning whose fields are the arguments, with C as the type of the content
-abbrev pub meaning_with : {V C : Type 0} (content : V → C) (from_tree : Tree → Option C) (reads : Tree → V → Type 0) → ((t : Tree) (v : V) → reads t v ↔ (from_tree t ≡ Some (content v))) → Meaning V
-meaning_with {V} {C} content from_tree reads agrees = record { Content = C; content = content; from_tree = from_tree; reads = reads; reads_agrees = agrees }
+abbrev pub meaning_with : {V C : Type 0} (content : V → C) (from_tree : Tree → Option C) (reads : Tree → V → Type 0)
+    → ((t : Tree) (v : V) → reads t v ↔ (from_tree t ≡ Some (content v))) → Meaning V
+meaning_with {V} {C} content from_tree reads agrees =
+    record { Content = C; content = content; from_tree = from_tree; reads = reads; reads_agrees = agrees }

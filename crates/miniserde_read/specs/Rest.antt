@@ -2,7 +2,8 @@
 -- `Starts` takes the first token of a value from the text, `Names` a member's name and colon, and `Follows` the
 -- closing bracket of a container or the comma before its next child. The last argument of each is the text after that.
 use Rattle.std.specs.Prelude.{◌≡◌, ℕ, Bool, true, false, List, Option, Some, None}
-use Rattle.miniserde_model.specs.Tree.{Tree, null, truth, nonneg, neg, num, str, list, members, Trees, no_trees, tree, Members, no_members, member}
+use Rattle.miniserde_model.specs.Tree.{Tree, null, truth, nonneg, neg, num, str, list, members, Trees, no_trees}
+use Rattle.miniserde_model.specs.Tree.{tree, Members, no_members, member}
 use Rattle.miniserde_model.specs.Step.{Step, boolean, string, negative, nonnegative, float, seq, map}
 use Rattle.miniserde_model.specs.Step as step
 use Rattle.miniserde_model.specs.Lexing.{Starts, Names, Follows}
@@ -24,7 +25,8 @@ pub record OneElement (V : Step → List ℕ → List ℕ → Type 0) (K : List 
 -- The text s goes on with a member of the name, after a comma unless `first` is true. V relates the
 -- first event of the member's value, the text behind the value's first token, and the text `rest`
 -- behind the value; K relates `rest` and r.
-pub record OneMember (name : List ℕ) (V : Step → List ℕ → List ℕ → Type 0) (K : List ℕ → List ℕ → Type 0) (first : Bool) (s r : List ℕ) : Type 0 where
+pub record OneMember (name : List ℕ) (V : Step → List ℕ → List ℕ → Type 0) (K : List ℕ → List ℕ → Type 0)
+    (first : Bool) (s r : List ℕ) : Type 0 where
   pub begin : List ℕ
   pub named : List ℕ
   pub event : Step

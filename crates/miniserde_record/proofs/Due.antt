@@ -21,19 +21,23 @@ due_less next s r m p =
     omega (arith, a, b)
 
 -- what stands at the front has the event that was taken
-pub due_front : {P : Type 0} (s b c r : List ℕ) (d e : Step) (t : Tree) → Starts s e c → Starts s d b → ValueAt t d b r → (ValueAt t e c r → P) → P
+pub due_front : {P : Type 0} (s b c r : List ℕ) (d e : Step) (t : Tree) → Starts s e c → Starts s d b
+    → ValueAt t d b r → (ValueAt t e c r → P) → P
 due_front s b c r d e t k h v f =
     let one = same_start s d e b c h k in
     f (subst (λ z. ValueAt t z c r) one.0 (subst (λ z. ValueAt t d z r) one.1 v))
 
 module _ {S : Type 0} (next : S → Name → Tree → Option S) (empty : S) (begin : List ℕ) where
-  pub due_goes : (f : Bool) (s b c x : List ℕ) (n : Name) (m m' : S) → ObjectGoes next empty begin f s m → Follows Map f false s b → Names b n c → ReadsDue (next m n) c x m' → ObjectGoes next empty begin false x m'
+  pub due_goes : (f : Bool) (s b c x : List ℕ) (n : Name) (m m' : S) → ObjectGoes next empty begin f s m
+      → Follows Map f false s b → Names b n c → ReadsDue (next m n) c x m' → ObjectGoes next empty begin false x m'
   due_goes f s b c x n m m' g h j p = object_goes next empty begin f s b c p.behind x n p.event p.one m m' g h j p.starts p.is_value p.gives
 
   none_more : (m : S) (n : Name) (t : Tree) (us : Members) → next m n t ≡ None → after_members next m (member n t us) ≡ None
   none_more m n t us e = rw e refl
 
-  pub due_none : (f : Bool) (s b c : List ℕ) (n : Name) (m : S) → ObjectGoes next empty begin f s m → Follows Map f false s b → Names b n c → RejectsDue (next m n) c → (ms : Members) (r : List ℕ) → MembersAt ms true begin r → after_members next empty ms ≡ None
+  pub due_none : (f : Bool) (s b c : List ℕ) (n : Name) (m : S) → ObjectGoes next empty begin f s m
+      → Follows Map f false s b → Names b n c → RejectsDue (next m n) c → (ms : Members) (r : List ℕ)
+      → MembersAt ms true begin r → after_members next empty ms ≡ None
   due_none f s b c n m g h j d ms r p =
       let a = g.back ms r p in
       let u = members_there a.0 f s b c r n h j a.1 in

@@ -5,7 +5,8 @@ use Rattle.miniserde_model.specs.Tree.{Tree, Members}
 use Rattle.miniserde_read.specs.Meaning.{Meaning, meaning_with}
 use Rattle.miniserde_read.specs.types.Objects.{Name, object_of, after_members}
 use Rattle.miniserde_record.specs.Aliases.{field_name_of, with_field_names}
-use Rattle.miniserde_record.specs.Fields.{field_member, field_refuses, field_end, fields_content, missing_content, MissingReads, FieldsRead, StructReads}
+use Rattle.miniserde_record.specs.Fields.{field_member, field_refuses, field_end, fields_content, missing_content}
+use Rattle.miniserde_record.specs.Fields.{MissingReads, FieldsRead, StructReads}
 use Rattle.miniserde_record.specs.Marks.{has_no_members}
 use Rattle.miniserde_record.specs.laws.Aliases.{alias-apart}
 use Rattle.miniserde_record.specs.laws.Fields.{none-refused, field-refused, none-apart, closed-apart, field-apart}
@@ -33,7 +34,8 @@ pub record FieldsMeaning (V : Type 0) : Type 1 where
   -- the content that members give, field by field, by the fields' names and the state before them;
   -- `members_agree` says that they give the same by `next_state`, one by one, and `end`
   pub from_members : List Name → State → Members → Option Content
-  pub members_agree : (names : List Name) (s : State) (ms : Members) → option_and_then end (after_members (next_state names) s ms) ≡ from_members names s ms
+  pub members_agree : (names : List Name) (s : State) (ms : Members)
+      → option_and_then end (after_members (next_state names) s ms) ≡ from_members names s ms
   -- by the fields' names, the members mean the values; `reads_agrees` says that they do exactly if
   -- they give the values' content
   pub reads : List Name → Members → V → Type 0
@@ -94,7 +96,8 @@ field_and once given m absent n = record {
   from_members = fields_content once m.from_tree (missing_content m given absent) n.from_members;
   members_agree = field-apart once m.from_tree (missing_content m given absent) n.next_state n.end n.from_members n.members_agree;
   reads = FieldsRead once m.reads m.from_tree (MissingReads m given absent) n.reads;
-  reads_agrees = field-given once m (missing_content m given absent) (MissingReads m given absent) (missing-agrees m given absent) n.reads n.from_members n.content n.empty n.reads_agrees;
+  reads_agrees = field-given once m (missing_content m given absent) (MissingReads m given absent)
+      (missing-agrees m given absent) n.reads n.from_members n.content n.empty n.reads_agrees;
 }
 
 -- the meaning n of fields, with the aliases ps: a member whose name is an alias counts as one with

@@ -1,7 +1,8 @@
 -- Appending an element to a list appends its text to the compact text of the list, behind a comma unless it is the
 -- first. By recursion over the elements (`compact_children-snoc`); `compact_children_turn` and
 -- `compact_children_step` state it for one turn of a loop.
-use Rattle.std.proofs.Common.{◌≡◌, ℕ, ◌+◌, ◌<◌, List, [], ◌∷◌, ◌++◌, length, Bool, true, false, cond, take, get_or, refl, ap, append_assoc, ◌∙◌, sym, arith}
+use Rattle.std.proofs.Common.{◌≡◌, ℕ, ◌+◌, ◌<◌, List, [], ◌∷◌, ◌++◌, length, Bool, true, false, cond, take, get_or}
+use Rattle.std.proofs.Common.{refl, ap, append_assoc, ◌∙◌, sym, arith}
 use Rattle.std.proofs.lemmas.List.{take_more, append-nil, length-take-le}
 use Rattle.miniserde_model.specs.Tree.{Tree}
 use Rattle.miniserde_model.specs.Compact.{compact, compact_children, compact_more}
@@ -12,16 +13,21 @@ use Rattle.miniserde_model.specs.declared.error.Error.{Error}
 use Rattle.miniserde_ser.specs.Trees.{trees_of}
 use Rattle.miniserde_ser.specs.Writer.{WriterView, Appends, after_append, with_first_flag}
 
-compact_more-snoc : {A : Type 0} (f : A → Tree) (xs : List A) (x : A) → compact_more (trees_of f (xs ++ x ∷ [])) ≡ compact_more (trees_of f xs) ++ (44 ∷ []) ++ compact (f x)
+compact_more-snoc : {A : Type 0} (f : A → Tree) (xs : List A) (x : A) → compact_more (trees_of f (xs ++ x ∷ []))
+    ≡ compact_more (trees_of f xs) ++ (44 ∷ []) ++ compact (f x)
 compact_more-snoc f [] x = grind (arith, append_assoc {A = ℕ}, append-nil {A = ℕ})
 compact_more-snoc f (y ∷ ys) x = grind (arith, append_assoc {A = ℕ}, compact_more-snoc f ys x)
 
 -- the comma stands before each element but the first
-compact_children-snoc : {A : Type 0} (f : A → Tree) (xs : List A) (x : A) (b : Bool) → (length xs ≡ 0 → b ≡ true) → (0 < length xs → b ≡ false) → compact_children (trees_of f (xs ++ x ∷ [])) ≡ compact_children (trees_of f xs) ++ (cond b [] (44 ∷ []) ++ compact (f x))
+compact_children-snoc : {A : Type 0} (f : A → Tree) (xs : List A) (x : A) (b : Bool) → (length xs ≡ 0 → b ≡ true)
+    → (0 < length xs → b ≡ false) → compact_children (trees_of f (xs ++ x ∷ [])) ≡ compact_children (trees_of f xs)
+    ++ (cond b [] (44 ∷ []) ++ compact (f x))
 compact_children-snoc f [] x b s n = rw (s refl) (grind (arith, append-nil {A = ℕ}))
-compact_children-snoc f (y ∷ ys) x b s n = let e : b ≡ false = n (omega arith) in rw e (grind (arith, append_assoc {A = ℕ}, compact_more-snoc f ys x))
+compact_children-snoc f (y ∷ ys) x b s n = let e : b ≡ false = n (omega arith) in
+    rw e (grind (arith, append_assoc {A = ℕ}, compact_more-snoc f ys x))
 
-pub AllInRange-snoc : {A : Type 0} (f : A → Tree) (xs : List A) (x : A) → AllInRange (trees_of f xs) → InRange (f x) → AllInRange (trees_of f (xs ++ x ∷ []))
+pub AllInRange-snoc : {A : Type 0} (f : A → Tree) (xs : List A) (x : A) → AllInRange (trees_of f xs) → InRange (f x)
+    → AllInRange (trees_of f (xs ++ x ∷ []))
 AllInRange-snoc f [] x h r = (r, tt)
 AllInRange-snoc f (y ∷ ys) x h r = (h.0, AllInRange-snoc f ys x h.1 r)
 
@@ -29,20 +35,30 @@ pub took : {A : Type 0} (xs : List A) (i : ℕ) (x : A) → i < length xs → x 
 took xs i x h e = take_more xs i x h ∙ ap (λ y. take i xs ++ y ∷ []) (sym e)
 
 -- what a turn of a loop over a list appends to the text of the n elements so far
-pub compact_children_turn : {A : Type 0} (f : A → Tree) (xs : List A) (x : A) (n : ℕ) (b : Bool) (pre old mid new : List ℕ) → length xs ≡ n → (n ≡ 0 → b ≡ true) → (0 < n → b ≡ false) → old ≡ pre ++ compact_children (trees_of f xs) → mid ≡ old ++ cond b [] (44 ∷ []) → new ≡ mid ++ compact (f x) → new ≡ pre ++ compact_children (trees_of f (xs ++ x ∷ []))
+pub compact_children_turn : {A : Type 0} (f : A → Tree) (xs : List A) (x : A) (n : ℕ) (b : Bool)
+    (pre old mid new : List ℕ) → length xs ≡ n → (n ≡ 0 → b ≡ true) → (0 < n → b ≡ false)
+    → old ≡ pre ++ compact_children (trees_of f xs) → mid ≡ old ++ cond b [] (44 ∷ []) → new ≡ mid ++ compact (f x)
+    → new ≡ pre ++ compact_children (trees_of f (xs ++ x ∷ []))
 compact_children_turn f xs x n b pre old mid new len s l o m w =
     let grown = compact_children-snoc f xs x b (λ z. s (sym len ∙ z)) (λ z. l (omega (arith, len))) in
     rw (w, m, o, grown) (simp append_assoc refl)
 
 -- the same by the index of the element
-pub compact_children_step : {A : Type 0} (f : A → Tree) (xs : List A) (i : ℕ) (x : A) (b : Bool) (pre old mid new : List ℕ) → i < length xs → x ≡ get_or xs i x → (i ≡ 0 → b ≡ true) → (0 < i → b ≡ false) → old ≡ pre ++ compact_children (trees_of f (take i xs)) → mid ≡ old ++ cond b [] (44 ∷ []) → new ≡ mid ++ compact (f x) → new ≡ pre ++ compact_children (trees_of f (take (i + 1) xs))
+pub compact_children_step : {A : Type 0} (f : A → Tree) (xs : List A) (i : ℕ) (x : A) (b : Bool)
+    (pre old mid new : List ℕ) → i < length xs → x ≡ get_or xs i x → (i ≡ 0 → b ≡ true) → (0 < i → b ≡ false)
+    → old ≡ pre ++ compact_children (trees_of f (take i xs)) → mid ≡ old ++ cond b [] (44 ∷ [])
+    → new ≡ mid ++ compact (f x) → new ≡ pre ++ compact_children (trees_of f (take (i + 1) xs))
 compact_children_step f xs i x b pre old mid new h e s n o m w =
     rw (took xs i x h e) (compact_children_turn f (take i xs) x i b pre old mid new (length-take-le i xs (omega arith)) s n o m w)
 
 -- the trees of the elements so far are trees
-pub AllInRange_step : {A : Type 0} (f : A → Tree) (xs : List A) (i : ℕ) (x : A) → i < length xs → x ≡ get_or xs i x → AllInRange (trees_of f (take i xs)) → InRange (f x) → AllInRange (trees_of f (take (i + 1) xs))
+pub AllInRange_step : {A : Type 0} (f : A → Tree) (xs : List A) (i : ℕ) (x : A) → i < length xs → x ≡ get_or xs i x
+    → AllInRange (trees_of f (take i xs)) → InRange (f x) → AllInRange (trees_of f (take (i + 1) xs))
 AllInRange_step f xs i x h e a r = rw (took xs i x h e) (AllInRange-snoc f (take i xs) x a r)
 
 -- what a last piece makes of the text of all items before it
-pub appends_text : (old new : WriterView) (bs whole : List ℕ) (first : Bool) (r : Result (Unit {0}) Error) → Appends old bs first r new → old.text ++ bs ≡ whole → OnOk r (new.text ≡ whole)
-appends_text old new bs whole first r a h = on_ok_weaker r (λ (e : new ≡ with_first_flag (after_append old bs new.capacity) first). ap (λ (w : WriterView). w.text) e ∙ h) a.ok
+pub appends_text : (old new : WriterView) (bs whole : List ℕ) (first : Bool) (r : Result (Unit {0}) Error)
+    → Appends old bs first r new → old.text ++ bs ≡ whole → OnOk r (new.text ≡ whole)
+appends_text old new bs whole first r a h =
+    on_ok_weaker r (λ (e : new ≡ with_first_flag (after_append old bs new.capacity) first).
+    ap (λ (w : WriterView). w.text) e ∙ h) a.ok

@@ -12,7 +12,10 @@ use Rattle.miniserde_keys.specs.laws.Keys.{ReadsBack}
 use Rattle.miniserde_ser.specs.Trees.{members_of}
 
 -- by the laws of a key
-module _ {K : Type 0} (eq : K → K → Bool) (real : K → Type 0) (content : K → Key) (code : Key → Key) (read : List ℕ → Option Key) (text : K → List ℕ) (alike : (a b : K) → eq a b ≡ bytes_eq (code (content a)) (code (content b))) (back : ReadsBack real content code read text) where
+module _ {K : Type 0} (eq : K → K → Bool) (real : K → Type 0) (content : K → Key) (code : Key → Key)
+    (read : List ℕ → Option Key) (text : K → List ℕ)
+    (alike : (a b : K) → eq a b ≡ bytes_eq (code (content a)) (code (content b)))
+    (back : ReadsBack real content code read text) where
   differ : (a b : K) → real a → real b → eq a b ≡ false → bytes_eq (text a) (text b) ≡ false
   differ a b ra rb h = false_from_ne_true _ (λ e.
       let same : text a ≡ text b = (bytes_eq-Decides (text a) (text b)).0 e in
@@ -22,17 +25,22 @@ module _ {K : Type 0} (eq : K → K → Bool) (real : K → Type 0) (content : K
       let one : code (content a) ≡ code (content b) = sym c.3 ∙ ap code (same_Some _ _ read_same) ∙ d.3 in
       true≢false (sym ((bytes_eq-Decides _ _).1 one) ∙ sym (alike a b) ∙ h))
 
-  all_differ : {V : Type 0} (a : K) (es : List (K × V)) → real a → AllByRecursion (λ e. real e.0) es → AllByRecursion (λ b. eq a b ≡ false) (map (λ e. e.0) es) → AllByRecursion (λ n. bytes_eq (text a) n ≡ false) (map (λ e. text e.0) es)
+  all_differ : {V : Type 0} (a : K) (es : List (K × V)) → real a → AllByRecursion (λ e. real e.0) es
+      → AllByRecursion (λ b. eq a b ≡ false) (map (λ e. e.0) es)
+      → AllByRecursion (λ n. bytes_eq (text a) n ≡ false) (map (λ e. text e.0) es)
   all_differ a [] ra r h = tt
   all_differ a (e ∷ es) ra r h = (differ a e.0 ra r.0 h.0, all_differ a es ra r.1 h.1)
 
-  pub distinct_names : {V : Type 0} (es : List (K × V)) → AllByRecursion (λ e. real e.0) es → IsDistinct eq (map (λ e. e.0) es) → IsDistinct bytes_eq (map (λ e. text e.0) es)
+  pub distinct_names : {V : Type 0} (es : List (K × V)) → AllByRecursion (λ e. real e.0) es
+      → IsDistinct eq (map (λ e. e.0) es) → IsDistinct bytes_eq (map (λ e. text e.0) es)
   unfolding IsDistinct
   distinct_names [] r d = tt
   distinct_names (e ∷ es) r d = (all_differ e.0 es r.0 r.1 d.0, distinct_names es r.1 d.1)
 
 -- members by the lists of their names and of their trees
-pub members_same : {J K U V : Type 0} (m : J → List ℕ) (n : K → List ℕ) (g : U → Tree) (f : V → Tree) (xs : List (J × U)) (ys : List (K × V)) → map (λ x. m x.0) xs ≡ map (λ y. n y.0) ys → map (λ x. g x.1) xs ≡ map (λ y. f y.1) ys → members_of m g xs ≡ members_of n f ys
+pub members_same : {J K U V : Type 0} (m : J → List ℕ) (n : K → List ℕ) (g : U → Tree) (f : V → Tree)
+    (xs : List (J × U)) (ys : List (K × V)) → map (λ x. m x.0) xs ≡ map (λ y. n y.0) ys
+    → map (λ x. g x.1) xs ≡ map (λ y. f y.1) ys → members_of m g xs ≡ members_of n f ys
 members_same m n g f [] [] p q = refl
 members_same m n g f [] (y ∷ ys) p q = cc
 members_same m n g f (x ∷ xs) [] p q = cc
@@ -49,5 +57,6 @@ pub all_more : {A : Type 0} (P : A → Type 0) (xs : List A) (x : A) → AllByRe
 all_more P [] x h p = (p, tt)
 all_more P (y ∷ xs) x h p = (h.0, all_more P xs x h.1 p)
 
-pub map_more : {A B C : Type 0} (f : A → C) (g : B → C) (xs zs : List A) (x : A) (ys : List B) (y : B) → zs ≡ xs ++ x ∷ [] → map f xs ≡ map g ys → f x ≡ g y → map f zs ≡ map g (ys ++ y ∷ [])
+pub map_more : {A B C : Type 0} (f : A → C) (g : B → C) (xs zs : List A) (x : A) (ys : List B) (y : B)
+    → zs ≡ xs ++ x ∷ [] → map f xs ≡ map g ys → f x ≡ g y → map f zs ≡ map g (ys ++ y ∷ [])
 map_more f g xs zs x ys y z h e = rw (z, map-append f xs (x ∷ []), map-append g ys (y ∷ []), h, e) refl

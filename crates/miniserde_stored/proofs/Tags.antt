@@ -20,18 +20,22 @@ use Rattle.miniserde_stored.proofs.Fields.{stable-field}
 abbrev field : {C : Type 0} → (Name → Option C) → Option (Option Name) → Option (Name × C)
 field p o = option_and_then (λ o. option_and_then (λ n. option_map (λ c. (n, c)) (p n)) (option_or o None)) o
 
-field-some : {C : Type 0} (p : Name → Option C) (o : Option (Option Name)) (n : Name) (c : C) → field p o ≡ Some (n, c) → (option_and_then (λ o. o) o ≡ Some n) × (p n ≡ Some c)
+field-some : {C : Type 0} (p : Name → Option C) (o : Option (Option Name)) (n : Name) (c : C)
+    → field p o ≡ Some (n, c) → (option_and_then (λ o. o) o ≡ Some n) × (p n ≡ Some c)
 field-some p None n c e = absurd (cc)
 field-some p (Some None) n c e = absurd (cc)
-field-some {C} p (Some (Some k)) n c e = elim (p k) as (λ q. p k ≡ q → ◌≡◌ {A = Option (Name × C)} (option_map (λ c. (k, c)) q) (Some (n, c)) → (Some k ≡ Some n) × (p n ≡ Some c)) [
-  | None ↦ λ f g. absurd (cc)
-  | Some d ↦ λ f g.
-      let i = same_Some _ _ g in
-      let j = ap (λ z. z.0) i in
-      (ap Some j, ap p (sym j) ∙ f ∙ ap (λ z. Some z.1) i)
-] refl e
+field-some {C} p (Some (Some k)) n c e =
+    elim (p k) as (λ q. p k ≡ q → ◌≡◌ {A = Option (Name × C)} (option_map (λ c. (k, c)) q) (Some (n, c))
+    → (Some k ≡ Some n) × (p n ≡ Some c)) [
+      | None ↦ λ f g. absurd (cc)
+      | Some d ↦ λ f g.
+          let i = same_Some _ _ g in
+          let j = ap (λ z. z.0) i in
+          (ap Some j, ap p (sym j) ∙ f ∙ ap (λ z. Some z.1) i)
+    ] refl e
 
-some-field : {C : Type 0} (p : Name → Option C) (o : Option (Option Name)) (n : Name) (c : C) → option_and_then (λ o. o) o ≡ Some n → p n ≡ Some c → field p o ≡ Some (n, c)
+some-field : {C : Type 0} (p : Name → Option C) (o : Option (Option Name)) (n : Name) (c : C)
+    → option_and_then (λ o. o) o ≡ Some n → p n ≡ Some c → field p o ≡ Some (n, c)
 some-field p None n c e f = absurd (cc)
 some-field p (Some None) n c e f = absurd (cc)
 some-field p (Some (Some k)) n c e f = let i : k ≡ n = same_Some _ _ e in rw (i, f) refl
@@ -42,11 +46,15 @@ string-stable : IsStable string_of
 string-stable (str s) c e = e
 string-stable t c e = absurd (cc)
 
-module _ {C : Type 0} (tag : Name) (f : Name → Option Tree → Option C) (stable : (n : Name) (o : Option Tree) (c : C) → f n o ≡ Some c → f n (option_map norm o) ≡ Some c) where
+module _ {C : Type 0} (tag : Name) (f : Name → Option Tree → Option C)
+    (stable : (n : Name) (o : Option Tree) (c : C) → f n o ≡ Some c → f n (option_map norm o) ≡ Some c) where
   abbrev beside_it : Name → List Name → Unit {0} → Members → Option C
   beside_it n ns s ms = f n (Some (members ms))
 
-  given : (o : Option (Option Name)) (u : Option Tree) (c : C) → option_and_then (λ (v : Name × Option Tree). f v.0 v.1) (option_map (λ n. (n, u)) (option_and_then (λ o. o) o)) ≡ Some c → (n : Name) × (option_and_then (λ o. o) o ≡ Some n) × (f n u ≡ Some c)
+  given : (o : Option (Option Name)) (u : Option Tree) (c : C)
+      → option_and_then (λ (v : Name × Option Tree). f v.0 v.1)
+      (option_map (λ n. (n, u)) (option_and_then (λ o. o) o)) ≡ Some c
+      → (n : Name) × (option_and_then (λ o. o) o ≡ Some n) × (f n u ≡ Some c)
   given None u c e = absurd (cc)
   given (Some None) u c e = absurd (cc)
   given (Some (Some n)) u c e = (n, refl, e)

@@ -13,11 +13,13 @@ use Rattle.miniserde_stored.specs.Stable.{IsStable}
 use Rattle.miniserde_stored.specs.laws.Leaves.{stable-by}
 
 -- what is made of something that stays, stays
-pub bound : {C D : Type 0} (o p : Option C) (g h : C → Option D) (d : D) → ((c : C) → o ≡ Some c → p ≡ Some c) → ((c : C) → g c ≡ Some d → h c ≡ Some d) → option_and_then g o ≡ Some d → option_and_then h p ≡ Some d
+pub bound : {C D : Type 0} (o p : Option C) (g h : C → Option D) (d : D) → ((c : C) → o ≡ Some c → p ≡ Some c)
+    → ((c : C) → g c ≡ Some d → h c ≡ Some d) → option_and_then g o ≡ Some d → option_and_then h p ≡ Some d
 bound None p g h d k l e = absurd (cc)
 bound (Some c) p g h d k l e = ap (option_and_then h) (k c refl) ∙ l c e
 
-pub mapped : {C D : Type 0} (f : C → D) (o p : Option C) (d : D) → ((c : C) → o ≡ Some c → p ≡ Some c) → option_map f o ≡ Some d → option_map f p ≡ Some d
+pub mapped : {C D : Type 0} (f : C → D) (o p : Option C) (d : D) → ((c : C) → o ≡ Some c → p ≡ Some c)
+    → option_map f o ≡ Some d → option_map f p ≡ Some d
 mapped f None p d k e = absurd (cc)
 mapped f (Some c) p d k e = ap (option_map f) (k c refl) ∙ e
 
@@ -36,7 +38,8 @@ module _ {C : Type 0} (of : Tree → Option C) (stays : IsStable of) where
   stable-each : (ts : Trees) (cs : List C) → each of ts ≡ Some cs → each of (norm_children ts) ≡ Some cs
   stable-each no_trees cs e = e
   stable-each (tree t ts) cs e =
-      bound (of t) (of (norm t)) (λ x. option_and_then (λ xs. Some (x ∷ xs)) (each of ts)) (λ x. option_and_then (λ xs. Some (x ∷ xs)) (each of (norm_children ts))) cs (stays t)
+      bound (of t) (of (norm t)) (λ x. option_and_then (λ xs. Some (x ∷ xs)) (each of ts))
+      (λ x. option_and_then (λ xs. Some (x ∷ xs)) (each of (norm_children ts))) cs (stays t)
       (λ x. bound (each of ts) (each of (norm_children ts)) (λ xs. Some (x ∷ xs)) (λ xs. Some (x ∷ xs)) cs (stable-each ts) (λ xs f. f)) e
 
   pub stable-list : IsStable (list_of of)

@@ -7,4 +7,5 @@ use Rattle.miniserde_read.specs.types.Objects.{Name}
 -- if `content_by_name` returns a content for some names of variants, a name and data, then it returns the
 -- same content for the normal form of the data
 abbrev pub CasesStable : {C : Type 0} → (List Name → Name → Option Tree → Option C) → Type 0
-CasesStable {C} content_by_name = (names : List Name) (n : Name) (o : Option Tree) (c : C) → content_by_name names n o ≡ Some c → content_by_name names n (option_map norm o) ≡ Some c
+CasesStable {C} content_by_name = (names : List Name) (n : Name) (o : Option Tree) (c : C)
+    → content_by_name names n o ≡ Some c → content_by_name names n (option_map norm o) ≡ Some c

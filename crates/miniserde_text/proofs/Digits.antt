@@ -28,7 +28,9 @@ pub record Turn (n : ℕ) (ds : List ℕ) (i : ℕ) : Type 0 where
 pub turn : (n : ℕ) (ds : List ℕ) (i : ℕ) → i < length ds → AllByRecursion IsDigit (drop i ds) → Turn n ds i
 turn n ds i h e =
     let both = subst (AllByRecursion IsDigit) (drop_more ds i 0 h) e in
-    let same : digits_value_after 10 n (drop i ds) ≡ digits_value_after 10 (n * 10 + (get_or ds i 0 - 48)) (drop (i + 1) ds) = ap (digits_value_after 10 n) (drop_more ds i 0 h) ∙ ap (λ d. digits_value_after 10 (n * 10 + d) (drop (i + 1) ds)) (digit_value_is (get_or ds i 0) both.0) in
+    let same : digits_value_after 10 n (drop i ds) ≡ digits_value_after 10 (n * 10 + (get_or ds i 0 - 48))
+    (drop (i + 1) ds) = ap (digits_value_after 10 n) (drop_more ds i 0 h)
+    ∙ ap (λ d. digits_value_after 10 (n * 10 + d) (drop (i + 1) ds)) (digit_value_is (get_or ds i 0) both.0) in
     record {
       low = both.0.0;
       high = both.0.1;

@@ -1,22 +1,29 @@
 -- Reading an escape takes exactly the escapes of the grammar. By cases on the letter behind the backslash:
 -- `escape_takes` shows that each escape read is a piece of the grammar, and `piece_cases` that each such piece is
 -- read.
-use Rattle.std.proofs.Common.{◌≡◌, ℕ, ◌+◌, ◌*◌, ◌<◌, ◌≤◌, ◌==◌, Bool, true, false, cond, List, [], ◌∷◌, ◌++◌, length, drop, Some, None, refl, ap, sym, subst, ◌∙◌, inl, inr, arith, append_assoc, eqb-true, ltb-true}
+use Rattle.std.proofs.Common.{◌≡◌, ℕ, ◌+◌, ◌*◌, ◌<◌, ◌≤◌, ◌==◌, Bool, true, false, cond, List, [], ◌∷◌, ◌++◌}
+use Rattle.std.proofs.Common.{length, drop, Some, None, refl, ap, sym, subst, ◌∙◌, inl, inr, arith, append_assoc}
+use Rattle.std.proofs.Common.{eqb-true, ltb-true}
 use Rattle.std.specs.Prelude.{◌⊎◌, ◌&&◌, ◌||◌, slice_index, option_and_then, option_map}
 use Rattle.std.specs.Char.{digit_value, IsScalar}
 use Rattle.std.proofs.lemmas.Bool.Decides.{nat_tests}
 use Rattle.std.proofs.lemmas.Bool.{true≢false}
 use Rattle.std.proofs.lemmas.List.{get_or_past}
 use lib.Utf8.{scalar_cases}
-use Rattle.miniserde_model.specs.String.{IsRaw, IsShortEscape, quote, backslash, slash, backspace, form_feed, line_feed, carriage_return, tab, IsUnit, IsPair, IsPiece, raw, short, unit, pair}
-use Rattle.miniserde_text.specs.private.Reading.{is_hex, is_high, is_low, begins_code_unit, code_unit_at, begins_unicode_escape, pair_of, low_at, unicode_at, short_at, escape_at}
+use Rattle.miniserde_model.specs.String.{IsRaw, IsShortEscape, quote, backslash, slash, backspace, form_feed}
+use Rattle.miniserde_model.specs.String.{line_feed, carriage_return, tab, IsUnit, IsPair, IsPiece, raw, short, unit}
+use Rattle.miniserde_model.specs.String.{pair}
+use Rattle.miniserde_text.specs.private.Reading.{is_hex, is_high, is_low, begins_code_unit, code_unit_at}
+use Rattle.miniserde_text.specs.private.Reading.{begins_unicode_escape, pair_of, low_at, unicode_at, short_at}
+use Rattle.miniserde_text.specs.private.Reading.{escape_at}
 use Rattle.miniserde_text.proofs.Runs.{or_true}
 use Rattle.std.proofs.lemmas.Option.{cond_some, same_Some}
 use Rattle.miniserde_text.proofs.Options.{chosen, none_if, then_if, map_some, bind_some, first_byte, and_parts}
 
 -- ---- what is read
 
-four : (s : List ℕ) → is_hex (slice_index s 0) ≡ true → is_hex (slice_index s 1) ≡ true → is_hex (slice_index s 2) ≡ true → is_hex (slice_index s 3) ≡ true
+four : (s : List ℕ) → is_hex (slice_index s 0) ≡ true → is_hex (slice_index s 1) ≡ true
+    → is_hex (slice_index s 2) ≡ true → is_hex (slice_index s 3) ≡ true
     → s ≡ slice_index s 0 ∷ slice_index s 1 ∷ slice_index s 2 ∷ slice_index s 3 ∷ drop 4 s
 four [] a b c d = absurd (true≢false (sym a))
 four (x ∷ []) a b c d = absurd (true≢false (sym b))
@@ -25,7 +32,8 @@ four (x ∷ y ∷ z ∷ []) a b c d = absurd (true≢false (sym d))
 four (x ∷ y ∷ z ∷ w ∷ s) a b c d = refl
 
 abbrev value_of : List ℕ → ℕ
-value_of s = digit_value (slice_index s 0) * 4096 + digit_value (slice_index s 1) * 256 + digit_value (slice_index s 2) * 16 + digit_value (slice_index s 3)
+value_of s = digit_value (slice_index s 0) * 4096 + digit_value (slice_index s 1) * 256 + digit_value
+    (slice_index s 2) * 16 + digit_value (slice_index s 3)
 
 and_no : (b : Bool) → (b && false) ≡ false
 and_no true = refl
@@ -35,7 +43,9 @@ and_no false = refl
 pub few_bytes : (s : List ℕ) → length s < 4 → code_unit_at s ≡ None
 few_bytes s h =
     let three : is_hex (slice_index s 3) ≡ false = ap is_hex (get_or_past s 3 0 (omega arith)) in
-    ap (λ b. cond b (Some (value_of s, drop 4 s)) None) (ap (λ b. is_hex (slice_index s 0) && is_hex (slice_index s 1) && is_hex (slice_index s 2) && b) three ∙ and_no _)
+    ap (λ b. cond b (Some (value_of s, drop 4 s)) None)
+    (ap (λ b. is_hex (slice_index s 0) && is_hex (slice_index s 1) && is_hex (slice_index s 2) && b) three
+    ∙ and_no _)
 
 hex_of : (c : ℕ) → is_hex c ≡ true → digit_value c < 16
 hex_of c h = ltb-true (digit_value c) 16 h
@@ -127,15 +137,32 @@ unicode_takes s c r e =
       | inl p ↦
           let l = low_takes f.0.0 f.0.1 c r p.1 in (
             h.digits ++ l.unit,
-            pair (record { first = 92 ∷ 117 ∷ h.digits; second = l.unit; high = f.0.0; low = l.low; text = refl; is_first = h.is_unit; is_second = l.is_unit; is_high = high_range f.0.0 p.0; is_low = low_range l.low l.in_range; character = l.character }),
+            pair (record {
+              first = 92 ∷ 117 ∷ h.digits;
+              second = l.unit;
+              high = f.0.0;
+              low = l.low;
+              text =
+                  refl;
+              is_first = h.is_unit;
+              is_second = l.is_unit;
+              is_high = high_range f.0.0 p.0;
+              is_low =
+                  low_range l.low l.in_range;
+              character = l.character;
+            }),
             h.text ∙ ap (λ x. h.digits ++ x) l.text ∙ sym (append_assoc h.digits l.unit r),
           )
       | inr p ↦
           let n = none_if (is_low f.0.0) _ _ p.1 in
           let same : f.0 ≡ (c, r) = same_Some _ _ n.1 in
           let at : f.0.0 ≡ c = ap (λ x. x.0) same in
-          let one = subst (IsUnit (92 ∷ 117 ∷ h.digits)) at h.is_unit in
-          (h.digits, unit (unit_scalar c (unit_small _ c one) (ap is_high (sym at) ∙ p.0) (ap is_low (sym at) ∙ n.0)) one, h.text ∙ ap (λ x. h.digits ++ x.1) same)
+          let one = subst (IsUnit (92 ∷ 117 ∷ h.digits)) at h.is_unit in (
+            h.digits,
+            unit (unit_scalar c (unit_small _ c one) (ap is_high (sym at) ∙ p.0)
+                (ap is_low (sym at) ∙ n.0)) one,
+            h.text ∙ ap (λ x. h.digits ++ x.1) same,
+          )
     ]
 
 short_same : (x c : ℕ) → IsShortEscape x c → (y d : ℕ) → x ≡ y → c ≡ d → IsShortEscape y d
@@ -172,7 +199,8 @@ short_is x c e =
       ]
     ]
 
-short_takes : (t : List ℕ) (c : ℕ) (r : List ℕ) → option_map {U = ℕ × List ℕ} (λ x. (x, drop 1 t)) (short_at (slice_index t 0)) ≡ Some (c, r) → Escaped t c r
+short_takes : (t : List ℕ) (c : ℕ) (r : List ℕ)
+    → option_map {U = ℕ × List ℕ} (λ x. (x, drop 1 t)) (short_at (slice_index t 0)) ≡ Some (c, r) → Escaped t c r
 short_takes [] c r e = cc
 short_takes (x ∷ xs) c r e =
     let m = map_some (λ y. (y, xs)) (short_at x) (c, r) e in
@@ -189,7 +217,12 @@ escape_takes t c r e =
 -- ---- what the grammar has is read
 
 unit_only : (a : List ℕ) (u : ℕ) (h : IsUnit a u) (r : List ℕ) → code_unit_at (h.d3 ∷ h.d2 ∷ h.d1 ∷ h.d0 ∷ r) ≡ Some (u, r)
-unit_only a u h r = rw (hex_passes h.d3 h.hex3, hex_passes h.d2 h.hex2, hex_passes h.d1 h.hex1, hex_passes h.d0 h.hex0) (ap (λ x. Some (x, r)) (sym h.value))
+unit_only a u h r = rw (
+  hex_passes h.d3 h.hex3,
+  hex_passes h.d2 h.hex2,
+  hex_passes h.d1 h.hex1,
+  hex_passes h.d0 h.hex0,
+) (ap (λ x. Some (x, r)) (sym h.value))
 
 scalar_no_surrogate : (c : ℕ) → IsScalar c → (is_high c ≡ false) × (is_low c ≡ false)
 scalar_no_surrogate c s = elim (scalar_cases c s) [
@@ -210,9 +243,11 @@ unicode_unit a c h t s =
     ap (option_and_then (λ x. cond (is_high x.0) (low_at x.0 x.1) (cond (is_low x.0) None (Some x)))) (unit_only a c h t)
     ∙ ap (λ b. cond b (low_at c t) (cond (is_low c) None (Some (c, t)))) n.0 ∙ ap (λ b. cond b None (Some (c, t))) n.1
 
-low_only : (u : ℕ) (a : List ℕ) (v : ℕ) (h : IsUnit a v) (t : List ℕ) → is_low v ≡ true → low_at u (92 ∷ 117 ∷ h.d3 ∷ h.d2 ∷ h.d1 ∷ h.d0 ∷ t) ≡ Some (pair_of u v, t)
+low_only : (u : ℕ) (a : List ℕ) (v : ℕ) (h : IsUnit a v) (t : List ℕ) → is_low v ≡ true
+    → low_at u (92 ∷ 117 ∷ h.d3 ∷ h.d2 ∷ h.d1 ∷ h.d0 ∷ t) ≡ Some (pair_of u v, t)
 low_only u a v h t m =
-    ap (option_and_then (λ x. cond (is_low x.0) (Some (pair_of u x.0, x.1)) None)) (unit_only a v h t) ∙ ap (λ b. cond b (Some (pair_of u v, t)) None) m
+    ap (option_and_then (λ x. cond (is_low x.0) (Some (pair_of u x.0, x.1)) None)) (unit_only a v h t)
+    ∙ ap (λ b. cond b (Some (pair_of u v, t)) None) m
 
 unicode_pair : (a b : List ℕ) (u v : ℕ) (h : IsUnit a u) (l : IsUnit b v) (t : List ℕ) → is_high u ≡ true → is_low v ≡ true
     → unicode_at (h.d3 ∷ h.d2 ∷ h.d1 ∷ h.d0 ∷ 92 ∷ 117 ∷ l.d3 ∷ l.d2 ∷ l.d1 ∷ l.d0 ∷ t) ≡ Some (pair_of u v, t)
@@ -248,10 +283,13 @@ pair_escape : (p : List ℕ) (c : ℕ) → IsPair p c → IsEscape p c
 pair_escape p c h =
     let a = h.is_first in
     let b = h.is_second in
-    let text : p ≡ 92 ∷ 117 ∷ a.d3 ∷ a.d2 ∷ a.d1 ∷ a.d0 ∷ 92 ∷ 117 ∷ b.d3 ∷ b.d2 ∷ b.d1 ∷ b.d0 ∷ [] = h.text ∙ ap (λ x. x ++ h.second) a.text ∙ ap (λ x. 92 ∷ 117 ∷ a.d3 ∷ a.d2 ∷ a.d1 ∷ a.d0 ∷ x) b.text in (
+    let text : p ≡ 92 ∷ 117 ∷ a.d3 ∷ a.d2 ∷ a.d1 ∷ a.d0 ∷ 92 ∷ 117 ∷ b.d3 ∷ b.d2 ∷ b.d1 ∷ b.d0 ∷ [] =
+    h.text ∙ ap (λ x. x ++ h.second) a.text ∙ ap (λ x. 92 ∷ 117 ∷ a.d3 ∷ a.d2 ∷ a.d1 ∷ a.d0 ∷ x) b.text in (
       117 ∷ a.d3 ∷ a.d2 ∷ a.d1 ∷ a.d0 ∷ 92 ∷ 117 ∷ b.d3 ∷ b.d2 ∷ b.d1 ∷ b.d0 ∷ [],
       text,
-      λ t. escape_u _ ∙ unicode_pair h.first h.second h.high h.low a b t (high_passes h.high h.is_high.0 h.is_high.1) (low_passes h.low h.is_low.0 h.is_low.1) ∙ ap (λ x. Some (x, t)) (sym h.character),
+      λ t. escape_u _ ∙ unicode_pair h.first h.second h.high h.low a b t
+          (high_passes h.high h.is_high.0 h.is_high.1) (low_passes h.low h.is_low.0 h.is_low.1)
+          ∙ ap (λ x. Some (x, t)) (sym h.character),
     )
 
 pub piece_cases : (p : List ℕ) (c : ℕ) → IsPiece p c → IsRaw p c ⊎ IsEscape p c

@@ -1,6 +1,8 @@
 -- The escape rule maps each byte by itself, keeps runs of plain bytes, and writes each byte as one to six bytes. By
 -- recursion over the bytes, from the rule of one byte (`escapes-cons`) and of two texts (`escapes-append`).
-use Rattle.std.proofs.Common.{◌≡◌, ℕ, suc, ◌+◌, ◌-◌, ◌*◌, ◌<◌, ◌≤◌, List, [], ◌∷◌, ◌++◌, length, true, false, take, drop, get_or, refl, ap, sym, ◌∙◌, arith, length-append, length-drop, take-add, append_assoc}
+use Rattle.std.proofs.Common.{◌≡◌, ℕ, suc, ◌+◌, ◌-◌, ◌*◌, ◌<◌, ◌≤◌, List, [], ◌∷◌, ◌++◌, length, true, false, take}
+use Rattle.std.proofs.Common.{drop, get_or, refl, ap, sym, ◌∙◌, arith, length-append, length-drop, take-add}
+use Rattle.std.proofs.Common.{append_assoc}
 use Rattle.std.proofs.lemmas.Grind.{flat_map-append}
 use Rattle.std.proofs.lemmas.List.{take_more, append-nil, take-append-drop, length-take, get_or-take, get_or-drop}
 use Rattle.std.proofs.lemmas.Bool.Decides.{nat_tests}
@@ -35,7 +37,8 @@ escapes_plain (x ∷ xs) h =
     rw (escapes-cons x xs, escape_plain x (h 0 (omega arith)), escapes_plain xs (λ k l. h (suc k) (omega arith))) refl
 
 -- one more byte, and its length
-pub length_escapes_more : (xs : List ℕ) (i : ℕ) → i < length xs → length (escapes (take (i + 1) xs)) ≡ length (escapes (take i xs)) + length (escape (get_or xs i 0))
+pub length_escapes_more : (xs : List ℕ) (i : ℕ) → i < length xs
+    → length (escapes (take (i + 1) xs)) ≡ length (escapes (take i xs)) + length (escape (get_or xs i 0))
 length_escapes_more xs i h = rw (take_more xs i 0 h, escapes-append, escapes-one, length-append) refl
 
 -- a byte that may not is a character of its own
@@ -48,13 +51,16 @@ escapes_more xs i h = rw (take_more xs i 0 h, escapes-append, escapes-one) refl
 -- a text cut in two
 length_escapes_cut : (xs : List ℕ) (i : ℕ) → length (escapes xs) ≡ length (escapes (take i xs)) + length (escapes (drop i xs))
 length_escapes_cut xs i =
-    ap (λ t. length (escapes t)) (sym (take-append-drop i xs)) ∙ rw (escapes-append (take i xs) (drop i xs)) (length-append (escapes (take i xs)) (escapes (drop i xs)))
+    ap (λ t. length (escapes t)) (sym (take-append-drop i xs)) ∙ rw (escapes-append (take i xs) (drop i xs))
+    (length-append (escapes (take i xs)) (escapes (drop i xs)))
 
 pub length_escapes_le : (xs : List ℕ) (i : ℕ) → length (escapes (take i xs)) ≤ length (escapes xs)
 length_escapes_le xs i = omega (arith, length_escapes_cut xs i)
 
 -- a run of bytes with none to escape
-pub escapes_run : (xs : List ℕ) (i j : ℕ) → i ≤ j → j ≤ length xs → ((k : ℕ) → i ≤ k → k < j → is_special (get_or xs k 0) ≡ false) → escapes (take j xs) ≡ escapes (take i xs) ++ take (j - i) (drop i xs)
+pub escapes_run : (xs : List ℕ) (i j : ℕ) → i ≤ j → j ≤ length xs
+    → ((k : ℕ) → i ≤ k → k < j → is_special (get_or xs k 0) ≡ false) → escapes (take j xs) ≡ escapes (take i xs)
+    ++ take (j - i) (drop i xs)
 escapes_run xs i j l h plain =
     let front : take j xs ≡ take i xs ++ take (j - i) (drop i xs) = ap (λ n. take n xs) (omega arith) ∙ take-add i (j - i) xs in
     let same : escapes (take (j - i) (drop i xs)) ≡ take (j - i) (drop i xs) =
@@ -63,9 +69,18 @@ escapes_run xs i j l h plain =
     rw at (plain (i + k) (omega arith) (omega arith))) in
     rw (front, escapes-append) (ap (λ t. escapes (take i xs) ++ t) same)
 
-pub length_escapes_run : (xs : List ℕ) (i j : ℕ) → i ≤ j → j ≤ length xs → ((k : ℕ) → i ≤ k → k < j → is_special (get_or xs k 0) ≡ false) → length (escapes (take j xs)) + i ≡ length (escapes (take i xs)) + j
+pub length_escapes_run : (xs : List ℕ) (i j : ℕ) → i ≤ j → j ≤ length xs
+    → ((k : ℕ) → i ≤ k → k < j → is_special (get_or xs k 0) ≡ false)
+    → length (escapes (take j xs)) + i ≡ length (escapes (take i xs)) + j
 length_escapes_run xs i j l h plain =
-    omega (arith, ap length (escapes_run xs i j l h plain), length-append (escapes (take i xs)) (take (j - i) (drop i xs)), length-take (j - i) (drop i xs), length-drop i xs)
+    omega (
+      arith,
+      ap length (escapes_run xs i j l h plain),
+      length-append (escapes (take i xs))
+          (take (j - i) (drop i xs)),
+      length-take (j - i) (drop i xs),
+      length-drop i xs,
+    )
 
 -- a byte is written as one byte where it stands for itself, and as more otherwise
 length_escape_ge : (b : ℕ) → 1 ≤ length (escape b)
@@ -97,7 +112,8 @@ unfolding string_text escapes escape
 quoted_escapes s = refl
 
 -- a quote, what stands between the quotes, and a quote
-pub between_quotes : (old mid a b new v : List ℕ) → mid ≡ old → a ≡ mid ++ 34 ∷ [] → b ≡ a ++ escapes v → new ≡ b ++ 34 ∷ [] → new ≡ old ++ string_text v
+pub between_quotes : (old mid a b new v : List ℕ) → mid ≡ old → a ≡ mid ++ 34 ∷ [] → b ≡ a ++ escapes v
+    → new ≡ b ++ 34 ∷ [] → new ≡ old ++ string_text v
 between_quotes old mid a b new v h i j k = rw (k, j, i, h, quoted_escapes v) (simp append_assoc refl)
 
 -- how long that is

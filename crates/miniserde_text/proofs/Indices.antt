@@ -1,6 +1,7 @@
 -- The indices to which the lexer moves are in order, and they are character boundaries. An index behind an ASCII byte
 -- is a boundary (`follows_boundary`), and so is the end of a run without special bytes (`special_boundary`).
-use Rattle.std.proofs.Common.{◌≡◌, ℕ, ◌+◌, ◌-◌, ◌≤◌, ◌<◌, List, length, drop, get_or, refl, ap, sym, subst, ◌∙◌, arith, length-append, length-drop}
+use Rattle.std.proofs.Common.{◌≡◌, ℕ, ◌+◌, ◌-◌, ◌≤◌, ◌<◌, List, length, drop, get_or, refl, ap, sym, subst, ◌∙◌}
+use Rattle.std.proofs.Common.{arith, length-append, length-drop}
 use Rattle.std.specs.List.{position_or_len}
 use Rattle.std.specs.Str.{IsUtf8, IsCharBoundary}
 use Rattle.std.proofs.lemmas.List.{drop-drop}
@@ -31,4 +32,6 @@ unescaped_from s i j e =
 pub special_boundary : (s : List ℕ) (i j : ℕ) → i ≤ length s → j ≡ i + position_or_len is_special (drop i s) → IsCharBoundary s j
 special_boundary s i j h e =
     let t = drop i s in
-    subst (IsCharBoundary s) (sym e) (IsCharBoundary-from_rest s i (position_or_len is_special t) h (boundary t (position_or_len is_special t) refl))
+    subst (IsCharBoundary s) (sym e)
+    (IsCharBoundary-from_rest s i (position_or_len is_special t) h
+    (boundary t (position_or_len is_special t) refl))

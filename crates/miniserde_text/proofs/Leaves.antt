@@ -9,7 +9,8 @@ use Rattle.std.proofs.lemmas.List.{append-nil}
 use Rattle.miniserde_model.specs.Tree.{Tree, null, truth, nonneg, neg, num, str, list, members}
 use Rattle.miniserde_model.specs.Step.{Step, boolean, string, negative, nonnegative, float, seq, map}
 use Rattle.miniserde_model.specs.Step as step
-use Rattle.miniserde_model.specs.Number.{IsDigit, IsInt, IsFraction, IsExponent, IsNumberText, is_plain, begins_minus, leaf_of_digits, leaf_of_negated, leaf}
+use Rattle.miniserde_model.specs.Number.{IsDigit, IsInt, IsFraction, IsExponent, IsNumberText, is_plain}
+use Rattle.miniserde_model.specs.Number.{begins_minus, leaf_of_digits, leaf_of_negated, leaf}
 use Rattle.miniserde_model.specs.Bytes.{is_number_byte, StopsAt}
 use Rattle.miniserde_model.specs.Lexing.{Piece, Ends}
 use Rattle.miniserde_text.specs.private.Reading.{event_of_parts}
@@ -29,12 +30,15 @@ event_of (members ms) = map
 leaf_cases : (b : List ℕ) (P : Tree → Type 0) → ((z : ℤ) → P (neg z)) → ((n : ℕ) → P (nonneg n)) → P (num b) → P (leaf b)
 unfolding leaf
 leaf_cases b P p q s =
-    if_cases (is_plain b) P _ _ (if_cases (begins_minus b) P _ _ (if_cases (nat_le (digits_value 10 (drop 1 b)) (2 ^ 63)) P _ _ (p _) s) (if_cases (nat_lt (digits_value 10 b) (2 ^ 64)) P _ _ (q _) s)) s
+    if_cases (is_plain b) P _ _
+    (if_cases (begins_minus b) P _ _ (if_cases (nat_le (digits_value 10 (drop 1 b)) (2 ^ 63)) P _ _ (p _) s)
+    (if_cases (nat_lt (digits_value 10 b) (2 ^ 64)) P _ _ (q _) s)) s
 
 -- a number text is the piece of its event, and ends where such a text ends
 pub number_piece : (b r : List ℕ) → IsNumberText b → StopsAt is_number_byte r → Piece (event_of (leaf b)) b × Ends (event_of (leaf b)) r
 number_piece b r n h =
-    leaf_cases b (λ t. leaf b ≡ t → Piece (event_of t) b × Ends (event_of t) r) (λ z e. ((n, e), h)) (λ m e. ((n, e), h)) (λ e. ((n, e), h)) refl
+    leaf_cases b (λ t. leaf b ≡ t → Piece (event_of t) b × Ends (event_of t) r) (λ z e. ((n, e), h))
+    (λ m e. ((n, e), h)) (λ e. ((n, e), h)) refl
 
 -- the event of a kept text is that of no other leaf
 pub leaf_of_float : (b x : List ℕ) → event_of (leaf b) ≡ float x → leaf b ≡ num b
@@ -93,14 +97,18 @@ event_if : (v : Bool) (t u : Tree) → event_of (cond v t u) ≡ cond v (event_o
 event_if true t u = refl
 event_if false t u = refl
 
-by_tail : (m : Bool) (w t : List ℕ) → IsInt w → is_plain t ≡ is_nil t → event_of_parts (sign_of m ++ (w ++ t)) m w t ≡ event_of (leaf (sign_of m ++ (w ++ t)))
+by_tail : (m : Bool) (w t : List ℕ) → IsInt w → is_plain t ≡ is_nil t → event_of_parts (sign_of m ++ (w ++ t)) m w t
+    ≡ event_of (leaf (sign_of m ++ (w ++ t)))
 by_tail m w (c ∷ cs) h p = sym (ap event_of (leaf_other _ (parts_plain m w (c ∷ cs) h ∙ p)))
 by_tail true w [] h p =
     let b : List ℕ = 45 ∷ (w ++ []) in
-    sym (ap event_of (leaf_plain b (parts_plain true w [] h) ∙ ap (λ ds. leaf_of_negated ds b) (append-nil w)) ∙ event_if (nat_le (digits_value 10 w) (2 ^ 63)) _ _)
+    sym (ap event_of (leaf_plain b (parts_plain true w [] h) ∙ ap (λ ds. leaf_of_negated ds b) (append-nil w))
+    ∙ event_if (nat_le (digits_value 10 w) (2 ^ 63)) _ _)
 by_tail false w [] h p =
     let b : List ℕ = w ++ [] in
-    sym (ap event_of (leaf_plain b (parts_plain false w [] h) ∙ ap (λ v. cond v (leaf_of_negated (drop 1 b) b) (leaf_of_digits b b)) (whole_first w [] h) ∙ ap (λ ds. leaf_of_digits ds b) (append-nil w)) ∙ event_if (nat_lt (digits_value 10 w) (2 ^ 64)) _ _)
+    sym (ap event_of (leaf_plain b (parts_plain false w [] h)
+    ∙ ap (λ v. cond v (leaf_of_negated (drop 1 b) b) (leaf_of_digits b b)) (whole_first w [] h)
+    ∙ ap (λ ds. leaf_of_digits ds b) (append-nil w)) ∙ event_if (nat_lt (digits_value 10 w) (2 ^ 64)) _ _)
 
 pub event_of_text : (m : Bool) (w f e : List ℕ) → IsInt w → IsFraction f → IsExponent e
     → event_of_parts (sign_of m ++ (w ++ (f ++ e))) m w (f ++ e) ≡ event_of (leaf (sign_of m ++ (w ++ (f ++ e))))

@@ -13,7 +13,8 @@ use Rattle.miniserde_text.proofs.Runs.{run_split, run_only_space, whitespace_of,
 use Rattle.miniserde_text.proofs.Options.{first_byte}
 use Rattle.miniserde_text.proofs.Strings.{string_leads, string_chars}
 
-pub colon_leads : (P : List ℕ → Type 0) (s rest colon r : List ℕ) → BeginsWith P s rest → colon ≡ after_run is_space rest → slice_index colon 0 ≡ 58 → r ≡ drop 1 colon → BeginsWith (BeforeColon P) s r
+pub colon_leads : (P : List ℕ → Type 0) (s rest colon r : List ℕ) → BeginsWith P s rest
+    → colon ≡ after_run is_space rest → slice_index colon 0 ≡ 58 → r ≡ drop 1 colon → BeginsWith (BeforeColon P) s r
 colon_leads P s rest colon r (b, h, j) e at d =
     let w = run_split is_space rest in
     let tail : rest ≡ w.0 ++ 58 ∷ r = w.2 ∙ ap (λ x. w.0 ++ x) (sym e ∙ first_byte colon 57 at ∙ ap (λ x. 58 ∷ x) (sym d)) in
@@ -21,13 +22,15 @@ colon_leads P s rest colon r (b, h, j) e at d =
     let text : s ≡ part ++ r = j ∙ ap (λ x. b ++ x) (tail ∙ sym (append_assoc w.0 (58 ∷ []) r)) ∙ sym (append_assoc b (w.0 ++ 58 ∷ []) r) in
     (part, record { spelled = b; space = w.0; text = refl; is_spelled = h; is_space = whitespace_of w.0 w.1 }, text)
 
-pub name_taken : (s n rest colon r cs : List ℕ) → slice_index s 0 ≡ 34 → SpellsUpToQuote cs (drop 1 s) rest → n ≡ encode_utf8_all cs → colon ≡ after_run is_space rest → slice_index colon 0 ≡ 58
+pub name_taken : (s n rest colon r cs : List ℕ) → slice_index s 0 ≡ 34 → SpellsUpToQuote cs (drop 1 s) rest
+    → n ≡ encode_utf8_all cs → colon ≡ after_run is_space rest → slice_index colon 0 ≡ 58
     → r ≡ drop 1 colon → TakesName s n r
 name_taken s n rest colon r cs at h e j c d = colon_leads (λ b. IsString b n) s rest colon r (string_leads cs s n rest at h e) j c d
 
 name_split : (s r b : List ℕ) (P : List ℕ → Type 0) (h : BeforeColon P b) → s ≡ b ++ r → s ≡ h.spelled ++ (h.space ++ 58 ∷ r)
 name_split s r b P h j =
-    j ∙ ap (λ x. x ++ r) h.text ∙ append_assoc h.spelled (h.space ++ 58 ∷ []) r ∙ ap (λ x. h.spelled ++ x) (append_assoc h.space (58 ∷ []) r)
+    j ∙ ap (λ x. x ++ r) h.text ∙ append_assoc h.spelled (h.space ++ 58 ∷ []) r ∙ ap (λ x. h.spelled ++ x)
+    (append_assoc h.space (58 ∷ []) r)
 
 pub name_quote : (s n r : List ℕ) → TakesName s n r → slice_index s 0 ≡ 34
 name_quote s n r (b, h, j) =
@@ -37,7 +40,8 @@ pub name_string : (s n r : List ℕ) → TakesName s n r → ((cs u : List ℕ) 
 name_string s n r (b, h, j) never =
     never h.is_spelled.characters (h.space ++ 58 ∷ r) (string_chars h.spelled n s (h.space ++ 58 ∷ r) h.is_spelled (name_split s r b _ h j))
 
-pub name_colon : (s n r ds rest colon : List ℕ) → slice_index s 0 ≡ 34 → TakesName s n r → SpellsUpToQuote ds (drop 1 s) rest → colon ≡ after_run is_space rest → slice_index colon 0 ≢ 58 → ⊥
+pub name_colon : (s n r ds rest colon : List ℕ) → slice_index s 0 ≡ 34 → TakesName s n r
+    → SpellsUpToQuote ds (drop 1 s) rest → colon ≡ after_run is_space rest → slice_index colon 0 ≢ 58 → ⊥
 name_colon s n r ds rest colon at (b, h, j) x c away =
     let l = string_leads ds s (encode_utf8_all ds) rest at x refl in
     let same = same_string l.0 h.spelled rest (h.space ++ 58 ∷ r) _ n l.1 h.is_spelled (sym l.2 ∙ name_split s r b _ h j) in

@@ -1,6 +1,8 @@
 -- Reading a number takes exactly the numbers of the grammar. Part by part, for whole part, fraction and exponent: a
 -- lemma `X_takes` shows that the bytes read are an X of the grammar, and `X_only` that each X is read.
-use Rattle.std.proofs.Common.{◌≡◌, ◌≢◌, ℕ, zero, suc, ◌+◌, ◌-◌, ◌<◌, ◌≤◌, ◌==◌, Bool, true, false, cond, List, [], ◌∷◌, ◌++◌, length, take, drop, Some, None, refl, ap, sym, subst, ◌∙◌, inl, inr, arith, eqb-true, eq-eqb, append_assoc}
+use Rattle.std.proofs.Common.{◌≡◌, ◌≢◌, ℕ, zero, suc, ◌+◌, ◌-◌, ◌<◌, ◌≤◌, ◌==◌, Bool, true, false, cond, List, []}
+use Rattle.std.proofs.Common.{◌∷◌, ◌++◌, length, take, drop, Some, None, refl, ap, sym, subst, ◌∙◌, inl, inr, arith}
+use Rattle.std.proofs.Common.{eqb-true, eq-eqb, append_assoc}
 use Rattle.std.specs.Prelude.{◌⊎◌, slice_index, option_and_then}
 use Rattle.std.specs.List.{AllByRecursion, prefix_len}
 use Rattle.std.specs.Str.Parse.{digits_value}
@@ -12,7 +14,9 @@ use Rattle.miniserde_model.specs.Step.{Step}
 use Rattle.miniserde_model.specs.Number.{IsDigit, AreDigits, IsInt, IsMinus, IsFraction, IsSign, IsExponent, IsNumberText, leaf}
 use Rattle.miniserde_model.specs.Bytes.{is_number_byte, StopsAt}
 use Rattle.miniserde_model.proofs.Runs.{AllPass}
-use Rattle.miniserde_text.specs.private.Reading.{after_run, is_digit, is_sign, is_exponent_letter, after_digits, after_minus, after_int, after_fraction, after_sign, after_exponent, after_tail, before, event_of_parts, event_at, number_at}
+use Rattle.miniserde_text.specs.private.Reading.{after_run, is_digit, is_sign, is_exponent_letter, after_digits}
+use Rattle.miniserde_text.specs.private.Reading.{after_minus, after_int, after_fraction, after_sign, after_exponent}
+use Rattle.miniserde_text.specs.private.Reading.{after_tail, before, event_of_parts, event_at, number_at}
 use Rattle.miniserde_text.specs.private.Taking.{BeginsWith}
 use Rattle.miniserde_text.proofs.Runs.{run_split, run_only, stops_at, stops_of, or_true}
 use Rattle.std.proofs.lemmas.Option.{cond_some, same_Some}
@@ -59,7 +63,8 @@ whole_takes t r e =
 fraction_takes : (t r : List ℕ) → after_fraction t ≡ Some r → BeginsWith IsFraction t r
 fraction_takes t r e =
     elim (chosen (slice_index t 0 == 46) _ _ _ e) [
-      | inl p ↦ let d = digits_takes (drop 1 t) r p.1 in (46 ∷ d.0, inr (d.0, refl, d.1), first_byte t 45 (eqb-true _ 46 p.0) ∙ ap (λ x. 46 ∷ x) d.2)
+      | inl p ↦ let d = digits_takes (drop 1 t) r p.1 in
+          (46 ∷ d.0, inr (d.0, refl, d.1), first_byte t 45 (eqb-true _ 46 p.0) ∙ ap (λ x. 46 ∷ x) d.2)
       | inr p ↦ ([], inl refl, same_Some _ _ p.1)
     ]
 
@@ -86,8 +91,16 @@ record Signed (t r : List ℕ) : Type 0 where
 signed_cases : (t r : List ℕ) (b : Bool) → is_sign (slice_index t 0) ≡ b → after_digits (cond b (drop 1 t) t) ≡ Some r → Signed t r
 signed_cases t r true s e =
     let d = digits_takes (drop 1 t) r e in
-    record { sign = slice_index t 0 ∷ []; digits = d.0; is_sign = sign_is _ s; are_digits = d.1; text = first_of_test is_sign t refl s ∙ ap (λ x. slice_index t 0 ∷ x) d.2 }
-signed_cases t r false s e = let d = digits_takes t r e in record { sign = []; digits = d.0; is_sign = inl refl; are_digits = d.1; text = d.2 }
+    record {
+      sign = slice_index t 0 ∷ [];
+      digits = d.0;
+      is_sign = sign_is _ s;
+      are_digits = d.1;
+      text =
+          first_of_test is_sign t refl s ∙ ap (λ x. slice_index t 0 ∷ x) d.2;
+    }
+signed_cases t r false s e = let d = digits_takes t r e in
+    record { sign = []; digits = d.0; is_sign = inl refl; are_digits = d.1; text = d.2 }
 
 exponent_takes : (t r : List ℕ) → after_exponent t ≡ Some r → BeginsWith IsExponent t r
 exponent_takes t r e =
@@ -139,12 +152,34 @@ number_of t w r (int, is_int, jw) (tail, (fraction, exponent, is_fraction, is_ex
     let sign : List ℕ = sign_of m in
     let b : List ℕ = sign ++ (int ++ (fraction ++ exponent)) in
     let joined : t ≡ b ++ r =
-    minus_takes t ∙ ap (λ x. sign ++ x) (jw ∙ ap (λ x. int ++ x) (jr ∙ ap (λ x. x ++ r) jt) ∙ sym (append_assoc int (fraction ++ exponent) r)) ∙ sym (append_assoc sign (int ++ (fraction ++ exponent)) r) in
-    let n : IsNumberText b = record { minus = sign; int = int; fraction = fraction; exponent = exponent; text = refl; is_minus = minus_is m; is_int = is_int; is_fraction = is_fraction; is_exponent = is_exponent } in
+    minus_takes t ∙ ap (λ x. sign ++ x)
+    (jw ∙ ap (λ x. int ++ x) (jr ∙ ap (λ x. x ++ r) jt) ∙ sym (append_assoc int (fraction ++ exponent) r))
+    ∙ sym (append_assoc sign (int ++ (fraction ++ exponent)) r) in
+    let n : IsNumberText b =
+    record {
+      minus = sign;
+      int = int;
+      fraction = fraction;
+      exponent = exponent;
+      text = refl;
+      is_minus =
+          minus_is m;
+      is_int = is_int;
+      is_fraction = is_fraction;
+      is_exponent = is_exponent;
+    } in
     let e1 : before t r ≡ b = before_is t b r joined in
     let e2 : before (after_minus t) w ≡ int = before_is _ int w jw in
     let e3 : before w r ≡ fraction ++ exponent = before_is w _ r jr ∙ jt in
-    record { number = b; is_number = n; event = rw (e1, e2, e3) (sym (event_of_text m int fraction exponent is_int is_fraction is_exponent)); text = joined; ends = ends }
+    record {
+      number = b;
+      is_number = n;
+      event =
+          rw (e1, e2, e3) (sym (event_of_text m int fraction exponent is_int is_fraction is_exponent));
+      text =
+          joined;
+      ends = ends;
+    }
 
 pub number_takes : (t : List ℕ) (e : Step) (r : List ℕ) → number_at t ≡ Some (e, r) → Numbered t e r
 unfolding number_at
@@ -152,14 +187,18 @@ number_takes t e r h =
     let w = bind_some _ (after_int (after_minus t)) (e, r) h in
     let q = bind_some _ (after_tail w.0) (e, r) w.2 in
     let one = none_if _ _ _ q.2 in
-    subst (λ x. Numbered t x.0 x.1) (same_Some _ _ one.1) (number_of t w.0 q.0 (whole_takes (after_minus t) w.0 w.1) (tail_takes w.0 q.0 q.1) one.0)
+    subst (λ x. Numbered t x.0 x.1) (same_Some _ _ one.1)
+    (number_of t w.0 q.0 (whole_takes (after_minus t) w.0 w.1) (tail_takes w.0 q.0 q.1) one.0)
 
 pub splits_at : (t w r : List ℕ) → after_int (after_minus t) ≡ Some w → after_tail w ≡ Some r → (b : List ℕ) × (t ≡ b ++ r)
 splits_at t w r h k =
     let p = whole_takes (after_minus t) w h in
     let q = tail_takes w r k in
-    let sign : List ℕ = sign_of (slice_index t 0 == 45) in
-    (sign ++ (p.0 ++ q.0), minus_takes t ∙ ap (λ x. sign ++ x) (p.2 ∙ ap (λ x. p.0 ++ x) q.2 ∙ sym (append_assoc p.0 q.0 r)) ∙ sym (append_assoc sign (p.0 ++ q.0) r))
+    let sign : List ℕ = sign_of (slice_index t 0 == 45) in (
+      sign ++ (p.0 ++ q.0),
+      minus_takes t ∙ ap (λ x. sign ++ x)
+          (p.2 ∙ ap (λ x. p.0 ++ x) q.2 ∙ sym (append_assoc p.0 q.0 r)) ∙ sym (append_assoc sign (p.0 ++ q.0) r),
+    )
 
 pub whole_before : (t r w : List ℕ) → after_int t ≡ Some r → w ≡ before t r → AllByRecursion IsDigit w
 whole_before t r w h e =
@@ -177,7 +216,8 @@ digit_no_sign c h = grind (arith, nat_tests)
 digits_only : (d r : List ℕ) → AreDigits d → is_digit (slice_index r 0) ≡ false → after_digits (d ++ r) ≡ Some r
 digits_only [] r h stop = absurd (omega arith)
 digits_only (c ∷ cs) r h stop =
-    ap (λ b. cond b (Some (after_run is_digit (c ∷ (cs ++ r)))) None) (digit_passes c h.1.0) ∙ ap Some (run_only is_digit (c ∷ cs) r (digits_pass (c ∷ cs) h.1) (stops_at is_digit r stop))
+    ap (λ b. cond b (Some (after_run is_digit (c ∷ (cs ++ r)))) None) (digit_passes c h.1.0)
+    ∙ ap Some (run_only is_digit (c ∷ cs) r (digits_pass (c ∷ cs) h.1) (stops_at is_digit r stop))
 
 large_no_zero : (c : ℕ) → 49 ≤ c → (c == 48) ≡ false
 large_no_zero c h = grind (arith, nat_tests)
@@ -186,17 +226,21 @@ whole_only : (d r : List ℕ) → IsInt d → is_digit (slice_index r 0) ≡ fal
 whole_only [] r h stop = absurd h
 whole_only (c ∷ cs) r (inl h) stop = rw (h.0, h.1) refl
 whole_only (c ∷ cs) r (inr h) stop =
-    ap (λ b. cond b (Some (cs ++ r)) (after_digits (c ∷ (cs ++ r)))) (large_no_zero c h.0.0) ∙ digits_only (c ∷ cs) r (omega arith, ((omega arith, h.0.1), h.1)) stop
+    ap (λ b. cond b (Some (cs ++ r)) (after_digits (c ∷ (cs ++ r)))) (large_no_zero c h.0.0) ∙ digits_only (c ∷ cs)
+    r (omega arith, ((omega arith, h.0.1), h.1)) stop
 
-fraction_only : (d r : List ℕ) → IsFraction d → is_digit (slice_index r 0) ≡ false → (slice_index r 0 == 46) ≡ false → after_fraction (d ++ r) ≡ Some r
+fraction_only : (d r : List ℕ) → IsFraction d → is_digit (slice_index r 0) ≡ false → (slice_index r 0 == 46) ≡ false
+    → after_fraction (d ++ r) ≡ Some r
 fraction_only d r (inl h) stop away = rw h (ap (λ b. cond b (after_digits (drop 1 r)) (Some r)) away)
 fraction_only d r (inr h) stop away = rw (h.1) (digits_only h.0 r h.2 stop)
 
 digits_signed : (d r : List ℕ) → AreDigits d → is_digit (slice_index r 0) ≡ false → after_digits (after_sign (d ++ r)) ≡ Some r
 digits_signed [] r h stop = absurd (omega arith)
-digits_signed (c ∷ cs) r h stop = ap (λ b. after_digits (cond b (cs ++ r) (c ∷ (cs ++ r)))) (digit_no_sign c h.1.0) ∙ digits_only (c ∷ cs) r h stop
+digits_signed (c ∷ cs) r h stop = ap (λ b. after_digits (cond b (cs ++ r) (c ∷ (cs ++ r)))) (digit_no_sign c h.1.0)
+    ∙ digits_only (c ∷ cs) r h stop
 
-signed_only : (s d r : List ℕ) → IsSign s → AreDigits d → is_digit (slice_index r 0) ≡ false → after_digits (after_sign (s ++ (d ++ r))) ≡ Some r
+signed_only : (s d r : List ℕ) → IsSign s → AreDigits d → is_digit (slice_index r 0) ≡ false
+    → after_digits (after_sign (s ++ (d ++ r))) ≡ Some r
 signed_only s d r (inl h) k stop = rw h (digits_signed d r k stop)
 signed_only s d r (inr (inl h)) k stop = rw h (digits_only d r k stop)
 signed_only s d r (inr (inr h)) k stop = rw h (digits_only d r k stop)
@@ -205,7 +249,8 @@ letter_passes : (c : ℕ) → (c ≡ 101) ⊎ (c ≡ 69) → (is_exponent_letter
 letter_passes c (inl h) = rw h (refl, refl, refl)
 letter_passes c (inr h) = rw h (refl, refl, refl)
 
-exponent_only : (d r : List ℕ) → IsExponent d → is_digit (slice_index r 0) ≡ false → is_exponent_letter (slice_index r 0) ≡ false → after_exponent (d ++ r) ≡ Some r
+exponent_only : (d r : List ℕ) → IsExponent d → is_digit (slice_index r 0) ≡ false
+    → is_exponent_letter (slice_index r 0) ≡ false → after_exponent (d ++ r) ≡ Some r
 exponent_only d r (inl h) stop away = rw h (ap (λ b. cond b (after_digits (after_sign (drop 1 r))) (Some r)) away)
 exponent_only d r (inr h) stop away =
     let t : List ℕ = h.1 ++ h.2 in
@@ -214,15 +259,18 @@ exponent_only d r (inr h) stop away =
     ∙ ap (λ x. after_digits (after_sign x)) (append_assoc h.1 h.2 r) ∙ signed_only h.1 h.2 r h.5 h.6 stop)
 
 -- no digit and no point stands where an exponent may begin, and no digit where a fraction may
-before_exponent : (e r : List ℕ) → IsExponent e → is_number_byte (slice_index r 0) ≡ false → (is_digit (slice_index (e ++ r) 0) ≡ false) × ((slice_index (e ++ r) 0 == 46) ≡ false)
+before_exponent : (e r : List ℕ) → IsExponent e → is_number_byte (slice_index r 0) ≡ false
+    → (is_digit (slice_index (e ++ r) 0) ≡ false) × ((slice_index (e ++ r) 0 == 46) ≡ false)
 before_exponent e r (inl h) ends = let p = number_byte_parts _ ends in rw h (p.0, p.1)
 before_exponent e r (inr h) ends = let p = letter_passes h.0 h.4 in rw (h.3) (p.1, p.2)
 
-before_fraction : (f e r : List ℕ) → IsFraction f → IsExponent e → is_number_byte (slice_index r 0) ≡ false → is_digit (slice_index (f ++ (e ++ r)) 0) ≡ false
+before_fraction : (f e r : List ℕ) → IsFraction f → IsExponent e → is_number_byte (slice_index r 0) ≡ false
+    → is_digit (slice_index (f ++ (e ++ r)) 0) ≡ false
 before_fraction f e r (inl h) k ends = rw h (before_exponent e r k ends).0
 before_fraction f e r (inr h) k ends = rw (h.1) refl
 
-sign_only : (m : Bool) (t : List ℕ) → (slice_index t 0 == 45) ≡ false → ((slice_index (sign_of m ++ t) 0 == 45) ≡ m) × (after_minus (sign_of m ++ t) ≡ t)
+sign_only : (m : Bool) (t : List ℕ) → (slice_index t 0 == 45) ≡ false → ((slice_index (sign_of m ++ t) 0 == 45) ≡ m)
+    × (after_minus (sign_of m ++ t) ≡ t)
 sign_only true t h = (refl, refl)
 sign_only false t h = (h, ap (λ b. cond b (drop 1 t) t) h)
 
@@ -235,19 +283,33 @@ read_parts m w f e r is_int is_fraction is_exponent ends =
     let s = sign_only m rest (whole_first w _ is_int) in
     let parts = number_byte_parts (slice_index r 0) ends in
     let at_e = before_exponent e r is_exponent ends in
-    let first : after_int (after_minus t) ≡ Some (f ++ (e ++ r)) = ap after_int s.1 ∙ whole_only w _ is_int (before_fraction f e r is_fraction is_exponent ends) in
-    let last : after_tail (f ++ (e ++ r)) ≡ Some r = ap (option_and_then after_exponent) (fraction_only f (e ++ r) is_fraction at_e.0 at_e.1) ∙ exponent_only e r is_exponent parts.0 parts.2 in
+    let first : after_int (after_minus t) ≡ Some (f ++ (e ++ r)) =
+    ap after_int s.1 ∙ whole_only w _ is_int (before_fraction f e r is_fraction is_exponent ends) in
+    let last : after_tail (f ++ (e ++ r)) ≡ Some r =
+    ap (option_and_then after_exponent) (fraction_only f (e ++ r) is_fraction at_e.0 at_e.1) ∙ exponent_only e r
+    is_exponent parts.0 parts.2 in
     let text : before t r ≡ sign_of m ++ (w ++ (f ++ e)) =
-    before_is t _ r (ap (λ x. sign_of m ++ x) (ap (λ x. w ++ x) (sym (append_assoc f e r)) ∙ sym (append_assoc w (f ++ e) r)) ∙ sym (append_assoc (sign_of m) (w ++ (f ++ e)) r)) in
+    before_is t _ r (ap (λ x. sign_of m ++ x)
+    (ap (λ x. w ++ x) (sym (append_assoc f e r)) ∙ sym (append_assoc w (f ++ e) r))
+    ∙ sym (append_assoc (sign_of m) (w ++ (f ++ e)) r)) in
     let int : before (after_minus t) (f ++ (e ++ r)) ≡ w = ap (λ x. before x (f ++ (e ++ r))) s.1 ∙ before_append w _ in
     let tail : before (f ++ (e ++ r)) r ≡ f ++ e = before_is _ (f ++ e) r (sym (append_assoc f e r)) in
     let event : event_at t (f ++ (e ++ r)) r ≡ Some (event_of_parts (sign_of m ++ (w ++ (f ++ e))) m w (f ++ e), r) =
-    ap (λ b. cond b None (Some (event_of_parts (before t r) (slice_index t 0 == 45) (before (after_minus t) (f ++ (e ++ r))) (before (f ++ (e ++ r)) r), r))) ends
+    ap (λ b. cond b None (Some (
+      event_of_parts (before t r) (slice_index t 0 == 45) (before (after_minus t) (f ++ (e ++ r)))
+          (before (f ++ (e ++ r)) r),
+      r,
+    ))) ends
     ∙ ap (λ x. Some (event_of_parts x (slice_index t 0 == 45) (before (after_minus t) (f ++ (e ++ r))) (before (f ++ (e ++ r)) r), r)) text
-    ∙ ap (λ x. Some (event_of_parts (sign_of m ++ (w ++ (f ++ e))) x (before (after_minus t) (f ++ (e ++ r))) (before (f ++ (e ++ r)) r), r)) s.0
+    ∙ ap (λ x. Some (
+      event_of_parts (sign_of m ++ (w ++ (f ++ e))) x (before (after_minus t) (f ++ (e ++ r)))
+          (before (f ++ (e ++ r)) r),
+      r,
+    )) s.0
     ∙ ap (λ x. Some (event_of_parts (sign_of m ++ (w ++ (f ++ e))) m x (before (f ++ (e ++ r)) r), r)) int
     ∙ ap (λ x. Some (event_of_parts (sign_of m ++ (w ++ (f ++ e))) m w x, r)) tail in
-    ap (option_and_then (λ x. option_and_then (λ y. event_at t x y) (after_tail x))) first ∙ ap (option_and_then (λ y. event_at t (f ++ (e ++ r)) y)) last ∙ event
+    ap (option_and_then (λ x. option_and_then (λ y. event_at t x y) (after_tail x))) first
+    ∙ ap (option_and_then (λ y. event_at t (f ++ (e ++ r)) y)) last ∙ event
 
 minus_of : (x : List ℕ) → IsMinus x → (m : Bool) × (x ≡ sign_of m)
 minus_of x (inl h) = (false, h)
@@ -258,11 +320,14 @@ number_only b r n stops =
     let ends = stops_of is_number_byte refl r stops in
     let sign = minus_of n.minus n.is_minus in
     let m : Bool = sign.0 in
-    let text : b ≡ sign_of m ++ (n.int ++ (n.fraction ++ n.exponent)) = n.text ∙ ap (λ x. x ++ (n.int ++ (n.fraction ++ n.exponent))) sign.1 in
+    let text : b ≡ sign_of m ++ (n.int ++ (n.fraction ++ n.exponent)) =
+    n.text ∙ ap (λ x. x ++ (n.int ++ (n.fraction ++ n.exponent))) sign.1 in
     ap (λ x. number_at (x ++ r)) text
-    ∙ ap number_at (append_assoc (sign_of m) _ r ∙ ap (λ x. sign_of m ++ x) (append_assoc n.int _ r ∙ ap (λ x. n.int ++ x) (append_assoc n.fraction n.exponent r)))
+    ∙ ap number_at (append_assoc (sign_of m) _ r ∙ ap (λ x. sign_of m ++ x)
+    (append_assoc n.int _ r ∙ ap (λ x. n.int ++ x) (append_assoc n.fraction n.exponent r)))
     ∙ read_parts m n.int n.fraction n.exponent r n.is_int n.is_fraction n.is_exponent ends
-    ∙ ap (λ x. Some (x, r)) (event_of_text m n.int n.fraction n.exponent n.is_int n.is_fraction n.is_exponent ∙ ap (λ x. event_of (leaf x)) (sym text))
+    ∙ ap (λ x. Some (x, r)) (event_of_text m n.int n.fraction n.exponent n.is_int n.is_fraction n.is_exponent
+    ∙ ap (λ x. event_of (leaf x)) (sym text))
 
 -- ---- a number of digits alone
 
@@ -288,16 +353,22 @@ whole_of [] r h z = absurd (omega arith)
 whole_of (c ∷ []) r h z = one_digit (c == 48) c refl h.1.0
 whole_of (c ∷ d ∷ cs) r h z = whole_of_digits (c ∷ d ∷ (cs ++ r)) r (c ∷ d ∷ cs) refl (z (omega arith)) h
 
-pub short_read : (s t : List ℕ) (n v : ℕ) (e : Step) → t ≡ after_minus s → 0 < n → n ≤ prefix_len is_digit t → (1 < n → (slice_index t 0 == 48) ≡ false) → is_number_byte (slice_index t n) ≡ false
-    → v ≡ digits_value 10 (take n t) → ((text int : List ℕ) → digits_value 10 int ≡ v → event_of_parts text (slice_index s 0 == 45) int [] ≡ e) → number_at s ≡ Some (e, drop n t)
+pub short_read : (s t : List ℕ) (n v : ℕ) (e : Step) → t ≡ after_minus s → 0 < n → n ≤ prefix_len is_digit t
+    → (1 < n → (slice_index t 0 == 48) ≡ false) → is_number_byte (slice_index t n) ≡ false
+    → v ≡ digits_value 10 (take n t)
+    → ((text int : List ℕ) → digits_value 10 int ≡ v → event_of_parts text (slice_index s 0 == 45) int [] ≡ e)
+    → number_at s ≡ Some (e, drop n t)
 short_read s t n v e behind some digits away ends value event =
     let m : Bool = slice_index s 0 == 45 in
     let w : List ℕ = take n t in
     let r : List ℕ = drop n t in
     let j : w ++ r ≡ t = take-append-drop n t in
     let long : length w ≡ n = length-take-le n t (omega (arith, digits, prefix_len-le-length is_digit t)) in
-    let int : IsInt w = whole_of w r (omega (arith, long), front_digits n t digits) (λ many. ap (λ x. slice_index x 0 == 48) j ∙ away (omega (arith, long))) in
+    let int : IsInt w = whole_of w r (omega (arith, long), front_digits n t digits)
+    (λ many. ap (λ x. slice_index x 0 == 48) j ∙ away (omega (arith, long))) in
     let here : n + 0 ≡ n = omega arith in
     let stop : is_number_byte (slice_index r 0) ≡ false = ap is_number_byte (get_or-drop n t 0 0 ∙ ap (λ k. slice_index t k) here) ∙ ends in
-    let read : number_at (sign_of m ++ (w ++ r)) ≡ Some (event_of_parts (sign_of m ++ (w ++ [])) m w [], r) = read_parts m w [] [] r int (inl refl) (inl refl) stop in
-    ap number_at (minus_takes s ∙ ap (λ x. sign_of m ++ x) (sym (j ∙ behind))) ∙ read ∙ ap (λ x. Some (x, r)) (event (sign_of m ++ (w ++ [])) w (sym value))
+    let read : number_at (sign_of m ++ (w ++ r)) ≡ Some (event_of_parts (sign_of m ++ (w ++ [])) m w [], r) =
+    read_parts m w [] [] r int (inl refl) (inl refl) stop in
+    ap number_at (minus_takes s ∙ ap (λ x. sign_of m ++ x) (sym (j ∙ behind))) ∙ read ∙ ap (λ x. Some (x, r))
+    (event (sign_of m ++ (w ++ [])) w (sym value))

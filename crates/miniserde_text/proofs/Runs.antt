@@ -1,6 +1,8 @@
 -- Runs of bytes that pass a test, by recursion on the list. Whitespace is such a run, so a piece stands behind it
 -- exactly where the rest of the text begins with that piece.
-use Rattle.std.proofs.Common.{◌≡◌, ℕ, ◌+◌, ◌<◌, ◌==◌, ◌||◌, ◌⊎◌, Bool, true, false, cond, List, [], ◌∷◌, ◌++◌, length, drop, get_or, refl, ap, sym, subst, ◌∙◌, inl, inr, arith, lt_of_not-le, eqb-true}
+use Rattle.std.proofs.Common.{◌≡◌, ℕ, ◌+◌, ◌<◌, ◌==◌, ◌||◌, ◌⊎◌, Bool, true, false, cond, List, [], ◌∷◌, ◌++◌}
+use Rattle.std.proofs.Common.{length, drop, get_or, refl, ap, sym, subst, ◌∙◌, inl, inr, arith, lt_of_not-le}
+use Rattle.std.proofs.Common.{eqb-true}
 use Rattle.std.proofs.lemmas.Bool.Decides.{nat_tests}
 use Rattle.std.proofs.lemmas.List.{drop_more, get_or_past}
 use Rattle.miniserde_model.specs.Bytes.{is_space, StopsAt}
@@ -29,7 +31,8 @@ abbrev pub Splits : (ℕ → Bool) → List ℕ → List ℕ → Type 0
 Splits p s t = (w : List ℕ) × AllPass p w × (s ≡ w ++ t)
 
 module _ (p : ℕ → Bool) where
-  pub after_run_more : (s : List ℕ) (i : ℕ) → i < length s → after_run p (drop i s) ≡ cond (p (get_or s i 0)) (after_run p (drop (i + 1) s)) (drop i s)
+  pub after_run_more : (s : List ℕ) (i : ℕ) → i < length s
+      → after_run p (drop i s) ≡ cond (p (get_or s i 0)) (after_run p (drop (i + 1) s)) (drop i s)
   after_run_more s i h =
       ap (after_run p) (drop_more s i 0 h) ∙ ap (λ t. cond (p (get_or s i 0)) (after_run p (drop (i + 1) s)) t) (sym (drop_more s i 0 h))
 
@@ -61,7 +64,8 @@ module _ (p : ℕ → Bool) where
   run_only [] t h k = stops t k
   run_only (c ∷ cs) t h k = ap (λ b. cond b (after_run p (cs ++ t)) (c ∷ (cs ++ t))) h.0 ∙ run_only cs t h.1 k
 
-  run_stops_step : p 0 ≡ false → (b : Bool) (c : ℕ) (cs : List ℕ) → p c ≡ b → Stops (after_run p cs) → Stops (cond b (after_run p cs) (c ∷ cs))
+  run_stops_step : p 0 ≡ false → (b : Bool) (c : ℕ) (cs : List ℕ) → p c ≡ b → Stops (after_run p cs)
+      → Stops (cond b (after_run p cs) (c ∷ cs))
   run_stops_step z true c cs e ih = ih
   run_stops_step z false c cs e ih = e
 
@@ -95,14 +99,22 @@ stands_of P s t r e h =
     let w = run_split is_space s in
     record { space = w.0; part = h.0; text = w.2 ∙ ap (λ x. w.0 ++ x) (sym e ∙ h.2); is_space = whitespace_of w.0 w.1; is_part = h.1 }
 
-pub stands_only : (P : List ℕ → Type 0) (s t r : List ℕ) → ((b : List ℕ) → P b → StopsAt is_space (b ++ r)) → t ≡ after_run is_space s → Stands P s r → BeginsWith P t r
+pub stands_only : (P : List ℕ → Type 0) (s t r : List ℕ) → ((b : List ℕ) → P b → StopsAt is_space (b ++ r))
+    → t ≡ after_run is_space s → Stands P s r → BeginsWith P t r
 stands_only P s t r heads e h =
     (h.part, h.is_part, e ∙ ap (after_run is_space) h.text ∙ run_only_space h.space (h.part ++ r) h.is_space (heads h.part h.is_part))
 
 pub blank_of : (s t : List ℕ) → t ≡ after_run is_space s → Blank s t
 blank_of s t e =
     let w = run_split is_space s in
-    record { space = w.0; text = w.2 ∙ ap (λ x. w.0 ++ x) (sym e); white = whitespace_of w.0 w.1; stops = subst (λ x. StopsAt is_space x) (sym e) (stops_at is_space (after_run is_space s) (run_stops is_space refl s)) }
+    record {
+      space = w.0;
+      text = w.2 ∙ ap (λ x. w.0 ++ x) (sym e);
+      white = whitespace_of w.0 w.1;
+      stops =
+          subst (λ x. StopsAt is_space x) (sym e)
+          (stops_at is_space (after_run is_space s) (run_stops is_space refl s));
+    }
 
 above_space : (c : ℕ) → 32 < c → is_space c ≡ false
 above_space c h = grind (arith, nat_tests)

@@ -1,6 +1,7 @@
 -- A text is the text of a kept number exactly if reading keeps it and takes it whole. One direction is by
 -- `number_takes` (`kept_of`), the other by `number_only` (`kept_read`).
-use Rattle.std.proofs.Common.{◌≡◌, ℕ, ◌≤◌, ◌==◌, List, [], length, length-drop, drop, Some, IsTrue, ◌↔◌, false, refl, ap, sym, subst, ◌∙◌, arith, eqb-true, eq-eqb}
+use Rattle.std.proofs.Common.{◌≡◌, ℕ, ◌≤◌, ◌==◌, List, [], length, length-drop, drop, Some, IsTrue, ◌↔◌, false}
+use Rattle.std.proofs.Common.{refl, ap, sym, subst, ◌∙◌, arith, eqb-true, eq-eqb}
 use Rattle.std.proofs.lemmas.Bool.{true≢false}
 use Rattle.std.proofs.lemmas.List.{append-nil, drop_all}
 use Rattle.std.specs.Borrow.{Bor}
@@ -8,7 +9,8 @@ use Rattle.miniserde_model.specs.Tree.{num}
 use Rattle.miniserde_model.specs.Step.{float}
 use Rattle.miniserde_model.specs.Number.{IsNumber}
 use Rattle.miniserde_text.specs.declared.json.lex.Event.{Event}
-use Rattle.miniserde_text.specs.declared.json.lex.Event.TheVariants.{Null, Bool as Truth, Negative, Nonnegative, Number, Str, SeqStart, MapStart}
+use Rattle.miniserde_text.specs.declared.json.lex.Event.TheVariants.{Null, Bool as Truth, Negative, Nonnegative}
+use Rattle.miniserde_text.specs.declared.json.lex.Event.TheVariants.{Number, Str, SeqStart, MapStart}
 use Rattle.miniserde_text.specs.Lexer.{event_of_token}
 use Rattle.miniserde_text.specs.private.Reading.{number_at}
 use Rattle.std.proofs.lemmas.Option.{same_Some}
@@ -25,7 +27,8 @@ pub kept_read : (t : List ℕ) → IsNumber t (num t) → number_at t ≡ Some (
 kept_read t n = ap number_at (sym (append-nil t)) ∙ number_only t [] n.0 tt ∙ ap (λ l. Some (event_of l, [])) n.1
 
 -- what reading keeps is a kept text exactly where nothing is left
-pub kept_where : (t x : List ℕ) (i : ℕ) → number_at t ≡ Some (float x, drop i t) → i ≤ length t → IsTrue (i == length t) ↔ IsNumber t (num t)
+pub kept_where : (t x : List ℕ) (i : ℕ) → number_at t ≡ Some (float x, drop i t) → i ≤ length t
+    → IsTrue (i == length t) ↔ IsNumber t (num t)
 kept_where t x i h within = (
   λ e. kept_of t x (h ∙ ap (λ r. Some (float x, r)) (drop_all i t (omega (arith, eqb-true i (length t) e)))),
   λ n.

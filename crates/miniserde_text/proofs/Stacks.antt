@@ -1,7 +1,9 @@
 -- The words of a stack hold the kinds of the open containers, one bit for each level. Opening a container sets the
 -- bit of its level and keeps those below (`stack_opened`); the last bit is the kind of the innermost container
 -- (`stack_top`).
-use Rattle.std.proofs.Common.{◌≡◌, ℕ, zero, suc, ◌+◌, ◌*◌, ◌/◌, ◌%◌, ◌^◌, ◌<◌, ◌≤◌, ◌≢◌, inl, inr, List, [], ◌∷◌, ◌++◌, Some, is_some, true≢false, get_or, set, length, bit_and, refl, sym, ap, ◌∙◌, arith}
+use Rattle.std.proofs.Common.{◌≡◌, ℕ, zero, suc, ◌+◌, ◌*◌, ◌/◌, ◌%◌, ◌^◌, ◌<◌, ◌≤◌, ◌≢◌, inl, inr, List, [], ◌∷◌}
+use Rattle.std.proofs.Common.{◌++◌, Some, is_some, true≢false, get_or, set, length, bit_and, refl, sym, ap, ◌∙◌}
+use Rattle.std.proofs.Common.{arith}
 use Rattle.std.specs.Int.{bit_at}
 use Rattle.std.proofs.lemmas.Bool.{cases_eq}
 use Rattle.std.proofs.lemmas.List.{get_or-set_same, get_or-set_other, get_or_default}
@@ -39,40 +41,53 @@ pub stack_grown : (ws : List ℕ) (n : ℕ) → stack_of (ws ++ 0 ∷ []) n ≡ 
 stack_grown ws n = same_kinds (ws ++ 0 ∷ []) ws n (λ i l. ap (λ w. kind_by (bit_at w (i % 64))) (word_grown ws (i / 64)))
 
 -- w has the bits of the word x of level n but for that level's own: the levels below stay
-below_stays : (ws : List ℕ) (n w : ℕ) → n / 64 < length ws → ((i : ℕ) → i < 64 → i ≢ n % 64 → bit_at w i ≡ bit_at (get_or ws (n / 64) 0) i) → (i : ℕ) → i < n → kind_at (set ws (n / 64) w) i ≡ kind_at ws i
+below_stays : (ws : List ℕ) (n w : ℕ) → n / 64 < length ws
+    → ((i : ℕ) → i < 64 → i ≢ n % 64 → bit_at w i ≡ bit_at (get_or ws (n / 64) 0) i) → (i : ℕ) → i < n
+    → kind_at (set ws (n / 64) w) i ≡ kind_at ws i
 below_stays ws n w l h i b =
     elim (cases_eq (i / 64) (n / 64)) [
       | inl e ↦
           let apart : i % 64 ≢ n % 64 = λ q. omega (arith, e, q, b) in
-          ap kind_by (ap (λ z. bit_at z (i % 64)) (get_or-set_at ws (n / 64) (i / 64) w 0 e l) ∙ h (i % 64) (omega arith) apart ∙ ap (λ z. bit_at (get_or ws z 0) (i % 64)) (sym e))
+          ap kind_by (ap (λ z. bit_at z (i % 64)) (get_or-set_at ws (n / 64) (i / 64) w 0 e l)
+          ∙ h (i % 64) (omega arith) apart ∙ ap (λ z. bit_at (get_or ws z 0) (i % 64)) (sym e))
       | inr e ↦ ap (λ z. kind_by (bit_at z (i % 64))) (get_or-set_other ws (n / 64) (i / 64) w 0 e)
     ]
 
 -- level n is opened by its bit
-opened : (ws : List ℕ) (n w : ℕ) (k : Kind) → n / 64 < length ws → bit_at w (n % 64) ≡ bit_of k → ((i : ℕ) → i < 64 → i ≢ n % 64 → bit_at w i ≡ bit_at (get_or ws (n / 64) 0) i) → stack_of (set ws (n / 64) w) (suc n) ≡ k ∷ stack_of ws n
+opened : (ws : List ℕ) (n w : ℕ) (k : Kind) → n / 64 < length ws → bit_at w (n % 64) ≡ bit_of k
+    → ((i : ℕ) → i < 64 → i ≢ n % 64 → bit_at w i ≡ bit_at (get_or ws (n / 64) 0) i)
+    → stack_of (set ws (n / 64) w) (suc n) ≡ k ∷ stack_of ws n
 opened ws n w k l e h =
-    let here : kind_at (set ws (n / 64) w) n ≡ k = ap (λ z. kind_by (bit_at z (n % 64))) (get_or-set_same ws (n / 64) w 0 l) ∙ ap kind_by e ∙ kind_of_bit k in
+    let here : kind_at (set ws (n / 64) w) n ≡ k =
+    ap (λ z. kind_by (bit_at z (n % 64))) (get_or-set_same ws (n / 64) w 0 l) ∙ ap kind_by e ∙ kind_of_bit k in
     let rest : stack_of (set ws (n / 64) w) n ≡ stack_of ws n = same_kinds (set ws (n / 64) w) ws n (below_stays ws n w l h) in
     ap (λ z. z ∷ stack_of (set ws (n / 64) w) n) here ∙ ap (λ st. k ∷ st) rest
 
 -- the same by the word x that was read, over the stack st
-pub stack_opened : (ws : List ℕ) (n m x w : ℕ) (k : Kind) (st : List Kind) → m ≡ n + 1 → n / 64 < length ws → x ≡ get_or ws (n / 64) x → bit_at w (bit_and n 63) ≡ bit_of k → ((i : ℕ) → i < 64 → i ≢ bit_and n 63 → bit_at w i ≡ bit_at x i) → stack_of ws n ≡ st → stack_of (set ws (n / 64) w) m ≡ k ∷ st
+pub stack_opened : (ws : List ℕ) (n m x w : ℕ) (k : Kind) (st : List Kind) → m ≡ n + 1 → n / 64 < length ws
+    → x ≡ get_or ws (n / 64) x → bit_at w (bit_and n 63) ≡ bit_of k
+    → ((i : ℕ) → i < 64 → i ≢ bit_and n 63 → bit_at w i ≡ bit_at x i) → stack_of ws n ≡ st
+    → stack_of (set ws (n / 64) w) m ≡ k ∷ st
 stack_opened ws n m x w k st s l r e h v =
     let next : m ≡ suc n = omega (arith, s) in
     let word : x ≡ get_or ws (n / 64) 0 = r ∙ get_or_default ws (n / 64) x 0 l in
     let here : bit_at w (n % 64) ≡ bit_of k = ap (bit_at w) (sym (place n)) ∙ e in
-    ap (stack_of (set ws (n / 64) w)) next ∙ opened ws n w k l here (λ i b d. h i b (λ q. d (q ∙ place n)) ∙ ap (λ z. bit_at z i) word) ∙ ap (λ z. k ∷ z) v
+    ap (stack_of (set ws (n / 64) w)) next ∙ opened ws n w k l here
+    (λ i b d. h i b (λ q. d (q ∙ place n)) ∙ ap (λ z. bit_at z i) word) ∙ ap (λ z. k ∷ z) v
 
 top_at : (ws : List ℕ) (n m : ℕ) → m + 1 ≡ n → innermost (stack_of ws n) ≡ Some (kind_at ws m)
 top_at ws zero m e = absurd (omega arith)
 top_at ws (suc n) m e = let same : n ≡ m = omega arith in ap (λ z. Some (kind_at ws z)) same
 
 -- the innermost kind is that of the last level's bit in its word x
-pub stack_top : (ws : List ℕ) (n m x : ℕ) (st : List Kind) → m + 1 ≡ n → n ≤ 64 * length ws → x ≡ get_or ws (m / 64) x → stack_of ws n ≡ st → Some (kind_by (bit_and (x / 2 ^ bit_and m 63) 1)) ≡ innermost st
+pub stack_top : (ws : List ℕ) (n m x : ℕ) (st : List Kind) → m + 1 ≡ n → n ≤ 64 * length ws
+    → x ≡ get_or ws (m / 64) x → stack_of ws n ≡ st → Some (kind_by (bit_and (x / 2 ^ bit_and m 63) 1))
+    ≡ innermost st
 stack_top ws n m x st e f r v =
     let l : m / 64 < length ws = omega (arith, e, f) in
     let word : x ≡ get_or ws (m / 64) 0 = r ∙ get_or_default ws (m / 64) x 0 l in
-    let bit : bit_and (x / 2 ^ bit_and m 63) 1 ≡ bit_at (get_or ws (m / 64) 0) (m % 64) = shr_and_one x (bit_and m 63) ∙ ap (bit_at x) (place m) ∙ ap (λ z. bit_at z (m % 64)) word in
+    let bit : bit_and (x / 2 ^ bit_and m 63) 1 ≡ bit_at (get_or ws (m / 64) 0) (m % 64) =
+    shr_and_one x (bit_and m 63) ∙ ap (bit_at x) (place m) ∙ ap (λ z. bit_at z (m % 64)) word in
     ap (λ z. Some (kind_by z)) bit ∙ sym (top_at ws n m e) ∙ ap innermost v
 
 -- a bit that isn't 1

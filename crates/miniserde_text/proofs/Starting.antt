@@ -1,6 +1,7 @@
 -- A text begins with at most one first event of a value, and the text behind it is shorter. The first byte determines
 -- the class of the event (`same_class`), and within a class both events and both rests are equal (`same_piece`).
-use Rattle.std.proofs.Common.{◌≡◌, ℕ, ◌<◌, false, Option, Some, None, is_some, List, [], ◌∷◌, ◌++◌, length, codes, refl, sym, ap, ◌∙◌, append_assoc, arith, length-append}
+use Rattle.std.proofs.Common.{◌≡◌, ℕ, ◌<◌, false, Option, Some, None, is_some, List, [], ◌∷◌, ◌++◌, length, codes}
+use Rattle.std.proofs.Common.{refl, sym, ap, ◌∙◌, append_assoc, arith, length-append}
 use Rattle.miniserde_model.specs.Tree.{Tree, null, truth, nonneg, neg, num, str}
 use Rattle.miniserde_model.specs.Whitespace.{IsWhitespace}
 use Rattle.miniserde_model.specs.Step.{Step, boolean, string, negative, nonnegative, float, seq, element, map, key, finish}
@@ -65,7 +66,13 @@ piece_no_space e b r p = head_no_space b r (class e) (class_below e b p) (piece_
 pub name_head : (n b : List ℕ) → IsName n b → Head b 4
 name_head n b p =
     let h = string_head p.spelled n p.is_spelled in
-    record { byte = h.byte; rest = h.rest ++ (p.space ++ 58 ∷ []); is = p.text ∙ ap (λ z. z ++ (p.space ++ 58 ∷ [])) h.is; of_kind = h.of_kind }
+    record {
+      byte = h.byte;
+      rest = h.rest ++ (p.space ++ 58 ∷ []);
+      is =
+          p.text ∙ ap (λ z. z ++ (p.space ++ 58 ∷ [])) h.is;
+      of_kind = h.of_kind;
+    }
 
 pub name_no_space : (n b r : List ℕ) → IsName n b → StopsAt is_space (b ++ r)
 name_no_space n b r p = head_no_space b r 4 (omega arith) (name_head n b p)
@@ -80,15 +87,31 @@ pub record First (s : List ℕ) (c : ℕ) : Type 0 where
 
 pub same_first : (s : List ℕ) (c d : ℕ) → First s c → First s d → c ≡ d
 same_first s c d p q =
-    let one = same_run is_space p.space q.space (c ∷ p.more) (d ∷ q.more) (whitespace_passes p.space p.is_whitespace) (whitespace_passes q.space q.is_whitespace) p.no_space q.no_space (sym p.text ∙ q.text) in
+    let one = same_run is_space p.space q.space (c ∷ p.more) (d ∷ q.more)
+    (whitespace_passes p.space p.is_whitespace) (whitespace_passes q.space q.is_whitespace) p.no_space
+    q.no_space (sym p.text ∙ q.text) in
     let two : ◌≡◌ {A = List ℕ} (c ∷ p.more) (d ∷ q.more) = one.1 in
     cc
 
 pub first_byte : (c : ℕ) (s r : List ℕ) → is_space c ≡ false → Stands (IsByte c) s r → First s c
-first_byte c s r h p = record { space = p.space; more = r; text = p.text ∙ ap (λ z. p.space ++ (z ++ r)) p.is_part; is_whitespace = p.is_space; no_space = h }
+first_byte c s r h p = record {
+  space = p.space;
+  more = r;
+  text = p.text ∙ ap (λ z. p.space ++ (z ++ r)) p.is_part;
+  is_whitespace =
+      p.is_space;
+  no_space = h;
+}
 
 pub begins_first : (s r : List ℕ) → Stands (λ b. b ≡ []) s r → (b : Begins r) → First s b.byte
-begins_first s r p b = record { space = p.space; more = b.more; text = p.text ∙ ap (λ z. p.space ++ (z ++ r)) p.is_part ∙ ap (λ z. p.space ++ z) b.text; is_whitespace = p.is_space; no_space = b.no_space }
+begins_first s r p b = record {
+  space = p.space;
+  more = b.more;
+  text = p.text ∙ ap (λ z. p.space ++ (z ++ r)) p.is_part
+      ∙ ap (λ z. p.space ++ z) b.text;
+  is_whitespace = p.is_space;
+  no_space = b.no_space;
+}
 
 -- ---- one front
 
@@ -110,15 +133,24 @@ same_piece : (e f : Step) (a b x y : List ℕ) → Piece e a → Piece f b → E
 same_piece step.null step.null a b x y p q sx sy h = (refl, same_word (codes "null") a b x y p q h)
 same_piece (boolean v) (boolean w) a b x y p q sx sy h = let both = same_truth v w a b x y p q h in (ap boolean both.0, both.1)
 same_piece (string s) (string r) a b x y p q sx sy h = let both = same_string a b x y s r p q h in (ap string both.0, both.1)
-same_piece (negative n) (negative m) a b x y p q sx sy h = let both = same_number a b x y (neg n) (neg m) p q sx sy h in (ap leaf_event both.0, both.1)
-same_piece (negative n) (nonnegative m) a b x y p q sx sy h = let both = same_number a b x y (neg n) (nonneg m) p q sx sy h in (ap leaf_event both.0, both.1)
-same_piece (negative n) (float m) a b x y p q sx sy h = let both = same_number a b x y (neg n) (num m) p q sx sy h in (ap leaf_event both.0, both.1)
-same_piece (nonnegative n) (negative m) a b x y p q sx sy h = let both = same_number a b x y (nonneg n) (neg m) p q sx sy h in (ap leaf_event both.0, both.1)
-same_piece (nonnegative n) (nonnegative m) a b x y p q sx sy h = let both = same_number a b x y (nonneg n) (nonneg m) p q sx sy h in (ap leaf_event both.0, both.1)
-same_piece (nonnegative n) (float m) a b x y p q sx sy h = let both = same_number a b x y (nonneg n) (num m) p q sx sy h in (ap leaf_event both.0, both.1)
-same_piece (float n) (negative m) a b x y p q sx sy h = let both = same_number a b x y (num n) (neg m) p q sx sy h in (ap leaf_event both.0, both.1)
-same_piece (float n) (nonnegative m) a b x y p q sx sy h = let both = same_number a b x y (num n) (nonneg m) p q sx sy h in (ap leaf_event both.0, both.1)
-same_piece (float n) (float m) a b x y p q sx sy h = let both = same_number a b x y (num n) (num m) p q sx sy h in (ap leaf_event both.0, both.1)
+same_piece (negative n) (negative m) a b x y p q sx sy h = let both =
+    same_number a b x y (neg n) (neg m) p q sx sy h in (ap leaf_event both.0, both.1)
+same_piece (negative n) (nonnegative m) a b x y p q sx sy h = let both =
+    same_number a b x y (neg n) (nonneg m) p q sx sy h in (ap leaf_event both.0, both.1)
+same_piece (negative n) (float m) a b x y p q sx sy h = let both =
+    same_number a b x y (neg n) (num m) p q sx sy h in (ap leaf_event both.0, both.1)
+same_piece (nonnegative n) (negative m) a b x y p q sx sy h = let both =
+    same_number a b x y (nonneg n) (neg m) p q sx sy h in (ap leaf_event both.0, both.1)
+same_piece (nonnegative n) (nonnegative m) a b x y p q sx sy h = let both =
+    same_number a b x y (nonneg n) (nonneg m) p q sx sy h in (ap leaf_event both.0, both.1)
+same_piece (nonnegative n) (float m) a b x y p q sx sy h = let both =
+    same_number a b x y (nonneg n) (num m) p q sx sy h in (ap leaf_event both.0, both.1)
+same_piece (float n) (negative m) a b x y p q sx sy h = let both =
+    same_number a b x y (num n) (neg m) p q sx sy h in (ap leaf_event both.0, both.1)
+same_piece (float n) (nonnegative m) a b x y p q sx sy h = let both =
+    same_number a b x y (num n) (nonneg m) p q sx sy h in (ap leaf_event both.0, both.1)
+same_piece (float n) (float m) a b x y p q sx sy h = let both = same_number a b x y (num n) (num m) p q sx sy h in
+    (ap leaf_event both.0, both.1)
 same_piece seq seq a b x y p q sx sy h = (refl, same_word (91 ∷ []) a b x y p q h)
 same_piece map map a b x y p q sx sy h = (refl, same_word (123 ∷ []) a b x y p q h)
 same_piece element f a b x y p q sx sy h = absurd p
@@ -129,12 +161,18 @@ same_piece e f a b x y p q sx sy h = let k : class e ≡ class f = same_class e 
 pub same_start : (s : List ℕ) (e f : Step) (r x : List ℕ) → Starts s e r → Starts s f x → (e ≡ f) × (r ≡ x)
 same_start s e f r x p q =
     let a = p.0 in let b = q.0 in
-    let one = same_run is_space a.space b.space (a.part ++ r) (b.part ++ x) (whitespace_passes a.space a.is_space) (whitespace_passes b.space b.is_space) (piece_no_space e a.part r a.is_part) (piece_no_space f b.part x b.is_part) (sym a.text ∙ b.text) in
+    let one = same_run is_space a.space b.space (a.part ++ r) (b.part ++ x) (whitespace_passes a.space a.is_space)
+    (whitespace_passes b.space b.is_space) (piece_no_space e a.part r a.is_part)
+    (piece_no_space f b.part x b.is_part) (sym a.text ∙ b.text) in
     same_piece e f a.part b.part r x a.is_part b.is_part p.1 q.1 one.1
 
-pub same_byte : (c d : ℕ) (s r x : List ℕ) → is_space c ≡ false → is_space d ≡ false → Stands (IsByte c) s r → Stands (IsByte d) s x → (c ≡ d) × (r ≡ x)
+pub same_byte : (c d : ℕ) (s r x : List ℕ) → is_space c ≡ false → is_space d ≡ false → Stands (IsByte c) s r
+    → Stands (IsByte d) s x → (c ≡ d) × (r ≡ x)
 same_byte c d s r x hc hd p q =
-    let one = same_run is_space p.space q.space (c ∷ r) (d ∷ x) (whitespace_passes p.space p.is_space) (whitespace_passes q.space q.is_space) hc hd (ap (λ z. p.space ++ (z ++ r)) (sym p.is_part) ∙ sym p.text ∙ q.text ∙ ap (λ z. q.space ++ (z ++ x)) q.is_part) in
+    let one = same_run is_space p.space q.space (c ∷ r) (d ∷ x) (whitespace_passes p.space p.is_space)
+    (whitespace_passes q.space q.is_space) hc hd
+    (ap (λ z. p.space ++ (z ++ r)) (sym p.is_part) ∙ sym p.text ∙ q.text ∙ ap (λ z. q.space ++ (z ++ x))
+    q.is_part) in
     let two : ◌≡◌ {A = List ℕ} (c ∷ r) (d ∷ x) = one.1 in
     (cc, cc)
 
@@ -143,10 +181,15 @@ colon a w r = simp append_assoc
 
 pub same_name : (s n m r x : List ℕ) → Names s n r → Names s m x → (n ≡ m) × (r ≡ x)
 same_name s n m r x p q =
-    let one = same_run is_space p.space q.space (p.part ++ r) (q.part ++ x) (whitespace_passes p.space p.is_space) (whitespace_passes q.space q.is_space) (name_no_space n p.part r p.is_part) (name_no_space m q.part x q.is_part) (sym p.text ∙ q.text) in
+    let one = same_run is_space p.space q.space (p.part ++ r) (q.part ++ x) (whitespace_passes p.space p.is_space)
+    (whitespace_passes q.space q.is_space) (name_no_space n p.part r p.is_part)
+    (name_no_space m q.part x q.is_part) (sym p.text ∙ q.text) in
     let a = p.is_part in let b = q.is_part in
-    let two = same_string a.spelled b.spelled (a.space ++ 58 ∷ r) (b.space ++ 58 ∷ x) n m a.is_spelled b.is_spelled (sym (ap (λ z. z ++ r) a.text ∙ colon a.spelled a.space r) ∙ one.1 ∙ ap (λ z. z ++ x) b.text ∙ colon b.spelled b.space x) in
-    let three = same_run is_space a.space b.space (58 ∷ r) (58 ∷ x) (whitespace_passes a.space a.is_space) (whitespace_passes b.space b.is_space) refl refl two.1 in
+    let two = same_string a.spelled b.spelled (a.space ++ 58 ∷ r) (b.space ++ 58 ∷ x) n m a.is_spelled b.is_spelled
+    (sym (ap (λ z. z ++ r) a.text ∙ colon a.spelled a.space r) ∙ one.1 ∙ ap (λ z. z ++ x) b.text
+    ∙ colon b.spelled b.space x) in
+    let three = same_run is_space a.space b.space (58 ∷ r) (58 ∷ x) (whitespace_passes a.space a.is_space)
+    (whitespace_passes b.space b.is_space) refl refl two.1 in
     let four : ◌≡◌ {A = List ℕ} (58 ∷ r) (58 ∷ x) = three.1 in
     (two.0, cc)
 
@@ -156,9 +199,22 @@ pub stands : {P K : List ℕ → Type 0} (b : List ℕ) (p : StandsThen P K b) �
 stands b p = record { space = p.space; part = p.part; text = p.text; is_space = p.is_space; is_part = p.is_part }
 
 pub front : {P K : List ℕ → Type 0} (space part r : List ℕ) → IsWhitespace space → P part → K r → StandsThen P K ((space ++ part) ++ r)
-front space part r w p k = record { space = space; part = part; rest = r; text = append_assoc space part r; is_space = w; is_part = p; is_rest = k }
+front space part r w p k =
+    record {
+      space = space;
+      part = part;
+      rest = r;
+      text = append_assoc space part r;
+      is_space = w;
+      is_part =
+          p;
+      is_rest = k;
+    }
 
-pub starts_on : (e : Step) (st : List Kind) (space part : List ℕ) → IsWhitespace space → Piece e part → (rest : List Step) (r : List ℕ) → Spells (before_child (is_some (opened_kind e))) rest (with_opened (opened_kind e) st) r → Spells due (e ∷ rest) st ((space ++ part) ++ r)
+pub starts_on : (e : Step) (st : List Kind) (space part : List ℕ) → IsWhitespace space → Piece e part
+    → (rest : List Step) (r : List ℕ)
+    → Spells (before_child (is_some (opened_kind e))) rest (with_opened (opened_kind e) st) r
+    → Spells due (e ∷ rest) st ((space ++ part) ++ r)
 starts_on step.null st space part w p rest r k = front space part r w p k
 starts_on (boolean x) st space part w p rest r k = front space part r w p k
 starts_on (string x) st space part w p rest r k = front space part r w p k
@@ -175,7 +231,8 @@ pub live_at : (o : Option Kind) (st : List Kind) → MomentFits (before_child (i
 live_at None st = tt
 live_at (Some k) st = tt
 
-pub passes_start : (st : List Kind) (s : List ℕ) (e : Step) (r : List ℕ) → Starts s e r → Passes due st s (e ∷ []) (before_child (is_some (opened_kind e))) (with_opened (opened_kind e) st) r
+pub passes_start : (st : List Kind) (s : List ℕ) (e : Step) (r : List ℕ) → Starts s e r
+    → Passes due st s (e ∷ []) (before_child (is_some (opened_kind e))) (with_opened (opened_kind e) st) r
 passes_start st s e r p = record {
   taken = p.0.space ++ p.0.part;
   text = p.0.text ∙ sym (append_assoc p.0.space p.0.part r);
@@ -183,7 +240,8 @@ passes_start st s e r p = record {
 }
 
 head_length : (b r : List ℕ) (k : ℕ) → Head b k → length r < length (b ++ r)
-head_length b r k h = let l : length (b ++ r) ≡ length ((h.byte ∷ h.rest) ++ r) = ap (λ z. length (z ++ r)) h.is in omega (arith, l, length-append h.rest r)
+head_length b r k h = let l : length (b ++ r) ≡ length ((h.byte ∷ h.rest) ++ r) = ap (λ z. length (z ++ r)) h.is in
+    omega (arith, l, length-append h.rest r)
 
 pub start_less : (s : List ℕ) (e : Step) (r : List ℕ) → Starts s e r → length r < length s
 start_less s e r p =

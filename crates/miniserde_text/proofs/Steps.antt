@@ -1,7 +1,9 @@
 -- `punctuation_at` takes exactly the closing bracket or the step to the next child that the grammar allows. By cases on the
 -- kind and on whether the container was just opened: each step taken is one of the grammar (`follows`), and each one
 -- of the grammar is taken (`follows_refused`).
-use Rattle.std.proofs.Common.{◌≡◌, ℕ, ◌≤◌, ◌==◌, Bool, true, false, cond, not, List, [], ◌∷◌, ◌++◌, length, length-drop, drop, Option, Some, None, refl, ap, sym, subst, ◌∙◌, inl, inr, arith, eqb-true, append-nil}
+use Rattle.std.proofs.Common.{◌≡◌, ℕ, ◌≤◌, ◌==◌, Bool, true, false, cond, not, List, [], ◌∷◌, ◌++◌, length}
+use Rattle.std.proofs.Common.{length-drop, drop, Option, Some, None, refl, ap, sym, subst, ◌∙◌, inl, inr, arith}
+use Rattle.std.proofs.Common.{eqb-true, append-nil}
 use Rattle.std.specs.Prelude.{slice_index, is_some}
 use Rattle.std.proofs.lemmas.Bool.{true≢false}
 use Rattle.std.proofs.lemmas.List.{drop_all}
@@ -31,22 +33,36 @@ begins_is : (t : List ℕ) → Stops is_space t → begins_child t ≡ true → 
 begins_is [] s h = absurd (true≢false (sym h))
 begins_is (c ∷ cs) s h =
     let away = not_true (is_closing c) h in
-    record { byte = c; more = cs; text = refl; no_space = s; no_list_end = λ e. true≢false (sym (ap is_closing e) ∙ away); no_members_end = λ e. true≢false (sym (ap is_closing e) ∙ away) }
+    record {
+      byte = c;
+      more = cs;
+      text = refl;
+      no_space = s;
+      no_list_end =
+          λ e. true≢false (sym (ap is_closing e) ∙ away);
+      no_members_end =
+          λ e. true≢false (sym (ap is_closing e) ∙ away);
+    }
 
 closing_first : (k : Kind) (t : List ℕ) → slice_index t 0 ≡ closing k → t ≡ closing k ∷ drop 1 t
 closing_first Map t e = first_byte t 124 e
 closing_first Seq t e = first_byte t 92 e
 
 other : (k : Kind) (first : Bool) (t : List ℕ) (a : Bool) (r : List ℕ) → Stops is_space t
-    → cond {A = Option (Bool × List ℕ)} first (cond (begins_child t) (Some (false, t)) None) (cond (slice_index t 0 == 44) (Some (false, drop 1 t)) None) ≡ Some (a, r) → Goes k first a t r
-other k true t a r s e = let q = cond_some (begins_child t) (false, t) (a, r) e in subst (λ x. Goes k true x.0 t x.1) q.1 (([], refl, refl), begins_is t s q.0)
+    → cond {A = Option (Bool × List ℕ)} first (cond (begins_child t) (Some (false, t)) None)
+    (cond (slice_index t 0 == 44) (Some (false, drop 1 t)) None) ≡ Some (a, r) → Goes k first a t r
+other k true t a r s e = let q = cond_some (begins_child t) (false, t) (a, r) e in
+    subst (λ x. Goes k true x.0 t x.1) q.1 (([], refl, refl), begins_is t s q.0)
 other k false t a r s e =
-    let q = cond_some (slice_index t 0 == 44) (false, drop 1 t) (a, r) e in subst (λ x. Goes k false x.0 t x.1) q.1 (44 ∷ [], refl, first_byte t 43 (eqb-true _ 44 q.0))
+    let q = cond_some (slice_index t 0 == 44) (false, drop 1 t) (a, r) e in
+    subst (λ x. Goes k false x.0 t x.1) q.1 (44 ∷ [], refl, first_byte t 43 (eqb-true _ 44 q.0))
 
-step_goes : (k : Kind) (first : Bool) (t : List ℕ) (a : Bool) (r : List ℕ) → Stops is_space t → punctuation_at k first t ≡ Some (a, r) → Goes k first a t r
+step_goes : (k : Kind) (first : Bool) (t : List ℕ) (a : Bool) (r : List ℕ) → Stops is_space t
+    → punctuation_at k first t ≡ Some (a, r) → Goes k first a t r
 unfolding punctuation_at
 step_goes k first t a r s e = elim (chosen (slice_index t 0 == closing k) _ _ _ e) [
-  | inl p ↦ let q = same_Some _ _ p.1 in subst (λ x. Goes k first x.0 t x.1) q (closing k ∷ [], refl, closing_first k t (eqb-true _ (closing k) p.0))
+  | inl p ↦ let q = same_Some _ _ p.1 in
+      subst (λ x. Goes k first x.0 t x.1) q (closing k ∷ [], refl, closing_first k t (eqb-true _ (closing k) p.0))
   | inr p ↦ other k first t a r s p.1
 ]
 
@@ -55,7 +71,8 @@ stands_step k first true s t r e h = stands_of (IsByte (closing k)) s t r e h
 stands_step k true false s t r e h = (stands_of (λ b. b ≡ []) s t r e h.0, h.1)
 stands_step k false false s t r e h = stands_of (IsByte 44) s t r e h
 
-pub follows : (k : Kind) (first : Bool) (s t : List ℕ) (a : Bool) (r : List ℕ) → t ≡ after_run is_space s → punctuation_at k first t ≡ Some (a, r) → Follows k first a s r
+pub follows : (k : Kind) (first : Bool) (s t : List ℕ) (a : Bool) (r : List ℕ) → t ≡ after_run is_space s
+    → punctuation_at k first t ≡ Some (a, r) → Follows k first a s r
 follows k first s t a r e h =
     stands_step k first a s t r e (step_goes k first t a r (ap (λ x. is_space (slice_index x 0)) e ∙ run_stops is_space refl s) h)
 
@@ -87,14 +104,16 @@ first_step k t r b h e g =
     let c : ℕ = g.byte in
     let cs : List ℕ = g.more in
     rw (e, h, g.text) (
-    ap (λ v. cond v (Some (true, cs)) (cond (not (is_closing c)) (Some (false, c ∷ cs)) None)) away.1 ∙ ap (λ v. cond (not v) (Some (false, c ∷ cs)) None) away.0)
+    ap (λ v. cond v (Some (true, cs)) (cond (not (is_closing c)) (Some (false, c ∷ cs)) None)) away.1
+    ∙ ap (λ v. cond (not v) (Some (false, c ∷ cs)) None) away.0)
 
 comma_step : (k : Kind) (t r b : List ℕ) → IsByte 44 b → t ≡ b ++ r → punctuation_at k false t ≡ Some (false, r)
 unfolding punctuation_at
 comma_step Seq t r b h e = rw (e, h) refl
 comma_step Map t r b h e = rw (e, h) refl
 
-follows_only : (k : Kind) (first : Bool) (s t : List ℕ) (a : Bool) (r : List ℕ) → t ≡ after_run is_space s → Follows k first a s r → punctuation_at k first t ≡ Some (a, r)
+follows_only : (k : Kind) (first : Bool) (s t : List ℕ) (a : Bool) (r : List ℕ) → t ≡ after_run is_space s
+    → Follows k first a s r → punctuation_at k first t ≡ Some (a, r)
 follows_only k first s t true r e h =
     let l = stands_only (IsByte (closing k)) s t r (byte_first (closing k) (closing_no_space k) r) e h in
     close_step k first t r l.0 l.1 l.2
@@ -105,7 +124,8 @@ follows_only k false s t false r e h =
     let l = stands_only (IsByte 44) s t r (byte_first 44 refl r) e h in
     comma_step k t r l.0 l.1 l.2
 
-pub follows_refused : (k : Kind) (first : Bool) (s t : List ℕ) → t ≡ after_run is_space s → punctuation_at k first t ≡ None → (a : Bool) (r : List ℕ) → Follows k first a s r → ⊥
+pub follows_refused : (k : Kind) (first : Bool) (s t : List ℕ) → t ≡ after_run is_space s
+    → punctuation_at k first t ≡ None → (a : Bool) (r : List ℕ) → Follows k first a s r → ⊥
 follows_refused k first s t e none a r h = true≢false (sym (ap is_some (follows_only k first s t a r e h)) ∙ ap is_some none)
 
 -- ---- the end

@@ -1,7 +1,9 @@
 -- Decoding a string takes exactly the characters that the grammar gives it. A run or an escape passes over some
 -- characters and no others (`PassesCharacters`), which composes (`passes_then`); if no piece can begin, there is no string
 -- (`no_chars`, `no_escape`).
-use Rattle.std.proofs.Common.{◌≡◌, ◌≢◌, ℕ, ◌<◌, ◌≤◌, ◌==◌, nat_lt, Bool, true, false, List, [], ◌∷◌, ◌++◌, length, take, drop, Some, None, refl, ap, sym, subst, ◌∙◌, inl, inr, arith, lt_of_not-le, append_assoc, ltb-true}
+use Rattle.std.proofs.Common.{◌≡◌, ◌≢◌, ℕ, ◌<◌, ◌≤◌, ◌==◌, nat_lt, Bool, true, false, List, [], ◌∷◌, ◌++◌, length}
+use Rattle.std.proofs.Common.{take, drop, Some, None, refl, ap, sym, subst, ◌∙◌, inl, inr, arith, lt_of_not-le}
+use Rattle.std.proofs.Common.{append_assoc, ltb-true}
 use Rattle.std.specs.Prelude.{◌⊎◌, slice_index}
 use Rattle.std.specs.List.{AllByRecursion}
 use Rattle.std.specs.Char.{IsScalar, encode_utf8}
@@ -9,7 +11,8 @@ use Rattle.std.specs.Str.{encode_utf8_all, IsUtf8}
 use Rattle.std.proofs.lemmas.Bool.Decides.{nat_tests}
 use Rattle.std.proofs.lemmas.Bool.{true≢false}
 use Rattle.std.proofs.lemmas.List.{append-nil, length-append, take-append-le, take_all}
-use Rattle.std.proofs.lemmas.Str.{encode_ascii, inside_one, length-encode, len_utf8_bounds, IsUtf8-take, IsCharBoundary-at_seam, encodes-append}
+use Rattle.std.proofs.lemmas.Str.{encode_ascii, inside_one, length-encode, len_utf8_bounds, IsUtf8-take}
+use Rattle.std.proofs.lemmas.Str.{IsCharBoundary-at_seam, encodes-append}
 use lib.Utf8.{scalars, scalar}
 use borrow.Author.Tests.{ltb-false}
 use Rattle.miniserde_model.specs.Bytes.{is_special}
@@ -36,16 +39,21 @@ raw_unescaped c low quote slash = grind (arith, nat_tests)
 
 high_first : (c : ℕ) (t : List ℕ) → 128 ≤ c → 127 < slice_index (encode_utf8 c ++ t) 0
 high_first c t h =
-    lt_of_not-le (λ low. let same = inside_one c t (encode_utf8 c ++ t) 0 refl (omega (arith, length-encode c, len_utf8_bounds c)) (omega arith) in omega (arith, same))
+    lt_of_not-le (λ low. let same =
+    inside_one c t (encode_utf8 c ++ t) 0 refl (omega (arith, length-encode c, len_utf8_bounds c))
+    (omega arith) in omega (arith, same))
 
-raw_case : (c : ℕ) (t : List ℕ) → is_unescaped c ≡ true → (b : Bool) → nat_lt c 128 ≡ b → is_unescaped (slice_index (encode_utf8 c ++ t) 0) ≡ true
+raw_case : (c : ℕ) (t : List ℕ) → is_unescaped c ≡ true → (b : Bool) → nat_lt c 128 ≡ b
+    → is_unescaped (slice_index (encode_utf8 c ++ t) 0) ≡ true
 raw_case c t n true e = ap (λ x. is_unescaped (slice_index (x ++ t) 0)) (encode_ascii c (ltb-true c 128 e)) ∙ n
 raw_case c t n false e = high_unescaped _ (high_first c t (ltb-false c 128 e))
 
 raw_first : (p : List ℕ) (c : ℕ) (t : List ℕ) → IsRaw p c → is_unescaped (slice_index (p ++ t) 0) ≡ true
-raw_first p c t h = ap (λ x. is_unescaped (slice_index (x ++ t) 0)) h.text ∙ raw_case c t (raw_unescaped c h.printable h.not_quote h.not_backslash) (nat_lt c 128) refl
+raw_first p c t h = ap (λ x. is_unescaped (slice_index (x ++ t) 0)) h.text
+    ∙ raw_case c t (raw_unescaped c h.printable h.not_quote h.not_backslash) (nat_lt c 128) refl
 
-piece_first : (p : List ℕ) (c : ℕ) (t : List ℕ) → IsPiece p c → (slice_index (p ++ t) 0 ≡ 92) ⊎ (is_unescaped (slice_index (p ++ t) 0) ≡ true)
+piece_first : (p : List ℕ) (c : ℕ) (t : List ℕ) → IsPiece p c → (slice_index (p ++ t) 0 ≡ 92)
+    ⊎ (is_unescaped (slice_index (p ++ t) 0) ≡ true)
 piece_first p c t h = elim (piece_cases p c h) [
   | inl r ↦ inr (raw_first p c t r)
   | inr q ↦ inl (ap (λ x. slice_index (x ++ t) 0) q.1)
@@ -65,10 +73,13 @@ passes_then ds es t u v h k = record {
       (b.0, a.1 ∙ ap (λ l. ds ++ l) b.1 ∙ sym (append_assoc ds es b.0), b.2);
 }
 
-back_of : (p : List ℕ) (c : ℕ) (t u : List ℕ) → IsPiece p c → t ≡ p ++ u → (cs r : List ℕ) → SpellsUpToQuote cs t r → (es : List ℕ) × (cs ≡ (c ∷ []) ++ es) × SpellsUpToQuote es u r
+back_of : (p : List ℕ) (c : ℕ) (t u : List ℕ) → IsPiece p c → t ≡ p ++ u → (cs r : List ℕ) → SpellsUpToQuote cs t r
+    → (es : List ℕ) × (cs ≡ (c ∷ []) ++ es) × SpellsUpToQuote es u r
 back_of p c t u h e [] r x = elim (piece_first p c u h) [
-  | inl s ↦ let f : 34 ≡ 92 = sym (ap (λ l. slice_index l 0) x) ∙ ap (λ l. slice_index l 0) e ∙ s in absurd (true≢false (ap (λ n. n == 34) f))
-  | inr s ↦ let f : is_unescaped 34 ≡ true = sym (ap (λ l. is_unescaped (slice_index l 0)) x) ∙ ap (λ l. is_unescaped (slice_index l 0)) e ∙ s in absurd (true≢false (sym f))
+  | inl s ↦ let f : 34 ≡ 92 = sym (ap (λ l. slice_index l 0) x) ∙ ap (λ l. slice_index l 0) e ∙ s in
+      absurd (true≢false (ap (λ n. n == 34) f))
+  | inr s ↦ let f : is_unescaped 34 ≡ true = sym (ap (λ l. is_unescaped (slice_index l 0)) x)
+      ∙ ap (λ l. is_unescaped (slice_index l 0)) e ∙ s in absurd (true≢false (sym f))
 ]
 back_of p c t u h e (d ∷ cs) r (q, v, k, f, x) =
     let same = same_piece p q u v c d h k (sym e ∙ f) in
@@ -104,19 +115,27 @@ raw_piece c s h = raw (record {
 })
 
 -- a run of bytes that stand for themselves
-raws_pass : (ds u : List ℕ) → scalars ds ≡ true → AllPass is_unescaped (encode_utf8_all ds) → PassesCharacters ds (encode_utf8_all ds ++ u) u
+raws_pass : (ds u : List ℕ) → scalars ds ≡ true → AllPass is_unescaped (encode_utf8_all ds)
+    → PassesCharacters ds (encode_utf8_all ds ++ u) u
 raws_pass [] u s h = passes_nil u
 raws_pass (d ∷ ds) u s h =
     let sc = and_parts (scalar d) _ s in
     let e = pass_split (encode_utf8 d) (encode_utf8_all ds) h in
-    passes_then (d ∷ []) ds _ (encode_utf8_all ds ++ u) u (piece_passes (encode_utf8 d) d _ _ (raw_piece d sc.0 (raw_plain d e.0 (nat_lt d 128) refl)) (append_assoc (encode_utf8 d) (encode_utf8_all ds) u)) (raws_pass ds u sc.1 e.1)
+    passes_then (d ∷ []) ds _ (encode_utf8_all ds ++ u) u
+    (piece_passes (encode_utf8 d) d _ _ (raw_piece d sc.0 (raw_plain d e.0 (nat_lt d 128) refl))
+    (append_assoc (encode_utf8 d) (encode_utf8_all ds) u)) (raws_pass ds u sc.1 e.1)
 
 run_passes : (b u : List ℕ) → IsUtf8 b → AllPass is_unescaped b → (ds : List ℕ) × PassesCharacters ds (b ++ u) u × (b ≡ encode_utf8_all ds)
-run_passes b u (ds, (s, e)) h = (ds, subst (λ x. PassesCharacters ds (x ++ u) u) e (raws_pass ds u s (subst (AllPass is_unescaped) (sym e) h)), sym e)
+run_passes b u (ds, (s, e)) h = (
+  ds,
+  subst (λ x. PassesCharacters ds (x ++ u) u) e (raws_pass ds u s (subst (AllPass is_unescaped) (sym e) h)),
+  sym e,
+)
 
 -- ---- where no piece begins
 
-pub no_chars : (t : List ℕ) → is_unescaped (slice_index t 0) ≡ false → slice_index t 0 ≢ 34 → slice_index t 0 ≢ 92 → (cs r : List ℕ) → SpellsUpToQuote cs t r → ⊥
+pub no_chars : (t : List ℕ) → is_unescaped (slice_index t 0) ≡ false → slice_index t 0 ≢ 34 → slice_index t 0 ≢ 92
+    → (cs r : List ℕ) → SpellsUpToQuote cs t r → ⊥
 no_chars t special no_quote no_slash [] r h = no_quote (ap (λ x. slice_index x 0) h)
 no_chars t special no_quote no_slash (c ∷ cs) r (p, u, h, e, k) = elim (piece_first p c u h) [
   | inl s ↦ no_slash (ap (λ x. slice_index x 0) e ∙ s)
@@ -136,11 +155,13 @@ no_escape t none (c ∷ cs) r (p, u, h, e, k) = elim (piece_cases p c h) [
 
 utf8_front : (s b t : List ℕ) → s ≡ b ++ t → IsUtf8 s → IsUtf8 t → IsUtf8 b
 utf8_front s b t e u v =
-    let front : take (length b) s ≡ b = ap (take (length b)) e ∙ take-append-le (length b) b t (omega arith) ∙ take_all (length b) b (omega arith) in
+    let front : take (length b) s ≡ b = ap (take (length b)) e ∙ take-append-le (length b) b t (omega arith)
+    ∙ take_all (length b) b (omega arith) in
     subst IsUtf8 front (IsUtf8-take s (length b) u (IsCharBoundary-at_seam s b t e v))
 
 -- the run at the front
-pub run_of : (s t : List ℕ) → t ≡ after_run is_unescaped s → IsUtf8 s → IsUtf8 t → (ds : List ℕ) × PassesCharacters ds s t × (before s t ≡ encode_utf8_all ds)
+pub run_of : (s t : List ℕ) → t ≡ after_run is_unescaped s → IsUtf8 s → IsUtf8 t
+    → (ds : List ℕ) × PassesCharacters ds s t × (before s t ≡ encode_utf8_all ds)
 run_of s t e u v =
     let w = run_split is_unescaped s in
     let j : s ≡ w.0 ++ t = w.2 ∙ ap (λ x. w.0 ++ x) (sym e) in
@@ -153,7 +174,8 @@ run_ends s t e = let w = run_split is_unescaped s in (w.0, w.2 ∙ ap (λ x. w.0
 pub run_special : (s t : List ℕ) → t ≡ after_run is_unescaped s → is_unescaped (slice_index t 0) ≡ false
 run_special s t e = ap (λ x. is_unescaped (slice_index x 0)) e ∙ run_stops is_unescaped refl s
 
-pub escape_adds : (old mid new s : List ℕ) (c : ℕ) (rest next : List ℕ) → escape_at s ≡ Some (c, rest) → next ≡ after_run is_unescaped rest → IsUtf8 rest → IsUtf8 next
+pub escape_adds : (old mid new s : List ℕ) (c : ℕ) (rest next : List ℕ) → escape_at s ≡ Some (c, rest)
+    → next ≡ after_run is_unescaped rest → IsUtf8 rest → IsUtf8 next
     → mid ≡ old ++ encode_utf8 c → new ≡ mid ++ before rest next → AddsDecoded old new (92 ∷ s) next
 escape_adds old mid new s c rest next e n u v m k =
     let a = escape_takes s c rest e in
@@ -161,10 +183,12 @@ escape_adds old mid new s c rest next e n u v m k =
     let r = run_of rest next n u v in (
       c ∷ r.0,
       passes_then (c ∷ []) r.0 (92 ∷ s) rest next p r.1,
-      k ∙ ap (λ x. x ++ before rest next) m ∙ append_assoc old (encode_utf8 c) (before rest next) ∙ ap (λ x. old ++ (encode_utf8 c ++ x)) r.2,
+      k ∙ ap (λ x. x ++ before rest next) m ∙ append_assoc old (encode_utf8 c) (before rest next)
+          ∙ ap (λ x. old ++ (encode_utf8 c ++ x)) r.2,
     )
 
-pub escape_shorter : (s : List ℕ) (c : ℕ) (rest next : List ℕ) → escape_at s ≡ Some (c, rest) → next ≡ after_run is_unescaped rest → length next ≤ length s
+pub escape_shorter : (s : List ℕ) (c : ℕ) (rest next : List ℕ) → escape_at s ≡ Some (c, rest)
+    → next ≡ after_run is_unescaped rest → length next ≤ length s
 escape_shorter s c rest next e n =
     let a = escape_takes s c rest e in
     let b = run_ends rest next n in
@@ -174,30 +198,39 @@ pub adds_nil : (old t : List ℕ) → AddsDecoded old old t t
 adds_nil old t = ([], passes_nil t, sym (append-nil old))
 
 adds_then : (a b c t u v : List ℕ) → AddsDecoded a b t u → AddsDecoded b c u v → AddsDecoded a c t v
-adds_then a b c t u v h k =
-    (h.0 ++ k.0, passes_then h.0 k.0 t u v h.1 k.1, k.2 ∙ ap (λ x. x ++ encode_utf8_all k.0) h.2 ∙ append_assoc a _ _ ∙ ap (λ x. a ++ x) (sym (encodes-append h.0 k.0)))
+adds_then a b c t u v h k = (
+  h.0 ++ k.0,
+  passes_then h.0 k.0 t u v h.1 k.1,
+  k.2 ∙ ap (λ x. x ++ encode_utf8_all k.0) h.2 ∙ append_assoc a _
+      _ ∙ ap (λ x. a ++ x) (sym (encodes-append h.0 k.0)),
+)
 
 pub quote_ends : (ds s t : List ℕ) → PassesCharacters ds s t → slice_index t 0 ≡ 34 → SpellsUpToQuote ds s (drop 1 t)
 quote_ends ds s t p e = subst (λ x. SpellsUpToQuote x s (drop 1 t)) (append-nil ds) (p.on [] (drop 1 t) (first_byte t 33 e))
 
-pub end_refused : (old new s t : List ℕ) → AddsDecoded old new s t → is_unescaped (slice_index t 0) ≡ false → slice_index t 0 ≢ 34 → slice_index t 0 ≢ 92 → (cs r : List ℕ) → SpellsUpToQuote cs s r → ⊥
+pub end_refused : (old new s t : List ℕ) → AddsDecoded old new s t → is_unescaped (slice_index t 0) ≡ false
+    → slice_index t 0 ≢ 34 → slice_index t 0 ≢ 92 → (cs r : List ℕ) → SpellsUpToQuote cs s r → ⊥
 end_refused old new s t a special q b cs r h = let back = a.1.back cs r h in no_chars t special q b back.0 r back.2
 
-pub escape_refused : (old new s t : List ℕ) → AddsDecoded old new s t → slice_index t 0 ≡ 92 → ((cs r : List ℕ) → SpellsUpToQuote cs (92 ∷ drop 1 t) r → ⊥) → (cs r : List ℕ) → SpellsUpToQuote cs s r → ⊥
+pub escape_refused : (old new s t : List ℕ) → AddsDecoded old new s t → slice_index t 0 ≡ 92
+    → ((cs r : List ℕ) → SpellsUpToQuote cs (92 ∷ drop 1 t) r → ⊥) → (cs r : List ℕ) → SpellsUpToQuote cs s r → ⊥
 escape_refused old new s t a e never cs r h =
     let back = a.1.back cs r h in
     never back.0 r (subst (λ x. SpellsUpToQuote back.0 x r) (first_byte t 91 e) back.2)
 
-pub string_of : (old new s t : List ℕ) → AddsDecoded old new s t → slice_index t 0 ≡ 34 → (cs : List ℕ) × SpellsUpToQuote cs s (drop 1 t) × (new ≡ old ++ encode_utf8_all cs)
+pub string_of : (old new s t : List ℕ) → AddsDecoded old new s t → slice_index t 0 ≡ 34
+    → (cs : List ℕ) × SpellsUpToQuote cs s (drop 1 t) × (new ≡ old ++ encode_utf8_all cs)
 string_of old new s t a e = (a.0, quote_ends a.0 s t a.1 e, a.2)
 
-pub adds_escape : (a b c s t u : List ℕ) → AddsDecoded a b s t → slice_index t 0 ≡ 92 → AddsDecoded b c (92 ∷ drop 1 t) u → AddsDecoded a c s u
+pub adds_escape : (a b c s t u : List ℕ) → AddsDecoded a b s t → slice_index t 0 ≡ 92
+    → AddsDecoded b c (92 ∷ drop 1 t) u → AddsDecoded a c s u
 adds_escape a b c s t u h e k = adds_then a b c s t u h (subst (λ x. AddsDecoded b c x u) (sym (first_byte t 91 e)) k)
 
 pub join_chars : (ds cs s t r : List ℕ) → PassesCharacters ds s t → SpellsUpToQuote cs t r → SpellsUpToQuote (ds ++ cs) s r
 join_chars ds cs s t r p h = p.on cs r h
 
-pub run_refused : (ds s t : List ℕ) → PassesCharacters ds s t → ((cs r : List ℕ) → SpellsUpToQuote cs t r → ⊥) → (cs r : List ℕ) → SpellsUpToQuote cs s r → ⊥
+pub run_refused : (ds s t : List ℕ) → PassesCharacters ds s t → ((cs r : List ℕ) → SpellsUpToQuote cs t r → ⊥)
+    → (cs r : List ℕ) → SpellsUpToQuote cs s r → ⊥
 run_refused ds s t p never cs r h = let b = p.back cs r h in never b.0 r b.2
 
 -- ---- strings as the grammar has them
@@ -212,7 +245,8 @@ chars_of : (cs inside r : List ℕ) → ArePieces inside cs → SpellsUpToQuote 
 chars_of [] inside r h = ap (λ x. x ++ 34 ∷ r) h
 chars_of (c ∷ cs) inside r (p, b, e, h, k) = (p, b ++ 34 ∷ r, h, ap (λ x. x ++ 34 ∷ r) e ∙ append_assoc p b (34 ∷ r), chars_of cs b r k)
 
-pub string_leads : (cs t s r : List ℕ) → slice_index t 0 ≡ 34 → SpellsUpToQuote cs (drop 1 t) r → s ≡ encode_utf8_all cs → BeginsWith (λ b. IsString b s) t r
+pub string_leads : (cs t s r : List ℕ) → slice_index t 0 ≡ 34 → SpellsUpToQuote cs (drop 1 t) r
+    → s ≡ encode_utf8_all cs → BeginsWith (λ b. IsString b s) t r
 string_leads cs t s r at h e =
     let q = pieces_of cs (drop 1 t) r h in (
       34 ∷ (q.0 ++ 34 ∷ []),
@@ -222,7 +256,9 @@ string_leads cs t s r at h e =
 
 pub string_chars : (b s t r : List ℕ) (h : IsString b s) → t ≡ b ++ r → SpellsUpToQuote h.characters (drop 1 t) r
 string_chars b s t r h j =
-    subst (λ x. SpellsUpToQuote h.characters x r) (sym (ap (drop 1) (j ∙ ap (λ x. x ++ r) h.text) ∙ append_assoc h.inside (34 ∷ []) r)) (chars_of h.characters h.inside r h.pieces)
+    subst (λ x. SpellsUpToQuote h.characters x r)
+    (sym (ap (drop 1) (j ∙ ap (λ x. x ++ r) h.text) ∙ append_assoc h.inside (34 ∷ []) r))
+    (chars_of h.characters h.inside r h.pieces)
 
 -- ---- which text is borrowed
 
@@ -248,20 +284,30 @@ plain_no_backslash x h (a, b, e) = plain_at a b (subst (AllByRecursion (λ c. is
 pub run_inside : (s t x r : List ℕ) → t ≡ after_run is_unescaped s → slice_index t 0 ≡ 34 → x ≡ before s t → r ≡ drop 1 t
     → (inside : List ℕ) × (s ≡ inside ++ 34 ∷ r) × (inside ≡ x) × (HasBackslash inside → ⊥)
 run_inside s t x r e at k d =
-    let run = plain_run s t e in
-    (before s t, run.1 ∙ ap (λ y. before s t ++ y) (first_byte t 33 at ∙ ap (λ y. 34 ∷ y) (sym d)), sym k, plain_no_backslash (before s t) run.0)
+    let run = plain_run s t e in (
+      before s t,
+      run.1 ∙ ap (λ y. before s t ++ y) (first_byte t 33 at ∙ ap (λ y. 34 ∷ y) (sym d)),
+      sym k,
+      plain_no_backslash (before s t) run.0,
+    )
 
 slash_first : (inside t r : List ℕ) → slice_index t 0 ≡ 92 → t ≡ inside ++ 34 ∷ r → (b : List ℕ) × (inside ≡ 92 ∷ b)
 slash_first [] t r at e = absurd (true≢false (sym (ap (λ l. slice_index l 0 == 34) e) ∙ ap (λ x. x == 34) at))
 slash_first (x ∷ xs) t r at e = (xs, ap (λ y. y ∷ xs) (sym (ap (λ l. slice_index l 0) e) ∙ at))
 
 -- a run up to a backslash, and the rest of the string
-pub escaped_inside : (s t r cs : List ℕ) → t ≡ after_run is_unescaped s → slice_index t 0 ≡ 92 → SpellsUpToQuote cs t r → (inside : List ℕ) × (s ≡ inside ++ 34 ∷ r) × HasBackslash inside
+pub escaped_inside : (s t r cs : List ℕ) → t ≡ after_run is_unescaped s → slice_index t 0 ≡ 92
+    → SpellsUpToQuote cs t r → (inside : List ℕ) × (s ≡ inside ++ 34 ∷ r) × HasBackslash inside
 escaped_inside s t r cs e at h =
     let run = plain_run s t e in
     let q = pieces_of cs t r h in
-    let b = slash_first q.0 t r at q.2 in
-    (before s t ++ q.0, run.1 ∙ ap (λ x. before s t ++ x) q.2 ∙ sym (append_assoc (before s t) q.0 (34 ∷ r)), (before s t, b.0, ap (λ x. before s t ++ x) b.1))
+    let b = slash_first q.0 t r at q.2 in (
+      before s t ++ q.0,
+      run.1 ∙ ap (λ x. before s t ++ x) q.2 ∙ sym (append_assoc (before s t) q.0 (34 ∷ r)),
+      (before s t, b.0, ap (λ x. before s t ++ x) b.1),
+    )
 
-pub reaches_backslash : (s t : List ℕ) → t ≡ after_run is_unescaped s → slice_index t 0 ≡ 92 → (p q : List ℕ) × AllByRecursion (λ c. is_special c ≡ false) p × (s ≡ p ++ 92 ∷ q)
-reaches_backslash s t e at = let run = plain_run s t e in (before s t, drop 1 t, run.0, run.1 ∙ ap (λ x. before s t ++ x) (first_byte t 91 at))
+pub reaches_backslash : (s t : List ℕ) → t ≡ after_run is_unescaped s → slice_index t 0 ≡ 92 → (p q : List ℕ)
+    × AllByRecursion (λ c. is_special c ≡ false) p × (s ≡ p ++ 92 ∷ q)
+reaches_backslash s t e at = let run = plain_run s t e in
+    (before s t, drop 1 t, run.0, run.1 ∙ ap (λ x. before s t ++ x) (first_byte t 91 at))

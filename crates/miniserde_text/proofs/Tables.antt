@@ -1,6 +1,7 @@
 -- Each table contains, for each byte, the value of the function that it tabulates. All 256 entries are compared by
 -- computation (`alike`).
-use Rattle.std.proofs.Common.{◌≡◌, ℕ, zero, suc, ◌-◌, ◌<◌, ◌==◌, Bool, true, false, cond, ◌&&◌, T, eqb, get_or, if◌then◌else◌, None, Some, refl, inl, inr, arith, eq-zero-or-pos, eqb→eq}
+use Rattle.std.proofs.Common.{◌≡◌, ℕ, zero, suc, ◌-◌, ◌<◌, ◌==◌, Bool, true, false, cond, ◌&&◌, T, eqb, get_or}
+use Rattle.std.proofs.Common.{if◌then◌else◌, None, Some, refl, inl, inr, arith, eq-zero-or-pos, eqb→eq}
 use lib.Ieee.Fits.{and_l, and_r}
 use Rattle.std.specs.Prelude.{◌||◌}
 use Rattle.std.specs.Char.{digit_value}

@@ -1,6 +1,8 @@
 -- The front of a value: what a function on lists reads is a piece of the grammar, and the piece of each event is read
 -- so. A string goes by its first quote.
-use Rattle.std.proofs.Common.{◌≡◌, ◌≢◌, ℕ, ◌==◌, Bool, true, false, cond, List, [], ◌∷◌, ◌++◌, length, drop, Option, Some, None, refl, ap, sym, subst, ◌∙◌, inl, inr, arith, eqb-true, ne_eqb, append_assoc}
+use Rattle.std.proofs.Common.{◌≡◌, ◌≢◌, ℕ, ◌==◌, Bool, true, false, cond, List, [], ◌∷◌, ◌++◌, length, drop, Option}
+use Rattle.std.proofs.Common.{Some, None, refl, ap, sym, subst, ◌∙◌, inl, inr, arith, eqb-true, ne_eqb}
+use Rattle.std.proofs.Common.{append_assoc}
 use Rattle.std.specs.Prelude.{codes, slice_index, nat_eq}
 use Rattle.std.specs.List.{starts_with, AllByRecursion}
 use Rattle.std.proofs.lemmas.Slice.Eq.{starts_is}
@@ -44,14 +46,16 @@ word_takes w e g t r h =
 word_only : (w : List ℕ) (e : Step) (t r : List ℕ) → t ≡ w ++ r → word_at w e t ≡ Some (e, r)
 unfolding word_at
 word_only w e t r j =
-    ap (λ b. cond b (Some (e, drop (length w) t)) None) ((starts_is Decides-eqb t w _ refl).1 r j) ∙ ap (λ q. Some (e, q)) (front_rest t w r j)
+    ap (λ b. cond b (Some (e, drop (length w) t)) None) ((starts_is Decides-eqb t w _ refl).1 r j)
+    ∙ ap (λ q. Some (e, q)) (front_rest t w r j)
 
 -- ---- what is read
 
 as_word : (w : List ℕ) (e g : Step) (t r : List ℕ) → Piece e w → Ends e r → word_at w e t ≡ Some (g, r) → TakesToken t g r
 as_word w e g t r h k f = let q = word_takes w e g t r f in subst (λ x. TakesToken t x r) q.0 ((w, h, q.1), k)
 
-as_byte : (c : ℕ) (e g : Step) (t u r : List ℕ) → Piece e (c ∷ []) → Ends e r → t ≡ c ∷ u → ◌≡◌ {A = Option (Step × List ℕ)} (Some (e, u)) (Some (g, r)) → TakesToken t g r
+as_byte : (c : ℕ) (e g : Step) (t u r : List ℕ) → Piece e (c ∷ []) → Ends e r → t ≡ c ∷ u
+    → ◌≡◌ {A = Option (Step × List ℕ)} (Some (e, u)) (Some (g, r)) → TakesToken t g r
 as_byte c e g t u r h k j f =
     let q = same_Some _ _ f in
     subst (λ x. TakesToken t x r) (ap (λ x. x.0) q) ((c ∷ [], h, j ∙ ap (λ x. c ∷ x.1) q), k)
@@ -89,8 +93,15 @@ pass_head p b r k h a = let int = subst (AllPass p) h.is a in ap (λ x. p (slice
 number_first : (b r : List ℕ) (t : Tree) → IsNumber b t → is_number_byte (slice_index (b ++ r) 0) ≡ true
 number_first b r t p = pass_head is_number_byte b r 3 (number_head b t p) (number_pass b p.0)
 
-no_word : (c : ℕ) → is_number_byte c ≡ true → ((c == 110) ≡ false) × ((c == 116) ≡ false) × ((c == 102) ≡ false) × ((c == 91) ≡ false) × ((c == 123) ≡ false)
-no_word c h = (grind (arith, nat_tests), grind (arith, nat_tests), grind (arith, nat_tests), grind (arith, nat_tests), grind (arith, nat_tests))
+no_word : (c : ℕ) → is_number_byte c ≡ true → ((c == 110) ≡ false) × ((c == 116) ≡ false) × ((c == 102) ≡ false)
+    × ((c == 91) ≡ false) × ((c == 123) ≡ false)
+no_word c h = (
+  grind (arith, nat_tests),
+  grind (arith, nat_tests),
+  grind (arith, nat_tests),
+  grind (arith, nat_tests),
+  grind (arith, nat_tests),
+)
 
 by_number : (t : List ℕ) → is_number_byte (slice_index t 0) ≡ true → token_at t ≡ number_at t
 unfolding token_by
@@ -99,7 +110,8 @@ by_number t h = let n = no_word (slice_index t 0) h in rw (n.0, n.1, n.2, n.3, n
 numbers_only : (b r : List ℕ) (t : Tree) → IsNumber b t → StopsAt is_number_byte r → token_at (b ++ r) ≡ Some (event_of t, r)
 numbers_only b r t p s = by_number _ (number_first b r t p) ∙ number_only b r p.0 s ∙ ap (λ x. Some (event_of x, r)) p.1
 
-front_only : (b : List ℕ) (e : Step) (r : List ℕ) → Piece e b → Ends e r → (slice_index (b ++ r) 0 == 34) ≡ false → token_at (b ++ r) ≡ Some (e, r)
+front_only : (b : List ℕ) (e : Step) (r : List ℕ) → Piece e b → Ends e r → (slice_index (b ++ r) 0 == 34) ≡ false
+    → token_at (b ++ r) ≡ Some (e, r)
 unfolding token_by
 front_only b step.null r h k away = rw h (word_only (codes "null") step.null _ r refl)
 front_only b (boolean true) r h k away = rw h (word_only (codes "true") (boolean true) _ r refl)
@@ -116,7 +128,8 @@ front_only b finish r h k away = absurd h
 
 pub front_refused : (t : List ℕ) → slice_index t 0 ≢ 34 → token_at t ≡ None → (e : Step) (r : List ℕ) → TakesToken t e r → ⊥
 front_refused t away none e r ((b, h, j), k) =
-    none_is_some (token_at t) (e, r) none (ap token_at j ∙ front_only b e r h k (sym (ap (λ x. slice_index x 0 == 34) j) ∙ ne_eqb _ 34 away))
+    none_is_some (token_at t) (e, r) none
+    (ap token_at j ∙ front_only b e r h k (sym (ap (λ x. slice_index x 0 == 34) j) ∙ ne_eqb _ 34 away))
 
 -- ---- behind whitespace
 
@@ -141,7 +154,8 @@ start_only s t e r j h = (stands_only (Piece e) s t r (piece_first e r) j h.0, h
 
 -- ---- strings
 
-pub string_taken : (cs t s r : List ℕ) → slice_index t 0 ≡ 34 → SpellsUpToQuote cs (drop 1 t) r → s ≡ encode_utf8_all cs → TakesToken t (string s) r
+pub string_taken : (cs t s r : List ℕ) → slice_index t 0 ≡ 34 → SpellsUpToQuote cs (drop 1 t) r
+    → s ≡ encode_utf8_all cs → TakesToken t (string s) r
 string_taken cs t s r at h e = (string_leads cs t s r at h e, tt)
 
 no_quote : (b t r : List ℕ) (k : ℕ) → Head b k → (k ≡ 4 → ⊥) → slice_index t 0 ≡ 34 → t ≡ b ++ r → ⊥
@@ -152,7 +166,8 @@ no_quote b t r k h away at j =
 no_byte : (b t r : List ℕ) (c : ℕ) → b ≡ c ∷ [] → (c ≡ 34 → ⊥) → slice_index t 0 ≡ 34 → t ≡ b ++ r → ⊥
 no_byte b t r c h away at j = away (sym (ap (λ x. slice_index x 0) (j ∙ ap (λ x. x ++ r) h)) ∙ at)
 
-pub string_refused : (t : List ℕ) → slice_index t 0 ≡ 34 → ((cs r : List ℕ) → SpellsUpToQuote cs (drop 1 t) r → ⊥) → (e : Step) (r : List ℕ) → TakesToken t e r → ⊥
+pub string_refused : (t : List ℕ) → slice_index t 0 ≡ 34 → ((cs r : List ℕ) → SpellsUpToQuote cs (drop 1 t) r → ⊥)
+    → (e : Step) (r : List ℕ) → TakesToken t e r → ⊥
 string_refused t at never step.null r ((b, h, j), k) = no_quote b t r 0 (value_head null b h) (λ n. omega arith) at j
 string_refused t at never (boolean x) r ((b, h, j), k) = no_quote b t r 1 (value_head (truth x) b h) (λ n. omega arith) at j
 string_refused t at never (negative n) r ((b, h, j), k) = no_quote b t r 3 (value_head (neg n) b h) (λ n. omega arith) at j
@@ -167,7 +182,8 @@ string_refused t at never finish r ((b, h, j), k) = h
 
 -- ---- an answer without a string
 
-plain_taken : (t u : List ℕ) (e : answer.Event) (r : List ℕ) → slice_index t 0 ≢ 34 → TakesToken t (event_of_token e []) r → TakesToken t (event_of_token e u) r
+plain_taken : (t u : List ℕ) (e : answer.Event) (r : List ℕ) → slice_index t 0 ≢ 34
+    → TakesToken t (event_of_token e []) r → TakesToken t (event_of_token e u) r
 plain_taken t u event.Null r away h = h
 plain_taken t u (event.Bool b) r away h = h
 plain_taken t u (event.Negative n) r away h = h
@@ -178,13 +194,15 @@ plain_taken t u (event.Str text.Scratch) r away ((b, h, j), k) = absurd (away (a
 plain_taken t u event.SeqStart r away h = h
 plain_taken t u event.MapStart r away h = h
 
-pub read_taken : (t u : List ℕ) (e : answer.Event) (r : List ℕ) → slice_index t 0 ≢ 34 → token_at t ≡ Some (event_of_token e [], r) → TakesToken t (event_of_token e u) r
+pub read_taken : (t u : List ℕ) (e : answer.Event) (r : List ℕ) → slice_index t 0 ≢ 34
+    → token_at t ≡ Some (event_of_token e [], r) → TakesToken t (event_of_token e u) r
 read_taken t u e r away h = plain_taken t u e r away (front_takes t (event_of_token e []) r h)
 
 no_string : (t x r : List ℕ) → slice_index t 0 ≢ 34 → TakesToken t (string x) r → ⊥
 no_string t x r away ((b, h, j), k) = away (ap (λ l. slice_index l 0) (j ∙ ap (λ l. l ++ r) h.text))
 
-pub read_text : (t u : List ℕ) (e : answer.Event) (r : List ℕ) → slice_index t 0 ≢ 34 → TakesToken t (event_of_token e u) r → EventTakesText e t r
+pub read_text : (t u : List ℕ) (e : answer.Event) (r : List ℕ) → slice_index t 0 ≢ 34
+    → TakesToken t (event_of_token e u) r → EventTakesText e t r
 read_text t u event.Null r away h = tt
 read_text t u (event.Bool b) r away h = tt
 read_text t u (event.Negative n) r away h = tt
@@ -207,9 +225,14 @@ keeps event.MapStart x = refl
 
 -- ---- what is borrowed
 
-pub string_text : (x : Text) (t s r : List ℕ) → slice_index t 0 ≡ 34 → s ≡ drop 1 t → TakesText x s r → BeginsWith (Between 34 (StandsFor x) 34) t r
-string_text x t s r at e (inside, j, h) =
-    (34 ∷ (inside ++ 34 ∷ []), record { inside = inside; text = refl; is_inside = h }, first_byte t 33 at ∙ ap (λ y. 34 ∷ y) (sym e ∙ j ∙ sym (append_assoc inside (34 ∷ []) r)))
+pub string_text : (x : Text) (t s r : List ℕ) → slice_index t 0 ≡ 34 → s ≡ drop 1 t → TakesText x s r
+    → BeginsWith (Between 34 (StandsFor x) 34) t r
+string_text x t s r at e (inside, j, h) = (
+  34 ∷ (inside ++ 34 ∷ []),
+  record { inside = inside; text = refl; is_inside = h },
+  first_byte t 33 at
+      ∙ ap (λ y. 34 ∷ y) (sym e ∙ j ∙ sym (append_assoc inside (34 ∷ []) r)),
+)
 
 pub text_behind : (s t : List ℕ) (e : answer.Event) (r : List ℕ) → t ≡ after_run is_space s → EventTakesText e t r → EventStandsFor e s r
 text_behind s t event.Null r j h = tt
@@ -224,5 +247,8 @@ text_behind s t event.MapStart r j h = tt
 pub backslash_behind : (s t : List ℕ) → t ≡ after_run is_space s → slice_index t 0 ≡ 34 → ReachesBackslash (drop 1 t) → BeginsEscaped s
 backslash_behind s t j at (p, q, h, e) =
     let b : List ℕ = 34 ∷ (p ++ 92 ∷ []) in
-    let one : Between 34 (AllByRecursion (λ c. is_special c ≡ false)) 92 b = record { inside = p; text = refl; is_inside = h } in
-    (q, stands_of (Between 34 (AllByRecursion (λ c. is_special c ≡ false)) 92) s t q j (b, one, first_byte t 33 at ∙ ap (λ y. 34 ∷ y) (e ∙ sym (append_assoc p (92 ∷ []) q))))
+    let one : Between 34 (AllByRecursion (λ c. is_special c ≡ false)) 92 b = record { inside = p; text = refl; is_inside = h } in (
+      q,
+      stands_of (Between 34 (AllByRecursion (λ c. is_special c ≡ false)) 92) s t q j
+          (b, one, first_byte t 33 at ∙ ap (λ y. 34 ∷ y) (e ∙ sym (append_assoc p (92 ∷ []) q))),
+    )

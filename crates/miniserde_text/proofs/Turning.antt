@@ -15,13 +15,16 @@ use Rattle.miniserde_text.proofs.Starting.{front}
 
 -- ---- the closing bracket
 
-finish_on : (k : Kind) (f : Bool) (st : List Kind) (space part : List ℕ) → IsWhitespace space → IsByte (closing k) part → (rest : List Step) (r : List ℕ) → Spells after rest st r → Spells (before_child f) (finish ∷ rest) (k ∷ st) ((space ++ part) ++ r)
+finish_on : (k : Kind) (f : Bool) (st : List Kind) (space part : List ℕ) → IsWhitespace space
+    → IsByte (closing k) part → (rest : List Step) (r : List ℕ) → Spells after rest st r
+    → Spells (before_child f) (finish ∷ rest) (k ∷ st) ((space ++ part) ++ r)
 finish_on Seq true st space part w p rest r k = front space part r w p k
 finish_on Seq false st space part w p rest r k = front space part r w p k
 finish_on Map true st space part w p rest r k = front space part r w p k
 finish_on Map false st space part w p rest r k = front space part r w p k
 
-pub passes_finish : (k : Kind) (f : Bool) (st : List Kind) (s r : List ℕ) → Stands (IsByte (closing k)) s r → Passes (before_child f) (k ∷ st) s (finish ∷ []) after st r
+pub passes_finish : (k : Kind) (f : Bool) (st : List Kind) (s r : List ℕ) → Stands (IsByte (closing k)) s r
+    → Passes (before_child f) (k ∷ st) s (finish ∷ []) after st r
 passes_finish k f st s r p = record {
   taken = p.space ++ p.part;
   text = p.text ∙ sym (append_assoc p.space p.part r);
@@ -36,7 +39,8 @@ bare s r p = p.text ∙ ap (λ z. p.space ++ (z ++ r)) p.is_part
 pub begins_stops : (r : List ℕ) → Begins r → StopsAt is_space r
 begins_stops r b = subst (StopsAt is_space) (sym b.text) b.no_space
 
-pub passes_element : (f : Bool) (st : List Kind) (s r : List ℕ) → Follows Seq f false s r → Passes (before_child f) (Seq ∷ st) s (element ∷ []) due (Seq ∷ st) r
+pub passes_element : (f : Bool) (st : List Kind) (s r : List ℕ) → Follows Seq f false s r
+    → Passes (before_child f) (Seq ∷ st) s (element ∷ []) due (Seq ∷ st) r
 passes_element true st s r p = record {
   taken = p.0.space;
   text = bare s r p.0;
@@ -53,14 +57,20 @@ passes_element false st s r p = record {
 four : (a b c d x : List ℕ) → ((a ++ b) ++ (c ++ d)) ++ x ≡ (a ++ b) ++ ((c ++ d) ++ x)
 four a b c d x = append_assoc (a ++ b) (c ++ d) x
 
-pub passes_key : (f : Bool) (st : List Kind) (s r n x : List ℕ) → Follows Map f false s r → Names r n x → Passes (before_child f) (Map ∷ st) s (key n ∷ []) due (Map ∷ st) x
+pub passes_key : (f : Bool) (st : List Kind) (s r n x : List ℕ) → Follows Map f false s r → Names r n x
+    → Passes (before_child f) (Map ∷ st) s (key n ∷ []) due (Map ∷ st) x
 passes_key true st s r n x p q = record {
   taken = (p.0.space ++ q.space) ++ q.part;
-  text = bare s r p.0 ∙ ap (λ z. p.0.space ++ z) q.text ∙ sym (append_assoc p.0.space q.space (q.part ++ x)) ∙ sym (append_assoc (p.0.space ++ q.space) q.part x);
+  text = bare s r p.0 ∙ ap (λ z. p.0.space ++ z) q.text ∙ sym (append_assoc p.0.space q.space (q.part ++ x))
+      ∙ sym (append_assoc (p.0.space ++ q.space) q.part x);
   on = λ rest y h. front (p.0.space ++ q.space) q.part y (space_append p.0.space q.space p.0.is_space q.is_space) q.is_part h;
 }
 passes_key false st s r n x p q = record {
   taken = (p.space ++ p.part) ++ (q.space ++ q.part);
-  text = p.text ∙ sym (append_assoc p.space p.part r) ∙ ap (λ z. (p.space ++ p.part) ++ z) (q.text ∙ sym (append_assoc q.space q.part x)) ∙ sym (four p.space p.part q.space q.part x);
-  on = λ rest y h. subst (λ z. Spells after (key n ∷ rest) (Map ∷ st) z) (sym (four p.space p.part q.space q.part y)) (front p.space p.part ((q.space ++ q.part) ++ y) p.is_space p.is_part (front q.space q.part y q.is_space q.is_part h));
+  text = p.text ∙ sym (append_assoc p.space p.part r) ∙ ap (λ z. (p.space ++ p.part) ++ z)
+      (q.text ∙ sym (append_assoc q.space q.part x)) ∙ sym (four p.space p.part q.space q.part x);
+  on = λ rest y h. subst (λ z. Spells after (key n ∷ rest) (Map ∷ st) z)
+      (sym (four p.space p.part q.space q.part y))
+      (front p.space p.part ((q.space ++ q.part) ++ y) p.is_space p.is_part
+      (front q.space q.part y q.is_space q.is_part h));
 }

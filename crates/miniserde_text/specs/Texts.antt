@@ -1,5 +1,6 @@
 -- What calls do that append to a text, or make room in it.
-use Rattle.std.specs.Prelude.{◌≡◌, ◌≤◌, ℕ, ◌+◌, ◌<◌, List, ◌++◌, length, Result, OnOk, OnErr, String, string_bytes, string_len, string_capacity}
+use Rattle.std.specs.Prelude.{◌≡◌, ◌≤◌, ℕ, ◌+◌, ◌<◌, List, ◌++◌, length, Result, OnOk, OnErr, String, string_bytes}
+use Rattle.std.specs.Prelude.{string_len, string_capacity}
 use Rattle.std.specs.declared.alloc.Global.{Global}
 
 -- A call that changed a text from `old` to `new` and returned `answer` appended the bytes bs, or

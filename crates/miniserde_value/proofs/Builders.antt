@@ -1,6 +1,7 @@
 -- A closed container is put into the hole around it, and a value put into an open object stands under its name. By
 -- the equations of the builder's lists: an array takes the values after its mark, an object the last open object.
-use Rattle.std.proofs.Common.{◌≡◌, ℕ, List, [], ◌∷◌, Option, Some, None, option_map, map, take, drop, String, BTreeMap, Global, string_bytes, string_cmp, refl, sym, ap, ap₂, ◌∙◌}
+use Rattle.std.proofs.Common.{◌≡◌, ℕ, List, [], ◌∷◌, Option, Some, None, option_map, map, take, drop, String}
+use Rattle.std.proofs.Common.{BTreeMap, Global, string_bytes, string_cmp, refl, sym, ap, ap₂, ◌∙◌}
 use Rattle.std.proofs.lemmas.List.{take-map, drop-map}
 use Rattle.std.specs.BTreeMap.{insert_entry}
 use Rattle.miniserde_model.specs.Tree.{Tree, list, members, tree, Members}
@@ -24,23 +25,35 @@ listed_values : (vs : List Value) → trees_of content_of vs ≡ trees_of (λ t.
 listed_values [] = refl
 listed_values (v ∷ vs) = ap (tree (content_of v)) (listed_values vs)
 
-pub closed_array : (values rest : List Value) (v : ℕ) (os : List OpenObject) (old new : List OpenContainer) (a : Array) → old ≡ container.Array v ∷ new → rest ≡ take v values → array_items a ≡ drop v values → put (content_of (Value.Array a)) (hole_of (map content_of rest) os new) ≡ after_close (hole_of (map content_of values) os old)
+pub closed_array : (values rest : List Value) (v : ℕ) (os : List OpenObject) (old new : List OpenContainer)
+    (a : Array) → old ≡ container.Array v ∷ new → rest ≡ take v values → array_items a ≡ drop v values
+    → put (content_of (Value.Array a)) (hole_of (map content_of rest) os new)
+    ≡ after_close (hole_of (map content_of values) os old)
 closed_array values rest v os old new a e r i =
     ap₂ put
     (content_of_array a ∙ ap (λ (l : List Value). list (trees_of content_of l)) i ∙ ap list (listed_values (drop v values))
     ∙ ap (λ (l : List Tree). list (trees_of (λ t. t) l)) (sym (drop-map content_of v values)))
-    (ap (λ (l : List Value). hole_of (map content_of l) os new) r ∙ ap (λ (l : List Tree). hole_of l os new) (sym (take-map content_of v values)))
+    (ap (λ (l : List Value). hole_of (map content_of l) os new) r ∙ ap (λ (l : List Tree). hole_of l os new)
+    (sym (take-map content_of v values)))
     ∙ ap (λ (ms : List OpenContainer). after_close (hole_of (map content_of values) os ms)) (sym e)
 
-pub closed_object : (vs : List Tree) (os rest : List OpenObject) (o : OpenObject) (old new : List OpenContainer) (m : Object) → old ≡ container.Object ∷ new → os ≡ o ∷ rest → m.members ≡ o.members → put (content_of (Value.Object m)) (hole_of vs rest new) ≡ after_close (hole_of vs os old)
+pub closed_object : (vs : List Tree) (os rest : List OpenObject) (o : OpenObject) (old new : List OpenContainer)
+    (m : Object) → old ≡ container.Object ∷ new → os ≡ o ∷ rest → m.members ≡ o.members
+    → put (content_of (Value.Object m)) (hole_of vs rest new) ≡ after_close (hole_of vs os old)
 closed_object vs os rest o old new m e r i =
-    ap (λ (t : Tree). put t (hole_of vs rest new)) (content_of_object m ∙ ap (λ (x : BTreeMap (String Global) Value). members (members_of string_bytes content_of x.entries)) i)
+    ap (λ (t : Tree). put t (hole_of vs rest new))
+    (content_of_object m ∙ ap
+    (λ (x : BTreeMap (String Global) Value). members (members_of string_bytes content_of x.entries)) i)
     ∙ ap (λ (qs : List OpenObject). after_close (hole_of vs qs (container.Object ∷ new))) (sym r)
     ∙ ap (λ (ms : List OpenContainer). after_close (hole_of vs os ms)) (sym e)
 
 -- ---- a value stands under its name
 
-pub member_put : (old new : OpenObject) (name : String Global) (v : Value) → old.name ≡ Some name → new.name ≡ None → new.members.entries ≡ insert_entry string_cmp old.members.entries name v → (h : Hole) → with_open_object new h ≡ put (content_of v) (with_open_object old h)
+pub member_put : (old new : OpenObject) (name : String Global) (v : Value) → old.name ≡ Some name → new.name ≡ None
+    → new.members.entries ≡ insert_entry string_cmp old.members.entries name v → (h : Hole)
+    → with_open_object new h ≡ put (content_of v) (with_open_object old h)
 member_put old new name v before after e h =
-    ap₂ (λ (ms : Members) (k : Option (List ℕ)). in_members ms k h) (ap (members_of string_bytes content_of) e ∙ inserted content_of old.members.entries name v) (ap (option_map string_bytes) after)
+    ap₂ (λ (ms : Members) (k : Option (List ℕ)). in_members ms k h)
+    (ap (members_of string_bytes content_of) e ∙ inserted content_of old.members.entries name v)
+    (ap (option_map string_bytes) after)
     ∙ ap (λ (k : Option (String Global)). put (content_of v) (in_members (made_members old) (option_map string_bytes k) h)) (sym before)

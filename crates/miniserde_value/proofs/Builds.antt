@@ -1,6 +1,7 @@
 -- Each step of the reader passes events of the text, and makes the next hole of them. By cases of the event (first
 -- token, element, name, end); `Builds-append` joins the steps, and `read_ok` and `read_none` are the two ends.
-use Rattle.std.proofs.Common.{cond, ◌≡◌, ℕ, Bool, true, false, Option, Some, None, is_some, option_map, List, [], ◌∷◌, ◌++◌, append_assoc, append-nil, refl, sym, ap, subst, ◌∙◌}
+use Rattle.std.proofs.Common.{cond, ◌≡◌, ℕ, Bool, true, false, Option, Some, None, is_some, option_map, List, []}
+use Rattle.std.proofs.Common.{◌∷◌, ◌++◌, append_assoc, append-nil, refl, sym, ap, subst, ◌∙◌}
 use Rattle.std.proofs.Math.Bool.{and-false}
 use Rattle.std.specs.Prelude.{◌&&◌, option_and_then, Result, Ok, Err, IfOk, OnOk}
 use Rattle.miniserde_model.specs.Tree.{Tree, no_members}
@@ -17,9 +18,11 @@ use Rattle.miniserde_text.specs.private.Stack.{with_opened, outer, innermost as 
 use Rattle.miniserde_text.specs.private.Moving.{opened_kind, before_child, MomentFits}
 use Rattle.miniserde_read.specs.Rest.{ValueAt}
 use Rattle.miniserde_read.specs.private.Runs.{Runs, Consumes, NeverRuns}
-use Rattle.miniserde_read.proofs.Consumes.{Consumes-none, Consumes-append, close_passed, element_passed, key_passed, value_passed, live_opened}
+use Rattle.miniserde_read.proofs.Consumes.{Consumes-none, Consumes-append, close_passed, element_passed, key_passed}
+use Rattle.miniserde_read.proofs.Consumes.{value_passed, live_opened}
 use Rattle.miniserde_read.proofs.Values.{value_later, whole_at}
-use Rattle.miniserde_value.specs.Hole.{Hole, outside, in_list, in_members, has_member, put, with_name, after_close, complete_tree, after_begin, after_step, repeats, outcome}
+use Rattle.miniserde_value.specs.Hole.{Hole, outside, in_list, in_members, has_member, put, with_name, after_close}
+use Rattle.miniserde_value.specs.Hole.{complete_tree, after_begin, after_step, repeats, outcome}
 use Rattle.miniserde_value.specs.Retained.{retained_tree, retained_if}
 use Rattle.miniserde_value.specs.Containers.{innermost}
 use Rattle.miniserde_value.specs.laws.Unique.{gives-kept}
@@ -77,7 +80,8 @@ not_due true = refl
 not_due false = refl
 
 -- an event is taken that repeats no name
-goes_on : (once due : Bool) (h : Hole) (e : Step) (d : Bool) (g : Hole) → (once && repeats e h) ≡ false → after_step due h e ≡ Some (d, g) → (es : List Step) → outcome once due h (e ∷ es) ≡ outcome once d g es
+goes_on : (once due : Bool) (h : Hole) (e : Step) (d : Bool) (g : Hole) → (once && repeats e h) ≡ false
+    → after_step due h e ≡ Some (d, g) → (es : List Step) → outcome once due h (e ∷ es) ≡ outcome once d g es
 goes_on once true h e d g n t es =
     let rest : Bool × Hole → Option Tree = λ s. outcome once s.0 s.1 es in
     ap (λ z. option_and_then rest (cond z None (after_step true h e))) n ∙ ap (option_and_then rest) t
@@ -85,15 +89,21 @@ goes_on once false h e d g n t es =
     let rest : Bool × Hole → Option Tree = λ s. outcome once s.0 s.1 es in
     ap (λ z. option_and_then rest (cond z None (after_step false h e))) n ∙ ap (option_and_then rest) t
 
-closes_hole : (once : Bool) (h : Hole) (k : Kind) → innermost h ≡ Some k → (es : List Step) → outcome once false h (finish ∷ es) ≡ outcome once false (after_close h) es
+closes_hole : (once : Bool) (h : Hole) (k : Kind) → innermost h ≡ Some k → (es : List Step)
+    → outcome once false h (finish ∷ es) ≡ outcome once false (after_close h) es
 closes_hole once (outside ts) k i es = absurd (cc)
-closes_hole once (in_list ts h) k i es = goes_on once false (in_list ts h) finish false (after_close (in_list ts h)) (and-false once) refl es
-closes_hole once (in_members ms n h) k i es = goes_on once false (in_members ms n h) finish false (after_close (in_members ms n h)) (and-false once) refl es
+closes_hole once (in_list ts h) k i es = goes_on once false (in_list ts h) finish false (after_close (in_list ts h))
+    (and-false once) refl es
+closes_hole once (in_members ms n h) k i es =
+    goes_on once false (in_members ms n h) finish false (after_close (in_members ms n h)) (and-false once) refl es
 
-close_makes : (once : Bool) (h g : Hole) (k : Kind) (f : Bool) → innermost h ≡ Some k → g ≡ after_close h → HoleAdvancesBy once (before_child f) h (finish ∷ []) after g
-close_makes once h g k f i c = λ es. ap (λ z. outcome once z h (finish ∷ es)) (not_due f) ∙ closes_hole once h k i es ∙ ap (λ z. outcome once false z es) (sym c)
+close_makes : (once : Bool) (h g : Hole) (k : Kind) (f : Bool) → innermost h ≡ Some k → g ≡ after_close h
+    → HoleAdvancesBy once (before_child f) h (finish ∷ []) after g
+close_makes once h g k f i c = λ es. ap (λ z. outcome once z h (finish ∷ es)) (not_due f) ∙ closes_hole once h k i
+    es ∙ ap (λ z. outcome once false z es) (sym c)
 
-pub close_builds : (once : Bool) (h g : Hole) (s r : List ℕ) (k : Kind) (f : Bool) → innermost h ≡ Some k → Follows k f true s r → g ≡ after_close h → Builds once (before_child f) h s after g r
+pub close_builds : (once : Bool) (h g : Hole) (s r : List ℕ) (k : Kind) (f : Bool) → innermost h ≡ Some k
+    → Follows k f true s r → g ≡ after_close h → Builds once (before_child f) h s after g r
 close_builds once h g s r k f i p c = record {
   done = finish ∷ [];
   passed = close_passed (kinds h) (kinds g) s r k f (kinds_innermost h ∙ i) p (ap kinds c ∙ kinds_closed h);
@@ -101,42 +111,60 @@ close_builds once h g s r k f i p c = record {
   repeats_none = close_makes once h g k f i c;
 }
 
-goes_to_element : (once : Bool) (h : Hole) (k : Kind) → innermost h ≡ Some k → k ≡ kind.Seq → (es : List Step) → outcome once false h (element ∷ es) ≡ outcome once true h es
+goes_to_element : (once : Bool) (h : Hole) (k : Kind) → innermost h ≡ Some k → k ≡ kind.Seq → (es : List Step)
+    → outcome once false h (element ∷ es) ≡ outcome once true h es
 goes_to_element once (outside ts) k i q es = absurd (cc)
 goes_to_element once (in_list ts h) k i q es = goes_on once false (in_list ts h) element true (in_list ts h) (and-false once) refl es
 goes_to_element once (in_members ms n h) k i q es = absurd (cc)
 
-element_makes : (once : Bool) (h g : Hole) (k : Kind) (f : Bool) → innermost h ≡ Some k → k ≡ kind.Seq → g ≡ h → HoleAdvancesBy once (before_child f) h (element ∷ []) due g
-element_makes once h g k f i q e = λ es. ap (λ z. outcome once z h (element ∷ es)) (not_due f) ∙ goes_to_element once h k i q es ∙ ap (λ z. outcome once true z es) (sym e)
+element_makes : (once : Bool) (h g : Hole) (k : Kind) (f : Bool) → innermost h ≡ Some k → k ≡ kind.Seq → g ≡ h
+    → HoleAdvancesBy once (before_child f) h (element ∷ []) due g
+element_makes once h g k f i q e = λ es. ap (λ z. outcome once z h (element ∷ es)) (not_due f) ∙ goes_to_element
+    once h k i q es ∙ ap (λ z. outcome once true z es) (sym e)
 
-pub element_builds : (once : Bool) (h g : Hole) (s u r : List ℕ) (k : Kind) (f : Bool) → innermost h ≡ Some k → k ≡ kind.Seq → Follows k f false s u → r ≡ u → g ≡ h → Builds once (before_child f) h s due g r
+pub element_builds : (once : Bool) (h g : Hole) (s u r : List ℕ) (k : Kind) (f : Bool) → innermost h ≡ Some k
+    → k ≡ kind.Seq → Follows k f false s u → r ≡ u → g ≡ h → Builds once (before_child f) h s due g r
 element_builds once h g s u r k f i q p d e = record {
   done = element ∷ [];
-  passed = subst (λ z. Consumes (before_child f) (kinds h) s (element ∷ []) due (kinds z) r) (sym e) (subst (λ z. Consumes (before_child f) (kinds h) s (element ∷ []) due (kinds h) z) (sym d) (element_passed (kinds h) s u k f (kinds_innermost h ∙ i) q p));
+  passed = subst (λ z. Consumes (before_child f) (kinds h) s (element ∷ []) due (kinds z) r) (sym e)
+      (subst (λ z. Consumes (before_child f) (kinds h) s (element ∷ []) due (kinds h) z) (sym d)
+      (element_passed (kinds h) s u k f (kinds_innermost h ∙ i) q p));
   makes = element_makes false h g k f i q e;
   repeats_none = element_makes once h g k f i q e;
 }
 
-goes_to_member : (once : Bool) (h : Hole) (n : List ℕ) (k : Kind) → innermost h ≡ Some k → k ≡ kind.Map → (once && has_member n h) ≡ false → (es : List Step) → outcome once false h (key n ∷ es) ≡ outcome once true (with_name n h) es
+goes_to_member : (once : Bool) (h : Hole) (n : List ℕ) (k : Kind) → innermost h ≡ Some k → k ≡ kind.Map
+    → (once && has_member n h) ≡ false → (es : List Step)
+    → outcome once false h (key n ∷ es) ≡ outcome once true (with_name n h) es
 goes_to_member once (outside ts) n k i q l es = absurd (cc)
 goes_to_member once (in_list ts h) n k i q l es = absurd (cc)
-goes_to_member once (in_members ms m h) n k i q l es = goes_on once false (in_members ms m h) (key n) true (in_members ms (Some n) h) l refl es
+goes_to_member once (in_members ms m h) n k i q l es =
+    goes_on once false (in_members ms m h) (key n) true (in_members ms (Some n) h) l refl es
 
-key_makes : (once : Bool) (h g : Hole) (n : List ℕ) (k : Kind) (f : Bool) → innermost h ≡ Some k → k ≡ kind.Map → (once && has_member n h) ≡ false → g ≡ with_name n h → HoleAdvancesBy once (before_child f) h (key n ∷ []) due g
-key_makes once h g n k f i q l e = λ es. ap (λ z. outcome once z h (key n ∷ es)) (not_due f) ∙ goes_to_member once h n k i q l es ∙ ap (λ z. outcome once true z es) (sym e)
+key_makes : (once : Bool) (h g : Hole) (n : List ℕ) (k : Kind) (f : Bool) → innermost h ≡ Some k → k ≡ kind.Map
+    → (once && has_member n h) ≡ false → g ≡ with_name n h → HoleAdvancesBy once (before_child f) h (key n ∷ []) due
+    g
+key_makes once h g n k f i q l e = λ es. ap (λ z. outcome once z h (key n ∷ es)) (not_due f) ∙ goes_to_member once h
+    n k i q l es ∙ ap (λ z. outcome once true z es) (sym e)
 
 kinds_named : (h : Hole) (n : List ℕ) → kinds (with_name n h) ≡ kinds h
 kinds_named (outside ts) n = refl
 kinds_named (in_list ts h) n = refl
 kinds_named (in_members ms m h) n = refl
 
-key_done : (h : Hole) (s b n u : List ℕ) (k : Kind) (f : Bool) → innermost h ≡ Some k → k ≡ kind.Map → Follows k f false s b → Names b n u → Consumes (before_child f) (kinds h) s (key n ∷ []) due (kinds h) u
+key_done : (h : Hole) (s b n u : List ℕ) (k : Kind) (f : Bool) → innermost h ≡ Some k → k ≡ kind.Map
+    → Follows k f false s b → Names b n u → Consumes (before_child f) (kinds h) s (key n ∷ []) due (kinds h) u
 key_done h s b n u k f i q p w = key_passed (kinds h) s b n u k f (kinds_innermost h ∙ i) q p w
 
-pub key_builds : (once : Bool) (h g : Hole) (s b n u r : List ℕ) (k : Kind) (f : Bool) → innermost h ≡ Some k → k ≡ kind.Map → Follows k f false s b → Names b n u → (once && has_member n h) ≡ false → r ≡ u → g ≡ with_name n h → Builds once (before_child f) h s due g r
+pub key_builds : (once : Bool) (h g : Hole) (s b n u r : List ℕ) (k : Kind) (f : Bool) → innermost h ≡ Some k
+    → k ≡ kind.Map → Follows k f false s b → Names b n u → (once && has_member n h) ≡ false → r ≡ u
+    → g ≡ with_name n h → Builds once (before_child f) h s due g r
 key_builds once h g s b n u r k f i q p w l d e = record {
   done = key n ∷ [];
-  passed = subst (λ z. Consumes (before_child f) (kinds h) s (key n ∷ []) due z r) (sym (ap kinds e ∙ kinds_named h n)) (subst (λ z. Consumes (before_child f) (kinds h) s (key n ∷ []) due (kinds h) z) (sym d) (key_done h s b n u k f i q p w));
+  passed = subst (λ z. Consumes (before_child f) (kinds h) s (key n ∷ []) due z r)
+      (sym (ap kinds e ∙ kinds_named h n))
+      (subst (λ z. Consumes (before_child f) (kinds h) s (key n ∷ []) due (kinds h) z) (sym d)
+      (key_done h s b n u k f i q p w));
   makes = key_makes false h g n k f i q refl e;
   repeats_none = key_makes once h g n k f i q l e;
 }
@@ -154,10 +182,12 @@ start_new once element h g b = absurd (cc)
 start_new once (key k) h g b = absurd (cc)
 start_new once finish h g b = absurd (cc)
 
-start_makes : (once : Bool) (e : Step) (h g : Hole) → after_begin e h ≡ Some g → (es : List Step) → outcome once true h (e ∷ es) ≡ outcome once false g es
+start_makes : (once : Bool) (e : Step) (h g : Hole) → after_begin e h ≡ Some g → (es : List Step)
+    → outcome once true h (e ∷ es) ≡ outcome once false g es
 start_makes once e h g b es = goes_on once true h e false g (start_new once e h g b) (ap (option_map (λ (z : Hole). (false, z))) b) es
 
-pub start_builds : (once : Bool) (h g : Hole) (s r : List ℕ) (e : Step) (f : Bool) → Starts s e r → f ≡ is_some (opened_kind e) → after_begin e h ≡ Some g → Builds once due h s (before_child f) g r
+pub start_builds : (once : Bool) (h g : Hole) (s r : List ℕ) (e : Step) (f : Bool) → Starts s e r
+    → f ≡ is_some (opened_kind e) → after_begin e h ≡ Some g → Builds once due h s (before_child f) g r
 start_builds once h g s r e f p q b = record {
   done = e ∷ [];
   passed = value_passed (kinds h) s r e f (kinds g) p q (kinds_begun e h g b);
@@ -165,13 +195,17 @@ start_builds once h g s r e f p q b = record {
   repeats_none = λ es. start_makes once e h g b es ∙ ap (λ z. outcome once z g es) (sym (not_due f));
 }
 
-pub entered : {E : Type 0} (once : Bool) (r : Result Bool E) (h g : Hole) (s u : List ℕ) (e : Step) → Starts s e u → IfOk r (λ o. o ≡ is_some (opened_kind e)) → OnOk r (after_begin e h ≡ Some g) → IfOk r (λ o. Builds once due h s (before_child o) g u)
+pub entered : {E : Type 0} (once : Bool) (r : Result Bool E) (h g : Hole) (s u : List ℕ) (e : Step) → Starts s e u
+    → IfOk r (λ o. o ≡ is_some (opened_kind e)) → OnOk r (after_begin e h ≡ Some g)
+    → IfOk r (λ o. Builds once due h s (before_child o) g u)
 entered once (Ok o) h g s u e p q b = start_builds once h g s u e o p q b
 entered once (Err x) h g s u e p q b = tt
 
 -- ---- several
 
-pub Builds-append : (once : Bool) (m : Moment) (h : Hole) (s : List ℕ) (n : Moment) (g : Hole) (u : List ℕ) (m' : Moment) (h' : Hole) (s' : List ℕ) → Builds once m h s n g u → Builds once n g u m' h' s' → Builds once m h s m' h' s'
+pub Builds-append : (once : Bool) (m : Moment) (h : Hole) (s : List ℕ) (n : Moment) (g : Hole) (u : List ℕ)
+    (m' : Moment) (h' : Hole) (s' : List ℕ) → Builds once m h s n g u → Builds once n g u m' h' s'
+    → Builds once m h s m' h' s'
 Builds-append once m h s n g u m' h' s' p q = record {
   done = p.done ++ q.done;
   passed = Consumes-append m (kinds h) s p.done n (kinds g) u q.done m' (kinds h') s' p.passed q.passed;
@@ -184,33 +218,53 @@ Builds-append once m h s n g u m' h' s' p q = record {
 pub stuck : (once : Bool) (m : Moment) (h : Hole) (s : List ℕ) → NeverRuns m (kinds h) s → NeverGives once m h s
 stuck once m h s n es r g = absurd (n es r g)
 
-pub never_behind : (once : Bool) (m : Moment) (h : Hole) (s : List ℕ) (m' : Moment) (h' : Hole) (s' : List ℕ) → Builds once m h s m' h' s' → NeverGives once m' h' s' → NeverGives once m h s
+pub never_behind : (once : Bool) (m : Moment) (h : Hole) (s : List ℕ) (m' : Moment) (h' : Hole) (s' : List ℕ)
+    → Builds once m h s m' h' s' → NeverGives once m' h' s' → NeverGives once m h s
 never_behind once m h s m' h' s' p n es r g =
     let a = p.passed.back es r g in
     ap (outcome once (is_due m) h) a.1 ∙ p.repeats_none a.0 ∙ n a.0 r a.2
 
 -- a name that the object has, where none may be repeated
-pub repeat_gives : (once : Bool) (h : Hole) (s b n u : List ℕ) (k : Kind) (f : Bool) → innermost h ≡ Some k → k ≡ kind.Map → Follows k f false s b → Names b n u → (once && has_member n h) ≡ true → NeverGives once (before_child f) h s
+pub repeat_gives : (once : Bool) (h : Hole) (s b n u : List ℕ) (k : Kind) (f : Bool) → innermost h ≡ Some k
+    → k ≡ kind.Map → Follows k f false s b → Names b n u → (once && has_member n h) ≡ true
+    → NeverGives once (before_child f) h s
 repeat_gives once h s b n u k f i q p w l es r g =
     let a = (key_done h s b n u k f i q p w).back es r g in
     let rest : Bool × Hole → Option Tree = λ x. outcome once x.0 x.1 a.0 in
-    ap (λ z. outcome once z h es) (not_due f) ∙ ap (outcome once false h) a.1 ∙ ap (λ z. option_and_then rest (cond z None (after_step false h (key n)))) l
+    ap (λ z. outcome once z h es) (not_due f) ∙ ap (outcome once false h) a.1
+    ∙ ap (λ z. option_and_then rest (cond z None (after_step false h (key n)))) l
 
 -- ---- a whole value
 
 -- its first token was taken
-pub builds_init : (once : Bool) (e : Step) (h : Hole) (f : Bool) (s : List ℕ) → f ≡ is_some (opened_kind e) → after_begin e (outside []) ≡ Some h → Builds once (before_child (is_some (opened_kind e))) h s (before_child f) h s
+pub builds_init : (once : Bool) (e : Step) (h : Hole) (f : Bool) (s : List ℕ) → f ≡ is_some (opened_kind e)
+    → after_begin e (outside []) ≡ Some h → Builds once (before_child (is_some (opened_kind e))) h s
+    (before_child f) h s
 builds_init once e h f s q b =
     subst (λ z. Builds once (before_child (is_some (opened_kind e))) h s (before_child z) h s) (sym q)
-    (record { done = []; passed = Consumes-none (before_child (is_some (opened_kind e))) (kinds h) s (subst (λ z. MomentFits (before_child (is_some (opened_kind e))) z) (sym (kinds_begun e (outside []) h b)) (live_opened e)); makes = λ es. refl; repeats_none = λ es. refl })
+    (record {
+      done = [];
+      passed = Consumes-none (before_child (is_some (opened_kind e))) (kinds h) s
+          (subst (λ z. MomentFits (before_child (is_some (opened_kind e))) z)
+          (sym (kinds_begun e (outside []) h b)) (live_opened e));
+      makes = λ es. refl;
+      repeats_none =
+          λ es. refl;
+    })
 
 -- no container is left open
-pub read_ok : (once : Bool) (x : token.Event) (scratch s s' : List ℕ) (h : Hole) (f : Bool) (g : Hole) → after_begin (event_of_token x scratch) (outside []) ≡ Some h → innermost g ≡ None → Builds once (before_child (is_some (opened_kind (event_of_token x scratch)))) h s (before_child f) g s' → (t : Tree) × ValueAt t (event_of_token x scratch) s s' × (complete_tree g ≡ Some (retained_tree t)) × (complete_tree g ≡ retained_if once t)
+pub read_ok : (once : Bool) (x : token.Event) (scratch s s' : List ℕ) (h : Hole) (f : Bool) (g : Hole)
+    → after_begin (event_of_token x scratch) (outside []) ≡ Some h → innermost g ≡ None
+    → Builds once (before_child (is_some (opened_kind (event_of_token x scratch)))) h s (before_child f) g s'
+    → (t : Tree) × ValueAt t (event_of_token x scratch) s s' × (complete_tree g ≡ Some (retained_tree t))
+    × (complete_tree g ≡ retained_if once t)
 read_ok once x scratch s s' h true (outside ts) b i p = absurd p.passed.live
 read_ok once x scratch s s' h false (outside ts) b i p =
     let e = event_of_token x scratch in
     let m = before_child (is_some (opened_kind e)) in
-    let runs : Runs m p.done (with_opened (opened_kind e) []) s s' = subst (λ z. Runs m p.done z s s') (kinds_begun e (outside []) h b) (subst (λ z. Runs m z (kinds h) s s') (append-nil p.done) (p.passed.on [] s' refl)) in
+    let runs : Runs m p.done (with_opened (opened_kind e) []) s s' =
+    subst (λ z. Runs m p.done z s s') (kinds_begun e (outside []) h b)
+    (subst (λ z. Runs m z (kinds h) s s') (append-nil p.done) (p.passed.on [] s' refl)) in
     let w = whole_at x scratch p.done s s' runs in
     let ends : (o : Bool) → HoleAdvancesBy o m h p.done after (outside ts) → complete_tree (outside ts) ≡ retained_if o w.tree = λ o makes.
     sym (makes []) ∙ ap (λ z. outcome o z h (p.done ++ [])) (not_due (is_some (opened_kind e))) ∙ ap (outcome o false h) (append-nil p.done)
@@ -220,8 +274,12 @@ read_ok once x scratch s s' h f (in_list ts g) b i p = absurd (cc)
 read_ok once x scratch s s' h f (in_members ms n g) b i p = absurd (cc)
 
 -- no tree that the text spells is kept
-pub read_none : (once : Bool) (e : Step) (h : Hole) (s : List ℕ) → after_begin e (outside []) ≡ Some h → NeverGives once (before_child (is_some (opened_kind e))) h s → (t : Tree) (r : List ℕ) → ValueAt t e s r → retained_if once t ≡ None
+pub read_none : (once : Bool) (e : Step) (h : Hole) (s : List ℕ) → after_begin e (outside []) ≡ Some h
+    → NeverGives once (before_child (is_some (opened_kind e))) h s → (t : Tree) (r : List ℕ) → ValueAt t e s r
+    → retained_if once t ≡ None
 read_none once e h s b n t r v =
     let l = value_later t e s r v in
-    let none = n l.later r (subst (λ z. Runs (before_child (is_some (opened_kind e))) l.later z s r) (sym (kinds_begun e (outside []) h b)) l.runs) in
-    sym (gives-kept once t) ∙ ap (outcome once true (outside [])) l.is ∙ start_makes once e (outside []) h b l.later ∙ ap (λ z. outcome once z h l.later) (sym (not_due (is_some (opened_kind e)))) ∙ none
+    let none = n l.later r (subst (λ z. Runs (before_child (is_some (opened_kind e))) l.later z s r)
+    (sym (kinds_begun e (outside []) h b)) l.runs) in
+    sym (gives-kept once t) ∙ ap (outcome once true (outside [])) l.is ∙ start_makes once e (outside []) h b l.later
+    ∙ ap (λ z. outcome once z h l.later) (sym (not_due (is_some (opened_kind e)))) ∙ none

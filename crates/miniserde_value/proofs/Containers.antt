@@ -1,6 +1,7 @@
 -- The marks of a builder still fit its values and open objects after a call that changes them. By induction over the
 -- marks from the innermost on, and by cases of whether the call fails to allocate.
-use Rattle.std.proofs.Common.{◌≡◌, ◌<◌, ◌≤◌, ℕ, suc, List, [], ◌∷◌, ◌++◌, None, Result, Ok, Err, is_ok, Vec, Global, length, take, set, get_or, reverse, refl, sym, ap, ◌∙◌, subst, arith}
+use Rattle.std.proofs.Common.{◌≡◌, ◌<◌, ◌≤◌, ℕ, suc, List, [], ◌∷◌, ◌++◌, None, Result, Ok, Err, is_ok, Vec, Global}
+use Rattle.std.proofs.Common.{length, take, set, get_or, reverse, refl, sym, ap, ◌∙◌, subst, arith}
 use Rattle.std.specs.Prelude.{if◌then◌else◌, OnOk, OnErr}
 use Rattle.std.proofs.lemmas.List.{length-reverse, length-take}
 use Rattle.miniserde_model.specs.Tree.{Tree}
@@ -32,13 +33,16 @@ fits_other n o p os (container.Array v ∷ ms) f = (f.0, fits_other v o p os ms 
 fits_other n o p os (container.Object ∷ ms) f = (omega arith, f.1)
 
 -- the same, where it stands last
-pub fits_changed : (n : ℕ) (os : List OpenObject) (k : ℕ) (p : OpenObject) (ms : List OpenContainer) → length os ≡ suc k → Fits n (reverse os) ms → Fits n (reverse (set os k p)) ms
+pub fits_changed : (n : ℕ) (os : List OpenObject) (k : ℕ) (p : OpenObject) (ms : List OpenContainer)
+    → length os ≡ suc k → Fits n (reverse os) ms → Fits n (reverse (set os k p)) ms
 fits_changed n os k p ms h f =
     subst (λ (qs : List OpenObject). Fits n qs ms) (sym (reverse_set os k p h))
     (fits_other n (get_or os k p) p (reverse (take k os)) ms (subst (λ (qs : List OpenObject). Fits n qs ms) (reverse_last os k p h) f))
 
 -- marks fit after an object was opened, whether or not there was memory for its mark
-pub fits_opened : {A E : Type 0} (r : Result A E) (n : ℕ) (os qs : List OpenObject) (o : OpenObject) (ms ns : List OpenContainer) → qs ≡ os ++ o ∷ [] → ns ≡ (if is_ok r then ms ++ container.Object ∷ [] else ms) → Fits n (reverse os) (reverse ms) → Fits n (reverse qs) (reverse ns)
+pub fits_opened : {A E : Type 0} (r : Result A E) (n : ℕ) (os qs : List OpenObject) (o : OpenObject)
+    (ms ns : List OpenContainer) → qs ≡ os ++ o ∷ [] → ns ≡ (if is_ok r then ms ++ container.Object ∷ [] else ms)
+    → Fits n (reverse os) (reverse ms) → Fits n (reverse qs) (reverse ns)
 fits_opened (Ok u) n os qs o ms ns e d f =
     subst (λ (l : List OpenObject). Fits n l (reverse ns)) (sym (reverse_added os qs o e))
     (subst (λ (l : List OpenContainer). Fits n (o ∷ reverse os) l) (sym (reverse_added ms ns container.Object d)) (omega arith, f))
@@ -47,7 +51,9 @@ fits_opened (Err u) n os qs o ms ns e d f =
     (subst (λ (l : List OpenContainer). Fits n (o ∷ reverse os) (reverse l)) (sym d) (fits_more n o (reverse os) (reverse ms) f))
 
 -- marks fit after values were taken out, whether or not there was memory for it
-pub fits_split : {A E : Type 0} (r : Result A E) (old new : Vec Value Global) (v : ℕ) (os : List OpenObject) (ms : List OpenContainer) → OnOk r (new.items ≡ take v old.items) → OnErr r (new ≡ old) → (v ≤ length old.items) × Fits v os ms → Fits (length new.items) os ms
+pub fits_split : {A E : Type 0} (r : Result A E) (old new : Vec Value Global) (v : ℕ) (os : List OpenObject)
+    (ms : List OpenContainer) → OnOk r (new.items ≡ take v old.items) → OnErr r (new ≡ old) → (v ≤ length old.items)
+    × Fits v os ms → Fits (length new.items) os ms
 fits_split (Ok u) old new v os ms a b f =
     let same : length new.items ≡ length (take v old.items) = ap length a in
     fits_longer v (length new.items) os ms (omega (arith, same, f.0, length-take v old.items)) f.1
@@ -57,7 +63,10 @@ fits_split (Err u) old new v os ms a b f =
 
 -- ---- where an object is the innermost container, it alone changes
 
-pub object_changed : (f : Hole → Hole) (vs : List Tree) (os : List OpenObject) (k : ℕ) (o p : OpenObject) (ms below : List OpenContainer) → length os ≡ suc k → o ≡ get_or os k o → reverse ms ≡ container.Object ∷ below → ((h : Hole) → with_open_object p h ≡ f (with_open_object o h)) → hole_of vs (reverse (set os k p)) (reverse ms) ≡ f (hole_of vs (reverse os) (reverse ms))
+pub object_changed : (f : Hole → Hole) (vs : List Tree) (os : List OpenObject) (k : ℕ) (o p : OpenObject)
+    (ms below : List OpenContainer) → length os ≡ suc k → o ≡ get_or os k o → reverse ms ≡ container.Object ∷ below
+    → ((h : Hole) → with_open_object p h ≡ f (with_open_object o h))
+    → hole_of vs (reverse (set os k p)) (reverse ms) ≡ f (hole_of vs (reverse os) (reverse ms))
 object_changed f vs os k o p ms below len is top h =
     ap (hole_of vs (reverse (set os k p))) top
     ∙ ap (λ (qs : List OpenObject). hole_of vs qs (container.Object ∷ below)) (reverse_set os k p len)
@@ -72,5 +81,6 @@ open_has_none vs os [] h = absurd (omega (arith, h))
 open_has_none vs os (container.Array v ∷ ms) h = refl
 open_has_none vs os (container.Object ∷ ms) h = refl
 
-pub whole_open : (vs : List Tree) (os : List OpenObject) (ms : List OpenContainer) → 0 < length ms → None ≡ complete_tree (hole_of vs os (reverse ms))
+pub whole_open : (vs : List Tree) (os : List OpenObject) (ms : List OpenContainer) → 0 < length ms
+    → None ≡ complete_tree (hole_of vs os (reverse ms))
 whole_open vs os ms h = open_has_none vs os (reverse ms) (omega (arith, h, length-reverse ms))

@@ -9,13 +9,15 @@ use Rattle.miniserde_model.specs.Size.{size, size_of_children, size_of_members}
 use Rattle.miniserde_ser.specs.Trees.{trees_of, members_of}
 use Rattle.miniserde_value.specs.declared.json.value.Value.{Value, out-Value, fold-Value, fold_out-Value, map-Value}
 use Rattle.miniserde_value.specs.declared.json.value.Value as Value
-use Rattle.miniserde_value.specs.declared.json.value.Value.TheVariants.{Null, outs-Null, outs-Bool, outs-Number, outs-String, outs-Array, outs-Object}
+use Rattle.miniserde_value.specs.declared.json.value.Value.TheVariants.{Null, outs-Null, outs-Bool, outs-Number}
+use Rattle.miniserde_value.specs.declared.json.value.Value.TheVariants.{outs-String, outs-Array, outs-Object}
 use Rattle.miniserde_value.specs.declared.json.value.Value.TheOpen.{Value-F}
 use Rattle.miniserde_value.specs.declared.json.array.Array.{Array, fold-Array, fold_out-Array}
 use Rattle.miniserde_value.specs.declared.json.object.Object.{Object, fold-Object, fold_out-Object}
 use Rattle.miniserde_value.specs.declared.json.number.Number.{Number}
 use Rattle.miniserde_value.specs.Numbers.{number_leaf}
-use Rattle.miniserde_value.specs.Values.{array_items, object_entries, children_step, children, content_of, content_step, array_step, object_step, array_content, object_content}
+use Rattle.miniserde_value.specs.Values.{array_items, object_entries, children_step, children, content_of}
+use Rattle.miniserde_value.specs.Values.{content_step, array_step, object_step, array_content, object_content}
 use Rattle.miniserde_value.specs.Looks.{value_size}
 
 abbrev trees : Array → Trees
@@ -28,7 +30,8 @@ trees_of_map : (vs : List Value) → trees_of (λ t. t) (map content_of vs) ≡ 
 trees_of_map [] = refl
 trees_of_map (v ∷ vs) = ap (tree (content_of v)) (trees_of_map vs)
 
-members_of_map : (es : List (String Global × Value)) → members_of string_bytes (λ t. t) (map (λ e. (e.0, content_of e.1)) es) ≡ members_of string_bytes content_of es
+members_of_map : (es : List (String Global × Value))
+    → members_of string_bytes (λ t. t) (map (λ e. (e.0, content_of e.1)) es) ≡ members_of string_bytes content_of es
 members_of_map [] = refl
 members_of_map (e ∷ es) = ap (member (string_bytes e.0) (content_of e.1)) (members_of_map es)
 
@@ -49,7 +52,8 @@ level (Value-F.String s) = str (string_bytes s)
 level (Value-F.Array a) = array_content a
 level (Value-F.Object o) = object_content o
 
-level_of : (x : Value-F Value Array Object) → content_step (map-Value Value Array Object Tree Trees Members content_of trees rows x) ≡ level x
+level_of : (x : Value-F Value Array Object)
+    → content_step (map-Value Value Array Object Tree Trees Members content_of trees rows x) ≡ level x
 level_of Value-F.Null = refl
 level_of (Value-F.Bool b) = refl
 level_of (Value-F.Number n) = refl

@@ -47,7 +47,8 @@ besides_append (x ∷ xs) ys = omega (arith, besides_append xs ys)
 
 -- the bounds on the looks of one value
 abbrev IsBetween : Value → Type 0
-IsBetween v = (value_size v ≤ suc (cost v).alone) × (value_size v ≤ suc (cost v).beside) × (suc (suc (cost v).beside) ≤ 2 * value_size v) × ((cost v).alone ≤ (cost v).beside)
+IsBetween v = (value_size v ≤ suc (cost v).alone) × (value_size v ≤ suc (cost v).beside)
+    × (suc (suc (cost v).beside) ≤ 2 * value_size v) × ((cost v).alone ≤ (cost v).beside)
 
 between_all : (vs : List Value) → Each IsBetween vs → (sizes vs ≤ besides vs) × (besides vs ≤ 2 * sizes vs)
 between_all [] h = (omega arith, omega arith)
@@ -66,8 +67,12 @@ between_list (v ∷ vs) h =
     let a = h.0.0 in
     let b = h.0.1 in
     let c = h.0.2 in
-    let d = h.0.3 in
-    (omega (arith, a, b, c, d, r.0, r.1), omega (arith, a, b, c, d, r.0, r.1), omega (arith, a, b, c, d, r.0, r.1), omega (arith, a, b, c, d, r.0, r.1))
+    let d = h.0.3 in (
+      omega (arith, a, b, c, d, r.0, r.1),
+      omega (arith, a, b, c, d, r.0, r.1),
+      omega (arith, a, b, c, d, r.0, r.1),
+      omega (arith, a, b, c, d, r.0, r.1),
+    )
 
 pub between : (v : Value) → IsBetween v
 between = tree_ind IsBetween (λ v h.

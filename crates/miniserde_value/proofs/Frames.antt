@@ -10,7 +10,8 @@ use Rattle.miniserde_value.specs.declared.json.value.Value.{Value}
 use Rattle.miniserde_value.specs.declared.json.walk.frames.Frame.{Frame}
 use Rattle.miniserde_value.specs.declared.json.walk.frames.Frame.TheVariants as frame
 use Rattle.miniserde_value.specs.Values.{content_of}
-use Rattle.miniserde_value.specs.Visits.{element, list_ends, name, members_end, visits, child_visits, member_visits, IsOrdered, AreOrdered, AreOrderedMembers}
+use Rattle.miniserde_value.specs.Visits.{element, list_ends, name, members_end, visits, child_visits, member_visits}
+use Rattle.miniserde_value.specs.Visits.{IsOrdered, AreOrdered, AreOrderedMembers}
 use Rattle.miniserde_value.specs.Walks.{stack_left, StackOrdered}
 
 -- ---- the innermost container gave a child
@@ -25,21 +26,26 @@ pub record GaveItem (frames then : List Frame) (it next : Iter Value) (item : Va
   pub after : reverse then ≡ frame.Array next ∷ others
   pub gave : iter_rest it ≡ item ∷ iter_rest next
 
-pub item_left : (frames then : List Frame) (objects : List Entries) (it next : Iter Value) (item : Value) → GaveItem frames then it next item → stack_left (reverse frames) objects ≡ element ∷ visits (content_of item) (stack_left (reverse then) objects)
+pub item_left : (frames then : List Frame) (objects : List Entries) (it next : Iter Value) (item : Value)
+    → GaveItem frames then it next item → stack_left (reverse frames) objects ≡ element ∷ visits (content_of item)
+    (stack_left (reverse then) objects)
 item_left frames then objects it next item g =
     let rest = stack_left g.others objects in
     ap (λ (x : List Frame). stack_left x objects) g.before
     ∙ ap (λ (xs : List Value). child_visits (trees_of content_of xs) (list_ends ∷ rest)) g.gave
     ∙ ap (λ (x : List Frame). element ∷ visits (content_of item) (stack_left x objects)) (sym g.after)
 
-pub item_ordered : (frames then : List Frame) (objects : List Entries) (it next : Iter Value) (item : Value) → GaveItem frames then it next item → IsOrdered (content_of item) → StackOrdered (reverse then) objects → StackOrdered (reverse frames) objects
+pub item_ordered : (frames then : List Frame) (objects : List Entries) (it next : Iter Value) (item : Value)
+    → GaveItem frames then it next item → IsOrdered (content_of item) → StackOrdered (reverse then) objects
+    → StackOrdered (reverse frames) objects
 item_ordered frames then objects it next item g o p =
     let r = subst (λ (x : List Frame). StackOrdered x objects) g.after p in
     let items = subst (λ (xs : List Value). AreOrdered (trees_of content_of xs)) (sym g.gave) (o, r.0) in
     subst (λ (x : List Frame). StackOrdered x objects) (sym g.before) (items, r.1)
 
 -- an object, whose iterator gave a member: all objects before, and then
-pub record GaveMember (frames also : List Frame) (objects then : List Entries) (ms next : Entries) (text : List ℕ) (value : Value) : Type 0 where
+pub record GaveMember (frames also : List Frame) (objects then : List Entries) (ms next : Entries) (text : List ℕ)
+    (value : Value) : Type 0 where
   pub below : List Frame
   pub others : List Entries
   pub key : String Global
@@ -50,7 +56,10 @@ pub record GaveMember (frames also : List Frame) (objects then : List Entries) (
   pub gave : ms ≡ (key, value) ∷ next
   pub named : text ≡ string_bytes key
 
-pub member_left : (frames also : List Frame) (objects then : List Entries) (ms next : Entries) (text : List ℕ) (value : Value) → GaveMember frames also objects then ms next text value → stack_left (reverse frames) (reverse objects) ≡ name text ∷ visits (content_of value) (stack_left (reverse also) (reverse then))
+pub member_left : (frames also : List Frame) (objects then : List Entries) (ms next : Entries) (text : List ℕ)
+    (value : Value) → GaveMember frames also objects then ms next text value
+    → stack_left (reverse frames) (reverse objects) ≡ name text ∷ visits (content_of value)
+    (stack_left (reverse also) (reverse then))
 member_left frames also objects then ms next text value g =
     let rest = stack_left g.below g.others in
     ap (λ (x : List Frame). stack_left x (reverse objects)) g.is_object
@@ -60,9 +69,12 @@ member_left frames also objects then ms next text value g =
     ∙ ap (λ (x : List Entries). name text ∷ visits (content_of value) (stack_left (frame.Object ∷ g.below) x)) (sym g.after)
     ∙ ap (λ (x : List Frame). name text ∷ visits (content_of value) (stack_left x (reverse then))) (sym g.is_still)
 
-pub member_ordered : (frames also : List Frame) (objects then : List Entries) (ms next : Entries) (text : List ℕ) (value : Value) → GaveMember frames also objects then ms next text value → IsOrdered (content_of value) → StackOrdered (reverse also) (reverse then) → StackOrdered (reverse frames) (reverse objects)
+pub member_ordered : (frames also : List Frame) (objects then : List Entries) (ms next : Entries) (text : List ℕ)
+    (value : Value) → GaveMember frames also objects then ms next text value → IsOrdered (content_of value)
+    → StackOrdered (reverse also) (reverse then) → StackOrdered (reverse frames) (reverse objects)
 member_ordered frames also objects then ms next text value g o p =
-    let r = subst (λ (x : List Entries). StackOrdered (frame.Object ∷ g.below) x) g.after (subst (λ (x : List Frame). StackOrdered x (reverse then)) g.is_still p) in
+    let r = subst (λ (x : List Entries). StackOrdered (frame.Object ∷ g.below) x) g.after
+    (subst (λ (x : List Frame). StackOrdered x (reverse then)) g.is_still p) in
     let members = subst (λ (xs : Entries). AreOrderedMembers (members_of string_bytes content_of xs)) (sym g.gave) (o, r.0) in
     subst (λ (x : List Frame). StackOrdered x (reverse objects)) (sym g.is_object)
     (subst (λ (x : List Entries). StackOrdered (frame.Object ∷ g.below) x) (sym g.before) (members, r.1))
@@ -76,15 +88,18 @@ pub record Ended (frames then : List Frame) (objects also : List Entries) : Type
   pub before : reverse objects ≡ [] ∷ others
   pub after : reverse also ≡ others
 
-pub ended_left : (frames then : List Frame) (objects also : List Entries) → Ended frames then objects also → stack_left (reverse frames) (reverse objects) ≡ members_end ∷ stack_left (reverse then) (reverse also)
+pub ended_left : (frames then : List Frame) (objects also : List Entries) → Ended frames then objects also
+    → stack_left (reverse frames) (reverse objects) ≡ members_end ∷ stack_left (reverse then) (reverse also)
 ended_left frames then objects also g =
     ap (λ (x : List Frame). stack_left x (reverse objects)) g.is_object
     ∙ ap (λ (x : List Entries). stack_left (frame.Object ∷ g.below) x) g.before
     ∙ ap (λ (x : List Frame). members_end ∷ stack_left x g.others) (sym g.popped)
     ∙ ap (λ (x : List Entries). members_end ∷ stack_left (reverse then) x) (sym g.after)
 
-pub ended_ordered : (frames then : List Frame) (objects also : List Entries) → Ended frames then objects also → StackOrdered (reverse then) (reverse also) → StackOrdered (reverse frames) (reverse objects)
+pub ended_ordered : (frames then : List Frame) (objects also : List Entries) → Ended frames then objects also
+    → StackOrdered (reverse then) (reverse also) → StackOrdered (reverse frames) (reverse objects)
 ended_ordered frames then objects also g p =
-    let r = subst (λ (x : List Frame). StackOrdered x g.others) g.popped (subst (λ (x : List Entries). StackOrdered (reverse then) x) g.after p) in
+    let r = subst (λ (x : List Frame). StackOrdered x g.others) g.popped
+    (subst (λ (x : List Entries). StackOrdered (reverse then) x) g.after p) in
     subst (λ (x : List Frame). StackOrdered x (reverse objects)) (sym g.is_object)
     (subst (λ (x : List Entries). StackOrdered (frame.Object ∷ g.below) x) (sym g.before) (tt, r))

@@ -1,6 +1,7 @@
 -- The last element of a list is the first of the reversed list, also after it was set or removed. By induction over
 -- the list: a list of `k + 1` elements is its first `k` and one more.
-use Rattle.std.proofs.Common.{◌≡◌, ℕ, zero, suc, ◌-◌, List, [], ◌∷◌, ◌++◌, Some, slice_get, length, take, set, get_or, reverse, refl, sym, ap, ◌∙◌, subst, arith}
+use Rattle.std.proofs.Common.{◌≡◌, ℕ, zero, suc, ◌-◌, List, [], ◌∷◌, ◌++◌, Some, slice_get, length, take, set}
+use Rattle.std.proofs.Common.{get_or, reverse, refl, sym, ap, ◌∙◌, subst, arith}
 use Rattle.std.proofs.lemmas.List.{reverse-append, take-set}
 use Rattle.std.proofs.lemmas.Option.{slice_get_within, get_or_from_slice_get}
 
@@ -26,20 +27,24 @@ pub reverse_set : {A : Type 0} → (xs : List A) (k : ℕ) (u : A) → length xs
 reverse_set xs k u h = reverse_added (take k xs) (set xs k u) u (split_set xs k u h)
 
 -- the last is known
-pub reverse_ends : {A : Type 0} → (xs : List A) (k : ℕ) (d x : A) → length xs ≡ suc k → x ≡ get_or xs k d → reverse xs ≡ x ∷ reverse (take k xs)
+pub reverse_ends : {A : Type 0} → (xs : List A) (k : ℕ) (d x : A) → length xs ≡ suc k → x ≡ get_or xs k d
+    → reverse xs ≡ x ∷ reverse (take k xs)
 reverse_ends xs k d x h e = reverse_last xs k d h ∙ ap (λ y. y ∷ reverse (take k xs)) (sym e)
 
-pub reverse_ends_as : {A : Type 0} → (xs : List A) (k : ℕ) (d x y : A) → length xs ≡ suc k → x ≡ get_or xs k d → x ≡ y → reverse xs ≡ y ∷ reverse (take k xs)
+pub reverse_ends_as : {A : Type 0} → (xs : List A) (k : ℕ) (d x y : A) → length xs ≡ suc k → x ≡ get_or xs k d
+    → x ≡ y → reverse xs ≡ y ∷ reverse (take k xs)
 reverse_ends_as xs k d x y h e is = reverse_ends xs k d x h e ∙ ap (λ z. z ∷ reverse (take k xs)) is
 
 -- the last was got
-pub last_got : {A : Type 0} → (xs ys : List A) (x y : A) → ys ≡ xs → Some x ≡ slice_get ys (length ys - 1) → x ≡ y → reverse xs ≡ y ∷ reverse (take (length xs - 1) xs)
+pub last_got : {A : Type 0} → (xs ys : List A) (x y : A) → ys ≡ xs → Some x ≡ slice_get ys (length ys - 1) → x ≡ y
+    → reverse xs ≡ y ∷ reverse (take (length xs - 1) xs)
 last_got xs ys x y same got is =
     let there : slice_get xs (length xs - 1) ≡ Some y = subst (λ l. slice_get l (length l - 1) ≡ Some x) same (sym got) ∙ ap Some is in
     let within = slice_get_within xs (length xs - 1) y there in
     reverse_ends xs (length xs - 1) y y (omega arith) (sym (get_or_from_slice_get xs (length xs - 1) y y there))
 
-pub reverse_set_as : {A : Type 0} → (xs : List A) (k : ℕ) (u y : A) → length xs ≡ suc k → u ≡ y → reverse (set xs k u) ≡ y ∷ reverse (take k xs)
+pub reverse_set_as : {A : Type 0} → (xs : List A) (k : ℕ) (u y : A) → length xs ≡ suc k → u ≡ y
+    → reverse (set xs k u) ≡ y ∷ reverse (take k xs)
 reverse_set_as xs k u y h is = reverse_set xs k u h ∙ ap (λ z. z ∷ reverse (take k xs)) is
 
 -- the last was set, and then taken

@@ -35,4 +35,5 @@ mutual
 
   pub kept_members_ordered : (ms : Members) → Rise ms → AreOrderedMembers ms → retained_members ms ≡ ms
   kept_members_ordered no_members r h = refl
-  kept_members_ordered (member name t ms) r h = ap₂ (with_if_absent name) (kept_ordered t h.0) (kept_members_ordered ms r.1 h.1) ∙ first_of_all name t ms r.0
+  kept_members_ordered (member name t ms) r h =
+      ap₂ (with_if_absent name) (kept_ordered t h.0) (kept_members_ordered ms r.1 h.1) ∙ first_of_all name t ms r.0

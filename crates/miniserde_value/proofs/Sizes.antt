@@ -4,7 +4,8 @@ use Rattle.std.proofs.Common.{◌≡◌, ℕ, ◌+◌, List, refl, ap, ap₂}
 use Rattle.std.specs.Prelude.{⊤, ℤ, pos, negsuc}
 use Rattle.std.specs.declared.cmp.Ordering.{Ordering}
 use Rattle.std.specs.declared.cmp.Ordering.TheVariants.{Less, Equal, Greater}
-use Rattle.miniserde_model.specs.Tree.{Tree, null, truth, nonneg, neg, num, str, list, members, Trees, no_trees, tree, Members, no_members, member}
+use Rattle.miniserde_model.specs.Tree.{Tree, null, truth, nonneg, neg, num, str, list, members, Trees, no_trees}
+use Rattle.miniserde_model.specs.Tree.{tree, Members, no_members, member}
 use Rattle.miniserde_model.specs.Size.{size, size_of_children, size_of_members}
 use Rattle.miniserde_model.specs.Normal.{with_if_absent_by, with_if_absent, norm, norm_children, norm_members, norm_neg, text_cmp}
 use Rattle.miniserde_value.specs.Retained.{retained_tree, retained_children, retained_members}
@@ -15,15 +16,19 @@ Alike no_members no_members = ⊤
 Alike (member n t ms) (member o u ns) = (n ≡ o) × (size t ≡ size u) × Alike ms ns
 Alike _ _ = ⊥
 
-placed_alike : (o : Ordering) (name : List ℕ) (t t' : Tree) (other : List ℕ) (u u' : Tree) (ms ms' more more' : Members) → size t ≡ size t' → size u ≡ size u' → Alike ms ms' → Alike more more' → Alike (with_if_absent_by o name t other u ms more) (with_if_absent_by o name t' other u' ms' more')
+placed_alike : (o : Ordering) (name : List ℕ) (t t' : Tree) (other : List ℕ) (u u' : Tree)
+    (ms ms' more more' : Members) → size t ≡ size t' → size u ≡ size u' → Alike ms ms' → Alike more more'
+    → Alike (with_if_absent_by o name t other u ms more) (with_if_absent_by o name t' other u' ms' more')
 placed_alike Less name t t' other u u' ms ms' more more' p q r s = (refl, p, (refl, q, r))
 placed_alike Equal name t t' other u u' ms ms' more more' p q r s = (refl, q, r)
 placed_alike Greater name t t' other u u' ms ms' more more' p q r s = (refl, q, s)
 
-with_first_alike : (name : List ℕ) (t t' : Tree) (ms ms' : Members) → size t ≡ size t' → Alike ms ms' → Alike (with_if_absent name t ms) (with_if_absent name t' ms')
+with_first_alike : (name : List ℕ) (t t' : Tree) (ms ms' : Members) → size t ≡ size t' → Alike ms ms'
+    → Alike (with_if_absent name t ms) (with_if_absent name t' ms')
 with_first_alike name t t' no_members no_members p h = (refl, p, tt)
 with_first_alike name t t' (member o u ms) (member o' u' ms') p h =
-    rw h.0 (placed_alike (text_cmp name o') name t t' o' u u' ms ms' (with_if_absent name t ms) (with_if_absent name t' ms') p h.1 h.2 (with_first_alike name t t' ms ms' p h.2))
+    rw h.0 (placed_alike (text_cmp name o') name t t' o' u u' ms ms' (with_if_absent name t ms)
+    (with_if_absent name t' ms') p h.1 h.2 (with_first_alike name t t' ms ms' p h.2))
 with_first_alike name t t' no_members (member o u ms) p h = absurd h
 with_first_alike name t t' (member o u ms) no_members p h = absurd h
 
@@ -54,4 +59,5 @@ mutual
 
   kept_members_alike : (ms : Members) → Alike (retained_members ms) (norm_members ms)
   kept_members_alike no_members = tt
-  kept_members_alike (member name t ms) = with_first_alike name (retained_tree t) (norm t) (retained_members ms) (norm_members ms) (kept_size t) (kept_members_alike ms)
+  kept_members_alike (member name t ms) = with_first_alike name (retained_tree t) (norm t) (retained_members ms)
+      (norm_members ms) (kept_size t) (kept_members_alike ms)

@@ -5,7 +5,8 @@ use Rattle.miniserde_model.specs.Tree.{Tree, list, members, Trees, no_trees, tre
 use Rattle.miniserde_model.specs.Normal.{norm, norm_children, norm_members, BeginsAbove, Rise}
 use Rattle.miniserde_model.specs.InRange.{InRange, AllInRange, MembersInRange}
 use Rattle.miniserde_model.specs.Compact.{string_text, compact, compact_children, compact_more, compact_members, compact_more_members}
-use Rattle.miniserde_value.specs.Visits.{TreeVisit, list_ends, members_end, visits, child_visits, member_visits, IsOrdered, AreOrdered, AreOrderedMembers, visits_text, VisitsInRange}
+use Rattle.miniserde_value.specs.Visits.{TreeVisit, list_ends, members_end, visits, child_visits, member_visits}
+use Rattle.miniserde_value.specs.Visits.{IsOrdered, AreOrdered, AreOrderedMembers, visits_text, VisitsInRange}
 use Rattle.miniserde_model.proofs.Normal.{trees_with_first}
 use Rattle.miniserde_value.proofs.RetainedTrees.{first_of_all}
 
@@ -18,48 +19,65 @@ norm_above first (member n t ms) r b = go _ (first_of_all n (norm t) (norm_membe
     go ns e = subst (BeginsAbove first) (sym e) b
 
 -- members in order keep it
-pub norm_first : (n : List ℕ) (t : Tree) (ms : Members) → Rise (member n t ms) → norm_members (member n t ms) ≡ member n (norm t) (norm_members ms)
+pub norm_first : (n : List ℕ) (t : Tree) (ms : Members) → Rise (member n t ms)
+    → norm_members (member n t ms) ≡ member n (norm t) (norm_members ms)
 norm_first n t ms r = first_of_all n (norm t) (norm_members ms) (norm_above n ms r.1 r.0)
 
 -- a name with a colon and the text of its tree
 named_text : (q a b rest : List ℕ) → (q ++ 58 ∷ []) ++ (a ++ (b ++ rest)) ≡ ((q ++ 58 ∷ a) ++ b) ++ rest
-named_text q a b rest = append_assoc q (58 ∷ []) (a ++ (b ++ rest)) ∙ sym (append_assoc (q ++ 58 ∷ a) b rest ∙ append_assoc q (58 ∷ a) (b ++ rest))
+named_text q a b rest = append_assoc q (58 ∷ []) (a ++ (b ++ rest))
+    ∙ sym (append_assoc (q ++ 58 ∷ a) b rest ∙ append_assoc q (58 ∷ a) (b ++ rest))
 
 -- a container's text with its closing byte
 closing : (a rest : List ℕ) (x : ℕ) → a ++ x ∷ rest ≡ (a ++ x ∷ []) ++ rest
 closing a rest x = sym (append_assoc a (x ∷ []) rest)
 
 mutual
-  pub text_fronts : (t : Tree) → IsOrdered t → (rest : List TreeVisit) → visits_text false (visits t rest) ≡ compact (norm t) ++ visits_text false rest
-  text_fronts (list ts) h rest = ap (λ z. 91 ∷ z) (text_children ts h rest ∙ closing (compact_children (norm_children ts)) (visits_text false rest) 93)
-  text_fronts (members ms) h rest = ap (λ z. 123 ∷ z) (text_members ms h.0 h.1 rest ∙ closing (compact_members (norm_members ms)) (visits_text false rest) 125)
+  pub text_fronts : (t : Tree) → IsOrdered t → (rest : List TreeVisit)
+      → visits_text false (visits t rest) ≡ compact (norm t) ++ visits_text false rest
+  text_fronts (list ts) h rest =
+      ap (λ z. 91 ∷ z) (text_children ts h rest ∙ closing (compact_children (norm_children ts))
+      (visits_text false rest) 93)
+  text_fronts (members ms) h rest =
+      ap (λ z. 123 ∷ z) (text_members ms h.0 h.1 rest ∙ closing (compact_members (norm_members ms))
+      (visits_text false rest) 125)
   text_fronts _ h rest = refl
 
-  pub text_children : (ts : Trees) → AreOrdered ts → (rest : List TreeVisit) → visits_text true (child_visits ts (list_ends ∷ rest)) ≡ compact_children (norm_children ts) ++ 93 ∷ visits_text false rest
+  pub text_children : (ts : Trees) → AreOrdered ts → (rest : List TreeVisit)
+      → visits_text true (child_visits ts (list_ends ∷ rest)) ≡ compact_children (norm_children ts)
+      ++ 93 ∷ visits_text false rest
   text_children no_trees h rest = refl
   text_children (tree t ts) h rest =
       text_fronts t h.0 (child_visits ts (list_ends ∷ rest))
       ∙ ap (λ z. compact (norm t) ++ z) (text_more ts h.1 (list_ends ∷ rest))
       ∙ sym (append_assoc (compact (norm t)) (compact_more (norm_children ts)) (93 ∷ visits_text false rest))
 
-  pub text_more : (ts : Trees) → AreOrdered ts → (rest : List TreeVisit) → visits_text false (child_visits ts rest) ≡ compact_more (norm_children ts) ++ visits_text false rest
+  pub text_more : (ts : Trees) → AreOrdered ts → (rest : List TreeVisit) → visits_text false (child_visits ts rest)
+      ≡ compact_more (norm_children ts) ++ visits_text false rest
   text_more no_trees h rest = refl
   text_more (tree t ts) h rest =
       ap (λ z. 44 ∷ z) (text_fronts t h.0 (child_visits ts rest)
       ∙ ap (λ z. compact (norm t) ++ z) (text_more ts h.1 rest)
       ∙ sym (append_assoc (compact (norm t)) (compact_more (norm_children ts)) (visits_text false rest)))
 
-  pub text_members : (ms : Members) → Rise ms → AreOrderedMembers ms → (rest : List TreeVisit) → visits_text true (member_visits ms (members_end ∷ rest)) ≡ compact_members (norm_members ms) ++ 125 ∷ visits_text false rest
+  pub text_members : (ms : Members) → Rise ms → AreOrderedMembers ms → (rest : List TreeVisit)
+      → visits_text true (member_visits ms (members_end ∷ rest)) ≡ compact_members (norm_members ms)
+      ++ 125 ∷ visits_text false rest
   text_members no_members r h rest = refl
   text_members (member n t ms) r h rest =
-      ap (λ z. (string_text n ++ 58 ∷ []) ++ z) (text_fronts t h.0 (member_visits ms (members_end ∷ rest)) ∙ ap (λ z. compact (norm t) ++ z) (text_more_members ms r.1 h.1 (members_end ∷ rest)))
+      ap (λ z. (string_text n ++ 58 ∷ []) ++ z)
+      (text_fronts t h.0 (member_visits ms (members_end ∷ rest)) ∙ ap (λ z. compact (norm t) ++ z)
+      (text_more_members ms r.1 h.1 (members_end ∷ rest)))
       ∙ named_text (string_text n) (compact (norm t)) (compact_more_members (norm_members ms)) (125 ∷ visits_text false rest)
       ∙ ap (λ z. compact_members z ++ 125 ∷ visits_text false rest) (sym (norm_first n t ms r))
 
-  pub text_more_members : (ms : Members) → Rise ms → AreOrderedMembers ms → (rest : List TreeVisit) → visits_text false (member_visits ms rest) ≡ compact_more_members (norm_members ms) ++ visits_text false rest
+  pub text_more_members : (ms : Members) → Rise ms → AreOrderedMembers ms → (rest : List TreeVisit)
+      → visits_text false (member_visits ms rest) ≡ compact_more_members (norm_members ms) ++ visits_text false rest
   text_more_members no_members r h rest = refl
   text_more_members (member n t ms) r h rest =
-      ap (λ z. 44 ∷ ((string_text n ++ 58 ∷ []) ++ z)) (text_fronts t h.0 (member_visits ms rest) ∙ ap (λ z. compact (norm t) ++ z) (text_more_members ms r.1 h.1 rest))
+      ap (λ z. 44 ∷ ((string_text n ++ 58 ∷ []) ++ z))
+      (text_fronts t h.0 (member_visits ms rest) ∙ ap (λ z. compact (norm t) ++ z)
+      (text_more_members ms r.1 h.1 rest))
       ∙ ap (λ z. 44 ∷ z) (named_text (string_text n) (compact (norm t)) (compact_more_members (norm_members ms)) (visits_text false rest))
       ∙ ap (λ z. compact_more_members z ++ visits_text false rest) (sym (norm_first n t ms r))
 
@@ -80,14 +98,16 @@ mutual
   fronts_tree (members ms) rest h = fronts_named ms (members_end ∷ rest) h
   fronts_tree _ rest h = h
 
-  pub fronts_trees : (ts : Trees) (rest : List TreeVisit) → VisitsInRange (child_visits ts rest) → AllInRange (norm_children ts) × VisitsInRange rest
+  pub fronts_trees : (ts : Trees) (rest : List TreeVisit) → VisitsInRange (child_visits ts rest)
+      → AllInRange (norm_children ts) × VisitsInRange rest
   fronts_trees no_trees rest h = (tt, h)
   fronts_trees (tree t ts) rest h =
       let one = fronts_tree t (child_visits ts rest) h in
       let more = fronts_trees ts rest one.1 in
       ((one.0, more.0), more.1)
 
-  pub fronts_named : (ms : Members) (rest : List TreeVisit) → VisitsInRange (member_visits ms rest) → MembersInRange (norm_members ms) × VisitsInRange rest
+  pub fronts_named : (ms : Members) (rest : List TreeVisit) → VisitsInRange (member_visits ms rest)
+      → MembersInRange (norm_members ms) × VisitsInRange rest
   fronts_named no_members rest h = (tt, h)
   fronts_named (member n t ms) rest h =
       let one = fronts_tree t (member_visits ms rest) h.1 in

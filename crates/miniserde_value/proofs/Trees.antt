@@ -2,7 +2,8 @@
 -- `fold-Value` and `ind-Value`, in which an array and an object are the list of their values.
 use Rattle.std.proofs.Common.{◌≡◌, List, [], ◌∷◌, map, refl, sym, ap, ◌∙◌, subst}
 use Rattle.std.specs.Map.{values_of}
-use Rattle.miniserde_value.specs.declared.json.value.Value.{Value, out-Value, roll-Value, out-roll-Value, fold-Value, fold_out-Value, ind-Value, map-Value}
+use Rattle.miniserde_value.specs.declared.json.value.Value.{Value, out-Value, roll-Value, out-roll-Value}
+use Rattle.miniserde_value.specs.declared.json.value.Value.{fold-Value, fold_out-Value, ind-Value, map-Value}
 use Rattle.miniserde_value.specs.declared.json.value.Value.TheOpen.{Value-F, Array-F, Object-F}
 use Rattle.miniserde_value.specs.declared.json.array.Array.{Array, fold-Array, fold_out-Array, rolls-Array'}
 use Rattle.miniserde_value.specs.declared.json.object.Object.{Object, fold-Object, fold_out-Object, rolls-Object'}
@@ -42,16 +43,20 @@ module _ {A : Type 0} (f : List A → A) where
   arrays_out a = fold_out-Array A (List A) (List A) (λ x. f (results x)) array_results object_results a
 
   objects_out : (o : Object) → objects o ≡ map values (object_values o)
-  objects_out o = fold_out-Object A (List A) (List A) (λ x. f (results x)) array_results object_results o ∙ values_of-map values o.members.entries
+  objects_out o = fold_out-Object A (List A) (List A) (λ x. f (results x)) array_results object_results o
+      ∙ values_of-map values o.members.entries
 
-  results_below : (x : Value-F Value Array Object) → results (map-Value Value Array Object A (List A) (List A) values arrays objects x) ≡ map values (children_step x)
+  results_below : (x : Value-F Value Array Object)
+      → results (map-Value Value Array Object A (List A) (List A) values arrays objects x)
+      ≡ map values (children_step x)
   results_below (Value-F.Array a) = arrays_out a
   results_below (Value-F.Object o) = objects_out o
   results_below _ = refl
 
   pub fold_tree_out : (v : Value) → fold_tree f v ≡ f (map (fold_tree f) (children v))
   unfolding fold_tree
-  fold_tree_out v = fold_out-Value A (List A) (List A) (λ x. f (results x)) array_results object_results v ∙ ap f (results_below (out-Value v))
+  fold_tree_out v = fold_out-Value A (List A) (List A) (λ x. f (results x)) array_results object_results v
+      ∙ ap f (results_below (out-Value v))
 
 -- P of each value of the list
 abbrev pub Each : (Value → Type 0) → List Value → Type 0
@@ -76,7 +81,9 @@ module _ (P : Value → Type 0) (step : (v : Value) → Each P (children v) → 
   abbrev ValueWith : Type 0
   ValueWith = (v : Value) × P v
 
-  each_below : (y : Value-F ValueWith ArrayWith ObjectWith) → Each P (children_step (map-Value ValueWith ArrayWith ObjectWith Value Array Object (λ e. e.0) (λ e. e.0) (λ e. e.0) y))
+  each_below : (y : Value-F ValueWith ArrayWith ObjectWith)
+      → Each P (children_step (map-Value ValueWith ArrayWith ObjectWith Value Array Object (λ e. e.0) (λ e. e.0)
+      (λ e. e.0) y))
   each_below (Value-F.Array a) = a.1
   each_below (Value-F.Object o) = o.1
   each_below _ = tt
@@ -85,5 +92,9 @@ module _ (P : Value → Type 0) (step : (v : Value) → Each P (children v) → 
   tree_ind =
       ind-Value P (λ a. Each P (array_items a)) (λ o. Each P (object_values o))
       (λ x y e. step (roll-Value x) (subst (Each P) (ap children_step e ∙ sym (ap children_step (out-roll-Value x))) (each_below y)))
-      (λ x y e. subst (Each P) (ap (λ (z : Array-F Value Array Object). z.items.items) e ∙ sym (ap array_items (rolls-Array' x))) (each_of y.items.items))
-      (λ x y e. subst (Each P) (ap (λ (z : Object-F Value Array Object). values_of z.members.entries) e ∙ sym (ap object_values (rolls-Object' x))) (each_of_values y.members.entries))
+      (λ x y e. subst (Each P)
+      (ap (λ (z : Array-F Value Array Object). z.items.items) e ∙ sym (ap array_items (rolls-Array' x)))
+      (each_of y.items.items))
+      (λ x y e. subst (Each P)
+      (ap (λ (z : Object-F Value Array Object). values_of z.members.entries) e
+      ∙ sym (ap object_values (rolls-Object' x))) (each_of_values y.members.entries))

@@ -37,17 +37,20 @@ taken_size c d last e =
     let s = ap sizes e in
     omega (arith, s, size_children c, size_children d, sizes_append (children d) (last ∷ []))
 
-taken_from : (vs : List Value) (d last : Value) → vs ≡ children d → (cost_of (map cost (vs ++ last ∷ []))).alone ≡ suc (looks_from vs (cost d) (cost last))
+taken_from : (vs : List Value) (d last : Value) → vs ≡ children d → (cost_of (map cost (vs ++ last ∷ []))).alone
+    ≡ suc (looks_from vs (cost d) (cost last))
 taken_from [] d last e = omega arith
 taken_from (v ∷ vs) d last e =
     let k = ap (λ (k : Cost). k.alone) (cost_out d ∙ ap (λ (ws : List Value). cost_of (map cost ws)) (sym e)) in
     omega (arith, k, besides_append vs (last ∷ []))
 
 pub taken_looks : (c d last : Value) → children c ≡ children d ++ last ∷ [] → (cost c).alone ≡ suc (looks_left d last)
-taken_looks c d last e = ap (λ (k : Cost). k.alone) (cost_out c ∙ ap (λ (ws : List Value). cost_of (map cost ws)) e) ∙ taken_from (children d) d last refl
+taken_looks c d last e = ap (λ (k : Cost). k.alone) (cost_out c ∙ ap (λ (ws : List Value). cost_of (map cost ws)) e)
+    ∙ taken_from (children d) d last refl
 
 -- the value p is replaced in h, which is then d, and x stood there
-pub parked_size : (p x h d : Value) → ReplacesFirst p x (children h) (children d) → value_size d + value_size x ≡ value_size p + value_size h
+pub parked_size : (p x h d : Value) → ReplacesFirst p x (children h) (children d)
+    → value_size d + value_size x ≡ value_size p + value_size h
 parked_size p x h d r =
     let a = ap sizes r.1 in
     let b = ap sizes r.2 in

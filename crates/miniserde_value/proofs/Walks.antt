@@ -19,9 +19,12 @@ use Rattle.miniserde_value.specs.declared.json.number.Number.{Number}
 use Rattle.miniserde_value.specs.declared.json.number.Number.TheVariants as number
 use Rattle.miniserde_value.specs.Numbers.{number_leaf}
 use Rattle.miniserde_value.specs.Values.{array_items, object_entries, array_content, object_content, content_of}
-use Rattle.miniserde_value.specs.Visits.{TreeVisit, leaf, list_begins, list_ends, members_begin, members_end, visits, child_visits, member_visits, IsOrdered, AreOrdered, AreOrderedMembers}
+use Rattle.miniserde_value.specs.Visits.{TreeVisit, leaf, list_begins, list_ends, members_begin, members_end}
+use Rattle.miniserde_value.specs.Visits.{visits, child_visits, member_visits, IsOrdered, AreOrdered}
+use Rattle.miniserde_value.specs.Visits.{AreOrderedMembers}
 use Rattle.miniserde_value.specs.Walks.{items_left, members_left, ItemsOrdered, MembersOrdered}
-use Rattle.miniserde_value.proofs.ContentTrees.{content_of_null, content_of_bool, content_of_number, content_of_string, content_of_array, content_of_object}
+use Rattle.miniserde_value.proofs.ContentTrees.{content_of_null, content_of_bool, content_of_number}
+use Rattle.miniserde_value.proofs.ContentTrees.{content_of_string, content_of_array, content_of_object}
 use Rattle.miniserde_value.proofs.Ordered.{ordered_rises}
 
 -- ---- the first front of a value
@@ -37,7 +40,8 @@ number_ordered (number.I64 z) = tt
 number_ordered (number.Text x) = tt
 
 -- a value of this shape
-at_content : (v : Value) (t : Tree) (rest more : List TreeVisit) → content_of v ≡ t → visits t rest ≡ more → visits (content_of v) rest ≡ more
+at_content : (v : Value) (t : Tree) (rest more : List TreeVisit) → content_of v ≡ t → visits t rest ≡ more
+    → visits (content_of v) rest ≡ more
 at_content v t rest more e h = ap (λ (x : Tree). visits x rest) e ∙ h
 
 pub begin_null : (v : Value) (rest : List TreeVisit) → v ≡ value.Null → visits (content_of v) rest ≡ leaf null ∷ rest
@@ -46,10 +50,12 @@ begin_null v rest e = at_content v null rest _ (ap content_of e ∙ content_of_n
 pub begin_bool : (v : Value) (b : Bool) (rest : List TreeVisit) → v ≡ value.Bool b → visits (content_of v) rest ≡ leaf (truth b) ∷ rest
 begin_bool v b rest e = at_content v (truth b) rest _ (ap content_of e ∙ content_of_bool b) refl
 
-pub begin_number : (v : Value) (n : Number) (rest : List TreeVisit) → v ≡ value.Number n → visits (content_of v) rest ≡ leaf (number_leaf n) ∷ rest
+pub begin_number : (v : Value) (n : Number) (rest : List TreeVisit) → v ≡ value.Number n
+    → visits (content_of v) rest ≡ leaf (number_leaf n) ∷ rest
 begin_number v n rest e = at_content v (number_leaf n) rest _ (ap content_of e ∙ content_of_number n) (number_fronts n rest)
 
-pub begin_string : (v : Value) (s : String Global) (rest : List TreeVisit) → v ≡ value.String s → visits (content_of v) rest ≡ leaf (str (string_bytes s)) ∷ rest
+pub begin_string : (v : Value) (s : String Global) (rest : List TreeVisit) → v ≡ value.String s
+    → visits (content_of v) rest ≡ leaf (str (string_bytes s)) ∷ rest
 begin_string v s rest e = at_content v (str (string_bytes s)) rest _ (ap content_of e ∙ content_of_string s) refl
 
 pub ordered_null : (v : Value) → v ≡ value.Null → IsOrdered (content_of v)
@@ -66,19 +72,24 @@ ordered_string v s e = subst IsOrdered (sym (ap content_of e ∙ content_of_stri
 
 -- ---- a container is opened
 
-pub begin_array : (v : Value) (a : Array) (it : Iter Value) (rest more : List TreeVisit) → v ≡ value.Array a → iter_rest it ≡ array_items a → more ≡ items_left it rest → visits (content_of v) rest ≡ list_begins ∷ more
+pub begin_array : (v : Value) (a : Array) (it : Iter Value) (rest more : List TreeVisit) → v ≡ value.Array a
+    → iter_rest it ≡ array_items a → more ≡ items_left it rest → visits (content_of v) rest ≡ list_begins ∷ more
 begin_array v a it rest more e i m =
     at_content v (array_content a) rest _ (ap content_of e ∙ content_of_array a)
     (ap (λ (xs : List Value). list_begins ∷ child_visits (trees_of content_of xs) (list_ends ∷ rest)) (sym i)
     ∙ ap (λ (x : List TreeVisit). list_begins ∷ x) (sym m))
 
-pub begin_object : (v : Value) (o : Object) (it : List (String Global × Value)) (rest more : List TreeVisit) → v ≡ value.Object o → it ≡ object_entries o → more ≡ members_left it rest → visits (content_of v) rest ≡ members_begin ∷ more
+pub begin_object : (v : Value) (o : Object) (it : List (String Global × Value)) (rest more : List TreeVisit)
+    → v ≡ value.Object o → it ≡ object_entries o → more ≡ members_left it rest
+    → visits (content_of v) rest ≡ members_begin ∷ more
 begin_object v o it rest more e i m =
     at_content v (object_content o) rest _ (ap content_of e ∙ content_of_object o)
-    (ap (λ (xs : List (String Global × Value)). members_begin ∷ member_visits (members_of string_bytes content_of xs) (members_end ∷ rest)) (sym i)
+    (ap (λ (xs : List (String Global × Value)).
+    members_begin ∷ member_visits (members_of string_bytes content_of xs) (members_end ∷ rest)) (sym i)
     ∙ ap (λ (x : List TreeVisit). members_begin ∷ x) (sym m))
 
-pub ordered_array : (v : Value) (a : Array) (it : Iter Value) → v ≡ value.Array a → iter_rest it ≡ array_items a → ItemsOrdered it → IsOrdered (content_of v)
+pub ordered_array : (v : Value) (a : Array) (it : Iter Value) → v ≡ value.Array a → iter_rest it ≡ array_items a
+    → ItemsOrdered it → IsOrdered (content_of v)
 ordered_array v a it e i o =
     subst IsOrdered (sym (ap content_of e ∙ content_of_array a)) (subst (λ (xs : List Value). AreOrdered (trees_of content_of xs)) i o)
 
@@ -88,11 +99,15 @@ pub record Opened (o : Object) (m : BTreeMap (String Global) Value) (it : List (
   pub entries : it ≡ m.entries
   pub sorted : tree_map.IsOrdered string_cmp m
 
-pub ordered_opened : (o : Object) (m : BTreeMap (String Global) Value) (it : List (String Global × Value)) → Opened o m it → MembersOrdered it → IsOrdered (object_content o)
+pub ordered_opened : (o : Object) (m : BTreeMap (String Global) Value) (it : List (String Global × Value))
+    → Opened o m it → MembersOrdered it → IsOrdered (object_content o)
 ordered_opened o m it w p =
-    let rises = subst (λ (x : BTreeMap (String Global) Value). Rise (members_of string_bytes content_of x.entries)) w.map (ordered_rises content_of m w.sorted) in
+    let rises = subst (λ (x : BTreeMap (String Global) Value). Rise (members_of string_bytes content_of x.entries))
+    w.map (ordered_rises content_of m w.sorted) in
     let whole : it ≡ object_entries o = w.entries ∙ ap (λ (x : BTreeMap (String Global) Value). x.entries) w.map in
     (rises, subst (λ (xs : List (String Global × Value)). AreOrderedMembers (members_of string_bytes content_of xs)) whole p)
 
-pub ordered_object : (v : Value) (o : Object) (m : BTreeMap (String Global) Value) (it : List (String Global × Value)) → v ≡ value.Object o → Opened o m it → MembersOrdered it → IsOrdered (content_of v)
+pub ordered_object : (v : Value) (o : Object) (m : BTreeMap (String Global) Value)
+    (it : List (String Global × Value)) → v ≡ value.Object o → Opened o m it → MembersOrdered it
+    → IsOrdered (content_of v)
 ordered_object v o m it e w p = subst IsOrdered (sym (ap content_of e ∙ content_of_object o)) (ordered_opened o m it w p)

@@ -3,7 +3,8 @@
 -- unsets it.
 use Rattle.std.proofs.Common.{◌≡◌, Bool, true, false, List, [], ◌∷◌, Result, Ok, Err, OnOk, refl, ◌∙◌}
 use Rattle.miniserde_model.specs.Tree.{Tree, list, members, Trees, no_trees, tree, Members, no_members, member}
-use Rattle.miniserde_value.specs.Visits.{TreeVisit, leaf, list_ends, name, members_end, visits, child_visits, member_visits, first_flag_after, VisitsInRange}
+use Rattle.miniserde_value.specs.Visits.{TreeVisit, leaf, list_ends, name, members_end, visits, child_visits}
+use Rattle.miniserde_value.specs.Visits.{member_visits, first_flag_after, VisitsInRange}
 
 -- ---- one front, and then others
 
@@ -12,7 +13,8 @@ fronts_before (leaf t) rest h r = (h.0, r)
 fronts_before (name n) rest h r = (h.0, r)
 fronts_before _ rest h r = r
 
-pub first_before : (b : Bool) (m : TreeVisit) (rest : List TreeVisit) → first_flag_after (first_flag_after b (m ∷ [])) rest ≡ first_flag_after b (m ∷ rest)
+pub first_before : (b : Bool) (m : TreeVisit) (rest : List TreeVisit)
+    → first_flag_after (first_flag_after b (m ∷ [])) rest ≡ first_flag_after b (m ∷ rest)
 first_before b (leaf t) rest = refl
 first_before b (name n) rest = refl
 first_before b _ rest = refl
@@ -25,11 +27,13 @@ mutual
   first_fronts (members ms) rest = first_members ms true rest
   first_fronts _ rest = refl
 
-  first_children : (ts : Trees) (b : Bool) (rest : List TreeVisit) → first_flag_after b (child_visits ts (list_ends ∷ rest)) ≡ first_flag_after false rest
+  first_children : (ts : Trees) (b : Bool) (rest : List TreeVisit)
+      → first_flag_after b (child_visits ts (list_ends ∷ rest)) ≡ first_flag_after false rest
   first_children no_trees b rest = refl
   first_children (tree t ts) b rest = first_fronts t (child_visits ts (list_ends ∷ rest)) ∙ first_children ts false rest
 
-  first_members : (ms : Members) (b : Bool) (rest : List TreeVisit) → first_flag_after b (member_visits ms (members_end ∷ rest)) ≡ first_flag_after false rest
+  first_members : (ms : Members) (b : Bool) (rest : List TreeVisit)
+      → first_flag_after b (member_visits ms (members_end ∷ rest)) ≡ first_flag_after false rest
   first_members no_members b rest = refl
   first_members (member n t ms) b rest = first_fronts t (member_visits ms (members_end ∷ rest)) ∙ first_members ms false rest
 

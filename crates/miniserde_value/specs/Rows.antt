@@ -19,4 +19,5 @@ vec_type = vec.the_row the_row global.the_row ghosts
 abbrev pub btree_map_type : RattleType
 btree_map_type =
     tree.the_row (text.the_row global.the_row ghosts) the_row global.the_row (ord.ghosts global.the_row ghosts ord.no_dict ord.no_dict)
-    (eq.ghosts global.the_row ghosts eq.no_dict eq.no_dict) (partial_ord.ghosts global.the_row ghosts partial_ord.no_dict partial_ord.no_dict) ghosts
+    (eq.ghosts global.the_row ghosts eq.no_dict eq.no_dict)
+    (partial_ord.ghosts global.the_row ghosts partial_ord.no_dict partial_ord.no_dict) ghosts

@@ -15,7 +15,9 @@ use Rattle.miniserde_value.specs.declared.json.walk.frames.Frames.{Frames}
 use Rattle.miniserde_value.specs.declared.json.walk.Walk.{Walk}
 use Rattle.miniserde_value.specs.Numbers.{number_leaf}
 use Rattle.miniserde_value.specs.Values.{content_of}
-use Rattle.miniserde_value.specs.Visits.{TreeVisit, leaf, list_begins, element, list_ends, members_begin, name, members_end, visits, child_visits, member_visits, IsOrdered, AreOrdered, AreOrderedMembers}
+use Rattle.miniserde_value.specs.Visits.{TreeVisit, leaf, list_begins, element, list_ends, members_begin, name}
+use Rattle.miniserde_value.specs.Visits.{members_end, visits, child_visits, member_visits, IsOrdered, AreOrdered}
+use Rattle.miniserde_value.specs.Visits.{AreOrderedMembers}
 
 -- the `TreeVisit` for a `Visit` of Rust: a number or a text that it borrows becomes a leaf or a
 -- name

@@ -17,12 +17,14 @@ IsBelow limit t n = (t ≡ nonneg n) × (n < limit)
 
 -- the tree has a host's members: a text `host`, and a `weight` of at most 255
 abbrev pub IsHost : Tree → Host → Type 0
-IsHost (members ms) h = LastMemberReads ⊥ (λ t. t ≡ str (string_bytes h.host)) string_of (codes "host") ms × LastMemberReads ⊥ (λ t. IsBelow 256 t h.weight) (unsigned_of 8) (codes "weight") ms
+IsHost (members ms) h = LastMemberReads ⊥ (λ t. t ≡ str (string_bytes h.host)) string_of (codes "host") ms
+    × LastMemberReads ⊥ (λ t. IsBelow 256 t h.weight) (unsigned_of 8) (codes "weight") ms
 IsHost t h = ⊥
 
 -- the tree has a `Tls`'s members: a text `cert`, and `true` or `false` as `verify`
 abbrev pub IsTls : Tree → Tls → Type 0
-IsTls (members ms) s = LastMemberReads ⊥ (λ t. t ≡ str (string_bytes s.cert)) string_of (codes "cert") ms × LastMemberReads ⊥ (λ t. t ≡ truth s.verify) boolean_of (codes "verify") ms
+IsTls (members ms) s = LastMemberReads ⊥ (λ t. t ≡ str (string_bytes s.cert)) string_of (codes "cert") ms
+    × LastMemberReads ⊥ (λ t. t ≡ truth s.verify) boolean_of (codes "verify") ms
 IsTls t s = ⊥
 
 -- The tree has the settings' members: a text `name`, a `port` of at most 65535, `tls` that may be null or missing, a list
@@ -32,7 +34,8 @@ IsSettings host tls (members ms) s = LastMemberReads ⊥ (λ t. t ≡ str (strin
     × LastMemberReads ⊥ (λ t. IsBelow 65536 t s.port) (unsigned_of 16) (codes "port") ms
     × LastMemberReads (s.tls ≡ None) (λ t. OptionReads IsTls t s.tls) (option_of tls) (codes "tls") ms
     × LastMemberReads ⊥ (λ t. ListReads IsHost t s.hosts.items) (list_of host) (codes "hosts") ms
-    × LastMemberReads ⊥ (λ t. MapReads Some (λ k. k) string_bytes (unsigned_of 64) (IsBelow (2 ^ 64)) t s.limits.entries) (map_of Some (λ k. k) (unsigned_of 64)) (codes "limits") ms
+    × LastMemberReads ⊥ (λ t. MapReads Some (λ k. k) string_bytes (unsigned_of 64) (IsBelow (2 ^ 64)) t
+    s.limits.entries) (map_of Some (λ k. k) (unsigned_of 64)) (codes "limits") ms
 IsSettings host tls t s = ⊥
 
 -- what counts of a host and of a `Tls`

@@ -52,4 +52,5 @@ Recalls after s = s.first ≡ false
 -- ks: if d holds s, and the flag `first` of s fits m, then d' holds a state that is s after ks, and whose flag fits
 -- m'.
 abbrev pub Takes : Moment → List ℕ → List Token → Moment → List ℕ → Draft → Draft → Type 0
-Takes m rest ks m' rest' d d' = (s : State) → Represents d rest s → Recalls m s → (s' : State) × Run ks s s' × Represents d' rest' s' × Recalls m' s'
+Takes m rest ks m' rest' d d' = (s : State) → Represents d rest s → Recalls m s → (s' : State) × Run ks s s'
+    × Represents d' rest' s' × Recalls m' s'

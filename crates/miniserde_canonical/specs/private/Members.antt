@@ -20,7 +20,8 @@ name_in ms i = first_name (drop i ms)
 -- the name of each member is below the name of the next one, by their bytes; d is what `get_or` returns out of range,
 -- which no k reaches
 abbrev pub NamesRise : List Member → Type 0
-NamesRise ms = (k : ℕ) (d : Member) → k + 1 < length ms → text_cmp (name_of (get_or ms k d).name) (name_of (get_or ms (k + 1) d).name) ≡ Less
+NamesRise ms = (k : ℕ) (d : Member) → k + 1 < length ms
+    → text_cmp (name_of (get_or ms k d).name) (name_of (get_or ms (k + 1) d).name) ≡ Less
 
 -- ---- where a member begins and ends
 

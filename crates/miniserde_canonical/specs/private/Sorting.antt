@@ -28,14 +28,16 @@ pub record Seam (n : Member) (e : Entry) (at k : ℕ) (bs : List ℕ) (hs : List
 -- text before each of the entries es, for which the members ns stand, and then the text `last`.
 abbrev pub Chain : List Member → List Entry → List ℕ → List Splice → ℕ → ℕ → List ℕ → List Splice → List ℕ → Type 0
 Chain [] [] ms gs at k bs hs last = Holds ms gs at bs hs last
-Chain (n ∷ ns) (e ∷ es) ms gs at k bs hs last = (b c : List ℕ) × (h g : List Splice) × Seam n e at k bs hs b c h g × Holds ms gs at b h e.text × Chain ns es ms gs n.point.bytes n.point.splices c g last
+Chain (n ∷ ns) (e ∷ es) ms gs at k bs hs last = (b c : List ℕ) × (h g : List Splice) × Seam n e at k bs hs b c h g
+    × Holds ms gs at b h e.text × Chain ns es ms gs n.point.bytes n.point.splices c g last
 Chain _ _ ms gs at k bs hs last = ⊥
 
 -- ---- the members of one object, at the end of a text
 
 -- over the groups ms and gs, the text of bs and hs ends with the texts of the entries e and es, for which the members
 -- n and ns stand; the last one's text is `last`
-pub record EndsWithMembersFrom (n : Member) (ns : List Member) (e : Entry) (es : List Entry) (ms : List ℕ) (gs : List Splice) (bs : List ℕ) (hs : List Splice) (last : List ℕ) : Type 0 where
+pub record EndsWithMembersFrom (n : Member) (ns : List Member) (e : Entry) (es : List Entry) (ms : List ℕ)
+    (gs : List Splice) (bs : List ℕ) (hs : List Splice) (last : List ℕ) : Type 0 where
   pub front : List ℕ
   pub inside : List ℕ
   pub splices_front : List Splice
@@ -79,12 +81,18 @@ pub record Gains (ms : List ℕ) (gs : List Splice) (hs : List Splice) (groups g
 -- to `groups`, the text of the member of ns at the index i in `out` is appended, with a comma before it unless f is
 -- true
 abbrev pub PutsMember : List Member → ℕ → Bool → SplicedText → SplicedText → SplicedText → Type 0
-PutsMember ns i f out groups groups' = (es : List Entry) (last ms : List ℕ) (gs : List Splice) → EndsWithMembers ns es ms gs out.bytes.items out.splices.items last → Gains ms gs out.splices.items groups groups' (comma_before f ++ text_at (drop i es) last)
+PutsMember ns i f out groups groups' = (es : List Entry) (last ms : List ℕ) (gs : List Splice)
+    → EndsWithMembers ns es ms gs out.bytes.items out.splices.items last
+    → Gains ms gs out.splices.items groups groups' (comma_before f ++ text_at (drop i es) last)
 
 -- to `groups`, the texts of the members of ns at the indices in `order` are appended, without those whose name the
 -- next one has, and with commas between; n is how many these are
 abbrev pub PutsMembers : List Member → List ℕ → SplicedText → SplicedText → SplicedText → ℕ → Type 0
-PutsMembers ns order out groups groups' n = (es : List Entry) (last ms : List ℕ) (gs : List Splice) → EndsWithMembers ns es ms gs out.bytes.items out.splices.items last → Gains ms gs out.splices.items groups groups' (members_text true (without_repeats (members_at ns (text_tree_at es last) order))) × (n ≡ count (without_repeats (members_at ns (text_tree_at es last) order)))
+PutsMembers ns order out groups groups' n = (es : List Entry) (last ms : List ℕ) (gs : List Splice)
+    → EndsWithMembers ns es ms gs out.bytes.items out.splices.items last
+    → Gains ms gs out.splices.items groups groups'
+    (members_text true (without_repeats (members_at ns (text_tree_at es last) order)))
+    × (n ≡ count (without_repeats (members_at ns (text_tree_at es last) order)))
 
 -- out' is `out` up to the point, and then holds the text x over groups', which begin with ms and gs
 pub record PutAt (point : Point) (ms : List ℕ) (gs : List Splice) (out out' groups' : SplicedText) (x : List ℕ) : Type 0 where
@@ -101,9 +109,15 @@ pub record PutAt (point : Point) (ms : List ℕ) (gs : List Splice) (out out' gr
 
 -- out' is `out` up to `point`, and then holds the text that `groups` have from the point `from` on
 abbrev pub PutsBack : Point → Point → SplicedText → SplicedText → SplicedText → SplicedText → Type 0
-PutsBack point from out out' groups groups' = (ms b : List ℕ) (gs h : List Splice) (x : List ℕ) → groups.bytes.items ≡ ms ++ b → groups.splices.items ≡ gs ++ h → from.bytes ≡ length ms → from.splices ≡ length gs → point.bytes ≤ length out.bytes.items → Holds ms gs (length ms) b h x → (AllBefore (length gs) out.splices.items → AllBefore (length gs) h) → PutAt point ms gs out out' groups' x
+PutsBack point from out out' groups groups' = (ms b : List ℕ) (gs h : List Splice) (x : List ℕ)
+    → groups.bytes.items ≡ ms ++ b → groups.splices.items ≡ gs ++ h → from.bytes ≡ length ms
+    → from.splices ≡ length gs → point.bytes ≤ length out.bytes.items → Holds ms gs (length ms) b h x
+    → (AllBefore (length gs) out.splices.items → AllBefore (length gs) h) → PutAt point ms gs out out' groups' x
 
 -- out' is `out`, which ends with the text of the members ns, with that text in normal form; b says whether no two of
 -- their names are equal
 abbrev pub SortsMembers : List Member → SplicedText → SplicedText → SplicedText → SplicedText → Bool → Type 0
-SortsMembers ns out out' groups groups' b = (es : List Entry) (last : List ℕ) → EndsWithMembers ns es groups.bytes.items groups.splices.items out.bytes.items out.splices.items last → PutAt (begin_of ns (record { bytes = 0; splices = 0 })) groups.bytes.items groups.splices.items out out' groups' (members_text true (norm_members (entry_members es last))) × (b ≡ once_each (entry_members es last))
+SortsMembers ns out out' groups groups' b = (es : List Entry) (last : List ℕ)
+    → EndsWithMembers ns es groups.bytes.items groups.splices.items out.bytes.items out.splices.items last
+    → PutAt (begin_of ns (record { bytes = 0; splices = 0 })) groups.bytes.items groups.splices.items out out'
+    groups' (members_text true (norm_members (entry_members es last))) × (b ≡ once_each (entry_members es last))

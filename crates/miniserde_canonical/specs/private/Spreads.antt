@@ -27,8 +27,12 @@ shifted_splice from at h = record { at = at + (h.at - from); group = h.group }
 -- with its group; the groups have the bytes ms and the splices gs
 pub data Holds : List ℕ → List Splice → ℕ → List ℕ → List Splice → List ℕ → Type 0 where
   none : {ms : List ℕ} {gs : List Splice} {at : ℕ} → Holds ms gs at [] [] []
-  byte : {ms : List ℕ} {gs : List Splice} {at : ℕ} {bs : List ℕ} {hs : List Splice} {x : List ℕ} (c : ℕ) → Holds ms gs (suc at) bs hs x → Holds ms gs at (c ∷ bs) hs (c ∷ x)
-  splice : {ms : List ℕ} {gs : List Splice} {at : ℕ} {bs : List ℕ} {hs : List Splice} {x y : List ℕ} (h : Splice) → h.at ≡ at → Within h.group ms gs → Holds ms gs h.group.from.bytes (bytes_in h.group ms) (splices_in h.group gs) y → Holds ms gs at bs hs x → Holds ms gs at bs (h ∷ hs) (y ++ x)
+  byte : {ms : List ℕ} {gs : List Splice} {at : ℕ} {bs : List ℕ} {hs : List Splice} {x : List ℕ} (c : ℕ)
+      → Holds ms gs (suc at) bs hs x → Holds ms gs at (c ∷ bs) hs (c ∷ x)
+  splice : {ms : List ℕ} {gs : List Splice} {at : ℕ} {bs : List ℕ} {hs : List Splice} {x y : List ℕ} (h : Splice)
+      → h.at ≡ at → Within h.group ms gs
+      → Holds ms gs h.group.from.bytes (bytes_in h.group ms) (splices_in h.group gs) y → Holds ms gs at bs hs x
+      → Holds ms gs at bs (h ∷ hs) (y ++ x)
 
 -- ---- groups in order
 

@@ -44,16 +44,26 @@ alone given n k o = cond (bytes_eq k n) (given o) None
 -- ---- by a name and its data
 
 -- two functions that agree at each name and data agree at each tree
-pub tagging-iff : {A B : Type 0} (tagging : Tagging) (f : Name → Option Tree → Option A) (g : Name → Option Tree → Option B) (a : A) (b : B) → ((k : Name) (o : Option Tree) → (f k o ≡ Some a) ↔ (g k o ≡ Some b)) → (t : Tree) → (content_by_tagging tagging f t ≡ Some a) ↔ (content_by_tagging tagging g t ≡ Some b)
-tagging-iff {A} {B} tagging f g a b h t = elim (variant_of_tree tagging t) as (λ o. (◌≡◌ {A = Option A} (option_and_then (λ s. f s.0 s.1) o) (Some a)) ↔ (◌≡◌ {A = Option B} (option_and_then (λ s. g s.0 s.1) o) (Some b))) [ None ↦ (λ e. absurd (cc), λ e. absurd (cc)) | Some s ↦ h s.0 s.1 ]
+pub tagging-iff : {A B : Type 0} (tagging : Tagging) (f : Name → Option Tree → Option A)
+    (g : Name → Option Tree → Option B) (a : A) (b : B)
+    → ((k : Name) (o : Option Tree) → (f k o ≡ Some a) ↔ (g k o ≡ Some b)) → (t : Tree)
+    → (content_by_tagging tagging f t ≡ Some a) ↔ (content_by_tagging tagging g t ≡ Some b)
+tagging-iff {A} {B} tagging f g a b h t =
+    elim (variant_of_tree tagging t)
+    as (λ o. (◌≡◌ {A = Option A} (option_and_then (λ s. f s.0 s.1) o) (Some a))
+    ↔ (◌≡◌ {A = Option B} (option_and_then (λ s. g s.0 s.1) o) (Some b)))
+    [ None ↦ (λ e. absurd (cc), λ e. absurd (cc)) | Some s ↦ h s.0 s.1 ]
 
 -- a tree gives no content if no name and data do
 pub tagging-none : {A : Type 0} (tagging : Tagging) (a : A) (t : Tree) → content_by_tagging tagging (λ k o. None) t ≡ Some a → ⊥
-tagging-none {A} tagging a t = elim (variant_of_tree tagging t) as (λ o. ◌≡◌ {A = Option A} (option_and_then (λ s. None) o) (Some a) → ⊥) [ None ↦ λ e. cc | Some s ↦ λ e. cc ]
+tagging-none {A} tagging a t =
+    elim (variant_of_tree tagging t) as (λ o. ◌≡◌ {A = Option A} (option_and_then (λ s. None) o) (Some a) → ⊥)
+    [ None ↦ λ e. cc | Some s ↦ λ e. cc ]
 
 -- ---- a variant without data
 
-unit-at : (n k : Name) (o : Option Tree) → (◌≡◌ {A = Option (Name × Option Tree)} (Some (k, o)) (Some (n, None))) ↔ (alone unit_content n k o ≡ Some tt)
+unit-at : (n k : Name) (o : Option Tree) → (◌≡◌ {A = Option (Name × Option Tree)} (Some (k, o)) (Some (n, None)))
+    ↔ (alone unit_content n k o ≡ Some tt)
 unit-at n k None = (
   λ e. let i : ◌≡◌ {A = Name × Option Tree} (k, None) (n, None) = cc in rw (ap (λ z. z.0) i, same-name n) refl,
   λ e. ap (λ z. Some (z, None)) (is-name k n (cond-some (bytes_eq k n) (Some tt) tt e).0),
@@ -63,11 +73,13 @@ unit-at n k (Some t) = (
   λ e. let p = (cond-some (bytes_eq k n) None tt e).1 in absurd (cc),
 )
 
-unit-found : (n : Name) (o : Option (Name × Option Tree)) → (o ≡ Some (n, None)) ↔ (option_and_then (λ s. alone unit_content n s.0 s.1) o ≡ Some tt)
+unit-found : (n : Name) (o : Option (Name × Option Tree)) → (o ≡ Some (n, None))
+    ↔ (option_and_then (λ s. alone unit_content n s.0 s.1) o ≡ Some tt)
 unit-found n None = (λ e. absurd (cc), λ e. absurd (cc))
 unit-found n (Some s) = unit-at n s.0 s.1
 
-pub unit-agrees : (tagging : Tagging) (n : Name) (t : Tree) (u : Unit {0}) → UnitReads tagging n t u ↔ (content_by_tagging tagging (alone unit_content n) t ≡ Some tt)
+pub unit-agrees : (tagging : Tagging) (n : Name) (t : Tree) (u : Unit {0}) → UnitReads tagging n t u
+    ↔ (content_by_tagging tagging (alone unit_content n) t ≡ Some tt)
 unit-agrees tagging n t u =
     let is = tagging-agrees tagging t n None in
     let found = unit-found n (variant_of_tree tagging t) in
@@ -75,8 +87,11 @@ unit-agrees tagging n t u =
 
 -- ---- a variant with data
 
-module _ {T C : Type 0} (reads : Tree → T → Type 0) (of : Tree → Option C) (content : T → C) (agrees : (t : Tree) (x : T) → reads t x ↔ (of t ≡ Some (content x))) where
-  data-at : (n k : Name) (o : Option Tree) (x : T) → ((u : Tree) × (◌≡◌ {A = Option (Name × Option Tree)} (Some (k, o)) (Some (n, Some u))) × reads u x) ↔ (alone (data_content of) n k o ≡ Some (content x))
+module _ {T C : Type 0} (reads : Tree → T → Type 0) (of : Tree → Option C) (content : T → C)
+    (agrees : (t : Tree) (x : T) → reads t x ↔ (of t ≡ Some (content x))) where
+  data-at : (n k : Name) (o : Option Tree) (x : T)
+      → ((u : Tree) × (◌≡◌ {A = Option (Name × Option Tree)} (Some (k, o)) (Some (n, Some u))) × reads u x)
+      ↔ (alone (data_content of) n k o ≡ Some (content x))
   data-at n k None x = (
     λ h. let i : ◌≡◌ {A = Name × Option Tree} (k, None) (n, Some h.0) = cc (h.1) in let j = ap (λ z. z.1) i in absurd (cc),
     λ e. let p = (cond-some (bytes_eq k n) None (content x) e).1 in absurd (cc),
@@ -91,11 +106,14 @@ module _ {T C : Type 0} (reads : Tree → T → Type 0) (of : Tree → Option C)
         (t, ap (λ z. Some (z, Some t)) (is-name k n p.0), (agrees t x).1 p.1),
   )
 
-  data-found : (n : Name) (o : Option (Name × Option Tree)) (x : T) → ((u : Tree) × (o ≡ Some (n, Some u)) × reads u x) ↔ (option_and_then (λ s. alone (data_content of) n s.0 s.1) o ≡ Some (content x))
+  data-found : (n : Name) (o : Option (Name × Option Tree)) (x : T)
+      → ((u : Tree) × (o ≡ Some (n, Some u)) × reads u x)
+      ↔ (option_and_then (λ s. alone (data_content of) n s.0 s.1) o ≡ Some (content x))
   data-found n None x = (λ h. let e = h.1 in absurd (cc), λ e. absurd (cc))
   data-found n (Some s) x = data-at n s.0 s.1 x
 
-  pub data-agrees : (tagging : Tagging) (n : Name) (t : Tree) (x : T) → DataReads reads tagging n t x ↔ (content_by_tagging tagging (alone (data_content of) n) t ≡ Some (content x))
+  pub data-agrees : (tagging : Tagging) (n : Name) (t : Tree) (x : T) → DataReads reads tagging n t x
+      ↔ (content_by_tagging tagging (alone (data_content of) n) t ≡ Some (content x))
   data-agrees tagging n t x =
       let found = data-found n (variant_of_tree tagging t) x in (
         λ h. found.0 (h.0, (tagging-agrees tagging t n (Some h.0)).0 h.1, h.2),
@@ -104,38 +122,69 @@ module _ {T C : Type 0} (reads : Tree → T → Type 0) (of : Tree → Option C)
 
 -- ---- variant by variant
 
-module _ {T W C D : Type 0} (given : Option Tree → Option C) (one : Tagging → Name → Tree → T → Type 0) (content : T → C) (one_agrees : (tagging : Tagging) (n : Name) (t : Tree) (x : T) → one tagging n t x ↔ (content_by_tagging tagging (alone given n) t ≡ Some (content x)))
-    (later : List Name → Name → Option Tree → Option D) (reads : Tagging → List Name → Tree → W → Type 0) (content_w : W → D) (fresh : (ns : List Name) (n : Name) (o : Option Tree) → is_new n ns ≡ true → later ns n o ≡ None) (agrees : (tagging : Tagging) (ns : List Name) → are_distinct ns ≡ true → (t : Tree) (w : W) → reads tagging ns t w ↔ (content_by_tagging tagging (later ns) t ≡ Some (content_w w))) where
+module _ {T W C D : Type 0} (given : Option Tree → Option C) (one : Tagging → Name → Tree → T → Type 0)
+    (content : T → C) (one_agrees : (tagging : Tagging) (n : Name) (t : Tree) (x : T) → one tagging n t x
+    ↔ (content_by_tagging tagging (alone given n) t ≡ Some (content x)))
+    (later : List Name → Name → Option Tree → Option D) (reads : Tagging → List Name → Tree → W → Type 0)
+    (content_w : W → D) (fresh : (ns : List Name) (n : Name) (o : Option Tree) → is_new n ns ≡ true
+    → later ns n o ≡ None) (agrees : (tagging : Tagging) (ns : List Name) → are_distinct ns ≡ true
+    → (t : Tree) (w : W) → reads tagging ns t w
+    ↔ (content_by_tagging tagging (later ns) t ≡ Some (content_w w))) where
   pub case-fresh : (ns : List Name) (n : Name) (o : Option Tree) → is_new n ns ≡ true → variant_content given later ns n o ≡ None
   case-fresh [] n o h = refl
   case-fresh (m ∷ ms) n o h = let p = new-first n m ms h in rw (p.0, fresh ms n o p.1) refl
 
-  first-at : (n : Name) (ns : List Name) (x : T) (k : Name) (o : Option Tree) → (alone given n k o ≡ Some (content x)) ↔ (variant_content given later (n ∷ ns) k o ≡ Some (First (content x)))
-  first-at n ns x k o = elim (bytes_eq k n) as (λ b. (cond b (given o) None ≡ Some (content x)) ↔ (cond b (option_map First (given o)) (option_map Later (later ns k o)) ≡ Some (First (content x)))) [
-    | true ↦ elim (given o) as (λ g. (g ≡ Some (content x)) ↔ (◌≡◌ {A = Option (OneOf C D)} (option_map First g) (Some (First (content x))))) [ None ↦ (λ e. absurd (cc), λ e. absurd (cc)) | Some c ↦ (λ e. cc, λ e. cc) ]
-    | false ↦ elim (later ns k o) as (λ g. (◌≡◌ {A = Option C} None (Some (content x))) ↔ (◌≡◌ {A = Option (OneOf C D)} (option_map Later g) (Some (First (content x))))) [ None ↦ (λ e. absurd (cc), λ e. absurd (cc)) | Some c ↦ (λ e. absurd (cc), λ e. absurd (cc)) ]
-  ]
+  first-at : (n : Name) (ns : List Name) (x : T) (k : Name) (o : Option Tree)
+      → (alone given n k o ≡ Some (content x))
+      ↔ (variant_content given later (n ∷ ns) k o ≡ Some (First (content x)))
+  first-at n ns x k o = elim (bytes_eq k n)
+      as (λ b. (cond b (given o) None ≡ Some (content x))
+      ↔ (cond b (option_map First (given o)) (option_map Later (later ns k o)) ≡ Some (First (content x)))) [
+        | true ↦ elim (given o) as (λ g. (g ≡ Some (content x))
+            ↔ (◌≡◌ {A = Option (OneOf C D)} (option_map First g) (Some (First (content x)))))
+            [ None ↦ (λ e. absurd (cc), λ e. absurd (cc)) | Some c ↦ (λ e. cc, λ e. cc) ]
+        | false ↦ elim (later ns k o)
+            as (λ g. (◌≡◌ {A = Option C} None (Some (content x)))
+            ↔ (◌≡◌ {A = Option (OneOf C D)} (option_map Later g) (Some (First (content x)))))
+            [ None ↦ (λ e. absurd (cc), λ e. absurd (cc)) | Some c ↦ (λ e. absurd (cc), λ e. absurd (cc)) ]
+      ]
 
-  pub later-none : (n : Name) (ns : List Name) (w : W) (k : Name) (o : Option Tree) → is_new n ns ≡ true → bytes_eq k n ≡ true → later ns k o ≡ Some (content_w w) → ⊥
+  pub later-none : (n : Name) (ns : List Name) (w : W) (k : Name) (o : Option Tree) → is_new n ns ≡ true
+      → bytes_eq k n ≡ true → later ns k o ≡ Some (content_w w) → ⊥
   later-none n ns w k o f h e =
       let i = is-name k n h in
       let g : later ns k o ≡ None = subst (λ z. later ns z o ≡ None) (sym i) (fresh ns n o f) in
       cc
 
-  later-at : (n : Name) (ns : List Name) (w : W) → is_new n ns ≡ true → (k : Name) (o : Option Tree) → (later ns k o ≡ Some (content_w w)) ↔ (variant_content given later (n ∷ ns) k o ≡ Some (Later (content_w w)))
-  later-at n ns w f k o = elim (bytes_eq k n) as (λ b. bytes_eq k n ≡ b → (later ns k o ≡ Some (content_w w)) ↔ (cond b (option_map First (given o)) (option_map Later (later ns k o)) ≡ Some (Later (content_w w)))) [
-    | true ↦ λ h. (λ e. absurd (later-none n ns w k o f h e), elim (given o) as (λ g. ◌≡◌ {A = Option (OneOf C D)} (option_map First g) (Some (Later (content_w w))) → later ns k o ≡ Some (content_w w)) [ None ↦ λ e. absurd (cc) | Some c ↦ λ e. absurd (cc) ])
-    | false ↦ λ h. elim (later ns k o) as (λ g. (g ≡ Some (content_w w)) ↔ (◌≡◌ {A = Option (OneOf C D)} (option_map Later g) (Some (Later (content_w w))))) [ None ↦ (λ e. absurd (cc), λ e. absurd (cc)) | Some c ↦ (λ e. cc, λ e. cc) ]
-  ] refl
+  later-at : (n : Name) (ns : List Name) (w : W) → is_new n ns ≡ true → (k : Name) (o : Option Tree)
+      → (later ns k o ≡ Some (content_w w))
+      ↔ (variant_content given later (n ∷ ns) k o ≡ Some (Later (content_w w)))
+  later-at n ns w f k o = elim (bytes_eq k n)
+      as (λ b. bytes_eq k n ≡ b → (later ns k o ≡ Some (content_w w))
+      ↔ (cond b (option_map First (given o)) (option_map Later (later ns k o)) ≡ Some (Later (content_w w)))) [
+        | true ↦ λ h. (
+          λ e. absurd (later-none n ns w k o f h e),
+          elim (given o) as (λ g. ◌≡◌ {A = Option (OneOf C D)} (option_map First g) (Some (Later (content_w w)))
+              → later ns k o ≡ Some (content_w w)) [ None ↦ λ e. absurd (cc) | Some c ↦ λ e. absurd (cc) ],
+        )
+        | false ↦ λ h. elim (later ns k o)
+            as (λ g. (g ≡ Some (content_w w))
+            ↔ (◌≡◌ {A = Option (OneOf C D)} (option_map Later g) (Some (Later (content_w w)))))
+            [ None ↦ (λ e. absurd (cc), λ e. absurd (cc)) | Some c ↦ (λ e. cc, λ e. cc) ]
+      ] refl
 
-  pub case-agrees : (tagging : Tagging) (ns : List Name) → are_distinct ns ≡ true → (t : Tree) (v : OneOf T W) → CaseReads (one tagging) (reads tagging) ns t v ↔ (content_by_tagging tagging (variant_content given later ns) t ≡ Some (case_content content content_w v))
+  pub case-agrees : (tagging : Tagging) (ns : List Name) → are_distinct ns ≡ true → (t : Tree) (v : OneOf T W)
+      → CaseReads (one tagging) (reads tagging) ns t v
+      ↔ (content_by_tagging tagging (variant_content given later ns) t ≡ Some (case_content content content_w v))
   case-agrees tagging [] d t v = (λ h. absurd h, λ e. absurd (tagging-none tagging (case_content content content_w v) t e))
   case-agrees tagging (n ∷ ns) d t (First x) =
       let p = one_agrees tagging n t x in
-      let q = tagging-iff tagging (alone given n) (variant_content given later (n ∷ ns)) (content x) (First (content x)) (first-at n ns x) t in
+      let q = tagging-iff tagging (alone given n) (variant_content given later (n ∷ ns)) (content x)
+      (First (content x)) (first-at n ns x) t in
       (λ h. q.0 (p.0 h), λ e. p.1 (q.1 e))
   case-agrees tagging (n ∷ ns) d t (Later w) =
       let f = distinct-first n ns d in
       let p = agrees tagging ns f.1 t w in
-      let q = tagging-iff tagging (later ns) (variant_content given later (n ∷ ns)) (content_w w) (Later (content_w w)) (later-at n ns w f.0) t in
+      let q = tagging-iff tagging (later ns) (variant_content given later (n ∷ ns)) (content_w w)
+      (Later (content_w w)) (later-at n ns w f.0) t in
       (λ h. q.0 (p.0 h), λ e. p.1 (q.1 e))

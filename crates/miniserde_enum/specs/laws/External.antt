@@ -17,7 +17,8 @@ str-agrees k n None = (
 )
 str-agrees k n (Some u) = (λ e. absurd (cc), λ e. let i = ap (λ z. z.1) (same_Some _ _ e) in absurd (cc))
 
-member-agrees : (k n : Name) (t : Tree) (o : Option Tree) → IsExternal (members (member k t no_members)) n o ↔ (◌≡◌ {A = Option Found} (Some (k, Some t)) (Some (n, o)))
+member-agrees : (k n : Name) (t : Tree) (o : Option Tree) → IsExternal (members (member k t no_members)) n o
+    ↔ (◌≡◌ {A = Option Found} (Some (k, Some t)) (Some (n, o)))
 member-agrees k n t None = (λ e. absurd (cc), λ e. let i = ap (λ z. z.1) (same_Some _ _ e) in absurd (cc))
 member-agrees k n t (Some u) = (
   λ e. let i : k ≡ n = cc in let j : t ≡ u = cc in rw (i, j) refl,
@@ -28,7 +29,9 @@ member-agrees k n t (Some u) = (
       rw (i, j) refl,
 )
 
-other-agrees : (t : Tree) (n : Name) (o : Option Tree) → ((k : Name) → t ≡ str k → ⊥) → ((k : Name) (u : Tree) → t ≡ members (member k u no_members) → ⊥) → IsExternal t n o ↔ (◌≡◌ {A = Option Found} None (Some (n, o)))
+other-agrees : (t : Tree) (n : Name) (o : Option Tree) → ((k : Name) → t ≡ str k → ⊥)
+    → ((k : Name) (u : Tree) → t ≡ members (member k u no_members) → ⊥) → IsExternal t n o
+    ↔ (◌≡◌ {A = Option Found} None (Some (n, o)))
 other-agrees t n None s m = (λ e. absurd (s n e), λ e. absurd (cc))
 other-agrees t n (Some u) s m = (λ e. absurd (m n u e), λ e. absurd (cc))
 

@@ -5,16 +5,25 @@ use Rattle.miniserde_model.specs.Tree.{Tree, Members, no_members, member}
 use Rattle.miniserde_read.specs.types.Objects.{Name, after_members}
 use Rattle.miniserde_record.specs.Fields.{other_members}
 
-pub beside-refused : {A : Type 0} (b refuses : Bool) (skipped taken : Option A) → (refuses ≡ true → taken ≡ None) → cond b false refuses ≡ true → cond b skipped taken ≡ None
+pub beside-refused : {A : Type 0} (b refuses : Bool) (skipped taken : Option A) → (refuses ≡ true → taken ≡ None)
+    → cond b false refuses ≡ true → cond b skipped taken ≡ None
 beside-refused true refuses skipped taken f h = absurd (cc)
 beside-refused false refuses skipped taken f h = f h
 
 module _ {S D : Type 0} (tag : Name) (next : S → Name → Tree → Option S) (end : S → Option D) where
-  pub beside-apart : (s : S) (ms : Members) → option_and_then end (after_members (λ s k t. cond (bytes_eq k tag) (Some s) (next s k t)) s ms) ≡ option_and_then end (after_members next s (other_members tag ms))
+  pub beside-apart : (s : S) (ms : Members)
+      → option_and_then end (after_members (λ s k t. cond (bytes_eq k tag) (Some s) (next s k t)) s ms)
+      ≡ option_and_then end (after_members next s (other_members tag ms))
   beside-apart s no_members = refl
   beside-apart s (member k t ms) =
       let skip : S → Name → Tree → Option S = λ s k t. cond (bytes_eq k tag) (Some s) (next s k t) in
-      elim (bytes_eq k tag) as (λ b. option_and_then end (option_and_then (λ r. after_members skip r ms) (cond b (Some s) (next s k t))) ≡ option_and_then end (after_members next s (cond b (other_members tag ms) (member k t (other_members tag ms))))) [
+      elim (bytes_eq k tag) as (λ b.
+      option_and_then end (option_and_then (λ r. after_members skip r ms) (cond b (Some s) (next s k t)))
+      ≡ option_and_then end (after_members next s
+      (cond b (other_members tag ms) (member k t (other_members tag ms))))) [
         | true ↦ beside-apart s ms
-        | false ↦ elim (next s k t) as (λ o. option_and_then end (option_and_then (λ r. after_members skip r ms) o) ≡ option_and_then end (option_and_then (λ r. after_members next r (other_members tag ms)) o)) [ None ↦ refl | Some r ↦ beside-apart r ms ]
+        | false ↦ elim (next s k t)
+            as (λ o. option_and_then end (option_and_then (λ r. after_members skip r ms) o) ≡ option_and_then end
+            (option_and_then (λ r. after_members next r (other_members tag ms)) o))
+            [ None ↦ refl | Some r ↦ beside-apart r ms ]
       ]

@@ -39,7 +39,8 @@ tag-agrees tag n ms =
       λ e. given-read names None (λ _. ⊥) no-default false tag ms n (flat o ∙ e),
     )
 
-tagged : (o : Option Name) (u v : Tree) (n : Name) → ◌≡◌ {A = Option Found} (option_map (λ n. (n, Some u)) o) (Some (n, Some v)) → (o ≡ Some n) × (v ≡ u)
+tagged : (o : Option Name) (u v : Tree) (n : Name) → ◌≡◌ {A = Option Found} (option_map (λ n. (n, Some u)) o)
+    (Some (n, Some v)) → (o ≡ Some n) × (v ≡ u)
 tagged None u v n e = absurd (cc)
 tagged (Some k) u v n e =
     let p = same_Some _ _ e in

@@ -6,6 +6,7 @@ use Rattle.miniserde_enum.specs.Tagging.{Tagging, external, internal, IsVariant,
 use Rattle.miniserde_enum.specs.laws.External.{external-agrees}
 use Rattle.miniserde_enum.specs.laws.Internal.{internal-agrees}
 
-pub tagging-agrees : (tagging : Tagging) (t : Tree) (n : Name) (o : Option Tree) → IsVariant tagging t n o ↔ (variant_of_tree tagging t ≡ Some (n, o))
+pub tagging-agrees : (tagging : Tagging) (t : Tree) (n : Name) (o : Option Tree) → IsVariant tagging t n o
+    ↔ (variant_of_tree tagging t ≡ Some (n, o))
 tagging-agrees external = external-agrees
 tagging-agrees (internal tag) = internal-agrees tag

@@ -35,7 +35,8 @@ signed-real : (bits : ℕ) (w : Width) → hbits w ≡ bits - 1 → (z : ℤ) �
 signed-real bits w e (pos n) h = passes (2 ^ (bits - 1)) n (subst (λ k. n < 2 ^ k) e h.sfits)
 signed-real bits w e (negsuc n) h = passes (2 ^ (bits - 1)) n (subst (λ k. n < 2 ^ k) e h.sfits)
 
-pub signed-round_trips : (bits : ℕ) (w : Width) → hbits w ≡ bits - 1 → (z : ℤ) → FitsSigned w z → RoundTrips (FitsSigned w) integer (ReadsSigned bits) (integer z)
+pub signed-round_trips : (bits : ℕ) (w : Width) → hbits w ≡ bits - 1 → (z : ℤ) → FitsSigned w z
+    → RoundTrips (FitsSigned w) integer (ReadsSigned bits) (integer z)
 signed-round_trips bits w e z h = ((z, h, integer-read bits z (signed-real bits w e z h)), λ v r i. integer-same bits z v i)
 
 -- ---- no two values have one tree

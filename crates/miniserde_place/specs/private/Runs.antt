@@ -17,7 +17,8 @@ Spellable m es st = (b : List ℕ) × Spells m es st b
 -- From s to s' the text spells some events, by which the place advances. If some text spells
 -- further events from m' on, then some text spells, from m on, the events up to s' and then the
 -- further ones.
-pub record Moved {C : Type 0} (m : Moment) (st : List Kind) (s : List ℕ) (at : Position) (k : List Step → Option C) (m' : Moment) (st' : List Kind) (s' : List ℕ) (at' : Position) (k' : List Step → Option C) : Type 0 where
+pub record Moved {C : Type 0} (m : Moment) (st : List Kind) (s : List ℕ) (at : Position) (k : List Step → Option C)
+    (m' : Moment) (st' : List Kind) (s' : List ℕ) (at' : Position) (k' : List Step → Option C) : Type 0 where
   pub done : List Step
   pub passed : Consumes m st s done m' st' s'
   pub advances : PositionAdvancesBy at k done at' k'

@@ -1,5 +1,6 @@
 -- The events of an array's tree give the list of what its children give, and that is what the tree means.
-use Rattle.std.proofs.Common.{◌≡◌, ℕ, List, [], ◌∷◌, ◌++◌, length, nat_eq, nat_lt, cond, true, false, Option, Some, None, refl, sym, ap, ◌∙◌, append_assoc, append-nil, arith}
+use Rattle.std.proofs.Common.{◌≡◌, ℕ, List, [], ◌∷◌, ◌++◌, length, nat_eq, nat_lt, cond, true, false, Option, Some}
+use Rattle.std.proofs.Common.{None, refl, sym, ap, ◌∙◌, append_assoc, append-nil, arith}
 use Rattle.std.specs.Prelude.{option_and_then}
 use Rattle.std.proofs.lemmas.Bool.Decides.{nat_tests}
 use Rattle.std.proofs.lemmas.List.{length-append}
@@ -17,7 +18,8 @@ use Rattle.miniserde_places.specs.Arrays.{array_next, array_child, array_rules}
 
 module _ {C : Type 0} (n : ℕ) where
   -- if a list has no such child, an array of n items has none
-  pub no_item : (f : List Step → Option C) (xs : List C) (e : Step) (es : List Step) → list_child f xs e es ≡ None → array_child n f xs e es ≡ None
+  pub no_item : (f : List Step → Option C) (xs : List C) (e : Step) (es : List Step) → list_child f xs e es ≡ None
+      → array_child n f xs e es ≡ None
   no_item f xs element es h = elim (nat_lt (length xs) n) as (λ b. cond b (with_last f xs es) None ≡ None) [ true ↦ h | false ↦ refl ]
   no_item f xs e es h = refl
 
@@ -26,18 +28,37 @@ module _ {C : Type 0} (n : ℕ) where
   too_many xs ys c h = rw (length-append xs (c ∷ ys)) (grind (arith, nat_tests))
 
   module _ (f : Tree → Option C) where
-    array-each : (xs : List C) (ts : Trees) → option_and_then (exactly n) (after_children (array_next n f) xs ts) ≡ option_and_then (λ ys. exactly n (xs ++ ys)) (each f ts)
+    array-each : (xs : List C) (ts : Trees) → option_and_then (exactly n) (after_children (array_next n f) xs ts)
+        ≡ option_and_then (λ ys. exactly n (xs ++ ys)) (each f ts)
     array-each xs no_trees = ap (exactly n) (sym (append-nil xs))
     array-each xs (tree t ts) =
-        elim (nat_lt (length xs) n) as (λ b. nat_lt (length xs) n ≡ b → option_and_then (exactly n) (option_and_then (λ r. after_children (array_next n f) r ts) (cond b (option_and_then (λ c. Some (xs ++ c ∷ [])) (f t)) None)) ≡ option_and_then (λ ys. exactly n (xs ++ ys)) (option_and_then (λ x. option_and_then (λ ys. Some (x ∷ ys)) (each f ts)) (f t))) [
-          | true ↦ λ b. elim (f t) as (λ o. option_and_then (exactly n) (option_and_then (λ r. after_children (array_next n f) r ts) (option_and_then (λ c. Some (xs ++ c ∷ [])) o)) ≡ option_and_then (λ ys. exactly n (xs ++ ys)) (option_and_then (λ x. option_and_then (λ ys. Some (x ∷ ys)) (each f ts)) o)) [
-            | None ↦ refl
-            | Some c ↦ array-each (xs ++ c ∷ []) ts ∙ (elim (each f ts) as (λ o. option_and_then (λ ys. exactly n ((xs ++ c ∷ []) ++ ys)) o ≡ option_and_then (λ ys. exactly n (xs ++ ys)) (option_and_then (λ ys. Some (c ∷ ys)) o)) [ None ↦ refl | Some ys ↦ ap (exactly n) (append_assoc xs (c ∷ []) ys) ])
-          ]
-          | false ↦ λ b. elim (f t) as (λ o. None ≡ option_and_then (λ ys. exactly n (xs ++ ys)) (option_and_then (λ x. option_and_then (λ ys. Some (x ∷ ys)) (each f ts)) o)) [
-            | None ↦ refl
-            | Some c ↦ elim (each f ts) as (λ o. None ≡ option_and_then (λ ys. exactly n (xs ++ ys)) (option_and_then (λ ys. Some (c ∷ ys)) o)) [ None ↦ refl | Some ys ↦ rw (too_many xs ys c b) refl ]
-          ]
+        elim (nat_lt (length xs) n)
+        as (λ b. nat_lt (length xs) n ≡ b
+        → option_and_then (exactly n)
+        (option_and_then (λ r. after_children (array_next n f) r ts)
+        (cond b (option_and_then (λ c. Some (xs ++ c ∷ [])) (f t)) None)) ≡ option_and_then
+        (λ ys. exactly n (xs ++ ys))
+        (option_and_then (λ x. option_and_then (λ ys. Some (x ∷ ys)) (each f ts)) (f t))) [
+          | true ↦ λ b. elim (f t)
+              as (λ o. option_and_then (exactly n)
+              (option_and_then (λ r. after_children (array_next n f) r ts)
+              (option_and_then (λ c. Some (xs ++ c ∷ [])) o)) ≡ option_and_then (λ ys. exactly n (xs ++ ys))
+              (option_and_then (λ x. option_and_then (λ ys. Some (x ∷ ys)) (each f ts)) o)) [
+                | None ↦ refl
+                | Some c ↦ array-each (xs ++ c ∷ []) ts
+                    ∙ (elim (each f ts) as (λ o. option_and_then (λ ys. exactly n ((xs ++ c ∷ []) ++ ys)) o
+                    ≡ option_and_then (λ ys. exactly n (xs ++ ys)) (option_and_then (λ ys. Some (c ∷ ys)) o))
+                    [ None ↦ refl | Some ys ↦ ap (exactly n) (append_assoc xs (c ∷ []) ys) ])
+              ]
+          | false ↦ λ b. elim (f t)
+              as (λ o. None ≡ option_and_then (λ ys. exactly n (xs ++ ys))
+              (option_and_then (λ x. option_and_then (λ ys. Some (x ∷ ys)) (each f ts)) o)) [
+                | None ↦ refl
+                | Some c ↦ elim (each f ts)
+                    as (λ o. None ≡ option_and_then (λ ys. exactly n (xs ++ ys))
+                    (option_and_then (λ ys. Some (c ∷ ys)) o))
+                    [ None ↦ refl | Some ys ↦ rw (too_many xs ys c b) refl ]
+              ]
         ] refl
 
     array-after_all_children : (t : Tree) → after_all_children (array_next n f) (exactly n) [] t ≡ array_of n f t

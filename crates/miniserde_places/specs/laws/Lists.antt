@@ -16,13 +16,21 @@ use Rattle.miniserde_places.specs.laws.Children.{after_all_children-meant}
 module _ {C : Type 0} (of : Tree → Option C) where
   each-added : (xs : List C) (ts : Trees) → after_children (with_last of) xs ts ≡ option_and_then (λ ys. Some (xs ++ ys)) (each of ts)
   each-added xs no_trees = ap Some (sym (append-nil xs))
-  each-added xs (tree t ts) = elim (of t) as (λ o. option_and_then (λ r. after_children (with_last of) r ts) (option_and_then (λ c. Some (xs ++ c ∷ [])) o) ≡ option_and_then (λ ys. Some (xs ++ ys)) (option_and_then (λ x. option_and_then (λ ys. Some (x ∷ ys)) (each of ts)) o)) [
-    | None ↦ refl
-    | Some x ↦ each-added (xs ++ x ∷ []) ts ∙ (elim (each of ts) as (λ o. option_and_then (λ ys. Some ((xs ++ x ∷ []) ++ ys)) o ≡ option_and_then (λ ys. Some (xs ++ ys)) (option_and_then (λ ys. Some (x ∷ ys)) o)) [ None ↦ refl | Some ys ↦ ap Some (append_assoc xs (x ∷ []) ys) ])
-  ]
+  each-added xs (tree t ts) =
+      elim (of t) as (λ o. option_and_then (λ r. after_children (with_last of) r ts)
+      (option_and_then (λ c. Some (xs ++ c ∷ [])) o) ≡ option_and_then (λ ys. Some (xs ++ ys))
+      (option_and_then (λ x. option_and_then (λ ys. Some (x ∷ ys)) (each of ts)) o)) [
+        | None ↦ refl
+        | Some x ↦ each-added (xs ++ x ∷ []) ts
+            ∙ (elim (each of ts) as (λ o. option_and_then (λ ys. Some ((xs ++ x ∷ []) ++ ys)) o ≡ option_and_then
+            (λ ys. Some (xs ++ ys)) (option_and_then (λ ys. Some (x ∷ ys)) o))
+            [ None ↦ refl | Some ys ↦ ap Some (append_assoc xs (x ∷ []) ys) ])
+      ]
 
   list-after_all_children : (t : Tree) → after_all_children (with_last of) (λ ys. Some ys) [] t ≡ list_of of t
-  list-after_all_children (list ts) = ap (option_and_then (λ ys. Some ys)) (each-added [] ts) ∙ (elim (each of ts) as (λ o. option_and_then (λ ys. Some ys) (option_and_then (λ ys. Some ys) o) ≡ o) [ None ↦ refl | Some ys ↦ refl ])
+  list-after_all_children (list ts) = ap (option_and_then (λ ys. Some ys)) (each-added [] ts)
+      ∙ (elim (each of ts) as (λ o. option_and_then (λ ys. Some ys) (option_and_then (λ ys. Some ys) o) ≡ o)
+      [ None ↦ refl | Some ys ↦ refl ])
   list-after_all_children t = refl
 
 module _ {C : Type 0} (mean : List Step → Option C) (of : Tree → Option C) (meant : (t : Tree) → mean (events t) ≡ of t) where

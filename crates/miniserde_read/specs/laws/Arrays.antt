@@ -20,8 +20,10 @@ module _ {C : Type 0} (n : ℕ) where
         | false ↦ λ b h. absurd (cc)
       ] refl e
 
-module _ {T C : Type 0} (n : ℕ) (R : Tree → T → Type 0) (of : Tree → Option C) (content : T → C) (given : (t : Tree) (v : T) → R t v ↔ (of t ≡ Some (content v))) where
-  given-array : (t : Tree) (xs : List T) (o : Option (List C)) → list_of of t ≡ o → option_and_then (exactly n) o ≡ Some (map content xs) → ArrayReads n R t xs
+module _ {T C : Type 0} (n : ℕ) (R : Tree → T → Type 0) (of : Tree → Option C) (content : T → C)
+    (given : (t : Tree) (v : T) → R t v ↔ (of t ≡ Some (content v))) where
+  given-array : (t : Tree) (xs : List T) (o : Option (List C)) → list_of of t ≡ o
+      → option_and_then (exactly n) o ≡ Some (map content xs) → ArrayReads n R t xs
   given-array t xs None e h = absurd (cc)
   given-array t xs (Some ys) e h =
       let p = some-exactly n ys (map content xs) h in

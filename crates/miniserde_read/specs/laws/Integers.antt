@@ -47,7 +47,8 @@ module _ (bits : ℕ) where
   signed_reads : (t : Tree) (z : ℤ) → signed_of bits t ≡ Some z → ReadsSigned bits t z
   signed_reads null z e = absurd (cc)
   signed_reads (truth b) z e = absurd (cc)
-  signed_reads (nonneg n) z e = let p = some_if (fits_signed bits (pos n)) (pos n) z e in (p.1, subst (λ y. fits_signed bits y ≡ true) p.1 p.0)
+  signed_reads (nonneg n) z e = let p = some_if (fits_signed bits (pos n)) (pos n) z e in
+      (p.1, subst (λ y. fits_signed bits y ≡ true) p.1 p.0)
   signed_reads (neg m) z e = let p = some_if (fits_signed bits m) m z e in (p.1, subst (λ y. fits_signed bits y ≡ true) p.1 p.0)
   signed_reads (num x) z e = absurd (cc)
   signed_reads (str s) z e = absurd (cc)

@@ -17,7 +17,8 @@ module _ {T C : Type 0} (content : T → C) where
   given-none None e = absurd (cc)
   given-none (Some c) e = absurd (cc)
 
-module _ {T C : Type 0} (R : Tree → T → Type 0) (of : Tree → Option C) (content : T → C) (given : (t : Tree) (x : T) → R t x ↔ (of t ≡ Some (content x))) where
+module _ {T C : Type 0} (R : Tree → T → Type 0) (of : Tree → Option C) (content : T → C)
+    (given : (t : Tree) (x : T) → R t x ↔ (of t ≡ Some (content x))) where
   other-given : (t : Tree) → t ≢ null → (v : Option T) → OptionReads R t v ↔ (option_map Some (of t) ≡ Some (option_map content v))
   other-given t n None = (λ e. absurd (n e), λ e. absurd (given-none content (of t) e))
   other-given t n (Some x) = (λ h. some-given content (of t) x ((given t x).0 h.1), λ e. (n, (given t x).1 (given-some content (of t) x e)))

@@ -9,7 +9,10 @@ pub none-given : (ts : Trees) (v : Unit {0}) → NoneReads ts v ↔ (none_of ts 
 none-given no_trees v = (λ h. refl, λ e. tt)
 none-given (tree t ts) v = (λ h. absurd h, λ e. absurd (cc))
 
-module _ {T V A B : Type 0} (R : Tree → T → Type 0) (S : Trees → V → Type 0) (f : Tree → Option A) (g : Trees → Option B) (content_t : T → A) (content_v : V → B) (given_t : (t : Tree) (x : T) → R t x ↔ (f t ≡ Some (content_t x))) (given_v : (ts : Trees) (y : V) → S ts y ↔ (g ts ≡ Some (content_v y))) where
+module _ {T V A B : Type 0} (R : Tree → T → Type 0) (S : Trees → V → Type 0) (f : Tree → Option A)
+    (g : Trees → Option B) (content_t : T → A) (content_v : V → B)
+    (given_t : (t : Tree) (x : T) → R t x ↔ (f t ≡ Some (content_t x)))
+    (given_v : (ts : Trees) (y : V) → S ts y ↔ (g ts ≡ Some (content_v y))) where
   pub item-given : (ts : Trees) (v : T × V) → ItemReads R S ts v ↔ (item_of f g ts ≡ Some (content_t v.0, content_v v.1))
   item-given no_trees v = (λ h. absurd h, λ e. absurd (cc))
   item-given (tree t ts) v = (
@@ -17,6 +20,8 @@ module _ {T V A B : Type 0} (R : Tree → T → Type 0) (S : Trees → V → Typ
     λ e. let p = both-some (f t) (g ts) (content_t v.0) (content_v v.1) e in ((given_t t v.0).1 p.0, (given_v ts v.1).1 p.1),
   )
 
-pub tuple-given : {V C : Type 0} (R : Trees → V → Type 0) (f : Trees → Option C) (content : V → C) → ((ts : Trees) (v : V) → R ts v ↔ (f ts ≡ Some (content v))) → (t : Tree) (v : V) → TupleReads R t v ↔ (tuple_of f t ≡ Some (content v))
+pub tuple-given : {V C : Type 0} (R : Trees → V → Type 0) (f : Trees → Option C) (content : V → C)
+    → ((ts : Trees) (v : V) → R ts v ↔ (f ts ≡ Some (content v))) → (t : Tree) (v : V) → TupleReads R t v
+    ↔ (tuple_of f t ≡ Some (content v))
 tuple-given R f content h (list ts) v = h ts v
 tuple-given R f content h t v = (λ e. absurd e, λ e. absurd (cc))

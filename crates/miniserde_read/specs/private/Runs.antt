@@ -11,7 +11,8 @@ use Rattle.miniserde_text.specs.private.Moving.{opened_kind, before_child, Momen
 -- from the moment on, inside the open containers st (innermost first), the text from s to r spells
 -- the events, after which no container is open
 abbrev pub Runs : Moment → List Step → List Kind → List ℕ → List ℕ → Type 0
-Runs due (e ∷ es) st s r = (b : List ℕ) × Starts s e b × Runs (before_child (is_some (opened_kind e))) es (with_opened (opened_kind e) st) b r
+Runs due (e ∷ es) st s r = (b : List ℕ) × Starts s e b × Runs (before_child (is_some (opened_kind e))) es
+    (with_opened (opened_kind e) st) b r
 Runs first (element ∷ es) (Seq ∷ st) s r = (b : List ℕ) × Follows Seq true false s b × Runs due es (Seq ∷ st) b r
 Runs first (key n ∷ es) (Map ∷ st) s r = (b c : List ℕ) × Follows Map true false s b × Names b n c × Runs due es (Map ∷ st) c r
 Runs first (finish ∷ es) (k ∷ st) s r = (b : List ℕ) × Follows k true true s b × Runs after es st b r
@@ -24,7 +25,8 @@ Runs _ _ _ _ _ = ⊥
 -- The text from s to s' spells the events `done`, and leads from the moment m inside the open
 -- containers st to the moment m' inside st'. Any events that s spells until no container is open
 -- begin with `done`. If st' is empty, m' is not the moment after an opening bracket.
-pub record Consumes (m : Moment) (st : List Kind) (s : List ℕ) (done : List Step) (m' : Moment) (st' : List Kind) (s' : List ℕ) : Type 0 where
+pub record Consumes (m : Moment) (st : List Kind) (s : List ℕ) (done : List Step) (m' : Moment) (st' : List Kind)
+    (s' : List ℕ) : Type 0 where
   pub on : (es : List Step) (r : List ℕ) → Runs m' es st' s' r → Runs m (done ++ es) st s r
   pub back : (es : List Step) (r : List ℕ) → Runs m es st s r → (rest : List Step) × (es ≡ done ++ rest) × Runs m' rest st' s' r
   pub live : MomentFits m' st'

@@ -1,7 +1,8 @@
 -- The maps that trees mean: objects whose names are read as keys (RFC 8259, section 4).
 -- A `Key` is the content of a key. `read` returns the content of the key that a name is read as, and `code` the part of
 -- a content that `Eq` compares.
-use Rattle.std.specs.Prelude.{List, [], ◌∷◌, Option, Some, None, option_and_then, option_map, IsSome, bytes_eq, ◌≡◌, ⊤, if◌then◌else◌, true, false, codes, refl}
+use Rattle.std.specs.Prelude.{List, [], ◌∷◌, Option, Some, None, option_and_then, option_map, IsSome, bytes_eq, ◌≡◌}
+use Rattle.std.specs.Prelude.{⊤, if◌then◌else◌, true, false, codes, refl}
 use Rattle.miniserde_model.specs.Tree.{Tree, members, Members, no_members, member, null, truth}
 use Rattle.miniserde_keys.specs.Keys.{Key}
 use Rattle.miniserde_read.specs.types.Objects.{Name, object_of, after_members}
@@ -47,8 +48,11 @@ MeansAt content R (Some p) (Some e) = (content e.0 ≡ p.0) × R p.1 e.1
 -- The tree is an object, of which each member is accepted (`AllAccepted`). At each code q, es has an entry exactly if
 -- the object has a member whose key has that code. The entry then has the key of the first such member, and the tree
 -- of the last one means its value by R.
-abbrev pub MapReads : {K V C : Type 0} → (Name → Option Key) → (Key → Key) → (K → Key) → (Tree → Option C) → (Tree → V → Type 0) → Tree → List (K × V) → Type 0
-MapReads read code content of R (members ms) es = AllAccepted read of ms × ((q : Key) → MeansAt content R (first_and_last_at read code q ms) (entry_at (λ k. code (content k)) q es))
+abbrev pub MapReads : {K V C : Type 0} → (Name → Option Key) → (Key → Key) → (K → Key) → (Tree → Option C)
+    → (Tree → V → Type 0) → Tree → List (K × V) → Type 0
+MapReads read code content of R (members ms) es =
+    AllAccepted read of ms × ((q : Key)
+    → MeansAt content R (first_and_last_at read code q ms) (entry_at (λ k. code (content k)) q es))
 MapReads read code content of R _ es = ⊥
 
 -- ---- maps, member by member
@@ -76,7 +80,8 @@ map_content code content value es q = option_map (λ e. (content e.0, value e.1)
 
 -- the content m of a map with one more member, if `read` returns a key for its name k and f a
 -- content for its value x, which is a tree or the events of one
-abbrev pub map_member : {C X : Type 0} → (Name → Option Key) → (Key → Key) → (X → Option C) → MapContent C → Name → X → Option (MapContent C)
+abbrev pub map_member : {C X : Type 0} → (Name → Option Key) → (Key → Key) → (X → Option C) → MapContent C → Name
+    → X → Option (MapContent C)
 map_member read code f m k x = option_and_then (λ c. option_map (with_entry code m c) (f x)) (read k)
 
 -- the content of the map that an object means, by `read` and `code`, and by `of` for the trees of its members
@@ -84,7 +89,10 @@ abbrev pub map_of : {C : Type 0} → (Name → Option Key) → (Key → Key) →
 map_of read code of = object_of (after_members (map_member read code of) no_entries)
 
 -- Worked cases: the map of `{"a":true,"a":false}` has false at "a", and `{"a":null}` is no map of booleans.
-pub last_value : option_map (λ m. m (codes "a")) (map_of Some (λ k. k) boolean_of (members (member (codes "a") (truth true) (member (codes "a") (truth false) no_members)))) ≡ Some (Some (codes "a", false))
+pub last_value : option_map (λ m. m (codes "a"))
+    (map_of Some (λ k. k) boolean_of
+    (members (member (codes "a") (truth true) (member (codes "a") (truth false) no_members))))
+    ≡ Some (Some (codes "a", false))
 last_value = refl
 
 pub no_boolean : map_of Some (λ k. k) boolean_of (members (member (codes "a") null no_members)) ≡ None

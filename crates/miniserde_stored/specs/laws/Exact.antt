@@ -8,17 +8,23 @@ use Rattle.std.proofs.lemmas.Str.{IsUtf8-from_is_utf8, encodes-chars}
 use Rattle.miniserde_keys.specs.Keys.{Key, of_nat, of_bool, bool_text, read_bool, single_char, read_char}
 use Rattle.miniserde_keys.specs.laws.Keys.{bool-text, nat-text}
 
-pub text-exact : (n m : List ℕ) (c d : Key) → ◌≡◌ {A = Option Key} (Some n) (Some c) → ◌≡◌ {A = Option Key} (Some m) (Some d) → c ≡ d → n ≡ m
+pub text-exact : (n m : List ℕ) (c d : Key) → ◌≡◌ {A = Option Key} (Some n) (Some c)
+    → ◌≡◌ {A = Option Key} (Some m) (Some d) → c ≡ d → n ≡ m
 text-exact n m c d p q e = cc
 
 bool-named : (n : List ℕ) (c : Key) → read_bool n ≡ Some c → (b : Bool) × (n ≡ bool_text b) × (c ≡ of_bool b)
-bool-named n c e = elim (bytes_eq n (bool_text true)) as (λ a. bytes_eq n (bool_text true) ≡ a → cond a (Some (of_bool true)) (cond (bytes_eq n (bool_text false)) (Some (of_bool false)) None) ≡ Some c → (b : Bool) × (n ≡ bool_text b) × (c ≡ of_bool b)) [
-  | true ↦ λ a f. let same : of_bool true ≡ c = cc in (true, (bytes_eq-Decides n (bool_text true)).0 a, sym same)
-  | false ↦ λ a. elim (bytes_eq n (bool_text false)) as (λ a. bytes_eq n (bool_text false) ≡ a → cond a (Some (of_bool false)) None ≡ Some c → (b : Bool) × (n ≡ bool_text b) × (c ≡ of_bool b)) [
-    | true ↦ λ a f. let same : of_bool false ≡ c = cc in (false, (bytes_eq-Decides n (bool_text false)).0 a, sym same)
-    | false ↦ λ a f. absurd (cc)
-  ] refl
-] refl e
+bool-named n c e = elim (bytes_eq n (bool_text true))
+    as (λ a. bytes_eq n (bool_text true) ≡ a
+    → cond a (Some (of_bool true)) (cond (bytes_eq n (bool_text false)) (Some (of_bool false)) None) ≡ Some c
+    → (b : Bool) × (n ≡ bool_text b) × (c ≡ of_bool b)) [
+      | true ↦ λ a f. let same : of_bool true ≡ c = cc in (true, (bytes_eq-Decides n (bool_text true)).0 a, sym same)
+      | false ↦ λ a. elim (bytes_eq n (bool_text false))
+          as (λ a. bytes_eq n (bool_text false) ≡ a → cond a (Some (of_bool false)) None ≡ Some c
+          → (b : Bool) × (n ≡ bool_text b) × (c ≡ of_bool b)) [
+            | true ↦ λ a f. let same : of_bool false ≡ c = cc in (false, (bytes_eq-Decides n (bool_text false)).0 a, sym same)
+            | false ↦ λ a f. absurd (cc)
+          ] refl
+    ] refl e
 
 pub bool-exact : (n m : List ℕ) (c d : Key) → read_bool n ≡ Some c → read_bool m ≡ Some d → c ≡ d → n ≡ m
 bool-exact n m c d p q e =
@@ -26,17 +32,19 @@ bool-exact n m c d p q e =
     let b = bool-named m d q in
     a.1 ∙ bool-text a.0 b.0 (sym a.2 ∙ e ∙ b.2) ∙ sym b.1
 
-only-named : (bs cs : List ℕ) (c : Key) → encode_utf8_all cs ≡ bs → single_char cs ≡ Some c → (x : ℕ) × (bs ≡ encode_utf8 x) × (c ≡ of_nat x)
+only-named : (bs cs : List ℕ) (c : Key) → encode_utf8_all cs ≡ bs → single_char cs ≡ Some c
+    → (x : ℕ) × (bs ≡ encode_utf8 x) × (c ≡ of_nat x)
 only-named bs [] c s e = absurd (cc)
 only-named bs (x ∷ []) c s e = let same : of_nat x ≡ c = cc in (x, sym s ∙ append-nil (encode_utf8 x), sym same)
 only-named bs (x ∷ y ∷ xs) c s e = absurd (cc)
 
 char-named : (n : List ℕ) (c : Key) → read_char n ≡ Some c → (x : ℕ) × (n ≡ encode_utf8 x) × (c ≡ of_nat x)
 unfolding read_char
-char-named n c e = elim (is_utf8 n) as (λ b. is_utf8 n ≡ b → cond b (single_char (chars n)) None ≡ Some c → (x : ℕ) × (n ≡ encode_utf8 x) × (c ≡ of_nat x)) [
-  | true ↦ λ b f. only-named n (chars n) c (encodes-chars n (IsUtf8-from_is_utf8 n b)) f
-  | false ↦ λ b f. absurd (cc)
-] refl e
+char-named n c e = elim (is_utf8 n) as (λ b. is_utf8 n ≡ b → cond b (single_char (chars n)) None ≡ Some c
+    → (x : ℕ) × (n ≡ encode_utf8 x) × (c ≡ of_nat x)) [
+      | true ↦ λ b f. only-named n (chars n) c (encodes-chars n (IsUtf8-from_is_utf8 n b)) f
+      | false ↦ λ b f. absurd (cc)
+    ] refl e
 
 pub char-exact : (n m : List ℕ) (c d : Key) → read_char n ≡ Some c → read_char m ≡ Some d → c ≡ d → n ≡ m
 char-exact n m c d p q e =

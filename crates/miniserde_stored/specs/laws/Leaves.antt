@@ -8,7 +8,10 @@ use Rattle.miniserde_read.specs.types.Integers.{unsigned_of, signed_of}
 use Rattle.miniserde_stored.specs.Stable.{IsStable}
 
 -- the normal form changes nothing but a zero with a minus, lists and members
-pub stable-by : {C : Type 0} (of : Tree → Option C) → ((z : ℤ) (c : C) → of (neg z) ≡ Some c → of (norm_neg z) ≡ Some c) → ((ts : Trees) (c : C) → of (list ts) ≡ Some c → of (list (norm_children ts)) ≡ Some c) → ((ms : Members) (c : C) → of (members ms) ≡ Some c → of (members (norm_members ms)) ≡ Some c) → IsStable of
+pub stable-by : {C : Type 0} (of : Tree → Option C)
+    → ((z : ℤ) (c : C) → of (neg z) ≡ Some c → of (norm_neg z) ≡ Some c)
+    → ((ts : Trees) (c : C) → of (list ts) ≡ Some c → of (list (norm_children ts)) ≡ Some c)
+    → ((ms : Members) (c : C) → of (members ms) ≡ Some c → of (members (norm_members ms)) ≡ Some c) → IsStable of
 stable-by of n l m null c e = e
 stable-by of n l m (truth b) c e = e
 stable-by of n l m (nonneg k) c e = e

@@ -2,7 +2,9 @@
 -- Only private clauses cite them: lemmas show that each reads exactly what the grammar has.
 -- `slice_index s n` is the byte of s at the index n, or 0 if there is none. A function that returns an
 -- `Option` returns `None` if its text does not begin with what it takes.
-use Rattle.std.specs.Prelude.{◌≡◌, ℕ, ◌<◌, ◌≤◌, ◌-◌, ◌+◌, ◌*◌, ◌^◌, ◌&&◌, ◌||◌, nat_le, nat_lt, pos, neg_ℤ, if◌then◌else◌, option_map, List, [], ◌∷◌, ◌++◌, Bool, true, false, cond, not, ◌==◌, nat_eq, Option, Some, None, option_and_then, length, take, drop, codes, slice_index}
+use Rattle.std.specs.Prelude.{◌≡◌, ℕ, ◌<◌, ◌≤◌, ◌-◌, ◌+◌, ◌*◌, ◌^◌, ◌&&◌, ◌||◌, nat_le, nat_lt, pos, neg_ℤ}
+use Rattle.std.specs.Prelude.{if◌then◌else◌, option_map, List, [], ◌∷◌, ◌++◌, Bool, true, false, cond, not, ◌==◌}
+use Rattle.std.specs.Prelude.{nat_eq, Option, Some, None, option_and_then, length, take, drop, codes, slice_index}
 use Rattle.std.specs.List.{starts_with}
 use Rattle.std.specs.Char.{digit_value}
 use Rattle.std.specs.Str.Parse.{digits_value}

@@ -1,7 +1,8 @@
 -- What the events of a tree give, and when a tree means a value.
 use Rattle.std.proofs.Common.{◌≡◌, true, false, List, [], ◌∷◌, ◌++◌, Option, Some, None, refl, sym, ap, ◌∙◌, append_assoc, append-nil}
 use Rattle.std.specs.Prelude.{◌↔◌}
-use Rattle.miniserde_model.specs.Tree.{Tree, null, truth, nonneg, neg, num, str, list, members, Trees, no_trees, tree, Members, no_members, member}
+use Rattle.miniserde_model.specs.Tree.{Tree, null, truth, nonneg, neg, num, str, list, members, Trees, no_trees}
+use Rattle.miniserde_model.specs.Tree.{tree, Members, no_members, member}
 use Rattle.miniserde_model.specs.Normal.{put as put_member}
 use Rattle.miniserde_model.specs.Step.{Step, finish, events, child_events, member_events}
 use Rattle.miniserde_value.specs.Retained.{retained_tree, retained_children}
@@ -10,7 +11,8 @@ use Rattle.miniserde_value.specs.Kinds.{only_list, only_members}
 use Rattle.miniserde_value.specs.laws.Listed.{listed, trees_listed, put_retained, puts_retained}
 
 mutual
-  pub outcome_events : (h : Hole) (t : Tree) (rest : List Step) → outcome false true h (events t ++ rest) ≡ outcome false false (put (retained_tree t) h) rest
+  pub outcome_events : (h : Hole) (t : Tree) (rest : List Step) → outcome false true h (events t ++ rest)
+      ≡ outcome false false (put (retained_tree t) h) rest
   outcome_events h null rest = refl
   outcome_events h (truth b) rest = refl
   outcome_events h (nonneg n) rest = refl
@@ -26,7 +28,9 @@ mutual
       ∙ outcome_members ms no_members h (finish ∷ rest)
       ∙ ap (λ z. outcome false false (put (members z) h) rest) (puts_retained ms)
 
-  pub outcome_children : (ts : Trees) (us : List Tree) (h : Hole) (rest : List Step) → outcome false false (in_list us h) (child_events ts ++ rest) ≡ outcome false false (in_list (us ++ listed (retained_children ts)) h) rest
+  pub outcome_children : (ts : Trees) (us : List Tree) (h : Hole) (rest : List Step)
+      → outcome false false (in_list us h) (child_events ts ++ rest) ≡ outcome false false
+      (in_list (us ++ listed (retained_children ts)) h) rest
   outcome_children no_trees us h rest = ap (λ z. outcome false false (in_list z h) rest) (sym (append-nil us))
   outcome_children (tree t ts) us h rest =
       ap (outcome false true (in_list us h)) (append_assoc (events t) (child_events ts) rest)
@@ -34,7 +38,9 @@ mutual
       ∙ outcome_children ts (us ++ retained_tree t ∷ []) h rest
       ∙ ap (λ z. outcome false false (in_list z h) rest) (append_assoc us (retained_tree t ∷ []) (listed (retained_children ts)))
 
-  pub outcome_members : (ms made : Members) (h : Hole) (rest : List Step) → outcome false false (in_members made None h) (member_events ms ++ rest) ≡ outcome false false (in_members (put_retained made ms) None h) rest
+  pub outcome_members : (ms made : Members) (h : Hole) (rest : List Step)
+      → outcome false false (in_members made None h) (member_events ms ++ rest) ≡ outcome false false
+      (in_members (put_retained made ms) None h) rest
   outcome_members no_members made h rest = refl
   outcome_members (member n t ms) made h rest =
       ap (outcome false true (in_members made (Some n) h)) (append_assoc (events t) (member_events ms) rest)

@@ -1,9 +1,12 @@
 -- What the events of a tree give if no name may be a duplicate.
-use Rattle.std.proofs.Common.{◌≡◌, ℕ, Bool, true, false, cond, List, [], ◌∷◌, ◌++◌, Option, Some, None, is_some, bytes_eq, refl, sym, ap, ap₂, ◌∙◌, append_assoc, append-nil, Ordering, Less, Equal, Greater}
+use Rattle.std.proofs.Common.{◌≡◌, ℕ, Bool, true, false, cond, List, [], ◌∷◌, ◌++◌, Option, Some, None, is_some}
+use Rattle.std.proofs.Common.{bytes_eq, refl, sym, ap, ap₂, ◌∙◌, append_assoc, append-nil, Ordering, Less, Equal}
+use Rattle.std.proofs.Common.{Greater}
 use Rattle.std.specs.Prelude.{◌↔◌, ◌&&◌, ◌||◌, not, option_and_then}
 use Rattle.std.proofs.lemmas.Map.Lookups.{exact_bytes}
 use Rattle.miniserde_text.proofs.Equal.{bytes_eq-flips}
-use Rattle.miniserde_model.specs.Tree.{Tree, null, truth, nonneg, neg, num, str, list, members, Trees, no_trees, tree, Members, no_members, member}
+use Rattle.miniserde_model.specs.Tree.{Tree, null, truth, nonneg, neg, num, str, list, members, Trees, no_trees}
+use Rattle.miniserde_model.specs.Tree.{tree, Members, no_members, member}
 use Rattle.miniserde_model.specs.Step.{Step, finish, events, child_events, member_events}
 use Rattle.miniserde_model.specs.Distinct.{has_name, names_distinct, names_distinct_in_children, names_distinct_in_members}
 use Rattle.miniserde_model.specs.Normal.{text_cmp, or_else, last_of, put as put_member, put_first_by}
@@ -40,10 +43,17 @@ has_put : (q name : List ℕ) (t : Tree) (ms : Members) → has_name q (put_memb
 has_put q name t no_members = has_member_first q name t no_members
 has_put q name t (member other u ms) = go (text_cmp name other) refl (has_put q name t ms)
   where
-    go : (o : Ordering) → text_cmp name other ≡ o → has_name q (put_member name t ms) ≡ (bytes_eq name q || has_name q ms) → has_name q (put_first_by o name t other u ms (put_member name t ms)) ≡ (bytes_eq name q || has_name q (member other u ms))
+    go : (o : Ordering) → text_cmp name other ≡ o
+        → has_name q (put_member name t ms) ≡ (bytes_eq name q || has_name q ms)
+        → has_name q (put_first_by o name t other u ms (put_member name t ms))
+        ≡ (bytes_eq name q || has_name q (member other u ms))
     go Less e more = has_member_first q name t (member other u ms)
-    go Equal e more = has_member_first q name t ms ∙ twice (bytes_eq name q) (has_name q ms) ∙ ap (λ n. bytes_eq name q || (bytes_eq n q || has_name q ms)) (exact_bytes name other e) ∙ ap (λ b. bytes_eq name q || b) (sym (has_member_first q other u ms))
-    go Greater e more = has_member_first q other u (put_member name t ms) ∙ ap (λ b. bytes_eq other q || b) more ∙ swapped (bytes_eq other q) (bytes_eq name q) (has_name q ms) ∙ ap (λ b. bytes_eq name q || b) (sym (has_member_first q other u ms))
+    go Equal e more = has_member_first q name t ms ∙ twice (bytes_eq name q) (has_name q ms)
+        ∙ ap (λ n. bytes_eq name q || (bytes_eq n q || has_name q ms)) (exact_bytes name other e)
+        ∙ ap (λ b. bytes_eq name q || b) (sym (has_member_first q other u ms))
+    go Greater e more = has_member_first q other u (put_member name t ms) ∙ ap (λ b. bytes_eq other q || b) more
+        ∙ swapped (bytes_eq other q) (bytes_eq name q) (has_name q ms) ∙ ap (λ b. bytes_eq name q || b)
+        (sym (has_member_first q other u ms))
 
 -- whether none of the members' names is a name of the members `made`
 abbrev all_new : Members → Members → Bool
@@ -57,7 +67,8 @@ apart false true true d = refl
 apart false true false d = refl
 apart false false c d = refl
 
-all_new_put : (name : List ℕ) (t : Tree) (made ms : Members) → all_new (put_member name t made) ms ≡ (not (has_name name ms) && all_new made ms)
+all_new_put : (name : List ℕ) (t : Tree) (made ms : Members)
+    → all_new (put_member name t made) ms ≡ (not (has_name name ms) && all_new made ms)
 all_new_put name t made no_members = refl
 all_new_put name t made (member other u ms) =
     ap₂ (λ a b. not a && b) (has_put other name t made) (all_new_put name t made ms)
@@ -84,8 +95,10 @@ both_so true b o = refl
 both_so false b o = refl
 
 -- the tests of a member's name and tree and of the members after it, in another order
-regrouped : (new d ds unlike rest : Bool) (o : Option Tree) → if_so new (if_so d (if_so (ds && (unlike && rest)) o)) ≡ if_so ((unlike && (d && ds)) && (new && rest)) o
-regrouped true true true unlike rest o = elim unlike as (λ b. if_so (b && rest) o ≡ if_so ((b && true) && rest) o) [ true ↦ refl | false ↦ refl ]
+regrouped : (new d ds unlike rest : Bool) (o : Option Tree) → if_so new (if_so d (if_so (ds && (unlike && rest)) o))
+    ≡ if_so ((unlike && (d && ds)) && (new && rest)) o
+regrouped true true true unlike rest o = elim unlike as (λ b. if_so (b && rest) o ≡ if_so ((b && true) && rest) o)
+    [ true ↦ refl | false ↦ refl ]
 regrouped true true false unlike rest o = elim unlike as (λ b. None ≡ if_so ((b && false) && rest) o) [ true ↦ refl | false ↦ refl ]
 regrouped true false ds unlike rest o = elim unlike as (λ b. None ≡ if_so ((b && false) && rest) o) [ true ↦ refl | false ↦ refl ]
 regrouped false d ds unlike rest o = elim (unlike && (d && ds)) as (λ b. None ≡ if_so (b && false) o) [ true ↦ refl | false ↦ refl ]
@@ -95,7 +108,8 @@ repeated true x f = refl
 repeated false x f = refl
 
 mutual
-  pub once_events : (h : Hole) (t : Tree) (rest : List Step) → outcome true true h (events t ++ rest) ≡ if_so (names_distinct t) (outcome true false (put (retained_tree t) h) rest)
+  pub once_events : (h : Hole) (t : Tree) (rest : List Step) → outcome true true h (events t ++ rest)
+      ≡ if_so (names_distinct t) (outcome true false (put (retained_tree t) h) rest)
   once_events h null rest = refl
   once_events h (truth b) rest = refl
   once_events h (nonneg n) rest = refl
@@ -111,23 +125,33 @@ mutual
       ∙ once_members ms no_members h (finish ∷ rest)
       ∙ ap₂ (λ b z. if_so b (outcome true false (put (members z) h) rest)) (all_fresh (names_distinct_in_members ms) ms) (puts_retained ms)
 
-  pub once_children : (ts : Trees) (us : List Tree) (h : Hole) (rest : List Step) → outcome true false (in_list us h) (child_events ts ++ rest) ≡ if_so (names_distinct_in_children ts) (outcome true false (in_list (us ++ listed (retained_children ts)) h) rest)
+  pub once_children : (ts : Trees) (us : List Tree) (h : Hole) (rest : List Step)
+      → outcome true false (in_list us h) (child_events ts ++ rest) ≡ if_so (names_distinct_in_children ts)
+      (outcome true false (in_list (us ++ listed (retained_children ts)) h) rest)
   once_children no_trees us h rest = ap (λ z. outcome true false (in_list z h) rest) (sym (append-nil us))
   once_children (tree t ts) us h rest =
       ap (outcome true true (in_list us h)) (append_assoc (events t) (child_events ts) rest)
       ∙ once_events (in_list us h) t (child_events ts ++ rest)
       ∙ ap (if_so (names_distinct t)) (once_children ts (us ++ retained_tree t ∷ []) h rest)
       ∙ both_so (names_distinct t) (names_distinct_in_children ts) _
-      ∙ ap (λ z. if_so (names_distinct t && names_distinct_in_children ts) (outcome true false (in_list z h) rest)) (append_assoc us (retained_tree t ∷ []) (listed (retained_children ts)))
+      ∙ ap (λ z. if_so (names_distinct t && names_distinct_in_children ts) (outcome true false (in_list z h) rest))
+      (append_assoc us (retained_tree t ∷ []) (listed (retained_children ts)))
 
-  pub once_members : (ms made : Members) (h : Hole) (rest : List Step) → outcome true false (in_members made None h) (member_events ms ++ rest) ≡ if_so (names_distinct_in_members ms && all_new made ms) (outcome true false (in_members (put_retained made ms) None h) rest)
+  pub once_members : (ms made : Members) (h : Hole) (rest : List Step)
+      → outcome true false (in_members made None h) (member_events ms ++ rest)
+      ≡ if_so (names_distinct_in_members ms && all_new made ms)
+      (outcome true false (in_members (put_retained made ms) None h) rest)
   once_members no_members made h rest = refl
   once_members (member n t ms) made h rest =
       repeated (has_name n made) (true, in_members made (Some n) h) (λ s. outcome true s.0 s.1 ((events t ++ member_events ms) ++ rest))
       ∙ ap (if_so (not (has_name n made)))
       (ap (outcome true true (in_members made (Some n) h)) (append_assoc (events t) (member_events ms) rest)
       ∙ once_events (in_members made (Some n) h) t (member_events ms ++ rest)
-      ∙ ap (if_so (names_distinct t)) (once_members ms (put_member n (retained_tree t) made) h rest ∙ ap (λ b. if_so (names_distinct_in_members ms && b) (outcome true false (in_members (put_retained (put_member n (retained_tree t) made) ms) None h) rest)) (all_new_put n (retained_tree t) made ms)))
+      ∙ ap (if_so (names_distinct t))
+      (once_members ms (put_member n (retained_tree t) made) h rest
+      ∙ ap (λ b. if_so (names_distinct_in_members ms && b)
+      (outcome true false (in_members (put_retained (put_member n (retained_tree t) made) ms) None h) rest))
+      (all_new_put n (retained_tree t) made ms)))
       ∙ regrouped (not (has_name n made)) (names_distinct t) (names_distinct_in_members ms) (not (has_name n ms)) (all_new made ms) _
 
   all_fresh : (b : Bool) (ms : Members) → (b && all_new no_members ms) ≡ b

@@ -8,12 +8,14 @@ use Rattle.examples.proofs.counter.elements.Goals as goal
 pub returns-in_err-feed-clause-invalid : goal.returns-in_err-feed-clause-invalid
 returns-in_err-feed-clause-invalid c h t j =
     let p = err_from_is_err_and c.from_residual-in_err-feed.result c.from_residual-in_err-feed.ensures.1 in
-    sym (c.events_give.ensures.fresh (counter_view c.in_ok-place.place) c.in_ok-place.ensures.fresh t) ∙ c.in_err-feed.ensures.invalid (cc (h, p.1, p.2)) t j
+    sym (c.events_give.ensures.fresh (counter_view c.in_ok-place.place) c.in_ok-place.ensures.fresh t)
+    ∙ c.in_err-feed.ensures.invalid (cc (h, p.1, p.2)) t j
 
 pub returns-clause-ok : goal.returns-clause-ok
 returns-clause-ok c =
     let r = c.in_ok-feed.ensures.ok in
-    let l = c.events_give.ensures.outcome r.0 (counter_view c.feed.new.place) (counter_view c.in_ok-place.place, c.in_ok-place.ensures.fresh, r.2) in
+    let l = c.events_give.ensures.outcome r.0 (counter_view c.feed.new.place)
+    (counter_view c.in_ok-place.place, c.in_ok-place.ensures.fresh, r.2) in
     IfOk-weaker c.take.result _ _ (λ n h. (r.0, r.1, sym l ∙ h.1)) c.take.ensures.value
 
 pub returns-clause-invalid : goal.returns-clause-invalid

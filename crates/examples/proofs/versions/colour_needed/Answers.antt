@@ -9,6 +9,7 @@ use Rattle.examples.proofs.versions.colour_needed.Goals as goal
 pub returns : goal.returns
 returns c (members ms) lacks v r =
     let n = codes "colour" in
-    let says = needs (unsigned_of 32) (pos v.colour) (λ t. ReadsUnsigned 32 t v.colour) n (codes "id" ∷ codes "title" ∷ codes "state" ∷ []) refl ms in
+    let says = needs (unsigned_of 32) (pos v.colour) (λ t. ReadsUnsigned 32 t v.colour) n
+    (codes "id" ∷ codes "title" ∷ codes "state" ∷ []) refl ms in
     (says_missing ⊥ (λ t. ReadsUnsigned 32 t v.colour) (unsigned_of 32) n ms lacks).0 (says.0 r.1.1.1.0)
 returns c t lacks v r = r

@@ -33,10 +33,15 @@ returns c (members ms) v w r no_retries no_note =
     let ms3 = other_members n2 ms2 in
     let f1 = same_field u64.reads u64.from_tree u64.content u64.reads_agrees n1 ms v.id w.id r.0 in
     let f2 = same_field text.reads text.from_tree text.content text.reads_agrees n2 ms2 v.title w.name r.1.0 in
-    let f3 = other_field was.ghosts.means.reads was.ghosts.means.from_tree was.ghosts.means.reads_agrees is.ghosts.means.reads is.ghosts.means.from_tree is.ghosts.means.reads_agrees state_of c.states_kept.ensures n3 ms3 v.state w.state r.1.1.0 in
-    let g4 = says u32.from_tree (u32.reads (nonneg 3) w.retries) (w.retries ≡ 3) (λ t. u32.reads t w.retries) (λ t. u32.reads t w.retries) (λ t. (λ r. r, λ r. r)) (http w.retries) n4 (n1 ∷ n2 ∷ n3 ∷ []) refl ms in
+    let f3 = other_field was.ghosts.means.reads was.ghosts.means.from_tree was.ghosts.means.reads_agrees
+    is.ghosts.means.reads is.ghosts.means.from_tree is.ghosts.means.reads_agrees state_of c.states_kept.ensures
+    n3 ms3 v.state w.state r.1.1.0 in
+    let g4 = says u32.from_tree (u32.reads (nonneg 3) w.retries) (w.retries ≡ 3) (λ t. u32.reads t w.retries)
+    (λ t. u32.reads t w.retries) (λ t. (λ r. r, λ r. r)) (http w.retries) n4 (n1 ∷ n2 ∷ n3 ∷ []) refl ms in
     let m4 = says_missing (w.retries ≡ 3) (λ t. u32.reads t w.retries) u32.from_tree n4 ms no_retries in
-    let g5 = says (option_of string_of) (Some None ≡ Some (option_map string_bytes w.note)) (w.note ≡ None) (λ t. OptionReads text.reads t w.note) (λ t. OptionReads text.reads t w.note) (λ t. (λ r. r, λ r. r)) (none_counts string_bytes w.note) n5 (n1 ∷ n2 ∷ n3 ∷ n4 ∷ []) refl ms in
+    let g5 = says (option_of string_of) (Some None ≡ Some (option_map string_bytes w.note)) (w.note ≡ None)
+    (λ t. OptionReads text.reads t w.note) (λ t. OptionReads text.reads t w.note) (λ t. (λ r. r, λ r. r))
+    (none_counts string_bytes w.note) n5 (n1 ∷ n2 ∷ n3 ∷ n4 ∷ []) refl ms in
     let m5 = says_missing (w.note ≡ None) (λ t. OptionReads text.reads t w.note) (option_of string_of) n5 ms no_note in
     let pos_back : (m n : ℕ) → pos m ≡ pos n → m ≡ n = λ m n e. cc in (
       λ q. (pos_back w.id v.id (f1.0 q.0), f2.0 q.1.0, f3.0 q.1.1.0, m4.0 (g4.0 q.1.1.1.0), m5.0 (g5.0 q.1.1.1.1.0)),

@@ -5,7 +5,8 @@ use Rattle.miniserde.proofs.laws.canonical_text_determines_content.Goals as goal
 pub returns-clause-itself : goal.returns-clause-itself
 returns-clause-itself g c v w u p e r =
     let a = c.round_trips.ensures v p in
-    c.means_in_normal_form.ensures.one u (g.T.Serialize.tree v) w a.0.0 e r a.0.2 ∙ c.lossless.ensures a.0.0 v a.0.1 p (a.1 a.0.0 a.0.1 a.0.2)
+    c.means_in_normal_form.ensures.one u (g.T.Serialize.tree v) w a.0.0 e r a.0.2 ∙ c.lossless.ensures a.0.0 v a.0.1
+    p (a.1 a.0.0 a.0.1 a.0.2)
 
 pub returns-clause-one : goal.returns-clause-one
 returns-clause-one g c v w p q e =

@@ -6,7 +6,8 @@ use Rattle.std.proofs.lemmas.Result.{err_from_is_err_and}
 use Rattle.miniserde_model.specs.Normal.{norm}
 use Rattle.miniserde_model.proofs.Normal.{norm_twice}
 use Rattle.miniserde_model.proofs.Unique.{one_tree}
-use Rattle.miniserde_canonical.proofs.IsCanonical.{canonical_text, canonical_spelled, canonical_told, canonical_least, canonical_again, its_own}
+use Rattle.miniserde_canonical.proofs.IsCanonical.{canonical_text, canonical_spelled, canonical_told}
+use Rattle.miniserde_canonical.proofs.IsCanonical.{canonical_least, canonical_again, its_own}
 use Rattle.miniserde_canonical.proofs.canonicalize.canonical.Goals as goal
 
 pub returns-in_err-text-clause-invalid : goal.returns-in_err-text-clause-invalid
@@ -19,8 +20,11 @@ returns-in_err-text-clause-one c = one_tree c.args.j.now
 
 pub returns-in_err-text-clause-idempotent : goal.returns-in_err-text-clause-idempotent
 returns-in_err-text-clause-idempotent c = λ b t h e.
-    let w = err_from_is_err_and c.from_residual.result c.from_residual.ensures.1 in
-    (subst (λ r. IfOk r (λ s. string_bytes s ≡ c.args.j.now)) (sym w.1) tt, λ i. returns-in_err-text-clause-invalid c i (norm t) (its_own c.args.j.now b t h e))
+    let w = err_from_is_err_and c.from_residual.result c.from_residual.ensures.1 in (
+      subst (λ r. IfOk r (λ s. string_bytes s ≡ c.args.j.now)) (sym w.1) tt,
+      λ i. returns-in_err-text-clause-invalid
+          c i (norm t) (its_own c.args.j.now b t h e),
+    )
 
 pub returns-clause-ok : goal.returns-clause-ok
 returns-clause-ok c = let r = c.in_ok-text.ensures.ok in (r.0, r.1, r.2)

@@ -9,7 +9,8 @@ use Rattle.miniserde_model.specs.Distinct.{names_distinct}
 use Rattle.miniserde_model.proofs.Distinct.{norm_distinct, distinct_size}
 use Rattle.miniserde_model.proofs.Normal.{norm_twice}
 use Rattle.miniserde_model.proofs.Unique.{one_tree}
-use Rattle.miniserde_canonical.proofs.IsCanonical.{canonical_text, canonical_spelled, canonical_told, canonical_least, canonical_again, its_own}
+use Rattle.miniserde_canonical.proofs.IsCanonical.{canonical_text, canonical_spelled, canonical_told}
+use Rattle.miniserde_canonical.proofs.IsCanonical.{canonical_least, canonical_again, its_own}
 use Rattle.miniserde_canonical.proofs.canonicalize.canonical_unique.Goals as goal
 
 -- ---- no text
@@ -24,8 +25,11 @@ returns-in_err-text-clause-one c = one_tree c.args.j.now
 
 pub returns-in_err-text-clause-idempotent : goal.returns-in_err-text-clause-idempotent
 returns-in_err-text-clause-idempotent c = λ b t h e.
-    let w = err_from_is_err_and c.from_residual.result c.from_residual.ensures.1 in
-    (subst (λ r. IfOk r (λ s. string_bytes s ≡ c.args.j.now)) (sym w.1) tt, λ i. returns-in_err-text-clause-invalid c i (norm t) (its_own c.args.j.now b t h e) (norm_distinct t))
+    let w = err_from_is_err_and c.from_residual.result c.from_residual.ensures.1 in (
+      subst (λ r. IfOk r (λ s. string_bytes s ≡ c.args.j.now)) (sym w.1) tt,
+      λ i. returns-in_err-text-clause-invalid
+          c i (norm t) (its_own c.args.j.now b t h e) (norm_distinct t),
+    )
 
 -- ---- a text without duplicate names
 

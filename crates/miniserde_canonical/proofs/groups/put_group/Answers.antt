@@ -8,8 +8,12 @@ loop-span-init c = group_begins _ _ c.args.group _ _ _ c.clear.ensures.items c.i
 
 pub loop-span-preserved : goal.loop-span-preserved
 loop-span-preserved c =
-    group_goes _ _ c.args.group c.in-Some.span _ _ _ _ _ _ (c.pop.ensures.items ∙ ap (λ z. c.pop.new.self.items ++ option_to_list z) c.in-Some.is) c.loop-span.invariant c.in_ok-put_span.ensures.ok
+    group_goes _ _ c.args.group c.in-Some.span _ _ _ _ _ _
+    (c.pop.ensures.items ∙ ap (λ z. c.pop.new.self.items ++ option_to_list z) c.in-Some.is)
+    c.loop-span.invariant c.in_ok-put_span.ensures.ok
 
 pub loop-span-smaller : goal.loop-span-smaller
 loop-span-smaller c =
-    group_less c.in-Some.span _ _ _ (c.pop.ensures.items ∙ ap (λ z. c.pop.new.self.items ++ option_to_list z) c.in-Some.is) (c.in_ok-put_span.ensures.less c.requires)
+    group_less c.in-Some.span _ _ _
+    (c.pop.ensures.items ∙ ap (λ z. c.pop.new.self.items ++ option_to_list z) c.in-Some.is)
+    (c.in_ok-put_span.ensures.less c.requires)

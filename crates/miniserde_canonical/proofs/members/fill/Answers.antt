@@ -6,4 +6,5 @@ use Rattle.miniserde_canonical.proofs.members.fill.Goals as goal
 pub loop-i-preserved : goal.loop-i-preserved
 loop-i-preserved c =
     let same : 0 + c.loop-i.i ≡ c.loop-i.i = omega arith in
-    c.in_ok-push.ensures.items ∙ ap (λ z. z ++ c.loop-i.i ∷ []) c.loop-i.invariant ∙ ap (λ z. range_with_len 0 c.loop-i.i ++ z ∷ []) (sym same) ∙ sym (numbers_more 0 c.loop-i.i)
+    c.in_ok-push.ensures.items ∙ ap (λ z. z ++ c.loop-i.i ∷ []) c.loop-i.invariant
+    ∙ ap (λ z. range_with_len 0 c.loop-i.i ++ z ∷ []) (sym same) ∙ sym (numbers_more 0 c.loop-i.i)

@@ -5,4 +5,5 @@ use Rattle.miniserde_canonical.specs.private.Names.{name_of}
 use Rattle.miniserde_canonical.proofs.members.rises.Given as goal
 
 abbrev pub invariant-loop-i : goal.invariant-loop-i
-invariant-loop-i l = (k : ℕ) (d : Member) → k + 1 < l.i → text_cmp (name_of (get_or l.members k d).name) (name_of (get_or l.members (k + 1) d).name) ≡ Less
+invariant-loop-i l = (k : ℕ) (d : Member) → k + 1 < l.i
+    → text_cmp (name_of (get_or l.members k d).name) (name_of (get_or l.members (k + 1) d).name) ≡ Less

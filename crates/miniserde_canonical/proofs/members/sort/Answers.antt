@@ -10,8 +10,15 @@ use Rattle.miniserde_canonical.proofs.members.sort.Goals as goal
 
 pub returns-clause-sorted : goal.returns-clause-sorted
 returns-clause-sorted c =
-    c.in_ok-sort_by.ensures.sorted (λ x y. is_lt (text_cmp (name_in c.args.members.now x) (name_in c.args.members.now y))) (ranks_by nat_list_cmp_total (name_in c.args.members.now)) (always_returns_same _ _ _ (λ a r h k. (search rules, search rules)))
+    c.in_ok-sort_by.ensures.sorted
+    (λ x y. is_lt (text_cmp (name_in c.args.members.now x) (name_in c.args.members.now y)))
+    (ranks_by nat_list_cmp_total (name_in c.args.members.now))
+    (always_returns_same _ _ _ (λ a r h k. (search rules, search rules)))
 
 pub returns-clause-last : goal.returns-clause-last
 returns-clause-last c = λ r.
-    stable_last (name_in c.args.members.now) r _ _ (c.in_ok-sort_by.ensures.stable (λ x y. is_lt (text_cmp (name_in c.args.members.now x) (name_in c.args.members.now y))) (ranks_by nat_list_cmp_total (name_in c.args.members.now)) (always_returns_same _ _ _ (λ a r h k. (search rules, search rules))))
+    stable_last (name_in c.args.members.now) r _ _
+    (c.in_ok-sort_by.ensures.stable
+    (λ x y. is_lt (text_cmp (name_in c.args.members.now x) (name_in c.args.members.now y)))
+    (ranks_by nat_list_cmp_total (name_in c.args.members.now))
+    (always_returns_same _ _ _ (λ a r h k. (search rules, search rules))))

@@ -16,7 +16,13 @@ pub loop-kind-init : goal.loop-kind-init
 loop-kind-init c =
     let r = c.in_ok-first.ensures.reads in
     let start : c.new.result.rest ≡ c.args.j.now = ap (λ l. l.rest) c.new.ensures in
-    record { going = c.in_ok-first.ensures.going; taken = taken_first _ _ _ _ r.0 _ _ _ _ c.new-3.ensures start c.new-4.ensures r.1 (subst (λ z. Takes due z r.0 (before_child c.in_ok-first.first) c.value.new.self.lexer.rest c.new-4.result c.value.new.self.draft) start r.2) }
+    record {
+      going = c.in_ok-first.ensures.going;
+      taken =
+          taken_first _ _ _ _ r.0 _ _ _ _ c.new-3.ensures start c.new-4.ensures r.1
+          (subst (λ z. Takes due z r.0 (before_child c.in_ok-first.first) c.value.new.self.lexer.rest c.new-4.result
+          c.value.new.self.draft) start r.2);
+    }
 
 -- a value is due, and comes
 pub loop-kind-preserved-then-branch : goal.loop-kind-preserved-then-branch
@@ -24,23 +30,37 @@ loop-kind-preserved-then-branch c =
     let a = c.in_ok-take_child_or_end.ensures.reads in
     let b = c.in_ok-first-2.ensures.reads in
     let l = c.loop-kind.reader in
-    let reads = subst (λ z. ReadsTokens (before_child c.loop-kind.first) l.stack l.lexer.rest a.0 (due_or_after z) c.take_child_or_end.new.self.stack c.take_child_or_end.new.self.lexer.rest) c.if-branch.true a.1 in
-    let takes = subst (λ z. Takes (before_child c.loop-kind.first) l.lexer.rest a.0 (due_or_after z) c.take_child_or_end.new.self.lexer.rest l.draft c.take_child_or_end.new.self.draft) c.if-branch.true a.2 in
-    let turned = taken_more c.args.j.now _ due _ _ _ _ a.0 l.draft c.take_child_or_end.new.self.draft c.loop-kind.invariant.taken reads takes in
+    let reads = subst (λ z. ReadsTokens (before_child c.loop-kind.first) l.stack l.lexer.rest a.0 (due_or_after z)
+    c.take_child_or_end.new.self.stack c.take_child_or_end.new.self.lexer.rest) c.if-branch.true a.1 in
+    let takes = subst (λ z. Takes (before_child c.loop-kind.first) l.lexer.rest a.0 (due_or_after z)
+    c.take_child_or_end.new.self.lexer.rest l.draft c.take_child_or_end.new.self.draft) c.if-branch.true a.2
+    in
+    let turned = taken_more c.args.j.now _ due _ _ _ _ a.0 l.draft c.take_child_or_end.new.self.draft
+    c.loop-kind.invariant.taken reads takes in
     record { going = c.in_ok-first-2.ensures.going; taken = taken_more c.args.j.now due _ _ _ _ _ b.0 _ _ turned b.1 b.2 }
 
 pub loop-kind-preserved : goal.loop-kind-preserved
 loop-kind-preserved c =
     let a = c.in_ok-take_child_or_end.ensures.reads in
     let l = c.loop-kind.reader in
-    let reads = subst (λ z. ReadsTokens (before_child c.loop-kind.first) l.stack l.lexer.rest a.0 (due_or_after z) c.take_child_or_end.new.self.stack c.take_child_or_end.new.self.lexer.rest) c.if-branch.false a.1 in
-    let takes = subst (λ z. Takes (before_child c.loop-kind.first) l.lexer.rest a.0 (due_or_after z) c.take_child_or_end.new.self.lexer.rest l.draft c.take_child_or_end.new.self.draft) c.if-branch.false a.2 in
-    record { going = c.in_ok-take_child_or_end.ensures.going; taken = taken_more c.args.j.now _ after _ _ _ _ a.0 l.draft c.take_child_or_end.new.self.draft c.loop-kind.invariant.taken reads takes }
+    let reads = subst (λ z. ReadsTokens (before_child c.loop-kind.first) l.stack l.lexer.rest a.0 (due_or_after z)
+    c.take_child_or_end.new.self.stack c.take_child_or_end.new.self.lexer.rest) c.if-branch.false a.1 in
+    let takes = subst (λ z. Takes (before_child c.loop-kind.first) l.lexer.rest a.0 (due_or_after z)
+    c.take_child_or_end.new.self.lexer.rest l.draft c.take_child_or_end.new.self.draft) c.if-branch.false a.2
+    in
+    record {
+      going = c.in_ok-take_child_or_end.ensures.going;
+      taken =
+          taken_more c.args.j.now _ after _ _ _ _ a.0 l.draft c.take_child_or_end.new.self.draft
+          c.loop-kind.invariant.taken reads takes;
+    }
 
 pub returns-in_err-first-clause-invalid : goal.returns-in_err-first-clause-invalid
 returns-in_err-first-clause-invalid c = λ e.
     let w = err_from_is_err_and c.from_residual.result c.from_residual.ensures.1 in
-    barred_json c.args.j.now (barred_from _ _ _ _ c.new-3.ensures (ap (λ l. l.rest) c.new.ensures) (c.in_err-first.ensures.invalid (cc (w.1, w.2, e))))
+    barred_json c.args.j.now
+    (barred_from _ _ _ _ c.new-3.ensures (ap (λ l. l.rest) c.new.ensures)
+    (c.in_err-first.ensures.invalid (cc (w.1, w.2, e))))
 
 pub returns-in_err-take_child_or_end-clause-invalid : goal.returns-in_err-take_child_or_end-clause-invalid
 returns-in_err-take_child_or_end-clause-invalid c = λ e.
@@ -52,16 +72,21 @@ returns-in_err-first-2-clause-invalid c = λ e.
     let w = err_from_is_err_and c.from_residual-in_err-first-2.result c.from_residual-in_err-first-2.ensures.1 in
     let a = c.in_ok-take_child_or_end.ensures.reads in
     let l = c.loop-kind.reader in
-    let reads = subst (λ z. ReadsTokens (before_child c.loop-kind.first) l.stack l.lexer.rest a.0 (due_or_after z) c.take_child_or_end.new.self.stack c.take_child_or_end.new.self.lexer.rest) c.if-branch.true a.1 in
-    let takes = subst (λ z. Takes (before_child c.loop-kind.first) l.lexer.rest a.0 (due_or_after z) c.take_child_or_end.new.self.lexer.rest l.draft c.take_child_or_end.new.self.draft) c.if-branch.true a.2 in
-    let turned = taken_more c.args.j.now _ due _ _ _ _ a.0 l.draft c.take_child_or_end.new.self.draft c.loop-kind.invariant.taken reads takes in
+    let reads = subst (λ z. ReadsTokens (before_child c.loop-kind.first) l.stack l.lexer.rest a.0 (due_or_after z)
+    c.take_child_or_end.new.self.stack c.take_child_or_end.new.self.lexer.rest) c.if-branch.true a.1 in
+    let takes = subst (λ z. Takes (before_child c.loop-kind.first) l.lexer.rest a.0 (due_or_after z)
+    c.take_child_or_end.new.self.lexer.rest l.draft c.take_child_or_end.new.self.draft) c.if-branch.true a.2
+    in
+    let turned = taken_more c.args.j.now _ due _ _ _ _ a.0 l.draft c.take_child_or_end.new.self.draft
+    c.loop-kind.invariant.taken reads takes in
     invalid_exit c.args.j.now _ due _ _ turned.reads (c.in_err-first-2.ensures.invalid (cc (w.1, w.2, e)))
 
 pub returns-in_err-end-clause-invalid : goal.returns-in_err-end-clause-invalid
 returns-in_err-end-clause-invalid c = λ e.
     let w = err_from_is_err_and c.from_residual-in_err-end.result c.from_residual-in_err-end.ensures.1 in
     let n : innermost c.loop-kind.reader.stack ≡ None = sym c.top.ensures ∙ c.in_default.is in
-    end_invalid c.args.j.now _ c.loop-kind.first _ _ n c.loop-kind.invariant.taken.reads (c.in_err-end.ensures.invalid (cc (w.1, w.2, e)) c.loop-kind.invariant.going)
+    end_invalid c.args.j.now _ c.loop-kind.first _ _ n c.loop-kind.invariant.taken.reads
+    (c.in_err-end.ensures.invalid (cc (w.1, w.2, e)) c.loop-kind.invariant.going)
 
 pub returns-clause-ok : goal.returns-clause-ok
 returns-clause-ok c =

@@ -7,10 +7,13 @@ pub returns-clause-complete : goal.returns-clause-complete
 returns-clause-complete g c = c.events_give.ensures.complete
 
 pub returns-clause-value : goal.returns-clause-value
-returns-clause-value g c = λ t p h. given_reads g.T.Place.Visitor.meaning g.T.FromJson.means c.tied.ensures t (p.outcome []) (c.events_give.ensures.outcome t p h)
+returns-clause-value g c = λ t p h. given_reads g.T.Place.Visitor.meaning g.T.FromJson.means c.tied.ensures t
+    (p.outcome []) (c.events_give.ensures.outcome t p h)
 
 pub returns-clause-none : goal.returns-clause-none
-returns-clause-none g c = λ t p h. none_reads g.T.Place.Visitor.meaning g.T.FromJson.means c.tied.ensures t (p.outcome []) (c.events_give.ensures.outcome t p h)
+returns-clause-none g c = λ t p h. none_reads g.T.Place.Visitor.meaning g.T.FromJson.means c.tied.ensures t
+    (p.outcome []) (c.events_give.ensures.outcome t p h)
 
 pub returns-clause-refused : goal.returns-clause-refused
-returns-clause-refused g c = λ p f t. none_reads g.T.Place.Visitor.meaning g.T.FromJson.means c.tied.ensures t (p.outcome (events t)) (c.events_give.ensures.fresh p f t)
+returns-clause-refused g c = λ p f t. none_reads g.T.Place.Visitor.meaning g.T.FromJson.means c.tied.ensures t
+    (p.outcome (events t)) (c.events_give.ensures.fresh p f t)

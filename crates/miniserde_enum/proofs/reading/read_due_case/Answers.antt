@@ -8,4 +8,6 @@ read_case-requires-clause-event g c = start_event _ _ _ c.in_ok-token.ensures.ok
 
 pub returns-clause-invalid : goal.returns-clause-invalid
 returns-clause-invalid g c = λ e t d b r h v.
-    due_front c.args.source.now.rest b c.token.new.self.rest r d (event_of_token c.in_ok-token.token c.token.new.self.scratch) t c.in_ok-token.ensures.ok h v (λ u. c.read_case.ensures.invalid e t r u)
+    due_front c.args.source.now.rest b c.token.new.self.rest r d
+    (event_of_token c.in_ok-token.token c.token.new.self.scratch) t c.in_ok-token.ensures.ok h v
+    (λ u. c.read_case.ensures.invalid e t r u)

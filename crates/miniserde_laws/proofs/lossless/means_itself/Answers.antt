@@ -16,5 +16,6 @@ returns-clause-only g c w r =
     let m = g.T.FromJson.means in
     let v = c.args.value.now in
     let t = g.T.Serialize.tree v in
-    let same : ◌≡◌ {A = Option m.Content} (Some (m.content w)) (Some (m.content v)) = sym ((m.reads_agrees t w).0 r) ∙ (m.reads_agrees t v).0 (returns-clause-means g c) in
+    let same : ◌≡◌ {A = Option m.Content} (Some (m.content w)) (Some (m.content v)) =
+    sym ((m.reads_agrees t w).0 r) ∙ (m.reads_agrees t v).0 (returns-clause-means g c) in
     cc

@@ -21,7 +21,8 @@ returns-in_err-first-clause-invalid g c = λ e t r p.
     let v = g.V.Visitor.meaning.view in
     let ev = event_of_token c.args.token c.args.source.now.scratch in
     let s = c.args.source.now.rest in
-    first_barred (v c.args.place.now).at (v c.args.place.now).outcome ev s c.requires.fresh (c.in_err-first.ensures.rejects (cc (w.1, w.2, e))) t r p
+    first_barred (v c.args.place.now).at (v c.args.place.now).outcome ev s c.requires.fresh
+    (c.in_err-first.ensures.rejects (cc (w.1, w.2, e))) t r p
 
 pub loop-kind-init : goal.loop-kind-init
 loop-kind-init g c =
@@ -31,7 +32,9 @@ loop-kind-init g c =
     record {
       unrefused = c.in_ok-first.ensures.unrefused;
       going = c.requires.going;
-      moved = moved_init ev c.in_ok-first.first c.enter.new.stack s (v c.enter.new.place).at (v c.enter.new.place).outcome c.in_ok-first.ensures.opens (c.in_ok-first.ensures.stack ∙ ap (with_opened (opened_kind ev)) c.new-stack.ensures);
+      moved = moved_init ev c.in_ok-first.first c.enter.new.stack s (v c.enter.new.place).at
+          (v c.enter.new.place).outcome c.in_ok-first.ensures.opens
+          (c.in_ok-first.ensures.stack ∙ ap (with_opened (opened_kind ev)) c.new-stack.ensures);
     }
 
 pub returns-in_err-take_child_or_end-clause-invalid : goal.returns-in_err-take_child_or_end-clause-invalid
@@ -41,7 +44,12 @@ returns-in_err-take_child_or_end-clause-invalid g c = λ e t r p.
     let ev = event_of_token c.args.token c.args.source.now.scratch in
     let s = c.args.source.now.rest in
     let lead : Advances (v c.args.place.now) ev (v c.enter.new.place) = c.in_ok-first.ensures.advances in
-    later_barred (v c.args.place.now).at (v c.args.place.now).outcome ev (v c.enter.new.place).at (v c.enter.new.place).outcome s c.requires.fresh lead (barred_more (before_child (is_some (opened_kind ev))) (with_opened (opened_kind ev) []) s (v c.enter.new.place).at (v c.enter.new.place).outcome (before_child c.loop-kind.first) c.loop-kind.stack c.loop-kind.source.rest (v c.loop-kind.place).at (v c.loop-kind.place).outcome c.loop-kind.invariant.moved (c.in_err-take_child_or_end.ensures.invalid (cc (w.1, w.2, e)))) t r p
+    later_barred (v c.args.place.now).at (v c.args.place.now).outcome ev (v c.enter.new.place).at
+    (v c.enter.new.place).outcome s c.requires.fresh lead
+    (barred_more (before_child (is_some (opened_kind ev))) (with_opened (opened_kind ev) []) s
+    (v c.enter.new.place).at (v c.enter.new.place).outcome (before_child c.loop-kind.first) c.loop-kind.stack
+    c.loop-kind.source.rest (v c.loop-kind.place).at (v c.loop-kind.place).outcome c.loop-kind.invariant.moved
+    (c.in_err-take_child_or_end.ensures.invalid (cc (w.1, w.2, e)))) t r p
 
 pub returns-in_err-token-clause-invalid : goal.returns-in_err-token-clause-invalid
 returns-in_err-token-clause-invalid g c = λ e t r p.
@@ -50,9 +58,25 @@ returns-in_err-token-clause-invalid g c = λ e t r p.
     let ev = event_of_token c.args.token c.args.source.now.scratch in
     let s = c.args.source.now.rest in
     let lead : Advances (v c.args.place.now) ev (v c.enter.new.place) = c.in_ok-first.ensures.advances in
-    let n = subst (λ z. Moved (before_child c.loop-kind.first) c.loop-kind.stack c.loop-kind.source.rest (v c.loop-kind.place).at (v c.loop-kind.place).outcome (due_or_after z) c.take_child_or_end.new.stack c.take_child_or_end.new.source.rest (v c.take_child_or_end.new.place).at (v c.take_child_or_end.new.place).outcome) c.if-branch.true c.in_ok-take_child_or_end.ensures.moved in
-    let two = Moved-append (before_child (is_some (opened_kind ev))) (with_opened (opened_kind ev) []) s (v c.enter.new.place).at (v c.enter.new.place).outcome (before_child c.loop-kind.first) c.loop-kind.stack c.loop-kind.source.rest (v c.loop-kind.place).at (v c.loop-kind.place).outcome due c.take_child_or_end.new.stack c.take_child_or_end.new.source.rest (v c.take_child_or_end.new.place).at (v c.take_child_or_end.new.place).outcome c.loop-kind.invariant.moved n in
-    later_barred (v c.args.place.now).at (v c.args.place.now).outcome ev (v c.enter.new.place).at (v c.enter.new.place).outcome s c.requires.fresh lead (barred_more (before_child (is_some (opened_kind ev))) (with_opened (opened_kind ev) []) s (v c.enter.new.place).at (v c.enter.new.place).outcome due c.take_child_or_end.new.stack c.take_child_or_end.new.source.rest (v c.take_child_or_end.new.place).at (v c.take_child_or_end.new.place).outcome two (never_barred due c.take_child_or_end.new.stack c.take_child_or_end.new.source.rest (v c.take_child_or_end.new.place).outcome (v c.take_child_or_end.new.place).at (start_ends c.take_child_or_end.new.stack c.take_child_or_end.new.source.rest (c.in_err-token.ensures.invalid (cc (w.1, w.2, e)) c.in_ok-take_child_or_end.ensures.going)))) t r p
+    let n = subst (λ z. Moved (before_child c.loop-kind.first) c.loop-kind.stack c.loop-kind.source.rest
+    (v c.loop-kind.place).at (v c.loop-kind.place).outcome (due_or_after z) c.take_child_or_end.new.stack
+    c.take_child_or_end.new.source.rest (v c.take_child_or_end.new.place).at
+    (v c.take_child_or_end.new.place).outcome) c.if-branch.true c.in_ok-take_child_or_end.ensures.moved in
+    let two = Moved-append (before_child (is_some (opened_kind ev))) (with_opened (opened_kind ev) []) s
+    (v c.enter.new.place).at (v c.enter.new.place).outcome (before_child c.loop-kind.first) c.loop-kind.stack
+    c.loop-kind.source.rest (v c.loop-kind.place).at (v c.loop-kind.place).outcome due
+    c.take_child_or_end.new.stack c.take_child_or_end.new.source.rest (v c.take_child_or_end.new.place).at
+    (v c.take_child_or_end.new.place).outcome c.loop-kind.invariant.moved n in
+    later_barred (v c.args.place.now).at (v c.args.place.now).outcome ev (v c.enter.new.place).at
+    (v c.enter.new.place).outcome s c.requires.fresh lead
+    (barred_more (before_child (is_some (opened_kind ev))) (with_opened (opened_kind ev) []) s
+    (v c.enter.new.place).at (v c.enter.new.place).outcome due c.take_child_or_end.new.stack
+    c.take_child_or_end.new.source.rest (v c.take_child_or_end.new.place).at
+    (v c.take_child_or_end.new.place).outcome two
+    (never_barred due c.take_child_or_end.new.stack c.take_child_or_end.new.source.rest
+    (v c.take_child_or_end.new.place).outcome (v c.take_child_or_end.new.place).at
+    (start_ends c.take_child_or_end.new.stack c.take_child_or_end.new.source.rest
+    (c.in_err-token.ensures.invalid (cc (w.1, w.2, e)) c.in_ok-take_child_or_end.ensures.going)))) t r p
 
 pub enter-requires-then-branch-clause-event : goal.enter-requires-then-branch-clause-event
 enter-requires-then-branch-clause-event g c = start_event _ _ _ c.in_ok-token.ensures.ok
@@ -64,25 +88,64 @@ returns-in_err-first-2-clause-invalid g c = λ e t r p.
     let ev = event_of_token c.args.token c.args.source.now.scratch in
     let s = c.args.source.now.rest in
     let lead : Advances (v c.args.place.now) ev (v c.enter.new.place) = c.in_ok-first.ensures.advances in
-    let n = subst (λ z. Moved (before_child c.loop-kind.first) c.loop-kind.stack c.loop-kind.source.rest (v c.loop-kind.place).at (v c.loop-kind.place).outcome (due_or_after z) c.take_child_or_end.new.stack c.take_child_or_end.new.source.rest (v c.take_child_or_end.new.place).at (v c.take_child_or_end.new.place).outcome) c.if-branch.true c.in_ok-take_child_or_end.ensures.moved in
-    let two = Moved-append (before_child (is_some (opened_kind ev))) (with_opened (opened_kind ev) []) s (v c.enter.new.place).at (v c.enter.new.place).outcome (before_child c.loop-kind.first) c.loop-kind.stack c.loop-kind.source.rest (v c.loop-kind.place).at (v c.loop-kind.place).outcome due c.take_child_or_end.new.stack c.take_child_or_end.new.source.rest (v c.take_child_or_end.new.place).at (v c.take_child_or_end.new.place).outcome c.loop-kind.invariant.moved n in
+    let n = subst (λ z. Moved (before_child c.loop-kind.first) c.loop-kind.stack c.loop-kind.source.rest
+    (v c.loop-kind.place).at (v c.loop-kind.place).outcome (due_or_after z) c.take_child_or_end.new.stack
+    c.take_child_or_end.new.source.rest (v c.take_child_or_end.new.place).at
+    (v c.take_child_or_end.new.place).outcome) c.if-branch.true c.in_ok-take_child_or_end.ensures.moved in
+    let two = Moved-append (before_child (is_some (opened_kind ev))) (with_opened (opened_kind ev) []) s
+    (v c.enter.new.place).at (v c.enter.new.place).outcome (before_child c.loop-kind.first) c.loop-kind.stack
+    c.loop-kind.source.rest (v c.loop-kind.place).at (v c.loop-kind.place).outcome due
+    c.take_child_or_end.new.stack c.take_child_or_end.new.source.rest (v c.take_child_or_end.new.place).at
+    (v c.take_child_or_end.new.place).outcome c.loop-kind.invariant.moved n in
     let ew = event_of_token c.in_ok-token.token c.token.new.self.scratch in
-    later_barred (v c.args.place.now).at (v c.args.place.now).outcome ev (v c.enter.new.place).at (v c.enter.new.place).outcome s c.requires.fresh lead (barred_more (before_child (is_some (opened_kind ev))) (with_opened (opened_kind ev) []) s (v c.enter.new.place).at (v c.enter.new.place).outcome due c.take_child_or_end.new.stack c.take_child_or_end.new.source.rest (v c.take_child_or_end.new.place).at (v c.take_child_or_end.new.place).outcome two (barred_one due c.take_child_or_end.new.stack c.take_child_or_end.new.source.rest (v c.take_child_or_end.new.place).at (v c.take_child_or_end.new.place).outcome ew (before_child (is_some (opened_kind ew))) (with_opened (opened_kind ew) c.take_child_or_end.new.stack) c.token.new.self.rest (value_passed c.take_child_or_end.new.stack c.take_child_or_end.new.source.rest c.token.new.self.rest ew _ _ c.in_ok-token.ensures.ok refl refl) (c.in_err-first-2.ensures.rejects (cc (w.1, w.2, e))))) t r p
+    later_barred (v c.args.place.now).at (v c.args.place.now).outcome ev (v c.enter.new.place).at
+    (v c.enter.new.place).outcome s c.requires.fresh lead
+    (barred_more (before_child (is_some (opened_kind ev))) (with_opened (opened_kind ev) []) s
+    (v c.enter.new.place).at (v c.enter.new.place).outcome due c.take_child_or_end.new.stack
+    c.take_child_or_end.new.source.rest (v c.take_child_or_end.new.place).at
+    (v c.take_child_or_end.new.place).outcome two
+    (barred_one due c.take_child_or_end.new.stack c.take_child_or_end.new.source.rest
+    (v c.take_child_or_end.new.place).at (v c.take_child_or_end.new.place).outcome ew
+    (before_child (is_some (opened_kind ew))) (with_opened (opened_kind ew) c.take_child_or_end.new.stack)
+    c.token.new.self.rest (value_passed c.take_child_or_end.new.stack c.take_child_or_end.new.source.rest
+    c.token.new.self.rest ew _ _ c.in_ok-token.ensures.ok refl refl)
+    (c.in_err-first-2.ensures.rejects (cc (w.1, w.2, e))))) t r p
 
 pub loop-kind-preserved-then-branch : goal.loop-kind-preserved-then-branch
 loop-kind-preserved-then-branch g c =
     let v = g.V.Visitor.meaning.view in
     let ev = event_of_token c.args.token c.args.source.now.scratch in
     let s = c.args.source.now.rest in
-    let n = subst (λ z. Moved (before_child c.loop-kind.first) c.loop-kind.stack c.loop-kind.source.rest (v c.loop-kind.place).at (v c.loop-kind.place).outcome (due_or_after z) c.take_child_or_end.new.stack c.take_child_or_end.new.source.rest (v c.take_child_or_end.new.place).at (v c.take_child_or_end.new.place).outcome) c.if-branch.true c.in_ok-take_child_or_end.ensures.moved in
-    let two = Moved-append (before_child (is_some (opened_kind ev))) (with_opened (opened_kind ev) []) s (v c.enter.new.place).at (v c.enter.new.place).outcome (before_child c.loop-kind.first) c.loop-kind.stack c.loop-kind.source.rest (v c.loop-kind.place).at (v c.loop-kind.place).outcome due c.take_child_or_end.new.stack c.take_child_or_end.new.source.rest (v c.take_child_or_end.new.place).at (v c.take_child_or_end.new.place).outcome c.loop-kind.invariant.moved n in
+    let n = subst (λ z. Moved (before_child c.loop-kind.first) c.loop-kind.stack c.loop-kind.source.rest
+    (v c.loop-kind.place).at (v c.loop-kind.place).outcome (due_or_after z) c.take_child_or_end.new.stack
+    c.take_child_or_end.new.source.rest (v c.take_child_or_end.new.place).at
+    (v c.take_child_or_end.new.place).outcome) c.if-branch.true c.in_ok-take_child_or_end.ensures.moved in
+    let two = Moved-append (before_child (is_some (opened_kind ev))) (with_opened (opened_kind ev) []) s
+    (v c.enter.new.place).at (v c.enter.new.place).outcome (before_child c.loop-kind.first) c.loop-kind.stack
+    c.loop-kind.source.rest (v c.loop-kind.place).at (v c.loop-kind.place).outcome due
+    c.take_child_or_end.new.stack c.take_child_or_end.new.source.rest (v c.take_child_or_end.new.place).at
+    (v c.take_child_or_end.new.place).outcome c.loop-kind.invariant.moved n in
     let ew = event_of_token c.in_ok-token.token c.token.new.self.scratch in
     let led : Advances (v c.take_child_or_end.new.place) ew (v c.enter-then-branch.new.place) = c.in_ok-first-2.ensures.advances in
-    let one = moved_one due c.take_child_or_end.new.stack c.take_child_or_end.new.source.rest (v c.take_child_or_end.new.place).at (v c.take_child_or_end.new.place).outcome ew (before_child c.in_ok-first-2.first) c.enter-then-branch.new.stack c.token.new.self.rest (v c.enter-then-branch.new.place).at (v c.enter-then-branch.new.place).outcome (value_passed c.take_child_or_end.new.stack c.take_child_or_end.new.source.rest c.token.new.self.rest ew c.in_ok-first-2.first c.enter-then-branch.new.stack c.in_ok-token.ensures.ok c.in_ok-first-2.ensures.opens c.in_ok-first-2.ensures.stack) (start_spellable c.take_child_or_end.new.stack c.take_child_or_end.new.source.rest c.token.new.self.rest ew c.in_ok-first-2.first c.enter-then-branch.new.stack c.in_ok-token.ensures.ok c.in_ok-first-2.ensures.opens c.in_ok-first-2.ensures.stack) led in
+    let one = moved_one due c.take_child_or_end.new.stack c.take_child_or_end.new.source.rest
+    (v c.take_child_or_end.new.place).at (v c.take_child_or_end.new.place).outcome ew
+    (before_child c.in_ok-first-2.first) c.enter-then-branch.new.stack c.token.new.self.rest
+    (v c.enter-then-branch.new.place).at (v c.enter-then-branch.new.place).outcome
+    (value_passed c.take_child_or_end.new.stack c.take_child_or_end.new.source.rest c.token.new.self.rest ew
+    c.in_ok-first-2.first c.enter-then-branch.new.stack c.in_ok-token.ensures.ok c.in_ok-first-2.ensures.opens
+    c.in_ok-first-2.ensures.stack)
+    (start_spellable c.take_child_or_end.new.stack c.take_child_or_end.new.source.rest c.token.new.self.rest ew
+    c.in_ok-first-2.first c.enter-then-branch.new.stack c.in_ok-token.ensures.ok c.in_ok-first-2.ensures.opens
+    c.in_ok-first-2.ensures.stack) led in
     record {
       unrefused = c.in_ok-first-2.ensures.unrefused;
       going = c.in_ok-token.ensures.going;
-      moved = Moved-append (before_child (is_some (opened_kind ev))) (with_opened (opened_kind ev) []) s (v c.enter.new.place).at (v c.enter.new.place).outcome due c.take_child_or_end.new.stack c.take_child_or_end.new.source.rest (v c.take_child_or_end.new.place).at (v c.take_child_or_end.new.place).outcome (before_child c.in_ok-first-2.first) c.enter-then-branch.new.stack c.token.new.self.rest (v c.enter-then-branch.new.place).at (v c.enter-then-branch.new.place).outcome two one;
+      moved = Moved-append (before_child (is_some (opened_kind ev))) (with_opened (opened_kind ev) []) s
+          (v c.enter.new.place).at (v c.enter.new.place).outcome due c.take_child_or_end.new.stack
+          c.take_child_or_end.new.source.rest (v c.take_child_or_end.new.place).at
+          (v c.take_child_or_end.new.place).outcome (before_child c.in_ok-first-2.first)
+          c.enter-then-branch.new.stack c.token.new.self.rest (v c.enter-then-branch.new.place).at
+          (v c.enter-then-branch.new.place).outcome two one;
     }
 
 pub loop-kind-preserved : goal.loop-kind-preserved
@@ -90,8 +153,15 @@ loop-kind-preserved g c =
     let v = g.V.Visitor.meaning.view in
     let ev = event_of_token c.args.token c.args.source.now.scratch in
     let s = c.args.source.now.rest in
-    let n = subst (λ z. Moved (before_child c.loop-kind.first) c.loop-kind.stack c.loop-kind.source.rest (v c.loop-kind.place).at (v c.loop-kind.place).outcome (due_or_after z) c.take_child_or_end.new.stack c.take_child_or_end.new.source.rest (v c.take_child_or_end.new.place).at (v c.take_child_or_end.new.place).outcome) c.if-branch.false c.in_ok-take_child_or_end.ensures.moved in
-    let two = Moved-append (before_child (is_some (opened_kind ev))) (with_opened (opened_kind ev) []) s (v c.enter.new.place).at (v c.enter.new.place).outcome (before_child c.loop-kind.first) c.loop-kind.stack c.loop-kind.source.rest (v c.loop-kind.place).at (v c.loop-kind.place).outcome after c.take_child_or_end.new.stack c.take_child_or_end.new.source.rest (v c.take_child_or_end.new.place).at (v c.take_child_or_end.new.place).outcome c.loop-kind.invariant.moved n in
+    let n = subst (λ z. Moved (before_child c.loop-kind.first) c.loop-kind.stack c.loop-kind.source.rest
+    (v c.loop-kind.place).at (v c.loop-kind.place).outcome (due_or_after z) c.take_child_or_end.new.stack
+    c.take_child_or_end.new.source.rest (v c.take_child_or_end.new.place).at
+    (v c.take_child_or_end.new.place).outcome) c.if-branch.false c.in_ok-take_child_or_end.ensures.moved in
+    let two = Moved-append (before_child (is_some (opened_kind ev))) (with_opened (opened_kind ev) []) s
+    (v c.enter.new.place).at (v c.enter.new.place).outcome (before_child c.loop-kind.first) c.loop-kind.stack
+    c.loop-kind.source.rest (v c.loop-kind.place).at (v c.loop-kind.place).outcome after
+    c.take_child_or_end.new.stack c.take_child_or_end.new.source.rest (v c.take_child_or_end.new.place).at
+    (v c.take_child_or_end.new.place).outcome c.loop-kind.invariant.moved n in
     record { unrefused = c.in_ok-take_child_or_end.ensures.unrefused; going = c.in_ok-take_child_or_end.ensures.going; moved = two }
 
 pub returns-clause-ok : goal.returns-clause-ok
@@ -101,7 +171,9 @@ returns-clause-ok g c =
     let s = c.args.source.now.rest in
     let lead : Advances (v c.args.place.now) ev (v c.enter.new.place) = c.in_ok-first.ensures.advances in
     let n : innermost c.loop-kind.stack ≡ None = sym c.top.ensures ∙ c.in_default.is in
-    feed_ok c.args.token c.args.source.now.scratch s c.loop-kind.source.rest (v c.args.place.now).at (v c.args.place.now).outcome (v c.enter.new.place).at (v c.enter.new.place).outcome c.loop-kind.first c.loop-kind.stack (v c.loop-kind.place).at (v c.loop-kind.place).outcome n lead c.loop-kind.invariant.moved
+    feed_ok c.args.token c.args.source.now.scratch s c.loop-kind.source.rest (v c.args.place.now).at
+    (v c.args.place.now).outcome (v c.enter.new.place).at (v c.enter.new.place).outcome c.loop-kind.first
+    c.loop-kind.stack (v c.loop-kind.place).at (v c.loop-kind.place).outcome n lead c.loop-kind.invariant.moved
 
 -- ---- what an error leaves of the place
 
@@ -109,7 +181,9 @@ pub returns-in_err-first-clause-sticky : goal.returns-in_err-first-clause-sticky
 returns-in_err-first-clause-sticky g c =
     let v = g.V.Visitor.meaning.view in
     let w = err_from_is_err_and c.from_residual.result c.from_residual.ensures.1 in
-    keeps_exit v (v c.args.place.now).at (v c.args.place.now).outcome c.args.place.now c.enter.new.place c.from_residual.result c.in_err-first.field-0.0 (cc (w.1, w.2)) c.requires.unrefused (begun_none (v c.args.place.now).at (v c.args.place.now).outcome) c.in_err-first.ensures.sticky
+    keeps_exit v (v c.args.place.now).at (v c.args.place.now).outcome c.args.place.now c.enter.new.place
+    c.from_residual.result c.in_err-first.field-0.0 (cc (w.1, w.2)) c.requires.unrefused
+    (begun_none (v c.args.place.now).at (v c.args.place.now).outcome) c.in_err-first.ensures.sticky
 
 pub returns-in_err-take_child_or_end-clause-sticky : goal.returns-in_err-take_child_or_end-clause-sticky
 returns-in_err-take_child_or_end-clause-sticky g c =
@@ -118,8 +192,15 @@ returns-in_err-take_child_or_end-clause-sticky g c =
     let s = c.args.source.now.rest in
     let lead : Advances (v c.args.place.now) ev (v c.enter.new.place) = c.in_ok-first.ensures.advances in
     let w = err_from_is_err_and c.from_residual-in_err-take_child_or_end.result c.from_residual-in_err-take_child_or_end.ensures.1 in
-    keeps_exit v (v c.args.place.now).at (v c.args.place.now).outcome c.loop-kind.place c.take_child_or_end.new.place c.from_residual-in_err-take_child_or_end.result c.in_err-take_child_or_end.field-0.0 (cc (w.1, w.2)) c.loop-kind.invariant.unrefused
-    (begun c.args.token c.args.source.now.scratch s (v c.args.place.now).at (v c.args.place.now).outcome (v c.enter.new.place).at (v c.enter.new.place).outcome (before_child c.loop-kind.first) c.loop-kind.stack c.loop-kind.source.rest (v c.loop-kind.place).at (v c.loop-kind.place).outcome lead c.loop-kind.invariant.moved (inside_unfinished c.loop-kind.first c.loop-kind.stack _ (sym c.top.ensures ∙ c.in-Some.is))) c.in_err-take_child_or_end.ensures.sticky
+    keeps_exit v (v c.args.place.now).at (v c.args.place.now).outcome c.loop-kind.place
+    c.take_child_or_end.new.place c.from_residual-in_err-take_child_or_end.result
+    c.in_err-take_child_or_end.field-0.0 (cc (w.1, w.2)) c.loop-kind.invariant.unrefused
+    (begun c.args.token c.args.source.now.scratch s (v c.args.place.now).at (v c.args.place.now).outcome
+    (v c.enter.new.place).at (v c.enter.new.place).outcome (before_child c.loop-kind.first) c.loop-kind.stack
+    c.loop-kind.source.rest (v c.loop-kind.place).at (v c.loop-kind.place).outcome lead
+    c.loop-kind.invariant.moved
+    (inside_unfinished c.loop-kind.first c.loop-kind.stack _ (sym c.top.ensures ∙ c.in-Some.is)))
+    c.in_err-take_child_or_end.ensures.sticky
 
 pub returns-in_err-token-clause-sticky : goal.returns-in_err-token-clause-sticky
 returns-in_err-token-clause-sticky g c =
@@ -127,10 +208,27 @@ returns-in_err-token-clause-sticky g c =
     let ev = event_of_token c.args.token c.args.source.now.scratch in
     let s = c.args.source.now.rest in
     let lead : Advances (v c.args.place.now) ev (v c.enter.new.place) = c.in_ok-first.ensures.advances in
-    let n = subst (λ z. Moved (before_child c.loop-kind.first) c.loop-kind.stack c.loop-kind.source.rest (v c.loop-kind.place).at (v c.loop-kind.place).outcome (due_or_after z) c.take_child_or_end.new.stack c.take_child_or_end.new.source.rest (v c.take_child_or_end.new.place).at (v c.take_child_or_end.new.place).outcome) c.if-branch.true c.in_ok-take_child_or_end.ensures.moved in
-    let two = Moved-append (before_child (is_some (opened_kind ev))) (with_opened (opened_kind ev) []) s (v c.enter.new.place).at (v c.enter.new.place).outcome (before_child c.loop-kind.first) c.loop-kind.stack c.loop-kind.source.rest (v c.loop-kind.place).at (v c.loop-kind.place).outcome due c.take_child_or_end.new.stack c.take_child_or_end.new.source.rest (v c.take_child_or_end.new.place).at (v c.take_child_or_end.new.place).outcome c.loop-kind.invariant.moved n in
-    if_err c.from_residual-in_err-token.result (λ e. ((v c.take_child_or_end.new.place).refused ≡ Some e) ⊎ (((v c.take_child_or_end.new.place).refused ≡ None) × PositionBeginsTree (v c.args.place.now).at (v c.args.place.now).outcome (v c.take_child_or_end.new.place).at (v c.take_child_or_end.new.place).outcome))
-    (λ e. inr (c.in_ok-take_child_or_end.ensures.unrefused, begun c.args.token c.args.source.now.scratch s (v c.args.place.now).at (v c.args.place.now).outcome (v c.enter.new.place).at (v c.enter.new.place).outcome due c.take_child_or_end.new.stack c.take_child_or_end.new.source.rest (v c.take_child_or_end.new.place).at (v c.take_child_or_end.new.place).outcome lead two tt))
+    let n = subst (λ z. Moved (before_child c.loop-kind.first) c.loop-kind.stack c.loop-kind.source.rest
+    (v c.loop-kind.place).at (v c.loop-kind.place).outcome (due_or_after z) c.take_child_or_end.new.stack
+    c.take_child_or_end.new.source.rest (v c.take_child_or_end.new.place).at
+    (v c.take_child_or_end.new.place).outcome) c.if-branch.true c.in_ok-take_child_or_end.ensures.moved in
+    let two = Moved-append (before_child (is_some (opened_kind ev))) (with_opened (opened_kind ev) []) s
+    (v c.enter.new.place).at (v c.enter.new.place).outcome (before_child c.loop-kind.first) c.loop-kind.stack
+    c.loop-kind.source.rest (v c.loop-kind.place).at (v c.loop-kind.place).outcome due
+    c.take_child_or_end.new.stack c.take_child_or_end.new.source.rest (v c.take_child_or_end.new.place).at
+    (v c.take_child_or_end.new.place).outcome c.loop-kind.invariant.moved n in
+    if_err c.from_residual-in_err-token.result
+    (λ e. ((v c.take_child_or_end.new.place).refused ≡ Some e)
+    ⊎ (((v c.take_child_or_end.new.place).refused ≡ None) × PositionBeginsTree (v c.args.place.now).at
+    (v c.args.place.now).outcome (v c.take_child_or_end.new.place).at
+    (v c.take_child_or_end.new.place).outcome))
+    (λ e. inr (
+      c.in_ok-take_child_or_end.ensures.unrefused,
+      begun c.args.token c.args.source.now.scratch s
+          (v c.args.place.now).at (v c.args.place.now).outcome (v c.enter.new.place).at
+          (v c.enter.new.place).outcome due c.take_child_or_end.new.stack c.take_child_or_end.new.source.rest
+          (v c.take_child_or_end.new.place).at (v c.take_child_or_end.new.place).outcome lead two tt,
+    ))
 
 pub returns-in_err-first-2-clause-sticky : goal.returns-in_err-first-2-clause-sticky
 returns-in_err-first-2-clause-sticky g c =
@@ -139,7 +237,19 @@ returns-in_err-first-2-clause-sticky g c =
     let s = c.args.source.now.rest in
     let lead : Advances (v c.args.place.now) ev (v c.enter.new.place) = c.in_ok-first.ensures.advances in
     let w = err_from_is_err_and c.from_residual-in_err-first-2.result c.from_residual-in_err-first-2.ensures.1 in
-    let n = subst (λ z. Moved (before_child c.loop-kind.first) c.loop-kind.stack c.loop-kind.source.rest (v c.loop-kind.place).at (v c.loop-kind.place).outcome (due_or_after z) c.take_child_or_end.new.stack c.take_child_or_end.new.source.rest (v c.take_child_or_end.new.place).at (v c.take_child_or_end.new.place).outcome) c.if-branch.true c.in_ok-take_child_or_end.ensures.moved in
-    let two = Moved-append (before_child (is_some (opened_kind ev))) (with_opened (opened_kind ev) []) s (v c.enter.new.place).at (v c.enter.new.place).outcome (before_child c.loop-kind.first) c.loop-kind.stack c.loop-kind.source.rest (v c.loop-kind.place).at (v c.loop-kind.place).outcome due c.take_child_or_end.new.stack c.take_child_or_end.new.source.rest (v c.take_child_or_end.new.place).at (v c.take_child_or_end.new.place).outcome c.loop-kind.invariant.moved n in
-    keeps_exit v (v c.args.place.now).at (v c.args.place.now).outcome c.take_child_or_end.new.place c.enter-then-branch.new.place c.from_residual-in_err-first-2.result c.in_err-first-2.field-0.0 (cc (w.1, w.2)) c.in_ok-take_child_or_end.ensures.unrefused
-    (begun c.args.token c.args.source.now.scratch s (v c.args.place.now).at (v c.args.place.now).outcome (v c.enter.new.place).at (v c.enter.new.place).outcome due c.take_child_or_end.new.stack c.take_child_or_end.new.source.rest (v c.take_child_or_end.new.place).at (v c.take_child_or_end.new.place).outcome lead two tt) c.in_err-first-2.ensures.sticky
+    let n = subst (λ z. Moved (before_child c.loop-kind.first) c.loop-kind.stack c.loop-kind.source.rest
+    (v c.loop-kind.place).at (v c.loop-kind.place).outcome (due_or_after z) c.take_child_or_end.new.stack
+    c.take_child_or_end.new.source.rest (v c.take_child_or_end.new.place).at
+    (v c.take_child_or_end.new.place).outcome) c.if-branch.true c.in_ok-take_child_or_end.ensures.moved in
+    let two = Moved-append (before_child (is_some (opened_kind ev))) (with_opened (opened_kind ev) []) s
+    (v c.enter.new.place).at (v c.enter.new.place).outcome (before_child c.loop-kind.first) c.loop-kind.stack
+    c.loop-kind.source.rest (v c.loop-kind.place).at (v c.loop-kind.place).outcome due
+    c.take_child_or_end.new.stack c.take_child_or_end.new.source.rest (v c.take_child_or_end.new.place).at
+    (v c.take_child_or_end.new.place).outcome c.loop-kind.invariant.moved n in
+    keeps_exit v (v c.args.place.now).at (v c.args.place.now).outcome c.take_child_or_end.new.place
+    c.enter-then-branch.new.place c.from_residual-in_err-first-2.result c.in_err-first-2.field-0.0
+    (cc (w.1, w.2)) c.in_ok-take_child_or_end.ensures.unrefused
+    (begun c.args.token c.args.source.now.scratch s (v c.args.place.now).at (v c.args.place.now).outcome
+    (v c.enter.new.place).at (v c.enter.new.place).outcome due c.take_child_or_end.new.stack
+    c.take_child_or_end.new.source.rest (v c.take_child_or_end.new.place).at
+    (v c.take_child_or_end.new.place).outcome lead two tt) c.in_err-first-2.ensures.sticky

@@ -9,7 +9,11 @@ abbrev pub invariant-loop-kind : goal.invariant-loop-kind
 invariant-loop-kind g l = record {
   unrefused : (g.V.Visitor.meaning.view l.place).refused ≡ None;
   going : l.source.refused ≡ None;
-  moved : Moved (before_child (is_some (opened_kind (event_of_token l.fn.token l.fn.source.scratch)))) (with_opened (opened_kind (event_of_token l.fn.token l.fn.source.scratch)) []) l.fn.source.rest (g.V.Visitor.meaning.view l.initial.place).at (g.V.Visitor.meaning.view l.initial.place).outcome (before_child l.first) l.stack l.source.rest (g.V.Visitor.meaning.view l.place).at (g.V.Visitor.meaning.view l.place).outcome;
+  moved : Moved (before_child (is_some (opened_kind (event_of_token l.fn.token l.fn.source.scratch))))
+      (with_opened (opened_kind (event_of_token l.fn.token l.fn.source.scratch)) []) l.fn.source.rest
+      (g.V.Visitor.meaning.view l.initial.place).at (g.V.Visitor.meaning.view l.initial.place).outcome
+      (before_child l.first) l.stack l.source.rest (g.V.Visitor.meaning.view l.place).at
+      (g.V.Visitor.meaning.view l.place).outcome;
 }
 
 abbrev pub decreases-loop-kind : goal.decreases-loop-kind

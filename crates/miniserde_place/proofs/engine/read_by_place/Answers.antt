@@ -16,7 +16,8 @@ pub returns-in_err-feed_from-clause-invalid : goal.returns-in_err-feed_from-clau
 returns-in_err-feed_from-clause-invalid g c = λ e t r p.
     let w = err_from_is_err_and c.from_residual-in_err-feed_from.result c.from_residual-in_err-feed_from.ensures.1 in
     let f = c.in_ok-place.ensures.fresh in
-    sym (g.V.Visitor.meaning.events_agree t) ∙ sym (f.outcome (events t) (events_complete t)) ∙ c.in_err-feed_from.ensures.invalid (cc (w.1, w.2, e)) t r p
+    sym (g.V.Visitor.meaning.events_agree t) ∙ sym (f.outcome (events t) (events_complete t))
+    ∙ c.in_err-feed_from.ensures.invalid (cc (w.1, w.2, e)) t r p
 
 pub returns-clause-ok : goal.returns-clause-ok
 returns-clause-ok g c =
@@ -25,8 +26,12 @@ returns-clause-ok g c =
     let ev = event_of_token c.args.token c.args.source.now.scratch in
     let s = c.args.source.now.rest in
     let r = c.in_ok-feed_from.ensures.ok in
-    let l = mean_leads v.from_events (v.view c.in_ok-place.place).at (v.view c.in_ok-place.place).outcome (v.view c.feed_from.new.place).at (v.view c.feed_from.new.place).outcome r.0 f.fresh f.outcome r.2 in
-    IfOk-weaker c.take.result (λ x. ((v.view c.feed_from.new.place).at ≡ complete) × ((v.view c.feed_from.new.place).outcome [] ≡ Some (v.content x))) (λ x. (t : Tree) × ValueAt t ev s c.feed_from.new.source.rest × (v.from_tree t ≡ Some (v.content x)))
+    let l = mean_leads v.from_events (v.view c.in_ok-place.place).at (v.view c.in_ok-place.place).outcome
+    (v.view c.feed_from.new.place).at (v.view c.feed_from.new.place).outcome r.0 f.fresh f.outcome r.2 in
+    IfOk-weaker c.take.result
+    (λ x. ((v.view c.feed_from.new.place).at ≡ complete)
+    × ((v.view c.feed_from.new.place).outcome [] ≡ Some (v.content x)))
+    (λ x. (t : Tree) × ValueAt t ev s c.feed_from.new.source.rest × (v.from_tree t ≡ Some (v.content x)))
     (λ x h. (r.0, r.1, sym (v.events_agree r.0) ∙ sym l.1 ∙ h.1)) c.take.ensures.value
 
 pub returns-clause-invalid : goal.returns-clause-invalid
@@ -36,6 +41,7 @@ returns-clause-invalid g c = λ e t x p.
     let ev = event_of_token c.args.token c.args.source.now.scratch in
     let s = c.args.source.now.rest in
     let r = c.in_ok-feed_from.ensures.ok in
-    let l = mean_leads v.from_events (v.view c.in_ok-place.place).at (v.view c.in_ok-place.place).outcome (v.view c.feed_from.new.place).at (v.view c.feed_from.new.place).outcome r.0 f.fresh f.outcome r.2 in
+    let l = mean_leads v.from_events (v.view c.in_ok-place.place).at (v.view c.in_ok-place.place).outcome
+    (v.view c.feed_from.new.place).at (v.view c.feed_from.new.place).outcome r.0 f.fresh f.outcome r.2 in
     let o : (v.view c.feed_from.new.place).outcome [] ≡ None = c.take.ensures.invalid e c.in_ok-feed_from.ensures.unrefused l.0 in
     ap v.from_tree (value_same t r.0 ev s x c.feed_from.new.source.rest p r.1).0 ∙ sym (v.events_agree r.0) ∙ sym l.1 ∙ o

@@ -15,67 +15,104 @@ use Rattle.miniserde_place.proofs.engine.take_child_or_end.Goals as goal
 pub returns-in_err-after-clause-invalid : goal.returns-in_err-after-clause-invalid
 returns-in_err-after-clause-invalid g c = λ e.
     let w = err_from_is_err_and c.from_residual.result c.from_residual.ensures.1 in
-    never_barred (before_child c.args.first) c.args.stack.now c.args.source.now.rest (g.V.Visitor.meaning.view c.args.place.now).outcome (g.V.Visitor.meaning.view c.args.place.now).at (after_ends _ _ c.args.kind c.args.first c.requires.inside (c.in_err-after.ensures.invalid (cc (w.1, w.2, e)) c.requires.going))
+    never_barred (before_child c.args.first) c.args.stack.now c.args.source.now.rest
+    (g.V.Visitor.meaning.view c.args.place.now).outcome (g.V.Visitor.meaning.view c.args.place.now).at
+    (after_ends _ _ c.args.kind c.args.first c.requires.inside
+    (c.in_err-after.ensures.invalid (cc (w.1, w.2, e)) c.requires.going))
 
 pub returns-in_err-step-in-Close-clause-invalid : goal.returns-in_err-step-in-Close-clause-invalid
 returns-in_err-step-in-Close-clause-invalid g c = λ e.
     let w = err_from_is_err_and c.from_residual-in_err-step-in-Close.result c.from_residual-in_err-step-in-Close.ensures.1 in
-    let p : Follows c.args.kind c.args.first true c.args.source.now.rest c.after.new.self.rest = subst (λ z. Follows c.args.kind c.args.first (is_close z) c.args.source.now.rest c.after.new.self.rest) c.in-Close.is c.in_ok-after.ensures.ok in
-    barred_one (before_child c.args.first) _ _ (g.V.Visitor.meaning.view c.args.place.now).at (g.V.Visitor.meaning.view c.args.place.now).outcome finish _ _ _
+    let p : Follows c.args.kind c.args.first true c.args.source.now.rest c.after.new.self.rest =
+    subst (λ z. Follows c.args.kind c.args.first (is_close z) c.args.source.now.rest c.after.new.self.rest)
+    c.in-Close.is c.in_ok-after.ensures.ok in
+    barred_one (before_child c.args.first) _ _ (g.V.Visitor.meaning.view c.args.place.now).at
+    (g.V.Visitor.meaning.view c.args.place.now).outcome finish _ _ _
     (close_passed _ _ _ _ c.args.kind c.args.first c.requires.inside p c.pop.ensures)
     (c.in_err-step-in-Close.ensures.takes.rejects (cc (w.1, w.2, e)) c.requires.unrefused)
 
 pub returns-in_err-step-in-Seq-clause-invalid : goal.returns-in_err-step-in-Seq-clause-invalid
 returns-in_err-step-in-Seq-clause-invalid g c = λ e.
     let w = err_from_is_err_and c.from_residual-in_err-step-in-Seq.result c.from_residual-in_err-step-in-Seq.ensures.1 in
-    let p : Follows c.args.kind c.args.first false c.args.source.now.rest c.after.new.self.rest = subst (λ z. Follows c.args.kind c.args.first (is_close z) c.args.source.now.rest c.after.new.self.rest) c.in-Next.is c.in_ok-after.ensures.ok in
-    barred_one (before_child c.args.first) _ _ (g.V.Visitor.meaning.view c.args.place.now).at (g.V.Visitor.meaning.view c.args.place.now).outcome element _ _ _
+    let p : Follows c.args.kind c.args.first false c.args.source.now.rest c.after.new.self.rest =
+    subst (λ z. Follows c.args.kind c.args.first (is_close z) c.args.source.now.rest c.after.new.self.rest)
+    c.in-Next.is c.in_ok-after.ensures.ok in
+    barred_one (before_child c.args.first) _ _ (g.V.Visitor.meaning.view c.args.place.now).at
+    (g.V.Visitor.meaning.view c.args.place.now).outcome element _ _ _
     (element_passed _ _ _ c.args.kind c.args.first c.requires.inside c.in-Seq.is p)
     (c.in_err-step-in-Seq.ensures.takes.rejects (cc (w.1, w.2, e)) c.requires.unrefused)
 
 pub returns-in_err-name-in-Map-clause-invalid : goal.returns-in_err-name-in-Map-clause-invalid
 returns-in_err-name-in-Map-clause-invalid g c = λ e.
     let w = err_from_is_err_and c.from_residual-in_err-name-in-Map.result c.from_residual-in_err-name-in-Map.ensures.1 in
-    let p : Follows c.args.kind c.args.first false c.args.source.now.rest c.after.new.self.rest = subst (λ z. Follows c.args.kind c.args.first (is_close z) c.args.source.now.rest c.after.new.self.rest) c.in-Next.is c.in_ok-after.ensures.ok in
-    never_barred (before_child c.args.first) c.args.stack.now c.args.source.now.rest (g.V.Visitor.meaning.view c.args.place.now).outcome (g.V.Visitor.meaning.view c.args.place.now).at (name_ends _ _ _ c.args.kind c.args.first c.requires.inside c.in-Map.is p (c.in_err-name-in-Map.ensures.invalid (cc (w.1, w.2, e)) c.in_ok-after.ensures.going))
+    let p : Follows c.args.kind c.args.first false c.args.source.now.rest c.after.new.self.rest =
+    subst (λ z. Follows c.args.kind c.args.first (is_close z) c.args.source.now.rest c.after.new.self.rest)
+    c.in-Next.is c.in_ok-after.ensures.ok in
+    never_barred (before_child c.args.first) c.args.stack.now c.args.source.now.rest
+    (g.V.Visitor.meaning.view c.args.place.now).outcome (g.V.Visitor.meaning.view c.args.place.now).at
+    (name_ends _ _ _ c.args.kind c.args.first c.requires.inside c.in-Map.is p
+    (c.in_err-name-in-Map.ensures.invalid (cc (w.1, w.2, e)) c.in_ok-after.ensures.going))
 
 pub returns-in_err-step-in-Map-clause-invalid : goal.returns-in_err-step-in-Map-clause-invalid
 returns-in_err-step-in-Map-clause-invalid g c = λ e.
     let w = err_from_is_err_and c.from_residual-in_err-step-in-Map.result c.from_residual-in_err-step-in-Map.ensures.1 in
-    let p : Follows c.args.kind c.args.first false c.args.source.now.rest c.after.new.self.rest = subst (λ z. Follows c.args.kind c.args.first (is_close z) c.args.source.now.rest c.after.new.self.rest) c.in-Next.is c.in_ok-after.ensures.ok in
-    let n : Names c.after.new.self.rest c.text.result.now c.name.new.self.rest = subst (λ z. Names c.after.new.self.rest z c.name.new.self.rest) (sym c.text.ensures) c.in_ok-name-in-Map.ensures.ok in
-    barred_one (before_child c.args.first) _ _ (g.V.Visitor.meaning.view c.args.place.now).at (g.V.Visitor.meaning.view c.args.place.now).outcome (key c.text.result.now) _ _ _
+    let p : Follows c.args.kind c.args.first false c.args.source.now.rest c.after.new.self.rest =
+    subst (λ z. Follows c.args.kind c.args.first (is_close z) c.args.source.now.rest c.after.new.self.rest)
+    c.in-Next.is c.in_ok-after.ensures.ok in
+    let n : Names c.after.new.self.rest c.text.result.now c.name.new.self.rest =
+    subst (λ z. Names c.after.new.self.rest z c.name.new.self.rest) (sym c.text.ensures)
+    c.in_ok-name-in-Map.ensures.ok in
+    barred_one (before_child c.args.first) _ _ (g.V.Visitor.meaning.view c.args.place.now).at
+    (g.V.Visitor.meaning.view c.args.place.now).outcome (key c.text.result.now) _ _ _
     (key_passed _ _ _ _ _ c.args.kind c.args.first c.requires.inside c.in-Map.is p n)
     (c.in_err-step-in-Map.ensures.takes.rejects (cc (w.1, w.2, e)) c.requires.unrefused)
 
 pub returns-in_ok-step-in-Close-clause-moved : goal.returns-in_ok-step-in-Close-clause-moved
 returns-in_ok-step-in-Close-clause-moved g c =
-    let p : Follows c.args.kind c.args.first true c.args.source.now.rest c.after.new.self.rest = subst (λ z. Follows c.args.kind c.args.first (is_close z) c.args.source.now.rest c.after.new.self.rest) c.in-Close.is c.in_ok-after.ensures.ok in
-    moved_one (before_child c.args.first) _ _ (g.V.Visitor.meaning.view c.args.place.now).at (g.V.Visitor.meaning.view c.args.place.now).outcome finish _ _ _ (g.V.Visitor.meaning.view c.step.new.self).at (g.V.Visitor.meaning.view c.step.new.self).outcome
+    let p : Follows c.args.kind c.args.first true c.args.source.now.rest c.after.new.self.rest =
+    subst (λ z. Follows c.args.kind c.args.first (is_close z) c.args.source.now.rest c.after.new.self.rest)
+    c.in-Close.is c.in_ok-after.ensures.ok in
+    moved_one (before_child c.args.first) _ _ (g.V.Visitor.meaning.view c.args.place.now).at
+    (g.V.Visitor.meaning.view c.args.place.now).outcome finish _ _ _
+    (g.V.Visitor.meaning.view c.step.new.self).at (g.V.Visitor.meaning.view c.step.new.self).outcome
     (close_passed _ _ _ _ c.args.kind c.args.first c.requires.inside p c.pop.ensures)
     (close_spellable _ _ c.args.kind c.args.first c.requires.inside c.pop.ensures)
     c.in_ok-step-in-Close.ensures.takes.advances
 
 pub returns-in_ok-step-in-Seq-clause-moved : goal.returns-in_ok-step-in-Seq-clause-moved
 returns-in_ok-step-in-Seq-clause-moved g c =
-    let p : Follows c.args.kind c.args.first false c.args.source.now.rest c.after.new.self.rest = subst (λ z. Follows c.args.kind c.args.first (is_close z) c.args.source.now.rest c.after.new.self.rest) c.in-Next.is c.in_ok-after.ensures.ok in
-    moved_one (before_child c.args.first) _ _ (g.V.Visitor.meaning.view c.args.place.now).at (g.V.Visitor.meaning.view c.args.place.now).outcome element _ _ _ (g.V.Visitor.meaning.view c.step-in-Seq.new.self).at (g.V.Visitor.meaning.view c.step-in-Seq.new.self).outcome
+    let p : Follows c.args.kind c.args.first false c.args.source.now.rest c.after.new.self.rest =
+    subst (λ z. Follows c.args.kind c.args.first (is_close z) c.args.source.now.rest c.after.new.self.rest)
+    c.in-Next.is c.in_ok-after.ensures.ok in
+    moved_one (before_child c.args.first) _ _ (g.V.Visitor.meaning.view c.args.place.now).at
+    (g.V.Visitor.meaning.view c.args.place.now).outcome element _ _ _
+    (g.V.Visitor.meaning.view c.step-in-Seq.new.self).at
+    (g.V.Visitor.meaning.view c.step-in-Seq.new.self).outcome
     (element_passed _ _ _ c.args.kind c.args.first c.requires.inside c.in-Seq.is p)
     (element_spellable _ c.args.kind c.args.first c.requires.inside c.in-Seq.is)
     c.in_ok-step-in-Seq.ensures.takes.advances
 
 pub returns-in_ok-step-in-Map-clause-moved : goal.returns-in_ok-step-in-Map-clause-moved
 returns-in_ok-step-in-Map-clause-moved g c =
-    let p : Follows c.args.kind c.args.first false c.args.source.now.rest c.after.new.self.rest = subst (λ z. Follows c.args.kind c.args.first (is_close z) c.args.source.now.rest c.after.new.self.rest) c.in-Next.is c.in_ok-after.ensures.ok in
-    let n : Names c.after.new.self.rest c.text.result.now c.name.new.self.rest = subst (λ z. Names c.after.new.self.rest z c.name.new.self.rest) (sym c.text.ensures) c.in_ok-name-in-Map.ensures.ok in
-    moved_one (before_child c.args.first) _ _ (g.V.Visitor.meaning.view c.args.place.now).at (g.V.Visitor.meaning.view c.args.place.now).outcome (key c.text.result.now) _ _ _ (g.V.Visitor.meaning.view c.step-in-Map.new.self).at (g.V.Visitor.meaning.view c.step-in-Map.new.self).outcome
+    let p : Follows c.args.kind c.args.first false c.args.source.now.rest c.after.new.self.rest =
+    subst (λ z. Follows c.args.kind c.args.first (is_close z) c.args.source.now.rest c.after.new.self.rest)
+    c.in-Next.is c.in_ok-after.ensures.ok in
+    let n : Names c.after.new.self.rest c.text.result.now c.name.new.self.rest =
+    subst (λ z. Names c.after.new.self.rest z c.name.new.self.rest) (sym c.text.ensures)
+    c.in_ok-name-in-Map.ensures.ok in
+    moved_one (before_child c.args.first) _ _ (g.V.Visitor.meaning.view c.args.place.now).at
+    (g.V.Visitor.meaning.view c.args.place.now).outcome (key c.text.result.now) _ _ _
+    (g.V.Visitor.meaning.view c.step-in-Map.new.self).at
+    (g.V.Visitor.meaning.view c.step-in-Map.new.self).outcome
     (key_passed _ _ _ _ _ c.args.kind c.args.first c.requires.inside c.in-Map.is p n)
     (key_spellable _ _ _ _ c.args.kind c.args.first c.requires.inside c.in-Map.is n)
     c.in_ok-step-in-Map.ensures.takes.advances
 
 pub returns-in_ok-step-in-Map-clause-less : goal.returns-in_ok-step-in-Map-clause-less
 returns-in_ok-step-in-Map-clause-less g c =
-    let p : Follows c.args.kind c.args.first false c.args.source.now.rest c.after.new.self.rest = subst (λ z. Follows c.args.kind c.args.first (is_close z) c.args.source.now.rest c.after.new.self.rest) c.in-Next.is c.in_ok-after.ensures.ok in
+    let p : Follows c.args.kind c.args.first false c.args.source.now.rest c.after.new.self.rest =
+    subst (λ z. Follows c.args.kind c.args.first (is_close z) c.args.source.now.rest c.after.new.self.rest)
+    c.in-Next.is c.in_ok-after.ensures.ok in
     let a = follows_least c.args.kind c.args.first false c.args.source.now.rest c.after.new.self.rest p in
     let b = stands_least c.after.new.self.rest c.name.new.self.rest c.in_ok-name-in-Map.ensures.ok in
     (omega (arith, a, b), λ e. absurd (true≢false e))

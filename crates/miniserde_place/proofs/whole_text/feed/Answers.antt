@@ -32,12 +32,16 @@ pub returns-in_err-token-clause-invalid : goal.returns-in_err-token-clause-inval
 returns-in_err-token-clause-invalid g c = λ e t h.
     let w = err_from_is_err_and c.from_residual.result c.from_residual.ensures.1 in
     let a = json_at c.args.j.now t h in
-    absurd (c.in_err-token.ensures.invalid (cc (w.1, w.2, e)) c.new-source.ensures.going a.event a.behind (subst (λ z. Starts z a.event a.behind) (sym c.new-source.ensures.rest) a.starts))
+    absurd (c.in_err-token.ensures.invalid (cc (w.1, w.2, e)) c.new-source.ensures.going a.event a.behind
+    (subst (λ z. Starts z a.event a.behind) (sym c.new-source.ensures.rest) a.starts))
 
 pub returns-in_err-token-clause-sticky : goal.returns-in_err-token-clause-sticky
 returns-in_err-token-clause-sticky g c =
     let v = g.V.Visitor.meaning.view in
-    if_err c.from_residual.result (λ e. ((v c.args.place.now).refused ≡ Some e) ⊎ (((v c.args.place.now).refused ≡ None) × PositionBeginsTree (v c.args.place.now).at (v c.args.place.now).outcome (v c.args.place.now).at (v c.args.place.now).outcome))
+    if_err c.from_residual.result
+    (λ e. ((v c.args.place.now).refused ≡ Some e)
+    ⊎ (((v c.args.place.now).refused ≡ None) × PositionBeginsTree (v c.args.place.now).at
+    (v c.args.place.now).outcome (v c.args.place.now).at (v c.args.place.now).outcome))
     (λ e. inr (c.requires.unrefused, begun_none (v c.args.place.now).at (v c.args.place.now).outcome))
 
 -- ---- the value is refused
@@ -63,7 +67,9 @@ returns-clause-ok g c =
     let s = c.token.new.self.rest in
     let k : Starts c.args.j.now ev s = subst (λ z. Starts z ev s) c.new-source.ensures.rest c.in_ok-token.ensures.ok in
     let r = c.in_ok-feed_from.ensures.ok in
-    IfOk-weaker c.end.result (λ _. IsWhitespace c.feed_from.new.source.rest) (λ _. (t : Tree) × IsJson c.args.j.now t × PositionAdvancesBy (v c.args.place.now).at (v c.args.place.now).outcome (events t) (v c.feed_from.new.place).at (v c.feed_from.new.place).outcome)
+    IfOk-weaker c.end.result (λ _. IsWhitespace c.feed_from.new.source.rest)
+    (λ _. (t : Tree) × IsJson c.args.j.now t × PositionAdvancesBy (v c.args.place.now).at
+    (v c.args.place.now).outcome (events t) (v c.feed_from.new.place).at (v c.feed_from.new.place).outcome)
     (λ _ w. (r.0, at_json c.args.j.now r.0 ev s c.feed_from.new.source.rest k r.1 w, r.2)) c.end.ensures.ok
 
 pub returns-clause-invalid : goal.returns-clause-invalid
@@ -84,5 +90,11 @@ returns-clause-sticky g c =
     let k : Starts c.args.j.now ev s = subst (λ z. Starts z ev s) c.new-source.ensures.rest c.in_ok-token.ensures.ok in
     let r = c.in_ok-feed_from.ensures.ok in
     let i = value_in_range r.0 ev c.args.j.now s c.feed_from.new.source.rest k r.1 in
-    if_err c.end.result (λ e. ((v c.feed_from.new.place).refused ≡ Some e) ⊎ (((v c.feed_from.new.place).refused ≡ None) × PositionBeginsTree (v c.args.place.now).at (v c.args.place.now).outcome (v c.feed_from.new.place).at (v c.feed_from.new.place).outcome))
-    (λ e. inr (c.in_ok-feed_from.ensures.unrefused, begun_whole (v c.args.place.now).at (v c.args.place.now).outcome r.0 (v c.feed_from.new.place).at (v c.feed_from.new.place).outcome i r.2))
+    if_err c.end.result (λ e. ((v c.feed_from.new.place).refused ≡ Some e)
+    ⊎ (((v c.feed_from.new.place).refused ≡ None) × PositionBeginsTree (v c.args.place.now).at
+    (v c.args.place.now).outcome (v c.feed_from.new.place).at (v c.feed_from.new.place).outcome))
+    (λ e. inr (
+      c.in_ok-feed_from.ensures.unrefused,
+      begun_whole (v c.args.place.now).at (v c.args.place.now).outcome
+          r.0 (v c.feed_from.new.place).at (v c.feed_from.new.place).outcome i r.2,
+    ))

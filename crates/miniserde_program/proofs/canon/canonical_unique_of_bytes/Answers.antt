@@ -26,4 +26,6 @@ unfolding HasNoAnswerOfUnique
 returns-in_err-canonical_unique-clause-invalid c = λ h.
     let w = err_from_is_err_and c.from_residual-in_err-canonical_unique.result c.from_residual-in_err-canonical_unique.ensures.1 in
     let is : w.0 ≡ Invalid = cc (h, w.1) in
-    inr (λ t p. c.in_err-canonical_unique.ensures.invalid (ap Err (invalid_from c.in_err-canonical_unique.field-0.0 (sym w.2 ∙ is))) t (subst (λ xs. IsJson xs t) (sym c.in_ok-text.ensures.ok.0) p))
+    inr (λ t p. c.in_err-canonical_unique.ensures.invalid
+    (ap Err (invalid_from c.in_err-canonical_unique.field-0.0 (sym w.2 ∙ is))) t
+    (subst (λ xs. IsJson xs t) (sym c.in_ok-text.ensures.ok.0) p))

@@ -6,8 +6,12 @@ use Rattle.miniserde_program.proofs.canon.put_all.Goals as goal
 pub returns-in-Ok-eq0-clause-part : goal.returns-in-Ok-eq0-clause-part
 returns-in-Ok-eq0-clause-part g c =
     let i = c.loop-at.at in
-    let xs = c.args.bytes.now in
-    (take (i + c.in-Ok-eq0.field-0) xs, drop (i + c.in-Ok-eq0.field-0) xs, sym (take-append-drop _ _), Appends_on _ _ _ xs i _ c.loop-at.invariant.written c.in-Ok-eq0.ensures.bytes)
+    let xs = c.args.bytes.now in (
+      take (i + c.in-Ok-eq0.field-0) xs,
+      drop (i + c.in-Ok-eq0.field-0) xs,
+      sym (take-append-drop _ _),
+      Appends_on _ _ _ xs i _ c.loop-at.invariant.written c.in-Ok-eq0.ensures.bytes,
+    )
 
 pub loop-at-preserved : goal.loop-at-preserved
 loop-at-preserved g c =
@@ -21,5 +25,9 @@ loop-at-preserved g c =
     }
 
 pub returns-in-Err-clause-part : goal.returns-in-Err-clause-part
-returns-in-Err-clause-part g c =
-    (take c.loop-at.at c.args.bytes.now, drop c.loop-at.at c.args.bytes.now, sym (take-append-drop _ _), Appends-kept _ _ _ _ c.loop-at.invariant.written c.in-Err.ensures.bytes)
+returns-in-Err-clause-part g c = (
+  take c.loop-at.at c.args.bytes.now,
+  drop c.loop-at.at c.args.bytes.now,
+  sym (take-append-drop _ _),
+  Appends-kept _ _ _ _ c.loop-at.invariant.written c.in-Err.ensures.bytes,
+)

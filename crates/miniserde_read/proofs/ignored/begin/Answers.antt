@@ -5,4 +5,6 @@ use Rattle.miniserde_read.proofs.ignored.begin.Goals as goal
 pub returns-clause-reaches : goal.returns-clause-reaches
 returns-clause-reaches c =
     let x = c.token.new.self.scratch in
-    entered c.enter.result c.args.stack.now c.args.source.now.rest c.token.new.self.rest (event_of_token c.in_ok-token.token x) c.enter.new.self c.in_ok-token.ensures.ok (c.enter.ensures.opens x) (c.enter.ensures.ok x)
+    entered c.enter.result c.args.stack.now c.args.source.now.rest c.token.new.self.rest
+    (event_of_token c.in_ok-token.token x) c.enter.new.self c.in_ok-token.ensures.ok (c.enter.ensures.opens x)
+    (c.enter.ensures.ok x)

@@ -15,7 +15,9 @@ loop-kind-init c =
     let ev = event_of_token c.args.token x in
     record {
       going = c.requires.going;
-      reaches = reaches_init ev c.in_ok-first.first c.enter.new.self c.args.source.now.rest (c.in_ok-first.ensures.opens x) (c.in_ok-first.ensures.ok x ∙ ap (with_opened (opened_kind ev)) c.new-stack.ensures);
+      reaches = reaches_init ev c.in_ok-first.first c.enter.new.self c.args.source.now.rest
+          (c.in_ok-first.ensures.opens x)
+          (c.in_ok-first.ensures.ok x ∙ ap (with_opened (opened_kind ev)) c.new-stack.ensures);
     }
 
 pub returns-in_err-first-2-clause-invalid : goal.returns-in_err-first-2-clause-invalid
@@ -23,17 +25,23 @@ returns-in_err-first-2-clause-invalid c = λ e t r p.
     let w = err_from_is_err_and c.from_residual-in_err-first-2.result c.from_residual-in_err-first-2.ensures.1 in
     let ev = event_of_token c.args.token c.args.source.now.scratch in
     let s = c.args.source.now.rest in
-    skip_none ev s (ends_behind (before_child (is_some (opened_kind ev))) (with_opened (opened_kind ev) []) s (before_child c.loop-kind.first) c.loop-kind.stack c.loop-kind.source.rest c.loop-kind.invariant.reaches (c.in_err-first-2.ensures.invalid (cc (w.1, w.2, e)))) t r p
+    skip_none ev s (ends_behind (before_child (is_some (opened_kind ev))) (with_opened (opened_kind ev) []) s
+    (before_child c.loop-kind.first) c.loop-kind.stack c.loop-kind.source.rest c.loop-kind.invariant.reaches
+    (c.in_err-first-2.ensures.invalid (cc (w.1, w.2, e)))) t r p
 
 pub loop-kind-preserved : goal.loop-kind-preserved
 loop-kind-preserved c =
     let ev = event_of_token c.args.token c.args.source.now.scratch in
     record {
       going = c.in_ok-first-2.ensures.going;
-      reaches = Reaches-append (before_child (is_some (opened_kind ev))) (with_opened (opened_kind ev) []) c.args.source.now.rest (before_child c.loop-kind.first) c.loop-kind.stack c.loop-kind.source.rest (before_child c.in_ok-first-2.first) c.take_child_or_end.new.stack c.take_child_or_end.new.source.rest c.loop-kind.invariant.reaches c.in_ok-first-2.ensures.reaches;
+      reaches = Reaches-append (before_child (is_some (opened_kind ev))) (with_opened (opened_kind ev) [])
+          c.args.source.now.rest (before_child c.loop-kind.first) c.loop-kind.stack c.loop-kind.source.rest
+          (before_child c.in_ok-first-2.first) c.take_child_or_end.new.stack c.take_child_or_end.new.source.rest
+          c.loop-kind.invariant.reaches c.in_ok-first-2.ensures.reaches;
     }
 
 pub returns-clause-ok : goal.returns-clause-ok
 returns-clause-ok c =
     let n : innermost c.loop-kind.stack ≡ None = sym c.top.ensures ∙ c.in_default.is in
-    skip_ok c.args.token c.args.source.now.scratch c.args.source.now.rest c.loop-kind.source.rest c.loop-kind.first c.loop-kind.stack n c.loop-kind.invariant.reaches
+    skip_ok c.args.token c.args.source.now.scratch c.args.source.now.rest c.loop-kind.source.rest c.loop-kind.first
+    c.loop-kind.stack n c.loop-kind.invariant.reaches

@@ -8,7 +8,9 @@ use Rattle.miniserde_read.proofs.ignored.skip.Given as goal
 abbrev pub invariant-loop-kind : goal.invariant-loop-kind
 invariant-loop-kind l = record {
   going : l.source.refused ≡ None;
-  reaches : Reaches (before_child (is_some (opened_kind (event_of_token l.fn.token l.fn.source.scratch)))) (with_opened (opened_kind (event_of_token l.fn.token l.fn.source.scratch)) []) l.fn.source.rest (before_child l.first) l.stack l.source.rest;
+  reaches : Reaches (before_child (is_some (opened_kind (event_of_token l.fn.token l.fn.source.scratch))))
+      (with_opened (opened_kind (event_of_token l.fn.token l.fn.source.scratch)) []) l.fn.source.rest
+      (before_child l.first) l.stack l.source.rest;
 }
 
 abbrev pub decreases-loop-kind : goal.decreases-loop-kind

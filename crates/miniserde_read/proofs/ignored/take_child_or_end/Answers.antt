@@ -8,7 +8,8 @@ use Rattle.miniserde_model.specs.private.Reading.{due}
 use Rattle.miniserde_text.specs.Lexer.{is_close}
 use Rattle.miniserde_text.specs.private.Moving.{before_child}
 use Rattle.miniserde_read.specs.private.Runs.{Reaches}
-use Rattle.miniserde_read.proofs.Consumes.{close_passed, element_passed, key_passed, after_ends, name_ends, ends_behind, Reaches-one, Reaches-append}
+use Rattle.miniserde_read.proofs.Consumes.{close_passed, element_passed, key_passed, after_ends, name_ends}
+use Rattle.miniserde_read.proofs.Consumes.{ends_behind, Reaches-one, Reaches-append}
 use Rattle.miniserde_read.proofs.ignored.take_child_or_end.Goals as goal
 
 pub returns-in_err-after-clause-invalid : goal.returns-in_err-after-clause-invalid
@@ -19,12 +20,17 @@ returns-in_err-after-clause-invalid c = λ e.
 pub returns-in_err-name-in-Map-clause-invalid : goal.returns-in_err-name-in-Map-clause-invalid
 returns-in_err-name-in-Map-clause-invalid c = λ e.
     let w = err_from_is_err_and c.from_residual-in_err-name-in-Map.result c.from_residual-in_err-name-in-Map.ensures.1 in
-    let p : Follows c.args.kind c.args.first false c.args.source.now.rest c.after.new.self.rest = subst (λ z. Follows c.args.kind c.args.first (is_close z) c.args.source.now.rest c.after.new.self.rest) c.in-Next.is c.in_ok-after.ensures.ok in
-    name_ends _ _ _ c.args.kind c.args.first c.requires.inside c.in-Map.is p (c.in_err-name-in-Map.ensures.invalid (cc (w.1, w.2, e)) c.in_ok-after.ensures.going)
+    let p : Follows c.args.kind c.args.first false c.args.source.now.rest c.after.new.self.rest =
+    subst (λ z. Follows c.args.kind c.args.first (is_close z) c.args.source.now.rest c.after.new.self.rest)
+    c.in-Next.is c.in_ok-after.ensures.ok in
+    name_ends _ _ _ c.args.kind c.args.first c.requires.inside c.in-Map.is p
+    (c.in_err-name-in-Map.ensures.invalid (cc (w.1, w.2, e)) c.in_ok-after.ensures.going)
 
 pub returns-in-Close-clause-reaches : goal.returns-in-Close-clause-reaches
 returns-in-Close-clause-reaches c =
-    let p : Follows c.args.kind c.args.first true c.args.source.now.rest c.after.new.self.rest = subst (λ z. Follows c.args.kind c.args.first (is_close z) c.args.source.now.rest c.after.new.self.rest) c.in-Close.is c.in_ok-after.ensures.ok in
+    let p : Follows c.args.kind c.args.first true c.args.source.now.rest c.after.new.self.rest =
+    subst (λ z. Follows c.args.kind c.args.first (is_close z) c.args.source.now.rest c.after.new.self.rest)
+    c.in-Close.is c.in_ok-after.ensures.ok in
     Reaches-one _ _ _ _ _ _ _ (close_passed _ _ _ _ c.args.kind c.args.first c.requires.inside p c.pop.ensures)
 
 pub returns-in-Seq-clause-reaches : goal.returns-in-Seq-clause-reaches
@@ -32,17 +38,21 @@ returns-in-Seq-clause-reaches c =
     let st = c.args.stack.now in
     let s = c.args.source.now.rest in
     let u = c.after.new.self.rest in
-    let p : Follows c.args.kind c.args.first false s u = subst (λ z. Follows c.args.kind c.args.first (is_close z) s u) c.in-Next.is c.in_ok-after.ensures.ok in
+    let p : Follows c.args.kind c.args.first false s u =
+    subst (λ z. Follows c.args.kind c.args.first (is_close z) s u) c.in-Next.is c.in_ok-after.ensures.ok in
     let one = Reaches-one _ _ _ _ _ _ _ (element_passed st s u c.args.kind c.args.first c.requires.inside c.in-Seq.is p) in
-    IfOk-weaker c.begin.result (λ b. Reaches due st u (before_child b) c.begin.new.stack c.begin.new.source.rest) (λ b. Reaches (before_child c.args.first) st s (before_child b) c.begin.new.stack c.begin.new.source.rest)
-    (λ b h. Reaches-append (before_child c.args.first) st s due st u (before_child b) c.begin.new.stack c.begin.new.source.rest one h) c.begin.ensures.reaches
+    IfOk-weaker c.begin.result (λ b. Reaches due st u (before_child b) c.begin.new.stack c.begin.new.source.rest)
+    (λ b. Reaches (before_child c.args.first) st s (before_child b) c.begin.new.stack c.begin.new.source.rest)
+    (λ b h. Reaches-append (before_child c.args.first) st s due st u (before_child b) c.begin.new.stack
+    c.begin.new.source.rest one h) c.begin.ensures.reaches
 
 pub returns-in-Seq-clause-invalid : goal.returns-in-Seq-clause-invalid
 returns-in-Seq-clause-invalid c = λ e.
     let st = c.args.stack.now in
     let s = c.args.source.now.rest in
     let u = c.after.new.self.rest in
-    let p : Follows c.args.kind c.args.first false s u = subst (λ z. Follows c.args.kind c.args.first (is_close z) s u) c.in-Next.is c.in_ok-after.ensures.ok in
+    let p : Follows c.args.kind c.args.first false s u =
+    subst (λ z. Follows c.args.kind c.args.first (is_close z) s u) c.in-Next.is c.in_ok-after.ensures.ok in
     let one = Reaches-one _ _ _ _ _ _ _ (element_passed st s u c.args.kind c.args.first c.requires.inside c.in-Seq.is p) in
     ends_behind (before_child c.args.first) st s due st u one (c.begin.ensures.invalid e)
 
@@ -51,17 +61,27 @@ returns-in_ok-name-in-Map-clause-reaches c =
     let st = c.args.stack.now in
     let s = c.args.source.now.rest in
     let u = c.name.new.self.rest in
-    let p : Follows c.args.kind c.args.first false s c.after.new.self.rest = subst (λ z. Follows c.args.kind c.args.first (is_close z) s c.after.new.self.rest) c.in-Next.is c.in_ok-after.ensures.ok in
-    let one = Reaches-one _ _ _ _ _ _ _ (key_passed st s c.after.new.self.rest _ u c.args.kind c.args.first c.requires.inside c.in-Map.is p c.in_ok-name-in-Map.ensures.ok) in
+    let p : Follows c.args.kind c.args.first false s c.after.new.self.rest =
+    subst (λ z. Follows c.args.kind c.args.first (is_close z) s c.after.new.self.rest) c.in-Next.is
+    c.in_ok-after.ensures.ok in
+    let one = Reaches-one _ _ _ _ _ _ _
+    (key_passed st s c.after.new.self.rest _ u c.args.kind c.args.first c.requires.inside c.in-Map.is p
+    c.in_ok-name-in-Map.ensures.ok) in
     let b = c.begin-in-Map.new in
-    IfOk-weaker c.begin-in-Map.result (λ o. Reaches due st u (before_child o) b.stack b.source.rest) (λ o. Reaches (before_child c.args.first) st s (before_child o) b.stack b.source.rest)
-    (λ o h. Reaches-append (before_child c.args.first) st s due st u (before_child o) b.stack b.source.rest one h) c.begin-in-Map.ensures.reaches
+    IfOk-weaker c.begin-in-Map.result (λ o. Reaches due st u (before_child o) b.stack b.source.rest)
+    (λ o. Reaches (before_child c.args.first) st s (before_child o) b.stack b.source.rest)
+    (λ o h. Reaches-append (before_child c.args.first) st s due st u (before_child o) b.stack b.source.rest one h)
+    c.begin-in-Map.ensures.reaches
 
 pub returns-in_ok-name-in-Map-clause-invalid : goal.returns-in_ok-name-in-Map-clause-invalid
 returns-in_ok-name-in-Map-clause-invalid c = λ e.
     let st = c.args.stack.now in
     let s = c.args.source.now.rest in
     let u = c.name.new.self.rest in
-    let p : Follows c.args.kind c.args.first false s c.after.new.self.rest = subst (λ z. Follows c.args.kind c.args.first (is_close z) s c.after.new.self.rest) c.in-Next.is c.in_ok-after.ensures.ok in
-    let one = Reaches-one _ _ _ _ _ _ _ (key_passed st s c.after.new.self.rest _ u c.args.kind c.args.first c.requires.inside c.in-Map.is p c.in_ok-name-in-Map.ensures.ok) in
+    let p : Follows c.args.kind c.args.first false s c.after.new.self.rest =
+    subst (λ z. Follows c.args.kind c.args.first (is_close z) s c.after.new.self.rest) c.in-Next.is
+    c.in_ok-after.ensures.ok in
+    let one = Reaches-one _ _ _ _ _ _ _
+    (key_passed st s c.after.new.self.rest _ u c.args.kind c.args.first c.requires.inside c.in-Map.is p
+    c.in_ok-name-in-Map.ensures.ok) in
     ends_behind (before_child c.args.first) st s due st u one (c.begin-in-Map.ensures.invalid e)

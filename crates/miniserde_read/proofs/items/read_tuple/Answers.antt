@@ -5,4 +5,6 @@ use Rattle.miniserde_text.specs.Lexer.{event_of_token}
 use Rattle.miniserde_read.proofs.items.read_tuple.Goals as goal
 
 pub returns-clause-ok : goal.returns-clause-ok
-returns-clause-ok g c = IfOk-weaker c.read_items.result _ _ (λ v h. (list h.0, (ap (λ z. event_of_token z c.args.source.now.scratch) c.in-SeqStart.is, h.1), h.2)) c.read_items.ensures.ok
+returns-clause-ok g c = IfOk-weaker c.read_items.result _ _
+    (λ v h. (list h.0, (ap (λ z. event_of_token z c.args.source.now.scratch) c.in-SeqStart.is, h.1), h.2))
+    c.read_items.ensures.ok

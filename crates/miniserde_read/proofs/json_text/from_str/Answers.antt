@@ -37,7 +37,8 @@ pub returns-in_err-token-clause-none : goal.returns-in_err-token-clause-none
 returns-in_err-token-clause-none g c = λ e t h.
     let w = err_from_is_err_and c.from_residual.result c.from_residual.ensures.1 in
     let a = json_at c.args.j.now t h in
-    absurd (c.in_err-token.ensures.invalid (cc (w.1, w.2, e)) c.new-source.ensures.going a.event a.behind (subst (λ z. Starts z a.event a.behind) (sym c.new-source.ensures.rest) a.starts))
+    absurd (c.in_err-token.ensures.invalid (cc (w.1, w.2, e)) c.new-source.ensures.going a.event a.behind
+    (subst (λ z. Starts z a.event a.behind) (sym c.new-source.ensures.rest) a.starts))
 
 pub returns-in_err-token-clause-invalid : goal.returns-in_err-token-clause-invalid
 returns-in_err-token-clause-invalid g c = λ e t h. nothing_meant g t (returns-in_err-token-clause-none g c e t h)
@@ -45,7 +46,8 @@ returns-in_err-token-clause-invalid g c = λ e t h. nothing_meant g t (returns-i
 pub returns-in_err-token-clause-memory : goal.returns-in_err-token-clause-memory
 returns-in_err-token-clause-memory g c = λ i e.
     let w = err_from_is_err_and c.from_residual.result c.from_residual.ensures.1 in
-    has_escape c.args.j.now (subst BeginsEscaped c.new-source.ensures.rest (c.in_err-token.ensures.memory (cc (w.1, w.2, e)) c.new-source.ensures.going))
+    has_escape c.args.j.now (subst BeginsEscaped c.new-source.ensures.rest
+    (c.in_err-token.ensures.memory (cc (w.1, w.2, e)) c.new-source.ensures.going))
 
 -- ---- the type refuses what stands there
 

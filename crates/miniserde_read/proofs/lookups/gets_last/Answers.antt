@@ -8,5 +8,6 @@ use Rattle.miniserde_read.proofs.lookups.gets_last.Goals as goal
 
 pub returns : goal.returns
 returns g c = λ t r name.
-    last_name string_bytes g.T.FromJson.means.reads g.T.FromJson.means.from_tree t c.args.map.now.entries r (λ k. is_eq (slice_cmp nat_cmp name (string_bytes k))) name
+    last_name string_bytes g.T.FromJson.means.reads g.T.FromJson.means.from_tree t c.args.map.now.entries r
+    (λ k. is_eq (slice_cmp nat_cmp name (string_bytes k))) name
     (λ k. is_eq-slice_cmp name (string_bytes k) ∙ bytes_eq-flips name (string_bytes k))

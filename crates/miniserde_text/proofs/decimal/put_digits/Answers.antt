@@ -16,4 +16,6 @@ returns-clause-bytes c =
     let whole : c.push_str.result ≡ Ok c.unwrap.result = c.unwrap.ensures in
     let pushed = rw whole at c.push_str.ensures in
     let few : length (decimal c.args.n) ≤ w.result + 20 - w.result = omega (arith, w.ensures.start) in
-    cut_behind c.args.n (w.result + 20 - w.result) _ (string_bytes c.args.out.now) _ _ _ _ w.ensures.written few (omega (arith, w.ensures.start)) (rw c.from_utf8_unchecked-copied.ensures at pushed.bytes) c.truncate.ensures.bytes
+    cut_behind c.args.n (w.result + 20 - w.result) _ (string_bytes c.args.out.now) _ _ _ _ w.ensures.written few
+    (omega (arith, w.ensures.start)) (rw c.from_utf8_unchecked-copied.ensures at pushed.bytes)
+    c.truncate.ensures.bytes

@@ -10,7 +10,12 @@ loop-at-init c =
     let s = c.run_end-at.ensures in
     record {
       within = s.high;
-      counted = omega (arith, ap length escapes-nil, length_escapes_run c.as_bytes-text.result.now 0 c.run_end-at.result s.low s.high s.plain);
+      counted = omega (
+        arith,
+        ap length escapes-nil,
+        length_escapes_run c.as_bytes-text.result.now 0
+            c.run_end-at.result s.low s.high s.plain,
+      );
     }
 
 pub loop-at-preserved : goal.loop-at-preserved
@@ -21,7 +26,15 @@ loop-at-preserved c =
     let run = length_escapes_run xs (c.loop-at.at + 1) c.run_end-at-in-loop-at.result s.low s.high s.plain in
     record {
       within = s.high;
-      counted = omega (arith, c.loop-at.invariant.counted, more, run, c.byte_len.ensures.len, c.byte_len.ensures.low, c.in_ok-total.ensures.1);
+      counted = omega (
+        arith,
+        c.loop-at.invariant.counted,
+        more,
+        run,
+        c.byte_len.ensures.len,
+        c.byte_len.ensures.low,
+        c.in_ok-total.ensures.1,
+      );
     }
 
 pub returns-in_err-total-clause-none : goal.returns-in_err-total-clause-none
@@ -30,5 +43,15 @@ returns-in_err-total-clause-none c =
     let more = length_escapes_more xs c.loop-at.at c.loop-at-test.true in
     let rest = length_escapes_rest xs (c.loop-at.at + 1) (omega (arith, c.loop-at-test.true)) in
     let same : length (escapes xs) ≡ length (escapes c.args.value.now) = rw c.as_bytes-text.ensures.value refl in
-    let long : 2 ^ 64 ≤ length (escapes c.args.value.now) = omega (arith, c.loop-at.invariant.counted, more, rest, same, c.byte_len.ensures.len, c.byte_len.ensures.low, c.in_err-total.ensures) in
+    let long : 2 ^ 64 ≤ length (escapes c.args.value.now) =
+    omega (
+      arith,
+      c.loop-at.invariant.counted,
+      more,
+      rest,
+      same,
+      c.byte_len.ensures.len,
+      c.byte_len.ensures.low,
+      c.in_err-total.ensures,
+    ) in
     search (rules, long)

@@ -1,6 +1,7 @@
 -- `put_escapes` appends the escaped text, and the room that its contract demands is enough. The loop keeps that the
 -- text before `start` is written, and each turn adds a run of plain bytes and an escape.
-use Rattle.std.proofs.Common.{◌≡◌, ℕ, ◌+◌, ◌-◌, ◌<◌, ◌≤◌, ◌++◌, ◌∙◌, length, List, take, drop, get_or, false, arith, ap, sym, append-nil, append_assoc, length-append, length-drop, refl, string_bytes}
+use Rattle.std.proofs.Common.{◌≡◌, ℕ, ◌+◌, ◌-◌, ◌<◌, ◌≤◌, ◌++◌, ◌∙◌, length, List, take, drop, get_or, false, arith}
+use Rattle.std.proofs.Common.{ap, sym, append-nil, append_assoc, length-append, length-drop, refl, string_bytes}
 use Rattle.std.proofs.lemmas.Str.{IsCharBoundary-after_ascii, IsCharBoundary-end, IsCharBoundary-start}
 use Rattle.std.proofs.lemmas.List.{length-take}
 use Rattle.miniserde_model.specs.Bytes.{is_special}
@@ -18,14 +19,25 @@ loop-start-init c = record {
 }
 
 -- the run before the next byte to escape, in the text
-run_of : (bs v : List ℕ) (i j : ℕ) → bs ≡ v → i ≤ j → j ≤ length bs → ((k : ℕ) → i ≤ k → k < j → is_special (get_or bs k 0) ≡ false) → escapes (take j v) ≡ escapes (take i v) ++ take (j - i) (drop i v)
+run_of : (bs v : List ℕ) (i j : ℕ) → bs ≡ v → i ≤ j → j ≤ length bs
+    → ((k : ℕ) → i ≤ k → k < j → is_special (get_or bs k 0) ≡ false) → escapes (take j v) ≡ escapes (take i v)
+    ++ take (j - i) (drop i v)
 run_of bs v i j e l h p = rw (← e) (escapes_run bs i j l h p)
 
-run_len : (v : List ℕ) (i j : ℕ) → i ≤ j → j ≤ length v → escapes (take j v) ≡ escapes (take i v) ++ take (j - i) (drop i v) → length (escapes (take j v)) ≡ length (escapes (take i v)) + (j - i)
-run_len v i j l h r = omega (arith, ap length r, length-append (escapes (take i v)) (take (j - i) (drop i v)), length-take (j - i) (drop i v), length-drop i v)
+run_len : (v : List ℕ) (i j : ℕ) → i ≤ j → j ≤ length v → escapes (take j v) ≡ escapes (take i v)
+    ++ take (j - i) (drop i v) → length (escapes (take j v)) ≡ length (escapes (take i v)) + (j - i)
+run_len v i j l h r = omega (
+  arith,
+  ap length r,
+  length-append (escapes (take i v)) (take (j - i) (drop i v)),
+  length-take (j - i) (drop i v),
+  length-drop i v,
+)
 
 -- what the push of a run leaves
-pushed : (now old next v : List ℕ) (i j : ℕ) → next ≡ now ++ take (j - i) (drop i v) → now ≡ old ++ escapes (take i v) → escapes (take j v) ≡ escapes (take i v) ++ take (j - i) (drop i v) → next ≡ old ++ escapes (take j v)
+pushed : (now old next v : List ℕ) (i j : ℕ) → next ≡ now ++ take (j - i) (drop i v)
+    → now ≡ old ++ escapes (take i v) → escapes (take j v) ≡ escapes (take i v) ++ take (j - i) (drop i v)
+    → next ≡ old ++ escapes (take j v)
 pushed now old next v i j n e r = rw (n, e, r) (append_assoc old (escapes (take i v)) (take (j - i) (drop i v)))
 
 pub put_run-requires-clause-room : goal.put_run-requires-clause-room
@@ -70,7 +82,8 @@ loop-start-preserved-then-at-text c =
     record {
       within = omega arith;
       cut = IsCharBoundary-after_ascii v at c.utf8.value here low;
-      bytes = byte.bytes ∙ rw (text, escapes_more v at here) (append_assoc (string_bytes c.args.out.now) (escapes (take at v)) (escape (get_or v at 0)));
+      bytes = byte.bytes ∙ rw (text, escapes_more v at here)
+          (append_assoc (string_bytes c.args.out.now) (escapes (take at v)) (escape (get_or v at 0)));
       len = omega (arith, len, length_escapes_more v at here, inv.len, put.len, byte.len);
       capacity = omega (arith, inv.capacity, put.capacity, byte.capacity);
     }

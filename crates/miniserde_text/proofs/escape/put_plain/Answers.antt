@@ -12,12 +12,14 @@ returns c =
     let opened = rw first at c.push_str.ensures in
     let pushed = rw text at c.push_str-2.ensures in
     let closed = rw last at c.push_str-3.ensures in
-    let whole = between_quotes _ _ _ _ _ c.args.value.now c.in_ok-reserve.ensures.bytes opened.bytes (rw c.requires.plain pushed.bytes) closed.bytes in
+    let whole = between_quotes _ _ _ _ _ c.args.value.now c.in_ok-reserve.ensures.bytes opened.bytes
+    (rw c.requires.plain pushed.bytes) closed.bytes in
     search (rules, whole)
 
 pub returns-in_err-reserve : goal.returns-in_err-reserve
 returns-in_err-reserve c =
     let out = c.args.out.now in
     let full = c.in_err-reserve.ensures.full in
-    let lacks : string_capacity out < string_len out + length (string_text c.args.value.now) = omega (arith, full, length_quoted c.args.value.now, ap length c.requires.plain) in
+    let lacks : string_capacity out < string_len out + length (string_text c.args.value.now) =
+    omega (arith, full, length_quoted c.args.value.now, ap length c.requires.plain) in
     search (rules, lacks)

@@ -10,7 +10,8 @@ use Rattle.miniserde_text.proofs.escape.run_end.Goals as goal
 within : (xs : List ℕ) (i : ℕ) → i ≤ length xs → i + position_or_len is_special (drop i xs) ≤ length xs
 within xs i h = omega (arith, prefix_len-le-length (λ x. not (is_special x)) (drop i xs), length-drop i xs)
 
-found : (xs : List ℕ) (i : ℕ) → i + position_or_len is_special (drop i xs) < length xs → is_special (get_or xs (i + position_or_len is_special (drop i xs)) 0) ≡ true
+found : (xs : List ℕ) (i : ℕ) → i + position_or_len is_special (drop i xs) < length xs
+    → is_special (get_or xs (i + position_or_len is_special (drop i xs)) 0) ≡ true
 found xs i h = ap is_special (sym (get_or-drop i xs _ 0)) ∙ passes_at_first is_special (drop i xs) 0 (omega (arith, length-drop i xs))
 
 pub returns-clause-high : goal.returns-clause-high

@@ -6,7 +6,8 @@ use Rattle.miniserde_text.proofs.scan.search_eights.Goals as goal
 pub returns-then-found-ne0 : goal.returns-then-found-ne0
 returns-then-found-ne0 c =
     let found = c.specials_of_eight-found in
-    let run = stops 8 c.args.bytes.now c.lanes.i (omega arith) (omega arith) (omega (arith, found.ensures)) ∙ ap (count_trailing_zeros 64) (sym found.ensures) in
+    let run = stops 8 c.args.bytes.now c.lanes.i (omega arith) (omega arith) (omega (arith, found.ensures))
+    ∙ ap (count_trailing_zeros 64) (sym found.ensures) in
     omega (arith, run, c.lanes.invariant.run)
 
 pub lanes-preserved : goal.lanes-preserved

@@ -6,7 +6,8 @@ use Rattle.miniserde_text.proofs.scan.special_in_lanes.Goals as goal
 pub returns-then-found-ne0 : goal.returns-then-found-ne0
 returns-then-found-ne0 c =
     let found = c.specials_of_sixteen-found in
-    let run = stops 16 c.args.bytes.now c.args.from (omega arith) (omega arith) (omega (arith, found.ensures)) ∙ ap (count_trailing_zeros 64) (sym found.ensures) in
+    let run = stops 16 c.args.bytes.now c.args.from (omega arith) (omega arith) (omega (arith, found.ensures))
+    ∙ ap (count_trailing_zeros 64) (sym found.ensures) in
     omega (arith, run)
 
 pub returns : goal.returns

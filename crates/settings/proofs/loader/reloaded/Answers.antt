@@ -26,7 +26,8 @@ same v w e =
       cc,
       option_maps tls.ghosts.meaning.content tls_in v.tls w.tls (ap (λ (c : C). c.1.1.0) e),
       maps host.ghosts.meaning.content host_in v.hosts.items w.hosts.items (ap (λ (c : C). c.1.1.1.0) e),
-      λ name. option_maps (λ e. (string_bytes e.0, pos e.1)) limit_in (entry_at string_bytes name v.limits.entries) (entry_at string_bytes name w.limits.entries) (ap (λ (c : C). c.1.1.1.1.0 name) e),
+      λ name. option_maps (λ e. (string_bytes e.0, pos e.1)) limit_in (entry_at string_bytes name v.limits.entries)
+          (entry_at string_bytes name w.limits.entries) (ap (λ (c : C). c.1.1.1.1.0 name) e),
     )
 
 pub returns-clause-same : goal.returns-clause-same

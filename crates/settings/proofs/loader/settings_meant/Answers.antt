@@ -25,10 +25,16 @@ returns c (members ms) s =
     let n4 = codes "hosts" in
     let r1 = needs string_of (string_bytes s.name) (λ t. t ≡ str (string_bytes s.name)) n1 [] refl ms in
     let r2 = needs (unsigned_of 16) (pos s.port) (λ t. ReadsUnsigned 16 t s.port) n2 (n1 ∷ []) refl ms in
-    let r3 = says (option_of t.from_tree) (Some None ≡ Some (option_map t.content s.tls)) (s.tls ≡ None) (λ u. OptionReads t.reads u s.tls) (λ u. OptionReads IsTls u s.tls) (λ u. optional c.parts_meant.ensures.tls u s.tls) (none_counts t.content s.tls) n3 (n1 ∷ n2 ∷ []) refl ms in
+    let r3 = says (option_of t.from_tree) (Some None ≡ Some (option_map t.content s.tls)) (s.tls ≡ None)
+    (λ u. OptionReads t.reads u s.tls) (λ u. OptionReads IsTls u s.tls)
+    (λ u. optional c.parts_meant.ensures.tls u s.tls) (none_counts t.content s.tls) n3 (n1 ∷ n2 ∷ []) refl ms in
     let contents = map h.content s.hosts.items in
-    let r4 = says (list_of h.from_tree) (None ≡ Some contents) ⊥ (λ u. ListReads h.reads u s.hosts.items) (λ u. ListReads IsHost u s.hosts.items) (λ u. items c.parts_meant.ensures.host u s.hosts.items) (lacks contents) n4 (n1 ∷ n2 ∷ n3 ∷ []) refl ms in
-    let r5 = needs (map_of Some (λ k. k) whole) (map_content (λ k. k) string_bytes pos s.limits.entries) (λ u. MapReads Some (λ k. k) string_bytes whole (ReadsUnsigned 64) u s.limits.entries) (codes "limits") (n1 ∷ n2 ∷ n3 ∷ n4 ∷ []) refl ms in (
+    let r4 = says (list_of h.from_tree) (None ≡ Some contents) ⊥ (λ u. ListReads h.reads u s.hosts.items)
+    (λ u. ListReads IsHost u s.hosts.items) (λ u. items c.parts_meant.ensures.host u s.hosts.items)
+    (lacks contents) n4 (n1 ∷ n2 ∷ n3 ∷ []) refl ms in
+    let r5 = needs (map_of Some (λ k. k) whole) (map_content (λ k. k) string_bytes pos s.limits.entries)
+    (λ u. MapReads Some (λ k. k) string_bytes whole (ReadsUnsigned 64) u s.limits.entries) (codes "limits")
+    (n1 ∷ n2 ∷ n3 ∷ n4 ∷ []) refl ms in (
       λ r. (r1.0 r.0, r2.0 r.1.0, r3.0 r.1.1.0, r4.0 r.1.1.1.0, r5.0 r.1.1.1.1.0),
       λ r. (r1.1 r.0, (r2.1 r.1, (r3.1 r.2, (r4.1 r.3, (r5.1 r.4, tt))))),
     )

@@ -7,5 +7,6 @@ use Rattle.test_places.proofs.lower.are_letters.Goals as goal
 
 pub returns-then-not-is_empty : goal.returns-then-not-is_empty
 returns-then-not-is_empty c =
-    let all = all_from_yields_List is_ascii_alphabetic _ _ c.all.result c.all.ensures.ran (YieldsList-from_slice c.as_bytes.result.now cc) (λ x b q k. search (rules, tests)) in
+    let all = all_from_yields_List is_ascii_alphabetic _ _ c.all.result c.all.ensures.ran
+    (YieldsList-from_slice c.as_bytes.result.now cc) (λ x b q k. search (rules, tests)) in
     grind (arith, nat_tests)

@@ -12,4 +12,6 @@ returns-clause-equal g c =
     let key = c.args.key.now in
     let b = laws.back key c.ranged.ensures in
     let text : c.as_str.result.now ≡ k.text key = rw (c.as_str.ensures.value, c.in_ok-to_key.ensures.ok, c.new-name.ensures.bytes) refl in
-    IfOk-weaker c.from_key.result _ _ (λ v h. laws.alike v key ∙ (bytes_eq-Decides _ _).1 (ap k.code (same_Some _ _ (sym h ∙ ap k.read text ∙ b.2)) ∙ b.3)) c.from_key.ensures.value
+    IfOk-weaker c.from_key.result _ _
+    (λ v h. laws.alike v key ∙ (bytes_eq-Decides _ _).1
+    (ap k.code (same_Some _ _ (sym h ∙ ap k.read text ∙ b.2)) ∙ b.3)) c.from_key.ensures.value

@@ -19,7 +19,8 @@ returns-clause-ok c =
       r.0,
       r.1,
       subst (λ b. get_by_text answers b ≡ Some c.args.answer) r.2 here,
-      λ other d. at other ∙ ap (λ b. cond b (Some c.args.answer) (old other)) (false_from_ne_true (bytes_eq k other) (λ h. d (sym ((bytes_eq-Decides k other).0 h) ∙ r.2))),
+      λ other d. at other ∙ ap (λ b. cond b (Some c.args.answer) (old other))
+          (false_from_ne_true (bytes_eq k other) (λ h. d (sym ((bytes_eq-Decides k other).0 h) ∙ r.2))),
     )
 
 pub returns-in_err-canonical-clause-invalid : goal.returns-in_err-canonical-clause-invalid

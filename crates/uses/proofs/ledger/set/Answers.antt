@@ -19,5 +19,6 @@ returns-clause-ok g c =
     let here = at k ∙ ap (λ b. cond b (Some c.args.number) (old k)) ((bytes_eq-Decides k k).1 refl) in (
       subst (λ b. get_by_text numbers b ≡ Some c.args.number) e here,
       subst (λ b. IsJson b (norm (g.T.Serialize.tree c.args.value.now))) e c.in_ok-key.ensures.spells,
-      λ other d. at other ∙ ap (λ b. cond b (Some c.args.number) (old other)) (false_from_ne_true (bytes_eq k other) (λ h. d (sym ((bytes_eq-Decides k other).0 h) ∙ e))),
+      λ other d. at other ∙ ap (λ b. cond b (Some c.args.number) (old other))
+          (false_from_ne_true (bytes_eq k other) (λ h. d (sym ((bytes_eq-Decides k other).0 h) ∙ e))),
     )

@@ -15,7 +15,8 @@ returns-then-is_of-clause-some g c =
       λ v p j.
           let t = g.T.Serialize.tree v in
           let one = c.text_has_one_tree.ensures text r.0 (norm t) r.1 j in
-          c.canonical_text_determines_content.ensures.itself v c.in_ok-value.value r.0 p (ap norm one ∙ c.norm_is_normal.ensures.idempotent t) r.2,
+          c.canonical_text_determines_content.ensures.itself v c.in_ok-value.value r.0 p
+          (ap norm one ∙ c.norm_is_normal.ensures.idempotent t) r.2,
     )
 
 pub returns-else-is_of-clause-none : goal.returns-else-is_of-clause-none

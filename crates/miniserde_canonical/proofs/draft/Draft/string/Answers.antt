@@ -8,4 +8,6 @@ pub returns-in_ok-put_escaped-clause-wrote : goal.returns-in_ok-put_escaped-clau
 returns-in_ok-put_escaped-clause-wrote c = λ rest part rest' bs t e f g p.
     let q = c.in_ok-flush.ensures.wrote rest bs t f in
     let n = c.args.scratch.now in
-    rewound c.flush.new.self _ rest part rest' bs _ q.0 e refl g (c.in_ok-put_escaped.ensures ∙ ap (λ z. z ++ string_text n) q.1 ∙ ap (λ z. bs ++ string_text (text_of z n)) (sym c.in-Scratch.is))
+    rewound c.flush.new.self _ rest part rest' bs _ q.0 e refl g
+    (c.in_ok-put_escaped.ensures ∙ ap (λ z. z ++ string_text n) q.1 ∙ ap (λ z. bs ++ string_text (text_of z n))
+    (sym c.in-Scratch.is))

@@ -14,23 +14,35 @@ use Rattle.miniserde_canonical.specs.private.Moving.{end_token}
 use Rattle.miniserde_canonical.proofs.Steps.{close_forces, element_forces, key_forces, after_barred, name_barred}
 use Rattle.miniserde_canonical.proofs.Wholes.{reads_finish, reads_element, reads_key}
 use Rattle.miniserde_canonical.proofs.Plains.{name_plain, name_spelled, at_once}
-use Rattle.miniserde_canonical.proofs.Taking.{skipped, takes_end, takes_element, takes_name, stands_less, follows_less, blank_less, follows_behind, follows_at, names_behind, names_at, closing_at, comma_at}
+use Rattle.miniserde_canonical.proofs.Taking.{skipped, takes_end, takes_element, takes_name, stands_less}
+use Rattle.miniserde_canonical.proofs.Taking.{follows_less, blank_less, follows_behind, follows_at, names_behind}
+use Rattle.miniserde_canonical.proofs.Taking.{names_at, closing_at, comma_at}
 use Rattle.miniserde_canonical.proofs.read.Reader.take_child_or_end.Goals as goal
 
 pub returns-in_err-after-clause-invalid : goal.returns-in_err-after-clause-invalid
 returns-in_err-after-clause-invalid c = λ e.
     let w = err_from_is_err_and c.from_residual-in_err-after.result c.from_residual-in_err-after.ensures.1 in
-    after_barred _ _ c.args.kind c.args.first c.requires.inside (λ a r p. c.in_err-after.ensures.invalid (cc (w.1, w.2, e)) (c.in_ok-before.ensures.going ∙ c.requires.going) a r (follows_at c.args.kind c.args.first a _ _ r c.in_ok-before.ensures.blank p))
+    after_barred _ _ c.args.kind c.args.first c.requires.inside
+    (λ a r p. c.in_err-after.ensures.invalid (cc (w.1, w.2, e))
+    (c.in_ok-before.ensures.going ∙ c.requires.going) a r
+    (follows_at c.args.kind c.args.first a _ _ r c.in_ok-before.ensures.blank p))
 
 pub returns-in_err-text-in-Map-clause-invalid : goal.returns-in_err-text-in-Map-clause-invalid
 returns-in_err-text-in-Map-clause-invalid c = λ e.
     let w = err_from_is_err_and c.from_residual-in_err-text-in-Map.result c.from_residual-in_err-text-in-Map.ensures.1 in
     let k = c.args.kind in
-    let p : Follows k c.args.first false c.skip.new.lexer.rest c.after.new.self.rest = subst (λ z. Follows k c.args.first (is_close z) c.skip.new.lexer.rest c.after.new.self.rest) c.in-Next.is c.in_ok-after.ensures.ok.2 in
-    name_barred _ _ _ k c.args.first c.requires.inside c.in-Map.is (follows_behind k c.args.first false _ _ _ c.in_ok-before.ensures.blank p) (λ n x q. c.in_err-text-in-Map.ensures.invalid (cc (w.1, w.2, e)) (c.in_ok-at-in-Map.ensures.going ∙ c.in_ok-after.ensures.ok.1) n x (names_at _ _ n x c.in_ok-at-in-Map.ensures.blank q))
+    let p : Follows k c.args.first false c.skip.new.lexer.rest c.after.new.self.rest =
+    subst (λ z. Follows k c.args.first (is_close z) c.skip.new.lexer.rest c.after.new.self.rest) c.in-Next.is
+    c.in_ok-after.ensures.ok.2 in
+    name_barred _ _ _ k c.args.first c.requires.inside c.in-Map.is
+    (follows_behind k c.args.first false _ _ _ c.in_ok-before.ensures.blank p)
+    (λ n x q. c.in_err-text-in-Map.ensures.invalid (cc (w.1, w.2, e))
+    (c.in_ok-at-in-Map.ensures.going ∙ c.in_ok-after.ensures.ok.1) n x
+    (names_at _ _ n x c.in_ok-at-in-Map.ensures.blank q))
 
 pub name-requires-in-Map : goal.name-requires-in-Map
-name-requires-in-Map c = name_plain c.in_ok-text-in-Map.text (string_bytes c.name.new.scratch) _ _ c.in_ok-text-in-Map.ensures.ok.2 c.in_ok-text-in-Map.ensures.text
+name-requires-in-Map c = name_plain c.in_ok-text-in-Map.text (string_bytes c.name.new.scratch) _ _
+    c.in_ok-text-in-Map.ensures.ok.2 c.in_ok-text-in-Map.ensures.text
 
 pub returns-in_ok-end-in-Close-clause-reads : goal.returns-in_ok-end-in-Close-clause-reads
 returns-in_ok-end-in-Close-clause-reads c =
@@ -41,8 +53,17 @@ returns-in_ok-end-in-Close-clause-reads c =
     let d = c.args.self.now.draft in
     let d1 = c.skip.new.draft in
     let b = c.in_ok-before.ensures.blank in
-    let p : Follows k c.args.first true mid new = subst (λ z. Follows k c.args.first (is_close z) mid new) c.in-Close.is c.in_ok-after.ensures.ok.2 in
-    (end_token k ∷ [], reads_finish _ _ _ _ k (before_child c.args.first) c.requires.inside c.pop.ensures (close_forces _ _ _ _ k c.args.first c.requires.inside (follows_behind k c.args.first true old mid new b p) c.pop.ensures), takes_end (before_child c.args.first) k old mid new d d1 c.end.new.self (skipped d d1 old mid c.in_ok-before.ensures.wrote c.in_ok-before.ensures.only_text) (λ s r. c.in_ok-end-in-Close.ensures mid new s r c.in_ok-before.ensures.at (closing_at k c.args.first mid new b.stops p)))
+    let p : Follows k c.args.first true mid new =
+    subst (λ z. Follows k c.args.first (is_close z) mid new) c.in-Close.is c.in_ok-after.ensures.ok.2 in (
+      end_token k ∷ [],
+      reads_finish _ _ _ _ k (before_child c.args.first) c.requires.inside c.pop.ensures
+          (close_forces _ _ _ _ k c.args.first c.requires.inside
+          (follows_behind k c.args.first true old mid new b p) c.pop.ensures),
+      takes_end (before_child c.args.first) k old mid new d d1 c.end.new.self
+          (skipped d d1 old mid c.in_ok-before.ensures.wrote c.in_ok-before.ensures.only_text)
+          (λ s r. c.in_ok-end-in-Close.ensures mid new s r c.in_ok-before.ensures.at
+          (closing_at k c.args.first mid new b.stops p)),
+    )
 
 pub returns-in-Seq-clause-reads : goal.returns-in-Seq-clause-reads
 returns-in-Seq-clause-reads c =
@@ -53,8 +74,16 @@ returns-in-Seq-clause-reads c =
     let d = c.args.self.now.draft in
     let d1 = c.skip.new.draft in
     let b = c.in_ok-before.ensures.blank in
-    let p : Follows k c.args.first false mid new = subst (λ z. Follows k c.args.first (is_close z) mid new) c.in-Next.is c.in_ok-after.ensures.ok.2 in
-    (element ∷ [], reads_element (before_child c.args.first) _ _ _ (element_forces _ _ _ k c.args.first c.requires.inside c.in-Seq.is (follows_behind k c.args.first false old mid new b p)), takes_element c.args.first old mid new d d1 (skipped d d1 old mid c.in_ok-before.ensures.wrote c.in_ok-before.ensures.only_text) (comma_at k c.args.first mid new b.stops p))
+    let p : Follows k c.args.first false mid new =
+    subst (λ z. Follows k c.args.first (is_close z) mid new) c.in-Next.is c.in_ok-after.ensures.ok.2 in (
+      element ∷ [],
+      reads_element (before_child c.args.first) _ _ _
+          (element_forces _ _ _ k c.args.first c.requires.inside c.in-Seq.is
+          (follows_behind k c.args.first false old mid new b p)),
+      takes_element c.args.first old mid new d d1
+          (skipped d d1 old mid c.in_ok-before.ensures.wrote c.in_ok-before.ensures.only_text)
+          (comma_at k c.args.first mid new b.stops p),
+    )
 
 pub returns-in_ok-name-in-Map-clause-reads : goal.returns-in_ok-name-in-Map-clause-reads
 returns-in_ok-name-in-Map-clause-reads c =
@@ -73,9 +102,23 @@ returns-in_ok-name-in-Map-clause-reads c =
     let b = c.in_ok-before.ensures.blank in
     let b2 = c.in_ok-at-in-Map.ensures.blank in
     let q = c.in_ok-text-in-Map.ensures.ok.2 in
-    let p : Follows k c.args.first false mid behind = subst (λ z. Follows k c.args.first (is_close z) mid behind) c.in-Next.is c.in_ok-after.ensures.ok.2 in
-    let takes = subst (λ z. (before : List ℕ) (s s' : State) → Wrote d2 at (before ++ comma_before s.first) → Holding d2 before s → s.first ≡ c.args.first → TokenStep (name (text_of text z)) s s' → Represents c.name-in-Map.new.self new s') c.as_str.ensures.value (λ before s s' t h f a. c.in_ok-name-in-Map.ensures at q.part new before s s' t h (at_once at new q b2.stops) c.in_ok-at-in-Map.ensures.at c.left-end.ensures (name_spelled text x at new q c.in_ok-text-in-Map.ensures.text) f a) in
-    (name n ∷ [], reads_key (before_child c.args.first) _ _ _ n (key_forces _ _ _ _ _ k c.args.first c.requires.inside c.in-Map.is (follows_behind k c.args.first false old mid behind b p) (names_behind behind at n new b2 q)), takes_name c.args.first n old mid behind at q.part new d d1 d2 c.name-in-Map.new.self (skipped d d1 old mid c.in_ok-before.ensures.wrote c.in_ok-before.ensures.only_text) (comma_at k c.args.first mid behind b.stops p) c.in_ok-at-in-Map.ensures.wrote c.in_ok-at-in-Map.ensures.only_text takes)
+    let p : Follows k c.args.first false mid behind =
+    subst (λ z. Follows k c.args.first (is_close z) mid behind) c.in-Next.is c.in_ok-after.ensures.ok.2 in
+    let takes = subst (λ z. (before : List ℕ) (s s' : State) → Wrote d2 at (before ++ comma_before s.first)
+    → Holding d2 before s → s.first ≡ c.args.first → TokenStep (name (text_of text z)) s s'
+    → Represents c.name-in-Map.new.self new s') c.as_str.ensures.value
+    (λ before s s' t h f a. c.in_ok-name-in-Map.ensures at q.part new before s s' t h
+    (at_once at new q b2.stops) c.in_ok-at-in-Map.ensures.at c.left-end.ensures
+    (name_spelled text x at new q c.in_ok-text-in-Map.ensures.text) f a) in (
+      name n ∷ [],
+      reads_key (before_child c.args.first) _ _ _ n
+          (key_forces _ _ _ _ _ k c.args.first c.requires.inside c.in-Map.is
+          (follows_behind k c.args.first false old mid behind b p) (names_behind behind at n new b2 q)),
+      takes_name c.args.first n old mid behind at q.part new d d1 d2 c.name-in-Map.new.self
+          (skipped d d1 old mid c.in_ok-before.ensures.wrote c.in_ok-before.ensures.only_text)
+          (comma_at k c.args.first mid behind b.stops p) c.in_ok-at-in-Map.ensures.wrote
+          c.in_ok-at-in-Map.ensures.only_text takes,
+    )
 
 pub returns-in_ok-name-in-Map-clause-less : goal.returns-in_ok-name-in-Map-clause-less
 returns-in_ok-name-in-Map-clause-less c =

@@ -17,7 +17,8 @@ use Rattle.miniserde_canonical.proofs.read.Reader.value.Goals as goal
 pub returns-in_err-event-clause-invalid : goal.returns-in_err-event-clause-invalid
 returns-in_err-event-clause-invalid c = λ e.
     let w = err_from_is_err_and c.from_residual-in_err-event.result c.from_residual-in_err-event.ensures.1 in
-    start_barred _ _ (λ t r p. c.in_err-event.ensures.invalid (cc (w.1, w.2, e)) (c.in_ok-at.ensures.going ∙ c.requires.going) t r (starts_at _ _ t r c.in_ok-at.ensures.blank p))
+    start_barred _ _ (λ t r p. c.in_err-event.ensures.invalid (cc (w.1, w.2, e))
+    (c.in_ok-at.ensures.going ∙ c.requires.going) t r (starts_at _ _ t r c.in_ok-at.ensures.blank p))
 
 pub returns-clause-reads : goal.returns-clause-reads
 returns-clause-reads c =
@@ -35,6 +36,16 @@ returns-clause-reads c =
     let s = c.in_ok-event.ensures.ok.2 in
     let full = starts_behind old mid e new b s in
     let p = value_forces _ _ _ e c.in_ok-opened.opened _ full o st in
-    let spells : SpellsToken event c.as_str.result.now s.0.part = subst (λ z. SpellsToken event z s.0.part) (sym c.as_str.ensures.value) (spelled event x mid new s c.in_ok-event.ensures.text) in
-    let takes = subst (λ z. (u u' : State) → Represents d1 mid u → TokenStep (first_token (event_of_token event z)) u u' → Represents c.token.new.self new u') c.as_str.ensures.value (λ u u' r a. c.in_ok-token.ensures mid s.0.part new u u' r (at_once mid new s.0 b.stops) c.in_ok-at.ensures.at c.left-end.ensures spells a) in
-    (first_token e ∷ [], reads_start _ _ _ e _ _ full st p, takes_front e s.0.part old mid new c.in_ok-opened.opened d d1 c.token.new.self s.0.is_part o (skipped d d1 old mid c.in_ok-at.ensures.wrote c.in_ok-at.ensures.only_text) takes)
+    let spells : SpellsToken event c.as_str.result.now s.0.part =
+    subst (λ z. SpellsToken event z s.0.part) (sym c.as_str.ensures.value)
+    (spelled event x mid new s c.in_ok-event.ensures.text) in
+    let takes = subst (λ z. (u u' : State) → Represents d1 mid u
+    → TokenStep (first_token (event_of_token event z)) u u' → Represents c.token.new.self new u')
+    c.as_str.ensures.value (λ u u' r a. c.in_ok-token.ensures mid s.0.part new u u' r
+    (at_once mid new s.0 b.stops) c.in_ok-at.ensures.at c.left-end.ensures spells a) in (
+      first_token e ∷ [],
+      reads_start _ _ _ e _ _ full st p,
+      takes_front e s.0.part old mid new c.in_ok-opened.opened
+          d d1 c.token.new.self s.0.is_part o
+          (skipped d d1 old mid c.in_ok-at.ensures.wrote c.in_ok-at.ensures.only_text) takes,
+    )

@@ -16,7 +16,9 @@ loop-splice-preserved c = record {
       c.in_ok-push.ensures.items
       ∙ ap₂ (λ (x : List Splice) (y : Splice). x ++ y ∷ []) c.loop-splice.invariant.splices c.in_ok-shifted_splice.ensures
       ∙ append_assoc c.args.self.now.splices.items _ _
-      ∙ ap (λ z. c.args.self.now.splices.items ++ z) (sym (map_more (shifted_splice c.args.span.from.bytes c.len-at.result) c.part-splices.result.now c.loop-splice.splice-index _ c.loop-splice-test.true));
+      ∙ ap (λ z. c.args.self.now.splices.items ++ z)
+      (sym (map_more (shifted_splice c.args.span.from.bytes c.len-at.result) c.part-splices.result.now
+      c.loop-splice.splice-index _ c.loop-splice-test.true));
 }
 
 pub returns-clause-bytes : goal.returns-clause-bytes
@@ -29,5 +31,7 @@ returns-clause-splices c = λ w.
     let is : c.part-splices.result.now ≡ splices_in c.args.span c.args.other.now.splices.items = search rules in
     let at : c.len-at.result ≡ length c.args.self.now.bytes.items = search rules in
     c.loop-splice.invariant.splices
-    ∙ ap (λ z. c.args.self.now.splices.items ++ map (shifted_splice c.args.span.from.bytes c.len-at.result) z) (take_all c.loop-splice.splice-index c.part-splices.result.now c.loop-splice-test.false ∙ is)
-    ∙ ap (λ z. c.args.self.now.splices.items ++ map (shifted_splice c.args.span.from.bytes z) (splices_in c.args.span c.args.other.now.splices.items)) at
+    ∙ ap (λ z. c.args.self.now.splices.items ++ map (shifted_splice c.args.span.from.bytes c.len-at.result) z)
+    (take_all c.loop-splice.splice-index c.part-splices.result.now c.loop-splice-test.false ∙ is)
+    ∙ ap (λ z. c.args.self.now.splices.items ++ map (shifted_splice c.args.span.from.bytes z)
+    (splices_in c.args.span c.args.other.now.splices.items)) at

@@ -6,4 +6,5 @@ pub returns : goal.returns
 returns g c = λ v w r q e.
     let s = g.E.DataEnum in
     let f = g.C.LosslessCases in
-    c.lossless.ensures.same external s.names (s.values v) (s.values w) c.lossless.ensures.external (distinct_names f.meaning.count s.names c.requires g.met.E.DataEnum.distinct_names) r q e
+    c.lossless.ensures.same external s.names (s.values v) (s.values w) c.lossless.ensures.external
+    (distinct_names f.meaning.count s.names c.requires g.met.E.DataEnum.distinct_names) r q e

@@ -12,4 +12,6 @@ returns g c = λ v w r q e.
     let us = f.trees (s.values w) in
     let same : with_names s.names ts ≡ with_names s.names us = cc in
     let k = sym c.requires in
-    c.lossless.ensures.same (s.values v) (s.values w) r q (one_trees s.names ts us g.met.S.Record.distinct_names (c.lossless.ensures.each (s.values v) ∙ k) (c.lossless.ensures.each (s.values w) ∙ k) same)
+    c.lossless.ensures.same (s.values v) (s.values w) r q
+    (one_trees s.names ts us g.met.S.Record.distinct_names (c.lossless.ensures.each (s.values v) ∙ k)
+    (c.lossless.ensures.each (s.values w) ∙ k) same)

@@ -9,7 +9,8 @@ pub returns : goal.returns
 returns g c = λ v r.
     let s = g.S.Record in
     let f = g.F.RoundTripFields in
-    let a = c.round_trips.ensures s.names (s.values v) (distinct_names f.meaning.count s.names c.requires g.met.S.Record.distinct_names) r in
+    let a = c.round_trips.ensures s.names (s.values v)
+    (distinct_names f.meaning.count s.names c.requires g.met.S.Record.distinct_names) r in
     let same = sym (g.met.S.Record.bijective.1 a.0.0) in (
       (
         s.made a.0.0,

@@ -8,5 +8,19 @@ returns g c = λ v r.
     let z = c.round_trips-3.ensures v.2 r.2 in
     let t = c.round_trips-4.ensures v.3 r.3 in
     let u = c.round_trips-5.ensures v.4 r.4 in
-    let i = c.round_trips-6.ensures v.5 r.5 in
-    (((x.0.0, y.0.0, z.0.0, t.0.0, u.0.0, i.0.0), (x.0.1, y.0.1, z.0.1, t.0.1, u.0.1, i.0.1), (x.0.2, (y.0.2, (z.0.2, (t.0.2, (u.0.2, (i.0.2, tt))))))), λ w s e. rw (x.1 w.0 s.0 e.0, y.1 w.1 s.1 e.1.0, z.1 w.2 s.2 e.1.1.0, t.1 w.3 s.3 e.1.1.1.0, u.1 w.4 s.4 e.1.1.1.1.0, i.1 w.5 s.5 e.1.1.1.1.1.0) refl)
+    let i = c.round_trips-6.ensures v.5 r.5 in (
+      (
+        (x.0.0, y.0.0, z.0.0, t.0.0, u.0.0, i.0.0),
+        (x.0.1, y.0.1, z.0.1, t.0.1, u.0.1, i.0.1),
+        (x.0.2, (y.0.2, (z.0.2, (t.0.2, (u.0.2, (i.0.2, tt)))))),
+      ),
+      λ w s e.
+          rw (
+            x.1 w.0 s.0 e.0,
+            y.1 w.1 s.1 e.1.0,
+            z.1 w.2 s.2 e.1.1.0,
+            t.1 w.3 s.3 e.1.1.1.0,
+            u.1 w.4 s.4 e.1.1.1.1.0,
+            i.1 w.5 s.5 e.1.1.1.1.1.0,
+          ) refl,
+    )

@@ -17,4 +17,10 @@ returns-in_ok-take-in-Some-Some-clause-joined g c =
     let o = (g.P.Visitor.meaning.view c.in-Some-Some.place).outcome [] in
     let child : c.args.self.now.child ≡ Some c.in-Some-Some.place = search rules in
     let pending : c.args.self.now.key ≡ Some key = search rules in
-    rw child (IfOk-weaker c.put.result (λ _. map_content code content (λ v. v) fs ≡ with_entry code (map_content code content (λ v. v) es) (content key) v) (λ _. option_and_then (λ x. option_map (λ k. with_entry code (map_content code content value es) (content k) x) c.args.self.now.key) o ≡ Some (map_content code content value fs)) (λ _ h. put-joined code content value es fs key v c.args.self.now.key o pending c.in_ok-take-in-Some-Some.ensures.value.1 h) c.put.ensures.put)
+    rw child (IfOk-weaker c.put.result
+    (λ _. map_content code content (λ v. v) fs ≡ with_entry code (map_content code content (λ v. v) es)
+    (content key) v) (λ _. option_and_then
+    (λ x. option_map (λ k. with_entry code (map_content code content value es) (content k) x)
+    c.args.self.now.key) o ≡ Some (map_content code content value fs))
+    (λ _ h. put-joined code content value es fs key v c.args.self.now.key o pending
+    c.in_ok-take-in-Some-Some.ensures.value.1 h) c.put.ensures.put)

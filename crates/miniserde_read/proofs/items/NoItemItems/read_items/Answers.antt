@@ -15,7 +15,12 @@ returns-in_err-after-clause-invalid c = λ e ts r p.
     absurd (c.in_err-after.ensures.invalid (cc (w.1, w.2, e)) c.requires m.0 m.1 m.2)
 
 pub returns-in-Close-clause-ok : goal.returns-in-Close-clause-ok
-returns-in-Close-clause-ok c = (no_trees, subst (λ z. Follows Seq c.args.first (is_close z) c.args.source.now.rest c.after.new.self.rest) c.in-Close.is c.in_ok-after.ensures.ok, refl)
+returns-in-Close-clause-ok c = (
+  no_trees,
+  subst (λ z. Follows Seq c.args.first (is_close z) c.args.source.now.rest c.after.new.self.rest)
+      c.in-Close.is c.in_ok-after.ensures.ok,
+  refl,
+)
 
 pub returns-in-Next-clause-invalid : goal.returns-in-Next-clause-invalid
 returns-in-Next-clause-invalid c = λ e ts r p.

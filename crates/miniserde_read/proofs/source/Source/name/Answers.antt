@@ -4,4 +4,5 @@ use Rattle.miniserde_read.proofs.source.Source.name.Goals as goal
 
 pub returns-clause-invalid : goal.returns-clause-invalid
 returns-clause-invalid c = λ e k n r p.
-    c.name.ensures.invalid e (ap (λ v. v.refused) c.self.view_is ∙ k) n r (subst (λ z. Names z n r) (sym (ap (λ v. v.rest) c.self.view_is)) p)
+    c.name.ensures.invalid e (ap (λ v. v.refused) c.self.view_is ∙ k) n r
+    (subst (λ z. Names z n r) (sym (ap (λ v. v.rest) c.self.view_is)) p)

@@ -5,7 +5,8 @@ use Rattle.miniserde_record.proofs.record.slots.read_record.Given as goal
 abbrev pub invariant-loop-fields : goal.invariant-loop-fields
 invariant-loop-fields g l = record {
   going : l.source.refused ≡ None;
-  goes : ObjectGoes (g.F.Slots.meaning.next_state g.S.Record.names) g.F.Slots.meaning.empty l.fn.source.rest l.first l.source.rest (g.F.Slots.state l.fields);
+  goes : ObjectGoes (g.F.Slots.meaning.next_state g.S.Record.names) g.F.Slots.meaning.empty l.fn.source.rest l.first
+      l.source.rest (g.F.Slots.state l.fields);
 }
 
 abbrev pub decreases-loop-fields : goal.decreases-loop-fields

@@ -6,4 +6,5 @@ pub returns : goal.returns
 returns g c =
     let t = g.T.FromJson in
     let m = g.R.StableFields.meaning in
-    stable-field g.M.Repeats.once t.means.from_tree c.stable.ensures (missing_content t.means g.M.Mark.given t.absent) m.from_members c.stable-2.ensures
+    stable-field g.M.Repeats.once t.means.from_tree c.stable.ensures
+    (missing_content t.means g.M.Mark.given t.absent) m.from_members c.stable-2.ensures

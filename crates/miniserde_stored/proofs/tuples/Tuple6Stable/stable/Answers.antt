@@ -2,4 +2,9 @@ use Rattle.miniserde_stored.proofs.Types.{stable-none, stable-item, stable-tuple
 use Rattle.miniserde_stored.proofs.tuples.Tuple6Stable.stable.Goals as goal
 
 pub returns : goal.returns
-returns g c = stable-tuple _ (stable-item _ _ c.stable.ensures (stable-item _ _ c.stable-2.ensures (stable-item _ _ c.stable-3.ensures (stable-item _ _ c.stable-4.ensures (stable-item _ _ c.stable-5.ensures (stable-item _ _ c.stable-6.ensures stable-none))))))
+returns g c = stable-tuple _
+    (stable-item _ _ c.stable.ensures
+    (stable-item _ _ c.stable-2.ensures
+    (stable-item _ _ c.stable-3.ensures
+    (stable-item _ _ c.stable-4.ensures
+    (stable-item _ _ c.stable-5.ensures (stable-item _ _ c.stable-6.ensures stable-none))))))

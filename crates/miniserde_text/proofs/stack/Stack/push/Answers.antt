@@ -8,8 +8,13 @@ pub returns-after-place-len-clause-ok : goal.returns-after-place-len-clause-ok
 returns-after-place-len-clause-ok c =
     let next : c.in_ok-levels.levels ≡ c.self.inside.levels + 1 = search rules in
     let within : c.self.inside.levels / 64 < length c.if-place-len.self-inside.1.0.items = search rules in
-    let stays : stack_of c.if-place-len.self-inside.1.0.items c.self.inside.levels ≡ stack_of c.self.inside.bits.items c.self.inside.levels = elim c.if-place-len.branch [
-      | then-place-len+in_ok-push w ↦ rw (w.self-inside-is) (ap (λ z. stack_of z c.self.inside.levels) w.in_ok-push.ensures.items ∙ stack_grown c.self.inside.bits.items c.self.inside.levels)
+    let stays : stack_of c.if-place-len.self-inside.1.0.items c.self.inside.levels
+    ≡ stack_of c.self.inside.bits.items c.self.inside.levels = elim c.if-place-len.branch [
+      | then-place-len+in_ok-push w ↦ rw (w.self-inside-is)
+          (ap (λ z. stack_of z c.self.inside.levels) w.in_ok-push.ensures.items
+          ∙ stack_grown c.self.inside.bits.items c.self.inside.levels)
       | else-place-len w ↦ rw (w.self-inside-is) refl
     ] in
-    rw (c.in-Some.is) (stack_opened c.if-place-len.self-inside.1.0.items c.self.inside.levels c.in_ok-levels.levels c.index.result.now c.with_kind.result c.in-Some.kind c.args.self.now next within c.index.ensures c.with_kind.ensures.here c.with_kind.ensures.others (stays ∙ c.self.view_is))
+    rw (c.in-Some.is) (stack_opened c.if-place-len.self-inside.1.0.items c.self.inside.levels c.in_ok-levels.levels
+    c.index.result.now c.with_kind.result c.in-Some.kind c.args.self.now next within c.index.ensures
+    c.with_kind.ensures.here c.with_kind.ensures.others (stays ∙ c.self.view_is))

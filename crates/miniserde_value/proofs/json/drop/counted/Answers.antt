@@ -2,7 +2,8 @@
 -- invariant counts the values dropped and left and the looks done and left, and each turn is a lemma of `Turns.antt`.
 use Rattle.std.proofs.Common.{refl, arith}
 use Rattle.miniserde_value.proofs.Costs.{between}
-use Rattle.miniserde_value.proofs.Turns.{bare_size, taken_size, taken_looks, parked_size, turn_next, turn_over, turn_park, turn_last, false_true}
+use Rattle.miniserde_value.proofs.Turns.{bare_size, taken_size, taken_looks, parked_size, turn_next, turn_over}
+use Rattle.miniserde_value.proofs.Turns.{turn_park, turn_last, false_true}
 use Rattle.miniserde_value.proofs.json.drop.counted.Goals as goal
 
 pub returns-in-None-clause-released : goal.returns-in-None-clause-released
@@ -26,11 +27,23 @@ returns-in-None-take_last-clause-released c =
 
 pub returns-in-None-take_last-clause-at_least : goal.returns-in-None-take_last-clause-at_least
 returns-in-None-take_last-clause-at_least c =
-    omega (arith, (between c.args.value).0, turn_last _ _ c.in-None-take_last.ensures.taken.0 (c.if-is_bare.ensures.0 refl), c.in-None-take_last.ensures.visited)
+    omega (
+      arith,
+      (between c.args.value).0,
+      turn_last _ _ c.in-None-take_last.ensures.taken.0
+          (c.if-is_bare.ensures.0 refl),
+      c.in-None-take_last.ensures.visited,
+    )
 
 pub returns-in-None-take_last-clause-at_most : goal.returns-in-None-take_last-clause-at_most
 returns-in-None-take_last-clause-at_most c =
-    omega (arith, (between c.args.value).2, (between c.args.value).3, turn_last _ _ c.in-None-take_last.ensures.taken.0 (c.if-is_bare.ensures.0 refl), c.in-None-take_last.ensures.visited)
+    omega (
+      arith,
+      (between c.args.value).2,
+      (between c.args.value).3,
+      turn_last _ _ c.in-None-take_last.ensures.taken.0 (c.if-is_bare.ensures.0 refl),
+      c.in-None-take_last.ensures.visited,
+    )
 
 pub loop-hand-smaller-in-Some-take_last : goal.loop-hand-smaller-in-Some-take_last
 loop-hand-smaller-in-Some-take_last c = omega (arith, turn_next _ _ _ _ (c.if-is_bare.ensures.0 refl) c.in-Some-take_last.ensures.taken)
@@ -44,7 +57,8 @@ loop-hand-preserved-in-Some-take_last c =
     }
 
 pub loop-hand-smaller-in-Some-take_last-2 : goal.loop-hand-smaller-in-Some-take_last-2
-loop-hand-smaller-in-Some-take_last-2 c = omega (arith, turn_over _ _ _ _ (c.if-is_bare-2.ensures.0 refl) c.in-Some-take_last-2.ensures.taken)
+loop-hand-smaller-in-Some-take_last-2 c =
+    omega (arith, turn_over _ _ _ _ (c.if-is_bare-2.ensures.0 refl) c.in-Some-take_last-2.ensures.taken)
 
 pub loop-hand-preserved-in-Some-take_last-2 : goal.loop-hand-preserved-in-Some-take_last-2
 loop-hand-preserved-in-Some-take_last-2 c =

@@ -17,11 +17,13 @@ pub returns-clause-builds : goal.returns-clause-builds
 returns-clause-builds c =
     let h = hole_in c.args.builder.now in
     let g = hole_in c.begin.new.self in
-    λ once. entered once c.begin.result h g c.args.source.now.rest c.token.new.self.rest (event_of_token c.in_ok-token.token c.token.new.self.scratch) c.in_ok-token.ensures.ok
+    λ once. entered once c.begin.result h g c.args.source.now.rest c.token.new.self.rest
+    (event_of_token c.in_ok-token.token c.token.new.self.scratch) c.in_ok-token.ensures.ok
     (subst (λ z. IfOk c.begin.result (λ o. o ≡ is_some (opened_kind z))) c.step.ensures c.begin.ensures.opens)
     (subst (λ z. OnOk c.begin.result (after_begin z h ≡ Some g)) c.step.ensures c.begin.ensures.ok)
 
 pub returns-clause-invalid : goal.returns-clause-invalid
 returns-clause-invalid c = λ e.
     let h = hole_in c.args.builder.now in
-    absurd (begins c.in_ok-token.token c.token.new.self.scratch h (ap (λ z. after_begin z h) (sym c.step.ensures) ∙ c.begin.ensures.invalid e))
+    absurd (begins c.in_ok-token.token c.token.new.self.scratch h
+    (ap (λ z. after_begin z h) (sym c.step.ensures) ∙ c.begin.ensures.invalid e))

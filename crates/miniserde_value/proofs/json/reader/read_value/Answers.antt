@@ -17,38 +17,59 @@ loop-kind-init c =
     let e = event_of_token c.args.token c.args.source.now.scratch in
     record {
       going = c.requires.going;
-      builds = builds_init c.args.once e (hole_in c.begin.new.self) c.in_ok-first.first c.args.source.now.rest (c.in_ok-first.ensures.opens ∙ ap (λ z. is_some (opened_kind z)) c.step.ensures) (ap (after_begin e) (sym c.new-builder.ensures) ∙ ap (λ z. after_begin z (hole_in c.new-builder.result)) (sym c.step.ensures) ∙ c.in_ok-first.ensures.ok);
+      builds = builds_init c.args.once e (hole_in c.begin.new.self) c.in_ok-first.first c.args.source.now.rest
+          (c.in_ok-first.ensures.opens ∙ ap (λ z. is_some (opened_kind z)) c.step.ensures)
+          (ap (after_begin e) (sym c.new-builder.ensures) ∙ ap (λ z. after_begin z (hole_in c.new-builder.result))
+          (sym c.step.ensures) ∙ c.in_ok-first.ensures.ok);
     }
 
 pub returns-in_err-first-clause-invalid : goal.returns-in_err-first-clause-invalid
 returns-in_err-first-clause-invalid c = λ x.
     let w = err_from_is_err_and c.from_residual.result c.from_residual.ensures.1 in
-    absurd (begins c.args.token c.args.source.now.scratch (hole_in c.new-builder.result) (ap (λ z. after_begin z (hole_in c.new-builder.result)) (sym c.step.ensures) ∙ c.in_err-first.ensures.invalid (cc (w.1, w.2, x))))
+    absurd (begins c.args.token c.args.source.now.scratch (hole_in c.new-builder.result)
+    (ap (λ z. after_begin z (hole_in c.new-builder.result)) (sym c.step.ensures)
+    ∙ c.in_err-first.ensures.invalid (cc (w.1, w.2, x))))
 
 pub loop-kind-preserved : goal.loop-kind-preserved
 loop-kind-preserved c =
     let e = event_of_token c.args.token c.args.source.now.scratch in
     record {
       going = c.in_ok-first-2.ensures.going;
-      builds = Builds-append c.args.once (before_child (is_some (opened_kind e))) (hole_in c.begin.new.self) c.args.source.now.rest (before_child c.loop-kind.first) (hole_in c.loop-kind.builder) c.loop-kind.source.rest (before_child c.in_ok-first-2.first) (hole_in c.take_child_or_end.new.builder) c.take_child_or_end.new.source.rest c.loop-kind.invariant.builds c.in_ok-first-2.ensures.builds;
+      builds = Builds-append c.args.once (before_child (is_some (opened_kind e))) (hole_in c.begin.new.self)
+          c.args.source.now.rest (before_child c.loop-kind.first) (hole_in c.loop-kind.builder)
+          c.loop-kind.source.rest (before_child c.in_ok-first-2.first) (hole_in c.take_child_or_end.new.builder)
+          c.take_child_or_end.new.source.rest c.loop-kind.invariant.builds c.in_ok-first-2.ensures.builds;
     }
 
 pub returns-in_err-first-2-clause-invalid : goal.returns-in_err-first-2-clause-invalid
 returns-in_err-first-2-clause-invalid c = λ x.
     let w = err_from_is_err_and c.from_residual-in_err-first-2.result c.from_residual-in_err-first-2.ensures.1 in
     let e = event_of_token c.args.token c.args.source.now.scratch in
-    read_none c.args.once e (hole_in c.begin.new.self) c.args.source.now.rest (ap (after_begin e) (sym c.new-builder.ensures) ∙ ap (λ z. after_begin z (hole_in c.new-builder.result)) (sym c.step.ensures) ∙ c.in_ok-first.ensures.ok)
-    (never_behind c.args.once (before_child (is_some (opened_kind e))) (hole_in c.begin.new.self) c.args.source.now.rest (before_child c.loop-kind.first) (hole_in c.loop-kind.builder) c.loop-kind.source.rest c.loop-kind.invariant.builds (c.in_err-first-2.ensures.invalid (cc (w.1, w.2, x))))
+    read_none c.args.once e (hole_in c.begin.new.self) c.args.source.now.rest
+    (ap (after_begin e) (sym c.new-builder.ensures) ∙ ap (λ z. after_begin z (hole_in c.new-builder.result))
+    (sym c.step.ensures) ∙ c.in_ok-first.ensures.ok)
+    (never_behind c.args.once (before_child (is_some (opened_kind e))) (hole_in c.begin.new.self)
+    c.args.source.now.rest (before_child c.loop-kind.first) (hole_in c.loop-kind.builder)
+    c.loop-kind.source.rest c.loop-kind.invariant.builds
+    (c.in_err-first-2.ensures.invalid (cc (w.1, w.2, x))))
 
 pub unreachable-requires : goal.unreachable-requires
 unreachable-requires c =
     let e = event_of_token c.args.token c.args.source.now.scratch in
-    let read = read_ok c.args.once c.args.token c.args.source.now.scratch c.args.source.now.rest c.loop-kind.source.rest (hole_in c.begin.new.self) c.loop-kind.first (hole_in c.loop-kind.builder) (ap (after_begin e) (sym c.new-builder.ensures) ∙ ap (λ z. after_begin z (hole_in c.new-builder.result)) (sym c.step.ensures) ∙ c.in_ok-first.ensures.ok) (sym c.innermost.ensures ∙ c.in_default.is) c.loop-kind.invariant.builds in
+    let read = read_ok c.args.once c.args.token c.args.source.now.scratch c.args.source.now.rest
+    c.loop-kind.source.rest (hole_in c.begin.new.self) c.loop-kind.first (hole_in c.loop-kind.builder)
+    (ap (after_begin e) (sym c.new-builder.ensures) ∙ ap (λ z. after_begin z (hole_in c.new-builder.result))
+    (sym c.step.ensures) ∙ c.in_ok-first.ensures.ok) (sym c.innermost.ensures ∙ c.in_default.is)
+    c.loop-kind.invariant.builds in
     let none : None ≡ Some (retained_tree read.0) = ap (option_map content_of) (sym c.in-None.is) ∙ c.into_value.ensures ∙ read.2 in
     cc
 
 pub returns-clause-ok : goal.returns-clause-ok
 returns-clause-ok c =
     let e = event_of_token c.args.token c.args.source.now.scratch in
-    let read = read_ok c.args.once c.args.token c.args.source.now.scratch c.args.source.now.rest c.loop-kind.source.rest (hole_in c.begin.new.self) c.loop-kind.first (hole_in c.loop-kind.builder) (ap (after_begin e) (sym c.new-builder.ensures) ∙ ap (λ z. after_begin z (hole_in c.new-builder.result)) (sym c.step.ensures) ∙ c.in_ok-first.ensures.ok) (sym c.innermost.ensures ∙ c.in_default.is) c.loop-kind.invariant.builds in
+    let read = read_ok c.args.once c.args.token c.args.source.now.scratch c.args.source.now.rest
+    c.loop-kind.source.rest (hole_in c.begin.new.self) c.loop-kind.first (hole_in c.loop-kind.builder)
+    (ap (after_begin e) (sym c.new-builder.ensures) ∙ ap (λ z. after_begin z (hole_in c.new-builder.result))
+    (sym c.step.ensures) ∙ c.in_ok-first.ensures.ok) (sym c.innermost.ensures ∙ c.in_default.is)
+    c.loop-kind.invariant.builds in
     (read.0, read.1, sym read.3 ∙ sym c.into_value.ensures ∙ ap (option_map content_of) c.in-Some-into_value.is)

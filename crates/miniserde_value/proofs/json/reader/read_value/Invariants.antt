@@ -8,7 +8,8 @@ use Rattle.miniserde_value.proofs.json.reader.read_value.Given as goal
 abbrev pub invariant-loop-kind : goal.invariant-loop-kind
 invariant-loop-kind l = record {
   going : l.source.refused ≡ None;
-  builds : Builds l.fn.once (before_child (is_some (opened_kind (event_of_token l.fn.token l.fn.source.scratch)))) (hole_in l.initial.builder) l.fn.source.rest (before_child l.first) (hole_in l.builder) l.source.rest;
+  builds : Builds l.fn.once (before_child (is_some (opened_kind (event_of_token l.fn.token l.fn.source.scratch))))
+      (hole_in l.initial.builder) l.fn.source.rest (before_child l.first) (hole_in l.builder) l.source.rest;
 }
 
 abbrev pub decreases-loop-kind : goal.decreases-loop-kind

@@ -21,7 +21,8 @@ pub returns-clause-text : goal.returns-clause-text
 returns-clause-text c =
     let d = c.in_ok-document.ensures.ok in
     let v = c.in_ok-document.document in
-    elim c.to_string.result as (λ r. IfOk r (λ s. string_bytes s ≡ compact (tree_of v)) → IfOk r (λ s. (t : Tree) → IsJson c.args.j.now t → string_bytes s ≡ compact (norm t))) [
+    elim c.to_string.result as (λ r. IfOk r (λ s. string_bytes s ≡ compact (tree_of v))
+    → IfOk r (λ s. (t : Tree) → IsJson c.args.j.now t → string_bytes s ≡ compact (norm t))) [
       | Ok s ↦ λ h t p. h ∙ ap compact (c.read_is_normal.ensures.tree d.0 v d.2 ∙ ap norm (one_tree c.args.j.now d.0 t d.1 p))
       | Err e ↦ λ h. tt
     ] c.to_string.ensures.ok

@@ -10,4 +10,6 @@ returns-in-Ok-clause-ordered c =
       entries = c.iter.ensures.rest;
       sorted = c.iter.ensures.ordered;
     } in
-    on_ok_weaker c.map.result (λ _ o. let r = c.in-Ok.ensures.ordered o in (ordered_opened c.args.object.now _ _ opened r.0, r.1)) c.map.ensures.stays
+    on_ok_weaker c.map.result
+    (λ _ o. let r = c.in-Ok.ensures.ordered o in (ordered_opened c.args.object.now _ _ opened r.0, r.1))
+    c.map.ensures.stays

@@ -10,5 +10,8 @@ returns-clause-round_trips g c = λ tagging names v s f r.
     let tree = g.T.Serialize.tree in
     let m = g.R.RoundTripCases in
     let n = m.meaning in
-    case-round_trips (data_content p.from_tree) (DataReads p.reads) p.content (data-agrees p.reads p.from_tree p.content p.reads_agrees) n.content_by_name n.reads n.content n.fresh n.agrees tagging
-    real (data_tree tagging tree) (data-round_trips real tree p.reads c.round_trips.ensures tagging s.0) m.real (m.tree tagging) n.count (λ ns w. c.round_trips-2.ensures.round_trips tagging ns w s.1) names v f r
+    case-round_trips (data_content p.from_tree) (DataReads p.reads) p.content
+    (data-agrees p.reads p.from_tree p.content p.reads_agrees) n.content_by_name n.reads n.content n.fresh
+    n.agrees tagging
+    real (data_tree tagging tree) (data-round_trips real tree p.reads c.round_trips.ensures tagging s.0) m.real
+    (m.tree tagging) n.count (λ ns w. c.round_trips-2.ensures.round_trips tagging ns w s.1) names v f r

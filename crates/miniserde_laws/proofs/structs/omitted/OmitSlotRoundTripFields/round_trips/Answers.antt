@@ -4,4 +4,6 @@ use Rattle.miniserde_laws.proofs.structs.omitted.OmitSlotRoundTripFields.round_t
 pub returns : goal.returns
 returns g c = λ names v f r.
     let m = g.R.RoundTripFields in
-    round_trips-omitted g.M.Repeats.once g.T.FromJson.means g.T.Ranged.real g.T.Serialize.tree m.real m.trees m.meaning.count m.meaning.reads c.round_trips.ensures c.never_null.ensures c.round_trips-2.ensures names v f r
+    round_trips-omitted g.M.Repeats.once g.T.FromJson.means g.T.Ranged.real g.T.Serialize.tree m.real m.trees
+    m.meaning.count m.meaning.reads c.round_trips.ensures c.never_null.ensures c.round_trips-2.ensures names v f
+    r

@@ -6,4 +6,6 @@ pub returns : goal.returns
 returns g c = λ names v f r.
     let t = g.T.FromJson in
     let m = g.R.RoundTripFields in
-    round_trips-field g.M.Repeats.once t.means (MissingReads t.means g.M.Mark.given t.absent) g.T.Ranged.real g.T.Serialize.tree m.real m.trees m.meaning.count m.meaning.reads c.round_trips.ensures c.round_trips-2.ensures names v f r
+    round_trips-field g.M.Repeats.once t.means (MissingReads t.means g.M.Mark.given t.absent) g.T.Ranged.real
+    g.T.Serialize.tree m.real m.trees m.meaning.count m.meaning.reads c.round_trips.ensures
+    c.round_trips-2.ensures names v f r

@@ -17,4 +17,5 @@ returns-in_err-begin_child-in-Element-clause-rejects g c = λ e.
     let k = g.C.Collect.collector_meaning in
     let w = err_from_is_err_and c.from_residual.result c.from_residual.ensures.1 in
     let b : BeginsChild (event_of c.args.event) = search rules in
-    PositionRejects-begin k.rules (k.state c.args.self.now.collector) (event_of c.args.event) b (c.in_err-begin_child-in-Element.ensures.invalid (cc (w.1, w.2, e)))
+    PositionRejects-begin k.rules (k.state c.args.self.now.collector) (event_of c.args.event) b
+    (c.in_err-begin_child-in-Element.ensures.invalid (cc (w.1, w.2, e)))

@@ -17,4 +17,9 @@ returns-in_ok-join-in-Child-clause-advances g c =
     let t = stage_view k c.begin_child_or_end-in-Child.new.self.stage c.begin_child_or_end-in-Child.new.self.collector in
     let s = k.state c.join.new.self in
     let p = c.requires.complete c.in-Child.is in
-    rw c.in-Child.is (IfOk-weaker c.begin_child_or_end-in-Child.result (λ _. PositionAdvances (1, false) (between_children k.rules s) (event_of c.args.event) t.at t.outcome) (λ _. PositionAdvances (position_in_container q.at) (inside_child k.rules q.outcome q.at) (event_of c.args.event) t.at t.outcome) (λ _ l. PositionAdvances-join k.rules q.at q.outcome s (event_of c.args.event) t.at t.outcome p c.in_ok-join-in-Child.ensures.joined l) c.begin_child_or_end-in-Child.ensures.advances)
+    rw c.in-Child.is (IfOk-weaker c.begin_child_or_end-in-Child.result
+    (λ _. PositionAdvances (1, false) (between_children k.rules s) (event_of c.args.event) t.at t.outcome)
+    (λ _. PositionAdvances (position_in_container q.at) (inside_child k.rules q.outcome q.at)
+    (event_of c.args.event) t.at t.outcome)
+    (λ _ l. PositionAdvances-join k.rules q.at q.outcome s (event_of c.args.event) t.at t.outcome p
+    c.in_ok-join-in-Child.ensures.joined l) c.begin_child_or_end-in-Child.ensures.advances)

@@ -7,7 +7,8 @@ use Rattle.miniserde_read.proofs.from_json.arrays.ArrayFromJson.read.Given as go
 abbrev pub invariant-loop-items : goal.invariant-loop-items
 invariant-loop-items g l = record {
   going : l.source.refused ≡ None;
-  goes : ListGoes (with_last g.T.FromJson.means.from_tree) [] l.fn.source.rest l.first l.source.rest (map g.T.FromJson.means.content l.items.items);
+  goes : ListGoes (with_last g.T.FromJson.means.from_tree) [] l.fn.source.rest l.first l.source.rest
+      (map g.T.FromJson.means.content l.items.items);
   few : length l.items.items ≤ g.row.N;
   among : AmongGoes g.row.N l.fn.source.rest l.first l.source.rest (length l.items.items);
 }

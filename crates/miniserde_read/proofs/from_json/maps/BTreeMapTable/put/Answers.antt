@@ -3,4 +3,6 @@ use Rattle.miniserde_read.proofs.Inserts.{map_content-inserted}
 use Rattle.miniserde_read.proofs.from_json.maps.BTreeMapTable.put.Goals as goal
 
 pub returns-clause-put : goal.returns-clause-put
-returns-clause-put g c = map_content-inserted g.K.MapKey.code g.K.MapKey.content (λ v. v) g.K.Ord.cmp g.met.K.Ord.total (λ a b. sym (g.met.K.Ord.matches_eq a b) ∙ g.met.K.MapKey.alike a b) c.args.self.now.entries c.insert.new.self.entries c.args.key c.args.value c.insert.ensures.was_ordered c.in_ok-insert.ensures.entries
+returns-clause-put g c = map_content-inserted g.K.MapKey.code g.K.MapKey.content (λ v. v) g.K.Ord.cmp
+    g.met.K.Ord.total (λ a b. sym (g.met.K.Ord.matches_eq a b) ∙ g.met.K.MapKey.alike a b) c.args.self.now.entries
+    c.insert.new.self.entries c.args.key c.args.value c.insert.ensures.was_ordered c.in_ok-insert.ensures.entries

@@ -20,7 +20,8 @@ use Rattle.miniserde_read.proofs.from_json.sequences.VecFromJson.read.Goals as g
 
 pub read-requires-clause-event : goal.read-requires-clause-event
 read-requires-clause-event g c =
-    let h = subst (λ z. ElementFollows z c.element.new.self.scratch c.loop-items.first c.loop-items.source.rest c.element.new.self.rest) c.in-Some.is c.in_ok-token.ensures.ok in
+    let h = subst (λ z. ElementFollows z c.element.new.self.scratch c.loop-items.first c.loop-items.source.rest
+    c.element.new.self.rest) c.in-Some.is c.in_ok-token.ensures.ok in
     start_event _ _ _ h.2
 
 pub returns-in_err-read-clause-invalid : goal.returns-in_err-read-clause-invalid
@@ -31,13 +32,17 @@ returns-in_err-read-clause-invalid g c = λ e t r p.
     let m = map g.T.FromJson.means.content c.loop-items.items.items in
     let q : ValueAt t seq s r = subst (λ z. ValueAt t (event_of_token z c.args.source.now.scratch) s r) c.in-SeqStart.is p in
     let o = opened_list t s r q in
-    let h = subst (λ z. ElementFollows z c.element.new.self.scratch c.loop-items.first c.loop-items.source.rest c.element.new.self.rest) c.in-Some.is c.in_ok-token.ensures.ok in
-    let n = list_none (with_last of) [] s c.loop-items.first c.loop-items.source.rest h.0 c.element.new.self.rest (event_of_token c.in-Some.token c.element.new.self.scratch) m c.loop-items.invariant.goes h.1 h.2 (λ u d v. added_none of m u (c.in_err-read.ensures.invalid (cc (w.1, w.2, e)) u d v)) o.0 r o.2 in
+    let h = subst (λ z. ElementFollows z c.element.new.self.scratch c.loop-items.first c.loop-items.source.rest
+    c.element.new.self.rest) c.in-Some.is c.in_ok-token.ensures.ok in
+    let n = list_none (with_last of) [] s c.loop-items.first c.loop-items.source.rest h.0 c.element.new.self.rest
+    (event_of_token c.in-Some.token c.element.new.self.scratch) m c.loop-items.invariant.goes h.1 h.2
+    (λ u d v. added_none of m u (c.in_err-read.ensures.invalid (cc (w.1, w.2, e)) u d v)) o.0 r o.2 in
     ap (list_of of) o.1 ∙ sym (each_all of o.0) ∙ n
 
 pub loop-items-smaller : goal.loop-items-smaller
 loop-items-smaller g c =
-    let h = subst (λ z. ElementFollows z c.element.new.self.scratch c.loop-items.first c.loop-items.source.rest c.element.new.self.rest) c.in-Some.is c.in_ok-token.ensures.ok in
+    let h = subst (λ z. ElementFollows z c.element.new.self.scratch c.loop-items.first c.loop-items.source.rest
+    c.element.new.self.rest) c.in-Some.is c.in_ok-token.ensures.ok in
     let v = c.in_ok-read.ensures.ok in
     let a = follows_least Seq c.loop-items.first false _ h.0 h.1 in
     let b = start_less h.0 _ c.element.new.self.rest h.2 in
@@ -51,14 +56,19 @@ loop-items-preserved g c =
     let s = c.args.source.now.rest in
     let items = c.loop-items.items.items in
     let m = map content items in
-    let h = subst (λ z. ElementFollows z c.element.new.self.scratch c.loop-items.first c.loop-items.source.rest c.element.new.self.rest) c.in-Some.is c.in_ok-token.ensures.ok in
+    let h = subst (λ z. ElementFollows z c.element.new.self.scratch c.loop-items.first c.loop-items.source.rest
+    c.element.new.self.rest) c.in-Some.is c.in_ok-token.ensures.ok in
     let v = c.in_ok-read.ensures.ok in
     let i : c.push.new.self.items ≡ items ++ c.in_ok-read.field-0 ∷ [] = search rules in
-    let j : m ++ content c.in_ok-read.field-0 ∷ [] ≡ map content c.push.new.self.items = sym (ap (map content) i ∙ map-append content items (c.in_ok-read.field-0 ∷ [])) in
+    let j : m ++ content c.in_ok-read.field-0 ∷ [] ≡ map content c.push.new.self.items =
+    sym (ap (map content) i ∙ map-append content items (c.in_ok-read.field-0 ∷ [])) in
     record {
       going = c.in_ok-read.ensures.going;
       goes = subst (λ z. ListGoes (with_last of) [] s false c.read.new.source.rest z) j
-          (list_goes (with_last of) [] s c.loop-items.first c.loop-items.source.rest h.0 c.element.new.self.rest c.read.new.source.rest (event_of_token c.in-Some.token c.element.new.self.scratch) v.0 m (m ++ content c.in_ok-read.field-0 ∷ []) c.loop-items.invariant.goes h.1 h.2 v.1 (added_some of m v.0 (content c.in_ok-read.field-0) v.2));
+          (list_goes (with_last of) [] s c.loop-items.first c.loop-items.source.rest h.0 c.element.new.self.rest
+          c.read.new.source.rest (event_of_token c.in-Some.token c.element.new.self.scratch) v.0 m
+          (m ++ content c.in_ok-read.field-0 ∷ []) c.loop-items.invariant.goes h.1 h.2 v.1
+          (added_some of m v.0 (content c.in_ok-read.field-0) v.2));
     }
 
 pub returns-clause-ok : goal.returns-clause-ok
@@ -66,6 +76,8 @@ returns-clause-ok g c =
     let of = g.T.FromJson.means.from_tree in
     let s = c.args.source.now.rest in
     let m = map g.T.FromJson.means.content c.loop-items.items.items in
-    let h = subst (λ z. ElementFollows z c.element.new.self.scratch c.loop-items.first c.loop-items.source.rest c.element.new.self.rest) c.in_default-2.is c.in_ok-token.ensures.ok in
-    let d = list_ends (with_last of) [] s c.loop-items.first c.loop-items.source.rest c.element.new.self.rest m c.loop-items.invariant.goes h in
+    let h = subst (λ z. ElementFollows z c.element.new.self.scratch c.loop-items.first c.loop-items.source.rest
+    c.element.new.self.rest) c.in_default-2.is c.in_ok-token.ensures.ok in
+    let d = list_ends (with_last of) [] s c.loop-items.first c.loop-items.source.rest c.element.new.self.rest m
+    c.loop-items.invariant.goes h in
     (list d.0, (ap (λ z. event_of_token z c.args.source.now.scratch) c.in-SeqStart.is, d.1), sym (each_all of d.0) ∙ d.2)

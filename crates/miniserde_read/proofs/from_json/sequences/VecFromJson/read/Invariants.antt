@@ -6,7 +6,8 @@ use Rattle.miniserde_read.proofs.from_json.sequences.VecFromJson.read.Given as g
 abbrev pub invariant-loop-items : goal.invariant-loop-items
 invariant-loop-items g l = record {
   going : l.source.refused ≡ None;
-  goes : ListGoes (with_last g.T.FromJson.means.from_tree) [] l.fn.source.rest l.first l.source.rest (map g.T.FromJson.means.content l.items.items);
+  goes : ListGoes (with_last g.T.FromJson.means.from_tree) [] l.fn.source.rest l.first l.source.rest
+      (map g.T.FromJson.means.content l.items.items);
 }
 
 abbrev pub decreases-loop-items : goal.decreases-loop-items

@@ -27,4 +27,6 @@ returns-clause-distinct g c =
     let e : map deref_pair c.loop-key.yielded ≡ c.args.table.now.entries = search (rules, iter_end) in
     let inv = c.loop-key.invariant in
     let key = g.met.K.MapKey in
-    rw (inv.names, e) (distinct_names g.K.PartialEq.eq g.K.Ranged.real g.K.MapKey.content g.K.MapKey.code g.K.MapKey.read g.K.MapKey.text key.alike key.back c.args.table.now.entries (rw e at inv.real) c.into_iter-key-iterator.ensures.into_iter_gives.4)
+    rw (inv.names, e) (distinct_names g.K.PartialEq.eq g.K.Ranged.real g.K.MapKey.content g.K.MapKey.code
+    g.K.MapKey.read g.K.MapKey.text key.alike key.back c.args.table.now.entries (rw e at inv.real)
+    c.into_iter-key-iterator.ensures.into_iter_gives.4)

@@ -6,4 +6,5 @@ use Rattle.miniserde_ser.proofs.ser.impls.hashed.sort_entries.Goals as goal
 
 pub returns-clause-sorted : goal.returns-clause-sorted
 returns-clause-sorted g c =
-    c.in_ok-sort_by.ensures.sorted (λ x y. is_lt (text_cmp (string_bytes x.0) (string_bytes y.0))) (ranks_by nat_list_cmp_total (λ r. string_bytes r.0)) (answers_always _ _ _ (λ q a r h k. search rules))
+    c.in_ok-sort_by.ensures.sorted (λ x y. is_lt (text_cmp (string_bytes x.0) (string_bytes y.0)))
+    (ranks_by nat_list_cmp_total (λ r. string_bytes r.0)) (answers_always _ _ _ (λ q a r h k. search rules))

@@ -6,7 +6,8 @@ use Rattle.miniserde_ser.proofs.ser.impls.hashed.write_entries.Given as goal
 
 abbrev pub invariant-loop-entry : goal.invariant-loop-entry
 invariant-loop-entry g l = record {
-  text : l.w.text ≡ (l.fn.w.text ++ 123 ∷ []) ++ compact_members (members_of string_bytes (λ v. g.V.Serialize.tree v.now) (take l.entry-index l.entries));
+  text : l.w.text ≡ (l.fn.w.text ++ 123 ∷ []) ++ compact_members
+      (members_of string_bytes (λ v. g.V.Serialize.tree v.now) (take l.entry-index l.entries));
   all_in_range : MembersInRange (members_of string_bytes (λ v. g.V.Serialize.tree v.now) (take l.entry-index l.entries));
   start : l.entry-index ≡ 0 → l.w.first ≡ true;
   later : 0 < l.entry-index → l.w.first ≡ false;

@@ -11,7 +11,8 @@ loop-x-preserved g c =
     let inv = c.loop-x.invariant in
     let e = c.in_ok-element.ensures.ok in
     record {
-      text = compact_children_step f xs i x c.loop-x.w.first _ _ _ _ (omega arith) c.x-item.is inv.start inv.later inv.text (ap (λ s. s.text) e) c.in_ok-begin.ensures.ok;
+      text = compact_children_step f xs i x c.loop-x.w.first _ _ _ _ (omega arith) c.x-item.is inv.start inv.later
+          inv.text (ap (λ s. s.text) e) c.in_ok-begin.ensures.ok;
       all_in_range = AllInRange_step f xs i x (omega arith) c.x-item.is inv.all_in_range c.in_ok-begin.ensures.in_range;
       start = λ e. absurd (omega arith);
       later = λ _. c.in_ok-begin.ensures.first (ap (λ s. s.first) e);

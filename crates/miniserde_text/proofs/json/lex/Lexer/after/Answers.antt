@@ -9,7 +9,12 @@ pub returns-in-Some-take_punctuation-clause-ok : goal.returns-in-Some-take_punct
 returns-in-Some-take_punctuation-clause-ok c =
     let t = drop c.after_space-at.result.0 c.self.inside.text.now in
     let from : t ≡ after_run is_space c.args.self.now.rest = grind arith in
-    let read : punctuation_at c.args.kind c.args.first t ≡ Some (is_close c.in-Some-take_punctuation.answer, drop c.in-Some-take_punctuation.end c.self.inside.text.now) = grind arith in
+    let read : punctuation_at c.args.kind c.args.first t
+    ≡ Some (
+      is_close c.in-Some-take_punctuation.answer,
+      drop c.in-Some-take_punctuation.end
+          c.self.inside.text.now,
+    ) = grind arith in
     (grind arith, grind arith, follows _ c.args.first _ t _ _ from read)
 
 pub returns-in-None-clause-invalid : goal.returns-in-None-clause-invalid

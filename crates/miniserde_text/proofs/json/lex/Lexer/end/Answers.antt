@@ -12,4 +12,5 @@ returns-then-at-bytes-clause-ok c =
 pub returns-clause-invalid : goal.returns-clause-invalid
 returns-clause-invalid c is fresh =
     let from : drop c.after_space-at.result.0 c.self.inside.text.now ≡ after_run is_space c.args.self.now.rest = grind arith in
-    not_blank _ c.self.inside.text.now c.after_space-at.result.0 from (λ past. c.if-at-bytes.false (grind (arith, c.as_bytes-bytes.ensures.value)))
+    not_blank _ c.self.inside.text.now c.after_space-at.result.0 from
+    (λ past. c.if-at-bytes.false (grind (arith, c.as_bytes-bytes.ensures.value)))

@@ -20,7 +20,9 @@ returns-in-Ok-clause-ok c =
 pub returns-in-Ok-clause-text : goal.returns-in-Ok-clause-text
 returns-in-Ok-clause-text c =
     let from : drop c.after_space-at.result.0 c.self.inside.text.now ≡ after_run is_space c.args.self.now.rest = grind arith in
-    stands_of (BeforeColon (Between 34 (StandsFor c.in-Ok.text) 34)) _ (drop c.after_space-at.result.0 c.self.inside.text.now) (drop c.in-Ok.end c.self.inside.text.now) from c.in-Ok.ensures.text
+    stands_of (BeforeColon (Between 34 (StandsFor c.in-Ok.text) 34)) _
+    (drop c.after_space-at.result.0 c.self.inside.text.now) (drop c.in-Ok.end c.self.inside.text.now) from
+    c.in-Ok.ensures.text
 
 pub returns-in-Err-clause-invalid : goal.returns-in-Err-clause-invalid
 returns-in-Err-clause-invalid c is fresh n r h =

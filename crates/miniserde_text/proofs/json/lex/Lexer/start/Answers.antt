@@ -13,7 +13,8 @@ returns-in-Ok-clause-ok c =
 pub returns-in-Ok-clause-text : goal.returns-in-Ok-clause-text
 returns-in-Ok-clause-text c =
     let from : drop c.after_space-at.result.0 c.self.inside.text.now ≡ after_run is_space c.args.self.now.rest = grind arith in
-    text_behind _ (drop c.after_space-at.result.0 c.self.inside.text.now) c.in-Ok.event (drop c.in-Ok.end c.self.inside.text.now) from c.in-Ok.ensures.text
+    text_behind _ (drop c.after_space-at.result.0 c.self.inside.text.now) c.in-Ok.event
+    (drop c.in-Ok.end c.self.inside.text.now) from c.in-Ok.ensures.text
 
 pub returns-in-Err-clause-invalid : goal.returns-in-Err-clause-invalid
 returns-in-Err-clause-invalid c is fresh e r h =

@@ -9,4 +9,7 @@ loop-i-preserved c =
     let s = c.args.bytes.now in
     let i = c.loop-i.i in
     let here : is_digit (get_or s i 0) ≡ true = grind arith in
-    record { same = grind (arith, after_run_more is_digit s i (omega arith), here, c.loop-i.invariant.same); follows = follows_more s i (omega arith) (digit_ascii _ here) }
+    record {
+      same = grind (arith, after_run_more is_digit s i (omega arith), here, c.loop-i.invariant.same);
+      follows = follows_more s i (omega arith) (digit_ascii _ here);
+    }

@@ -24,5 +24,7 @@ pub returns : goal.returns
 returns c =
     let l = c.loop-byte in
     let ds = c.args.digits.now in
-    let int : l.value ≡ digits_value 10 ds = ap (digits_value_after 10 l.value) (sym (drop_all l.byte-index ds c.loop-byte-test.false)) ∙ l.invariant.value in
+    let int : l.value ≡ digits_value 10 ds =
+    ap (digits_value_after 10 l.value) (sym (drop_all l.byte-index ds c.loop-byte-test.false))
+    ∙ l.invariant.value in
     grind (arith, nat_tests)

@@ -14,9 +14,16 @@ loop-i-preserved c =
     let here : is_digit at ≡ true = grind arith in
     let digit = digit_of at here in
     let least : c.from.result ≤ 9 = grind (arith, digit) in
-    let turn : l.i < 19 → (l.value * 10 % 2 ^ 64 + c.from.result) % 2 ^ 64 ≡ l.value * 10 + c.from.result = λ few. wraps_not l.value l.i c.from.result (l.invariant.small (omega arith)) few least in
+    let turn : l.i < 19 → (l.value * 10 % 2 ^ 64 + c.from.result) % 2 ^ 64 ≡ l.value * 10 + c.from.result =
+    λ few. wraps_not l.value l.i c.from.result (l.invariant.small (omega arith)) few least in
     record {
       count = omega (arith, prefix_len-drop_yes is_digit s l.i 0 (omega arith) here);
-      value = λ few. turn (omega arith) ∙ grind (arith, l.invariant.value (omega arith), digits_value_more 10 s l.i (omega arith), digit_value_is at digit);
+      value = λ few. turn (omega arith)
+          ∙ grind (
+            arith,
+            l.invariant.value (omega arith),
+            digits_value_more 10 s l.i (omega arith),
+            digit_value_is at digit,
+          );
       small = λ few. rw (turn (omega arith)) (below_next l.value l.i c.from.result (l.invariant.small (omega arith)) least);
     }

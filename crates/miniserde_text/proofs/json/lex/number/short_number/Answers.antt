@@ -27,7 +27,9 @@ returns-clause-value c =
     let here : n + 0 ≡ n = omega arith in
     let ends : is_number_byte (slice_index t n) ≡ false = sym (ap is_number_byte (get_or-drop n t 0 0 ∙ ap (slice_index t) here)) ∙ stop in
     let e = event_of_token c.in_ok-event.event [] in
-    let event = subst (λ x. (text int : List ℕ) → digits_value 10 int ≡ v → event_of_parts text (x == 45) int [] ≡ e) c.requires.first c.in_ok-event.ensures.some in
-    let read = short_read s t n v e (rest ∙ c.after_minus-start.ensures.value) (omega arith) digits away ends (c.leading_digits-count.ensures.value (omega arith)) event in
+    let event = subst (λ x. (text int : List ℕ) → digits_value 10 int ≡ v
+    → event_of_parts text (x == 45) int [] ≡ e) c.requires.first c.in_ok-event.ensures.some in
+    let read = short_read s t n v e (rest ∙ c.after_minus-start.ensures.value) (omega arith) digits away ends
+    (c.leading_digits-count.ensures.value (omega arith)) event in
     let behind : drop n t ≡ drop (d + n) b = ap (drop n) rest ∙ drop-drop n d b in
     rw (← behind) read

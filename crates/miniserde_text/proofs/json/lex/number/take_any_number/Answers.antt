@@ -12,11 +12,13 @@ text_between-requires-clause-order c =
     let s = c.args.text.now in
     let int : after_int (after_minus (drop c.args.at s)) ≡ Some (drop c.in_ok-tail.tail s) = grind arith in
     let tail : after_tail (drop c.in_ok-tail.tail s) ≡ Some (drop c.in_ok-end.end s) = grind arith in
-    ends_order s c.args.at c.in_ok-end.end c.requires (omega (arith, c.in_ok-end.ensures.follows.1, c.as_bytes-bytes.ensures.len)) (splits_at _ _ _ int tail)
+    ends_order s c.args.at c.in_ok-end.end c.requires
+    (omega (arith, c.in_ok-end.ensures.follows.1, c.as_bytes-bytes.ensures.len)) (splits_at _ _ _ int tail)
 
 pub text_between-requires-clause-to : goal.text_between-requires-clause-to
 text_between-requires-clause-to c =
-    follows_boundary c.args.text.now c.in_ok-end.end c.utf8.text (subst (λ x. FollowsAscii x c.in_ok-end.end) c.as_bytes-bytes.ensures.value c.in_ok-end.ensures.follows)
+    follows_boundary c.args.text.now c.in_ok-end.end c.utf8.text
+    (subst (λ x. FollowsAscii x c.in_ok-end.end) c.as_bytes-bytes.ensures.value c.in_ok-end.ensures.follows)
 
 pub part-requires-clause-order : goal.part-requires-clause-order
 part-requires-clause-order c =

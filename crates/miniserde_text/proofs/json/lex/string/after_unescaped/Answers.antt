@@ -6,10 +6,12 @@ use Rattle.miniserde_text.proofs.json.lex.string.after_unescaped.Goals as goal
 
 pub returns-clause-value : goal.returns-clause-value
 returns-clause-value c =
-    let end : c.special.result ≡ c.args.at + position_or_len is_special (drop c.args.at c.args.text.now) = grind (arith, c.special.ensures, c.as_bytes.ensures.value) in
+    let end : c.special.result ≡ c.args.at + position_or_len is_special (drop c.args.at c.args.text.now) =
+    grind (arith, c.special.ensures, c.as_bytes.ensures.value) in
     unescaped_from c.args.text.now c.args.at c.special.result end
 
 pub returns-clause-boundary : goal.returns-clause-boundary
 returns-clause-boundary c =
-    let end : c.special.result ≡ c.args.at + position_or_len is_special (drop c.args.at c.args.text.now) = grind (arith, c.special.ensures, c.as_bytes.ensures.value) in
+    let end : c.special.result ≡ c.args.at + position_or_len is_special (drop c.args.at c.args.text.now) =
+    grind (arith, c.special.ensures, c.as_bytes.ensures.value) in
     special_boundary c.args.text.now c.args.at c.special.result c.requires end

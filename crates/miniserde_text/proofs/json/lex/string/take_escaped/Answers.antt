@@ -18,7 +18,9 @@ returns-in_err-tail-clause-invalid c is cs r h =
     let e : c.in_err-tail.field-0.0 ≡ Invalid = cc (p.1, p.2) in
     let at : slice_index (drop c.loop-scratch.tail text) 0 ≡ 92 = grind arith in
     let next : drop c.index_after.result text ≡ drop 1 (drop c.loop-scratch.tail text) = grind arith in
-    escape_refused _ _ (drop c.args.at text) (drop c.loop-scratch.tail text) c.loop-scratch.invariant.adds at (subst (λ x. (cs r : List ℕ) → SpellsUpToQuote cs (92 ∷ x) r → ⊥) next (c.in_err-tail.ensures.invalid (ap Err e))) cs r h
+    escape_refused _ _ (drop c.args.at text) (drop c.loop-scratch.tail text) c.loop-scratch.invariant.adds at
+    (subst (λ x. (cs r : List ℕ) → SpellsUpToQuote cs (92 ∷ x) r → ⊥) next
+    (c.in_err-tail.ensures.invalid (ap Err e))) cs r h
 
 pub loop-scratch-preserved : goal.loop-scratch-preserved
 loop-scratch-preserved c =
@@ -26,7 +28,9 @@ loop-scratch-preserved c =
     let at : slice_index (drop c.loop-scratch.tail text) 0 ≡ 92 = grind arith in
     let next : drop c.index_after.result text ≡ drop 1 (drop c.loop-scratch.tail text) = grind arith in
     record {
-      adds = adds_escape _ _ _ (drop c.args.at text) (drop c.loop-scratch.tail text) _ c.loop-scratch.invariant.adds at (subst (λ x. AddsDecoded (string_bytes c.loop-scratch.scratch) (string_bytes c.take_run.new.scratch) (92 ∷ x) (drop c.in_ok-tail.tail text)) next c.in_ok-tail.ensures.ok);
+      adds = adds_escape _ _ _ (drop c.args.at text) (drop c.loop-scratch.tail text) _ c.loop-scratch.invariant.adds
+          at (subst (λ x. AddsDecoded (string_bytes c.loop-scratch.scratch) (string_bytes c.take_run.new.scratch)
+          (92 ∷ x) (drop c.in_ok-tail.tail text)) next c.in_ok-tail.ensures.ok);
       stops = c.in_ok-tail.ensures.stops;
     }
 
@@ -41,4 +45,5 @@ returns-then-byte_at-eq34-clause-ok c =
 pub returns-else-byte_at-eq34-clause-invalid : goal.returns-else-byte_at-eq34-clause-invalid
 returns-else-byte_at-eq34-clause-invalid c is cs r h =
     let text = c.args.text.now in
-    end_refused _ _ (drop c.args.at text) (drop c.loop-scratch.tail text) c.loop-scratch.invariant.adds c.loop-scratch.invariant.stops (λ e. grind arith) (λ e. grind arith) cs r h
+    end_refused _ _ (drop c.args.at text) (drop c.loop-scratch.tail text) c.loop-scratch.invariant.adds
+    c.loop-scratch.invariant.stops (λ e. grind arith) (λ e. grind arith) cs r h

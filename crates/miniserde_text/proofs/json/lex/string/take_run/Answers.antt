@@ -16,7 +16,8 @@ returns-in_default-clause-invalid c is cs r h =
 
 pub text_between-requires-clause-from : goal.text_between-requires-clause-from
 text_between-requires-clause-from c =
-    follows_boundary c.args.text.now c.in-Some.rest c.utf8.text (subst (λ x. FollowsAscii x c.in-Some.rest) c.as_bytes.ensures.value c.in-Some.ensures.follows)
+    follows_boundary c.args.text.now c.in-Some.rest c.utf8.text
+    (subst (λ x. FollowsAscii x c.in-Some.rest) c.as_bytes.ensures.value c.in-Some.ensures.follows)
 
 pub returns-clause-ok : goal.returns-clause-ok
 returns-clause-ok c =
@@ -26,9 +27,11 @@ returns-clause-ok c =
     let next = drop c.after_unescaped-next.result text in
     let read : escape_at s ≡ Some (c.in-Some.c, rest) = grind arith in
     let pushed : string_bytes c.push.new.self ≡ string_bytes c.args.scratch.now ++ encode_utf8 c.in-Some.c = grind arith in
-    let border = follows_boundary text c.in-Some.rest c.utf8.text (subst (λ x. FollowsAscii x c.in-Some.rest) c.as_bytes.ensures.value c.in-Some.ensures.follows) in
+    let border = follows_boundary text c.in-Some.rest c.utf8.text
+    (subst (λ x. FollowsAscii x c.in-Some.rest) c.as_bytes.ensures.value c.in-Some.ensures.follows) in
     escape_adds _ _ _ s c.in-Some.c rest next read c.after_unescaped-next.ensures.value (IsUtf8-drop text c.in-Some.rest c.utf8.text border)
-    (IsUtf8-drop text c.after_unescaped-next.result c.utf8.text c.after_unescaped-next.ensures.boundary) pushed (c.in_ok-push_run.ensures ∙ ap (λ x. string_bytes c.push.new.self ++ x) c.text_between.ensures)
+    (IsUtf8-drop text c.after_unescaped-next.result c.utf8.text c.after_unescaped-next.ensures.boundary) pushed
+    (c.in_ok-push_run.ensures ∙ ap (λ x. string_bytes c.push.new.self ++ x) c.text_between.ensures)
 
 pub returns-clause-stops : goal.returns-clause-stops
 returns-clause-stops c = run_special (drop c.in-Some.rest c.args.text.now) _ c.after_unescaped-next.ensures.value

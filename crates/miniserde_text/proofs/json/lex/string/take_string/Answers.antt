@@ -8,18 +8,23 @@ use Rattle.miniserde_model.specs.declared.error.Error.TheVariants.{Invalid}
 use Rattle.miniserde_text.specs.private.Reading.{after_run, before, is_unescaped, FollowsAscii}
 use Rattle.miniserde_text.specs.private.Taking.{SpellsUpToQuote, PassesCharacters}
 use Rattle.miniserde_text.proofs.Indices.{follows_boundary}
-use Rattle.miniserde_text.proofs.Strings.{run_of, run_special, quote_ends, no_chars, join_chars, run_refused, run_inside, escaped_inside, reaches_backslash}
+use Rattle.miniserde_text.proofs.Strings.{run_of, run_special, quote_ends, no_chars, join_chars, run_refused}
+use Rattle.miniserde_text.proofs.Strings.{run_inside, escaped_inside, reaches_backslash}
 use Rattle.miniserde_text.proofs.json.lex.string.take_string.Goals as goal
 
 pub take_decoded-requires-clause-stops : goal.take_decoded-requires-clause-stops
-take_decoded-requires-clause-stops c = run_special (drop c.args.at c.args.text.now) (drop c.after_unescaped_in_lanes-tail.result c.args.text.now) c.after_unescaped_in_lanes-tail.ensures.value
+take_decoded-requires-clause-stops c =
+    run_special (drop c.args.at c.args.text.now) (drop c.after_unescaped_in_lanes-tail.result c.args.text.now)
+    c.after_unescaped_in_lanes-tail.ensures.value
 
 pub text_between-requires-clause-from : goal.text_between-requires-clause-from
 text_between-requires-clause-from c = follows_boundary c.args.text.now c.args.at c.utf8.text c.requires
 
-module _ (text : List ℕ) (at tail : ℕ) (utf8 : IsUtf8 text) (follows : FollowsAscii text at) (value : drop tail text ≡ after_run is_unescaped (drop at text)) (boundary : IsCharBoundary text tail) where
+module _ (text : List ℕ) (at tail : ℕ) (utf8 : IsUtf8 text) (follows : FollowsAscii text at)
+    (value : drop tail text ≡ after_run is_unescaped (drop at text)) (boundary : IsCharBoundary text tail) where
   run : (ds : List ℕ) × PassesCharacters ds (drop at text) (drop tail text) × (before (drop at text) (drop tail text) ≡ encode_utf8_all ds)
-  run = run_of (drop at text) (drop tail text) value (IsUtf8-drop text at utf8 (follows_boundary text at utf8 follows)) (IsUtf8-drop text tail utf8 boundary)
+  run = run_of (drop at text) (drop tail text) value
+      (IsUtf8-drop text at utf8 (follows_boundary text at utf8 follows)) (IsUtf8-drop text tail utf8 boundary)
 
 pub returns-in-34-clause-ok : goal.returns-in-34-clause-ok
 returns-in-34-clause-ok c =
@@ -37,8 +42,12 @@ returns-in_ok-end-in-92-clause-ok c =
     let text = c.args.text.now in
     let tail = c.after_unescaped_in_lanes-tail in
     let p = run text c.args.at tail.result c.utf8.text c.requires tail.ensures.value tail.ensures.boundary in
-    let q = c.in_ok-end-in-92.ensures.ok in
-    (p.0 ++ q.0, join_chars p.0 q.0 (drop c.args.at text) (drop tail.result text) (drop c.in_ok-end-in-92.end text) p.1 q.1, q.2 ∙ ap (λ x. x ++ encode_utf8_all q.0) p.2 ∙ sym (encodes-append p.0 q.0))
+    let q = c.in_ok-end-in-92.ensures.ok in (
+      p.0 ++ q.0,
+      join_chars p.0 q.0 (drop c.args.at text) (drop tail.result text) (drop c.in_ok-end-in-92.end text)
+          p.1 q.1,
+      q.2 ∙ ap (λ x. x ++ encode_utf8_all q.0) p.2 ∙ sym (encodes-append p.0 q.0),
+    )
 
 pub returns-in_err-end-in-92-clause-invalid : goal.returns-in_err-end-in-92-clause-invalid
 returns-in_err-end-in-92-clause-invalid c is cs r h =
@@ -64,7 +73,8 @@ returns-in-34-clause-text c =
     let t = drop c.after_unescaped_in_lanes-tail.result text in
     let at : slice_index t 0 ≡ 34 = grind arith in
     let next : drop c.index_after.result text ≡ drop 1 t = grind arith in
-    let q = run_inside (drop c.args.at text) t c.text_between.result.now (drop c.index_after.result text) c.after_unescaped_in_lanes-tail.ensures.value at c.text_between.ensures next in
+    let q = run_inside (drop c.args.at text) t c.text_between.result.now (drop c.index_after.result text)
+    c.after_unescaped_in_lanes-tail.ensures.value at c.text_between.ensures next in
     (q.0, q.1, (q.2, q.3))
 
 pub returns-in_ok-end-in-92-clause-text : goal.returns-in_ok-end-in-92-clause-text

@@ -38,31 +38,40 @@ pub returns-then-byte-ne58-clause-invalid : goal.returns-then-byte-ne58-clause-i
 returns-then-byte-ne58-clause-invalid c is n r h =
     let s = drop c.args.at c.args.text.now in
     let next : drop c.index_after.result c.args.text.now ≡ drop 1 s = grind arith in
-    let space : drop c.after_space-colon.result.0 c.args.text.now ≡ after_run is_space (drop c.in_ok-name.end c.args.text.now) = grind arith in
+    let space : drop c.after_space-colon.result.0 c.args.text.now ≡ after_run is_space
+    (drop c.in_ok-name.end c.args.text.now) = grind arith in
     let q = c.in_ok-name.ensures.ok in
     let at : slice_index s 0 ≡ 34 = grind arith in
     let away : slice_index (drop c.after_space-colon.result.0 c.args.text.now) 0 ≢ 58 = λ e. grind arith in
-    name_colon s n r q.0 (drop c.in_ok-name.end c.args.text.now) (drop c.after_space-colon.result.0 c.args.text.now) at h (subst (λ x. SpellsUpToQuote q.0 x (drop c.in_ok-name.end c.args.text.now)) next q.1) space away
+    name_colon s n r q.0 (drop c.in_ok-name.end c.args.text.now) (drop c.after_space-colon.result.0 c.args.text.now)
+    at h (subst (λ x. SpellsUpToQuote q.0 x (drop c.in_ok-name.end c.args.text.now)) next q.1) space away
 
 pub returns-clause-ok : goal.returns-clause-ok
 returns-clause-ok c =
     let s = drop c.args.at c.args.text.now in
     let next : drop c.index_after.result c.args.text.now ≡ drop 1 s = grind arith in
-    let space : drop c.after_space-colon.result.0 c.args.text.now ≡ after_run is_space (drop c.in_ok-name.end c.args.text.now) = grind arith in
+    let space : drop c.after_space-colon.result.0 c.args.text.now ≡ after_run is_space
+    (drop c.in_ok-name.end c.args.text.now) = grind arith in
     let last : drop c.index_after-2.result c.args.text.now ≡ drop 1 (drop c.after_space-colon.result.0 c.args.text.now) = grind arith in
     let q = c.in_ok-name.ensures.ok in
     let at : slice_index s 0 ≡ 34 = grind arith in
     let colon : slice_index (drop c.after_space-colon.result.0 c.args.text.now) 0 ≡ 58 = grind arith in
-    name_taken s _ (drop c.in_ok-name.end c.args.text.now) (drop c.after_space-colon.result.0 c.args.text.now) (drop c.index_after-2.result c.args.text.now) q.0 at (subst (λ x. SpellsUpToQuote q.0 x (drop c.in_ok-name.end c.args.text.now)) next q.1) q.2 space colon last
+    name_taken s _ (drop c.in_ok-name.end c.args.text.now) (drop c.after_space-colon.result.0 c.args.text.now)
+    (drop c.index_after-2.result c.args.text.now) q.0 at
+    (subst (λ x. SpellsUpToQuote q.0 x (drop c.in_ok-name.end c.args.text.now)) next q.1) q.2 space colon last
 
 pub returns-clause-text : goal.returns-clause-text
 returns-clause-text c =
     let s = drop c.args.at c.args.text.now in
     let next : drop c.index_after.result c.args.text.now ≡ drop 1 s = grind arith in
-    let space : drop c.after_space-colon.result.0 c.args.text.now ≡ after_run is_space (drop c.in_ok-name.end c.args.text.now) = grind arith in
+    let space : drop c.after_space-colon.result.0 c.args.text.now ≡ after_run is_space
+    (drop c.in_ok-name.end c.args.text.now) = grind arith in
     let last : drop c.index_after-2.result c.args.text.now ≡ drop 1 (drop c.after_space-colon.result.0 c.args.text.now) = grind arith in
     let at : slice_index s 0 ≡ 34 = grind arith in
     let colon : slice_index (drop c.after_space-colon.result.0 c.args.text.now) 0 ≡ 58 = grind arith in
     let text = c.in_ok-name.name in
     let rest = (drop c.in_ok-name.end c.args.text.now) in
-    colon_leads (Between 34 (StandsFor text) 34) s rest (drop c.after_space-colon.result.0 c.args.text.now) (drop c.index_after-2.result c.args.text.now) (string_text text s (drop c.index_after.result c.args.text.now) rest at next c.in_ok-name.ensures.text) space colon last
+    colon_leads (Between 34 (StandsFor text) 34) s rest (drop c.after_space-colon.result.0 c.args.text.now)
+    (drop c.index_after-2.result c.args.text.now)
+    (string_text text s (drop c.index_after.result c.args.text.now) rest at next c.in_ok-name.ensures.text)
+    space colon last

@@ -33,14 +33,16 @@ returns-then-first-eq34-clause-ok c =
     let next : drop c.index_after.result c.args.text.now ≡ drop 1 s = grind arith in
     let at : slice_index s 0 ≡ 34 = grind arith in
     let q = c.in_ok-text.ensures.ok in
-    string_taken q.0 s _ (drop c.in_ok-text.end c.args.text.now) at (subst (λ x. SpellsUpToQuote q.0 x (drop c.in_ok-text.end c.args.text.now)) next q.1) q.2
+    string_taken q.0 s _ (drop c.in_ok-text.end c.args.text.now) at
+    (subst (λ x. SpellsUpToQuote q.0 x (drop c.in_ok-text.end c.args.text.now)) next q.1) q.2
 
 pub returns-then-first-eq34-clause-text : goal.returns-then-first-eq34-clause-text
 returns-then-first-eq34-clause-text c =
     let s = drop c.args.at c.args.text.now in
     let next : drop c.index_after.result c.args.text.now ≡ drop 1 s = grind arith in
     let at : slice_index s 0 ≡ 34 = grind arith in
-    string_text c.in_ok-text.text s (drop c.index_after.result c.args.text.now) (drop c.in_ok-text.end c.args.text.now) at next c.in_ok-text.ensures.text
+    string_text c.in_ok-text.text s (drop c.index_after.result c.args.text.now)
+    (drop c.in_ok-text.end c.args.text.now) at next c.in_ok-text.ensures.text
 
 pub returns-in-Some-clause-ok : goal.returns-in-Some-clause-ok
 returns-in-Some-clause-ok c =

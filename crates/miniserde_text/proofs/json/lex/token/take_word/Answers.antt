@@ -7,11 +7,13 @@ use Rattle.std.proofs.lemmas.Bool.Decides.{Decides-eqb}
 use Rattle.std.proofs.lemmas.List.Prefix.{front_reads}
 use Rattle.miniserde_text.proofs.json.lex.token.take_word.Goals as goal
 
-last : (c : goal.Then-starts_with) → get_or (drop c.args.at c.args.bytes.now) (length c.args.word.now - 1) 0 ≡ get_or c.args.word.now (length c.args.word.now - 1) 0
+last : (c : goal.Then-starts_with) → get_or (drop c.args.at c.args.bytes.now) (length c.args.word.now - 1) 0
+    ≡ get_or c.args.word.now (length c.args.word.now - 1) 0
 last c =
     let s = drop c.args.at c.args.bytes.now in
     let w = c.args.word.now in
-    let is = subst (λ x. c.starts_with.result ≡ starts_with nat_eq x w) (take_rest c.args.bytes.now c.args.at) c.starts_with.ensures.value in
+    let is = subst (λ x. c.starts_with.result ≡ starts_with nat_eq x w) (take_rest c.args.bytes.now c.args.at)
+    c.starts_with.ensures.value in
     let both : s ≡ w ++ drop (length w) s = (starts_is Decides-eqb s w c.starts_with.result is).0 c.if-starts_with.true in
     front_reads 0 s w _ both (length w - 1) (omega arith)
 

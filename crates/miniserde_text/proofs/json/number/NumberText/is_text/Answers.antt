@@ -20,4 +20,5 @@ returns-in-Number c =
 pub returns-in_default-event : goal.returns-in_default-event
 returns-in_default-event c =
     let read : number_at c.args.t.now ≡ Some (event_of_token c.in-Some.event [], drop c.in-Some.end c.args.t.now) = grind arith in
-    no_kept _ (λ n. let y = number_of_float c.in-Some.event _ (ap (λ q. q.0) (same_Some _ _ (sym read ∙ kept_read _ n))) in c.in_default-event.not-Number y.0 y.1)
+    no_kept _ (λ n. let y = number_of_float c.in-Some.event _
+    (ap (λ q. q.0) (same_Some _ _ (sym read ∙ kept_read _ n))) in c.in_default-event.not-Number y.0 y.1)

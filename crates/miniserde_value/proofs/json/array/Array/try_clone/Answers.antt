@@ -7,17 +7,22 @@ use Rattle.miniserde_value.proofs.json.array.Array.try_clone.Goals as goal
 pub unreachable-requires : goal.unreachable-requires
 unreachable-requires c =
     let ordered = c.in_ok-array.ensures.ordered c.in_ok-add_all.ensures.ordered in
-    let copied = array_copied (Some c.in-Some.value) c.args.self.now _ _ _ _ c.in-Some.ensures c.in_ok-add_all.ensures.built c.in_ok-open_array.ensures c.new-builder.ensures c.in_ok-array.ensures.left ordered in
+    let copied = array_copied (Some c.in-Some.value) c.args.self.now _ _ _ _ c.in-Some.ensures
+    c.in_ok-add_all.ensures.built c.in_ok-open_array.ensures c.new-builder.ensures c.in_ok-array.ensures.left
+    ordered in
     true≢false (sym (ap is_some (c.in-None-into_array.ensures ∙ ap only_list copied)))
 
 pub unreachable-requires-in-None : goal.unreachable-requires-in-None
 unreachable-requires-in-None c =
     let ordered = c.in_ok-array.ensures.ordered c.in_ok-add_all.ensures.ordered in
-    let copied = array_copied None c.args.self.now _ _ _ _ c.in-None.ensures c.in_ok-add_all.ensures.built c.in_ok-open_array.ensures c.new-builder.ensures c.in_ok-array.ensures.left ordered in
+    let copied = array_copied None c.args.self.now _ _ _ _ c.in-None.ensures c.in_ok-add_all.ensures.built
+    c.in_ok-open_array.ensures c.new-builder.ensures c.in_ok-array.ensures.left ordered in
     true≢false (sym (ap is_some copied))
 
 pub returns-clause-ok : goal.returns-clause-ok
 returns-clause-ok c =
     let ordered = c.in_ok-array.ensures.ordered c.in_ok-add_all.ensures.ordered in
-    let copied = array_copied (Some c.in-Some.value) c.args.self.now _ _ _ _ c.in-Some.ensures c.in_ok-add_all.ensures.built c.in_ok-open_array.ensures c.new-builder.ensures c.in_ok-array.ensures.left ordered in
+    let copied = array_copied (Some c.in-Some.value) c.args.self.now _ _ _ _ c.in-Some.ensures
+    c.in_ok-add_all.ensures.built c.in_ok-open_array.ensures c.new-builder.ensures c.in_ok-array.ensures.left
+    ordered in
     same_Some _ _ (c.in-Some-into_array.ensures ∙ ap only_list copied)

@@ -9,13 +9,21 @@ use Rattle.miniserde_value.proofs.AfterBegin.{begun_by}
 use Rattle.miniserde_value.proofs.json.builder.Builder.begin.Goals as goal
 
 pub returns-in_ok-put-in-Null-clause-ok : goal.returns-in_ok-put-in-Null-clause-ok
-returns-in_ok-put-in-Null-clause-ok c = begun_by _ _ _ _ _ (ap (λ e. after_begin (event_of e) (hole_in c.args.self.now)) c.in-Null.is) content_of_null c.in_ok-put-in-Null.ensures
+returns-in_ok-put-in-Null-clause-ok c =
+    begun_by _ _ _ _ _ (ap (λ e. after_begin (event_of e) (hole_in c.args.self.now)) c.in-Null.is) content_of_null
+    c.in_ok-put-in-Null.ensures
 
 pub returns-in_ok-put-in-Bool-clause-ok : goal.returns-in_ok-put-in-Bool-clause-ok
-returns-in_ok-put-in-Bool-clause-ok c = begun_by _ _ _ _ _ (ap (λ e. after_begin (event_of e) (hole_in c.args.self.now)) c.in-Bool.is) (content_of_bool c.in-Bool.b) c.in_ok-put-in-Bool.ensures
+returns-in_ok-put-in-Bool-clause-ok c =
+    begun_by _ _ _ _ _ (ap (λ e. after_begin (event_of e) (hole_in c.args.self.now)) c.in-Bool.is)
+    (content_of_bool c.in-Bool.b) c.in_ok-put-in-Bool.ensures
 
 pub returns-in_ok-put-in-Negative-clause-ok : goal.returns-in_ok-put-in-Negative-clause-ok
-returns-in_ok-put-in-Negative-clause-ok c = begun_by _ _ _ _ _ (ap (λ e. after_begin (event_of e) (hole_in c.args.self.now)) c.in-Negative.is) (content_of_number _ ∙ ap neg (search rules)) c.in_ok-put-in-Negative.ensures
+returns-in_ok-put-in-Negative-clause-ok c =
+    begun_by _ _ _ _ _ (ap (λ e. after_begin (event_of e) (hole_in c.args.self.now)) c.in-Negative.is)
+    (content_of_number _ ∙ ap neg (search rules)) c.in_ok-put-in-Negative.ensures
 
 pub returns-in_ok-put-in-Nonnegative-clause-ok : goal.returns-in_ok-put-in-Nonnegative-clause-ok
-returns-in_ok-put-in-Nonnegative-clause-ok c = begun_by _ _ _ _ _ (ap (λ e. after_begin (event_of e) (hole_in c.args.self.now)) c.in-Nonnegative.is) (content_of_number (number.U64 c.in-Nonnegative.n)) c.in_ok-put-in-Nonnegative.ensures
+returns-in_ok-put-in-Nonnegative-clause-ok c =
+    begun_by _ _ _ _ _ (ap (λ e. after_begin (event_of e) (hole_in c.args.self.now)) c.in-Nonnegative.is)
+    (content_of_number (number.U64 c.in-Nonnegative.n)) c.in_ok-put-in-Nonnegative.ensures

@@ -14,14 +14,20 @@ pub invariant_of-self-in-Some-Array : goal.invariant_of-self-in-Some-Array
 invariant_of-self-in-Some-Array c =
     let last : c.args.self.now.containers.items ≡ c.pop.new.self.items ++ container.Array c.in-Some-Array.from ∷ [] = search rules in
     let top = reverse_added c.pop.new.self.items _ _ last in
-    let fits = subst (λ (ms : List OpenContainer). Fits (length c.args.self.now.values.items) (reverse c.args.self.now.objects.items) ms) top c.args.self.now.fits in
-    record { fits = fits_split c.take_from.result c.args.self.now.values _ _ _ (reverse c.pop.new.self.items) c.take_from.ensures.items c.take_from.ensures.err fits }
+    let fits = subst (λ (ms : List OpenContainer). Fits (length c.args.self.now.values.items)
+    (reverse c.args.self.now.objects.items) ms) top c.args.self.now.fits in
+    record {
+      fits = fits_split c.take_from.result c.args.self.now.values _ _ _ (reverse c.pop.new.self.items)
+          c.take_from.ensures.items c.take_from.ensures.err fits;
+    }
 
 pub returns-in_ok-put-in-Some-Array-clause-ok : goal.returns-in_ok-put-in-Some-Array-clause-ok
 returns-in_ok-put-in-Some-Array-clause-ok c =
     let last : c.args.self.now.containers.items ≡ c.pop.new.self.items ++ container.Array c.in-Some-Array.from ∷ [] = search rules in
     let top = reverse_added c.pop.new.self.items _ _ last in
-    c.in_ok-put-in-Some-Array.ensures ∙ closed_array c.args.self.now.values.items c.take_from.new.values.items c.in-Some-Array.from (reverse c.args.self.now.objects.items) (reverse c.args.self.now.containers.items) (reverse c.pop.new.self.items) c.from_inner.result top
+    c.in_ok-put-in-Some-Array.ensures ∙ closed_array c.args.self.now.values.items c.take_from.new.values.items
+    c.in-Some-Array.from (reverse c.args.self.now.objects.items) (reverse c.args.self.now.containers.items)
+    (reverse c.pop.new.self.items) c.from_inner.result top
     c.in_ok-items-in-Some-Array.ensures.items (ap (λ v. v.items) c.from_inner.ensures ∙ c.in_ok-items-in-Some-Array.ensures.tail)
 
 pub returns-in_ok-put-in-Some-clause-ok : goal.returns-in_ok-put-in-Some-clause-ok
@@ -30,5 +36,8 @@ returns-in_ok-put-in-Some-clause-ok c =
     let innermost : c.args.self.now.objects.items ≡ c.pop-in-Some-Object.new.self.items ++ c.in-Some.field-0 ∷ [] = search rules in
     let containers = reverse_added c.pop.new.self.items _ _ last in
     let objects = reverse_added c.pop-in-Some-Object.new.self.items _ _ innermost in
-    c.in_ok-put-in-Some.ensures ∙ closed_object (map content_of c.args.self.now.values.items) (reverse c.args.self.now.objects.items) (reverse c.pop-in-Some-Object.new.self.items) c.in-Some.field-0 (reverse c.args.self.now.containers.items) (reverse c.pop.new.self.items) c.from_inner-in-Some.result containers objects
+    c.in_ok-put-in-Some.ensures ∙ closed_object (map content_of c.args.self.now.values.items)
+    (reverse c.args.self.now.objects.items) (reverse c.pop-in-Some-Object.new.self.items) c.in-Some.field-0
+    (reverse c.args.self.now.containers.items) (reverse c.pop.new.self.items) c.from_inner-in-Some.result
+    containers objects
     (search rules)

@@ -2,4 +2,7 @@ use Rattle.miniserde_value.proofs.Containers.{fits_opened}
 use Rattle.miniserde_value.proofs.json.builder.Builder.open_object.Goals as goal
 
 pub invariant_of-self-2 : goal.invariant_of-self-2
-invariant_of-self-2 c = record { fits = fits_opened c.push-2.result _ c.args.self.now.objects.items _ _ c.args.self.now.containers.items _ c.in_ok-push.ensures.items c.push-2.ensures.items c.args.self.now.fits }
+invariant_of-self-2 c = record {
+  fits = fits_opened c.push-2.result _ c.args.self.now.objects.items _ _ c.args.self.now.containers.items _
+      c.in_ok-push.ensures.items c.push-2.ensures.items c.args.self.now.fits;
+}

@@ -15,5 +15,8 @@ invariant_of-self c =
 pub returns-in-Some-Object : goal.returns-in-Some-Object
 returns-in-Some-Object c =
     let some = c.in-Some.ensures.variant.0 refl in
-    let top = last_got c.args.self.now.containers.items c.deref.result.now _ container.Object c.deref.ensures.value c.in-Some-Object.ensures.value c.in-Some-Object.field-0-is in
-    on_ok_weaker c.put.result (object_changed (put (content_of c.args.value)) _ c.args.self.now.objects.items _ _ _ c.args.self.now.containers.items _ (omega arith) c.in-Some.ensures.value top) c.put.ensures
+    let top = last_got c.args.self.now.containers.items c.deref.result.now _ container.Object c.deref.ensures.value
+    c.in-Some-Object.ensures.value c.in-Some-Object.field-0-is in
+    on_ok_weaker c.put.result
+    (object_changed (put (content_of c.args.value)) _ c.args.self.now.objects.items _ _ _
+    c.args.self.now.containers.items _ (omega arith) c.in-Some.ensures.value top) c.put.ensures

@@ -22,4 +22,5 @@ pub returns-in-None-clause-invalid : goal.returns-in-None-clause-invalid
 returns-in-None-clause-invalid c = λ e t r v.
     let read = c.in_ok-read_value-in-MapStart.ensures.ok in
     let same = value_same t read.0 (event_of_token c.args.token c.args.source.now.scratch) c.args.source.now.rest r _ v read.1 in
-    ap (λ (u : Tree). only_members (Some (retained_tree u))) same.0 ∙ ap only_members read.2 ∙ sym c.into_object.ensures ∙ ap (option_map object_content) c.in-None.is
+    ap (λ (u : Tree). only_members (Some (retained_tree u))) same.0 ∙ ap only_members read.2
+    ∙ sym c.into_object.ensures ∙ ap (option_map object_content) c.in-None.is

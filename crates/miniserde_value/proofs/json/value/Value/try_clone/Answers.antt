@@ -6,12 +6,16 @@ use Rattle.miniserde_value.proofs.json.value.Value.try_clone.Goals as goal
 
 pub returns-in_ok-from_str-in-String-clause-ok : goal.returns-in_ok-from_str-in-String-clause-ok
 returns-in_ok-from_str-in-String-clause-ok c =
-    content_of_string c.in_ok-from_str-in-String.field-0 ∙ ap str ((c.in_ok-from_str-in-String.ensures).ok ∙ c.as_str.ensures.value) ∙ sym (content_of_string c.in-String.text) ∙ ap content_of (sym c.in-String.is)
+    content_of_string c.in_ok-from_str-in-String.field-0
+    ∙ ap str ((c.in_ok-from_str-in-String.ensures).ok ∙ c.as_str.ensures.value)
+    ∙ sym (content_of_string c.in-String.text) ∙ ap content_of (sym c.in-String.is)
 
 pub returns-in_ok-try_clone-in-Array-clause-ok : goal.returns-in_ok-try_clone-in-Array-clause-ok
 returns-in_ok-try_clone-in-Array-clause-ok c =
-    content_of_array c.in_ok-try_clone-in-Array.field-0 ∙ (c.in_ok-try_clone-in-Array.ensures).ok ∙ sym (content_of_array c.in-Array.array) ∙ ap content_of (sym c.in-Array.is)
+    content_of_array c.in_ok-try_clone-in-Array.field-0 ∙ (c.in_ok-try_clone-in-Array.ensures).ok
+    ∙ sym (content_of_array c.in-Array.array) ∙ ap content_of (sym c.in-Array.is)
 
 pub returns-in_ok-try_clone-in-Object-clause-ok : goal.returns-in_ok-try_clone-in-Object-clause-ok
 returns-in_ok-try_clone-in-Object-clause-ok c =
-    content_of_object c.in_ok-try_clone-in-Object.field-0 ∙ (c.in_ok-try_clone-in-Object.ensures).ok ∙ sym (content_of_object c.in-Object.object) ∙ ap content_of (sym c.in-Object.is)
+    content_of_object c.in_ok-try_clone-in-Object.field-0 ∙ (c.in_ok-try_clone-in-Object.ensures).ok
+    ∙ sym (content_of_object c.in-Object.object) ∙ ap content_of (sym c.in-Object.is)

@@ -10,7 +10,9 @@ use Rattle.miniserde_value.specs.declared.json.value.Value.{Value}
 use Rattle.miniserde_value.specs.Values.{array_items, content_of}
 use Rattle.miniserde_value.specs.Visits.{leaf, visits, list_begins, members_begin}
 use Rattle.miniserde_value.specs.Walks.{left, frames_left, due_left}
-use Rattle.miniserde_value.proofs.Walks.{begin_null, begin_bool, begin_number, begin_string, begin_array, begin_object, ordered_null, ordered_bool, ordered_number, ordered_string, ordered_array, Opened, ordered_object}
+use Rattle.miniserde_value.proofs.Walks.{begin_null, begin_bool, begin_number, begin_string, begin_array}
+use Rattle.miniserde_value.proofs.Walks.{begin_object, ordered_null, ordered_bool, ordered_number, ordered_string}
+use Rattle.miniserde_value.proofs.Walks.{ordered_array, Opened, ordered_object}
 use Rattle.miniserde_value.proofs.json.walk.Walk.begin.Goals as goal
 
 pub returns-in-Null-clause-left : goal.returns-in-Null-clause-left
@@ -40,20 +42,25 @@ returns-in-String-clause-ordered c = λ o. (ordered_string _ _ c.in-String.is, o
 
 pub returns-in_ok-push_array-in-Array-clause-left : goal.returns-in_ok-push_array-in-Array-clause-left
 returns-in_ok-push_array-in-Array-clause-left c =
-    let items : iter_rest c.iter.result ≡ array_items c.in-Array.array = c.iter.ensures.rest ∙ c.deref.ensures.value ∙ ap (λ (v : Vec Value Global). v.items) c.inner.ensures in
+    let items : iter_rest c.iter.result ≡ array_items c.in-Array.array =
+    c.iter.ensures.rest ∙ c.deref.ensures.value ∙ ap (λ (v : Vec Value Global). v.items) c.inner.ensures in
     ap (λ (d : Option (Bor Value)). visits (content_of c.args.value.now) (due_left d (frames_left c.args.self.now.frames))) c.requires
-    ∙ begin_array c.args.value.now _ c.iter.result _ (frames_left c.push_array.new.self) c.in-Array.is items c.in_ok-push_array-in-Array.ensures.left
+    ∙ begin_array c.args.value.now _ c.iter.result _ (frames_left c.push_array.new.self) c.in-Array.is items
+    c.in_ok-push_array-in-Array.ensures.left
     ∙ ap (λ (d : Option (Bor Value)). list_begins ∷ due_left d (frames_left c.push_array.new.self)) (sym c.requires)
 
 pub returns-in_ok-push_array-in-Array-clause-ordered : goal.returns-in_ok-push_array-in-Array-clause-ordered
 returns-in_ok-push_array-in-Array-clause-ordered c =
-    let items : iter_rest c.iter.result ≡ array_items c.in-Array.array = c.iter.ensures.rest ∙ c.deref.ensures.value ∙ ap (λ (v : Vec Value Global). v.items) c.inner.ensures in
-    λ o. let r = c.in_ok-push_array-in-Array.ensures.ordered o.1 in (ordered_array c.args.value.now _ c.iter.result c.in-Array.is items r.0, (o.0, r.1))
+    let items : iter_rest c.iter.result ≡ array_items c.in-Array.array =
+    c.iter.ensures.rest ∙ c.deref.ensures.value ∙ ap (λ (v : Vec Value Global). v.items) c.inner.ensures in
+    λ o. let r = c.in_ok-push_array-in-Array.ensures.ordered o.1 in
+    (ordered_array c.args.value.now _ c.iter.result c.in-Array.is items r.0, (o.0, r.1))
 
 pub returns-in_ok-push_object-in-Object-clause-left : goal.returns-in_ok-push_object-in-Object-clause-left
 returns-in_ok-push_object-in-Object-clause-left c =
     ap (λ (d : Option (Bor Value)). visits (content_of c.args.value.now) (due_left d (frames_left c.args.self.now.frames))) c.requires
-    ∙ begin_object c.args.value.now _ c.iter-in-Object.result _ (frames_left c.push_object.new.self) c.in-Object.is (search rules) c.in_ok-push_object-in-Object.ensures.left
+    ∙ begin_object c.args.value.now _ c.iter-in-Object.result _ (frames_left c.push_object.new.self) c.in-Object.is
+    (search rules) c.in_ok-push_object-in-Object.ensures.left
     ∙ ap (λ (d : Option (Bor Value)). members_begin ∷ due_left d (frames_left c.push_object.new.self)) (sym c.requires)
 
 pub returns-in_ok-push_object-in-Object-clause-ordered : goal.returns-in_ok-push_object-in-Object-clause-ordered
@@ -63,4 +70,5 @@ returns-in_ok-push_object-in-Object-clause-ordered c =
       entries = c.iter-in-Object.ensures.rest;
       sorted = c.iter-in-Object.ensures.ordered;
     } in
-    λ o. let r = c.in_ok-push_object-in-Object.ensures.ordered o.1 in (ordered_object c.args.value.now _ _ c.iter-in-Object.result c.in-Object.is opened r.0, (o.0, r.1))
+    λ o. let r = c.in_ok-push_object-in-Object.ensures.ordered o.1 in
+    (ordered_object c.args.value.now _ _ c.iter-in-Object.result c.in-Object.is opened r.0, (o.0, r.1))

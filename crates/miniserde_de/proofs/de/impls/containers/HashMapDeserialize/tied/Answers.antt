@@ -3,4 +3,5 @@ use Rattle.miniserde_de.proofs.Agrees.{map_agree}
 use Rattle.miniserde_de.proofs.de.impls.containers.HashMapDeserialize.tied.Goals as goal
 
 pub returns : goal.returns
-returns g c = map_agree g.K.MapKey.read g.K.MapKey.code g.K.MapKey.content (type_meaning g.V.Place.Visitor.meaning) g.V.FromJson.means (λ v. v.entries) c.tied.ensures
+returns g c = map_agree g.K.MapKey.read g.K.MapKey.code g.K.MapKey.content (type_meaning g.V.Place.Visitor.meaning)
+    g.V.FromJson.means (λ v. v.entries) c.tied.ensures

@@ -6,13 +6,16 @@ use Rattle.miniserde_ser.proofs.ser.impls.hashed.HashMapSerialize.begin.Given as
 use Rattle.miniserde_ser.proofs.ser.impls.hashed.HashMapSerialize.begin.Goals as goal
 
 abbrev Sorted : (g : given.Over) → goal.After-drop-entries-2 g → Type 0
-Sorted g c = members_of string_bytes (λ v. g.V.Serialize.tree v.now) c.as_slice.result.now ≡ in_order (members_of g.K.MapKey.text g.V.Serialize.tree c.args.self.now.entries)
+Sorted g c = members_of string_bytes (λ v. g.V.Serialize.tree v.now) c.as_slice.result.now
+    ≡ in_order (members_of g.K.MapKey.text g.V.Serialize.tree c.args.self.now.entries)
 
 in_order_of : (g : given.Over) (c : goal.After-drop-entries-2 g) → Sorted g c
 in_order_of g c =
     let entries = c.in-Ok.entries.items in
     let sorted : IsSortedByKey (λ r. string_bytes r.0) text_cmp c.sort_entries.new.entries.items = search rules in
-    rw c.as_slice.ensures.value (in_order_sorted string_bytes (λ v. g.V.Serialize.tree v.now) entries _ c.in-Ok.ensures.distinct sorted c.sort_entries.ensures.permutation ∙ ap in_order c.in-Ok.ensures.ok)
+    rw c.as_slice.ensures.value
+    (in_order_sorted string_bytes (λ v. g.V.Serialize.tree v.now) entries _ c.in-Ok.ensures.distinct sorted
+    c.sort_entries.ensures.permutation ∙ ap in_order c.in-Ok.ensures.ok)
 
 pub returns-clause-ok : goal.returns-clause-ok
 returns-clause-ok g c = rw (in_order_of g c) at c.write_entries.ensures.ok

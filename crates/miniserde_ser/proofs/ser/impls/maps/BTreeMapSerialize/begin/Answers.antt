@@ -14,8 +14,11 @@ loop-key-preserved g c =
     let at = rw named at c.in_ok-key.ensures.appends.ok in
     let utf8 = rw named at c.in_ok-key.ensures.utf8 in
     rw (map-append deref_pair done ((c.in-Some.key, c.in-Some.value) ∷ [])) (record {
-      text = compact_members_step text f (map deref_pair done) (c.in-Some.key.now, c.in-Some.value.now) (length done) c.loop-key.w.first _ _ _ _ (length-map done deref_pair) inv.start inv.later inv.text (ap (λ s. s.text) at) c.in_ok-begin.ensures.ok;
-      all_in_range = MembersInRange_step text f (map deref_pair done) (c.in-Some.key.now, c.in-Some.value.now) inv.all_in_range utf8 c.in_ok-begin.ensures.in_range;
+      text = compact_members_step text f (map deref_pair done) (c.in-Some.key.now, c.in-Some.value.now)
+          (length done) c.loop-key.w.first _ _ _ _ (length-map done deref_pair) inv.start inv.later inv.text
+          (ap (λ s. s.text) at) c.in_ok-begin.ensures.ok;
+      all_in_range = MembersInRange_step text f (map deref_pair done) (c.in-Some.key.now, c.in-Some.value.now)
+          inv.all_in_range utf8 c.in_ok-begin.ensures.in_range;
       start = λ z. absurd (omega (arith, length-append done ((c.in-Some.key, c.in-Some.value) ∷ []), z));
       later = λ _. c.in_ok-begin.ensures.first (ap (λ s. s.first) at);
       unrefused = c.in_ok-begin.ensures.unrefused;
