@@ -1,5 +1,5 @@
 -- Trees without duplicate names in any object (RFC 8259, section 4).
-use Rattle.std.specs.Prelude.{ℕ, Bool, true, not, ◌&&◌, List, is_some, codes, ◌≡◌, false, refl, [], ◌∷◌}
+use Rattle.std.specs.Prelude.{ℕ, Bool, true, not, ◌&&◌, List, is_some, codes, ◌≡◌, false, refl}
 use Rattle.miniserde_model.specs.Tree.{Tree, list, members, Trees, no_trees, tree, Members, no_members, member, null}
 use Rattle.miniserde_model.specs.Normal.{last_of}
 

@@ -1,5 +1,5 @@
 -- The normal form of a tree, in which an object's names are unique and in byte order (RFC 8259, section 4).
-use Rattle.std.specs.Prelude.{◌≡◌, ℕ, ℤ, pos, negsuc, List, Option, Some, None, bytes_eq, if◌then◌else◌, ⊤, refl, codes, [], ◌∷◌}
+use Rattle.std.specs.Prelude.{◌≡◌, ℕ, ℤ, pos, negsuc, List, Option, Some, None, bytes_eq, if◌then◌else◌, ⊤, refl, codes}
 use Rattle.std.specs.Ordering.{nat_cmp}
 use Rattle.std.specs.Cmp.Lexicographic.{slice_cmp}
 use Rattle.std.specs.declared.cmp.Ordering.{Ordering}

@@ -1,5 +1,5 @@
 -- The events of a tree, in the order in which its text spells them (RFC 8259, section 3).
-use Rattle.std.specs.Prelude.{ℕ, ℤ, Bool, List, [], ◌∷◌, ◌++◌, ◌≡◌, refl, codes}
+use Rattle.std.specs.Prelude.{ℕ, ℤ, Bool, List, [], ◌∷◌, ◌++◌, ◌≡◌, refl}
 use Rattle.miniserde_model.specs.Tree.{Tree, truth, nonneg, neg, num, str, list, members, Trees, no_trees, tree}
 use Rattle.miniserde_model.specs.Tree.{Members, no_members, member}
 use Rattle.miniserde_model.specs.Tree as trees
