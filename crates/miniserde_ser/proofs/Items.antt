@@ -26,11 +26,13 @@ compact_children-snoc f [] x b s n = rw (s refl) (grind (arith, append-nil {A = 
 compact_children-snoc f (y ∷ ys) x b s n = let e : b ≡ false = n (omega arith) in
     rw e (grind (arith, append_assoc {A = ℕ}, compact_more-snoc f ys x))
 
+-- if the trees of xs and the tree of x are in range, so are the trees of xs with x appended
 pub AllInRange-snoc : {A : Type 0} (f : A → Tree) (xs : List A) (x : A) → AllInRange (trees_of f xs) → InRange (f x)
     → AllInRange (trees_of f (xs ++ x ∷ []))
 AllInRange-snoc f [] x h r = (r, tt)
 AllInRange-snoc f (y ∷ ys) x h r = (h.0, AllInRange-snoc f ys x h.1 r)
 
+-- if x is the element of xs at i, the first i + 1 elements are the first i and then x
 pub took : {A : Type 0} (xs : List A) (i : ℕ) (x : A) → i < length xs → x ≡ get_or xs i x → take (i + 1) xs ≡ take i xs ++ x ∷ []
 took xs i x h e = take_more xs i x h ∙ ap (λ y. take i xs ++ y ∷ []) (sym e)
 

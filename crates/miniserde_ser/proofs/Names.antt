@@ -53,10 +53,12 @@ members_same m n g f (x ∷ xs) (y ∷ ys) p q =
 
 -- ---- one more row, and one more entry
 
+-- if P holds for each element of xs and for x, it holds for each element of xs with x appended
 pub all_more : {A : Type 0} (P : A → Type 0) (xs : List A) (x : A) → AllByRecursion P xs → P x → AllByRecursion P (xs ++ x ∷ [])
 all_more P [] x h p = (p, tt)
 all_more P (y ∷ xs) x h p = (h.0, all_more P xs x h.1 p)
 
+-- if f on xs and x gives what g on ys and y gives, it does so on the lists with x and y appended
 pub map_more : {A B C : Type 0} (f : A → C) (g : B → C) (xs zs : List A) (x : A) (ys : List B) (y : B)
     → zs ≡ xs ++ x ∷ [] → map f xs ≡ map g ys → f x ≡ g y → map f zs ≡ map g (ys ++ y ∷ [])
 map_more f g xs zs x ys y z h e = rw (z, map-append f xs (x ∷ []), map-append g ys (y ∷ []), h, e) refl

@@ -14,6 +14,7 @@ le-digits_value_after : (n : ℕ) (ds : List ℕ) → n ≤ digits_value_after 1
 le-digits_value_after n [] = omega arith
 le-digits_value_after n (c ∷ cs) = omega (arith, le-digits_value_after (n * 10 + digit_value c) cs)
 
+-- the value of a decimal digit is its byte minus 48, the byte `0`
 pub digit_value_is : (c : ℕ) → IsDigit c → digit_value c ≡ c - 48
 digit_value_is c h = grind (arith, nat_tests)
 
@@ -25,6 +26,7 @@ pub record Turn (n : ℕ) (ds : List ℕ) (i : ℕ) : Type 0 where
   pub value : digits_value_after 10 n (drop i ds) ≡ digits_value_after 10 (n * 10 + (get_or ds i 0 - 48)) (drop (i + 1) ds)
   pub grown : n * 10 + (get_or ds i 0 - 48) ≤ digits_value_after 10 n (drop i ds)
 
+-- if the bytes of ds from i on are digits, the turn at i is as `Turn` says, with n the number so far
 pub turn : (n : ℕ) (ds : List ℕ) (i : ℕ) → i < length ds → AllByRecursion IsDigit (drop i ds) → Turn n ds i
 turn n ds i h e =
     let both = subst (AllByRecursion IsDigit) (drop_more ds i 0 h) e in
@@ -43,6 +45,7 @@ turn n ds i h e =
 pub short_fits : (v i n : ℕ) → v < 10 ^ i → i < n → n < 20 → v < 10 ^ 18
 short_fits v i n small within few = omega (arith, pow-le-pow_right {n = 10} (omega arith) {i = i} {j = 18} (omega arith))
 
+-- a number below 10^i, times 10 and plus a digit, is below 10^(i + 1)
 pub below_next : (v i d : ℕ) → v < 10 ^ i → d ≤ 9 → v * 10 + d < 10 ^ (i + 1)
 below_next v i d small digit = let next : suc i ≡ i + 1 = omega arith in omega (arith, pow-suc 10 i, ap (λ k. 10 ^ k) next)
 

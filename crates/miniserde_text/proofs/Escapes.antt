@@ -206,6 +206,7 @@ short_takes (x ∷ xs) c r e =
     let m = map_some (λ y. (y, xs)) (short_at x) (c, r) e in
     (x ∷ [], short x (short_is x c (m.1 ∙ ap (λ y. Some y.0) m.2)) refl, ap (λ y. x ∷ y.1) m.2)
 
+-- if `escape_at` reads the character c from t and leaves r, t is an escape of c without its backslash, and then r
 pub escape_takes : (t : List ℕ) (c : ℕ) (r : List ℕ) → escape_at t ≡ Some (c, r) → Escaped t c r
 unfolding escape_at
 escape_takes t c r e =
@@ -292,6 +293,7 @@ pair_escape p c h =
           ∙ ap (λ x. Some (x, t)) (sym h.character),
     )
 
+-- a piece of a character is the character unescaped, or an escape that is read
 pub piece_cases : (p : List ℕ) (c : ℕ) → IsPiece p c → IsRaw p c ⊎ IsEscape p c
 piece_cases p c (raw h) = inl h
 piece_cases p c (short x s e) = inr (x ∷ [], e, λ t. escape_short x c t s)

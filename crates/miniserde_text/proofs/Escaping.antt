@@ -15,10 +15,12 @@ pub escape_plain : (b : ℕ) → is_special b ≡ false → escape b ≡ b ∷ [
 unfolding escape
 escape_plain b s = grind (arith, nat_tests)
 
+-- the empty text is escaped as the empty text
 pub escapes-nil : escapes [] ≡ []
 unfolding escapes
 escapes-nil = refl
 
+-- a text is escaped as the escape of its first byte and then the escapes of the others
 pub escapes-cons : (b : ℕ) (bs : List ℕ) → escapes (b ∷ bs) ≡ escape b ++ escapes bs
 unfolding escapes
 escapes-cons b bs = refl
@@ -45,6 +47,7 @@ length_escapes_more xs i h = rw (take_more xs i 0 h, escapes-append, escapes-one
 pub is_special_ascii : (b : ℕ) → is_special b ≡ true → b < 128
 is_special_ascii b s = grind (arith, nat_tests)
 
+-- the escapes of the first i + 1 bytes are those of the first i, and then that of the byte at i
 pub escapes_more : (xs : List ℕ) (i : ℕ) → i < length xs → escapes (take (i + 1) xs) ≡ escapes (take i xs) ++ escape (get_or xs i 0)
 escapes_more xs i h = rw (take_more xs i 0 h, escapes-append, escapes-one) refl
 
@@ -54,6 +57,7 @@ length_escapes_cut xs i =
     ap (λ t. length (escapes t)) (sym (take-append-drop i xs)) ∙ rw (escapes-append (take i xs) (drop i xs))
     (length-append (escapes (take i xs)) (escapes (drop i xs)))
 
+-- the escapes of the first i bytes are at most as long as those of all bytes
 pub length_escapes_le : (xs : List ℕ) (i : ℕ) → length (escapes (take i xs)) ≤ length (escapes xs)
 length_escapes_le xs i = omega (arith, length_escapes_cut xs i)
 
@@ -69,6 +73,7 @@ escapes_run xs i j l h plain =
     rw at (plain (i + k) (omega arith) (omega arith))) in
     rw (front, escapes-append) (ap (λ t. escapes (take i xs) ++ t) same)
 
+-- a run of plain bytes from i to j makes the escapes j - i bytes longer
 pub length_escapes_run : (xs : List ℕ) (i j : ℕ) → i ≤ j → j ≤ length xs
     → ((k : ℕ) → i ≤ k → k < j → is_special (get_or xs k 0) ≡ false)
     → length (escapes (take j xs)) + i ≡ length (escapes (take i xs)) + j
@@ -101,6 +106,7 @@ length_escape_le : (b : ℕ) → length (escape b) ≤ 6
 unfolding escape
 length_escape_le b = grind (arith, nat_tests)
 
+-- the escapes of a text are at most six times as long as the text
 pub length_escapes_six : (xs : List ℕ) → length (escapes xs) ≤ 6 * length xs
 length_escapes_six [] = omega (arith, ap length escapes-nil)
 length_escapes_six (x ∷ xs) =

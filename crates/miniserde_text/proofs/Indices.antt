@@ -10,9 +10,11 @@ use Rattle.miniserde_model.specs.Bytes.{is_special}
 use Rattle.miniserde_text.specs.private.Reading.{after_run, is_unescaped, FollowsAscii, EndsWith}
 use Rattle.miniserde_text.proofs.Lanes.{after_unescaped_is, boundary}
 
+-- if the byte at i is ASCII, i + 1 follows an ASCII byte
 pub follows_more : (s : List ℕ) (i : ℕ) → i < length s → get_or s i 0 < 128 → FollowsAscii s (i + 1)
 follows_more s i h ascii = let e : i + 1 - 1 ≡ i = omega arith in (omega arith, omega arith, subst (λ k. get_or s k 0 < 128) (sym e) ascii)
 
+-- in UTF-8, an index that follows an ASCII byte is a character boundary
 pub follows_boundary : (s : List ℕ) (i : ℕ) → IsUtf8 s → FollowsAscii s i → IsCharBoundary s i
 follows_boundary s i u h =
     let e : i - 1 + 1 ≡ i = omega arith in
@@ -24,11 +26,13 @@ ends_order s i j h k (b, e) = omega (arith, ap length e ∙ length-append b (dro
 
 -- ---- the run of a string
 
+-- if j is the index of the first special byte from i on, the run of unescaped bytes from i on ends at j
 pub unescaped_from : (s : List ℕ) (i j : ℕ) → j ≡ i + position_or_len is_special (drop i s) → drop j s ≡ after_run is_unescaped (drop i s)
 unescaped_from s i j e =
     let t = drop i s in
     ap (λ k. drop k s) e ∙ sym (drop-drop (position_or_len is_special t) i s) ∙ sym (after_unescaped_is t)
 
+-- the index j of the first special byte from i on, or else the length, is a character boundary
 pub special_boundary : (s : List ℕ) (i j : ℕ) → i ≤ length s → j ≡ i + position_or_len is_special (drop i s) → IsCharBoundary s j
 special_boundary s i j h e =
     let t = drop i s in

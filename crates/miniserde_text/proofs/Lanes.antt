@@ -17,9 +17,11 @@ use Rattle.std.proofs.lemmas.Bool.Decides.{nat_tests}
 use Rattle.miniserde_model.specs.Bytes.{is_special}
 use Rattle.miniserde_text.specs.private.Reading.{after_run, is_unescaped}
 
+-- a lane of `simd_eq`: 255 if the two bytes are equal, and else 0
 abbrev pub equal : ℕ → ℕ → ℕ
 equal a b = cond (eqb a b) 255 0
 
+-- a lane of `simd_lt`: 255 if the first byte is below the second, and else 0
 abbrev pub below : ℕ → ℕ → ℕ
 below a b = cond (ltb a b) 255 0
 
@@ -40,6 +42,7 @@ tops : (v : List ℕ) → map (top 7) (map lane v) ≡ map is_special v
 tops [] = refl
 tops (x ∷ xs) = ap₂ (λ a b. a ∷ b) (joined (ltb x 32) (eqb x 34) (eqb x 92)) (tops xs)
 
+-- the mask of the n bytes that are below 32, equal to 34 or equal to 92 is the mask of the special bytes
 pub mask_is : (n : ℕ) (v : List ℕ) → n ≤ 64 → length v ≡ n
     → mask_l (map (top 7) (zip2 bit_or (zip2 bit_or (zip2 below v (replicate n 32)) (zip2 equal v (replicate n 34)))
     (zip2 equal v (replicate n 92)))) % 2 ^ 64 ≡ mask_l (map is_special v)
@@ -59,6 +62,7 @@ split : (n : ℕ) (d : List ℕ) (i : ℕ) → position_or_len is_special (drop 
 split n d i = ap (position_or_len is_special) (chunk-drop i n d) ∙ prefix_len-append (λ x. not (is_special x))
     (chunk i n d) (drop (i + n) d)
 
+-- if the mask of the n bytes from i on is 0, the run of plain bytes from i on is n longer than that from i + n on
 pub through : (n : ℕ) (d : List ℕ) (i : ℕ) → i + n ≤ length d → mask_l (map is_special (chunk i n d)) ≡ 0
     → position_or_len is_special (drop i d) ≡ n + position_or_len is_special (drop (i + n) d)
 through n d i room none =
@@ -76,6 +80,7 @@ all_pass [] e = refl
 all_pass (x ∷ xs) e = none_fails (is_special x) _ (length xs) _ (prefix_len-le-length (λ y. not (is_special y)) xs)
     (omega arith) (all_pass xs)
 
+-- if the mask of the n bytes from i on is not 0, its trailing zeros count the run of plain bytes from i on
 pub stops : (n : ℕ) (d : List ℕ) (i : ℕ) → n ≤ 64 → i + n ≤ length d → 0 < mask_l (map is_special (chunk i n d))
     → position_or_len is_special (drop i d) ≡ count_trailing_zeros 64 (mask_l (map is_special (chunk i n d)))
 stops n d i few room some =
@@ -92,6 +97,7 @@ plain_step : (b : Bool) (c n : ℕ) (cs : List ℕ) → after_run is_unescaped c
 plain_step false c n cs ih = refl
 plain_step true c n cs ih = let one : suc n ≡ 1 + n = omega arith in ih ∙ ap (λ k. drop k (c ∷ cs)) one
 
+-- after the run of unescaped bytes, a text goes on at its first special byte
 pub after_unescaped_is : (s : List ℕ) → after_run is_unescaped s ≡ drop (position_or_len is_special s) s
 after_unescaped_is [] = refl
 after_unescaped_is (c ∷ cs) = plain_step (is_unescaped c) c (position_or_len is_special cs) cs (after_unescaped_is cs)
@@ -99,6 +105,7 @@ after_unescaped_is (c ∷ cs) = plain_step (is_unescaped c) c (position_or_len i
 special_ascii : (c : ℕ) → not (is_special c) ≡ false → c < 128
 special_ascii c h = grind (arith, nat_tests)
 
+-- the index of the first special byte, or else the length, is a character boundary
 pub boundary : (s : List ℕ) (n : ℕ) → n ≡ position_or_len is_special s → IsCharBoundary s n
 boundary s n e = (
   omega (arith, prefix_len-le-length (λ x. not (is_special x)) s),

@@ -46,17 +46,20 @@ leaf_of_float b x = leaf_cases b (λ t. event_of t ≡ float x → t ≡ num b) 
 
 -- ---- the leaf of the parts
 
+-- each byte of an integer part is a digit
 pub whole_digits : (w : List ℕ) → IsInt w → AllByRecursion IsDigit w
 whole_digits [] h = absurd h
 whole_digits (c ∷ cs) (inl h) = rw (h.0, h.1) ((omega arith, omega arith), tt)
 whole_digits (c ∷ cs) (inr h) = ((omega arith, h.0.1), h.1)
 
+-- `-` if the flag is set, and else the empty text
 abbrev pub sign_of : Bool → List ℕ
 sign_of m = if m then 45 ∷ [] else []
 
 digit_no_minus : (c : ℕ) → IsDigit c → (c == 45) ≡ false
 digit_no_minus c h = grind (arith, nat_tests)
 
+-- an integer part does not begin with `-`
 pub whole_first : (w r : List ℕ) → IsInt w → (slice_index (w ++ r) 0 == 45) ≡ false
 whole_first [] r h = absurd h
 whole_first (c ∷ cs) r h = digit_no_minus c (whole_digits (c ∷ cs) h).0
@@ -110,6 +113,7 @@ by_tail false w [] h p =
     ∙ ap (λ v. cond v (leaf_of_negated (drop 1 b) b) (leaf_of_digits b b)) (whole_first w [] h)
     ∙ ap (λ ds. leaf_of_digits ds b) (append-nil w)) ∙ event_if (nat_lt (digits_value 10 w) (2 ^ 64)) _ _)
 
+-- the event by the parts of a number text is the event of the text's leaf
 pub event_of_text : (m : Bool) (w f e : List ℕ) → IsInt w → IsFraction f → IsExponent e
     → event_of_parts (sign_of m ++ (w ++ (f ++ e))) m w (f ++ e) ≡ event_of (leaf (sign_of m ++ (w ++ (f ++ e))))
 event_of_text m w f e h k l = by_tail m w (f ++ e) h (tail_plain f e k l)

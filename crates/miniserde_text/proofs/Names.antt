@@ -13,6 +13,7 @@ use Rattle.miniserde_text.proofs.Runs.{run_split, run_only_space, whitespace_of,
 use Rattle.miniserde_text.proofs.Options.{first_byte}
 use Rattle.miniserde_text.proofs.Strings.{string_leads, string_chars}
 
+-- if s begins with bytes of which P holds, then whitespace and a colon, it begins with a `BeforeColon P`
 pub colon_leads : (P : List ℕ → Type 0) (s rest colon r : List ℕ) → BeginsWith P s rest
     → colon ≡ after_run is_space rest → slice_index colon 0 ≡ 58 → r ≡ drop 1 colon → BeginsWith (BeforeColon P) s r
 colon_leads P s rest colon r (b, h, j) e at d =
@@ -22,6 +23,7 @@ colon_leads P s rest colon r (b, h, j) e at d =
     let text : s ≡ part ++ r = j ∙ ap (λ x. b ++ x) (tail ∙ sym (append_assoc w.0 (58 ∷ []) r)) ∙ sym (append_assoc b (w.0 ++ 58 ∷ []) r) in
     (part, record { spelled = b; space = w.0; text = refl; is_spelled = h; is_space = whitespace_of w.0 w.1 }, text)
 
+-- a quote, characters cs up to a quote, whitespace and a colon are the name n, the UTF-8 of cs
 pub name_taken : (s n rest colon r cs : List ℕ) → slice_index s 0 ≡ 34 → SpellsUpToQuote cs (drop 1 s) rest
     → n ≡ encode_utf8_all cs → colon ≡ after_run is_space rest → slice_index colon 0 ≡ 58
     → r ≡ drop 1 colon → TakesName s n r
@@ -32,14 +34,17 @@ name_split s r b P h j =
     j ∙ ap (λ x. x ++ r) h.text ∙ append_assoc h.spelled (h.space ++ 58 ∷ []) r ∙ ap (λ x. h.spelled ++ x)
     (append_assoc h.space (58 ∷ []) r)
 
+-- a text that begins with a name begins with a quote
 pub name_quote : (s n r : List ℕ) → TakesName s n r → slice_index s 0 ≡ 34
 name_quote s n r (b, h, j) =
     ap (λ x. slice_index x 0) (name_split s r b _ h j) ∙ ap (λ x. slice_index (x ++ (h.space ++ 58 ∷ r)) 0) h.is_spelled.text
 
+-- if no string goes on after the first byte of s, s does not begin with a name
 pub name_string : (s n r : List ℕ) → TakesName s n r → ((cs u : List ℕ) → SpellsUpToQuote cs (drop 1 s) u → ⊥) → ⊥
 name_string s n r (b, h, j) never =
     never h.is_spelled.characters (h.space ++ 58 ∷ r) (string_chars h.spelled n s (h.space ++ 58 ∷ r) h.is_spelled (name_split s r b _ h j))
 
+-- if s begins with a string, and no colon follows after whitespace, s does not begin with a name
 pub name_colon : (s n r ds rest colon : List ℕ) → slice_index s 0 ≡ 34 → TakesName s n r
     → SpellsUpToQuote ds (drop 1 s) rest → colon ≡ after_run is_space rest → slice_index colon 0 ≢ 58 → ⊥
 name_colon s n r ds rest colon at (b, h, j) x c away =
@@ -47,11 +52,13 @@ name_colon s n r ds rest colon at (b, h, j) x c away =
     let same = same_string l.0 h.spelled rest (h.space ++ 58 ∷ r) _ n l.1 h.is_spelled (sym l.2 ∙ name_split s r b _ h j) in
     away (ap (λ y. slice_index y 0) (c ∙ ap (after_run is_space) same.1 ∙ run_only_space h.space (58 ∷ r) h.is_space refl))
 
+-- if t is s after its whitespace, and t begins with a name, s has that name after whitespace
 pub names_of : (s t n r : List ℕ) → t ≡ after_run is_space s → TakesName t n r → Names s n r
 names_of s t n r e h = stands_of (IsName n) s t r e h
 
 name_first : (n r b : List ℕ) → IsName n b → StopsAt is_space (b ++ r)
 name_first n r b h = rw (h.text, h.is_spelled.text) refl
 
+-- if t is s after its whitespace, and s has a name after whitespace, t begins with that name
 pub names_only : (s t n r : List ℕ) → t ≡ after_run is_space s → Names s n r → TakesName t n r
 names_only s t n r e h = stands_only (IsName n) s t r (name_first n r) e h

@@ -23,6 +23,7 @@ use Rattle.std.proofs.lemmas.Option.{cond_some, same_Some}
 use Rattle.miniserde_text.proofs.Options.{chosen, none_if, bind_some, first_byte, first_of_test, before_append, before_is}
 use Rattle.miniserde_text.proofs.Leaves.{event_of, sign_of, whole_digits, whole_first, event_of_text}
 
+-- a byte that passes `is_digit` is a digit
 pub digit_of : (c : ℕ) → is_digit c ≡ true → IsDigit c
 digit_of c h = (grind (arith, nat_tests), grind (arith, nat_tests))
 
@@ -53,6 +54,7 @@ whole_of_digits t r (c ∷ cs) j e h =
     let away : c ≢ 48 = λ z. true≢false (sym (eq-eqb _ 48 (ap (λ x. slice_index x 0) j ∙ z)) ∙ e) in
     inr ((omega arith, h.1.0.1), h.1.1)
 
+-- if `after_int` leaves r of t, t begins with an integer part, and r is the rest
 pub whole_takes : (t r : List ℕ) → after_int t ≡ Some r → BeginsWith IsInt t r
 whole_takes t r e =
     elim (chosen (slice_index t 0 == 48) _ _ _ e) [
@@ -130,6 +132,7 @@ minus_is false = inl refl
 abbrev pub IsTail : List ℕ → Type 0
 IsTail b = (f e : List ℕ) × IsFraction f × IsExponent e × (b ≡ f ++ e)
 
+-- if `after_tail` leaves r of w, w begins with a fraction and an exponent, and r is the rest
 pub tail_takes : (w r : List ℕ) → after_tail w ≡ Some r → BeginsWith IsTail w r
 tail_takes w r h =
     let v = bind_some after_exponent (after_fraction w) r h in
@@ -181,6 +184,7 @@ number_of t w r (int, is_int, jw) (tail, (fraction, exponent, is_fraction, is_ex
       ends = ends;
     }
 
+-- if `number_at` reads the event e from t and leaves r, t begins with a number text of e, and r is the rest
 pub number_takes : (t : List ℕ) (e : Step) (r : List ℕ) → number_at t ≡ Some (e, r) → Numbered t e r
 unfolding number_at
 number_takes t e r h =
@@ -190,6 +194,7 @@ number_takes t e r h =
     subst (λ x. Numbered t x.0 x.1) (same_Some _ _ one.1)
     (number_of t w.0 q.0 (whole_takes (after_minus t) w.0 w.1) (tail_takes w.0 q.0 q.1) one.0)
 
+-- if `after_int` leaves w of t without its minus, and `after_tail` leaves r of w, t ends with r
 pub splits_at : (t w r : List ℕ) → after_int (after_minus t) ≡ Some w → after_tail w ≡ Some r → (b : List ℕ) × (t ≡ b ++ r)
 splits_at t w r h k =
     let p = whole_takes (after_minus t) w h in
@@ -200,6 +205,7 @@ splits_at t w r h k =
           (p.2 ∙ ap (λ x. p.0 ++ x) q.2 ∙ sym (append_assoc p.0 q.0 r)) ∙ sym (append_assoc sign (p.0 ++ q.0) r),
     )
 
+-- the bytes w of t before the rest that `after_int` leaves are digits
 pub whole_before : (t r w : List ℕ) → after_int t ≡ Some r → w ≡ before t r → AllByRecursion IsDigit w
 whole_before t r w h e =
     let p = whole_takes t r h in
@@ -315,6 +321,7 @@ minus_of : (x : List ℕ) → IsMinus x → (m : Bool) × (x ≡ sign_of m)
 minus_of x (inl h) = (false, h)
 minus_of x (inr h) = (true, h)
 
+-- a number text with no byte of a number after it is read as the event of its leaf
 pub number_only : (b r : List ℕ) → IsNumberText b → StopsAt is_number_byte r → number_at (b ++ r) ≡ Some (event_of (leaf b), r)
 number_only b r n stops =
     let ends = stops_of is_number_byte refl r stops in
@@ -353,6 +360,7 @@ whole_of [] r h z = absurd (omega arith)
 whole_of (c ∷ []) r h z = one_digit (c == 48) c refl h.1.0
 whole_of (c ∷ d ∷ cs) r h z = whole_of_digits (c ∷ d ∷ (cs ++ r)) r (c ∷ d ∷ cs) refl (z (omega arith)) h
 
+-- n digits of value v without a leading zero, after a minus or none, are read as the event of v
 pub short_read : (s t : List ℕ) (n v : ℕ) (e : Step) → t ≡ after_minus s → 0 < n → n ≤ prefix_len is_digit t
     → (1 < n → (slice_index t 0 == 48) ≡ false) → is_number_byte (slice_index t n) ≡ false
     → v ≡ digits_value 10 (take n t)

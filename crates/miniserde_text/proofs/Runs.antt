@@ -14,15 +14,18 @@ use Rattle.miniserde_text.specs.private.Reading.{after_run, is_digit}
 use Rattle.miniserde_text.specs.private.Taking.{BeginsWith}
 use Rattle.miniserde_text.specs.Lexer.{Blank}
 
+-- a byte of whitespace is ASCII
 pub space_ascii : (c : ℕ) → is_space c ≡ true → c < 128
 space_ascii c h = grind (arith, nat_tests)
 
+-- a digit is ASCII
 pub digit_ascii : (c : ℕ) → is_digit c ≡ true → c < 128
 digit_ascii c h = grind (arith, nat_tests)
 
 pub within_from_byte : (s : List ℕ) (i : ℕ) → 0 < get_or s i 0 → i < length s
 within_from_byte s i h = lt_of_not-le (λ past. omega (arith, get_or_past s i 0 past))
 
+-- if a disjunction is true, so is one of its parts
 pub or_true : (a b : Bool) → (a || b) ≡ true → (a ≡ true) ⊎ (b ≡ true)
 or_true true b h = inl refl
 or_true false b h = inr h
@@ -87,23 +90,28 @@ space_of c h = elim (or_true _ (c == 13) h) [
   ]
 ]
 
+-- bytes that all pass `is_space` are whitespace
 pub whitespace_of : (w : List ℕ) → AllPass is_space w → IsWhitespace w
 whitespace_of [] h = tt
 whitespace_of (c ∷ w) h = (space_of c h.0, whitespace_of w h.1)
 
+-- if w is whitespace and t does not begin with any, `after_run` leaves t of w ++ t
 pub run_only_space : (w t : List ℕ) → IsWhitespace w → StopsAt is_space t → after_run is_space (w ++ t) ≡ t
 run_only_space w t h k = run_only is_space w t (whitespace_passes w h) k
 
+-- if t is s after its whitespace, and t begins with a P, s has that P after whitespace
 pub stands_of : (P : List ℕ → Type 0) (s t r : List ℕ) → t ≡ after_run is_space s → BeginsWith P t r → Stands P s r
 stands_of P s t r e h =
     let w = run_split is_space s in
     record { space = w.0; part = h.0; text = w.2 ∙ ap (λ x. w.0 ++ x) (sym e ∙ h.2); is_space = whitespace_of w.0 w.1; is_part = h.1 }
 
+-- if no P begins with whitespace, t is s after its whitespace, and s has a P after whitespace, t begins with it
 pub stands_only : (P : List ℕ → Type 0) (s t r : List ℕ) → ((b : List ℕ) → P b → StopsAt is_space (b ++ r))
     → t ≡ after_run is_space s → Stands P s r → BeginsWith P t r
 stands_only P s t r heads e h =
     (h.part, h.is_part, e ∙ ap (after_run is_space) h.text ∙ run_only_space h.space (h.part ++ r) h.is_space (heads h.part h.is_part))
 
+-- if t is s after its whitespace, s is whitespace and then t, which does not begin with whitespace
 pub blank_of : (s t : List ℕ) → t ≡ after_run is_space s → Blank s t
 blank_of s t e =
     let w = run_split is_space s in

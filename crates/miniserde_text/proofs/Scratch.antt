@@ -23,6 +23,7 @@ kept_of t x h =
     let int : n.number ≡ t = sym (n.text ∙ append-nil n.number) in
     subst (λ b. IsNumber b (num b)) int (n.is_number, leaf_of_float n.number x n.event)
 
+-- a text that is kept as a number is read as the event of that text, and nothing is left
 pub kept_read : (t : List ℕ) → IsNumber t (num t) → number_at t ≡ Some (float t, [])
 kept_read t n = ap number_at (sym (append-nil t)) ∙ number_only t [] n.0 tt ∙ ap (λ l. Some (event_of l, [])) n.1
 
@@ -40,6 +41,7 @@ kept_where t x i h within = (
 pub no_kept : (t : List ℕ) → (IsNumber t (num t) → ⊥) → IsTrue false ↔ IsNumber t (num t)
 no_kept t none = (λ e. absurd (true≢false (sym e)), λ n. absurd (none n))
 
+-- a token whose event is a kept number is a `Number`
 pub number_of_float : (e : Event) (x : List ℕ) → event_of_token e [] ≡ float x → (y : Bor (List ℕ)) × (e ≡ Number y)
 number_of_float Null x h = cc
 number_of_float (Truth b) x h = cc

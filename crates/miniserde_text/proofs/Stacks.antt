@@ -98,6 +98,7 @@ bit_clear a h =
 
 -- ---- an innermost container
 
+-- a stack whose innermost kind is k is k and then the outer kinds
 pub split_top : (st : List Kind) (k : Kind) → innermost st ≡ Some k → st ≡ k ∷ outer st
 split_top [] k h = absurd (true≢false (ap is_some (sym h)))
 split_top (c ∷ st) k h = let e : c ≡ k = cc in ap (λ z. z ∷ st) e

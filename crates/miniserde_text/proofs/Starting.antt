@@ -21,6 +21,7 @@ use Rattle.miniserde_text.specs.private.Moving.{opened_kind, before_child, Momen
 
 -- ---- the first byte
 
+-- the class of the first byte of the event's token (`kind_of_byte`); 7 if the event does not begin a value
 abbrev pub class : Step → ℕ
 class step.null = 0
 class (boolean x) = 1
@@ -34,6 +35,7 @@ class element = 7
 class (key s) = 7
 class finish = 7
 
+-- a token begins with a byte of its event's class
 pub piece_head : (e : Step) (b : List ℕ) → Piece e b → Head b (class e)
 piece_head step.null b p = value_head null b p
 piece_head (boolean x) b p = value_head (truth x) b p
@@ -47,6 +49,7 @@ piece_head element b p = absurd p
 piece_head (key s) b p = absurd p
 piece_head finish b p = absurd p
 
+-- the class of an event that has a token is below 7
 pub class_below : (e : Step) (b : List ℕ) → Piece e b → class e < 7
 class_below step.null b p = omega arith
 class_below (boolean x) b p = omega arith
@@ -60,9 +63,11 @@ class_below element b p = absurd p
 class_below (key s) b p = absurd p
 class_below finish b p = absurd p
 
+-- a token does not begin with whitespace, whatever text r follows it
 pub piece_no_space : (e : Step) (b r : List ℕ) → Piece e b → StopsAt is_space (b ++ r)
 piece_no_space e b r p = head_no_space b r (class e) (class_below e b p) (piece_head e b p)
 
+-- a name begins with a byte of the class of quotes, 4
 pub name_head : (n b : List ℕ) → IsName n b → Head b 4
 name_head n b p =
     let h = string_head p.spelled n p.is_spelled in
@@ -74,6 +79,7 @@ name_head n b p =
       of_kind = h.of_kind;
     }
 
+-- a name does not begin with whitespace, whatever text r follows it
 pub name_no_space : (n b r : List ℕ) → IsName n b → StopsAt is_space (b ++ r)
 name_no_space n b r p = head_no_space b r 4 (omega arith) (name_head n b p)
 
@@ -85,6 +91,7 @@ pub record First (s : List ℕ) (c : ℕ) : Type 0 where
   pub is_whitespace : IsWhitespace space
   pub no_space : is_space c ≡ false
 
+-- a text has at most one first byte after whitespace
 pub same_first : (s : List ℕ) (c d : ℕ) → First s c → First s d → c ≡ d
 same_first s c d p q =
     let one = same_run is_space p.space q.space (c ∷ p.more) (d ∷ q.more)
@@ -93,6 +100,7 @@ same_first s c d p q =
     let two : ◌≡◌ {A = List ℕ} (c ∷ p.more) (d ∷ q.more) = one.1 in
     cc
 
+-- if s has the byte c after whitespace, and c is no whitespace, c is its first byte after whitespace
 pub first_byte : (c : ℕ) (s r : List ℕ) → is_space c ≡ false → Stands (IsByte c) s r → First s c
 first_byte c s r h p = record {
   space = p.space;
@@ -103,6 +111,7 @@ first_byte c s r h p = record {
   no_space = h;
 }
 
+-- if r begins a child, and s is whitespace and then r, the byte of r is the first of s after whitespace
 pub begins_first : (s r : List ℕ) → Stands (λ b. b ≡ []) s r → (b : Begins r) → First s b.byte
 begins_first s r p b = record {
   space = p.space;
@@ -158,6 +167,7 @@ same_piece (key s) f a b x y p q sx sy h = absurd p
 same_piece finish f a b x y p q sx sy h = absurd p
 same_piece e f a b x y p q sx sy h = let k : class e ≡ class f = same_class e f a b x y p q h in absurd (omega arith)
 
+-- a text begins with at most one first token of a value: two have one event and one rest
 pub same_start : (s : List ℕ) (e f : Step) (r x : List ℕ) → Starts s e r → Starts s f x → (e ≡ f) × (r ≡ x)
 same_start s e f r x p q =
     let a = p.0 in let b = q.0 in
@@ -166,6 +176,7 @@ same_start s e f r x p q =
     (piece_no_space f b.part x b.is_part) (sym a.text ∙ b.text) in
     same_piece e f a.part b.part r x a.is_part b.is_part p.1 q.1 one.1
 
+-- two bytes that s has after whitespace, neither of them whitespace, are equal, and so are the rests
 pub same_byte : (c d : ℕ) (s r x : List ℕ) → is_space c ≡ false → is_space d ≡ false → Stands (IsByte c) s r
     → Stands (IsByte d) s x → (c ≡ d) × (r ≡ x)
 same_byte c d s r x hc hd p q =
@@ -179,6 +190,7 @@ same_byte c d s r x hc hd p q =
 colon : (a w r : List ℕ) → (a ++ (w ++ 58 ∷ [])) ++ r ≡ a ++ (w ++ 58 ∷ r)
 colon a w r = simp append_assoc
 
+-- a text begins with at most one name and its colon: two have one text and one rest
 pub same_name : (s n m r x : List ℕ) → Names s n r → Names s m x → (n ≡ m) × (r ≡ x)
 same_name s n m r x p q =
     let one = same_run is_space p.space q.space (p.part ++ r) (q.part ++ x) (whitespace_passes p.space p.is_space)
@@ -195,9 +207,11 @@ same_name s n m r x p q =
 
 -- ---- what spells a value that is due
 
+-- `StandsThen` gives `Stands`, without the fact on the rest
 pub stands : {P K : List ℕ → Type 0} (b : List ℕ) (p : StandsThen P K b) → Stands P b p.rest
 stands b p = record { space = p.space; part = p.part; text = p.text; is_space = p.is_space; is_part = p.is_part }
 
+-- whitespace, a part of which P holds and a rest of which K holds are a `StandsThen`
 pub front : {P K : List ℕ → Type 0} (space part r : List ℕ) → IsWhitespace space → P part → K r → StandsThen P K ((space ++ part) ++ r)
 front space part r w p k =
     record {
@@ -211,6 +225,7 @@ front space part r w p k =
       is_rest = k;
     }
 
+-- whitespace and a token of e spell e before the events that r spells after it
 pub starts_on : (e : Step) (st : List Kind) (space part : List ℕ) → IsWhitespace space → Piece e part
     → (rest : List Step) (r : List ℕ)
     → Spells (before_child (is_some (opened_kind e))) rest (with_opened (opened_kind e) st) r
@@ -227,10 +242,12 @@ starts_on element st space part w p rest r k = absurd p
 starts_on (key s) st space part w p rest r k = absurd p
 starts_on finish st space part w p rest r k = absurd p
 
+-- after an opening bracket a container is open: the moment after a token fits the open containers
 pub live_at : (o : Option Kind) (st : List Kind) → MomentFits (before_child (is_some o)) (with_opened o st)
 live_at None st = tt
 live_at (Some k) st = tt
 
+-- if a value is due, the first token of one spells its event, whatever follows
 pub passes_start : (st : List Kind) (s : List ℕ) (e : Step) (r : List ℕ) → Starts s e r
     → Passes due st s (e ∷ []) (before_child (is_some (opened_kind e))) (with_opened (opened_kind e) st) r
 passes_start st s e r p = record {
@@ -243,6 +260,7 @@ head_length : (b r : List ℕ) (k : ℕ) → Head b k → length r < length (b +
 head_length b r k h = let l : length (b ++ r) ≡ length ((h.byte ∷ h.rest) ++ r) = ap (λ z. length (z ++ r)) h.is in
     omega (arith, l, length-append h.rest r)
 
+-- the text after the first token of a value is shorter than the text
 pub start_less : (s : List ℕ) (e : Step) (r : List ℕ) → Starts s e r → length r < length s
 start_less s e r p =
     let l = head_length p.0.part r (class e) (piece_head e p.0.part p.0.is_part) in

@@ -71,6 +71,7 @@ stands_step k first true s t r e h = stands_of (IsByte (closing k)) s t r e h
 stands_step k true false s t r e h = (stands_of (λ b. b ≡ []) s t r e h.0, h.1)
 stands_step k false false s t r e h = stands_of (IsByte 44) s t r e h
 
+-- if t is s after its whitespace, and `punctuation_at` takes a from t and leaves r, `Follows` holds for a and r
 pub follows : (k : Kind) (first : Bool) (s t : List ℕ) (a : Bool) (r : List ℕ) → t ≡ after_run is_space s
     → punctuation_at k first t ≡ Some (a, r) → Follows k first a s r
 follows k first s t a r e h =
@@ -124,17 +125,20 @@ follows_only k false s t false r e h =
     let l = stands_only (IsByte 44) s t r (byte_first 44 refl r) e h in
     comma_step k t r l.0 l.1 l.2
 
+-- if t is s after its whitespace, and `punctuation_at` takes nothing from t, `Follows` holds for no a and r
 pub follows_refused : (k : Kind) (first : Bool) (s t : List ℕ) → t ≡ after_run is_space s
     → punctuation_at k first t ≡ None → (a : Bool) (r : List ℕ) → Follows k first a s r → ⊥
 follows_refused k first s t e none a r h = true≢false (sym (ap is_some (follows_only k first s t a r e h)) ∙ ap is_some none)
 
 -- ---- the end
 
+-- if s after its whitespace is t from i on, and i is at least the length of t, s is whitespace
 pub blank_of : (s t : List ℕ) (i : ℕ) → drop i t ≡ after_run is_space s → length t ≤ i → IsWhitespace s
 blank_of s t i e h =
     let w = run_split is_space s in
     subst IsWhitespace (sym (w.2 ∙ ap (λ x. w.0 ++ x) (sym e ∙ drop_all i t h) ∙ append-nil w.0)) (whitespace_of w.0 w.1)
 
+-- if s after its whitespace is t from i on, and i is below the length of t, s is not whitespace
 pub not_blank : (s t : List ℕ) (i : ℕ) → drop i t ≡ after_run is_space s → (length t ≤ i → ⊥) → IsWhitespace s → ⊥
 not_blank s t i e h k =
     let none : drop i t ≡ [] = e ∙ ap (after_run is_space) (sym (append-nil s)) ∙ run_only_space s [] k tt in

@@ -134,6 +134,7 @@ run_passes b u (ds, (s, e)) h = (
 
 -- ---- where no piece begins
 
+-- a text that is empty or begins with a byte below 32 spells no characters up to a quote
 pub no_chars : (t : List ℕ) → is_unescaped (slice_index t 0) ≡ false → slice_index t 0 ≢ 34 → slice_index t 0 ≢ 92
     → (cs r : List ℕ) → SpellsUpToQuote cs t r → ⊥
 no_chars t special no_quote no_slash [] r h = no_quote (ap (λ x. slice_index x 0) h)
@@ -142,6 +143,7 @@ no_chars t special no_quote no_slash (c ∷ cs) r (p, u, h, e, k) = elim (piece_
   | inr s ↦ true≢false (sym (ap (λ x. is_unescaped (slice_index x 0)) e ∙ s) ∙ special)
 ]
 
+-- if `escape_at` reads nothing from t, a backslash and t spell no characters up to a quote
 pub no_escape : (t : List ℕ) → escape_at t ≡ None → (cs r : List ℕ) → SpellsUpToQuote cs (92 ∷ t) r → ⊥
 no_escape t none [] r h = true≢false (sym (ap (λ l. slice_index l 0 == 34) h))
 no_escape t none (c ∷ cs) r (p, u, h, e, k) = elim (piece_cases p c h) [
@@ -171,9 +173,11 @@ run_of s t e u v =
 pub run_ends : (s t : List ℕ) → t ≡ after_run is_unescaped s → (b : List ℕ) × (s ≡ b ++ t)
 run_ends s t e = let w = run_split is_unescaped s in (w.0, w.2 ∙ ap (λ x. w.0 ++ x) (sym e))
 
+-- the text after a run of unescaped bytes begins with no unescaped byte
 pub run_special : (s t : List ℕ) → t ≡ after_run is_unescaped s → is_unescaped (slice_index t 0) ≡ false
 run_special s t e = ap (λ x. is_unescaped (slice_index x 0)) e ∙ run_stops is_unescaped refl s
 
+-- an escape and the run of unescaped bytes after it are passed, and their decoded bytes are appended to `old`
 pub escape_adds : (old mid new s : List ℕ) (c : ℕ) (rest next : List ℕ) → escape_at s ≡ Some (c, rest)
     → next ≡ after_run is_unescaped rest → IsUtf8 rest → IsUtf8 next
     → mid ≡ old ++ encode_utf8 c → new ≡ mid ++ before rest next → AddsDecoded old new (92 ∷ s) next
@@ -187,6 +191,7 @@ escape_adds old mid new s c rest next e n u v m k =
           ∙ ap (λ x. old ++ (encode_utf8 c ++ x)) r.2,
     )
 
+-- the text after an escape and the run of unescaped bytes after it is no longer than s
 pub escape_shorter : (s : List ℕ) (c : ℕ) (rest next : List ℕ) → escape_at s ≡ Some (c, rest)
     → next ≡ after_run is_unescaped rest → length next ≤ length s
 escape_shorter s c rest next e n =
@@ -194,6 +199,7 @@ escape_shorter s c rest next e n =
     let b = run_ends rest next n in
     omega (arith, ap length a.2 ∙ length-append a.0 rest, ap length b.1 ∙ length-append b.0 next)
 
+-- with nothing passed, nothing is appended
 pub adds_nil : (old t : List ℕ) → AddsDecoded old old t t
 adds_nil old t = ([], passes_nil t, sym (append-nil old))
 
@@ -205,30 +211,37 @@ adds_then a b c t u v h k = (
       _ ∙ ap (λ x. a ++ x) (sym (encodes-append h.0 k.0)),
 )
 
+-- if the characters ds are passed up to a quote, s spells ds up to that quote
 pub quote_ends : (ds s t : List ℕ) → PassesCharacters ds s t → slice_index t 0 ≡ 34 → SpellsUpToQuote ds s (drop 1 t)
 quote_ends ds s t p e = subst (λ x. SpellsUpToQuote x s (drop 1 t)) (append-nil ds) (p.on [] (drop 1 t) (first_byte t 33 e))
 
+-- if t, after the passed characters, is empty or begins with a byte below 32, s spells none up to a quote
 pub end_refused : (old new s t : List ℕ) → AddsDecoded old new s t → is_unescaped (slice_index t 0) ≡ false
     → slice_index t 0 ≢ 34 → slice_index t 0 ≢ 92 → (cs r : List ℕ) → SpellsUpToQuote cs s r → ⊥
 end_refused old new s t a special q b cs r h = let back = a.1.back cs r h in no_chars t special q b back.0 r back.2
 
+-- if a backslash follows the passed characters, and none are spelled from it up to a quote, s spells none
 pub escape_refused : (old new s t : List ℕ) → AddsDecoded old new s t → slice_index t 0 ≡ 92
     → ((cs r : List ℕ) → SpellsUpToQuote cs (92 ∷ drop 1 t) r → ⊥) → (cs r : List ℕ) → SpellsUpToQuote cs s r → ⊥
 escape_refused old new s t a e never cs r h =
     let back = a.1.back cs r h in
     never back.0 r (subst (λ x. SpellsUpToQuote back.0 x r) (first_byte t 91 e) back.2)
 
+-- if a quote follows the passed characters, s spells them up to it, and `new` is `old` and their bytes
 pub string_of : (old new s t : List ℕ) → AddsDecoded old new s t → slice_index t 0 ≡ 34
     → (cs : List ℕ) × SpellsUpToQuote cs s (drop 1 t) × (new ≡ old ++ encode_utf8_all cs)
 string_of old new s t a e = (a.0, quote_ends a.0 s t a.1 e, a.2)
 
+-- if b adds a part to a, and c adds the next one to b, which begins with a backslash, c adds both to a
 pub adds_escape : (a b c s t u : List ℕ) → AddsDecoded a b s t → slice_index t 0 ≡ 92
     → AddsDecoded b c (92 ∷ drop 1 t) u → AddsDecoded a c s u
 adds_escape a b c s t u h e k = adds_then a b c s t u h (subst (λ x. AddsDecoded b c x u) (sym (first_byte t 91 e)) k)
 
+-- if the characters ds are passed up to t, and t spells cs up to a quote, s spells ds ++ cs up to that quote
 pub join_chars : (ds cs s t r : List ℕ) → PassesCharacters ds s t → SpellsUpToQuote cs t r → SpellsUpToQuote (ds ++ cs) s r
 join_chars ds cs s t r p h = p.on cs r h
 
+-- if characters are passed up to t, and t spells none up to a quote, neither does s
 pub run_refused : (ds s t : List ℕ) → PassesCharacters ds s t → ((cs r : List ℕ) → SpellsUpToQuote cs t r → ⊥)
     → (cs r : List ℕ) → SpellsUpToQuote cs s r → ⊥
 run_refused ds s t p never cs r h = let b = p.back cs r h in never b.0 r b.2
@@ -245,6 +258,7 @@ chars_of : (cs inside r : List ℕ) → ArePieces inside cs → SpellsUpToQuote 
 chars_of [] inside r h = ap (λ x. x ++ 34 ∷ r) h
 chars_of (c ∷ cs) inside r (p, b, e, h, k) = (p, b ++ 34 ∷ r, h, ap (λ x. x ++ 34 ∷ r) e ∙ append_assoc p b (34 ∷ r), chars_of cs b r k)
 
+-- a quote and a text that spells cs up to a quote are a string with the text s, the UTF-8 of cs
 pub string_leads : (cs t s r : List ℕ) → slice_index t 0 ≡ 34 → SpellsUpToQuote cs (drop 1 t) r
     → s ≡ encode_utf8_all cs → BeginsWith (λ b. IsString b s) t r
 string_leads cs t s r at h e =
@@ -254,6 +268,7 @@ string_leads cs t s r at h e =
       first_byte t 33 at ∙ ap (λ x. 34 ∷ x) (q.2 ∙ sym (append_assoc q.0 (34 ∷ []) r)),
     )
 
+-- after its opening quote, a text that begins with a string spells the string's characters up to a quote
 pub string_chars : (b s t r : List ℕ) (h : IsString b s) → t ≡ b ++ r → SpellsUpToQuote h.characters (drop 1 t) r
 string_chars b s t r h j =
     subst (λ x. SpellsUpToQuote h.characters x r)
@@ -307,6 +322,7 @@ escaped_inside s t r cs e at h =
       (before s t, b.0, ap (λ x. before s t ++ x) b.1),
     )
 
+-- if a backslash follows the run of unescaped bytes, s is bytes that are not special and then a backslash
 pub reaches_backslash : (s t : List ℕ) → t ≡ after_run is_unescaped s → slice_index t 0 ≡ 92 → (p q : List ℕ)
     × AllByRecursion (λ c. is_special c ≡ false) p × (s ≡ p ++ 92 ∷ q)
 reaches_backslash s t e at = let run = plain_run s t e in

@@ -24,6 +24,7 @@ alike f g (suc n) c t h =
       | inr g' ↦ alike f g n c (and_r _ (agree f g n) t) (omega arith)
     ]
 
+-- the entry of `DIGITS` for a byte is its value as a digit
 pub digit_at : (c : ℕ) → c < 256 → get_or DIGITS c 0 ≡ digit_value c
 digit_at c h = alike (λ k. get_or DIGITS k 0) digit_value 256 c tt h
 
@@ -31,9 +32,11 @@ one_if : (b : Bool) (n : ℕ) → n ≡ cond b 1 0 → (n == 1) ≡ b
 one_if true n e = rw e refl
 one_if false n e = rw e refl
 
+-- the entry of `NUMBER` for a byte is 1 exactly if a number text may contain the byte
 pub number_at : (c : ℕ) → c < 256 → (get_or NUMBER c 0 == 1) ≡ is_number_byte c
 number_at c h = one_if (is_number_byte c) _ (alike (λ k. get_or NUMBER k 0) (λ k. cond (is_number_byte k) 1 0) 256 c tt h)
 
+-- the entry of `SPECIAL` for a byte is 1 exactly if the byte must be escaped
 pub special_at : (c : ℕ) → c < 256 → (get_or SPECIAL c 0 == 1) ≡ is_special c
 special_at c h = one_if (is_special c) _ (alike (λ k. get_or SPECIAL k 0) (λ k. cond (is_special k) 1 0) 256 c tt h)
 
@@ -56,11 +59,14 @@ code_ascii x = grind (arith, nat_tests)
 short_code_at : (c : ℕ) → c < 256 → get_or SHORT c 0 ≡ code_of c
 short_code_at c h = alike (λ k. get_or SHORT k 0) code_of 256 c tt h
 
+-- the entry of `SHORT` for a byte is the character of its short escape, or 0 if it has none
 pub short_is : (c : ℕ) → c < 256 → short_at c ≡ (if get_or SHORT c 0 == 0 then None else Some (get_or SHORT c 0))
 short_is c h = rw (short_code_at c h) (short_code c)
 
+-- each entry of `SHORT` is ASCII
 pub short_ascii : (c : ℕ) → c < 256 → get_or SHORT c 0 < 128
 short_ascii c h = rw (short_code_at c h) (code_ascii c)
 
+-- the entry of `SPACE` for a byte is 1 exactly if the byte is whitespace
 pub space_at : (c : ℕ) → c < 256 → (get_or SPACE c 0 == 1) ≡ is_space c
 space_at c h = one_if (is_space c) _ (alike (λ k. get_or SPACE k 0) (λ k. cond (is_space k) 1 0) 256 c tt h)

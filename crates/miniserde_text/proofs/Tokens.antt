@@ -126,6 +126,7 @@ front_only b element r h k away = absurd h
 front_only b (key s) r h k away = absurd h
 front_only b finish r h k away = absurd h
 
+-- if t does not begin with a quote, and `token_at` reads nothing, t begins with no token
 pub front_refused : (t : List ℕ) → slice_index t 0 ≢ 34 → token_at t ≡ None → (e : Step) (r : List ℕ) → TakesToken t e r → ⊥
 front_refused t away none e r ((b, h, j), k) =
     none_is_some (token_at t) (e, r) none
@@ -146,14 +147,17 @@ piece_first element r b h = absurd h
 piece_first (key s) r b h = absurd h
 piece_first finish r b h = absurd h
 
+-- if t is s after its whitespace, and t begins with a token, s has that token after whitespace
 pub start_takes : (s t : List ℕ) (e : Step) (r : List ℕ) → t ≡ after_run is_space s → TakesToken t e r → Starts s e r
 start_takes s t e r j h = (stands_of (Piece e) s t r j h.0, h.1)
 
+-- if t is s after its whitespace, and s has a token after whitespace, t begins with that token
 pub start_only : (s t : List ℕ) (e : Step) (r : List ℕ) → t ≡ after_run is_space s → Starts s e r → TakesToken t e r
 start_only s t e r j h = (stands_only (Piece e) s t r (piece_first e r) j h.0, h.1)
 
 -- ---- strings
 
+-- a quote and a text that spells cs up to a quote are the token of the string s, the UTF-8 of cs
 pub string_taken : (cs t s r : List ℕ) → slice_index t 0 ≡ 34 → SpellsUpToQuote cs (drop 1 t) r
     → s ≡ encode_utf8_all cs → TakesToken t (string s) r
 string_taken cs t s r at h e = (string_leads cs t s r at h e, tt)
@@ -166,6 +170,7 @@ no_quote b t r k h away at j =
 no_byte : (b t r : List ℕ) (c : ℕ) → b ≡ c ∷ [] → (c ≡ 34 → ⊥) → slice_index t 0 ≡ 34 → t ≡ b ++ r → ⊥
 no_byte b t r c h away at j = away (sym (ap (λ x. slice_index x 0) (j ∙ ap (λ x. x ++ r) h)) ∙ at)
 
+-- if t begins with a quote, and no characters up to a quote follow it, t begins with no token
 pub string_refused : (t : List ℕ) → slice_index t 0 ≡ 34 → ((cs r : List ℕ) → SpellsUpToQuote cs (drop 1 t) r → ⊥)
     → (e : Step) (r : List ℕ) → TakesToken t e r → ⊥
 string_refused t at never step.null r ((b, h, j), k) = no_quote b t r 0 (value_head null b h) (λ n. omega arith) at j
@@ -194,6 +199,7 @@ plain_taken t u (event.Str text.Scratch) r away ((b, h, j), k) = absurd (away (a
 plain_taken t u event.SeqStart r away h = h
 plain_taken t u event.MapStart r away h = h
 
+-- if `token_at` reads the event of e from t, t begins with a token of it, whatever the scratch text u
 pub read_taken : (t u : List ℕ) (e : answer.Event) (r : List ℕ) → slice_index t 0 ≢ 34
     → token_at t ≡ Some (event_of_token e [], r) → TakesToken t (event_of_token e u) r
 read_taken t u e r away h = plain_taken t u e r away (front_takes t (event_of_token e []) r h)
@@ -201,6 +207,7 @@ read_taken t u e r away h = plain_taken t u e r away (front_takes t (event_of_to
 no_string : (t x r : List ℕ) → slice_index t 0 ≢ 34 → TakesToken t (string x) r → ⊥
 no_string t x r away ((b, h, j), k) = away (ap (λ l. slice_index l 0) (j ∙ ap (λ l. l ++ r) h.text))
 
+-- a token that does not begin with a quote is no string, so `EventTakesText` holds
 pub read_text : (t u : List ℕ) (e : answer.Event) (r : List ℕ) → slice_index t 0 ≢ 34
     → TakesToken t (event_of_token e u) r → EventTakesText e t r
 read_text t u event.Null r away h = tt
@@ -212,6 +219,7 @@ read_text t u (event.Str x) r away h = absurd (no_string t _ r away h)
 read_text t u event.SeqStart r away h = tt
 read_text t u event.MapStart r away h = tt
 
+-- an unchanged scratch text satisfies `EventLeavesScratch`, whatever the token
 pub keeps : {S : Type 0} (e : answer.Event) (x : S) → EventLeavesScratch e x x
 keeps event.Null x = refl
 keeps (event.Bool b) x = refl
@@ -225,6 +233,7 @@ keeps event.MapStart x = refl
 
 -- ---- what is borrowed
 
+-- if t is a quote and s, and the string text x is taken from s, t begins with that string between quotes
 pub string_text : (x : Text) (t s r : List ℕ) → slice_index t 0 ≡ 34 → s ≡ drop 1 t → TakesText x s r
     → BeginsWith (Between 34 (StandsFor x) 34) t r
 string_text x t s r at e (inside, j, h) = (
@@ -234,6 +243,7 @@ string_text x t s r at e (inside, j, h) = (
       ∙ ap (λ y. 34 ∷ y) (sym e ∙ j ∙ sym (append_assoc inside (34 ∷ []) r)),
 )
 
+-- if t is s after its whitespace, `EventTakesText` on t gives `EventStandsFor` on s
 pub text_behind : (s t : List ℕ) (e : answer.Event) (r : List ℕ) → t ≡ after_run is_space s → EventTakesText e t r → EventStandsFor e s r
 text_behind s t event.Null r j h = tt
 text_behind s t (event.Bool b) r j h = tt
@@ -244,6 +254,7 @@ text_behind s t (event.Str x) r j h = stands_of (Between 34 (StandsFor x) 34) s 
 text_behind s t event.SeqStart r j h = tt
 text_behind s t event.MapStart r j h = tt
 
+-- if t is s after its whitespace, and is a quote, plain bytes and a backslash, `BeginsEscaped` holds for s
 pub backslash_behind : (s t : List ℕ) → t ≡ after_run is_space s → slice_index t 0 ≡ 34 → ReachesBackslash (drop 1 t) → BeginsEscaped s
 backslash_behind s t j at (p, q, h, e) =
     let b : List ℕ = 34 ∷ (p ++ 92 ∷ []) in

@@ -23,6 +23,7 @@ finish_on Seq false st space part w p rest r k = front space part r w p k
 finish_on Map true st space part w p rest r k = front space part r w p k
 finish_on Map false st space part w p rest r k = front space part r w p k
 
+-- the closing bracket of the innermost container spells `finish`, and closes that container
 pub passes_finish : (k : Kind) (f : Bool) (st : List Kind) (s r : List ℕ) → Stands (IsByte (closing k)) s r
     → Passes (before_child f) (k ∷ st) s (finish ∷ []) after st r
 passes_finish k f st s r p = record {
@@ -33,12 +34,15 @@ passes_finish k f st s r p = record {
 
 -- ---- an element
 
+-- if s has the empty part after whitespace, s is that whitespace and then r
 pub bare : (s r : List ℕ) (p : Stands (λ b. b ≡ []) s r) → s ≡ p.space ++ r
 bare s r p = p.text ∙ ap (λ z. p.space ++ (z ++ r)) p.is_part
 
+-- a text that begins a child does not begin with whitespace
 pub begins_stops : (r : List ℕ) → Begins r → StopsAt is_space r
 begins_stops r b = subst (StopsAt is_space) (sym b.text) b.no_space
 
+-- the step to the next element of an array spells `element`, and then a value is due
 pub passes_element : (f : Bool) (st : List Kind) (s r : List ℕ) → Follows Seq f false s r
     → Passes (before_child f) (Seq ∷ st) s (element ∷ []) due (Seq ∷ st) r
 passes_element true st s r p = record {
@@ -57,6 +61,7 @@ passes_element false st s r p = record {
 four : (a b c d x : List ℕ) → ((a ++ b) ++ (c ++ d)) ++ x ≡ (a ++ b) ++ ((c ++ d) ++ x)
 four a b c d x = append_assoc (a ++ b) (c ++ d) x
 
+-- the step to the next member of an object, with the name n, spells `key n`, and then a value is due
 pub passes_key : (f : Bool) (st : List Kind) (s r n x : List ℕ) → Follows Map f false s r → Names r n x
     → Passes (before_child f) (Map ∷ st) s (key n ∷ []) due (Map ∷ st) x
 passes_key true st s r n x p q = record {

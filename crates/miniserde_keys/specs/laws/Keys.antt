@@ -34,40 +34,48 @@ ReadsBack {K} real content code read text =
 
 -- ---- equal keys
 
+-- two numbers are equal exactly if the bytes of their contents are
 pub nat-alike : (a b : ℕ) → nat_eq a b ≡ bytes_eq (of_nat a) (of_nat b)
 nat-alike a b =
     same_from_decides _ _ (Decides-eqb a b)
     (Decides-like _ (λ e. cc) (λ e. ap of_nat e) (bytes_eq-Decides (of_nat a) (of_nat b)))
 
+-- numbers with one content are equal
 pub nat-same : (a b : ℕ) → of_nat a ≡ of_nat b → a ≡ b
 nat-same a b e = cc
 
+-- numbers with one content have one text, whatever the function `text`
 pub nat-text : (text : ℕ → List ℕ) (a b : ℕ) → of_nat a ≡ of_nat b → text a ≡ text b
 nat-text text a b e = ap text (nat-same a b e)
 
+-- integers with one content are equal
 pub int-same : (a b : ℤ) → of_int a ≡ of_int b → a ≡ b
 int-same (pos m) (pos n) e = cc
 int-same (pos m) (negsuc n) e = cc
 int-same (negsuc m) (pos n) e = cc
 int-same (negsuc m) (negsuc n) e = cc
 
+-- two integers are equal exactly if the bytes of their contents are
 pub int-alike : (a b : ℤ) → int_eq a b ≡ bytes_eq (of_int a) (of_int b)
 int-alike a b =
     same_from_decides _ _ (Decides-int_eq a b)
     (Decides-like _ (int-same a b) (λ e. ap of_int e) (bytes_eq-Decides (of_int a) (of_int b)))
 
+-- two values of `bool` are equal exactly if the bytes of their contents are
 pub bool-alike : (a b : Bool) → beq a b ≡ bytes_eq (of_bool a) (of_bool b)
 bool-alike true true = refl
 bool-alike true false = refl
 bool-alike false true = refl
 bool-alike false false = refl
 
+-- values of `bool` with one content have one text
 pub bool-text : (a b : Bool) → of_bool a ≡ of_bool b → bool_text a ≡ bool_text b
 bool-text true true e = refl
 bool-text true false e = cc
 bool-text false true e = cc
 bool-text false false e = refl
 
+-- the text of each `bool` is parsed as that `bool`
 pub bool-back : ReadsBack (λ _. ⊤) of_bool (λ c. c) read_bool bool_text
 bool-back true r = (true, r, refl, refl)
 bool-back false r = (false, r, refl, refl)
@@ -135,6 +143,7 @@ unsigned_reads : (bits : ℕ) (bs : List ℕ)
 unfolding read_unsigned
 unsigned_reads bits bs = digits_read (2 ^ bits) of_nat (without_leading_plus bs) _ (λ h. h) (λ h. h)
 
+-- the digits of an unsigned integer of so many bits, at most 64, are parsed as that integer
 pub unsigned-back : (bits : ℕ) → 2 ^ bits ≤ 2 ^ 64 → (n : ℕ) → n < 2 ^ bits
     → read_unsigned bits (decimal n) ≡ Some (of_nat n)
 unfolding read_unsigned
@@ -188,6 +197,7 @@ signed_reads : (bits : ℕ) (w : Width) → hbits w ≡ bits - 1 → (bs : List 
 unfolding read_signed
 signed_reads bits w e bs = rw (sym e) (reads_by w (starts_with_minus bs) (drop 1 bs) (without_leading_plus bs))
 
+-- the text of a signed integer of so many bits, at most 64, is parsed as that integer
 pub signed-back : (bits : ℕ) (w : Width) → hbits w ≡ bits - 1 → 2 ^ hbits w ≤ 2 ^ 63 → (n : ℤ) → FitsSigned w n
     → read_signed bits (signed_decimal n) ≡ Some (of_int n)
 unfolding read_signed
@@ -218,6 +228,7 @@ char_some c s =
     chars_past_char (encode_utf8 c) [] c u (sym (append-nil (encode_utf8 c))) ∙ ap (λ cs. c ∷ cs) chars-nil in
     rw (t, e) refl
 
+-- the UTF-8 bytes of each character are parsed as that character
 pub char-back : ReadsBack IsScalar of_nat (λ c. c) read_char encode_utf8
 char-back c s = (c, s, char_some c s, refl)
 

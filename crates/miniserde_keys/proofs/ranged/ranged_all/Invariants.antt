@@ -1,3 +1,4 @@
+-- The loop keeps that each item before the current index is valid.
 use Rattle.std.proofs.Common.{take}
 use Rattle.std.specs.List.{AllByRecursion}
 use Rattle.miniserde_keys.proofs.ranged.ranged_all.Given as goal

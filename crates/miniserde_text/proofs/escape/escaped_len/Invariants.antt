@@ -1,3 +1,5 @@
+-- `total` counts the bytes that the escape rule writes for the text before `at`, and one byte for each byte from `at`
+-- on. The number of bytes from `at` on decreases.
 use Rattle.std.proofs.Common.{◌≡◌, ◌+◌, ◌-◌, ◌≤◌, length, take}
 use Rattle.miniserde_text.specs.private.Escape.{escapes}
 use Rattle.miniserde_text.proofs.escape.escaped_len.Given as goal

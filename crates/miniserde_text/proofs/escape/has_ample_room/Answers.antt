@@ -1,3 +1,5 @@
+-- The escape rule writes at most six bytes for a byte (`length_escapes_six`), so the room is enough for a text that
+-- is no longer than a sixth of the free bytes without `extra`.
 use Rattle.std.proofs.Common.{arith}
 use Rattle.std.proofs.lemmas.Bool.{leb-true}
 use Rattle.miniserde_text.proofs.Escaping.{length_escapes_six}

@@ -1,3 +1,5 @@
+-- `out` is the old text and the escapes of the bytes before `start`, which is a character boundary. The capacity of
+-- `out` is at least the old one. The number of bytes from `start` on decreases.
 use Rattle.std.proofs.Common.{length, ◌-◌, ◌≡◌, ◌+◌, ◌≤◌, ◌++◌, take, string_bytes, string_len, string_capacity}
 use Rattle.std.specs.Str.{IsCharBoundary}
 use Rattle.miniserde_text.specs.private.Escape.{escapes}

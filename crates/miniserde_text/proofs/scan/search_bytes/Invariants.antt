@@ -1,3 +1,5 @@
+-- The first special byte from `i` on is the first from `from` on, or both searches end at the length. The number of
+-- bytes from `i` on decreases, by one a turn.
 use Rattle.std.proofs.Common.{◌≡◌, ◌+◌, ◌-◌, ◌≤◌, length, drop}
 use Rattle.std.specs.List.{position_or_len}
 use Rattle.miniserde_model.specs.Bytes.{is_special}

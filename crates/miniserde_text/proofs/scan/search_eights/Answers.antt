@@ -1,3 +1,5 @@
+-- If the mask of the 8 lanes is 0, the run of plain bytes continues past them (`through`); else its trailing zeros
+-- lead to the first special byte (`stops`).
 use Rattle.std.proofs.Common.{ap, sym, ◌∙◌, arith}
 use lib.Count.{count_trailing_zeros}
 use Rattle.miniserde_text.proofs.Lanes.{through, stops}

@@ -1,3 +1,5 @@
+-- If the mask of the 16 lanes is not 0, its trailing zeros lead to the first special byte (`stops`); else the run of
+-- plain bytes continues past the lanes (`through`), and `search` finds its end.
 use Rattle.std.proofs.Common.{ap, sym, ◌∙◌, arith}
 use lib.Count.{count_trailing_zeros}
 use Rattle.miniserde_text.proofs.Lanes.{through, stops}

@@ -1,3 +1,4 @@
+-- The loop keeps that the key and the value of each entry that the hash map's iterator has yielded are valid.
 use Rattle.std.proofs.Common.{map}
 use Rattle.std.specs.List.{AllByRecursion}
 use Rattle.std.specs.Map.Iter.{deref_pair}

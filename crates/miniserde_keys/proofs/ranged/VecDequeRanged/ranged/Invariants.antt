@@ -1,3 +1,4 @@
+-- The loop keeps that each item that the iterator of the `VecDeque` has yielded is valid.
 use Rattle.std.proofs.Common.{map}
 use Rattle.std.specs.List.{AllByRecursion}
 use Rattle.miniserde_keys.proofs.ranged.VecDequeRanged.ranged.Given as goal

@@ -1,3 +1,4 @@
+-- A mask of 0 says that none of the 16 bytes in the lanes is special (`lanes_plain`).
 use Rattle.std.proofs.Common.{eqb-true, sym, ◌∙◌}
 use Rattle.miniserde_text.proofs.Plain.{lanes_plain}
 use Rattle.miniserde_text.proofs.escape.plain.sixteen_are_plain.Goals as goal

@@ -1,3 +1,5 @@
+-- The word that `with_kind` returns adds the kind to the stack (`stack_opened`). A word of zeros that was pushed
+-- before leaves the stack unchanged (`stack_grown`).
 use Rattle.std.proofs.Common.{◌≡◌, ◌+◌, ◌/◌, ◌<◌, length, rules, refl, ap, ◌∙◌}
 use Rattle.miniserde_text.specs.private.Stack.{stack_of}
 use Rattle.miniserde_text.proofs.Stacks.{stack_opened, stack_grown}

@@ -1,3 +1,5 @@
+-- The bit of the last level is the kind of the innermost container (`stack_top`). A bit that is not 1 is 0
+-- (`bit_clear`).
 use Rattle.std.proofs.Common.{◌≡◌, ◌+◌, ◌/◌, ◌^◌, Some, bit_and, rules, ap, sym, ◌∙◌}
 use Rattle.miniserde_text.specs.private.Stack.{kind_by}
 use Rattle.miniserde_text.proofs.Stacks.{stack_top, bit_clear}

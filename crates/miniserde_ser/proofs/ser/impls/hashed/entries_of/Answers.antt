@@ -1,3 +1,6 @@
+-- A turn appends one name, one tree and one valid key (`map_more`, `all_more`). After the loop the iterator has
+-- yielded all entries of the map, so `members_same` gives the members, and `distinct_names` says that the names are
+-- distinct.
 use Rattle.std.proofs.Common.{◌≡◌, ◌∷◌, [], rules, refl, map, string_bytes}
 use Rattle.std.specs.Map.Iter.{deref_pair}
 use Rattle.std.proofs.lemmas.List.{map-append}

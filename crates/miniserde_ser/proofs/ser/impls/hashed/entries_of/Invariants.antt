@@ -1,3 +1,5 @@
+-- The names so far are the texts of the keys that the iterator has yielded, and the trees so far are those of the
+-- values. Each of these keys is valid.
 use Rattle.std.proofs.Common.{◌≡◌, map, string_bytes}
 use Rattle.std.specs.List.{AllByRecursion}
 use Rattle.std.specs.Map.Iter.{deref_pair}

@@ -1,3 +1,5 @@
+-- The byte order of names is total (`nat_list_cmp_total`), and the closure always returns the comparison of two
+-- names, so `sort_by` sorts the entries by it.
 use Rattle.std.proofs.Common.{rules, is_lt, string_bytes}
 use Rattle.std.proofs.lemmas.List.Sorted.{ranks_by, answers_always}
 use Rattle.std.specs.Cmp.Lexicographic.{nat_list_cmp_total}

@@ -1,3 +1,5 @@
+-- A turn writes one member: `compact_members_step` gives the text with it, and `MembersInRange_step` says that its
+-- name is UTF-8 and its tree in range. After the turn the index is not 0, so the flag `first` is false.
 use Rattle.std.proofs.Common.{arith, ap, take, string_bytes, Bor}
 use Rattle.std.proofs.lemmas.List.{length-take-le}
 use Rattle.miniserde_model.specs.Tree.{Tree}

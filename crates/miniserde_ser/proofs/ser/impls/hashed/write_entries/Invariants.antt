@@ -1,3 +1,5 @@
+-- The text is the old text, `{` and the members of the entries before the index, and these members are in range. The
+-- flag `first` is true at index 0 and false after it. The writer has not failed, neither before the call nor in it.
 use Rattle.std.proofs.Common.{◌≡◌, ◌++◌, [], ◌∷◌, false, true, ◌<◌, take, string_bytes}
 use Rattle.miniserde_model.specs.Compact.{compact_members}
 use Rattle.miniserde_model.specs.InRange.{MembersInRange}

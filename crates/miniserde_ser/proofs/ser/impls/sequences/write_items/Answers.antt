@@ -1,3 +1,5 @@
+-- A turn writes the element at the index: `compact_children_step` gives the text with it, and `AllInRange_step` says
+-- that the trees with it are in range.
 use Rattle.std.proofs.Common.{arith, ap}
 use Rattle.miniserde_ser.proofs.Items.{compact_children_step, AllInRange_step}
 use Rattle.miniserde_ser.proofs.ser.impls.sequences.write_items.Goals as goal

@@ -1,3 +1,5 @@
+-- The text is the old text, `[` and the elements before the index, and their trees are in range. The flag `first` is
+-- true at index 0 and false after it. The writer has not failed.
 use Rattle.std.proofs.Common.{◌≡◌, ◌++◌, [], ◌∷◌, false, true, ◌<◌, take}
 use Rattle.miniserde_model.specs.Compact.{compact_children}
 use Rattle.miniserde_model.specs.InRange.{AllInRange}

@@ -1,3 +1,5 @@
+-- The text at the index that `after_space` returns is the rest without its whitespace. From there, `follows` turns
+-- the result of `take_punctuation` into `Follows`, and `follows_refused` says that after `None` nothing follows.
 use Rattle.std.proofs.Common.{◌≡◌, None, Some, drop, arith}
 use Rattle.miniserde_model.specs.Bytes.{is_space}
 use Rattle.miniserde_text.specs.Lexer.{is_close}

@@ -1,3 +1,5 @@
+-- The text at the index that `after_space` returns is the rest without its whitespace. If that index is the length,
+-- the rest is whitespace (`blank_of`), and else it is not (`not_blank`).
 use Rattle.std.proofs.Common.{◌≡◌, drop, refl, arith}
 use Rattle.miniserde_model.specs.Bytes.{is_space}
 use Rattle.miniserde_text.specs.private.Reading.{after_run}

@@ -1,3 +1,4 @@
+-- The text at the index that `after_space` returns is the rest without its whitespace, so `blank_of` applies.
 use Rattle.std.proofs.Common.{◌≡◌, drop, arith}
 use Rattle.miniserde_model.specs.Bytes.{is_space}
 use Rattle.miniserde_text.specs.private.Reading.{after_run}

@@ -1,3 +1,5 @@
+-- The text at the index that `after_space` returns is the rest without its whitespace. Each clause of `take_token` on
+-- that text gives the clause on the rest by one lemma of `Tokens`.
 use Rattle.std.proofs.Common.{◌≡◌, Err, drop, ap, arith}
 use Rattle.miniserde_model.specs.Bytes.{is_space}
 use Rattle.miniserde_model.specs.declared.error.Error.TheVariants.{Invalid, Memory}

@@ -1,3 +1,5 @@
+-- Fewer than four bytes are no code unit (`few_bytes`). If one of the four bytes is no hexadecimal digit,
+-- `code_unit_at` is `None` by its definition.
 use Rattle.std.proofs.Common.{drop, length-drop, sym, arith}
 use Rattle.std.proofs.lemmas.Bool.Decides.{nat_tests}
 use Rattle.miniserde_text.proofs.Escapes.{few_bytes}

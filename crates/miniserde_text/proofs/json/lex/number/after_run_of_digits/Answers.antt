@@ -1,3 +1,5 @@
+-- A digit at `i` belongs to the run (`after_run_more`), and it is ASCII, so `i + 1` follows an ASCII byte
+-- (`follows_more`).
 use Rattle.std.proofs.Common.{arith, ◌≡◌, true, get_or}
 use Rattle.miniserde_text.specs.private.Reading.{is_digit}
 use Rattle.miniserde_text.proofs.Runs.{digit_ascii, after_run_more}

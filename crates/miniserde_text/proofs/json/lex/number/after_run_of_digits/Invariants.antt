@@ -1,3 +1,5 @@
+-- The run of digits from `i` on ends where the run from `at` on ends, and the byte before `i` is ASCII. The number of
+-- bytes from `i` on decreases.
 use Rattle.std.proofs.Common.{length, ◌-◌, ◌≡◌, drop}
 use Rattle.miniserde_text.specs.private.Reading.{is_digit}
 use Rattle.miniserde_text.specs.private.Reading.{after_run, FollowsAscii}

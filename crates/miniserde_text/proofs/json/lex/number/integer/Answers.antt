@@ -1,3 +1,5 @@
+-- The number after a turn is at most the value of all digits (`grown` of `turn`), so if `checked_mul` or
+-- `checked_add` fails, that value is 2^64 or more. After the last digit the number is that value.
 use Rattle.std.proofs.Common.{arith, ◌≡◌, ◌^◌, ◌≤◌, ap, sym, ◌∙◌}
 use Rattle.std.proofs.lemmas.Grind.{common_steps}
 use Rattle.std.proofs.lemmas.Bool.Decides.{nat_tests}

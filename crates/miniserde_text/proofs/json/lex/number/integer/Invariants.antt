@@ -1,3 +1,5 @@
+-- The number so far, continued with the digits that are left, gives the value of all digits. It fits in 64 bits, and
+-- the bytes that are left are digits.
 use Rattle.std.proofs.Common.{◌≡◌, ◌^◌, ◌<◌, drop}
 use Rattle.std.specs.Str.Parse.{digits_value, digits_value_after}
 use Rattle.std.specs.List.{AllByRecursion}

@@ -1,3 +1,5 @@
+-- A digit at `i` makes the run before `i + 1` one longer. With fewer than 19 digits before it, the arithmetic does
+-- not wrap (`wraps_not`), and the new value is below the next power of 10 (`below_next`).
 use Rattle.std.proofs.Common.{arith, ◌≡◌, ◌+◌, ◌*◌, ◌%◌, ◌^◌, ◌<◌, ◌≤◌, ◌∙◌, true, get_or}
 use Rattle.std.proofs.lemmas.Int.Digits.{digits_value_more}
 use Rattle.std.proofs.lemmas.List.Sums.{prefix_len-drop_yes}

@@ -1,3 +1,5 @@
+-- `i` and the length of the run of digits from `i` on add up to the length of the whole run. Up to 19 digits, `value`
+-- is that of the digits before `i`, and it is below 10^i. The number of bytes from `i` on decreases.
 use Rattle.std.proofs.Common.{◌≡◌, ◌+◌, ◌-◌, ◌^◌, ◌<◌, ◌≤◌, length, take, drop}
 use Rattle.std.specs.List.{prefix_len}
 use Rattle.std.specs.Str.Parse.{digits_value}

@@ -1,3 +1,5 @@
+-- The arithmetic does not overflow: with fewer than 20 digits the value before each turn is below 10^18
+-- (`short_fits`), and a digit is at most `9` (`high` of `turn`).
 use Rattle.std.proofs.Common.{arith}
 use Rattle.miniserde_text.proofs.Digits.{turn, short_fits}
 use Rattle.miniserde_text.proofs.json.lex.number.short_integer.Goals as goal

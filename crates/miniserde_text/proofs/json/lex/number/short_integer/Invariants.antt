@@ -1,3 +1,5 @@
+-- The value so far, continued with the digits that are left, gives the value of all digits. It is below 10 to the
+-- power of the index, and the bytes that are left are digits.
 use Rattle.std.proofs.Common.{◌≡◌, ◌^◌, ◌<◌, drop}
 use Rattle.std.specs.Str.Parse.{digits_value, digits_value_after}
 use Rattle.std.specs.List.{AllByRecursion}

@@ -1,3 +1,4 @@
+-- Whitespace at `i` belongs to the run (`after_run_more`), so the run from `i + 1` on ends at the same place.
 use Rattle.std.proofs.Common.{arith, ◌≡◌, true, get_or}
 use Rattle.miniserde_model.specs.Bytes.{is_space}
 use Rattle.miniserde_text.proofs.Runs.{after_run_more}

@@ -1,3 +1,5 @@
+-- The run of whitespace from `i` on ends where the run from `at` on ends, and `i` is at most the length. The number
+-- of bytes from `i` on decreases.
 use Rattle.std.proofs.Common.{length, ◌-◌, ◌≡◌, ◌≤◌, drop}
 use Rattle.miniserde_model.specs.Bytes.{is_space}
 use Rattle.miniserde_text.specs.private.Reading.{after_run}

@@ -1,3 +1,5 @@
+-- The index that `special_in_lanes` returns is the end of the run of unescaped bytes (`unescaped_from`), and it is a
+-- character boundary (`special_boundary`).
 use Rattle.std.proofs.Common.{◌≡◌, ◌+◌, drop, arith}
 use Rattle.std.specs.List.{position_or_len}
 use Rattle.miniserde_model.specs.Bytes.{is_special}

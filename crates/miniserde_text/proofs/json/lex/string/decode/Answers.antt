@@ -1,3 +1,4 @@
+-- `at` follows an ASCII byte, so it is a character boundary (`follows_boundary`), which `text_between` requires.
 use Rattle.miniserde_text.proofs.Indices.{follows_boundary}
 use Rattle.miniserde_text.proofs.json.lex.string.decode.Goals as goal
 

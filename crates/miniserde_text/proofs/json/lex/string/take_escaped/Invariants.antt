@@ -1,3 +1,5 @@
+-- The scratch text is the initial one and the decoded characters between `at` and `tail` (`AddsDecoded`), and no
+-- unescaped byte is at `tail`. The length of the text from `tail` on decreases.
 use Rattle.std.proofs.Common.{◌≡◌, false, length, drop, slice_index}
 use Rattle.std.specs.String.{string_bytes}
 use Rattle.miniserde_text.specs.private.Reading.{is_unescaped}

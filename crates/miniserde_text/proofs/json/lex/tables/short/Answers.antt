@@ -1,3 +1,5 @@
+-- The table `SHORT` has the character of each short escape, and 0 for every other byte (`short_is`); all its entries
+-- are ASCII (`short_ascii`).
 use Rattle.std.proofs.Common.{arith}
 use Rattle.miniserde_text.proofs.Tables.{short_is, short_ascii}
 use Rattle.miniserde_text.proofs.json.lex.tables.short.Goals as goal

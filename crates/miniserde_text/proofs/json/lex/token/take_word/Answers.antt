@@ -1,3 +1,5 @@
+-- If the text has the word at `at`, the last byte that is taken is the last byte of the word (`last`). So it is ASCII
+-- and not 0, which `index_after` requires.
 use Rattle.std.proofs.Common.{arith, ◌≡◌, ◌++◌, ◌-◌, drop, length, get_or, subst}
 use Rattle.std.specs.Prelude.{nat_eq}
 use Rattle.std.specs.List.{starts_with}

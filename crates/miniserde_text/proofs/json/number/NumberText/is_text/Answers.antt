@@ -1,3 +1,5 @@
+-- A token `Number` is the text of the whole of `t` exactly if it ends where `t` ends (`kept_where`). If there is no
+-- number or another token, `t` is no such text (`no_kept`), since `kept_read` says how such a text is read.
 use Rattle.std.proofs.Common.{◌≡◌, Some, None, [], drop, ap, sym, ◌∙◌, arith}
 use Rattle.miniserde_model.specs.Step.{float}
 use Rattle.miniserde_text.specs.Lexer.{event_of_token}

@@ -1,3 +1,6 @@
+-- The members of the sorted entries are the map's members in byte order of their names (`in_order_of`): the entries
+-- have distinct names and are sorted, so `in_order_sorted` applies. By this equation both answers are clauses of
+-- `write_entries`.
 use Rattle.std.proofs.Common.{◌≡◌, ◌∙◌, rules, ap, string_bytes, IsSortedByKey}
 use Rattle.miniserde_model.specs.Normal.{text_cmp}
 use Rattle.miniserde_ser.specs.Trees.{members_of, in_order}

@@ -1,3 +1,5 @@
+-- A turn writes one member: `compact_members_step` gives the text with it, and `MembersInRange_step` says that it is
+-- in range. The text that `key` writes is `K.text` of the key that the iterator yields.
 use Rattle.std.proofs.Common.{◌≡◌, ◌∷◌, [], rules, arith, ap, length, length-append, map}
 use Rattle.std.specs.Map.Iter.{deref_pair}
 use Rattle.std.proofs.lemmas.List.{map-append, length-map}

@@ -1,3 +1,5 @@
+-- The text is the old text, `{` and the members of the entries that the iterator has yielded, and these are in range.
+-- The flag `first` is true before the first entry and false after it. The writer has not failed.
 use Rattle.std.proofs.Common.{◌≡◌, ◌++◌, [], ◌∷◌, false, true, ◌<◌, length, map}
 use Rattle.std.specs.Map.Iter.{deref_pair}
 use Rattle.miniserde_model.specs.Compact.{compact_members}

@@ -1,3 +1,5 @@
+-- A turn writes one element: `compact_children_turn` gives the text with it, and `AllInRange-snoc` says that the
+-- trees with it are in range.
 use Rattle.std.proofs.Common.{◌∷◌, [], arith, ap, length-append, map}
 use Rattle.std.proofs.lemmas.List.{map-append, length-map}
 use Rattle.miniserde_ser.proofs.Items.{compact_children_turn, AllInRange-snoc}

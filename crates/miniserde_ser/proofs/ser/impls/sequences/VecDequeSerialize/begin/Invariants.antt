@@ -1,3 +1,5 @@
+-- The text is the old text, `[` and the elements that the iterator has yielded, and their trees are in range. The
+-- flag `first` is true before the first element and false after it. The writer has not failed.
 use Rattle.std.proofs.Common.{◌≡◌, ◌++◌, [], ◌∷◌, false, true, ◌<◌, length, map}
 use Rattle.miniserde_model.specs.Compact.{compact_children}
 use Rattle.miniserde_model.specs.InRange.{AllInRange}

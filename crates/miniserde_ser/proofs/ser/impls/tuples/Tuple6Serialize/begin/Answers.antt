@@ -1,3 +1,5 @@
+-- Each of the six calls of `write_item` appends one piece, and `]` is the last piece (`appends_text`). Joined by
+-- `append_assoc`, the pieces are the compact text of the tuple.
 use Rattle.std.proofs.Common.{refl, append_assoc}
 use Rattle.miniserde_ser.proofs.Items.{appends_text}
 use Rattle.miniserde_ser.proofs.ser.impls.tuples.Tuple6Serialize.begin.Goals as goal
