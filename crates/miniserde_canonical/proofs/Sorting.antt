@@ -1,5 +1,5 @@
 -- `sort_members` puts the members of an object in the order of their names, each name once. `put_members` has the
--- members put so far as its invariant (`CollectorMeaning`), and `put_back` has two cases: a short text or a splice.
+-- members put so far as its invariant (`PutsSoFar`), and `put_back` has two cases: a short text or a splice.
 use Rattle.std.proofs.Common.{◌≡◌, ◌≤◌, ◌<◌, ◌+◌, ℕ, suc, Bool, true, false, nat_eq, List, [], ◌∷◌, ◌++◌, map}
 use Rattle.std.proofs.Common.{length, take, drop, get_or, refl, sym, ap, ap₂, subst, ◌∙◌, append_assoc, append-nil}
 use Rattle.std.proofs.Common.{arith, length-append, IsSortedByKey}
@@ -84,8 +84,8 @@ gains_append ms gs hs a b c x y p q = record {
 -- ---- all members
 
 -- behind k members of the order, of which some were put
-abbrev pub CollectorMeaning : List Member → List ℕ → SplicedText → SplicedText → SplicedText → ℕ → ℕ → Type 0
-CollectorMeaning ns order out groups groups' k n = (es : List Entry) (last ms : List ℕ) (gs : List Splice)
+abbrev pub PutsSoFar : List Member → List ℕ → SplicedText → SplicedText → SplicedText → ℕ → ℕ → Type 0
+PutsSoFar ns order out groups groups' k n = (es : List Entry) (last ms : List ℕ) (gs : List Splice)
     → EndsWithMembers ns es ms gs out.bytes.items out.splices.items last
     → (x : List ℕ) × Gains ms gs out.splices.items groups groups' x
     × (x ++ members_text (nat_eq n 0) (without_repeats (members_at ns (text_tree_at es last) (drop k order)))
@@ -93,13 +93,13 @@ CollectorMeaning ns order out groups groups' k n = (es : List Entry) (last ms : 
     × (n + count (without_repeats (members_at ns (text_tree_at es last) (drop k order)))
     ≡ count (without_repeats (members_at ns (text_tree_at es last) order)))
 
-pub gather_begin : (ns : List Member) (order : List ℕ) (out groups : SplicedText) → CollectorMeaning ns order out groups groups 0 0
+pub gather_begin : (ns : List Member) (order : List ℕ) (out groups : SplicedText) → PutsSoFar ns order out groups groups 0 0
 gather_begin ns order out groups = λ es last ms gs own. ([], gains_none ms gs out.splices.items groups, refl, omega arith)
 
 pub gather_skip : (ns : List Member) (order : List ℕ) (out groups groups' : SplicedText) (k n d : ℕ)
     → k < length order → ((r : ℕ → Tree)
     → begins_with_name (name_in ns (get_or order k d)) (members_at ns r (drop (k + 1) order)) ≡ true)
-    → CollectorMeaning ns order out groups groups' k n → CollectorMeaning ns order out groups groups' (k + 1) n
+    → PutsSoFar ns order out groups groups' k n → PutsSoFar ns order out groups groups' (k + 1) n
 gather_skip ns order out groups groups' k n d l h g = λ es last ms gs own.
     let r = text_tree_at es last in
     let t = g es last ms gs own in
@@ -110,8 +110,8 @@ gather_skip ns order out groups groups' k n d l h g = λ es last ms gs own.
 pub gather_take : (ns : List Member) (order : List ℕ) (out groups mid groups' : SplicedText) (k n d : ℕ)
     → k < length order → ((r : ℕ → Tree)
     → begins_with_name (name_in ns (get_or order k d)) (members_at ns r (drop (k + 1) order)) ≡ false)
-    → PutsMember ns (get_or order k d) (nat_eq n 0) out mid groups' → CollectorMeaning ns order out groups mid k n
-    → CollectorMeaning ns order out groups groups' (k + 1) (n + 1)
+    → PutsMember ns (get_or order k d) (nat_eq n 0) out mid groups' → PutsSoFar ns order out groups mid k n
+    → PutsSoFar ns order out groups groups' (k + 1) (n + 1)
 gather_take ns order out groups mid groups' k n d l h p g = λ es last ms gs own.
     let r = text_tree_at es last in
     let i = get_or order k d in
@@ -137,7 +137,7 @@ gather_take ns order out groups mid groups' k n d l h p g = λ es last ms gs own
     rejoin a x y z = simp append_assoc refl
 
 pub gather_end : (ns : List Member) (order : List ℕ) (out groups groups' : SplicedText) (k n : ℕ)
-    → drop k order ≡ [] → CollectorMeaning ns order out groups groups' k n
+    → drop k order ≡ [] → PutsSoFar ns order out groups groups' k n
     → PutsMembers ns order out groups groups' n
 gather_end ns order out groups groups' k n e g = λ es last ms gs own.
     let t = g es last ms gs own in

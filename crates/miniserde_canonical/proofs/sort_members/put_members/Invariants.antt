@@ -1,9 +1,9 @@
 use Rattle.std.proofs.Common.{◌≤◌}
-use Rattle.miniserde_canonical.proofs.Sorting.{CollectorMeaning}
+use Rattle.miniserde_canonical.proofs.Sorting.{PutsSoFar}
 use Rattle.miniserde_canonical.proofs.sort_members.put_members.Given as goal
 
 abbrev pub invariant-loop-k : goal.invariant-loop-k
 invariant-loop-k l = record {
   few : l.number ≤ l.k;
-  gathers : CollectorMeaning l.members l.order l.out l.fn.groups l.groups l.k l.number;
+  gathers : PutsSoFar l.members l.order l.out l.fn.groups l.groups l.k l.number;
 }
