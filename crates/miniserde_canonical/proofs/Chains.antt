@@ -42,6 +42,7 @@ seam_more n e at k bs hs b c h g cs ks s = record {
     rejoin : (b x c y : List ℕ) → (b ++ (x ++ c)) ++ y ≡ b ++ (x ++ (c ++ y))
     rejoin b x c y = simp append_assoc refl
 
+-- a chain has as many members as entries
 pub chain_lengths : (ns : List Member) (es : List Entry) (ms : List ℕ) (gs : List Splice) (at k : ℕ) (bs : List ℕ)
     (hs : List Splice) (last : List ℕ) → Chain ns es ms gs at k bs hs last → length ns ≡ length es
 chain_lengths [] [] ms gs at k bs hs last h = refl
@@ -182,6 +183,7 @@ pub record Cut (ns0 : List Member) (es0 : List Entry) (n : Member) (e : Entry) (
   pub front : Chain ns0 es0 ms gs at k before splices_before e.text
   pub back : Chain ns es ms gs n.point.bytes n.point.splices behind splices_behind last
 
+-- a chain with the member n and its entry e at the same index is cut before n
 pub chain_cut : (ns0 : List Member) (es0 : List Entry) (n : Member) (e : Entry) (ns : List Member) (es : List Entry)
     (ms : List ℕ) (gs : List Splice) (at k : ℕ) (bs : List ℕ) (hs : List Splice) (last : List ℕ)
     → length ns0 ≡ length es0 → Chain (ns0 ++ n ∷ ns) (es0 ++ e ∷ es) ms gs at k bs hs last

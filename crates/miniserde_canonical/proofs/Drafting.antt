@@ -25,6 +25,7 @@ use Rattle.miniserde_canonical.proofs.Chains.{chain_lengths, chain_add, chain_mo
 use Rattle.miniserde_canonical.proofs.Owning.{chain_agrees, cut_own}
 use Rattle.miniserde_canonical.proofs.MemberLists.{Agree, rise_all}
 
+-- a draft without text, groups, members and open objects, with all input left, represents `start`
 pub draft_starts : (d : Draft) (input : List ℕ) → d.input.now ≡ input → d.left ≡ length input
     → d.out.bytes.items ≡ [] → d.out.splices.items ≡ [] → d.groups.bytes.items ≡ [] → d.groups.splices.items ≡ []
     → d.members.items ≡ [] → d.opened.items ≡ [] → d.is_distinct ≡ true → Represents d input start
@@ -40,6 +41,7 @@ draft_starts d input i l a b e f m o t = record {
   };
 }
 
+-- if only the text and the run of a draft change, it holds the same state
 pub keep_holding : (d d' : Draft) (bs : List ℕ) (s : State) → ChangesOnlyText d d' → Holding d bs s → Holding d' bs s
 keep_holding d d' bs s k h = record {
   chain = rw (k.members, k.groups, k.inner, k.splices) h.chain;
@@ -61,6 +63,7 @@ chain_bytes d bs s x r =
     d.out.splices.items [] s.last x r.chain refl
     (holds_plain d.groups.bytes.items d.groups.splices.items (0 + length bs) x))
 
+-- if a draft holds s, and s' is s with the bytes x appended, it holds s' with x after its bytes
 pub holding_added : (d : Draft) (bs : List ℕ) (s s' : State) (x : List ℕ) → Adds x s s' → Holding d bs s → Holding d (bs ++ x) s'
 holding_added d bs s s' x a r = record {
   chain = rw (a.1, a.0) (chain_bytes d bs s x r);
@@ -69,6 +72,7 @@ holding_added d bs s s' x a r = record {
   distinct = r.distinct ∙ sym a.3;
 }
 
+-- with `{` after its bytes and its number of members in `opened`, a draft holds the state with one more object
 pub holding_opened : (d d' : Draft) (bs : List ℕ) (s s' : State) (k : ℕ)
     → d'.out.splices.items ≡ d.out.splices.items → d'.groups.bytes.items ≡ d.groups.bytes.items
     → d'.groups.splices.items ≡ d.groups.splices.items → d'.members.items ≡ d.members.items
@@ -125,6 +129,7 @@ snoc_same (a ∷ xs) (b ∷ ys) x y e =
     let r = snoc_same xs ys x y rest in
     (ap₂ (λ (p : ℕ) (q : List ℕ). p ∷ q) first r.0, r.1)
 
+-- m is s after its innermost object closed, if m has the outer objects and entries, and the others are arranged
 pub closes : (s m : State) (os : List ℕ) (f : ℕ) → s.opened ≡ os ++ f ∷ [] → m.opened ≡ os
     → m.entries ≡ take f s.entries → Arranged (drop f s.entries) s m → Closes s m
 closes s m os f e o n a = λ ps g h l.
@@ -157,6 +162,7 @@ own_part (suc f) (n ∷ ns) (e ∷ es) a = own_part f ns es a.1
 own_part f [] (e ∷ es) a = absurd a
 own_part f (n ∷ ns) [] a = absurd a
 
+-- if the names of a draft's members rise from the index f on, those of its state's entries do
 pub rises_behind : (d : Draft) (bs : List ℕ) (s : State) (f : ℕ) (ns : List Member) → ns ≡ drop f d.members.items
     → NamesRise ns → Holding d bs s → Rise (entry_members (drop f s.entries) s.last)
 rises_behind d bs s f ns e h r =
@@ -265,6 +271,7 @@ ordered_at d d' s f b n ns e es same good di chain st m t is =
       sorted = rw is (refl, refl);
     }
 
+-- a draft whose members from the index f on were sorted and removed holds a state with these entries sorted
 pub holding_sorted : (d d' : Draft) (s : State) (f : ℕ) (b : Bool) (ns : List Member) → f ≤ length d.members.items
     → ns ≡ drop f d.members.items → 0 < length ns → SortsMembers ns d.out d'.out d.groups d'.groups b
     → d'.members.items ≡ take f d.members.items → d'.is_distinct ≡ (d.is_distinct && b)
@@ -288,6 +295,7 @@ holding_sorted d d' s f b ns l e some st m t r = go ns (drop f s.entries) e refl
 
 -- ---- calls
 
+-- if a draft has fewer members than come before its innermost object, its state has too few entries, too
 pub too_few : (d : Draft) (bs : List ℕ) (s : State) (os : List ℕ) (before : ℕ) → Holding d bs s
     → d.opened.items ≡ os ++ before ∷ [] → length d.members.items < before → (ps : List ℕ) (f : ℕ)
     → s.opened ≡ ps ++ f ∷ [] → f ≤ length s.entries → ⊥
@@ -297,9 +305,11 @@ too_few d bs s os before r e l ps f h i =
     d.out.splices.items s.last r.chain in
     omega (arith, l, i, same.1, many)
 
+-- if ys is xs, the elements of ys from the index f to the end are those of xs from f on
 pub behind : (xs ys : List Member) (f : ℕ) → ys ≡ xs → take (length ys - f) (drop f ys) ≡ drop f xs
 behind xs ys f e = take_all (length ys - f) (drop f ys) (omega (arith, length-drop f ys)) ∙ ap (drop f) e
 
+-- the step of a value's first token adds the token's text to a state, unless the token opens an object
 pub front_adds : (e : lex.Event) (scratch : List ℕ) (s s' : State) → (e ≡ lexed.MapStart → ⊥)
     → TokenStep (first_token (event_of_token e scratch)) s s'
     → Adds (first_token_text (first_token (event_of_token e scratch))) s s'
@@ -314,6 +324,7 @@ front_adds lexed.MapStart scratch s s' n h = absurd (n refl)
 
 -- ---- the end of a text
 
+-- if the state has no entries, the draft's bytes and splices hold the `last` of the state
 pub holds_whole : (d : Draft) (s : State) → Holding d d.out.bytes.items s → s.entries ≡ []
     → Holds d.groups.bytes.items d.groups.splices.items 0 d.out.bytes.items d.out.splices.items s.last
 holds_whole d s r e = go d.members.items s.entries e r.chain
@@ -325,6 +336,7 @@ holds_whole d s r e = go d.members.items s.entries e r.chain
     go (n ∷ ns) [] e c = absurd c
     go ns (x ∷ es) e c = absurd (omega (arith, ap length e))
 
+-- if s and t have equal `last` and `distinct`, a state that is t with members sorted is s with them sorted
 pub sorted_like : (es : List Entry) (s t m : State) → t.last ≡ s.last → t.distinct ≡ s.distinct → Sorted es t m → Sorted es s m
 sorted_like [] s t m h k p = absurd p
 sorted_like (e ∷ es) s t m h k p = (

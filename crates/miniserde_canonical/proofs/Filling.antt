@@ -111,6 +111,7 @@ span_splice ms bs gs ks p q splice d out part out' later mid later' eb ek l belo
     rejoin : (a b c d y : List ℕ) → (a ++ b) ++ (c ++ (d ++ y)) ≡ a ++ ((b ++ (c ++ d)) ++ y)
     rejoin a b c d y = simp append_assoc refl
 
+-- if a span without splices is appended, the output and the waiting spans make the same text as before
 pub span_plain : (ms bs : List ℕ) (gs ks : List Splice) (p : Span) (out part out' : List ℕ) (later : List Span)
     → bs ≡ ms → ks ≡ gs → (p.from.splices < p.to.splices → p.from.splices < length ks → ⊥)
     → (p.from.bytes ≤ p.to.bytes → p.to.bytes ≤ length bs → part ≡ part_between p.from.bytes p.to.bytes bs)
@@ -144,6 +145,7 @@ loads_push (p ∷ ps) q = omega (arith, loads_push ps q)
 twice : (n : ℕ) → 2 ^ (1 + (n + 1)) ≡ 2 * 2 ^ (1 + n)
 twice n = let next : 1 + (n + 1) ≡ suc (1 + n) = omega arith in ap (λ z. 2 ^ z) next ∙ pow-suc 2 (1 + n) ∙ omega arith
 
+-- in ordered groups, a span's rest after its first splice and the splice's group measure less than the span
 pub less_splice : (gs ks : List Splice) (p q : Span) (splice d : Splice) (later mid later' : List Span) → ks ≡ gs
     → p.from.splices < p.to.splices → p.from.splices < length ks → splice ≡ get_or ks p.from.splices d
     → q ≡ record { from = record { bytes = splice.at; splices = p.from.splices + 1 }; to = p.to }
@@ -175,6 +177,7 @@ less_plain p later = omega arith
 
 -- ---- a group
 
+-- if the group is the only span that waits, the waiting spans hold its text
 pub group_begins : (ms : List ℕ) (gs : List Splice) (p : Span) (out : List ℕ) (later later' : List Span)
     → later ≡ [] → later' ≡ later ++ p ∷ [] → (x : List ℕ) → SpanHolds ms gs p x
     → (z : List ℕ) × SpansHold ms gs later' z × (out ++ z ≡ out ++ x)
@@ -182,6 +185,7 @@ group_begins ms gs p out later later' e f = λ x s.
     let is : later' ≡ p ∷ [] = f ∙ ap (λ z. z ++ p ∷ []) e in
     (x, subst (λ z. SpansHold ms gs z x) (sym is) ([], x, refl, s, refl), refl)
 
+-- if `put_span` writes the last waiting span, the output and the waiting spans make the same text as before
 pub group_goes : (ms : List ℕ) (gs : List Splice) (p q : Span) (start out out' : List ℕ)
     (later rest later' : List Span) → later ≡ rest ++ q ∷ []
     → ((x : List ℕ) → SpanHolds ms gs p x → (z : List ℕ) × SpansHold ms gs later z × (out ++ z ≡ start ++ x))
@@ -194,6 +198,7 @@ group_goes ms gs p q start out out' later rest later' e f g = λ x s.
     let v = g u.0 u.1 u.2 u.3 in
     (v.0, v.1, v.2 ∙ ap (λ z. out ++ z) (sym u.4) ∙ t.2)
 
+-- spans measure less than before the pop if they measure less than the popped span and the others
 pub group_less : (q : Span) (later rest later' : List Span) → later ≡ rest ++ q ∷ []
     → spans_measure later' < spans_measure rest + span_measure q → spans_measure later' < spans_measure later
 group_less q later rest later' e h = omega (arith, h, ap spans_measure e ∙ loads_push rest q)
@@ -213,10 +218,12 @@ abbrev pub Left : List ℕ → List Splice → List ℕ → List Splice → ℕ 
 Left ms gs bs hs at ks out = (x : List ℕ) → Holds ms gs 0 bs hs x → (y : List ℕ) × (at ≤ length bs)
     × Holds ms gs at (drop at bs) ks y × (out ++ y ≡ x)
 
+-- before the first byte is written, the whole text is left
 pub fill_begins : (ms : List ℕ) (gs : List Splice) (bs : List ℕ) (hs ks : List Splice) (out : List ℕ) → out ≡ []
     → ks ≡ hs → Left ms gs bs hs 0 ks out
 fill_begins ms gs bs hs ks out e f = λ x u. (x, omega arith, subst (λ z. Holds ms gs 0 bs z x) (sym f) u, ap (λ z. z ++ x) e)
 
+-- after the bytes up to a splice and its group are written, the text after the splice is left
 pub fill_goes : (ms : List ℕ) (gs : List Splice) (bs text' : List ℕ) (hs ks : List Splice) (at i : ℕ)
     (splice d : Splice) (out part mid out' : List ℕ) → text' ≡ bs → i < length ks → splice ≡ get_or ks i d
     → (at ≤ splice.at → splice.at ≤ length text' → part ≡ part_between at splice.at text') → mid ≡ out ++ part
@@ -249,6 +256,7 @@ fill_goes ms gs bs text' hs ks at i splice d out part mid out' eb l e f' g p lef
     rejoin : (a b c d : List ℕ) → ((a ++ b) ++ c) ++ d ≡ a ++ (b ++ (c ++ d))
     rejoin a b c d = simp append_assoc refl
 
+-- after the last splice, the output with the bytes up to the end is the whole text
 pub fill_ends : (ms : List ℕ) (gs : List Splice) (bs text' : List ℕ) (hs ks : List Splice) (at end : ℕ)
     (out part out' : List ℕ) → text' ≡ bs → ks ≡ [] → end ≡ length bs
     → (at ≤ end → end ≤ length text' → part ≡ part_between at end text') → out' ≡ out ++ part
@@ -262,6 +270,7 @@ fill_ends ms gs bs text' hs ks at end out part out' eb e i f' g left = λ x u.
     (take at bs) (drop at bs) (sym (take-append-drop at bs)) (sym (length-take-le at bs t.1)) i in
     g ∙ ap (λ z. out ++ z) (bytes ∙ sym plain) ∙ t.3
 
+-- a text without splices holds its own bytes
 pub fill_none : (ms : List ℕ) (gs : List Splice) (bs : List ℕ) (hs ks : List Splice) → ks ≡ hs
     → nat_eq (length ks) 0 ≡ true → (x : List ℕ) → Holds ms gs 0 bs hs x → bs ≡ x
 fill_none ms gs bs hs ks e f = λ x u. sym (plain_text (subst (λ z. Holds ms gs 0 bs z x) (sym e ∙ empty ks f) u))

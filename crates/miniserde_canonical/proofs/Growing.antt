@@ -19,6 +19,7 @@ use Rattle.miniserde_canonical.proofs.Repeats.{values_distinct, distinct_counted
 
 -- ---- runs
 
+-- a run over ks and a run over ls from its end are a run over `ks ++ ls`
 pub run_append : (ks ls : List Token) (s m s' : State) → Run ks s m → Run ls m s' → Run (ks ++ ls) s s'
 run_append [] ls s m s' r p = subst (λ z. Run ls z s') (sym r) p
 run_append (k ∷ ks) ls s m s' r p = (r.0, r.1, run_append ks ls r.0 m s' r.2 p)
@@ -348,6 +349,7 @@ mutual
       let a = tree_grows t m u.0 u.1 in
       lines_cons n t ms s m u.0 s' r.1 a.0 a.1 (members_grow ms u.0 s' u.2)
 
+-- a run over a tree's tokens makes the canonical text and no entries, and `distinct` is `names_distinct`
 pub run_makes : (t : Tree) (s : State) → Run (tokens t) start s → (s.last ≡ compact (norm t)) × (s.entries ≡ [])
     × (s.distinct ≡ names_distinct t)
 run_makes t s r = let g = tree_grows t start s r in (g.0.last, g.0.entries, g.0.distinct)

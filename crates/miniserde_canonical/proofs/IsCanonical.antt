@@ -16,12 +16,15 @@ use Rattle.miniserde_model.proofs.Shortest.{shortest}
 abbrev pub IsCanonical : List ℕ → List ℕ → Type 0
 IsCanonical j c = (t : Tree) × IsJson j t × (c ≡ compact (norm t))
 
+-- the canonical text of j is the compact text of the normal form of each tree that j spells
 pub canonical_text : (j c : List ℕ) → IsCanonical j c → (t : Tree) → IsJson j t → c ≡ compact (norm t)
 canonical_text j c h t p = h.2 ∙ ap (λ z. compact (norm z)) (one_tree j h.0 t h.1 p)
 
+-- the canonical text of j spells the normal form of each tree that j spells
 pub canonical_spelled : (j c : List ℕ) → IsCanonical j c → (t : Tree) → IsJson j t → IsJson c (norm t)
 canonical_spelled j c h t p = subst (λ z. IsJson z (norm t)) (sym (canonical_text j c h t p)) (canonical_spells j t p)
 
+-- the canonical text of j is that of a tree u in range exactly if j's tree and u have equal normal forms
 pub canonical_told : (j c : List ℕ) → IsCanonical j c → (t : Tree) → IsJson j t → (u : Tree) → InRange u
     → (c ≡ compact (norm u)) ↔ (norm u ≡ norm t)
 canonical_told j c h t p u r = (
@@ -30,10 +33,12 @@ canonical_told j c h t p u r = (
   λ e. canonical_text j c h t p ∙ ap compact (sym e),
 )
 
+-- no text of a tree with the normal form of j's tree is shorter than the canonical text of j
 pub canonical_least : (j c : List ℕ) → IsCanonical j c → (t : Tree) → IsJson j t → (b : List ℕ) (u : Tree)
     → IsJson b u → norm u ≡ norm t → length c ≤ length b
 canonical_least j c h t p b u q e = subst (λ z. length z ≤ length b) (sym (canonical_text j c h t p)) (shortest b t u q e)
 
+-- two texts have equal canonical texts exactly if their trees have equal normal forms
 pub both_told : (a b c d : List ℕ) → IsCanonical a c → IsCanonical b d → (t u : Tree) → IsJson a t → IsJson b u
     → (c ≡ d) ↔ (norm t ≡ norm u)
 both_told a b c d h i t u p q =
@@ -46,5 +51,6 @@ both_told a b c d h i t u p q =
 pub its_own : (j b : List ℕ) (t : Tree) → IsJson b t → j ≡ compact (norm t) → IsJson j (norm t)
 its_own j b t h e = subst (λ z. IsJson z (norm t)) (sym e) (canonical_spells b t h)
 
+-- if j is the canonical text of a tree that a text spells, the canonical text of j is j
 pub canonical_again : (j c b : List ℕ) → IsCanonical j c → (t : Tree) → IsJson b t → j ≡ compact (norm t) → c ≡ j
 canonical_again j c b i t h e = canonical_text j c i (norm t) (its_own j b t h e) ∙ ap compact (norm_twice t) ∙ sym e

@@ -52,12 +52,15 @@ lead_below (suc n) (c ∷ a) (d ∷ b) h k l = elim (cases_lt c d) [
     step : (d p : ℕ) → suc d * p ≡ p + d * p
     step d p = omega arith
 
+-- if the leading bytes p of a are, as a number, below those of b, then a is below b
 pub prefix_below : (p q : ℕ) (a b : List ℕ) → IsLeadingBytes p a → IsLeadingBytes q b → p < q → text_cmp a b ≡ Less
 prefix_below p q a b h k l = lead_below 8 a b h.small k.small (omega (arith, h.value, k.value, l))
 
+-- if the leading bytes p of a are, as a number, above those of b, then a is above b
 pub prefix_above : (p q : ℕ) (a b : List ℕ) → IsLeadingBytes p a → IsLeadingBytes q b → q < p → text_cmp a b ≡ Greater
 prefix_above p q a b h k l = nat_list_cmp_total.antisymm a b ∙ ap ordering_reverse (prefix_below q p b a k h l)
 
+-- the first eight bytes of s, with 0 for each missing one, are the big-endian bytes of `leading_number 8 s`
 pub first_eight : (s : List ℕ)
     → from_be_bytes w64 (get_or s 0 0 ∷ get_or s 1 0 ∷ get_or s 2 0 ∷ get_or s 3 0 ∷ get_or s 4 0 ∷ get_or s 5 0 ∷
     get_or s 6 0 ∷ get_or s 7 0 ∷ []) ≡ leading_number 8 s
@@ -71,6 +74,7 @@ first_eight (a ∷ b ∷ c ∷ d ∷ e ∷ f ∷ []) = omega arith
 first_eight (a ∷ b ∷ c ∷ d ∷ e ∷ f ∷ g ∷ []) = omega arith
 first_eight (a ∷ b ∷ c ∷ d ∷ e ∷ f ∷ g ∷ h ∷ s) = omega arith
 
+-- eight bytes equal to those of s, 0 for each missing one, are the big-endian bytes of `leading_number 8 s`
 pub eight_of : (s : List ℕ) (a b c d e f g h : ℕ) → a ≡ get_or s 0 0 → b ≡ get_or s 1 0 → c ≡ get_or s 2 0
     → d ≡ get_or s 3 0 → e ≡ get_or s 4 0 → f ≡ get_or s 5 0 → g ≡ get_or s 6 0 → h ≡ get_or s 7 0
     → from_be_bytes w64 (a ∷ b ∷ c ∷ d ∷ e ∷ f ∷ g ∷ h ∷ []) ≡ leading_number 8 s

@@ -23,11 +23,13 @@ use Rattle.miniserde_canonical.specs.private.Sorting.{text_at, text_tree_at}
 
 -- ---- names and entries
 
+-- there are as many members as entries, and they have the same names in order
 abbrev pub Agree : List Member → List Entry → Type 0
 Agree [] [] = Unit {0}
 Agree (n ∷ ns) (e ∷ es) = (name_of n.name ≡ e.name) × Agree ns es
 Agree _ _ = ⊥
 
+-- the n + 1 numbers from a on are the n numbers from a on, and then a + n
 pub numbers_more : (a n : ℕ) → range_with_len a (n + 1) ≡ range_with_len a n ++ (a + n) ∷ []
 numbers_more a n = ap (range_with_len a) (add-one n) ∙ more a n
   where
@@ -60,12 +62,14 @@ pub rows_all : (ns : List Member) (es : List Entry) (last : List ℕ) → Agree 
     → members_at ns (text_tree_at es last) (range_with_len 0 (length ns)) ≡ entry_members es last
 rows_all ns es last a = rows_from 0 ns ns es es last refl refl a
 
+-- members that agree with entries are as many as the entries
 pub ended_count : (ns : List Member) (es : List Entry) (last : List ℕ) → Agree ns es → count (entry_members es last) ≡ length ns
 ended_count [] [] last a = refl
 ended_count (n ∷ ns) (e ∷ es) last a = ap suc (ended_count ns es last a.1)
 ended_count [] (e ∷ es) last a = absurd a
 ended_count (n ∷ ns) [] last a = absurd a
 
+-- if the names of members rise, those of the entries that agree with them rise
 pub rise_all : (ns : List Member) (es : List Entry) (last : List ℕ) → Agree ns es → NamesRise ns → Rise (entry_members es last)
 rise_all [] [] last a h = tt
 rise_all (n ∷ []) (e ∷ []) last a h = (tt, tt)
@@ -88,6 +92,7 @@ row_at ns r order k d l =
     ∙ ap (λ z. member (name_in ns (get_or order k d)) (r (get_or order k d)) (members_at ns r (drop z order)))
     (sym (add-one k))
 
+-- if the member at k in the order has the next one's name, `without_repeats` drops it
 pub kept_skip : (ns : List Member) (r : ℕ → Tree) (order : List ℕ) (k d : ℕ) → k < length order
     → begins_with_name (name_in ns (get_or order k d)) (members_at ns r (drop (k + 1) order)) ≡ true
     → without_repeats (members_at ns r (drop k order)) ≡ without_repeats (members_at ns r (drop (k + 1) order))
@@ -97,6 +102,7 @@ kept_skip ns r order k d l e =
     ap without_repeats (row_at ns r order k d l)
     ∙ ap (λ z. cond z (without_repeats rest) (member (name_in ns i) (r i) (without_repeats rest))) e
 
+-- unless the member at k in the order has the next one's name, `without_repeats` keeps it
 pub kept_take : (ns : List Member) (r : ℕ → Tree) (order : List ℕ) (k d : ℕ) → k < length order
     → begins_with_name (name_in ns (get_or order k d)) (members_at ns r (drop (k + 1) order)) ≡ false
     → without_repeats (members_at ns r (drop k order)) ≡ member (name_in ns (get_or order k d))
@@ -248,6 +254,7 @@ named {X = X} n r q (m ∷ ms) t h = go (last_of q (named_members n r ms)) (byte
     go None true w s g more = (m, (bytes_eq-Decides (n m) q).0 s)
     go None false w s g more = absurd (true≢false (sym (ap is_some g)))
 
+-- if elements of one name stand in ys in the order of xs, each name has the same last tree in both
 pub stable_last : {X : Type 0} (n : X → List ℕ) (r : X → Tree) (xs ys : List X) → IsStableBy (below n) xs ys
     → (q : List ℕ) → last_of q (named_members n r ys) ≡ last_of q (named_members n r xs)
 stable_last {X = X} n r xs ys s q = go (last_of q (named_members n r ys)) (last_of q (named_members n r xs)) refl refl
@@ -278,6 +285,7 @@ normal_last q [] last = refl
 normal_last q (e ∷ es) last = normal_tree (bytes_eq e.name q) (last_of q (entry_members es last))
     (text_before es last) (normal_last q es last)
 
+-- members sorted by name, each name with its last tree, are without repeats the normal form of the entries
 pub kept_normal : (ns : List Member) (es : List Entry) (last : List ℕ) (old new : List ℕ) → Agree ns es
     → old ≡ range_with_len 0 (length ns) → IsSortedByKey (name_in ns) text_cmp new
     → ((r : ℕ → Tree) (q : List ℕ) → last_of q (members_at ns r new) ≡ last_of q (members_at ns r old))

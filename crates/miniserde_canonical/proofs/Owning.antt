@@ -99,6 +99,7 @@ own_none [] [] ms gs bs hs last end p q e f =
 own_none (n ∷ ns) es ms gs bs hs last end p q e f = absurd (omega (arith, ap length e))
 own_none [] (x ∷ es) ms gs bs hs last end p q e f = absurd (omega (arith, ap length f))
 
+-- the span of the member at the index i holds the text of the entry at i
 pub own_span : (i : ℕ) (ns : List Member) (es : List Entry) (ms : List ℕ) (gs : List Splice) (bs : List ℕ)
     (hs : List Splice) (last : List ℕ) (end : Point) → end.bytes ≡ length bs → end.splices ≡ length hs
     → EndsWithMembers ns es ms gs bs hs last
@@ -114,6 +115,7 @@ own_span i (n ∷ ns) [] ms gs bs hs last end p q o = absurd o
 
 -- ---- names
 
+-- the members of a chain agree with its entries
 pub chain_agrees : (ns : List Member) (es : List Entry) (ms : List ℕ) (gs : List Splice) (at k : ℕ) (bs : List ℕ)
     (hs : List Splice) (last : List ℕ) → Chain ns es ms gs at k bs hs last → Agree ns es
 chain_agrees [] [] ms gs at k bs hs last h = tt
@@ -121,6 +123,7 @@ chain_agrees (n ∷ ns) (e ∷ es) ms gs at k bs hs last h = (h.4.name, chain_ag
 chain_agrees [] (e ∷ es) ms gs at k bs hs last h = absurd h
 chain_agrees (n ∷ ns) [] ms gs at k bs hs last h = absurd h
 
+-- the members with whose texts a text ends agree with their entries
 pub own_agrees : (ns : List Member) (es : List Entry) (ms : List ℕ) (gs : List Splice) (bs : List ℕ)
     (hs : List Splice) (last : List ℕ) → EndsWithMembers ns es ms gs bs hs last → Agree ns es
 own_agrees [] [] ms gs bs hs last o = tt

@@ -49,6 +49,7 @@ rewound d d' rest w rest' bs y t e i l o = record {
     rejoin : (a b c x : List ℕ) → a ++ (b ++ (c ++ x)) ≡ (a ++ (b ++ c)) ++ x
     rejoin a b c x = simp append_assoc refl
 
+-- after the run up to the last l bytes of input is appended, the text is bs, and a new run begins there
 pub flushed : (d d' : Draft) (l all a b : ℕ) (piece text : List ℕ) → a ≡ all - d.left → b ≡ all - l
     → d'.input.now ≡ d.input.now → d'.left ≡ l → d'.out.bytes.items ≡ d.out.bytes.items ++ piece
     → text ≡ d.input.now → all ≡ length d.input.now → (a ≤ b → b ≤ length text → piece ≡ part_between a b text)
@@ -75,11 +76,13 @@ skipped_none d a b s = λ rest w rest' bs t e f g.
 
 -- ---- what stands in the input is what is written
 
+-- unless z is 0, a number text whose leaf is the integer z with a minus is the compact text of `norm_neg z`
 pub as_negative : (z : ℤ) (part : List ℕ) → IsNumber part (neg z) → (z ≡ pos 0 → ⊥) → part ≡ compact (norm_neg z)
 as_negative (pos zero) part p n = absurd (n refl)
 as_negative (pos (suc k)) part p n = let low = (value_tree (neg (pos (suc k))) part p).0 in absurd (omega (arith, ints, low))
 as_negative (negsuc k) part p n = sym (neg_text part (negsuc k) p)
 
+-- the bytes of a token other than a string or a number with a minus are the text that is written for it
 pub as_it_is : (e : Event) (scratch part : List ℕ) → SpellsToken e scratch part
     → ((z : ℤ) → e ≡ event.Negative z → ⊥) → ((t : Text) → e ≡ event.Str t → ⊥)
     → part ≡ first_token_text (first_token (event_of_token e scratch))
@@ -123,5 +126,6 @@ pub string_stands : (t : Text) (d : Draft) (scratch rest part rest' bs : List �
 string_stands (Input x) d scratch rest part rest' bs n w e p = subst (λ z. Wrote d rest' (bs ++ z)) p (wrote_on d rest part rest' bs w e)
 string_stands Scratch d scratch rest part rest' bs n w e p = absurd (n refl)
 
+-- the decimal text of 0 is `0`
 pub decimal_zero : decimal 0 ≡ 48 ∷ []
 decimal_zero = decimal_digit 0 (omega arith)

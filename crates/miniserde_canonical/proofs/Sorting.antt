@@ -27,6 +27,7 @@ use Rattle.miniserde_canonical.proofs.Owning.{HoldsBetween, own_span, own_agrees
 
 -- ---- one member
 
+-- if a comma (unless f is true) and the span of the member at i are appended, the groups gain that member
 pub gains_member : (groups mid groups' out : SplicedText) (ns : List Member) (i : ℕ) (end : Point) (p : Span)
     (f : Bool) → mid.bytes.items ≡ groups.bytes.items ++ comma_before f → mid.splices.items ≡ groups.splices.items
     → end.bytes ≡ length out.bytes.items → end.splices ≡ length out.splices.items
@@ -93,9 +94,11 @@ PutsSoFar ns order out groups groups' k n = (es : List Entry) (last ms : List �
     × (n + count (without_repeats (members_at ns (text_tree_at es last) (drop k order)))
     ≡ count (without_repeats (members_at ns (text_tree_at es last) order)))
 
+-- before the first member of the order nothing is put, and the groups are as they were
 pub gather_begin : (ns : List Member) (order : List ℕ) (out groups : SplicedText) → PutsSoFar ns order out groups groups 0 0
 gather_begin ns order out groups = λ es last ms gs own. ([], gains_none ms gs out.splices.items groups, refl, omega arith)
 
+-- a member whose name the next one in the order has is not put
 pub gather_skip : (ns : List Member) (order : List ℕ) (out groups groups' : SplicedText) (k n d : ℕ)
     → k < length order → ((r : ℕ → Tree)
     → begins_with_name (name_in ns (get_or order k d)) (members_at ns r (drop (k + 1) order)) ≡ true)
@@ -107,6 +110,7 @@ gather_skip ns order out groups groups' k n d l h g = λ es last ms gs own.
     (members_at ns r (drop (k + 1) order)) = kept_skip ns r order k d l (h r) in
     (t.0, t.1, ap (λ z. t.0 ++ members_text (nat_eq n 0) z) (sym same) ∙ t.2, ap (λ z. n + count z) (sym same) ∙ t.3)
 
+-- a member whose name the next one in the order does not have is put, and n counts it
 pub gather_take : (ns : List Member) (order : List ℕ) (out groups mid groups' : SplicedText) (k n d : ℕ)
     → k < length order → ((r : ℕ → Tree)
     → begins_with_name (name_in ns (get_or order k d)) (members_at ns r (drop (k + 1) order)) ≡ false)
@@ -136,6 +140,7 @@ gather_take ns order out groups mid groups' k n d l h p g = λ es last ms gs own
     rejoin : (a x y z : List ℕ) → (a ++ (x ++ y)) ++ z ≡ a ++ (x ++ (y ++ z))
     rejoin a x y z = simp append_assoc refl
 
+-- at the end of the order, the groups have the members without repeats, and n is their number
 pub gather_end : (ns : List Member) (order : List ℕ) (out groups groups' : SplicedText) (k n : ℕ)
     → drop k order ≡ [] → PutsSoFar ns order out groups groups' k n
     → PutsMembers ns order out groups groups' n
@@ -155,6 +160,7 @@ no_length : (h : List Splice) → length h ≡ 0 → h ≡ []
 no_length [] e = refl
 no_length (p ∷ h) e = absurd (omega (arith, e))
 
+-- a text without splices, moved from the groups to the end of `out` cut at `point`, is put back
 pub back_short : (point from to : Point) (p : Span) (out mid out' groups groups' : SplicedText)
     → p ≡ record { from = from; to = to } → mid.bytes.items ≡ take point.bytes out.bytes.items
     → mid.splices.items ≡ take point.splices out.splices.items → to.bytes ≡ length groups.bytes.items
@@ -203,6 +209,7 @@ back_short point from to p out mid out' groups groups' i e f tb th none_there ob
       );
     }
 
+-- a splice for the text that the groups have from `from` on, after `out` cut at `point`, puts it back
 pub back_splice : (point from to : Point) (k : Splice) (out mid out' groups : SplicedText)
     → k ≡ record { at = point.bytes; group = record { from = from; to = to } }
     → mid.bytes.items ≡ take point.bytes out.bytes.items → mid.splices.items ≡ take point.splices out.splices.items
@@ -252,6 +259,7 @@ own_within (n ∷ ns) (e ∷ es) ms gs bs hs last o = omega (arith, o.begins, ap
 own_within [] (e ∷ es) ms gs bs hs last o = absurd o
 own_within (n ∷ ns) [] ms gs bs hs last o = absurd o
 
+-- members put in sorted order into the groups, and then put back, are the members in normal form
 pub settled : (ns : List Member) (d : Member) (point from : Point) (old new order : List ℕ)
     (out out' groups mid groups' : SplicedText) (n : ℕ) → 0 < length ns → point ≡ (get_or ns 0 d).point
     → old ≡ range_with_len 0 (length ns) → IsSortedByKey (name_in ns) text_cmp new

@@ -16,31 +16,37 @@ pub between_more : {X : Type 0} (a b : ℕ) (xs ys : List X) → a ≤ b → b �
 between_more a b xs ys h i = ap (take (b - a)) (drop-append-le a xs ys (omega arith)) ∙ take-append-le (b - a)
     (drop a xs) ys (omega (arith, length-drop a xs))
 
+-- the part of `xs ++ ys` from the length of xs up to the end is ys
 pub between_end : {X : Type 0} (a b : ℕ) (all xs ys : List X) → all ≡ xs ++ ys → a ≡ length xs → b ≡ length all → part_between a b all ≡ ys
 between_end a b all xs ys e f g =
     let at : drop a all ≡ ys = ap₂ drop f e ∙ drop-append_seam xs ys in
     let wide : length ys ≤ b - a = omega (arith, f, g, ap length e, length-append xs ys) in
     ap (take (b - a)) at ∙ take_all (b - a) ys wide
 
+-- the part of `xs ++ (ys ++ zs)` after xs that is as long as ys is ys
 pub between_mid : {X : Type 0} (a b : ℕ) (all xs ys zs : List X) → all ≡ xs ++ (ys ++ zs) → a ≡ length xs
     → b ≡ a + length ys → part_between a b all ≡ ys
 between_mid a b all xs ys zs e f g =
     let wide : b - a ≡ length ys = omega (arith, g) in
     ap₂ take wide (ap₂ drop f e ∙ drop-append_seam xs (ys ++ zs)) ∙ take-append_seam ys zs
 
+-- the part of a list up to an index at or before its start is empty
 pub between_none : {X : Type 0} (a b : ℕ) (xs : List X) → b ≤ a → part_between a b xs ≡ []
 between_none a b xs h = let none : b - a ≡ 0 = omega (arith, h) in ap (λ n. take n (drop a xs)) none
 
 -- ---- texts
 
+-- bytes without splices hold themselves
 pub holds_plain : (ms : List ℕ) (gs : List Splice) (at : ℕ) (x : List ℕ) → Holds ms gs at x [] x
 holds_plain ms gs at [] = none
 holds_plain ms gs at (c ∷ x) = byte c (holds_plain ms gs (suc at) x)
 
+-- bytes without splices hold no text but themselves
 pub plain_text : {ms : List ℕ} {gs : List Splice} {at : ℕ} {bs x : List ℕ} → Holds ms gs at bs [] x → x ≡ bs
 plain_text none = refl
 plain_text (byte c u) = ap (λ z. c ∷ z) (plain_text u)
 
+-- bytes that hold x, followed by bytes that hold y, hold `x ++ y`
 pub holds_append : {ms : List ℕ} {gs : List Splice} {at : ℕ} {bs : List ℕ} {hs : List Splice} {x : List ℕ} (to : ℕ)
     (cs : List ℕ) (ks : List Splice) (y : List ℕ) → Holds ms gs at bs hs x → to ≡ at + length bs
     → Holds ms gs to cs ks y → Holds ms gs at (bs ++ cs) (hs ++ ks) (x ++ y)
@@ -58,6 +64,7 @@ holds_behind ms gs at to x bs hs y e v = holds_append to bs hs y (holds_plain ms
 pub within_more : (p : Span) (ms ns : List ℕ) (gs ks : List Splice) → Within p ms gs → Within p (ms ++ ns) (gs ++ ks)
 within_more p ms ns gs ks w = (w.0, omega (arith, w.1, length-append ms ns), w.2, omega (arith, w.3, length-append gs ks))
 
+-- bytes that hold x hold it after the groups get more bytes and splices
 pub holds_more : {ms : List ℕ} {gs : List Splice} {at : ℕ} {bs : List ℕ} {hs : List Splice} {x : List ℕ}
     (ns : List ℕ) (ks : List Splice) → Holds ms gs at bs hs x → Holds (ms ++ ns) (gs ++ ks) at bs hs x
 holds_more ns ks none = none
@@ -98,6 +105,7 @@ group_holds ms b gs h x p e f g i u =
           (sym (between_end p.from.splices p.to.splices (gs ++ h) gs h refl f i)) two,
     )
 
+-- no bytes and one splice at their index hold the text of the splice's group
 pub splice_holds : (ms : List ℕ) (gs : List Splice) (at : ℕ) (h : Splice) (x : List ℕ) → h.at ≡ at
     → SpanHolds ms gs h.group x → Holds ms gs at [] (h ∷ []) x
 splice_holds ms gs at h x e s = subst (λ z. Holds ms gs at [] (h ∷ []) z) (append-nil x) (splice h e s.0 s.1 none)
@@ -115,6 +123,7 @@ pub record AtHole (ms : List ℕ) (gs : List Splice) (at : ℕ) (bs : List ℕ) 
   pub after : Holds ms gs h.at behind hs rest
   pub text : x ≡ before ++ (group ++ rest)
 
+-- a text with a splice is the bytes before the first splice, the text of its group, and a rest
 pub at_splice : {ms : List ℕ} {gs : List Splice} {at : ℕ} {bs : List ℕ} {h : Splice} {hs : List Splice} {x : List ℕ}
     → Holds ms gs at bs (h ∷ hs) x → AtHole ms gs at bs h hs x
 at_splice {at = at} {h = k} (byte c u) =
@@ -150,14 +159,17 @@ at_splice {ms = ms} {gs = gs} (splice {bs = bs} {hs = hs} {x = x} {y = y} h e w 
 
 -- ---- groups in order
 
+-- splices for groups before n are for groups before any m that is at least n
 pub all_more : (n m : ℕ) (hs : List Splice) → n ≤ m → AllBefore n hs → AllBefore m hs
 all_more n m [] h b = tt
 all_more n m (p ∷ hs) h b = (omega (arith, h, b.0), all_more n m hs h b.1)
 
+-- if hs and ks are for groups before n, so are `hs ++ ks`
 pub all_append : (n : ℕ) (hs ks : List Splice) → AllBefore n hs → AllBefore n ks → AllBefore n (hs ++ ks)
 all_append n [] ks h k = k
 all_append n (p ∷ hs) ks h k = (h.0, all_append n hs ks h.1 k)
 
+-- if hs are for groups before n, so are the first i of them
 pub all_take : (n i : ℕ) (hs : List Splice) → AllBefore n hs → AllBefore n (take i hs)
 all_take n i [] h = subst (λ z. AllBefore n z) (sym (take_all {A = Splice} i [] (omega arith))) tt
 all_take n zero (p ∷ hs) h = tt
@@ -168,9 +180,11 @@ all_drop n i [] h = subst (λ z. AllBefore n z) (sym (drop_all {X = Splice} i []
 all_drop n zero (p ∷ hs) h = h
 all_drop n (suc i) (p ∷ hs) h = all_drop n i hs h.1
 
+-- if hs are for groups before n, so is the part from a up to b of them
 pub all_between : (n a b : ℕ) (hs : List Splice) → AllBefore n hs → AllBefore n (part_between a b hs)
 all_between n a b hs h = all_take n (b - a) (drop a hs) (all_drop n a hs h)
 
+-- if hs are for groups before n, so are they after their text moved
 pub all_moved : (n from to : ℕ) (hs : List Splice) → AllBefore n hs → AllBefore n (map (shifted_splice from to) hs)
 all_moved n from to [] h = tt
 all_moved n from to (p ∷ hs) h = (h.0, all_moved n from to hs h.1)

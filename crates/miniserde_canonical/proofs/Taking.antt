@@ -64,6 +64,7 @@ front_step element b p s = absurd p
 front_step (key x) b p s = absurd p
 front_step finish b p s = absurd p
 
+-- a draft takes a value's first token if it leaves out whitespace, and then makes the token's step
 pub takes_front : (e : Step) (b rest mid rest' : List ℕ) (o : Bool) (d d1 d' : Draft) → Piece e b
     → o ≡ is_some (opened_kind e) → ((s : State) → Represents d rest s → Represents d1 mid s)
     → ((s s' : State) → Represents d1 mid s → TokenStep (first_token e) s s' → Represents d' rest' s')
@@ -82,6 +83,7 @@ pub skipped : (d d' : Draft) (rest rest' : List ℕ) → ((bs : List ℕ) → Wr
     → ChangesOnlyText d d' → (s : State) → Represents d rest s → Represents d' rest' s
 skipped d d' rest rest' f k s r = record { bytes = r.bytes; wrote = f r.bytes r.wrote; holding = keep_holding d d' r.bytes s k r.holding }
 
+-- a draft takes the beginning of an element if it leaves out whitespace; a comma before the element joins the run
 pub takes_element : (f : Bool) (rest mid rest' : List ℕ) (d d' : Draft)
     → ((s : State) → Represents d rest s → Represents d' mid s) → mid ≡ comma_before f ++ rest'
     → Takes (before_child f) rest (token.element ∷ []) due rest' d d'
@@ -135,6 +137,7 @@ end_recalls : (k : Kind) (s s' : State) → TokenStep (end_token k) s s' → s'.
 end_recalls Seq s s' a = a.1
 end_recalls Map s s' a = a.3
 
+-- a draft takes a closing bracket if it leaves out whitespace, and then makes the step of the bracket
 pub takes_end : (m : Moment) (k : Kind) (rest mid rest' : List ℕ) (d d1 d' : Draft)
     → ((s : State) → Represents d rest s → Represents d1 mid s)
     → ((s : State) → Represents d1 mid s → (s' : State) × TokenStep (end_token k) s s' × Represents d' rest' s')
@@ -145,6 +148,7 @@ takes_end m k rest mid rest' d d1 d' w f = λ s r h.
 
 -- ---- all tokens so far
 
+-- tokens of j up to `rest` were read, up to the moment m inside st, and the draft d took them from `start` on
 pub record Taken (j : List ℕ) (m : Moment) (st : List Kind) (rest : List ℕ) (d : Draft) : Type 0 where
   pub tokens : List Token
   pub state : State
@@ -153,6 +157,7 @@ pub record Taken (j : List ℕ) (m : Moment) (st : List Kind) (rest : List ℕ) 
   pub represents : Represents d rest state
   pub recalls : Recalls m state
 
+-- if ks are read from the beginning of j, and a draft that represents `start` takes them, `Taken` holds
 pub taken_first : (j s : List ℕ) (st su : List Kind) (ks : List Token) (m : Moment) (rest : List ℕ) (d d' : Draft)
     → su ≡ [] → s ≡ j → Represents d j start → ReadsTokens due su s ks m st rest → Takes due j ks m rest d d'
     → Taken j m st rest d'
@@ -168,6 +173,7 @@ taken_first j s st su ks m rest d d' e f r p t =
       recalls = a.3;
     }
 
+-- if `Taken` holds, and then more tokens are read and taken, `Taken` holds after them
 pub taken_more : (j : List ℕ) (m m' : Moment) (st st' : List Kind) (rest rest' : List ℕ) (ks : List Token)
     (d d' : Draft) → Taken j m st rest d → ReadsTokens m st rest ks m' st' rest' → Takes m rest ks m' rest' d d'
     → Taken j m' st' rest' d'
@@ -184,6 +190,7 @@ taken_more j m m' st st' rest rest' ks d d' t p f =
       recalls = a.3;
     }
 
+-- if no container is open and only whitespace is left, the tokens taken are those of a tree that j spells
 pub taken_all : (j : List ℕ) (f : Bool) (st : List Kind) (rest : List ℕ) (d : Draft) → innermost st ≡ None
     → IsWhitespace rest → Taken j (before_child f) st rest d → (t : Tree) × (s : State) × IsJson j t
     × Run (tokens t) start s × Represents d rest s
@@ -191,9 +198,11 @@ taken_all j f st rest d e w k =
     let t = end_ok j k.tokens f st rest e k.reads w in
     (t.0, k.state, t.1, subst (λ z. Run z start k.state) t.2 k.run, k.represents)
 
+-- the rest after whitespace and a part is no longer than the text
 pub stands_less : {P : List ℕ → Type 0} (s r : List ℕ) → Stands P s r → length r ≤ length s
 stands_less s r p = omega (arith, ap length p.text, length-append p.space (p.part ++ r), length-append p.part r)
 
+-- the rest after what the lexer takes inside a container is no longer than the text
 pub follows_less : (k : Kind) (f c : Bool) (s r : List ℕ) → Follows k f c s r → length r ≤ length s
 follows_less k f true s r p = stands_less s r p
 follows_less k true false s r p = stands_less s r p.0
@@ -213,12 +222,15 @@ stands_behind s m r b p =
       is_part = p.is_part;
     }
 
+-- if m is s without its first whitespace and begins with a value's first token, so does s
 pub starts_behind : (s m : List ℕ) (e : Step) (r : List ℕ) → Blank s m → Starts m e r → Starts s e r
 starts_behind s m e r b p = (stands_behind s m r b p.0, p.1)
 
+-- if m is s without its first whitespace and begins with a name, so does s
 pub names_behind : (s m n r : List ℕ) → Blank s m → Names m n r → Names s n r
 names_behind s m n r b p = stands_behind s m r b p
 
+-- if m is s without its first whitespace, what follows in m inside a container follows in s
 pub follows_behind : (k : Kind) (f c : Bool) (s m r : List ℕ) → Blank s m → Follows k f c m r → Follows k f c s r
 follows_behind k f true s m r b p = stands_behind s m r b p
 follows_behind k true false s m r b p = (stands_behind s m r b p.0, p.1)
@@ -231,15 +243,18 @@ stands_at s m r b p h =
     (whitespace_passes p.space p.is_space) b.stops h (sym b.text ∙ p.text) in
     record { space = []; part = p.part; text = same.1; is_space = tt; is_part = p.is_part }
 
+-- if m is s without its first whitespace and s begins with a value's first token, so does m
 pub starts_at : (s m : List ℕ) (e : Step) (r : List ℕ) → Blank s m → Starts s e r → Starts m e r
 starts_at s m e r b p = (stands_at s m r b p.0 (piece_no_space e p.0.part r p.0.is_part), p.1)
 
+-- if m is s without its first whitespace and s begins with a name, so does m
 pub names_at : (s m n r : List ℕ) → Blank s m → Names s n r → Names m n r
 names_at s m n r b p = stands_at s m r b p (name_no_space n p.part r p.is_part)
 
 byte_stops : (c : ℕ) (part r : List ℕ) → is_space c ≡ false → part ≡ c ∷ [] → StopsAt is_space (part ++ r)
 byte_stops c part r h e = subst (λ z. StopsAt is_space (z ++ r)) (sym e) h
 
+-- if m is s without its first whitespace, what follows in s inside a container follows in m
 pub follows_at : (k : Kind) (f c : Bool) (s m r : List ℕ) → Blank s m → Follows k f c s r → Follows k f c m r
 follows_at Seq f true s m r b p = stands_at s m r b p (byte_stops 93 p.part r refl p.is_part)
 follows_at Map f true s m r b p = stands_at s m r b p (byte_stops 125 p.part r refl p.is_part)
@@ -251,9 +266,11 @@ follows_at k false false s m r b p = stands_at s m r b p (byte_stops 44 p.part r
 pub closing_at : (k : Kind) (f : Bool) (m r : List ℕ) → StopsAt is_space m → Follows k f true m r → m ≡ closing k ∷ r
 closing_at k f m r h p = at_once m r p h ∙ ap (λ z. z ++ r) p.is_part
 
+-- if a child follows in a text without whitespace in front, the text is the child's comma, if any, and r
 pub comma_at : (k : Kind) (f : Bool) (m r : List ℕ) → StopsAt is_space m → Follows k f false m r → m ≡ comma_before f ++ r
 comma_at k true m r h p = at_once m r p.0 h ∙ ap (λ z. z ++ r) p.0.is_part
 comma_at k false m r h p = at_once m r p h ∙ ap (λ z. z ++ r) p.is_part
 
+-- a text without its first whitespace is no longer than the text
 pub blank_less : (s r : List ℕ) → Blank s r → length r ≤ length s
 blank_less s r b = omega (arith, ap length b.text, length-append b.space r)

@@ -41,18 +41,22 @@ known_head k s space part r l h e w =
           };
     }
 
+-- if s begins with a value's first token, its first byte after whitespace begins values
 pub known_start : (s : List ℕ) (e : Step) (r : List ℕ) → Starts s e r → Known s
 known_start s e r p = known_head (class e) s p.0.space p.0.part r (class_below e p.0.part p.0.is_part)
     (piece_head e p.0.part p.0.is_part) p.0.text p.0.is_space
 
+-- if s begins with a name, its first byte after whitespace begins values
 pub known_name : (s n r : List ℕ) → Names s n r → Known s
 known_name s n r p = known_head 4 s p.space p.part r (omega arith) (name_head n p.part p.is_part) p.text p.is_space
 
+-- a byte that begins no value is not the first one after whitespace in a `Known` text
 pub not_known : (s : List ℕ) (z : ℕ) → kind_of_byte z ≡ 7 → Known s → First s z → ⊥
 not_known s z h k f = omega (arith, ap kind_of_byte (same_first s k.byte z k.is_first f), h, k.known)
 
 -- ---- a value that is due
 
+-- es begin with the event of the token that s begins with, and the rest of s spells the other events
 pub record Opened (es : List Step) (st : List Kind) (s : List ℕ) : Type 0 where
   pub event : Step
   pub left : List Step
@@ -61,6 +65,7 @@ pub record Opened (es : List Step) (st : List Kind) (s : List ℕ) : Type 0 wher
   pub starts : Starts s event rest
   pub is_rest : Spells (before_child (is_some (opened_kind event))) left (with_opened (opened_kind event) st) rest
 
+-- if a value is due and s spells es, then es begin with the event of the token that s begins with
 pub spells_start : (es : List Step) (st : List Kind) (s : List ℕ) → Spells due es st s → Opened es st s
 spells_start (step.null ∷ es) st s h =
     record {
@@ -131,6 +136,7 @@ start_back st s e r p es h =
           (with_opened (opened_kind z) st) f.rest) same.0 f.is_rest),
     )
 
+-- if a value is due, the first token of a value forces its event
 pub forces_start : (st : List Kind) (s : List ℕ) (e : Step) (r : List ℕ) → Starts s e r
     → Forces due st s (e ∷ []) (before_child (is_some (opened_kind e))) (with_opened (opened_kind e) st) r
 forces_start st s e r p = record { passes = passes_start st s e r p; back = start_back st s e r p; live = live_at (opened_kind e) st }

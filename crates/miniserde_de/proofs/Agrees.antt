@@ -50,6 +50,7 @@ list_some : {C D : Type 0} (f : Tree → Option C) (g : Tree → Option D)
 list_some f g e (list ts) = each_some f g e ts
 list_some f g e t = refl
 
+-- if m and n agree, so do the meanings of lists whose items m and n mean
 pub list_agree : {V W : Type 0} (m n : Meaning V) (f : W → List V) → Agree m n → Agree (list_meaning m f) (list_meaning n f)
 list_agree m n f a = record {
   same = λ t v. (list_to m n a t (f v), list_to n m (agree_back m n a) t (f v));
@@ -97,12 +98,14 @@ array_some : {C D : Type 0} (n : ℕ) (f : Tree → Option C) (g : Tree → Opti
 array_some n f g e (list ts) = exact_some n (each f ts) (each g ts) (each_alike f g e ts)
 array_some n f g e t = refl
 
+-- if m and n agree, so do the meanings of arrays of k items that m and n mean
 pub array_agree : {V W : Type 0} (k : ℕ) (m n : Meaning V) (f : W → List V) → Agree m n → Agree (array_meaning k m f) (array_meaning k n f)
 array_agree k m n f a = record {
   same = λ t v. (λ h. (list_to m n a t (f v) h.0, h.1), λ h. (list_to n m (agree_back m n a) t (f v) h.0, h.1));
   some = array_some k m.from_tree n.from_tree a.some;
 }
 
+-- if m and n agree, so do the meanings of boxes of values that m and n mean
 pub box_agree : {V W : Type 0} (m n : Meaning V) (f : W → V) → Agree m n → Agree (box_meaning m f) (box_meaning n f)
 box_agree m n f a = record { same = λ t v. a.same t (f v); some = a.some }
 
@@ -121,6 +124,7 @@ option_some : {C D : Type 0} (f : Tree → Option C) (g : Tree → Option D)
 option_some f g e null = refl
 option_some f g e t = is_mapped (f t) ∙ e t ∙ sym (is_mapped (g t))
 
+-- if m and n agree, so do the meanings of optional values that m and n mean
 pub option_agree : {V : Type 0} (m n : Meaning V) → Agree m n → Agree (option_meaning m) (option_meaning n)
 option_agree m n a = record {
   same = λ t v. (option_to m n a t v, option_to n m (agree_back m n a) t v);
@@ -129,6 +133,7 @@ option_agree m n a = record {
 
 -- ---- the same
 
+-- a meaning agrees with itself
 pub agree_same : {V : Type 0} (m : Meaning V) → Agree m m
 agree_same m = record { same = λ t v. (λ h. h, λ h. h); some = λ t. refl }
 
@@ -152,6 +157,7 @@ module _ {A B C D : Type 0} (f : Tree → Option A) (f' : Tree → Option C) (g 
       ∙ ap (λ z. is_some (f' t) && z) (k u) ∙ sym (is_both (f' t) (g' u))
   pair_some t = refl
 
+-- if m and m' agree, and n and n' too, so do the meanings of pairs by m and n and by m' and n'
 pub pair_agree : {V U W : Type 0} (m m' : Meaning V) (n n' : Meaning U) (f : W → V) (g : W → U) → Agree m m'
     → Agree n n' → Agree (pair_meaning m n f g) (pair_meaning m' n' f g)
 pair_agree m m' n n' f g a b = record {
@@ -213,6 +219,7 @@ map_to read code key m n a (members ms) es h =
     (taken_to read code m.from_tree n.from_tree a.some ms h.0, λ q. means_to m n a key _ _ (h.1 q))
 map_to read code key m n a t es h = absurd h
 
+-- if m and n agree, so do the meanings of maps whose values m and n mean
 pub map_agree : {K V W : Type 0} (read : Name → Option Key) (code : Key → Key) (key : K → Key) (m n : Meaning V)
     (f : W → List (K × V)) → Agree m n → Agree (map_meaning read code key m f) (map_meaning read code key n f)
 map_agree read code key m n f a = record {

@@ -8,6 +8,7 @@ use Rattle.miniserde_record.specs.Aliases.{field_name_of, with_field_names, are_
 use Rattle.miniserde_record.specs.Structs.{with_names}
 use Rattle.miniserde_record.proofs.Names.{both}
 
+-- if none of the names ns is an alias of another name, `with_field_names` keeps the members of these names
 pub written_counts : (ps : List (Name × Name)) (ns : List Name) (ts : List (Option Tree))
     → are_unaliased ps ns ≡ true → with_field_names ps (with_names ns ts) ≡ with_names ns ts
 written_counts ps [] ts h = refl

@@ -24,6 +24,7 @@ names_distinct k ns h = elim (nat_eq (length ns) k) as (λ b. (b && are_distinct
 
 -- ---- one variant
 
+-- the tree of the variant n without data means a value, and each value that it means has that tree
 pub unit-round_trips : (tagging : Tagging) → UnitFits tagging → (n : Name) (x : Unit {0}) → ⊤
     → RoundTrips (λ (u : Unit {0}). ⊤) (unit_tree tagging n) (UnitReads tagging n) (unit_tree tagging n x)
 unit-round_trips tagging f n x r = ((tt, tt, (tagging-agrees tagging (variant_tree tagging n None) n None).1 (f n)), λ y s e. refl)

@@ -31,6 +31,7 @@ more_names k n ns h =
 pub distinct_names : (k : ℕ) (ns : List Name) → length ns ≡ k → are_distinct ns ≡ true → are_names k ns ≡ true
 distinct_names k ns h d = let e : nat_eq (length ns) k ≡ true = grind (arith, nat_tests, h) in rw (e, d) refl
 
+-- the empty list does not have k + 1 names
 pub no_names : (k : ℕ) → are_names (k + 1) [] ≡ true → ⊥
 no_names k h = let e : 0 ≡ k + 1 = grind (arith, nat_tests, (both (nat_eq 0 (k + 1)) true h).0) in omega (arith, e)
 

@@ -13,6 +13,7 @@ not_there n t ms ns ts h e =
     let none : count_named n (member n t ms) ≡ 0 = ap (count_named n) (sym e) ∙ count_new n ns ts h in
     absurd (cc (none, same n))
 
+-- if the names are distinct and as many as the trees, members that are equal under them have equal trees
 pub one_trees : (ns : List Name) (ts us : List (Option Tree)) → are_distinct ns ≡ true → length ts ≡ length ns
     → length us ≡ length ns → with_names ns ts ≡ with_names ns us → ts ≡ us
 one_trees [] [] [] d p q e = refl

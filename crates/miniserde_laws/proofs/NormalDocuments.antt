@@ -112,17 +112,20 @@ all_normal (v ∷ vs) = (normal v, all_normal vs)
 
 -- ---- documents
 
+-- the normal form of a number means a number, and each number that it means has this normal form
 pub round_trips-number : (n : Number) → RoundTrips (λ _. ⊤) (λ n. norm (number_leaf n)) ReadsNumber (norm (number_leaf n))
 round_trips-number (U64 n) = ((U64 n, tt, refl), λ w r e. rw e refl)
 round_trips-number (I64 (pos n)) = ((U64 n, tt, refl), λ w r e. rw e refl)
 round_trips-number (I64 (negsuc n)) = ((I64 (negsuc n), tt, refl), λ w r e. rw e refl)
 round_trips-number (Text x) = ((Text x, tt, refl), λ w r e. rw e refl)
 
+-- the normal form of a value means a value, and each value that it means has this normal form
 pub round_trips-value : (v : Value) → RoundTrips (λ _. ⊤) (λ v. norm (content_of v)) ReadsValue (norm (content_of v))
 round_trips-value v =
     let n = normal v in
     ((n.0, tt, n.1 ∙ kept_norm (content_of v)), λ w r e. same (content_of w) (content_of v) e)
 
+-- the normal form of an array means an array, and each array that it means has this normal form
 pub round_trips-array : (a : Array)
     → RoundTrips (λ _. ⊤) (λ a. norm (array_content a)) (λ t a. array_content a ≡ retained_tree t)
     (norm (array_content a))
@@ -130,6 +133,7 @@ round_trips-array a =
     let n = normal_array a (all_normal (array_items a)) in
     ((n.0, tt, n.1 ∙ kept_norm (array_content a)), λ w r e. same (array_content w) (array_content a) e)
 
+-- the normal form of an object means an object, and each object that it means has this normal form
 pub round_trips-object : (o : Object)
     → RoundTrips (λ _. ⊤) (λ o. norm (object_content o)) (λ t o. object_content o ≡ retained_tree t)
     (norm (object_content o))
@@ -145,6 +149,7 @@ round_trips-unique u =
       λ w r e. same (content_of w.value) (content_of u.value) e.1,
     )
 
+-- the tree of a document means a document, and each document that it means has this tree
 pub round_trips-document : (d : Document) → RoundTrips {T = Document} (λ _. ⊤) (λ d. tree_of d.value)
     (λ t d. tree_of d.value ≡ norm t) (tree_of d.value)
 round_trips-document d = ((d, tt, sym (norm_twice _)), λ w r e. e ∙ norm_twice _)

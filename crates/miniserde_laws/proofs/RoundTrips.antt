@@ -100,6 +100,7 @@ module _ {T : Type 0} (real : T → Type 0) (f : T → Tree) (R : Tree → T →
 
 -- ---- pairs
 
+-- if the trees of both parts of a pair round-trip, the list of the two trees does
 pub round_trips-pair : {A B : Type 0} (real_a : A → Type 0) (real_b : B → Type 0) (f : A → Tree) (g : B → Tree)
     (R : Tree → A → Type 0) (S : Tree → B → Type 0) (v : A × B) → RoundTrips real_a f R (f v.0)
     → RoundTrips real_b g S (g v.1)

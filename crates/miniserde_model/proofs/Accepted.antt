@@ -55,6 +55,7 @@ leaf_tells b =
     (λ l. record { plain = p; bare = m; value = refl; small = ltb-true _ _ l }) (λ l. refl)))
     (λ p. refl)
 
+-- the leaf of a number text is an integer in range without or with a minus, or the text itself
 pub tells : (b : List ℕ) (t : Tree) → IsNumber b t → TellsLeaf b t
 tells b t p = subst (λ u. TellsLeaf b u) p.1 (leaf_tells b)
 
@@ -120,5 +121,6 @@ mutual
     more_named ms p.2.rest p.2.is_rest,
   )
 
+-- a tree that a text spells is in range
 pub json_tree : (b : List ℕ) (t : Tree) → IsJson b t → InRange t
 json_tree b t p = value_tree t p.inner p.is_inner

@@ -13,6 +13,7 @@ use Rattle.miniserde_model.proofs.Accepted.{json_tree}
 pub canonical_spells : (b : List ℕ) (t : Tree) → IsJson b t → IsJson (compact (norm t)) (norm t)
 canonical_spells b t p = written (norm t) (norm_tree t (json_tree b t p))
 
+-- two texts that spell trees have equal canonical texts exactly if the trees have equal normal forms
 pub canonical_texts_equal : (a b : List ℕ) (t u : Tree) → IsJson a t → IsJson b u
     → (compact (norm t) ≡ compact (norm u)) ↔ (norm t ≡ norm u)
 canonical_texts_equal a b t u p q = (

@@ -52,6 +52,7 @@ mutual
         (goes t (n + 1) (member_events ms ++ rest) (members_go ms n rest h)),
   )
 
+-- the events of a tree complete a value
 pub events_complete : (t : Tree) → Completes start (events t)
 events_complete t = subst (λ z. Completes start z) (append-nil (events t)) (goes t 0 [] refl)
 

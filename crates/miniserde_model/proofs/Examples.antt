@@ -20,6 +20,7 @@ abbrev all_digits : List ℕ → Bool
 all_digits [] = true
 all_digits (c ∷ cs) = is_digit c && all_digits cs
 
+-- a byte for which `is_digit` is true is a digit of the grammar
 pub digit : (c : ℕ) → is_digit c ≡ true → IsDigit c
 digit c h = grind (arith, nat_tests)
 
@@ -149,6 +150,7 @@ repeated_name = record {
   };
 }
 
+-- each text of `SpelledTexts` spells its tree
 pub spelled_texts : SpelledTexts
 spelled_texts = record {
   empty_list = empty_list;
@@ -163,6 +165,7 @@ escaped_text : compact (str (97 ∷ 34 ∷ 92 ∷ 47 ∷ 10 ∷ 0x1F ∷ 0x7F �
 unfolding string_text
 escaped_text = refl
 
+-- each tree of `NormalForms` has its normal form or its compact text
 pub normal_forms : NormalForms
 normal_forms = record {
   last_stays = refl;

@@ -46,6 +46,7 @@ apart a b q g e f =
     let tied : text_cmp a b ≡ Equal = ap (text_cmp a) (sym same) ∙ tied_itself nat_list_cmp_total a in
     true≢false (ap is_eq (sym tied ∙ g))
 
+-- after `with_if_absent name t`, the last tree of q is the old one, or else t if q is `name`
 pub last_with_first : (q name : List ℕ) (t : Tree) (ms : Members)
     → last_of q (with_if_absent name t ms) ≡ or_else (last_of q ms) (if_same name q t)
 last_with_first q name t no_members = refl
@@ -62,6 +63,7 @@ last_with_first q name t (member other u ms) = go (text_cmp name other) refl (la
     go Greater e more = ap (λ z. or_else z (if_same other q u)) more ∙ swapped (bytes_eq name q) (bytes_eq other q)
         (last_of q ms) u t (apart name other q e)
 
+-- the normal form by f commutes with `or_else`, whose second tree is t if b is true
 pub mapped : (f : ℤ → Tree) (a : Option Tree) (b : Bool) (t : Tree)
     → or_else (option_map (norm_by f) a) (cond b (Some (norm_by f t)) None) ≡ option_map (norm_by f)
     (or_else a (cond b (Some t) None))
@@ -70,6 +72,7 @@ mapped f None false t = refl
 mapped f (Some v) true t = refl
 mapped f (Some v) false t = refl
 
+-- in the normal form of members by f, each name has the normal form by f of its last tree
 pub norm_keeps_last : (f : ℤ → Tree) (q : List ℕ) (ms : Members) → last_of q (norm_members_by f ms) ≡ option_map (norm_by f) (last_of q ms)
 norm_keeps_last f q no_members = refl
 norm_keeps_last f q (member name t ms) = last_with_first q name (norm_by f t) (norm_members_by f ms)
@@ -89,6 +92,7 @@ above_with_first first name t (member other u ms) p q = go (text_cmp name other)
     go Equal = q
     go Greater = q
 
+-- if the names of members rise, they rise after `with_if_absent`, too
 pub rise_with_first : (name : List ℕ) (t : Tree) (ms : Members) → Rise ms → Rise (with_if_absent name t ms)
 rise_with_first name t no_members h = (tt, tt)
 rise_with_first name t (member other u ms) h = go (text_cmp name other) refl (rise_with_first name t ms h.1)
@@ -99,6 +103,7 @@ rise_with_first name t (member other u ms) h = go (text_cmp name other) refl (ri
     go Equal e m = h
     go Greater e m = (above_with_first other name t ms (greater_less name other e) h.0, m)
 
+-- the names in the normal form of members by f rise
 pub norm_rises : (f : ℤ → Tree) (ms : Members) → Rise (norm_members_by f ms)
 norm_rises f no_members = tt
 norm_rises f (member name t ms) = rise_with_first name (norm_by f t) (norm_members_by f ms) (norm_rises f ms)

@@ -44,6 +44,7 @@ neg_twice : (z : ℤ) → norm (norm_neg z) ≡ norm_neg z
 neg_twice (pos n) = refl
 neg_twice (negsuc n) = refl
 
+-- the normal form is idempotent
 pub norm_twice : (t : Tree) → norm (norm t) ≡ norm t
 norm_twice = norm_after norm_neg norm_neg norm_neg neg_twice
 
@@ -56,6 +57,7 @@ trees_placed Less name t other u ms more n h k m = (n, h, k)
 trees_placed Equal name t other u ms more n h k m = k
 trees_placed Greater name t other u ms more n h k m = (k.0, k.1, m)
 
+-- `with_if_absent` keeps members in range, if the name is UTF-8 and the tree is in range
 pub trees_with_first : (name : List ℕ) (t : Tree) (ms : Members) → IsUtf8 name → InRange t → MembersInRange ms
     → MembersInRange (with_if_absent name t ms)
 trees_with_first name t no_members n h k = (n, h, tt)

@@ -41,6 +41,7 @@ exponent_pass : (x : List ℕ) → IsExponent x → AllPass is_number_byte x
 exponent_pass x (inl h) = rw h tt
 exponent_pass x (inr h) = rw h.3 (e_pass h.0 h.4, pass_append is_number_byte h.1 h.2 (sign_pass h.1 h.5) (digits_pass h.2 h.6.1))
 
+-- each byte of a number text passes `is_number_byte`
 pub number_pass : (x : List ℕ) → IsNumberText x → AllPass is_number_byte x
 number_pass x n =
     let tail = pass_append is_number_byte n.fraction n.exponent (fraction_pass n.fraction n.is_fraction)
@@ -48,6 +49,7 @@ number_pass x n =
     let more = pass_append is_number_byte n.int (n.fraction ++ n.exponent) (whole_pass n.int n.is_int) tail in
     rw n.text (pass_append is_number_byte n.minus _ (minus_pass n.minus n.is_minus) more)
 
+-- if a is a number with the leaf t, b one with u, x and y end numbers, and `a ++ x` is `b ++ y`: t is u, and x is y
 pub same_number : (a b x y : List ℕ) (t u : Tree) → IsNumber a t → IsNumber b u → StopsAt is_number_byte x
     → StopsAt is_number_byte y → a ++ x ≡ b ++ y → (t ≡ u) × (x ≡ y)
 same_number a b x y t u p q sx sy e =

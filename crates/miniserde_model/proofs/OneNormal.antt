@@ -29,6 +29,7 @@ absent q (member name t ms) b r =
     further no_members h = tt
     further (member other u ns) h = nat_list_cmp_total.trans q name other b h
 
+-- `bytes_eq` is true for a text and itself
 pub same_itself : (a : List ℕ) → bytes_eq a a ≡ true
 same_itself a = (bytes_eq-Decides a a).1 refl
 
@@ -39,6 +40,7 @@ at_first name t ms b r = ap₂ (λ (x : Option Tree) (y : Bool). or_else x (cond
 none_some : (o : Option Tree) (t : Tree) → o ≡ None → o ≡ Some t → ⊥
 none_some o t p q = true≢false (ap is_some (sym q ∙ p))
 
+-- `or_else` without a second tree is the first one
 pub or_else_none : (a : Option Tree) → or_else a None ≡ a
 or_else_none None = refl
 or_else_none (Some t) = refl
@@ -63,6 +65,7 @@ same_first name t u ms ns r s h =
     let same : t ≡ u = cc in
     (same, tails_alike name t ms ns r.0 r.1 s.0 s.1 (λ q. h q ∙ ap (λ z. last_of q (member name z ns)) (sym same)))
 
+-- two lists of members whose names rise are equal if each name has the same last tree in both
 pub one_rising : (ms ns : Members) → Rise ms → Rise ns → Alike ms ns → ms ≡ ns
 one_rising no_members no_members r s h = refl
 one_rising no_members (member name u ns) r s h = absurd (none_some _ u (sym (h name)) (at_first name u ns s.0 s.1))
@@ -97,6 +100,7 @@ hidden true None t h = refl
 hidden true (Some v) t h = absurd (none_some _ v (h refl) refl)
 hidden false a t h = or_else_none a
 
+-- `or_else` is associative
 pub or_else_assoc : (a b c : Option Tree) → or_else (or_else a b) c ≡ or_else a (or_else b c)
 or_else_assoc None b c = refl
 or_else_assoc (Some t) b c = refl

@@ -13,12 +13,15 @@ use Rattle.miniserde_model.proofs.Runs.{AllPass, same_run}
 abbrev pub goes_on : ℕ → Bool
 goes_on c = is_space c || is_number_byte c
 
+-- if a of P with x behind it equals b of Q with y behind it, and Stop holds of x and y, then R holds and x is y
 abbrev pub Prefix : (P Q Stop : List ℕ → Type 0) (R : Type 0) → Type 0
 Prefix P Q Stop R = (a b x y : List ℕ) → P a → Q b → Stop x → Stop y → a ++ x ≡ b ++ y → R × (x ≡ y)
 
+-- the text is empty, or begins with a byte that is neither whitespace nor a byte of a number
 abbrev pub AtEnd : List ℕ → Type 0
 AtEnd x = StopsAt goes_on x
 
+-- the text begins with the byte z
 abbrev pub Closes : ℕ → List ℕ → Type 0
 Closes z x = (rest : List ℕ) × (x ≡ z ∷ rest)
 
@@ -26,12 +29,14 @@ Closes z x = (rest : List ℕ) × (x ≡ z ∷ rest)
 pub record Heads (P : List ℕ → Type 0) : Type 0 where
   pub no_space : (b rest : List ℕ) → P b → StopsAt is_space (b ++ rest)
 
+-- no text of P begins with the byte z, with any text behind it
 abbrev pub BeginsNot : ℕ → (List ℕ → Type 0) → Type 0
 BeginsNot z P = (b rest x : List ℕ) → P b → b ++ rest ≡ z ∷ x → ⊥
 
 space_passes : (c : ℕ) → IsSpace c → is_space c ≡ true
 space_passes c h = grind (arith, nat_tests)
 
+-- each byte of whitespace passes `is_space`
 pub whitespace_passes : (w : List ℕ) → IsWhitespace w → AllPass is_space w
 whitespace_passes [] h = tt
 whitespace_passes (c ∷ cs) h = (space_passes c h.0, whitespace_passes cs h.1)
@@ -54,6 +59,7 @@ pub end_no_number : (x : List ℕ) → AtEnd x → StopsAt is_number_byte x
 end_no_number [] h = tt
 end_no_number (c ∷ cs) h = (either (is_space c) (is_number_byte c) h).1
 
+-- whitespace followed by a text for which `AtEnd` holds begins with no byte of a number
 pub space_ends_number : (w x : List ℕ) → IsWhitespace w → AtEnd x → StopsAt is_number_byte (w ++ x)
 space_ends_number [] x h s = end_no_number x s
 space_ends_number (c ∷ w) x h s = space_no_number c h.0
@@ -62,6 +68,7 @@ regroup : (a x : List ℕ) {P : List ℕ → Type 0} (p : Spaced P a) → a ++ x
 regroup a x p = ap (λ z. z ++ x) p.text ∙ append_assoc p.before (p.inner ++ p.after) x ∙ ap (λ z. p.before ++ z)
     (append_assoc p.inner p.after x)
 
+-- `Prefix` holds of P and Q with whitespace around, if it holds of P and Q and they begin with no whitespace
 pub same_spaced : {P Q : List ℕ → Type 0} {R : Type 0} → Heads P → Heads Q → Prefix P Q (StopsAt is_number_byte) R
     → Prefix (Spaced P) (Spaced Q) AtEnd R
 same_spaced hp hq same a b x y p q sx sy e =
@@ -75,6 +82,7 @@ same_spaced hp hq same a b x y p q sx sy e =
     (whitespace_passes q.after q.is_after) (end_no_space x sx) (end_no_space y sy) two.1 in
     (two.0, three.1)
 
+-- `Prefix` holds of names, colons and values, if it holds of the names and of the values
 pub same_named : {N M V U : List ℕ → Type 0} {R S : Type 0} → Prefix (Spaced N) (Spaced M) AtEnd R
     → Prefix (Spaced V) (Spaced U) AtEnd S → Prefix (Named N V) (Named M U) AtEnd (R × S)
 same_named names values a b x y p q sx sy e =
@@ -86,6 +94,7 @@ same_named names values a b x y p q sx sy e =
     let two = values p.value q.value x y p.is_value q.is_value sx sy g in
     ((one.0, two.0), two.1)
 
+-- `Prefix` holds of first parts with rests before the byte z, if it holds of the first parts and of the rests
 pub same_then : {P Q M N : List ℕ → Type 0} {R S : Type 0} (z : ℕ)
     → ((b x : List ℕ) → M b → Closes z x → AtEnd (b ++ x)) → ((b x : List ℕ) → N b → Closes z x → AtEnd (b ++ x))
     → Prefix P Q AtEnd R → Prefix M N (Closes z) S → Prefix (Then P M) (Then Q N) (Closes z) (R × S)
@@ -97,6 +106,7 @@ same_then z em en first rest a b x y p q sx sy e =
     let two = rest p.rest q.rest x y p.is_rest q.is_rest sx sy one.1 in
     ((one.0, two.0), two.1)
 
+-- `Prefix` holds of texts between the bytes `left` and `right`, if it holds of them before `right`
 pub same_between : {M N : List ℕ → Type 0} {S : Type 0} (left right : ℕ) → Prefix M N (Closes right) S
     → Prefix (Between left M right) (Between left N right) (StopsAt is_number_byte) S
 same_between left right same a b x y p q sx sy e =

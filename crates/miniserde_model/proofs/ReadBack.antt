@@ -16,6 +16,7 @@ use Rattle.miniserde_model.specs.declared.kind.Kind.{Kind}
 use Rattle.miniserde_model.specs.declared.kind.Kind.TheVariants.{Seq, Map}
 use Rattle.miniserde_model.specs.private.Reading.{due, first, after, Spells}
 
+-- the events es begin with those of a tree, and b with whitespace and a spelling of that tree
 pub record FoundValue (es : List Step) (st : List Kind) (b : List ℕ) : Type 0 where
   pub found : Tree
   pub left : List Step
@@ -28,6 +29,7 @@ pub record FoundValue (es : List Step) (st : List Kind) (b : List ℕ) : Type 0 
   pub is_value : IsValue found value
   pub is_rest : Spells after left st rest
 
+-- the events es begin with those of elements and `finish`, and b with their spelling and `]`
 pub record FoundElements (es : List Step) (st : List Kind) (b : List ℕ) : Type 0 where
   found : Trees
   left : List Step
@@ -50,6 +52,7 @@ pub record FoundMore (es : List Step) (st : List Kind) (b : List ℕ) : Type 0 w
   is_more : AreMoreElements found more
   is_rest : Spells after left st rest
 
+-- the events es begin with those of members and `finish`, and b with their spelling and `}`
 pub record FoundMembers (es : List Step) (st : List Kind) (b : List ℕ) : Type 0 where
   found : Members
   left : List Step
@@ -430,6 +433,7 @@ mutual
   find_more_members zero (key s ∷ es) st b h p = absurd (omega arith)
   find_more_members n _ st b h p = absurd p
 
+-- after a value outside all containers, the text spells no event and is whitespace
 pub nothing_left : (es : List Step) (b : List ℕ) → Spells after es [] b → (es ≡ []) × IsWhitespace b
 nothing_left [] b p = (refl, p)
 nothing_left (e ∷ es) b p = absurd (go e p)

@@ -15,6 +15,7 @@ use Rattle.miniserde_model.specs.declared.kind.Kind.{Kind}
 use Rattle.miniserde_model.specs.declared.kind.Kind.TheVariants.{Seq, Map}
 use Rattle.miniserde_model.specs.private.Reading.{Moment, due, first, after, StandsThen, Spells}
 
+-- whitespace with whitespace behind it is whitespace
 pub space_append : (v w : List ℕ) → IsWhitespace v → IsWhitespace w → IsWhitespace (v ++ w)
 space_append [] w h k = k
 space_append (c ∷ v) w h k = (h.0, space_append v w h.1 k)
@@ -46,6 +47,7 @@ due_space (seq ∷ es) st w b h p = front_space w b h p
 due_space (map ∷ es) st w b h p = front_space w b h p
 due_space _ st w b h p = absurd p
 
+-- after a value, a text that spells events spells them with whitespace before it, too
 pub after_space : (es : List Step) (st : List Kind) (w b : List ℕ) → IsWhitespace w → Spells after es st b → Spells after es st (w ++ b)
 after_space [] [] w b h p = space_append w b h p
 after_space (element ∷ es) (Seq ∷ st) w b h p = front_space w b h p

@@ -225,6 +225,7 @@ lone_surrogate : HasNoTree (codes "\"\\ud800\"")
 lone_surrogate t p = let f = behind_quote 92 (codes "ud800\"") t (λ e. omega arith) p in
     no_lone_surrogate f.piece f.rest [] f.character f.is_piece f.text
 
+-- no text of `RefusedTexts` spells a tree
 pub refused_texts : RefusedTexts
 refused_texts = record {
   empty = no_text;

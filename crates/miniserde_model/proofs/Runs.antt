@@ -3,6 +3,7 @@ use Rattle.std.proofs.Common.{◌≡◌, ℕ, Bool, true, List, [], ◌∷◌, �
 use Rattle.std.specs.List.{AllByRecursion}
 use Rattle.miniserde_model.specs.Bytes.{StopsAt}
 
+-- each byte of the text passes the test p
 abbrev pub AllPass : (ℕ → Bool) → List ℕ → Type 0
 AllPass p xs = AllByRecursion (λ c. p c ≡ true) xs
 
@@ -10,6 +11,7 @@ clash : (p : ℕ → Bool) (c : ℕ) (cs x : List ℕ) → p c ≡ true → Stop
 clash p c cs [] h s e = cc
 clash p c cs (d ∷ x) h s e = let same : d ≡ c = cc in true≢false (sym h ∙ ap p (sym same) ∙ s)
 
+-- if runs a and b pass p, p stops at x and y, and `a ++ x` is `b ++ y`, then a is b and x is y
 pub same_run : (p : ℕ → Bool) (a b x y : List ℕ) → AllPass p a → AllPass p b → StopsAt p x → StopsAt p y
     → a ++ x ≡ b ++ y → (a ≡ b) × (x ≡ y)
 same_run p [] [] x y ha hb sx sy e = (refl, e)
@@ -20,6 +22,7 @@ same_run p (c ∷ a) (d ∷ b) x y ha hb sx sy e =
     let more = same_run p a b x y ha.1 hb.1 sx sy rest in
     (cc, more.1)
 
+-- if each byte of a and of b passes the test p, each byte of `a ++ b` does
 pub pass_append : (p : ℕ → Bool) (a b : List ℕ) → AllPass p a → AllPass p b → AllPass p (a ++ b)
 pass_append p [] b ha hb = hb
 pass_append p (c ∷ a) b ha hb = (ha.0, pass_append p a b ha.1 hb)

@@ -80,6 +80,7 @@ whole_no_minus [] rest h = absurd h
 whole_no_minus (c ∷ cs) rest (inl h) = grind (arith, nat_tests)
 whole_no_minus (c ∷ cs) rest (inr h) = grind (arith, nat_tests)
 
+-- a number text whose leaf is the integer n without a minus is the decimal text of n
 pub nonneg_text : (b : List ℕ) (n : ℕ) → IsNumber b (nonneg n) → decimal n ≡ b
 nonneg_text b n p =
     let l = tells b (nonneg n) p in
@@ -96,6 +97,7 @@ abs_negated : (n : ℕ) → unsigned_abs (neg_ℤ (pos n)) ≡ n
 abs_negated zero = refl
 abs_negated (suc n) = refl
 
+-- a number text whose leaf is the integer z with a minus is `-` and the decimal text of z's absolute value
 pub neg_text : (b : List ℕ) (z : ℤ) → IsNumber b (neg z) → 45 ∷ decimal (unsigned_abs z) ≡ b
 neg_text b z p =
     let l = tells b (neg z) p in

@@ -73,6 +73,7 @@ short_no_u a b x y l c s t u e =
     let f : ◌≡◌ {A = List ℕ} (92 ∷ l ∷ x) (92 ∷ 117 ∷ u.tail) = ap (λ z. z ++ x) (sym t) ∙ e ∙ u.is in
     no_short_u l c s (cc)
 
+-- if a stands for c and b for d, and `a ++ x` is `b ++ y`, then c is d and x is y
 pub same_piece : (a b x y : List ℕ) (c d : ℕ) → IsPiece a c → IsPiece b d → a ++ x ≡ b ++ y → (c ≡ d) × (x ≡ y)
 same_piece a b x y c d (raw p) (raw q) e = encode_same c d x y (ap (λ z. z ++ x) (sym p.text) ∙ e ∙ ap (λ z. z ++ y) q.text)
 same_piece a b x y c d (raw p) (short l s t) e = absurd (raw_no_escape a x (l ∷ y) c p (e ∙ ap (λ z. z ++ y) t))

@@ -22,6 +22,7 @@ use Rattle.miniserde_model.proofs.Prefixes.{same_named, same_then, same_between,
 
 -- ---- a value is told by its first byte
 
+-- the kind of a tree as a number; all numbers have one kind
 abbrev pub kind : Tree → ℕ
 kind null = 0
 kind (truth x) = 1
@@ -32,12 +33,14 @@ kind (str s) = 4
 kind (list ts) = 5
 kind (members ms) = 6
 
+-- the kind of the trees whose text begins with the byte, or 7 if there are none
 abbrev pub kind_of_byte : ℕ → ℕ
 kind_of_byte c = cond (c == 110) 0
     (cond (c == 116) 1 (cond (c == 102) 1
     (cond ((c == 45) || (nat_le 48 c && nat_le c 57)) 3
     (cond (c == 34) 4 (cond (c == 91) 5 (cond (c == 123) 6 7))))))
 
+-- the text b begins with a byte of the kind k
 pub record Head (b : List ℕ) (k : ℕ) : Type 0 where
   pub byte : ℕ
   pub rest : List ℕ
@@ -53,12 +56,15 @@ minus_head : (m w rest : List ℕ) → IsMinus m → IsInt w → Head (m ++ (w +
 minus_head m w rest (inl h) p = rw h (whole_head w rest p)
 minus_head m w rest (inr h) p = rw h (record { byte = 45; rest = w ++ rest; is = refl; of_kind = refl })
 
+-- a number begins with a byte of kind 3, a minus or a digit
 pub number_head : (b : List ℕ) (t : Tree) → IsNumber b t → Head b 3
 number_head b t p = rw (p.0.text) (minus_head p.0.minus p.0.int (p.0.fraction ++ p.0.exponent) p.0.is_minus p.0.is_int)
 
+-- a string begins with the byte of kind 4, the quotation mark
 pub string_head : (b s : List ℕ) → IsString b s → Head b 4
 string_head b s p = record { byte = 34; rest = p.inside ++ 34 ∷ []; is = p.text; of_kind = refl }
 
+-- a text that spells a tree as a value begins with a byte of the tree's kind
 pub value_head : (t : Tree) (b : List ℕ) → IsValue t b → Head b (kind t)
 value_head null b p = record { byte = 110; rest = codes "ull"; is = p; of_kind = refl }
 value_head (truth true) b p = record { byte = 116; rest = codes "rue"; is = p; of_kind = refl }
@@ -70,6 +76,7 @@ value_head (str s) b p = string_head b s p
 value_head (list ts) b p = record { byte = 91; rest = p.inside ++ 93 ∷ []; is = p.text; of_kind = refl }
 value_head (members ms) b p = record { byte = 123; rest = p.inside ++ 125 ∷ []; is = p.text; of_kind = refl }
 
+-- the kind of a tree is below 7
 pub kind_below : (t : Tree) → kind t < 7
 kind_below null = omega arith
 kind_below (truth x) = omega arith
@@ -80,9 +87,11 @@ kind_below (str s) = omega arith
 kind_below (list ts) = omega arith
 kind_below (members ms) = omega arith
 
+-- a byte that begins values is no whitespace
 pub known_no_space : (c : ℕ) → kind_of_byte c < 7 → is_space c ≡ false
 known_no_space c h = grind (arith, nat_tests)
 
+-- a text that begins with a byte of a kind below 7 begins with no whitespace
 pub head_no_space : (b rest : List ℕ) (k : ℕ) → k < 7 → Head b k → StopsAt is_space (b ++ rest)
 head_no_space b rest k l h = rw (h.is) (known_no_space h.byte (omega (arith, h.of_kind)))
 
@@ -92,6 +101,7 @@ head_not z k b rest x hz l h e =
     let same : h.byte ≡ z = cc in
     omega (arith, h.of_kind, ap kind_of_byte same, hz)
 
+-- no text that spells a tree as a value begins with whitespace
 pub value_heads : (t : Tree) → Heads (IsValue t)
 value_heads t = record { no_space = λ b rest p. head_no_space b rest (kind t) (kind_below t) (value_head t b p) }
 
@@ -132,9 +142,11 @@ clash_at c d a b cs ds x y apart p q e =
 no_more : (z : ℕ) (a b c x y : List ℕ) → (z ≡ 44 → ⊥) → a ≡ [] → b ≡ 44 ∷ c → Closes z x → a ++ x ≡ b ++ y → ⊥
 no_more z a b c x y apart p q r e = clash_at z 44 x b r.0 c [] y apart r.1 q (append-nil x ∙ ap (λ w. w ++ x) (sym p) ∙ e)
 
+-- if a and b are the word w, and `a ++ x` is `b ++ y`, then x is y
 pub same_word : (w a b x y : List ℕ) → a ≡ w → b ≡ w → a ++ x ≡ b ++ y → x ≡ y
 same_word w a b x y p q e = append_cancel_left w x y (ap (λ z. z ++ x) (sym p) ∙ e ∙ ap (λ z. z ++ y) q)
 
+-- if a is the word of v and b that of w, and `a ++ x` is `b ++ y`, then v is w and x is y
 pub same_truth : (v w : Bool) (a b x y : List ℕ) → a ≡ word v → b ≡ word w → a ++ x ≡ b ++ y → (v ≡ w) × (x ≡ y)
 same_truth true true a b x y p q e = (refl, same_word (codes "true") a b x y p q e)
 same_truth false false a b x y p q e = (refl, same_word (codes "false") a b x y p q e)

@@ -164,5 +164,6 @@ mutual
       (value_utf8 t p.2.is_first.is_value.inner p.2.is_first.is_value.is_inner)))
       (more_members_utf8 ms p.2.rest p.2.is_rest)))
 
+-- a text that spells a tree is UTF-8
 pub json_utf8 : (b : List ℕ) (t : Tree) → IsJson b t → IsUtf8 b
 json_utf8 b t p = spaced_utf8 b p (value_utf8 t p.inner p.is_inner)

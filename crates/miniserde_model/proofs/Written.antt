@@ -110,6 +110,7 @@ escape_high [] h = refl
 escape_high (x ∷ xs) h = ap₂ (λ (a b : List ℕ). a ++ b) (escaped_high x (h 0 (omega arith)))
     (escape_high xs (λ k below. h (suc k) (omega arith)))
 
+-- no byte of a character from 128 on is escaped
 pub high_stays : (c : ℕ) → 128 ≤ c → flat_map escape_text (encode_utf8 c) ≡ encode_utf8 c
 high_stays c big =
     let high : (k : ℕ) → k < length (encode_utf8 c) → 128 ≤ get_or (encode_utf8 c) k 0 =
@@ -119,6 +120,7 @@ high_stays c big =
     ] in
     escape_high (encode_utf8 c) high
 
+-- a character below 128 is written as `escape_text` writes its one byte
 pub low_stays : (c : ℕ) → c < 128 → flat_map escape_text (encode_utf8 c) ≡ escape_text c
 low_stays c small = rw (encode_ascii c small, append-nil) refl
 
@@ -140,6 +142,7 @@ control_text : (c : ℕ) → c < 32 → c ≢ 8 → c ≢ 9 → c ≢ 10 → c �
     → escape_text c ≡ 92 ∷ 117 ∷ 48 ∷ 48 ∷ digit_char (c / 16) ∷ digit_char (c % 16) ∷ []
 control_text c low n8 n9 n10 n12 n13 = grind (arith, nat_tests)
 
+-- a byte from 0x20 on that is neither a quotation mark nor a backslash is written as itself
 pub raw_text : (c : ℕ) → 32 ≤ c → c ≢ 34 → c ≢ 92 → escape_text c ≡ c ∷ []
 raw_text c high n34 n92 = grind (arith, nat_tests)
 
@@ -323,5 +326,6 @@ mutual
     },
   )
 
+-- the compact text of a tree in range spells the tree
 pub written : (t : Tree) → InRange t → IsJson (compact t) t
 written t h = alone (compact t) (written_value t h)

@@ -27,12 +27,14 @@ use Rattle.miniserde_place.proofs.Spelled.{Unfinished, more_to_come, more_behind
 complete_from : (t : Tree) (at : Position) → at ≡ start → Completes at (events t)
 complete_from t at f = subst (λ z. Completes z (events t)) (sym f) (events_complete t)
 
+-- if the place, at the start, rejects e, its outcome k gives nothing for a value that begins with e
 pub first_barred : {C : Type 0} (at : Position) (k : List Step → Option C) (e : Step) (s : List ℕ) → at ≡ start
     → PositionRejects at k e → (t : Tree) (r : List ℕ) → ValueAt t e s r → k (events t) ≡ None
 first_barred at k e s f b t r v =
     let l = value_later t e s r v in
     ap k l.is ∙ b l.later (subst (λ z. Completes at z) l.is (complete_from t at f))
 
+-- if the place, at the start, advances by e and rejects all that runs behind, k gives nothing for such a value
 pub later_barred : {C : Type 0} (at : Position) (k : List Step → Option C) (e : Step) (at' : Position)
     (k' : List Step → Option C) (s : List ℕ) → at ≡ start → PositionAdvances at k e at' k'
     → RejectsRuns (before_child (is_some (opened_kind e))) (with_opened (opened_kind e) []) s k' at'
@@ -43,6 +45,7 @@ later_barred at k e at' k' s f d b t r v =
     let h = d l.later c in
     ap k l.is ∙ sym h.1 ∙ b l.later r l.runs (subst (λ z. Completes z l.later) (sym h.0) c.1)
 
+-- behind the first event e of a value, passing no further event is a move from that moment to itself
 pub moved_init : {C : Type 0} (e : Step) (f : Bool) (st : List Kind) (s : List ℕ) (at : Position)
     (k : List Step → Option C) → f ≡ is_some (opened_kind e) → st ≡ with_opened (opened_kind e) []
     → Moved (before_child (is_some (opened_kind e))) (with_opened (opened_kind e) []) s at k (before_child f) st s
@@ -53,6 +56,7 @@ moved_init e f st s at k p q =
     (before_child (is_some (opened_kind e))) z s at k) (sym q)
     (Moved-none (before_child (is_some (opened_kind e))) (with_opened (opened_kind e) []) s at k (live_opened e)))
 
+-- if the moves behind the first token leave no container open, they end a tree, by whose events the place advances
 pub feed_ok : {C : Type 0} (x : lexed.Event) (scratch s s' : List ℕ) (at : Position) (k : List Step → Option C)
     (a : Position) (l : List Step → Option C) (f : Bool) (st' : List Kind) (at' : Position)
     (k' : List Step → Option C) → innermost st' ≡ None → PositionAdvances at k (event_of_token x scratch) a l
@@ -75,9 +79,11 @@ feed_ok x scratch s s' at k a l f (c ∷ st) at' k' h d p = absurd (true≢false
 
 -- ---- where the engine stops early
 
+-- the empty prefix of the events of a tree leaves the place where it is
 pub begun_none : {C : Type 0} (at : Position) (k : List Step → Option C) → PositionBeginsTree at k at k
 begun_none at k = record { done = []; rest = events null; tree = null; in_range = tt; begins = refl; advances = λ rest h. (refl, refl) }
 
+-- if a place advances by all events of a tree in range, it advances by a prefix of them
 pub begun_whole : {C : Type 0} (at : Position) (k : List Step → Option C) (t : Tree) (at' : Position)
     (k' : List Step → Option C) → InRange t → PositionAdvancesBy at k (events t) at' k'
     → PositionBeginsTree at k at' k'
@@ -105,6 +111,7 @@ begun x scratch s at k a l m' st' s' at' k' d p u =
           PositionAdvancesBy-append at k (e ∷ []) a l p.done at' k' d p.advances;
     }
 
+-- if P holds of each error, it holds of the error of r, if r is one
 pub if_err : {T E : Type 0} (r : Result T E) (P : E → Type 0) → ((e : E) → P e) → IfErr r P
 if_err (Ok x) P h = tt
 if_err (Err e) P h = h e

@@ -32,6 +32,7 @@ barred_more m st s at k m' st' s' at' k' p b es r h c =
     let d : Completes at (p.done ++ a.0) = subst (λ z. Completes at z) a.1 c in
     ap k a.1 ∙ sym (p.advances a.0 d).1 ∙ b a.0 r a.2 (leads_completes at k p.done at' k' p.advances a.0 d)
 
+-- two moves, one after the other, are one move
 pub Moved-append : {C : Type 0} (m : Moment) (st : List Kind) (s : List ℕ) (at : Position)
     (k : List Step → Option C) (n : Moment) (su : List Kind) (u : List ℕ) (a : Position) (l : List Step → Option C)
     (m' : Moment) (st' : List Kind) (s' : List ℕ) (at' : Position) (k' : List Step → Option C)
@@ -43,10 +44,12 @@ Moved-append m st s at k n su u a l m' st' s' at' k' p q = record {
   spellable = λ es h. subst (λ z. Spellable m z st) (sym (append_assoc p.done q.done es)) (p.spellable (q.done ++ es) (q.spellable es h));
 }
 
+-- passing no event is a move from a moment to itself, if the moment fits the open containers
 pub Moved-none : {C : Type 0} (m : Moment) (st : List Kind) (s : List ℕ) (at : Position) (k : List Step → Option C)
     → MomentFits m st → Moved m st s at k m st s at k
 Moved-none m st s at k l = record { done = []; passed = Consumes-none m st s l; advances = λ rest h. (refl, refl); spellable = λ es h. h }
 
+-- one event is a move if the text consumes it, the place advances by it, and it is spelled before all later events
 pub moved_one : {C : Type 0} (m : Moment) (st : List Kind) (s : List ℕ) (at : Position) (k : List Step → Option C)
     (e : Step) (m' : Moment) (st' : List Kind) (s' : List ℕ) (at' : Position) (k' : List Step → Option C)
     → Consumes m st s (e ∷ []) m' st' s' → ((es : List Step) → Spellable m' es st' → Spellable m (e ∷ es) st)

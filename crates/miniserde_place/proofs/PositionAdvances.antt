@@ -21,6 +21,7 @@ pub leads_completes : {C : Type 0} (at : Position) (k : List Step → Option C) 
     → Completes at' rest
 leads_completes at k es at' k' l rest h = subst (λ z. Completes z rest) (sym (l rest h).0) (completes_on at es rest h)
 
+-- a place that advances by es and then by fs advances by es ++ fs
 pub PositionAdvancesBy-append : {C : Type 0} (at : Position) (k : List Step → Option C) (es : List Step)
     (a : Position) (l : List Step → Option C) (fs : List Step) (at' : Position) (k' : List Step → Option C)
     → PositionAdvancesBy at k es a l → PositionAdvancesBy a l fs at' k' → PositionAdvancesBy at k (es ++ fs) at' k'

@@ -43,24 +43,28 @@ with_key false st s r n p es h = (44 ∷ (p.part ++ h.0), front [] (44 ∷ []) (
 
 -- ---- the same by the innermost container
 
+-- if some text spells the events es after a container, some text spells its end and then es
 pub close_spellable : (st st' : List Kind) (k : Kind) (f : Bool) → innermost st ≡ Some k → st' ≡ outer st
     → (es : List Step) → Spellable after es st' → Spellable (before_child f) (finish ∷ es) st
 close_spellable st st' k f h q es p =
     subst (λ z. Spellable (before_child f) (finish ∷ es) z) (sym (split_top st k h))
     (with_finish k f (outer st) es (subst (λ z. Spellable after es z) q p))
 
+-- if an array is innermost and some text spells es where a value is due, some text spells `element` and then es
 pub element_spellable : (st : List Kind) (k : Kind) (f : Bool) → innermost st ≡ Some k → k ≡ Seq → (es : List Step)
     → Spellable due es st → Spellable (before_child f) (element ∷ es) st
 element_spellable st k f h e es =
     subst (λ z. Spellable due es z → Spellable (before_child f) (element ∷ es) z)
     (sym (split_top st Seq (h ∙ ap Some e))) (with_element f (outer st) es)
 
+-- if an object is innermost and some text spells es where a value is due, some text spells the name n and then es
 pub key_spellable : (st : List Kind) (s r n : List ℕ) (k : Kind) (f : Bool) → innermost st ≡ Some k → k ≡ Map
     → Names s n r → (es : List Step) → Spellable due es st → Spellable (before_child f) (key n ∷ es) st
 key_spellable st s r n k f h e p es =
     subst (λ z. Spellable due es z → Spellable (before_child f) (key n ∷ es) z)
     (sym (split_top st Map (h ∙ ap Some e))) (with_key f (outer st) s r n p es)
 
+-- if a text starts with e, and some text spells es behind e, some text spells e and then es
 pub start_spellable : (st : List Kind) (s r : List ℕ) (e : Step) (f : Bool) (st' : List Kind) → Starts s e r
     → f ≡ is_some (opened_kind e) → st' ≡ with_opened (opened_kind e) st → (es : List Step)
     → Spellable (before_child f) es st' → Spellable due (e ∷ es) st
@@ -82,6 +86,7 @@ abbrev pub Unfinished : Moment → List Kind → Type 0
 Unfinished after [] = ⊥
 Unfinished _ _ = ⊤
 
+-- inside an open container, the moment before a child is unfinished
 pub inside_unfinished : (f : Bool) (st : List Kind) (k : Kind) → innermost st ≡ Some k → Unfinished (before_child f) st
 inside_unfinished f [] k h = absurd (true≢false (ap is_some (sym h)))
 inside_unfinished true (c ∷ st) k h = tt
@@ -98,6 +103,7 @@ more_to_come first (k ∷ st) l u = let r = closers st in (finish, r.0, with_fin
 
 -- ---- what some text spells is a tree's
 
+-- a list with an event in it is not empty
 pub more_behind : (es : List Step) (e : Step) (rest : List Step) → es ++ e ∷ rest ≡ [] → ⊥
 more_behind es e rest h = omega (arith, ap length h, length-append es (e ∷ rest))
 

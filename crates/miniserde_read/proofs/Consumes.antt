@@ -104,6 +104,7 @@ passed_key f st s b n c p q = record { on = key_on f st s b n c p q; back = key_
 
 -- ---- by the innermost container
 
+-- if the closing bracket of the innermost container is next, the text consumes `finish`
 pub close_passed : (st st' : List Kind) (s r : List ℕ) (k : Kind) (f : Bool) → innermost st ≡ Some k
     → Follows k f true s r → st' ≡ outer st → Consumes (before_child f) st s (finish ∷ []) after st' r
 close_passed st st' s r k f h p q =
@@ -111,12 +112,14 @@ close_passed st st' s r k f h p q =
     (subst (λ z. Consumes (before_child f) z s (finish ∷ []) after (outer st) r) (sym (split_top st k h))
     (passed_close k f (outer st) s r p))
 
+-- if the innermost container is an array and an element is next, the text consumes `element`
 pub element_passed : (st : List Kind) (s r : List ℕ) (k : Kind) (f : Bool) → innermost st ≡ Some k → k ≡ Seq
     → Follows k f false s r → Consumes (before_child f) st s (element ∷ []) due st r
 element_passed st s r k f h e p =
     subst (λ z. Consumes (before_child f) z s (element ∷ []) due z r) (sym (split_top st Seq (h ∙ ap Some e)))
     (passed_element f (outer st) s r (subst (λ z. Follows z f false s r) e p))
 
+-- if the innermost container is an object and a member of the name n is next, the text consumes `key n`
 pub key_passed : (st : List Kind) (s r n x : List ℕ) (k : Kind) (f : Bool) → innermost st ≡ Some k → k ≡ Map
     → Follows k f false s r → Names r n x → Consumes (before_child f) st s (key n ∷ []) due st x
 key_passed st s r n x k f h e p q =
@@ -149,12 +152,14 @@ runs_start (e ∷ es) st s r h = (e, h.0, h.1)
 
 -- ---- where a token is missing
 
+-- if neither a closing bracket nor a child is next in the innermost container, no prefix of the text closes all
 pub after_ends : (st : List Kind) (s : List ℕ) (k : Kind) (f : Bool) → innermost st ≡ Some k
     → ((a : Bool) (r : List ℕ) → Follows k f a s r → ⊥) → NeverRuns (before_child f) st s
 after_ends st s k f h n es r g =
     let t = runs_follow k f es (outer st) s r (subst (λ z. Runs (before_child f) es z s r) (split_top st k h) g) in
     n t.0 t.1 t.2
 
+-- if a member without a name is next in the innermost object, no prefix of the text closes all containers
 pub name_ends : (st : List Kind) (s b : List ℕ) (k : Kind) (f : Bool) → innermost st ≡ Some k → k ≡ Map
     → Follows k f false s b → ((n x : List ℕ) → Names b n x → ⊥) → NeverRuns (before_child f) st s
 name_ends st s b k f h e p n es r g =
@@ -162,11 +167,13 @@ name_ends st s b k f h e p n es r g =
     (subst (λ z. Runs (before_child f) es z s r) (split_top st Map (h ∙ ap Some e)) g) in
     n t.0 t.1 t.2
 
+-- if a value is due and the text starts with none, no prefix of the text closes all containers
 pub start_ends : (st : List Kind) (s : List ℕ) → ((e : Step) (r : List ℕ) → Starts s e r → ⊥) → NeverRuns due st s
 start_ends st s n es r h = let f = runs_start es st s r h in n f.0 f.1 f.2
 
 -- ---- several
 
+-- if the text consumes es and then fs, it consumes es ++ fs
 pub Consumes-append : (m : Moment) (st : List Kind) (s : List ℕ) (es : List Step) (n : Moment) (su : List Kind)
     (u : List ℕ) (fs : List Step) (m' : Moment) (st' : List Kind) (s' : List ℕ) → Consumes m st s es n su u
     → Consumes n su u fs m' st' s' → Consumes m st s (es ++ fs) m' st' s'
@@ -181,10 +188,12 @@ Consumes-append m st s es n su u fs m' st' s' p q = record {
 pub Consumes-none : (m : Moment) (st : List Kind) (s : List ℕ) → MomentFits m st → Consumes m st s [] m st s
 Consumes-none m st s l = record { on = λ es r h. h; back = λ es r h. (es, refl, h); live = l }
 
+-- a text that consumes one event reaches the moment after it
 pub Reaches-one : (m : Moment) (st : List Kind) (s : List ℕ) (e : Step) (m' : Moment) (st' : List Kind)
     (s' : List ℕ) → Consumes m st s (e ∷ []) m' st' s' → Reaches m st s m' st' s'
 Reaches-one m st s e m' st' s' p = record { done = e ∷ []; passed = p }
 
+-- if a text reaches a moment, and from there another, it reaches the other
 pub Reaches-append : (m : Moment) (st : List Kind) (s : List ℕ) (n : Moment) (su : List Kind) (u : List ℕ)
     (m' : Moment) (st' : List Kind) (s' : List ℕ) → Reaches m st s n su u → Reaches n su u m' st' s'
     → Reaches m st s m' st' s'

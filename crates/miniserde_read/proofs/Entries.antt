@@ -16,9 +16,11 @@ use Rattle.miniserde_keys.specs.Keys.{Key}
 use Rattle.miniserde_text.proofs.Equal.{bytes_eq-flips}
 use Rattle.miniserde_read.specs.types.Maps.{entry_at}
 
+-- if the test of equality holds for two codes, they are equal
 pub same_code : (a b : Key) → bytes_eq a b ≡ true → a ≡ b
 same_code a b h = (bytes_eq-Decides a b).0 h
 
+-- the test of equality holds for equal codes
 pub code_same : (a b : Key) → a ≡ b → bytes_eq a b ≡ true
 code_same a b h = (bytes_eq-Decides a b).1 h
 
@@ -27,9 +29,11 @@ pub contains-cases : {X : Type 0} (y x : X) (xs : List X) → Contains (y ∷ xs
 contains-cases y x xs (zero, h, e) = inl e
 contains-cases y x xs (suc k, h, e) = inr (k, omega arith, e)
 
+-- a list contains its first element
 pub contains-first : {X : Type 0} (x : X) (xs : List X) → Contains (x ∷ xs) x
 contains-first x xs = (0, omega arith, refl)
 
+-- a list contains each element of its tail
 pub contains-later : {X : Type 0} (y x : X) (xs : List X) → Contains xs x → Contains (y ∷ xs) x
 contains-later y x xs (k, h, e) = (suc k, omega arith, e)
 

@@ -308,6 +308,7 @@ pub record JsonAt (j : List ℕ) (t : Tree) : Type 0 where
   pub is_value : ValueAt t event behind end
   pub is_space : IsWhitespace end
 
+-- a text that spells a tree has the first event of the tree, the rest of the value and then whitespace
 pub json_at : (j : List ℕ) (t : Tree) → IsJson j t → JsonAt j t
 json_at j t h =
     let a = value_at t [] [] j (subst (λ z. Spells due z [] j) (sym (append-nil (events t))) (json_spells j t h)) in
@@ -321,6 +322,7 @@ json_front j t e s h k =
     let one = same_start j a.event e a.behind s a.starts k in
     (a.end, subst (λ z. ValueAt t z s a.end) one.0 (subst (λ z. ValueAt t a.event z a.end) one.1 a.is_value), a.is_space)
 
+-- a text with the first event of a tree, the rest of the value and then whitespace spells the tree
 pub at_json : (j : List ℕ) (t : Tree) (e : Step) (s r : List ℕ) → Starts j e s → ValueAt t e s r → IsWhitespace r → IsJson j t
 at_json j t e s r k v w =
     let u = spells_json (events t ++ []) j (value_spells t e j s r [] [] k v w) in

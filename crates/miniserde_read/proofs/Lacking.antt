@@ -15,6 +15,7 @@ use Rattle.miniserde_read.specs.Escaped.{BeginsWithEscapedString}
 use Rattle.miniserde_read.specs.Rest.{ValueAt}
 use Rattle.miniserde_read.specs.Lacking.{EscapedElement, AnElement, EscapedAmong, SomeElements}
 
+-- if an element is next in s and its value ends at d, one element stands from s to d
 pub an_element : (f : Bool) (s b c d : List ℕ) (e : Step) (t : Tree) → Follows Seq f false s b → Starts b e c
     → ValueAt t e c d → AnElement f s d
 an_element f s b c d e t h k v = (

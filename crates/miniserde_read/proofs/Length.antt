@@ -10,9 +10,11 @@ use Rattle.miniserde_model.specs.declared.kind.Kind.TheVariants.{Seq, Map}
 use Rattle.miniserde_text.proofs.Starting.{start_less}
 use Rattle.miniserde_read.specs.Rest.{ValueAt, ElementsAt, MembersAt}
 
+-- the text behind whitespace and a part is no longer than the text before them
 pub stands_least : {P : List ℕ → Type 0} (s r : List ℕ) → Stands P s r → length r ≤ length s
 stands_least s r p = omega (arith, ap length p.text, length-append p.space (p.part ++ r), length-append p.part r)
 
+-- the text behind a closing bracket or before a child is no longer than the text before it
 pub follows_least : (k : Kind) (f a : Bool) (s r : List ℕ) → Follows k f a s r → length r ≤ length s
 follows_least k f true s r p = stands_least s r p
 follows_least k true false s r p = stands_least s r p.0

@@ -31,9 +31,11 @@ not_closing : (k : Kind) (r : List ℕ) (b : Begins r) → b.byte ≡ closing k 
 not_closing Seq r b e = b.no_list_end e
 not_closing Map r b e = b.no_members_end e
 
+-- the text behind the next closing bracket of a container is unique
 pub close_same : (k : Kind) (f : Bool) (s r x : List ℕ) → Follows k f true s r → Follows k f true s x → r ≡ x
 close_same k f s r x p q = (same_byte (closing k) (closing k) s r x (closing_no_space k) (closing_no_space k) p q).1
 
+-- the text from the next child of a container on is unique
 pub next_same : (k : Kind) (f : Bool) (s r x : List ℕ) → Follows k f false s r → Follows k f false s x → r ≡ x
 next_same k true s r x p q =
     (same_run is_space p.0.space q.0.space r x (whitespace_passes p.0.space p.0.is_space)
@@ -41,6 +43,7 @@ next_same k true s r x p q =
     (sym (bare s r p.0) ∙ bare s x q.0)).1
 next_same k false s r x p q = (same_byte 44 44 s r x refl refl p q).1
 
+-- a closing bracket and a child are not both next in a container
 pub close_no_next : (k : Kind) (f : Bool) (s r x : List ℕ) → Follows k f true s r → Follows k f false s x → ⊥
 close_no_next k true s r x p q =
     not_closing k x q.1 (same_first s q.1.byte (closing k) (begins_first s x q.0 q.1)
@@ -49,6 +52,7 @@ close_no_next k false s r x p q = closing_no_comma k (same_byte (closing k) 44 s
 
 -- ---- the first event of a tree
 
+-- the first event of a tree
 abbrev pub first_event : Tree → Step
 first_event null = step.null
 first_event (truth x) = boolean x
@@ -59,6 +63,7 @@ first_event (str x) = string x
 first_event (list ts) = seq
 first_event (members ms) = map
 
+-- if the value t begins with the event e, e is the first event of t
 pub value_event : (t : Tree) (e : Step) (s r : List ℕ) → ValueAt t e s r → e ≡ first_event t
 value_event null e s r p = p.0
 value_event (truth x) e s r p = p.0

@@ -13,6 +13,7 @@ use Rattle.miniserde_read.proofs.Same.{close_same, next_same, close_no_next}
 
 -- ---- a list
 
+-- before the remaining elements of an array, a closing bracket or an element is next
 pub elements_follow : (ts : Trees) (f : Bool) (s r : List ℕ) → ElementsAt ts f s r → (a : Bool) × (b : List ℕ) × Follows Seq f a s b
 elements_follow no_trees f s r p = (true, r, p)
 elements_follow (tree t ts) f s r p = (false, p.begin, p.follows)
@@ -24,6 +25,7 @@ elements_start no_trees f s b r h p = absurd (close_no_next Seq f s r b p h)
 elements_start (tree t ts) f s b r h p =
     (p.event, p.behind, subst (λ z. Starts z p.event p.behind) (next_same Seq f s p.begin b p.follows h) p.starts)
 
+-- if a closing bracket is next, no elements remain, and the array ends behind the bracket
 pub elements_close : (ts : Trees) (f : Bool) (s b r : List ℕ) → Follows Seq f true s b → ElementsAt ts f s r → (ts ≡ no_trees) × (r ≡ b)
 elements_close no_trees f s b r h p = (refl, close_same Seq f s r b p h)
 elements_close (tree t ts) f s b r h p = absurd (close_no_next Seq f s b p.begin h p.follows)
@@ -37,6 +39,7 @@ pub record ElementThere (ts : Trees) (e : Step) (c r : List ℕ) : Type 0 where
   pub is_value : ValueAt one e c rest
   pub is_rest : ElementsAt more false rest r
 
+-- if an element is next that starts with e, it is the first remaining one, and its value begins with e
 pub elements_there : (ts : Trees) (f : Bool) (s b c r : List ℕ) (e : Step) → Follows Seq f false s b → Starts b e c
     → ElementsAt ts f s r → ElementThere ts e c r
 elements_there no_trees f s b c r e h k p = absurd (close_no_next Seq f s r b p h)
@@ -55,15 +58,18 @@ elements_there (tree t ts) f s b c r e h k p =
 
 -- ---- an object
 
+-- before the remaining members of an object, a closing bracket or a member is next
 pub members_follow : (ms : Members) (f : Bool) (s r : List ℕ) → MembersAt ms f s r → (a : Bool) × (b : List ℕ) × Follows Map f a s b
 members_follow no_members f s r p = (true, r, p)
 members_follow (member n t ms) f s r p = (false, p.begin, p.follows)
 
+-- if a member is next before the remaining members, it has a name
 pub members_name : (ms : Members) (f : Bool) (s b r : List ℕ) → Follows Map f false s b → MembersAt ms f s r
     → (n : List ℕ) × (c : List ℕ) × Names b n c
 members_name no_members f s b r h p = absurd (close_no_next Map f s r b p h)
 members_name (member n t ms) f s b r h p = (n, p.named, subst (λ z. Names z n p.named) (next_same Map f s p.begin b p.follows h) p.names)
 
+-- if a closing bracket is next, no members remain, and the object ends behind the bracket
 pub members_close : (ms : Members) (f : Bool) (s b r : List ℕ) → Follows Map f true s b → MembersAt ms f s r → (ms ≡ no_members) × (r ≡ b)
 members_close no_members f s b r h p = (refl, close_same Map f s r b p h)
 members_close (member n t ms) f s b r h p = absurd (close_no_next Map f s b p.begin h p.follows)
@@ -79,6 +85,7 @@ pub record MemberThere (ms : Members) (n : List ℕ) (c r : List ℕ) : Type 0 w
   pub is_value : ValueAt one event behind rest
   pub is_rest : MembersAt more false rest r
 
+-- if a member of the name n is next, it is the first remaining one
 pub members_there : (ms : Members) (f : Bool) (s b c r n : List ℕ) → Follows Map f false s b → Names b n c
     → MembersAt ms f s r → MemberThere ms n c r
 members_there no_members f s b c r n h k p = absurd (close_no_next Map f s r b p h)
@@ -108,6 +115,7 @@ pub record ValueThere (ms : Members) (n : List ℕ) (e : Step) (d r : List ℕ) 
   pub is_value : ValueAt one e d rest
   pub is_rest : MembersAt more false rest r
 
+-- if the text behind the name n starts with e, the value of the first remaining member begins with e
 pub value_there : (ms : Members) (n c r : List ℕ) (e : Step) (d : List ℕ) → MemberThere ms n c r → Starts c e d → ValueThere ms n e d r
 value_there ms n c r e d p k =
     let two = same_start c p.event e p.behind d p.starts k in

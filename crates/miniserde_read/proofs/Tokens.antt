@@ -20,5 +20,6 @@ piece_event element b p = tt
 piece_event (key s) b p = tt
 piece_event finish b p = tt
 
+-- the event with which a text starts a value is in range
 pub start_event : (s : List ℕ) (e : Step) (r : List ℕ) → Starts s e r → EventInRange e
 start_event s e r p = piece_event e p.0.part p.0.is_part

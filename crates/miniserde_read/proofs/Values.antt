@@ -102,6 +102,7 @@ pub record Later (t : Tree) (e : Step) (s r : List ℕ) : Type 0 where
 later_as : (t : Tree) (d e : Step) (s r : List ℕ) → e ≡ d → Later t d s r → Later t e s r
 later_as t d e s r q h = subst (λ z. Later t z s r) (sym q) h
 
+-- behind the first event e of a tree, the text runs on as the other events of the tree
 pub value_later : (t : Tree) (e : Step) (s r : List ℕ) → ValueAt t e s r → Later t e s r
 value_later null e s r v = later_as null step.null e s r v.0 (record { later = []; is = refl; runs = v.1 })
 value_later (truth b) e s r v = later_as (truth b) (boolean b) e s r v.0 (record { later = []; is = refl; runs = v.1 })
@@ -328,6 +329,7 @@ object_whole es s r h =
           (refl, subst (λ z. MembersAt f.found true s z) (sym n.1) f.are_members);
     }
 
+-- if the text runs on as es behind the first token x of a value, the event of x and then es are those of a tree
 pub whole_at : (x : lexed.Event) (scratch : List ℕ) (es : List Step) (s r : List ℕ)
     → Runs (before_child (is_some (opened_kind (event_of_token x scratch)))) es
     (with_opened (opened_kind (event_of_token x scratch)) []) s r → Whole (event_of_token x scratch) es s r

@@ -14,6 +14,7 @@ use Rattle.miniserde_read.proofs.Objects.{ObjectGoes, object_goes}
 use Rattle.miniserde_read.proofs.Steps.{members_there}
 use Rattle.miniserde_record.specs.Members.{ReadsDue, RejectsDue}
 
+-- the text behind a value that was due is shorter than the text before it
 pub due_less : {S : Type 0} (next : Tree → Option S) (s r : List ℕ) (m : S) → ReadsDue next s r m → length r < length s
 due_less next s r m p =
     let a = start_less s p.event p.behind p.starts in

@@ -16,5 +16,6 @@ stable-document t c e = ap (λ (z : Tree). Some z) (norm_twice t) ∙ e
 pub unstable-number : IsStable number_of → ⊥
 unstable-number stable = let e = stable (neg (pos 0)) (neg (pos 0)) refl in absurd (cc)
 
+-- the content that a `Value` retains of a tree is not stable
 pub unstable-value : IsStable (λ t. Some (retained_tree t)) → ⊥
 unstable-value stable = let e = stable (neg (pos 0)) (neg (pos 0)) refl in absurd (cc)

@@ -35,6 +35,7 @@ taken (Some c) e = (c, refl)
 differ : ◌≡◌ {A = Option (Key × ℤ)} (Some (of_nat 1, pos 1)) (Some (of_nat 1, pos 2)) → ⊥
 differ e = let one : ◌≡◌ {A = ℤ} (pos 1) (pos 2) = ap (λ z. z.1) (same_Some _ _ e) in absurd (cc)
 
+-- the content of a map from 8-bit unsigned integers to 8-bit unsigned integers is not stable
 pub unstable-map : IsStable (map_of (read_unsigned 8) (λ c. c) (unsigned_of 8)) → ⊥
 unstable-map stable =
     let c = taken (read (members two_names)) first in

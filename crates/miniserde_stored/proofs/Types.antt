@@ -18,6 +18,7 @@ pub bound : {C D : Type 0} (o p : Option C) (g h : C → Option D) (d : D) → (
 bound None p g h d k l e = absurd (cc)
 bound (Some c) p g h d k l e = ap (option_and_then h) (k c refl) ∙ l c e
 
+-- if p has the content of o whenever o has one, f of p is d whenever f of o is d
 pub mapped : {C D : Type 0} (f : C → D) (o p : Option C) (d : D) → ((c : C) → o ≡ Some c → p ≡ Some c)
     → option_map f o ≡ Some d → option_map f p ≡ Some d
 mapped f None p d k e = absurd (cc)
@@ -66,15 +67,18 @@ module _ {A B : Type 0} (f : Tree → Option A) (g : Tree → Option B) (first :
 abbrev pub AreStable : {C : Type 0} → (Trees → Option C) → Type 0
 AreStable {C} of = (ts : Trees) (c : C) → of ts ≡ Some c → of (norm_children ts) ≡ Some c
 
+-- children that give the unit by `none_of` give it in normal form too
 pub stable-none : AreStable none_of
 stable-none no_trees c e = e
 stable-none (tree t ts) c e = absurd (cc)
 
+-- if f is stable and g is stable for children, `item_of f g` is stable for children
 pub stable-item : {A B : Type 0} (f : Tree → Option A) (g : Trees → Option B) → IsStable f → AreStable g → AreStable (item_of f g)
 stable-item f g first rest no_trees c e = e
 stable-item f g first rest (tree t ts) c e =
     bound (f t) (f (norm t)) (λ a. option_map (λ b. (a, b)) (g ts)) (λ a. option_map (λ b. (a, b)) (g (norm_children ts))) c (first t)
     (λ a. mapped (λ b. (a, b)) (g ts) (g (norm_children ts)) c (rest ts)) e
 
+-- if g is stable for children, `tuple_of g` is stable
 pub stable-tuple : {C : Type 0} (g : Trees → Option C) → AreStable g → IsStable (tuple_of g)
 stable-tuple g rest = stable-by (tuple_of g) (λ z c e. absurd (cc)) rest (λ ms c e. e)

@@ -25,6 +25,7 @@ listed_values : (vs : List Value) → trees_of content_of vs ≡ trees_of (λ t.
 listed_values [] = refl
 listed_values (v ∷ vs) = ap (tree (content_of v)) (listed_values vs)
 
+-- if the innermost container is an array and a has its items, to put a into the hole around it is to close it
 pub closed_array : (values rest : List Value) (v : ℕ) (os : List OpenObject) (old new : List OpenContainer)
     (a : Array) → old ≡ container.Array v ∷ new → rest ≡ take v values → array_items a ≡ drop v values
     → put (content_of (Value.Array a)) (hole_of (map content_of rest) os new)
@@ -37,6 +38,7 @@ closed_array values rest v os old new a e r i =
     (sym (take-map content_of v values)))
     ∙ ap (λ (ms : List OpenContainer). after_close (hole_of (map content_of values) os ms)) (sym e)
 
+-- if the innermost container is the object o and m has its members, to put m into the hole around it closes it
 pub closed_object : (vs : List Tree) (os rest : List OpenObject) (o : OpenObject) (old new : List OpenContainer)
     (m : Object) → old ≡ container.Object ∷ new → os ≡ o ∷ rest → m.members ≡ o.members
     → put (content_of (Value.Object m)) (hole_of vs rest new) ≡ after_close (hole_of vs os old)
@@ -49,6 +51,7 @@ closed_object vs os rest o old new m e r i =
 
 -- ---- a value stands under its name
 
+-- to insert v under the due name of an open object is to put v into its hole
 pub member_put : (old new : OpenObject) (name : String Global) (v : Value) → old.name ≡ Some name → new.name ≡ None
     → new.members.entries ≡ insert_entry string_cmp old.members.entries name v → (h : Hole)
     → with_open_object new h ≡ put (content_of v) (with_open_object old h)

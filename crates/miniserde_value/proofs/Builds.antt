@@ -30,6 +30,7 @@ use Rattle.miniserde_value.specs.private.Builds.{Builds, HoleAdvancesBy, NeverGi
 
 -- ---- the open containers
 
+-- the innermost of the open kinds of a hole is the kind of its innermost container
 pub kinds_innermost : (h : Hole) → innermost_kind (kinds h) ≡ (innermost h)
 kinds_innermost (outside ts) = refl
 kinds_innermost (in_list ts h) = refl
@@ -102,6 +103,7 @@ close_makes : (once : Bool) (h g : Hole) (k : Kind) (f : Bool) → innermost h �
 close_makes once h g k f i c = λ es. ap (λ z. outcome once z h (finish ∷ es)) (not_due f) ∙ closes_hole once h k i
     es ∙ ap (λ z. outcome once false z es) (sym c)
 
+-- if the closing bracket of the innermost container is next, the text builds the hole after the close
 pub close_builds : (once : Bool) (h g : Hole) (s r : List ℕ) (k : Kind) (f : Bool) → innermost h ≡ Some k
     → Follows k f true s r → g ≡ after_close h → Builds once (before_child f) h s after g r
 close_builds once h g s r k f i p c = record {
@@ -122,6 +124,7 @@ element_makes : (once : Bool) (h g : Hole) (k : Kind) (f : Bool) → innermost h
 element_makes once h g k f i q e = λ es. ap (λ z. outcome once z h (element ∷ es)) (not_due f) ∙ goes_to_element
     once h k i q es ∙ ap (λ z. outcome once true z es) (sym e)
 
+-- if the innermost container is an array and an element is next, the text builds the same hole
 pub element_builds : (once : Bool) (h g : Hole) (s u r : List ℕ) (k : Kind) (f : Bool) → innermost h ≡ Some k
     → k ≡ kind.Seq → Follows k f false s u → r ≡ u → g ≡ h → Builds once (before_child f) h s due g r
 element_builds once h g s u r k f i q p d e = record {
@@ -156,6 +159,7 @@ key_done : (h : Hole) (s b n u : List ℕ) (k : Kind) (f : Bool) → innermost h
     → Follows k f false s b → Names b n u → Consumes (before_child f) (kinds h) s (key n ∷ []) due (kinds h) u
 key_done h s b n u k f i q p w = key_passed (kinds h) s b n u k f (kinds_innermost h ∙ i) q p w
 
+-- if a member is next in the innermost object, and `once` allows its name, the text builds the hole with the name
 pub key_builds : (once : Bool) (h g : Hole) (s b n u r : List ℕ) (k : Kind) (f : Bool) → innermost h ≡ Some k
     → k ≡ kind.Map → Follows k f false s b → Names b n u → (once && has_member n h) ≡ false → r ≡ u
     → g ≡ with_name n h → Builds once (before_child f) h s due g r
@@ -195,6 +199,7 @@ start_builds once h g s r e f p q b = record {
   repeats_none = λ es. start_makes once e h g b es ∙ ap (λ z. outcome once z g es) (sym (not_due f));
 }
 
+-- if the text starts with e, and the call r makes the hole g of h by e if it succeeds, the text builds g
 pub entered : {E : Type 0} (once : Bool) (r : Result Bool E) (h g : Hole) (s u : List ℕ) (e : Step) → Starts s e u
     → IfOk r (λ o. o ≡ is_some (opened_kind e)) → OnOk r (after_begin e h ≡ Some g)
     → IfOk r (λ o. Builds once due h s (before_child o) g u)
@@ -203,6 +208,7 @@ entered once (Err x) h g s u e p q b = tt
 
 -- ---- several
 
+-- two steps that build holes, one after the other, are one step
 pub Builds-append : (once : Bool) (m : Moment) (h : Hole) (s : List ℕ) (n : Moment) (g : Hole) (u : List ℕ)
     (m' : Moment) (h' : Hole) (s' : List ℕ) → Builds once m h s n g u → Builds once n g u m' h' s'
     → Builds once m h s m' h' s'
@@ -215,9 +221,11 @@ Builds-append once m h s n g u m' h' s' p q = record {
 
 -- ---- what can give no value
 
+-- if no prefix of the text closes all containers, no events give a tree
 pub stuck : (once : Bool) (m : Moment) (h : Hole) (s : List ℕ) → NeverRuns m (kinds h) s → NeverGives once m h s
 stuck once m h s n es r g = absurd (n es r g)
 
+-- if no events give a tree behind a step that builds a hole, none give one before it
 pub never_behind : (once : Bool) (m : Moment) (h : Hole) (s : List ℕ) (m' : Moment) (h' : Hole) (s' : List ℕ)
     → Builds once m h s m' h' s' → NeverGives once m' h' s' → NeverGives once m h s
 never_behind once m h s m' h' s' p n es r g =

@@ -63,6 +63,7 @@ fits_split (Err u) old new v os ms a b f =
 
 -- ---- where an object is the innermost container, it alone changes
 
+-- if f replaces the open object o by p in each hole, and o is innermost, to set p for o changes the hole by f
 pub object_changed : (f : Hole → Hole) (vs : List Tree) (os : List OpenObject) (k : ℕ) (o p : OpenObject)
     (ms below : List OpenContainer) → length os ≡ suc k → o ≡ get_or os k o → reverse ms ≡ container.Object ∷ below
     → ((h : Hole) → with_open_object p h ≡ f (with_open_object o h))
@@ -81,6 +82,7 @@ open_has_none vs os [] h = absurd (omega (arith, h))
 open_has_none vs os (container.Array v ∷ ms) h = refl
 open_has_none vs os (container.Object ∷ ms) h = refl
 
+-- if a container is open, no tree is complete
 pub whole_open : (vs : List Tree) (os : List OpenObject) (ms : List OpenContainer) → 0 < length ms
     → None ≡ complete_tree (hole_of vs os (reverse ms))
 whole_open vs os ms h = open_has_none vs os (reverse ms) (omega (arith, h, length-reverse ms))

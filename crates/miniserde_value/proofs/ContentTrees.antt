@@ -61,25 +61,32 @@ level_of (Value-F.String s) = refl
 level_of (Value-F.Array a) = ap list (trees_out a)
 level_of (Value-F.Object o) = ap members (rows_out o)
 
+-- the tree of a value is that of its one level, with the trees of its children
 pub content_of_out : (v : Value) → content_of v ≡ level (out-Value v)
 unfolding content_of
 content_of_out v = fold_out-Value Tree Trees Members content_step array_step object_step v ∙ level_of (out-Value v)
 
+-- the tree of `Null` is null
 pub content_of_null : content_of Null ≡ null
 content_of_null = content_of_out Null ∙ ap level outs-Null
 
+-- the tree of `Bool` is the boolean
 pub content_of_bool : (b : Bool) → content_of (Value.Bool b) ≡ truth b
 content_of_bool b = content_of_out (Value.Bool b) ∙ ap level (outs-Bool b)
 
+-- the tree of `Number` is the number's leaf
 pub content_of_number : (n : Number) → content_of (Value.Number n) ≡ number_leaf n
 content_of_number n = content_of_out (Value.Number n) ∙ ap level (outs-Number n)
 
+-- the tree of `String` is the string of its bytes
 pub content_of_string : (s : String Global) → content_of (Value.String s) ≡ str (string_bytes s)
 content_of_string s = content_of_out (Value.String s) ∙ ap level (outs-String s)
 
+-- the tree of `Array` is the array's content
 pub content_of_array : (a : Array) → content_of (Value.Array a) ≡ array_content a
 content_of_array a = content_of_out (Value.Array a) ∙ ap level (outs-Array a)
 
+-- the tree of `Object` is the object's content
 pub content_of_object : (o : Object) → content_of (Value.Object o) ≡ object_content o
 content_of_object o = content_of_out (Value.Object o) ∙ ap level (outs-Object o)
 
@@ -115,6 +122,7 @@ level_size (Value-F.Object o) = ap (λ (n : ℕ). 1 + n) (size_entries (object_e
 pub size_children : (v : Value) → value_size v ≡ 1 + sizes (children v)
 size_children v = ap size (content_of_out v) ∙ level_size (out-Value v)
 
+-- the sizes of two lists of values add up to the sizes of the appended list
 pub sizes_append : (xs ys : List Value) → sizes (xs ++ ys) ≡ sizes xs + sizes ys
 sizes_append [] ys = omega arith
 sizes_append (x ∷ xs) ys = omega (arith, sizes_append xs ys)

@@ -30,6 +30,7 @@ array_copied r a empty opened filled fs whole_is filled_is opened_is empty_is fs
     ∙ ap (λ h. complete_tree (hole_after h (list_begins ∷ fs))) empty_is
     ∙ ap (λ gs. complete_tree (hole_after (outside []) gs)) fs_is ∙ whole_fronts (array_content a) o
 
+-- a builder that opens an object and takes the other visits of an ordered object gives its tree
 pub object_copied : (r : Option Value) (m : Object) (empty opened filled : Hole) (fs : List TreeVisit)
     → option_map content_of r ≡ complete_tree filled → filled ≡ hole_after opened fs
     → opened ≡ in_members no_members None empty → empty ≡ outside []

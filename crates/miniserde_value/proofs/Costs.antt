@@ -23,9 +23,11 @@ abbrev pub cost_of : List Cost → Cost
 cost_of [] = record { beside = 0; alone = 0 }
 cost_of (c ∷ cs) = record { beside = suc (all_beside (c ∷ cs)); alone = suc c.alone + all_beside cs }
 
+-- the looks to come for a value, from those of its children
 abbrev pub cost : Value → Cost
 cost = fold_tree cost_of
 
+-- the looks to come for `hand` and `current`, by the children vs of `current`
 abbrev pub looks_from : List Value → Cost → Cost → ℕ
 looks_from [] current hand = hand.alone
 looks_from (v ∷ vs) current hand = current.alone + hand.beside
@@ -38,9 +40,11 @@ looks_left current hand = looks_from (children current) (cost current) (cost han
 abbrev pub besides : List Value → ℕ
 besides vs = all_beside (map cost vs)
 
+-- the looks for a value are computed from those of its children
 pub cost_out : (v : Value) → cost v ≡ cost_of (map cost (children v))
 cost_out v = fold_tree_out cost_of v
 
+-- the looks for the values of two lists add up
 pub besides_append : (xs ys : List Value) → besides (xs ++ ys) ≡ besides xs + besides ys
 besides_append [] ys = omega arith
 besides_append (x ∷ xs) ys = omega (arith, besides_append xs ys)
@@ -74,6 +78,7 @@ between_list (v ∷ vs) h =
       omega (arith, a, b, c, d, r.0, r.1),
     )
 
+-- the bounds `IsBetween` hold of each value
 pub between : (v : Value) → IsBetween v
 between = tree_ind IsBetween (λ v h.
     let r = between_list (children v) h in

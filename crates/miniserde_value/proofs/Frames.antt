@@ -16,6 +16,7 @@ use Rattle.miniserde_value.specs.Walks.{stack_left, StackOrdered}
 
 -- ---- the innermost container gave a child
 
+-- the entries of an object
 abbrev pub Entries : Type 0
 Entries = List (String Global × Value)
 
@@ -26,6 +27,7 @@ pub record GaveItem (frames then : List Frame) (it next : Iter Value) (item : Va
   pub after : reverse then ≡ frame.Array next ∷ others
   pub gave : iter_rest it ≡ item ∷ iter_rest next
 
+-- if the innermost array gives an item, `element` and the visits of the item are the first ones that were left
 pub item_left : (frames then : List Frame) (objects : List Entries) (it next : Iter Value) (item : Value)
     → GaveItem frames then it next item → stack_left (reverse frames) objects ≡ element ∷ visits (content_of item)
     (stack_left (reverse then) objects)
@@ -35,6 +37,7 @@ item_left frames then objects it next item g =
     ∙ ap (λ (xs : List Value). child_visits (trees_of content_of xs) (list_ends ∷ rest)) g.gave
     ∙ ap (λ (x : List Frame). element ∷ visits (content_of item) (stack_left x objects)) (sym g.after)
 
+-- if the item that was given is ordered, and all that is left is, all that was left is ordered
 pub item_ordered : (frames then : List Frame) (objects : List Entries) (it next : Iter Value) (item : Value)
     → GaveItem frames then it next item → IsOrdered (content_of item) → StackOrdered (reverse then) objects
     → StackOrdered (reverse frames) objects
@@ -56,6 +59,7 @@ pub record GaveMember (frames also : List Frame) (objects then : List Entries) (
   pub gave : ms ≡ (key, value) ∷ next
   pub named : text ≡ string_bytes key
 
+-- if the innermost object gives a member, its name and the visits of its value are the first ones that were left
 pub member_left : (frames also : List Frame) (objects then : List Entries) (ms next : Entries) (text : List ℕ)
     (value : Value) → GaveMember frames also objects then ms next text value
     → stack_left (reverse frames) (reverse objects) ≡ name text ∷ visits (content_of value)
@@ -69,6 +73,7 @@ member_left frames also objects then ms next text value g =
     ∙ ap (λ (x : List Entries). name text ∷ visits (content_of value) (stack_left (frame.Object ∷ g.below) x)) (sym g.after)
     ∙ ap (λ (x : List Frame). name text ∷ visits (content_of value) (stack_left x (reverse then))) (sym g.is_still)
 
+-- if the value of the member that was given is ordered, and all that is left is, all that was left is ordered
 pub member_ordered : (frames also : List Frame) (objects then : List Entries) (ms next : Entries) (text : List ℕ)
     (value : Value) → GaveMember frames also objects then ms next text value → IsOrdered (content_of value)
     → StackOrdered (reverse also) (reverse then) → StackOrdered (reverse frames) (reverse objects)
@@ -88,6 +93,7 @@ pub record Ended (frames then : List Frame) (objects also : List Entries) : Type
   pub before : reverse objects ≡ [] ∷ others
   pub after : reverse also ≡ others
 
+-- if the innermost object ends, its end is the first visit that was left
 pub ended_left : (frames then : List Frame) (objects also : List Entries) → Ended frames then objects also
     → stack_left (reverse frames) (reverse objects) ≡ members_end ∷ stack_left (reverse then) (reverse also)
 ended_left frames then objects also g =
@@ -96,6 +102,7 @@ ended_left frames then objects also g =
     ∙ ap (λ (x : List Frame). members_end ∷ stack_left x g.others) (sym g.popped)
     ∙ ap (λ (x : List Entries). members_end ∷ stack_left (reverse then) x) (sym g.after)
 
+-- if all that is left after the end of an object is ordered, all that was left is
 pub ended_ordered : (frames then : List Frame) (objects also : List Entries) → Ended frames then objects also
     → StackOrdered (reverse then) (reverse also) → StackOrdered (reverse frames) (reverse objects)
 ended_ordered frames then objects also g p =

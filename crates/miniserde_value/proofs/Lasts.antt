@@ -17,12 +17,15 @@ split_set (x ∷ []) zero u h = refl
 split_set (x ∷ y ∷ xs) zero u h = absurd (omega arith)
 split_set (x ∷ xs) (suc k) u h = ap (λ l. x ∷ l) (split_set xs k u (omega arith))
 
+-- if ys is xs and then x, the reverse of ys is x and then the reverse of xs
 pub reverse_added : {A : Type 0} → (xs ys : List A) (x : A) → ys ≡ xs ++ x ∷ [] → reverse ys ≡ x ∷ reverse xs
 reverse_added xs ys x e = ap reverse e ∙ reverse-append xs (x ∷ [])
 
+-- the reverse of k + 1 elements is the element at k and then the reverse of the first k
 pub reverse_last : {A : Type 0} → (xs : List A) (k : ℕ) (d : A) → length xs ≡ suc k → reverse xs ≡ get_or xs k d ∷ reverse (take k xs)
 reverse_last xs k d h = reverse_added (take k xs) xs (get_or xs k d) (split_last xs k d h)
 
+-- the reverse of k + 1 elements with u set at k is u and then the reverse of the first k
 pub reverse_set : {A : Type 0} → (xs : List A) (k : ℕ) (u : A) → length xs ≡ suc k → reverse (set xs k u) ≡ u ∷ reverse (take k xs)
 reverse_set xs k u h = reverse_added (take k xs) (set xs k u) u (split_set xs k u h)
 
@@ -31,6 +34,7 @@ pub reverse_ends : {A : Type 0} → (xs : List A) (k : ℕ) (d x : A) → length
     → reverse xs ≡ x ∷ reverse (take k xs)
 reverse_ends xs k d x h e = reverse_last xs k d h ∙ ap (λ y. y ∷ reverse (take k xs)) (sym e)
 
+-- if y is the element at k of k + 1, the reverse is y and then the reverse of the first k
 pub reverse_ends_as : {A : Type 0} → (xs : List A) (k : ℕ) (d x y : A) → length xs ≡ suc k → x ≡ get_or xs k d
     → x ≡ y → reverse xs ≡ y ∷ reverse (take k xs)
 reverse_ends_as xs k d x y h e is = reverse_ends xs k d x h e ∙ ap (λ z. z ∷ reverse (take k xs)) is
@@ -43,6 +47,7 @@ last_got xs ys x y same got is =
     let within = slice_get_within xs (length xs - 1) y there in
     reverse_ends xs (length xs - 1) y y (omega arith) (sym (get_or_from_slice_get xs (length xs - 1) y y there))
 
+-- if u is set at k of k + 1 elements and is y, the reverse is y and then the reverse of the first k
 pub reverse_set_as : {A : Type 0} → (xs : List A) (k : ℕ) (u y : A) → length xs ≡ suc k → u ≡ y
     → reverse (set xs k u) ≡ y ∷ reverse (take k xs)
 reverse_set_as xs k u y h is = reverse_set xs k u h ∙ ap (λ z. z ∷ reverse (take k xs)) is

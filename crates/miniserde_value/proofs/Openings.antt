@@ -30,6 +30,7 @@ opens_members (token.Nonnegative n) scratch e = absurd (cc)
 opens_members (token.Number x) scratch e = absurd (cc)
 opens_members (token.Str t) scratch e = absurd (cc)
 
+-- if the first token of a value is not `[`, the retained tree is no array
 pub no_list : (t : Tree) (x : Event) (scratch s r : List ℕ) → (x ≡ token.SeqStart → ⊥)
     → ValueAt t (event_of_token x scratch) s r → only_list (Some (retained_tree t)) ≡ None
 no_list (list ts) x scratch s r n v = absurd (n (opens_list x scratch v.0))
@@ -41,6 +42,7 @@ no_list (neg i) x scratch s r n v = refl
 no_list (num i) x scratch s r n v = refl
 no_list (str i) x scratch s r n v = refl
 
+-- if the first token of a value is not `{`, the retained tree is no object
 pub no_members : (t : Tree) (x : Event) (scratch s r : List ℕ) → (x ≡ token.MapStart → ⊥)
     → ValueAt t (event_of_token x scratch) s r → only_members (Some (retained_tree t)) ≡ None
 no_members (members ms) x scratch s r n v = absurd (n (opens_members x scratch v.0))

@@ -7,6 +7,7 @@ use Rattle.miniserde_model.proofs.Normal.{norm_after}
 use Rattle.miniserde_value.specs.Retained.{retained_tree, retained_children, retained_members}
 use Rattle.miniserde_value.specs.Visits.{IsOrdered, AreOrdered, AreOrderedMembers}
 
+-- the normal form of the retained tree is the normal form of the tree
 pub norm_kept : (t : Tree) → norm (retained_tree t) ≡ norm t
 norm_kept = norm_after norm_neg neg norm_neg (λ z. refl)
 

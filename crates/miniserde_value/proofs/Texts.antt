@@ -87,6 +87,7 @@ text_begins b (list ts) = refl
 text_begins b (members ms) = refl
 text_begins b _ = refl
 
+-- the visits of an ordered tree have the compact text of its normal form
 pub text_whole : (b : Bool) (t : Tree) → IsOrdered t → visits_text b (visits t []) ≡ compact (norm t)
 text_whole b t h = text_begins b t ∙ text_fronts t h [] ∙ append-nil (compact (norm t))
 

@@ -9,6 +9,7 @@ use Rattle.miniserde_value.specs.Looks.{value_size, ReplacesFirst}
 use Rattle.miniserde_value.proofs.ContentTrees.{sizes, size_children, sizes_append}
 use Rattle.miniserde_value.proofs.Costs.{Cost, cost_of, cost, looks_left, looks_from, cost_out, besides_append}
 
+-- a bare value has size 1
 pub bare_size : (v : Value) → IsBare v → value_size v ≡ 1
 bare_size v h = size_children v ∙ ap (λ (vs : List Value). 1 + sizes vs) h
 
@@ -44,6 +45,7 @@ taken_from (v ∷ vs) d last e =
     let k = ap (λ (k : Cost). k.alone) (cost_out d ∙ ap (λ (ws : List Value). cost_of (map cost ws)) (sym e)) in
     omega (arith, k, besides_append vs (last ∷ []))
 
+-- if d is c without its last child, the looks for c alone are one more than those left for d and the child
 pub taken_looks : (c d last : Value) → children c ≡ children d ++ last ∷ [] → (cost c).alone ≡ suc (looks_left d last)
 taken_looks c d last e = ap (λ (k : Cost). k.alone) (cost_out c ∙ ap (λ (ws : List Value). cost_of (map cost ws)) e)
     ∙ taken_from (children d) d last refl
@@ -85,5 +87,6 @@ turn_park c h d x n r = omega (arith, left_full c h n, parked_looks c x h d r)
 pub turn_last : (c h : Value) → IsBare c → IsBare h → looks_left c h ≡ 0
 turn_last c h b e = omega (arith, left_bare c h b, bare_alone h e)
 
+-- `false` is not true
 pub false_true : IsTrue false → ⊥
 false_true e = cc

@@ -68,6 +68,7 @@ no_object v h = subst (λ w. None ≡ only_members (Some (content_of w))) (roll-
 pub its_list : (v : Value) (a : Array) → v ≡ Value.Array a → Some (array_content a) ≡ only_list (Some (content_of v))
 its_list v a e = sym (ap (λ (w : Value). only_list (Some (content_of w))) e ∙ ap (λ (t : Tree). only_list (Some t)) (content_of_array a))
 
+-- if v is the object o, the tree of o is what `only_members` returns for the tree of v
 pub its_members : (v : Value) (o : Object) → v ≡ Value.Object o → Some (object_content o) ≡ only_members (Some (content_of v))
 its_members v o e = sym (ap (λ (w : Value). only_members (Some (content_of w))) e
     ∙ ap (λ (t : Tree). only_members (Some t)) (content_of_object o))

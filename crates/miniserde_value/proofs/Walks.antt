@@ -44,34 +44,43 @@ at_content : (v : Value) (t : Tree) (rest more : List TreeVisit) → content_of 
     → visits (content_of v) rest ≡ more
 at_content v t rest more e h = ap (λ (x : Tree). visits x rest) e ∙ h
 
+-- the one visit of `Null` is the leaf null
 pub begin_null : (v : Value) (rest : List TreeVisit) → v ≡ value.Null → visits (content_of v) rest ≡ leaf null ∷ rest
 begin_null v rest e = at_content v null rest _ (ap content_of e ∙ content_of_null) refl
 
+-- the one visit of a boolean is its leaf
 pub begin_bool : (v : Value) (b : Bool) (rest : List TreeVisit) → v ≡ value.Bool b → visits (content_of v) rest ≡ leaf (truth b) ∷ rest
 begin_bool v b rest e = at_content v (truth b) rest _ (ap content_of e ∙ content_of_bool b) refl
 
+-- the one visit of a number is its leaf
 pub begin_number : (v : Value) (n : Number) (rest : List TreeVisit) → v ≡ value.Number n
     → visits (content_of v) rest ≡ leaf (number_leaf n) ∷ rest
 begin_number v n rest e = at_content v (number_leaf n) rest _ (ap content_of e ∙ content_of_number n) (number_fronts n rest)
 
+-- the one visit of a string is its leaf
 pub begin_string : (v : Value) (s : String Global) (rest : List TreeVisit) → v ≡ value.String s
     → visits (content_of v) rest ≡ leaf (str (string_bytes s)) ∷ rest
 begin_string v s rest e = at_content v (str (string_bytes s)) rest _ (ap content_of e ∙ content_of_string s) refl
 
+-- the tree of `Null` is ordered
 pub ordered_null : (v : Value) → v ≡ value.Null → IsOrdered (content_of v)
 ordered_null v e = subst IsOrdered (sym (ap content_of e ∙ content_of_null)) tt
 
+-- the tree of a boolean is ordered
 pub ordered_bool : (v : Value) (b : Bool) → v ≡ value.Bool b → IsOrdered (content_of v)
 ordered_bool v b e = subst IsOrdered (sym (ap content_of e ∙ content_of_bool b)) tt
 
+-- the tree of a number is ordered
 pub ordered_number : (v : Value) (n : Number) → v ≡ value.Number n → IsOrdered (content_of v)
 ordered_number v n e = subst IsOrdered (sym (ap content_of e ∙ content_of_number n)) (number_ordered n)
 
+-- the tree of a string is ordered
 pub ordered_string : (v : Value) (s : String Global) → v ≡ value.String s → IsOrdered (content_of v)
 ordered_string v s e = subst IsOrdered (sym (ap content_of e ∙ content_of_string s)) tt
 
 -- ---- a container is opened
 
+-- the first visit of an array is its opening, and the visits of its items are left
 pub begin_array : (v : Value) (a : Array) (it : Iter Value) (rest more : List TreeVisit) → v ≡ value.Array a
     → iter_rest it ≡ array_items a → more ≡ items_left it rest → visits (content_of v) rest ≡ list_begins ∷ more
 begin_array v a it rest more e i m =
@@ -79,6 +88,7 @@ begin_array v a it rest more e i m =
     (ap (λ (xs : List Value). list_begins ∷ child_visits (trees_of content_of xs) (list_ends ∷ rest)) (sym i)
     ∙ ap (λ (x : List TreeVisit). list_begins ∷ x) (sym m))
 
+-- the first visit of an object is its opening, and the visits of its members are left
 pub begin_object : (v : Value) (o : Object) (it : List (String Global × Value)) (rest more : List TreeVisit)
     → v ≡ value.Object o → it ≡ object_entries o → more ≡ members_left it rest
     → visits (content_of v) rest ≡ members_begin ∷ more
@@ -88,6 +98,7 @@ begin_object v o it rest more e i m =
     members_begin ∷ member_visits (members_of string_bytes content_of xs) (members_end ∷ rest)) (sym i)
     ∙ ap (λ (x : List TreeVisit). members_begin ∷ x) (sym m))
 
+-- if the items of an array are ordered, its tree is
 pub ordered_array : (v : Value) (a : Array) (it : Iter Value) → v ≡ value.Array a → iter_rest it ≡ array_items a
     → ItemsOrdered it → IsOrdered (content_of v)
 ordered_array v a it e i o =
@@ -99,6 +110,7 @@ pub record Opened (o : Object) (m : BTreeMap (String Global) Value) (it : List (
   pub entries : it ≡ m.entries
   pub sorted : tree_map.IsOrdered string_cmp m
 
+-- if the members that a walk has of an object are ordered, the tree of the object is
 pub ordered_opened : (o : Object) (m : BTreeMap (String Global) Value) (it : List (String Global × Value))
     → Opened o m it → MembersOrdered it → IsOrdered (object_content o)
 ordered_opened o m it w p =
@@ -107,6 +119,7 @@ ordered_opened o m it w p =
     let whole : it ≡ object_entries o = w.entries ∙ ap (λ (x : BTreeMap (String Global) Value). x.entries) w.map in
     (rises, subst (λ (xs : List (String Global × Value)). AreOrderedMembers (members_of string_bytes content_of xs)) whole p)
 
+-- if v is an object whose members a walk has, and these are ordered, the tree of v is
 pub ordered_object : (v : Value) (o : Object) (m : BTreeMap (String Global) Value)
     (it : List (String Global × Value)) → v ≡ value.Object o → Opened o m it → MembersOrdered it
     → IsOrdered (content_of v)

@@ -8,11 +8,13 @@ use Rattle.miniserde_value.specs.Visits.{member_visits, first_flag_after, Visits
 
 -- ---- one front, and then others
 
+-- if one visit is in range and the later ones are, all of them are
 pub fronts_before : (m : TreeVisit) (rest : List TreeVisit) → VisitsInRange (m ∷ []) → VisitsInRange rest → VisitsInRange (m ∷ rest)
 fronts_before (leaf t) rest h r = (h.0, r)
 fronts_before (name n) rest h r = (h.0, r)
 fronts_before _ rest h r = r
 
+-- the flag after a visit and then others is the flag after all of them
 pub first_before : (b : Bool) (m : TreeVisit) (rest : List TreeVisit)
     → first_flag_after (first_flag_after b (m ∷ [])) rest ≡ first_flag_after b (m ∷ rest)
 first_before b (leaf t) rest = refl

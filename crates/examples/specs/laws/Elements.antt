@@ -60,6 +60,7 @@ children_count (tree t ts) es =
     let b : more 1 (child_events ts ++ es) ≡ number_of ts + more 1 es = children_count ts es in
     omega (arith, a, b)
 
+-- the count by the events of a tree is what `elements_of` returns for the tree
 pub events_count : (t : Tree) → counted (events t) ≡ elements_of t
 events_count (list ts) =
     let a : more 1 (child_events ts ++ finish ∷ []) ≡ number_of ts + 0 = children_count ts (finish ∷ []) in

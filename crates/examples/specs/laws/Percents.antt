@@ -18,5 +18,6 @@ read (nonneg m) n e =
     (ap nonneg p.1, subst (λ k. k ≤ 100) p.1 (leb-true m 100 p.0))
 read t n e = absurd (cc)
 
+-- by `ReadsPercent`, the tree t means n exactly if `percent_of` returns n for it
 pub percent-given : (t : Tree) (n : ℕ) → ReadsPercent t n ↔ (percent_of t ≡ Some n)
 percent-given t n = (reads t n, read t n)

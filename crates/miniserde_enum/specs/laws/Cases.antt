@@ -13,16 +13,20 @@ use Rattle.miniserde_enum.specs.Cases.{variant_content, unit_content, data_conte
 
 -- ---- names
 
+-- the test of equality holds for a name and itself
 pub same-name : (n : Name) → bytes_eq n n ≡ true
 same-name n = (bytes_eq-Decides n n).1 refl
 
+-- if the test of equality holds for two names, they are equal
 pub is-name : (k n : Name) → bytes_eq k n ≡ true → k ≡ n
 is-name k n e = (bytes_eq-Decides k n).0 e
 
+-- if a conjunction is true, both of its parts are
 pub both : (a b : Bool) → (a && b) ≡ true → (a ≡ true) × (b ≡ true)
 both true b h = (refl, h)
 both false b h = absurd (cc)
 
+-- a name that is new among k and ks differs from k and is new among ks
 pub new-first : (n k : Name) (ks : List Name) → is_new n (k ∷ ks) ≡ true → (bytes_eq n k ≡ false) × (is_new n ks ≡ true)
 new-first n k ks h =
     let p = both (not (bytes_eq n k)) (is_new n ks) h in
@@ -33,6 +37,7 @@ distinct-first n ns h = both (is_new n ns) (are_distinct ns) h
 
 -- ---- tests and options
 
+-- if `cond b x None` is c, then b is true and x is c
 pub cond-some : {C : Type 0} (b : Bool) (x : Option C) (c : C) → cond b x None ≡ Some c → (b ≡ true) × (x ≡ Some c)
 cond-some true x c e = (refl, e)
 cond-some false x c e = absurd (cc)
@@ -78,6 +83,7 @@ unit-found : (n : Name) (o : Option (Name × Option Tree)) → (o ≡ Some (n, N
 unit-found n None = (λ e. absurd (cc), λ e. absurd (cc))
 unit-found n (Some s) = unit-at n s.0 s.1
 
+-- by the tagging, the tree t is the variant n without data exactly if it gives the content of that variant
 pub unit-agrees : (tagging : Tagging) (n : Name) (t : Tree) (u : Unit {0}) → UnitReads tagging n t u
     ↔ (content_by_tagging tagging (alone unit_content n) t ≡ Some tt)
 unit-agrees tagging n t u =

@@ -35,6 +35,7 @@ other-agrees : (t : Tree) (n : Name) (o : Option Tree) → ((k : Name) → t ≡
 other-agrees t n None s m = (λ e. absurd (s n e), λ e. absurd (cc))
 other-agrees t n (Some u) s m = (λ e. absurd (m n u e), λ e. absurd (cc))
 
+-- t is the externally tagged variant of the name n and the data o exactly if `external_variant` returns n and o
 pub external-agrees : (t : Tree) (n : Name) (o : Option Tree) → IsExternal t n o ↔ (external_variant t ≡ Some (n, o))
 external-agrees (str k) n o = str-agrees k n o
 external-agrees (members (member k t no_members)) n o = member-agrees k n t o

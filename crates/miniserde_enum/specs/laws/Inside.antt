@@ -5,6 +5,7 @@ use Rattle.miniserde_model.specs.Tree.{Tree, Members, no_members, member}
 use Rattle.miniserde_read.specs.types.Objects.{Name, after_members}
 use Rattle.miniserde_record.specs.Fields.{other_members}
 
+-- if `taken` is `None` for each refused member, a member that is refused and not skipped gives `None`
 pub beside-refused : {A : Type 0} (b refuses : Bool) (skipped taken : Option A) → (refuses ≡ true → taken ≡ None)
     → cond b false refuses ≡ true → cond b skipped taken ≡ None
 beside-refused true refuses skipped taken f h = absurd (cc)

@@ -50,6 +50,7 @@ no-data : (o : Option Name) (u : Tree) (n : Name) → ◌≡◌ {A = Option Foun
 no-data None u n e = cc
 no-data (Some k) u n e = let i = ap (λ z. z.1) (same_Some _ _ e) in cc
 
+-- t is the internally tagged variant of the name n and the data o exactly if `internal_variant` returns n and o
 pub internal-agrees : (tag : Name) (t : Tree) (n : Name) (o : Option Tree) → IsInternal tag t n o ↔ (internal_variant tag t ≡ Some (n, o))
 internal-agrees tag (members ms) n None = (λ h. absurd h, λ e. absurd (no-data (tag_of tag ms) (members (other_members tag ms)) n e))
 internal-agrees tag (members ms) n (Some u) =

@@ -16,6 +16,7 @@ use Rattle.miniserde_laws.specs.RoundTrip.{RoundTrips}
 pub leaf-round_trips : {T : Type 0} (f : T → Tree) (v : T) → RoundTrips (λ _. ⊤) f (λ t w. t ≡ f w) (f v)
 leaf-round_trips f v = ((v, tt, refl), λ w r e. sym e)
 
+-- the tree of an unsigned integer in range means one, and each one that it means has that tree
 pub unsigned-round_trips : (bits n : ℕ) → n < 2 ^ bits → RoundTrips (λ n. n < 2 ^ bits) nonneg (ReadsUnsigned bits) (nonneg n)
 unsigned-round_trips bits n h = ((n, h, (refl, h)), λ w r e. sym e.0)
 
@@ -35,21 +36,26 @@ signed-real : (bits : ℕ) (w : Width) → hbits w ≡ bits - 1 → (z : ℤ) �
 signed-real bits w e (pos n) h = passes (2 ^ (bits - 1)) n (subst (λ k. n < 2 ^ k) e h.sfits)
 signed-real bits w e (negsuc n) h = passes (2 ^ (bits - 1)) n (subst (λ k. n < 2 ^ k) e h.sfits)
 
+-- the tree of a signed integer in range means one, and each one that it means has that tree
 pub signed-round_trips : (bits : ℕ) (w : Width) → hbits w ≡ bits - 1 → (z : ℤ) → FitsSigned w z
     → RoundTrips (FitsSigned w) integer (ReadsSigned bits) (integer z)
 signed-round_trips bits w e z h = ((z, h, integer-read bits z (signed-real bits w e z h)), λ v r i. integer-same bits z v i)
 
 -- ---- no two values have one tree
 
+-- booleans with equal trees are equal
 pub boolean-same : (v w : Bool) → ⊤ → ⊤ → truth v ≡ truth w → v ≡ w
 boolean-same v w r s e = cc
 
+-- texts with equal trees have equal bytes
 pub text-same : {T : Type 0} (bytes : T → List ℕ) (v w : T) → ⊤ → ⊤ → str (bytes v) ≡ str (bytes w) → bytes v ≡ bytes w
 text-same bytes v w r s e = cc
 
+-- unsigned integers with equal trees have equal contents
 pub unsigned-same : (bits v w : ℕ) → v < 2 ^ bits → w < 2 ^ bits → nonneg v ≡ nonneg w → pos v ≡ pos w
 unsigned-same bits v w r s e = let i : v ≡ w = cc in ap pos i
 
+-- signed integers with equal trees are equal
 pub signed-same : (w : Width) (v u : ℤ) → FitsSigned w v → FitsSigned w u → integer v ≡ integer u → v ≡ u
 signed-same w (pos n) (pos m) r s e = let i : n ≡ m = cc in ap pos i
 signed-same w (pos n) (negsuc m) r s e = absurd (cc)
@@ -58,15 +64,19 @@ signed-same w (negsuc n) (negsuc m) r s e = cc
 
 -- ---- no tree is `null`
 
+-- the tree of a boolean is not `null`
 pub boolean-not_null : (v : Bool) → ⊤ → truth v ≡ null → ⊥
 boolean-not_null v r e = cc
 
+-- the tree of a text is not `null`
 pub text-not_null : {T : Type 0} (bytes : T → List ℕ) (v : T) → ⊤ → str (bytes v) ≡ null → ⊥
 text-not_null bytes v r e = cc
 
+-- the tree of an unsigned integer is not `null`
 pub unsigned-not_null : (bits v : ℕ) → v < 2 ^ bits → nonneg v ≡ null → ⊥
 unsigned-not_null bits v r e = cc
 
+-- the tree of a signed integer is not `null`
 pub signed-not_null : (w : Width) (v : ℤ) → FitsSigned w v → integer v ≡ null → ⊥
 signed-not_null w (pos n) r e = cc
 signed-not_null w (negsuc n) r e = cc

@@ -1,3 +1,4 @@
+-- The law follows from `one_tree`: a canonical text spells the normal form and no other tree.
 use Rattle.miniserde_model.proofs.Canonical.{canonical_texts_equal}
 use Rattle.miniserde_model.proofs.canonical_texts_equal.Goals as goal
 

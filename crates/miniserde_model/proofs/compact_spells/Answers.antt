@@ -1,3 +1,4 @@
+-- A whole text is the value of `written_value` without whitespace around it (`written`).
 use Rattle.miniserde_model.proofs.Written.{written, written_value}
 use Rattle.miniserde_model.proofs.compact_spells.Goals as goal
 

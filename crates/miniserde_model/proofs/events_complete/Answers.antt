@@ -1,3 +1,4 @@
+-- `one` is by recursion over the tree (`events_complete`), `only` by recursion over the events (`no_longer`).
 use Rattle.miniserde_model.proofs.Events.{events_complete, no_longer}
 use Rattle.miniserde_model.proofs.events_complete.Goals as goal
 

@@ -1,3 +1,5 @@
+-- Both clauses are by recursion over the tree: the normal form is idempotent (`norm_twice`) and stays in range
+-- (`norm_tree`).
 use Rattle.miniserde_model.proofs.Normal.{norm_twice, norm_tree}
 use Rattle.miniserde_model.proofs.norm_is_normal.Goals as goal
 

@@ -1,3 +1,5 @@
+-- Both clauses are by recursion over the tree: the normal form has no duplicate name (`norm_distinct`), and without
+-- duplicate names it has the size of the tree (`distinct_size`).
 use Rattle.miniserde_model.proofs.Distinct.{norm_distinct, distinct_size}
 use Rattle.miniserde_model.proofs.norm_of_distinct.Goals as goal
 

@@ -1,3 +1,5 @@
+-- Each clause is a lemma of the normal form by any f for integers with a minus (`norm_members_by`), at `norm_neg`.
+-- `last` and `order` fix the normal form, so `only` and `put` follow from them.
 use Rattle.miniserde_model.specs.Normal.{norm_neg}
 use Rattle.miniserde_model.proofs.Lookups.{norm_keeps_last, norm_rises}
 use Rattle.miniserde_model.proofs.OneNormal.{norm_only, put_all_norm}

@@ -1,3 +1,4 @@
+-- `spelled` and `refused` are derivations of the grammar and refutations, text by text; `normal` is computed.
 use Rattle.miniserde_model.proofs.Examples.{spelled_texts, normal_forms}
 use Rattle.miniserde_model.proofs.RefusedExamples.{refused_texts}
 use Rattle.miniserde_model.proofs.worked_examples.Goals as goal

@@ -14,6 +14,7 @@ unit_reads (str s) e = absurd (cc)
 unit_reads (list ts) e = absurd (cc)
 unit_reads (members ms) e = absurd (cc)
 
+-- a tree is null exactly if `unit_of` returns the unit for it
 pub unit-given : (t : Tree) → (t ≡ null) ↔ (unit_of t ≡ Some tt)
 unit-given t = (λ e. ap unit_of e, unit_reads t)
 
@@ -27,6 +28,7 @@ truth_reads (str s) b e = absurd (cc)
 truth_reads (list ts) b e = absurd (cc)
 truth_reads (members ms) b e = absurd (cc)
 
+-- a tree is the boolean b exactly if `boolean_of` returns b for it
 pub truth-given : (t : Tree) (b : Bool) → (t ≡ truth b) ↔ (boolean_of t ≡ Some b)
 truth-given t b = (λ e. ap boolean_of e, truth_reads t b)
 
@@ -40,5 +42,6 @@ text_reads (str r) s e = let same : r ≡ s = cc in ap str same
 text_reads (list ts) s e = absurd (cc)
 text_reads (members ms) s e = absurd (cc)
 
+-- a tree is the string s exactly if `string_of` returns s for it
 pub text-given : (t : Tree) (s : List ℕ) → (t ≡ str s) ↔ (string_of t ≡ Some s)
 text-given t s = (λ e. ap string_of e, text_reads t s)

@@ -8,6 +8,7 @@ use Rattle.std.proofs.lemmas.Str.{IsUtf8-from_is_utf8, encodes-chars}
 use Rattle.miniserde_keys.specs.Keys.{Key, of_nat, of_bool, bool_text, read_bool, single_char, read_char}
 use Rattle.miniserde_keys.specs.laws.Keys.{bool-text, nat-text}
 
+-- names that are read as equal `String` keys are equal
 pub text-exact : (n m : List ℕ) (c d : Key) → ◌≡◌ {A = Option Key} (Some n) (Some c)
     → ◌≡◌ {A = Option Key} (Some m) (Some d) → c ≡ d → n ≡ m
 text-exact n m c d p q e = cc
@@ -26,6 +27,7 @@ bool-named n c e = elim (bytes_eq n (bool_text true))
           ] refl
     ] refl e
 
+-- names that are read as equal `bool` keys are equal
 pub bool-exact : (n m : List ℕ) (c d : Key) → read_bool n ≡ Some c → read_bool m ≡ Some d → c ≡ d → n ≡ m
 bool-exact n m c d p q e =
     let a = bool-named n c p in
@@ -46,6 +48,7 @@ char-named n c e = elim (is_utf8 n) as (λ b. is_utf8 n ≡ b → cond b (single
       | false ↦ λ b f. absurd (cc)
     ] refl e
 
+-- names that are read as equal `char` keys are equal
 pub char-exact : (n m : List ℕ) (c d : Key) → read_char n ≡ Some c → read_char m ≡ Some d → c ≡ d → n ≡ m
 char-exact n m c d p q e =
     let a = char-named n c p in

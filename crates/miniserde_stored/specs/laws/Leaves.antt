@@ -21,15 +21,19 @@ stable-by of n l m (str s) c e = e
 stable-by of n l m (list ts) c e = l ts c e
 stable-by of n l m (members ms) c e = m ms c e
 
+-- the content of the unit is stable
 pub stable-unit : IsStable unit_of
 stable-unit = stable-by unit_of (λ z c e. absurd (cc)) (λ ts c e. e) (λ ms c e. e)
 
+-- the content of a boolean is stable
 pub stable-boolean : IsStable boolean_of
 stable-boolean = stable-by boolean_of (λ z c e. absurd (cc)) (λ ts c e. e) (λ ms c e. e)
 
+-- the content of a string is stable
 pub stable-string : IsStable string_of
 stable-string = stable-by string_of (λ z c e. absurd (cc)) (λ ts c e. e) (λ ms c e. e)
 
+-- the content of an unsigned integer of so many bits is stable
 pub stable-unsigned : (bits : ℕ) → IsStable (unsigned_of bits)
 stable-unsigned bits = stable-by (unsigned_of bits) (λ z c e. absurd (cc)) (λ ts c e. e) (λ ms c e. e)
 
@@ -37,6 +41,7 @@ signed-neg : (bits : ℕ) (z c : ℤ) → signed_of bits (neg z) ≡ Some c → 
 signed-neg bits (pos n) c e = e
 signed-neg bits (negsuc n) c e = e
 
+-- the content of a signed integer of so many bits is stable
 pub stable-signed : (bits : ℕ) → IsStable (signed_of bits)
 stable-signed bits = stable-by (signed_of bits) (signed-neg bits) (λ ts c e. e) (λ ms c e. e)
 

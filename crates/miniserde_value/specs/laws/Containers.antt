@@ -12,5 +12,6 @@ fits-once n os [] = Unit-prop
 fits-once n os (container.Array v ∷ ms) = ×_prop le_prop (fits-once v os ms)
 fits-once n os (container.Object ∷ ms) = ×_prop le_prop (fits-once n (outer_objects os) ms)
 
+-- `ContainersFit` has at most one proof
 pub containers-fit-once : (vs : List Value) (os : List OpenObject) (ms : List OpenContainer) → IsProp (ContainersFit vs os ms)
 containers-fit-once vs os ms = fits-once (length vs) (reverse os) (reverse ms)

@@ -11,6 +11,7 @@ abbrev pub listed : Trees → List Tree
 listed no_trees = []
 listed (tree t ts) = t ∷ listed ts
 
+-- the list of the children ts, made into children, is ts
 pub trees_listed : (ts : Trees) → trees_of (λ t. t) (listed ts) ≡ ts
 trees_listed no_trees = refl
 trees_listed (tree t ts) = ap (tree t) (trees_listed ts)

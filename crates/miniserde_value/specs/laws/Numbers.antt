@@ -32,5 +32,6 @@ number_meaning (str s) v e = absurd e
 number_meaning (list ts) v e = absurd e
 number_meaning (members ms) v e = absurd e
 
+-- a tree means the number v exactly if `number_of` returns the leaf of v for it
 pub number-given : (t : Tree) (v : Number) → ReadsNumber t v ↔ (number_of t ≡ Some (number_leaf v))
 number-given t v = (number_meaning t v, number_reads t v)

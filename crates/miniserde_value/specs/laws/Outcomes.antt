@@ -47,9 +47,11 @@ mutual
       ∙ outcome_events (in_members made (Some n) h) t (member_events ms ++ rest)
       ∙ outcome_members ms (put_member n (retained_tree t) made) h rest
 
+-- the events of a tree give its retained tree, if duplicate names are allowed
 pub outcome-whole : (t : Tree) → outcome false true (outside []) (events t) ≡ Some (retained_tree t)
 outcome-whole t = ap (outcome false true (outside [])) (sym (append-nil (events t))) ∙ outcome_events (outside []) t []
 
+-- the tree u is the retained tree of t exactly if `Some` of the one is `Some` of the other
 pub reads-agree : (t u : Tree) → (u ≡ retained_tree t) ↔ (◌≡◌ {A = Option Tree} (Some (retained_tree t)) (Some u))
 reads-agree t u = (λ e. ap (λ (x : Tree). Some x) (sym e), λ e. cc)
 
@@ -65,6 +67,7 @@ same_list (neg z) ts e = absurd (cc)
 same_list (num x) ts e = absurd (cc)
 same_list (str s) ts e = absurd (cc)
 
+-- the retained tree of t is the array ts exactly if `only_list` returns that array for it
 pub list-agrees : (t : Tree) (ts : Trees) → (list ts ≡ retained_tree t) ↔ (only_list (Some (retained_tree t)) ≡ Some (list ts))
 list-agrees t ts = (λ e. ap (λ (x : Tree). only_list (Some x)) (sym e), same_list (retained_tree t) ts)
 
@@ -80,5 +83,6 @@ same_members (neg z) ms e = absurd (cc)
 same_members (num x) ms e = absurd (cc)
 same_members (str s) ms e = absurd (cc)
 
+-- the retained tree of t is the object ms exactly if `only_members` returns that object for it
 pub members-agree : (t : Tree) (ms : Members) → (members ms ≡ retained_tree t) ↔ (only_members (Some (retained_tree t)) ≡ Some (members ms))
 members-agree t ms = (λ e. ap (λ (x : Tree). only_members (Some x)) (sym e), same_members (retained_tree t) ms)

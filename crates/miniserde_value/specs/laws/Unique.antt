@@ -159,13 +159,16 @@ mutual
   all_fresh true (member n t ms) = all_fresh true ms
   all_fresh false ms = refl
 
+-- by `once`, the events of a tree give its retained tree if no name is a duplicate, and else nothing
 pub once-whole : (t : Tree) → outcome true true (outside []) (events t) ≡ retained_if true t
 once-whole t = ap (outcome true true (outside [])) (sym (append-nil (events t))) ∙ once_events (outside []) t []
 
+-- the events of a tree give what `retained_if once` returns for it
 pub gives-kept : (once : Bool) (t : Tree) → outcome once true (outside []) (events t) ≡ retained_if once t
 gives-kept true t = once-whole t
 gives-kept false t = outcome-whole t
 
+-- the names of t are distinct and u is its retained tree, exactly if `retained_if` returns u
 pub once-agrees : (t u : Tree) → ((names_distinct t ≡ true) × (u ≡ retained_tree t)) ↔ (retained_if true t ≡ Some u)
 once-agrees t u = elim (names_distinct t) as (λ b. ((b ≡ true) × (u ≡ retained_tree t)) ↔ (cond b (Some (retained_tree t)) None ≡ Some u)) [
   | true ↦ (λ e. ap (λ (x : Tree). Some x) (sym e.1), λ e. (refl, cc))

@@ -16,6 +16,7 @@ lower-alike a b la lb = ap₂ bytes_eq (sym la.1) (sym lb.1)
 pub own-back : (s : List ℕ) → AreLower s → read_letters s ≡ Some s
 own-back s l = rw (l.0, l.1) refl
 
+-- a name of lower-case letters, mapped to lower case, is read as itself
 pub lower-back : (s : List ℕ) → AreLower s → read_letters (map to_ascii_lowercase s) ≡ Some s
 lower-back s l = ap read_letters l.1 ∙ own-back s l
 

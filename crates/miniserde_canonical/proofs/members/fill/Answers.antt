@@ -1,3 +1,4 @@
+-- Each turn pushes the index i behind the indices below it (`numbers_more`).
 use Rattle.std.proofs.Common.{◌≡◌, ◌++◌, ◌∷◌, [], ◌+◌, sym, ap, ◌∙◌, arith}
 use Rattle.std.specs.List.{range_with_len}
 use Rattle.miniserde_canonical.proofs.MemberLists.{numbers_more}

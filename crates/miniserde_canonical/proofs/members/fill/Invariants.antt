@@ -1,3 +1,4 @@
+-- `order` has the indices below i, in ascending order.
 use Rattle.std.proofs.Common.{◌≡◌}
 use Rattle.std.specs.List.{range_with_len}
 use Rattle.miniserde_canonical.proofs.members.fill.Given as goal

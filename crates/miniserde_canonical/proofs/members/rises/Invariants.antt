@@ -1,3 +1,4 @@
+-- The names of the members before the index i rise.
 use Rattle.std.proofs.Common.{◌≡◌, ℕ, ◌<◌, ◌+◌, Less, get_or}
 use Rattle.miniserde_model.specs.Normal.{text_cmp}
 use Rattle.miniserde_canonical.specs.declared.member.Member.{Member}

@@ -1,3 +1,5 @@
+-- The lexer has no error, and the draft took the tokens of the text that was read (`Taken`). The loop ends since the
+-- rest of the text gets shorter.
 use Rattle.std.proofs.Common.{◌≡◌, None, length}
 use Rattle.miniserde_text.specs.private.Moving.{before_child}
 use Rattle.miniserde_canonical.proofs.Taking.{Taken}

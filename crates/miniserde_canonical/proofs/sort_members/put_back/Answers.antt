@@ -1,3 +1,5 @@
+-- Two exits: a text without splices is moved from the groups to `out` (`back_short`), and for any other text `out`
+-- gets a splice (`back_splice`).
 use Rattle.std.proofs.Common.{refl}
 use Rattle.miniserde_canonical.proofs.Sorting.{back_short, back_splice}
 use Rattle.miniserde_canonical.proofs.sort_members.put_back.Goals as goal

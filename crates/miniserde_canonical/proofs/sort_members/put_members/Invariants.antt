@@ -1,3 +1,5 @@
+-- The groups have the first k members of the order, without repeats (`PutsSoFar`); `number` counts them, so it
+-- is at most k.
 use Rattle.std.proofs.Common.{◌≤◌}
 use Rattle.miniserde_canonical.proofs.Sorting.{PutsSoFar}
 use Rattle.miniserde_canonical.proofs.sort_members.put_members.Given as goal

@@ -1,3 +1,5 @@
+-- The indices are sorted by name, the members are put into the groups in that order, and the result is put back.
+-- By `settled` it is the normal form of the members.
 use Rattle.std.proofs.Common.{refl}
 use Rattle.miniserde_canonical.proofs.Sorting.{settled}
 use Rattle.miniserde_canonical.proofs.sort_members.sort_members.Goals as goal

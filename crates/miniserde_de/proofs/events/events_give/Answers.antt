@@ -1,3 +1,5 @@
+-- The events of a tree complete a fresh place, and give what the tree gives. `fresh_gives` is the law before `feed`,
+-- and `fed_gives` is the law after it.
 use Rattle.miniserde_de.proofs.Fed.{fresh_gives, fed_gives}
 use Rattle.miniserde_de.proofs.events.events_give.Goals as goal
 

@@ -1,3 +1,5 @@
+-- The place of a type gives for the events of a tree what the tree means by the type. `tied` carries the clauses of
+-- `events_give` from the meaning of the place to that of the type: `given_reads` for a value, `none_reads` for none.
 use Rattle.std.proofs.Common.{[]}
 use Rattle.miniserde_model.specs.Step.{events}
 use Rattle.miniserde_de.proofs.Fed.{given_reads, none_reads}

@@ -1,3 +1,5 @@
+-- The loop keeps that neither the source nor the place has an error, and that the events behind the first token are a
+-- move up to the present moment (`Moved`). Each turn shortens the text.
 use Rattle.std.proofs.Common.{◌≡◌, None, [], is_some, length}
 use Rattle.miniserde_text.specs.Lexer.{event_of_token}
 use Rattle.miniserde_text.specs.private.Stack.{with_opened}

@@ -1,3 +1,5 @@
+-- The bytes up to `at` are written. Each write that takes n bytes appends the next n (`Appends_on`), and each failed
+-- write leaves the bytes up to `at` as the part that was written.
 use Rattle.std.proofs.Common.{arith, ◌+◌, ◌∙◌, take, drop, sym, take-append-drop}
 use Rattle.std.proofs.KnownBytes.{Appends-kept}
 use Rattle.miniserde_program.proofs.Written.{Appends_on, fits_on}

@@ -1,3 +1,4 @@
+-- The bytes up to `at` are appended, and no call has failed or flushed. The loop ends since fewer bytes are left.
 use Rattle.std.proofs.Common.{length, ◌-◌, ◌≡◌, ◌≤◌, take}
 use Rattle.std.specs.Io.KnownBytes.{Appends}
 use Rattle.miniserde_program.specs.Counts.{inner_of, failures, flushes}

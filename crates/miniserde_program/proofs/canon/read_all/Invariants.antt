@@ -1,3 +1,4 @@
+-- `bytes` has the bytes that were read so far, and no read has failed.
 use Rattle.std.proofs.Common.{◌≡◌, ◌-◌, ◌^◌, vec_len}
 use Rattle.std.specs.Io.KnownBytes.{Consumes}
 use Rattle.miniserde_program.specs.Counts.{inner_of, failures}

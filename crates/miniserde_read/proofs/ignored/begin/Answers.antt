@@ -1,3 +1,4 @@
+-- The token consumes the first event of a value, and `enter` pushes the kind that it opens (`entered`).
 use Rattle.miniserde_text.specs.Lexer.{event_of_token}
 use Rattle.miniserde_read.proofs.Skips.{entered}
 use Rattle.miniserde_read.proofs.ignored.begin.Goals as goal

@@ -1,3 +1,5 @@
+-- The loop keeps that the text behind the first token reaches the present moment (`Reaches`). Each turn shortens the
+-- text.
 use Rattle.std.proofs.Common.{◌≡◌, None, [], is_some, length}
 use Rattle.miniserde_text.specs.Lexer.{event_of_token}
 use Rattle.miniserde_text.specs.private.Stack.{with_opened}

@@ -1,3 +1,4 @@
+-- The tree is the list of the children that `read_items` reads, and it begins with the event of `[`.
 use Rattle.std.proofs.Common.{ap}
 use Rattle.std.proofs.lemmas.Result.{IfOk-weaker}
 use Rattle.miniserde_model.specs.Tree.{list}

@@ -1,3 +1,4 @@
+-- A lookup finds the last member of the name (`last_name`): the order of texts ties exactly on equal bytes.
 use Rattle.std.proofs.Common.{◌∙◌, string_bytes}
 use Rattle.std.specs.Ordering.{is_eq, nat_cmp}
 use Rattle.std.specs.Cmp.Lexicographic.{slice_cmp}

@@ -1,3 +1,5 @@
+-- A lookup finds the last member of the key's code (`last_key`): keys are equal by `PartialEq` exactly if their codes
+-- are.
 use Rattle.std.proofs.Common.{◌∙◌}
 use Rattle.miniserde_text.proofs.Equal.{bytes_eq-flips}
 use Rattle.miniserde_read.proofs.LastMembers.{last_key}

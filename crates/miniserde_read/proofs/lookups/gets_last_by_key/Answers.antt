@@ -1,3 +1,5 @@
+-- A lookup finds the last member of the key's code (`last_key`): keys tie by `Ord` exactly if they are equal, and
+-- they are equal exactly if their codes are.
 use Rattle.std.proofs.Common.{sym, ◌∙◌}
 use Rattle.std.specs.Ordering.{is_eq}
 use Rattle.miniserde_text.proofs.Equal.{bytes_eq-flips}

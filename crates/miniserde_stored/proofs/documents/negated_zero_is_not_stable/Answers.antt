@@ -1,3 +1,5 @@
+-- `-0` and its normal form 0 have two contents, as a `Number` (`unstable-number`) and as a `Value`
+-- (`unstable-value`).
 use Rattle.miniserde_stored.proofs.StableDocuments.{unstable-number, unstable-value}
 use Rattle.miniserde_stored.proofs.documents.negated_zero_is_not_stable.Goals as goal
 

@@ -1,3 +1,5 @@
+-- An object has the same tag in normal form, and the content of its other members is stable by the law of the
+-- variants (`tagged-stable`).
 use Rattle.miniserde_stored.proofs.Tags.{tagged-stable}
 use Rattle.miniserde_stored.proofs.enums.tagged_stable.Goals as goal
 

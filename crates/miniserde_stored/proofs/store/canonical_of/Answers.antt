@@ -1,3 +1,4 @@
+-- The text of the value spells its tree, so `tells` of `canonical` compares that tree with any other one.
 use Rattle.std.proofs.Common.{sym, subst}
 use Rattle.miniserde_model.specs.Value.{IsJson}
 use Rattle.miniserde_stored.proofs.store.canonical_of.Goals as goal

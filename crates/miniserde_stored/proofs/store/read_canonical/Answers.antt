@@ -1,3 +1,5 @@
+-- The text has a tree that means the value. The canonical text spells its normal form, which means the value too,
+-- since the type is stable. A tree with that normal form means a value of the same content, or none.
 use Rattle.miniserde_model.specs.Normal.{norm}
 use Rattle.miniserde_stored.proofs.store.read_canonical.Goals as goal
 

@@ -1,3 +1,4 @@
+-- If the text is not empty, `all` of the bytes passes exactly if each byte is a letter.
 use Rattle.std.proofs.Common.{rules, tests, arith}
 use Rattle.std.specs.Char.{is_ascii_alphabetic}
 use Rattle.std.proofs.lemmas.Iterator.{YieldsList-from_slice}

@@ -1,3 +1,4 @@
+-- The part of the input that is appended is the run, so the text becomes the draft's bytes (`flushed`).
 use Rattle.std.proofs.Common.{refl}
 use Rattle.miniserde_canonical.proofs.Running.{flushed}
 use Rattle.miniserde_canonical.proofs.draft.Draft.flush.Goals as goal

@@ -1,3 +1,5 @@
+-- The member begins at the end of the text with its run (`run_length`). It is the last one of the state
+-- (`holding_begun`), and `spell` changes the text and the run alone (`keep_holding`).
 use Rattle.std.proofs.Common.{rules, ◌≡◌, ◌+◌, length, [], ◌∷◌, ◌++◌, refl, sym, ap, ◌∙◌}
 use Rattle.miniserde_model.specs.Compact.{string_text}
 use Rattle.miniserde_text.specs.Lexer.{text_of}

@@ -1,3 +1,4 @@
+-- The flush writes the run before the whitespace, and the next run begins after it (`rewound`).
 use Rattle.std.proofs.Common.{refl}
 use Rattle.miniserde_canonical.proofs.Running.{rewound}
 use Rattle.miniserde_canonical.proofs.draft.Draft.skip.Goals as goal

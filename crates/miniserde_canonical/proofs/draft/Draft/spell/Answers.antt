@@ -1,3 +1,5 @@
+-- The flush writes the run, the string and the colon are appended, and the next run begins after the name
+-- (`rewound`).
 use Rattle.std.proofs.Common.{[], ◌∷◌, ◌++◌, refl, ap, ◌∙◌, append_assoc}
 use Rattle.miniserde_model.specs.Compact.{string_text}
 use Rattle.miniserde_text.specs.Lexer.{text_of}

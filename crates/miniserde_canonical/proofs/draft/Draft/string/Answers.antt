@@ -1,3 +1,4 @@
+-- A decoded string is escaped anew behind the flushed run, and the next run begins after it (`rewound`).
 use Rattle.std.proofs.Common.{◌++◌, refl, sym, ap, ◌∙◌}
 use Rattle.miniserde_model.specs.Compact.{string_text}
 use Rattle.miniserde_text.specs.Lexer.{text_of}

@@ -1,3 +1,5 @@
+-- Two exits: `{` opens an object in the state (`holding_opened`), and any other first token of a value adds its text
+-- (`holding_added`).
 use Rattle.std.proofs.Common.{rules, ◌≡◌, ◌++◌, ◌∷◌, [], length, refl, subst}
 use Rattle.miniserde_text.specs.Lexer.{event_of_token}
 use Rattle.miniserde_canonical.specs.private.Moving.{first_token}

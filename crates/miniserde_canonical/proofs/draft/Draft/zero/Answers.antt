@@ -1,3 +1,4 @@
+-- `0` is appended behind the flushed run, and the next run begins after `-0` (`rewound`).
 use Rattle.std.proofs.Common.{[], ◌∷◌, ◌++◌, refl, ap, ◌∙◌}
 use Rattle.miniserde_canonical.proofs.Running.{rewound}
 use Rattle.miniserde_canonical.proofs.draft.Draft.zero.Goals as goal

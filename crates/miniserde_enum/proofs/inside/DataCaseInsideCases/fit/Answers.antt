@@ -1,3 +1,5 @@
+-- If no field has the name of the tag, internal tagging fits the first variant (`inside-fits`) and the later ones.
+-- The test of the tag is a conjunction, which `both` splits.
 use Rattle.miniserde_record.specs.Structs.{is_new}
 use Rattle.miniserde_enum.specs.laws.Cases.{both}
 use Rattle.miniserde_enum.proofs.Fits.{inside-fits}

@@ -1,3 +1,4 @@
+-- The normal form of a value means a value, whose tree is that normal form (`round_trips-value`).
 use Rattle.miniserde_laws.proofs.NormalDocuments.{round_trips-value}
 use Rattle.miniserde_laws.proofs.documents.ValueRoundTrip.round_trips.Goals as goal
 

@@ -1,3 +1,5 @@
+-- External tagging fits each chain of variants, and the names of the enum are distinct, so `lossless` of the chain
+-- applies.
 use Rattle.miniserde_laws.proofs.Fields.{distinct_names}
 use Rattle.miniserde_enum.specs.Tagging.{external}
 use Rattle.miniserde_laws.proofs.enums.lossless.enum_lossless.Goals as goal

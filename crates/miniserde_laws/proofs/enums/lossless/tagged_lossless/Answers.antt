@@ -1,3 +1,5 @@
+-- Internal tagging fits by the precondition, and the names of the enum are distinct, so `lossless` of the chain
+-- applies.
 use Rattle.miniserde_laws.proofs.Fields.{distinct_names}
 use Rattle.miniserde_enum.specs.Tagging.{internal}
 use Rattle.miniserde_laws.proofs.enums.lossless.tagged_lossless.Goals as goal

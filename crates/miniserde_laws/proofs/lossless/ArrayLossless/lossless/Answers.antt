@@ -1,3 +1,4 @@
+-- Arrays with one tree have items with the same trees, and so with the same contents (`one_list`).
 use Rattle.miniserde_laws.proofs.LosslessLists.{one_list}
 use Rattle.miniserde_laws.proofs.lossless.ArrayLossless.lossless.Goals as goal
 

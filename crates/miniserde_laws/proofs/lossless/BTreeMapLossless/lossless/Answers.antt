@@ -1,3 +1,5 @@
+-- Sorted maps with one tree have the same members, and so the same entry at each code (`one_sorted`). The code tells
+-- the content of a key, since the key is injective.
 use Rattle.std.proofs.Common.{sym, ◌∙◌}
 use Rattle.miniserde_laws.proofs.LosslessMaps.{one_sorted}
 use Rattle.miniserde_laws.proofs.lossless.BTreeMapLossless.lossless.Goals as goal

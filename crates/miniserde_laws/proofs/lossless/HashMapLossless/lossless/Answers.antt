@@ -1,3 +1,5 @@
+-- Hashed maps with one tree have the same members in the order of names, and so the same entry at each code
+-- (`one_hashed`). The code tells the content of a key, since the key is injective.
 use Rattle.miniserde_laws.proofs.LosslessMaps.{one_hashed}
 use Rattle.miniserde_laws.proofs.lossless.HashMapLossless.lossless.Goals as goal
 

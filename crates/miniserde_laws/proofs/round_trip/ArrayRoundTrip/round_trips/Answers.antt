@@ -1,3 +1,4 @@
+-- An array is read as N items, each by the round trip of its type (`round_trips-array`).
 use Rattle.miniserde_laws.proofs.RoundTrips.{round_trips-array}
 use Rattle.miniserde_laws.proofs.round_trip.ArrayRoundTrip.round_trips.Goals as goal
 

@@ -1,3 +1,4 @@
+-- A box is written as its value, so the round trip of the value gives that of the box (`round_trips-inner`).
 use Rattle.std.proofs.Common.{refl}
 use Rattle.std.specs.Box.{with_value}
 use Rattle.miniserde_laws.proofs.RoundTrips.{round_trips-inner}

@@ -1,3 +1,5 @@
+-- `None` is written as null, and `Some` as its value, which is read by the round trip of its type
+-- (`round_trips-option`).
 use Rattle.miniserde_laws.proofs.RoundTrips.{round_trips-option}
 use Rattle.miniserde_laws.proofs.round_trip.OptionRoundTrip.round_trips.Goals as goal
 

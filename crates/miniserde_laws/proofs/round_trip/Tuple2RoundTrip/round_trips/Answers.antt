@@ -1,3 +1,4 @@
+-- A pair is read as two parts, each by the round trip of its type (`round_trips-pair`).
 use Rattle.miniserde_laws.proofs.RoundTrips.{round_trips-pair}
 use Rattle.miniserde_laws.proofs.round_trip.Tuple2RoundTrip.round_trips.Goals as goal
 

@@ -1,3 +1,5 @@
+-- The items are read by the round trip of their type (`round_trips-list`). `deque_with_items` makes a queue of the
+-- items that were read, of which there are as many as before.
 use Rattle.std.proofs.Common.{◌≡◌, length, sym, ◌∙◌, arith}
 use Rattle.std.specs.VecDeque.{deque_with_items}
 use Rattle.std.proofs.lemmas.List.{take-append-le, take_all}

@@ -1,3 +1,5 @@
+-- The items are read by the round trip of their type (`round_trips-list`). `with_items` makes a `Vec` of the items
+-- that were read, of which there are as many as before.
 use Rattle.std.proofs.Common.{sym, ◌∙◌}
 use Rattle.std.specs.Vec.{with_items}
 use Rattle.std.proofs.lemmas.List.{with_items_is}

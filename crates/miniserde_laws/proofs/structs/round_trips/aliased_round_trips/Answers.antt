@@ -1,3 +1,5 @@
+-- None of the written names is an alias, so the written members keep their names (`written_counts`). They are read as
+-- without aliases (`record_round_trips`).
 use Rattle.std.proofs.Common.{sym, subst}
 use Rattle.miniserde_record.specs.Structs.{with_names}
 use Rattle.miniserde_laws.proofs.Aliases.{written_counts}

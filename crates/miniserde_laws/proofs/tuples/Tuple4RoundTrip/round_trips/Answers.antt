@@ -1,3 +1,4 @@
+-- A tuple reads as the tuple of what its four items read as, by the round trip of each.
 use Rattle.std.proofs.Common.{refl}
 use Rattle.miniserde_laws.proofs.tuples.Tuple4RoundTrip.round_trips.Goals as goal
 

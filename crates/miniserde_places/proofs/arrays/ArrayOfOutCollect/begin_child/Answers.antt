@@ -1,3 +1,4 @@
+-- Events that give a list no child give an array of N items none (`no_item`).
 use Rattle.std.proofs.Common.{map}
 use Rattle.miniserde_read.specs.Events.{event_of}
 use Rattle.miniserde_places.specs.laws.Arrays.{no_item}

@@ -1,3 +1,4 @@
+-- The entry that is put into the table is that of the child, under the key that was pending (`put-joined`).
 use Rattle.std.proofs.Common.{rules, ◌≡◌, [], Some}
 use Rattle.std.specs.Prelude.{option_and_then, option_map}
 use Rattle.std.proofs.lemmas.Result.{IfOk-weaker}

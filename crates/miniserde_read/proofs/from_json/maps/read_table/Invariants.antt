@@ -1,3 +1,4 @@
+-- The loop keeps that the entries so far are given by the members so far (`ObjectGoes`). Each turn shortens the text.
 use Rattle.std.proofs.Common.{◌≡◌, None, length}
 use Rattle.miniserde_read.specs.types.Maps.{map_content, no_entries, map_member}
 use Rattle.miniserde_read.proofs.Objects.{ObjectGoes}

@@ -1,3 +1,5 @@
+-- No items are left to read, so the list must end. A closing bracket means that no children remain, and an element
+-- that some do (`one_left`). If `after` returns `Invalid`, no list goes on here (`elements_follow`).
 use Rattle.std.proofs.Common.{subst, refl}
 use Rattle.std.proofs.lemmas.Result.{err_from_is_err_and}
 use Rattle.miniserde_model.specs.Tree.{no_trees}

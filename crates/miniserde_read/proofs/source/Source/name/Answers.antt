@@ -1,3 +1,4 @@
+-- The source has the rest and the error of its lexer, so `Invalid` of the lexer says the same of the source.
 use Rattle.std.proofs.Common.{sym, ap, subst, ◌∙◌}
 use Rattle.miniserde_model.specs.Lexing.{Names}
 use Rattle.miniserde_read.proofs.source.Source.name.Goals as goal

@@ -1,3 +1,5 @@
+-- The token that was taken has the event with which the value begins (`due_front`), and that event is in range
+-- (`start_event`).
 use Rattle.miniserde_text.specs.Lexer.{event_of_token}
 use Rattle.miniserde_read.proofs.Tokens.{start_event}
 use Rattle.miniserde_record.proofs.Due.{due_front}

@@ -1,3 +1,5 @@
+-- The loop keeps that the state of the fields is that after the members so far (`ObjectGoes`). Each turn shortens the
+-- text.
 use Rattle.std.proofs.Common.{◌≡◌, None, length}
 use Rattle.miniserde_read.proofs.Objects.{ObjectGoes}
 use Rattle.miniserde_record.proofs.record.slots.read_record.Given as goal

@@ -1,3 +1,4 @@
+-- The normal form of a list has the normal forms of its items, as many as before (`stable-array`).
 use Rattle.miniserde_stored.proofs.Types.{stable-array}
 use Rattle.miniserde_stored.proofs.stable.ArrayStable.stable.Goals as goal
 

@@ -1,3 +1,4 @@
+-- Each key has one name, so the last member of a key is the last one in normal form too (`stable-map`).
 use Rattle.miniserde_stored.proofs.Maps.{stable-map}
 use Rattle.miniserde_stored.proofs.stable.HashMapStable.stable.Goals as goal
 

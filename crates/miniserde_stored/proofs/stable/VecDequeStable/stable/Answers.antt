@@ -1,3 +1,4 @@
+-- The normal form of a list has the normal forms of its items, in their order (`stable-list`).
 use Rattle.miniserde_stored.proofs.Types.{stable-list}
 use Rattle.miniserde_stored.proofs.stable.VecDequeStable.stable.Goals as goal
 

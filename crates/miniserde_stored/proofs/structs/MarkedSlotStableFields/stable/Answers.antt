@@ -1,3 +1,4 @@
+-- The last member of the name is the last one in normal form too, and the later fields are stable (`stable-field`).
 use Rattle.miniserde_record.specs.Fields.{missing_content}
 use Rattle.miniserde_stored.proofs.Fields.{stable-field}
 use Rattle.miniserde_stored.proofs.structs.MarkedSlotStableFields.stable.Goals as goal

@@ -1,3 +1,4 @@
+-- A tuple is stable if each of its four items is: `stable-item` for each, and `stable-none` at the end.
 use Rattle.miniserde_stored.proofs.Types.{stable-none, stable-item, stable-tuple}
 use Rattle.miniserde_stored.proofs.tuples.Tuple4Stable.stable.Goals as goal
 

@@ -1,3 +1,5 @@
+-- The loop keeps the hole after all visits that are left, and that the names of the whole walk are in order if those
+-- of the visits left are. Each turn takes one visit.
 use Rattle.std.proofs.Common.{◌≡◌, length}
 use Rattle.miniserde_value.specs.Builders.{hole_in}
 use Rattle.miniserde_value.specs.Visits.{hole_after}

@@ -1,3 +1,5 @@
+-- The loop keeps that the dropped values and the sizes of `current` and `hand` add up to the size of the value, and
+-- that the looks done and left add up to the looks for it. Each turn leaves fewer looks.
 use Rattle.std.proofs.Common.{◌≡◌, ◌+◌, suc}
 use Rattle.miniserde_value.specs.Looks.{value_size}
 use Rattle.miniserde_value.proofs.Costs.{cost, looks_left}

@@ -1,3 +1,5 @@
+-- The loop keeps that the source has no error, and that the events so far build the hole (`Builds`). Each turn
+-- shortens the text.
 use Rattle.std.proofs.Common.{◌≡◌, None, is_some, length}
 use Rattle.miniserde_text.specs.Lexer.{event_of_token}
 use Rattle.miniserde_text.specs.private.Moving.{before_child, opened_kind}

@@ -1,3 +1,4 @@
+-- The contract promises nothing, so the loop keeps nothing. Each turn takes one visit.
 use Rattle.std.proofs.Common.{length}
 use Rattle.std.specs.Bool.{⊤}
 use Rattle.miniserde_value.specs.Walks.{left}

@@ -1,3 +1,5 @@
+-- The value retains a part of the tree, which has the tree's normal form (`norm_kept`) and the size of that form
+-- (`kept_size`).
 use Rattle.std.proofs.Common.{ap, ◌∙◌}
 use Rattle.miniserde_model.specs.Normal.{norm}
 use Rattle.miniserde_model.specs.Size.{size}

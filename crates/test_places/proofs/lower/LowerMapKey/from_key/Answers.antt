@@ -1,3 +1,4 @@
+-- Letters that were mapped to lower case are in lower case (`lowered`), so the key that is built is valid.
 use Rattle.std.proofs.Common.{sym, subst, rules}
 use Rattle.test_places.specs.Letters.{AreLower}
 use Rattle.test_places.specs.laws.Letters.{lowered}

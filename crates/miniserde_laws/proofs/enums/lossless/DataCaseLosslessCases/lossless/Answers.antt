@@ -1,3 +1,5 @@
+-- Values of variants with one tree have one content. `case-named` says that no value is written by a name that is not
+-- one of the variants', and `case-same` compares two values, by `data-same` for the data of the first variant.
 use Rattle.std.proofs.Common.{Some}
 use Rattle.miniserde_enum.specs.Tagging.{variant_of_tree}
 use Rattle.miniserde_enum.specs.Cases.{data_tree}

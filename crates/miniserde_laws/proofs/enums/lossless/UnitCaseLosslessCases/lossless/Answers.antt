@@ -1,3 +1,5 @@
+-- Values of variants with one tree have one content. `case-named` says that no value is written by a name that is not
+-- one of the variants', and `case-same` compares two values; two values of the first variant are both the unit.
 use Rattle.std.proofs.Common.{None, refl}
 use Rattle.std.specs.Prelude.{⊤}
 use Rattle.miniserde_enum.specs.Tagging.{variant_of_tree}

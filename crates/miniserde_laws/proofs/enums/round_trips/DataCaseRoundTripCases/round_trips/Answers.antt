@@ -1,3 +1,5 @@
+-- The tree of a variant is read as that variant (`case-round_trips`): the first one by the round trip of its data
+-- (`data-round_trips`), a later one by the law of the chain.
 use Rattle.miniserde_enum.specs.Cases.{data_content, DataReads, data_tree}
 use Rattle.miniserde_enum.specs.laws.Cases.{data-agrees}
 use Rattle.miniserde_laws.proofs.Cases.{data-round_trips, case-round_trips}

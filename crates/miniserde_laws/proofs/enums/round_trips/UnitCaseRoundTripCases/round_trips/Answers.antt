@@ -1,3 +1,5 @@
+-- The tree of a variant is read as that variant (`case-round_trips`): the first one has no data (`unit-round_trips`),
+-- and a later one goes by the law of the chain.
 use Rattle.miniserde_enum.specs.Cases.{unit_content, UnitReads, unit_tree}
 use Rattle.miniserde_enum.specs.laws.Cases.{unit-agrees}
 use Rattle.miniserde_laws.proofs.Cases.{unit-round_trips, case-round_trips}

@@ -1,3 +1,4 @@
+-- A slot adds one tree and one field, and the later fields have as many trees as fields.
 use Rattle.std.proofs.Common.{arith}
 use Rattle.miniserde_laws.proofs.structs.lossless.MarkedSlotLosslessFields.lossless.Goals as goal
 

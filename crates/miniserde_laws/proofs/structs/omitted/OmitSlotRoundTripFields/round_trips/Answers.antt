@@ -1,3 +1,4 @@
+-- An omitted `None` is read as a missing field, and a written value is never null (`round_trips-omitted`).
 use Rattle.miniserde_laws.proofs.Fields.{round_trips-omitted}
 use Rattle.miniserde_laws.proofs.structs.omitted.OmitSlotRoundTripFields.round_trips.Goals as goal
 

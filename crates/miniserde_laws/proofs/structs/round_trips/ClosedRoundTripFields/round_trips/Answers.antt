@@ -1,3 +1,4 @@
+-- No member is left behind the last field (`round_trips-closed`).
 use Rattle.miniserde_laws.proofs.Fields.{round_trips-closed}
 use Rattle.miniserde_laws.proofs.structs.round_trips.ClosedRoundTripFields.round_trips.Goals as goal
 

@@ -1,3 +1,4 @@
+-- A written field has one member, so neither `once` nor the value of a missing field is asked (`round_trips-field`).
 use Rattle.miniserde_record.specs.Fields.{MissingReads}
 use Rattle.miniserde_laws.proofs.Fields.{round_trips-field}
 use Rattle.miniserde_laws.proofs.structs.round_trips.MarkedSlotRoundTripFields.round_trips.Goals as goal

@@ -1,3 +1,6 @@
+-- The container's place advances by the event that begins a child, if the child's place is fresh
+-- (`PositionAdvances-begin`). If the collector rejects the child, no events from that one on give a value
+-- (`PositionRejects-begin`).
 use Rattle.std.proofs.Common.{rules}
 use Rattle.std.proofs.lemmas.Result.{err_from_is_err_and}
 use Rattle.miniserde_read.specs.Events.{event_of}

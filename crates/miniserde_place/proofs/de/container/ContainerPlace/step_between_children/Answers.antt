@@ -1,3 +1,5 @@
+-- If no child is open, the contract is that of `begin_child_or_end`. If a child is complete, its value joins the
+-- container first, and the place advances by both steps (`PositionAdvances-join`).
 use Rattle.std.proofs.Common.{false}
 use Rattle.std.proofs.lemmas.Result.{IfOk-weaker}
 use Rattle.miniserde_read.specs.Events.{event_of}

@@ -1,3 +1,5 @@
+-- The loop keeps that the items so far are given by the children so far (`ListGoes`), that there are at most N, and
+-- that these children are among the first N of the list (`AmongGoes`). Each turn shortens the text.
 use Rattle.std.proofs.Common.{◌≡◌, ◌≤◌, None, [], length, map}
 use Rattle.miniserde_read.specs.Children.{with_last}
 use Rattle.miniserde_read.proofs.Lists.{ListGoes}

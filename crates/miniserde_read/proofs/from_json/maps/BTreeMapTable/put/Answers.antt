@@ -1,3 +1,5 @@
+-- `insert` puts the entry at the code of its key (`map_content-inserted`): keys tie by `Ord` exactly if their codes
+-- are equal.
 use Rattle.std.proofs.Common.{sym, ◌∙◌}
 use Rattle.miniserde_read.proofs.Inserts.{map_content-inserted}
 use Rattle.miniserde_read.proofs.from_json.maps.BTreeMapTable.put.Goals as goal

@@ -1,3 +1,4 @@
+-- `insert` puts the entry at the code of its key (`map_content-put`): keys are equal exactly if their codes are.
 use Rattle.miniserde_read.proofs.Inserts.{map_content-put}
 use Rattle.miniserde_read.proofs.from_json.maps.HashMapTable.put.Goals as goal
 

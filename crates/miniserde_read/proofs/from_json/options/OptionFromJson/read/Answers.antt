@@ -1,3 +1,4 @@
+-- The token `null` begins the tree null, which gives `None`.
 use Rattle.std.proofs.Common.{refl, ap}
 use Rattle.miniserde_model.specs.Tree.{null}
 use Rattle.miniserde_text.specs.Lexer.{event_of_token}

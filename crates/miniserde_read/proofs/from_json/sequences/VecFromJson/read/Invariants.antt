@@ -1,3 +1,4 @@
+-- The loop keeps that the items so far are given by the children so far (`ListGoes`). Each turn shortens the text.
 use Rattle.std.proofs.Common.{◌≡◌, None, [], length, map}
 use Rattle.miniserde_read.specs.Children.{with_last}
 use Rattle.miniserde_read.proofs.Lists.{ListGoes}

@@ -1,3 +1,4 @@
+-- No trees make no members (`with_names_none`), and no members have no text (`no_text`).
 use Rattle.std.proofs.Common.{map, sym, append-nil}
 use Rattle.miniserde_record.proofs.Names.{with_names_none, no_text}
 use Rattle.miniserde_record.proofs.record.members.UnitMembers.write.Goals as goal

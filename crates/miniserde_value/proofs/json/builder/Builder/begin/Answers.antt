@@ -1,3 +1,5 @@
+-- The event is a leaf, and the tree of the value that `put` added is that leaf (`begun_by`), by the equation of the
+-- value in `ContentTrees.antt`.
 use Rattle.std.proofs.Common.{rules, ap, ◌∙◌}
 use Rattle.miniserde_model.specs.Tree.{neg}
 use Rattle.miniserde_read.specs.Events.{event_of}

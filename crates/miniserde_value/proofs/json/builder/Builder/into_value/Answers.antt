@@ -1,3 +1,4 @@
+-- If a container is open, no tree is complete (`whole_open`).
 use Rattle.std.proofs.Common.{arith}
 use Rattle.std.proofs.lemmas.Bool.Decides.{nat_tests}
 use Rattle.miniserde_value.proofs.Containers.{whole_open}

@@ -1,3 +1,5 @@
+-- Only the innermost object changes, by `with_name` (`object_changed`); the open containers still fit
+-- (`fits_changed`).
 use Rattle.std.proofs.Common.{Option, Some, List, ℕ, refl, ap, ap₂, ◌∙◌, arith}
 use Rattle.miniserde_model.specs.Tree.{Members}
 use Rattle.miniserde_value.specs.declared.json.builder.OpenContainer.TheVariants as container

@@ -1,3 +1,4 @@
+-- One more object is open, and one more mark if the second `push` succeeds. The containers still fit (`fits_opened`).
 use Rattle.miniserde_value.proofs.Containers.{fits_opened}
 use Rattle.miniserde_value.proofs.json.builder.Builder.open_object.Goals as goal
 

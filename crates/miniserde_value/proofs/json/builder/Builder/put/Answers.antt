@@ -1,3 +1,5 @@
+-- Only the innermost object changes, by the value that it takes (`object_changed`); the open containers still fit
+-- (`fits_changed`).
 use Rattle.std.proofs.Common.{refl, arith}
 use Rattle.std.proofs.lemmas.Result.{on_ok_weaker}
 use Rattle.miniserde_value.specs.declared.json.builder.OpenContainer.TheVariants as container

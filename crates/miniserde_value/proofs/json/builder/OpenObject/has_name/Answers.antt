@@ -1,3 +1,4 @@
+-- The map finds an entry of a name exactly if the members have a tree of it (`found_name`).
 use Rattle.std.proofs.Common.{◌∙◌}
 use Rattle.miniserde_value.specs.Values.{content_of}
 use Rattle.miniserde_value.proofs.Ordered.{found_name}

@@ -1,3 +1,4 @@
+-- The value is inserted under the name that was due, which puts it into the hole (`member_put`).
 use Rattle.std.proofs.Common.{sym, ◌∙◌}
 use Rattle.miniserde_value.proofs.Builders.{member_put}
 use Rattle.miniserde_value.proofs.json.builder.OpenObject.put.Goals as goal

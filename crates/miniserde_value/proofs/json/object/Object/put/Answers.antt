@@ -1,3 +1,4 @@
+-- The entry that is inserted is the member put under its name (`inserted`).
 use Rattle.std.proofs.Common.{List, ap, ◌∙◌}
 use Rattle.std.specs.Prelude.{ℕ, string_bytes}
 use Rattle.miniserde_model.specs.Normal.{put}

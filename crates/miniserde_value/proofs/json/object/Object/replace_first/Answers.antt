@@ -1,3 +1,4 @@
+-- `insert` at the first key replaces the first value and keeps the others (`replaced`).
 use Rattle.std.proofs.Common.{rules}
 use Rattle.std.specs.String.{string_cmp_total}
 use Rattle.miniserde_value.proofs.Replaced.{replaced}

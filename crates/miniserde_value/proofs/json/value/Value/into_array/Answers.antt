@@ -1,3 +1,4 @@
+-- The value is an array exactly if its tree is a list (`its_list`, `no_array`).
 use Rattle.miniserde_value.proofs.Variants.{no_array, its_list}
 use Rattle.miniserde_value.proofs.json.value.Value.into_array.Goals as goal
 

@@ -1,3 +1,4 @@
+-- The value is an object exactly if its tree has members (`its_members`, `no_object`).
 use Rattle.miniserde_value.proofs.Variants.{no_object, its_members}
 use Rattle.miniserde_value.proofs.json.value.Value.into_object.Goals as goal
 

@@ -1,3 +1,5 @@
+-- A copied string, array or object has the content of the original, by the equation of its variant in
+-- `ContentTrees.antt`.
 use Rattle.std.proofs.Common.{sym, ap, ◌∙◌}
 use Rattle.miniserde_model.specs.Tree.{str}
 use Rattle.miniserde_value.specs.Values.{content_of}

@@ -1,3 +1,4 @@
+-- The walk has the entries of the map, which are in the order of their names (`ordered_opened`).
 use Rattle.miniserde_value.proofs.Walks.{Opened, ordered_opened}
 use Rattle.miniserde_value.proofs.json.walk.Walk.object.Goals as goal
 

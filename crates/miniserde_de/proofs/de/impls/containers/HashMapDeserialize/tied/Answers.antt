@@ -1,3 +1,4 @@
+-- The place of a `HashMap` means what the type does, by `map_agree` from the law of the values.
 use Rattle.miniserde_places.specs.Tied.{type_meaning}
 use Rattle.miniserde_de.proofs.Agrees.{map_agree}
 use Rattle.miniserde_de.proofs.de.impls.containers.HashMapDeserialize.tied.Goals as goal

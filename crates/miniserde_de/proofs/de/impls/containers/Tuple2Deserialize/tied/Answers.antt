@@ -1,3 +1,4 @@
+-- The place of a pair means what the type does, by `pair_agree` from the laws of both parts.
 use Rattle.miniserde_places.specs.Tied.{type_meaning}
 use Rattle.miniserde_de.proofs.Agrees.{pair_agree}
 use Rattle.miniserde_de.proofs.de.impls.containers.Tuple2Deserialize.tied.Goals as goal

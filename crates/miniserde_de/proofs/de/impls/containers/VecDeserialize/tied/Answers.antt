@@ -1,3 +1,4 @@
+-- The place of a `Vec` means what the type does, by `list_agree` from the law of the items.
 use Rattle.miniserde_places.specs.Tied.{type_meaning}
 use Rattle.miniserde_de.proofs.Agrees.{list_agree}
 use Rattle.miniserde_de.proofs.de.impls.containers.VecDeserialize.tied.Goals as goal

@@ -49,6 +49,7 @@ visit_of {𝓤 = 𝓤} 𝓛 at_mem run 𝓣 =
     suffices ! _ (ends_at 𝓛 it.ended tt (it.clauses 𝓛 at_mem run) ((κs, qs, bounds, a, tt), g) v r tt tt) $ says ! (refl, refl) $
     nothing ! $ join ! $ nothing ! $ done !)))
 
+-- `new` fulfils its contract
 pub new_spec : {M : Type 1} → stated.statement M
 unfolding tables_of
 new_spec 𝓤 𝓛 𝓜 𝓡 wired =
