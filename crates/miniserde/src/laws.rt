@@ -13,9 +13,9 @@ pub use miniserde_model::{
 };
 use miniserde_stored::{Stable, means_in_normal_form};
 
-/// Does nothing. It promises that a text whose canonical text is that of a valid value is read as a
-/// value of the same content, if it is read at all, and that two valid values with one canonical
-/// text have the same content.
+/// Does nothing. It promises that each value that is meant by a tree with the normal form of a valid value's tree has
+/// the content of that value, and that two valid values whose trees have one normal form have the same content. Of
+/// trees in range, equal canonical texts have equal normal forms (`canonical_texts_equal`).
 pub fn canonical_text_determines_content<T: Stable + Lossless>()
     ensures itself { (v w : T) (u : Tree) → T.real v → norm u ≡ norm (T.tree v) → T.means.reads u w
         → T.means.content w ≡ T.means.content v }

@@ -14,9 +14,9 @@ use miniserde_model::error::{Error, Result};
 use std::alloc::Global;
 
 /// Returns the canonical text of a JSON text. It does not depend on whitespace, on how strings are escaped, or on the
-/// order of members with different names; of members with the same name the last stays. A number that no integer type
-/// holds keeps its text, and `-0` becomes `0`. Returns `Invalid` if the text is not JSON (RFC 8259), and `Memory` if an
-/// allocation fails.
+/// order of members with different names; of members with the same name the last stays. A number with a fraction or an
+/// exponent, or beyond -2^63 to 2^64-1, keeps its text, and `-0` becomes `0`. Returns `Invalid` if the text is not JSON
+/// (RFC 8259), and `Memory` if an allocation fails.
 pub fn canonical(alloc: Global, j: &str) -> Result<String>
     // It is the compact text of the normal form of the text's tree.
     ensures ok { IfOk result (λ c. (t : Tree) × IsJson j.now t × (string_bytes c ≡ compact (norm t))) }

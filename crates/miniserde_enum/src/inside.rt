@@ -74,8 +74,8 @@ pub trait InsideCases {
     // Which trees mean which values of the variants.
     ghost meaning: { CasesMeaning Self.Values };
 
-    // Which taggings fit: by them, the tree that is written for a variant with its data is read as
-    // that variant with that data.
+    // Which taggings fit: by them, the tree that is written for a variant with its data gives back
+    // the variant's name and the tree of its data.
     ghost fits: { Tagging → Type 0 };
 
     // Whether no field of any of the variants has the name.

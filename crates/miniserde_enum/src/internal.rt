@@ -83,7 +83,8 @@ pub fn read_tagged<'a, E: DataEnum + HasTag, C: InsideCases<Values = E::Values>>
 }
 
 /// Does nothing. It promises that internal tagging by the tag of `E` fits the variants `C`, if no
-/// field has the name of the tag: a variant with its data is read as it was written.
+/// field has the name of the tag: the tree that is written for a variant with valid data gives back
+/// its name and the tree of its data. `tagged_round_trips` and `tagged_lossless` ask for this.
 pub fn tag_fits<E: HasTag, C: InsideCases>()
     requires { C.apart E.tag ≡ true }
     ensures { C.fits (internal E.tag) }

@@ -13,8 +13,9 @@ mod tuples;
 use std::collections::{BTreeMap, HashMap, VecDeque};
 use std::hash::{BuildHasher, Hash};
 
-/// A type with valid values: those that Rust has. In a contract a `u8` may be any number, and the keys of a
-/// `BTreeMap` may be out of order; a call of `ranged` promises that a value of the program is valid.
+/// A type with valid values. In a contract a `u8` may be any number, and the keys of a `BTreeMap` may be out of order;
+/// a call of `ranged` promises that the integers, characters, lengths and keys of a value of the program are those
+/// that Rust has. Each `String` and each document counts as valid.
 pub trait Ranged {
     // Which values are valid.
     ghost real: { Self → Type 0 };

@@ -1,4 +1,4 @@
-//! The error type of all calls that may fail, `Error`, and their result type.
+//! The error type of the calls that read and write, `Error`, and their result type.
 ghost use Rattle.std.specs.Prelude.{◌≡◌, Some};
 ghost use Rattle.miniserde_model.specs.Error.{message};
 ghost use Rattle.miniserde_model.specs.declared.error.Error.TheVariants.{Memory};

@@ -1,5 +1,5 @@
 //! The promise of `Stable` for documents that count as the trees that they are written as, and that it does not hold of
-//! others.
+//! `Number` and `Value`.
 ghost use Rattle.miniserde_stored.specs.Stable.{IsStable};
 
 use crate::stable::Stable;

@@ -79,7 +79,7 @@ impl OpenObject {
 }
 
 /// A document that is being built. A contract sees it as its hole: the open containers, with what each has so far.
-/// After a call that fails to allocate, nothing is promised of the hole.
+/// After a call that fails, nothing is promised of the hole.
 #[derive(Drop)]
 pub struct Builder {
     alloc: Global,

@@ -36,8 +36,8 @@ pub trait Collect: Drop {
         ensures { IsTrue result ↔ (event_of event.now ≡ opening_event collector_meaning.is_object) };
 
     /// Begins a fresh place for the child that the event begins. It replaces the place of the current
-    /// child, if there is one. Returns `Invalid` if the container can have no such child here, and
-    /// `Memory` if an allocation fails.
+    /// child, if there is one. Returns `Invalid` only if the container can have no such child here, and
+    /// always if `refuses` of `collector_meaning` says so; `Memory` if an allocation fails.
     fn begin_child(&mut self, alloc: Global, event: Step<'_>) -> Result<()>
         requires { BeginsChild (event_of event) }
         ensures fresh { IfOk result (λ _. IsFresh

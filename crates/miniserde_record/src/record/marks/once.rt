@@ -8,8 +8,8 @@ use std::alloc::Global;
 use std::marker::PhantomData;
 
 /// The mark of a field for which a duplicate of its name is an error, and that has the mark `M`
-/// too. The duplicate fails with `Invalid` before its value is read. Of duplicates of other names, and
-/// inside of values, it says nothing.
+/// too. Read from a text, the duplicate fails with `Invalid` before its value is read. Of duplicates of other
+/// names, and inside of values, it says nothing.
 pub struct Once<M> {
     mark: PhantomData<M>,
 }
