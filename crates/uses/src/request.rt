@@ -82,7 +82,7 @@ impl RoundTrip for Item {
     }
 }
 
-/// What a client asks for. What it says besides is kept as it is.
+/// What a client asks for. What it says besides is kept as a `Value`.
 #[derive(Drop)]
 pub struct Request {
     pub client: String,

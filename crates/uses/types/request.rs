@@ -6,7 +6,7 @@ pub struct Item {
     pub count: u32,
 }
 
-/// What a client asks for. What it says besides is kept as it is.
+/// What a client asks for. What it says besides is kept as a `Value`.
 pub struct Request {
     pub client: String,
     pub note: Option<String>,
