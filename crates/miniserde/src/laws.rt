@@ -14,8 +14,8 @@ pub use miniserde_model::{
 use miniserde_stored::{Stable, means_in_normal_form};
 
 /// Does nothing. It promises that each value that is meant by a tree with the normal form of a valid value's tree has
-/// the content of that value, and that two valid values whose trees have one normal form have the same content. Of
-/// trees in range, equal canonical texts have equal normal forms (`canonical_texts_equal`).
+/// the content of that value, and that two valid values whose trees have one normal form have the same content. Trees
+/// in range whose canonical texts are equal have one normal form (`compact_spells`, `canonical_texts_equal`).
 pub fn canonical_text_determines_content<T: Stable + Lossless>()
     ensures itself { (v w : T) (u : Tree) → T.real v → norm u ≡ norm (T.tree v) → T.means.reads u w
         → T.means.content w ≡ T.means.content v }

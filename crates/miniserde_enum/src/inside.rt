@@ -74,7 +74,7 @@ pub trait InsideCases {
     // Which trees mean which values of the variants.
     ghost meaning: { CasesMeaning Self.Values };
 
-    // Which taggings fit: by them, the tree that is written for a variant with its data gives back
+    // Which taggings fit: by them, the tree that is written for a variant with valid data gives back
     // the variant's name and the tree of its data.
     ghost fits: { Tagging → Type 0 };
 

@@ -13,9 +13,10 @@ mod tuples;
 use std::collections::{BTreeMap, HashMap, VecDeque};
 use std::hash::{BuildHasher, Hash};
 
-/// A type with valid values. In a contract a `u8` may be any number, and the keys of a `BTreeMap` may be out of order;
-/// a call of `ranged` promises that the integers, characters, lengths and keys of a value of the program are those
-/// that Rust has. Each `String` and each document counts as valid.
+/// A type that says which of its values are valid. In a contract a `u8` may be any number, and the keys of a
+/// `BTreeMap` may be out of order; a call of `ranged` promises of a value of the program that its integers and
+/// characters are in range, that an array has its length, and that the keys of a map are in order or distinct. Each
+/// `String` and each document counts as valid.
 pub trait Ranged {
     // Which values are valid.
     ghost real: { Self → Type 0 };

@@ -1,5 +1,4 @@
-//! The promise of `Stable` for documents that count as the trees that they are written as, and that it does not hold of
-//! `Number` and `Value`.
+//! `Stable` for `Document`, and the promise that `Number` and `Value` are not stable.
 ghost use Rattle.miniserde_stored.specs.Stable.{IsStable};
 
 use crate::stable::Stable;

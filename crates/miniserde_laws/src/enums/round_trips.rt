@@ -25,8 +25,8 @@ pub trait RoundTripCases {
     // The tree of a value, by the tagging and the names of the variants.
     ghost tree: { Tagging → List Name → Self.Values → Tree };
 
-    // Which taggings fit: by them, the tree that is written for a variant, with data or without,
-    // gives back the variant's name, and the tree of its data if it has any.
+    // Which taggings fit: by them, the tree that is written for a variant, with valid data or
+    // without, gives back the variant's name, and the tree of its data if it has any.
     ghost fits: { Tagging → Type 0 };
 
     /// Does nothing. It promises that external tagging fits. For each tagging that fits, it promises that the tree of

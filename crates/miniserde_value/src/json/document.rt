@@ -11,7 +11,7 @@ use miniserde_text::json::lex::Event;
 /// A JSON value whose content is the tree that it is written as: `-0` counts as 0, and the order of
 /// names does not count. So it is stable and lossless by definition; a `Value` is not stable, and
 /// `I64(5)` and `U64(5)` in it are written alike. A `Document` of `I64(5)` has the content of one of
-/// `U64(5)`, and is read back as that.
+/// `U64(5)`, and no clause says which of the two is read back.
 #[derive(Debug, Drop)]
 pub struct Document {
     pub value: Value,

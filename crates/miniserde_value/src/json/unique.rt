@@ -13,7 +13,7 @@ pub struct Unique {
 }
 
 impl Unique {
-    /// Returns the value as a `Unique`. No check is needed, since a `Value` has no duplicate name.
+    /// Returns the value as a `Unique`. It makes no check: the map of an object has each name once, by its type.
     pub fn new(value: Value) -> Unique
         ensures { result.value ≡ value }
     {

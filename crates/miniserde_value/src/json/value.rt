@@ -75,7 +75,8 @@ pub fn read_is_normal()
 {}
 
 /// Does nothing. It promises that a `Value` contains as many values as the tree that it is written as, if no object in
-/// it has a duplicate name. (No `BTreeMap` has a duplicate key, but no clause says so of the maps inside of a `Value`.)
+/// it has a duplicate name. (The iterators of `Object` say of its own names that they are distinct; no clause says it of
+/// a whole `Value`.)
 pub fn size_is_tree_size()
     ensures { (v : V) → names_distinct (content_of v) ≡ true → size (tree_of v) ≡ value_size v }
 {}

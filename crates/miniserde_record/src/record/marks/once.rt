@@ -8,7 +8,7 @@ use std::alloc::Global;
 use std::marker::PhantomData;
 
 /// The mark of a field for which a duplicate of its name is an error, and that has the mark `M`
-/// too. Read from a text, the duplicate fails with `Invalid` before its value is read. Of duplicates of other
+/// too. In a text the duplicate fails with `Invalid` before its value is read. Of duplicates of other
 /// names, and inside of values, it says nothing.
 pub struct Once<M> {
     mark: PhantomData<M>,
