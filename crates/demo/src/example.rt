@@ -1,4 +1,4 @@
-//! Nested structs with optional, boxed and renamed fields.
+//! Nested structs with optional, boxed and renamed fields: what `./derive` writes of `example.rs`.
 ghost use Rattle.miniserde.specs.FieldsMeaning.{struct_meaning};
 ghost use Rattle.miniserde.specs.Place.{wrapper_meaning};
 ghost use Rattle.miniserde.specs.Structs.{names_of, record_tree};

@@ -1,4 +1,4 @@
-//! A struct that refuses a repeat of its own names.
+//! A struct that refuses a repeat of its own names: what `./derive` writes of `strict.rs`.
 ghost use Rattle.miniserde.specs.FieldsMeaning.{struct_meaning};
 ghost use Rattle.miniserde.specs.Place.{wrapper_meaning};
 ghost use Rattle.miniserde.specs.Structs.{names_of, record_tree};

@@ -1,4 +1,4 @@
-//! Structs with integer and string fields.
+//! Structs with integer and string fields: what `./derive` writes of `structs.rs`.
 ghost use Rattle.miniserde.specs.FieldsMeaning.{struct_meaning};
 ghost use Rattle.miniserde.specs.Place.{wrapper_meaning};
 ghost use Rattle.miniserde.specs.Structs.{names_of, record_tree};

@@ -1,4 +1,4 @@
-//! A unit enum with renamed variants.
+//! A unit enum with renamed variants: what `./derive` writes of `tag.rs`.
 ghost use Rattle.miniserde.specs.Tree.{str};
 ghost use Rattle.std.specs.Prelude.{true, List, codes, [], ◌∷◌, ⊤, refl};
 

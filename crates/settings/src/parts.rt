@@ -1,4 +1,4 @@
-//! The parts of settings, with the impls that `./derive` writes.
+//! The parts of settings: what `./derive` writes of `parts.rs`.
 ghost use Rattle.miniserde.specs.FieldsMeaning.{struct_meaning};
 ghost use Rattle.miniserde.specs.Place.{wrapper_meaning};
 ghost use Rattle.miniserde.specs.Structs.{names_of, record_tree};

@@ -1,4 +1,4 @@
-//! A change and what it has, internally tagged, with the impls that `./derive` writes.
+//! A change and what it has, internally tagged: what `./derive` writes of `changes.rs`.
 ghost use Rattle.miniserde.specs.Cases.{each_case, first_case, later_case, any_of_never, tagged_tree};
 ghost use Rattle.miniserde.specs.CasesMeaning.{tagged_meaning};
 ghost use Rattle.miniserde.specs.FieldsMeaning.{struct_meaning};

@@ -1,4 +1,4 @@
-//! Structs in lists in structs.
+//! Structs in lists in structs: what `./derive` writes of `hosts.rs`.
 ghost use Rattle.miniserde.specs.FieldsMeaning.{struct_meaning};
 ghost use Rattle.miniserde.specs.Structs.{names_of, record_tree};
 ghost use Rattle.std.specs.Prelude.{refl};

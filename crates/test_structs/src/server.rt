@@ -1,4 +1,4 @@
-//! Thirty fields of many types, with marks.
+//! Thirty fields of many types, with marks: what `./derive` writes of `server.rs`.
 ghost use Rattle.miniserde.specs.FieldsMeaning.{struct_meaning};
 ghost use Rattle.miniserde.specs.Structs.{names_of, record_tree};
 ghost use Rattle.miniserde.specs.Tree.{nonneg};

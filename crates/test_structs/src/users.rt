@@ -1,4 +1,4 @@
-//! A struct of twelve fields.
+//! A struct of twelve fields: what `./derive` writes of `users.rs`.
 ghost use Rattle.miniserde.specs.FieldsMeaning.{struct_meaning};
 ghost use Rattle.miniserde.specs.Structs.{names_of, record_tree};
 ghost use Rattle.std.specs.Prelude.{refl};
