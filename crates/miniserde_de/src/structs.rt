@@ -9,7 +9,7 @@ use miniserde_record::record::{Once, Plain};
 pub type Field<T, R> = FieldOf<<T as Deserialize>::Place, T, Plain, R>;
 
 /// A field of the type `T` that takes one member alone, and the fields after it. If its name is a duplicate, the second
-/// `key` event with that name fails: with `Invalid` if no field's place allocates when it is taken (`take_infallible`)
+/// `key` event with that name fails: with `Invalid` if `take` of no field's place fails for memory (`take_infallible`)
 /// and the place keeps no error yet. Of duplicates of other names, and inside of values, it says nothing.
 pub type OnceField<T, R> = FieldOf<<T as Deserialize>::Place, T, Once<Plain>, R>;
 

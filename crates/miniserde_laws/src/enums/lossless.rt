@@ -31,7 +31,7 @@ pub trait LosslessCases {
     ghost fits: { Tagging → Type 0 };
 
     /// Does nothing. It promises that external tagging fits. For each tagging that fits, it promises that the tree of
-    /// a valid value names one of these variants, and that valid values with the same tree have the same content.
+    /// a valid value names no variant but one of these, and that valid values with the same tree have the same content.
     fn lossless()
         ensures external { fits external }
         ensures named { (tagging : Tagging) (names : List Name) (v : Self.Values) (n : Name) (o : Option Tree) → fits tagging
