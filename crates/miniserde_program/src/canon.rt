@@ -26,7 +26,7 @@ use std::io::{Read, Write};
 pub enum Fault {
     /// The input is not JSON in UTF-8, or, for `run_unique`, an object in it has a duplicate name.
     Invalid,
-    /// An allocation failed.
+    /// An allocation failed, or a length overflowed.
     Memory,
     /// A read failed.
     Read,
