@@ -179,8 +179,8 @@ impl<'a> Source<'a> {
         }
     }
 
-    /// Moves the scratch text out of the source. It is the text of the name or string that was taken last, if that is
-    /// `Text::Scratch` and was not moved out before.
+    /// Moves the scratch text out of the source. It is the text of the name or string that the last call took, if that
+    /// is `Text::Scratch` and was not moved out before; only `after` and `end` may come between.
     #[inline(always)]
     pub fn take_scratch(&mut self) -> String
         ensures text { string_bytes result ≡ self.old.scratch }
