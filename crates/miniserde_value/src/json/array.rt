@@ -71,7 +71,7 @@ impl Array {
         &mut self.items
     }
 
-    /// Appends an item. If the array cannot grow, drops the item, returns `Memory` and leaves the array unchanged.
+    /// Appends an item. If the array cannot grow, drops the item, returns `Memory` and leaves the items unchanged.
     pub fn push(&mut self, item: Value) -> Result<()>
         ensures ok { OnOk result (array_items self.new ≡ array_items self.old ++ item ∷ []) }
         ensures memory { OnErr result (IsErrOf result Memory) }
