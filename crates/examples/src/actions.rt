@@ -29,7 +29,7 @@ pub fn said(alloc: Global, text: &str) -> Result<Option<String>>
     }
 }
 
-/// Parses an action. If it returns true, the action is `Ping`.
+/// Parses an action. If it returns true, the last member `kind` of the text is `Ping`.
 pub fn is_ping(alloc: Global, text: &str) -> Result<bool>
     // If the answer is yes, each member `kind` of the text is a string, and the last one is `Ping`.
     ensures { IfOk result (λ yes. (t : Tree) × IsJson text.now t × (yes ≡ true

@@ -6,7 +6,7 @@ use miniserde::json::canonical;
 use miniserde::json::value::canonical_by_value;
 use std::alloc::Global;
 
-/// Returns the canonical text of a document by `canonical`, and by `canonical_by_value`. They are equal.
+/// Returns what `canonical` and `canonical_by_value` answer to a text. Both are equal.
 pub fn by_both_ways(alloc: Global, text: &str) -> Result<(String, String)>
     ensures { IfOk result (λ both. string_bytes both.0 ≡ string_bytes both.1) }
 {

@@ -4,11 +4,12 @@
 ghost use Rattle.std.specs.Prelude.{◌≡◌, IfOk, OnErr, IsErrOf, string_bytes};
 ghost use Rattle.miniserde_model.specs.Tree.{Tree, null, truth, nonneg, str};
 ghost use Rattle.miniserde_model.specs.declared.error.Error.TheVariants.{Memory};
-ghost use Rattle.miniserde_ser.specs.Fragment.{integer};
+ghost use Rattle.miniserde_keys.specs.Integers.{integer};
 ghost use Rattle.miniserde_ser.specs.Trees.{option_tree};
 ghost use Rattle.miniserde_value.specs.Numbers.{number_leaf};
 ghost use Rattle.miniserde_value.specs.Values.{content_of, array_content, object_content};
 
+use miniserde_keys::{StdInteger, WideInteger};
 use miniserde_model::error::Result;
 use miniserde_value::json::array::Array;
 use miniserde_value::json::number::Number;
@@ -76,85 +77,39 @@ impl IntoValue for bool {
     }
 }
 
-impl IntoValue for u8 {
-    ghost value_tree = { nonneg };
+/// An integer type of std, which is converted as its number.
+pub trait IntegerValue: StdInteger {}
+
+impl<T: IntegerValue> IntoValue for T {
+    ghost value_tree = { λ v. integer (T.number v) };
 
     fn into_value(self, _alloc: Global) -> Result<Value> {
-        Ok(unsigned(self as u64))
+        match self.widen() {
+            WideInteger::Unsigned(n) => Ok(unsigned(n)),
+            WideInteger::Signed(n) => Ok(signed(n)),
+        }
     }
 }
 
-impl IntoValue for u16 {
-    ghost value_tree = { nonneg };
+impl IntegerValue for u8 {}
 
-    fn into_value(self, _alloc: Global) -> Result<Value> {
-        Ok(unsigned(self as u64))
-    }
-}
+impl IntegerValue for u16 {}
 
-impl IntoValue for u32 {
-    ghost value_tree = { nonneg };
+impl IntegerValue for u32 {}
 
-    fn into_value(self, _alloc: Global) -> Result<Value> {
-        Ok(unsigned(self as u64))
-    }
-}
+impl IntegerValue for u64 {}
 
-impl IntoValue for u64 {
-    ghost value_tree = { nonneg };
+impl IntegerValue for usize {}
 
-    fn into_value(self, _alloc: Global) -> Result<Value> {
-        Ok(unsigned(self))
-    }
-}
+impl IntegerValue for i8 {}
 
-impl IntoValue for usize {
-    ghost value_tree = { nonneg };
+impl IntegerValue for i16 {}
 
-    fn into_value(self, _alloc: Global) -> Result<Value> {
-        Ok(unsigned(self as u64))
-    }
-}
+impl IntegerValue for i32 {}
 
-impl IntoValue for i8 {
-    ghost value_tree = { integer };
+impl IntegerValue for i64 {}
 
-    fn into_value(self, _alloc: Global) -> Result<Value> {
-        Ok(signed(self as i64))
-    }
-}
-
-impl IntoValue for i16 {
-    ghost value_tree = { integer };
-
-    fn into_value(self, _alloc: Global) -> Result<Value> {
-        Ok(signed(self as i64))
-    }
-}
-
-impl IntoValue for i32 {
-    ghost value_tree = { integer };
-
-    fn into_value(self, _alloc: Global) -> Result<Value> {
-        Ok(signed(self as i64))
-    }
-}
-
-impl IntoValue for i64 {
-    ghost value_tree = { integer };
-
-    fn into_value(self, _alloc: Global) -> Result<Value> {
-        Ok(signed(self))
-    }
-}
-
-impl IntoValue for isize {
-    ghost value_tree = { integer };
-
-    fn into_value(self, _alloc: Global) -> Result<Value> {
-        Ok(signed(self as i64))
-    }
-}
+impl IntegerValue for isize {}
 
 impl IntoValue for &str {
     ghost value_tree = { λ s. str s.now };

@@ -2,8 +2,10 @@
 //! `miniserde_ser`.
 #![tactic(auto)]
 
+mod integers;
 mod keys;
 mod ranged;
 
+pub use integers::{StdInteger, WideInteger};
 pub use keys::{InjectiveKey, MapKey};
 pub use ranged::Ranged;

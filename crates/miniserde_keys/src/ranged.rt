@@ -1,7 +1,6 @@
 //! The trait `Ranged`, which says which values of a type are valid. For `char` and the integers,
 //! `ranged` reads the value, which tells the proof that it is in the range of its type.
-ghost use Rattle.std.specs.Prelude.{◌≡◌, ◌<◌, ◌^◌, FitsSigned, length, ⊤};
-ghost use Rattle.std.specs.Int.{w8, w16, w32, w64};
+ghost use Rattle.std.specs.Prelude.{◌≡◌, length, ⊤};
 ghost use Rattle.std.specs.List.{AllByRecursion};
 ghost use Rattle.std.specs.Char.{IsScalar};
 ghost use Rattle.std.specs.BTreeMap.{IsOrdered};
@@ -10,6 +9,7 @@ ghost use Rattle.miniserde_keys.specs.Ranged.{OptionReal};
 
 mod tuples;
 
+use crate::integers::StdInteger;
 use std::collections::{BTreeMap, HashMap, VecDeque};
 use std::hash::{BuildHasher, Hash};
 
@@ -52,83 +52,11 @@ impl Ranged for String {
     fn ranged(&self) {}
 }
 
-impl Ranged for u8 {
-    ghost real = { λ n. n < 2 ^ 8 };
+impl<T: StdInteger> Ranged for T {
+    ghost real = { T.in_range };
 
     fn ranged(&self) {
-        let _value = *self;
-    }
-}
-
-impl Ranged for u16 {
-    ghost real = { λ n. n < 2 ^ 16 };
-
-    fn ranged(&self) {
-        let _value = *self;
-    }
-}
-
-impl Ranged for u32 {
-    ghost real = { λ n. n < 2 ^ 32 };
-
-    fn ranged(&self) {
-        let _value = *self;
-    }
-}
-
-impl Ranged for u64 {
-    ghost real = { λ n. n < 2 ^ 64 };
-
-    fn ranged(&self) {
-        let _value = *self;
-    }
-}
-
-impl Ranged for usize {
-    ghost real = { λ n. n < 2 ^ 64 };
-
-    fn ranged(&self) {
-        let _value = *self;
-    }
-}
-
-impl Ranged for i8 {
-    ghost real = { FitsSigned w8 };
-
-    fn ranged(&self) {
-        let _value = *self;
-    }
-}
-
-impl Ranged for i16 {
-    ghost real = { FitsSigned w16 };
-
-    fn ranged(&self) {
-        let _value = *self;
-    }
-}
-
-impl Ranged for i32 {
-    ghost real = { FitsSigned w32 };
-
-    fn ranged(&self) {
-        let _value = *self;
-    }
-}
-
-impl Ranged for i64 {
-    ghost real = { FitsSigned w64 };
-
-    fn ranged(&self) {
-        let _value = *self;
-    }
-}
-
-impl Ranged for isize {
-    ghost real = { FitsSigned w64 };
-
-    fn ranged(&self) {
-        let _value = *self;
+        let _wide = self.widen();
     }
 }
 

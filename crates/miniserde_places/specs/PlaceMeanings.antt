@@ -121,11 +121,11 @@ option_view f view (Inner p) =
     record { at = (view p).at; outcome = λ es. option_map Some ((view p).outcome es); refused = (view p).refused }
 option_view f view (Refused r) = record { at = start; outcome = λ _. None; refused = Some r }
 
--- A call hands the event e to the place of an optional value. If the place inside has begun, f holds of the call; after
--- `null`, it fails with `Invalid`. Of a first event nothing is said.
+-- A call hands the event e to the place of an optional value. If the place inside has begun, the event goes to it, and f
+-- holds of that call; after `null`, the call fails with `Invalid`. Of a first event nothing is said.
 abbrev pub OptionTakes : {P : Type 0} → (P → Step → Result (Unit {0}) Error → P → Type 0)
     → OptionState P → Step → Result (Unit {0}) Error → OptionState P → Type 0
-OptionTakes f (Inner p) e answer (Inner q) = f p e answer q
+OptionTakes {P} f (Inner p) e answer s = (q : P) × (s ≡ Inner q) × f p e answer q
 OptionTakes f Null e answer s = answer ≡ Err Invalid
 OptionTakes f _ e answer s = ⊤
 

@@ -1,5 +1,5 @@
 -- The events for Rust's `Step`, and the leaf that an event is.
-use Rattle.std.specs.Prelude.{◌≡◌, Option, Some, None, option_and_then, ⊤, pos, ◌≤ℤ◌}
+use Rattle.std.specs.Prelude.{◌≡◌, ℕ, Bool, List, Option, Some, None, option_and_then, ⊤, pos, ◌≤ℤ◌}
 use Rattle.miniserde_model.specs.Tree.{Tree, null, truth, nonneg, neg, num, str, list, members, Trees, Members}
 use Rattle.miniserde_model.specs.Number.{IsNumber}
 use Rattle.miniserde_model.specs.Step.{boolean, string, negative, nonnegative, float, seq, element, map, key, finish}
@@ -46,3 +46,9 @@ on_leaf f e = option_and_then f (leaf_of e)
 -- f returns no content for any list and for any object
 abbrev pub OnlyLeaves : {C : Type 0} → (Tree → Option C) → Type 0
 OnlyLeaves f = ((ts : Trees) → f (list ts) ≡ None) × ((ms : Members) → f (members ms) ≡ None)
+
+-- f returns no content for any tree but an integer
+abbrev pub OnlyIntegers : {C : Type 0} → (Tree → Option C) → Type 0
+OnlyIntegers f =
+    (f null ≡ None) × ((b : Bool) → f (truth b) ≡ None) × ((x : List ℕ) → f (num x) ≡ None)
+    × ((s : List ℕ) → f (str s) ≡ None) × OnlyLeaves f

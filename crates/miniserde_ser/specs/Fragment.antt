@@ -1,13 +1,8 @@
 -- The trees of a writer's fragments, which are leaves.
-use Rattle.std.specs.Prelude.{ℤ, pos, negsuc}
-use Rattle.miniserde_model.specs.Tree.{Tree, null, truth, nonneg, neg, num, str}
+use Rattle.miniserde_model.specs.Tree.{Tree, null, truth, nonneg, num, str}
+use Rattle.miniserde_keys.specs.Integers.{integer}
 use Rattle.miniserde_ser.specs.declared.ser.Fragment.{Fragment}
 use Rattle.miniserde_ser.specs.declared.ser.Fragment.TheVariants.{Null, Bool, Str, U64, I64, Text}
-
--- the tree of an integer, which is written with a minus only if it is negative
-abbrev pub integer : ℤ → Tree
-integer (pos n) = nonneg n
-integer (negsuc n) = neg (negsuc n)
 
 -- the tree of a fragment
 abbrev pub fragment_tree : Fragment → Tree

@@ -11,7 +11,8 @@ use std::alloc::Global;
 
 /// The request of a body with a note, as text again.
 pub fn add_note(alloc: Global, body: &str, note: &str) -> Result<String>
-    // The body means a request, and the answer spells it with that note, and with all else as it was.
+    // The body means a request, and the answer spells it with that note and its other fields
+    // as they were. A member that is no field is not in the answer.
     ensures ok { IfOk result (λ j. (t : Tree) × (v : Request) × (n : String Global) × IsJson body.now t
         × ⟦<Request as FromJson>⟧.means.reads t v × (string_bytes n ≡ note.now)
         × IsJson (string_bytes j) (⟦<Request as Serialize>⟧.tree (with_note n v))) }

@@ -66,7 +66,7 @@ fn first_refused(alloc: Global, text: &str) -> Result<Part>
 }
 
 /// Returns a field that keeps a text from meaning settings, if there is one. If there are several, it may be any of
-/// them.
+/// them; of JSON that is no object, it may be any field.
 pub fn refused(alloc: Global, text: &str) -> Result<Option<Part>>
     // The text spells a tree that means no settings, and no struct of that field alone.
     ensures some { IfOk result (λ answer. IfSome answer (λ part. (t : Tree) × IsJson text.now t

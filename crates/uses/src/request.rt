@@ -82,7 +82,7 @@ impl RoundTrip for Item {
     }
 }
 
-/// What a client asks for. What it says besides is kept as a `Value`.
+/// What a client asks for. Its member `besides` may be any JSON; members of other names are skipped.
 #[derive(Drop)]
 pub struct Request {
     pub client: String,

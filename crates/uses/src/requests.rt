@@ -1,4 +1,4 @@
-//! A store of requests by number: each is a row of text, which reads as that request again.
+//! A store of requests by number: each is a row of text, which reads as a request with the same tree.
 ghost use Rattle.std.specs.Prelude.{◌≡◌, ℕ, IfOk, IfSome, OnOk, OnErr, IsErrOf, Ok, Err, Some, None, String, string_bytes};
 ghost use Rattle.std.specs.BTreeMap.{get, IsUnchanged};
 ghost use Rattle.std.specs.Ordering.{nat_cmp};

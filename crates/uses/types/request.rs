@@ -6,7 +6,7 @@ pub struct Item {
     pub count: u32,
 }
 
-/// What a client asks for. What it says besides is kept as a `Value`.
+/// What a client asks for. Its member `besides` may be any JSON; members of other names are skipped.
 pub struct Request {
     pub client: String,
     pub note: Option<String>,

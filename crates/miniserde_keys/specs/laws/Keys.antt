@@ -92,16 +92,17 @@ digits_decide limit ds =
     (Decides-and _ _ (Decides-ltb 0 (length ds))
     (Decides-and _ _ (λ e. e, λ e. e) (Decides-ltb (digits_value 10 ds) limit)))
 
--- k is the code if P holds, and nothing if P does not hold
-abbrev ReadsIf : Type 0 → Option (List ℕ) → List ℕ → Type 0
+-- k is the content if P holds, and nothing if P does not hold
+abbrev pub ReadsIf : {C : Type 0} → Type 0 → Option C → C → Type 0
 ReadsIf P k code = (P × (k ≡ Some code)) ⊎ (¬ P × (k ≡ None))
 
-reads_if : {P : Type 0} (b : Bool) (code : List ℕ) → Decides b P → ReadsIf P (cond b (Some code) None) code
+-- a test that decides P chooses between the content and nothing
+pub reads_if : {C P : Type 0} (b : Bool) (code : C) → Decides b P → ReadsIf P (cond b (Some code) None) code
 reads_if true code d = inl (d.0 refl, refl)
 reads_if false code d = inr (λ p. true≢false (sym (d.1 p)), refl)
 
 -- if r is v exactly if P holds, r is what is read
-as_read : {A E P : Type 0} (content : A → Key) (k : Option Key) (v : A) (r : Result A E) → ReadsIf P k (content v)
+pub as_read : {A C E P : Type 0} (content : A → C) (k : Option C) (v : A) (r : Result A E) → ReadsIf P k (content v)
     → OkIff r P v → MatchResult r (λ n. k ≡ Some (content n)) (λ _. k ≡ None)
 as_read content k v (Ok x) (inl d) gives = d.1 ∙ ap (λ n. Some (content n)) (sym gives.1)
 as_read content k v (Ok x) (inr d) gives = absurd (d.0 gives.0)

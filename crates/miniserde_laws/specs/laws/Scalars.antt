@@ -7,7 +7,7 @@ use mir.Syntax.{Width}
 use mir.Val.{hbits}
 use Rattle.miniserde_model.specs.Tree.{Tree, null, truth, nonneg, neg, str}
 use Rattle.miniserde_read.specs.types.Integers.{fits_signed, ReadsUnsigned, ReadsSigned}
-use Rattle.miniserde_ser.specs.Fragment.{integer}
+use Rattle.miniserde_keys.specs.Integers.{integer}
 use Rattle.miniserde_laws.specs.RoundTrip.{RoundTrips}
 
 -- ---- the tree of a value is read back

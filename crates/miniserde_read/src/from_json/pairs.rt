@@ -3,9 +3,10 @@ ghost use Rattle.miniserde_read.specs.Lacking.{PairLacks};
 ghost use Rattle.miniserde_read.specs.Meanings.{pair_meaning};
 
 use super::FromJson;
+use crate::items::{Item, NoItem, read_tuple};
 use crate::source::Source;
-use miniserde_model::error::{Error, Result};
-use miniserde_text::json::lex::{After, Event, Kind};
+use miniserde_model::error::Result;
+use miniserde_text::json::lex::Event;
 
 impl<A: FromJson, B: FromJson> FromJson for (A, B) {
     ghost means = { pair_meaning A.means B.means (λ v. v.0) (λ v. v.1) };
@@ -17,20 +18,7 @@ impl<A: FromJson, B: FromJson> FromJson for (A, B) {
     }
 
     fn read<'a>(token: Event<'a>, source: &mut Source<'a>) -> Result<(A, B)> {
-        let Event::SeqStart = token else {
-            return Err(Error::Invalid);
-        };
-        let Some(token) = source.element(true)? else {
-            return Err(Error::Invalid);
-        };
-        let first = A::read(token, source)?;
-        let Some(token) = source.element(false)? else {
-            return Err(Error::Invalid);
-        };
-        let second = B::read(token, source)?;
-        match source.after(Kind::Seq, false)? {
-            After::Close => Ok((first, second)),
-            After::Next => Err(Error::Invalid),
-        }
+        let (first, (second, ())) = read_tuple::<Item<A, Item<B, NoItem>>>(token, source)?;
+        Ok((first, second))
     }
 }

@@ -1,174 +1,189 @@
 //! Reads integers from single tokens. An unsigned type takes no number with a minus, not even `-0`.
 //! `usize` and `isize` have 64 bits.
-ghost use Rattle.std.specs.Prelude.{◌≡◌, true, refl};
+ghost use Rattle.std.specs.Prelude.{◌≡◌, ℕ, ℤ, true, false, Some, None, Result, MatchResult, IfOk, IfErr, refl};
+ghost use Rattle.std.specs.Int.{w8, w16, w32, w64};
+ghost use Rattle.miniserde_model.specs.Tree.{nonneg, neg};
+ghost use Rattle.miniserde_model.specs.declared.error.Error.{Error};
+ghost use Rattle.miniserde_read.specs.Meaning.{Meaning};
+ghost use Rattle.miniserde_read.specs.Events.{OnlyIntegers};
 ghost use Rattle.miniserde_read.specs.Meanings.{unsigned_meaning, signed_meaning};
+ghost use Rattle.miniserde_read.specs.laws.Integers.{unsigned-gives, signed-gives, signed-minus_gives};
 
 use super::Leaf;
 use crate::step::Step;
+use miniserde_keys::{StdInteger, WideInteger};
 use miniserde_model::error::{Error, Result};
 use std::alloc::Global;
 
-impl Leaf for u8 {
-    ghost means = { unsigned_meaning 8 };
+/// An integer type of std, which reads itself from one token.
+pub trait IntegerLeaf: StdInteger + TryFrom<u64, Error: Drop> + TryFrom<i64, Error: Drop> {
+    // Which trees mean which values.
+    ghost integer_meaning: { Meaning Self };
 
-    ghost only_leaves = { (λ ts. refl, λ ms. refl) };
+    // No other tree than an integer means a value.
+    ghost only_integers: { OnlyIntegers integer_meaning.from_tree };
+
+    // A number without a minus means what `try_from` returns for it.
+    ghost nonnegative: { (n : ℕ) (r : _)
+        → ⟦<Self as TryFrom<u64>>⟧.try_from_gives n r
+        → MatchResult r (λ v. integer_meaning.from_tree (nonneg n) ≡ Some (integer_meaning.content v))
+        (λ _. integer_meaning.from_tree (nonneg n) ≡ None) };
+
+    // A number with a minus means what `try_from` returns for it, if the type is signed.
+    ghost negative: { (z : ℤ) (r : _)
+        → ⟦<Self as TryFrom<i64>>⟧.try_from_gives z r → Self.is_signed ≡ true
+        → MatchResult r (λ v. integer_meaning.from_tree (neg z) ≡ Some (integer_meaning.content v))
+        (λ _. integer_meaning.from_tree (neg z) ≡ None) };
+
+    // No number with a minus means a value of an unsigned type.
+    ghost never_negative: { (z : ℤ) → Self.is_signed ≡ false → integer_meaning.from_tree (neg z) ≡ None };
+}
+
+impl<T: IntegerLeaf> Leaf for T {
+    ghost means = { T.integer_meaning };
+
+    ghost only_leaves = { T.only_integers.4 };
 
     ghost read_infallible = { true };
 
     #[inline(always)]
-    fn from_step(_alloc: Global, event: Step<'_>) -> Result<u8> {
+    fn from_step(_alloc: Global, event: Step<'_>) -> Result<T> {
         match event {
-            Step::Nonnegative(n) => u8::try_from(n).map_err(|_| Error::Invalid),
+            Step::Nonnegative(n) => T::try_from(n).map_err(|_| Error::Invalid),
+            Step::Negative(n) => signed_only(T::try_from(n).map_err(|_| Error::Invalid)?),
             _ => Err(Error::Invalid),
         }
     }
 }
 
-impl Leaf for u16 {
-    ghost means = { unsigned_meaning 16 };
-
-    ghost only_leaves = { (λ ts. refl, λ ms. refl) };
-
-    ghost read_infallible = { true };
-
-    #[inline(always)]
-    fn from_step(_alloc: Global, event: Step<'_>) -> Result<u16> {
-        match event {
-            Step::Nonnegative(n) => u16::try_from(n).map_err(|_| Error::Invalid),
-            _ => Err(Error::Invalid),
-        }
+// Returns the number if its type is signed, and else `Invalid`.
+#[inline(always)]
+fn signed_only<T: StdInteger>(n: T) -> Result<T>
+    ensures ok { IfOk result (λ v. (v ≡ n) × (T.is_signed ≡ true)) }
+    ensures err { IfErr result (λ e. (e ≡ Error.Invalid) × (T.is_signed ≡ false)) }
+{
+    match n.widen() {
+        WideInteger::Signed(_) => Ok(n),
+        WideInteger::Unsigned(_) => Err(Error::Invalid),
     }
 }
 
-impl Leaf for u32 {
-    ghost means = { unsigned_meaning 32 };
+impl IntegerLeaf for u8 {
+    ghost integer_meaning = { unsigned_meaning 8 };
 
-    ghost only_leaves = { (λ ts. refl, λ ms. refl) };
+    ghost only_integers = { (refl, λ b. refl, λ x. refl, λ s. refl, (λ ts. refl, λ ms. refl)) };
 
-    ghost read_infallible = { true };
+    ghost nonnegative = { unsigned-gives 8 };
 
-    #[inline(always)]
-    fn from_step(_alloc: Global, event: Step<'_>) -> Result<u32> {
-        match event {
-            Step::Nonnegative(n) => u32::try_from(n).map_err(|_| Error::Invalid),
-            _ => Err(Error::Invalid),
-        }
-    }
+    ghost negative = { λ z r gives signed. Prim.absurd (cc) };
+
+    ghost never_negative = { λ z unsigned. refl };
 }
 
-impl Leaf for u64 {
-    ghost means = { unsigned_meaning 64 };
+impl IntegerLeaf for u16 {
+    ghost integer_meaning = { unsigned_meaning 16 };
 
-    ghost only_leaves = { (λ ts. refl, λ ms. refl) };
+    ghost only_integers = { (refl, λ b. refl, λ x. refl, λ s. refl, (λ ts. refl, λ ms. refl)) };
 
-    ghost read_infallible = { true };
+    ghost nonnegative = { unsigned-gives 16 };
 
-    #[inline(always)]
-    fn from_step(_alloc: Global, event: Step<'_>) -> Result<u64> {
-        match event {
-            Step::Nonnegative(n) => Ok(n),
-            _ => Err(Error::Invalid),
-        }
-    }
+    ghost negative = { λ z r gives signed. Prim.absurd (cc) };
+
+    ghost never_negative = { λ z unsigned. refl };
 }
 
-impl Leaf for usize {
-    ghost means = { unsigned_meaning 64 };
+impl IntegerLeaf for u32 {
+    ghost integer_meaning = { unsigned_meaning 32 };
 
-    ghost only_leaves = { (λ ts. refl, λ ms. refl) };
+    ghost only_integers = { (refl, λ b. refl, λ x. refl, λ s. refl, (λ ts. refl, λ ms. refl)) };
 
-    ghost read_infallible = { true };
+    ghost nonnegative = { unsigned-gives 32 };
 
-    #[inline(always)]
-    fn from_step(_alloc: Global, event: Step<'_>) -> Result<usize> {
-        match event {
-            Step::Nonnegative(n) => usize::try_from(n).map_err(|_| Error::Invalid),
-            _ => Err(Error::Invalid),
-        }
-    }
+    ghost negative = { λ z r gives signed. Prim.absurd (cc) };
+
+    ghost never_negative = { λ z unsigned. refl };
 }
 
-impl Leaf for i8 {
-    ghost means = { signed_meaning 8 };
+impl IntegerLeaf for u64 {
+    ghost integer_meaning = { unsigned_meaning 64 };
 
-    ghost only_leaves = { (λ ts. refl, λ ms. refl) };
+    ghost only_integers = { (refl, λ b. refl, λ x. refl, λ s. refl, (λ ts. refl, λ ms. refl)) };
 
-    ghost read_infallible = { true };
+    ghost nonnegative = { unsigned-gives 64 };
 
-    #[inline(always)]
-    fn from_step(_alloc: Global, event: Step<'_>) -> Result<i8> {
-        match event {
-            Step::Negative(n) => i8::try_from(n).map_err(|_| Error::Invalid),
-            Step::Nonnegative(n) => i8::try_from(n).map_err(|_| Error::Invalid),
-            _ => Err(Error::Invalid),
-        }
-    }
+    ghost negative = { λ z r gives signed. Prim.absurd (cc) };
+
+    ghost never_negative = { λ z unsigned. refl };
 }
 
-impl Leaf for i16 {
-    ghost means = { signed_meaning 16 };
+impl IntegerLeaf for usize {
+    ghost integer_meaning = { unsigned_meaning 64 };
 
-    ghost only_leaves = { (λ ts. refl, λ ms. refl) };
+    ghost only_integers = { (refl, λ b. refl, λ x. refl, λ s. refl, (λ ts. refl, λ ms. refl)) };
 
-    ghost read_infallible = { true };
+    ghost nonnegative = { unsigned-gives 64 };
 
-    #[inline(always)]
-    fn from_step(_alloc: Global, event: Step<'_>) -> Result<i16> {
-        match event {
-            Step::Negative(n) => i16::try_from(n).map_err(|_| Error::Invalid),
-            Step::Nonnegative(n) => i16::try_from(n).map_err(|_| Error::Invalid),
-            _ => Err(Error::Invalid),
-        }
-    }
+    ghost negative = { λ z r gives signed. Prim.absurd (cc) };
+
+    ghost never_negative = { λ z unsigned. refl };
 }
 
-impl Leaf for i32 {
-    ghost means = { signed_meaning 32 };
+impl IntegerLeaf for i8 {
+    ghost integer_meaning = { signed_meaning 8 };
 
-    ghost only_leaves = { (λ ts. refl, λ ms. refl) };
+    ghost only_integers = { (refl, λ b. refl, λ x. refl, λ s. refl, (λ ts. refl, λ ms. refl)) };
 
-    ghost read_infallible = { true };
+    ghost nonnegative = { signed-gives 8 w8 refl };
 
-    #[inline(always)]
-    fn from_step(_alloc: Global, event: Step<'_>) -> Result<i32> {
-        match event {
-            Step::Negative(n) => i32::try_from(n).map_err(|_| Error::Invalid),
-            Step::Nonnegative(n) => i32::try_from(n).map_err(|_| Error::Invalid),
-            _ => Err(Error::Invalid),
-        }
-    }
+    ghost negative = { λ z r gives signed. signed-minus_gives 8 w8 refl z r gives };
+
+    ghost never_negative = { λ z unsigned. Prim.absurd (cc) };
 }
 
-impl Leaf for i64 {
-    ghost means = { signed_meaning 64 };
+impl IntegerLeaf for i16 {
+    ghost integer_meaning = { signed_meaning 16 };
 
-    ghost only_leaves = { (λ ts. refl, λ ms. refl) };
+    ghost only_integers = { (refl, λ b. refl, λ x. refl, λ s. refl, (λ ts. refl, λ ms. refl)) };
 
-    ghost read_infallible = { true };
+    ghost nonnegative = { signed-gives 16 w16 refl };
 
-    #[inline(always)]
-    fn from_step(_alloc: Global, event: Step<'_>) -> Result<i64> {
-        match event {
-            Step::Negative(n) => Ok(n),
-            Step::Nonnegative(n) => i64::try_from(n).map_err(|_| Error::Invalid),
-            _ => Err(Error::Invalid),
-        }
-    }
+    ghost negative = { λ z r gives signed. signed-minus_gives 16 w16 refl z r gives };
+
+    ghost never_negative = { λ z unsigned. Prim.absurd (cc) };
 }
 
-impl Leaf for isize {
-    ghost means = { signed_meaning 64 };
+impl IntegerLeaf for i32 {
+    ghost integer_meaning = { signed_meaning 32 };
 
-    ghost only_leaves = { (λ ts. refl, λ ms. refl) };
+    ghost only_integers = { (refl, λ b. refl, λ x. refl, λ s. refl, (λ ts. refl, λ ms. refl)) };
 
-    ghost read_infallible = { true };
+    ghost nonnegative = { signed-gives 32 w32 refl };
 
-    #[inline(always)]
-    fn from_step(_alloc: Global, event: Step<'_>) -> Result<isize> {
-        match event {
-            Step::Negative(n) => isize::try_from(n).map_err(|_| Error::Invalid),
-            Step::Nonnegative(n) => isize::try_from(n).map_err(|_| Error::Invalid),
-            _ => Err(Error::Invalid),
-        }
-    }
+    ghost negative = { λ z r gives signed. signed-minus_gives 32 w32 refl z r gives };
+
+    ghost never_negative = { λ z unsigned. Prim.absurd (cc) };
+}
+
+impl IntegerLeaf for i64 {
+    ghost integer_meaning = { signed_meaning 64 };
+
+    ghost only_integers = { (refl, λ b. refl, λ x. refl, λ s. refl, (λ ts. refl, λ ms. refl)) };
+
+    ghost nonnegative = { signed-gives 64 w64 refl };
+
+    ghost negative = { λ z r gives signed. signed-minus_gives 64 w64 refl z r gives };
+
+    ghost never_negative = { λ z unsigned. Prim.absurd (cc) };
+}
+
+impl IntegerLeaf for isize {
+    ghost integer_meaning = { signed_meaning 64 };
+
+    ghost only_integers = { (refl, λ b. refl, λ x. refl, λ s. refl, (λ ts. refl, λ ms. refl)) };
+
+    ghost nonnegative = { signed-gives 64 w64 refl };
+
+    ghost negative = { λ z r gives signed. signed-minus_gives 64 w64 refl z r gives };
+
+    ghost never_negative = { λ z unsigned. Prim.absurd (cc) };
 }

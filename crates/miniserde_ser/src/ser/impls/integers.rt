@@ -1,6 +1,6 @@
 //! Writes integers.
 ghost use Rattle.miniserde_model.specs.Tree.{nonneg};
-ghost use Rattle.miniserde_ser.specs.Fragment.{integer};
+ghost use Rattle.miniserde_keys.specs.Integers.{integer};
 
 use crate::ser::{Fragment, Serialize, Writer};
 use miniserde_model::error::Result;
