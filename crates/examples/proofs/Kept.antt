@@ -11,13 +11,13 @@ use Rattle.miniserde.specs.Fields.{AllNamed, LastMemberReads}
 -- a tree of a needed field means a second value exactly if that one has the first one's content
 pub same_field : {A C : Type 0} (R : Tree → A → Type 0) (of : Tree → Option C) (content : A → C)
     → ((t : Tree) (v : A) → R t v ↔ (of t ≡ Some (content v))) → (n : Name) (ms : Members) (v w : A)
-    → LastMemberReads (None ≡ Some (content v)) (λ t. R t v) of n ms
-    → LastMemberReads (None ≡ Some (content w)) (λ t. R t w) of n ms ↔ (content w ≡ content v)
+    → LastMemberReads ⊥ (λ t. R t v) of n ms
+    → LastMemberReads ⊥ (λ t. R t w) of n ms ↔ (content w ≡ content v)
 same_field {A} R of content agrees n ms v w r =
-    let means : A → Option Tree → Type 0 = λ v o. MatchOption o (None ≡ Some (content v)) (λ t. R t v) in
+    let means : A → Option Tree → Type 0 = λ v o. MatchOption o ⊥ (λ t. R t v) in
     let go : (o : Option Tree) → means v o → means w o ↔ (content w ≡ content v) =
     λ o. elim o as (λ o. means v o → means w o ↔ (content w ≡ content v)) [
-      | None ↦ λ h. absurd (cc)
+      | None ↦ λ h. absurd h
       | Some t ↦ λ h. let e = (agrees t v).0 h in (λ g. let f = (agrees t w).0 g in cc, λ q. (agrees t w).1 (e ∙ ap Some (sym q)))
     ] in
     let s = go (last_of n ms) r.1 in
@@ -56,17 +56,17 @@ pub other_field : {A B : Type 0} (R : Tree → A → Type 0) (of : Tree → Opti
     → ((t : Tree) (v : A) → R t v ↔ (of t ≡ Some v)) → (S : Tree → B → Type 0) (by : Tree → Option B)
     → ((t : Tree) (w : B) → S t w ↔ (by t ≡ Some w)) → (to : A → B)
     → ((t : Tree) (v : A) (w : B) → R t v → S t w ↔ (w ≡ to v))
-    → (n : Name) (ms : Members) (v : A) (w : B) → LastMemberReads (None ≡ Some v) (λ t. R t v) of n ms
-    → LastMemberReads (None ≡ Some w) (λ t. S t w) by n ms ↔ (w ≡ to v)
+    → (n : Name) (ms : Members) (v : A) (w : B) → LastMemberReads ⊥ (λ t. R t v) of n ms
+    → LastMemberReads ⊥ (λ t. S t w) by n ms ↔ (w ≡ to v)
 other_field {A} {B} R of agrees S by gives to law n ms v w r =
     let more : (t : Tree) → IsSome (of t) → IsSome (by t) = λ t. elim (of t) as (λ o. of t ≡ o → IsSome o → IsSome (by t)) [
       | None ↦ λ e h. absurd (cc)
       | Some x ↦ λ e h. subst IsSome (sym ((gives t (to x)).0 ((law t x (to x) ((agrees t x).1 e)).1 refl))) refl
     ] refl in
-    let was : Option Tree → Type 0 = λ o. MatchOption o (None ≡ Some v) (λ t. R t v) in
-    let is : Option Tree → Type 0 = λ o. MatchOption o (None ≡ Some w) (λ t. S t w) in
+    let was : Option Tree → Type 0 = λ o. MatchOption o ⊥ (λ t. R t v) in
+    let is : Option Tree → Type 0 = λ o. MatchOption o ⊥ (λ t. S t w) in
     let go : (o : Option Tree) → was o → is o ↔ (w ≡ to v) = λ o. elim o as (λ o. was o → is o ↔ (w ≡ to v)) [
-      | None ↦ λ h. absurd (cc)
+      | None ↦ λ h. absurd h
       | Some t ↦ λ h. law t v w h
     ] in
     let s = go (last_of n ms) r.1 in

@@ -32,3 +32,9 @@ IsService (members ms) s = (all_among names ms ≡ true)
     (list_of string_of) (codes "tags") ms
     × LastMemberReads (s.note ≡ None) (λ t. OptionReads (λ u x. u ≡ str (string_bytes x)) t s.note) (option_of string_of) (codes "note") ms
 IsService t s = ⊥
+
+-- One member at most is a `port`, and n is its number; if there is none, n is as if it were 8080.
+abbrev pub IsPort : Tree → ℕ → Type 0
+IsPort (members ms) n = (count_named (codes "port") ms ≤ 1)
+    × LastMemberReads (IsBelow 65536 (nonneg 8080) n) (λ t. IsBelow 65536 t n) (unsigned_of 16) (codes "port") ms
+IsPort t n = ⊥

@@ -1,6 +1,6 @@
 -- What is written of a struct beside a tag is read as the variant of the tag's name: by recursion over the members, no
 -- other member has the name of the tag.
-use Rattle.std.proofs.Common.{◌≡◌, ℕ, suc, Bool, true, false, cond, List, Option, Some, None, refl, sym, ap, ◌∙◌, arith}
+use Rattle.std.proofs.Common.{◌≡◌, ℕ, suc, Bool, true, false, cond, Option, Some, refl, sym, ap, ◌∙◌, arith}
 use Rattle.std.specs.Prelude.{bytes_eq}
 use Rattle.miniserde_model.specs.Tree.{Tree, str, members, Members, no_members, member}
 use Rattle.miniserde_read.specs.types.Objects.{Name}

@@ -1,11 +1,11 @@
 -- The data of an internally tagged enum: the members of its object that are not of the tag's name.
 use Rattle.std.proofs.Common.{◌∙◌}
-use Rattle.std.specs.Prelude.{false, cond, Option, Some, bytes_eq}
+use Rattle.std.specs.Prelude.{◌≡◌, false, cond, [], ◌∷◌, ◌++◌, Option, Some, bytes_eq}
 use Rattle.miniserde_model.specs.Tree.{Tree, members}
 use Rattle.miniserde_read.specs.types.Objects.{Name, object_of}
 use Rattle.miniserde_record.specs.Fields.{other_members}
 use Rattle.miniserde_record.specs.FieldsMeaning.{FieldsMeaning}
-use Rattle.miniserde_enum.specs.laws.Inside.{beside-refused, beside-apart}
+use Rattle.miniserde_enum.specs.laws.Inside.{beside-refused, beside-apart, beside-given}
 
 -- the content that `of` returns for an object without its members of the tag's name; any other tree gives nothing
 abbrev pub inside_of : {C : Type 0} → Name → (Tree → Option C) → Tree → Option C
@@ -27,6 +27,7 @@ beside_tag tag n = record {
   end = n.end;
   from_members = λ names s ms. n.from_members names s (other_members tag ms);
   members_agree = λ names s ms. beside-apart tag (n.next_state names) n.end s ms ∙ n.members_agree names s (other_members tag ms);
-  reads = λ names ms v. n.reads names (other_members tag ms) v;
-  reads_agrees = λ names ms v. n.reads_agrees names (other_members tag ms) v;
+  reads = λ before names ms v. n.reads (before ++ tag ∷ []) names ms v;
+  reads_agrees = λ before names ms v. beside-given tag before ms (λ z. n.from_members names n.empty z ≡ Some (n.content v))
+      (n.reads_agrees (before ++ tag ∷ []) names ms v);
 }

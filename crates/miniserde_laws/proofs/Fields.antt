@@ -1,11 +1,11 @@
 -- The fields of a struct with distinct names are read back from its written members. Field by field: the member in
 -- front is the only one of its name (`last_own`), the later ones are left for the later fields (`others_own`), and an
 -- omitted `None` is read as a missing field (`round_trips-omitted`).
-use Rattle.std.proofs.Common.{◌≡◌, ℕ, ◌+◌, ◌≤◌, Bool, true, false, not, ◌&&◌, nat_eq, List, [], ◌∷◌, length, Option}
+use Rattle.std.proofs.Common.{◌≡◌, ℕ, ◌+◌, ◌≤◌, Bool, true, false, ◌&&◌, nat_eq, List, [], ◌∷◌, length, Option}
 use Rattle.std.proofs.Common.{Some, None, refl, sym, ap, subst, ◌∙◌, true≢false, arith}
-use Rattle.std.specs.Prelude.{IsSome, MatchOption, option_map, bytes_eq, ⊤}
+use Rattle.std.specs.Prelude.{IsSome, MatchOption, option_map, ⊤}
 use Rattle.std.proofs.lemmas.Bool.Decides.{nat_tests}
-use Rattle.miniserde_model.specs.Tree.{Tree, null, Members, no_members, member}
+use Rattle.miniserde_model.specs.Tree.{Tree, null, Members, member}
 use Rattle.miniserde_model.specs.Normal.{last_of}
 use Rattle.miniserde_keys.specs.Ranged.{OptionReal}
 use Rattle.miniserde_ser.specs.Trees.{option_tree}
@@ -13,8 +13,11 @@ use Rattle.miniserde_read.specs.Meaning.{Meaning}
 use Rattle.miniserde_read.specs.Meanings.{option_meaning}
 use Rattle.miniserde_read.specs.types.Objects.{Name}
 use Rattle.miniserde_laws.specs.RoundTrip.{RoundTrips}
-use Rattle.miniserde_record.specs.Fields.{other_members, AllNamed, LastMemberReads, count_named, OnceAnd, MissingReads, FieldsRead}
-use Rattle.miniserde_record.specs.Marks.{has_no_members}
+use Rattle.miniserde_record.specs.Fields.{other_members, AllNamed, LastMemberReads, count_named, OnceAnd}
+use Rattle.miniserde_record.specs.Fields.{missing_content, MissingReads}
+use Rattle.miniserde_record.specs.FieldsMeaning.{FieldsMeaning, field_and}
+use Rattle.miniserde_record.specs.Marks.{all_among}
+use Rattle.miniserde_record.specs.laws.Meanings.{FieldsInTurn, field-in_turn, missing-agrees}
 use Rattle.miniserde_record.specs.Structs.{is_new, are_distinct, are_names}
 use Rattle.miniserde_record.specs.Structs.{with_names, FieldsRoundTrip}
 use Rattle.miniserde_record.proofs.Names.{same, both, apart, count_new, with_names_none}
@@ -90,7 +93,7 @@ module _ {A W : Type 0} (once : Bool) (m : Meaning A) (missing : A → Type 0) (
   -- a written field is there, so what a missing one has is not asked for
   pub round_trips-field : (names : List Name) (v : A × W) → are_names (count + 1) names ≡ true → real_a v.0 × real_r v.1
       → FieldsRoundTrip (λ (v : A × W). real_a v.0 × real_r v.1) (λ v. Some (tree v.0) ∷ trees v.1)
-      (FieldsRead once m.reads m.from_tree missing reads_r) names (Some (tree v.0) ∷ trees v.1)
+      (FieldsInTurn once m.reads m.from_tree missing reads_r) names (Some (tree v.0) ∷ trees v.1)
   round_trips-field [] v f r = absurd (no_names count f)
   round_trips-field (n ∷ ns) v f r =
       let f = more_names count n ns f in
@@ -132,7 +135,7 @@ module _ {A W : Type 0} (once : Bool) (m : Meaning A) (real_a : A → Type 0) (t
   missing v = MissingReads (option_meaning m) None (Some None) v
 
   abbrev reads : List Name → Members → Option A × W → Type 0
-  reads ns ms v = FieldsRead once (option_meaning m).reads (option_meaning m).from_tree missing reads_r ns ms v
+  reads ns ms v = FieldsInTurn once (option_meaning m).reads (option_meaning m).from_tree missing reads_r ns ms v
 
   pub round_trips-omitted : (names : List Name) (v : Option A × W) → are_names (count + 1) names ≡ true → OptionReal real_a v.0 × real_r v.1
       → FieldsRoundTrip (λ (v : Option A × W). OptionReal real_a v.0 × real_r v.1)
@@ -172,7 +175,26 @@ module _ {A W : Type 0} (once : Bool) (m : Meaning A) (real_a : A → Type 0) (t
       none None h = refl
       none (Some y) h = absurd (cc)
 
+-- ---- field by field in turn, and each by itself
+
+module _ {A W : Type 0} (once : Bool) (given : Option Tree) (m : Meaning A) (absent : Option A) (n : FieldsMeaning W)
+    (real : A × W → Type 0) (trees : A × W → List (Option Tree)) (names : List Name) (ts : List (Option Tree)) where
+  -- the members mean the values, the field by what it is and the later ones by what it leaves
+  abbrev InTurn : List Name → Members → A × W → Type 0
+  InTurn = FieldsInTurn once m.reads m.from_tree (MissingReads m given absent) (n.reads [])
+
+  -- what is read back in turn is read back by each field itself
+  pub round_trips-alone : FieldsRoundTrip real trees InTurn names ts
+      → FieldsRoundTrip real trees ((field_and once given m absent n).reads []) names ts
+  round_trips-alone h =
+      let f = field_and once given m absent n in
+      let turn = field-in_turn once m (missing_content m given absent) (MissingReads m given absent)
+      (missing-agrees m given absent) (n.reads []) n.from_members n.content n.empty (n.reads_agrees []) in (
+        (h.0.0, h.0.1, (f.reads_agrees [] names (with_names names ts) h.0.0).1 ((turn names (with_names names ts) h.0.0).0 h.0.2)),
+        λ v r e. h.1 v r ((turn names (with_names names ts) v).1 ((f.reads_agrees [] names (with_names names ts) v).0 e)),
+      )
+
 -- no member is left behind the last field
 pub round_trips-closed : (names : List Name)
-    → FieldsRoundTrip {V = Unit {0}} (λ _. ⊤) (λ _. []) (λ ns ms v. has_no_members ms ≡ true) names []
-round_trips-closed names = ((tt, tt, ap has_no_members (with_names_none names)), λ v r e. refl)
+    → FieldsRoundTrip {V = Unit {0}} (λ _. ⊤) (λ _. []) (λ ns ms v. all_among [] ms ≡ true) names []
+round_trips-closed names = ((tt, tt, ap (all_among []) (with_names_none names)), λ v r e. refl)

@@ -1,13 +1,14 @@
 -- The meaning of a struct, by the meanings and the marks of its fields.
 use Rattle.std.proofs.Common.{◌∙◌}
-use Rattle.std.specs.Prelude.{◌≡◌, ◌↔◌, refl, ℕ, ◌+◌, Bool, true, false, cond, List, Option, Some, None, option_and_then, ⊤}
+use Rattle.std.specs.Prelude.{◌≡◌, ◌↔◌, refl, ℕ, ◌+◌, Bool, true, false, cond, List, [], Option, Some, None, option_and_then, ⊤}
 use Rattle.miniserde_model.specs.Tree.{Tree, Members}
 use Rattle.miniserde_read.specs.Meaning.{Meaning, meaning_with}
 use Rattle.miniserde_read.specs.types.Objects.{Name, object_of, after_members}
 use Rattle.miniserde_record.specs.Aliases.{field_name_of, with_field_names}
 use Rattle.miniserde_record.specs.Fields.{field_member, field_refuses, field_end, fields_content, missing_content}
 use Rattle.miniserde_record.specs.Fields.{MissingReads, FieldsRead, StructReads}
-use Rattle.miniserde_record.specs.Marks.{has_no_members}
+use Rattle.miniserde_record.specs.Marks.{has_no_members, all_among}
+use Rattle.miniserde_record.specs.laws.Left.{left}
 use Rattle.miniserde_record.specs.laws.Aliases.{alias-apart}
 use Rattle.miniserde_record.specs.laws.Fields.{none-refused, field-refused, none-apart, closed-apart, field-apart}
 use Rattle.miniserde_record.specs.laws.Meanings.{none-given, closed-given, missing-agrees, field-given, struct-given}
@@ -36,10 +37,11 @@ pub record FieldsMeaning (V : Type 0) : Type 1 where
   pub from_members : List Name → State → Members → Option Content
   pub members_agree : (names : List Name) (s : State) (ms : Members)
       → option_and_then end (after_members (next_state names) s ms) ≡ from_members names s ms
-  -- by the fields' names, the members mean the values; `reads_agrees` says that they do exactly if
-  -- they give the values' content
-  pub reads : List Name → Members → V → Type 0
-  pub reads_agrees : (names : List Name) (ms : Members) (v : V) → reads names ms v ↔ (from_members names empty ms ≡ Some (content v))
+  -- The members mean the values, by the names of the fields before these and by the fields' own names.
+  -- `reads_agrees` says that they do exactly if what the fields before leave gives the values' content.
+  pub reads : List Name → List Name → Members → V → Type 0
+  pub reads_agrees : (before names : List Name) (ms : Members) (v : V)
+      → reads before names ms v ↔ (from_members names empty (left before ms) ≡ Some (content v))
 
 -- the meaning of no fields: members of all names are skipped
 abbrev pub no_fields : FieldsMeaning (Unit {0})
@@ -55,12 +57,11 @@ no_fields = record {
   end = λ s. Some tt;
   from_members = λ ns s ms. Some tt;
   members_agree = λ ns s ms. none-apart ms;
-  reads = λ ns ms v. ⊤;
-  reads_agrees = λ ns ms v. none-given v;
+  reads = λ before ns ms v. ⊤;
+  reads_agrees = λ before ns ms v. none-given v;
 }
 
--- the meaning of the end of the fields of a `closed` struct: no member is left whose name no field
--- has (`closed-named`)
+-- the meaning of the end of the fields of a `closed` struct: each member has the name of a field
 abbrev pub closed_end : FieldsMeaning (Unit {0})
 closed_end = record {
   Content = Unit {0};
@@ -74,8 +75,8 @@ closed_end = record {
   end = λ s. Some tt;
   from_members = λ ns s ms. cond (has_no_members ms) (Some tt) None;
   members_agree = λ ns s ms. closed-apart s ms;
-  reads = λ ns ms v. has_no_members ms ≡ true;
-  reads_agrees = λ ns ms v. closed-given ms v;
+  reads = λ before ns ms v. all_among before ms ≡ true;
+  reads_agrees = λ before ns ms v. closed-given before ms v;
 }
 
 -- The meaning of a field and of the later fields, by the meaning m of the field's type and n of the
@@ -115,12 +116,12 @@ with_aliases ps n = record {
   end = n.end;
   from_members = λ names s ms. n.from_members names s (with_field_names ps ms);
   members_agree = λ names s ms. alias-apart ps (n.next_state names) n.end s ms ∙ n.members_agree names s (with_field_names ps ms);
-  reads = λ names ms v. n.reads names (with_field_names ps ms) v;
-  reads_agrees = λ names ms v. n.reads_agrees names (with_field_names ps ms) v;
+  reads = λ before names ms v. n.reads [] names (with_field_names ps (left before ms)) v;
+  reads_agrees = λ before names ms v. n.reads_agrees [] names (with_field_names ps (left before ms)) v;
 }
 
 -- the meaning of a struct, by the meaning n of its fields and their names; `values` returns the fields' values
 abbrev pub struct_meaning : {V W : Type 0} → FieldsMeaning V → List Name → (W → V) → Meaning W
 struct_meaning n names values =
-    meaning_with (λ w. n.content (values w)) (object_of (n.from_members names n.empty)) (StructReads (n.reads names) values)
-    (struct-given (n.reads names) values (n.from_members names n.empty) n.content (n.reads_agrees names))
+    meaning_with (λ w. n.content (values w)) (object_of (n.from_members names n.empty)) (StructReads (n.reads [] names) values)
+    (struct-given (n.reads [] names) values (n.from_members names n.empty) n.content (n.reads_agrees [] names))

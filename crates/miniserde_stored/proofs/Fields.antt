@@ -18,7 +18,7 @@ use Rattle.miniserde_stored.proofs.Types.{bound, mapped}
 use Rattle.miniserde_record.specs.Fields.{content_pair, other_members, last_content, fields_content, AllNamed, count_named}
 use Rattle.miniserde_stored.specs.StableFields.{AreStable}
 use Rattle.miniserde_record.specs.laws.Meanings.{last_or, last-all, all-last, last-some, last-once}
-use Rattle.miniserde_record.specs.laws.Said.{last-apart}
+use Rattle.miniserde_record.specs.laws.Left.{last-apart}
 
 -- ---- the members of a name
 

@@ -5,7 +5,7 @@ use Rattle.std.specs.Prelude.{Bool, FitsSigned, ⊤}
 use Rattle.std.proofs.lemmas.Bool.Decides.{nat_tests}
 use mir.Syntax.{Width}
 use mir.Val.{hbits}
-use Rattle.miniserde_model.specs.Tree.{Tree, null, truth, nonneg, neg, str}
+use Rattle.miniserde_model.specs.Tree.{Tree, null, truth, nonneg, str}
 use Rattle.miniserde_read.specs.types.Integers.{fits_signed, ReadsUnsigned, ReadsSigned}
 use Rattle.miniserde_keys.specs.Integers.{integer}
 use Rattle.miniserde_laws.specs.RoundTrip.{RoundTrips}

@@ -27,7 +27,7 @@ pub trait RoundTripFields {
     /// values, and that all valid values that they mean have the same trees.
     fn round_trips()
         ensures { (names : List Name) (v : Self.Values) → are_names meaning.count names ≡ true → real v
-            → FieldsRoundTrip real trees meaning.reads names (trees v) };
+            → FieldsRoundTrip real trees (meaning.reads []) names (trees v) };
 }
 
 impl RoundTripFields for NoSlot {

@@ -1,5 +1,5 @@
 -- The lists that trees mean: each child of a list means an item, in order (RFC 8259, section 5).
-use Rattle.std.specs.Prelude.{List, [], ◌∷◌, Option, Some, None, option_and_then, ⊤, ◌≡◌, Bool, true, refl}
+use Rattle.std.specs.Prelude.{List, [], ◌∷◌, Option, Some, None, option_and_then, ⊤, ◌≡◌, true, refl}
 use Rattle.miniserde_model.specs.Tree.{Tree, list, Trees, no_trees, tree, null, truth}
 use Rattle.miniserde_read.specs.types.Words.{boolean_of}
 

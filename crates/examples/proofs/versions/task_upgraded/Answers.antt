@@ -8,7 +8,6 @@ use Rattle.miniserde.specs.Words.{string_of}
 use Rattle.miniserde.specs.Integers.{ReadsUnsigned}
 use Rattle.miniserde.specs.Options.{OptionReads, option_of}
 use Rattle.miniserde.specs.Meanings.{unsigned_meaning, string_meaning}
-use Rattle.miniserde.specs.Fields.{other_members}
 use Rattle.miniserde.specs.Said.{says, none_counts}
 use Rattle.examples.specs.Versions.{state_of}
 use Rattle.examples.specs.contracts.tasks.OldStateFromJson.TheImpl as was
@@ -29,19 +28,17 @@ returns c (members ms) v w r no_retries no_note =
     let u64 = unsigned_meaning 64 in
     let u32 = unsigned_meaning 32 in
     let text = string_meaning string_bytes in
-    let ms2 = other_members n1 ms in
-    let ms3 = other_members n2 ms2 in
     let f1 = same_field u64.reads u64.from_tree u64.content u64.reads_agrees n1 ms v.id w.id r.0 in
-    let f2 = same_field text.reads text.from_tree text.content text.reads_agrees n2 ms2 v.title w.name r.1.0 in
+    let f2 = same_field text.reads text.from_tree text.content text.reads_agrees n2 ms v.title w.name r.1.0 in
     let f3 = other_field was.ghosts.means.reads was.ghosts.means.from_tree was.ghosts.means.reads_agrees
     is.ghosts.means.reads is.ghosts.means.from_tree is.ghosts.means.reads_agrees state_of c.states_kept.ensures
-    n3 ms3 v.state w.state r.1.1.0 in
+    n3 ms v.state w.state r.1.1.0 in
     let g4 = says u32.from_tree (u32.reads (nonneg 3) w.retries) (w.retries ≡ 3) (λ t. u32.reads t w.retries)
-    (λ t. u32.reads t w.retries) (λ t. (λ r. r, λ r. r)) (http w.retries) n4 (n1 ∷ n2 ∷ n3 ∷ []) refl ms in
+    (λ t. u32.reads t w.retries) (λ t. (λ r. r, λ r. r)) (http w.retries) n4 ms in
     let m4 = says_missing (w.retries ≡ 3) (λ t. u32.reads t w.retries) u32.from_tree n4 ms no_retries in
-    let g5 = says (option_of string_of) (Some None ≡ Some (option_map string_bytes w.note)) (w.note ≡ None)
+    let g5 = says (option_of string_of) (None ≡ option_map string_bytes w.note) (w.note ≡ None)
     (λ t. OptionReads text.reads t w.note) (λ t. OptionReads text.reads t w.note) (λ t. (λ r. r, λ r. r))
-    (none_counts string_bytes w.note) n5 (n1 ∷ n2 ∷ n3 ∷ n4 ∷ []) refl ms in
+    (none_counts string_bytes w.note) n5 ms in
     let m5 = says_missing (w.note ≡ None) (λ t. OptionReads text.reads t w.note) (option_of string_of) n5 ms no_note in
     let pos_back : (m n : ℕ) → pos m ≡ pos n → m ≡ n = λ m n e. cc in (
       λ q. (pos_back w.id v.id (f1.0 q.0), f2.0 q.1.0, f3.0 q.1.1.0, m4.0 (g4.0 q.1.1.1.0), m5.0 (g5.0 q.1.1.1.1.0)),

@@ -1,6 +1,6 @@
 -- `skip` takes exactly one value, and returns `Invalid` only if no value follows. The loop keeps that the events so
 -- far lead to the present stack and text; each exit is a lemma of `proofs/Skips.antt`.
-use Rattle.std.proofs.Common.{◌≡◌, [], None, is_some, option_map, sym, ap, ◌∙◌}
+use Rattle.std.proofs.Common.{◌≡◌, [], None, is_some, sym, ap, ◌∙◌}
 use Rattle.std.proofs.lemmas.Result.{err_from_is_err_and}
 use Rattle.miniserde_text.specs.Lexer.{event_of_token}
 use Rattle.miniserde_text.specs.private.Stack.{with_opened, innermost}

@@ -1,7 +1,7 @@
 -- `take_child_or_end` takes the closing bracket or the tokens up to the first one of the next child, and returns
 -- `Invalid` only if the container cannot go on. By cases on the kind: `close_passed`, `element_passed` and
 -- `key_passed` each consume one event, and `begin` consumes the first event of the child.
-use Rattle.std.proofs.Common.{true, false, ap, subst}
+use Rattle.std.proofs.Common.{true, false, subst}
 use Rattle.std.proofs.lemmas.Result.{err_from_is_err_and, IfOk-weaker}
 use Rattle.miniserde_model.specs.Lexing.{Follows}
 use Rattle.miniserde_model.specs.private.Reading.{due}

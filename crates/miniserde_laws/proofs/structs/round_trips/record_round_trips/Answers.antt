@@ -1,5 +1,5 @@
 -- The values that the fields' trees mean make a struct that the struct's tree means.
-use Rattle.std.proofs.Common.{sym, ap, subst}
+use Rattle.std.proofs.Common.{[], sym, ap, subst}
 use Rattle.miniserde_model.specs.Tree.{members}
 use Rattle.miniserde_laws.proofs.Fields.{distinct_names}
 use Rattle.miniserde_record.specs.Structs.{with_names}
@@ -15,7 +15,7 @@ returns g c = λ v r.
       (
         s.made a.0.0,
         subst f.real same a.0.1,
-        subst (f.meaning.reads s.names (with_names s.names (f.trees (s.values v)))) same a.0.2,
+        subst (f.meaning.reads [] s.names (with_names s.names (f.trees (s.values v)))) same a.0.2,
       ),
       λ w q h. ap (λ ts. members (with_names s.names ts)) (a.1 (s.values w) q h),
     )
