@@ -1,5 +1,5 @@
 #!/usr/bin/env python3
-"""Draws docs/speed.svg: ten jobs of docs/SPEED.md as bars.
+"""Draws docs/speed.svg: ten jobs of bench/FIGURES.md as bars.
 
     bench/picture.py            draws it
     bench/picture.py --check    compares it with what it would draw
@@ -85,9 +85,9 @@ def main(words):
     if words not in ([], ["--check"]):
         print(__doc__.strip())
         return 0 if words in (["--help"], ["-h"]) else 2
-    drawn = picture((DOCS / "SPEED.md").read_text())
+    drawn = picture((DOCS.parent / "bench/FIGURES.md").read_text())
     if words and (DOCS / "speed.svg").read_text() != drawn:
-        print("picture: docs/speed.svg is not what docs/SPEED.md has: run bench/picture.py", file=sys.stderr)
+        print("picture: docs/speed.svg is not what bench/FIGURES.md has: run bench/picture.py", file=sys.stderr)
         return 1
     (DOCS / "speed.svg").write_text(drawn)
     return 0

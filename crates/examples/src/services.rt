@@ -19,7 +19,7 @@ pub fn port_meant()
     ensures { (t : Tree) → (s : Service) → ⟦<Service as FromJson>⟧.means.reads t s → IsPort t s.port }
 {}
 
-/// Parses a service, and returns its port.
+/// Parses a service, and returns its port: that of the text's last member `port`, or 8080 if it has none.
 pub fn port_of(alloc: Global, text: &str) -> Result<u16>
     ensures { IfOk result (λ port. (t : Tree) × IsJson text.now t × IsPort t port) }
 {

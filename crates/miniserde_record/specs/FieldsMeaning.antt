@@ -37,7 +37,8 @@ pub record FieldsMeaning (V : Type 0) : Type 1 where
   pub from_members : List Name → State → Members → Option Content
   pub members_agree : (names : List Name) (s : State) (ms : Members)
       → option_and_then end (after_members (next_state names) s ms) ≡ from_members names s ms
-  -- The members mean the values, by the names of the fields before these and by the fields' own names.
+  -- The members mean the values, by the names that came before (of the fields before these, and of a tag) and by the
+  -- fields' own names.
   -- `reads_agrees` says that they do exactly if what the fields before leave gives the values' content.
   pub reads : List Name → List Name → Members → V → Type 0
   pub reads_agrees : (before names : List Name) (ms : Members) (v : V)
@@ -61,7 +62,8 @@ no_fields = record {
   reads_agrees = λ before ns ms v. none-given v;
 }
 
--- the meaning of the end of the fields of a `closed` struct: each member has the name of a field
+-- the meaning of the end of the fields of a `closed` struct: each member has one of the names before, those of the fields
+-- and of a tag beside them
 abbrev pub closed_end : FieldsMeaning (Unit {0})
 closed_end = record {
   Content = Unit {0};
