@@ -1,6 +1,3 @@
-pub mod Tokens
-pub mod Turns
-pub mod Steps
 pub mod Wholes
 pub mod IsCanonical
 pub mod Plains

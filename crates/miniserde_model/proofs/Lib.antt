@@ -14,7 +14,6 @@ pub mod Reading
 pub mod ReadBack
 pub mod OneNormal
 pub mod Distinct
-pub mod Forced
 pub mod Examples
 pub mod RefusedExamples
 pub mod Utf8

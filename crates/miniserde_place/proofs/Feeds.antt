@@ -17,9 +17,9 @@ use Rattle.miniserde_text.specs.Lexer.{event_of_token}
 use Rattle.miniserde_model.specs.declared.error.Error.{Error}
 use Rattle.miniserde_text.specs.declared.json.lex.Event as lexed
 use Rattle.miniserde_read.specs.Rest.{ValueAt}
-use Rattle.miniserde_read.specs.private.Runs.{Runs}
+use Rattle.miniserde_text.specs.private.Runs.{Runs}
 use Rattle.miniserde_place.specs.private.Runs.{Moved, RejectsRuns}
-use Rattle.miniserde_read.proofs.Consumes.{live_opened}
+use Rattle.miniserde_text.proofs.Consumes.{live_opened}
 use Rattle.miniserde_read.proofs.Values.{value_later, whole_at}
 use Rattle.miniserde_place.proofs.Moved.{Moved-none}
 use Rattle.miniserde_place.proofs.Spelled.{Unfinished, more_to_come, more_behind, tree_spelled}

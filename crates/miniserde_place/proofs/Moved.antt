@@ -6,8 +6,8 @@ use Rattle.miniserde_model.specs.Position.{Position, Completes}
 use Rattle.miniserde_model.specs.declared.kind.Kind.{Kind}
 use Rattle.miniserde_model.specs.private.Reading.{Moment}
 use Rattle.miniserde_text.specs.private.Moving.{MomentFits}
-use Rattle.miniserde_read.specs.private.Runs.{Consumes, NeverRuns}
-use Rattle.miniserde_read.proofs.Consumes.{Consumes-none, Consumes-append}
+use Rattle.miniserde_text.specs.private.Runs.{Consumes, NeverRuns}
+use Rattle.miniserde_text.proofs.Consumes.{Consumes-none, Consumes-append}
 use Rattle.miniserde_place.specs.Place.{PositionAdvances, PositionRejects}
 use Rattle.miniserde_place.specs.private.Runs.{Spellable, Moved, RejectsRuns}
 use Rattle.miniserde_place.proofs.PositionAdvances.{leads_completes, PositionAdvancesBy-append}

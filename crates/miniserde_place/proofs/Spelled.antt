@@ -19,7 +19,7 @@ use Rattle.miniserde_text.specs.declared.json.lex.Event.TheVariants as variant
 use Rattle.miniserde_text.specs.private.Stack.{with_opened, innermost, outer}
 use Rattle.miniserde_text.specs.private.Moving.{opened_kind, before_child, MomentFits}
 use Rattle.miniserde_text.proofs.Stacks.{split_top}
-use Rattle.miniserde_text.proofs.Starting.{front, passes_start}
+use Rattle.miniserde_text.proofs.Starting.{front, starts_on}
 use Rattle.miniserde_place.specs.private.Runs.{Spellable}
 
 -- ---- one event before others
@@ -69,11 +69,11 @@ pub start_spellable : (st : List Kind) (s r : List ℕ) (e : Step) (f : Bool) (s
     → f ≡ is_some (opened_kind e) → st' ≡ with_opened (opened_kind e) st → (es : List Step)
     → Spellable (before_child f) es st' → Spellable due (e ∷ es) st
 start_spellable st s r e f st' k p q es h =
-    let g = passes_start st s e r k in
     let i : Spellable (before_child (is_some (opened_kind e))) es (with_opened (opened_kind e) st) =
     subst (λ z. Spellable (before_child z) es (with_opened (opened_kind e) st)) p
     (subst (λ z. Spellable (before_child f) es z) q h) in
-    (g.taken ++ i.0, g.on es i.0 i.1)
+    let b = k.0.part in
+    (b ++ i.0, starts_on e st (b ++ i.0) i.0 (record { space = []; part = b; text = refl; is_space = tt; is_part = k.0.is_part }) es i.1)
 
 -- ---- every beginning can be completed
 

@@ -10,7 +10,6 @@ pub mod Length
 pub mod Lists
 pub mod Maps
 pub mod Objects
-pub mod Consumes
 pub mod Same
 pub mod Skips
 pub mod Steps

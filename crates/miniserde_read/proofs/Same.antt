@@ -6,49 +6,12 @@ use Rattle.miniserde_model.specs.Tree.{Tree, null, truth, nonneg, neg, num, str,
 use Rattle.miniserde_model.specs.Tree.{tree, Members, no_members, member}
 use Rattle.miniserde_model.specs.Step.{Step, boolean, string, negative, nonnegative, float, seq, map}
 use Rattle.miniserde_model.specs.Step as step
-use Rattle.miniserde_model.specs.Bytes.{is_space}
-use Rattle.miniserde_model.specs.Lexing.{Begins, Starts, Names, Follows, closing}
-use Rattle.miniserde_model.specs.declared.kind.Kind.{Kind}
+use Rattle.miniserde_model.specs.Lexing.{Starts, Names}
 use Rattle.miniserde_model.specs.declared.kind.Kind.TheVariants.{Seq, Map}
-use Rattle.miniserde_model.proofs.Runs.{same_run}
-use Rattle.miniserde_model.proofs.Prefixes.{whitespace_passes}
-use Rattle.miniserde_text.proofs.Starting.{same_first, first_byte, begins_first, same_byte, same_name}
+use Rattle.miniserde_text.proofs.Starting.{same_name}
 use Rattle.miniserde_read.specs.Rest.{ValueAt, ElementsAt, MembersAt}
 use Rattle.miniserde_text.proofs.Starting.{same_start}
-use Rattle.miniserde_text.proofs.Turning.{bare, begins_stops}
-
--- ---- what a lexer finds in a container
-
-closing_no_space : (k : Kind) → is_space (closing k) ≡ false
-closing_no_space Seq = refl
-closing_no_space Map = refl
-
-closing_no_comma : (k : Kind) → closing k ≡ 44 → ⊥
-closing_no_comma Seq e = omega (arith, e)
-closing_no_comma Map e = omega (arith, e)
-
-not_closing : (k : Kind) (r : List ℕ) (b : Begins r) → b.byte ≡ closing k → ⊥
-not_closing Seq r b e = b.no_list_end e
-not_closing Map r b e = b.no_members_end e
-
--- the text behind the next closing bracket of a container is unique
-pub close_same : (k : Kind) (f : Bool) (s r x : List ℕ) → Follows k f true s r → Follows k f true s x → r ≡ x
-close_same k f s r x p q = (same_byte (closing k) (closing k) s r x (closing_no_space k) (closing_no_space k) p q).1
-
--- the text from the next child of a container on is unique
-pub next_same : (k : Kind) (f : Bool) (s r x : List ℕ) → Follows k f false s r → Follows k f false s x → r ≡ x
-next_same k true s r x p q =
-    (same_run is_space p.0.space q.0.space r x (whitespace_passes p.0.space p.0.is_space)
-    (whitespace_passes q.0.space q.0.is_space) (begins_stops r p.1) (begins_stops x q.1)
-    (sym (bare s r p.0) ∙ bare s x q.0)).1
-next_same k false s r x p q = (same_byte 44 44 s r x refl refl p q).1
-
--- a closing bracket and a child are not both next in a container
-pub close_no_next : (k : Kind) (f : Bool) (s r x : List ℕ) → Follows k f true s r → Follows k f false s x → ⊥
-close_no_next k true s r x p q =
-    not_closing k x q.1 (same_first s q.1.byte (closing k) (begins_first s x q.0 q.1)
-    (first_byte (closing k) s r (closing_no_space k) p))
-close_no_next k false s r x p q = closing_no_comma k (same_byte (closing k) 44 s r x (closing_no_space k) refl p q).0
+use Rattle.miniserde_text.proofs.Turning.{close_same, next_same, close_no_next}
 
 -- ---- the first event of a tree
 

@@ -14,8 +14,8 @@ use Rattle.miniserde_text.specs.declared.json.lex.Event as lexed
 use Rattle.miniserde_read.specs.Rest.{ValueAt}
 use Rattle.miniserde_text.specs.private.Stack.{with_opened, innermost}
 use Rattle.miniserde_text.specs.private.Moving.{opened_kind, before_child}
-use Rattle.miniserde_read.specs.private.Runs.{Runs, Reaches, NeverRuns}
-use Rattle.miniserde_read.proofs.Consumes.{Consumes-none, live_opened, value_passed}
+use Rattle.miniserde_text.specs.private.Runs.{Runs, Reaches, NeverRuns}
+use Rattle.miniserde_text.proofs.Consumes.{Consumes-none, live_opened, value_passed}
 use Rattle.miniserde_read.proofs.Values.{value_later, whole_at}
 
 -- a value's first token was taken, and its container opened

@@ -9,7 +9,7 @@ use Rattle.miniserde_model.specs.declared.kind.Kind.TheVariants.{Seq, Map}
 use Rattle.miniserde_text.proofs.Starting.{same_name}
 use Rattle.miniserde_read.specs.Rest.{ValueAt, ElementsAt, MembersAt}
 use Rattle.miniserde_text.proofs.Starting.{same_start}
-use Rattle.miniserde_read.proofs.Same.{close_same, next_same, close_no_next}
+use Rattle.miniserde_text.proofs.Turning.{close_same, next_same, close_no_next}
 
 -- ---- a list
 

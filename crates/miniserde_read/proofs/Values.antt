@@ -18,7 +18,8 @@ use Rattle.miniserde_text.specs.Lexer.{event_of_token}
 use Rattle.miniserde_text.specs.declared.json.lex.Event as lexed
 use Rattle.miniserde_text.specs.declared.json.lex.Event.TheVariants as variant
 use Rattle.miniserde_read.specs.Rest.{ValueAt, ElementsAt, MembersAt}
-use Rattle.miniserde_read.specs.private.Runs.{Runs}
+use Rattle.miniserde_text.specs.private.Runs.{Runs}
+use Rattle.miniserde_text.proofs.Wholes.{nothing_left}
 
 -- ---- from the tree to its events
 
@@ -288,14 +289,6 @@ mutual
   find_members zero true (key k ∷ es) st s r l h = absurd (omega arith)
   find_members zero false (key k ∷ es) st s r l h = absurd (omega arith)
   find_members n _ _ st s r l h = absurd h
-
-nothing_left : (es : List Step) (s r : List ℕ) → Runs after es [] s r → (es ≡ []) × (r ≡ s)
-nothing_left [] s r p = (refl, p)
-nothing_left (e ∷ es) s r p = absurd (go e p)
-  where
-    go : (d : Step) → Runs after (d ∷ es) [] s r → ⊥
-    go element q = q
-    go _ q = q
 
 -- where the first event was taken, those behind it make a tree
 pub record Whole (e : Step) (later : List Step) (s r : List ℕ) : Type 0 where

@@ -10,4 +10,3 @@ pub mod Source
 pub mod Events
 pub mod laws
 pub mod types
-pub mod private

@@ -8,7 +8,7 @@ ghost use Rattle.miniserde_read.specs.Meanings.{ignored_meaning};
 ghost use Rattle.miniserde_read.specs.Rest.{ValueAt};
 ghost use Rattle.miniserde_read.specs.Events.{EventInRange};
 ghost use Rattle.miniserde_text.specs.private.Moving.{before_child};
-ghost use Rattle.miniserde_read.specs.private.Runs.{Reaches, NeverRuns};
+ghost use Rattle.miniserde_text.specs.private.Runs.{Reaches, NeverRuns};
 ghost use Rattle.miniserde_text.specs.private.Stack.{innermost};
 
 use crate::from_json::FromJson;

@@ -19,3 +19,5 @@ pub mod Decimals
 pub mod Stacks
 pub mod Starting
 pub mod Turning
+pub mod Consumes
+pub mod Wholes

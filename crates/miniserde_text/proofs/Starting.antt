@@ -17,7 +17,7 @@ use Rattle.miniserde_model.specs.Bytes.{is_space}
 use Rattle.miniserde_model.proofs.Prefixes.{whitespace_passes}
 use Rattle.miniserde_model.proofs.Unique.{kind_of_byte, Head, value_head, head_no_space, string_head, same_word, same_truth}
 use Rattle.miniserde_text.specs.private.Stack.{with_opened}
-use Rattle.miniserde_text.specs.private.Moving.{opened_kind, before_child, MomentFits, Passes}
+use Rattle.miniserde_text.specs.private.Moving.{opened_kind, before_child, MomentFits}
 
 -- ---- the first byte
 
@@ -225,36 +225,30 @@ front space part r w p k =
       is_rest = k;
     }
 
+-- if K holds of the rest of a `Stands`, it is a `StandsThen`
+pub standing : {P K : List ℕ → Type 0} (s r : List ℕ) → Stands P s r → K r → StandsThen P K s
+standing s r p k =
+    record { space = p.space; part = p.part; rest = r; text = p.text; is_space = p.is_space; is_part = p.is_part; is_rest = k }
+
 -- whitespace and a token of e spell e before the events that r spells after it
-pub starts_on : (e : Step) (st : List Kind) (space part : List ℕ) → IsWhitespace space → Piece e part
-    → (rest : List Step) (r : List ℕ)
-    → Spells (before_child (is_some (opened_kind e))) rest (with_opened (opened_kind e) st) r
-    → Spells due (e ∷ rest) st ((space ++ part) ++ r)
-starts_on step.null st space part w p rest r k = front space part r w p k
-starts_on (boolean x) st space part w p rest r k = front space part r w p k
-starts_on (string x) st space part w p rest r k = front space part r w p k
-starts_on (negative n) st space part w p rest r k = front space part r w p k
-starts_on (nonnegative n) st space part w p rest r k = front space part r w p k
-starts_on (float x) st space part w p rest r k = front space part r w p k
-starts_on seq st space part w p rest r k = front space part r w p k
-starts_on map st space part w p rest r k = front space part r w p k
-starts_on element st space part w p rest r k = absurd p
-starts_on (key s) st space part w p rest r k = absurd p
-starts_on finish st space part w p rest r k = absurd p
+pub starts_on : (e : Step) (st : List Kind) (s r : List ℕ) → Stands (Piece e) s r → (rest : List Step)
+    → Spells (before_child (is_some (opened_kind e))) rest (with_opened (opened_kind e) st) r → Spells due (e ∷ rest) st s
+starts_on step.null st s r p rest k = standing s r p k
+starts_on (boolean x) st s r p rest k = standing s r p k
+starts_on (string x) st s r p rest k = standing s r p k
+starts_on (negative n) st s r p rest k = standing s r p k
+starts_on (nonnegative n) st s r p rest k = standing s r p k
+starts_on (float x) st s r p rest k = standing s r p k
+starts_on seq st s r p rest k = standing s r p k
+starts_on map st s r p rest k = standing s r p k
+starts_on element st s r p rest k = absurd p.is_part
+starts_on (key x) st s r p rest k = absurd p.is_part
+starts_on finish st s r p rest k = absurd p.is_part
 
 -- after an opening bracket a container is open: the moment after a token fits the open containers
 pub live_at : (o : Option Kind) (st : List Kind) → MomentFits (before_child (is_some o)) (with_opened o st)
 live_at None st = tt
 live_at (Some k) st = tt
-
--- if a value is due, the first token of one spells its event, whatever follows
-pub passes_start : (st : List Kind) (s : List ℕ) (e : Step) (r : List ℕ) → Starts s e r
-    → Passes due st s (e ∷ []) (before_child (is_some (opened_kind e))) (with_opened (opened_kind e) st) r
-passes_start st s e r p = record {
-  taken = p.0.space ++ p.0.part;
-  text = p.0.text ∙ sym (append_assoc p.0.space p.0.part r);
-  on = λ rest x k. starts_on e st p.0.space p.0.part p.0.is_space p.0.is_part rest x k;
-}
 
 head_length : (b r : List ℕ) (k : ℕ) → Head b k → length r < length (b ++ r)
 head_length b r k h = let l : length (b ++ r) ≡ length ((h.byte ∷ h.rest) ++ r) = ap (λ z. length (z ++ r)) h.is in

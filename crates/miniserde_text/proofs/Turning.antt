@@ -1,38 +1,13 @@
--- A closing bracket, an element or a name that a lexer finds between the children of a container spells its event. By
--- cases on the kind and on whether the container was just opened; whitespace before the first element belongs to its
--- value (`due_space`).
-use Rattle.std.proofs.Common.{◌≡◌, ℕ, Bool, true, false, List, [], ◌∷◌, ◌++◌, sym, ap, subst, ◌∙◌, append_assoc}
-use Rattle.miniserde_model.specs.Whitespace.{IsWhitespace}
-use Rattle.miniserde_model.specs.Step.{Step, element, key, finish}
+-- What stands next in a container is one thing: its closing bracket or a child, and behind either the text is unique.
+-- By cases on whether the container was just opened; the first byte after whitespace decides.
+use Rattle.std.proofs.Common.{◌≡◌, ℕ, Bool, true, false, List, [], ◌++◌, refl, sym, ap, subst, ◌∙◌, arith}
 use Rattle.miniserde_model.specs.Bytes.{StopsAt, is_space}
-use Rattle.miniserde_model.specs.Lexing.{IsByte, Stands, Names, closing, Begins, Follows}
+use Rattle.miniserde_model.specs.Lexing.{Stands, closing, Begins, Follows}
 use Rattle.miniserde_model.specs.declared.kind.Kind.{Kind}
 use Rattle.miniserde_model.specs.declared.kind.Kind.TheVariants.{Seq, Map}
-use Rattle.miniserde_model.specs.private.Reading.{due, after, Spells}
-use Rattle.miniserde_model.proofs.Reading.{due_space, space_append}
-use Rattle.miniserde_text.specs.private.Moving.{before_child, Passes}
-use Rattle.miniserde_text.proofs.Starting.{front}
-
--- ---- the closing bracket
-
-finish_on : (k : Kind) (f : Bool) (st : List Kind) (space part : List ℕ) → IsWhitespace space
-    → IsByte (closing k) part → (rest : List Step) (r : List ℕ) → Spells after rest st r
-    → Spells (before_child f) (finish ∷ rest) (k ∷ st) ((space ++ part) ++ r)
-finish_on Seq true st space part w p rest r k = front space part r w p k
-finish_on Seq false st space part w p rest r k = front space part r w p k
-finish_on Map true st space part w p rest r k = front space part r w p k
-finish_on Map false st space part w p rest r k = front space part r w p k
-
--- the closing bracket of the innermost container spells `finish`, and closes that container
-pub passes_finish : (k : Kind) (f : Bool) (st : List Kind) (s r : List ℕ) → Stands (IsByte (closing k)) s r
-    → Passes (before_child f) (k ∷ st) s (finish ∷ []) after st r
-passes_finish k f st s r p = record {
-  taken = p.space ++ p.part;
-  text = p.text ∙ sym (append_assoc p.space p.part r);
-  on = λ rest x h. finish_on k f st p.space p.part p.is_space p.is_part rest x h;
-}
-
--- ---- an element
+use Rattle.miniserde_model.proofs.Runs.{same_run}
+use Rattle.miniserde_model.proofs.Prefixes.{whitespace_passes}
+use Rattle.miniserde_text.proofs.Starting.{same_first, first_byte, begins_first, same_byte}
 
 -- if s has the empty part after whitespace, s is that whitespace and then r
 pub bare : (s r : List ℕ) (p : Stands (λ b. b ≡ []) s r) → s ≡ p.space ++ r
@@ -42,40 +17,33 @@ bare s r p = p.text ∙ ap (λ z. p.space ++ (z ++ r)) p.is_part
 pub begins_stops : (r : List ℕ) → Begins r → StopsAt is_space r
 begins_stops r b = subst (StopsAt is_space) (sym b.text) b.no_space
 
--- the step to the next element of an array spells `element`, and then a value is due
-pub passes_element : (f : Bool) (st : List Kind) (s r : List ℕ) → Follows Seq f false s r
-    → Passes (before_child f) (Seq ∷ st) s (element ∷ []) due (Seq ∷ st) r
-passes_element true st s r p = record {
-  taken = p.0.space;
-  text = bare s r p.0;
-  on = λ rest x h. due_space rest (Seq ∷ st) p.0.space x p.0.is_space h;
-}
-passes_element false st s r p = record {
-  taken = p.space ++ p.part;
-  text = p.text ∙ sym (append_assoc p.space p.part r);
-  on = λ rest x h. front p.space p.part x p.is_space p.is_part h;
-}
+closing_no_space : (k : Kind) → is_space (closing k) ≡ false
+closing_no_space Seq = refl
+closing_no_space Map = refl
 
--- ---- a member
+closing_no_comma : (k : Kind) → closing k ≡ 44 → ⊥
+closing_no_comma Seq e = omega (arith, e)
+closing_no_comma Map e = omega (arith, e)
 
-four : (a b c d x : List ℕ) → ((a ++ b) ++ (c ++ d)) ++ x ≡ (a ++ b) ++ ((c ++ d) ++ x)
-four a b c d x = append_assoc (a ++ b) (c ++ d) x
+not_closing : (k : Kind) (r : List ℕ) (b : Begins r) → b.byte ≡ closing k → ⊥
+not_closing Seq r b e = b.no_list_end e
+not_closing Map r b e = b.no_members_end e
 
--- the step to the next member of an object, with the name n, spells `key n`, and then a value is due
-pub passes_key : (f : Bool) (st : List Kind) (s r n x : List ℕ) → Follows Map f false s r → Names r n x
-    → Passes (before_child f) (Map ∷ st) s (key n ∷ []) due (Map ∷ st) x
-passes_key true st s r n x p q = record {
-  taken = (p.0.space ++ q.space) ++ q.part;
-  text = bare s r p.0 ∙ ap (λ z. p.0.space ++ z) q.text ∙ sym (append_assoc p.0.space q.space (q.part ++ x))
-      ∙ sym (append_assoc (p.0.space ++ q.space) q.part x);
-  on = λ rest y h. front (p.0.space ++ q.space) q.part y (space_append p.0.space q.space p.0.is_space q.is_space) q.is_part h;
-}
-passes_key false st s r n x p q = record {
-  taken = (p.space ++ p.part) ++ (q.space ++ q.part);
-  text = p.text ∙ sym (append_assoc p.space p.part r) ∙ ap (λ z. (p.space ++ p.part) ++ z)
-      (q.text ∙ sym (append_assoc q.space q.part x)) ∙ sym (four p.space p.part q.space q.part x);
-  on = λ rest y h. subst (λ z. Spells after (key n ∷ rest) (Map ∷ st) z)
-      (sym (four p.space p.part q.space q.part y))
-      (front p.space p.part ((q.space ++ q.part) ++ y) p.is_space p.is_part
-      (front q.space q.part y q.is_space q.is_part h));
-}
+-- the text behind the next closing bracket of a container is unique
+pub close_same : (k : Kind) (f : Bool) (s r x : List ℕ) → Follows k f true s r → Follows k f true s x → r ≡ x
+close_same k f s r x p q = (same_byte (closing k) (closing k) s r x (closing_no_space k) (closing_no_space k) p q).1
+
+-- the text from the next child of a container on is unique
+pub next_same : (k : Kind) (f : Bool) (s r x : List ℕ) → Follows k f false s r → Follows k f false s x → r ≡ x
+next_same k true s r x p q =
+    (same_run is_space p.0.space q.0.space r x (whitespace_passes p.0.space p.0.is_space)
+    (whitespace_passes q.0.space q.0.is_space) (begins_stops r p.1) (begins_stops x q.1)
+    (sym (bare s r p.0) ∙ bare s x q.0)).1
+next_same k false s r x p q = (same_byte 44 44 s r x refl refl p q).1
+
+-- a closing bracket and a child are not both next in a container
+pub close_no_next : (k : Kind) (f : Bool) (s r x : List ℕ) → Follows k f true s r → Follows k f false s x → ⊥
+close_no_next k true s r x p q =
+    not_closing k x q.1 (same_first s q.1.byte (closing k) (begins_first s x q.0 q.1)
+    (first_byte (closing k) s r (closing_no_space k) p))
+close_no_next k false s r x p q = closing_no_comma k (same_byte (closing k) 44 s r x (closing_no_space k) refl p q).0

@@ -3,3 +3,4 @@ pub mod Taking
 pub mod Moving
 pub mod Reading
 pub mod Stack
+pub mod Runs

@@ -17,9 +17,9 @@ use Rattle.miniserde_text.specs.declared.json.lex.Event.TheVariants as variant
 use Rattle.miniserde_text.specs.private.Stack.{with_opened, outer, innermost as innermost_kind}
 use Rattle.miniserde_text.specs.private.Moving.{opened_kind, before_child, MomentFits}
 use Rattle.miniserde_read.specs.Rest.{ValueAt}
-use Rattle.miniserde_read.specs.private.Runs.{Runs, Consumes, NeverRuns}
-use Rattle.miniserde_read.proofs.Consumes.{Consumes-none, Consumes-append, close_passed, element_passed, key_passed}
-use Rattle.miniserde_read.proofs.Consumes.{value_passed, live_opened}
+use Rattle.miniserde_text.specs.private.Runs.{Runs, Consumes, NeverRuns}
+use Rattle.miniserde_text.proofs.Consumes.{Consumes-none, Consumes-append, close_passed, element_passed, key_passed}
+use Rattle.miniserde_text.proofs.Consumes.{value_passed, live_opened}
 use Rattle.miniserde_read.proofs.Values.{value_later, whole_at}
 use Rattle.miniserde_value.specs.Hole.{Hole, outside, in_list, in_members, has_member, put, with_name, after_close}
 use Rattle.miniserde_value.specs.Hole.{complete_tree, after_begin, after_step, repeats, outcome}

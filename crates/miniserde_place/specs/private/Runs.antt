@@ -6,7 +6,7 @@ use Rattle.miniserde_model.specs.Step.{Step}
 use Rattle.miniserde_model.specs.Position.{Position, Completes}
 use Rattle.miniserde_model.specs.declared.kind.Kind.{Kind}
 use Rattle.miniserde_model.specs.private.Reading.{Moment, Spells}
-use Rattle.miniserde_read.specs.private.Runs.{Runs, Consumes}
+use Rattle.miniserde_text.specs.private.Runs.{Runs, Consumes}
 use Rattle.miniserde_place.specs.Place.{PositionAdvancesBy}
 
 -- from the moment m on, inside the open containers st, some text spells the events es and closes

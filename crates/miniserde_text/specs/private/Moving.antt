@@ -1,9 +1,9 @@
--- How a text goes on event by event, for the proofs that relate the grammar of whole texts to the calls of a lexer.
-use Rattle.std.specs.Prelude.{◌≡◌, ℕ, Bool, true, false, List, ◌++◌, [], Option, Some, None, ⊤}
+-- Between two events of a text: the moment, and the container that an event opens.
+use Rattle.std.specs.Prelude.{Bool, true, false, List, [], Option, Some, None, ⊤}
 use Rattle.miniserde_model.specs.Step.{Step, seq, map}
 use Rattle.miniserde_model.specs.declared.kind.Kind.{Kind}
 use Rattle.miniserde_model.specs.declared.kind.Kind.TheVariants.{Seq, Map}
-use Rattle.miniserde_model.specs.private.Reading.{Moment, due, first, after, Spells}
+use Rattle.miniserde_model.specs.private.Reading.{Moment, due, first, after}
 
 -- the kind of the container that the event opens, if it opens one
 abbrev pub opened_kind : Step → Option Kind
@@ -25,10 +25,3 @@ due_or_after false = after
 abbrev pub MomentFits : Moment → List Kind → Type 0
 MomentFits first [] = ⊥
 MomentFits _ _ = ⊤
-
--- The bytes from s to s' spell the events `done`, whatever follows them. Before them m is the moment and st are the
--- open containers, and after them m' and st'.
-pub record Passes (m : Moment) (st : List Kind) (s : List ℕ) (done : List Step) (m' : Moment) (st' : List Kind) (s' : List ℕ) : Type 0 where
-  pub taken : List ℕ
-  pub text : s ≡ taken ++ s'
-  pub on : (rest : List Step) (r : List ℕ) → Spells m' rest st' r → Spells m (done ++ rest) st (taken ++ r)

@@ -6,7 +6,7 @@ ghost use Rattle.miniserde_text.specs.Lexer.{event_of_token};
 ghost use Rattle.miniserde_text.specs.private.Moving.{before_child, opened_kind};
 ghost use Rattle.miniserde_read.specs.Rest.{GivesAt, GivesNoneAt};
 ghost use Rattle.miniserde_read.specs.Events.{EventInRange};
-ghost use Rattle.miniserde_read.specs.private.Runs.{NeverRuns};
+ghost use Rattle.miniserde_text.specs.private.Runs.{NeverRuns};
 ghost use Rattle.miniserde_value.specs.Builders.{hole_in};
 ghost use Rattle.miniserde_value.specs.Hole.{after_begin, has_member, with_name};
 ghost use Rattle.miniserde_value.specs.Containers.{innermost};

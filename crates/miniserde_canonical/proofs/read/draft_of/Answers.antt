@@ -1,6 +1,6 @@
 -- `draft_of` returns the draft of the text's tree, or `Invalid` if the text has no tree. The tokens so far are the
 -- invariant (`Taken`), and each exit is a lemma over plain variables of `Wholes.antt` or `Taking.antt`.
-use Rattle.std.proofs.Common.{◌≡◌, option_map, None, length, sym, ap, subst, ◌∙◌}
+use Rattle.std.proofs.Common.{◌≡◌, None, length, sym, ap, subst, ◌∙◌}
 use Rattle.std.proofs.lemmas.Result.{err_from_is_err_and}
 use Rattle.miniserde_model.specs.private.Reading.{due, after}
 use Rattle.miniserde_text.specs.private.Stack.{innermost}

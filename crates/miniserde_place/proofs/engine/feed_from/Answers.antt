@@ -1,6 +1,6 @@
 -- `feed_from` hands a fresh place exactly the events of one value. The moves so far are the invariant, and each exit
 -- is a lemma over plain variables (`proofs/Feeds.antt`).
-use Rattle.std.proofs.Common.{◌≡◌, ◌⊎◌, inr, [], Some, None, is_some, option_map, refl, sym, ap, subst, ◌∙◌}
+use Rattle.std.proofs.Common.{◌≡◌, ◌⊎◌, inr, [], Some, None, is_some, refl, sym, ap, subst, ◌∙◌}
 use Rattle.std.proofs.lemmas.Result.{err_from_is_err_and}
 use Rattle.miniserde_model.specs.private.Reading.{due, after}
 use Rattle.miniserde_text.specs.Lexer.{event_of_token}
@@ -9,7 +9,7 @@ use Rattle.miniserde_text.specs.private.Stack.{with_opened, innermost}
 use Rattle.miniserde_text.specs.private.Moving.{opened_kind, before_child, due_or_after}
 use Rattle.miniserde_read.proofs.Tokens.{start_event}
 use Rattle.miniserde_place.specs.private.Runs.{Moved}
-use Rattle.miniserde_read.proofs.Consumes.{start_ends, value_passed}
+use Rattle.miniserde_text.proofs.Consumes.{start_ends, value_passed}
 use Rattle.miniserde_place.proofs.Moved.{Moved-append, moved_one, barred_one, barred_more, never_barred}
 use Rattle.miniserde_place.proofs.Feeds.{first_barred, later_barred, moved_init, feed_ok, begun_none, begun, if_err, keeps_exit}
 use Rattle.miniserde_place.proofs.Spelled.{start_spellable, inside_unfinished}

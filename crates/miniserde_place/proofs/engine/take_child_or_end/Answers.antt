@@ -1,12 +1,12 @@
 -- `take_child_or_end` passes exactly the events that it hands to the place. Each exit is one lemma of `Moved.antt`,
 -- chosen by the kind of the container and by what the lexer returned.
-use Rattle.std.proofs.Common.{true, false, sym, ap, subst, arith, true≢false}
+use Rattle.std.proofs.Common.{true, false, sym, subst, arith, true≢false}
 use Rattle.std.proofs.lemmas.Result.{err_from_is_err_and}
 use Rattle.miniserde_model.specs.Step.{key, element, finish}
 use Rattle.miniserde_model.specs.Lexing.{Names, Follows}
 use Rattle.miniserde_text.specs.private.Moving.{before_child}
 use Rattle.miniserde_text.specs.Lexer.{is_close}
-use Rattle.miniserde_read.proofs.Consumes.{close_passed, element_passed, key_passed, after_ends, name_ends}
+use Rattle.miniserde_text.proofs.Consumes.{close_passed, element_passed, key_passed, after_ends, name_ends}
 use Rattle.miniserde_place.proofs.Moved.{moved_one, barred_one, never_barred}
 use Rattle.miniserde_place.proofs.Spelled.{close_spellable, element_spellable, key_spellable}
 use Rattle.miniserde_read.proofs.Length.{follows_least, stands_least}

@@ -5,7 +5,7 @@ use Rattle.std.proofs.lemmas.Result.{err_from_is_err_and}
 use Rattle.miniserde_text.specs.Lexer.{event_of_token}
 use Rattle.miniserde_text.specs.private.Stack.{with_opened, innermost}
 use Rattle.miniserde_text.specs.private.Moving.{opened_kind, before_child}
-use Rattle.miniserde_read.proofs.Consumes.{Reaches-append, ends_behind}
+use Rattle.miniserde_text.proofs.Consumes.{Reaches-append, ends_behind}
 use Rattle.miniserde_read.proofs.Skips.{reaches_init, skip_ok, skip_none}
 use Rattle.miniserde_read.proofs.ignored.skip.Goals as goal
 

@@ -4,7 +4,7 @@ use Rattle.std.proofs.Common.{◌≡◌, None, [], is_some, length}
 use Rattle.miniserde_text.specs.Lexer.{event_of_token}
 use Rattle.miniserde_text.specs.private.Stack.{with_opened}
 use Rattle.miniserde_text.specs.private.Moving.{before_child, opened_kind}
-use Rattle.miniserde_read.specs.private.Runs.{Reaches}
+use Rattle.miniserde_text.specs.private.Runs.{Reaches}
 use Rattle.miniserde_read.proofs.ignored.skip.Given as goal
 
 abbrev pub invariant-loop-kind : goal.invariant-loop-kind

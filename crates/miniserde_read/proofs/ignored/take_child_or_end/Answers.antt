@@ -7,9 +7,9 @@ use Rattle.miniserde_model.specs.Lexing.{Follows}
 use Rattle.miniserde_model.specs.private.Reading.{due}
 use Rattle.miniserde_text.specs.Lexer.{is_close}
 use Rattle.miniserde_text.specs.private.Moving.{before_child}
-use Rattle.miniserde_read.specs.private.Runs.{Reaches}
-use Rattle.miniserde_read.proofs.Consumes.{close_passed, element_passed, key_passed, after_ends, name_ends}
-use Rattle.miniserde_read.proofs.Consumes.{ends_behind, Reaches-one, Reaches-append}
+use Rattle.miniserde_text.specs.private.Runs.{Reaches}
+use Rattle.miniserde_text.proofs.Consumes.{close_passed, element_passed, key_passed, after_ends, name_ends}
+use Rattle.miniserde_text.proofs.Consumes.{ends_behind, Reaches-one, Reaches-append}
 use Rattle.miniserde_read.proofs.ignored.take_child_or_end.Goals as goal
 
 pub returns-in_err-after-clause-invalid : goal.returns-in_err-after-clause-invalid

@@ -1,7 +1,7 @@
 -- `take_child_or_end` reads the token of an end, an element or a name, and the draft takes the same token. By cases
--- of the lexer's result and of the kind, each with a lemma of `Steps.antt` for the text and one of `Taking.antt` for
+-- of the lexer's result and of the kind, each with a lemma of `Consumes.antt` for the text and one of `Taking.antt` for
 -- the draft.
-use Rattle.std.proofs.Common.{◌≡◌, ℕ, List, true, false, ◌∷◌, [], ◌++◌, ap, subst, ◌∙◌, arith}
+use Rattle.std.proofs.Common.{◌≡◌, ℕ, List, true, false, ◌∷◌, [], ◌++◌, subst, ◌∙◌, arith}
 use Rattle.std.proofs.lemmas.Result.{err_from_is_err_and}
 use Rattle.std.specs.String.{string_bytes}
 use Rattle.miniserde_model.specs.Lexing.{Follows}
@@ -11,7 +11,7 @@ use Rattle.miniserde_text.specs.private.Moving.{before_child}
 use Rattle.miniserde_canonical.specs.private.Arranging.{comma_before, State, TokenStep}
 use Rattle.miniserde_canonical.specs.private.Drafts.{Wrote, Holding, Represents}
 use Rattle.miniserde_canonical.specs.private.Moving.{end_token}
-use Rattle.miniserde_canonical.proofs.Steps.{close_forces, element_forces, key_forces, after_barred, name_barred}
+use Rattle.miniserde_text.proofs.Consumes.{close_passed, element_passed, key_passed, after_ends, name_ends}
 use Rattle.miniserde_canonical.proofs.Wholes.{reads_finish, reads_element, reads_key}
 use Rattle.miniserde_canonical.proofs.Plains.{name_plain, name_spelled, at_once}
 use Rattle.miniserde_canonical.proofs.Taking.{skipped, takes_end, takes_element, takes_name, stands_less}
@@ -22,7 +22,7 @@ use Rattle.miniserde_canonical.proofs.read.Reader.take_child_or_end.Goals as goa
 pub returns-in_err-after-clause-invalid : goal.returns-in_err-after-clause-invalid
 returns-in_err-after-clause-invalid c = λ e.
     let w = err_from_is_err_and c.from_residual-in_err-after.result c.from_residual-in_err-after.ensures.1 in
-    after_barred _ _ c.args.kind c.args.first c.requires.inside
+    after_ends _ _ c.args.kind c.args.first c.requires.inside
     (λ a r p. c.in_err-after.ensures.invalid (cc (w.1, w.2, e))
     (c.in_ok-before.ensures.going ∙ c.requires.going) a r
     (follows_at c.args.kind c.args.first a _ _ r c.in_ok-before.ensures.blank p))
@@ -34,7 +34,7 @@ returns-in_err-text-in-Map-clause-invalid c = λ e.
     let p : Follows k c.args.first false c.skip.new.lexer.rest c.after.new.self.rest =
     subst (λ z. Follows k c.args.first (is_close z) c.skip.new.lexer.rest c.after.new.self.rest) c.in-Next.is
     c.in_ok-after.ensures.ok.2 in
-    name_barred _ _ _ k c.args.first c.requires.inside c.in-Map.is
+    name_ends _ _ _ k c.args.first c.requires.inside c.in-Map.is
     (follows_behind k c.args.first false _ _ _ c.in_ok-before.ensures.blank p)
     (λ n x q. c.in_err-text-in-Map.ensures.invalid (cc (w.1, w.2, e))
     (c.in_ok-at-in-Map.ensures.going ∙ c.in_ok-after.ensures.ok.1) n x
@@ -57,7 +57,7 @@ returns-in_ok-end-in-Close-clause-reads c =
     subst (λ z. Follows k c.args.first (is_close z) mid new) c.in-Close.is c.in_ok-after.ensures.ok.2 in (
       end_token k ∷ [],
       reads_finish _ _ _ _ k (before_child c.args.first) c.requires.inside c.pop.ensures
-          (close_forces _ _ _ _ k c.args.first c.requires.inside
+          (close_passed _ _ _ _ k c.args.first c.requires.inside
           (follows_behind k c.args.first true old mid new b p) c.pop.ensures),
       takes_end (before_child c.args.first) k old mid new d d1 c.end.new.self
           (skipped d d1 old mid c.in_ok-before.ensures.wrote c.in_ok-before.ensures.only_text)
@@ -78,7 +78,7 @@ returns-in-Seq-clause-reads c =
     subst (λ z. Follows k c.args.first (is_close z) mid new) c.in-Next.is c.in_ok-after.ensures.ok.2 in (
       element ∷ [],
       reads_element (before_child c.args.first) _ _ _
-          (element_forces _ _ _ k c.args.first c.requires.inside c.in-Seq.is
+          (element_passed _ _ _ k c.args.first c.requires.inside c.in-Seq.is
           (follows_behind k c.args.first false old mid new b p)),
       takes_element c.args.first old mid new d d1
           (skipped d d1 old mid c.in_ok-before.ensures.wrote c.in_ok-before.ensures.only_text)
@@ -112,7 +112,7 @@ returns-in_ok-name-in-Map-clause-reads c =
     (name_spelled text x at new q c.in_ok-text-in-Map.ensures.text) f a) in (
       name n ∷ [],
       reads_key (before_child c.args.first) _ _ _ n
-          (key_forces _ _ _ _ _ k c.args.first c.requires.inside c.in-Map.is
+          (key_passed _ _ _ _ _ k c.args.first c.requires.inside c.in-Map.is
           (follows_behind k c.args.first false old mid behind b p) (names_behind behind at n new b2 q)),
       takes_name c.args.first n old mid behind at q.part new d d1 d2 c.name-in-Map.new.self
           (skipped d d1 old mid c.in_ok-before.ensures.wrote c.in_ok-before.ensures.only_text)

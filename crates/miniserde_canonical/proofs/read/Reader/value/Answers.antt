@@ -1,5 +1,5 @@
 -- `value` reads the first token of a value, and the draft takes the same token. Whitespace is skipped first, then
--- `value_forces` is the lemma for the text and `takes_front` the lemma for the draft.
+-- `value_passed` is the lemma for the text and `takes_front` the lemma for the draft.
 use Rattle.std.proofs.Common.{◌∷◌, [], subst, sym, ◌∙◌}
 use Rattle.std.proofs.lemmas.Result.{err_from_is_err_and}
 use Rattle.std.specs.String.{string_bytes}
@@ -8,7 +8,7 @@ use Rattle.miniserde_canonical.specs.private.Arranging.{State, TokenStep}
 use Rattle.miniserde_canonical.specs.private.Drafts.{Represents}
 use Rattle.miniserde_canonical.specs.private.Moving.{first_token}
 use Rattle.miniserde_canonical.specs.private.Plain.{SpellsToken}
-use Rattle.miniserde_canonical.proofs.Steps.{value_forces, start_barred}
+use Rattle.miniserde_text.proofs.Consumes.{value_passed, start_ends}
 use Rattle.miniserde_canonical.proofs.Wholes.{reads_start}
 use Rattle.miniserde_canonical.proofs.Plains.{spelled, at_once}
 use Rattle.miniserde_canonical.proofs.Taking.{skipped, starts_behind, starts_at, takes_front}
@@ -17,7 +17,7 @@ use Rattle.miniserde_canonical.proofs.read.Reader.value.Goals as goal
 pub returns-in_err-event-clause-invalid : goal.returns-in_err-event-clause-invalid
 returns-in_err-event-clause-invalid c = λ e.
     let w = err_from_is_err_and c.from_residual-in_err-event.result c.from_residual-in_err-event.ensures.1 in
-    start_barred _ _ (λ t r p. c.in_err-event.ensures.invalid (cc (w.1, w.2, e))
+    start_ends _ _ (λ t r p. c.in_err-event.ensures.invalid (cc (w.1, w.2, e))
     (c.in_ok-at.ensures.going ∙ c.requires.going) t r (starts_at _ _ t r c.in_ok-at.ensures.blank p))
 
 pub returns-clause-reads : goal.returns-clause-reads
@@ -35,7 +35,7 @@ returns-clause-reads c =
     let o = c.in_ok-opened.ensures.opens x in
     let s = c.in_ok-event.ensures.ok.2 in
     let full = starts_behind old mid e new b s in
-    let p = value_forces _ _ _ e c.in_ok-opened.opened _ full o st in
+    let p = value_passed _ _ _ e c.in_ok-opened.opened _ full o st in
     let spells : SpellsToken event c.as_str.result.now s.0.part =
     subst (λ z. SpellsToken event z s.0.part) (sym c.as_str.ensures.value)
     (spelled event x mid new s c.in_ok-event.ensures.text) in

@@ -1,13 +1,13 @@
 -- `take_child_or_end` builds exactly the events that it passes: an end, or the events up to the first token of a
 -- child. By cases of the source's result and of the kind, each with a lemma of `Builds.antt`.
-use Rattle.std.proofs.Common.{true, false, option_map, sym, ap, subst, ◌∙◌}
+use Rattle.std.proofs.Common.{true, false, sym, ap, subst, ◌∙◌}
 use Rattle.std.specs.Prelude.{◌&&◌}
 use Rattle.std.proofs.lemmas.Result.{err_from_is_err_and, IfOk-weaker}
 use Rattle.miniserde_model.specs.Lexing.{Follows}
 use Rattle.miniserde_model.specs.private.Reading.{due}
 use Rattle.miniserde_text.specs.Lexer.{is_close}
 use Rattle.miniserde_text.specs.private.Moving.{before_child}
-use Rattle.miniserde_read.proofs.Consumes.{after_ends, name_ends}
+use Rattle.miniserde_text.proofs.Consumes.{after_ends, name_ends}
 use Rattle.miniserde_value.specs.Builders.{hole_in}
 use Rattle.miniserde_value.specs.Hole.{has_member, with_name}
 use Rattle.miniserde_value.specs.private.Builds.{Builds, kinds}

@@ -10,9 +10,9 @@ use Rattle.miniserde_model.specs.private.Reading.{Moment, due, after}
 use Rattle.miniserde_text.specs.private.Stack.{with_opened, innermost, outer}
 use Rattle.miniserde_text.specs.private.Moving.{opened_kind, before_child, MomentFits}
 use Rattle.miniserde_text.proofs.Stacks.{split_top}
-use Rattle.miniserde_read.specs.private.Runs.{Runs, Consumes, Reaches, NeverRuns}
+use Rattle.miniserde_text.specs.private.Runs.{Runs, Consumes, Reaches, NeverRuns}
 use Rattle.miniserde_text.proofs.Starting.{live_at, same_start, same_name}
-use Rattle.miniserde_read.proofs.Same.{close_same, next_same, close_no_next}
+use Rattle.miniserde_text.proofs.Turning.{close_same, next_same, close_no_next}
 
 -- ---- a value's first event
 
@@ -147,8 +147,6 @@ runs_name _ _ st s b r p h = absurd h
 runs_start : (es : List Step) (st : List Kind) (s r : List ℕ) → Runs due es st s r → (e : Step) × (b : List ℕ) × Starts s e b
 runs_start [] st s r h = absurd h
 runs_start (e ∷ es) st s r h = (e, h.0, h.1)
-
--- ---- what bars a value
 
 -- ---- where a token is missing
 

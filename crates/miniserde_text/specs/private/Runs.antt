@@ -1,4 +1,5 @@
--- How a text goes on event by event, for an engine that reads a value from the middle of a text on.
+-- How a text goes on event by event, for an engine that reads a value from the middle of a text on. A whole text is a run
+-- whose rest is whitespace (`proofs/Wholes.antt`).
 use Rattle.std.specs.Prelude.{◌≡◌, ℕ, true, false, is_some, List, [], ◌∷◌, ◌++◌}
 use Rattle.miniserde_model.specs.Step.{Step, element, key, finish}
 use Rattle.miniserde_model.specs.Lexing.{Starts, Names, Follows}
