@@ -56,7 +56,8 @@ after_space (key s ∷ es) (Map ∷ st) w b h p = front_space w b h p
 after_space (finish ∷ es) (Map ∷ st) w b h p = front_space w b h p
 after_space _ _ w b h p = absurd p
 
-at_front : {P K : List ℕ → Type 0} (v r b : List ℕ) → P v → K r → b ≡ v ++ r → StandsThen P K b
+-- a text that is a part and then a rest, without whitespace before the part
+pub at_front : {P K : List ℕ → Type 0} (v r b : List ℕ) → P v → K r → b ≡ v ++ r → StandsThen P K b
 at_front v r b p k e = record { space = []; part = v; rest = r; text = e; is_space = tt; is_part = p; is_rest = k }
 
 -- an element, from what follows its value

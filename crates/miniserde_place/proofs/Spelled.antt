@@ -11,6 +11,7 @@ use Rattle.miniserde_model.specs.Lexing.{Starts, Names}
 use Rattle.miniserde_model.specs.declared.kind.Kind.{Kind}
 use Rattle.miniserde_model.specs.declared.kind.Kind.TheVariants.{Seq, Map}
 use Rattle.miniserde_model.specs.private.Reading.{Moment, due, first, after}
+use Rattle.miniserde_model.proofs.Reading.{at_front}
 use Rattle.miniserde_model.proofs.ReadBack.{spells_json, nothing_left}
 use Rattle.miniserde_model.proofs.Accepted.{json_tree}
 use Rattle.miniserde_text.specs.Lexer.{event_of_token}
@@ -19,27 +20,29 @@ use Rattle.miniserde_text.specs.declared.json.lex.Event.TheVariants as variant
 use Rattle.miniserde_text.specs.private.Stack.{with_opened, innermost, outer}
 use Rattle.miniserde_text.specs.private.Moving.{opened_kind, before_child, MomentFits}
 use Rattle.miniserde_text.proofs.Stacks.{split_top}
-use Rattle.miniserde_text.proofs.Starting.{front, starts_on}
+use Rattle.miniserde_text.proofs.Starting.{starts_on}
 use Rattle.miniserde_place.specs.private.Runs.{Spellable}
 
 -- ---- one event before others
 
 with_finish : (k : Kind) (f : Bool) (st : List Kind) (es : List Step) → Spellable after es st
     → Spellable (before_child f) (finish ∷ es) (k ∷ st)
-with_finish Seq true st es h = (93 ∷ h.0, front [] (93 ∷ []) h.0 tt refl h.1)
-with_finish Seq false st es h = (93 ∷ h.0, front [] (93 ∷ []) h.0 tt refl h.1)
-with_finish Map true st es h = (125 ∷ h.0, front [] (125 ∷ []) h.0 tt refl h.1)
-with_finish Map false st es h = (125 ∷ h.0, front [] (125 ∷ []) h.0 tt refl h.1)
+with_finish Seq true st es h = (93 ∷ h.0, at_front (93 ∷ []) h.0 _ refl h.1 refl)
+with_finish Seq false st es h = (93 ∷ h.0, at_front (93 ∷ []) h.0 _ refl h.1 refl)
+with_finish Map true st es h = (125 ∷ h.0, at_front (125 ∷ []) h.0 _ refl h.1 refl)
+with_finish Map false st es h = (125 ∷ h.0, at_front (125 ∷ []) h.0 _ refl h.1 refl)
 
 with_element : (f : Bool) (st : List Kind) (es : List Step) → Spellable due es (Seq ∷ st)
     → Spellable (before_child f) (element ∷ es) (Seq ∷ st)
 with_element true st es h = h
-with_element false st es h = (44 ∷ h.0, front [] (44 ∷ []) h.0 tt refl h.1)
+with_element false st es h = (44 ∷ h.0, at_front (44 ∷ []) h.0 _ refl h.1 refl)
 
 with_key : (f : Bool) (st : List Kind) (s r n : List ℕ) → Names s n r → (es : List Step)
     → Spellable due es (Map ∷ st) → Spellable (before_child f) (key n ∷ es) (Map ∷ st)
-with_key true st s r n p es h = (p.part ++ h.0, front [] p.part h.0 tt p.is_part h.1)
-with_key false st s r n p es h = (44 ∷ (p.part ++ h.0), front [] (44 ∷ []) (p.part ++ h.0) tt refl (front [] p.part h.0 tt p.is_part h.1))
+with_key true st s r n p es h = (p.part ++ h.0, at_front p.part h.0 _ p.is_part h.1 refl)
+with_key false st s r n p es h =
+    let named = at_front p.part h.0 _ p.is_part h.1 refl in
+    (44 ∷ (p.part ++ h.0), at_front (44 ∷ []) (p.part ++ h.0) _ refl named refl)
 
 -- ---- the same by the innermost container
 
@@ -97,7 +100,7 @@ pub more_to_come : (m : Moment) (st : List Kind) → MomentFits m st → Unfinis
     → (e : Step) × (rest : List Step) × Spellable m (e ∷ rest) st
 more_to_come after [] l u = absurd u
 more_to_come after (k ∷ st) l u = let r = closers st in (finish, r.0, with_finish k false st r.0 r.1)
-more_to_come due st l u = let r = closers st in (step.null, r.0, (codes "null" ++ r.1.0, front [] (codes "null") r.1.0 tt refl r.1.1))
+more_to_come due st l u = let r = closers st in (step.null, r.0, (codes "null" ++ r.1.0, at_front (codes "null") r.1.0 _ refl r.1.1 refl))
 more_to_come first [] l u = absurd l
 more_to_come first (k ∷ st) l u = let r = closers st in (finish, r.0, with_finish k true st r.0 r.1)
 
@@ -125,5 +128,5 @@ tree_spelled (variant.Negative z) scratch es n h = leaf_ends es n h
 tree_spelled (variant.Nonnegative m) scratch es n h = leaf_ends es n h
 tree_spelled (variant.Number x) scratch es n h = leaf_ends es n h
 tree_spelled (variant.Str t) scratch es n h = leaf_ends es n h
-tree_spelled variant.SeqStart scratch es n h = spelled_events (seq ∷ es) (91 ∷ h.0, front [] (91 ∷ []) h.0 tt refl h.1)
-tree_spelled variant.MapStart scratch es n h = spelled_events (map ∷ es) (123 ∷ h.0, front [] (123 ∷ []) h.0 tt refl h.1)
+tree_spelled variant.SeqStart scratch es n h = spelled_events (seq ∷ es) (91 ∷ h.0, at_front (91 ∷ []) h.0 _ refl h.1 refl)
+tree_spelled variant.MapStart scratch es n h = spelled_events (map ∷ es) (123 ∷ h.0, at_front (123 ∷ []) h.0 _ refl h.1 refl)

@@ -211,20 +211,6 @@ same_name s n m r x p q =
 pub stands : {P K : List ℕ → Type 0} (b : List ℕ) (p : StandsThen P K b) → Stands P b p.rest
 stands b p = record { space = p.space; part = p.part; text = p.text; is_space = p.is_space; is_part = p.is_part }
 
--- whitespace, a part of which P holds and a rest of which K holds are a `StandsThen`
-pub front : {P K : List ℕ → Type 0} (space part r : List ℕ) → IsWhitespace space → P part → K r → StandsThen P K ((space ++ part) ++ r)
-front space part r w p k =
-    record {
-      space = space;
-      part = part;
-      rest = r;
-      text = append_assoc space part r;
-      is_space = w;
-      is_part =
-          p;
-      is_rest = k;
-    }
-
 -- if K holds of the rest of a `Stands`, it is a `StandsThen`
 pub standing : {P K : List ℕ → Type 0} (s r : List ℕ) → Stands P s r → K r → StandsThen P K s
 standing s r p k =

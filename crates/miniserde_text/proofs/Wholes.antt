@@ -96,7 +96,8 @@ parted s r p = (
 )
 
 -- behind an opening bracket, the text from the first byte of a value on
-bared : (es : List Step) (st : List Kind) (s r : List ℕ) → Runs due es st s r → (b : List ℕ) × Follows Seq true false s b × Runs due es st b r
+bared : (es : List Step) (st : List Kind) (s r : List ℕ) → Runs due es st s r → (b : List ℕ) × Follows Seq true false s b
+    × Runs due es st b r
 bared [] st s r h = absurd h
 bared (e ∷ es) st s r h =
     let p = h.1.0 in
