@@ -6,9 +6,6 @@ use Rattle.std.proofs.Common.{length-append}
 use Rattle.std.proofs.Math.Seq.{take-append_seam}
 use Rattle.std.proofs.lemmas.List.{take-append-drop, length-take-le, length-drop, drop_all, take_all}
 use Rattle.miniserde_model.specs.Normal.{norm_members, Rise}
-use Rattle.miniserde_text.specs.Lexer.{event_of_token}
-use Rattle.miniserde_text.specs.declared.json.lex.Event as lex
-use Rattle.miniserde_text.specs.declared.json.lex.Event.TheVariants as lexed
 use Rattle.miniserde_canonical.specs.declared.member.Member.{Member}
 use Rattle.miniserde_canonical.specs.declared.draft.Draft.{Draft}
 use Rattle.miniserde_canonical.specs.private.Spreads.{Holds, none, SplicesInOrder}
@@ -16,13 +13,13 @@ use Rattle.miniserde_canonical.specs.private.Names.{name_of}
 use Rattle.miniserde_canonical.specs.private.Members.{NamesRise}
 use Rattle.miniserde_canonical.specs.private.Arranging.{comma_before, Entry, State, start, entry_members}
 use Rattle.miniserde_canonical.specs.private.Arranging.{members_text, entries_text, once_each, Adds, Sorted}
-use Rattle.miniserde_canonical.specs.private.Arranging.{Arranged, Closes, TokenStep, first_token_text}
-use Rattle.miniserde_canonical.specs.private.Moving.{first_token}
+use Rattle.miniserde_canonical.specs.private.Arranging.{Arranged, Closes}
 use Rattle.miniserde_canonical.specs.private.Sorting.{Chain, SortsMembers}
-use Rattle.miniserde_canonical.specs.private.Drafts.{Holding, Represents, ChangesOnlyText}
+use Rattle.miniserde_canonical.specs.private.Drafts.{Wrote, Holding, Represents, ChangesOnlyText}
 use Rattle.miniserde_canonical.proofs.Spreads.{holds_plain, holds_behind}
 use Rattle.miniserde_canonical.proofs.Chains.{chain_lengths, chain_add, chain_more, chain_begin, chain_merge, chain_cut}
 use Rattle.miniserde_canonical.proofs.Owning.{chain_agrees, cut_own}
+use Rattle.miniserde_canonical.proofs.Running.{wrote_on}
 use Rattle.miniserde_canonical.proofs.MemberLists.{Agree, rise_all}
 
 -- a draft without text, groups, members and open objects, with all input left, represents `start`
@@ -309,18 +306,23 @@ too_few d bs s os before r e l ps f h i =
 pub behind : (xs ys : List Member) (f : ℕ) → ys ≡ xs → take (length ys - f) (drop f ys) ≡ drop f xs
 behind xs ys f e = take_all (length ys - f) (drop f ys) (omega (arith, length-drop f ys)) ∙ ap (drop f) e
 
--- the step of a value's first token adds the token's text to a state, unless the token opens an object
-pub front_adds : (e : lex.Event) (scratch : List ℕ) (s s' : State) → (e ≡ lexed.MapStart → ⊥)
-    → TokenStep (first_token (event_of_token e scratch)) s s'
-    → Adds (first_token_text (first_token (event_of_token e scratch))) s s'
-front_adds lexed.Null scratch s s' n h = h.0
-front_adds (lexed.Bool b) scratch s s' n h = h.0
-front_adds (lexed.Negative z) scratch s s' n h = h.0
-front_adds (lexed.Nonnegative x) scratch s s' n h = h.0
-front_adds (lexed.Number x) scratch s s' n h = h.0
-front_adds (lexed.Str t) scratch s s' n h = h.0
-front_adds lexed.SeqStart scratch s s' n h = h.0
-front_adds lexed.MapStart scratch s s' n h = absurd (n refl)
+-- if a draft writes the bytes x and nothing else changes, it represents a state with x appended
+pub written : (d d' : Draft) (rest rest' : List ℕ) (s s' : State) (x : List ℕ) → Adds x s s' → (r : Represents d rest s)
+    → Wrote d' rest' (r.bytes ++ x) → ChangesOnlyText d d' → Represents d' rest' s'
+written d d' rest rest' s s' x a r w k = record {
+  bytes = r.bytes ++ x;
+  wrote = w;
+  holding = holding_added d' r.bytes s s' x a (keep_holding d d' r.bytes s k r.holding);
+}
+
+-- a part of the input that is appended to the state joins the run
+pub stays : (d : Draft) (rest part rest' : List ℕ) (s s' : State) → Adds part s s' → Represents d rest s
+    → rest ≡ part ++ rest' → Represents d rest' s'
+stays d rest part rest' s s' a r e = record {
+  bytes = r.bytes ++ part;
+  wrote = wrote_on d rest part rest' r.bytes r.wrote e;
+  holding = holding_added d r.bytes s s' part a r.holding;
+}
 
 -- ---- the end of a text
 

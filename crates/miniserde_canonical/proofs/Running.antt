@@ -18,7 +18,7 @@ use Rattle.miniserde_text.specs.declared.json.lex.Text.TheVariants.{Input, Scrat
 use Rattle.miniserde_canonical.specs.declared.draft.Draft.{Draft}
 use Rattle.miniserde_canonical.specs.private.Moving.{first_token}
 use Rattle.miniserde_canonical.specs.private.Plain.{TextSpelled, SpellsToken, NameSpelled}
-use Rattle.miniserde_canonical.specs.private.Arranging.{first_token_text}
+use Rattle.miniserde_canonical.specs.private.Arranging.{State, TokenStep, Adds}
 use Rattle.miniserde_canonical.specs.private.Spreads.{part_between}
 use Rattle.miniserde_canonical.specs.private.Drafts.{Wrote}
 use Rattle.miniserde_canonical.proofs.Spreads.{between_mid}
@@ -82,18 +82,18 @@ as_negative (pos zero) part p n = absurd (n refl)
 as_negative (pos (suc k)) part p n = let low = (value_tree (neg (pos (suc k))) part p).0 in absurd (omega (arith, ints, low))
 as_negative (negsuc k) part p n = sym (neg_text part (negsuc k) p)
 
--- the bytes of a token other than a string or a number with a minus are the text that is written for it
-pub as_it_is : (e : Event) (scratch part : List ℕ) → SpellsToken e scratch part
-    → ((z : ℤ) → e ≡ event.Negative z → ⊥) → ((t : Text) → e ≡ event.Str t → ⊥)
-    → part ≡ first_token_text (first_token (event_of_token e scratch))
-as_it_is event.Null scratch part p n m = p.0
-as_it_is (event.Bool b) scratch part p n m = p.0
-as_it_is (event.Negative z) scratch part p n m = absurd (n z refl)
-as_it_is (event.Nonnegative k) scratch part p n m = sym (nonneg_text part k p.0)
-as_it_is (event.Number x) scratch part p n m = tells part (num x.now) p.0
-as_it_is (event.Str t) scratch part p n m = absurd (m t refl)
-as_it_is event.SeqStart scratch part p n m = p.0
-as_it_is event.MapStart scratch part p n m = p.0
+-- the step of a token other than a string, a number with a minus or `{` appends the bytes of the token
+pub as_it_is : (e : Event) (scratch part : List ℕ) (s s' : State) → SpellsToken e scratch part
+    → ((z : ℤ) → e ≡ event.Negative z → ⊥) → ((t : Text) → e ≡ event.Str t → ⊥) → (e ≡ event.MapStart → ⊥)
+    → TokenStep (first_token (event_of_token e scratch)) s s' → Adds part s s'
+as_it_is event.Null scratch part s s' p n m o h = subst (λ z. Adds z s s') (sym p.0) h.0
+as_it_is (event.Bool b) scratch part s s' p n m o h = subst (λ z. Adds z s s') (sym p.0) h.0
+as_it_is (event.Negative z) scratch part s s' p n m o h = absurd (n z refl)
+as_it_is (event.Nonnegative k) scratch part s s' p n m o h = subst (λ z. Adds z s s') (nonneg_text part k p.0) h.0
+as_it_is (event.Number x) scratch part s s' p n m o h = subst (λ z. Adds z s s') (sym (tells part (num x.now) p.0)) h.0
+as_it_is (event.Str t) scratch part s s' p n m o h = absurd (m t refl)
+as_it_is event.SeqStart scratch part s s' p n m o h = subst (λ z. Adds z s s') (sym p.0) h.0
+as_it_is event.MapStart scratch part s s' p n m o h = absurd (o refl)
 
 pub name_stands : (t : Text) (scratch part : List ℕ) (len : ℕ) → NameSpelled t part → len ≡ length part
     → ((x : _) → t ≡ Input x → len ≡ length x.now + 3) → (t ≡ Scratch → ⊥) → part ≡ string_text (text_of t scratch)

@@ -25,11 +25,11 @@ use Rattle.miniserde_text.specs.private.Moving.{opened_kind, before_child}
 use Rattle.miniserde_canonical.specs.Token.{Token, leaf, name, array, array_end, object, object_end, tokens}
 use Rattle.miniserde_canonical.specs.Token as token
 use Rattle.miniserde_canonical.specs.declared.draft.Draft.{Draft}
-use Rattle.miniserde_canonical.specs.private.Arranging.{comma_before, State, TokenStep, Run, start}
+use Rattle.miniserde_canonical.specs.private.Arranging.{comma_before, State, Closes, TokenStep, Run, start}
 use Rattle.miniserde_canonical.specs.private.Drafts.{Wrote, Holding, Represents, ChangesOnlyText, Recalls, Takes}
-use Rattle.miniserde_canonical.specs.private.Moving.{first_token, end_token, ReadsTokens}
+use Rattle.miniserde_canonical.specs.private.Moving.{first_token, ReadsTokens}
 use Rattle.miniserde_canonical.proofs.Growing.{run_append}
-use Rattle.miniserde_canonical.proofs.Drafting.{keep_holding, holding_added}
+use Rattle.miniserde_canonical.proofs.Drafting.{keep_holding, stays}
 use Rattle.miniserde_canonical.proofs.Running.{wrote_on}
 use Rattle.miniserde_canonical.proofs.Wholes.{ReadsTokens-append, end_ok}
 
@@ -97,17 +97,10 @@ takes_element f rest mid rest' d d' k e = λ s r h.
       distinct = s.distinct;
     } in
     let a : TokenStep token.element s s' = (refl, refl, refl, refl) in
-    let q = k s r in
     let comma : mid ≡ comma_before s.first ++ rest' = e ∙ ap (λ z. comma_before z ++ rest') (sym (recalled f s h)) in (
       s',
       (s', a, refl),
-      record {
-        bytes = q.bytes ++ comma_before s.first;
-        wrote =
-            wrote_on d' mid (comma_before s.first) rest' q.bytes q.wrote comma;
-        holding =
-            holding_added d' q.bytes s s' (comma_before s.first) a q.holding;
-      },
+      stays d' mid (comma_before s.first) rest' s s' a (k s r) comma,
       tt,
     )
 
@@ -133,18 +126,31 @@ takes_name f n rest mid rest1 rest2 part rest' d d1 d2 d' k e w p g = λ s r h.
     let wrote = w (q.bytes ++ comma_before s.first) (wrote_on d1 mid (comma_before s.first) rest1 q.bytes q.wrote comma) in
     (s', (s', a, refl), g q.bytes s s' wrote (keep_holding d1 d2 q.bytes s p q.holding) i a, tt)
 
-end_recalls : (k : Kind) (s s' : State) → TokenStep (end_token k) s s' → s'.first ≡ false
-end_recalls Seq s s' a = a.1
-end_recalls Map s s' a = a.3
+-- the state behind a closing bracket
+abbrev ended : ℕ → State → State
+ended b s = record { entries = s.entries; last = s.last ++ b ∷ []; opened = s.opened; first = false; distinct = s.distinct }
 
--- a draft takes a closing bracket if it leaves out whitespace, and then makes the step of the bracket
-pub takes_end : (m : Moment) (k : Kind) (rest mid rest' : List ℕ) (d d1 d' : Draft)
-    → ((s : State) → Represents d rest s → Represents d1 mid s)
-    → ((s : State) → Represents d1 mid s → (s' : State) × TokenStep (end_token k) s s' × Represents d' rest' s')
-    → Takes m rest (end_token k ∷ []) after rest' d d'
-takes_end m k rest mid rest' d d1 d' w f = λ s r h.
-    let t = f s (w s r) in
-    (t.0, (t.0, t.1, refl), t.2, end_recalls k s t.0 t.1)
+-- a draft takes the end of an array if it leaves out whitespace; the bracket joins the run
+pub takes_array_end : (m : Moment) (rest mid rest' : List ℕ) (d d' : Draft)
+    → ((s : State) → Represents d rest s → Represents d' mid s) → mid ≡ 93 ∷ rest'
+    → Takes m rest (array_end ∷ []) after rest' d d'
+takes_array_end m rest mid rest' d d' k e = λ s r h.
+    let t = ended 93 s in
+    (t, (t, ((refl, refl, refl, refl), refl), refl), stays d' mid (93 ∷ []) rest' s t (refl, refl, refl, refl) (k s r) e, refl)
+
+-- a draft takes the end of an object if it leaves out whitespace, and then closes the object; the bracket joins the run
+pub takes_object_end : (m : Moment) (rest mid rest' : List ℕ) (d d1 d' : Draft)
+    → ((s : State) → Represents d rest s → Represents d1 mid s) → mid ≡ 125 ∷ rest'
+    → ((s : State) → Represents d1 mid s → (n : State) × Closes s n × Represents d' mid n)
+    → Takes m rest (object_end ∷ []) after rest' d d'
+takes_object_end m rest mid rest' d d1 d' k e f = λ s r h.
+    let q = f s (k s r) in
+    let t = ended 125 q.0 in (
+      t,
+      (t, (q.0, q.1, (refl, refl, refl, refl), refl), refl),
+      stays d' mid (125 ∷ []) rest' q.0 t (refl, refl, refl, refl) q.2 e,
+      refl,
+    )
 
 -- ---- all tokens so far
 

@@ -10,12 +10,12 @@
 //! says both.
 ghost use Rattle.std.specs.Prelude.{◌≡◌, ◌++◌, ◌∷◌, [], ℕ, List, length, IfOk, OnOk};
 ghost use Rattle.miniserde_model.specs.Compact.{string_text};
-ghost use Rattle.miniserde_model.specs.Lexing.{closing};
 ghost use Rattle.miniserde_text.specs.Lexer.{event_of_token, text_of};
+ghost use Rattle.miniserde_text.specs.private.Moving.{opened_kind};
 ghost use Rattle.miniserde_canonical.specs.Token.{name};
-ghost use Rattle.miniserde_canonical.specs.private.Moving.{first_token, end_token};
+ghost use Rattle.miniserde_canonical.specs.private.Moving.{first_token};
 ghost use Rattle.miniserde_canonical.specs.private.Plain.{TextPlain, TextSpelled, SpellsToken, NameSpelled};
-ghost use Rattle.miniserde_canonical.specs.private.Arranging.{State, TokenStep, Closes, comma_before, first_token_text, start};
+ghost use Rattle.miniserde_canonical.specs.private.Arranging.{State, TokenStep, Closes, comma_before, start};
 ghost use Rattle.miniserde_canonical.specs.private.Drafts.{Wrote, Holding, ChangesOnlyText, Represents};
 
 use crate::member::{Member, Name};
@@ -114,47 +114,38 @@ impl<'a> Draft<'a> {
         Ok(())
     }
 
-    /// Takes the first token of a value, whose span in the input is `span`, and opens an object if the token does.
-    /// `scratch` has the text of a decoded string. Fails if an allocation fails.
+    /// Takes the first token of a value, whose span in the input is `span`, and returns the kind of the container that it
+    /// opens. `-0` and a string that was decoded into `scratch` are written anew; any other token stays in the run. Fails
+    /// if an allocation fails.
     #[inline(always)]
     pub(crate) fn token(
         &mut self,
         token: Event<'_>,
         scratch: &str,
         span: InputSpan,
-    ) -> Result<(), AllocError>
-        ensures { OnOk result ((rest part rest' : List ℕ) (s s' : State) → Represents self.old rest s
+    ) -> Result<Option<Kind>, AllocError>
+        ensures opens { IfOk result (λ k. k ≡ opened_kind (event_of_token token.entry scratch.now)) }
+        ensures takes { OnOk result ((rest part rest' : List ℕ) (s s' : State) → Represents self.old rest s
             → rest ≡ part ++ rest' → span.at ≡ length rest → span.end ≡ length rest'
             → SpellsToken token.entry scratch.now part → TokenStep (first_token (event_of_token token.entry scratch.now)) s s'
             → Represents self.new rest' s') }
     {
-        self.text(token, scratch, span)?;
-        if let Event::MapStart = token {
-            self.opened.push(self.members.len())?;
-        }
-        Ok(())
-    }
-
-    // Takes the text of the first token of a value, whose span in the input is `span`. `-0` and a string with escapes
-    // are written anew; any other token stays in the run. Fails if an allocation fails.
-    #[inline(always)]
-    fn text(&mut self, token: Event<'_>, scratch: &str, span: InputSpan) -> Result<(), AllocError>
-        ensures wrote { OnOk result ((rest part rest' bs : List ℕ) → Wrote self.old rest bs → rest ≡ part ++ rest'
-            → span.at ≡ length rest → span.end ≡ length rest' → SpellsToken token.entry scratch.now part
-            → Wrote self.new rest' (bs ++ first_token_text (first_token (event_of_token token.entry scratch.now)))) }
-        ensures only_text { OnOk result (ChangesOnlyText self.old self.new) }
-    {
         match token {
             Event::Negative(n) => {
                 if n != 0 {
-                    return Ok(());
+                    return Ok(None);
                 }
                 self.zero(span)?;
             }
             Event::Str(text) => self.string(text, scratch, span)?,
+            Event::SeqStart => return Ok(Some(Kind::Seq)),
+            Event::MapStart => {
+                self.opened.push(self.members.len())?;
+                return Ok(Some(Kind::Map));
+            }
             _ => {}
         }
-        Ok(())
+        Ok(None)
     }
 
     // Takes `-0`, whose span in the input is `span`, and appends `0` for it. Fails if the text cannot grow.
@@ -236,24 +227,10 @@ impl<'a> Draft<'a> {
         Ok(())
     }
 
-    /// Takes the closing bracket of a container of the kind, and closes the container. The bracket stays in the run.
-    /// `at` is how many bytes of the input are left from the bracket on. Fails if an allocation fails.
-    #[inline(always)]
-    pub(crate) fn end(&mut self, kind: Kind, at: usize) -> Result<(), AllocError>
-        ensures { OnOk result ((rest rest' : List ℕ) (s : State) → Represents self.old rest s
-            → at ≡ length rest → rest ≡ closing kind ∷ rest'
-            → (s' : State) × TokenStep (end_token kind) s s' × Represents self.new rest' s') }
-    {
-        match kind {
-            Kind::Seq => {}
-            Kind::Map => self.close(at)?,
-        }
-        Ok(())
-    }
-
-    // Closes the innermost object, and puts its members in order if they are not. Does nothing if no object is open.
-    // `at` is how many bytes of the input are left from its bracket on. Fails if an allocation fails.
-    fn close(&mut self, at: usize) -> Result<(), AllocError>
+    /// Closes the innermost object, and puts its members in order if they are not. Does nothing if no object is open.
+    /// `at` is how many bytes of the input are left from its bracket on; the bracket stays in the run. Fails if an
+    /// allocation fails.
+    pub(crate) fn close(&mut self, at: usize) -> Result<(), AllocError>
         ensures { OnOk result ((rest : List ℕ) (s : State) → Represents self.old rest s → at ≡ length rest
             → (m : State) × Closes s m × Represents self.new rest m) }
     {

@@ -1,36 +1,67 @@
--- Two exits: `{` opens an object in the state (`holding_opened`), and any other first token of a value adds its text
--- (`holding_added`).
-use Rattle.std.proofs.Common.{rules, ◌≡◌, ◌++◌, ◌∷◌, [], length, refl, subst}
+-- `-0` and a string with escapes are written anew (`written`), and `{` opens an object in the state (`holding_opened`).
+-- Any other first token of a value stays in the run (`stays`).
+use Rattle.std.proofs.Common.{rules, ◌≡◌, pos, ◌++◌, ◌∷◌, [], length, refl, sym, ap, subst, ◌∙◌}
+use Rattle.miniserde_model.specs.Compact.{compact}
+use Rattle.miniserde_model.specs.Normal.{norm_neg}
 use Rattle.miniserde_text.specs.Lexer.{event_of_token}
 use Rattle.miniserde_canonical.specs.private.Moving.{first_token}
-use Rattle.miniserde_canonical.specs.private.Arranging.{TokenStep, first_token_text}
+use Rattle.miniserde_canonical.specs.private.Plain.{SpellsToken}
+use Rattle.miniserde_canonical.specs.private.Arranging.{TokenStep, Adds}
 use Rattle.miniserde_canonical.specs.private.Drafts.{Wrote}
-use Rattle.miniserde_canonical.proofs.Drafting.{keep_holding, holding_added, holding_opened, front_adds}
+use Rattle.miniserde_canonical.proofs.Drafting.{holding_opened, written, stays}
+use Rattle.miniserde_canonical.proofs.Running.{wrote_on, as_negative, as_it_is, decimal_zero}
 use Rattle.miniserde_canonical.proofs.draft.Draft.token.Goals as goal
 
-pub returns-in_ok-push : goal.returns-in_ok-push
-returns-in_ok-push c = λ rest part rest' s s' r e f g p h.
+pub returns-then-n-ne0-clause-takes : goal.returns-then-n-ne0-clause-takes
+returns-then-n-ne0-clause-takes c = λ rest part rest' s s' r e f g p h.
     let x = c.args.scratch.now in
+    let q = subst (λ z. SpellsToken z x part) c.in-Negative.is p in
+    let a = subst (λ z. TokenStep (first_token (event_of_token z x)) s s') c.in-Negative.is h in
+    stays c.args.self.now rest part rest' s s'
+    (subst (λ z. Adds z s s') (sym (as_negative c.in-Negative.n part q.0 (search rules))) a.0) r e
+
+pub returns-in_ok-zero-in-Negative-clause-takes : goal.returns-in_ok-zero-in-Negative-clause-takes
+returns-in_ok-zero-in-Negative-clause-takes c = λ rest part rest' s s' r e f g p h.
+    let x = c.args.scratch.now in
+    let zero : c.in-Negative.n ≡ pos 0 = search rules in
+    let a = subst (λ z. TokenStep (first_token (event_of_token z x)) s s') c.in-Negative.is h in
+    written c.args.self.now c.zero.new.self rest rest' s s' (48 ∷ [])
+    (subst (λ z. Adds z s s') (ap (λ z. compact (norm_neg z)) zero ∙ decimal_zero) a.0) r
+    (c.in_ok-zero-in-Negative.ensures.wrote rest part rest' r.bytes r.wrote e f g) c.in_ok-zero-in-Negative.ensures.only_text
+
+pub returns-in_ok-string-in-Str-clause-takes : goal.returns-in_ok-string-in-Str-clause-takes
+returns-in_ok-string-in-Str-clause-takes c = λ rest part rest' s s' r e f g p h.
+    let x = c.args.scratch.now in
+    let q = subst (λ z. SpellsToken z x part) c.in-Str.is p in
+    let a = subst (λ z. TokenStep (first_token (event_of_token z x)) s s') c.in-Str.is h in
+    written c.args.self.now c.string.new.self rest rest' s s' _ a.0 r
+    (c.in_ok-string-in-Str.ensures.wrote rest part rest' r.bytes r.wrote e f g q.1) c.in_ok-string-in-Str.ensures.only_text
+
+pub returns-in-SeqStart-clause-takes : goal.returns-in-SeqStart-clause-takes
+returns-in-SeqStart-clause-takes c = λ rest part rest' s s' r e f g p h.
+    let x = c.args.scratch.now in
+    let q = subst (λ z. SpellsToken z x part) c.in-SeqStart.is p in
+    let a = subst (λ z. TokenStep (first_token (event_of_token z x)) s s') c.in-SeqStart.is h in
+    stays c.args.self.now rest part rest' s s' (subst (λ z. Adds z s s') (sym q.0) a.0) r e
+
+pub returns-in-MapStart-clause-takes : goal.returns-in-MapStart-clause-takes
+returns-in-MapStart-clause-takes c = λ rest part rest' s s' r e f g p h.
+    let x = c.args.scratch.now in
+    let q = subst (λ z. SpellsToken z x part) c.in-MapStart.is p in
     let o = subst (λ z. TokenStep (first_token (event_of_token z x)) s s') c.in-MapStart.is h in
-    let d = c.text.new.self in
+    let d = c.args.self.now in
     let number : c.len.result ≡ length d.members.items = search rules in
     let w : Wrote d rest' (r.bytes ++ 123 ∷ []) =
-    subst (λ z. Wrote d rest' (r.bytes ++ first_token_text (first_token (event_of_token z x)))) c.in-MapStart.is
-    (c.in_ok-text.ensures.wrote rest part rest' r.bytes r.wrote e f g p) in
+    subst (λ z. Wrote d rest' (r.bytes ++ z)) q.0 (wrote_on d rest part rest' r.bytes r.wrote e) in
     record {
       bytes = r.bytes ++ 123 ∷ [];
       wrote = record { front = w.front; run = w.run; input = w.input; left = w.left; text = w.text };
-      holding = holding_opened d _ r.bytes s s' c.len.result refl refl refl refl c.in_ok-push.ensures.items number
-          refl o.0 o.1 o.2 o.3 (keep_holding c.args.self.now d r.bytes s c.in_ok-text.ensures.only_text r.holding);
+      holding = holding_opened d _ r.bytes s s' c.len.result refl refl refl refl c.in_ok-push-in-MapStart.ensures.items
+          number refl o.0 o.1 o.2 o.3 r.holding;
     }
 
-pub returns-in_default : goal.returns-in_default
-returns-in_default c = λ rest part rest' s s' r e f g p h.
-    let x = first_token_text (first_token (event_of_token c.args.token c.args.scratch.now)) in
-    record {
-      bytes = r.bytes ++ x;
-      wrote = c.in_ok-text.ensures.wrote rest part rest' r.bytes r.wrote e f g p;
-      holding = holding_added c.text.new.self r.bytes s s' x
-          (front_adds c.args.token c.args.scratch.now s s' c.in_default.not-MapStart h)
-          (keep_holding c.args.self.now c.text.new.self r.bytes s c.in_ok-text.ensures.only_text r.holding);
-    }
+pub returns-in_default-clause-takes : goal.returns-in_default-clause-takes
+returns-in_default-clause-takes c = λ rest part rest' s s' r e f g p h.
+    let n = c.in_default in
+    stays c.args.self.now rest part rest' s s'
+    (as_it_is c.args.token c.args.scratch.now part s s' p n.not-Negative n.not-Str n.not-MapStart h) r e

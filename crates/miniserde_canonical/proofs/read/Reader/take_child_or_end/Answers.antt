@@ -1,20 +1,21 @@
 -- `take_child_or_end` reads the token of an end, an element or a name, and the draft takes the same token. By cases
 -- of the lexer's result and of the kind, each with a lemma of `Consumes.antt` for the text and one of `Taking.antt` for
 -- the draft.
-use Rattle.std.proofs.Common.{◌≡◌, ℕ, List, true, false, ◌∷◌, [], ◌++◌, subst, ◌∙◌, arith}
+use Rattle.std.proofs.Common.{◌≡◌, ℕ, List, true, false, ◌∷◌, [], ◌++◌, sym, ap, subst, ◌∙◌, arith}
 use Rattle.std.proofs.lemmas.Result.{err_from_is_err_and}
 use Rattle.std.specs.String.{string_bytes}
-use Rattle.miniserde_model.specs.Lexing.{Follows}
+use Rattle.miniserde_model.specs.Lexing.{Follows, closing}
+use Rattle.miniserde_model.specs.private.Reading.{after}
 use Rattle.miniserde_text.specs.Lexer.{text_of, is_close}
 use Rattle.miniserde_canonical.specs.Token.{name, element}
 use Rattle.miniserde_text.specs.private.Moving.{before_child}
 use Rattle.miniserde_canonical.specs.private.Arranging.{comma_before, State, TokenStep}
-use Rattle.miniserde_canonical.specs.private.Drafts.{Wrote, Holding, Represents}
+use Rattle.miniserde_canonical.specs.private.Drafts.{Wrote, Holding, Represents, Takes}
 use Rattle.miniserde_canonical.specs.private.Moving.{end_token}
-use Rattle.miniserde_text.proofs.Consumes.{close_passed, element_passed, key_passed, after_ends, name_ends}
+use Rattle.miniserde_text.proofs.Consumes.{after_ends, name_ends}
 use Rattle.miniserde_canonical.proofs.Wholes.{reads_finish, reads_element, reads_key}
 use Rattle.miniserde_canonical.proofs.Plains.{name_plain, name_spelled, at_once}
-use Rattle.miniserde_canonical.proofs.Taking.{skipped, takes_end, takes_element, takes_name, stands_less}
+use Rattle.miniserde_canonical.proofs.Taking.{skipped, takes_array_end, takes_object_end, takes_element, takes_name, stands_less}
 use Rattle.miniserde_canonical.proofs.Taking.{follows_less, blank_less, follows_behind, follows_at, names_behind}
 use Rattle.miniserde_canonical.proofs.Taking.{names_at, closing_at, comma_at}
 use Rattle.miniserde_canonical.proofs.read.Reader.take_child_or_end.Goals as goal
@@ -27,43 +28,22 @@ returns-in_err-after-clause-invalid c = λ e.
     (c.in_ok-before.ensures.going ∙ c.requires.going) a r
     (follows_at c.args.kind c.args.first a _ _ r c.in_ok-before.ensures.blank p))
 
-pub returns-in_err-text-in-Map-clause-invalid : goal.returns-in_err-text-in-Map-clause-invalid
-returns-in_err-text-in-Map-clause-invalid c = λ e.
-    let w = err_from_is_err_and c.from_residual-in_err-text-in-Map.result c.from_residual-in_err-text-in-Map.ensures.1 in
+pub returns-in_err-text-in-Map-kind-clause-invalid : goal.returns-in_err-text-in-Map-kind-clause-invalid
+returns-in_err-text-in-Map-kind-clause-invalid c = λ e.
+    let w = err_from_is_err_and c.from_residual-in_err-text-in-Map-kind.result c.from_residual-in_err-text-in-Map-kind.ensures.1 in
     let k = c.args.kind in
     let p : Follows k c.args.first false c.skip.new.lexer.rest c.after.new.self.rest =
     subst (λ z. Follows k c.args.first (is_close z) c.skip.new.lexer.rest c.after.new.self.rest) c.in-Next.is
     c.in_ok-after.ensures.ok.2 in
-    name_ends _ _ _ k c.args.first c.requires.inside c.in-Map.is
+    name_ends _ _ _ k c.args.first c.requires.inside c.in-Map-kind.is
     (follows_behind k c.args.first false _ _ _ c.in_ok-before.ensures.blank p)
-    (λ n x q. c.in_err-text-in-Map.ensures.invalid (cc (w.1, w.2, e))
-    (c.in_ok-at-in-Map.ensures.going ∙ c.in_ok-after.ensures.ok.1) n x
-    (names_at _ _ n x c.in_ok-at-in-Map.ensures.blank q))
+    (λ n x q. c.in_err-text-in-Map-kind.ensures.invalid (cc (w.1, w.2, e))
+    (c.in_ok-at-in-Map-kind.ensures.going ∙ c.in_ok-after.ensures.ok.1) n x
+    (names_at _ _ n x c.in_ok-at-in-Map-kind.ensures.blank q))
 
-pub name-requires-in-Map : goal.name-requires-in-Map
-name-requires-in-Map c = name_plain c.in_ok-text-in-Map.text (string_bytes c.name.new.scratch) _ _
-    c.in_ok-text-in-Map.ensures.ok.2 c.in_ok-text-in-Map.ensures.text
-
-pub returns-in_ok-end-in-Close-clause-reads : goal.returns-in_ok-end-in-Close-clause-reads
-returns-in_ok-end-in-Close-clause-reads c =
-    let k = c.args.kind in
-    let old = c.args.self.now.lexer.rest in
-    let mid = c.skip.new.lexer.rest in
-    let new = c.after.new.self.rest in
-    let d = c.args.self.now.draft in
-    let d1 = c.skip.new.draft in
-    let b = c.in_ok-before.ensures.blank in
-    let p : Follows k c.args.first true mid new =
-    subst (λ z. Follows k c.args.first (is_close z) mid new) c.in-Close.is c.in_ok-after.ensures.ok.2 in (
-      end_token k ∷ [],
-      reads_finish _ _ _ _ k (before_child c.args.first) c.requires.inside c.pop.ensures
-          (close_passed _ _ _ _ k c.args.first c.requires.inside
-          (follows_behind k c.args.first true old mid new b p) c.pop.ensures),
-      takes_end (before_child c.args.first) k old mid new d d1 c.end.new.self
-          (skipped d d1 old mid c.in_ok-before.ensures.wrote c.in_ok-before.ensures.only_text)
-          (λ s r. c.in_ok-end-in-Close.ensures mid new s r c.in_ok-before.ensures.at
-          (closing_at k c.args.first mid new b.stops p)),
-    )
+pub name-requires-in-Map-kind : goal.name-requires-in-Map-kind
+name-requires-in-Map-kind c = name_plain c.in_ok-text-in-Map-kind.text (string_bytes c.name.new.scratch) _ _
+    c.in_ok-text-in-Map-kind.ensures.ok.2 c.in_ok-text-in-Map-kind.ensures.text
 
 pub returns-in-Seq-clause-reads : goal.returns-in-Seq-clause-reads
 returns-in-Seq-clause-reads c =
@@ -74,56 +54,92 @@ returns-in-Seq-clause-reads c =
     let d = c.args.self.now.draft in
     let d1 = c.skip.new.draft in
     let b = c.in_ok-before.ensures.blank in
+    let p : Follows k c.args.first true mid new =
+    subst (λ z. Follows k c.args.first (is_close z) mid new) c.in-Close.is c.in_ok-after.ensures.ok.2 in (
+      end_token k ∷ [],
+      reads_finish _ _ _ _ k c.args.first c.requires.inside (follows_behind k c.args.first true old mid new b p) c.pop.ensures,
+      subst (λ z. Takes (before_child c.args.first) old (end_token z ∷ []) after new d d1) (sym c.in-Seq.is)
+          (takes_array_end (before_child c.args.first) old mid new d d1
+          (skipped d d1 old mid c.in_ok-before.ensures.wrote c.in_ok-before.ensures.only_text)
+          (closing_at k c.args.first mid new b.stops p ∙ ap (λ z. closing z ∷ new) c.in-Seq.is)),
+    )
+
+pub returns-in_ok-close-in-Map-clause-reads : goal.returns-in_ok-close-in-Map-clause-reads
+returns-in_ok-close-in-Map-clause-reads c =
+    let k = c.args.kind in
+    let old = c.args.self.now.lexer.rest in
+    let mid = c.skip.new.lexer.rest in
+    let new = c.after.new.self.rest in
+    let d = c.args.self.now.draft in
+    let d1 = c.skip.new.draft in
+    let b = c.in_ok-before.ensures.blank in
+    let p : Follows k c.args.first true mid new =
+    subst (λ z. Follows k c.args.first (is_close z) mid new) c.in-Close.is c.in_ok-after.ensures.ok.2 in (
+      end_token k ∷ [],
+      reads_finish _ _ _ _ k c.args.first c.requires.inside (follows_behind k c.args.first true old mid new b p) c.pop.ensures,
+      subst (λ z. Takes (before_child c.args.first) old (end_token z ∷ []) after new d c.close.new.self) (sym c.in-Map.is)
+          (takes_object_end (before_child c.args.first) old mid new d d1 c.close.new.self
+          (skipped d d1 old mid c.in_ok-before.ensures.wrote c.in_ok-before.ensures.only_text)
+          (closing_at k c.args.first mid new b.stops p ∙ ap (λ z. closing z ∷ new) c.in-Map.is)
+          (λ s r. c.in_ok-close-in-Map.ensures mid s r c.in_ok-before.ensures.at)),
+    )
+
+pub returns-in-Seq-kind-clause-reads : goal.returns-in-Seq-kind-clause-reads
+returns-in-Seq-kind-clause-reads c =
+    let k = c.args.kind in
+    let old = c.args.self.now.lexer.rest in
+    let mid = c.skip.new.lexer.rest in
+    let new = c.after.new.self.rest in
+    let d = c.args.self.now.draft in
+    let d1 = c.skip.new.draft in
+    let b = c.in_ok-before.ensures.blank in
     let p : Follows k c.args.first false mid new =
     subst (λ z. Follows k c.args.first (is_close z) mid new) c.in-Next.is c.in_ok-after.ensures.ok.2 in (
       element ∷ [],
-      reads_element (before_child c.args.first) _ _ _
-          (element_passed _ _ _ k c.args.first c.requires.inside c.in-Seq.is
-          (follows_behind k c.args.first false old mid new b p)),
+      reads_element _ _ _ k c.args.first c.requires.inside c.in-Seq-kind.is (follows_behind k c.args.first false old mid new b p),
       takes_element c.args.first old mid new d d1
           (skipped d d1 old mid c.in_ok-before.ensures.wrote c.in_ok-before.ensures.only_text)
           (comma_at k c.args.first mid new b.stops p),
     )
 
-pub returns-in_ok-name-in-Map-clause-reads : goal.returns-in_ok-name-in-Map-clause-reads
-returns-in_ok-name-in-Map-clause-reads c =
+pub returns-in_ok-name-in-Map-kind-clause-reads : goal.returns-in_ok-name-in-Map-kind-clause-reads
+returns-in_ok-name-in-Map-kind-clause-reads c =
     let k = c.args.kind in
-    let text = c.in_ok-text-in-Map.text in
+    let text = c.in_ok-text-in-Map-kind.text in
     let x = string_bytes c.name.new.scratch in
     let n = text_of text x in
     let old = c.args.self.now.lexer.rest in
     let mid = c.skip.new.lexer.rest in
     let behind = c.after.new.self.rest in
-    let at = c.skip-in-Map.new.lexer.rest in
+    let at = c.skip-in-Map-kind.new.lexer.rest in
     let new = c.name.new.self.rest in
     let d = c.args.self.now.draft in
     let d1 = c.skip.new.draft in
-    let d2 = c.skip-in-Map.new.draft in
+    let d2 = c.skip-in-Map-kind.new.draft in
     let b = c.in_ok-before.ensures.blank in
-    let b2 = c.in_ok-at-in-Map.ensures.blank in
-    let q = c.in_ok-text-in-Map.ensures.ok.2 in
+    let b2 = c.in_ok-at-in-Map-kind.ensures.blank in
+    let q = c.in_ok-text-in-Map-kind.ensures.ok.2 in
     let p : Follows k c.args.first false mid behind =
     subst (λ z. Follows k c.args.first (is_close z) mid behind) c.in-Next.is c.in_ok-after.ensures.ok.2 in
     let takes = subst (λ z. (before : List ℕ) (s s' : State) → Wrote d2 at (before ++ comma_before s.first)
     → Holding d2 before s → s.first ≡ c.args.first → TokenStep (name (text_of text z)) s s'
-    → Represents c.name-in-Map.new.self new s') c.as_str.ensures.value
-    (λ before s s' t h f a. c.in_ok-name-in-Map.ensures at q.part new before s s' t h
-    (at_once at new q b2.stops) c.in_ok-at-in-Map.ensures.at c.left-end.ensures
-    (name_spelled text x at new q c.in_ok-text-in-Map.ensures.text) f a) in (
+    → Represents c.name-in-Map-kind.new.self new s') c.as_str.ensures.value
+    (λ before s s' t h f a. c.in_ok-name-in-Map-kind.ensures at q.part new before s s' t h
+    (at_once at new q b2.stops) c.in_ok-at-in-Map-kind.ensures.at c.left-end.ensures
+    (name_spelled text x at new q c.in_ok-text-in-Map-kind.ensures.text) f a) in (
       name n ∷ [],
-      reads_key (before_child c.args.first) _ _ _ n
-          (key_passed _ _ _ _ _ k c.args.first c.requires.inside c.in-Map.is
-          (follows_behind k c.args.first false old mid behind b p) (names_behind behind at n new b2 q)),
-      takes_name c.args.first n old mid behind at q.part new d d1 d2 c.name-in-Map.new.self
+      reads_key _ _ _ n _ k c.args.first c.requires.inside c.in-Map-kind.is
+          (follows_behind k c.args.first false old mid behind b p) (names_behind behind at n new b2 q),
+      takes_name c.args.first n old mid behind at q.part new d d1 d2 c.name-in-Map-kind.new.self
           (skipped d d1 old mid c.in_ok-before.ensures.wrote c.in_ok-before.ensures.only_text)
-          (comma_at k c.args.first mid behind b.stops p) c.in_ok-at-in-Map.ensures.wrote
-          c.in_ok-at-in-Map.ensures.only_text takes,
+          (comma_at k c.args.first mid behind b.stops p) c.in_ok-at-in-Map-kind.ensures.wrote
+          c.in_ok-at-in-Map-kind.ensures.only_text takes,
     )
 
-pub returns-in_ok-name-in-Map-clause-less : goal.returns-in_ok-name-in-Map-clause-less
-returns-in_ok-name-in-Map-clause-less c =
+pub returns-in_ok-name-in-Map-kind-clause-less : goal.returns-in_ok-name-in-Map-kind-clause-less
+returns-in_ok-name-in-Map-kind-clause-less c =
     let a = blank_less _ _ c.in_ok-before.ensures.blank in
     let p = follows_less c.args.kind c.args.first (is_close c.in_ok-after.field-0) _ _ c.in_ok-after.ensures.ok.2 in
-    let b = blank_less _ _ c.in_ok-at-in-Map.ensures.blank in
-    let q = stands_less _ _ c.in_ok-text-in-Map.ensures.ok.2 in
+    let b = blank_less _ _ c.in_ok-at-in-Map-kind.ensures.blank in
+    let q = stands_less _ _ c.in_ok-text-in-Map-kind.ensures.ok.2 in
     (omega (arith, a, p, b, q), λ e. absurd (cc))

@@ -1,14 +1,16 @@
 -- `value` reads the first token of a value, and the draft takes the same token. Whitespace is skipped first, then
--- `value_passed` is the lemma for the text and `takes_front` the lemma for the draft.
-use Rattle.std.proofs.Common.{◌∷◌, [], subst, sym, ◌∙◌}
+-- `reads_start` is the lemma for the text and `takes_front` the lemma for the draft.
+use Rattle.std.proofs.Common.{◌≡◌, is_some, ◌∷◌, [], subst, sym, ap, ◌∙◌}
 use Rattle.std.proofs.lemmas.Result.{err_from_is_err_and}
 use Rattle.std.specs.String.{string_bytes}
 use Rattle.miniserde_text.specs.Lexer.{event_of_token}
+use Rattle.miniserde_text.specs.private.Stack.{with_opened}
+use Rattle.miniserde_text.specs.private.Moving.{opened_kind}
 use Rattle.miniserde_canonical.specs.private.Arranging.{State, TokenStep}
 use Rattle.miniserde_canonical.specs.private.Drafts.{Represents}
 use Rattle.miniserde_canonical.specs.private.Moving.{first_token}
 use Rattle.miniserde_canonical.specs.private.Plain.{SpellsToken}
-use Rattle.miniserde_text.proofs.Consumes.{value_passed, start_ends}
+use Rattle.miniserde_text.proofs.Consumes.{start_ends}
 use Rattle.miniserde_canonical.proofs.Wholes.{reads_start}
 use Rattle.miniserde_canonical.proofs.Plains.{spelled, at_once}
 use Rattle.miniserde_canonical.proofs.Taking.{skipped, starts_behind, starts_at, takes_front}
@@ -31,21 +33,23 @@ returns-clause-reads c =
     let d = c.args.self.now.draft in
     let d1 = c.skip.new.draft in
     let b = c.in_ok-at.ensures.blank in
-    let st = c.in_ok-opened.ensures.ok x in
-    let o = c.in_ok-opened.ensures.opens x in
+    let v = c.as_str.ensures.value in
+    let k : c.in_ok-opened.opened ≡ opened_kind e =
+    c.in_ok-opened.ensures.opens ∙ ap (λ z. opened_kind (event_of_token event z)) v in
+    let st = c.in_ok-push.ensures.ok ∙ ap (λ z. with_opened z c.args.self.now.stack) k in
+    let o = c.is_some.ensures ∙ ap is_some k in
     let s = c.in_ok-event.ensures.ok.2 in
     let full = starts_behind old mid e new b s in
-    let p = value_passed _ _ _ e c.in_ok-opened.opened _ full o st in
     let spells : SpellsToken event c.as_str.result.now s.0.part =
-    subst (λ z. SpellsToken event z s.0.part) (sym c.as_str.ensures.value)
+    subst (λ z. SpellsToken event z s.0.part) (sym v)
     (spelled event x mid new s c.in_ok-event.ensures.text) in
     let takes = subst (λ z. (u u' : State) → Represents d1 mid u
     → TokenStep (first_token (event_of_token event z)) u u' → Represents c.token.new.self new u')
-    c.as_str.ensures.value (λ u u' r a. c.in_ok-token.ensures mid s.0.part new u u' r
+    v (λ u u' r a. c.in_ok-opened.ensures.takes mid s.0.part new u u' r
     (at_once mid new s.0 b.stops) c.in_ok-at.ensures.at c.left-end.ensures spells a) in (
       first_token e ∷ [],
-      reads_start _ _ _ e _ _ full st p,
-      takes_front e s.0.part old mid new c.in_ok-opened.opened
+      reads_start _ _ _ e c.is_some.result _ full o st,
+      takes_front e s.0.part old mid new c.is_some.result
           d d1 c.token.new.self s.0.is_part o
           (skipped d d1 old mid c.in_ok-at.ensures.wrote c.in_ok-at.ensures.only_text) takes,
     )
