@@ -215,18 +215,17 @@ ordered_at d d' s f b n ns e es same good di chain st m t is =
     let gs = d.groups.splices.items in
     let c = chain_cut (take f d.members.items) (take f s.entries) n e ns es ms gs 0 0 d.out.bytes.items
     d.out.splices.items s.last same chain in
-    let seam = c.seam in
     let own = cut_own (take f d.members.items) (take f s.entries) n e ns es ms gs d.out.bytes.items d.out.splices.items s.last c in
     let r = st (e ∷ es) s.last own in
     let p = r.0 in
     let x = members_text true (norm_members (entry_members (e ∷ es) s.last)) in
-    let here : n.point.bytes ≡ length (c.before ++ comma_before e.first) = omega (arith, seam.begins) in
+    let here : n.point.bytes ≡ length (c.before ++ comma_before e.first) = omega (arith, c.begins) in
     let front : take n.point.bytes d.out.bytes.items ≡ c.before ++ comma_before e.first =
-    ap₂ take here (seam.bytes ∙ sym (append_assoc c.before (comma_before e.first) c.behind)) ∙ take-append_seam
+    ap₂ take here (c.bytes ∙ sym (append_assoc c.before (comma_before e.first) c.behind)) ∙ take-append_seam
     (c.before ++ comma_before e.first) c.behind in
     let splices_front : take n.point.splices d.out.splices.items ≡ c.splices_before =
-    let at : n.point.splices ≡ length c.splices_before = omega (arith, seam.behind) in
-    ap₂ take at seam.splices ∙ take-append_seam c.splices_before c.splices_behind in
+    let at : n.point.splices ≡ length c.splices_before = omega (arith, c.begins_splices) in
+    ap₂ take at c.splices ∙ take-append_seam c.splices_before c.splices_behind in
     let far : n.point.bytes ≡ (0 + length c.before) + length (comma_before e.first) =
     omega (arith, here, length-append c.before (comma_before e.first)) in
     let old : Chain (take f d.members.items) (take f s.entries) d'.groups.bytes.items d'.groups.splices.items 0 0
@@ -236,7 +235,7 @@ ordered_at d d' s f b n ns e es same good di chain st m t is =
     (subst (λ z. Chain (take f d.members.items) (take f s.entries) (ms ++ p.more_bytes) z 0 0 c.before
     c.splices_before e.text) (sym p.groups_splices)
     (chain_more (take f d.members.items) (take f s.entries) ms gs 0 0 c.before c.splices_before e.text
-    p.more_bytes p.more_splices c.front)) in
+    p.more_bytes p.more_splices c.is_before)) in
     let new : Chain (take f d.members.items) (take f s.entries) d'.groups.bytes.items d'.groups.splices.items 0 0
     (c.before ++ (comma_before e.first ++ p.bytes)) (c.splices_before ++ p.splices)
     (e.text ++ (comma_before e.first ++ x)) =

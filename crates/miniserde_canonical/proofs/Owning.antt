@@ -43,24 +43,24 @@ own_first n [] e [] ms gs bs hs last end p q o =
     (between_end n.point.splices end.splices hs o.splices_front o.splices_inside o.splices o.behind q) o.chain
 own_first n (m ∷ ns) e (f ∷ es) ms gs bs hs last end p q o =
     let r = o.chain in
-    let s = r.4 in
-    let text : bs ≡ o.front ++ (r.0 ++ (comma_before f.first ++ r.1)) = o.bytes ∙ ap (λ z. o.front ++ z) s.bytes in
-    let splices : hs ≡ o.splices_front ++ (r.2 ++ r.3) = o.splices ∙ ap (λ z. o.splices_front ++ z) s.splices in
-    let comma : length (comma_before m.first) ≡ length (comma_before f.first) = ap (λ z. length (comma_before z)) s.first in
-    let wide : m.point.bytes - length (comma_before m.first) ≡ n.point.bytes + length r.0 =
-    omega (arith, s.begins, length-append r.0 (comma_before f.first), comma) in
-    let long = ap length text ∙ length-append o.front (r.0 ++ (comma_before f.first ++ r.1)) in
-    let more = length-append r.0 (comma_before f.first ++ r.1) in
-    let many = ap length splices ∙ length-append o.splices_front (r.2 ++ r.3) in
-    holds_between ms gs bs hs n.point (before_comma (m ∷ ns) end) f.text r.0 r.2 (
+    let text : bs ≡ o.front ++ (r.before ++ (comma_before f.first ++ r.behind)) = o.bytes ∙ ap (λ z. o.front ++ z) r.bytes in
+    let splices : hs ≡ o.splices_front ++ (r.splices_before ++ r.splices_behind) = o.splices ∙ ap (λ z. o.splices_front ++ z) r.splices in
+    let comma : length (comma_before m.first) ≡ length (comma_before f.first) = ap (λ z. length (comma_before z)) r.first in
+    let wide : m.point.bytes - length (comma_before m.first) ≡ n.point.bytes + length r.before =
+    omega (arith, r.begins, length-append r.before (comma_before f.first), comma) in
+    let long = ap length text ∙ length-append o.front (r.before ++ (comma_before f.first ++ r.behind)) in
+    let more = length-append r.before (comma_before f.first ++ r.behind) in
+    let many = ap length splices ∙ length-append o.splices_front (r.splices_before ++ r.splices_behind) in
+    holds_between ms gs bs hs n.point (before_comma (m ∷ ns) end) f.text r.before r.splices_before (
       omega (arith, wide),
       omega (arith, wide, o.begins, long, more),
-      omega (arith, s.behind),
-      omega (arith, s.behind, o.behind, many, length-append r.2 r.3),
+      omega (arith, r.begins_splices),
+      omega (arith, r.begins_splices, o.behind, many, length-append r.splices_before r.splices_behind),
     )
-    (between_mid n.point.bytes (m.point.bytes - length (comma_before m.first)) bs o.front r.0
-    (comma_before f.first ++ r.1) text o.begins wide)
-    (between_mid n.point.splices m.point.splices hs o.splices_front r.2 r.3 splices o.behind s.behind) r.5
+    (between_mid n.point.bytes (m.point.bytes - length (comma_before m.first)) bs o.front r.before
+    (comma_before f.first ++ r.behind) text o.begins wide)
+    (between_mid n.point.splices m.point.splices hs o.splices_front r.splices_before r.splices_behind splices o.behind
+    r.begins_splices) r.is_before
 own_first n [] e (f ∷ es) ms gs bs hs last end p q o = absurd o.chain
 own_first n (m ∷ ns) e [] ms gs bs hs last end p q o = absurd o.chain
 
@@ -70,19 +70,18 @@ own_tail : (n : Member) (ns : List Member) (e : Entry) (es : List Entry) (ms : L
 own_tail n [] e [] ms gs bs hs last o = tt
 own_tail n (m ∷ ns) e (f ∷ es) ms gs bs hs last o =
     let r = o.chain in
-    let s = r.4 in
-    let front = o.front ++ (r.0 ++ comma_before f.first) in
+    let front = o.front ++ (r.before ++ comma_before f.first) in
     record {
       front = front;
-      inside = r.1;
-      splices_front = o.splices_front ++ r.2;
-      splices_inside = r.3;
-      bytes = o.bytes ∙ ap (λ z. o.front ++ z) s.bytes ∙ rejoin o.front r.0 (comma_before f.first) r.1;
-      splices = o.splices ∙ ap (λ z. o.splices_front ++ z) s.splices ∙ sym (append_assoc o.splices_front r.2 r.3);
-      begins = omega (arith, s.begins, o.begins, length-append o.front (r.0 ++ comma_before f.first));
-      behind = omega (arith, s.behind, o.behind, length-append o.splices_front r.2);
-      name = s.name;
-      chain = r.6;
+      inside = r.behind;
+      splices_front = o.splices_front ++ r.splices_before;
+      splices_inside = r.splices_behind;
+      bytes = o.bytes ∙ ap (λ z. o.front ++ z) r.bytes ∙ rejoin o.front r.before (comma_before f.first) r.behind;
+      splices = o.splices ∙ ap (λ z. o.splices_front ++ z) r.splices ∙ sym (append_assoc o.splices_front r.splices_before r.splices_behind);
+      begins = omega (arith, r.begins, o.begins, length-append o.front (r.before ++ comma_before f.first));
+      behind = omega (arith, r.begins_splices, o.behind, length-append o.splices_front r.splices_before);
+      name = r.name;
+      chain = r.is_behind;
     }
   where
     rejoin : (a b x c : List ℕ) → a ++ (b ++ (x ++ c)) ≡ (a ++ (b ++ x)) ++ c
@@ -119,7 +118,8 @@ own_span i (n ∷ ns) [] ms gs bs hs last end p q o = absurd o
 pub chain_agrees : (ns : List Member) (es : List Entry) (ms : List ℕ) (gs : List Splice) (at k : ℕ) (bs : List ℕ)
     (hs : List Splice) (last : List ℕ) → Chain ns es ms gs at k bs hs last → Agree ns es
 chain_agrees [] [] ms gs at k bs hs last h = tt
-chain_agrees (n ∷ ns) (e ∷ es) ms gs at k bs hs last h = (h.4.name, chain_agrees ns es ms gs n.point.bytes n.point.splices h.1 h.3 last h.6)
+chain_agrees (n ∷ ns) (e ∷ es) ms gs at k bs hs last h =
+    (h.name, chain_agrees ns es ms gs n.point.bytes n.point.splices h.behind h.splices_behind last h.is_behind)
 chain_agrees [] (e ∷ es) ms gs at k bs hs last h = absurd h
 chain_agrees (n ∷ ns) [] ms gs at k bs hs last h = absurd h
 
@@ -137,16 +137,15 @@ pub cut_own : (ms0 : List Member) (es0 : List Entry) (n : Member) (e : Entry) (n
     (ms : List ℕ) (gs : List Splice) (bs : List ℕ) (hs : List Splice) (last : List ℕ)
     → Cut ms0 es0 n e ns es ms gs 0 0 bs hs last → EndsWithMembers (n ∷ ns) (e ∷ es) ms gs bs hs last
 cut_own ms0 es0 n e ns es ms gs bs hs last c =
-    let s = c.seam in
     record {
       front = c.before ++ comma_before e.first;
       inside = c.behind;
       splices_front = c.splices_before;
       splices_inside = c.splices_behind;
-      bytes = s.bytes ∙ sym (append_assoc c.before (comma_before e.first) c.behind);
-      splices = s.splices;
-      begins = omega (arith, s.begins);
-      behind = omega (arith, s.behind);
-      name = s.name;
-      chain = c.back;
+      bytes = c.bytes ∙ sym (append_assoc c.before (comma_before e.first) c.behind);
+      splices = c.splices;
+      begins = omega (arith, c.begins);
+      behind = omega (arith, c.begins_splices);
+      name = c.name;
+      chain = c.is_behind;
     }

@@ -13,23 +13,28 @@ use Rattle.miniserde_canonical.specs.private.Names.{name_of}
 use Rattle.miniserde_canonical.specs.private.Members.{begin_of, members_at, without_repeats}
 use Rattle.miniserde_canonical.specs.private.Arranging.{Entry, text_before, entry_members, comma_before, members_text, count, once_each}
 
--- The begin of the member n, which stands for the entry e, splits a text: b and h are the bytes and
--- the splices before the member's comma, and c and g those after it. The bytes bs have indices from
--- `at` on, and the splices hs from k on.
-pub record Seam (n : Member) (e : Entry) (at k : ℕ) (bs : List ℕ) (hs : List Splice) (b c : List ℕ) (h g : List Splice) : Type 0 where
-  pub bytes : bs ≡ b ++ (comma_before e.first ++ c)
-  pub splices : hs ≡ h ++ g
+-- The member n, which stands for the entry e, splits a text at its comma: B holds of the bytes and the splices before
+-- the comma, and K of those after it. The bytes bs have indices from `at` on, and the splices hs from k on.
+pub record Seam (B K : List ℕ → List Splice → Type 0) (n : Member) (e : Entry) (at k : ℕ) (bs : List ℕ) (hs : List Splice) : Type 0 where
+  pub before : List ℕ
+  pub behind : List ℕ
+  pub splices_before : List Splice
+  pub splices_behind : List Splice
+  pub bytes : bs ≡ before ++ (comma_before e.first ++ behind)
+  pub splices : hs ≡ splices_before ++ splices_behind
   pub name : name_of n.name ≡ e.name
   pub first : n.first ≡ e.first
-  pub begins : n.point.bytes ≡ at + length (b ++ comma_before e.first)
-  pub behind : n.point.splices ≡ k + length h
+  pub begins : n.point.bytes ≡ at + length (before ++ comma_before e.first)
+  pub begins_splices : n.point.splices ≡ k + length splices_before
+  pub is_before : B before splices_before
+  pub is_behind : K behind splices_behind
 
 -- The bytes bs, with indices from `at` on, and the splices hs, with indices from k on, hold the
 -- text before each of the entries es, for which the members ns stand, and then the text `last`.
 abbrev pub Chain : List Member → List Entry → List ℕ → List Splice → ℕ → ℕ → List ℕ → List Splice → List ℕ → Type 0
 Chain [] [] ms gs at k bs hs last = Holds ms gs at bs hs last
-Chain (n ∷ ns) (e ∷ es) ms gs at k bs hs last = (b c : List ℕ) × (h g : List Splice) × Seam n e at k bs hs b c h g
-    × Holds ms gs at b h e.text × Chain ns es ms gs n.point.bytes n.point.splices c g last
+Chain (n ∷ ns) (e ∷ es) ms gs at k bs hs last =
+    Seam (λ b h. Holds ms gs at b h e.text) (λ c g. Chain ns es ms gs n.point.bytes n.point.splices c g last) n e at k bs hs
 Chain _ _ ms gs at k bs hs last = ⊥
 
 -- ---- the members of one object, at the end of a text
