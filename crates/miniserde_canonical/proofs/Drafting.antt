@@ -19,7 +19,7 @@ use Rattle.miniserde_canonical.specs.private.Drafts.{Wrote, Holding, Represents,
 use Rattle.miniserde_canonical.proofs.Spreads.{holds_plain, holds_behind}
 use Rattle.miniserde_canonical.proofs.Chains.{chain_lengths, chain_add, chain_more, chain_begin, chain_merge, chain_cut}
 use Rattle.miniserde_canonical.proofs.Owning.{chain_agrees, cut_own}
-use Rattle.miniserde_canonical.proofs.Running.{wrote_on}
+use Rattle.miniserde_canonical.proofs.Running.{wrote_on, rewound}
 use Rattle.miniserde_canonical.proofs.MemberLists.{Agree, rise_all}
 
 -- a draft without text, groups, members and open objects, with all input left, represents `start`
@@ -305,13 +305,16 @@ too_few d bs s os before r e l ps f h i =
 pub behind : (xs ys : List Member) (f : ℕ) → ys ≡ xs → take (length ys - f) (drop f ys) ≡ drop f xs
 behind xs ys f e = take_all (length ys - f) (drop f ys) (omega (arith, length-drop f ys)) ∙ ap (drop f) e
 
--- if a draft writes the bytes x and nothing else changes, it represents a state with x appended
-pub written : (d d' : Draft) (rest rest' : List ℕ) (s s' : State) (x : List ℕ) → Adds x s s' → (r : Represents d rest s)
-    → Wrote d' rest' (r.bytes ++ x) → ChangesOnlyText d d' → Represents d' rest' s'
-written d d' rest rest' s s' x a r w k = record {
+-- if a draft d is flushed up to a part of the input, which gives e, and the bytes x are appended in place of the part,
+-- it represents a state with x appended
+pub rewritten : (d e d' : Draft) (rest part rest' : List ℕ) (s s' : State) (x : List ℕ) → Adds x s s' → (r : Represents d rest s)
+    → Wrote e rest r.bytes × (e.out.bytes.items ≡ r.bytes) → ChangesOnlyText d e → ChangesOnlyText e d'
+    → rest ≡ part ++ rest' → d'.input.now ≡ e.input.now → d'.left ≡ length rest'
+    → d'.out.bytes.items ≡ e.out.bytes.items ++ x → Represents d' rest' s'
+rewritten d e d' rest part rest' s s' x a r q k l p i n o = record {
   bytes = r.bytes ++ x;
-  wrote = w;
-  holding = holding_added d' r.bytes s s' x a (keep_holding d d' r.bytes s k r.holding);
+  wrote = rewound e d' rest part rest' r.bytes (r.bytes ++ x) q.0 p i n (o ∙ ap (λ z. z ++ x) q.1);
+  holding = holding_added d' r.bytes s s' x a (keep_holding e d' r.bytes s l (keep_holding d e r.bytes s k r.holding));
 }
 
 -- a part of the input that is appended to the state joins the run

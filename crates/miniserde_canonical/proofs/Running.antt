@@ -119,12 +119,11 @@ pub run_length : (d : Draft) (rest bs : List ℕ) (at point : ℕ) → Wrote d r
 run_length d rest bs at point w e f =
     omega (arith, e, f, w.left, length-append w.run rest, ap length w.text, length-append d.out.bytes.items w.run)
 
--- a string that is borrowed stands there as it is written
-pub string_stands : (t : Text) (d : Draft) (scratch rest part rest' bs : List ℕ) → (t ≡ Scratch → ⊥)
-    → Wrote d rest bs → rest ≡ part ++ rest' → TextSpelled t part
-    → Wrote d rest' (bs ++ string_text (text_of t scratch))
-string_stands (Input x) d scratch rest part rest' bs n w e p = subst (λ z. Wrote d rest' (bs ++ z)) p (wrote_on d rest part rest' bs w e)
-string_stands Scratch d scratch rest part rest' bs n w e p = absurd (n refl)
+-- the step of a string that is borrowed appends its bytes in the input
+pub string_stands : (t : Text) (scratch part : List ℕ) (s s' : State) → (t ≡ Scratch → ⊥) → TextSpelled t part
+    → Adds (string_text (text_of t scratch)) s s' → Adds part s s'
+string_stands (Input x) scratch part s s' n p a = subst (λ z. Adds z s s') (sym p) a
+string_stands Scratch scratch part s s' n p a = absurd (n refl)
 
 -- the decimal text of 0 is `0`
 pub decimal_zero : decimal 0 ≡ 48 ∷ []

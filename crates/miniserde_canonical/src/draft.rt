@@ -14,7 +14,7 @@ ghost use Rattle.miniserde_text.specs.Lexer.{event_of_token, text_of};
 ghost use Rattle.miniserde_text.specs.private.Moving.{opened_kind};
 ghost use Rattle.miniserde_canonical.specs.Token.{name};
 ghost use Rattle.miniserde_canonical.specs.private.Moving.{first_token};
-ghost use Rattle.miniserde_canonical.specs.private.Plain.{TextPlain, TextSpelled, SpellsToken, NameSpelled};
+ghost use Rattle.miniserde_canonical.specs.private.Plain.{TextPlain, SpellsToken, NameSpelled};
 ghost use Rattle.miniserde_canonical.specs.private.Arranging.{State, TokenStep, Closes, comma_before, start};
 ghost use Rattle.miniserde_canonical.specs.private.Drafts.{Wrote, Holding, ChangesOnlyText, Represents};
 
@@ -135,9 +135,17 @@ impl<'a> Draft<'a> {
                 if n != 0 {
                     return Ok(None);
                 }
-                self.zero(span)?;
+                self.flush(span.at)?;
+                self.out.bytes.push(b'0')?;
+                self.left = span.end;
             }
-            Event::Str(text) => self.string(text, scratch, span)?,
+            Event::Str(text) => {
+                if let Text::Scratch = text {
+                    self.flush(span.at)?;
+                    put_escaped(scratch, &mut self.escaped, &mut self.out.bytes)?;
+                    self.left = span.end;
+                }
+            }
             Event::SeqStart => return Ok(Some(Kind::Seq)),
             Event::MapStart => {
                 self.opened.push(self.members.len())?;
@@ -146,35 +154,6 @@ impl<'a> Draft<'a> {
             _ => {}
         }
         Ok(None)
-    }
-
-    // Takes `-0`, whose span in the input is `span`, and appends `0` for it. Fails if the text cannot grow.
-    fn zero(&mut self, span: InputSpan) -> Result<(), AllocError>
-        ensures wrote { OnOk result ((rest part rest' bs : List ℕ) → Wrote self.old rest bs → rest ≡ part ++ rest'
-            → span.at ≡ length rest → span.end ≡ length rest' → Wrote self.new rest' (bs ++ 48 ∷ [])) }
-        ensures only_text { OnOk result (ChangesOnlyText self.old self.new) }
-    {
-        self.flush(span.at)?;
-        self.out.bytes.push(b'0')?;
-        self.left = span.end;
-        Ok(())
-    }
-
-    // Takes a string, whose span in the input is `span`. One that was decoded into `scratch` is escaped anew; any other
-    // stays in the run. Fails if an allocation fails.
-    #[inline(always)]
-    fn string(&mut self, text: Text<'_>, scratch: &str, span: InputSpan) -> Result<(), AllocError>
-        ensures wrote { OnOk result ((rest part rest' bs : List ℕ) → Wrote self.old rest bs → rest ≡ part ++ rest'
-            → span.at ≡ length rest → span.end ≡ length rest' → TextSpelled text.entry part
-            → Wrote self.new rest' (bs ++ string_text (text_of text.entry scratch.now))) }
-        ensures only_text { OnOk result (ChangesOnlyText self.old self.new) }
-    {
-        if let Text::Scratch = text {
-            self.flush(span.at)?;
-            put_escaped(scratch, &mut self.escaped, &mut self.out.bytes)?;
-            self.left = span.end;
-        }
-        Ok(())
     }
 
     /// Takes the name of a member with its colon, whose span in the input is `span`, and adds the member to those of

@@ -1,15 +1,15 @@
--- `-0` and a string with escapes are written anew (`written`), and `{` opens an object in the state (`holding_opened`).
+-- `-0` and a string with escapes are written anew (`rewritten`), and `{` opens an object in the state (`holding_opened`).
 -- Any other first token of a value stays in the run (`stays`).
 use Rattle.std.proofs.Common.{rules, ◌≡◌, pos, ◌++◌, ◌∷◌, [], length, refl, sym, ap, subst, ◌∙◌}
-use Rattle.miniserde_model.specs.Compact.{compact}
+use Rattle.miniserde_model.specs.Compact.{compact, string_text}
 use Rattle.miniserde_model.specs.Normal.{norm_neg}
-use Rattle.miniserde_text.specs.Lexer.{event_of_token}
+use Rattle.miniserde_text.specs.Lexer.{event_of_token, text_of}
 use Rattle.miniserde_canonical.specs.private.Moving.{first_token}
 use Rattle.miniserde_canonical.specs.private.Plain.{SpellsToken}
 use Rattle.miniserde_canonical.specs.private.Arranging.{TokenStep, Adds}
 use Rattle.miniserde_canonical.specs.private.Drafts.{Wrote}
-use Rattle.miniserde_canonical.proofs.Drafting.{holding_opened, written, stays}
-use Rattle.miniserde_canonical.proofs.Running.{wrote_on, as_negative, as_it_is, decimal_zero}
+use Rattle.miniserde_canonical.proofs.Drafting.{holding_opened, rewritten, stays}
+use Rattle.miniserde_canonical.proofs.Running.{wrote_on, as_negative, as_it_is, string_stands, decimal_zero}
 use Rattle.miniserde_canonical.proofs.draft.Draft.token.Goals as goal
 
 pub returns-then-n-ne0-clause-takes : goal.returns-then-n-ne0-clause-takes
@@ -20,22 +20,32 @@ returns-then-n-ne0-clause-takes c = λ rest part rest' s s' r e f g p h.
     stays c.args.self.now rest part rest' s s'
     (subst (λ z. Adds z s s') (sym (as_negative c.in-Negative.n part q.0 (search rules))) a.0) r e
 
-pub returns-in_ok-zero-in-Negative-clause-takes : goal.returns-in_ok-zero-in-Negative-clause-takes
-returns-in_ok-zero-in-Negative-clause-takes c = λ rest part rest' s s' r e f g p h.
+pub returns-in_ok-push-in-Negative-clause-takes : goal.returns-in_ok-push-in-Negative-clause-takes
+returns-in_ok-push-in-Negative-clause-takes c = λ rest part rest' s s' r e f g p h.
     let x = c.args.scratch.now in
     let zero : c.in-Negative.n ≡ pos 0 = search rules in
     let a = subst (λ z. TokenStep (first_token (event_of_token z x)) s s') c.in-Negative.is h in
-    written c.args.self.now c.zero.new.self rest rest' s s' (48 ∷ [])
+    let k = c.in_ok-flush-in-Negative.ensures in
+    rewritten c.args.self.now c.flush.new.self _ rest part rest' s s' (48 ∷ [])
     (subst (λ z. Adds z s s') (ap (λ z. compact (norm_neg z)) zero ∙ decimal_zero) a.0) r
-    (c.in_ok-zero-in-Negative.ensures.wrote rest part rest' r.bytes r.wrote e f g) c.in_ok-zero-in-Negative.ensures.only_text
+    (k.wrote rest r.bytes r.wrote f) k.only_text (record { splices = refl; groups = refl; inner = refl; members = refl; opened = refl; distinct = refl }) e refl g c.in_ok-push-in-Negative.ensures.items
 
-pub returns-in_ok-string-in-Str-clause-takes : goal.returns-in_ok-string-in-Str-clause-takes
-returns-in_ok-string-in-Str-clause-takes c = λ rest part rest' s s' r e f g p h.
+pub returns-in_ok-put_escaped-in-Str-clause-takes : goal.returns-in_ok-put_escaped-in-Str-clause-takes
+returns-in_ok-put_escaped-in-Str-clause-takes c = λ rest part rest' s s' r e f g p h.
+    let x = c.args.scratch.now in
+    let a = subst (λ z. TokenStep (first_token (event_of_token z x)) s s') c.in-Str.is h in
+    let k = c.in_ok-flush-in-Str.ensures in
+    rewritten c.args.self.now c.flush-in-Scratch.new.self _ rest part rest' s s' (string_text x)
+    (subst (λ z. Adds (string_text (text_of z x)) s s') c.in-Scratch.is a.0) r
+    (k.wrote rest r.bytes r.wrote f) k.only_text (record { splices = refl; groups = refl; inner = refl; members = refl; opened = refl; distinct = refl }) e refl g c.in_ok-put_escaped-in-Str.ensures
+
+pub returns-in_default-text-clause-takes : goal.returns-in_default-text-clause-takes
+returns-in_default-text-clause-takes c = λ rest part rest' s s' r e f g p h.
     let x = c.args.scratch.now in
     let q = subst (λ z. SpellsToken z x part) c.in-Str.is p in
     let a = subst (λ z. TokenStep (first_token (event_of_token z x)) s s') c.in-Str.is h in
-    written c.args.self.now c.string.new.self rest rest' s s' _ a.0 r
-    (c.in_ok-string-in-Str.ensures.wrote rest part rest' r.bytes r.wrote e f g q.1) c.in_ok-string-in-Str.ensures.only_text
+    stays c.args.self.now rest part rest' s s'
+    (string_stands c.in-Str.text x part s s' c.in_default-text.not-Scratch q.1 a.0) r e
 
 pub returns-in-SeqStart-clause-takes : goal.returns-in-SeqStart-clause-takes
 returns-in-SeqStart-clause-takes c = λ rest part rest' s s' r e f g p h.
