@@ -9,7 +9,8 @@ ghost use Rattle.miniserde_model.specs.Size.{size};
 ghost use Rattle.miniserde_model.specs.Value.{IsJson};
 ghost use Rattle.miniserde_model.specs.declared.error.Error.TheVariants.{Invalid};
 
-use crate::read::read;
+use crate::groups::fill_splices;
+use crate::read::draft_of;
 use miniserde_model::error::{Error, Result};
 use std::alloc::Global;
 
@@ -107,7 +108,9 @@ fn canonicalize(alloc: Global, j: &str) -> Result<(String, bool)>
         × (r.1 ≡ names_distinct t)) }
     ensures invalid { result ≡ Err Invalid → (t : Tree) → IsJson j.now t → ⊥ }
 {
-    let (bytes, is_distinct) = read(alloc, j)?;
+    let draft = draft_of(alloc, j)?;
+    let bytes = fill_splices(alloc, draft.out, &draft.groups)?;
     // The bytes are UTF-8: they are the compact text of a tree that a text can spell.
-    Ok((unsafe { String::from_utf8_unchecked(bytes) }, is_distinct))
+    let text = unsafe { String::from_utf8_unchecked(bytes) };
+    Ok((text, draft.is_distinct))
 }

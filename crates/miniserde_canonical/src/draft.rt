@@ -10,7 +10,7 @@
 //! says both.
 ghost use Rattle.std.specs.Prelude.{◌≡◌, ◌++◌, ◌∷◌, [], ℕ, List, length, IfOk, OnOk};
 ghost use Rattle.miniserde_model.specs.Compact.{string_text};
-ghost use Rattle.miniserde_text.specs.Lexer.{event_of_token, text_of};
+ghost use Rattle.miniserde_text.specs.Lexer.{Blank, event_of_token, text_of};
 ghost use Rattle.miniserde_text.specs.private.Moving.{opened_kind};
 ghost use Rattle.miniserde_canonical.specs.Token.{name};
 ghost use Rattle.miniserde_canonical.specs.private.Moving.{first_token};
@@ -23,10 +23,10 @@ use crate::members::rises;
 use crate::put::{is_as_written, put_escaped, put_string};
 use crate::sort_members::sort_members;
 use crate::spread::{Point, SplicedText, part};
-use miniserde_text::json::lex::{Event, Kind, Text};
+use miniserde_text::json::lex::{Event, Kind, Lexer, Text};
 use std::alloc::{AllocError, Global};
 
-/// The span of a token, or of whitespace, in the input.
+/// The span of a token in the input.
 #[derive(Clone, Copy, Drop)]
 pub(crate) struct InputSpan {
     /// How many bytes of the input are left at its start.
@@ -98,20 +98,24 @@ impl<'a> Draft<'a> {
         Ok(())
     }
 
-    /// Leaves out whitespace: appends the run before it to the text, and begins the next run after it. Does nothing if
-    /// the span is empty. Fails if the text cannot grow.
+    /// Takes whitespace, and leaves it out: the run before it is appended to the text, and the next run begins after it.
+    /// Returns how many bytes of the input are left after it. Fails if the text cannot grow.
     #[inline(always)]
-    pub(crate) fn skip(&mut self, space: InputSpan) -> Result<(), AllocError>
-        ensures wrote { OnOk result ((rest w rest' bs : List ℕ) → Wrote self.old rest bs → rest ≡ w ++ rest'
-            → space.at ≡ length rest → space.end ≡ length rest' → Wrote self.new rest' bs) }
+    pub(crate) fn skip(&mut self, lexer: &mut Lexer<'a>) -> Result<usize, AllocError>
+        ensures at { IfOk result (λ at. at ≡ length lexer.new.rest) }
+        ensures blank { OnOk result (Blank lexer.old.rest lexer.new.rest) }
+        ensures going { OnOk result (lexer.new.refused ≡ lexer.old.refused) }
+        ensures wrote { OnOk result ((bs : List ℕ) → Wrote self.old lexer.old.rest bs → Wrote self.new lexer.new.rest bs) }
         ensures only_text { OnOk result (ChangesOnlyText self.old self.new) }
     {
-        if space.at == space.end {
-            return Ok(());
+        let at = lexer.left();
+        lexer.skip();
+        let end = lexer.left();
+        if at != end {
+            self.flush(at)?;
+            self.left = end;
         }
-        self.flush(space.at)?;
-        self.left = space.end;
-        Ok(())
+        Ok(end)
     }
 
     /// Takes the first token of a value, whose span in the input is `span`, and returns the kind of the container that it

@@ -34,7 +34,12 @@ pub(crate) fn put_string(
     ensures { OnOk result (out.new.items ≡ out.old.items ++ string_text (text_of text.entry scratch.now)) }
 {
     match text {
-        Text::Input(s) => put_plain(s, out),
+        Text::Input(s) => {
+            out.push(b'"')?;
+            out.extend_from_slice(s.as_bytes())?;
+            out.push(b'"')?;
+            Ok(())
+        }
         Text::Scratch => put_escaped(scratch, escape_room, out),
     }
 }
@@ -51,17 +56,6 @@ pub(crate) fn put_escaped(
     escape_room.clear();
     escape_str(text, escape_room).map_err(|_| AllocError)?;
     out.extend_from_slice(escape_room.as_bytes())
-}
-
-// Appends a text between quotes. None of its bytes needs an escape. Fails if `out` cannot grow.
-fn put_plain(text: &str, out: &mut Vec<u8>) -> Result<(), AllocError>
-    requires { needs_no_escape text.now ≡ true }
-    ensures { OnOk result (out.new.items ≡ out.old.items ++ string_text text.now) }
-{
-    out.push(b'"')?;
-    out.extend_from_slice(text.as_bytes())?;
-    out.push(b'"')?;
-    Ok(())
 }
 
 /// Returns `true` for a name that the input has as it is to be written, with its colon: without a backslash, and

@@ -1,26 +1,44 @@
--- The bytes are the compact text of a tree, so they are UTF-8.
-use Rattle.std.proofs.Common.{rules, IsUtf8, sym, subst}
+-- The draft holds the canonical text, with the groups in its splices (`held`). It is the compact text of a tree, so it
+-- is UTF-8.
+use Rattle.std.proofs.Common.{rules, IsUtf8, sym, subst, ◌∙◌}
 use Rattle.std.proofs.lemmas.Result.{err_from_is_err_and}
+use Rattle.miniserde_model.specs.Tree.{Tree}
 use Rattle.miniserde_model.specs.Compact.{compact}
 use Rattle.miniserde_model.specs.Normal.{norm}
 use Rattle.miniserde_model.proofs.Accepted.{json_tree}
 use Rattle.miniserde_model.proofs.Normal.{norm_tree}
 use Rattle.miniserde_model.proofs.Utf8.{json_utf8}
 use Rattle.miniserde_model.proofs.Written.{written}
+use Rattle.miniserde_canonical.specs.Token.{tokens}
+use Rattle.miniserde_canonical.specs.declared.draft.Draft.{Draft}
+use Rattle.miniserde_canonical.specs.private.Arranging.{State, Run, start}
+use Rattle.miniserde_canonical.specs.private.Drafts.{Holding}
+use Rattle.miniserde_canonical.specs.private.Spreads.{Holds}
+use Rattle.miniserde_canonical.proofs.Growing.{run_makes}
+use Rattle.miniserde_canonical.proofs.Drafting.{holds_whole}
 use Rattle.miniserde_canonical.proofs.canonicalize.canonicalize.Goals as goal
 
-pub returns-in_err-bytes-clause-invalid : goal.returns-in_err-bytes-clause-invalid
-returns-in_err-bytes-clause-invalid c = λ e.
-    let w = err_from_is_err_and c.from_residual.result c.from_residual.ensures.1 in
-    c.in_err-bytes.ensures.invalid (cc (w.1, w.2, e))
+held : (d : Draft) (t : Tree) (s : State) → Run (tokens t) start s → Holding d d.out.bytes.items s
+    → Holds d.groups.bytes.items d.groups.splices.items 0 d.out.bytes.items d.out.splices.items (compact (norm t))
+held d t s r h =
+    let m = run_makes t s r in
+    subst (λ z. Holds d.groups.bytes.items d.groups.splices.items 0 d.out.bytes.items d.out.splices.items z) m.0
+    (holds_whole d s h m.1)
 
-pub from_utf8_unchecked-requires : goal.from_utf8_unchecked-requires
-from_utf8_unchecked-requires c =
-    let r = c.in_ok-bytes.ensures.ok in
+pub returns-in_err-draft-clause-invalid : goal.returns-in_err-draft-clause-invalid
+returns-in_err-draft-clause-invalid c = λ e.
+    let w = err_from_is_err_and c.from_residual.result c.from_residual.ensures.1 in
+    c.in_err-draft.ensures.invalid (cc (w.1, w.2, e))
+
+pub from_utf8_unchecked-text-requires : goal.from_utf8_unchecked-text-requires
+from_utf8_unchecked-text-requires c =
+    let r = c.in_ok-draft.ensures.ok in
     let n = norm r.0 in
-    subst IsUtf8 (sym r.2) (json_utf8 (compact n) n (written n (norm_tree r.0 (json_tree c.args.j.now r.0 r.1))))
+    subst IsUtf8 (sym (c.in_ok-bytes.ensures _ (held c.in_ok-draft.draft r.0 r.1 r.3 r.4)))
+    (json_utf8 (compact n) n (written n (norm_tree r.0 (json_tree c.args.j.now r.0 r.2))))
 
 pub returns-clause-ok : goal.returns-clause-ok
 returns-clause-ok c =
-    let r = c.in_ok-bytes.ensures.ok in
-    (r.0, r.1, search rules, r.3)
+    let r = c.in_ok-draft.ensures.ok in
+    let bytes = c.in_ok-bytes.ensures _ (held c.in_ok-draft.draft r.0 r.1 r.3 r.4) in
+    (r.0, r.2, search (rules, bytes), r.4.distinct ∙ (run_makes r.0 r.1 r.3).2)

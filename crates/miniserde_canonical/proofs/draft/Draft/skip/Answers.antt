@@ -3,7 +3,8 @@ use Rattle.std.proofs.Common.{refl}
 use Rattle.miniserde_canonical.proofs.Running.{rewound}
 use Rattle.miniserde_canonical.proofs.draft.Draft.skip.Goals as goal
 
-pub returns-clause-wrote : goal.returns-clause-wrote
-returns-clause-wrote c = λ rest w rest' bs t e f g.
-    let q = c.in_ok-flush.ensures.wrote rest bs t f in
-    rewound c.flush.new.self _ rest w rest' bs bs q.0 e refl g q.1
+pub returns-in_ok-flush-clause-wrote : goal.returns-in_ok-flush-clause-wrote
+returns-in_ok-flush-clause-wrote c = λ bs t.
+    let b = c.skip.ensures.space in
+    let q = c.in_ok-flush.ensures.wrote _ bs t c.left-at.ensures in
+    rewound c.flush.new.self _ _ b.space _ bs bs q.0 b.text refl c.left-end.ensures q.1

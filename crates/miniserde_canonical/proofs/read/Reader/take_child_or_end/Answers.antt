@@ -52,7 +52,7 @@ returns-in-Seq-clause-reads c =
     let mid = c.skip.new.lexer.rest in
     let new = c.after.new.self.rest in
     let d = c.args.self.now.draft in
-    let d1 = c.skip.new.draft in
+    let d1 = c.skip.new.self in
     let b = c.in_ok-before.ensures.blank in
     let p : Follows k c.args.first true mid new =
     subst (λ z. Follows k c.args.first (is_close z) mid new) c.in-Close.is c.in_ok-after.ensures.ok.2 in (
@@ -71,7 +71,7 @@ returns-in_ok-close-in-Map-clause-reads c =
     let mid = c.skip.new.lexer.rest in
     let new = c.after.new.self.rest in
     let d = c.args.self.now.draft in
-    let d1 = c.skip.new.draft in
+    let d1 = c.skip.new.self in
     let b = c.in_ok-before.ensures.blank in
     let p : Follows k c.args.first true mid new =
     subst (λ z. Follows k c.args.first (is_close z) mid new) c.in-Close.is c.in_ok-after.ensures.ok.2 in (
@@ -91,7 +91,7 @@ returns-in-Seq-kind-clause-reads c =
     let mid = c.skip.new.lexer.rest in
     let new = c.after.new.self.rest in
     let d = c.args.self.now.draft in
-    let d1 = c.skip.new.draft in
+    let d1 = c.skip.new.self in
     let b = c.in_ok-before.ensures.blank in
     let p : Follows k c.args.first false mid new =
     subst (λ z. Follows k c.args.first (is_close z) mid new) c.in-Next.is c.in_ok-after.ensures.ok.2 in (
@@ -114,8 +114,8 @@ returns-in_ok-name-in-Map-kind-clause-reads c =
     let at = c.skip-in-Map-kind.new.lexer.rest in
     let new = c.name.new.self.rest in
     let d = c.args.self.now.draft in
-    let d1 = c.skip.new.draft in
-    let d2 = c.skip-in-Map-kind.new.draft in
+    let d1 = c.skip.new.self in
+    let d2 = c.skip-in-Map-kind.new.self in
     let b = c.in_ok-before.ensures.blank in
     let b2 = c.in_ok-at-in-Map-kind.ensures.blank in
     let q = c.in_ok-text-in-Map-kind.ensures.ok.2 in
