@@ -23,7 +23,7 @@ impl<'a> Name<'a> {
     {
         match text {
             Text::Input(s) => Ok(Name::Input(s)),
-            Text::Scratch => Ok(Name::Decoded(boxed(alloc, scratch)?)),
+            Text::Scratch => Ok(Name::Decoded(Box::new(alloc, String::from_str(alloc, scratch)?)?)),
         }
     }
 
@@ -37,13 +37,6 @@ impl<'a> Name<'a> {
             Name::Decoded(s) => s.as_str(),
         }
     }
-}
-
-// Returns a copy of a text on the heap. Fails if the allocation fails.
-fn boxed(alloc: Global, text: &str) -> Result<Box<String>, AllocError>
-    ensures { IfOk result (λ b. string_bytes b.value ≡ text.now) }
-{
-    Ok(Box::new(alloc, String::from_str(alloc, text)?)?)
 }
 
 /// A member of an open object: its name, and the point of the draft's text at which it begins.

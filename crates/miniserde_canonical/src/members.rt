@@ -21,23 +21,12 @@ pub(crate) fn rises(members: &[Member<'_>]) -> bool
     ensures some { result ≡ false → 0 < length members.now }
 {
     for i in 1..members.len() {
-        if !below(&members[i - 1], &members[i]) {
-            return false;
+        match compare_names(&members[i - 1], &members[i]) {
+            Ordering::Less => {}
+            _ => return false,
         }
     }
     true
-}
-
-// Returns whether the name of `a` is below the name of `b` in byte order. The clause promises it for the result `true`
-// alone.
-#[inline(always)]
-fn below(a: &Member<'_>, b: &Member<'_>) -> bool
-    ensures { result ≡ true → text_cmp (name_of a.now.name) (name_of b.now.name) ≡ Less }
-{
-    match compare_names(a, b) {
-        Ordering::Less => true,
-        _ => false,
-    }
 }
 
 // Compares the names of two members in byte order. It compares their first eight bytes first, as numbers.
@@ -125,13 +114,6 @@ pub(crate) fn span_of(members: &[Member<'_>], i: usize, end: Point) -> Span
     }
 }
 
-// Returns the length in bytes of the comma before a member: 0 for the first member, and else 1.
-fn comma_len(first: bool) -> usize
-    ensures { result ≡ length (comma_before first) }
-{
-    if first { 0 } else { 1 }
-}
-
 // Returns the point at which the member before index `i` ends: before the comma of the member at index `i`, or at `end`
 // if there is none.
 fn end_at(members: &[Member<'_>], i: usize, end: Point) -> Point
@@ -141,8 +123,9 @@ fn end_at(members: &[Member<'_>], i: usize, end: Point) -> Point
         return end;
     }
     let point = members[i].point;
+    let comma = if members[i].first { 0 } else { 1 };
     Point {
-        bytes: point.bytes.saturating_sub(comma_len(members[i].first)),
+        bytes: point.bytes.saturating_sub(comma),
         splices: point.splices,
     }
 }
