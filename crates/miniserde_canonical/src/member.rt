@@ -1,5 +1,5 @@
 //! The members of open objects, with the first bytes of their names as numbers, which are fast to compare.
-ghost use Rattle.std.specs.Prelude.{◌≡◌, IfOk, get_or, string_bytes};
+ghost use Rattle.std.specs.Prelude.{◌≡◌, IfOk, get_or};
 ghost use Rattle.miniserde_text.specs.Lexer.{text_of};
 ghost use Rattle.miniserde_canonical.specs.private.Names.{name_of, IsLeadingBytes};
 

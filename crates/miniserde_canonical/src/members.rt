@@ -5,9 +5,8 @@ ghost use Rattle.std.specs.List.{range_with_len};
 ghost use Rattle.std.specs.declared.cmp.Ordering.TheVariants.{Less};
 ghost use Rattle.miniserde_model.specs.Tree.{Tree};
 ghost use Rattle.miniserde_model.specs.Normal.{text_cmp, last_of};
-ghost use Rattle.miniserde_canonical.specs.private.Arranging.{comma_before};
 ghost use Rattle.miniserde_canonical.specs.private.Names.{name_of};
-ghost use Rattle.miniserde_canonical.specs.private.Members.{name_in, members_at, begins_with_name, begin_of, before_comma, end_of, NamesRise};
+ghost use Rattle.miniserde_canonical.specs.private.Members.{name_in, members_at, begins_with_name, begin_of, end_of, NamesRise};
 
 use crate::member::Member;
 use crate::spread::{Point, Span};
@@ -108,24 +107,15 @@ pub(crate) fn span_of(members: &[Member<'_>], i: usize, end: Point) -> Span
     if i >= members.len() {
         return Span { from: end, to: end };
     }
-    Span {
-        from: members[i].point,
-        to: end_at(members, i + 1, end),
+    let from = members[i].point;
+    if i + 1 >= members.len() {
+        return Span { from, to: end };
     }
-}
-
-// Returns the point at which the member before index `i` ends: before the comma of the member at index `i`, or at `end`
-// if there is none.
-fn end_at(members: &[Member<'_>], i: usize, end: Point) -> Point
-    ensures { result ≡ before_comma (drop i members.now) end }
-{
-    if i >= members.len() {
-        return end;
-    }
-    let point = members[i].point;
-    let comma = if members[i].first { 0 } else { 1 };
-    Point {
-        bytes: point.bytes.saturating_sub(comma),
-        splices: point.splices,
-    }
+    let next = &members[i + 1];
+    let comma = if next.first { 0 } else { 1 };
+    let to = Point {
+        bytes: next.point.bytes.saturating_sub(comma),
+        splices: next.point.splices,
+    };
+    Span { from, to }
 }
