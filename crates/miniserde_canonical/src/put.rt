@@ -23,7 +23,6 @@ pub(crate) fn put_comma(first: bool, out: &mut Vec<u8>) -> Result<(), AllocError
 
 /// Appends a string, by the text that the lexer returned for it and the scratch text. `escape_room` is room for its
 /// escaped text. Fails if an allocation fails.
-#[inline(always)]
 pub(crate) fn put_string(
     text: Text<'_>,
     scratch: &str,
