@@ -28,7 +28,9 @@ returns-in_ok-push-in-Negative-clause-takes c = λ rest part rest' s s' r e f g 
     let k = c.in_ok-flush-in-Negative.ensures in
     rewritten c.args.self.now c.flush.new.self _ rest part rest' s s' (48 ∷ [])
     (subst (λ z. Adds z s s') (ap (λ z. compact (norm_neg z)) zero ∙ decimal_zero) a.0) r
-    (k.wrote rest r.bytes r.wrote f) k.only_text (record { splices = refl; groups = refl; inner = refl; members = refl; opened = refl; distinct = refl }) e refl g c.in_ok-push-in-Negative.ensures.items
+    (k.wrote rest r.bytes r.wrote f) k.only_text
+    (record { splices = refl; groups = refl; inner = refl; members = refl; opened = refl; distinct = refl })
+    e refl g c.in_ok-push-in-Negative.ensures.items
 
 pub returns-in_ok-put_escaped-in-Str-clause-takes : goal.returns-in_ok-put_escaped-in-Str-clause-takes
 returns-in_ok-put_escaped-in-Str-clause-takes c = λ rest part rest' s s' r e f g p h.
@@ -37,7 +39,9 @@ returns-in_ok-put_escaped-in-Str-clause-takes c = λ rest part rest' s s' r e f 
     let k = c.in_ok-flush-in-Str.ensures in
     rewritten c.args.self.now c.flush-in-Scratch.new.self _ rest part rest' s s' (string_text x)
     (subst (λ z. Adds (string_text (text_of z x)) s s') c.in-Scratch.is a.0) r
-    (k.wrote rest r.bytes r.wrote f) k.only_text (record { splices = refl; groups = refl; inner = refl; members = refl; opened = refl; distinct = refl }) e refl g c.in_ok-put_escaped-in-Str.ensures
+    (k.wrote rest r.bytes r.wrote f) k.only_text
+    (record { splices = refl; groups = refl; inner = refl; members = refl; opened = refl; distinct = refl })
+    e refl g c.in_ok-put_escaped-in-Str.ensures
 
 pub returns-in_default-text-clause-takes : goal.returns-in_default-text-clause-takes
 returns-in_default-text-clause-takes c = λ rest part rest' s s' r e f g p h.
