@@ -10,76 +10,20 @@ use Rattle.miniserde_model.specs.Value.{IsJson}
 use Rattle.miniserde_model.specs.Step.{Step, boolean, string, negative, nonnegative, float, seq, map}
 use Rattle.miniserde_model.specs.Step.{finish, events, child_events, member_events}
 use Rattle.miniserde_model.specs.Step as step
-use Rattle.miniserde_model.specs.Lexing.{Starts, Names, Follows}
+use Rattle.miniserde_model.specs.Lexing.{Starts}
 use Rattle.miniserde_model.specs.declared.kind.Kind.{Kind}
 use Rattle.miniserde_model.specs.declared.kind.Kind.TheVariants.{Seq, Map}
-use Rattle.miniserde_model.specs.private.Reading.{due, first, after}
+use Rattle.miniserde_model.specs.private.Reading.{due, first}
 use Rattle.miniserde_text.specs.private.Moving.{before_child}
 use Rattle.miniserde_text.specs.private.Runs.{Runs}
 use Rattle.miniserde_text.proofs.Starting.{same_start}
 use Rattle.miniserde_text.proofs.Wholes.{json_run, run_json, nothing_left}
-use Rattle.miniserde_read.specs.Rest.{ValueAt, ElementsAt, MembersAt}
+use Rattle.miniserde_read.specs.Rest.{ValueAt}
 use Rattle.miniserde_read.proofs.Same.{value_same}
-use Rattle.miniserde_read.proofs.Values.{due_runs}
+use Rattle.miniserde_read.proofs.Values.{due_runs, At, leaf_at, ElementsEnd, MembersEnd}
+use Rattle.miniserde_read.proofs.Values.{element_at, member_at, list_at, object_at}
 
 -- ---- from a run over the events of a tree
-
-record At (t : Tree) (rest : List Step) (st : List Kind) (s r : List ℕ) : Type 0 where
-  event : Step
-  behind : List ℕ
-  end : List ℕ
-  starts : Starts s event behind
-  is_value : ValueAt t event behind end
-  is_rest : Runs after rest st end r
-
-leaf_at : (t : Tree) (e : Step) (rest : List Step) (st : List Kind) (s b r : List ℕ) → Starts s e b → ValueAt t e b b
-    → Runs after rest st b r → At t rest st s r
-leaf_at t e rest st s b r k v h = record { event = e; behind = b; end = b; starts = k; is_value = v; is_rest = h }
-
-abbrev ElementsEnd : Trees → Bool → List Step → List Kind → List ℕ → List ℕ → Type 0
-ElementsEnd ts f rest st s r = (x : List ℕ) × ElementsAt ts f s x × Runs after rest st x r
-
-abbrev MembersEnd : Members → Bool → List Step → List Kind → List ℕ → List ℕ → Type 0
-MembersEnd ms f rest st s r = (x : List ℕ) × MembersAt ms f s x × Runs after rest st x r
-
--- one element and those behind it
-element_at : (t : Tree) (ts : Trees) (f : Bool) (es rest : List Step) (st : List Kind) (s b r : List ℕ)
-    → Follows Seq f false s b → (a : At t es (Seq ∷ st) b r) → ElementsEnd ts false rest st a.end r
-    → ElementsEnd (tree t ts) f rest st s r
-element_at t ts f es rest st s b r p a m = (
-  m.0,
-  record {
-    begin = b;
-    event = a.event;
-    behind = a.behind;
-    rest = a.end;
-    follows = p;
-    starts = a.starts;
-    is_value = a.is_value;
-    is_rest = m.1;
-  },
-  m.2,
-)
-
-member_at : (n : List ℕ) (t : Tree) (ms : Members) (f : Bool) (es rest : List Step) (st : List Kind) (s b c r : List ℕ)
-    → Follows Map f false s b → Names b n c → (a : At t es (Map ∷ st) c r) → MembersEnd ms false rest st a.end r
-    → MembersEnd (member n t ms) f rest st s r
-member_at n t ms f es rest st s b c r p q a m = (
-  m.0,
-  record {
-    begin = b;
-    named = c;
-    event = a.event;
-    behind = a.behind;
-    rest = a.end;
-    follows = p;
-    names = q;
-    starts = a.starts;
-    is_value = a.is_value;
-    is_rest = m.1;
-  },
-  m.2,
-)
 
 mutual
   value_at : (t : Tree) (rest : List Step) (st : List Kind) (s r : List ℕ) → Runs due (events t ++ rest) st s r → At t rest st s r
@@ -92,11 +36,11 @@ mutual
   value_at (list ts) rest st s r h =
       let a = elements_at ts true rest st h.0 r
       (subst (λ z. Runs first z (Seq ∷ st) h.0 r) (append_assoc (child_events ts) (finish ∷ []) rest) h.2) in
-      record { event = seq; behind = h.0; end = a.0; starts = h.1; is_value = (refl, a.1); is_rest = a.2 }
+      list_at ts rest st s h.0 r h.1 a
   value_at (members ms) rest st s r h =
       let a = members_at ms true rest st h.0 r
       (subst (λ z. Runs first z (Map ∷ st) h.0 r) (append_assoc (member_events ms) (finish ∷ []) rest) h.2) in
-      record { event = map; behind = h.0; end = a.0; starts = h.1; is_value = (refl, a.1); is_rest = a.2 }
+      object_at ms rest st s h.0 r h.1 a
 
   elements_at : (ts : Trees) (f : Bool) (rest : List Step) (st : List Kind) (s r : List ℕ)
       → Runs (before_child f) (child_events ts ++ finish ∷ rest) (Seq ∷ st) s r → ElementsEnd ts f rest st s r

@@ -120,32 +120,97 @@ value_later (members ms) e s r v =
 
 -- ---- from the events to the tree
 
+-- in a run, the value t stands first, and the run goes on behind it
+pub record At (t : Tree) (rest : List Step) (st : List Kind) (s r : List ℕ) : Type 0 where
+  pub event : Step
+  pub behind : List ℕ
+  pub end : List ℕ
+  pub starts : Starts s event behind
+  pub is_value : ValueAt t event behind end
+  pub is_rest : Runs after rest st end r
+
+-- a leaf stands where its token does
+pub leaf_at : (t : Tree) (e : Step) (rest : List Step) (st : List Kind) (s b r : List ℕ) → Starts s e b → ValueAt t e b b
+    → Runs after rest st b r → At t rest st s r
+leaf_at t e rest st s b r k v h = record { event = e; behind = b; end = b; starts = k; is_value = v; is_rest = h }
+
+-- elements stand first, up to the closing bracket, and the run goes on behind it
+abbrev pub ElementsEnd : Trees → Bool → List Step → List Kind → List ℕ → List ℕ → Type 0
+ElementsEnd ts f rest st s r = (x : List ℕ) × ElementsAt ts f s x × Runs after rest st x r
+
+-- the same of members
+abbrev pub MembersEnd : Members → Bool → List Step → List Kind → List ℕ → List ℕ → Type 0
+MembersEnd ms f rest st s r = (x : List ℕ) × MembersAt ms f s x × Runs after rest st x r
+
+-- one element and those behind it
+pub element_at : (t : Tree) (ts : Trees) (f : Bool) (es rest : List Step) (st : List Kind) (s b r : List ℕ)
+    → Follows Seq f false s b → (a : At t es (Seq ∷ st) b r) → ElementsEnd ts false rest st a.end r
+    → ElementsEnd (tree t ts) f rest st s r
+element_at t ts f es rest st s b r p a m = (
+  m.0,
+  record {
+    begin = b;
+    event = a.event;
+    behind = a.behind;
+    rest = a.end;
+    follows = p;
+    starts = a.starts;
+    is_value = a.is_value;
+    is_rest = m.1;
+  },
+  m.2,
+)
+
+-- one member and those behind it
+pub member_at : (n : List ℕ) (t : Tree) (ms : Members) (f : Bool) (es rest : List Step) (st : List Kind) (s b c r : List ℕ)
+    → Follows Map f false s b → Names b n c → (a : At t es (Map ∷ st) c r) → MembersEnd ms false rest st a.end r
+    → MembersEnd (member n t ms) f rest st s r
+member_at n t ms f es rest st s b c r p q a m = (
+  m.0,
+  record {
+    begin = b;
+    named = c;
+    event = a.event;
+    behind = a.behind;
+    rest = a.end;
+    follows = p;
+    names = q;
+    starts = a.starts;
+    is_value = a.is_value;
+    is_rest = m.1;
+  },
+  m.2,
+)
+
+-- an array stands where its opening bracket does
+pub list_at : (ts : Trees) (rest : List Step) (st : List Kind) (s b r : List ℕ) → Starts s seq b
+    → ElementsEnd ts true rest st b r → At (list ts) rest st s r
+list_at ts rest st s b r k a =
+    record { event = seq; behind = b; end = a.0; starts = k; is_value = (refl, a.1); is_rest = a.2 }
+
+-- an object stands where its opening bracket does
+pub object_at : (ms : Members) (rest : List Step) (st : List Kind) (s b r : List ℕ) → Starts s map b
+    → MembersEnd ms true rest st b r → At (members ms) rest st s r
+object_at ms rest st s b r k a =
+    record { event = map; behind = b; end = a.0; starts = k; is_value = (refl, a.1); is_rest = a.2 }
+
 record FoundValue (es : List Step) (st : List Kind) (s r : List ℕ) : Type 0 where
   found : Tree
   left : List Step
-  event : Step
-  behind : List ℕ
-  end : List ℕ
   is : es ≡ events found ++ left
-  starts : Starts s event behind
-  is_value : ValueAt found event behind end
-  is_rest : Runs after left st end r
+  at : At found left st s r
 
 record FoundElements (f : Bool) (es : List Step) (st : List Kind) (s r : List ℕ) : Type 0 where
   found : Trees
   left : List Step
-  end : List ℕ
   is : es ≡ child_events found ++ finish ∷ left
-  are_elements : ElementsAt found f s end
-  is_rest : Runs after left st end r
+  at : ElementsEnd found f left st s r
 
 record FoundMembers (f : Bool) (es : List Step) (st : List Kind) (s r : List ℕ) : Type 0 where
   found : Members
   left : List Step
-  end : List ℕ
   is : es ≡ member_events found ++ finish ∷ left
-  are_members : MembersAt found f s end
-  is_rest : Runs after left st end r
+  at : MembersEnd found f left st s r
 
 shorter : (n : ℕ) (es : List Step) (st : List Kind) (s r : List ℕ) (v : FoundValue es st s r) → length es ≤ n → length v.left ≤ n
 shorter n es st s r v h = omega (arith, ap length v.is, length-append (events v.found) v.left)
@@ -153,63 +218,31 @@ shorter n es st s r v h = omega (arith, ap length v.is, length-append (events v.
 joined : (e : Step) (es fs gs hs left : List Step) → es ≡ fs ++ gs → gs ≡ hs ++ finish ∷ left → e ∷ es ≡ (e ∷ (fs ++ hs)) ++ finish ∷ left
 joined e es fs gs hs left p q = ap (λ z. e ∷ z) (p ∙ ap (λ z. fs ++ z) q ∙ sym (append_assoc fs hs (finish ∷ left)))
 
--- one element and those behind it
 add_element : (f : Bool) (es : List Step) (st : List Kind) (s b r : List ℕ) → Follows Seq f false s b
-    → (v : FoundValue es (Seq ∷ st) b r) → FoundElements false v.left st v.end r
+    → (v : FoundValue es (Seq ∷ st) b r) → FoundElements false v.left st v.at.end r
     → FoundElements f (element ∷ es) st s r
 add_element f es st s b r p v m =
     record {
       found = tree v.found m.found;
       left = m.left;
-      end = m.end;
-      is =
-          joined element es (events v.found) v.left (child_events m.found) m.left v.is m.is;
-      are_elements =
-          record {
-            begin = b;
-            event = v.event;
-            behind = v.behind;
-            rest = v.end;
-            follows = p;
-            starts =
-                v.starts;
-            is_value = v.is_value;
-            is_rest = m.are_elements;
-          };
-      is_rest = m.is_rest;
+      is = joined element es (events v.found) v.left (child_events m.found) m.left v.is m.is;
+      at = element_at v.found m.found f v.left m.left st s b r p v.at m.at;
     }
 
 add_member : (f : Bool) (es : List Step) (st : List Kind) (s b n c r : List ℕ) → Follows Map f false s b
-    → Names b n c → (v : FoundValue es (Map ∷ st) c r) → FoundMembers false v.left st v.end r
+    → Names b n c → (v : FoundValue es (Map ∷ st) c r) → FoundMembers false v.left st v.at.end r
     → FoundMembers f (key n ∷ es) st s r
 add_member f es st s b n c r p q v m =
     record {
       found = member n v.found m.found;
       left = m.left;
-      end = m.end;
-      is =
-          joined (key n) es (events v.found) v.left (member_events m.found) m.left v.is m.is;
-      are_members =
-          record {
-            begin = b;
-            named = c;
-            event = v.event;
-            behind = v.behind;
-            rest = v.end;
-            follows = p;
-            names =
-                q;
-            starts = v.starts;
-            is_value = v.is_value;
-            is_rest = m.are_members;
-          };
-      is_rest = m.is_rest;
+      is = joined (key n) es (events v.found) v.left (member_events m.found) m.left v.is m.is;
+      at = member_at n v.found m.found f v.left m.left st s b c r p q v.at m.at;
     }
 
 leaf_found : (t : Tree) (e : Step) (es : List Step) (st : List Kind) (s b r : List ℕ) → e ∷ es ≡ events t ++ es
     → Starts s e b → ValueAt t e b b → Runs after es st b r → FoundValue (e ∷ es) st s r
-leaf_found t e es st s b r i k v h =
-    record { found = t; left = es; event = e; behind = b; end = b; is = i; starts = k; is_value = v; is_rest = h }
+leaf_found t e es st s b r i k v h = record { found = t; left = es; is = i; at = leaf_at t e es st s b r k v h }
 
 mutual
   find_value : (n : ℕ) (es : List Step) (st : List Kind) (s r : List ℕ) → length es ≤ n → Runs due es st s r → FoundValue es st s r
@@ -225,30 +258,16 @@ mutual
       record {
         found = list f.found;
         left = f.left;
-        event = seq;
-        behind = h.0;
-        end = f.end;
-        is =
-            ap (λ z. seq ∷ z) (f.is ∙ sym (append_assoc (child_events f.found) (finish ∷ []) f.left));
-        starts =
-            h.1;
-        is_value = (refl, f.are_elements);
-        is_rest = f.is_rest;
+        is = ap (λ z. seq ∷ z) (f.is ∙ sym (append_assoc (child_events f.found) (finish ∷ []) f.left));
+        at = list_at f.found f.left st s h.0 r h.1 f.at;
       }
   find_value (suc n) (map ∷ es) st s r l h =
       let f = find_members n true es st h.0 r (omega arith) h.2 in
       record {
         found = members f.found;
         left = f.left;
-        event = map;
-        behind = h.0;
-        end = f.end;
-        is =
-            ap (λ z. map ∷ z) (f.is ∙ sym (append_assoc (member_events f.found) (finish ∷ []) f.left));
-        starts =
-            h.1;
-        is_value = (refl, f.are_members);
-        is_rest = f.is_rest;
+        is = ap (λ z. map ∷ z) (f.is ∙ sym (append_assoc (member_events f.found) (finish ∷ []) f.left));
+        at = object_at f.found f.left st s h.0 r h.1 f.at;
       }
   find_value zero (seq ∷ es) st s r l h = absurd (omega arith)
   find_value zero (map ∷ es) st s r l h = absurd (omega arith)
@@ -259,15 +278,15 @@ mutual
   find_elements : (n : ℕ) (f : Bool) (es : List Step) (st : List Kind) (s r : List ℕ) → length es ≤ n
       → Runs (before_child f) es (Seq ∷ st) s r → FoundElements f es st s r
   find_elements n true (finish ∷ es) st s r l h =
-      record { found = no_trees; left = es; end = h.0; is = refl; are_elements = h.1; is_rest = h.2 }
+      record { found = no_trees; left = es; is = refl; at = h }
   find_elements n false (finish ∷ es) st s r l h =
-      record { found = no_trees; left = es; end = h.0; is = refl; are_elements = h.1; is_rest = h.2 }
+      record { found = no_trees; left = es; is = refl; at = h }
   find_elements (suc n) true (element ∷ es) st s r l h =
       let v = find_value n es (Seq ∷ st) h.0 r (omega arith) h.2 in
-      add_element true es st s h.0 r h.1 v (find_elements n false v.left st v.end r (shorter n es _ h.0 r v (omega arith)) v.is_rest)
+      add_element true es st s h.0 r h.1 v (find_elements n false v.left st v.at.end r (shorter n es _ h.0 r v (omega arith)) v.at.is_rest)
   find_elements (suc n) false (element ∷ es) st s r l h =
       let v = find_value n es (Seq ∷ st) h.0 r (omega arith) h.2 in
-      add_element false es st s h.0 r h.1 v (find_elements n false v.left st v.end r (shorter n es _ h.0 r v (omega arith)) v.is_rest)
+      add_element false es st s h.0 r h.1 v (find_elements n false v.left st v.at.end r (shorter n es _ h.0 r v (omega arith)) v.at.is_rest)
   find_elements zero true (element ∷ es) st s r l h = absurd (omega arith)
   find_elements zero false (element ∷ es) st s r l h = absurd (omega arith)
   find_elements n _ _ st s r l h = absurd h
@@ -275,17 +294,17 @@ mutual
   find_members : (n : ℕ) (f : Bool) (es : List Step) (st : List Kind) (s r : List ℕ) → length es ≤ n
       → Runs (before_child f) es (Map ∷ st) s r → FoundMembers f es st s r
   find_members n true (finish ∷ es) st s r l h =
-      record { found = no_members; left = es; end = h.0; is = refl; are_members = h.1; is_rest = h.2 }
+      record { found = no_members; left = es; is = refl; at = h }
   find_members n false (finish ∷ es) st s r l h =
-      record { found = no_members; left = es; end = h.0; is = refl; are_members = h.1; is_rest = h.2 }
+      record { found = no_members; left = es; is = refl; at = h }
   find_members (suc n) true (key k ∷ es) st s r l h =
       let v = find_value n es (Map ∷ st) h.1 r (omega arith) h.4 in
       add_member true es st s h.0 k h.1 r h.2 h.3 v
-      (find_members n false v.left st v.end r (shorter n es _ h.1 r v (omega arith)) v.is_rest)
+      (find_members n false v.left st v.at.end r (shorter n es _ h.1 r v (omega arith)) v.at.is_rest)
   find_members (suc n) false (key k ∷ es) st s r l h =
       let v = find_value n es (Map ∷ st) h.1 r (omega arith) h.4 in
       add_member false es st s h.0 k h.1 r h.2 h.3 v
-      (find_members n false v.left st v.end r (shorter n es _ h.1 r v (omega arith)) v.is_rest)
+      (find_members n false v.left st v.at.end r (shorter n es _ h.1 r v (omega arith)) v.at.is_rest)
   find_members zero true (key k ∷ es) st s r l h = absurd (omega arith)
   find_members zero false (key k ∷ es) st s r l h = absurd (omega arith)
   find_members n _ _ st s r l h = absurd h
@@ -303,23 +322,23 @@ leaf_whole t e es s r i v h = let n = nothing_left es s r h in record { tree = t
 list_whole : (es : List Step) (s r : List ℕ) → Runs first es (Seq ∷ []) s r → Whole seq es s r
 list_whole es s r h =
     let f = find_elements (length es) true es [] s r (omega arith) h in
-    let n = nothing_left f.left f.end r f.is_rest in
+    let n = nothing_left f.left f.at.0 r f.at.2 in
     record {
       tree = list f.found;
       is = ap (λ z. seq ∷ z) (f.is ∙ ap (λ z. child_events f.found ++ finish ∷ z) n.0);
-      is_value = (refl, subst (λ z. ElementsAt f.found true s z) (sym n.1) f.are_elements);
+      is_value = (refl, subst (λ z. ElementsAt f.found true s z) (sym n.1) f.at.1);
     }
 
 object_whole : (es : List Step) (s r : List ℕ) → Runs first es (Map ∷ []) s r → Whole map es s r
 object_whole es s r h =
     let f = find_members (length es) true es [] s r (omega arith) h in
-    let n = nothing_left f.left f.end r f.is_rest in
+    let n = nothing_left f.left f.at.0 r f.at.2 in
     record {
       tree = members f.found;
       is =
           ap (λ z. map ∷ z) (f.is ∙ ap (λ z. member_events f.found ++ finish ∷ z) n.0);
       is_value =
-          (refl, subst (λ z. MembersAt f.found true s z) (sym n.1) f.are_members);
+          (refl, subst (λ z. MembersAt f.found true s z) (sym n.1) f.at.1);
     }
 
 -- if the text runs on as es behind the first token x of a value, the event of x and then es are those of a tree
