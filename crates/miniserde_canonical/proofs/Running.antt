@@ -68,12 +68,6 @@ no_bytes : (w : List ℕ) → length w ≡ 0 → w ≡ []
 no_bytes [] e = refl
 no_bytes (c ∷ w) e = absurd (omega (arith, e))
 
-pub skipped_none : (d : Draft) (a b : ℕ) → a ≡ b → (rest w rest' bs : List ℕ) → Wrote d rest bs → rest ≡ w ++ rest'
-    → a ≡ length rest → b ≡ length rest' → Wrote d rest' bs
-skipped_none d a b s = λ rest w rest' bs t e f g.
-    let empty : w ≡ [] = no_bytes w (omega (arith, s, f, g, ap length e, length-append w rest')) in
-    subst (λ z. Wrote d z bs) (e ∙ ap (λ z. z ++ rest') empty) t
-
 -- ---- what stands in the input is what is written
 
 -- unless z is 0, a number text whose leaf is the integer z with a minus is the compact text of `norm_neg z`
