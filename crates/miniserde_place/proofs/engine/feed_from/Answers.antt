@@ -1,6 +1,6 @@
 -- `feed_from` hands a fresh place exactly the events of one value. The moves so far are the invariant, and each exit
 -- is a lemma over plain variables (`proofs/Feeds.antt`).
-use Rattle.std.proofs.Common.{◌≡◌, ◌⊎◌, inr, [], Some, None, is_some, option_map, refl, sym, ap, subst, ◌∙◌}
+use Rattle.std.proofs.Common.{◌≡◌, ◌⊎◌, inr, [], Some, None, is_some, refl, sym, ap, subst, ◌∙◌}
 use Rattle.std.proofs.lemmas.Result.{err_from_is_err_and}
 use Rattle.miniserde_model.specs.private.Reading.{due, after}
 use Rattle.miniserde_text.specs.Lexer.{event_of_token}

@@ -1,6 +1,6 @@
 -- `take_child_or_end` passes exactly the events that it hands to the place. Each exit is one lemma of `Moved.antt`,
 -- chosen by the kind of the container and by what the lexer returned.
-use Rattle.std.proofs.Common.{true, false, sym, ap, subst, arith, true≢false}
+use Rattle.std.proofs.Common.{true, false, sym, subst, arith, true≢false}
 use Rattle.std.proofs.lemmas.Result.{err_from_is_err_and}
 use Rattle.miniserde_model.specs.Step.{key, element, finish}
 use Rattle.miniserde_model.specs.Lexing.{Names, Follows}
