@@ -44,7 +44,7 @@ list_collector m items child whole = record {
   is_object = false;
   rules = list_rules m.from_events;
   events_agree = list-meant m.from_events m.from_tree m.events_agree;
-  child = λ c. child_view (λ x. Some (map m.content (items c) ++ x ∷ [])) m.view (child c);
+  child = λ c. child_view (λ _ x. Some (map m.content (items c) ++ x ∷ [])) m.view (child c);
   refuses = λ _ e. is_member e;
 }
 
@@ -60,7 +60,7 @@ array_collector n m items child whole = record {
   is_object = false;
   rules = array_rules n m.from_events;
   events_agree = array-meant n m.from_events m.from_tree m.events_agree;
-  child = λ c. child_view (λ x. Some (map m.content (items c) ++ x ∷ [])) m.view (child c);
+  child = λ c. child_view (λ _ x. Some (map m.content (items c) ++ x ∷ [])) m.view (child c);
   refuses = λ s e. is_member e || nat_le n (length s);
 }
 
@@ -92,12 +92,11 @@ pair_collector m n first second child one two = record {
 
 -- The meaning of a map's collector. `read` returns the content of the key that a name is read as,
 -- `code` the part of this content that `Eq` compares, and `key` the content of a key; m is the
--- meaning of a value's place. `entries` returns the entries so far, `pending` the current key,
--- `child` the current value's place, and `whole` a complete map's entries. Without a current key, a
--- value gives nothing.
+-- meaning of a value's place. `entries` returns the entries so far, `child` the current value's key and place, and
+-- `whole` a complete map's entries.
 abbrev pub map_collector : {K P V C W : Type 0} → (Name → Option Key) → (Key → Key) → (K → Key) → PlaceMeaning P V
-    → (C → List (K × V)) → (C → Option K) → (C → Option P) → (W → List (K × V)) → CollectorMeaning C W
-map_collector read code key m entries pending child whole = record {
+    → (C → List (K × V)) → (C → Option (K × P)) → (W → List (K × V)) → CollectorMeaning C W
+map_collector read code key m entries child whole = record {
   meant = map_meaning read code key (type_meaning m) whole;
   State = Key → Option (Key × m.Content);
   state = λ c. map_content code key m.content (entries c);
@@ -105,9 +104,8 @@ map_collector read code key m entries pending child whole = record {
   is_object = true;
   rules = object_rules (map_member read code m.from_events) (λ s. Some s);
   events_agree = map-meant read code m.from_events m.from_tree m.events_agree;
-  child = λ c. child_view (λ x.
-      option_map (λ k. with_entry code (map_content code key m.content (entries c)) (key k) x) (pending c)) m.view
-      (child c);
+  child = λ c. child_view (λ q x. Some (with_entry code (map_content code key m.content (entries c)) (key q.0) x))
+      (λ q. m.view q.1) (child c);
   refuses = λ _ e. is_element e;
 }
 

@@ -9,8 +9,8 @@ use miniserde_place::de::{Step, Visitor};
 use std::alloc::Global;
 
 /// The collector of an array: a list of at most `N` items so far. The start of an item after the
-/// `N`-th fails with `Invalid`. If there is no current item, `step`, `refuse` and `join` return
-/// `Invalid`, as those of `ListOf` do.
+/// `N`-th fails with `Invalid`. If there is no current item, `step` and `join` return `Invalid`, as
+/// those of `ListOf` do.
 #[derive(Drop)]
 pub struct ArrayOf<P, T, const N: usize> {
     list: ListOf<P, T>,
@@ -42,16 +42,8 @@ where
         }
     }
 
-    fn step(&mut self, event: Step<'_>) -> Result<()> {
+    fn step(&mut self, event: Step<'_>) -> Result<bool> {
         self.list.step(event)
-    }
-
-    fn refuse(&mut self, error: Error) -> Error {
-        self.list.refuse(error)
-    }
-
-    fn is_child_complete(&self) -> bool {
-        self.list.is_child_complete()
     }
 
     fn join(&mut self) -> Result<()> {

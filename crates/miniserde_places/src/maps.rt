@@ -7,7 +7,7 @@ ghost use Rattle.miniserde_places.specs.PlaceMeanings.{map_collector};
 
 use miniserde_keys::MapKey;
 use miniserde_model::error::{Error, Result};
-use miniserde_place::de::container::Collect;
+use miniserde_place::de::container::{Collect, hand_on};
 use miniserde_place::de::{Step, Visitor};
 use miniserde_read::Table;
 use std::alloc::Global;
@@ -16,24 +16,22 @@ use std::hash::{BuildHasher, Hash};
 
 /// The collector of a map: the entries so far, and the key and the place of the current value, if
 /// there is one. If there is no current value, a contract sees a place whose first error is
-/// `Invalid`, so `step`, `refuse` and `join` return `Invalid`.
+/// `Invalid`, so `step` and `join` return `Invalid`.
 #[derive(Drop)]
 pub struct MapOf<M, K, P> {
     table: M,
-    key: Option<K>,
-    child: Option<P>,
+    child: Option<(K, P)>,
 }
 
 impl<P: Visitor, M: Table<Value = P::Out>> Collect for MapOf<M, M::Key, P> {
     type Out = M;
 
     ghost collector_meaning = { map_collector M.Key.read M.Key.code M.Key.content P.meaning
-        (λ c. M.entries c.table) (λ c. c.key) (λ c. c.child) M.entries };
+        (λ c. M.entries c.table) (λ c. c.child) M.entries };
 
     fn new(alloc: Global) -> MapOf<M, M::Key, P> {
         MapOf {
             table: M::new(alloc),
-            key: None,
             child: None,
         }
     }
@@ -47,45 +45,25 @@ impl<P: Visitor, M: Table<Value = P::Out>> Collect for MapOf<M, M::Key, P> {
         match event {
             Step::Key(name) => {
                 let key = <M::Key as MapKey>::from_key(alloc, name)?;
-                self.child = Some(P::begin(alloc)?);
-                self.key = Some(key);
+                self.child = Some((key, P::begin(alloc)?));
                 Ok(())
             }
             _ => Err(Error::Invalid),
         }
     }
 
-    fn step(&mut self, event: Step<'_>) -> Result<()> {
+    fn step(&mut self, event: Step<'_>) -> Result<bool> {
         match &mut self.child {
-            Some(place) => place.step(event),
+            Some((_, place)) => hand_on(place, event),
             None => Err(Error::Invalid),
-        }
-    }
-
-    fn refuse(&mut self, error: Error) -> Error {
-        match &mut self.child {
-            Some(place) => place.refuse(error),
-            None => Error::Invalid,
-        }
-    }
-
-    fn is_child_complete(&self) -> bool {
-        match &self.child {
-            Some(place) => place.is_complete(),
-            None => false,
         }
     }
 
     #[inline(always)]
     fn join(&mut self) -> Result<()> {
-        match (self.child.take(), self.key.take()) {
-            (Some(place), Some(key)) => self.table.put(key, place.take()?),
-            // Never so, since `begin_child` sets both. An error of the place would come first.
-            (Some(place), None) => {
-                place.take()?;
-                Err(Error::Invalid)
-            }
-            _ => Err(Error::Invalid),
+        match self.child.take() {
+            Some((key, place)) => self.table.put(key, place.take()?),
+            None => Err(Error::Invalid),
         }
     }
 

@@ -3,7 +3,7 @@ ghost use Rattle.std.specs.Prelude.{Option, None, ◌&&◌};
 ghost use Rattle.miniserde_places.specs.PlaceMeanings.{pair_collector};
 
 use miniserde_model::error::{Error, Result};
-use miniserde_place::de::container::Collect;
+use miniserde_place::de::container::{Collect, hand_on};
 use miniserde_place::de::{Step, Visitor};
 use std::alloc::Global;
 use std::mem;
@@ -17,7 +17,7 @@ enum Part<P, Q> {
 }
 
 /// The collector of a pair: its parts so far, and the place of the current part. If there is no current part, a
-/// contract sees a place whose first error is `Invalid`, so `step`, `refuse` and `join` return `Invalid`.
+/// contract sees a place whose first error is `Invalid`, so `step` and `join` return `Invalid`.
 #[derive(Drop)]
 pub struct PairOf<P, A, Q, B> {
     first: Option<A>,
@@ -69,27 +69,11 @@ where
         }
     }
 
-    fn step(&mut self, event: Step<'_>) -> Result<()> {
+    fn step(&mut self, event: Step<'_>) -> Result<bool> {
         match &mut self.child {
-            Part::First(place) => place.step(event),
-            Part::Second(place) => place.step(event),
+            Part::First(place) => hand_on(place, event),
+            Part::Second(place) => hand_on(place, event),
             Part::Neither => Err(Error::Invalid),
-        }
-    }
-
-    fn refuse(&mut self, error: Error) -> Error {
-        match &mut self.child {
-            Part::First(place) => place.refuse(error),
-            Part::Second(place) => place.refuse(error),
-            Part::Neither => Error::Invalid,
-        }
-    }
-
-    fn is_child_complete(&self) -> bool {
-        match &self.child {
-            Part::First(place) => place.is_complete(),
-            Part::Second(place) => place.is_complete(),
-            Part::Neither => false,
         }
     }
 

@@ -3,13 +3,13 @@ ghost use Rattle.std.specs.Prelude.{◌≡◌, length, Option, None};
 ghost use Rattle.miniserde_places.specs.PlaceMeanings.{list_collector};
 
 use miniserde_model::error::{Error, Result};
-use miniserde_place::de::container::Collect;
+use miniserde_place::de::container::{Collect, hand_on};
 use miniserde_place::de::{Step, Visitor};
 use std::alloc::Global;
 
 /// The collector of a list: its items so far, and the place of the current item. If there is no
-/// current item, a contract sees a place whose first error is `Invalid`, so `step`, `refuse` and
-/// `join` return `Invalid`.
+/// current item, a contract sees a place whose first error is `Invalid`, so `step` and `join` return
+/// `Invalid`.
 #[derive(Drop)]
 pub struct ListOf<P, T> {
     items: Vec<T>,
@@ -55,24 +55,10 @@ where
         }
     }
 
-    fn step(&mut self, event: Step<'_>) -> Result<()> {
+    fn step(&mut self, event: Step<'_>) -> Result<bool> {
         match &mut self.child {
-            Some(place) => place.step(event),
+            Some(place) => hand_on(place, event),
             None => Err(Error::Invalid),
-        }
-    }
-
-    fn refuse(&mut self, error: Error) -> Error {
-        match &mut self.child {
-            Some(place) => place.refuse(error),
-            None => Error::Invalid,
-        }
-    }
-
-    fn is_child_complete(&self) -> bool {
-        match &self.child {
-            Some(place) => place.is_complete(),
-            None => false,
         }
     }
 

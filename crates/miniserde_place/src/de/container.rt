@@ -4,6 +4,7 @@ ghost use Rattle.miniserde_model.specs.Position.{complete};
 ghost use Rattle.miniserde_read.specs.Events.{event_of};
 ghost use Rattle.miniserde_place.specs.Place.{Advances, Rejects, IsFresh};
 ghost use Rattle.miniserde_read.specs.Events.{EventInRange};
+ghost use Rattle.miniserde_place.specs.Container.{HandsOn};
 ghost use Rattle.miniserde_model.specs.declared.error.Error.{Error};
 
 mod collect;
@@ -24,13 +25,12 @@ pub(crate) enum Stage {
     Child,
     /// The container has ended.
     Done,
-    /// The place failed, with this first error. If the place of the current child fails, the stage stays `Child`, and
-    /// that place keeps the error.
+    /// The place failed, with this first error.
     Refused(Error),
 }
 
 /// The place of a container. Its collector owns the place of the current child, and hands it the events of that
-/// child.
+/// child. After the first error the collector gets no more events.
 #[derive(Drop)]
 pub struct ContainerPlace<C> {
     alloc: Global,
@@ -151,8 +151,13 @@ impl<C: Collect> Visitor for ContainerPlace<C> {
 
     fn step(&mut self, event: Step<'_>) -> Result<()> {
         if let Stage::Child = self.stage {
-            if !self.collector.is_child_complete() {
-                return self.collector.step(event);
+            match self.collector.step(event) {
+                Ok(true) => return Ok(()),
+                Ok(false) => (),
+                Err(error) => {
+                    self.stage = Stage::Refused(error);
+                    return Err(error);
+                }
             }
         }
         match self.step_between_children(event) {
@@ -167,7 +172,6 @@ impl<C: Collect> Visitor for ContainerPlace<C> {
     fn refuse(&mut self, error: Error) -> Error {
         match self.stage {
             Stage::Refused(first) => first,
-            Stage::Child => self.collector.refuse(error),
             _ => {
                 self.stage = Stage::Refused(error);
                 error
@@ -183,13 +187,24 @@ impl<C: Collect> Visitor for ContainerPlace<C> {
         let ContainerPlace {
             alloc: _,
             stage,
-            mut collector,
+            collector,
         } = self;
         match stage {
             Stage::Done => collector.end().ok_or(Error::Invalid),
             Stage::Refused(error) => Err(error),
-            Stage::Child => Err(collector.refuse(Error::Invalid)),
             _ => Err(Error::Invalid),
         }
     }
+}
+
+/// Hands an event to a place, unless its value is complete. Returns whether it did, or the error of the place.
+pub fn hand_on<V: Visitor>(place: &mut V, event: Step<'_>) -> Result<bool>
+    requires { EventInRange (event_of event) }
+    ensures { HandsOn (V.meaning.view place.old) (event_of event.entry) result (V.meaning.view place.new) }
+{
+    if place.is_complete() {
+        return Ok(false);
+    }
+    place.step(event)?;
+    Ok(true)
 }

@@ -4,12 +4,13 @@ ghost use Rattle.std.specs.Prelude.{◌≡◌, ◌&&◌, Bool, true, false, Opti
 ghost use Rattle.miniserde_model.specs.Position.{complete};
 ghost use Rattle.miniserde_model.specs.declared.error.Error.{Error};
 ghost use Rattle.miniserde_read.specs.Events.{event_of};
-ghost use Rattle.miniserde_place.specs.Place.{Takes, IsFresh, first_refusal};
+ghost use Rattle.miniserde_place.specs.Place.{IsFresh};
 ghost use Rattle.miniserde_read.specs.Events.{EventInRange};
-ghost use Rattle.miniserde_place.specs.Container.{is_complete};
+ghost use Rattle.miniserde_place.specs.Container.{HandsOn};
 ghost use Rattle.miniserde_places.specs.FieldPlaces.{FieldPlacesMeaning, no_field_places, field_place_and};
 
 use miniserde_model::error::{Error, Result};
+use miniserde_place::de::container::hand_on;
 use miniserde_place::de::{Ignore, Step, Visitor, ignore};
 use miniserde_read::FromJson;
 use miniserde_record::record::{Parts, Repeats};
@@ -45,20 +46,11 @@ pub trait Fields: Drop {
         ensures repeats { meaning.meant.refuses (map (λ n. n.now) names.now) (meaning.state self.old) name.now ≡ true
             → result ≡ Err Error.Invalid };
 
-    /// Hands an event to the place of the current value, and returns its error.
-    fn step(&mut self, event: Step<'_>) -> Result<()>
+    /// Hands an event to the place of the current value, unless the value is complete. Returns whether it did, or the
+    /// error of that place.
+    fn step(&mut self, event: Step<'_>) -> Result<bool>
         requires { EventInRange (event_of event) }
-        ensures { Takes (meaning.child self.old) (event_of event.entry) result (meaning.child self.new) };
-
-    /// Keeps an error in the place of the current value, unless that keeps one already. Returns the first error of
-    /// that place.
-    fn refuse(&mut self, error: Error) -> Error
-        ensures answer { result ≡ first_refusal (meaning.child self.old).refused error }
-        ensures records { (meaning.child self.new).refused ≡ Some result };
-
-    /// Returns whether the current value is complete.
-    fn is_child_complete(&self) -> bool
-        ensures { result ≡ is_complete (meaning.child self.now).at };
+        ensures { HandsOn (meaning.child self.old) (event_of event.entry) result (meaning.child self.new) };
 
     /// Adds the current value, which is complete, to the values so far. It replaces an earlier value of the same field.
     /// A skipped value adds nothing. Returns the error that its place keeps, `Invalid` if the events mean no value, or
@@ -103,16 +95,8 @@ impl Fields for NoField {
         Ok(())
     }
 
-    fn step(&mut self, event: Step<'_>) -> Result<()> {
-        self.skipped.step(event)
-    }
-
-    fn refuse(&mut self, error: Error) -> Error {
-        self.skipped.refuse(error)
-    }
-
-    fn is_child_complete(&self) -> bool {
-        self.skipped.is_complete()
+    fn step(&mut self, event: Step<'_>) -> Result<bool> {
+        hand_on(&mut self.skipped, event)
     }
 
     fn join(&mut self) -> Result<()> {
@@ -182,24 +166,10 @@ where
         }
     }
 
-    fn step(&mut self, event: Step<'_>) -> Result<()> {
+    fn step(&mut self, event: Step<'_>) -> Result<bool> {
         match &mut self.child {
-            Some(place) => place.step(event),
+            Some(place) => hand_on(place, event),
             None => self.rest.step(event),
-        }
-    }
-
-    fn refuse(&mut self, error: Error) -> Error {
-        match &mut self.child {
-            Some(place) => place.refuse(error),
-            None => self.rest.refuse(error),
-        }
-    }
-
-    fn is_child_complete(&self) -> bool {
-        match &self.child {
-            Some(place) => place.is_complete(),
-            None => self.rest.is_child_complete(),
         }
     }
 

@@ -2,7 +2,7 @@
 ghost use Rattle.miniserde_places.specs.FieldPlaces.{wrapper_field_places};
 
 use super::fields::{FieldOf, Fields};
-use miniserde_model::error::{Error, Result};
+use miniserde_model::error::Result;
 use miniserde_place::de::{Step, Visitor};
 use miniserde_read::FromJson;
 use miniserde_record::record::{Parts, Repeats};
@@ -45,16 +45,8 @@ where
         self.fields.begin_child(alloc, names, name)
     }
 
-    fn step(&mut self, event: Step<'_>) -> Result<()> {
+    fn step(&mut self, event: Step<'_>) -> Result<bool> {
         self.fields.step(event)
-    }
-
-    fn refuse(&mut self, error: Error) -> Error {
-        self.fields.refuse(error)
-    }
-
-    fn is_child_complete(&self) -> bool {
-        self.fields.is_child_complete()
     }
 
     fn join(&mut self) -> Result<()> {

@@ -52,16 +52,8 @@ impl<S: PlacedRecord + 'static> Collect for RecordOf<S, S::Fields> {
         }
     }
 
-    fn step(&mut self, event: Step<'_>) -> Result<()> {
+    fn step(&mut self, event: Step<'_>) -> Result<bool> {
         self.fields.step(event)
-    }
-
-    fn refuse(&mut self, error: Error) -> Error {
-        self.fields.refuse(error)
-    }
-
-    fn is_child_complete(&self) -> bool {
-        self.fields.is_child_complete()
     }
 
     fn join(&mut self) -> Result<()> {

@@ -4,9 +4,9 @@ ghost use Rattle.std.specs.Prelude.{IfOk, IfErr, MatchOption, is_some};
 ghost use Rattle.miniserde_model.specs.Step as step;
 ghost use Rattle.miniserde_model.specs.Position.{complete};
 ghost use Rattle.miniserde_read.specs.Events.{event_of};
-ghost use Rattle.miniserde_place.specs.Place.{Takes, IsFresh, first_refusal};
+ghost use Rattle.miniserde_place.specs.Place.{IsFresh};
 ghost use Rattle.miniserde_read.specs.Events.{EventInRange};
-ghost use Rattle.miniserde_place.specs.Container.{CollectorMeaning, BeginsChild, opening_event, is_complete};
+ghost use Rattle.miniserde_place.specs.Container.{CollectorMeaning, BeginsChild, HandsOn, opening_event};
 ghost use Rattle.miniserde_model.specs.declared.error.Error.{Error};
 
 use super::super::Step;
@@ -14,8 +14,8 @@ use miniserde_model::error::{Error, Result};
 use std::alloc::Global;
 
 /// A collector: the children of a container so far, and the place of the current child. A `ContainerPlace` calls
-/// `step`, `refuse` and `join` only if there is a current child. If there is none, a collector may show the view
-/// `no_child`, whose first error is `Invalid`; then these three return `Invalid`, `refuse` for any error.
+/// `step` and `join` only if there is a current child. If there is none, a collector may show the view `no_child`, whose
+/// first error is `Invalid`; then these two return `Invalid`.
 pub trait Collect: Drop {
     /// The type of the containers.
     type Out;
@@ -48,20 +48,11 @@ pub trait Collect: Drop {
         ensures refuses { collector_meaning.refuses (collector_meaning.state self.old) (event_of event.entry) ≡ true
             → result ≡ Err Error.Invalid };
 
-    /// Hands an event to the place of the current child, and returns its error.
-    fn step(&mut self, event: Step<'_>) -> Result<()>
+    /// Hands an event to the place of the current child, unless the child is complete. Returns whether it did, or the
+    /// error of that place.
+    fn step(&mut self, event: Step<'_>) -> Result<bool>
         requires { EventInRange (event_of event) }
-        ensures { Takes (collector_meaning.child self.old) (event_of event.entry) result (collector_meaning.child self.new) };
-
-    /// Keeps an error in the place of the current child, unless that keeps one already. Returns the
-    /// first error of that place.
-    fn refuse(&mut self, error: Error) -> Error
-        ensures answer { result ≡ first_refusal (collector_meaning.child self.old).refused error }
-        ensures records { (collector_meaning.child self.new).refused ≡ Some result };
-
-    /// Returns whether the current child is complete.
-    fn is_child_complete(&self) -> bool
-        ensures { result ≡ is_complete (collector_meaning.child self.now).at };
+        ensures { HandsOn (collector_meaning.child self.old) (event_of event.entry) result (collector_meaning.child self.new) };
 
     /// Adds the current child, which is complete, to the children so far. Returns the error that
     /// its place keeps, `Invalid` if the child's events mean no value, or `Memory` if an allocation

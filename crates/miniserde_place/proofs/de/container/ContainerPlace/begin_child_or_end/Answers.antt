@@ -13,7 +13,7 @@ returns-in_ok-begin_child-in-Element-clause-advances g c =
     let k = g.C.Collect.collector_meaning in
     let b : BeginsChild (event_of c.args.event) = search rules in
     let f = c.in_ok-begin_child-in-Element.ensures.fresh in
-    PositionAdvances-begin k.rules (k.state c.args.self.now.collector) (event_of c.args.event) _ _ b f.fresh f.outcome
+    rw f.unrefused (PositionAdvances-begin k.rules (k.state c.args.self.now.collector) (event_of c.args.event) _ _ b f.fresh f.outcome)
 
 pub returns-in_err-begin_child-in-Element-clause-rejects : goal.returns-in_err-begin_child-in-Element-clause-rejects
 returns-in_err-begin_child-in-Element-clause-rejects g c = λ e.

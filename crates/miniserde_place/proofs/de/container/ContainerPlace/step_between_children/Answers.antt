@@ -1,11 +1,11 @@
 -- If no child is open, the contract is that of `begin_child_or_end`. If a child is complete, its value joins the
 -- container first, and the place advances by both steps (`PositionAdvances-join`).
-use Rattle.std.proofs.Common.{false}
+use Rattle.std.proofs.Common.{◌≡◌, false, None}
 use Rattle.std.proofs.lemmas.Result.{IfOk-weaker}
 use Rattle.miniserde_read.specs.Events.{event_of}
 use Rattle.miniserde_place.specs.Place.{PositionAdvances}
 use Rattle.miniserde_place.specs.Container.{position_in_container, inside_child, between_children}
-use Rattle.miniserde_place.specs.laws.Container.{PositionAdvances-join}
+use Rattle.miniserde_place.specs.laws.Container.{PositionAdvances-join, unrefused_before}
 use Rattle.miniserde_place.specs.Stage.{stage_view}
 use Rattle.miniserde_place.proofs.de.container.ContainerPlace.step_between_children.Goals as goal
 
@@ -19,7 +19,8 @@ returns-in_ok-join-in-Child-clause-advances g c =
     let t = stage_view k c.begin_child_or_end-in-Child.new.self.stage c.begin_child_or_end-in-Child.new.self.collector in
     let s = k.state c.join.new.self in
     let p = c.requires.complete c.in-Child.is in
-    rw c.in-Child.is (IfOk-weaker c.begin_child_or_end-in-Child.result
+    let o : q.refused ≡ None = unrefused_before q.refused c.in_ok-join-in-Child.field-0 c.in_ok-join-in-Child.ensures.sticky in
+    rw (c.in-Child.is, o) (IfOk-weaker c.begin_child_or_end-in-Child.result
     (λ _. PositionAdvances (1, false) (between_children k.rules s) (event_of c.args.event) t.at t.outcome)
     (λ _. PositionAdvances (position_in_container q.at) (inside_child k.rules q.outcome q.at)
     (event_of c.args.event) t.at t.outcome)
