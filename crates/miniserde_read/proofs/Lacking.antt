@@ -1,35 +1,33 @@
 -- A string with a backslash that is found behind k elements of a list, for k below n, is among the first n elements
 -- of the whole list. The loop keeps the invariant `AmongGoes`, which `among_goes` carries over one element;
 -- `has_escape` carries the fact over to a whole text.
-use Rattle.std.proofs.Common.{◌≡◌, ℕ, suc, ◌+◌, ◌-◌, ◌<◌, Bool, true, false, List, [], ◌∷◌, ◌++◌, refl, ap, ◌∙◌, subst, arith, inl, inr}
+use Rattle.std.proofs.Common.{◌≡◌, ℕ, suc, ◌+◌, ◌-◌, ◌<◌, Bool, true, false, List, []}
+use Rattle.std.proofs.Common.{◌∷◌, ◌++◌, Option, Some, None, refl, ap, ◌∙◌, subst, arith, inl, inr}
 use Rattle.std.specs.Prelude.{◌≢◌}
 use Rattle.std.specs.List.{AllByRecursion}
 use Rattle.std.proofs.lemmas.List.{append_assoc}
 use Rattle.miniserde_model.specs.Bytes.{is_special}
-use Rattle.miniserde_model.specs.Tree.{Tree}
-use Rattle.miniserde_model.specs.Step.{Step}
-use Rattle.miniserde_model.specs.Lexing.{Starts, Follows}
-use Rattle.miniserde_model.specs.declared.kind.Kind.TheVariants.{Seq}
 use Rattle.miniserde_text.specs.Lexer.{BeginsEscaped}
 use Rattle.miniserde_read.specs.Escaped.{BeginsWithEscapedString}
-use Rattle.miniserde_read.specs.Rest.{ValueAt}
+use Rattle.miniserde_read.specs.Due.{ElementReads}
+use Rattle.miniserde_read.specs.Meaning.{Meaning}
 use Rattle.miniserde_read.specs.Lacking.{EscapedElement, AnElement, EscapedAmong, SomeElements}
 
--- if an element is next in s and its value ends at d, one element stands from s to d
-pub an_element : (f : Bool) (s b c d : List ℕ) (e : Step) (t : Tree) → Follows Seq f false s b → Starts b e c
-    → ValueAt t e c d → AnElement f s d
-an_element f s b c d e t h k v = (
-  t,
+-- an element that means a value stands there
+pub an_element : {V : Type 0} (m : Meaning V) (f : Bool) (s d : List ℕ) {o : Option V} {v : V} → ElementReads m f s d o → o ≡ Some v
+    → AnElement f s d
+an_element m f s d {o = None} h e = absurd (cc)
+an_element m f s d {o = Some v} h e = (
+  h.2.one,
   record {
-    begin = b;
-    event = e;
-    behind = c;
+    begin = h.0;
+    event = h.2.event;
+    behind = h.2.behind;
     rest = d;
-    follows = h;
-    starts = k;
-    is_value = v;
-    is_rest =
-        refl;
+    follows = h.1;
+    starts = h.2.starts;
+    is_value = h.2.is_value;
+    is_rest = refl;
   },
 )
 
