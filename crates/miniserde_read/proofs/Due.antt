@@ -1,6 +1,6 @@
 -- The text gets shorter where a value is read (`due_less`, `element_less`), and where no value is due, no element is
 -- (`element_rejects`). `due_front` goes from the first token that a text has to the one that was taken.
-use Rattle.std.proofs.Common.{◌≡◌, ℕ, ◌<◌, Bool, false, List, length, Option, Some, None, refl, subst, arith}
+use Rattle.std.proofs.Common.{◌≡◌, ℕ, ◌<◌, Bool, true, false, List, length, Option, refl, subst, arith}
 use Rattle.miniserde_model.specs.Tree.{Tree, no_trees, tree}
 use Rattle.miniserde_model.specs.Step.{Step}
 use Rattle.miniserde_model.specs.Lexing.{Starts, Follows}
@@ -10,7 +10,7 @@ use Rattle.miniserde_read.specs.Rest.{ValueAt}
 use Rattle.miniserde_text.proofs.Starting.{start_less, same_start}
 use Rattle.miniserde_read.proofs.Length.{follows_least, value_least}
 use Rattle.miniserde_read.proofs.Same.{next_same, close_no_next}
-use Rattle.miniserde_read.specs.Due.{ReadsDue, RejectsDue, ElementReads, ElementRejects}
+use Rattle.miniserde_read.specs.Due.{ReadsDue, RejectsDue, NextElement, ElementRejects}
 
 -- the text behind a value that was due is shorter than the text before it
 pub due_less : {S : Type 0} {next : Tree → Option S} {s r : List ℕ} {m : S} → ReadsDue next s r m → length r < length s
@@ -27,19 +27,20 @@ due_front s b c r d e t k h v =
 
 module _ {V : Type 0} (m : Meaning V) (f : Bool) (s : List ℕ) where
   -- the text behind an element is shorter than the text before it
-  pub element_less : (r : List ℕ) {o : Option V} {v : V} → ElementReads m f s r o → o ≡ Some v → length r < length s
-  element_less r {o = None} p e = absurd (cc)
-  element_less r {o = Some v} p e =
+  pub element_less : (r : List ℕ) (more : Bool) (old new : List V) → NextElement m f s r more old new → more ≡ true → length r < length s
+  element_less r false old new p e = absurd (cc)
+  element_less r true old new p e =
       let a = follows_least Seq f false s p.0 p.1 in
-      omega (arith, a, due_less p.2)
+      omega (arith, a, due_less p.3)
 
-  -- the value that is due is the first element
-  pub element_rejects : (b : List ℕ) → Follows Seq f false s b → RejectsDue m.from_tree b → ElementRejects m f s
-  element_rejects b h n no_trees r p = absurd (close_no_next Seq f s r b p h)
-  element_rejects b h n (tree t us) r p = (
-    t,
-    us,
-    refl,
-    n t p.event p.behind p.rest
-        (subst (λ z. Starts z p.event p.behind) (next_same Seq f s p.begin b p.follows h) p.starts) p.is_value,
-  )
+-- the value that is due is the first element
+pub element_rejects : {C : Type 0} (of : Tree → Option C) (f : Bool) (s b : List ℕ) → Follows Seq f false s b → RejectsDue of b
+    → ElementRejects of f s
+element_rejects of f s b h n no_trees r p = absurd (close_no_next Seq f s r b p h)
+element_rejects of f s b h n (tree t us) r p = (
+  t,
+  us,
+  refl,
+  n t p.event p.behind p.rest
+      (subst (λ z. Starts z p.event p.behind) (next_same Seq f s p.begin b p.follows h) p.starts) p.is_value,
+)

@@ -1,34 +1,37 @@
 -- A string with a backslash that is found behind k elements of a list, for k below n, is among the first n elements
 -- of the whole list. The loop keeps the invariant `AmongGoes`, which `among_goes` carries over one element;
 -- `has_escape` carries the fact over to a whole text.
-use Rattle.std.proofs.Common.{◌≡◌, ℕ, suc, ◌+◌, ◌-◌, ◌<◌, Bool, true, false, List, []}
-use Rattle.std.proofs.Common.{◌∷◌, ◌++◌, Option, Some, None, refl, ap, ◌∙◌, subst, arith, inl, inr}
-use Rattle.std.specs.Prelude.{◌≢◌}
+use Rattle.std.proofs.Common.{◌≡◌, length, ℕ, suc, ◌+◌, ◌-◌, ◌<◌, Bool, true, false, List, []}
+use Rattle.std.proofs.Common.{◌∷◌, ◌++◌, refl, ap, ◌∙◌, subst, arith, inl, inr}
+use Rattle.std.specs.Prelude.{◌≢◌, ◌⊎◌}
 use Rattle.std.specs.List.{AllByRecursion}
-use Rattle.std.proofs.lemmas.List.{append_assoc}
+use Rattle.std.proofs.lemmas.List.{append_assoc, length-append}
 use Rattle.miniserde_model.specs.Bytes.{is_special}
 use Rattle.miniserde_text.specs.Lexer.{BeginsEscaped}
 use Rattle.miniserde_read.specs.Escaped.{BeginsWithEscapedString}
-use Rattle.miniserde_read.specs.Due.{ElementReads}
+use Rattle.miniserde_read.specs.Due.{NextElement}
 use Rattle.miniserde_read.specs.Meaning.{Meaning}
 use Rattle.miniserde_read.specs.Lacking.{EscapedElement, AnElement, EscapedAmong, SomeElements}
 
--- an element that means a value stands there
-pub an_element : {V : Type 0} (m : Meaning V) (f : Bool) (s d : List ℕ) {o : Option V} {v : V} → ElementReads m f s d o → o ≡ Some v
-    → AnElement f s d
-an_element m f s d {o = None} h e = absurd (cc)
-an_element m f s d {o = Some v} h e = (
-  h.2.one,
-  record {
-    begin = h.0;
-    event = h.2.event;
-    behind = h.2.behind;
-    rest = d;
-    follows = h.1;
-    starts = h.2.starts;
-    is_value = h.2.is_value;
-    is_rest = refl;
-  },
+-- where one more item was read, one more element stands
+pub an_element : {V : Type 0} (m : Meaning V) (f : Bool) (s d : List ℕ) (more : Bool) (old new : List V)
+    → NextElement m f s d more old new → more ≡ true → AnElement f s d × (length new ≡ suc (length old))
+an_element m f s d false old new h e = absurd (cc)
+an_element m f s d true old new h e = (
+  (
+    h.3.one,
+    record {
+      begin = h.0;
+      event = h.3.event;
+      behind = h.3.behind;
+      rest = d;
+      follows = h.1;
+      starts = h.3.starts;
+      is_value = h.3.is_value;
+      is_rest = refl;
+    },
+  ),
+  omega (arith, ap length h.4, length-append old (h.2 ∷ [])),
 )
 
 -- Of n elements, k stand from `begin` to s.
@@ -49,11 +52,10 @@ module _ (n : ℕ) (begin : List ℕ) where
     some = λ m r e p. g.some (suc m) r (omega (arith, e)) (inr (d, a, p));
   }
 
-  pub among_escaped : (f : Bool) (s : List ℕ) (k : ℕ) → AmongGoes n begin f s k → k < n → EscapedElement f s → EscapedAmong n true begin
-  among_escaped f s k g l p = g.escaped (suc (n - suc k)) (omega (arith, l)) (inl p)
-
-  pub among_some : (f : Bool) (s d : List ℕ) (k : ℕ) → AmongGoes n begin f s k → k < n → AnElement f s d → SomeElements n true begin d
-  among_some f s d k g l a = g.some (suc (n - suc k)) d (omega (arith, l)) (inl a)
+  pub among_lacks : (f : Bool) (s d : List ℕ) (k : ℕ) → AmongGoes n begin f s k → k < n → EscapedElement f s ⊎ AnElement f s d
+      → EscapedAmong n true begin ⊎ SomeElements n true begin d
+  among_lacks f s d k g l (inl p) = inl (g.escaped (suc (n - suc k)) (omega (arith, l)) (inl p))
+  among_lacks f s d k g l (inr a) = inr (g.some (suc (n - suc k)) d (omega (arith, l)) (inl a))
 
 -- ---- a whole text
 

@@ -7,10 +7,12 @@ use Rattle.std.specs.Prelude.{option_and_then, option_map}
 use Rattle.std.proofs.lemmas.List.{map-append}
 use Rattle.miniserde_model.specs.Tree.{Tree, list, Trees, no_trees, tree}
 use Rattle.miniserde_model.specs.Step.{seq}
+use Rattle.miniserde_model.specs.Lexing.{Follows}
+use Rattle.miniserde_model.specs.declared.kind.Kind.TheVariants.{Seq}
 use Rattle.miniserde_text.specs.Lexer.{event_of_token}
 use Rattle.miniserde_text.specs.declared.json.lex.Event.{Event}
 use Rattle.miniserde_text.specs.declared.json.lex.Event.TheVariants.{SeqStart}
-use Rattle.miniserde_read.specs.Due.{ElementReads}
+use Rattle.miniserde_read.specs.Due.{NextElement}
 use Rattle.miniserde_read.specs.Meaning.{Meaning}
 use Rattle.miniserde_read.specs.types.Lists.{each}
 use Rattle.miniserde_read.specs.Rest.{ValueAt, ElementsAt, GivesNoneAt}
@@ -56,13 +58,13 @@ module _ {V : Type 0} (m : Meaning V) where
   list_begins begin = record { on = λ us r p. (us, p, all_left us); back = λ ts r p. (ts, p, all_left ts) }
 
 module _ {V : Type 0} {m : Meaning V} {begin : List ℕ} where
-  pub list_goes : {f : Bool} {s d : List ℕ} {items : List V} {o : Option V} {v : V} → ListGoes m begin f s items
-      → ElementReads m f s d o → o ≡ Some v → ListGoes m begin false d (items ++ v ∷ [])
-  list_goes {o = None} g h e = absurd (cc)
-  list_goes {f} {s} {d} {items} {o = Some w} {v} g h e =
-      let is : w ≡ v = cc in
-      let k = h.2 in
-      let given : m.from_tree k.one ≡ Some (m.content v) = k.gives ∙ ap (λ z. Some (m.content z)) is in
+  pub list_goes : {f : Bool} {s d : List ℕ} {items new : List V} (more : Bool) → ListGoes m begin f s items
+      → NextElement m f s d more items new → more ≡ true → ListGoes m begin false d new
+  list_goes false g h e = absurd (cc)
+  list_goes {f} {s} {d} {items} true g h e =
+      let v = h.2 in
+      let k = h.3 in
+      rw h.4 (
       record {
         on = λ us r p.
             let a = g.on (tree k.one us) r
@@ -76,27 +78,27 @@ module _ {V : Type 0} {m : Meaning V} {begin : List ℕ} where
               is_value = k.is_value;
               is_rest = p;
             }) in
-            (a.0, a.1, a.2 ∙ one_more m items v k.one us given);
+            (a.0, a.1, a.2 ∙ one_more m items v k.one us k.gives);
         back = λ ts r p.
             let a = g.back ts r p in
             let u = elements_there a.0 f s h.0 k.behind r k.event h.1 k.starts a.1 in
             let same = value_same u.one k.one k.event k.behind u.rest d u.is_value k.is_value in (
               u.more,
               subst (λ z. ElementsAt u.more false z r) same.1 u.is_rest,
-              a.2 ∙ ap (with m items) (u.is ∙ ap (λ z. tree z u.more) same.0) ∙ one_more m items v k.one u.more given,
+              a.2 ∙ ap (with m items) (u.is ∙ ap (λ z. tree z u.more) same.0) ∙ one_more m items v k.one u.more k.gives,
             );
-      }
+      })
 
   -- the list ends
-  pub list_ends : {f : Bool} {s : List ℕ} {items : List V} {o : Option V} (b : List ℕ) → ListGoes m begin f s items
-      → ElementReads m f s b o → o ≡ None
-      → (ts : Trees) × ElementsAt ts true begin b × (each m.from_tree ts ≡ Some (map m.content items))
-  list_ends {o = Some v} b g h e = absurd (cc)
-  list_ends {items = items} {o = None} b g h e =
-      let a = g.on no_trees b h in
-      (a.0, a.1, a.2 ∙ ap Some (append-nil (map m.content items)))
+  pub list_ends : {f : Bool} {s : List ℕ} {items : List V} (new : List V) (b : List ℕ) (more : Bool) → ListGoes m begin f s items
+      → NextElement m f s b more items new → more ≡ false
+      → (ts : Trees) × ElementsAt ts true begin b × (each m.from_tree ts ≡ Some (map m.content new))
+  list_ends new b true g h e = absurd (cc)
+  list_ends {items = items} new b false g h e =
+      let a = g.on no_trees b h.0 in
+      (a.0, a.1, rw h.1 (a.2 ∙ ap Some (append-nil (map m.content items))))
 
-  pub list_ended : {f : Bool} {s : List ℕ} {items : List V} (b : List ℕ) → ListGoes m begin f s items → ElementReads m f s b None
+  pub list_ended : {f : Bool} {s : List ℕ} {items : List V} (b : List ℕ) → ListGoes m begin f s items → Follows Seq f true s b
       → (ts : Trees) (r : List ℕ) → ElementsAt ts true begin r → each m.from_tree ts ≡ Some (map m.content items)
   list_ended {f} {s} {items} b g h ts r p =
       let a = g.back ts r p in

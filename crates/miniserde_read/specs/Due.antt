@@ -1,7 +1,7 @@
 -- The value that is due in a text: the next element of a list, or the value behind a member's name and its colon.
 -- `next` takes the value's tree, and returns the state after it: the state of a struct's fields, or the content of a
 -- single value.
-use Rattle.std.specs.Prelude.{◌≡◌, ℕ, Bool, true, false, List, Option, Some, None}
+use Rattle.std.specs.Prelude.{◌≡◌, ℕ, Bool, true, false, List, [], ◌∷◌, ◌++◌, Option, Some, None}
 use Rattle.miniserde_model.specs.Tree.{Tree, Trees, tree}
 use Rattle.miniserde_model.specs.Step.{Step}
 use Rattle.miniserde_model.specs.Lexing.{Starts, Follows}
@@ -23,13 +23,15 @@ pub record ReadsDue {S : Type 0} (next : Tree → Option S) (s r : List ℕ) (st
 abbrev pub RejectsDue : {S : Type 0} → (Tree → Option S) → List ℕ → Type 0
 RejectsDue next s = (t : Tree) (e : Step) (b r : List ℕ) → Starts s e b → ValueAt t e b r → next t ≡ None
 
--- In a list, from s to r stands an element that means the value by m, or the closing bracket if there is no value.
--- `first` says that the opening bracket was just taken, so that no comma is due.
-abbrev pub ElementReads : {V : Type 0} → Meaning V → Bool → List ℕ → List ℕ → Option V → Type 0
-ElementReads m first s r None = Follows Seq first true s r
-ElementReads m first s r (Some v) = (b : List ℕ) × Follows Seq first false s b × ReadsDue m.from_tree b r (m.content v)
+-- In a list, if there is more, from s to r stands an element that means a value by m, and `new` are the items `old` and
+-- that value; else there stands the closing bracket, and the items are as before. `first` says that the opening bracket
+-- was just taken, so that no comma is due.
+abbrev pub NextElement : {V : Type 0} → Meaning V → Bool → List ℕ → List ℕ → Bool → List V → List V → Type 0
+NextElement m first s r false old new = Follows Seq first true s r × (new ≡ old)
+NextElement {V} m first s r true old new =
+    (b : List ℕ) × Follows Seq first false s b × (v : V) × ReadsDue m.from_tree b r (m.content v) × (new ≡ old ++ v ∷ [])
 
--- if a prefix of s is the rest of a list, there is an element, and the first one means no value by m
-abbrev pub ElementRejects : {V : Type 0} → Meaning V → Bool → List ℕ → Type 0
-ElementRejects m first s = (ts : Trees) (r : List ℕ) → ElementsAt ts first s r
-    → (t : Tree) × (us : Trees) × (ts ≡ tree t us) × (m.from_tree t ≡ None)
+-- if a prefix of s is the rest of a list, there is an element, and `of` gives nothing for the first one
+abbrev pub ElementRejects : {C : Type 0} → (Tree → Option C) → Bool → List ℕ → Type 0
+ElementRejects of first s = (ts : Trees) (r : List ℕ) → ElementsAt ts first s r
+    → (t : Tree) × (us : Trees) × (ts ≡ tree t us) × (of t ≡ None)

@@ -33,7 +33,7 @@ pub fn from_str<T: FromJson>(alloc: Global, j: &str) -> Result<T>
     ensures one { (t u : Tree) → IsJson j.now t → IsJson j.now u → t ≡ u }
 {
     let mut source = Source::new(alloc, j);
-    let value = read_due(&mut source)?;
+    let value = read_due::<T>(&mut source)?;
     source.end()?;
     Ok(value)
 }

@@ -26,10 +26,9 @@ impl<T: FromJson, const N: usize> FromJson for [T; N] {
         let mut items = Vec::new(source.alloc());
         let mut first = true;
         while items.len() < N {
-            let Some(item) = next_element(source, first)? else {
+            if !next_element(&mut items, source, first)? {
                 return Err(Error::Invalid);
-            };
-            items.push(item)?;
+            }
             first = false;
         }
         NoItem::read_items(source, first)?;

@@ -21,8 +21,7 @@ impl<T: FromJson> FromJson for Vec<T> {
         };
         let mut items = Vec::new(source.alloc());
         let mut first = true;
-        while let Some(item) = next_element(source, first)? {
-            items.push(item)?;
+        while next_element(&mut items, source, first)? {
             first = false;
         }
         Ok(items)

@@ -19,5 +19,5 @@ returns-in_err-read_due-in-Next-clause-invalid g c = λ e.
     let w = err_from_is_err_and c.from_residual-in_err-read_due-in-Next.result c.from_residual-in_err-read_due-in-Next.ensures.1 in
     let h = subst (λ z. Follows Seq c.args.first (is_close z) c.args.source.now.rest c.after.new.self.rest) c.in-Next.is
     c.in_ok-after.ensures.ok in
-    element_rejects g.T.FromJson.means _ _ c.after.new.self.rest h
+    element_rejects g.T.FromJson.means.from_tree _ _ c.after.new.self.rest h
     (c.in_err-read_due-in-Next.ensures.invalid (cc (w.1, w.2, e)))

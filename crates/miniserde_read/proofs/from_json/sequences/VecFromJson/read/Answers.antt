@@ -1,6 +1,6 @@
 -- `read` returns the items that the children of a list give, and `Invalid` only if no such list follows. The loop
 -- keeps that the items so far are given by the children so far (`ListGoes`).
-use Rattle.std.proofs.Common.{rules, ◌≡◌, [], ◌∷◌, ◌++◌, ap}
+use Rattle.std.proofs.Common.{ap}
 use Rattle.miniserde_model.specs.Tree.{list}
 use Rattle.miniserde_text.specs.Lexer.{event_of_token}
 use Rattle.miniserde_read.proofs.Due.{element_less}
@@ -8,17 +8,15 @@ use Rattle.miniserde_read.proofs.Lists.{list_goes, list_ends}
 use Rattle.miniserde_read.proofs.from_json.sequences.VecFromJson.read.Goals as goal
 
 pub loop-items-smaller : goal.loop-items-smaller
-loop-items-smaller g c = element_less g.T.FromJson.means _ _ _ c.in_ok-item.ensures.ok c.in-Some.is
+loop-items-smaller g c = element_less g.T.FromJson.means _ _ _ _ _ _ c.in_ok-next_element.ensures.ok c.if-branch.true
 
 pub loop-items-preserved : goal.loop-items-preserved
-loop-items-preserved g c =
-    let i : c.push.new.self.items ≡ c.loop-items.items.items ++ c.in-Some.item ∷ [] = search rules in
-    record {
-      going = c.in_ok-item.ensures.going;
-      goes = rw i (list_goes c.loop-items.invariant.goes c.in_ok-item.ensures.ok c.in-Some.is);
-    }
+loop-items-preserved g c = record {
+  going = c.in_ok-next_element.ensures.going;
+  goes = list_goes _ c.loop-items.invariant.goes c.in_ok-next_element.ensures.ok c.if-branch.true;
+}
 
 pub returns-clause-ok : goal.returns-clause-ok
 returns-clause-ok g c =
-    let d = list_ends _ c.loop-items.invariant.goes c.in_ok-item.ensures.ok c.in_default-2.is in
+    let d = list_ends _ _ _ c.loop-items.invariant.goes c.in_ok-next_element.ensures.ok c.if-branch.false in
     (list d.0, (ap (λ z. event_of_token z c.args.source.now.scratch) c.in-SeqStart.is, d.1), d.2)
