@@ -8,7 +8,6 @@ ghost use Rattle.miniserde_read.specs.Items.{ItemsMeaning, no_items, item_and, I
 ghost use Rattle.miniserde_read.specs.Lacking.{ItemsLack, TupleLacks};
 ghost use Rattle.miniserde_read.specs.types.Tuples.{tuple_of};
 
-use crate::children::read_due;
 use crate::from_json::FromJson;
 use crate::source::Source;
 use miniserde_model::error::{Error, Result};
@@ -73,10 +72,10 @@ impl<T: FromJson, R: Items> Items for Item<T, R> {
 
     #[inline(always)]
     fn read_items<'a>(source: &mut Source<'a>, first: bool) -> Result<(T, R::Values)> {
-        let After::Next = source.after(Kind::Seq, first)? else {
+        let Some(token) = source.element(first)? else {
             return Err(Error::Invalid);
         };
-        let item = read_due::<T>(source)?;
+        let item = T::read(token, source)?;
         let rest = R::read_items(source, false)?;
         Ok((item, rest))
     }

@@ -32,9 +32,6 @@ impl<T: FromJson, const N: usize> FromJson for [T; N] {
             first = false;
         }
         NoItem::read_items(source, first)?;
-        match <[T; N]>::try_from(items) {
-            Ok(array) => Ok(array),
-            Err(_) => Err(Error::Invalid),
-        }
+        <[T; N]>::try_from(items).ok().ok_or(Error::Invalid)
     }
 }
