@@ -46,7 +46,8 @@ pub(crate) fn next_element<'a, T: FromJson>(
     match source.after(Kind::Seq, first)? {
         After::Close => Ok(false),
         After::Next => {
-            items.push(read_due(source)?)?;
+            let token = source.token()?;
+            items.push(T::read(token, source)?)?;
             Ok(true)
         }
     }

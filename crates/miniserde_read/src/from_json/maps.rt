@@ -9,7 +9,6 @@ ghost use Rattle.miniserde_read.specs.Events.{EventInRange};
 ghost use Rattle.miniserde_read.specs.types.Maps.{map_content, with_entry};
 
 use super::FromJson;
-use crate::children::read_due;
 use crate::source::Source;
 use miniserde_keys::MapKey;
 use miniserde_model::error::{Error, Result};
@@ -105,7 +104,8 @@ fn read_table<'a, V: FromJson, M: Table<Value = V>>(
     let mut first = true;
     while let Some(name) = source.member(first)? {
         let key = <M::Key as MapKey>::from_key(source.alloc(), source.text(name))?;
-        let value = read_due(source)?;
+        let token = source.token()?;
+        let value = V::read(token, source)?;
         table.put(key, value)?;
         first = false;
     }

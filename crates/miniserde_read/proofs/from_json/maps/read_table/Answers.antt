@@ -5,6 +5,8 @@ use Rattle.std.proofs.Common.{◌≡◌, Some, refl, sym}
 use Rattle.std.proofs.lemmas.Option.{same_Some}
 use Rattle.std.proofs.lemmas.Result.{err_from_is_err_and}
 use Rattle.miniserde_read.specs.types.Maps.{map_content, with_entry}
+use Rattle.miniserde_read.proofs.Due.{due_reads, due_rejects}
+use Rattle.miniserde_read.proofs.Tokens.{start_event}
 use Rattle.miniserde_read.proofs.Inserts.{put-joined}
 use Rattle.miniserde_read.proofs.Maps.{entry_goes, key_none, entry_none}
 use Rattle.miniserde_read.proofs.Objects.{member_less, object_ends, object_gives, object_rejects}
@@ -17,14 +19,26 @@ returns-in_err-key-clause-invalid g c = λ e.
     c.loop-table.invariant.goes _ _ c.in_ok-name.ensures.ok c.in-Some.is
     (rw c.text.ensures at (c.in_err-key.ensures.invalid (cc (w.1, w.2, e)))))
 
+pub returns-in_err-token-clause-invalid : goal.returns-in_err-token-clause-invalid
+returns-in_err-token-clause-invalid g c = λ e.
+    let w = err_from_is_err_and c.from_residual-in_err-token.result c.from_residual-in_err-token.ensures.1 in
+    object_rejects _ _ _ c.in-MapStart.is (entry_none g.M.Key.MapKey.read g.M.Key.MapKey.code g.V.FromJson.means.from_tree
+    c.loop-table.invariant.goes _ _ c.in_ok-name.ensures.ok c.in-Some.is
+    (λ t ev b r k v. absurd (c.in_err-token.ensures.invalid (cc (w.1, w.2, e)) c.in_ok-name.ensures.going ev b k)))
+
+pub read-requires-clause-event : goal.read-requires-clause-event
+read-requires-clause-event g c = start_event _ _ _ c.in_ok-token.ensures.ok
+
 pub returns-in_err-value-clause-invalid : goal.returns-in_err-value-clause-invalid
 returns-in_err-value-clause-invalid g c = λ e.
     let w = err_from_is_err_and c.from_residual-in_err-value.result c.from_residual-in_err-value.ensures.1 in
     object_rejects _ _ _ c.in-MapStart.is (entry_none g.M.Key.MapKey.read g.M.Key.MapKey.code g.V.FromJson.means.from_tree
-    c.loop-table.invariant.goes _ _ c.in_ok-name.ensures.ok c.in-Some.is (c.in_err-value.ensures.invalid (cc (w.1, w.2, e))))
+    c.loop-table.invariant.goes _ _ c.in_ok-name.ensures.ok c.in-Some.is (due_rejects g.V.FromJson.means.from_tree _ _ _
+    c.in_ok-token.ensures.ok (c.in_err-value.ensures.invalid (cc (w.1, w.2, e)))))
 
 pub loop-table-smaller : goal.loop-table-smaller
-loop-table-smaller g c = member_less _ _ _ c.in_ok-name.ensures.ok c.in-Some.is c.in_ok-value.ensures.ok
+loop-table-smaller g c = member_less _ _ _ c.in_ok-name.ensures.ok c.in-Some.is
+    (due_reads g.V.FromJson.means.from_tree _ _ _ _ _ c.in_ok-token.ensures.ok c.in_ok-value.ensures.ok)
 
 pub loop-table-preserved : goal.loop-table-preserved
 loop-table-preserved g c =
@@ -39,7 +53,8 @@ loop-table-preserved g c =
     record {
       going = c.in_ok-value.ensures.going;
       goes = rw put (entry_goes g.M.Key.MapKey.read code g.V.FromJson.means.from_tree c.loop-table.invariant.goes _ _
-          c.in_ok-name.ensures.ok c.in-Some.is _ _ _ (rw c.text.ensures at c.in_ok-key.ensures.value) c.in_ok-value.ensures.ok);
+          c.in_ok-name.ensures.ok c.in-Some.is _ _ _ (rw c.text.ensures at c.in_ok-key.ensures.value)
+          (due_reads g.V.FromJson.means.from_tree _ _ _ _ _ c.in_ok-token.ensures.ok c.in_ok-value.ensures.ok));
     }
 
 pub returns-clause-ok : goal.returns-clause-ok
