@@ -1,17 +1,18 @@
 -- The members of an object, read one by one, give the variant that the object is, and with a second member they give
--- none. By cases of the members (none, one, more), and by `due_goes` for the value of the first.
+-- none. By cases of the members (none, one, more), and by `object_goes` for the value of the first.
 use Rattle.std.proofs.Common.{◌≡◌, ℕ, true, false, List, Option, Some, None, refl, sym, ap, ◌∙◌}
 use Rattle.std.specs.Prelude.{option_and_then, option_map}
 use Rattle.miniserde_model.specs.Tree.{Tree, members, Members, no_members, member}
-use Rattle.miniserde_model.specs.Step.{map}
-use Rattle.miniserde_model.specs.Lexing.{Names, Follows}
+use Rattle.miniserde_model.specs.Lexing.{Follows}
 use Rattle.miniserde_model.specs.declared.kind.Kind.TheVariants.{Map}
 use Rattle.miniserde_read.specs.types.Objects.{Name, after_members}
-use Rattle.miniserde_read.specs.Rest.{ValueAt, MembersAt}
-use Rattle.miniserde_read.proofs.Objects.{ObjectGoes, object_begins, object_name_none, opened_object}
-use Rattle.miniserde_read.proofs.Steps.{members_name}
-use Rattle.miniserde_record.specs.Members.{ReadsDue, RejectsDue}
-use Rattle.miniserde_record.proofs.Due.{due_goes, due_none}
+use Rattle.miniserde_read.specs.Due.{ReadsDue, RejectsDue}
+use Rattle.miniserde_read.specs.Rest.{MembersAt}
+use Rattle.miniserde_read.specs.Source.{NameFollows}
+use Rattle.miniserde_read.proofs.Objects.{ObjectGoes, object_begins, object_goes, object_none}
+use Rattle.miniserde_read.proofs.Same.{close_no_next}
+use Rattle.miniserde_text.specs.Lexer.{text_of}
+use Rattle.miniserde_text.specs.declared.json.lex.Text.{Text}
 use Rattle.miniserde_enum.specs.Tagging.{content_by_tagging, external}
 use Rattle.miniserde_enum.specs.Cases.{with_data}
 
@@ -35,39 +36,31 @@ module _ {C : Type 0} (f : Name → Option Tree → Option C) where
       last (option_and_then (λ r. option_and_then (λ q. after_members (one_next f) q ms) (one_next f r j u))
       (option_map Some o)) ≡ None) [ None ↦ refl | Some c ↦ refl ]
 
-  -- no object that goes on there is a variant
-  pub one_none : (t : Tree) (s r : List ℕ) (m : Option (Option C)) → ValueAt t map s r
-      → ((ms : Members) (x : List ℕ) → MembersAt ms true s x → after_members (one_next f) None ms ≡ m)
-      → last m ≡ None → content_by_tagging external f t ≡ None
-  one_none t s r m p h n = let o = opened_object t s r p in ap (content_by_tagging external f) o.1
-      ∙ sym (one_all o.0) ∙ ap last (h o.0 r o.2) ∙ n
+  module _ (s x : List ℕ) {c : List ℕ} {o : Option Text} {name : Text} (h : NameFollows o x true s c) (is : o ≡ Some name) where
+    -- the object goes on behind its first member
+    pub one_goes : {d : List ℕ} {v : C} → ReadsDue (with_data (f (text_of name x))) c d v → ObjectGoes (one_next f) None s false d (Some v)
+    one_goes {d} p = object_goes (object_begins (one_next f) None s) x c d h is (record {
+      one = p.one;
+      event = p.event;
+      behind = p.behind;
+      starts = p.starts;
+      is_value = p.is_value;
+      gives = ap (option_map Some) p.gives;
+    })
 
-  -- the object goes on behind its first member
-  pub one_goes : (s b c x : List ℕ) (n : Name) (v : C) → Follows Map true false s b → Names b n c
-      → ReadsDue (with_data (f n)) c x v → ObjectGoes (one_next f) None s false x (Some v)
-  one_goes s b c x n v h j p =
-      due_goes (one_next f) None s true s b c x n None (Some v) (object_begins (one_next f) None s) h j
-      (record {
-        one = p.one;
-        event = p.event;
-        behind = p.behind;
-        starts = p.starts;
-        is_value = p.is_value;
-        gives =
-            ap (option_map Some) p.gives;
-      })
-
-  pub one_rejected : (s b c : List ℕ) (n : Name) → Follows Map true false s b → Names b n c
-      → RejectsDue (with_data (f n)) c → (ms : Members) (r : List ℕ) → MembersAt ms true s r
-      → after_members (one_next f) None ms ≡ None
-  one_rejected s b c n h j d = due_none (one_next f) None s true s b c n None (object_begins (one_next f) None s) h
-      j (λ t e b r p v. ap (option_map Some) (d t e b r p v))
+    pub one_rejected : RejectsDue (with_data (f (text_of name x))) c → (ms : Members) (r : List ℕ) → MembersAt ms true s r
+        → content_by_tagging external f (members ms) ≡ None
+    one_rejected n ms r p = sym (one_all ms) ∙ ap last (object_none (object_begins (one_next f) None s) x c h is
+        (λ t e b r k v. ap (option_map Some) (n t e b r k v)) ms r p)
 
   -- a second member gives nothing
-  pub one_full : (z s b : List ℕ) (v : C) → ObjectGoes (one_next f) None z false s (Some v)
+  pub one_full : {z s : List ℕ} {v : C} (b : List ℕ) → ObjectGoes (one_next f) None z false s (Some v)
       → Follows Map false false s b → (ms : Members) (r : List ℕ) → MembersAt ms true z r
-      → after_members (one_next f) None ms ≡ None
-  one_full z s b v l h ms r p =
-      let o = l.back ms r p in
-      let k = members_name o.0 false s b r h o.1 in
-      object_name_none (one_next f) None z false s b k.1 k.0 (Some v) l h k.2 (λ t. refl) ms r p
+      → content_by_tagging external f (members ms) ≡ None
+  one_full {s = s} {v} b g h ms r p =
+      let a = g.back ms r p in
+      let none = elim a.0 as (λ us. MembersAt us false s r → after_members (one_next f) (Some v) us ≡ None) [
+        | no_members ↦ λ q. absurd (close_no_next Map false s r b q h)
+        | member k t us ↦ λ q. refl
+      ] in
+      sym (one_all ms) ∙ ap last (a.2 ∙ none a.1)

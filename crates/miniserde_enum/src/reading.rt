@@ -5,7 +5,7 @@ ghost use Rattle.miniserde_model.specs.Step as step;
 ghost use Rattle.miniserde_model.specs.declared.error.Error.{Error};
 ghost use Rattle.miniserde_read.specs.Rest.{GivesAt, GivesNoneAt};
 ghost use Rattle.miniserde_read.specs.Events.{EventInRange};
-ghost use Rattle.miniserde_record.specs.Members.{ReadsDue, RejectsDue};
+ghost use Rattle.miniserde_read.specs.Due.{ReadsDue, RejectsDue};
 ghost use Rattle.miniserde_enum.specs.Cases.{with_data};
 ghost use Rattle.miniserde_enum.specs.CasesMeaning.{enum_content};
 

@@ -1,36 +1,37 @@
 -- A string with a backslash that is found behind k elements of a list, for k below n, is among the first n elements
 -- of the whole list. The loop keeps the invariant `AmongGoes`, which `among_goes` carries over one element;
 -- `has_escape` carries the fact over to a whole text.
-use Rattle.std.proofs.Common.{◌≡◌, ℕ, suc, ◌+◌, ◌-◌, ◌<◌, Bool, true, false, List, [], ◌∷◌, ◌++◌, refl, ap, ◌∙◌, subst, arith, inl, inr}
-use Rattle.std.specs.Prelude.{◌≢◌}
+use Rattle.std.proofs.Common.{◌≡◌, length, ℕ, suc, ◌+◌, ◌-◌, ◌<◌, Bool, true, false, List, []}
+use Rattle.std.proofs.Common.{◌∷◌, ◌++◌, refl, ap, ◌∙◌, subst, arith, inl, inr}
+use Rattle.std.specs.Prelude.{◌≢◌, ◌⊎◌}
 use Rattle.std.specs.List.{AllByRecursion}
-use Rattle.std.proofs.lemmas.List.{append_assoc}
+use Rattle.std.proofs.lemmas.List.{append_assoc, length-append}
 use Rattle.miniserde_model.specs.Bytes.{is_special}
-use Rattle.miniserde_model.specs.Tree.{Tree}
-use Rattle.miniserde_model.specs.Step.{Step}
-use Rattle.miniserde_model.specs.Lexing.{Starts, Follows}
-use Rattle.miniserde_model.specs.declared.kind.Kind.TheVariants.{Seq}
 use Rattle.miniserde_text.specs.Lexer.{BeginsEscaped}
 use Rattle.miniserde_read.specs.Escaped.{BeginsWithEscapedString}
-use Rattle.miniserde_read.specs.Rest.{ValueAt}
+use Rattle.miniserde_read.specs.Due.{NextElement}
+use Rattle.miniserde_read.specs.Meaning.{Meaning}
 use Rattle.miniserde_read.specs.Lacking.{EscapedElement, AnElement, EscapedAmong, SomeElements}
 
--- if an element is next in s and its value ends at d, one element stands from s to d
-pub an_element : (f : Bool) (s b c d : List ℕ) (e : Step) (t : Tree) → Follows Seq f false s b → Starts b e c
-    → ValueAt t e c d → AnElement f s d
-an_element f s b c d e t h k v = (
-  t,
-  record {
-    begin = b;
-    event = e;
-    behind = c;
-    rest = d;
-    follows = h;
-    starts = k;
-    is_value = v;
-    is_rest =
-        refl;
-  },
+-- where one more item was read, one more element stands
+pub an_element : {V : Type 0} (m : Meaning V) (f : Bool) (s d : List ℕ) (more : Bool) (old new : List V)
+    → NextElement m f s d more old new → more ≡ true → AnElement f s d × (length new ≡ suc (length old))
+an_element m f s d false old new h e = absurd (cc)
+an_element m f s d true old new h e = (
+  (
+    h.3.one,
+    record {
+      begin = h.0;
+      event = h.3.event;
+      behind = h.3.behind;
+      rest = d;
+      follows = h.1;
+      starts = h.3.starts;
+      is_value = h.3.is_value;
+      is_rest = refl;
+    },
+  ),
+  omega (arith, ap length h.4, length-append old (h.2 ∷ [])),
 )
 
 -- Of n elements, k stand from `begin` to s.
@@ -51,11 +52,10 @@ module _ (n : ℕ) (begin : List ℕ) where
     some = λ m r e p. g.some (suc m) r (omega (arith, e)) (inr (d, a, p));
   }
 
-  pub among_escaped : (f : Bool) (s : List ℕ) (k : ℕ) → AmongGoes n begin f s k → k < n → EscapedElement f s → EscapedAmong n true begin
-  among_escaped f s k g l p = g.escaped (suc (n - suc k)) (omega (arith, l)) (inl p)
-
-  pub among_some : (f : Bool) (s d : List ℕ) (k : ℕ) → AmongGoes n begin f s k → k < n → AnElement f s d → SomeElements n true begin d
-  among_some f s d k g l a = g.some (suc (n - suc k)) d (omega (arith, l)) (inl a)
+  pub among_lacks : (f : Bool) (s d : List ℕ) (k : ℕ) → AmongGoes n begin f s k → k < n → EscapedElement f s ⊎ AnElement f s d
+      → EscapedAmong n true begin ⊎ SomeElements n true begin d
+  among_lacks f s d k g l (inl p) = inl (g.escaped (suc (n - suc k)) (omega (arith, l)) (inl p))
+  among_lacks f s d k g l (inr a) = inr (g.some (suc (n - suc k)) d (omega (arith, l)) (inl a))
 
 -- ---- a whole text
 

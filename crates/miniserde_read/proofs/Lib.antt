@@ -1,4 +1,5 @@
 pub mod Arrays
+pub mod Due
 pub mod Entries
 pub mod Tokens
 pub mod Inserts

@@ -1,20 +1,38 @@
--- One more member of a map that is being read.
-use Rattle.std.proofs.Common.{◌≡◌, Option, Some, None, refl}
+-- One more member of a map that is being read, from what the loop keeps (`ObjectGoes`): its key and the value that is
+-- due.
+use Rattle.std.proofs.Common.{◌≡◌, ℕ, Bool, true, false, List, Option, Some, None, refl}
 use Rattle.std.specs.Prelude.{option_and_then, option_map}
-use Rattle.miniserde_model.specs.Tree.{Tree}
+use Rattle.miniserde_model.specs.Tree.{Tree, Members}
+use Rattle.miniserde_text.specs.Lexer.{text_of}
+use Rattle.miniserde_text.specs.declared.json.lex.Text.{Text}
 use Rattle.miniserde_keys.specs.Keys.{Key}
-use Rattle.miniserde_read.specs.types.Objects.{Name}
-use Rattle.miniserde_read.specs.types.Maps.{MapContent, with_entry, map_member}
+use Rattle.miniserde_read.specs.Due.{ReadsDue, RejectsDue}
+use Rattle.miniserde_read.specs.Rest.{MembersAt}
+use Rattle.miniserde_read.specs.Source.{NameFollows}
+use Rattle.miniserde_read.specs.types.Objects.{Name, after_members}
+use Rattle.miniserde_read.specs.types.Maps.{MapContent, no_entries, with_entry, map_member}
+use Rattle.miniserde_read.proofs.Objects.{ObjectGoes, object_goes, object_none}
 
-module _ {C : Type 0} (read : Name → Option Key) (code : Key → Key) (of : Tree → Option C) where
-  pub entry_some : (m : MapContent C) (n : Name) (t : Tree) (c : Key) (d : C) → read n ≡ Some c → of t ≡ Some d
-      → map_member read code of m n t ≡ Some (with_entry code m c d)
-  entry_some m n t c d e h = rw (e, h) refl
+module _ {C : Type 0} (read : Name → Option Key) (code : Key → Key) (of : Tree → Option C) {begin : List ℕ} {first : Bool}
+    {s : List ℕ} {m : MapContent C} (g : ObjectGoes (map_member read code of) no_entries begin first s m) (x c : List ℕ)
+    {o : Option Text} {name : Text} (h : NameFollows o x first s c) (is : o ≡ Some name) where
+  pub entry_goes : (d : List ℕ) (k : Key) (v : C) → read (text_of name x) ≡ Some k → ReadsDue of c d v
+      → ObjectGoes (map_member read code of) no_entries begin false d (with_entry code m k v)
+  entry_goes d k v e p = object_goes g x c d h is (record {
+    one = p.one;
+    event = p.event;
+    behind = p.behind;
+    starts = p.starts;
+    is_value = p.is_value;
+    gives = rw (e, p.gives) refl;
+  })
 
-  pub key_none : (m : MapContent C) (n : Name) (t : Tree) → read n ≡ None → map_member read code of m n t ≡ None
-  key_none m n t e = rw e refl
+  pub key_none : read (text_of name x) ≡ None → (ms : Members) (r : List ℕ) → MembersAt ms true begin r
+      → after_members (map_member read code of) no_entries ms ≡ None
+  key_none n = object_none g x c h is (λ t e b r k v. rw n refl)
 
-  pub entry_none : (m : MapContent C) (n : Name) (t : Tree) → of t ≡ None → map_member read code of m n t ≡ None
-  entry_none m n t h = rw h
-      (elim (read n) as (λ o. option_and_then (λ c. option_map (with_entry code m c) None) o ≡ None)
-      [ None ↦ refl | Some c ↦ refl ])
+  pub entry_none : RejectsDue of c → (ms : Members) (r : List ℕ) → MembersAt ms true begin r
+      → after_members (map_member read code of) no_entries ms ≡ None
+  entry_none n = object_none g x c h is (λ t e b r k v. rw (n t e b r k v)
+      (elim (read (text_of name x)) as (λ q. option_and_then (λ z. option_map (with_entry code m z) None) q ≡ None)
+      [ None ↦ refl | Some z ↦ refl ]))

@@ -105,27 +105,3 @@ members_there (member m t ms) f s b c r n h k p =
           p.is_value;
       is_rest = p.is_rest;
     }
-
--- the same, once the value's first event was taken too
-pub record ValueThere (ms : Members) (n : List ℕ) (e : Step) (d r : List ℕ) : Type 0 where
-  pub one : Tree
-  pub more : Members
-  pub rest : List ℕ
-  pub is : ms ≡ member n one more
-  pub is_value : ValueAt one e d rest
-  pub is_rest : MembersAt more false rest r
-
--- if the text behind the name n starts with e, the value of the first remaining member begins with e
-pub value_there : (ms : Members) (n c r : List ℕ) (e : Step) (d : List ℕ) → MemberThere ms n c r → Starts c e d → ValueThere ms n e d r
-value_there ms n c r e d p k =
-    let two = same_start c p.event e p.behind d p.starts k in
-    record {
-      one = p.one;
-      more = p.more;
-      rest = p.rest;
-      is = p.is;
-      is_value =
-          subst (λ z. ValueAt p.one z d p.rest) two.0
-          (subst (λ z. ValueAt p.one p.event z p.rest) two.1 p.is_value);
-      is_rest = p.is_rest;
-    }

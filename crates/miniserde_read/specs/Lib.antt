@@ -1,4 +1,5 @@
 pub mod Children
+pub mod Due
 pub mod Escaped
 pub mod Items
 pub mod Lacking

@@ -5,6 +5,7 @@ ghost use Rattle.miniserde_model.specs.Value.{IsJson};
 ghost use Rattle.miniserde_model.specs.declared.error.Error.{Error};
 ghost use Rattle.miniserde_read.specs.Escaped.{BeginsWithEscapedString};
 
+use crate::children::read_due;
 use crate::from_json::FromJson;
 use crate::source::Source;
 use miniserde_model::error::{Error, Result};
@@ -32,8 +33,7 @@ pub fn from_str<T: FromJson>(alloc: Global, j: &str) -> Result<T>
     ensures one { (t u : Tree) → IsJson j.now t → IsJson j.now u → t ≡ u }
 {
     let mut source = Source::new(alloc, j);
-    let token = source.token()?;
-    let value = T::read(token, &mut source)?;
+    let value = read_due::<T>(&mut source)?;
     source.end()?;
     Ok(value)
 }

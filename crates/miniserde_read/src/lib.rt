@@ -2,6 +2,7 @@
 //! enums and types that collect values from events are in other crates.
 #![tactic(auto)]
 
+mod children;
 mod from_json;
 mod ignored;
 mod items;
@@ -11,6 +12,7 @@ mod lookups;
 mod source;
 mod step;
 
+pub use children::read_due;
 pub use from_json::{FromJson, StdLeaf, Table};
 pub use ignored::Ignored;
 pub use items::{Item, Items, NoItem, read_tuple};

@@ -1,13 +1,13 @@
 //! Reads arrays of a fixed length, from lists of exactly that many elements.
-ghost use Rattle.std.specs.Prelude.{◌≡◌, length, Ok, Err, IfOk, IfErr};
-ghost use Rattle.miniserde_model.specs.declared.error.Error.{Error};
 ghost use Rattle.miniserde_read.specs.Lacking.{ArrayLacks};
 ghost use Rattle.miniserde_read.specs.Meanings.{array_meaning};
 
 use super::FromJson;
+use crate::children::next_element;
+use crate::items::{Items, NoItem};
 use crate::source::Source;
 use miniserde_model::error::{Error, Result};
-use miniserde_text::json::lex::{After, Event, Kind};
+use miniserde_text::json::lex::Event;
 
 impl<T: FromJson, const N: usize> FromJson for [T; N] {
     ghost means = { array_meaning N T.means (λ v. v) };
@@ -25,23 +25,13 @@ impl<T: FromJson, const N: usize> FromJson for [T; N] {
         };
         let mut items = Vec::new(source.alloc());
         let mut first = true;
-        while let After::Next = source.after(Kind::Seq, first)? {
-            if items.len() == N {
+        while items.len() < N {
+            if !next_element(&mut items, source, first)? {
                 return Err(Error::Invalid);
             }
-            let token = source.token()?;
-            items.push(T::read(token, source)?)?;
             first = false;
         }
-        array_from(items)
+        NoItem::read_items(source, first)?;
+        <[T; N]>::try_from(items).ok().ok_or(Error::Invalid)
     }
-}
-
-// Returns the items as an array, or `Invalid` if there are not exactly `N` of them.
-fn array_from<T: Drop, const N: usize>(items: Vec<T>) -> Result<[T; N]>
-    ensures ok { IfOk result (λ v. (v ≡ items.items) × (length items.items ≡ N)) }
-    ensures invalid { result ≡ Err Error.Invalid → length items.items ≡ N → ⊥ }
-    ensures only { IfErr result (λ e. e ≡ Error.Invalid) }
-{
-    <[T; N]>::try_from(items).ok().ok_or(Error::Invalid)
 }

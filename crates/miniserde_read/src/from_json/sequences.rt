@@ -2,6 +2,7 @@
 ghost use Rattle.miniserde_read.specs.Meanings.{list_meaning};
 
 use super::FromJson;
+use crate::children::next_element;
 use crate::source::Source;
 use miniserde_model::error::{Error, Result};
 use miniserde_text::json::lex::Event;
@@ -20,8 +21,7 @@ impl<T: FromJson> FromJson for Vec<T> {
         };
         let mut items = Vec::new(source.alloc());
         let mut first = true;
-        while let Some(token) = source.element(first)? {
-            items.push(T::read(token, source)?)?;
+        while next_element(&mut items, source, first)? {
             first = false;
         }
         Ok(items)

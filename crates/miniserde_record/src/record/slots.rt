@@ -6,29 +6,15 @@ ghost use Rattle.miniserde_model.specs.declared.error.Error.{Error};
 ghost use Rattle.miniserde_read.specs.Rest.{GivesAt, GivesNoneAt};
 ghost use Rattle.miniserde_read.specs.Events.{EventInRange};
 ghost use Rattle.miniserde_record.specs.FieldsMeaning.{FieldsMeaning, no_fields, field_and, struct_meaning};
-ghost use Rattle.miniserde_record.specs.Members.{ReadsDue, RejectsDue};
+ghost use Rattle.miniserde_read.specs.Due.{ReadsDue, RejectsDue};
 
 use super::marks::{Mark, Once, Plain};
 use super::structs::{Parts, Record};
 use miniserde_model::error::{Error, Result};
-use miniserde_read::{FromJson, Ignored, Source};
+use miniserde_read::{FromJson, Ignored, Source, read_due};
 use miniserde_text::json::lex::{Event, Text};
 use std::alloc::Global;
 use std::marker::PhantomData;
-
-/// Reads the value of a member, after the member's name and colon. Returns `Invalid` if the text has no prefix that
-/// means a value of the type, and `Memory` if an allocation fails.
-#[inline(always)]
-pub(crate) fn read_due<'a, T: FromJson>(source: &mut Source<'a>) -> Result<T>
-    requires { source.old.refused ≡ None }
-    ensures going { IfOk result (λ _. source.new.refused ≡ None) }
-    ensures ok { IfOk result (λ v.
-        ReadsDue T.means.from_tree source.old.rest source.new.rest (T.means.content v)) }
-    ensures invalid { result ≡ Err Error.Invalid → RejectsDue T.means.from_tree source.old.rest }
-{
-    let token = source.token()?;
-    T::read(token, source)
-}
 
 /// A chain of a struct's fields, with the values that were read so far.
 pub trait Slots: Drop {

@@ -6,9 +6,6 @@ use Rattle.std.proofs.lemmas.Result.{err_from_is_err_and}
 use Rattle.miniserde_model.proofs.Unique.{one_tree}
 use Rattle.miniserde_model.specs.Tree.{Tree}
 use Rattle.miniserde_model.specs.Whitespace.{IsWhitespace}
-use Rattle.miniserde_model.specs.Lexing.{Starts}
-use Rattle.miniserde_text.specs.Lexer.{event_of_token, BeginsEscaped}
-use Rattle.miniserde_read.proofs.Tokens.{start_event}
 use Rattle.miniserde_read.proofs.Same.{value_same}
 use Rattle.miniserde_read.proofs.Json.{json_at, json_front, at_json}
 use Rattle.miniserde_read.proofs.Lacking.{has_escape}
@@ -19,9 +16,6 @@ use Rattle.miniserde_read.proofs.json_text.from_str.Goals as goal
 nothing_meant : (g : Over) (t : Tree) → g.T.FromJson.means.from_tree t ≡ None → (v : g.row.T.Denot) → g.T.FromJson.means.reads t v → ⊥
 nothing_meant g t n v h = let e : Some (g.T.FromJson.means.content v) ≡ None = sym ((g.T.FromJson.means.reads_agrees t v).0 h) ∙ n in cc
 
-pub returns-in_err-token-clause-one : goal.returns-in_err-token-clause-one
-returns-in_err-token-clause-one g c = one_tree c.args.j.now
-
 pub returns-in_err-value-clause-one : goal.returns-in_err-value-clause-one
 returns-in_err-value-clause-one g c = one_tree c.args.j.now
 
@@ -31,52 +25,30 @@ returns-in_err-end-clause-one g c = one_tree c.args.j.now
 pub returns-clause-one : goal.returns-clause-one
 returns-clause-one g c = one_tree c.args.j.now
 
--- ---- no first event
-
-pub returns-in_err-token-clause-none : goal.returns-in_err-token-clause-none
-returns-in_err-token-clause-none g c = λ e t h.
-    let w = err_from_is_err_and c.from_residual.result c.from_residual.ensures.1 in
-    let a = json_at c.args.j.now t h in
-    absurd (c.in_err-token.ensures.invalid (cc (w.1, w.2, e)) c.new-source.ensures.going a.event a.behind
-    (subst (λ z. Starts z a.event a.behind) (sym c.new-source.ensures.rest) a.starts))
-
-pub returns-in_err-token-clause-invalid : goal.returns-in_err-token-clause-invalid
-returns-in_err-token-clause-invalid g c = λ e t h. nothing_meant g t (returns-in_err-token-clause-none g c e t h)
-
-pub returns-in_err-token-clause-memory : goal.returns-in_err-token-clause-memory
-returns-in_err-token-clause-memory g c = λ i e.
-    let w = err_from_is_err_and c.from_residual.result c.from_residual.ensures.1 in
-    has_escape c.args.j.now (subst BeginsEscaped c.new-source.ensures.rest
-    (c.in_err-token.ensures.memory (cc (w.1, w.2, e)) c.new-source.ensures.going))
-
--- ---- the type refuses what stands there
-
-pub read-requires-clause-event : goal.read-requires-clause-event
-read-requires-clause-event g c = start_event _ _ _ c.in_ok-token.ensures.ok
+-- ---- no value of the type
 
 pub returns-in_err-value-clause-none : goal.returns-in_err-value-clause-none
 returns-in_err-value-clause-none g c = λ e t h.
-    let w = err_from_is_err_and c.from_residual-in_err-value.result c.from_residual-in_err-value.ensures.1 in
-    let ev = event_of_token c.in_ok-token.token c.token.new.self.scratch in
-    let s = c.token.new.self.rest in
-    let k : Starts c.args.j.now ev s = subst (λ z. Starts z ev s) c.new-source.ensures.rest c.in_ok-token.ensures.ok in
-    let f = json_front c.args.j.now t ev s h k in
-    c.in_err-value.ensures.invalid (cc (w.1, w.2, e)) t f.0 f.1
+    let w = err_from_is_err_and c.from_residual.result c.from_residual.ensures.1 in
+    let a = json_at c.args.j.now t h in
+    (rw c.new-source.ensures.rest at (c.in_err-value.ensures.invalid (cc (w.1, w.2, e)))) t a.event a.behind a.end a.starts a.is_value
 
 pub returns-in_err-value-clause-invalid : goal.returns-in_err-value-clause-invalid
 returns-in_err-value-clause-invalid g c = λ e t h. nothing_meant g t (returns-in_err-value-clause-none g c e t h)
+
+pub returns-in_err-value-clause-memory : goal.returns-in_err-value-clause-memory
+returns-in_err-value-clause-memory g c = λ i e.
+    let w = err_from_is_err_and c.from_residual.result c.from_residual.ensures.1 in
+    has_escape c.args.j.now (rw c.new-source.ensures.rest at (c.in_err-value.ensures.memory (cc (w.1, w.2, e)) i))
 
 -- ---- more stands behind it
 
 pub returns-in_err-end-clause-none : goal.returns-in_err-end-clause-none
 returns-in_err-end-clause-none g c = λ e t h.
     let w = err_from_is_err_and c.from_residual-in_err-end.result c.from_residual-in_err-end.ensures.1 in
-    let ev = event_of_token c.in_ok-token.token c.token.new.self.scratch in
-    let s = c.token.new.self.rest in
-    let k : Starts c.args.j.now ev s = subst (λ z. Starts z ev s) c.new-source.ensures.rest c.in_ok-token.ensures.ok in
-    let f = json_front c.args.j.now t ev s h k in
-    let v = c.in_ok-value.ensures.ok in
-    let same = value_same t v.0 ev s f.0 c.read.new.source.rest f.1 v.1 in
+    let v = rw c.new-source.ensures.rest at c.in_ok-value.ensures.ok in
+    let f = json_front c.args.j.now t v.event v.behind h v.starts in
+    let same = value_same t v.one v.event v.behind f.0 c.read_due.new.source.rest f.1 v.is_value in
     absurd (c.in_err-end.ensures.invalid (cc (w.1, w.2, e)) c.in_ok-value.ensures.going (subst IsWhitespace same.1 f.2))
 
 pub returns-in_err-end-clause-invalid : goal.returns-in_err-end-clause-invalid
@@ -86,11 +58,8 @@ returns-in_err-end-clause-invalid g c = λ e t h. nothing_meant g t (returns-in_
 
 pub returns-clause-content : goal.returns-clause-content
 returns-clause-content g c =
-    let ev = event_of_token c.in_ok-token.token c.token.new.self.scratch in
-    let s = c.token.new.self.rest in
-    let k : Starts c.args.j.now ev s = subst (λ z. Starts z ev s) c.new-source.ensures.rest c.in_ok-token.ensures.ok in
-    let v = c.in_ok-value.ensures.ok in
-    (v.0, at_json c.args.j.now v.0 ev s c.read.new.source.rest k v.1 c.in_ok-end.ensures.ok, v.2)
+    let v = rw c.new-source.ensures.rest at c.in_ok-value.ensures.ok in
+    (v.one, at_json c.args.j.now v.one v.event v.behind _ v.starts v.is_value c.in_ok-end.ensures.ok, v.gives)
 
 pub returns-clause-ok : goal.returns-clause-ok
 returns-clause-ok g c = let r = returns-clause-content g c in (r.0, r.1, (g.T.FromJson.means.reads_agrees r.0 c.in_ok-value.value).1 r.2)

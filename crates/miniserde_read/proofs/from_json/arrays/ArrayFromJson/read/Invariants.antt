@@ -1,7 +1,6 @@
 -- The loop keeps that the items so far are given by the children so far (`ListGoes`), that there are at most N, and
--- that these children are among the first N of the list (`AmongGoes`). Each turn shortens the text.
-use Rattle.std.proofs.Common.{◌≡◌, ◌≤◌, None, [], length, map}
-use Rattle.miniserde_read.specs.Children.{with_last}
+-- that these children are among the first N of the list (`AmongGoes`). Each turn adds an item.
+use Rattle.std.proofs.Common.{◌≡◌, ◌-◌, ◌≤◌, None, length}
 use Rattle.miniserde_read.proofs.Lists.{ListGoes}
 use Rattle.miniserde_read.proofs.Lacking.{AmongGoes}
 use Rattle.miniserde_read.proofs.from_json.arrays.ArrayFromJson.read.Given as goal
@@ -9,11 +8,10 @@ use Rattle.miniserde_read.proofs.from_json.arrays.ArrayFromJson.read.Given as go
 abbrev pub invariant-loop-items : goal.invariant-loop-items
 invariant-loop-items g l = record {
   going : l.source.refused ≡ None;
-  goes : ListGoes (with_last g.T.FromJson.means.from_tree) [] l.fn.source.rest l.first l.source.rest
-      (map g.T.FromJson.means.content l.items.items);
+  goes : ListGoes g.T.FromJson.means l.fn.source.rest l.first l.source.rest l.items.items;
   few : length l.items.items ≤ g.row.N;
   among : AmongGoes g.row.N l.fn.source.rest l.first l.source.rest (length l.items.items);
 }
 
 abbrev pub decreases-loop-items : goal.decreases-loop-items
-decreases-loop-items g l = length l.source.rest
+decreases-loop-items g l = g.row.N - length l.items.items

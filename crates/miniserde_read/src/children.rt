@@ -1,0 +1,54 @@
+//! Reads the values in a list or an object, one at a time.
+ghost use Rattle.std.specs.Prelude.{◌≡◌, ◌⊎◌, true, None, Ok, Err, IfOk};
+ghost use Rattle.miniserde_text.specs.Lexer.{BeginsEscaped};
+ghost use Rattle.miniserde_model.specs.declared.error.Error.{Error};
+ghost use Rattle.miniserde_read.specs.Due.{ReadsDue, RejectsDue, NextElement, ElementRejects};
+ghost use Rattle.miniserde_read.specs.Lacking.{EscapedElement, AnElement};
+
+use crate::from_json::FromJson;
+use crate::source::Source;
+use miniserde_model::error::{Error, Result};
+use miniserde_text::json::lex::{After, Kind};
+
+/// Reads the value that is due, with its first token: that of a member after its name and colon, or an element after
+/// its comma. Returns `Invalid` if the text has no prefix that means a value of the type, and `Memory` if an
+/// allocation fails.
+#[inline(always)]
+pub fn read_due<'a, T: FromJson>(source: &mut Source<'a>) -> Result<T>
+    requires { source.old.refused ≡ None }
+    ensures going { IfOk result (λ _. source.new.refused ≡ None) }
+    ensures ok { IfOk result (λ v.
+        ReadsDue T.means.from_tree source.old.rest source.new.rest (T.means.content v)) }
+    ensures invalid { result ≡ Err Error.Invalid → RejectsDue T.means.from_tree source.old.rest }
+    ensures memory { result ≡ Err Error.Memory → T.read_infallible ≡ true → BeginsEscaped source.old.rest }
+{
+    let token = source.token()?;
+    T::read(token, source)
+}
+
+/// Reads the next element of a list and appends it to `items`, or takes the closing bracket. Returns whether there was
+/// an element. `first` says that the opening bracket was just taken. Returns `Invalid` if no prefix of the text is the
+/// rest of a list whose first element means a value of the type, and `Memory` if an allocation fails.
+#[inline(always)]
+pub(crate) fn next_element<'a, T: FromJson>(
+    items: &mut Vec<T>,
+    source: &mut Source<'a>,
+    first: bool,
+) -> Result<bool>
+    requires { source.old.refused ≡ None }
+    ensures going { IfOk result (λ _. source.new.refused ≡ None) }
+    ensures ok { IfOk result (λ more.
+        NextElement T.means first source.old.rest source.new.rest more items.old.items items.new.items) }
+    ensures invalid { result ≡ Err Error.Invalid → ElementRejects T.means.from_tree first source.old.rest }
+    ensures memory { result ≡ Err Error.Memory → T.read_infallible ≡ true
+        → EscapedElement first source.old.rest ⊎ AnElement first source.old.rest source.new.rest }
+{
+    match source.after(Kind::Seq, first)? {
+        After::Close => Ok(false),
+        After::Next => {
+            let token = source.token()?;
+            items.push(T::read(token, source)?)?;
+            Ok(true)
+        }
+    }
+}
