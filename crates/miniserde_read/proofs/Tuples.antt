@@ -8,7 +8,7 @@ use Rattle.miniserde_model.specs.Lexing.{Starts, Follows}
 use Rattle.miniserde_model.specs.declared.kind.Kind.TheVariants.{Seq}
 use Rattle.miniserde_read.specs.Items.{ItemsGiveAt, ItemsGiveNoneAt}
 use Rattle.miniserde_read.specs.types.Pairs.{both}
-use Rattle.miniserde_read.specs.Rest.{ValueAt, ElementsAt, GivesAt, GivesNoneAt}
+use Rattle.miniserde_read.specs.Rest.{ElementsAt, GivesAt, GivesNoneAt}
 use Rattle.miniserde_text.proofs.Turning.{close_no_next}
 use Rattle.miniserde_read.proofs.Same.{value_same}
 use Rattle.miniserde_read.proofs.Steps.{elements_there, elements_close}
