@@ -5,9 +5,9 @@ pub use miniserde_enum::{
     UnitCase, WrittenCases, fields_named, read_enum, read_tagged, tag_fits, write_data,
     write_fields, write_tagged, write_tagged_fields,
 };
-pub use miniserde_keys::Ranged;
+pub use miniserde_keys::{InjectiveKey, MapKey, Ranged};
 pub use miniserde_model::error::{Error, Result};
-pub use miniserde_read::{FromJson, Source};
+pub use miniserde_read::{Checked, FromJson, Source, read_checked};
 pub use miniserde_record::record::{
     Aliased, Closed, Empty, FourLent, FourParts, FourSlot, Given, HasAliases, MarkedFour,
     MarkedSlot, Members, NoSlot, OmitSlot, Omitted, Once, OnceSlot, Parts, Plain, Record, Slot,
