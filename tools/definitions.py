@@ -76,7 +76,7 @@ PARAMS = r"(?:<([^{}]*)>)?"
 HEAD = re.compile(rf"{PUBLIC}(struct|enum)\s+({NAME})\s*{PARAMS}\s*\{{(?:{WORDS})?")
 ON_ONE_LINE = re.compile(rf"({PUBLIC}(?:struct|enum)\s+{NAME}\s*{PARAMS}\s*\{{)((?:[^{{}}]|\{{[^{{}}]*\}})*)\}}({WORDS})?")
 NEWTYPE = re.compile(rf"{PUBLIC}struct\s+({NAME})\s*{PARAMS}\s*\(\s*{PUBLIC}(.+?)\s*,?\s*\);(?:\s*//\s*(.*))?")
-NEWTYPE_WORD = re.compile(rf"lossless|stable|key|check\s+((?:{NAME}::)?{NAME})")
+NEWTYPE_WORD = re.compile(rf"lossless|stable|key|text|events|check\s+((?:{NAME}::)?{NAME})")
 VARIANT = re.compile(rf"({NAME})\s*(?:\((.*)\)|\{{(.*)\}}|(\{{))?,?")
 MARKS = re.compile(r'//\s*((?:once|default|omit|alias|rename|rename_all)\b.*)$')
 MARK = re.compile(r'\s*(?:(once|omit)|default(?:\s+(-?\d+|true|false|"[^"\\]*"))?|(rename|alias)\s+"([^"\\]*)")\s*(?:,|$)')
@@ -258,7 +258,7 @@ def newtype_of(bare, line, above):
     for word in split_at_commas(text or ""):
         fits = NEWTYPE_WORD.fullmatch(word)
         if not fits:
-            raise Refused(f"line {line}: behind a newtype stand words, with commas between: lossless, stable, key, check FUNCTION: {word}")
+            raise Refused(f"line {line}: behind a newtype stand words, with commas between: lossless, stable, key, check FUNCTION, text, events: {word}")
         words, check = (*words, word.split()[0]), fits.group(1) or check
     above = [it for it in above if not DERIVE.fullmatch(it)]
     it = Definition("newtype", name, line, above, derives, public or "", words, params_of(params or "", bare, line))

@@ -29,7 +29,7 @@ def wrapped(head, text):
     if len(whole) <= 100:
         return whole
     lines, now = [], f"    ghost {head} = {{"
-    for word in f"{text} }};".split(" "):
+    for word in re.split(r"(?<! v\.) ", f"{text} }};"):
         if len(now) + 1 + len(word) > 100:
             lines.append(now)
             now = "       "

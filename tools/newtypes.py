@@ -1,7 +1,9 @@
-"""The impls that `./derive` writes for a newtype: a struct of one unnamed value, with a check of it or without one."""
+"""The impls that `./derive` writes for a newtype: a struct of one unnamed value, with a check of it, without one, or as a
+string."""
 import re
 
 from impls import impl_of, typed, wrapped
+from places import visitor_of
 
 # The types of std that are keys, of which a newtype's laws are known.
 UNSIGNED = "u8 u16 u32 u64 usize".split()
@@ -43,7 +45,10 @@ def newtype_head(it):
 
 def newtype_text(it, path):
     """A newtype with its impls."""
-    return newtype_head(it) + "\n" + (checked_text(it) if it.check else transparent_text(it)) + shared_text(it) + laws_text(it) + key_text(it)
+    if "text" in it.words:
+        return newtype_head(it) + "\n" + text_text(it) + laws_text(it) + place_text(it)
+    own = checked_text(it) if it.check else transparent_text(it)
+    return newtype_head(it) + "\n" + own + shared_text(it) + laws_text(it) + key_text(it) + place_text(it)
 
 
 def checks_of(found, crate):
@@ -88,6 +93,53 @@ impl Checked for {name} {{
     }}
 }}
 """ + clone_text(it)
+
+
+def text_text(it):
+    """The impls of a newtype that is written as a string, by its `TextValue`."""
+    name, value = it.name, f"⟦<{it.name} as TextValue>⟧"
+    return f"""
+impl Leaf for {name} {{
+    ghost means = {{ text_value_meaning {value}.parsed {value}.content }};
+
+    ghost only_leaves = {{ (λ ts. refl, λ ms. refl) }};
+
+    fn from_step(alloc: Global, event: Step<'_>) -> Result<{name}> {{
+        match event {{
+            Step::Str(text) => <{name} as TextValue>::parse(alloc, text),
+            _ => Err(Error::Invalid),
+        }}
+    }}
+}}
+
+impl FromJson for {name} {{
+    ghost means = {{ ⟦<{name} as Leaf>⟧.means }};
+
+    fn missing() -> Option<{name}> {{
+        None
+    }}
+
+    fn read<'a>(token: Event<'a>, source: &mut Source<'a>) -> Result<{name}> {{
+        read_leaf(token, source)
+    }}
+}}
+
+impl Serialize for {name} {{
+    ghost tree = {{ λ v. str ({value}.text ({value}.content v)) }};
+
+    fn begin(&self, w: &mut Writer) -> Result<()> {{
+        write_text_value(self, w)
+    }}
+}}
+
+impl Ranged for {name} {{
+{wrapped("real", f"λ v. {value}.parsed ({value}.text ({value}.content v)) ≡ Some ({value}.content v)")}
+
+    fn ranged(&self) {{
+        self.is_read_back()
+    }}
+}}
+"""
 
 
 def clone_text(it):
@@ -178,11 +230,10 @@ def laws_text(it):
 
     def law(word, kind, call):
         body = f"{call}::<{of}, {name}>()" if call else f"<{of} as {kind}>::{word}()"
+        body = "" if "text" in it.words else f"\n        {body}\n    "
         return f"""
 {impl_of(it, kind)} {kind} for {name} {{
-    fn {word}() {{
-        {body}
-    }}
+    fn {word}() {{{body}}}
 }}
 """
 
@@ -260,3 +311,58 @@ def key_text(it):
 }}
 """
     return text
+
+
+def place_text(it):
+    """The place of a newtype, where its events are to be handed on: that of the value inside, or one of a single token."""
+    if "events" not in it.words:
+        return ""
+    name, of = it.name, it.parts[0].of
+    if "text" in it.words or it.check:
+        tied = f"""
+impl Deserialize for {name} {{
+    type Place = LeafPlace<{name}>;
+
+    fn tied() {{}}
+}}
+"""
+        return tied if "text" in it.words else leaf_text(it) + tied
+    inner = f"⟦<<{of} as Deserialize>::Place as Visitor>⟧"
+    meaning = f"box_place_meaning (λ p. p.place) (λ v. v.0) {inner}.meaning"
+    further = f"λ old e answer new. {inner}.further old.place e answer new.place"
+    return f"""
+/// The place of a `{name}`.
+#[derive(Drop)]
+{it.public}struct {name}Place {{
+    place: <{of} as Deserialize>::Place,
+}}
+{visitor_of(name, f"<{of} as Deserialize>::Place", wrapped("meaning", meaning), wrapped("further", further), f"Ok({name}(place.take()?))")}
+impl Deserialize for {name} {{
+    type Place = {name}Place;
+
+    fn tied() {{
+        <{of} as Deserialize>::tied()
+    }}
+}}
+"""
+
+
+def leaf_text(it):
+    """The impl of a newtype with a check by which its place takes its one event."""
+    name, of = it.name, it.parts[0].of
+    means = f"checked_meaning ⟦<{of} as FromJson>⟧.means {accepts_of(it)} (λ v. v.value)"
+    return f"""
+impl Leaf for {name} {{
+{wrapped("means", means)}
+
+    ghost only_leaves = {{ (λ ts. refl, λ ms. refl) }};
+
+    fn from_step(alloc: Global, event: Step<'_>) -> Result<{name}> {{
+        checked_from_step(alloc, event)
+    }}
+}}
+
+impl CheckedLeaf for {name} {{
+    ghost same_leaf = {{ same_meaning ⟦<{of} as Leaf>⟧.means }};
+}}
+"""

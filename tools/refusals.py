@@ -10,13 +10,13 @@ class Refused(Exception):
 
 # What derived code may name.
 NAMED = (
-    "Aliased BesideTag Cases Checked Closed DataCase Deserialize Empty Error Event ExactKey Field Four FourLent FourParts FourSlot Fragment FromJson Given "
-    "Global HasAliases HasTag InjectiveKey Inside InsideCases Lossless MapKey MarkedFour MarkedSlot Members NamePlace NeverNull NoCase NoField NoFields NoSlot "
+    "Aliased BesideTag Cases Checked CheckedLeaf Closed DataCase Deserialize Empty Error Event ExactKey Field Four FourLent FourParts FourSlot Fragment FromJson Given "
+    "Global HasAliases HasTag InjectiveKey Inside InsideCases Leaf LeafPlace Lossless MapKey MarkedFour MarkedSlot Members NamePlace NeverNull NoCase NoField NoFields NoSlot "
     "OmitSlot Omitted Once OnceField OnceFour OnceSlot OneOf Parts PlacedRecord Plain Ranged Record RecordPlace Result RoundTrip "
-    "Serialize Slot Slots Source Stable Step Transparent DataEnum UnitCase UnitEnum Variants Visitor WithDefault Writer WrittenCases WrittenFields "
-    "aliased_round_trips checked_lossless checked_round_trips checked_stable enum_lossless enum_round_trips enum_stable fields_named read_checked read_enum read_record read_tagged read_variant "
+    "Serialize Slot Slots Source Stable Step TextValue Transparent DataEnum UnitCase UnitEnum Variants Visitor WithDefault Writer WrittenCases WrittenFields "
+    "aliased_round_trips checked_from_step checked_lossless checked_round_trips checked_stable enum_lossless enum_round_trips enum_stable fields_named read_checked read_enum read_leaf read_record read_tagged read_variant "
     "record_lossless record_round_trips record_stable tag_fits tagged_lossless tagged_round_trips tagged_stable take_four transparent_round_trips variant_lossless "
-    "variant_round_trips variant_stable write_data write_fields write_members write_tagged write_tagged_fields"
+    "variant_round_trips variant_stable write_data write_fields write_members write_tagged write_tagged_fields write_text_value"
 )
 # Those of the laws, by their crate: a crate over `miniserde_core` lists it too.
 OF_LAWS = {
@@ -240,6 +240,10 @@ def check_newtype(it, integer, bare):
     """Refuses a newtype with a check that no impl can be written for, and a key that is none."""
     of, line = it.parts[0].of, it.line
     scalar = integer.fullmatch(of) or of == "String"
+    if "text" in it.words and ("key" in it.words or it.check):
+        raise Refused(f"line {line}: a newtype that is written as a string is no key and has no check: {bare}")
+    if "text" in it.words and it.params:
+        raise Refused(f"line {line}: a newtype that is written as a string has no parameters: {bare}")
     if it.check and (not scalar or it.parts[0].public):
         raise Refused(f"line {line}: a check is of an integer or a `String`, and its field is private: {bare}")
     if "key" in it.words and not scalar and of != "bool" and of not in it.params:

@@ -10,12 +10,14 @@ pub mod enums;
 pub mod json;
 pub mod laws;
 mod macros;
+pub mod newtypes;
 pub mod record;
 pub mod ser;
 
 pub use laws::canonical_text_determines_content;
 pub use miniserde_de::de;
 pub use miniserde_de::de::Deserialize;
+pub use miniserde_keys::TextValue;
 pub use miniserde_laws::{
     Lossless, NeverNull, RoundTrip, means_itself, read_back, read_itself, write_and_read,
 };

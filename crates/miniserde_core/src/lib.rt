@@ -9,9 +9,11 @@ pub mod de;
 pub mod derived;
 pub mod enums;
 pub mod json;
+pub mod newtypes;
 pub mod record;
 pub mod ser;
 
+pub use miniserde_keys::TextValue;
 pub use miniserde_model::error;
 pub use miniserde_model::error::{Error, Result};
 pub use miniserde_read::{

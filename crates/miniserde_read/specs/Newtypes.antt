@@ -1,6 +1,6 @@
--- Newtypes: types that are read and written as the one value in them, if a check accepts it.
-use Rattle.std.specs.Prelude.{◌≡◌, Bool, true, Option, Some, None, option_map, option_and_then, refl}
-use Rattle.miniserde_model.specs.Tree.{Tree}
+-- Newtypes: types that are read and written as the one value in them, if a check accepts it, or as a string.
+use Rattle.std.specs.Prelude.{◌≡◌, ℕ, List, Bool, true, Option, Some, None, option_map, option_and_then, refl}
+use Rattle.miniserde_model.specs.Tree.{Tree, str}
 use Rattle.miniserde_keys.specs.Checks.{if_accepted}
 use Rattle.miniserde_read.specs.Meaning.{Meaning, meaning_with}
 use Rattle.miniserde_read.specs.laws.Newtypes.{checked-given}
@@ -39,3 +39,14 @@ same_meaning m = record {
   content_same = λ v. refl;
   given_same = λ t. itself (m.from_tree t);
 }
+
+-- the content that a string gives by its text
+abbrev pub parsed_of : {C : Type 0} → (List ℕ → Option C) → Tree → Option C
+parsed_of parsed (str s) = parsed s
+parsed_of parsed _ = None
+
+-- the meaning of a type whose values are written as strings: a string means a value of the content that its text is
+-- parsed as
+abbrev pub text_value_meaning : {V C : Type 0} → (List ℕ → Option C) → (V → C) → Meaning V
+text_value_meaning parsed content =
+    meaning_with content (parsed_of parsed) (λ t v. parsed_of parsed t ≡ Some (content v)) (λ t v. (λ e. e, λ e. e))

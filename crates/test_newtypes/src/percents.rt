@@ -42,8 +42,8 @@ impl Checked for Percent {
 }
 
 impl FromJson for Percent {
-    ghost means = { checked_meaning ⟦<u8 as FromJson>⟧.means (on_unsigned at_most_100) (λ v.
-        v.value) };
+    ghost means = { checked_meaning ⟦<u8 as FromJson>⟧.means (on_unsigned at_most_100) (λ
+        v. v.value) };
 
     ghost read_infallible = { ⟦<u8 as FromJson>⟧.read_infallible };
 

@@ -1,0 +1,8 @@
+//! A type of another crate as the value of a field: a UUID of the toolchain's crate `uuid`.
+#![tactic(auto)]
+
+pub mod callers;
+pub mod ids;
+#[cfg(test)]
+mod tests;
+mod uuids;
