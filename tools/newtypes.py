@@ -105,10 +105,7 @@ impl Leaf for {name} {{
     ghost only_leaves = {{ (λ ts. refl, λ ms. refl) }};
 
     fn from_step(alloc: Global, event: Step<'_>) -> Result<{name}> {{
-        match event {{
-            Step::Str(text) => <{name} as TextValue>::parse(alloc, text),
-            _ => Err(Error::Invalid),
-        }}
+        text_value_from_step(alloc, event)
     }}
 }}
 

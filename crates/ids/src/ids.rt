@@ -10,8 +10,8 @@ use miniserde::derived::{
     Deserialize, Error, Event, Field, FromJson, Global, Leaf, LeafPlace, Lossless, NeverNull,
     NoField, NoSlot, Parts, PlacedRecord, Ranged, Record, RecordPlace, Result, RoundTrip,
     Serialize, Slot, Slots, Source, Stable, Step, TextValue, Visitor, Writer, WrittenFields,
-    read_leaf, read_record, record_lossless, record_round_trips, record_stable, write_members,
-    write_text_value,
+    read_leaf, read_record, record_lossless, record_round_trips, record_stable,
+    text_value_from_step, write_members, write_text_value,
 };
 use uuid::Uuid;
 
@@ -25,10 +25,7 @@ impl Leaf for AccountId {
     ghost only_leaves = { (λ ts. refl, λ ms. refl) };
 
     fn from_step(alloc: Global, event: Step<'_>) -> Result<AccountId> {
-        match event {
-            Step::Str(text) => <AccountId as TextValue>::parse(alloc, text),
-            _ => Err(Error::Invalid),
-        }
+        text_value_from_step(alloc, event)
     }
 }
 

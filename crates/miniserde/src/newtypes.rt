@@ -5,6 +5,6 @@ pub use miniserde_laws::{
     Transparent, checked_lossless, checked_round_trips, transparent_round_trips,
 };
 pub use miniserde_places::{CheckedLeaf, checked_from_step};
-pub use miniserde_read::{Checked, read_checked};
+pub use miniserde_read::{Checked, read_checked, text_value_from_step};
 pub use miniserde_ser::ser::write_text_value;
 pub use miniserde_stored::checked_stable;

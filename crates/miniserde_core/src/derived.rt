@@ -7,7 +7,9 @@ pub use miniserde_enum::{
 };
 pub use miniserde_keys::{InjectiveKey, MapKey, Ranged, TextValue};
 pub use miniserde_model::error::{Error, Result};
-pub use miniserde_read::{Checked, FromJson, Leaf, Source, Step, read_checked, read_leaf};
+pub use miniserde_read::{
+    Checked, FromJson, Leaf, Source, Step, read_checked, read_leaf, text_value_from_step,
+};
 pub use miniserde_record::record::{
     Aliased, Closed, Empty, FourLent, FourParts, FourSlot, Given, HasAliases, MarkedFour,
     MarkedSlot, Members, NoSlot, OmitSlot, Omitted, Once, OnceSlot, Parts, Plain, Record, Slot,

@@ -1,5 +1,5 @@
 //! The trait `TextValue` of types whose values are written as JSON strings.
-ghost use Rattle.std.specs.Prelude.{◌≡◌, ◌++◌, ℕ, List, Option, Some, None, Ok, Err, IfOk, OnOk, OnErr, IsErrOf, string_bytes};
+ghost use Rattle.std.specs.Prelude.{◌≡◌, ◌++◌, ℕ, List, Option, Some, Ok, Err, IfOk, OnOk, OnErr, IsErrOf, string_bytes};
 ghost use Rattle.miniserde_model.specs.declared.error.Error.{Error};
 ghost use Rattle.miniserde_model.specs.declared.error.Error.TheVariants.{Memory};
 
@@ -22,7 +22,7 @@ pub trait TextValue: Sized + Drop {
     /// Parses a value. Returns `Invalid` if the text is that of no value, and `Memory` if an allocation fails.
     fn parse(alloc: Global, s: &str) -> Result<Self>
         ensures value { IfOk result (λ v. parsed s.now ≡ Some (content v)) }
-        ensures invalid { result ≡ Err Error.Invalid → parsed s.now ≡ None };
+        ensures invalid { result ≡ Err Error.Invalid → ((c : Content) × (parsed s.now ≡ Some c)) → ⊥ };
 
     /// Appends the text of the value to `out`. If `out` cannot grow, returns `Memory`.
     fn write(&self, out: &mut String) -> Result<()>

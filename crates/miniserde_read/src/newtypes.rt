@@ -1,16 +1,19 @@
-//! The trait `Checked` of newtypes with a check, and how one is read.
-ghost use Rattle.std.specs.Prelude.{◌≡◌, ◌↔◌, Bool, true, None, Ok, Err, IfOk, IfErr, IfSome, IsSome};
+//! The trait `Checked` of newtypes with a check, how one is read, and how a value is read that is written as a string.
+ghost use Rattle.std.specs.Prelude.{◌≡◌, ◌↔◌, Bool, true, Some, None, Ok, Err, IfOk, IfErr, IfSome, IsSome};
 ghost use Rattle.miniserde_text.specs.Lexer.{event_of_token};
 ghost use Rattle.miniserde_model.specs.declared.error.Error.{Error};
 ghost use Rattle.miniserde_read.specs.Meaning.{Meaning};
 ghost use Rattle.miniserde_read.specs.Rest.{GivesAt, GivesNoneAt};
-ghost use Rattle.miniserde_read.specs.Events.{EventInRange};
-ghost use Rattle.miniserde_read.specs.Newtypes.{checked_meaning, SameMeaning};
+ghost use Rattle.miniserde_read.specs.Events.{event_of, EventInRange, on_leaf};
+ghost use Rattle.miniserde_read.specs.Newtypes.{checked_meaning, parsed_of, SameMeaning};
 
 use crate::from_json::FromJson;
 use crate::source::Source;
+use crate::step::Step;
+use miniserde_keys::TextValue;
 use miniserde_model::error::{Error, Result};
 use miniserde_text::json::lex::Event;
+use std::alloc::Global;
 
 /// A type of which each value is one value of another type that a check accepts. Which values the check accepts is
 /// said of their contents.
@@ -59,5 +62,17 @@ pub fn read_checked<'a, N: Checked>(token: Event<'a>, source: &mut Source<'a>) -
     match N::new(<N::Inner as FromJson>::read(token, source)?) {
         Some(value) => Ok(value),
         None => Err(Error::Invalid),
+    }
+}
+
+/// Returns the value that the event means, or `Invalid` if it is no string or its text is that of no value. Returns
+/// `Memory` if an allocation fails.
+pub fn text_value_from_step<T: TextValue>(alloc: Global, event: Step<'_>) -> Result<T>
+    ensures ok { IfOk result (λ v. on_leaf (parsed_of T.parsed) (event_of event.entry) ≡ Some (T.content v)) }
+    ensures invalid { result ≡ Err Error.Invalid → on_leaf (parsed_of T.parsed) (event_of event.entry) ≡ None }
+{
+    match event {
+        Step::Str(text) => T::parse(alloc, text),
+        _ => Err(Error::Invalid),
     }
 }
