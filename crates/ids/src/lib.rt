@@ -3,6 +3,7 @@
 
 pub mod callers;
 pub mod ids;
+pub mod requests;
 #[cfg(test)]
 mod tests;
 mod uuids;

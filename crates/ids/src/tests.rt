@@ -3,8 +3,9 @@
 
 use crate::callers::{accounts_are_stable, id_of, same_account};
 use crate::ids::{Account, AccountId};
+use crate::requests::{RequestError, addressed};
 use miniserde::json::{feed, from_str, to_string};
-use miniserde::{Deserialize, Result};
+use miniserde::{Deserialize, Error, Result};
 use std::alloc::Global;
 use std::test::Fail;
 use test_tables::{Wrong, expect_read_itself};
@@ -59,5 +60,18 @@ fn calls_and_places(rt: HostRuntime) -> std::result::Result<(), Fail> {
     );
     assert_eq!(rt; account_by_events(alloc, text)?.as_str(), text);
     assert!(rt; account_by_events(alloc, "{\"id\":\"a\",\"name\":\"a\",\"parent\":null}").is_err());
+    Ok(())
+}
+
+#[test]
+fn an_error_says_which_part_is_refused(rt: HostRuntime) -> std::result::Result<(), Fail> {
+    let alloc = rt.alloc();
+    let path = "67e55044-10b1-426f-9247-bb680e5fe0c8";
+    let body = "{\"id\":\"67e55044-10b1-426f-9247-bb680e5fe0c8\",\"name\":\"a\"}";
+    assert!(rt; matches!(addressed(alloc, path, body), Ok((id, account)) if id.0 == account.id.0));
+    assert!(rt; matches!(addressed(alloc, "7", body), Err(RequestError::Path(_))));
+    assert!(rt;
+        matches!(addressed(alloc, path, "7"), Err(error) if error == RequestError::Body(Error::Invalid))
+    );
     Ok(())
 }
