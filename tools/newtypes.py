@@ -19,8 +19,10 @@ def of_inner(it, kind, member):
 
 
 def fact_of(it, value):
-    """The fact that the check takes a value: a number, or the bytes of a text."""
-    return f"{it.check} (string_bytes {value}) ≡ true" if it.parts[0].of == "String" else f"{it.check} {value} ≡ true"
+    """The fact that the check takes a value: a number, the bytes of a text, or the content of another type's value."""
+    of = it.parts[0].of
+    shown = value if of in UNSIGNED + SIGNED else f"(string_bytes {value})" if of == "String" else f"({of_inner(it, 'FromJson', 'means')}.content {value})"
+    return f"{it.check} {shown} ≡ true"
 
 
 def accepts_of(it, key=""):
@@ -36,7 +38,7 @@ def newtype_head(it):
     derives = [name for name in it.derives if name not in ("Serialize", "Deserialize", "Drop", *orders)]
     if it.check and "Clone" in derives:
         # A struct with a ghost field derives `Clone` only if it is `Copy`.
-        derives = [name for name in derives if name not in ("Clone", "Copy")] + (["Clone", "Copy"] if part.of != "String" else [])
+        derives = [name for name in derives if name not in ("Clone", "Copy")] + (["Clone", "Copy"] if part.of in UNSIGNED + SIGNED else [])
     head = [*it.above, f"#[derive({', '.join([*derives, *orders, 'Drop'])})]"]
     if not it.check:
         return "\n".join([*head, f"{it.public}struct {typed(it)}({part.public}{part.of});"])
@@ -66,7 +68,7 @@ def checks_of(found, crate):
 def checked_text(it):
     """The impls of a newtype with a check that are not those of one without."""
     name, of = it.name, it.parts[0].of
-    lent = "value.as_str()" if of == "String" else "value"
+    lent = "value.as_str()" if of == "String" else "value" if of in UNSIGNED + SIGNED else "&value"
     means = of_inner(it, "FromJson", "means")
     return f"""
 impl Checked for {name} {{
@@ -311,35 +313,28 @@ def key_text(it):
 
 
 def place_text(it):
-    """The place of a newtype, where its events are to be handed on: that of the value inside, or one of a single token."""
+    """The place of a newtype, where its events are to be handed on: around that of the value inside, or of a single token."""
     if "events" not in it.words:
         return ""
     name, of = it.name, it.parts[0].of
-    if "text" in it.words or it.check:
-        tied = f"""
-impl Deserialize for {name} {{
-    type Place = LeafPlace<{name}>;
-
-    fn tied() {{}}
-}}
-"""
-        return tied if "text" in it.words else leaf_text(it) + tied
-    inner = f"⟦<<{of} as Deserialize>::Place as Visitor>⟧"
-    meaning = f"box_place_meaning (λ p. p.place) (λ v. v.0) {inner}.meaning"
-    further = f"λ old e answer new. {inner}.further old.place e answer new.place"
-    return f"""
+    is_leaf = "text" in it.words or it.check
+    inner = f"LeafPlace<{name}>" if is_leaf else f"<{of} as Deserialize>::Place"
+    around = "wrapper_meaning (λ p. p.place)" if is_leaf else "box_place_meaning (λ p. p.place) (λ v. v.0)"
+    meaning = wrapped("meaning", f"{around} ⟦<{inner} as Visitor>⟧.meaning")
+    further = wrapped("further", f"λ old e answer new. ⟦<{inner} as Visitor>⟧.further old.place e answer new.place")
+    taken = "place.take()" if is_leaf else f"Ok({name}(place.take()?))"
+    tied = "{}" if is_leaf else f"{{\n        <{of} as Deserialize>::tied()\n    }}"
+    return f"""{leaf_text(it) if it.check else ""}
 /// The place of a `{name}`.
 #[derive(Drop)]
 {it.public}struct {name}Place {{
-    place: <{of} as Deserialize>::Place,
+    place: {inner},
 }}
-{visitor_of(name, f"<{of} as Deserialize>::Place", wrapped("meaning", meaning), wrapped("further", further), f"Ok({name}(place.take()?))")}
+{visitor_of(name, inner, meaning, "" if is_leaf else further, taken)}
 impl Deserialize for {name} {{
     type Place = {name}Place;
 
-    fn tied() {{
-        <{of} as Deserialize>::tied()
-    }}
+    fn tied() {tied}
 }}
 """
 

@@ -244,8 +244,10 @@ def check_newtype(it, integer, bare):
         raise Refused(f"line {line}: a newtype that is written as a string is no key and has no check: {bare}")
     if "text" in it.words and it.params:
         raise Refused(f"line {line}: a newtype that is written as a string has no parameters: {bare}")
-    if it.check and (not scalar or it.parts[0].public):
-        raise Refused(f"line {line}: a check is of an integer or a `String`, and its field is private: {bare}")
+    if it.check and (it.params or it.parts[0].public):
+        raise Refused(f"line {line}: a newtype with a check has no parameters, and its field is private: {bare}")
+    if it.check and "events" in it.words and not scalar:
+        raise Refused(f"line {line}: a newtype with a check has a place if it has an integer or a `String` in it: leave out `events`: {bare}")
     if "key" in it.words and not scalar and of != "bool" and of not in it.params:
         raise Refused(f"line {line}: a newtype that is a key has an integer, a `bool`, a `String` or a parameter in it: {bare}")
     if "key" in it.words and it.check and of[0] == "i":

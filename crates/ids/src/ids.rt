@@ -74,8 +74,43 @@ impl Stable for AccountId {
     fn stable() {}
 }
 
+/// The place of a `AccountId`.
+#[derive(Drop)]
+pub struct AccountIdPlace {
+    place: LeafPlace<AccountId>,
+}
+
+impl Visitor for AccountIdPlace {
+    type Out = AccountId;
+
+    ghost meaning = { wrapper_meaning (λ p. p.place) ⟦<LeafPlace<AccountId> as Visitor>⟧.meaning };
+
+    fn begin(alloc: Global) -> Result<AccountIdPlace> {
+        Ok(AccountIdPlace {
+            place: <LeafPlace<AccountId> as Visitor>::begin(alloc)?,
+        })
+    }
+
+    fn step(&mut self, event: Step<'_>) -> Result<()> {
+        self.place.step(event)
+    }
+
+    fn refuse(&mut self, error: Error) -> Error {
+        self.place.refuse(error)
+    }
+
+    fn is_complete(&self) -> bool {
+        self.place.is_complete()
+    }
+
+    fn take(self) -> Result<AccountId> {
+        let AccountIdPlace { place } = self;
+        place.take()
+    }
+}
+
 impl Deserialize for AccountId {
-    type Place = LeafPlace<AccountId>;
+    type Place = AccountIdPlace;
 
     fn tied() {}
 }

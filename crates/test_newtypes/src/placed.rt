@@ -269,8 +269,43 @@ impl CheckedLeaf for Part {
     ghost same_leaf = { same_meaning ⟦<u8 as Leaf>⟧.means };
 }
 
+/// The place of a `Part`.
+#[derive(Drop)]
+pub struct PartPlace {
+    place: LeafPlace<Part>,
+}
+
+impl Visitor for PartPlace {
+    type Out = Part;
+
+    ghost meaning = { wrapper_meaning (λ p. p.place) ⟦<LeafPlace<Part> as Visitor>⟧.meaning };
+
+    fn begin(alloc: Global) -> Result<PartPlace> {
+        Ok(PartPlace {
+            place: <LeafPlace<Part> as Visitor>::begin(alloc)?,
+        })
+    }
+
+    fn step(&mut self, event: Step<'_>) -> Result<()> {
+        self.place.step(event)
+    }
+
+    fn refuse(&mut self, error: Error) -> Error {
+        self.place.refuse(error)
+    }
+
+    fn is_complete(&self) -> bool {
+        self.place.is_complete()
+    }
+
+    fn take(self) -> Result<Part> {
+        let PartPlace { place } = self;
+        place.take()
+    }
+}
+
 impl Deserialize for Part {
-    type Place = LeafPlace<Part>;
+    type Place = PartPlace;
 
     fn tied() {}
 }
@@ -358,8 +393,43 @@ impl CheckedLeaf for Path {
     ghost same_leaf = { same_meaning ⟦<String as Leaf>⟧.means };
 }
 
+/// The place of a `Path`.
+#[derive(Drop)]
+pub struct PathPlace {
+    place: LeafPlace<Path>,
+}
+
+impl Visitor for PathPlace {
+    type Out = Path;
+
+    ghost meaning = { wrapper_meaning (λ p. p.place) ⟦<LeafPlace<Path> as Visitor>⟧.meaning };
+
+    fn begin(alloc: Global) -> Result<PathPlace> {
+        Ok(PathPlace {
+            place: <LeafPlace<Path> as Visitor>::begin(alloc)?,
+        })
+    }
+
+    fn step(&mut self, event: Step<'_>) -> Result<()> {
+        self.place.step(event)
+    }
+
+    fn refuse(&mut self, error: Error) -> Error {
+        self.place.refuse(error)
+    }
+
+    fn is_complete(&self) -> bool {
+        self.place.is_complete()
+    }
+
+    fn take(self) -> Result<Path> {
+        let PathPlace { place } = self;
+        place.take()
+    }
+}
+
 impl Deserialize for Path {
-    type Place = LeafPlace<Path>;
+    type Place = PathPlace;
 
     fn tied() {}
 }
