@@ -365,7 +365,7 @@ def check(found, uses):
         check_written(it)
         check_params(it, known)
         for part in it.parts:
-            check_type(part.of, known, part.line)
+            check_type(part.of, {*known, "char"} if it.kind == "newtype" else known, part.line)
     check_cycles(found)
     check_omitted(found, uses)
     mark_never_null(found)

@@ -49,6 +49,8 @@ def newtype_text(it, path):
     """A newtype with its impls."""
     if "text" in it.words:
         return newtype_head(it) + "\n" + text_text(it) + laws_text(it) + place_text(it)
+    if it.parts[0].of == "char":
+        return newtype_head(it) + "\n" + ranged_text(it) + key_text(it)
     own = checked_text(it) if it.check else transparent_text(it)
     return newtype_head(it) + "\n" + own + shared_text(it) + laws_text(it) + key_text(it) + place_text(it)
 
@@ -185,9 +187,6 @@ def shared_text(it):
     read = "read_checked(token, source)" if it.check else f"Ok({it.name}(<{of} as FromJson>::read(token, source)?))"
     absent = "" if it.check else wrapped("absent", f"option_map (λ v. record {{ 0 = v }}) {of_inner(it, 'FromJson', 'absent')}") + "\n\n"
     missing = "None" if it.check else f"Some({it.name}(<{of} as FromJson>::missing()?))"
-    real = of_inner(it, "Ranged", "real") + f" v.{field}"
-    if it.check:
-        real += f" × ({fact_of(it, 'v.value')})"
     return f"""
 {impl_of(it, "FromJson")} FromJson for {name} {{
 {wrapped("means", means)}
@@ -212,8 +211,16 @@ def shared_text(it):
         self.{field}.begin(w)
     }}
 }}
+""" + ranged_text(it)
 
-{impl_of(it, "Ranged")} Ranged for {name} {{
+
+def ranged_text(it):
+    """The impl that says which values of a newtype are valid."""
+    field = "value" if it.check else "0"
+    fact = f" × ({fact_of(it, 'v.value')})" if it.check else ""
+    real = f"{of_inner(it, 'Ranged', 'real')} v.{field}{fact}"
+    return f"""
+{impl_of(it, "Ranged")} Ranged for {typed(it)} {{
 {wrapped("real", f"λ v. {real}")}
 
     fn ranged(&self) {{
@@ -262,7 +269,7 @@ def key_text(it):
         law = f"{of}_key"
         alike, one_text, injective = f"λ a b. {law}.alike a.{field} b.{field}", f"λ a b. {law}.one_text a.{field} b.{field}", "λ a b e. e"
         own = f"({law}.back v.{field} {'r.0' if it.check else 'r'})"
-        exact = "bool-exact" if of == "bool" else ""
+        exact = {"bool": "bool-exact", "char": "char-exact"}.get(of, "")
     if it.check:
         accepts = accepts_of(it, "_key")
         read = f"checked_key {accepts} {read}"

@@ -248,8 +248,10 @@ def check_newtype(it, integer, bare):
         raise Refused(f"line {line}: a newtype with a check has no parameters, and its field is private: {bare}")
     if it.check and "events" in it.words and not scalar:
         raise Refused(f"line {line}: a newtype with a check has a place if it has an integer or a `String` in it: leave out `events`: {bare}")
-    if "key" in it.words and not scalar and of != "bool" and of not in it.params:
-        raise Refused(f"line {line}: a newtype that is a key has an integer, a `bool`, a `String` or a parameter in it: {bare}")
+    if "key" in it.words and not scalar and of not in ("bool", "char", *it.params):
+        raise Refused(f"line {line}: a newtype that is a key has an integer, a `bool`, a `char`, a `String` or a parameter in it: {bare}")
+    if of == "char" and (it.words != ("key",) or it.check):
+        raise Refused(f"line {line}: a `char` is read as a key alone, so a newtype of it has the word `key` and no other: {bare}")
     if "key" in it.words and it.check and of[0] == "i":
         raise Refused(f"line {line}: a key with a check is unsigned or a `String`: {bare}")
 
@@ -267,7 +269,9 @@ def check_inside(it, part, found, known):
     if len(part.values) >= 2 or part.of and not re.fullmatch(rf"{NAME}(?:<.*>)?", part.of):
         raise Refused(f"line {part.line}: beside a tag stand the members of a struct: write {fields}, or a struct with this field: {part.of}")
     name = part.of.split("<")[0]
-    if name in it.params or part.of and (name not in known or name in found and found[name].kind != "struct"):
+    if name in it.params:
+        raise Refused(f'line {part.line}: beside a tag stand the members of a struct, and one that stands for `{name}` may have a field "{it.tag}": write the struct itself, or leave out `tag`')
+    if part.of and (name not in known or name in found and found[name].kind != "struct"):
         raise Refused(f"line {part.line}: beside a tag stand the members of a struct, and `{name}` is none: write {fields}, or a struct with this field")
     for each in found[name].parts if name in found else []:
         if it.tag in (each.written, *each.aliases):

@@ -1,13 +1,16 @@
 //! Callers: texts of newtypes, and what the calls promise of them.
-ghost use Rattle.std.specs.Prelude.{◌≡◌, ◌↔◌, ◌≤◌, ◌/◌, IsSome, true, None, IfOk, Err, string_bytes};
+ghost use Rattle.std.specs.Prelude.{◌≡◌, ◌↔◌, ◌≤◌, ◌/◌, pos, IsSome, true, None, IfOk, Err, string_bytes};
 ghost use Rattle.miniserde.specs.Tree.{Tree};
 ghost use Rattle.miniserde.specs.Value.{IsJson};
 ghost use Rattle.miniserde.specs.Normal.{norm};
 ghost use Rattle.miniserde.specs.Integers.{ReadsUnsigned};
 ghost use Rattle.test_newtypes.specs.Checks.{at_most_100, is_slug};
+ghost use Rattle.test_newtypes.specs.Orders.{is_ordered};
 
 use crate::accounts::{Account, Slug, Tagged, UserId};
+use crate::optional::Optional;
 use crate::percents::Percent;
+use crate::spans::Span;
 use miniserde::json::from_str;
 use miniserde::{Checked, Error, FromJson, Result, means_in_normal_form, read_itself};
 use std::alloc::Global;
@@ -120,4 +123,21 @@ pub fn half(percent: &Percent) -> Percent
     ensures { result.value ≡ percent.now.value / 2 }
 {
     Percent::new(*percent.get() / 2).unwrap()
+}
+
+/// Writes fields that may be left out and reads them again: the same content.
+pub fn same_optional(alloc: Global, optional: &Optional) -> Result<Optional>
+    ensures same { IfOk result (λ o. ⟦<Optional as FromJson>⟧.means.content o
+        ≡ ⟦<Optional as FromJson>⟧.means.content optional.now) }
+    ensures memory { result ≡ Err Error.Invalid → ⊥ }
+{
+    read_itself(alloc, optional)
+}
+
+/// Reads a span. Each one ends no earlier than it begins.
+pub fn span_of(alloc: Global, text: &str) -> Result<Span>
+    ensures ok { IfOk result (λ s. (t : Tree) × IsJson text.now t × ⟦<Span as FromJson>⟧.means.reads t s) }
+    ensures ordered { IfOk result (λ s. is_ordered (pos s.value.from, (pos s.value.to, tt)) ≡ true) }
+{
+    from_str(alloc, text)
 }

@@ -1,7 +1,7 @@
 //! The types of `forms.rs`, with the impls that `./derive` writes.
 ghost use Rattle.miniserde.specs.Checks.{on_unsigned, on_unsigned_key, checked_key};
-ghost use Rattle.miniserde.specs.ExactKeys.{text-exact, bool-exact};
-ghost use Rattle.miniserde.specs.KeyLaws.{u16_key, i32_key, bool_key, checked-back};
+ghost use Rattle.miniserde.specs.ExactKeys.{text-exact, bool-exact, char-exact};
+ghost use Rattle.miniserde.specs.KeyLaws.{u16_key, i32_key, bool_key, char_key, checked-back};
 ghost use Rattle.miniserde.specs.Meanings.{box_meaning};
 ghost use Rattle.miniserde.specs.Newtypes.{checked_meaning, same_meaning};
 ghost use Rattle.std.specs.Prelude.{◌≡◌, true, option_map, refl};
@@ -857,4 +857,48 @@ impl Stable for Fee {
     fn stable() {
         <Percent as Stable>::stable()
     }
+}
+
+/// The first letter of a name.
+#[derive(PartialEq, Eq, PartialOrd, Ord, Drop)]
+pub struct Initial(pub char);
+
+impl Ranged for Initial {
+    ghost real = { λ v. ⟦<char as Ranged>⟧.real v.0 };
+
+    fn ranged(&self) {
+        self.0.ranged()
+    }
+}
+
+impl MapKey for Initial {
+    ghost content = { λ v. ⟦<char as MapKey>⟧.content v.0 };
+
+    ghost read = { ⟦<char as MapKey>⟧.read };
+
+    ghost text = { λ v. ⟦<char as MapKey>⟧.text v.0 };
+
+    ghost from_key_infallible = { ⟦<char as MapKey>⟧.from_key_infallible };
+
+    ghost alike = { λ a b. char_key.alike a.0 b.0 };
+
+    ghost back = { λ v r. (v, r, (char_key.back v.0 r), refl) };
+
+    ghost one_text = { λ a b. char_key.one_text a.0 b.0 };
+
+    fn from_key(alloc: Global, k: &str) -> Result<Initial> {
+        Ok(Initial(<char as MapKey>::from_key(alloc, k)?))
+    }
+
+    fn to_key(&self, out: &mut String) -> Result<()> {
+        self.0.to_key(out)
+    }
+}
+
+impl InjectiveKey for Initial {
+    ghost injective = { λ a b e. e };
+}
+
+impl ExactKey for Initial {
+    ghost one_name = { char-exact };
 }

@@ -1,7 +1,10 @@
 //! Calls of newtypes, and their places.
 
 use crate::accounts::{Account, Slug};
-use crate::callers::{half, owner_of, percent, percent_of, same_slug};
+use crate::callers::{
+    by_slug, by_slug_is_stable, half, owner_of, percent, percent_of, same_account, same_optional,
+    same_shares, same_slug, same_tagged, shares, span_of, tagged,
+};
 use crate::percents::Percent;
 use crate::placed::Line;
 use miniserde::json::{feed, from_str, to_string};
@@ -21,6 +24,18 @@ fn values_and_their_checks(rt: HostRuntime) -> std::result::Result<(), Fail> {
         7
     );
     let slug: Slug = from_str(alloc, "\"a-b\"")?;
+    by_slug_is_stable();
+    assert_eq!(rt; same_shares(alloc, &shares(alloc, "{\"7\":60}")?)?.len(), 1);
+    assert_eq!(rt; by_slug(alloc, "{\"a\":null}")?.len(), 1);
+    assert_eq!(rt; same_tagged(alloc, &from_str(alloc, "[1,2]")?)?.0.len(), 2);
+    assert_eq!(rt; tagged::<u8>(alloc, "7")?, 7);
+    let account = "{\"owner\":7,\"slug\":\"a\",\"fee\":9,\"shares\":{}}";
+    let again = same_account(alloc, &from_str(alloc, account)?)?;
+    assert_eq!(rt; to_string(alloc, &again)?.as_str(), account);
+    let optional = same_optional(alloc, &from_str(alloc, "{\"fee\":9}")?)?;
+    assert_eq!(rt; to_string(alloc, &optional)?.as_str(), "{\"fee\":9}");
+    assert_eq!(rt; span_of(alloc, "{\"from\":1,\"to\":2}")?.get().to, 2);
+    assert!(rt; matches!(span_of(alloc, "{\"from\":2,\"to\":1}"), Err(Error::Invalid)));
     assert_eq!(rt; same_slug(alloc, &slug)?.get().as_str(), "a-b");
     Ok(())
 }

@@ -2,9 +2,10 @@
 //! what serde_json gives for the same types with `transparent`, or `try_from` and `into`.
 
 use crate::accounts::{Account, Slug, Tagged, UserId};
-use crate::forms::{Celsius, Maybe};
-use crate::optional::{Held, Optional};
+use crate::forms::{Celsius, Initial, Maybe};
+use crate::optional::{Held, Optional, Owner, Raw};
 use crate::percents::Percent;
+use crate::spans::Span;
 use std::collections::BTreeMap;
 use test_tables::{Wrong, expect_read_itself, expect_table};
 
@@ -106,6 +107,32 @@ const OPTIONAL: &str = r#"{} => same
 {"fee":101}
 {"slug":"A"}"#;
 
+const OWNERS: &str = r#"{"User":7} => same
+{"Named":{"slug":"a"}} => same
+{"User":-1}
+{"Named":{"slug":"A"}}
+{"User":"7"}
+"User""#;
+
+const SPANS: &str = r#"{"from":1,"to":2} => same
+{"to":2,"from":2} => {"from":2,"to":2}
+{"from":2,"to":1}
+{"from":1}
+{"from":0,"to":4294967295} => same
+{"from":0,"to":4294967296}
+null"#;
+
+const INITIALS: &str = r#"{"b":1,"a":2} => {"a":2,"b":1}
+{"\u00e9":1} => {"é":1}
+{"":1}
+{"ab":1}"#;
+
+// As a `Document` is read and written.
+const RAW: &str = r#"{"b":-0,"a":[1.50, -0]} => {"a":[1.50,0],"b":0}
+null => same
+{"a":1.5.0}
+[1,]"#;
+
 #[test]
 fn texts_of_newtypes(rt: HostRuntime) -> Result<(), Wrong> {
     let alloc = rt.alloc();
@@ -124,7 +151,8 @@ fn newtypes_as_keys(rt: HostRuntime) -> Result<(), Wrong> {
     let alloc = rt.alloc();
     expect_read_itself::<BTreeMap<UserId, Percent>>(alloc, SHARES)?;
     expect_read_itself::<BTreeMap<Slug, Percent>>(alloc, BY_SLUG)?;
-    expect_read_itself::<BTreeMap<Tagged<UserId>, Tagged<Percent>>>(alloc, TAGGED)
+    expect_read_itself::<BTreeMap<Tagged<UserId>, Tagged<Percent>>>(alloc, TAGGED)?;
+    expect_read_itself::<BTreeMap<Initial, u8>>(alloc, INITIALS)
 }
 
 #[test]
@@ -132,5 +160,8 @@ fn newtypes_in_structs(rt: HostRuntime) -> Result<(), Wrong> {
     let alloc = rt.alloc();
     expect_read_itself::<Account>(alloc, ACCOUNTS)?;
     expect_read_itself::<Held>(alloc, HELD)?;
-    expect_read_itself::<Optional>(alloc, OPTIONAL)
+    expect_read_itself::<Optional>(alloc, OPTIONAL)?;
+    expect_read_itself::<Owner>(alloc, OWNERS)?;
+    expect_read_itself::<Span>(alloc, SPANS)?;
+    expect_read_itself::<Raw>(alloc, RAW)
 }

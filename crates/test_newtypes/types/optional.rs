@@ -13,3 +13,12 @@ pub struct Optional { // lossless, stable
     pub fee: Option<Percent>, // omit
     pub slug: Option<Slug>, // omit
 }
+
+/// Whose a thing is.
+pub enum Owner { // lossless, stable
+    User(UserId),
+    Named { slug: Slug },
+}
+
+/// Any document.
+pub struct Raw(pub miniserde::json::Document); // lossless, stable

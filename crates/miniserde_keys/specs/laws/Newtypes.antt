@@ -3,6 +3,7 @@ use Rattle.std.proofs.Common.{◌≡◌, ◌<◌, ◌≤◌, ◌^◌, ◌-◌, �
 use Rattle.std.proofs.Common.{refl, sym, ap, ◌∙◌, arith}
 use Rattle.std.specs.Prelude.{⊤, decimal, option_and_then}
 use Rattle.std.specs.Bool.{beq}
+use Rattle.std.specs.Char.{IsScalar, encode_utf8}
 use Rattle.std.specs.Ordering.{int_eq}
 use Rattle.std.specs.Int.{w8, w16, w32, w64}
 use Rattle.std.specs.Int.RustNames.{FitsSigned}
@@ -10,9 +11,9 @@ use Rattle.std.specs.Fmt.{signed_decimal}
 use Rattle.std.specs.Str.{bytes_eq}
 use mir.Syntax.{Width}
 use mir.Val.{hbits}
-use Rattle.miniserde_keys.specs.Keys.{Key, of_nat, of_int, of_bool, read_unsigned, read_signed, read_bool, bool_text}
+use Rattle.miniserde_keys.specs.Keys.{Key, of_nat, of_int, of_bool, read_unsigned, read_signed, read_bool, read_char, bool_text}
 use Rattle.miniserde_keys.specs.laws.Keys.{nat-alike, nat-text, unsigned-back, int-alike, int-same, signed-back}
-use Rattle.miniserde_keys.specs.laws.Keys.{bool-alike, bool-text}
+use Rattle.miniserde_keys.specs.laws.Keys.{bool-alike, bool-text, char_some}
 
 -- the laws of a type of keys of which `Eq` compares the whole content
 pub record KeyLaws {K : Type 0} (eq : K → K → Bool) (real : K → Type 0) (content : K → Key)
@@ -79,6 +80,10 @@ bool_read false = refl
 -- the laws of `bool`
 pub bool_key : KeyLaws beq (λ _. ⊤) of_bool read_bool bool_text
 bool_key = record { alike = bool-alike; back = λ b r. bool_read b; one_text = bool-text }
+
+-- the laws of `char`
+pub char_key : KeyLaws nat_eq IsScalar of_nat read_char encode_utf8
+char_key = record { alike = nat-alike; back = char_some; one_text = nat-text encode_utf8 }
 
 -- a key that the check accepts is read from its text as itself, if it is without the check
 pub checked-back : (accepts : Key → Bool) (o : Option Key) (c : Key) → o ≡ Some c → accepts c ≡ true
