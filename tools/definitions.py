@@ -4,7 +4,7 @@ from dataclasses import dataclass, field, replace
 
 from omitted import check_omitted, mark_never_null
 from refusals import (
-    NAME, Refused, check_attribute, check_cycles, check_field_name, check_foreign_marks, check_inside, check_lossless, check_param, check_params, check_places, check_stable,
+    NAME, Refused, check_attribute, check_cycles, check_field_name, check_foreign_marks, check_inside, check_lossless, check_newtype, check_param, check_params, check_places, check_stable,
     check_tagged, check_type, check_values, check_written, split_at_commas,
 )
 
@@ -34,12 +34,13 @@ class Part:
 
 @dataclass
 class Definition:
-    """A struct, an enum without data, or a tagged enum, whose variants may have data. `above` are the lines above it, without
+    """A struct, a newtype, an enum without data, or a tagged enum, whose variants may have data. A newtype has one part, `0`. `above` are the lines above it, without
     its derives, and `params` the names of its parameters. `style` is the style of its parts' names in JSON, "" for none.
     `tag` is the name of the member that names the variant, None for a struct and for an enum that is externally tagged.
     `shown` is what messages call it: of the struct that is written for a variant's fields the variant. `never_null` says that
     a field that may be left out needs the law that the type is not written as `null`, and `bounded` are the parameters of which
-    it does. `has_laws` says that the type's crate has the crate of the round trip.
+    it does. `has_laws` says that the type's crate has the crate of the round trip, and `has_stored` that it has the one of stable
+    types. `check` is the function that says which values a newtype takes, "" for one that takes all, and `module` its module.
     """
 
     kind: str
@@ -57,6 +58,9 @@ class Definition:
     never_null: bool = False
     bounded: set = field(default_factory=set)
     has_laws: bool = True
+    has_stored: bool = True
+    check: str = ""
+    module: str = "checks"
 
     @property
     def shown(self):
@@ -71,6 +75,8 @@ PUBLIC = r"(pub(?:\([a-z ]+\))?\s+)?"
 PARAMS = r"(?:<([^{}]*)>)?"
 HEAD = re.compile(rf"{PUBLIC}(struct|enum)\s+({NAME})\s*{PARAMS}\s*\{{(?:{WORDS})?")
 ON_ONE_LINE = re.compile(rf"({PUBLIC}(?:struct|enum)\s+{NAME}\s*{PARAMS}\s*\{{)((?:[^{{}}]|\{{[^{{}}]*\}})*)\}}({WORDS})?")
+NEWTYPE = re.compile(rf"{PUBLIC}struct\s+({NAME})\s*{PARAMS}\s*\(\s*{PUBLIC}(.+?)\s*,?\s*\);(?:\s*//\s*(.*))?")
+NEWTYPE_WORD = re.compile(rf"lossless|stable|key|text|events|check\s+((?:{NAME}::)?{NAME})")
 VARIANT = re.compile(rf"({NAME})\s*(?:\((.*)\)|\{{(.*)\}}|(\{{))?,?")
 MARKS = re.compile(r'//\s*((?:once|default|omit|alias|rename|rename_all)\b.*)$')
 MARK = re.compile(r'\s*(?:(once|omit)|default(?:\s+(-?\d+|true|false|"[^"\\]*"))?|(rename|alias)\s+"([^"\\]*)")\s*(?:,|$)')
@@ -237,8 +243,29 @@ def head_of(bare, line, above):
     if re.match(rf"{PUBLIC}(?:struct|enum)\s+{NAME}\s*{PARAMS}\s*\{{\s*//", bare):
         raise Refused(f'line {line}: behind a type stand words, with commas between: once, closed, lossless, stable, events, inside, tag "kind", rename_all "camelCase": {bare}')
     if re.match(rf"{PUBLIC}struct\s+{NAME}\s*(?:<[^{{(]*>)?\s*\(", bare):
-        raise Refused(f"line {line}: a newtype is written by hand (docs/BY-HAND.md), or has a named field: {bare}")
+        raise Refused(f"line {line}: a struct of unnamed values has one, and stands on one line: `struct Name(Type);`: {bare}")
     raise Refused(f"line {line}: not the first line of a `struct Name {{` or an `enum Name {{`: {bare}")
+
+
+def newtype_of(bare, line, above):
+    """The newtype that a line defines, None for a line that defines none."""
+    found = NEWTYPE.fullmatch(bare)
+    if not found or len(split_at_commas(found.group(5))) != 1:
+        return None
+    public, name, params, shown, of, text = found.groups()
+    derives = [name for it in above for names in DERIVE.findall(it) for name in re.findall(r"\w+", names)]
+    words, check = (), ""
+    for word in split_at_commas(text or ""):
+        fits = NEWTYPE_WORD.fullmatch(word)
+        if not fits:
+            raise Refused(f"line {line}: behind a newtype stand words, with commas between: lossless, stable, key, check FUNCTION, text, events: {word}")
+        words, check = (*words, word.split()[0]), fits.group(1) or check
+    above = [it for it in above if not DERIVE.fullmatch(it)]
+    it = Definition("newtype", name, line, above, derives, public or "", words, params_of(params or "", bare, line))
+    it.check, it.module = check.split("::")[-1], check.rpartition("::")[0] or "checks"
+    it.parts = [Part("0", "", line, [], of, shown or "")]
+    check_newtype(it, INTEGER, bare)
+    return it
 
 
 def params_of(text, bare, line):
@@ -285,6 +312,8 @@ def definitions_of(text):
             variant = now.parts[-1] if re.fullmatch(rf"{NAME}\s*\{{(\s*//.*)?", bare) and now.kind == "enum" else None
         elif USE.fullmatch(bare):
             uses += [*above, bare]
+        elif newtype_of(bare, number, above):
+            found.append(newtype_of(bare, number, above))
         else:
             now = head_of(bare, number, above)
         above = []
@@ -336,7 +365,7 @@ def check(found, uses):
         check_written(it)
         check_params(it, known)
         for part in it.parts:
-            check_type(part.of, known, part.line)
+            check_type(part.of, {*known, "char"} if it.kind == "newtype" else known, part.line)
     check_cycles(found)
     check_omitted(found, uses)
     mark_never_null(found)

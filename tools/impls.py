@@ -29,7 +29,7 @@ def wrapped(head, text):
     if len(whole) <= 100:
         return whole
     lines, now = [], f"    ghost {head} = {{"
-    for word in f"{text} }};".split(" "):
+    for word in re.split(r"(?<! v\.) ", f"{text} }};"):
         if len(now) + 1 + len(word) > 100:
             lines.append(now)
             now = "       "
@@ -105,6 +105,7 @@ def printed_for(it):
     names = [given_of(it, part) for part in it.parts if part.default]
     if it.kind == "struct":
         names.append(f"{it.name}Fields")
+    if it.kind in ("struct", "newtype"):
         names += [f"{it.name}Place"] if "events" in it.words else []
     if it.kind == "tagged":
         names.append(f"{it.name}Cases")

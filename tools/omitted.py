@@ -1,7 +1,7 @@
 """Fields that are not written if they are `None`: what `./derive` refuses, and which types must not be written as `null`."""
 import re
 
-from refusals import NAME, Refused, split_at_commas
+from refusals import NAME, Refused, applied, inside_newtypes
 
 
 def inner_of(part):
@@ -19,6 +19,7 @@ def unboxed(of):
 def check_omitted(found, uses):
     """Refuses `omit` where there is no `None`, or where what is not `None` may be written as `null`."""
     own = {name for line in uses if "miniserde::json" not in line for name in re.findall(NAME, line)} | {it.name for it in found}
+    types = {it.name: it for it in found}
     for it in found:
         for part in it.parts:
             if not part.omit:
@@ -27,19 +28,9 @@ def check_omitted(found, uses):
                 raise Refused(f"line {part.line}: `omit` leaves out `None`: mark an `Option`: {part.of}")
             if part.default is not None:
                 raise Refused(f"line {part.line}: a field that is left out is read as `None`: leave out `default`: {part.of}")
-            inner = unboxed(inner_of(part)).removeprefix("miniserde::json::")
+            inner = unboxed(inside_newtypes(unboxed(inner_of(part)), types)).removeprefix("miniserde::json::")
             if inner == "()" or re.match(r"\w*", inner).group() in {"Option", *({"Document", "Unique", "Value"} - own)}:
                 raise Refused(f"line {part.line}: `omit` marks an `Option` of what is never `null`, else `Some` of that is read as `None`: leave it out: {part.of}")
-
-
-def applied(of):
-    """The types with parameters in a type: each name with what stands for its parameters."""
-    for found in re.finditer(rf"({NAME})<", of):
-        at, depth = found.end(), 1
-        while depth:
-            depth += (of[at] == "<") - (of[at] == ">")
-            at += 1
-        yield found.group(1), split_at_commas(of[found.end() : at - 1])
 
 
 def asked_of(part, types):
@@ -51,14 +42,22 @@ def asked_of(part, types):
             yield from (unboxed(of) for param, of in zip(types[name].params, given) if param in types[name].bounded)
 
 
+def mark(it, of, types):
+    """Marks a type that must not be `null`, or a parameter of the type that has it. A newtype is so if its value is."""
+    name = re.match(r"\w*", of).group()
+    if name in it.params:
+        it.bounded.add(name)
+    elif name in types:
+        types[name].never_null = True
+        if types[name].kind == "newtype":
+            given = dict(zip(types[name].params, next((given for each, given in applied(of) if each == name), [])))
+            mark(it, unboxed(re.sub(NAME, lambda found: given.get(found.group(), found.group()), types[name].parts[0].of)), types)
+
+
 def mark_never_null(found):
     """Marks the types and parameters that stand in an `Option` that may be left out, also by the types between."""
     types = {it.name: it for it in found}
     for it in found * len(found):
         for part in it.parts:
             for of in asked_of(part, types):
-                name = re.match(r"\w*", of).group()
-                if name in it.params:
-                    it.bounded.add(name)
-                elif name in types:
-                    types[name].never_null = True
+                mark(it, of, types)

@@ -34,22 +34,26 @@ impl Deserialize for {name} {{
 
 def visitor_text(name, once):
     """The impl by which a struct's place takes events: it passes them on."""
-    further = ""
-    if once:
-        further = f"""
-
-    // The name of a field that has a value is refused as a key.
+    inner = f"<RecordPlace<{name}> as Visitor>"
+    further = f"""    // The name of a field that has a value is refused as a key.
     ghost further = {{ λ old e answer new.
-        ⟦<RecordPlace<{name}> as Visitor>⟧.further old.place e answer new.place }};"""
+        ⟦{inner}⟧.further old.place e answer new.place }};""" if once else ""
+    meaning = f"    ghost meaning = {{ wrapper_meaning (λ p. p.place) ⟦{inner}⟧.meaning }};"
+    return visitor_of(name, inner, meaning, further, "place.take()")
+
+
+def visitor_of(name, inner, meaning, further, taken):
+    """The impl of a place around one other: its ghost members, and what `take` returns of that place."""
+    inner = inner if inner.endswith("Visitor>") else f"<{inner} as Visitor>"
     return f"""
 impl Visitor for {name}Place {{
     type Out = {name};
 
-    ghost meaning = {{ wrapper_meaning (λ p. p.place) ⟦<RecordPlace<{name}> as Visitor>⟧.meaning }};{further}
+{meaning}{f"{chr(10)}{chr(10)}{further}" if further else ""}
 
     fn begin(alloc: Global) -> Result<{name}Place> {{
         Ok({name}Place {{
-            place: <RecordPlace<{name}> as Visitor>::begin(alloc)?,
+            place: {inner}::begin(alloc)?,
         }})
     }}
 
@@ -67,7 +71,7 @@ impl Visitor for {name}Place {{
 
     fn take(self) -> Result<{name}> {{
         let {name}Place {{ place }} = self;
-        place.take()
+        {taken}
     }}
 }}
 """

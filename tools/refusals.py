@@ -10,19 +10,19 @@ class Refused(Exception):
 
 # What derived code may name.
 NAMED = (
-    "Aliased BesideTag Cases Closed DataCase Deserialize Empty Error Event Field Four FourLent FourParts FourSlot Fragment FromJson Given "
-    "Global HasAliases HasTag Inside InsideCases Lossless MarkedFour MarkedSlot Members NamePlace NeverNull NoCase NoField NoFields NoSlot "
+    "Aliased BesideTag Cases Checked CheckedLeaf Closed DataCase Deserialize Empty Error Event ExactKey Field Four FourLent FourParts FourSlot Fragment FromJson Given "
+    "Global HasAliases HasTag InjectiveKey Inside InsideCases Leaf LeafPlace Lossless MapKey MarkedFour MarkedSlot Members NamePlace NeverNull NoCase NoField NoFields NoSlot "
     "OmitSlot Omitted Once OnceField OnceFour OnceSlot OneOf Parts PlacedRecord Plain Ranged Record RecordPlace Result RoundTrip "
-    "Serialize Slot Slots Source Stable Step DataEnum UnitCase UnitEnum Variants Visitor WithDefault Writer WrittenCases WrittenFields "
-    "aliased_round_trips enum_lossless enum_round_trips enum_stable fields_named read_enum read_record read_tagged read_variant "
-    "record_lossless record_round_trips record_stable tag_fits tagged_lossless tagged_round_trips tagged_stable take_four variant_lossless "
-    "variant_round_trips variant_stable write_data write_fields write_members write_tagged write_tagged_fields"
+    "Serialize Slot Slots Source Stable Step TextValue Transparent DataEnum UnitCase UnitEnum Variants Visitor WithDefault Writer WrittenCases WrittenFields "
+    "aliased_round_trips checked_from_step checked_lossless checked_round_trips checked_stable enum_lossless enum_round_trips enum_stable fields_named read_checked read_enum read_leaf read_record read_tagged read_variant "
+    "record_lossless record_round_trips record_stable tag_fits tagged_lossless tagged_round_trips tagged_stable take_four text_value_from_step transparent_round_trips variant_lossless "
+    "variant_round_trips variant_stable write_data write_fields write_members write_tagged write_tagged_fields write_text_value"
 )
 # Those of the laws, by their crate: a crate over `miniserde_core` lists it too.
 OF_LAWS = {
-    "miniserde_laws": "Lossless NeverNull RoundTrip aliased_round_trips enum_lossless enum_round_trips record_lossless record_round_trips "
-    "tagged_lossless tagged_round_trips variant_lossless variant_round_trips",
-    "miniserde_stored": "Stable enum_stable record_stable tagged_stable variant_stable",
+    "miniserde_laws": "Lossless NeverNull RoundTrip Transparent aliased_round_trips checked_lossless checked_round_trips enum_lossless enum_round_trips record_lossless record_round_trips "
+    "tagged_lossless tagged_round_trips transparent_round_trips variant_lossless variant_round_trips",
+    "miniserde_stored": "ExactKey Stable checked_stable enum_stable record_stable tagged_stable variant_stable",
 }
 # Names of Rust's prelude and of the clauses, which derived code uses as they are.
 OF_RUST = "Box Err List None Ok Option Self Some String Vec"
@@ -45,7 +45,7 @@ UNREAD = {
     "char str OsString Path PathBuf": "`String`",
     "BTreeSet BinaryHeap HashSet LinkedList": "`Vec`",
     "Arc Cell Cow Mutex Rc RefCell": "the type in it, or a `Box` of that",
-    "Duration Instant SystemTime": "an integer, or a newtype by hand (docs/BY-HAND.md)",
+    "Duration Instant SystemTime": "an integer, or a newtype of one",
     "Result": "a struct of two `Option`s",
 }
 # What stands for attributes of serde.
@@ -197,7 +197,7 @@ def check_cycles(found):
 
 def part_word(it):
     """What the parts of a type are called."""
-    return "field" if it.kind == "struct" else "variant"
+    return {"struct": "field", "newtype": "value"}.get(it.kind, "variant")
 
 
 def check_values(part, bare, inside):
@@ -236,6 +236,26 @@ def instead_of(parts):
     return f": write `// {', '.join(words)}` behind {SERDE[names[0]][1]}"
 
 
+def check_newtype(it, integer, bare):
+    """Refuses a newtype with a check that no impl can be written for, and a key that is none."""
+    of, line = it.parts[0].of, it.line
+    scalar = integer.fullmatch(of) or of == "String"
+    if "text" in it.words and ("key" in it.words or it.check):
+        raise Refused(f"line {line}: a newtype that is written as a string is no key and has no check: {bare}")
+    if "text" in it.words and it.params:
+        raise Refused(f"line {line}: a newtype that is written as a string has no parameters: {bare}")
+    if it.check and (it.params or it.parts[0].public):
+        raise Refused(f"line {line}: a newtype with a check has no parameters, and its field is private: {bare}")
+    if it.check and "events" in it.words and not scalar:
+        raise Refused(f"line {line}: a newtype with a check has a place if it has an integer or a `String` in it: leave out `events`: {bare}")
+    if "key" in it.words and not scalar and of not in ("bool", "char", *it.params):
+        raise Refused(f"line {line}: a newtype that is a key has an integer, a `bool`, a `char`, a `String` or a parameter in it: {bare}")
+    if of == "char" and (it.words != ("key",) or it.check):
+        raise Refused(f"line {line}: a `char` is read as a key alone, so a newtype of it has the word `key` and no other: {bare}")
+    if "key" in it.words and it.check and of[0] == "i":
+        raise Refused(f"line {line}: a key with a check is unsigned or a `String`: {bare}")
+
+
 def check_tagged(it):
     """Refuses a variant with data whose name is not one of a type."""
     for part in it.parts if it.kind == "tagged" else []:
@@ -249,7 +269,9 @@ def check_inside(it, part, found, known):
     if len(part.values) >= 2 or part.of and not re.fullmatch(rf"{NAME}(?:<.*>)?", part.of):
         raise Refused(f"line {part.line}: beside a tag stand the members of a struct: write {fields}, or a struct with this field: {part.of}")
     name = part.of.split("<")[0]
-    if name in it.params or part.of and (name not in known or name in found and found[name].kind != "struct"):
+    if name in it.params:
+        raise Refused(f'line {part.line}: beside a tag stand the members of a struct, and one that stands for `{name}` may have a field "{it.tag}": write the struct itself, or leave out `tag`')
+    if part.of and (name not in known or name in found and found[name].kind != "struct"):
         raise Refused(f"line {part.line}: beside a tag stand the members of a struct, and `{name}` is none: write {fields}, or a struct with this field")
     for each in found[name].parts if name in found else []:
         if it.tag in (each.written, *each.aliases):
@@ -313,18 +335,41 @@ def with_word(found, uses, word, reason):
                     raise Refused(f"line {part.line}: `{it.shown}` is {word}, and its {part_word(it)} `{part.name}` is not: mark `{name}` with `// {word}` too")
 
 
+def applied(of):
+    """The types with parameters in a type: each name with what stands for its parameters."""
+    for found in re.finditer(rf"({NAME})<", of):
+        at, depth = found.end(), 1
+        while depth:
+            depth += (of[at] == "<") - (of[at] == ">")
+            at += 1
+        yield found.group(1), split_at_commas(of[found.end() : at - 1])
+
+
+def inside_newtypes(of, types):
+    """A type, or what a newtype of the file has in it in the end."""
+    seen = set()
+    while (name := of.split("<")[0]) in types and types[name].kind == "newtype" and name not in seen:
+        seen.add(name)
+        of = types[name].parts[0].of
+    return of
+
+
 def check_lossless(found, uses):
     """Refuses a `lossless` type with a field that is not, as an `Option` of an `Option`."""
+    types = {it.name: it for it in found}
     reason = "tells what its text does not, as `-0` from `0`: write `miniserde::json::Document`, or leave out `lossless`"
     for part in with_word(found, uses, "lossless", reason):
-        if re.search(r"\bOption<\s*Option<", part.of):
+        if any(name == "Option" and inside_newtypes(given[0], types).startswith("Option<") for name, given in applied(part.of)):
             raise Refused(f"line {part.line}: an `Option` of an `Option` is not lossless, since `Some(None)` is written `null`: leave out `lossless`: {part.of}")
 
 
 def check_stable(found, uses):
     """Refuses a `stable` type with a field that is not, as one with an alias or a map with integer keys."""
+    types = {it.name: it for it in found}
+    integer = "[ui](?:8|16|32|64|size)"
+    numbers = [integer, *(it.name for it in found if it.kind == "newtype" and re.fullmatch(integer, inside_newtypes(it.name, types)))]
     for part in with_word(found, uses, "stable", "tells `-0` from `0`: write `miniserde::json::Document`"):
         if part.aliases:
             raise Refused(f"line {part.line}: a struct with an alias is not stable, since sorting two names of a field changes which is the last: leave out `stable`")
-        if re.search(r"\b(?:BTreeMap|HashMap)<\s*[ui](?:8|16|32|64|size)\b", part.of):
+        if re.search(rf"\b(?:BTreeMap|HashMap)<\s*(?:{'|'.join(numbers)})\b", part.of):
             raise Refused(f"line {part.line}: a map with integer keys is not stable, since `1` and `01` are one key: write `String` keys: {part.of}")

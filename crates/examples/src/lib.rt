@@ -8,6 +8,7 @@ pub mod basket;
 pub mod batches;
 pub mod by_events;
 pub mod canonical;
+pub mod checks;
 pub mod command;
 pub mod commands;
 pub mod counter;

@@ -1,63 +1,121 @@
-//! A number of its own kind: a check stands between its text and its values.
-ghost use Rattle.std.specs.Prelude.{◌≡◌, ◌≤◌, ◌↔◌, true, refl, IsSome, IfSome};
-ghost use Rattle.miniserde.specs.Meaning.{meaning_with};
-ghost use Rattle.miniserde.specs.Tree.{nonneg};
+//! The types of `percent.rs`, with the impls that `./derive` writes.
+ghost use Rattle.miniserde.specs.Checks.{on_unsigned};
+ghost use Rattle.miniserde.specs.Newtypes.{checked_meaning, same_meaning};
 ghost use Rattle.miniserde.specs.Place.{wrapper_meaning};
-ghost use Rattle.examples.specs.Percents.{percent_of, ReadsPercent};
-ghost use Rattle.examples.specs.laws.Percents.{percent-given};
+ghost use Rattle.std.specs.Prelude.{◌≡◌, true, refl};
+ghost use Rattle.examples.specs.Checks.{at_most_100};
 
-use miniserde::de::leaf::{Leaf, LeafPlace, read_leaf};
-use miniserde::de::{Deserialize, FromJson, Ranged, Source, Step, Visitor};
-use miniserde::json::lex::Event;
-use miniserde::ser::{Serialize, Writer};
-use miniserde::{Error, Result, RoundTrip};
-use std::alloc::Global;
+use crate::checks::at_most_100;
+use miniserde::derived::{
+    Checked, CheckedLeaf, Deserialize, Error, Event, FromJson, Global, Leaf, LeafPlace, Lossless,
+    NeverNull, Ranged, Result, RoundTrip, Serialize, Source, Stable, Step, Visitor, Writer,
+    checked_from_step, checked_lossless, checked_round_trips, checked_stable, read_checked,
+};
 
 /// A part of a hundred: 0 to 100.
-#[derive(Clone, Copy, PartialEq, Eq, Debug, Drop)]
+#[derive(PartialEq, Eq, Debug, Clone, Copy, Drop)]
 pub struct Percent {
-    of: u8,
-    pub ghost in_range: { of ≤ 100 },
+    value: u8,
+    pub ghost checked: { at_most_100 value ≡ true },
 }
 
-impl Percent {
-    /// The number, where it is at most 100.
-    pub fn new(n: u8) -> Option<Percent>
-        ensures some { IfSome result (λ p. p.of ≡ n) }
-        ensures which { IsSome result ↔ (n ≤ 100) }
-    {
-        if n <= 100 {
-            Some(Percent { of: n })
+impl Checked for Percent {
+    type Inner = u8;
+
+    ghost inner = { λ v. v.value };
+
+    ghost means = { ⟦<u8 as FromJson>⟧.means };
+
+    ghost accepts = { on_unsigned at_most_100 };
+
+    ghost same = { same_meaning ⟦<u8 as FromJson>⟧.means };
+
+    fn new(value: u8) -> Option<Percent> {
+        if at_most_100(value) {
+            Some(Percent { value })
         } else {
             None
         }
     }
 
-    /// The number.
-    pub fn get(self) -> u8
-        ensures is { result ≡ self.of }
-        ensures most { result ≤ 100 }
-    {
-        self.of
+    fn get(&self) -> &u8 {
+        &self.value
+    }
+}
+
+impl FromJson for Percent {
+    ghost means = { checked_meaning ⟦<u8 as FromJson>⟧.means (on_unsigned at_most_100) (λ
+        v. v.value) };
+
+    ghost read_infallible = { ⟦<u8 as FromJson>⟧.read_infallible };
+
+    ghost lacking = { ⟦<u8 as FromJson>⟧.lacking };
+
+    fn missing() -> Option<Percent> {
+        None
+    }
+
+    fn read<'a>(token: Event<'a>, source: &mut Source<'a>) -> Result<Percent> {
+        read_checked(token, source)
+    }
+}
+
+impl Serialize for Percent {
+    ghost tree = { λ v. ⟦<u8 as Serialize>⟧.tree v.value };
+
+    fn begin(&self, w: &mut Writer) -> Result<()> {
+        self.value.begin(w)
+    }
+}
+
+impl Ranged for Percent {
+    ghost real = { λ v. ⟦<u8 as Ranged>⟧.real v.value × (at_most_100 v.value ≡ true) };
+
+    fn ranged(&self) {
+        self.value.ranged()
+    }
+}
+
+impl RoundTrip for Percent {
+    fn round_trips() {
+        checked_round_trips::<u8, Percent>()
+    }
+}
+
+impl Lossless for Percent {
+    fn lossless() {
+        checked_lossless::<u8, Percent>()
+    }
+}
+
+impl NeverNull for Percent {
+    fn never_null() {
+        <u8 as NeverNull>::never_null()
+    }
+}
+
+impl Stable for Percent {
+    fn stable() {
+        checked_stable::<u8, Percent>()
     }
 }
 
 impl Leaf for Percent {
-    ghost means = { meaning_with (λ p. p.of) percent_of (λ t p. ReadsPercent t p.of) (λ t p. percent-given t p.of) };
+    ghost means = { checked_meaning ⟦<u8 as FromJson>⟧.means (on_unsigned at_most_100) (λ
+        v. v.value) };
 
     ghost only_leaves = { (λ ts. refl, λ ms. refl) };
 
-    ghost read_infallible = { true };
-
-    fn from_step(_alloc: Global, event: Step<'_>) -> Result<Percent> {
-        match event {
-            Step::Nonnegative(n) if n <= 100 => Ok(Percent { of: n as u8 }),
-            _ => Err(Error::Invalid),
-        }
+    fn from_step(alloc: Global, event: Step<'_>) -> Result<Percent> {
+        checked_from_step(alloc, event)
     }
 }
 
-/// Its place.
+impl CheckedLeaf for Percent {
+    ghost same_leaf = { same_meaning ⟦<u8 as Leaf>⟧.means };
+}
+
+/// The place of a `Percent`.
 #[derive(Drop)]
 pub struct PercentPlace {
     place: LeafPlace<Percent>,
@@ -92,42 +150,8 @@ impl Visitor for PercentPlace {
     }
 }
 
-impl FromJson for Percent {
-    ghost means = { ⟦<Percent as Leaf>⟧.means };
-
-    ghost read_infallible = { true };
-
-    fn missing() -> Option<Percent> {
-        None
-    }
-
-    fn read<'a>(token: Event<'a>, source: &mut Source<'a>) -> Result<Percent> {
-        read_leaf(token, source)
-    }
-}
-
 impl Deserialize for Percent {
     type Place = PercentPlace;
 
     fn tied() {}
-}
-
-impl Serialize for Percent {
-    ghost tree = { λ p. nonneg p.of };
-
-    fn begin(&self, w: &mut Writer) -> Result<()> {
-        self.of.begin(w)
-    }
-}
-
-impl Ranged for Percent {
-    ghost real = { λ p. p.of ≤ 100 };
-
-    fn ranged(&self) {
-        let _value = *self;
-    }
-}
-
-impl RoundTrip for Percent {
-    fn round_trips() {}
 }

@@ -1,50 +1,63 @@
-//! A newtype: a struct that is read and written as its one value.
+//! The types of `port.rs`, with the impls that `./derive` writes.
 ghost use Rattle.miniserde.specs.Meanings.{box_meaning};
+ghost use Rattle.std.specs.Prelude.{option_map, refl};
 
-use miniserde::de::{FromJson, Ranged, Source};
-use miniserde::json::lex::Event;
-use miniserde::ser::{Serialize, Writer};
-use miniserde::{Lossless, NeverNull, Result, RoundTrip, Stable};
+use miniserde::derived::{
+    Event, FromJson, Lossless, NeverNull, Ranged, Result, RoundTrip, Serialize, Source, Stable,
+    Transparent, Writer, transparent_round_trips,
+};
 
 /// A port.
-#[derive(Drop)]
-pub struct Port {
-    pub number: u16,
+#[derive(Clone, Copy, PartialEq, Eq, Debug, Drop)]
+pub struct Port(pub u16);
+
+impl Transparent for Port {
+    type Inner = u16;
+
+    ghost inner = { λ v. v.0 };
+
+    ghost wrapped = { λ x. record { 0 = x } };
+
+    ghost unwraps = { λ x. refl };
 }
 
 impl FromJson for Port {
-    ghost means = { box_meaning ⟦<u16 as FromJson>⟧.means (λ p. p.number) };
+    ghost means = { box_meaning ⟦<u16 as FromJson>⟧.means (λ v. v.0) };
+
+    ghost absent = { option_map (λ v. record { 0 = v }) ⟦<u16 as FromJson>⟧.absent };
+
+    ghost read_infallible = { ⟦<u16 as FromJson>⟧.read_infallible };
+
+    ghost lacking = { ⟦<u16 as FromJson>⟧.lacking };
 
     fn missing() -> Option<Port> {
-        None
+        Some(Port(<u16 as FromJson>::missing()?))
     }
 
     fn read<'a>(token: Event<'a>, source: &mut Source<'a>) -> Result<Port> {
-        Ok(Port {
-            number: <u16 as FromJson>::read(token, source)?,
-        })
+        Ok(Port(<u16 as FromJson>::read(token, source)?))
     }
 }
 
 impl Serialize for Port {
-    ghost tree = { λ p. ⟦<u16 as Serialize>⟧.tree p.number };
+    ghost tree = { λ v. ⟦<u16 as Serialize>⟧.tree v.0 };
 
     fn begin(&self, w: &mut Writer) -> Result<()> {
-        self.number.begin(w)
+        self.0.begin(w)
     }
 }
 
 impl Ranged for Port {
-    ghost real = { λ p. ⟦<u16 as Ranged>⟧.real p.number };
+    ghost real = { λ v. ⟦<u16 as Ranged>⟧.real v.0 };
 
     fn ranged(&self) {
-        self.number.ranged()
+        self.0.ranged()
     }
 }
 
 impl RoundTrip for Port {
     fn round_trips() {
-        <u16 as RoundTrip>::round_trips()
+        transparent_round_trips::<u16, Port>()
     }
 }
 

@@ -17,7 +17,9 @@ pub use Rattle.miniserde_model.specs.Whitespace
 pub use Rattle.miniserde_model.specs.Error
 pub use Rattle.miniserde_text.specs.Lexer
 pub use Rattle.miniserde_text.specs.Texts
+pub use Rattle.miniserde_keys.specs.Checks
 pub use Rattle.miniserde_keys.specs.Keys
+pub use Rattle.miniserde_keys.specs.laws.Newtypes as KeyLaws
 pub use Rattle.miniserde_keys.specs.Ranged
 pub use Rattle.miniserde_read.specs.Escaped
 pub use Rattle.miniserde_read.specs.Items
@@ -28,6 +30,7 @@ pub use Rattle.miniserde_read.specs.Rest
 pub use Rattle.miniserde_read.specs.Source
 pub use Rattle.miniserde_read.specs.Events
 pub use Rattle.miniserde_read.specs.Meanings
+pub use Rattle.miniserde_read.specs.Newtypes
 pub use Rattle.miniserde_read.specs.types.Words
 pub use Rattle.miniserde_read.specs.types.Integers
 pub use Rattle.miniserde_read.specs.types.Lists

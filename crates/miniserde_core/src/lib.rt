@@ -9,10 +9,14 @@ pub mod de;
 pub mod derived;
 pub mod enums;
 pub mod json;
+pub mod newtypes;
 pub mod record;
 pub mod ser;
 
+pub use miniserde_keys::TextValue;
 pub use miniserde_model::error;
 pub use miniserde_model::error::{Error, Result};
-pub use miniserde_read::{FromJson, gets_last, gets_last_by_hashed_key, gets_last_by_key};
+pub use miniserde_read::{
+    Checked, FromJson, gets_last, gets_last_by_hashed_key, gets_last_by_key,
+};
 pub use miniserde_ser::ser::Serialize;

@@ -1,3 +1,4 @@
+pub mod Checks
 pub mod Integers
 pub mod Keys
 pub mod Ranged

@@ -5,7 +5,9 @@
 mod integers;
 mod keys;
 mod ranged;
+mod text_value;
 
 pub use integers::{StdInteger, WideInteger};
 pub use keys::{InjectiveKey, MapKey};
 pub use ranged::Ranged;
+pub use text_value::TextValue;

@@ -5,6 +5,7 @@
 mod arrays;
 mod boxes;
 mod maps;
+mod newtypes;
 mod options;
 mod pairs;
 mod sequences;
@@ -13,6 +14,7 @@ pub mod structs;
 pub use arrays::ArrayOf;
 pub use boxes::BoxPlace;
 pub use maps::MapOf;
+pub use newtypes::{CheckedLeaf, checked_from_step};
 pub use options::OptionPlace;
 pub use pairs::PairOf;
 pub use sequences::ListOf;

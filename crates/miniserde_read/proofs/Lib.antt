@@ -10,6 +10,7 @@ pub mod Leaves
 pub mod Length
 pub mod Lists
 pub mod Maps
+pub mod Accepted
 pub mod Objects
 pub mod Same
 pub mod Skips

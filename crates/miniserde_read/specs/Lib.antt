@@ -6,6 +6,7 @@ pub mod Lacking
 pub mod Lookups
 pub mod Meanings
 pub mod Meaning
+pub mod Newtypes
 pub mod Rest
 pub mod Source
 pub mod Events

@@ -2,6 +2,7 @@ pub mod Arrays
 pub mod Integers
 pub mod Lists
 pub mod Maps
+pub mod Newtypes
 pub mod Options
 pub mod Pairs
 pub mod Tuples

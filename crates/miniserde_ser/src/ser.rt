@@ -11,8 +11,10 @@ ghost use Rattle.miniserde_model.specs.declared.error.Error.TheVariants.{Memory}
 
 mod compact;
 mod impls;
+mod text_value;
 
 pub use compact::to_string;
+pub use text_value::write_text_value;
 use itoa::Buffer;
 use miniserde_model::error::{Error, Result};
 use miniserde_text::decimal::{has_room, put_digits};

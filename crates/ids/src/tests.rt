@@ -1,0 +1,77 @@
+//! Accounts by the four forms of a UUID's text (RFC 9562, section 4, and the forms of Rust's crate `uuid`), and texts
+//! that are none.
+
+use crate::callers::{accounts_are_stable, id_of, same_account};
+use crate::ids::{Account, AccountId};
+use crate::requests::{RequestError, addressed};
+use miniserde::json::{feed, from_str, to_string};
+use miniserde::{Deserialize, Error, Result};
+use std::alloc::Global;
+use std::test::Fail;
+use test_tables::{Wrong, expect_read_itself};
+
+const IDS: &str = r#""67e55044-10b1-426f-9247-bb680e5fe0c8" => same
+"67E55044-10B1-426F-9247-BB680E5FE0C8" => "67e55044-10b1-426f-9247-bb680e5fe0c8"
+"67e5504410b1426f9247bb680e5fe0c8" => "67e55044-10b1-426f-9247-bb680e5fe0c8"
+"urn:uuid:67e55044-10b1-426f-9247-bb680e5fe0c8" => "67e55044-10b1-426f-9247-bb680e5fe0c8"
+"{67e55044-10b1-426f-9247-bb680e5fe0c8}" => "67e55044-10b1-426f-9247-bb680e5fe0c8"
+"\u0036\u0037e55044-10b1-426f-9247-bb680e5fe0c8" => "67e55044-10b1-426f-9247-bb680e5fe0c8"
+""
+"67e55044-10b1-426f-9247-bb680e5fe0c"
+"67e55044-10b1-426f-9247-bb680e5fe0cg"
+"67e55044-10b1-426f9247-bb680e5fe0c8"
+" 67e55044-10b1-426f-9247-bb680e5fe0c8"
+7
+null
+["67e55044-10b1-426f-9247-bb680e5fe0c8"]"#;
+
+const ACCOUNTS: &str =
+    r#"{"id":"67e55044-10b1-426f-9247-bb680e5fe0c8","name":"a","parent":null} => same
+{"name":"","id":"{67E55044-10B1-426F-9247-BB680E5FE0C8}"} => {"id":"67e55044-10b1-426f-9247-bb680e5fe0c8","name":"","parent":null}
+{"id":null,"name":"a"}
+{"name":"a"}
+{"id":"67e55044-10b1-426f-9247-bb680e5fe0c8","name":"a","parent":""}"#;
+
+#[test]
+fn texts_of_identifiers(rt: HostRuntime) -> std::result::Result<(), Wrong> {
+    expect_read_itself::<AccountId>(rt.alloc(), IDS)?;
+    expect_read_itself::<Account>(rt.alloc(), ACCOUNTS)
+}
+
+// Returns the text of the account that its place takes from a text.
+fn account_by_events(alloc: Global, text: &str) -> Result<String> {
+    let mut place = <Account as Deserialize>::begin(alloc)?;
+    feed(alloc, text, &mut place)?;
+    let account = <Account as Deserialize>::take(place)?;
+    to_string(alloc, &account)
+}
+
+#[test]
+fn calls_and_places(rt: HostRuntime) -> std::result::Result<(), Fail> {
+    let alloc = rt.alloc();
+    let text = "{\"id\":\"67e55044-10b1-426f-9247-bb680e5fe0c8\",\"name\":\"a\",\"parent\":null}";
+    accounts_are_stable();
+    let account: Account = from_str(alloc, text)?;
+    let again = same_account(alloc, &account)?;
+    assert_eq!(rt; to_string(alloc, &again)?.as_str(), text);
+    assert_eq!(rt;
+        to_string(alloc, &id_of(alloc, text)?)?.as_str(),
+        "\"67e55044-10b1-426f-9247-bb680e5fe0c8\""
+    );
+    assert_eq!(rt; account_by_events(alloc, text)?.as_str(), text);
+    assert!(rt; account_by_events(alloc, "{\"id\":\"a\",\"name\":\"a\",\"parent\":null}").is_err());
+    Ok(())
+}
+
+#[test]
+fn an_error_says_which_part_is_refused(rt: HostRuntime) -> std::result::Result<(), Fail> {
+    let alloc = rt.alloc();
+    let path = "67e55044-10b1-426f-9247-bb680e5fe0c8";
+    let body = "{\"id\":\"67e55044-10b1-426f-9247-bb680e5fe0c8\",\"name\":\"a\"}";
+    let (id, account) = addressed(alloc, path, body)?;
+    assert!(rt; id.0 == account.id.0);
+    assert!(rt; matches!(addressed(alloc, "7", body), Err(RequestError::Path(_))));
+    let refused = addressed(alloc, path, "7").err();
+    assert!(rt; refused == Some(RequestError::Body(Error::Invalid)));
+    Ok(())
+}

@@ -1,0 +1,35 @@
+//! The trait `TextValue` of types whose values are written as JSON strings.
+ghost use Rattle.std.specs.Prelude.{◌≡◌, ◌++◌, ℕ, List, Option, Some, Ok, Err, IfOk, OnOk, OnErr, IsErrOf, string_bytes};
+ghost use Rattle.miniserde_model.specs.declared.error.Error.{Error};
+ghost use Rattle.miniserde_model.specs.declared.error.Error.TheVariants.{Memory};
+
+use miniserde_model::error::Result;
+use std::alloc::Global;
+
+/// A type whose values are written as JSON strings, as an identifier or a date of another crate in a newtype. Its text is
+/// parsed as a value of the same content.
+pub trait TextValue: Sized + Drop {
+    // The content of a value, and the type of that content.
+    ghost Content: { Type 0 };
+    ghost content: { Self → Content };
+
+    // The content of the value that a text is parsed as, if any.
+    ghost parsed: { List ℕ → Option Content };
+
+    // The text of a value of the content.
+    ghost text: { Content → List ℕ };
+
+    /// Parses a value. Returns `Invalid` if the text is that of no value, and `Memory` if an allocation fails.
+    fn parse(alloc: Global, s: &str) -> Result<Self>
+        ensures value { IfOk result (λ v. parsed s.now ≡ Some (content v)) }
+        ensures invalid { result ≡ Err Error.Invalid → ((c : Content) × (parsed s.now ≡ Some c)) → ⊥ };
+
+    /// Appends the text of the value to `out`. If `out` cannot grow, returns `Memory`.
+    fn write(&self, out: &mut String) -> Result<()>
+        ensures ok { OnOk result (string_bytes out.new ≡ string_bytes out.old ++ text (content self.now)) }
+        ensures memory { OnErr result (IsErrOf result Memory) };
+
+    /// Changes nothing. It promises that the text of the value is parsed as a value of the same content.
+    fn is_read_back(&self)
+        ensures { parsed (text (content self.now)) ≡ Some (content self.now) };
+}

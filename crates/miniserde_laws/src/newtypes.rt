@@ -1,0 +1,53 @@
+//! The laws of newtypes, with a check and without one.
+ghost use Rattle.std.specs.Prelude.{◌≡◌, true};
+ghost use Rattle.miniserde_read.specs.Newtypes.{checked_meaning};
+ghost use Rattle.miniserde_laws.specs.RoundTrip.{RoundTrips};
+
+use crate::lossless::Lossless;
+use crate::round_trip::RoundTrip;
+use miniserde_read::Checked;
+
+/// A type of which each value is one value of another type, and each value of that is one of it.
+pub trait Transparent: Sized {
+    /// The type of the value inside.
+    type Inner;
+
+    // The value inside.
+    ghost inner: { Self → Self.Inner };
+
+    // The newtype of a value.
+    ghost wrapped: { Self.Inner → Self };
+
+    // The value inside the newtype of a value is that value.
+    ghost unwraps: { (x : Self.Inner) → inner (wrapped x) ≡ x };
+}
+
+/// Does nothing. It promises that the tree of a valid newtype without a check means a valid one, and that each valid one
+/// that it means has that tree.
+pub fn transparent_round_trips<T: RoundTrip, N: Transparent<Inner = T>>()
+    ensures { (v : N) → T.real (N.inner v) → RoundTrips (λ w. T.real (N.inner w)) (λ w. T.tree (N.inner w))
+        (λ t w. T.means.reads t (N.inner w)) (T.tree (N.inner v)) }
+{
+    T::round_trips()
+}
+
+/// Does nothing. It promises that the tree of a valid newtype with a check means a valid one, and that each valid one
+/// that it means has that tree.
+pub fn checked_round_trips<T: Lossless, N: Checked<Inner = T>>()
+    ensures { (v : N) → T.real (N.inner v) × (N.accepts (N.means.content (N.inner v)) ≡ true)
+        → RoundTrips (λ w. T.real (N.inner w) × (N.accepts (N.means.content (N.inner w)) ≡ true))
+        (λ w. T.tree (N.inner w)) (checked_meaning N.means N.accepts N.inner).reads (T.tree (N.inner v)) }
+{
+    T::round_trips();
+    T::lossless()
+}
+
+/// Does nothing. It promises that two valid newtypes with a check that have the same tree have the same content.
+pub fn checked_lossless<T: Lossless, N: Checked<Inner = T>>()
+    ensures { (v w : N) → T.real (N.inner v) × (N.accepts (N.means.content (N.inner v)) ≡ true)
+        → T.real (N.inner w) × (N.accepts (N.means.content (N.inner w)) ≡ true) → T.tree (N.inner v) ≡ T.tree (N.inner w)
+        → (checked_meaning N.means N.accepts N.inner).content v
+        ≡ (checked_meaning N.means N.accepts N.inner).content w }
+{
+    T::lossless()
+}

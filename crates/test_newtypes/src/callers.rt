@@ -1,0 +1,143 @@
+//! Callers: texts of newtypes, and what the calls promise of them.
+ghost use Rattle.std.specs.Prelude.{◌≡◌, ◌↔◌, ◌≤◌, ◌/◌, pos, IsSome, true, None, IfOk, Err, string_bytes};
+ghost use Rattle.miniserde.specs.Tree.{Tree};
+ghost use Rattle.miniserde.specs.Value.{IsJson};
+ghost use Rattle.miniserde.specs.Normal.{norm};
+ghost use Rattle.miniserde.specs.Integers.{ReadsUnsigned};
+ghost use Rattle.test_newtypes.specs.Checks.{at_most_100, is_slug};
+ghost use Rattle.test_newtypes.specs.Orders.{is_ordered};
+
+use crate::accounts::{Account, Slug, Tagged, UserId};
+use crate::optional::Optional;
+use crate::percents::Percent;
+use crate::spans::Span;
+use miniserde::json::from_str;
+use miniserde::{Checked, Error, FromJson, Result, means_in_normal_form, read_itself};
+use std::alloc::Global;
+use std::collections::BTreeMap;
+
+/// Reads a percent, and returns its number.
+pub fn percent(alloc: Global, text: &str) -> Result<u8>
+    // The text spells an integer, which is the answer and is at most 100.
+    ensures ok { IfOk result (λ n. (t : Tree) × IsJson text.now t × ReadsUnsigned 8 t n × (n ≤ 100)) }
+
+    // If the result is `Invalid`, the text spells no integer of at most 100.
+    ensures invalid { result ≡ Err Error.Invalid → (t : Tree) → IsJson text.now t
+        → (p : Percent) → ReadsUnsigned 8 t p.value → ⊥ }
+{
+    let percent: Percent = from_str(alloc, text)?;
+    Ok(*percent.get())
+}
+
+/// Reads the shares of users.
+pub fn shares(alloc: Global, text: &str) -> Result<BTreeMap<UserId, Percent>>
+    ensures ok { IfOk result (λ m. (t : Tree) × IsJson text.now t
+        × ⟦<BTreeMap<UserId, Percent> as FromJson>⟧.means.reads t m) }
+    ensures invalid { result ≡ Err Error.Invalid → (t : Tree) → IsJson text.now t
+        → ⟦<BTreeMap<UserId, Percent> as FromJson>⟧.means.from_tree t ≡ None }
+{
+    from_str(alloc, text)
+}
+
+/// Writes the shares of users and reads them again: the same content.
+pub fn same_shares(
+    alloc: Global,
+    shares: &BTreeMap<UserId, Percent>,
+) -> Result<BTreeMap<UserId, Percent>>
+    ensures { IfOk result (λ m. ⟦<BTreeMap<UserId, Percent> as FromJson>⟧.means.content m
+        ≡ ⟦<BTreeMap<UserId, Percent> as FromJson>⟧.means.content shares.now) }
+{
+    read_itself(alloc, shares)
+}
+
+/// Writes a slug and reads it again: the same text.
+pub fn same_slug(alloc: Global, slug: &Slug) -> Result<Slug>
+    ensures same { IfOk result (λ s. string_bytes s.value ≡ string_bytes slug.now.value) }
+    ensures slug { IfOk result (λ s. is_slug (string_bytes s.value) ≡ true) }
+    ensures memory { result ≡ Err Error.Invalid → ⊥ }
+{
+    read_itself(alloc, slug)
+}
+
+/// Reads a map of slugs, each with an optional percent.
+pub fn by_slug(alloc: Global, text: &str) -> Result<BTreeMap<Slug, Option<Percent>>>
+    ensures { IfOk result (λ m. (t : Tree) × IsJson text.now t
+        × ⟦<BTreeMap<Slug, Option<Percent>> as FromJson>⟧.means.reads t m) }
+{
+    from_str(alloc, text)
+}
+
+/// Writes a tagged value and reads it again: the same content.
+pub fn same_tagged(alloc: Global, value: &Tagged<Vec<Percent>>) -> Result<Tagged<Vec<Percent>>>
+    ensures { IfOk result (λ v. ⟦<Tagged<Vec<Percent>> as FromJson>⟧.means.content v
+        ≡ ⟦<Tagged<Vec<Percent>> as FromJson>⟧.means.content value.now) }
+{
+    read_itself(alloc, value)
+}
+
+/// Reads an account, and returns its owner.
+pub fn owner_of(alloc: Global, text: &str) -> Result<UserId>
+    ensures ok { IfOk result (λ owner. (t : Tree) × (a : Account) × IsJson text.now t
+        × ⟦<Account as FromJson>⟧.means.reads t a × (owner ≡ a.owner)) }
+    ensures invalid { result ≡ Err Error.Invalid → (t : Tree) → IsJson text.now t
+        → (a : Account) → ⟦<Account as FromJson>⟧.means.reads t a → ⊥ }
+{
+    let account: Account = from_str(alloc, text)?;
+    Ok(account.owner)
+}
+
+/// Writes an account and reads it again: the same content.
+pub fn same_account(alloc: Global, account: &Account) -> Result<Account>
+    ensures same { IfOk result (λ a. ⟦<Account as FromJson>⟧.means.content a
+        ≡ ⟦<Account as FromJson>⟧.means.content account.now) }
+    ensures memory { result ≡ Err Error.Invalid → ⊥ }
+{
+    read_itself(alloc, account)
+}
+
+/// Does nothing. It promises that a text of percents by slugs and its canonical text mean the same.
+pub fn by_slug_is_stable()
+    ensures { (t : Tree) (m : _) → ⟦<BTreeMap<Slug, Percent> as FromJson>⟧.means.reads t m
+        → ⟦<BTreeMap<Slug, Percent> as FromJson>⟧.means.reads (norm t) m }
+{
+    means_in_normal_form::<BTreeMap<Slug, Percent>>()
+}
+
+/// Reads a tagged value of any type.
+pub fn tagged<T: FromJson>(alloc: Global, text: &str) -> Result<T>
+    ensures { IfOk result (λ v. (t : Tree) × IsJson text.now t × T.means.reads t v) }
+{
+    let Tagged(value) = from_str(alloc, text)?;
+    Ok(value)
+}
+
+/// Returns the percent of a number, if it is one.
+pub fn percent_of(n: u8) -> Option<Percent>
+    ensures { IsSome result ↔ (n ≤ 100) }
+{
+    Percent::new(n)
+}
+
+/// Returns half of a percent, rounded down.
+pub fn half(percent: &Percent) -> Percent
+    ensures { result.value ≡ percent.now.value / 2 }
+{
+    Percent::new(*percent.get() / 2).unwrap()
+}
+
+/// Writes fields that may be left out and reads them again: the same content.
+pub fn same_optional(alloc: Global, optional: &Optional) -> Result<Optional>
+    ensures same { IfOk result (λ o. ⟦<Optional as FromJson>⟧.means.content o
+        ≡ ⟦<Optional as FromJson>⟧.means.content optional.now) }
+    ensures memory { result ≡ Err Error.Invalid → ⊥ }
+{
+    read_itself(alloc, optional)
+}
+
+/// Reads a span. Each one ends no earlier than it begins.
+pub fn span_of(alloc: Global, text: &str) -> Result<Span>
+    ensures ok { IfOk result (λ s. (t : Tree) × IsJson text.now t × ⟦<Span as FromJson>⟧.means.reads t s) }
+    ensures ordered { IfOk result (λ s. is_ordered (pos s.value.from, (pos s.value.to, tt)) ≡ true) }
+{
+    from_str(alloc, text)
+}

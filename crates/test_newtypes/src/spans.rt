@@ -1,0 +1,98 @@
+//! The types of `spans.rs`, with the impls that `./derive` writes.
+ghost use Rattle.miniserde.specs.Newtypes.{checked_meaning, same_meaning};
+ghost use Rattle.std.specs.Prelude.{◌≡◌, true, refl};
+ghost use Rattle.test_newtypes.specs.Orders.{is_ordered};
+
+use crate::ends::Ends;
+use crate::orders::is_ordered;
+use miniserde::derived::{
+    Checked, Event, FromJson, Lossless, NeverNull, Ranged, Result, RoundTrip, Serialize, Source,
+    Stable, Writer, checked_lossless, checked_round_trips, checked_stable, read_checked,
+};
+
+/// A span, which ends no earlier than it begins.
+#[derive(Drop)]
+pub struct Span {
+    value: Ends,
+    pub ghost checked: { is_ordered (⟦<Ends as FromJson>⟧.means.content value) ≡ true },
+}
+
+impl Checked for Span {
+    type Inner = Ends;
+
+    ghost inner = { λ v. v.value };
+
+    ghost means = { ⟦<Ends as FromJson>⟧.means };
+
+    ghost accepts = { is_ordered };
+
+    ghost same = { same_meaning ⟦<Ends as FromJson>⟧.means };
+
+    fn new(value: Ends) -> Option<Span> {
+        if is_ordered(&value) {
+            Some(Span { value })
+        } else {
+            None
+        }
+    }
+
+    fn get(&self) -> &Ends {
+        &self.value
+    }
+}
+
+impl FromJson for Span {
+    ghost means = { checked_meaning ⟦<Ends as FromJson>⟧.means is_ordered (λ v. v.value) };
+
+    ghost read_infallible = { ⟦<Ends as FromJson>⟧.read_infallible };
+
+    ghost lacking = { ⟦<Ends as FromJson>⟧.lacking };
+
+    fn missing() -> Option<Span> {
+        None
+    }
+
+    fn read<'a>(token: Event<'a>, source: &mut Source<'a>) -> Result<Span> {
+        read_checked(token, source)
+    }
+}
+
+impl Serialize for Span {
+    ghost tree = { λ v. ⟦<Ends as Serialize>⟧.tree v.value };
+
+    fn begin(&self, w: &mut Writer) -> Result<()> {
+        self.value.begin(w)
+    }
+}
+
+impl Ranged for Span {
+    ghost real = { λ v. ⟦<Ends as Ranged>⟧.real v.value × (is_ordered (⟦<Ends as FromJson>⟧.means.content v.value) ≡ true) };
+
+    fn ranged(&self) {
+        self.value.ranged()
+    }
+}
+
+impl RoundTrip for Span {
+    fn round_trips() {
+        checked_round_trips::<Ends, Span>()
+    }
+}
+
+impl Lossless for Span {
+    fn lossless() {
+        checked_lossless::<Ends, Span>()
+    }
+}
+
+impl NeverNull for Span {
+    fn never_null() {
+        <Ends as NeverNull>::never_null()
+    }
+}
+
+impl Stable for Span {
+    fn stable() {
+        checked_stable::<Ends, Span>()
+    }
+}

@@ -1,0 +1,167 @@
+//! Texts of newtypes: what comes of each, and which are invalid. What stands behind `=>`, and that a text is invalid, is
+//! what serde_json gives for the same types with `transparent`, or `try_from` and `into`.
+
+use crate::accounts::{Account, Slug, Tagged, UserId};
+use crate::forms::{Celsius, Initial, Maybe};
+use crate::optional::{Held, Optional, Owner, Raw};
+use crate::percents::Percent;
+use crate::spans::Span;
+use std::collections::BTreeMap;
+use test_tables::{Wrong, expect_read_itself, expect_table};
+
+const USER_IDS: &str = r#"0 => same
+ 18446744073709551615  => 18446744073709551615
+18446744073709551616
+-1
+1.0
+1e0
+"1"
+null
+[1]
+{"0":1}
+-0
+01"#;
+
+const PERCENTS: &str = r#"0 => same
+100 => same
+ 99  => 99
+101
+255
+256
+-1
+1.5
+"1"
+null
+[1]"#;
+
+const TEMPERATURES: &str = r#"-273 => same
+-274
+0 => same
+32767 => same
+32768
+-32769
+null"#;
+
+const SLUGS: &str = r#""a" => same
+"a-b-9" => same
+"\u0061" => "a"
+""
+"A"
+"a b"
+"a\n"
+"é"
+7
+null
+["a"]"#;
+
+const LISTS: &str = r#"[] => same
+[1, 100] => [1,100]
+[1,101]
+1
+null
+[[1]]"#;
+
+const MAYBES: &str = r#"null => same
+7 => same
+256
+"7"
+[]"#;
+
+const SHARES: &str = r#"{} => same
+{"7":60,"10":40} => same
+{"10":40,"7":60} => {"7":60,"10":40}
+{"7":60,"7":61} => {"7":61}
+{"-1":1}
+{"a":1}
+{"1":101}
+{"18446744073709551616":1}
+[]"#;
+
+const BY_SLUG: &str = r#"{"b":1,"a":2} => {"a":2,"b":1}
+{"A":1}
+{"":1}
+{"\u0061":1} => {"a":1}
+{"a":1,"a":2} => {"a":2}
+{"a":101}"#;
+
+const TAGGED: &str = r#"{"10":100,"9":0} => {"9":0,"10":100}
+{"x":1}
+{"1":256}"#;
+
+const ACCOUNTS: &str = r#"{"owner":7,"slug":"a-b","fee":null,"shares":{"7":60,"10":40}} => same
+{"shares":{},"slug":"x","owner":0} => {"owner":0,"slug":"x","fee":null,"shares":{}}
+{"owner":7,"slug":"A","fee":null,"shares":{}}
+{"owner":7,"slug":"a","fee":101,"shares":{}}
+{"slug":"a","shares":{}}
+{"owner":null,"slug":"a","shares":{}}"#;
+
+const HELD: &str = r#"{"id":1} => {"id":1,"maybe":null}
+{"id":1,"maybe":null} => same
+{"id":1,"maybe":2} => same
+{"maybe":2}"#;
+
+const OPTIONAL: &str = r#"{} => same
+{"fee":null,"slug":null} => {}
+{"fee":7} => same
+{"slug":"a","fee":100} => {"fee":100,"slug":"a"}
+{"fee":101}
+{"slug":"A"}"#;
+
+const OWNERS: &str = r#"{"User":7} => same
+{"Named":{"slug":"a"}} => same
+{"User":-1}
+{"Named":{"slug":"A"}}
+{"User":"7"}
+"User""#;
+
+const SPANS: &str = r#"{"from":1,"to":2} => same
+{"to":2,"from":2} => {"from":2,"to":2}
+{"from":2,"to":1}
+{"from":1}
+{"from":0,"to":4294967295} => same
+{"from":0,"to":4294967296}
+null"#;
+
+const INITIALS: &str = r#"{"b":1,"a":2} => {"a":2,"b":1}
+{"\u00e9":1} => {"é":1}
+{"":1}
+{"ab":1}"#;
+
+// As a `Document` is read and written.
+const RAW: &str = r#"{"b":-0,"a":[1.50, -0]} => {"a":[1.50,0],"b":0}
+null => same
+{"a":1.5.0}
+[1,]"#;
+
+#[test]
+fn texts_of_newtypes(rt: HostRuntime) -> Result<(), Wrong> {
+    let alloc = rt.alloc();
+    expect_read_itself::<UserId>(alloc, USER_IDS)?;
+    expect_read_itself::<Percent>(alloc, PERCENTS)?;
+    expect_read_itself::<Celsius>(alloc, TEMPERATURES)?;
+    expect_read_itself::<Slug>(alloc, SLUGS)?;
+    expect_read_itself::<Tagged<Vec<Percent>>>(alloc, LISTS)?;
+    expect_read_itself::<Maybe>(alloc, MAYBES)?;
+    // serde_json takes `-0` for a float, which is no integer there.
+    expect_table::<Celsius>(alloc, "-0 => 0")
+}
+
+#[test]
+fn newtypes_as_keys(rt: HostRuntime) -> Result<(), Wrong> {
+    let alloc = rt.alloc();
+    expect_read_itself::<BTreeMap<UserId, Percent>>(alloc, SHARES)?;
+    expect_read_itself::<BTreeMap<Slug, Percent>>(alloc, BY_SLUG)?;
+    expect_read_itself::<BTreeMap<Tagged<UserId>, Tagged<Percent>>>(alloc, TAGGED)?;
+    expect_read_itself::<BTreeMap<Initial, u8>>(alloc, INITIALS)
+}
+
+#[test]
+fn newtypes_in_structs(rt: HostRuntime) -> Result<(), Wrong> {
+    let alloc = rt.alloc();
+    expect_read_itself::<Account>(alloc, ACCOUNTS)?;
+    expect_read_itself::<Held>(alloc, HELD)?;
+    expect_read_itself::<Optional>(alloc, OPTIONAL)?;
+    expect_read_itself::<Owner>(alloc, OWNERS)?;
+    expect_read_itself::<Span>(alloc, SPANS)?;
+    expect_read_itself::<Raw>(alloc, RAW)
+}

@@ -1,0 +1,5 @@
+/// The ends of a span.
+pub struct Ends { // lossless, stable
+    pub from: u32,
+    pub to: u32,
+}

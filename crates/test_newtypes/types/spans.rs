@@ -1,0 +1,4 @@
+use crate::ends::Ends;
+
+/// A span, which ends no earlier than it begins.
+pub struct Span(Ends); // check orders::is_ordered, lossless, stable
