@@ -57,6 +57,8 @@ SERDE = {
     "skip_serializing_if": ("omit", "the field"),
     "deny_unknown_fields": ("closed", "the first line of the type"),
     "tag": ("tag {}", "the first line of the type"),
+    "try_from": ("check FUNCTION", "a newtype"),
+    "into": ("check FUNCTION", "a newtype"),
 }
 INSTEAD = {name: instead for names, instead in UNREAD.items() for name in names.split()}
 
@@ -225,6 +227,9 @@ def check_attribute(line, number):
 
 def instead_of(parts):
     """Returns what stands for the parts of an attribute of serde, each with its own value."""
+    parts = [part for part in parts if part != "transparent"]
+    if not parts:
+        return ": a newtype is read and written as its value, so leave out `transparent`"
     names = [re.match(r"\w*", part).group() for part in parts]
     none = [name for name in names if name not in SERDE]
     if none:
@@ -233,7 +238,7 @@ def instead_of(parts):
     for name, part in zip(names, parts):
         value = part.partition("=")[2].strip()
         words.append("default VALUE" if name == "default" and value else SERDE[name][0].format(value))
-    return f": write `// {', '.join(words)}` behind {SERDE[names[0]][1]}"
+    return f": write `// {', '.join(dict.fromkeys(words))}` behind {SERDE[names[0]][1]}"
 
 
 def check_newtype(it, integer, bare):
