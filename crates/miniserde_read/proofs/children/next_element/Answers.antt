@@ -24,4 +24,5 @@ pub returns-in_err-read-in-Next-clause-invalid : goal.returns-in_err-read-in-Nex
 returns-in_err-read-in-Next-clause-invalid g c = λ e.
     let w = err_from_is_err_and c.from_residual-in_err-read-in-Next.result c.from_residual-in_err-read-in-Next.ensures.1 in
     element_rejects g.T.FromJson.means.from_tree _ _ _ (rw c.in-Next.is at c.in_ok-after.ensures.ok)
-    (due_rejects g.T.FromJson.means.from_tree _ _ _ c.in_ok-token-in-Next.ensures.ok (c.in_err-read-in-Next.ensures.invalid (cc (w.1, w.2, e))))
+    (due_rejects g.T.FromJson.means.from_tree _ _ _ c.in_ok-token-in-Next.ensures.ok
+    (c.in_err-read-in-Next.ensures.invalid (cc (w.1, w.2, e))))
