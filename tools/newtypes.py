@@ -8,6 +8,8 @@ from places import visitor_of
 # The types of std that are keys, of which a newtype's laws are known.
 UNSIGNED = "u8 u16 u32 u64 usize".split()
 SIGNED = "i8 i16 i32 i64 isize".split()
+# Types of std of which a missing field is an error.
+NEVER_ABSENT = r"[ui](?:8|16|32|64|size)|bool|String|(?:Vec|VecDeque|BTreeMap|HashMap|Box)<.*|[(\[].*"
 # Types of which a value may be written as `null`.
 NULLED = r"(?:\w+::)*(?:Option|Value|Unique|Document|Box)\b|\(\)"
 
@@ -185,8 +187,9 @@ def shared_text(it):
     inner = of_inner(it, "FromJson", "means")
     means = f"checked_meaning {inner} {accepts_of(it)} (λ v. v.value)" if it.check else f"box_meaning {inner} (λ v. v.0)"
     read = "read_checked(token, source)" if it.check else f"Ok({it.name}(<{of} as FromJson>::read(token, source)?))"
-    absent = "" if it.check else wrapped("absent", f"option_map (λ v. record {{ 0 = v }}) {of_inner(it, 'FromJson', 'absent')}") + "\n\n"
-    missing = "None" if it.check else f"Some({it.name}(<{of} as FromJson>::missing()?))"
+    has_absent = not it.check and not re.fullmatch(NEVER_ABSENT, of)
+    absent = "" if not has_absent else wrapped("absent", f"option_map (λ v. record {{ 0 = v }}) {of_inner(it, 'FromJson', 'absent')}") + "\n\n"
+    missing = "None" if not has_absent else f"Some({it.name}(<{of} as FromJson>::missing()?))"
     return f"""
 {impl_of(it, "FromJson")} FromJson for {name} {{
 {wrapped("means", means)}

@@ -1,6 +1,6 @@
 //! The types of `port.rs`, with the impls that `./derive` writes.
 ghost use Rattle.miniserde.specs.Meanings.{box_meaning};
-ghost use Rattle.std.specs.Prelude.{option_map, refl};
+ghost use Rattle.std.specs.Prelude.{refl};
 
 use miniserde::derived::{
     Event, FromJson, Lossless, NeverNull, Ranged, Result, RoundTrip, Serialize, Source, Stable,
@@ -24,14 +24,12 @@ impl Transparent for Port {
 impl FromJson for Port {
     ghost means = { box_meaning ⟦<u16 as FromJson>⟧.means (λ v. v.0) };
 
-    ghost absent = { option_map (λ v. record { 0 = v }) ⟦<u16 as FromJson>⟧.absent };
-
     ghost read_infallible = { ⟦<u16 as FromJson>⟧.read_infallible };
 
     ghost lacking = { ⟦<u16 as FromJson>⟧.lacking };
 
     fn missing() -> Option<Port> {
-        Some(Port(<u16 as FromJson>::missing()?))
+        None
     }
 
     fn read<'a>(token: Event<'a>, source: &mut Source<'a>) -> Result<Port> {

@@ -37,14 +37,12 @@ impl Transparent for UserId {
 impl FromJson for UserId {
     ghost means = { box_meaning ⟦<u64 as FromJson>⟧.means (λ v. v.0) };
 
-    ghost absent = { option_map (λ v. record { 0 = v }) ⟦<u64 as FromJson>⟧.absent };
-
     ghost read_infallible = { ⟦<u64 as FromJson>⟧.read_infallible };
 
     ghost lacking = { ⟦<u64 as FromJson>⟧.lacking };
 
     fn missing() -> Option<UserId> {
-        Some(UserId(<u64 as FromJson>::missing()?))
+        None
     }
 
     fn read<'a>(token: Event<'a>, source: &mut Source<'a>) -> Result<UserId> {

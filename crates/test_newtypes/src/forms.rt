@@ -232,14 +232,12 @@ impl Transparent for Name {
 impl FromJson for Name {
     ghost means = { box_meaning ⟦<String as FromJson>⟧.means (λ v. v.0) };
 
-    ghost absent = { option_map (λ v. record { 0 = v }) ⟦<String as FromJson>⟧.absent };
-
     ghost read_infallible = { ⟦<String as FromJson>⟧.read_infallible };
 
     ghost lacking = { ⟦<String as FromJson>⟧.lacking };
 
     fn missing() -> Option<Name> {
-        Some(Name(<String as FromJson>::missing()?))
+        None
     }
 
     fn read<'a>(token: Event<'a>, source: &mut Source<'a>) -> Result<Name> {
@@ -336,14 +334,12 @@ impl Transparent for Flag {
 impl FromJson for Flag {
     ghost means = { box_meaning ⟦<bool as FromJson>⟧.means (λ v. v.0) };
 
-    ghost absent = { option_map (λ v. record { 0 = v }) ⟦<bool as FromJson>⟧.absent };
-
     ghost read_infallible = { ⟦<bool as FromJson>⟧.read_infallible };
 
     ghost lacking = { ⟦<bool as FromJson>⟧.lacking };
 
     fn missing() -> Option<Flag> {
-        Some(Flag(<bool as FromJson>::missing()?))
+        None
     }
 
     fn read<'a>(token: Event<'a>, source: &mut Source<'a>) -> Result<Flag> {
@@ -440,14 +436,12 @@ impl Transparent for Delta {
 impl FromJson for Delta {
     ghost means = { box_meaning ⟦<i32 as FromJson>⟧.means (λ v. v.0) };
 
-    ghost absent = { option_map (λ v. record { 0 = v }) ⟦<i32 as FromJson>⟧.absent };
-
     ghost read_infallible = { ⟦<i32 as FromJson>⟧.read_infallible };
 
     ghost lacking = { ⟦<i32 as FromJson>⟧.lacking };
 
     fn missing() -> Option<Delta> {
-        Some(Delta(<i32 as FromJson>::missing()?))
+        None
     }
 
     fn read<'a>(token: Event<'a>, source: &mut Source<'a>) -> Result<Delta> {
@@ -660,14 +654,12 @@ impl Transparent for Parts100 {
 impl FromJson for Parts100 {
     ghost means = { box_meaning ⟦<Vec<Percent> as FromJson>⟧.means (λ v. v.0) };
 
-    ghost absent = { option_map (λ v. record { 0 = v }) ⟦<Vec<Percent> as FromJson>⟧.absent };
-
     ghost read_infallible = { ⟦<Vec<Percent> as FromJson>⟧.read_infallible };
 
     ghost lacking = { ⟦<Vec<Percent> as FromJson>⟧.lacking };
 
     fn missing() -> Option<Parts100> {
-        Some(Parts100(<Vec<Percent> as FromJson>::missing()?))
+        None
     }
 
     fn read<'a>(token: Event<'a>, source: &mut Source<'a>) -> Result<Parts100> {
@@ -732,14 +724,12 @@ impl<A, B> Transparent for Two<A, B> {
 impl<A: FromJson, B: FromJson> FromJson for Two<A, B> {
     ghost means = { box_meaning ⟦<(A, B) as FromJson>⟧.means (λ v. v.0) };
 
-    ghost absent = { option_map (λ v. record { 0 = v }) ⟦<(A, B) as FromJson>⟧.absent };
-
     ghost read_infallible = { ⟦<(A, B) as FromJson>⟧.read_infallible };
 
     ghost lacking = { ⟦<(A, B) as FromJson>⟧.lacking };
 
     fn missing() -> Option<Two<A, B>> {
-        Some(Two(<(A, B) as FromJson>::missing()?))
+        None
     }
 
     fn read<'a>(token: Event<'a>, source: &mut Source<'a>) -> Result<Two<A, B>> {

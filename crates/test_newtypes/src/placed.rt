@@ -7,7 +7,7 @@ ghost use Rattle.miniserde.specs.Newtypes.{checked_meaning, same_meaning};
 ghost use Rattle.miniserde.specs.Place.{wrapper_meaning};
 ghost use Rattle.miniserde.specs.PlaceMeanings.{box_place_meaning};
 ghost use Rattle.miniserde.specs.Structs.{names_of, record_tree};
-ghost use Rattle.std.specs.Prelude.{◌≡◌, true, option_map, string_bytes, refl};
+ghost use Rattle.std.specs.Prelude.{◌≡◌, true, string_bytes, refl};
 ghost use Rattle.test_newtypes.specs.Checks.{at_most_100, is_slug};
 
 use crate::checks::{at_most_100, is_slug};
@@ -37,14 +37,12 @@ impl Transparent for Row {
 impl FromJson for Row {
     ghost means = { box_meaning ⟦<u64 as FromJson>⟧.means (λ v. v.0) };
 
-    ghost absent = { option_map (λ v. record { 0 = v }) ⟦<u64 as FromJson>⟧.absent };
-
     ghost read_infallible = { ⟦<u64 as FromJson>⟧.read_infallible };
 
     ghost lacking = { ⟦<u64 as FromJson>⟧.lacking };
 
     fn missing() -> Option<Row> {
-        Some(Row(<u64 as FromJson>::missing()?))
+        None
     }
 
     fn read<'a>(token: Event<'a>, source: &mut Source<'a>) -> Result<Row> {
@@ -451,14 +449,12 @@ impl Transparent for Parts4 {
 impl FromJson for Parts4 {
     ghost means = { box_meaning ⟦<Vec<Part> as FromJson>⟧.means (λ v. v.0) };
 
-    ghost absent = { option_map (λ v. record { 0 = v }) ⟦<Vec<Part> as FromJson>⟧.absent };
-
     ghost read_infallible = { ⟦<Vec<Part> as FromJson>⟧.read_infallible };
 
     ghost lacking = { ⟦<Vec<Part> as FromJson>⟧.lacking };
 
     fn missing() -> Option<Parts4> {
-        Some(Parts4(<Vec<Part> as FromJson>::missing()?))
+        None
     }
 
     fn read<'a>(token: Event<'a>, source: &mut Source<'a>) -> Result<Parts4> {
