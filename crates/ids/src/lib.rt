@@ -3,7 +3,9 @@
 
 pub mod callers;
 pub mod ids;
+pub mod releases;
 pub mod requests;
 #[cfg(test)]
 mod tests;
 mod uuids;
+pub mod versions;

@@ -3,6 +3,7 @@
 
 use crate::callers::{accounts_are_stable, id_of, same_account};
 use crate::ids::{Account, AccountId};
+use crate::releases::Release;
 use crate::requests::{RequestError, addressed};
 use miniserde::json::{feed, from_str, to_string};
 use miniserde::{Deserialize, Error, Result};
@@ -31,6 +32,26 @@ const ACCOUNTS: &str =
 {"id":null,"name":"a"}
 {"name":"a"}
 {"id":"67e55044-10b1-426f-9247-bb680e5fe0c8","name":"a","parent":""}"#;
+
+// Versions as https://semver.org has them (its grammar, and its list of texts that are none).
+const RELEASES: &str = r#""1.0.0" => same
+"1.2.3-alpha.1+build.5" => same
+"\u0031.0.0" => "1.0.0"
+"1.0"
+"1.0.0-01"
+"01.0.0"
+"v1.0.0"
+""
+1.0
+null"#;
+
+#[test]
+fn texts_of_releases(rt: HostRuntime) -> std::result::Result<(), Fail> {
+    expect_read_itself::<Release>(rt.alloc(), RELEASES)?;
+    let release: Release = from_str(rt.alloc(), "\"1.2.3-a\"")?;
+    assert_eq!(rt; release.0.version().minor, 2);
+    Ok(())
+}
 
 #[test]
 fn texts_of_identifiers(rt: HostRuntime) -> std::result::Result<(), Wrong> {
