@@ -25,9 +25,7 @@ pub use miniserde_model::error;
 pub use miniserde_model::error::{Error, Result};
 pub use miniserde_place::engine::read_by_place;
 pub use miniserde_program::canon;
-pub use miniserde_read::{
-    Checked, FromJson, gets_last, gets_last_by_hashed_key, gets_last_by_key,
-};
+pub use miniserde_read::{Checked, FromJson, gets_last, gets_last_by_hashed_key, gets_last_by_key};
 pub use miniserde_ser::ser::Serialize;
 pub use miniserde_stored::{
     ExactKey, Stable, means_in_normal_form, normal_form_means_more, two_names_of_a_key,

@@ -16,7 +16,5 @@ pub mod ser;
 pub use miniserde_keys::TextValue;
 pub use miniserde_model::error;
 pub use miniserde_model::error::{Error, Result};
-pub use miniserde_read::{
-    Checked, FromJson, gets_last, gets_last_by_hashed_key, gets_last_by_key,
-};
+pub use miniserde_read::{Checked, FromJson, gets_last, gets_last_by_hashed_key, gets_last_by_key};
 pub use miniserde_ser::ser::Serialize;

@@ -11,6 +11,7 @@ use std::alloc::Global;
 pub trait TextValue: Sized + Drop {
     // The content of a value, and the type of that content.
     ghost Content: { Type 0 };
+
     ghost content: { Self → Content };
 
     // The content of the value that a text is parsed as, if any.

@@ -38,7 +38,7 @@ module _ {V : Type 0} (n m : Meaning V) (same : SameMeaning n m) where
 
   -- and the other way round
   pub same-read : (t : Tree) (v : V) → m.reads t v → n.reads t v
-  same-read t v h = 
+  same-read t v h =
       let e = sym (same.given_same t) ∙ (m.reads_agrees t v).0 h ∙ ap Some (same.content_same v) in
       (n.reads_agrees t v).1 (given-back t v (n.from_tree t) e)
 

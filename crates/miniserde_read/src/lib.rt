@@ -20,8 +20,8 @@ pub use items::{Item, Items, NoItem, read_tuple};
 pub use json_text::{from_slice, from_str};
 pub use leaf::{Leaf, read_leaf};
 pub use lookups::{gets_last, gets_last_by_hashed_key, gets_last_by_key};
-pub use newtypes::{Checked, read_checked, text_value_from_step};
 #[doc(hidden)]
 pub use miniserde_text::stack::Stack;
+pub use newtypes::{Checked, read_checked, text_value_from_step};
 pub use source::Source;
 pub use step::Step;

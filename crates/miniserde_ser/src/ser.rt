@@ -14,7 +14,6 @@ mod impls;
 mod text_value;
 
 pub use compact::to_string;
-pub use text_value::write_text_value;
 use itoa::Buffer;
 use miniserde_model::error::{Error, Result};
 use miniserde_text::decimal::{has_room, put_digits};
@@ -24,6 +23,7 @@ use miniserde_text::json::number::NumberText;
 use std::alloc::{AllocError, Global};
 use std::marker::Model;
 use std::result;
+pub use text_value::write_text_value;
 
 /// A leaf, as a writer appends it.
 #[derive(Clone, Copy, Debug, Drop)]

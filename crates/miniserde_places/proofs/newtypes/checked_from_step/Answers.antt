@@ -12,7 +12,7 @@ returns-in-Some-clause-ok g c =
     let n = g.N.Checked in
     let e = event_of c.args.event in
     let h = leaf-some g.N.Inner.Leaf.means n.means g.met.N.CheckedLeaf.same_leaf n.accepts (leaf_of e) c.in_ok-from_step.field-0
-        c.in_ok-from_step.ensures.ok (c.in-Some.ensures.accepted.0 refl) in
+    c.in_ok-from_step.ensures.ok (c.in-Some.ensures.accepted.0 refl) in
     subst (λ x. on_leaf (checked_of n.accepts n.means.from_tree) e ≡ Some (n.means.content x))
     (sym c.in-Some.ensures.some) h
 
@@ -20,7 +20,7 @@ pub returns-in-None-clause-invalid : goal.returns-in-None-clause-invalid
 returns-in-None-clause-invalid g c = λ _.
     let n = g.N.Checked in
     let refused = not_true (n.accepts (n.means.content c.in_ok-from_step.field-0))
-        (λ h. let no = c.in-None.ensures.accepted.1 h in cc) in
+    (λ h. let no = c.in-None.ensures.accepted.1 h in cc) in
     leaf-none g.N.Inner.Leaf.means n.means g.met.N.CheckedLeaf.same_leaf n.accepts (leaf_of (event_of c.args.event))
     c.in_ok-from_step.field-0 c.in_ok-from_step.ensures.ok refused
 
