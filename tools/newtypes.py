@@ -238,8 +238,8 @@ def laws_text(it):
     name, of, text = typed(it), it.parts[0].of, ""
 
     def law(word, kind, call):
-        body = f"{call}::<{of}, {name}>()" if call else f"<{of} as {kind}>::{word}()"
-        body = "" if "text" in it.words else f"\n        {body}\n    "
+        body = f"text_value_round_trips::<{name}>()" if "text" in it.words else f"{call}::<{of}, {name}>()" if call else f"<{of} as {kind}>::{word}()"
+        body = "" if "text" in it.words and word != "round_trips" else f"\n        {body}\n    "
         return f"""
 {impl_of(it, kind)} {kind} for {name} {{
     fn {word}() {{{body}}}

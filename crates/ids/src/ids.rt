@@ -11,7 +11,7 @@ use miniserde::derived::{
     NoField, NoSlot, Parts, PlacedRecord, Ranged, Record, RecordPlace, Result, RoundTrip,
     Serialize, Slot, Slots, Source, Stable, Step, TextValue, Visitor, Writer, WrittenFields,
     read_leaf, read_record, record_lossless, record_round_trips, record_stable,
-    text_value_from_step, write_members, write_text_value,
+    text_value_from_step, text_value_round_trips, write_members, write_text_value,
 };
 use uuid::Uuid;
 
@@ -59,7 +59,9 @@ impl Ranged for AccountId {
 }
 
 impl RoundTrip for AccountId {
-    fn round_trips() {}
+    fn round_trips() {
+        text_value_round_trips::<AccountId>()
+    }
 }
 
 impl Lossless for AccountId {

@@ -6,7 +6,8 @@ ghost use Rattle.std.specs.Prelude.{◌≡◌, Some, refl};
 use crate::versions::ReadVersion;
 use miniserde::derived::{
     Event, FromJson, Global, Leaf, Lossless, NeverNull, Ranged, Result, RoundTrip, Serialize,
-    Source, Stable, Step, TextValue, Writer, read_leaf, text_value_from_step, write_text_value,
+    Source, Stable, Step, TextValue, Writer, read_leaf, text_value_from_step,
+    text_value_round_trips, write_text_value,
 };
 
 /// The version of a release, as it was written.
@@ -52,7 +53,9 @@ impl Ranged for Release {
 }
 
 impl RoundTrip for Release {
-    fn round_trips() {}
+    fn round_trips() {
+        text_value_round_trips::<Release>()
+    }
 }
 
 impl Lossless for Release {

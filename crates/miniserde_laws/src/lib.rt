@@ -17,7 +17,10 @@ pub use enums::{
     tagged_round_trips,
 };
 pub use lossless::{Lossless, NeverNull, means_itself, read_itself};
-pub use newtypes::{Transparent, checked_lossless, checked_round_trips, transparent_round_trips};
+pub use newtypes::{
+    Transparent, checked_lossless, checked_round_trips, text_value_round_trips,
+    transparent_round_trips,
+};
 pub use round_trip::{RoundTrip, read_back, write_and_read};
 pub use structs::{
     LosslessFields, RoundTripFields, aliased_round_trips, record_lossless, record_round_trips,

@@ -1,10 +1,12 @@
 //! The laws of newtypes, with a check and without one.
-ghost use Rattle.std.specs.Prelude.{◌≡◌, true};
-ghost use Rattle.miniserde_read.specs.Newtypes.{checked_meaning};
+ghost use Rattle.std.specs.Prelude.{◌≡◌, true, Some};
+ghost use Rattle.miniserde_model.specs.Tree.{str};
+ghost use Rattle.miniserde_read.specs.Newtypes.{checked_meaning, parsed_of};
 ghost use Rattle.miniserde_laws.specs.RoundTrip.{RoundTrips};
 
 use crate::lossless::Lossless;
 use crate::round_trip::RoundTrip;
+use miniserde_keys::TextValue;
 use miniserde_read::Checked;
 
 /// A type of which each value is one value of another type, and each value of that is one of it.
@@ -51,3 +53,11 @@ pub fn checked_lossless<T: Lossless, N: Checked<Inner = T>>()
 {
     T::lossless()
 }
+
+/// Does nothing. It promises that the string of a value whose text is parsed as its content means such a value, and that
+/// each such value that it means has that string.
+pub fn text_value_round_trips<T: TextValue>()
+    ensures { (v : T) → T.parsed (T.text (T.content v)) ≡ Some (T.content v)
+        → RoundTrips (λ w. T.parsed (T.text (T.content w)) ≡ Some (T.content w)) (λ w. str (T.text (T.content w)))
+        (λ t w. parsed_of T.parsed t ≡ Some (T.content w)) (str (T.text (T.content v))) }
+{}
