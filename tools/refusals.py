@@ -257,7 +257,7 @@ def check_newtype(it, integer, bare):
         raise Refused(f"line {line}: a newtype that is a key has an integer, a `bool`, a `char`, a `String` or a parameter in it: {bare}")
     if of == "char" and (it.words != ("key",) or it.check):
         raise Refused(f"line {line}: a `char` is read as a key alone, so a newtype of it has the word `key` and no other: {bare}")
-    if "key" in it.words and it.check and of[0] == "i":
+    if "key" in it.words and it.check and (of[0] == "i" or not scalar):
         raise Refused(f"line {line}: a key with a check is unsigned or a `String`: {bare}")
 
 

@@ -98,7 +98,7 @@ impl Visitor for Counter {
     }
 }
 
-/// How many elements the list has that a text spells. A text that spells no list is invalid.
+/// How many elements the list has that a text spells. Returns `Invalid` only if the text spells no list.
 pub fn elements(alloc: Global, text: &str) -> Result<u64>
     ensures ok { IfOk result (λ n. (t : Tree) × IsJson text.now t × (elements_of t ≡ Some n)) }
     ensures invalid { result ≡ Err Error.Invalid → (t : Tree) → IsJson text.now t → elements_of t ≡ None }

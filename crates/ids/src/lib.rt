@@ -1,4 +1,4 @@
-//! A type of another crate as the value of a field: a UUID of the toolchain's crate `uuid`.
+//! Types of other crates as the values of fields: a UUID of the toolchain's crate `uuid`, and a version of `semver`.
 #![tactic(auto)]
 
 pub mod callers;

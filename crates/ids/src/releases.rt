@@ -10,7 +10,7 @@ use miniserde::derived::{
     text_value_round_trips, write_text_value,
 };
 
-/// The version of a release, as it was written.
+/// The version of a release, with the text that it was read from.
 #[derive(Drop)]
 pub struct Release(pub ReadVersion);
 

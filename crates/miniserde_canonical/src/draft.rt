@@ -1,6 +1,7 @@
 //! The draft: the canonical text of what was read so far.
 //!
-//! Input that is canonical already is copied in runs of bytes; whitespace, an escaped string or `-0` ends a run. If the
+//! Input that is canonical already is copied in runs of bytes; whitespace, an escaped string, `-0`, a name that is not
+//! as it is to be written, or the end of an object that is out of order ends a run. If the
 //! names of an object ascend, its text stays. If not, its members are sorted in the groups: a short group is copied
 //! back, and a long one leaves a splice in the text, so that its bytes move only once more.
 //!
@@ -210,7 +211,8 @@ impl<'a> Draft<'a> {
         Ok(())
     }
 
-    /// Closes the innermost object, and puts its members in order if they are not. Does nothing if no object is open.
+    /// Closes the innermost object, and puts its members in order if they are not. Does nothing if no object is open
+    /// (no clause says so).
     /// `at` is how many bytes of the input are left from its bracket on; the bracket stays in the run. Fails if an
     /// allocation fails.
     pub(crate) fn close(&mut self, at: usize) -> Result<(), AllocError>

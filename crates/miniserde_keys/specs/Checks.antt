@@ -1,4 +1,4 @@
--- Newtypes with a check, as keys: the check says which contents are taken.
+-- Newtypes with a check, as values and as keys: the check says which contents are taken.
 use Rattle.std.specs.Prelude.{ℕ, ℤ, pos, negsuc, Bool, false, List, [], ◌∷◌, Option, Some, None, option_and_then, if◌then◌else◌}
 use Rattle.miniserde_keys.specs.Keys.{Key}
 

@@ -20,12 +20,12 @@ pub trait TextValue: Sized + Drop {
     // The text of a value of the content.
     ghost text: { Content → List ℕ };
 
-    /// Parses a value. Returns `Invalid` if the text is that of no value, and `Memory` if an allocation fails.
+    /// Parses a value. Returns `Invalid` if the text is parsed as no content, and `Memory` if an allocation fails.
     fn parse(alloc: Global, s: &str) -> Result<Self>
         ensures value { IfOk result (λ v. parsed s.now ≡ Some (content v)) }
         ensures invalid { result ≡ Err Error.Invalid → ((c : Content) × (parsed s.now ≡ Some c)) → ⊥ };
 
-    /// Appends the text of the value to `out`. If `out` cannot grow, returns `Memory`.
+    /// Appends the text of the value to `out`. Each error is `Memory`; no clause says what is then in `out`.
     fn write(&self, out: &mut String) -> Result<()>
         ensures ok { OnOk result (string_bytes out.new ≡ string_bytes out.old ++ text (content self.now)) }
         ensures memory { OnErr result (IsErrOf result Memory) };

@@ -1,4 +1,4 @@
-//! The laws of newtypes, with a check and without one.
+//! The laws of newtypes: with a check, without one, and those that are strings.
 ghost use Rattle.std.specs.Prelude.{◌≡◌, true, Some};
 ghost use Rattle.miniserde_model.specs.Tree.{str};
 ghost use Rattle.miniserde_read.specs.Newtypes.{checked_meaning, parsed_of};
@@ -9,7 +9,7 @@ use crate::round_trip::RoundTrip;
 use miniserde_keys::TextValue;
 use miniserde_read::Checked;
 
-/// A type of which each value is one value of another type, and each value of that is one of it.
+/// A type with a value of another type inside, in which each value of that type may stand.
 pub trait Transparent: Sized {
     /// The type of the value inside.
     type Inner;

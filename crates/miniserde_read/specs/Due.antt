@@ -1,4 +1,5 @@
--- The value that is due in a text: the next element of a list, or the value behind a member's name and its colon.
+-- The value that is due in a text: the next element of a list, the value behind a member's name and its colon, or that
+-- of a whole text.
 -- `next` takes the value's tree, and returns the state after it: the state of a struct's fields, or the content of a
 -- single value.
 use Rattle.std.specs.Prelude.{◌≡◌, ℕ, Bool, true, false, List, [], ◌∷◌, ◌++◌, Option, Some, None}

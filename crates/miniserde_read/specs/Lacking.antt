@@ -13,7 +13,7 @@ use Rattle.miniserde_read.specs.Source.{SourceView}
 abbrev pub EscapedElement : Bool → List ℕ → Type 0
 EscapedElement first s = (b : List ℕ) × Follows Seq first false s b × BeginsEscaped b
 
--- the name of the next member in s has a backslash; `first` says that the opening bracket was just taken
+-- the next member in s begins as a string with a backslash; `first` says that the opening bracket was just taken
 abbrev pub EscapedMember : Bool → List ℕ → Type 0
 EscapedMember first s = (b : List ℕ) × Follows Map first false s b × BeginsEscaped b
 

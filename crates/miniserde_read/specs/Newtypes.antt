@@ -17,8 +17,8 @@ checked_meaning m accepts inner =
     (λ t w. m.reads t (inner w) × (accepts (m.content (inner w)) ≡ true))
     (λ t w. checked-given accepts m.from_tree (m.reads t (inner w)) t (m.content (inner w)) (m.reads_agrees t (inner w)))
 
--- Two meanings of one type are the same up to the type of their contents: contents of the one are contents of the other,
--- and each value and each tree gives the same.
+-- Two meanings of one type are the same up to the type of their contents: each content of n is one of m (`there`), and
+-- each value and each tree gives the same.
 pub record SameMeaning {V : Type 0} (n m : Meaning V) : Type 0 where
   pub there : n.Content → m.Content
   pub back : m.Content → n.Content

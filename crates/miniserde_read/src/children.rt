@@ -10,8 +10,8 @@ use crate::source::Source;
 use miniserde_model::error::{Error, Result};
 use miniserde_text::json::lex::{After, Kind};
 
-/// Reads the value that is due, with its first token: that of a member after its name and colon, or an element after
-/// its comma. Returns `Invalid` if the text has no prefix that means a value of the type, and `Memory` if an
+/// Reads the value that is due, with its first token: that of a member after its name and colon, an element after
+/// its comma, or a whole text's value. Returns `Invalid` if the text has no prefix that means a value of the type, and `Memory` if an
 /// allocation fails.
 #[inline(always)]
 pub fn read_due<'a, T: FromJson>(source: &mut Source<'a>) -> Result<T>
@@ -27,8 +27,9 @@ pub fn read_due<'a, T: FromJson>(source: &mut Source<'a>) -> Result<T>
 }
 
 /// Reads the next element of a list and appends it to `items`, or takes the closing bracket. Returns whether there was
-/// an element. `first` says that the opening bracket was just taken. Returns `Invalid` if no prefix of the text is the
-/// rest of a list whose first element means a value of the type, and `Memory` if an allocation fails.
+/// an element. `first` says that the opening bracket was just taken. Returns `Invalid` only if the text begins
+/// with no rest of a list, or with one whose first element means no value of the type, and `Memory` if an allocation
+/// fails.
 #[inline(always)]
 pub(crate) fn next_element<'a, T: FromJson>(
     items: &mut Vec<T>,

@@ -15,8 +15,8 @@ use miniserde_model::error::{Error, Result};
 use miniserde_text::json::lex::Event;
 use std::alloc::Global;
 
-/// A type of which each value is one value of another type that a check accepts. Which values the check accepts is
-/// said of their contents.
+/// A newtype with a check: `new` makes one of each value of another type that the check accepts, and of no other. Which
+/// values the check accepts is said of their contents.
 pub trait Checked: Sized + Drop {
     /// The type of the value inside.
     type Inner: FromJson;
@@ -43,7 +43,8 @@ pub trait Checked: Sized + Drop {
     ghost same: { SameMeaning Self.Inner.means means };
 }
 
-/// Reads a newtype, and takes no more of the source; `token` is the first token. Returns `Invalid` if the text, from
+/// Reads a newtype with a check, whose first token is `token`, and takes no more of the source. `token` must be the one
+/// that was taken last. Returns `Invalid` if the text, from
 /// that token on, has no prefix that means a value of the inner type which the check accepts, and `Memory` if an
 /// allocation fails.
 pub fn read_checked<'a, N: Checked>(token: Event<'a>, source: &mut Source<'a>) -> Result<N>
@@ -65,8 +66,8 @@ pub fn read_checked<'a, N: Checked>(token: Event<'a>, source: &mut Source<'a>) -
     }
 }
 
-/// Returns the value that the event means, or `Invalid` if it is no string or its text is that of no value. Returns
-/// `Memory` if an allocation fails.
+/// Returns the value that the event means, or `Invalid` if it is no string that is parsed as a content. Returns `Memory`
+/// if an allocation fails.
 pub fn text_value_from_step<T: TextValue>(alloc: Global, event: Step<'_>) -> Result<T>
     ensures ok { IfOk result (λ v. on_leaf (parsed_of T.parsed) (event_of event.entry) ≡ Some (T.content v)) }
     ensures invalid { result ≡ Err Error.Invalid → on_leaf (parsed_of T.parsed) (event_of event.entry) ≡ None }

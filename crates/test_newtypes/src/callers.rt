@@ -21,7 +21,7 @@ pub fn percent(alloc: Global, text: &str) -> Result<u8>
     // The text spells an integer, which is the answer and is at most 100.
     ensures ok { IfOk result (λ n. (t : Tree) × IsJson text.now t × ReadsUnsigned 8 t n × (n ≤ 100)) }
 
-    // If the result is `Invalid`, the text spells no integer of at most 100.
+    // If the result is `Invalid`, the text spells no integer from 0 to 100 that is written without a minus.
     ensures invalid { result ≡ Err Error.Invalid → (t : Tree) → IsJson text.now t
         → (p : Percent) → ReadsUnsigned 8 t p.value → ⊥ }
 {
@@ -111,7 +111,7 @@ pub fn tagged<T: FromJson>(alloc: Global, text: &str) -> Result<T>
     Ok(value)
 }
 
-/// Returns the percent of a number, if it is one.
+/// Returns some percent if the number is at most 100.
 pub fn percent_of(n: u8) -> Option<Percent>
     ensures { IsSome result ↔ (n ≤ 100) }
 {

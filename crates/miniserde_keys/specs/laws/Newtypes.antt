@@ -20,7 +20,7 @@ pub record KeyLaws {K : Type 0} (eq : K → K → Bool) (real : K → Type 0) (c
     (read : List ℕ → Option Key) (text : K → List ℕ) : Type 0 where
   -- keys are equal exactly if their contents are
   pub alike : (a b : K) → eq a b ≡ bytes_eq (content a) (content b)
-  -- a valid key is read from its text as itself
+  -- a valid key's text is read as its content
   pub back : (k : K) → real k → read (text k) ≡ Some (content k)
   -- equal keys have the same text
   pub one_text : (a b : K) → content a ≡ content b → text a ≡ text b
@@ -85,7 +85,7 @@ bool_key = record { alike = bool-alike; back = λ b r. bool_read b; one_text = b
 pub char_key : KeyLaws nat_eq IsScalar of_nat read_char encode_utf8
 char_key = record { alike = nat-alike; back = char_some; one_text = nat-text encode_utf8 }
 
--- a key that the check accepts is read from its text as itself, if it is without the check
+-- a key that the check accepts is read from its text as its content, if it is read so without the check
 pub checked-back : (accepts : Key → Bool) (o : Option Key) (c : Key) → o ≡ Some c → accepts c ≡ true
     → option_and_then (λ c. cond (accepts c) (Some c) None) o ≡ Some c
 checked-back accepts o c e h = rw (e, h) refl
