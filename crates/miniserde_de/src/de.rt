@@ -17,7 +17,7 @@ pub use miniserde_keys::{InjectiveKey, MapKey, Ranged};
 use miniserde_model::error::{Error, Result};
 pub use miniserde_place::de::leaf::{BoolPlace, IntegerPlace, StringPlace, UnitPlace};
 pub use miniserde_place::de::{Ignore, Step, Visitor, container, ignore, leaf};
-pub use miniserde_read::{FromJson, Ignored, Source};
+pub use miniserde_read::{FromJson, Ignored, Source, next_element};
 use std::alloc::Global;
 
 /// A type with a place, which collects a value from events. The same trees mean the same values for

@@ -6,7 +6,8 @@ use Rattle.std.specs.Prelude.{option_and_then, option_map}
 use Rattle.std.proofs.lemmas.Bool.Decides.{nat_tests}
 use Rattle.std.proofs.lemmas.List.{length-append, length-map}
 use Rattle.miniserde_model.specs.Tree.{Tree, list, Trees, no_trees, tree}
-use Rattle.miniserde_read.specs.Due.{NextElement}
+use Rattle.miniserde_model.specs.Lexing.{Follows}
+use Rattle.miniserde_model.specs.declared.kind.Kind.TheVariants.{Seq}
 use Rattle.miniserde_read.specs.Items.{ItemsGiveAt, ItemsGiveNoneAt}
 use Rattle.miniserde_read.specs.Meaning.{Meaning}
 use Rattle.miniserde_read.specs.Rest.{ElementsAt}
@@ -43,10 +44,8 @@ module _ {V : Type 0} (n : ℕ) {m : Meaning V} {begin : List ℕ} {f : Bool} {s
   Rejected = (ts : Trees) (r : List ℕ) → ElementsAt ts true begin r → array_of n m.from_tree (list ts) ≡ None
 
   -- the list ends behind fewer items
-  pub array_short : (b : List ℕ) (more : Bool) (new : List V) → length items < n → NextElement m f s b more items new
-      → more ≡ false → Rejected
-  array_short b true new l h e ts r p = absurd (cc)
-  array_short b false new l h e ts r p = ap (option_and_then (exactly n)) (list_ended b g h.0 ts r p)
+  pub array_short : (b : List ℕ) → length items < n → Follows Seq f true s b → Rejected
+  array_short b l h ts r p = ap (option_and_then (exactly n)) (list_ended b g h ts r p)
       ∙ not_so_many n (map m.content items) (λ k. absurd (omega (arith, k, l, length-map items m.content)))
 
   -- the list does not end behind n items

@@ -1,6 +1,6 @@
 -- The text gets shorter where a value is read (`due_less`, `element_less`), and where no value is due, no element is
 -- (`element_rejects`). `due_front` goes from the first token that a text has to the one that was taken.
-use Rattle.std.proofs.Common.{◌≡◌, ℕ, ◌<◌, Bool, true, false, List, length, Option, refl, subst, arith}
+use Rattle.std.proofs.Common.{◌≡◌, ℕ, ◌<◌, Bool, true, false, List, length, Option, Some, refl, subst, arith}
 use Rattle.miniserde_model.specs.Tree.{Tree, no_trees, tree}
 use Rattle.miniserde_model.specs.Step.{Step}
 use Rattle.miniserde_model.specs.Lexing.{Starts, Follows}
@@ -36,11 +36,10 @@ due_rejects of s c e k n t d b r h v = n t r (due_front s b c r d e t k h v)
 
 module _ {V : Type 0} (m : Meaning V) (f : Bool) (s : List ℕ) where
   -- the text behind an element is shorter than the text before it
-  pub element_less : (r : List ℕ) (more : Bool) (old new : List V) → NextElement m f s r more old new → more ≡ true → length r < length s
-  element_less r false old new p e = absurd (cc)
-  element_less r true old new p e =
+  pub element_less : (r : List ℕ) (v : V) → NextElement m f s r (Some v) → length r < length s
+  element_less r v p =
       let a = follows_least Seq f false s p.0 p.1 in
-      omega (arith, a, due_less p.3)
+      omega (arith, a, due_less p.2)
 
 -- the value that is due is the first element
 pub element_rejects : {C : Type 0} (of : Tree → Option C) (f : Bool) (s b : List ℕ) → Follows Seq f false s b → RejectsDue of b

@@ -1,7 +1,7 @@
 -- A string with a backslash that is found behind k elements of a list, for k below n, is among the first n elements
 -- of the whole list. The loop keeps the invariant `AmongGoes`, which `among_goes` carries over one element;
 -- `has_escape` carries the fact over to a whole text.
-use Rattle.std.proofs.Common.{◌≡◌, length, ℕ, suc, ◌+◌, ◌-◌, ◌<◌, Bool, true, false, List, []}
+use Rattle.std.proofs.Common.{◌≡◌, length, ℕ, suc, ◌+◌, ◌-◌, ◌<◌, Bool, true, false, List, [], Some}
 use Rattle.std.proofs.Common.{◌∷◌, ◌++◌, refl, ap, ◌∙◌, subst, arith, inl, inr}
 use Rattle.std.specs.Prelude.{◌≢◌, ◌⊎◌}
 use Rattle.std.specs.List.{AllByRecursion}
@@ -13,25 +13,20 @@ use Rattle.miniserde_read.specs.Due.{NextElement}
 use Rattle.miniserde_read.specs.Meaning.{Meaning}
 use Rattle.miniserde_read.specs.Lacking.{EscapedElement, AnElement, EscapedAmong, SomeElements}
 
--- where one more item was read, one more element stands
-pub an_element : {V : Type 0} (m : Meaning V) (f : Bool) (s d : List ℕ) (more : Bool) (old new : List V)
-    → NextElement m f s d more old new → more ≡ true → AnElement f s d × (length new ≡ suc (length old))
-an_element m f s d false old new h e = absurd (cc)
-an_element m f s d true old new h e = (
-  (
-    h.3.one,
-    record {
-      begin = h.0;
-      event = h.3.event;
-      behind = h.3.behind;
-      rest = d;
-      follows = h.1;
-      starts = h.3.starts;
-      is_value = h.3.is_value;
-      is_rest = refl;
-    },
-  ),
-  omega (arith, ap length h.4, length-append old (h.2 ∷ [])),
+-- where an item was read, an element stands
+pub an_element : {V : Type 0} (m : Meaning V) (f : Bool) (s d : List ℕ) (v : V) → NextElement m f s d (Some v) → AnElement f s d
+an_element m f s d v h = (
+  h.2.one,
+  record {
+    begin = h.0;
+    event = h.2.event;
+    behind = h.2.behind;
+    rest = d;
+    follows = h.1;
+    starts = h.2.starts;
+    is_value = h.2.is_value;
+    is_rest = refl;
+  },
 )
 
 -- Of n elements, k stand from `begin` to s.

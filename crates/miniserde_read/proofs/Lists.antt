@@ -58,13 +58,10 @@ module _ {V : Type 0} (m : Meaning V) where
   list_begins begin = record { on = λ us r p. (us, p, all_left us); back = λ ts r p. (ts, p, all_left ts) }
 
 module _ {V : Type 0} {m : Meaning V} {begin : List ℕ} where
-  pub list_goes : {f : Bool} {s d : List ℕ} {items new : List V} (more : Bool) → ListGoes m begin f s items
-      → NextElement m f s d more items new → more ≡ true → ListGoes m begin false d new
-  list_goes false g h e = absurd (cc)
-  list_goes {f} {s} {d} {items} true g h e =
-      let v = h.2 in
-      let k = h.3 in
-      rw h.4 (
+  pub list_goes : {f : Bool} {s d : List ℕ} {items : List V} {v : V} → ListGoes m begin f s items
+      → NextElement m f s d (Some v) → ListGoes m begin false d (items ++ v ∷ [])
+  list_goes {f} {s} {d} {items} {v} g h =
+      let k = h.2 in
       record {
         on = λ us r p.
             let a = g.on (tree k.one us) r
@@ -87,16 +84,14 @@ module _ {V : Type 0} {m : Meaning V} {begin : List ℕ} where
               subst (λ z. ElementsAt u.more false z r) same.1 u.is_rest,
               a.2 ∙ ap (with m items) (u.is ∙ ap (λ z. tree z u.more) same.0) ∙ one_more m items v k.one u.more k.gives,
             );
-      })
+      }
 
   -- the list ends
-  pub list_ends : {f : Bool} {s : List ℕ} {items : List V} (new : List V) (b : List ℕ) (more : Bool) → ListGoes m begin f s items
-      → NextElement m f s b more items new → more ≡ false
-      → (ts : Trees) × ElementsAt ts true begin b × (each m.from_tree ts ≡ Some (map m.content new))
-  list_ends new b true g h e = absurd (cc)
-  list_ends {items = items} new b false g h e =
-      let a = g.on no_trees b h.0 in
-      (a.0, a.1, rw h.1 (a.2 ∙ ap Some (append-nil (map m.content items))))
+  pub list_ends : {f : Bool} {s : List ℕ} {items : List V} (b : List ℕ) → ListGoes m begin f s items → Follows Seq f true s b
+      → (ts : Trees) × ElementsAt ts true begin b × (each m.from_tree ts ≡ Some (map m.content items))
+  list_ends {items = items} b g h =
+      let a = g.on no_trees b h in
+      (a.0, a.1, a.2 ∙ ap Some (append-nil (map m.content items)))
 
   pub list_ended : {f : Bool} {s : List ℕ} {items : List V} (b : List ℕ) → ListGoes m begin f s items → Follows Seq f true s b
       → (ts : Trees) (r : List ℕ) → ElementsAt ts true begin r → each m.from_tree ts ≡ Some (map m.content items)

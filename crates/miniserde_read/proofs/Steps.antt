@@ -18,13 +18,6 @@ pub elements_follow : (ts : Trees) (f : Bool) (s r : List ℕ) → ElementsAt ts
 elements_follow no_trees f s r p = (true, r, p)
 elements_follow (tree t ts) f s r p = (false, p.begin, p.follows)
 
--- no element is there without its first event
-pub elements_start : (ts : Trees) (f : Bool) (s b r : List ℕ) → Follows Seq f false s b → ElementsAt ts f s r
-    → (e : Step) × (c : List ℕ) × Starts b e c
-elements_start no_trees f s b r h p = absurd (close_no_next Seq f s r b p h)
-elements_start (tree t ts) f s b r h p =
-    (p.event, p.behind, subst (λ z. Starts z p.event p.behind) (next_same Seq f s p.begin b p.follows h) p.starts)
-
 -- if a closing bracket is next, no elements remain, and the array ends behind the bracket
 pub elements_close : (ts : Trees) (f : Bool) (s b r : List ℕ) → Follows Seq f true s b → ElementsAt ts f s r → (ts ≡ no_trees) × (r ≡ b)
 elements_close no_trees f s b r h p = (refl, close_same Seq f s r b p h)

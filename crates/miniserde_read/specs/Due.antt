@@ -2,7 +2,7 @@
 -- of a whole text.
 -- `next` takes the value's tree, and returns the state after it: the state of a struct's fields, or the content of a
 -- single value.
-use Rattle.std.specs.Prelude.{◌≡◌, ℕ, Bool, true, false, List, [], ◌∷◌, ◌++◌, Option, Some, None}
+use Rattle.std.specs.Prelude.{◌≡◌, ℕ, Bool, true, false, List, Option, Some, None}
 use Rattle.miniserde_model.specs.Tree.{Tree, Trees, tree}
 use Rattle.miniserde_model.specs.Step.{Step}
 use Rattle.miniserde_model.specs.Lexing.{Starts, Follows}
@@ -24,13 +24,11 @@ pub record ReadsDue {S : Type 0} (next : Tree → Option S) (s r : List ℕ) (st
 abbrev pub RejectsDue : {S : Type 0} → (Tree → Option S) → List ℕ → Type 0
 RejectsDue next s = (t : Tree) (e : Step) (b r : List ℕ) → Starts s e b → ValueAt t e b r → next t ≡ None
 
--- In a list, if there is more, from s to r stands an element that means a value by m, and `new` are the items `old` and
--- that value; else there stands the closing bracket, and the items are as before. `first` says that the opening bracket
--- was just taken, so that no comma is due.
-abbrev pub NextElement : {V : Type 0} → Meaning V → Bool → List ℕ → List ℕ → Bool → List V → List V → Type 0
-NextElement m first s r false old new = Follows Seq first true s r × (new ≡ old)
-NextElement {V} m first s r true old new =
-    (b : List ℕ) × Follows Seq first false s b × (v : V) × ReadsDue m.from_tree b r (m.content v) × (new ≡ old ++ v ∷ [])
+-- In a list, from s to r stands the next element, which means the value by m, or, for `None`, the closing bracket.
+-- `first` says that the opening bracket was just taken, so that no comma is due.
+abbrev pub NextElement : {V : Type 0} → Meaning V → Bool → List ℕ → List ℕ → Option V → Type 0
+NextElement m first s r None = Follows Seq first true s r
+NextElement m first s r (Some v) = (b : List ℕ) × Follows Seq first false s b × ReadsDue m.from_tree b r (m.content v)
 
 -- if a prefix of s is the rest of a list, there is an element, and `of` gives nothing for the first one
 abbrev pub ElementRejects : {C : Type 0} → (Tree → Option C) → Bool → List ℕ → Type 0

@@ -1,10 +1,9 @@
 -- What a contract sees of a source, and what the calls of a source take inside a container.
 use Rattle.std.specs.Prelude.{ℕ, Bool, true, false, List, Option, Some, None}
-use Rattle.miniserde_model.specs.Lexing.{Starts, Names, Follows}
-use Rattle.miniserde_model.specs.declared.kind.Kind.TheVariants.{Seq, Map}
-use Rattle.miniserde_text.specs.Lexer.{event_of_token, text_of}
+use Rattle.miniserde_model.specs.Lexing.{Names, Follows}
+use Rattle.miniserde_model.specs.declared.kind.Kind.TheVariants.{Map}
+use Rattle.miniserde_text.specs.Lexer.{text_of}
 use Rattle.miniserde_text.specs.declared.json.lex.Text.{Text}
-use Rattle.miniserde_text.specs.declared.json.lex.Event.{Event}
 use Rattle.miniserde_model.specs.declared.error.Error.{Error}
 
 -- what a contract sees of a source: the text that is left, the first error, if there was one, and the scratch text
@@ -12,13 +11,6 @@ pub record SourceView : Type 0 where
   pub rest : List ℕ
   pub refused : Option Error
   pub scratch : List ℕ
-
--- Inside an array, from s to r stands the closing bracket if there is no token, and else a comma
--- and the token, which is the first one of an element. `scratch` is the scratch text, and `first`
--- says that the opening bracket was just taken, so that no comma is due.
-abbrev pub ElementFollows : Option Event → List ℕ → Bool → List ℕ → List ℕ → Type 0
-ElementFollows None scratch first s r = Follows Seq first true s r
-ElementFollows (Some e) scratch first s r = (b : List ℕ) × Follows Seq first false s b × Starts b (event_of_token e scratch) r
 
 -- Inside an object, from s to r stands the closing bracket if there is no name, and else a comma,
 -- the name of a member and its colon. `scratch` is the scratch text, and `first` says that the

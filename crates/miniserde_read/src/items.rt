@@ -8,6 +8,7 @@ ghost use Rattle.miniserde_read.specs.Items.{ItemsMeaning, no_items, item_and, I
 ghost use Rattle.miniserde_read.specs.Lacking.{ItemsLack, TupleLacks};
 ghost use Rattle.miniserde_read.specs.types.Tuples.{tuple_of};
 
+use crate::children::next_element;
 use crate::from_json::FromJson;
 use crate::source::Source;
 use miniserde_model::error::{Error, Result};
@@ -72,10 +73,9 @@ impl<T: FromJson, R: Items> Items for Item<T, R> {
 
     #[inline(always)]
     fn read_items<'a>(source: &mut Source<'a>, first: bool) -> Result<(T, R::Values)> {
-        let Some(token) = source.element(first)? else {
+        let Some(item) = next_element(source, first)? else {
             return Err(Error::Invalid);
         };
-        let item = T::read(token, source)?;
         let rest = R::read_items(source, false)?;
         Ok((item, rest))
     }

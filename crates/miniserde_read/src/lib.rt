@@ -13,7 +13,7 @@ mod newtypes;
 mod source;
 mod step;
 
-pub use children::read_due;
+pub use children::{next_element, read_due};
 pub use from_json::{FromJson, StdLeaf, Table};
 pub use ignored::Ignored;
 pub use items::{Item, Items, NoItem, read_tuple};

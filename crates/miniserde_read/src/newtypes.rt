@@ -35,9 +35,10 @@ pub trait Checked: Sized + Drop {
         ensures some { IfSome result (λ v. inner v ≡ value) }
         ensures accepted { IsSome result ↔ (accepts (means.content value) ≡ true) };
 
-    /// Returns the value inside.
+    /// Returns the value inside, which the check accepts.
     fn get(&self) -> &Self::Inner
-        ensures { result.now ≡ inner self.now };
+        ensures inner { result.now ≡ inner self.now }
+        ensures accepted { accepts (means.content (inner self.now)) ≡ true };
 
     // `means` is the meaning by which the inner type is read.
     ghost same: { SameMeaning Self.Inner.means means };

@@ -1,16 +1,16 @@
 //! The source: the rest of a text, from which a type reads itself.
 ghost use Rattle.std.specs.Prelude.{◌≡◌, Bool, List, ℕ, None, Some, Ok, Err, IfOk, IfErr, IfSome};
 ghost use Rattle.std.specs.String.{string_bytes};
-ghost use Rattle.miniserde_model.specs.Tree.{Trees, Members};
+ghost use Rattle.miniserde_model.specs.Tree.{Members};
 ghost use Rattle.miniserde_model.specs.Step as step;
 ghost use Rattle.miniserde_model.specs.Lexing.{Starts, Names, Follows};
 ghost use Rattle.miniserde_model.specs.Whitespace.{IsWhitespace};
 ghost use Rattle.miniserde_text.specs.Lexer.{event_of_token, text_of, is_close, BeginsEscaped};
 ghost use Rattle.miniserde_model.specs.declared.error.Error.{Error};
 ghost use Rattle.miniserde_read.specs.Events.{event_of};
-ghost use Rattle.miniserde_read.specs.Lacking.{EscapedElement, EscapedMember};
-ghost use Rattle.miniserde_read.specs.Rest.{ElementsAt, MembersAt};
-ghost use Rattle.miniserde_read.specs.Source.{ElementFollows, NameFollows};
+ghost use Rattle.miniserde_read.specs.Lacking.{EscapedMember};
+ghost use Rattle.miniserde_read.specs.Rest.{MembersAt};
+ghost use Rattle.miniserde_read.specs.Source.{NameFollows};
 
 use crate::step::Step;
 use miniserde_model::error::{Error, Result};
@@ -83,25 +83,6 @@ impl<'a> Source<'a> {
         ensures sticky { IfSome self.old.refused (λ e. result ≡ Err e) }
     {
         self.lexer.start(&mut self.scratch)
-    }
-
-    /// Takes the closing bracket of a list and returns `None`, or takes the comma before an element and returns the
-    /// element's first token. `first` says that the opening bracket was just taken, so that no comma is due. Returns
-    /// `Invalid` if neither is next, and `Memory` if decoding a string fails to allocate.
-    #[inline(always)]
-    pub fn element(&mut self, first: bool) -> Result<Option<Event<'a>>>
-        ensures going { IfOk result (λ _. self.new.refused ≡ None) }
-        ensures ok { IfOk result (λ o. ElementFollows o self.new.scratch first self.old.rest self.new.rest) }
-        ensures invalid { result ≡ Err Error.Invalid → self.old.refused ≡ None
-            → (ts : Trees) (r : List ℕ) → ElementsAt ts first self.old.rest r → ⊥ }
-        ensures memory { result ≡ Err Error.Memory → self.old.refused ≡ None → EscapedElement first self.old.rest }
-        ensures err { IfErr result (λ e. self.new.refused ≡ Some e) }
-        ensures sticky { IfSome self.old.refused (λ e. result ≡ Err e) }
-    {
-        match self.lexer.after(Kind::Seq, first)? {
-            After::Close => Ok(None),
-            After::Next => Ok(Some(self.token()?)),
-        }
     }
 
     /// Takes the closing bracket of an object and returns `None`, or takes the comma before a member, its name and

@@ -1,5 +1,5 @@
 //! Callers: texts of newtypes, and what the calls promise of them.
-ghost use Rattle.std.specs.Prelude.{◌≡◌, ◌↔◌, ◌≤◌, ◌/◌, pos, IsSome, true, None, IfOk, Err, string_bytes};
+ghost use Rattle.std.specs.Prelude.{◌≡◌, ◌↔◌, ◌≤◌, ◌/◌, pos, IfSome, IsSome, true, None, IfOk, Err, string_bytes};
 ghost use Rattle.miniserde.specs.Tree.{Tree};
 ghost use Rattle.miniserde.specs.Value.{IsJson};
 ghost use Rattle.miniserde.specs.Normal.{norm};
@@ -44,8 +44,9 @@ pub fn same_shares(
     alloc: Global,
     shares: &BTreeMap<UserId, Percent>,
 ) -> Result<BTreeMap<UserId, Percent>>
-    ensures { IfOk result (λ m. ⟦<BTreeMap<UserId, Percent> as FromJson>⟧.means.content m
+    ensures same { IfOk result (λ m. ⟦<BTreeMap<UserId, Percent> as FromJson>⟧.means.content m
         ≡ ⟦<BTreeMap<UserId, Percent> as FromJson>⟧.means.content shares.now) }
+    ensures memory { result ≡ Err Error.Invalid → ⊥ }
 {
     read_itself(alloc, shares)
 }
@@ -61,16 +62,19 @@ pub fn same_slug(alloc: Global, slug: &Slug) -> Result<Slug>
 
 /// Reads a map of slugs, each with an optional percent.
 pub fn by_slug(alloc: Global, text: &str) -> Result<BTreeMap<Slug, Option<Percent>>>
-    ensures { IfOk result (λ m. (t : Tree) × IsJson text.now t
+    ensures ok { IfOk result (λ m. (t : Tree) × IsJson text.now t
         × ⟦<BTreeMap<Slug, Option<Percent>> as FromJson>⟧.means.reads t m) }
+    ensures invalid { result ≡ Err Error.Invalid → (t : Tree) → IsJson text.now t
+        → ⟦<BTreeMap<Slug, Option<Percent>> as FromJson>⟧.means.from_tree t ≡ None }
 {
     from_str(alloc, text)
 }
 
 /// Writes a tagged value and reads it again: the same content.
 pub fn same_tagged(alloc: Global, value: &Tagged<Vec<Percent>>) -> Result<Tagged<Vec<Percent>>>
-    ensures { IfOk result (λ v. ⟦<Tagged<Vec<Percent>> as FromJson>⟧.means.content v
+    ensures same { IfOk result (λ v. ⟦<Tagged<Vec<Percent>> as FromJson>⟧.means.content v
         ≡ ⟦<Tagged<Vec<Percent>> as FromJson>⟧.means.content value.now) }
+    ensures memory { result ≡ Err Error.Invalid → ⊥ }
 {
     read_itself(alloc, value)
 }
@@ -105,17 +109,26 @@ pub fn by_slug_is_stable()
 
 /// Reads a tagged value of any type.
 pub fn tagged<T: FromJson>(alloc: Global, text: &str) -> Result<T>
-    ensures { IfOk result (λ v. (t : Tree) × IsJson text.now t × T.means.reads t v) }
+    ensures ok { IfOk result (λ v. (t : Tree) × IsJson text.now t × T.means.reads t v) }
+    ensures invalid { result ≡ Err Error.Invalid → (t : Tree) → IsJson text.now t → T.means.from_tree t ≡ None }
 {
     let Tagged(value) = from_str(alloc, text)?;
     Ok(value)
 }
 
-/// Returns some percent if the number is at most 100.
+/// Returns the percent of a number, if that is at most 100.
 pub fn percent_of(n: u8) -> Option<Percent>
-    ensures { IsSome result ↔ (n ≤ 100) }
+    ensures some { IfSome result (λ p. p.value ≡ n) }
+    ensures accepted { IsSome result ↔ (n ≤ 100) }
 {
     Percent::new(n)
+}
+
+/// Returns the value inside of any newtype with a check, which accepts it.
+pub fn checked_value<N: Checked>(value: &N) -> &N::Inner
+    ensures { N.accepts (N.means.content result.now) ≡ true }
+{
+    value.get()
 }
 
 /// Returns half of a percent, rounded down.
@@ -138,6 +151,8 @@ pub fn same_optional(alloc: Global, optional: &Optional) -> Result<Optional>
 pub fn span_of(alloc: Global, text: &str) -> Result<Span>
     ensures ok { IfOk result (λ s. (t : Tree) × IsJson text.now t × ⟦<Span as FromJson>⟧.means.reads t s) }
     ensures ordered { IfOk result (λ s. is_ordered (pos s.value.from, (pos s.value.to, tt)) ≡ true) }
+    ensures invalid { result ≡ Err Error.Invalid → (t : Tree) → IsJson text.now t
+        → ⟦<Span as FromJson>⟧.means.from_tree t ≡ None }
 {
     from_str(alloc, text)
 }

@@ -12,9 +12,9 @@ use crate::percents::Percent;
 use miniserde::derived::{
     Cases, DataCase, DataEnum, Event, FromJson, Lossless, NeverNull, NoCase, NoSlot, OmitSlot,
     Omitted, OneOf, Parts, Plain, Ranged, Record, Result, RoundTrip, Serialize, Slot, Slots,
-    Source, Stable, Transparent, Writer, WrittenCases, WrittenFields, enum_lossless,
-    enum_round_trips, enum_stable, read_enum, read_record, record_lossless, record_round_trips,
-    record_stable, transparent_round_trips, write_data, write_fields, write_members,
+    Source, Stable, Transparent, Writer, WrittenCases, WrittenFields, enum_round_trips, read_enum,
+    read_record, record_lossless, record_round_trips, record_stable, transparent_round_trips,
+    write_data, write_fields, write_members,
 };
 
 /// A newtype of an `Option`, which may be missing.
@@ -86,22 +86,6 @@ impl Ranged for Held {
 impl RoundTrip for Held {
     fn round_trips() {
         record_round_trips::<Held, HeldFields>()
-    }
-}
-
-impl Lossless for Held {
-    fn lossless() {
-        record_lossless::<Held, HeldFields>()
-    }
-}
-
-impl NeverNull for Held {
-    fn never_null() {}
-}
-
-impl Stable for Held {
-    fn stable() {
-        record_stable::<Held, HeldFields>()
     }
 }
 
@@ -269,22 +253,6 @@ impl RoundTrip for OwnerNamed {
     }
 }
 
-impl Lossless for OwnerNamed {
-    fn lossless() {
-        record_lossless::<OwnerNamed, OwnerNamedFields>()
-    }
-}
-
-impl NeverNull for OwnerNamed {
-    fn never_null() {}
-}
-
-impl Stable for OwnerNamed {
-    fn stable() {
-        record_stable::<OwnerNamed, OwnerNamedFields>()
-    }
-}
-
 /// Whose a thing is.
 #[derive(Drop)]
 pub enum Owner {
@@ -379,22 +347,6 @@ impl Ranged for Owner {
 impl RoundTrip for Owner {
     fn round_trips() {
         enum_round_trips::<Owner, OwnerCases>()
-    }
-}
-
-impl Lossless for Owner {
-    fn lossless() {
-        enum_lossless::<Owner, OwnerCases>()
-    }
-}
-
-impl NeverNull for Owner {
-    fn never_null() {}
-}
-
-impl Stable for Owner {
-    fn stable() {
-        enum_stable::<Owner, OwnerCases>()
     }
 }
 

@@ -1,13 +1,15 @@
 //! The types of `percents.rs`, with the impls that `./derive` writes.
 ghost use Rattle.miniserde.specs.Checks.{on_unsigned};
 ghost use Rattle.miniserde.specs.Newtypes.{checked_meaning, same_meaning};
+ghost use Rattle.miniserde.specs.Place.{wrapper_meaning};
 ghost use Rattle.std.specs.Prelude.{◌≡◌, true, refl};
 ghost use Rattle.test_newtypes.specs.Checks.{at_most_100};
 
 use crate::checks::at_most_100;
 use miniserde::derived::{
-    Checked, Event, FromJson, Lossless, NeverNull, Ranged, Result, RoundTrip, Serialize, Source,
-    Stable, Writer, checked_lossless, checked_round_trips, checked_stable, read_checked,
+    Checked, CheckedLeaf, Deserialize, Error, Event, FromJson, Global, Leaf, LeafPlace, Lossless,
+    NeverNull, Ranged, Result, RoundTrip, Serialize, Source, Stable, Step, Visitor, Writer,
+    checked_from_step, checked_lossless, checked_round_trips, checked_stable, read_checked,
 };
 
 /// A part of a hundred.
@@ -96,4 +98,60 @@ impl Stable for Percent {
     fn stable() {
         checked_stable::<u8, Percent>()
     }
+}
+
+impl Leaf for Percent {
+    ghost means = { checked_meaning ⟦<u8 as FromJson>⟧.means (on_unsigned at_most_100) (λ
+        v. v.value) };
+
+    ghost only_leaves = { (λ ts. refl, λ ms. refl) };
+
+    fn from_step(alloc: Global, event: Step<'_>) -> Result<Percent> {
+        checked_from_step(alloc, event)
+    }
+}
+
+impl CheckedLeaf for Percent {
+    ghost same_leaf = { same_meaning ⟦<u8 as Leaf>⟧.means };
+}
+
+/// The place of a `Percent`.
+#[derive(Drop)]
+pub struct PercentPlace {
+    place: LeafPlace<Percent>,
+}
+
+impl Visitor for PercentPlace {
+    type Out = Percent;
+
+    ghost meaning = { wrapper_meaning (λ p. p.place) ⟦<LeafPlace<Percent> as Visitor>⟧.meaning };
+
+    fn begin(alloc: Global) -> Result<PercentPlace> {
+        Ok(PercentPlace {
+            place: <LeafPlace<Percent> as Visitor>::begin(alloc)?,
+        })
+    }
+
+    fn step(&mut self, event: Step<'_>) -> Result<()> {
+        self.place.step(event)
+    }
+
+    fn refuse(&mut self, error: Error) -> Error {
+        self.place.refuse(error)
+    }
+
+    fn is_complete(&self) -> bool {
+        self.place.is_complete()
+    }
+
+    fn take(self) -> Result<Percent> {
+        let PercentPlace { place } = self;
+        place.take()
+    }
+}
+
+impl Deserialize for Percent {
+    type Place = PercentPlace;
+
+    fn tied() {}
 }

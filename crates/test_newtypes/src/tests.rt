@@ -2,8 +2,8 @@
 
 use crate::accounts::{Account, Slug};
 use crate::callers::{
-    by_slug, by_slug_is_stable, half, owner_of, percent, percent_of, same_account, same_optional,
-    same_shares, same_slug, same_tagged, shares, span_of, tagged,
+    by_slug, by_slug_is_stable, checked_value, half, owner_of, percent, percent_of, same_account,
+    same_optional, same_shares, same_slug, same_tagged, shares, span_of, tagged,
 };
 use crate::percents::Percent;
 use crate::placed::Line;
@@ -16,7 +16,7 @@ use std::test::Fail;
 fn values_and_their_checks(rt: HostRuntime) -> std::result::Result<(), Fail> {
     let alloc = rt.alloc();
     assert!(rt; percent_of(101).is_none());
-    assert_eq!(rt; *half(&percent_of(99).unwrap()).get(), 49);
+    assert_eq!(rt; *checked_value(&half(&percent_of(99).unwrap())), 49);
     assert_eq!(rt; percent(alloc, "100")?, 100);
     assert!(rt; matches!(percent(alloc, "101"), Err(Error::Invalid)));
     assert_eq!(rt;

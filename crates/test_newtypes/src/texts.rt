@@ -2,7 +2,7 @@
 //! what serde_json gives for the same types with `transparent`, or `try_from` and `into`.
 
 use crate::accounts::{Account, Slug, Tagged, UserId};
-use crate::forms::{Celsius, Initial, Maybe};
+use crate::forms::{Celsius, Fee, Flag, Initial, Maybe, Name};
 use crate::optional::{Held, Optional, Owner, Raw};
 use crate::percents::Percent;
 use crate::spans::Span;
@@ -122,6 +122,16 @@ const SPANS: &str = r#"{"from":1,"to":2} => same
 {"from":0,"to":4294967296}
 null"#;
 
+const NAMES: &str = r#"{"b":1,"a":2,"":3} => {"":3,"a":2,"b":1}
+{"\u0061":1} => {"a":1}"#;
+
+// serde_json 1.0.87 has no keys of `bool`; later versions read these.
+const FLAGS: &str = r#"{"true":1,"false":2} => {"false":2,"true":1}
+{"true":1,"true":2} => {"true":2}
+{"":1}
+{"1":1}
+{"True":1}"#;
+
 const INITIALS: &str = r#"{"b":1,"a":2} => {"a":2,"b":1}
 {"\u00e9":1} => {"é":1}
 {"":1}
@@ -138,6 +148,7 @@ fn texts_of_newtypes(rt: HostRuntime) -> Result<(), Wrong> {
     let alloc = rt.alloc();
     expect_read_itself::<UserId>(alloc, USER_IDS)?;
     expect_read_itself::<Percent>(alloc, PERCENTS)?;
+    expect_read_itself::<Fee>(alloc, PERCENTS)?;
     expect_read_itself::<Celsius>(alloc, TEMPERATURES)?;
     expect_read_itself::<Slug>(alloc, SLUGS)?;
     expect_read_itself::<Tagged<Vec<Percent>>>(alloc, LISTS)?;
@@ -152,6 +163,8 @@ fn newtypes_as_keys(rt: HostRuntime) -> Result<(), Wrong> {
     expect_read_itself::<BTreeMap<UserId, Percent>>(alloc, SHARES)?;
     expect_read_itself::<BTreeMap<Slug, Percent>>(alloc, BY_SLUG)?;
     expect_read_itself::<BTreeMap<Tagged<UserId>, Tagged<Percent>>>(alloc, TAGGED)?;
+    expect_read_itself::<BTreeMap<Name, u8>>(alloc, NAMES)?;
+    expect_read_itself::<BTreeMap<Flag, u8>>(alloc, FLAGS)?;
     expect_read_itself::<BTreeMap<Initial, u8>>(alloc, INITIALS)
 }
 

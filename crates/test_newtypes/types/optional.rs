@@ -3,7 +3,7 @@ use crate::forms::Maybe;
 use crate::percents::Percent;
 
 /// A newtype of an `Option`, which may be missing.
-pub struct Held { // lossless, stable
+pub struct Held {
     pub id: UserId,
     pub maybe: Maybe,
 }
@@ -15,7 +15,7 @@ pub struct Optional { // lossless, stable
 }
 
 /// Whose a thing is.
-pub enum Owner { // lossless, stable
+pub enum Owner {
     User(UserId),
     Named { slug: Slug },
 }

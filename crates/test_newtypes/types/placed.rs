@@ -1,20 +1,9 @@
-/// The number of a row.
-#[derive(Clone, Copy, Debug)]
-pub struct Row(pub u64); // key, lossless, stable, events
+use crate::accounts::{Slug, UserId};
+use crate::percents::Percent;
 
-/// A part of a hundred.
-#[derive(Clone, Copy, Debug)]
-pub struct Part(u8); // check at_most_100, lossless, stable, events
-
-/// A name in an address.
-pub struct Path(String); // check is_slug, events
-
-/// The parts of a row.
-pub struct Parts4(pub Vec<Part>); // lossless, events
-
-/// A row with its parts.
+/// A row, whose place is made of those of newtypes.
 pub struct Line { // events
-    pub row: Row,
-    pub parts: Parts4,
-    pub path: Option<Path>,
+    pub row: UserId,
+    pub parts: Vec<Percent>,
+    pub path: Option<Slug>,
 }

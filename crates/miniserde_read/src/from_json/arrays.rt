@@ -26,9 +26,10 @@ impl<T: FromJson, const N: usize> FromJson for [T; N] {
         let mut items = Vec::new(source.alloc());
         let mut first = true;
         while items.len() < N {
-            if !next_element(&mut items, source, first)? {
+            let Some(item) = next_element(source, first)? else {
                 return Err(Error::Invalid);
-            }
+            };
+            items.push(item)?;
             first = false;
         }
         NoItem::read_items(source, first)?;

@@ -21,7 +21,8 @@ impl<T: FromJson> FromJson for Vec<T> {
         };
         let mut items = Vec::new(source.alloc());
         let mut first = true;
-        while next_element(&mut items, source, first)? {
+        while let Some(item) = next_element(source, first)? {
+            items.push(item)?;
             first = false;
         }
         Ok(items)

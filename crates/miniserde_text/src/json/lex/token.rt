@@ -15,25 +15,20 @@ use super::string::take_string;
 use super::{Event, Text};
 use miniserde_model::error::{Error, Result};
 
-// Takes `word`, whose last byte is ASCII and not 0. Returns `token` and the index after the word, or `None` if the
-// text does not have the word at `at`.
+// Returns the index after `word`, whose last byte is ASCII and not 0, or `None` if the text does not have the word at
+// `at`. It returns no token, so that the compiler keeps the token of a number in registers.
 #[tactic(auto, unfolding(crate::specs::private::Reading::word_at))]
-fn take_word<'a>(
-    bytes: &[u8],
-    at: usize,
-    word: &[u8],
-    token: Event<'a>,
-) -> Option<(Event<'a>, usize)>
+fn after_word(bytes: &[u8], at: usize, word: &[u8]) -> Option<usize>
     requires within { at ≤ length bytes.now }
     requires some { 0 < length word.now }
     requires there { 0 < slice_index word.now (length word.now - 1) }
     requires ascii { slice_index word.now (length word.now - 1) < 128 }
-    ensures value { option_map (λ x. (event_of_token x.0 [], drop x.1 bytes.now)) result
-        ≡ word_at word.now (event_of_token token.entry []) (drop at bytes.now) }
-    ensures within { IfSome result (λ x. x.1 ≤ length bytes.now) }
+    ensures value { (e : step.Step) → option_map (λ end. (e, drop end bytes.now)) result
+        ≡ word_at word.now e (drop at bytes.now) }
+    ensures within { IfSome result (λ end. end ≤ length bytes.now) }
 {
     if bytes[at..].starts_with(word) {
-        Some((token, index_after(bytes, at, word.len())))
+        Some(index_after(bytes, at, word.len()))
     } else {
         None
     }
@@ -52,9 +47,9 @@ fn take_plain<'a>(text: &'a str, at: usize, first: u8) -> Option<(Event<'a>, usi
 {
     let bytes = text.as_bytes();
     match first {
-        b'n' => take_word(bytes, at, b"null", Event::Null),
-        b't' => take_word(bytes, at, b"true", Event::Bool(true)),
-        b'f' => take_word(bytes, at, b"false", Event::Bool(false)),
+        b'n' => Some((Event::Null, after_word(bytes, at, b"null")?)),
+        b't' => Some((Event::Bool(true), after_word(bytes, at, b"true")?)),
+        b'f' => Some((Event::Bool(false), after_word(bytes, at, b"false")?)),
         b'[' => Some((Event::SeqStart, index_after(bytes, at, 1))),
         b'{' => Some((Event::MapStart, index_after(bytes, at, 1))),
         _ => take_number(text, at, first),

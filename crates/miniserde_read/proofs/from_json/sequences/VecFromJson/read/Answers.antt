@@ -8,15 +8,15 @@ use Rattle.miniserde_read.proofs.Lists.{list_goes, list_ends}
 use Rattle.miniserde_read.proofs.from_json.sequences.VecFromJson.read.Goals as goal
 
 pub loop-items-smaller : goal.loop-items-smaller
-loop-items-smaller g c = element_less g.T.FromJson.means _ _ _ _ _ _ c.in_ok-next_element.ensures.ok c.if-branch.true
+loop-items-smaller g c = element_less g.T.FromJson.means _ _ _ _ (rw c.in-Some.is at c.in_ok-item.ensures.ok)
 
 pub loop-items-preserved : goal.loop-items-preserved
 loop-items-preserved g c = record {
-  going = c.in_ok-next_element.ensures.going;
-  goes = list_goes _ c.loop-items.invariant.goes c.in_ok-next_element.ensures.ok c.if-branch.true;
+  going = c.in_ok-item.ensures.going;
+  goes = rw c.in_ok-push.ensures.items (list_goes c.loop-items.invariant.goes (rw c.in-Some.is at c.in_ok-item.ensures.ok));
 }
 
 pub returns-clause-ok : goal.returns-clause-ok
 returns-clause-ok g c =
-    let d = list_ends _ _ _ c.loop-items.invariant.goes c.in_ok-next_element.ensures.ok c.if-branch.false in
+    let d = list_ends _ c.loop-items.invariant.goes (rw c.in_default-2.is at c.in_ok-item.ensures.ok) in
     (list d.0, (ap (λ z. event_of_token z c.args.source.now.scratch) c.in-SeqStart.is, d.1), d.2)

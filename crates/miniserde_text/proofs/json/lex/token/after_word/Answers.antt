@@ -7,7 +7,7 @@ use Rattle.std.proofs.lemmas.List.{take_rest}
 use Rattle.std.proofs.lemmas.Slice.Eq.{starts_is}
 use Rattle.std.proofs.lemmas.Bool.Decides.{Decides-eqb}
 use Rattle.std.proofs.lemmas.List.Prefix.{front_reads}
-use Rattle.miniserde_text.proofs.json.lex.token.take_word.Goals as goal
+use Rattle.miniserde_text.proofs.json.lex.token.after_word.Goals as goal
 
 last : (c : goal.Then-starts_with) → get_or (drop c.args.at c.args.bytes.now) (length c.args.word.now - 1) 0
     ≡ get_or c.args.word.now (length c.args.word.now - 1) 0
