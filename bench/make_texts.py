@@ -51,6 +51,60 @@ def message(r, number_of_message):
         r.choice(['true', 'false']), r.choice(['en', 'ja', 'fr']))
 
 
+def words(r, most):
+    return [word(r, 3, 12) for _ in range(r.randrange(most + 1))]
+
+
+def media(r):
+    """What a post shows, as an enum with data."""
+    url = 'http://t.co/' + r.choice(LETTERS[:26]) * 8
+    return r.choice([
+        {'Photo': {'url': url, 'width': r.randrange(4000), 'height': r.randrange(4000)}},
+        {'Video': {'url': url, 'seconds': r.randrange(1000)}},
+        {'Link': url},
+    ])
+
+
+def post(r, number_of_post):
+    """A message as `message` makes it, with what a type of structs has: a map, an enum with data, pairs of integers."""
+    made = json.loads(message(r, number_of_post))
+    if made['coordinates']:
+        made['coordinates'] = [round(degrees * 10 ** 6) for degrees in made['coordinates']]
+    made['media'] = [media(r) for _ in range(r.randrange(3))]
+    made['counts'] = {name: r.randrange(10 ** 4) for name in ('likes', 'replies', 'views')}
+    del made['geo'], made['retweet_count']
+    return made
+
+
+def record(r, at):
+    return {'id': at, 'name': word(r, 3, 15), 'tags': words(r, 3), 'ok': r.random() < 0.5,
+            'at': {'x': r.randint(-10 ** 6, 10 ** 6), 'y': r.choice([None, r.randrange(1000)])}}
+
+
+def page(r):
+    begin = r.randrange(10 ** 9)
+    return {'total': 10 ** 9, 'next': r.choice([None, word(r, 20, 20)]), 'records': [record(r, begin + k) for k in range(50)]}
+
+
+def service(r):
+    """Settings of thirty members, in the order in which their struct has them."""
+    maybe = lambda value: value if r.random() < 0.5 else None
+    names = lambda: {word(r, 3, 10) for _ in range(3)}
+    return {
+        'name': word(r, 5, 20), 'host': word(r, 5, 20), 'port': r.randrange(2 ** 16), 'admin_port': maybe(r.randrange(2 ** 16)),
+        'workers': r.randrange(256), 'queue': r.randrange(10 ** 6), 'timeout_ms': r.randrange(10 ** 5),
+        'idle_timeout_ms': maybe(r.randrange(10 ** 5)), 'max_body': r.randrange(10 ** 9), 'max_header': r.randrange(10 ** 5),
+        'keep_alive': r.random() < 0.5, 'tls': r.random() < 0.5, 'cert': maybe(word(r, 10, 40)), 'key': maybe(word(r, 10, 40)),
+        'level': r.choice(['Error', 'Warn', 'Info', 'Debug']), 'log_file': maybe(word(r, 10, 40)), 'origins': words(r, 3),
+        'methods': words(r, 4), 'headers': {name: word(r, 3, 30) for name in sorted(names())},
+        'routes': {name: words(r, 3) for name in sorted(names())}, 'per_second': r.randrange(10 ** 4), 'burst': r.randrange(10 ** 4),
+        'block_seconds': maybe(r.randrange(10 ** 4)), 'retry': [r.randrange(10 ** 4) for _ in range(3)],
+        'backoff': [r.randrange(100), r.randrange(10 ** 4)], 'offset': r.randint(-10 ** 4, 10 ** 4), 'region': r.choice(['eu-west', 'us-east', 'ap-south']),
+        'tags': maybe(words(r, 3)), 'quota': {str(k): r.randint(-100, 100) for k in sorted(r.choices(range(9), k=3))},
+        'share': r.randrange(101),
+    }
+
+
 def in_order(text):
     """The text with the names of its objects in order, without whitespace, and no escape but those that must be."""
     return json.dumps(json.loads(text), sort_keys=True, ensure_ascii=False, separators=(',', ':'))
@@ -122,6 +176,11 @@ def texts():
         same = random.Random(20261127)
         yield name, fill(SIZE, lambda: action(same, at))
     yield 'triples', fill(SIZE, lambda: '[%d,%d,%d]' % tuple(r.choices(range(256), k=3)))
+    # Types as users have them.
+    r = random.Random(20261129)
+    ids = iter(range(10 ** 6))
+    for name, make in (('posts', lambda: post(r, next(ids))), ('pages', lambda: page(r)), ('services', lambda: service(r))):
+        yield name, fill(SIZE, lambda: json.dumps(make(), ensure_ascii=False, separators=(',', ':')))
 
 
 def main():

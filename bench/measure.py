@@ -32,6 +32,9 @@ JOBS = [
     ('`Vec<(u64, String)>`', 'pairs', 'pairs', 'empty'),
     ('`Vec<(u8, u8, u8)>`', 'triples', 'triples', 'empty'),
     ('`Vec<Option<bool>>`', 'options', 'options', 'empty'),
+    ('`Vec<Post>`, structs in structs', 'posts', 'posts', 'empty'),
+    ('`Vec<Page>`, pages of records', 'pages', 'pages', 'empty'),
+    ('`Vec<Service>`, thirty fields', 'services', 'services', 'empty'),
     *((f'{what}, {text}', kind, name, 'empty_map' if name == 'names' else 'empty')
       for what, kind in (('`Value`', 'value'), ('`canonical`', 'canonical'))
       for text, name in (('messages', 'messages'), ('records', 'records'), ('100 deep', 'nested'),
@@ -95,42 +98,42 @@ def measure(programs, job, folder, rounds, with_instructions):
     _, kind, text, empty = job
     text, empty = '%s/%s.json' % (folder, text), '%s/%s.json' % (folder, empty)
     size = os.path.getsize(text) - os.path.getsize(empty)
-    answers = {p.name: p.answer(kind, 'both', text) for p in programs}
-    ours = answers[programs[0].name]
+    answers = {(p.name, mode): p.answer(kind, mode, text) for p in programs for mode in modes_of(kind)}
+    ours = answers[programs[0].name, 'both']
     if ours is None:
         sys.exit('%s: ours refused' % job[0])
-    for name, answer in answers.items():
-        if answer is not None and answer != ours and not is_same_document(answer, ours):
+    for (name, mode), answer in answers.items():
+        if mode == 'both' and answer is not None and answer != ours and not is_same_document(answer, ours):
             sys.exit('%s: %s wrote another text' % (job[0], name))
-    able = [p for p in programs if answers[p.name] is not None]
-    figures, modes = {}, modes_of(kind)
-    for p in able:
-        for mode in modes:
-            if with_instructions:
-                more = p.instructions(kind, mode, text) - p.instructions(kind, mode, empty)
-                figures[p.name, mode, 'instructions'] = more / size
-            figures[p.name, mode, 'memory'] = (p.memory(kind, mode, text) - p.memory(kind, mode, empty)) / size
+    # A program may be made for one mode alone.
+    able = [(p, mode) for p in programs for mode in modes_of(kind) if answers[p.name, mode] is not None]
+    figures = {}
+    for p, mode in able:
+        if with_instructions:
+            more = p.instructions(kind, mode, text) - p.instructions(kind, mode, empty)
+            figures[p.name, mode, 'instructions'] = more / size
+        figures[p.name, mode, 'memory'] = (p.memory(kind, mode, text) - p.memory(kind, mode, empty)) / size
     least = {}
     with open('/dev/shm/%d' % os.getpid(), 'wb') as to:
         for _ in range(rounds):
-            for p in able:
-                for mode in modes:
-                    for t in (text, empty):
-                        to.seek(0)
-                        key = p.name, mode, t
-                        least[key] = min(least.get(key, 1e9), p.seconds(kind, mode, t, to))
+            for p, mode in able:
+                for t in (text, empty):
+                    to.seek(0)
+                    key = p.name, mode, t
+                    least[key] = min(least.get(key, 1e9), p.seconds(kind, mode, t, to))
         os.unlink(to.name)
-    for p in able:
-        for mode in modes:
-            figures[p.name, mode, 'time'] = (least[p.name, mode, text] - least[p.name, mode, empty]) * 1e9 / size
+    for p, mode in able:
+        figures[p.name, mode, 'time'] = (least[p.name, mode, text] - least[p.name, mode, empty]) * 1e9 / size
+    for p in programs:
         for what in ('instructions', 'time'):
-            if (p.name, 'read', what) in figures:
+            if (p.name, 'read', what) in figures and (p.name, 'both', what) in figures:
                 figures[p.name, 'write', what] = figures[p.name, 'both', what] - figures[p.name, 'read', what]
     return figures
 
 
 def table(programs, rows, mode, what):
     """Prints the figures of each job that has them, and ours in multiples of the others'."""
+    programs = [p for p in programs if any((p.name, mode, what) in figures for _, figures in rows)]
     ours, others = programs[0], programs[1:]
     heads = ['job', *(p.name for p in programs), *(f'to {p.name}' for p in others)]
     print('| ' + ' | '.join(heads) + ' |\n|' + '---|' * len(heads))

@@ -1,6 +1,9 @@
 //! The jobs, by their names.
 
 use crate::outcome::Outcome;
+use crate::pages::Page;
+use crate::posts::Post;
+use crate::services::Service;
 use crate::{calls, places};
 use demo::{Demo, Example, StrictDemo, Tag};
 use examples::action::Action;
@@ -68,6 +71,9 @@ fn of_structs(alloc: Global, job: &str, depth: Depth, text: &str) -> Option<Resu
         "actions" => Some(rewrite::<Vec<Action>>(alloc, depth, text)),
         "tags" => Some(rewrite::<Vec<Tag>>(alloc, depth, text)),
         "example" => Some(rewrite::<Example>(alloc, depth, text)),
+        "posts" => Some(rewrite::<Vec<Post>>(alloc, depth, text)),
+        "pages" => Some(rewrite::<Vec<Page>>(alloc, depth, text)),
+        "services" => Some(rewrite::<Vec<Service>>(alloc, depth, text)),
         _ => None,
     }
 }

@@ -10,9 +10,14 @@
 #![tactic(auto)]
 
 mod calls;
+mod entities;
 mod jobs;
 mod outcome;
+mod pages;
 mod places;
+mod posts;
+mod services;
+mod users;
 
 use jobs::{Depth, run};
 use miniserde::Error;
