@@ -1,5 +1,5 @@
 -- What an open finds is the database that was committed: the trees are the same, and they list one schema.
-use Rattle.std.proofs.Common.{◌≡◌, IsTrue, false, refl, sym, ap, subst, ◌∙◌}
+use Rattle.std.proofs.Common.{◌≡◌, ℕ, List, IsTrue, refl, sym, ap, subst, ◌∙◌}
 use Rattle.std.proofs.Math.Logic.{∥∥₁_elim}
 use Rattle.sqlite_disk.specs.declared.Disk.{Ghosts}
 use Rattle.sqlite_disk.specs.declared.Files.{Files}
@@ -18,6 +18,7 @@ use Rattle.sqlite.specs.Held.{Held}
 use Rattle.sqlite.specs.Files.{HoldsDatabase, IsOpened, Finds, file_state}
 use Rattle.sqlite.specs.Start.{FindsIn}
 use Rattle.sqlite.specs.Closing.{IsCopied}
+use Rattle.rows.specs.Entries.{IsPut}
 use Rattle.sqlite.proofs.Callers.{finds_again}
 
 abbrev database : Schema → Trees → Database
@@ -48,3 +49,8 @@ pub reopened_finds : {D : Type 0} {g : Ghosts D} (old new : Held (FileStore D g)
 reopened_finds old new files live closed opened found =
     opened_is (file_state new) (file_state old).committed opened.0 opened.1 (live (closed found.honest).was_open).1
     (finds_again old new files closed found)
+
+-- what was put is in the database that is found, and stays there if a call changes nothing
+pub still_put : (old put again new : Database) (key body : List ℕ) → IsPut old put key body → again ≡ put → new ≡ again
+    → IsPut old new key body
+still_put old put again new key body p found same = subst (λ db. IsPut old db key body) (sym (same ∙ found)) p

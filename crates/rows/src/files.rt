@@ -4,7 +4,8 @@ ghost use Rattle.sqlite.specs.WalFiles.{image_at};
 ghost use Rattle.sqlite.specs.Effect.{Database, IsDatabase};
 ghost use Rattle.sqlite.specs.State.{HasCleanDisk};
 ghost use Rattle.sqlite.specs.Files.{file_state, HoldsDatabase, IsOpened};
-ghost use Rattle.rows.specs.Entries.{IsStore};
+ghost use Rattle.rows.specs.Entries.{IsStore, IsPut};
+ghost use Rattle.rows.specs.Values.{canonical_text};
 
 use crate::error::Error;
 use crate::values::{get, put};
@@ -64,10 +65,17 @@ pub fn put_and_reopen<D: Disk + Drop, K: Serialize, V: Stable + Lossless>(
     key: &K,
     value: &V,
 ) -> Result<(Connection<FileStore<D>>, Option<V>), Error>
-    // Outside of a transaction the answer is a value with the content of the one that was put.
+    // Outside of a transaction the database is the one from before with this row put, as `put` says it.
+    ensures put { IfOk result (λ r. HasCleanDisk (file_state r.0) → IsStore (file_state conn).now
+        → (file_state conn).in_transaction ≡ false → IsPut (file_state conn).now (file_state r.0).now
+        (canonical_text (K.tree key.now)) (canonical_text (V.tree value.now))) }
+
+    // And the answer is a value with the content of the one that was put.
     ensures same { IfOk result (λ r. HasCleanDisk (file_state r.0) → IsStore (file_state conn).now
         → (file_state conn).in_transaction ≡ false
         → IfSome r.1 (λ read. V.means.content read ≡ V.means.content value.now)) }
+    ensures some { IfOk result (λ r. HasCleanDisk (file_state r.0) → IsStore (file_state conn).now
+        → (file_state conn).in_transaction ≡ false → r.1 ≡ None → ⊥) }
 {
     value.ranged();
     put(alloc, &mut conn, key, value)?;

@@ -4,7 +4,7 @@ use Rattle.rows.proofs.files.reopen.Goals as goal
 
 pub returns-in-Ok-open_files-clause-found : goal.returns-in-Ok-open_files-clause-found
 returns-in-Ok-open_files-clause-found g c clean =
-    reopened_finds c.args.conn c.in-Ok-open_files.again c.in-Ok.files c.schema.ensures.live c.in-Ok.ensures.copied
+    reopened_finds c.args.conn c.in-Ok-open_files.again c.in-Ok.files c.schema-schema.ensures.live c.in-Ok.ensures.copied
     (c.in-Ok-open_files.ensures.opened clean) (c.in-Ok-open_files.ensures.found clean)
 
 pub returns-in-Ok-open_files-clause-clean : goal.returns-in-Ok-open_files-clause-clean

@@ -9,4 +9,4 @@ abbrev pub invariant-loop-row : goal.invariant-loop-row
 invariant-loop-row g l =
     AllZip (λ entry read. IsReadFrom g.K.FromJson.means g.K.Serialize.tree g.K.Ranged.real entry.0 read.0
     × IsReadFrom g.V.FromJson.means g.V.Serialize.tree g.V.Ranged.real entry.1 read.1)
-    (map texts_of (take l.row-index l.rows.items)) l.each.items
+    (map texts_of (take l.row-index l.row-items)) l.each.items
