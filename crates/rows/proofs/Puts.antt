@@ -60,7 +60,8 @@ again rows ids new out left is p = record {
 }
 
 module _ (limit : Option ℕ) (keys : Keys) (params : Row) where
-  puts_one : (new : Row) (db : Trees) (out : Written) → Puts (task_of limit keys params) new db (Ok out) → Replaces (db 0) [] new (out.trees 0)
+  puts_one : (new : Row) (db : Trees) (out : Written) → Puts (task_of limit keys params) new db (Ok out)
+      → Replaces (db 0) [] new (out.trees 0)
   puts_one new db out h =
       let on = went h in
       let step = one_step entry_schema keys db on.0 (edit_of db entry [] Given 0 (new ∷ [])) refl on.1 in

@@ -12,7 +12,8 @@ returns-clause-each g c clean has =
     let entries = map texts_of c.loop-row.each.items in
     let seen = c.deref-row-items.result.now in
     let end : length seen ≤ c.loop-row.row-index = search rules in
-    let read = read_all shown rows seen c.loop-row.row-index (map words_of entries) c.deref-row-items.ensures.value end c.loop-row.invariant in
+    let read = read_all shown rows seen c.loop-row.row-index
+    (map words_of entries) c.deref-row-items.ensures.value end c.loop-row.invariant in
     shows_each (state g.S.Store c.args.conn.now) (state g.S.Store c.query_each.new.conn) rows entries has
     (c.in_ok-rows.ensures.rows clean) read
 
