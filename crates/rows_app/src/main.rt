@@ -21,6 +21,7 @@ const DELIVERY: &str = r#"{"name":"nails","count":100,"note":null}
 const LAST: &str = r#"{"name":"rope \"thin\"","count":1}"#;
 
 /// What a file had, and what it has after a delivery.
+#[derive(Drop)]
 struct Stock {
     before: Vec<(String, Goods)>,
     last: Option<Goods>,
