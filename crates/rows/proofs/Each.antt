@@ -1,7 +1,7 @@
 -- What the query for all rows shows: the rows of the table, in an order that ORDER BY allows.
-use Rattle.std.proofs.Common.{arith, ◌≡◌, ◌<◌, ◌≤◌, ◌+◌, ℕ, List, [], ◌∷◌, length, map, Bool, false, refl, sym, ap, subst, subst₂, ◌∙◌}
+use Rattle.std.proofs.Common.{arith, ◌≡◌, ◌<◌, ◌+◌, ℕ, List, [], ◌∷◌, map, Bool, false, refl, sym, ap, subst, subst₂, ◌∙◌}
 use Rattle.std.proofs.Common.{IsPermutation}
-use Rattle.std.specs.List.{AllByRecursion, flat_map, slice_index_or}
+use Rattle.std.specs.List.{AllByRecursion}
 use Rattle.std.specs.List.Sorted.{IsSortedBy, IsSortedByKey}
 use Rattle.std.specs.Ordering.{nat_cmp, is_lt}
 use Rattle.std.specs.Cmp.Lexicographic.{slice_cmp}
@@ -15,9 +15,8 @@ use Rattle.sqlite.specs.declared.types.Value.TheVariants.{Null, Text}
 use Rattle.sqlite.specs.Order.{Row, column, value_cmp}
 use Rattle.sqlite.specs.Tree.{Trees}
 use Rattle.sqlite.specs.Program.{overlay}
-use Rattle.sqlite.specs.Effect.{Database}
-use Rattle.sqlite.specs.Query.{Query, Output, output, matches, IsAnswer}
-use Rattle.sqlite.specs.State.{State, Shown}
+use Rattle.sqlite.specs.Query.{Output, output, IsAnswer}
+use Rattle.sqlite.specs.State.{State, IsUnchanged, Shown}
 use Rattle.sqlite.proofs.Callers.{reads_as}
 use Rattle.rows.specs.Entries.{each_text, entry_schema, words_of, AreEntries}
 use Rattle.rows.proofs.Effects.{shown_same}
@@ -115,5 +114,6 @@ shows_each old new found entries has h read =
     record { same = same db found answer entries read; sorted = sorted db found answer entries read }
 
 -- the query for all rows changes nothing
-pub each_same : (old new : State) (found : List Row) → old.now.schema ≡ entry_schema → Shown each_text [] old new found → new.now ≡ old.now
+pub each_same : (old new : State) (found : List Row) → old.now.schema ≡ entry_schema → Shown each_text [] old new found
+    → IsUnchanged old new
 each_same old new found = shown_same each_text [] old new found each_plain

@@ -1,25 +1,22 @@
 -- What the calls do to a store: the lemmas of each statement, for a result that may be an error.
-use Rattle.std.proofs.Common.{◌≡◌, ◌↔◌, ◌⊎◌, inl, inr, ℕ, List, [], ◌∷◌, false, Some, None, Ok, Err, Result, IfOk, OnOk, refl, sym, ap}
+use Rattle.std.proofs.Common.{◌≡◌, inl, inr, ℕ, List, [], ◌∷◌, false, None, Ok, Err, Result, OnOk, sym, ap}
 use Rattle.std.proofs.Common.{subst, ◌∙◌}
 use Rattle.sqlite.specs.declared.types.Value.TheVariants.{Text}
-use Rattle.sqlite.specs.declared.types.Value.{Value}
 use Rattle.sqlite.specs.Order.{Row, column}
-use Rattle.sqlite.specs.Table.{Table}
-use Rattle.sqlite.specs.Tree.{Trees}
 use Rattle.sqlite.specs.Change.{created, next_tree}
 use Rattle.sqlite.specs.Does.{Tally, lacks_sequence}
 use Rattle.sqlite.specs.Effect.{Database}
 use Rattle.sqlite.specs.declared.error.Error.{Error}
 use Rattle.sqlite.specs.Command.TheVariants.{CreateTable, Nothing}
 use Rattle.sqlite.specs.Listing.{understood}
-use Rattle.sqlite.specs.State.{State, Writes, Executes, QueriesRow, Shown, ShowsRows}
+use Rattle.sqlite.specs.State.{State, IsUnchanged, Writes, Executes, QueriesRow, Shown, ShowsRows}
 use Rattle.sqlite.specs.Clock.{timed}
 use Rattle.sqlite.specs.declared.error.Error.TheVariants.{QueryReturnedNoRows}
 use Rattle.rows.proofs.Gets.{no_failure}
 use Rattle.sqlite.proofs.Callers.{IsPlain, runs_as}
 use Rattle.rows.specs.Entries.{create_text, put_text, get_text, entry, no_schema, entry_schema, Holds, IsStore, IsPut, IsCommitted}
 use Rattle.rows.proofs.Statements.{create_is, create_plain, again_is, again_plain, get_plain}
-use Rattle.rows.proofs.Puts.{went, same_value, puts, puts_commits}
+use Rattle.rows.proofs.Puts.{went, same_value, puts, puts_commits, committed_by}
 use Rattle.rows.proofs.Kept.{text_of_same, is_there, alone, keyed_still, rising_still, was_there, stays}
 
 -- the row is put into the store
@@ -50,6 +47,14 @@ pub commits_in : (old new : State) (key body : List ℕ) (r : Result ℕ Error) 
 commits_in old new key body (Err e) was outside h = tt
 commits_in old new key body (Ok count) was outside h = puts_commits old new key body count was.schema outside h
 
+-- outside of a transaction the table is committed
+pub creates_committed : (old new : State) (r : Result ℕ Error) → old.now.schema ≡ no_schema → old.in_transaction ≡ false
+    → Executes create_text [] old new r → OnOk r (IsCommitted new)
+creates_committed old new (Err e) has outside h = tt
+creates_committed old new (Ok count) has outside h =
+    let w = runs_as create_text [] old new no_schema has CreateTable create_is.0 create_plain count h in
+    committed_by old new outside w.shown.mode w.shown.committed_is
+
 -- the table that was made has no row
 pub creates : (old new : State) (r : Result ℕ Error) → old.now.schema ≡ no_schema → Executes create_text [] old new r
     → OnOk r (IsStore new.now × ((k b : List ℕ) → Holds new.now k b → ⊥))
@@ -71,30 +76,30 @@ creates old new (Ok count) has h =
 
 -- a database that has the table stays as it is
 pub creates_again : (old new : State) (r : Result ℕ Error) → old.now.schema ≡ entry_schema → Executes create_text [] old new r
-    → OnOk r (new.now ≡ old.now)
+    → OnOk r (IsUnchanged old new)
 creates_again old new (Err e) has h = tt
-creates_again old new (Ok count) has h = (runs_as create_text [] old new entry_schema has Nothing again_is again_plain count h).0.0.now_is
+creates_again old new (Ok count) has h = (runs_as create_text [] old new entry_schema has Nothing again_is again_plain count h).0
 
 -- a query of a plain statement changes nothing
 pub shown_same : (sql : List ℕ) (params : Row) (old new : State) (rows : List Row) → IsPlain (understood entry_schema sql)
-    → old.now.schema ≡ entry_schema → Shown sql params old new rows → new.now ≡ old.now
+    → old.now.schema ≡ entry_schema → Shown sql params old new rows → IsUnchanged old new
 unfolding Shown
 shown_same sql params old new rows plain has h =
     let known = sym h.1.is ∙ ap (λ s. understood s sql) has in
     let bare = subst IsPlain (sym known) plain in
     let it = subst (ShowsRows old new sql h.0 (timed params h.0.formats h.1.now) rows) bare.0 h.2 in
-    it.3.0.now_is
+    it.3
 
 -- the query for a key changes nothing
 pub gets_same : (old new : State) (key : List ℕ) (row : Row) → old.now.schema ≡ entry_schema
-    → QueriesRow get_text (Text key ∷ []) old new (Ok row) → new.now ≡ old.now
+    → QueriesRow get_text (Text key ∷ []) old new (Ok row) → IsUnchanged old new
 unfolding QueriesRow
-gets_same old new key row has (inl h) = h.1.0.now_is
+gets_same old new key row has (inl h) = h.1
 gets_same old new key row has (inr h) = shown_same get_text (Text key ∷ []) old new h.0 get_plain has h.1
 
 -- and so if it finds no row
 pub gets_none_same : (old new : State) (key : List ℕ) → old.now.schema ≡ entry_schema
-    → QueriesRow get_text (Text key ∷ []) old new (Err QueryReturnedNoRows) → new.now ≡ old.now
+    → QueriesRow get_text (Text key ∷ []) old new (Err QueryReturnedNoRows) → IsUnchanged old new
 unfolding QueriesRow
 gets_none_same old new key has (inl h) = absurd (no_failure old new key has h)
 gets_none_same old new key has (inr h) = shown_same get_text (Text key ∷ []) old new [] get_plain has h.1

@@ -1,6 +1,6 @@
 -- What the query for a key finds: the rows whose key equals the text, which are those that have it.
-use Rattle.std.proofs.Common.{true≢false, arith, ◌≡◌, ◌⊎◌, inl, inr, ℕ, List, [], ◌∷◌, ◌++◌, map, flat_map, Bool, true, false, ◌&&◌, cond}
-use Rattle.std.proofs.Common.{Some, None, Ok, Err, Result, IfOk, refl, sym, ap, subst, ◌∙◌, IsPermutation}
+use Rattle.std.proofs.Common.{true≢false, arith, ◌≡◌, inl, inr, ℕ, List, [], ◌∷◌, ◌++◌, map, flat_map, Bool, true, false, ◌&&◌, cond}
+use Rattle.std.proofs.Common.{Some, refl, sym, ap, subst, ◌∙◌, IsPermutation}
 use Rattle.std.specs.List.{list_all}
 use Rattle.std.specs.Ordering.{is_eq}
 use Rattle.std.specs.declared.cmp.Ordering.{Ordering}
@@ -19,10 +19,10 @@ use Rattle.sqlite_value.specs.declared.value.Value.TheVariants.{Null, Int, Real,
 use Rattle.sqlite_sql.specs.Ops.{binary, is_true, from_truth}
 use Rattle.sqlite_schema.specs.Rules.{equal}
 use Rattle.sqlite.specs.Collation.TheVariants.{Binary}
-use Rattle.sqlite.specs.Order.{Row, column, value_cmp}
+use Rattle.sqlite.specs.Order.{Row, column}
 use Rattle.sqlite.specs.Tree.{Trees}
-use Rattle.sqlite.specs.Term.{Term, holds}
-use Rattle.sqlite.specs.Query.{Query, Output, output, matches, IsAnswer}
+use Rattle.sqlite.specs.Term.{holds}
+use Rattle.sqlite.specs.Query.{Output, output, matches, IsAnswer}
 use Rattle.rows.proofs.Statements.{query}
 
 -- ---- equal texts

@@ -1,20 +1,17 @@
 -- What the statement that puts a row makes of the table, step by step as the clauses of `sqlite` name them.
-use Rattle.std.proofs.Common.{◌≡◌, ◌⊎◌, inl, inr, ℕ, ℤ, zero, suc, List, [], ◌∷◌, ◌++◌, map, Bool, true, false, cond, if◌then◌else◌}
-use Rattle.std.proofs.Common.{Option, Some, None, Ok, Err, Result, OnOk, refl, sym, ap, subst, ◌∙◌}
-use Rattle.sqlite_rules.specs.Lists.{Has}
+use Rattle.std.proofs.Common.{◌≡◌, ◌⊎◌, inl, inr, ℕ, ℤ, List, [], ◌∷◌, true, false, if◌then◌else◌}
+use Rattle.std.proofs.Common.{Option, Some, None, Ok, Err, Result, refl, sym, ap, subst, ◌∙◌}
 use Rattle.sqlite_rules.specs.Keys.{AreConflicts}
 use Rattle.sqlite_rules.specs.Calls.{ids_of}
-use Rattle.sqlite_rules.specs.Edit.{Edit, edit_of, edited, without_all, with_rowid, are_fresh, have_rowids}
-use Rattle.sqlite_rules.specs.Action.{Writes}
+use Rattle.sqlite_rules.specs.Edit.{edit_of, without_all, with_rowid, are_fresh, have_rowids}
 use Rattle.sqlite_rules.specs.Cast.{cast_row}
-use Rattle.sqlite_rules.specs.declared.error.Rowids.{Rowids}
 use Rattle.sqlite_rules.specs.declared.error.Rowids.TheVariants.{Chosen, Given}
 use Rattle.sqlite_schema.specs.declared.schema.Keys.{Keys}
 use Rattle.sqlite_schema.specs.declared.command.Conflict.TheVariants.{Replace}
-use Rattle.sqlite.specs.declared.types.Value.TheVariants.{Null, Int, Text}
-use Rattle.sqlite.specs.Order.{Row, column}
-use Rattle.sqlite.specs.Tree.{Trees, rowid, put_row}
-use Rattle.sqlite.specs.Rows.{Task, Written, Clears, Puts, Edited}
+use Rattle.sqlite.specs.declared.types.Value.TheVariants.{Null, Text}
+use Rattle.sqlite.specs.Order.{Row}
+use Rattle.sqlite.specs.Tree.{Trees, put_row}
+use Rattle.sqlite.specs.Rows.{Task, Written, Clears, Puts}
 use Rattle.sqlite.proofs.Callers.{one_step}
 use Rattle.sqlite_rules.specs.declared.error.Refusal.{Refusal}
 use Rattle.sqlite.specs.Rows.{Judged, Tries, TriesEach, InsertsOr, nothing, count_of}
@@ -138,11 +135,16 @@ puts old new key body count has h =
           (inserted old.step_limit (mode_of old).keys key body old.now.trees done.0 done.1),
     )
 
+-- a write outside of a transaction is committed
+pub committed_by : (old new : State) → old.in_transaction ≡ false → new.in_transaction ≡ old.in_transaction
+    → new.committed ≡ (if old.in_transaction then old.committed else new.now) → IsCommitted new
+committed_by old new outside mode committed =
+    (mode ∙ outside, subst (λ b. new.committed ≡ (if b then old.committed else new.now)) outside committed)
+
 -- outside of a transaction the row is committed
 pub puts_commits : (old new : State) (key body : List ℕ) (count : ℕ) → old.now.schema ≡ entry_schema → old.in_transaction ≡ false
     → Executes put_text (Text key ∷ Text body ∷ []) old new (Ok count) → IsCommitted new
 puts_commits old new key body count has outside h =
     let command = InsertOr 0 Replace (Values terms 3) [] in
     let w = runs_as put_text (Text key ∷ Text body ∷ []) old new entry_schema has command put_is put_plain count h in
-    let all = λ (b : Bool). new.committed ≡ (if b then old.committed else new.now) in
-    (w.shown.mode ∙ outside, subst all outside w.shown.committed_is)
+    committed_by old new outside w.shown.mode w.shown.committed_is

@@ -1,5 +1,5 @@
 -- What an open finds is the database that was committed: the trees are the same, and they list one schema.
-use Rattle.std.proofs.Common.{◌≡◌, ℕ, List, IsTrue, refl, sym, ap, subst, ◌∙◌}
+use Rattle.std.proofs.Common.{◌≡◌, ℕ, List, sym, ap, subst, ◌∙◌}
 use Rattle.std.proofs.Math.Logic.{∥∥₁_elim}
 use Rattle.sqlite_disk.specs.declared.Disk.{Ghosts}
 use Rattle.sqlite_disk.specs.declared.Files.{Files}
@@ -13,12 +13,12 @@ use Rattle.sqlite_catalog.specs.Listing.{Lists}
 use Rattle.sqlite_catalog.proofs.ReadLemmas.{lists_once}
 use Rattle.sqlite_store.specs.declared.store.FileStore.{FileStore}
 use Rattle.sqlite.specs.Effect.{Database, IsDatabase}
-use Rattle.sqlite.specs.State.{State, IsLive, Opens}
+use Rattle.sqlite.specs.State.{State, IsLive, IsUnchanged, Opens}
 use Rattle.sqlite.specs.Held.{Held}
 use Rattle.sqlite.specs.Files.{HoldsDatabase, IsOpened, Finds, file_state}
 use Rattle.sqlite.specs.Start.{FindsIn}
 use Rattle.sqlite.specs.Closing.{IsCopied}
-use Rattle.rows.specs.Entries.{IsPut}
+use Rattle.rows.specs.Entries.{IsPut, IsCommitted}
 use Rattle.sqlite.proofs.Callers.{finds_again}
 
 abbrev database : Schema → Trees → Database
@@ -49,6 +49,14 @@ pub reopened_finds : {D : Type 0} {g : Ghosts D} (old new : Held (FileStore D g)
 reopened_finds old new files live closed opened found =
     opened_is (file_state new) (file_state old).committed opened.0 opened.1 (live (closed found.honest).was_open).1
     (finds_again old new files closed found)
+
+-- a call that changes nothing leaves what was committed
+pub still_committed : (old new : State) → IsCommitted old → IsUnchanged old new → IsCommitted new
+still_committed old new c same = (same.0.mode ∙ c.0, same.0.committed_is ∙ c.1 ∙ sym same.0.now_is)
+
+-- and so a connection that was opened
+pub opened_committed : (old new : State) → Opens old → IsUnchanged old new → IsCommitted new
+opened_committed old new opens = still_committed old new (opens.autocommit, sym opens.clean)
 
 -- what was put is in the database that is found, and stays there if a call changes nothing
 pub still_put : (old put again new : Database) (key body : List ℕ) → IsPut old put key body → again ≡ put → new ≡ again

@@ -1,5 +1,5 @@
 -- What the texts of the statements mean under the schema of the table: the checker computes each of them.
-use Rattle.std.proofs.Common.{◌≡◌, ℕ, List, [], ◌∷◌, Ok, None, codes, pos, negsuc, false, refl}
+use Rattle.std.proofs.Common.{◌≡◌, List, [], ◌∷◌, Ok, None, codes, pos, negsuc, false, refl}
 use Rattle.sqlite.specs.Compile.{table_defined_by}
 use Rattle.sqlite_tied.specs.Compute.{everything}
 use Rattle.sqlite.specs.Listing.{understood, reads_listing}

@@ -40,8 +40,7 @@ impl<T: Drop> From<AllocFailed<T>> for Error {
     ghost from_gives = { λ _ e. e ≡ Json Memory };
 
     fn from(failed: AllocFailed<T>) -> Error {
-        drop(failed);
-        Error::Json(miniserde::Error::Memory)
+        Error::Json(miniserde::Error::from(failed))
     }
 }
 

@@ -4,7 +4,7 @@ ghost use Rattle.sqlite.specs.WalFiles.{image_at};
 ghost use Rattle.sqlite.specs.Effect.{Database, IsDatabase};
 ghost use Rattle.sqlite.specs.State.{HasCleanDisk};
 ghost use Rattle.sqlite.specs.Files.{file_state, HoldsDatabase, IsOpened};
-ghost use Rattle.rows.specs.Entries.{IsStore, IsPut};
+ghost use Rattle.rows.specs.Entries.{IsStore, IsPut, IsCommitted};
 ghost use Rattle.rows.specs.Values.{canonical_text};
 
 use crate::error::Error;
@@ -70,7 +70,10 @@ pub fn put_and_reopen<D: Disk + Drop, K: Serialize, V: Stable + Lossless>(
         → (file_state conn).in_transaction ≡ false → IsPut (file_state conn).now (file_state r.0).now
         (canonical_text (K.tree key.now)) (canonical_text (V.tree value.now))) }
 
-    // And the answer is a value with the content of the one that was put.
+    ensures committed { IfOk result (λ r. HasCleanDisk (file_state r.0) → IsStore (file_state conn).now
+        → (file_state conn).in_transaction ≡ false → IsCommitted (file_state r.0)) }
+
+    // The answer is a value with the content of the one that was put.
     ensures same { IfOk result (λ r. HasCleanDisk (file_state r.0) → IsStore (file_state conn).now
         → (file_state conn).in_transaction ≡ false
         → IfSome r.1 (λ read. V.means.content read ≡ V.means.content value.now)) }

@@ -1,12 +1,26 @@
 //! The table of the rows: a body, which is a text, under each key, which is a text too.
-ghost use Rattle.std.specs.Prelude.{◌≡◌, ◌∷◌, [], ℕ, List, map, false, IfOk, IfSome, OnOk, Ok, None, string_bytes};
+ghost use Rattle.std.specs.Prelude.{◌≡◌, ◌∷◌, [], ℕ, List, map, false, IfOk, IfSome, OnOk, Ok, None, IsTrue, string_bytes};
 ghost use Rattle.sqlite.specs.Held.{state};
-ghost use Rattle.sqlite.specs.State.{HasCleanDisk, Executes, QueriesRow, Shown};
+ghost use Rattle.sqlite.specs.State.{HasCleanDisk, IsUnchanged, Executes, QueriesRow, Shown};
 ghost use Rattle.sqlite.specs.declared.types.Value.TheVariants.{Text};
 ghost use Rattle.rows.specs.Entries.{put_text, get_text, each_text, entry_schema, no_schema, IsStore, IsPut, Holds, HasKey, AreEntries, IsCommitted, texts_of};
 
 use sqlite::{Alter, Connection, Error, Row, params};
 use std::alloc::Global;
+
+/// Returns whether the database has no table, index or view, as one that an open has just made.
+pub fn is_empty<S: Alter>(conn: &Connection<S>) -> bool
+    ensures { IsTrue result → (state S.Store conn.now).now.schema ≡ no_schema }
+{
+    let schema = conn.schema();
+    if !schema.tables.is_empty() {
+        return false;
+    }
+    if !schema.indexes.is_empty() {
+        return false;
+    }
+    schema.views.is_empty()
+}
 
 /// Makes the table if the database has none.
 pub fn create<S: Alter>(conn: &mut Connection<S>) -> Result<usize, Error>
@@ -15,9 +29,13 @@ pub fn create<S: Alter>(conn: &mut Connection<S>) -> Result<usize, Error>
         → OnOk result (IsStore (state S.Store conn.new).now
         × ((k b : List ℕ) → Holds (state S.Store conn.new).now k b → ⊥)) }
 
+    // Outside of a transaction that is committed.
+    ensures committed { HasCleanDisk (state S.Store conn.new) → (state S.Store conn.old).now.schema ≡ no_schema
+        → (state S.Store conn.old).in_transaction ≡ false → OnOk result (IsCommitted (state S.Store conn.new)) }
+
     // A database that has the table stays as it is.
     ensures again { HasCleanDisk (state S.Store conn.new) → (state S.Store conn.old).now.schema ≡ entry_schema
-        → OnOk result ((state S.Store conn.new).now ≡ (state S.Store conn.old).now) }
+        → OnOk result (IsUnchanged (state S.Store conn.old) (state S.Store conn.new)) }
     ensures clean { HasCleanDisk (state S.Store conn.new) → HasCleanDisk (state S.Store conn.old) }
 {
     conn.execute(
@@ -80,7 +98,7 @@ pub fn get<S: Alter>(conn: &mut Connection<S>, key: &str) -> Result<Option<Strin
 
     // The database is as it was.
     ensures same { HasCleanDisk (state S.Store conn.new) → (state S.Store conn.old).now.schema ≡ entry_schema
-        → OnOk result ((state S.Store conn.new).now ≡ (state S.Store conn.old).now) }
+        → OnOk result (IsUnchanged (state S.Store conn.old) (state S.Store conn.new)) }
     ensures clean { HasCleanDisk (state S.Store conn.new) → HasCleanDisk (state S.Store conn.old) }
 {
     match query_body(conn, key) {
@@ -101,7 +119,7 @@ pub fn each<S: Alter>(
 
     // The database is as it was.
     ensures same { HasCleanDisk (state S.Store conn.new) → (state S.Store conn.old).now.schema ≡ entry_schema
-        → OnOk result ((state S.Store conn.new).now ≡ (state S.Store conn.old).now) }
+        → OnOk result (IsUnchanged (state S.Store conn.old) (state S.Store conn.new)) }
     ensures clean { HasCleanDisk (state S.Store conn.new) → HasCleanDisk (state S.Store conn.old) }
 {
     let rows = query_each(conn)?;

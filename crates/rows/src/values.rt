@@ -4,7 +4,7 @@ ghost use Rattle.std.specs.List.{AllZip};
 ghost use Rattle.miniserde.specs.Value.{IsJson};
 ghost use Rattle.miniserde.specs.Normal.{norm};
 ghost use Rattle.sqlite.specs.Held.{state};
-ghost use Rattle.sqlite.specs.State.{HasCleanDisk};
+ghost use Rattle.sqlite.specs.State.{HasCleanDisk, IsUnchanged};
 ghost use Rattle.rows.specs.Entries.{entry_schema, IsStore, IsPut, Holds, HasKey, AreEntries, IsCommitted};
 ghost use Rattle.rows.specs.Values.{canonical_text, IsReadFrom};
 
@@ -74,7 +74,7 @@ pub fn get<S: Alter, K: Serialize, V: Stable + Lossless>(
 
     // The database is as it was.
     ensures same { HasCleanDisk (state S.Store conn.new) → (state S.Store conn.old).now.schema ≡ entry_schema
-        → OnOk result ((state S.Store conn.new).now ≡ (state S.Store conn.old).now) }
+        → OnOk result (IsUnchanged (state S.Store conn.old) (state S.Store conn.new)) }
     ensures clean { HasCleanDisk (state S.Store conn.new) → HasCleanDisk (state S.Store conn.old) }
 {
     let key = canonical_of(alloc, key)?;
@@ -94,6 +94,13 @@ pub fn put_and_get<S: Alter, K: Serialize, V: Stable + Lossless>(
     key: &K,
     value: &V,
 ) -> Result<Option<V>, Error>
+    // The row is put, as `put` says it.
+    ensures put { HasCleanDisk (state S.Store conn.new) → IsStore (state S.Store conn.old).now
+        → OnOk result (IsPut (state S.Store conn.old).now (state S.Store conn.new).now
+        (canonical_text (K.tree key.now)) (canonical_text (V.tree value.now))) }
+    ensures committed { HasCleanDisk (state S.Store conn.new) → IsStore (state S.Store conn.old).now
+        → (state S.Store conn.old).in_transaction ≡ false → OnOk result (IsCommitted (state S.Store conn.new)) }
+
     // The answer is a value with the content of the one that was put.
     ensures same { HasCleanDisk (state S.Store conn.new) → IsStore (state S.Store conn.old).now
         → IfOk result (λ answer. IfSome answer (λ read. V.means.content read ≡ V.means.content value.now)) }
@@ -118,7 +125,7 @@ pub fn each<S: Alter, K: Stable + Lossless, V: Stable + Lossless>(
 
     // The database is as it was.
     ensures same { HasCleanDisk (state S.Store conn.new) → (state S.Store conn.old).now.schema ≡ entry_schema
-        → OnOk result ((state S.Store conn.new).now ≡ (state S.Store conn.old).now) }
+        → OnOk result (IsUnchanged (state S.Store conn.old) (state S.Store conn.new)) }
     ensures clean { HasCleanDisk (state S.Store conn.new) → HasCleanDisk (state S.Store conn.old) }
 {
     let rows = texts::each(alloc, conn)?;

@@ -4,9 +4,7 @@ use Rattle.std.proofs.lemmas.Option.{IfSome_then}
 use Rattle.miniserde.specs.Value.{IsJson}
 use Rattle.miniserde.specs.Normal.{norm}
 use Rattle.sqlite.specs.Effect.{Database}
-use Rattle.sqlite.specs.Files.{file_state}
-use Rattle.rows.specs.Values.{canonical_text}
-use Rattle.rows.proofs.Reopened.{still_put}
+use Rattle.rows.proofs.Reopened.{still_put, opened_committed}
 use Rattle.rows.proofs.files.put_and_reopen.Goals as goal
 
 pub returns-clause-put : goal.returns-clause-put
@@ -16,7 +14,16 @@ returns-clause-put g c clean was outside =
     let p = c.in_ok-put.ensures.put closed was in
     let found = c.in_ok-conn.ensures.found again ∙ (c.in_ok-put.ensures.committed closed was outside).1 in
     let same = c.in_ok-found.ensures.same clean (ap (λ (d : Database). d.schema) found ∙ p.store.schema) in
-    still_put _ _ _ _ _ _ p found same
+    still_put _ _ _ _ _ _ p found same.0.now_is
+
+pub returns-clause-committed : goal.returns-clause-committed
+returns-clause-committed g c clean was outside =
+    let again = c.in_ok-found.ensures.clean clean in
+    let closed = c.in_ok-conn.ensures.clean again in
+    let p = c.in_ok-put.ensures.put closed was in
+    let found = c.in_ok-conn.ensures.found again ∙ (c.in_ok-put.ensures.committed closed was outside).1 in
+    let same = c.in_ok-found.ensures.same clean (ap (λ (d : Database). d.schema) found ∙ p.store.schema) in
+    opened_committed _ _ (c.in_ok-conn.ensures.opened again).0 same
 
 pub returns-clause-same : goal.returns-clause-same
 returns-clause-same g c clean was outside =

@@ -1,5 +1,5 @@
 -- What the query shows, by what `sqlite` says of a query for one row.
-use Rattle.std.proofs.Common.{◌≡◌, Ok, Err, refl, sym, ap, ◌∙◌}
+use Rattle.std.proofs.Common.{Ok, sym, ap, ◌∙◌}
 use Rattle.sqlite.specs.Order.{column}
 use Rattle.sqlite.specs.Held.{state}
 use Rattle.rows.proofs.Gets.{gets, gets_none}

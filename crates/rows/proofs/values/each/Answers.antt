@@ -1,6 +1,6 @@
 -- The rows of the table are those that the loop read.
-use Rattle.std.proofs.Common.{◌≡◌, ◌≤◌, ◌<◌, ◌+◌, length, map, take, rules, refl, sym, subst}
-use Rattle.std.specs.List.{AllZip, slice_index_or}
+use Rattle.std.proofs.Common.{◌≤◌, ◌<◌, length, map, take, rules, refl, sym, subst}
+use Rattle.std.specs.List.{AllZip}
 use Rattle.rows.specs.Entries.{texts_of}
 use Rattle.rows.specs.Values.{IsReadFrom}
 use Rattle.rows.proofs.Lists.{read_all, zip_more}

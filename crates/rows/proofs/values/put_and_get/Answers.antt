@@ -1,10 +1,23 @@
 -- The one body of the key is the canonical text of the value.
-use Rattle.std.proofs.Common.{sym, subst}
+use Rattle.std.proofs.Common.{refl, sym, subst}
 use Rattle.std.proofs.lemmas.Option.{IfSome_then}
 use Rattle.std.proofs.lemmas.Result.{IfOk-weaker}
 use Rattle.miniserde.specs.Value.{IsJson}
 use Rattle.miniserde.specs.Normal.{norm}
+use Rattle.rows.proofs.Reopened.{still_put, still_committed}
 use Rattle.rows.proofs.values.put_and_get.Goals as goal
+
+pub returns-clause-put : goal.returns-clause-put
+returns-clause-put g c clean was =
+    let p = c.in_ok-put.ensures.put (c.get.ensures.clean clean) was in
+    IfOk-weaker c.get.result _ _ (λ _ same. still_put _ _ _ _ _ _ p refl same.0.now_is) (c.get.ensures.same clean p.store.schema)
+
+pub returns-clause-committed : goal.returns-clause-committed
+returns-clause-committed g c clean was outside =
+    let late = c.get.ensures.clean clean in
+    let p = c.in_ok-put.ensures.put late was in
+    IfOk-weaker c.get.result _ _ (λ _ same. still_committed _ _ (c.in_ok-put.ensures.committed late was outside) same)
+    (c.get.ensures.same clean p.store.schema)
 
 pub returns-clause-same : goal.returns-clause-same
 returns-clause-same g c clean was =
