@@ -1,5 +1,5 @@
 -- What the calls do to a store: the lemmas of each statement, for a result that may be an error.
-use Rattle.std.proofs.Common.{◌≡◌, inl, inr, ℕ, List, [], ◌∷◌, false, None, Ok, Err, Result, OnOk, sym, ap}
+use Rattle.std.proofs.Common.{◌≡◌, inl, inr, ℕ, List, [], ◌∷◌, false, None, Ok, Err, Result, OnOk, OnErr, sym, ap}
 use Rattle.std.proofs.Common.{subst, ◌∙◌}
 use Rattle.sqlite.specs.declared.types.Value.TheVariants.{Text}
 use Rattle.sqlite.specs.Order.{Row, column}
@@ -9,12 +9,14 @@ use Rattle.sqlite.specs.Effect.{Database}
 use Rattle.sqlite.specs.declared.error.Error.{Error}
 use Rattle.sqlite.specs.Command.TheVariants.{CreateTable, Nothing}
 use Rattle.sqlite.specs.Listing.{understood}
-use Rattle.sqlite.specs.State.{State, IsUnchanged, Writes, Executes, QueriesRow, Shown, ShowsRows}
+use Rattle.sqlite.specs.State.{State, ExecutesIn, IsNotRun, shows_rows, IsUnchanged, Writes, Executes, QueriesRow, Shown, ShowsRows}
 use Rattle.sqlite.specs.Clock.{timed}
 use Rattle.sqlite.specs.declared.error.Error.TheVariants.{QueryReturnedNoRows}
 use Rattle.rows.proofs.Gets.{no_failure}
 use Rattle.sqlite.proofs.Callers.{IsPlain, runs_as}
+use Rattle.std.proofs.lemmas.Bool.{cases_Bool}
 use Rattle.rows.specs.Entries.{create_text, put_text, get_text, entry, no_schema, entry_schema, Holds, IsStore, IsPut, IsCommitted}
+use Rattle.rows.specs.Entries.{IsUndone}
 use Rattle.rows.proofs.Statements.{create_is, create_plain, again_is, again_plain, get_plain}
 use Rattle.rows.proofs.Puts.{went, same_value, puts, puts_commits, committed_by}
 use Rattle.rows.proofs.Kept.{text_of_same, is_there, alone, keyed_still, rising_still, was_there, stays}
@@ -46,6 +48,23 @@ pub commits_in : (old new : State) (key body : List ℕ) (r : Result ℕ Error) 
     → Executes put_text (Text key ∷ Text body ∷ []) old new r → OnOk r (IsCommitted new)
 commits_in old new key body (Err e) was outside h = tt
 commits_in old new key body (Ok count) was outside h = puts_commits old new key body count was.schema outside h
+
+-- a statement that fails outside of a transaction changes nothing
+undone : (sql : List ℕ) (params : Row) (old new : State) (e : Error) → IsCommitted old → Executes sql params old new (Err e)
+    → IsUndone old new
+unfolding ExecutesIn IsNotRun
+undone sql params old new e was (inl (inl h)) live = h.1.0.now_is
+undone sql params old new e was (inl (inr h)) live = (h.3.undone live).0 ∙ was.1
+undone sql params old new e was (inr h) live = elim (cases_Bool (shows_rows false h.0)) [
+  | inl shows ↦ (rw shows at h.2).1.0.now_is
+  | inr runs ↦ elim (rw runs at h.2) [ inl refused ↦ refused.1.0.now_is | inr failed ↦ (failed.3.undone live).0 ∙ was.1 ]
+]
+
+-- a row that is not put leaves the rows as they were
+pub undone_in : (old new : State) (key body : List ℕ) (r : Result ℕ Error) → IsCommitted old
+    → Executes put_text (Text key ∷ Text body ∷ []) old new r → OnErr r (IsUndone old new)
+undone_in old new key body (Ok count) was h = tt
+undone_in old new key body (Err e) was h = undone put_text (Text key ∷ Text body ∷ []) old new e was h
 
 -- outside of a transaction the table is committed
 pub creates_committed : (old new : State) (r : Result ℕ Error) → old.now.schema ≡ no_schema → old.in_transaction ≡ false

@@ -1,5 +1,5 @@
 -- The table of the rows: its statements, its schema, and what its rows are.
-use Rattle.std.specs.Prelude.{◌≡◌, ◌↔◌, ℕ, List, [], ◌∷◌, map, codes, true, false, None, String, string_bytes, IsPermutation}
+use Rattle.std.specs.Prelude.{◌≡◌, ◌↔◌, ℕ, List, [], ◌∷◌, map, codes, true, false, None, String, string_bytes, IsTrue, IsPermutation}
 use Rattle.sqlite_schema.specs.declared.schema.Column.{Column}
 use Rattle.std.specs.Global.{Global}
 use Rattle.std.specs.Ordering.{nat_cmp}
@@ -91,6 +91,10 @@ pub record IsPut (old new : Database) (key body : List ℕ) : Type 0 where
 -- the connection is outside of a transaction, and what it sees is its last commit
 abbrev pub IsCommitted : State → Type 0
 IsCommitted s = (s.in_transaction ≡ false) × (s.committed ≡ s.now)
+
+-- the connection sees what it saw before, unless the call has shut it
+abbrev pub IsUndone : State → State → Type 0
+IsUndone old new = IsTrue new.is_open → new.now ≡ old.now
 
 -- the bytes of a key and of a body
 abbrev pub texts_of : String Global × String Global → List ℕ × List ℕ

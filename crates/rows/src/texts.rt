@@ -1,9 +1,9 @@
 //! The table of the rows: a body, which is a text, under each key, which is a text too.
-ghost use Rattle.std.specs.Prelude.{◌≡◌, ◌∷◌, [], ℕ, List, map, false, IfOk, IfSome, OnOk, Ok, None, IsTrue, string_bytes};
+ghost use Rattle.std.specs.Prelude.{◌≡◌, ◌∷◌, [], ℕ, List, map, false, IfOk, IfSome, OnOk, OnErr, Ok, None, IsTrue, string_bytes};
 ghost use Rattle.sqlite.specs.Held.{state};
 ghost use Rattle.sqlite.specs.State.{HasCleanDisk, IsUnchanged, Executes, QueriesRow, Shown};
 ghost use Rattle.sqlite.specs.declared.types.Value.TheVariants.{Text};
-ghost use Rattle.rows.specs.Entries.{put_text, get_text, each_text, entry_schema, no_schema, IsStore, IsPut, Holds, HasKey, AreEntries, IsCommitted, texts_of};
+ghost use Rattle.rows.specs.Entries.{put_text, get_text, each_text, entry_schema, no_schema, IsStore, IsPut, Holds, HasKey, AreEntries, IsCommitted, IsUndone, texts_of};
 
 use sqlite::{Alter, Connection, Error, Row, params};
 use std::alloc::Global;
@@ -83,6 +83,10 @@ pub fn put<S: Alter>(conn: &mut Connection<S>, key: &str, body: &str) -> Result<
     // Outside of a transaction that is committed.
     ensures committed { HasCleanDisk (state S.Store conn.new) → IsStore (state S.Store conn.old).now
         → (state S.Store conn.old).in_transaction ≡ false → OnOk result (IsCommitted (state S.Store conn.new)) }
+
+    // If it fails there, the rows are as they were.
+    ensures undone { HasCleanDisk (state S.Store conn.new) → IsCommitted (state S.Store conn.old)
+        → OnErr result (IsUndone (state S.Store conn.old) (state S.Store conn.new)) }
     ensures clean { HasCleanDisk (state S.Store conn.new) → HasCleanDisk (state S.Store conn.old) }
 {
     execute_put(conn, key, body)

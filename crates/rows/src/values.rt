@@ -1,11 +1,13 @@
 //! Rows of values of your own types: the key and the body of a row are the canonical texts of two values.
-ghost use Rattle.std.specs.Prelude.{◌≡◌, ℕ, List, false, IfOk, IfSome, OnOk, Ok, None};
+ghost use Rattle.std.specs.Prelude.{◌≡◌, ℕ, List, false, IfOk, IfSome, OnOk, OnErr, Ok, Err, None};
 ghost use Rattle.std.specs.List.{AllZip};
+ghost use Rattle.miniserde.specs.declared.Error.TheVariants.{Invalid};
 ghost use Rattle.miniserde.specs.Value.{IsJson};
 ghost use Rattle.miniserde.specs.Normal.{norm};
 ghost use Rattle.sqlite.specs.Held.{state};
 ghost use Rattle.sqlite.specs.State.{HasCleanDisk, IsUnchanged};
-ghost use Rattle.rows.specs.Entries.{entry_schema, IsStore, IsPut, Holds, HasKey, AreEntries, IsCommitted};
+ghost use Rattle.rows.specs.Entries.{entry_schema, IsStore, IsPut, Holds, HasKey, AreEntries, IsCommitted, IsUndone};
+ghost use Rattle.rows.specs.declared.error.Error.TheVariants.{Json};
 ghost use Rattle.rows.specs.Values.{canonical_text, IsReadFrom};
 
 use crate::error::Error;
@@ -18,7 +20,8 @@ use miniserde::{
 use sqlite::{Alter, Connection};
 use std::alloc::Global;
 
-/// Puts a value under a key. It replaces the value of the same key.
+/// Puts a value under a key. It replaces the value of the same key. Returns `Database` if the database fails, and `Json`
+/// if an allocation fails.
 pub fn put<S: Alter, K: Serialize, V: Serialize>(
     alloc: Global,
     conn: &mut Connection<S>,
@@ -34,6 +37,11 @@ pub fn put<S: Alter, K: Serialize, V: Serialize>(
     ensures committed { HasCleanDisk (state S.Store conn.new) → IsStore (state S.Store conn.old).now
         → (state S.Store conn.old).in_transaction ≡ false → OnOk result (IsCommitted (state S.Store conn.new)) }
 
+    // If it fails there, the rows are as they were. It fails for the database or for memory alone.
+    ensures undone { HasCleanDisk (state S.Store conn.new) → IsCommitted (state S.Store conn.old)
+        → OnErr result (IsUndone (state S.Store conn.old) (state S.Store conn.new)) }
+    ensures valid { result ≡ Err (Json Invalid) → ⊥ }
+
     // The two texts spell the normal forms of the two trees.
     ensures spells { OnOk result (IsJson (canonical_text (K.tree key.now)) (norm (K.tree key.now))
         × IsJson (canonical_text (V.tree value.now)) (norm (V.tree value.now))) }
@@ -48,7 +56,10 @@ pub fn put<S: Alter, K: Serialize, V: Serialize>(
 /// Returns the value that a stored text means. Returns `Invalid` if it means none, and `Memory` if an allocation fails.
 pub fn value_of<V: Stable + Lossless>(alloc: Global, text: &str) -> miniserde::Result<V>
     // If the text is the canonical text of a value, the answer has the content of that value.
-    ensures { IfOk result (IsReadFrom V.means V.tree V.real text.now) }
+    ensures read { IfOk result (IsReadFrom V.means V.tree V.real text.now) }
+
+    // The text is the canonical text of no value.
+    ensures invalid { result ≡ Err Invalid → (v : V) → V.real v → IsJson text.now (norm (V.tree v)) → ⊥ }
 {
     V::round_trips();
     means_in_normal_form::<V>();
@@ -58,7 +69,8 @@ pub fn value_of<V: Stable + Lossless>(alloc: Global, text: &str) -> miniserde::R
     Ok(value)
 }
 
-/// Returns the value of a key, or `None` if no row has the key.
+/// Returns the value of a key, or `None` if no row has the key. Returns `Database` if the database fails, and `Json` if the
+/// body means no value or an allocation fails.
 pub fn get<S: Alter, K: Serialize, V: Stable + Lossless>(
     alloc: Global,
     conn: &mut Connection<S>,
@@ -71,6 +83,12 @@ pub fn get<S: Alter, K: Serialize, V: Stable + Lossless>(
         × IsReadFrom V.means V.tree V.real body read)) }
     ensures none { HasCleanDisk (state S.Store conn.new) → (state S.Store conn.old).now.schema ≡ entry_schema
         → result ≡ Ok None → HasKey (state S.Store conn.old).now (canonical_text (K.tree key.now)) → ⊥ }
+
+    // The key has a body that is the canonical text of no value.
+    ensures invalid { HasCleanDisk (state S.Store conn.new) → (state S.Store conn.old).now.schema ≡ entry_schema
+        → result ≡ Err (Json Invalid) → (body : List ℕ)
+        × Holds (state S.Store conn.old).now (canonical_text (K.tree key.now)) body
+        × ((v : V) → V.real v → IsJson body (norm (V.tree v)) → ⊥) }
 
     // The database is as it was.
     ensures same { HasCleanDisk (state S.Store conn.new) → (state S.Store conn.old).now.schema ≡ entry_schema
@@ -87,7 +105,8 @@ pub fn get<S: Alter, K: Serialize, V: Stable + Lossless>(
     }
 }
 
-/// Puts a value under a key, and reads it back from the database.
+/// Puts a value under a key, and reads it back from the database. Returns `Database` if the database fails, and `Json` if
+/// an allocation fails.
 pub fn put_and_get<S: Alter, K: Serialize, V: Stable + Lossless>(
     alloc: Global,
     conn: &mut Connection<S>,
@@ -105,6 +124,10 @@ pub fn put_and_get<S: Alter, K: Serialize, V: Stable + Lossless>(
     ensures same { HasCleanDisk (state S.Store conn.new) → IsStore (state S.Store conn.old).now
         → IfOk result (λ answer. IfSome answer (λ read. V.means.content read ≡ V.means.content value.now)) }
     ensures some { HasCleanDisk (state S.Store conn.new) → IsStore (state S.Store conn.old).now → result ≡ Ok None → ⊥ }
+
+    // It fails for the database or for memory alone.
+    ensures valid { HasCleanDisk (state S.Store conn.new) → IsStore (state S.Store conn.old).now
+        → result ≡ Err (Json Invalid) → ⊥ }
     ensures clean { HasCleanDisk (state S.Store conn.new) → HasCleanDisk (state S.Store conn.old) }
 {
     value.ranged();
@@ -112,7 +135,8 @@ pub fn put_and_get<S: Alter, K: Serialize, V: Stable + Lossless>(
     get(alloc, conn, key)
 }
 
-/// Returns all keys with their values, in the byte order of the keys' canonical texts.
+/// Returns all keys with their values, in the byte order of the keys' canonical texts. Returns `Database` if the database
+/// fails, and `Json` if a text means no value or an allocation fails.
 pub fn each<S: Alter, K: Stable + Lossless, V: Stable + Lossless>(
     alloc: Global,
     conn: &mut Connection<S>,

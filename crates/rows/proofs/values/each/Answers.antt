@@ -11,8 +11,8 @@ loop-row-preserved g c =
     let seen = c.deref-row-items.result.now in
     let i = c.loop-row.row-index in
     let low : i < length seen = search rules in
-    let key = rw c.as_str.ensures.value at c.in_ok-key.ensures in
-    let value = rw c.as_str-in-loop-row.ensures.value at c.in_ok-value.ensures in
+    let key = rw c.as_str.ensures.value at c.in_ok-key.ensures.read in
+    let value = rw c.as_str-in-loop-row.ensures.value at c.in_ok-value.ensures.read in
     let more = zip_more texts_of
     (λ entry read. IsReadFrom g.K.FromJson.means g.K.Serialize.tree g.K.Ranged.real entry.0 read.0
     × IsReadFrom g.V.FromJson.means g.V.Serialize.tree g.V.Ranged.real entry.1 read.1)

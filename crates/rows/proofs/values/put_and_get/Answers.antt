@@ -33,3 +33,11 @@ pub returns-clause-some : goal.returns-clause-some
 returns-clause-some g c clean was none =
     let p = c.in_ok-put.ensures.put (c.get.ensures.clean clean) was in
     c.get.ensures.none clean p.store.schema none (p.here.0, p.here.1, p.here.2)
+
+pub returns-clause-valid : goal.returns-clause-valid
+returns-clause-valid g c clean was wrong =
+    let p = c.in_ok-put.ensures.put (c.get.ensures.clean clean) was in
+    let v = c.args.value.now in
+    let tree = norm (g.V.Serialize.tree v) in
+    let b = c.get.ensures.invalid clean p.store.schema wrong in
+    b.2 v c.ranged.ensures (subst (λ b. IsJson b tree) (sym (p.only b.0 b.1)) c.in_ok-put.ensures.spells.1)

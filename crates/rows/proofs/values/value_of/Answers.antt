@@ -3,8 +3,8 @@ use Rattle.std.proofs.Common.{ap, ◌∙◌}
 use Rattle.miniserde.specs.Normal.{norm}
 use Rattle.rows.proofs.values.value_of.Goals as goal
 
-pub returns : goal.returns
-returns g c =
+pub returns-clause-read : goal.returns-clause-read
+returns-clause-read g c =
     let r = c.in_ok-value.ensures.ok in
     record {
       meant = r;
