@@ -1,6 +1,7 @@
 -- What the query for all rows shows: the rows of the table, in an order that ORDER BY allows.
 use Rattle.std.proofs.Common.{arith, ◌≡◌, ◌<◌, ◌+◌, ℕ, List, [], ◌∷◌, map, Bool, false, refl, sym, ap, subst, subst₂, ◌∙◌}
 use Rattle.std.proofs.Common.{IsPermutation}
+use Rattle.std.proofs.Common.{String, string_bytes, length, slice_index_or}
 use Rattle.std.specs.List.{AllByRecursion}
 use Rattle.std.specs.List.Sorted.{IsSortedBy, IsSortedByKey}
 use Rattle.std.specs.Ordering.{nat_cmp, is_lt}
@@ -18,17 +19,23 @@ use Rattle.sqlite.specs.Program.{overlay}
 use Rattle.sqlite.specs.Query.{Output, output, IsAnswer}
 use Rattle.sqlite.specs.State.{State, IsUnchanged, Shown}
 use Rattle.sqlite.proofs.Callers.{reads_as}
-use Rattle.rows.specs.Entries.{each_text, entry_schema, words_of, AreEntries}
+use Rattle.rows.specs.Entries.{each_text, entry_schema, key_of, body_of, texts_of, words_of, Holds, AreEntries}
 use Rattle.rows.proofs.Effects.{shown_same}
+use Rattle.std.specs.Global.{Global}
+use Rattle.sqlite.specs.Effect.{Database}
+use Rattle.sqlite_rules.specs.Lists.{Has}
+use Rattle.sqlite_rules.proofs.ListLemmas.{has_at}
+use Rattle.sqlite_rules.proofs.ProbeLemmas.{has_mapped, mapped_has}
+use Rattle.rows.proofs.Found.{has_permuted}
 use Rattle.rows.proofs.Statements.{each_query, each_command, each_is, each_plain}
 
 -- the key and the body in a row of the table
 abbrev pub stored : Row → Value × Value
-stored row = (column row 1, column row 2)
+stored row = (key_of row, body_of row)
 
 -- the key and the body in a row that the query shows
 abbrev pub shown : Row → Value × Value
-shown row = (column row 0, column row 1)
+shown r = (column r 0, column r 1)
 
 -- ---- lists
 
@@ -117,3 +124,20 @@ shows_each old new found entries has h read =
 pub each_same : (old new : State) (found : List Row) → old.now.schema ≡ entry_schema → Shown each_text [] old new found
     → IsUnchanged old new
 each_same old new found = shown_same each_text [] old new found each_plain
+
+-- each entry is a row of the table
+pub entry_held : (db : Database) (entries : List (List ℕ × List ℕ)) (e : List ℕ × List ℕ) → AreEntries db entries → Has entries e
+    → Holds db e.0 e.1
+entry_held db entries e are there =
+    let rows = db.trees 0 in
+    let had = has_permuted (map stored rows) (map words_of entries) (words_of e) are.same (mapped_has words_of entries e there) in
+    let row = has_mapped stored rows (words_of e) had in
+    (row.0, row.1, ap (λ (v : Value × Value). v.0) (sym row.2), ap (λ (v : Value × Value). v.1) (sym row.2))
+
+-- an element that a loop reads is a row of the table
+pub item_held : (db : Database) (rows seen : List (String Global × String Global)) (i : ℕ) (item : String Global × String Global)
+    → AreEntries db (map texts_of rows) → seen ≡ rows → i < length seen → item ≡ slice_index_or seen i item
+    → Holds db (string_bytes item.0) (string_bytes item.1)
+item_held db rows seen i item are same low is =
+    let there = subst (λ (xs : List (String Global × String Global)). Has xs item) same (has_at seen i item low is) in
+    entry_held db (map texts_of rows) (texts_of item) are (mapped_has texts_of rows item there)

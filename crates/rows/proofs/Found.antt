@@ -80,7 +80,8 @@ matched_has p f (z ∷ xs) x (inl same) passes = rw (← same, passes) (inl refl
 matched_has p f (z ∷ xs) x (inr later) passes = has_right (cond (p z) (f z ∷ []) []) (flat_map (λ w. cond (p w) (f w ∷ []) []) xs) (f x)
     (matched_has p f xs x later passes)
 
-has_permuted : {X : Type 0} (xs ys : List X) (x : X) → IsPermutation xs ys → Has ys x → Has xs x
+-- what a permutation has, the list has
+pub has_permuted : {X : Type 0} (xs ys : List X) (x : X) → IsPermutation xs ys → Has ys x → Has xs x
 has_permuted xs ys x same = all_has (Has xs) ys x (all-permutation (Has xs) xs ys same (all_from (Has xs) xs (λ e h. h)))
 
 -- the rows that the query shows are the bodies of the rows that have the key

@@ -28,7 +28,7 @@ use Rattle.sqlite.specs.Ops.{unary, binary}
 use Rattle.sqlite.specs.Order.{Row, column, value_cmp}
 use Rattle.sqlite.specs.Tree.{rowid, has_rowid, without_rowid, IsTable}
 use Rattle.sqlite.specs.View.{is_int}
-use Rattle.rows.specs.Entries.{entry, entry_schema}
+use Rattle.rows.specs.Entries.{entry, entry_schema, key_of, body_of}
 use Rattle.rows.proofs.Found.{is_text, text_is, truth_back}
 use Rattle.rows.proofs.Puts.{source, wanted, IsPutIn}
 
@@ -46,12 +46,12 @@ abbrev numbered_if : Bool → Value → Row → Row
 numbered_if b v row = cond b (v ∷ drop 1 row) row
 
 columns_if : (b : Bool) (v : Value) (key body : List ℕ) → let row = numbered_if b v (cast_row entry (source key body)) in
-    (column row 1 ≡ Text key) × (column (cast_row entry row) 1 ≡ Text key) × (column (cast_row entry row) 2 ≡ Text body)
+    (key_of row ≡ Text key) × (column (cast_row entry row) 1 ≡ Text key) × (column (cast_row entry row) 2 ≡ Text body)
 columns_if true v key body = (refl, refl, refl)
 columns_if false v key body = (refl, refl, refl)
 
 columns_of : (rows : List Row) (key body : List ℕ) → let row = wanted rows key body in
-    (column row 1 ≡ Text key) × (column (cast_row entry row) 1 ≡ Text key) × (column (cast_row entry row) 2 ≡ Text body)
+    (key_of row ≡ Text key) × (column (cast_row entry row) 1 ≡ Text key) × (column (cast_row entry row) 2 ≡ Text body)
 columns_of rows key body = columns_if _ _ key body
 
 rowid_of : (rows : List Row) (key body : List ℕ) → wanted rows key body ≡ Int (next_rowid rows) ∷ Text key ∷ Text body ∷ []
@@ -78,10 +78,10 @@ rising_left (i ∷ ids) rows up = rising_left ids (without_rowid i rows)
     (ascending-filter (λ a b. value_cmp (rowid a) (rowid b) ≡ Less) (λ r. not (has_rowid i r)) rows up)
 
 -- a row conflicts with one of its key
-clash : (new row : Row) (key : List ℕ) → column new 1 ≡ Text key → column row 1 ≡ Text key
+clash : (new row : Row) (key : List ℕ) → column new 1 ≡ Text key → key_of row ≡ Text key
     → conflicts None entry_schema.indexes entry new row ≡ true
 unfolding first_key
-clash new row key is has = or_right _ _ (or_left _ false (rw is (or_left_and (text_is (column row 1) key has))))
+clash new row key is has = or_right _ _ (or_left _ false (rw is (or_left_and (text_is (key_of row) key has))))
   where
     or_left_and : {b : Bool} → b ≡ true → (b && true) ≡ true
     or_left_and e = rw e refl
@@ -93,11 +93,11 @@ split false false h = absurd (true≢false (sym h))
 
 -- what a clash is: of the rowid, or of the key
 clashes_by : (new row : Row) (key : List ℕ) → column new 1 ≡ Text key → conflicts None entry_schema.indexes entry new row ≡ true
-    → (equal Binary (rowid row) (rowid new) ≡ true) ⊎ (column row 1 ≡ Text key)
+    → (equal Binary (rowid row) (rowid new) ≡ true) ⊎ (key_of row ≡ Text key)
 unfolding first_key
-clashes_by new row key is h = elim (split (equal Binary (rowid row) (rowid new)) (equal Binary (column row 1) (column new 1)) h) [
+clashes_by new row key is h = elim (split (equal Binary (rowid row) (rowid new)) (equal Binary (key_of row) (column new 1)) h) [
   | inl same ↦ inl same
-  | inr agreed ↦ inr (is_text (column row 1) key (subst (λ v. equal Binary (column row 1) v ≡ true) is agreed))
+  | inr agreed ↦ inr (is_text (key_of row) key (subst (λ v. equal Binary (key_of row) v ≡ true) is agreed))
 ]
 
 equal_ids : (v : Value) (n : ℤ) → is_int v ≡ true → equal Binary v (Int n) ≡ true → is_eq (value_cmp v (Int n)) ≡ true
@@ -129,7 +129,7 @@ module _ (rows : List Row) (key body : List ℕ) (out : List Row) (keyed : AllBy
   left = without_all rows ids
 
   -- the new row has the key and the body
-  pub is_there : Has out row × (column row 1 ≡ Text key) × (column row 2 ≡ Text body)
+  pub is_there : Has out row × (key_of row ≡ Text key) × (body_of row ≡ Text body)
   is_there = (subst (λ l. Has l row) (sym it.put.rows_are) (has_put row left), (columns_of rows key body).1, (columns_of rows key body).2)
 
   gone : (x : Row) → Has left x → column x 1 ≡ Text key → ⊥

@@ -7,3 +7,4 @@ mod Kept
 mod Effects
 mod Each
 mod Reopened
+mod Errors

@@ -67,13 +67,21 @@ no_schema = record { tables = []; indexes = []; views = [] }
 abbrev pub entry_schema : Schema
 entry_schema = created no_schema entry
 
+-- the key in a row of the table, whose first column is the rowid
+abbrev pub key_of : Row → Value
+key_of r = column r 1
+
+-- the body in a row of the table
+abbrev pub body_of : Row → Value
+body_of r = column r 2
+
 -- a row of the table has this key and this body
 abbrev pub Holds : Database → List ℕ → List ℕ → Type 0
-Holds db key body = (row : Row) × Has (db.trees 0) row × (column row 1 ≡ Words key) × (column row 2 ≡ Words body)
+Holds db key body = (row : Row) × Has (db.trees 0) row × (key_of row ≡ Words key) × (body_of row ≡ Words body)
 
 -- a row of the table has this key
 abbrev pub HasKey : Database → List ℕ → Type 0
-HasKey db key = (row : Row) × Has (db.trees 0) row × (column row 1 ≡ Words key)
+HasKey db key = (row : Row) × Has (db.trees 0) row × (key_of row ≡ Words key)
 
 -- the database has the table alone, and the rowids of its rows are integers and increase
 pub record IsStore (db : Database) : Type 0 where
@@ -106,5 +114,5 @@ words_of e = (Words e.0, Words e.1)
 
 -- the entries are the keys and bodies of the table's rows, as many times as they are there, in the byte order of the keys
 pub record AreEntries (db : Database) (entries : List (List ℕ × List ℕ)) : Type 0 where
-  pub same : IsPermutation (map (λ row. (column row 1, column row 2)) (db.trees 0)) (map words_of entries)
+  pub same : IsPermutation (map (λ row. (key_of row, body_of row)) (db.trees 0)) (map words_of entries)
   pub sorted : IsSortedByKey (λ e. e.0) (slice_cmp nat_cmp) entries

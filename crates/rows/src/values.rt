@@ -1,5 +1,5 @@
 //! Rows of values of your own types: the key and the body of a row are the canonical texts of two values.
-ghost use Rattle.std.specs.Prelude.{◌≡◌, ℕ, List, false, IfOk, IfSome, OnOk, OnErr, Ok, Err, None};
+ghost use Rattle.std.specs.Prelude.{◌≡◌, ◌⊎◌, ℕ, List, false, IfOk, IfSome, OnOk, OnErr, Ok, Err, None};
 ghost use Rattle.std.specs.List.{AllZip};
 ghost use Rattle.miniserde.specs.declared.Error.TheVariants.{Invalid};
 ghost use Rattle.miniserde.specs.Value.{IsJson};
@@ -37,9 +37,11 @@ pub fn put<S: Alter, K: Serialize, V: Serialize>(
     ensures committed { HasCleanDisk (state S.Store conn.new) → IsStore (state S.Store conn.old).now
         → (state S.Store conn.old).in_transaction ≡ false → OnOk result (IsCommitted (state S.Store conn.new)) }
 
-    // If it fails there, the rows are as they were. It fails for the database or for memory alone.
+    // If it fails there, the rows are as they were.
     ensures undone { HasCleanDisk (state S.Store conn.new) → IsCommitted (state S.Store conn.old)
         → OnErr result (IsUndone (state S.Store conn.old) (state S.Store conn.new)) }
+
+    // It fails for the database or for memory alone.
     ensures valid { result ≡ Err (Json Invalid) → ⊥ }
 
     // The two texts spell the normal forms of the two trees.
@@ -146,6 +148,12 @@ pub fn each<S: Alter, K: Stable + Lossless, V: Stable + Lossless>(
         → IfOk result (λ each. (entries : List (List ℕ × List ℕ)) × AreEntries (state S.Store conn.old).now entries
         × AllZip (λ entry read. IsReadFrom K.means K.tree K.real entry.0 read.0
         × IsReadFrom V.means V.tree V.real entry.1 read.1) entries each.items) }
+
+    // A row has a key or a body that is the canonical text of no value.
+    ensures invalid { HasCleanDisk (state S.Store conn.new) → (state S.Store conn.old).now.schema ≡ entry_schema
+        → result ≡ Err (Json Invalid) → (key body : List ℕ) × Holds (state S.Store conn.old).now key body
+        × (((k : K) → K.real k → IsJson key (norm (K.tree k)) → ⊥)
+        ⊎ ((v : V) → V.real v → IsJson body (norm (V.tree v)) → ⊥)) }
 
     // The database is as it was.
     ensures same { HasCleanDisk (state S.Store conn.new) → (state S.Store conn.old).now.schema ≡ entry_schema

@@ -11,7 +11,7 @@ returns-in_ok-get-in-Ok-clause-some g c clean has =
     let old = state g.S.Store c.args.conn.now in
     let new = state g.S.Store c.query_body.new.conn in
     let r = gets old new c.args.key.now (Ok c.in-Ok.row) has (c.in-Ok.ensures.row clean) in
-    (r.0, r.1, r.2, sym (ap (λ row. column row 0) r.3) ∙ c.in_ok-get-in-Ok.ensures.ok.1)
+    (r.0, r.1, r.2, sym (ap (λ r. column r 0) r.3) ∙ c.in_ok-get-in-Ok.ensures.ok.1)
 
 pub returns-in_ok-get-in-Ok-clause-same : goal.returns-in_ok-get-in-Ok-clause-same
 returns-in_ok-get-in-Ok-clause-same g c clean has =

@@ -1,16 +1,10 @@
 -- The body that was found is that of the canonical text of the key, and the value was read from it.
-use Rattle.std.proofs.Common.{◌≡◌, Result, Err, ap, subst, string_bytes, ◌∙◌}
+use Rattle.std.proofs.Common.{Err, ap, subst, string_bytes, ◌∙◌}
 use Rattle.std.proofs.lemmas.Result.{err_from_is_err_and}
-use Rattle.miniserde.specs.declared.Error as json
-use Rattle.miniserde.specs.declared.Error.TheVariants.{Invalid}
-use Rattle.rows.specs.declared.error.Error.{Error}
-use Rattle.rows.specs.declared.error.Error.TheVariants.{Json}
 use Rattle.sqlite.specs.Held.{state}
 use Rattle.rows.specs.Entries.{Holds}
+use Rattle.rows.proofs.Errors.{json_error}
 use Rattle.rows.proofs.values.get.Goals as goal
-
-json_error : {T : Type 0} (r : Result T Error) (e : Error) (m : json.Error) → r ≡ Err e → e ≡ Json m → r ≡ Err (Json Invalid) → m ≡ Invalid
-json_error r e m is gives wrong = cc
 
 pub returns-in-Some-clause-some : goal.returns-in-Some-clause-some
 returns-in-Some-clause-some g c clean has =
