@@ -1,0 +1,10 @@
+mod Lists
+mod Statements
+mod Found
+mod Gets
+mod Puts
+mod Kept
+mod Effects
+mod Each
+mod Reopened
+mod Errors

@@ -1,0 +1,94 @@
+-- What the texts of the statements mean under the schema of the table: the checker computes each of them.
+use Rattle.std.proofs.Common.{◌≡◌, List, [], ◌∷◌, Ok, None, codes, pos, negsuc, false, refl}
+use Rattle.sqlite.specs.Compile.{table_defined_by}
+use Rattle.sqlite_tied.specs.Compute.{everything}
+use Rattle.sqlite.specs.Listing.{understood, reads_listing}
+use Rattle.sqlite.specs.declared.types.Value.TheVariants.{Null, Int}
+use Rattle.sqlite.specs.Term.{Term, lit, col, op2}
+use Rattle.sqlite.specs.Query.{Query, inner, end}
+use Rattle.sqlite.specs.Source.TheVariants.{Values}
+use Rattle.sqlite.specs.Command.{Command}
+use Rattle.sqlite.specs.Command.TheVariants.{CreateTable, InsertOr, Select, Nothing}
+use Rattle.sqlite.specs.Collation.TheVariants.{Binary}
+use Rattle.sqlite_value.specs.Keys.{ascending}
+use Rattle.sqlite_schema.specs.declared.command.Conflict.TheVariants.{Replace}
+use Rattle.sqlite_sql.specs.declared.ops.BinaryOp.TheVariants.{Compare}
+use Rattle.sqlite_sql.specs.declared.ops.CompareOp.TheVariants.{Eq}
+use Rattle.sqlite.proofs.Callers.{IsPlain, command_of, statement_of}
+use Rattle.rows.specs.Entries.{create_text, put_text, get_text, each_text, entry, no_schema, entry_schema}
+
+abbrev pub terms : List Term
+terms = lit Null ∷ col 0 0 ∷ col 0 1 ∷ []
+
+abbrev pub query : Query
+query = record {
+  from = inner 0 end;
+  filter = op2 (Compare Eq Binary) (col 1 1) (col 0 0) ∷ [];
+  group = None;
+  project = col 1 2 ∷ [];
+  distinct = false;
+  collations = [];
+  order = [];
+  limit = lit (Int (negsuc 0));
+  offset = lit (Int (pos 0));
+}
+
+pub create_is : (command_of (understood no_schema create_text) ≡ CreateTable)
+    × (statement_of create_text (understood no_schema create_text) ≡ create_text) × (table_defined_by create_text ≡ Ok entry)
+unfolding understood everything
+create_is = (refl, refl, refl)
+
+pub create_plain : IsPlain (understood no_schema create_text)
+unfolding understood everything
+create_plain = (refl, refl)
+
+pub put_is : command_of (understood entry_schema put_text) ≡ InsertOr 0 Replace (Values terms 3) []
+unfolding understood everything
+put_is = refl
+
+pub put_plain : IsPlain (understood entry_schema put_text)
+unfolding understood everything
+put_plain = (refl, refl)
+
+abbrev pub get_command : Command
+get_command = Select (record { lets = []; body = query }) (codes "body" ∷ [])
+
+pub get_is : (command_of (understood entry_schema get_text) ≡ get_command) × (reads_listing entry_schema get_text ≡ false)
+unfolding understood everything
+get_is = (refl, refl)
+
+pub get_plain : IsPlain (understood entry_schema get_text)
+unfolding understood everything
+get_plain = (refl, refl)
+
+pub again_is : command_of (understood entry_schema create_text) ≡ Nothing
+unfolding understood everything
+again_is = refl
+
+pub again_plain : IsPlain (understood entry_schema create_text)
+unfolding understood everything
+again_plain = (refl, refl)
+
+abbrev pub each_query : Query
+each_query = record {
+  from = inner 0 end;
+  filter = [];
+  group = None;
+  project = col 1 1 ∷ col 1 2 ∷ [];
+  distinct = false;
+  collations = [];
+  order = (col 1 1, ascending Binary) ∷ [];
+  limit = lit (Int (negsuc 0));
+  offset = lit (Int (pos 0));
+}
+
+abbrev pub each_command : Command
+each_command = Select (record { lets = []; body = each_query }) (codes "key" ∷ codes "body" ∷ [])
+
+pub each_is : (command_of (understood entry_schema each_text) ≡ each_command) × (reads_listing entry_schema each_text ≡ false)
+unfolding understood everything
+each_is = (refl, refl)
+
+pub each_plain : IsPlain (understood entry_schema each_text)
+unfolding understood everything
+each_plain = (refl, refl)

@@ -1,0 +1,11 @@
+-- The files that the close gave back hold the last commit, and the open finds it.
+use Rattle.rows.proofs.Reopened.{reopened_finds}
+use Rattle.rows.proofs.files.reopen.Goals as goal
+
+pub returns-in-Ok-open_files-clause-found : goal.returns-in-Ok-open_files-clause-found
+returns-in-Ok-open_files-clause-found g c clean =
+    reopened_finds c.args.conn c.in-Ok-open_files.again c.in-Ok.files c.schema-schema.ensures.live c.in-Ok.ensures.copied
+    (c.in-Ok-open_files.ensures.opened clean) (c.in-Ok-open_files.ensures.found clean)
+
+pub returns-in-Ok-open_files-clause-clean : goal.returns-in-Ok-open_files-clause-clean
+returns-in-Ok-open_files-clause-clean g c clean = (c.in-Ok.ensures.copied (c.in-Ok-open_files.ensures.found clean).honest).was_clean

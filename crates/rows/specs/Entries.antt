@@ -1,0 +1,118 @@
+-- The table of the rows: its statements, its schema, and what its rows are.
+use Rattle.std.specs.Prelude.{◌≡◌, ◌↔◌, ℕ, List, [], ◌∷◌, map, codes, true, false, None, String, string_bytes, IsTrue, IsPermutation}
+use Rattle.sqlite_schema.specs.declared.schema.Column.{Column}
+use Rattle.std.specs.Global.{Global}
+use Rattle.std.specs.Ordering.{nat_cmp}
+use Rattle.std.specs.Cmp.Lexicographic.{slice_cmp}
+use Rattle.std.specs.List.Sorted.{IsSortedByKey}
+use Rattle.sqlite_value.specs.Keys.{plain}
+use Rattle.sqlite.specs.Collation.TheVariants.{Binary}
+use Rattle.sqlite.specs.declared.types.Value.{Value}
+use Rattle.sqlite.specs.declared.types.Value.TheVariants.{Null, Text as Words}
+use Rattle.sqlite.specs.Order.{Row, column}
+use Rattle.sqlite.specs.Effect.{Database}
+use Rattle.sqlite.specs.State.{State}
+use Rattle.sqlite_rules.specs.Lists.{Has}
+use Rattle.std.specs.List.{AllByRecursion}
+use Rattle.sqlite.specs.Tree.{rowid, IsTable}
+use Rattle.sqlite.specs.View.{is_int}
+use Rattle.sqlite.specs.Table.{Table}
+use Rattle.sqlite.specs.Schema.{Schema}
+use Rattle.sqlite.specs.Change.{created}
+use Rattle.sqlite.specs.Kind.TheVariants.{Text}
+
+-- the statement that makes the table
+abbrev pub create_text : List ℕ
+create_text = codes "CREATE TABLE IF NOT EXISTS entry (key TEXT PRIMARY KEY NOT NULL, body TEXT NOT NULL) STRICT"
+
+-- the statement that puts a body under a key
+abbrev pub put_text : List ℕ
+put_text = codes "INSERT OR REPLACE INTO entry (key, body) VALUES (?1, ?2)"
+
+-- the query for the body of a key
+abbrev pub get_text : List ℕ
+get_text = codes "SELECT body FROM entry WHERE key = ?1"
+
+-- the query for all rows
+abbrev pub each_text : List ℕ
+each_text = codes "SELECT key, body FROM entry ORDER BY key"
+
+-- a column of texts that are never NULL
+abbrev pub text_column : List ℕ → Column
+text_column name =
+    record { name = name; kind = Text; is_strict = true; not_null = true; default = Null; collation = Binary }
+
+-- the table: two columns of texts that are never NULL, and the first is its primary key
+abbrev pub entry : Table
+entry = record {
+  name = codes "entry";
+  tree = 0;
+  columns = text_column (codes "key") ∷ text_column (codes "body") ∷ [];
+  key = None;
+  primary = 1 ∷ [];
+  uniques = (1 ∷ []) ∷ [];
+  orders = plain ∷ [];
+  checks = [];
+  references = [];
+  computed = [];
+  stamps = record { places = []; terms = []; formats = [] };
+  is_counted = false;
+}
+
+-- the schema of a database with no table
+abbrev pub no_schema : Schema
+no_schema = record { tables = []; indexes = []; views = [] }
+
+-- the schema of a database with this table alone
+abbrev pub entry_schema : Schema
+entry_schema = created no_schema entry
+
+-- the key in a row of the table, whose first column is the rowid
+abbrev pub key_of : Row → Value
+key_of r = column r 1
+
+-- the body in a row of the table
+abbrev pub body_of : Row → Value
+body_of r = column r 2
+
+-- a row of the table has this key and this body
+abbrev pub Holds : Database → List ℕ → List ℕ → Type 0
+Holds db key body = (row : Row) × Has (db.trees 0) row × (key_of row ≡ Words key) × (body_of row ≡ Words body)
+
+-- a row of the table has this key
+abbrev pub HasKey : Database → List ℕ → Type 0
+HasKey db key = (row : Row) × Has (db.trees 0) row × (key_of row ≡ Words key)
+
+-- the database has the table alone, and the rowids of its rows are integers and increase
+pub record IsStore (db : Database) : Type 0 where
+  pub schema : db.schema ≡ entry_schema
+  pub keyed : AllByRecursion (λ row. is_int (rowid row) ≡ true) (db.trees 0)
+  pub rising : IsTable (db.trees 0)
+
+-- the new database is a store where the key has this body and no other, and other keys have the bodies that they had
+pub record IsPut (old new : Database) (key body : List ℕ) : Type 0 where
+  pub store : IsStore new
+  pub here : Holds new key body
+  pub only : (other : List ℕ) → Holds new key other → other ≡ body
+  pub others : (k b : List ℕ) → (k ≡ key → ⊥) → Holds new k b ↔ Holds old k b
+
+-- the connection is outside of a transaction, and what it sees is its last commit
+abbrev pub IsCommitted : State → Type 0
+IsCommitted s = (s.in_transaction ≡ false) × (s.committed ≡ s.now)
+
+-- the connection sees what it saw before, unless the call has shut it
+abbrev pub IsUndone : State → State → Type 0
+IsUndone old new = IsTrue new.is_open → new.now ≡ old.now
+
+-- the bytes of a key and of a body
+abbrev pub texts_of : String Global × String Global → List ℕ × List ℕ
+texts_of e = (string_bytes e.0, string_bytes e.1)
+
+-- a key and a body as values of SQLite
+abbrev pub words_of : List ℕ × List ℕ → Value × Value
+words_of e = (Words e.0, Words e.1)
+
+-- the entries are the keys and bodies of the table's rows, as many times as they are there, in the byte order of the keys
+pub record AreEntries (db : Database) (entries : List (List ℕ × List ℕ)) : Type 0 where
+  pub same : IsPermutation (map (λ row. (key_of row, body_of row)) (db.trees 0)) (map words_of entries)
+  pub sorted : IsSortedByKey (λ e. e.0) (slice_cmp nat_cmp) entries

@@ -1,0 +1,88 @@
+//! Rows in a file: what an open finds, and what is found again after a close.
+ghost use Rattle.std.specs.Prelude.{◌≡◌, false, IfOk, IfSome, Ok, None};
+ghost use Rattle.sqlite.specs.WalFiles.{image_at};
+ghost use Rattle.sqlite.specs.Effect.{Database, IsDatabase};
+ghost use Rattle.sqlite.specs.State.{HasCleanDisk};
+ghost use Rattle.sqlite.specs.Files.{file_state, HoldsDatabase, IsOpened};
+ghost use Rattle.rows.specs.Entries.{IsStore, IsPut, IsCommitted};
+ghost use Rattle.rows.specs.Values.{canonical_text};
+
+use crate::error::Error;
+use crate::values::{get, put};
+use miniserde::{Lossless, Serialize, Stable};
+use sqlite::{Connection, FileFrom, FileStore, Options, Start};
+use sqlite_disk::Disk;
+use std::alloc::Global;
+
+/// Opens the database of a file, or makes one if there is none.
+pub fn open<S: Start>(
+    rt: &HostRuntime,
+    path: &str,
+    start: S,
+) -> Result<Connection<FileStore<FileFrom<S>>>, sqlite::Error>
+    // If the files held a database, the connection has its tables and its rows.
+    ensures found { IfOk result (λ conn. HasCleanDisk (file_state conn) → (db : Database) → IsDatabase db
+        → ∥ HoldsDatabase (image_at S.Start) db.trees ∥₁ → (file_state conn).now ≡ db) }
+    ensures opened { IfOk result (λ conn. HasCleanDisk (file_state conn) → IsOpened conn) }
+{
+    match Connection::open_from(rt, path, false, start) {
+        Ok(conn) => Ok(conn),
+        Err((error, _)) => Err(error),
+    }
+}
+
+/// Closes a database, and opens its files again.
+pub fn reopen<D: Disk + Drop>(
+    alloc: Global,
+    conn: Connection<FileStore<D>>,
+    options: Options,
+) -> Result<Connection<FileStore<D>>, sqlite::Error>
+    // It has the tables and the rows of the last commit.
+    ensures found { IfOk result (λ again. HasCleanDisk (file_state again)
+        → (file_state again).now ≡ (file_state conn).committed) }
+    ensures opened { IfOk result (λ again. HasCleanDisk (file_state again) → IsOpened again) }
+    ensures clean { IfOk result (λ again. HasCleanDisk (file_state again) → HasCleanDisk (file_state conn)) }
+{
+    let _schema = conn.schema();
+    let files = match conn.close_files() {
+        Ok(files) => files,
+        Err((error, store)) => {
+            drop(store.close());
+            return Err(error);
+        }
+    };
+    match Connection::open_files(alloc, files, options) {
+        Ok(again) => Ok(again),
+        Err((error, _)) => Err(error),
+    }
+}
+
+/// Puts a value under a key, closes the database, opens its files again, and reads the value back.
+pub fn put_and_reopen<D: Disk + Drop, K: Serialize, V: Stable + Lossless>(
+    alloc: Global,
+    mut conn: Connection<FileStore<D>>,
+    options: Options,
+    key: &K,
+    value: &V,
+) -> Result<(Connection<FileStore<D>>, Option<V>), Error>
+    // Outside of a transaction the database is the one from before with this row put, as `put` says it.
+    ensures put { IfOk result (λ r. HasCleanDisk (file_state r.0) → IsStore (file_state conn).now
+        → (file_state conn).in_transaction ≡ false → IsPut (file_state conn).now (file_state r.0).now
+        (canonical_text (K.tree key.now)) (canonical_text (V.tree value.now))) }
+
+    ensures committed { IfOk result (λ r. HasCleanDisk (file_state r.0) → IsStore (file_state conn).now
+        → (file_state conn).in_transaction ≡ false → IsCommitted (file_state r.0)) }
+
+    // The answer is a value with the content of the one that was put.
+    ensures same { IfOk result (λ r. HasCleanDisk (file_state r.0) → IsStore (file_state conn).now
+        → (file_state conn).in_transaction ≡ false
+        → IfSome r.1 (λ read. V.means.content read ≡ V.means.content value.now)) }
+    ensures some { IfOk result (λ r. HasCleanDisk (file_state r.0) → IsStore (file_state conn).now
+        → (file_state conn).in_transaction ≡ false → r.1 ≡ None → ⊥) }
+{
+    value.ranged();
+    put(alloc, &mut conn, key, value)?;
+    let mut conn = reopen(alloc, conn, options)?;
+    let found = get(alloc, &mut conn, key)?;
+    Ok((conn, found))
+}

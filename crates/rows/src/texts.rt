@@ -1,0 +1,137 @@
+//! The table of the rows: a body, which is a text, under each key, which is a text too.
+ghost use Rattle.std.specs.Prelude.{◌≡◌, ◌∷◌, [], ℕ, List, map, false, IfOk, IfSome, OnOk, OnErr, Ok, None, IsTrue, string_bytes};
+ghost use Rattle.sqlite.specs.Held.{state};
+ghost use Rattle.sqlite.specs.State.{HasCleanDisk, IsUnchanged, Executes, QueriesRow, Shown};
+ghost use Rattle.sqlite.specs.declared.types.Value.TheVariants.{Text};
+ghost use Rattle.rows.specs.Entries.{put_text, get_text, each_text, entry_schema, no_schema, IsStore, IsPut, Holds, HasKey, AreEntries, IsCommitted, IsUndone, texts_of};
+
+use sqlite::{Alter, Connection, Error, Row, params};
+use std::alloc::Global;
+
+/// Returns whether the database has no table, index or view, as one that an open has just made.
+pub fn is_empty<S: Alter>(conn: &Connection<S>) -> bool
+    ensures { IsTrue result → (state S.Store conn.now).now.schema ≡ no_schema }
+{
+    let schema = conn.schema();
+    if !schema.tables.is_empty() {
+        return false;
+    }
+    if !schema.indexes.is_empty() {
+        return false;
+    }
+    schema.views.is_empty()
+}
+
+/// Makes the table if the database has none.
+pub fn create<S: Alter>(conn: &mut Connection<S>) -> Result<usize, Error>
+    // A database of no tables is then a store with no row.
+    ensures fresh { HasCleanDisk (state S.Store conn.new) → (state S.Store conn.old).now.schema ≡ no_schema
+        → OnOk result (IsStore (state S.Store conn.new).now
+        × ((k b : List ℕ) → Holds (state S.Store conn.new).now k b → ⊥)) }
+
+    // Outside of a transaction that is committed.
+    ensures committed { HasCleanDisk (state S.Store conn.new) → (state S.Store conn.old).now.schema ≡ no_schema
+        → (state S.Store conn.old).in_transaction ≡ false → OnOk result (IsCommitted (state S.Store conn.new)) }
+
+    // A database that has the table stays as it is.
+    ensures again { HasCleanDisk (state S.Store conn.new) → (state S.Store conn.old).now.schema ≡ entry_schema
+        → OnOk result (IsUnchanged (state S.Store conn.old) (state S.Store conn.new)) }
+    ensures clean { HasCleanDisk (state S.Store conn.new) → HasCleanDisk (state S.Store conn.old) }
+{
+    conn.execute(
+        "CREATE TABLE IF NOT EXISTS entry (key TEXT PRIMARY KEY NOT NULL, body TEXT NOT NULL) STRICT",
+        &[],
+    )
+}
+
+// Runs the statement that puts a body under a key.
+fn execute_put<S: Alter>(conn: &mut Connection<S>, key: &str, body: &str) -> Result<usize, Error>
+    ensures runs { HasCleanDisk (state S.Store conn.new) → Executes put_text (Text key.now ∷ Text body.now ∷ [])
+        (state S.Store conn.old) (state S.Store conn.new) result }
+    ensures clean { HasCleanDisk (state S.Store conn.new) → HasCleanDisk (state S.Store conn.old) }
+{
+    conn.execute(
+        "INSERT OR REPLACE INTO entry (key, body) VALUES (?1, ?2)",
+        params![key, body],
+    )
+}
+
+// Runs the query for the body of a key.
+fn query_body<S: Alter>(conn: &mut Connection<S>, key: &str) -> Result<Row, Error>
+    ensures row { HasCleanDisk (state S.Store conn.new) → QueriesRow get_text (Text key.now ∷ [])
+        (state S.Store conn.old) (state S.Store conn.new) result }
+    ensures clean { HasCleanDisk (state S.Store conn.new) → HasCleanDisk (state S.Store conn.old) }
+{
+    conn.query_row("SELECT body FROM entry WHERE key = ?1", params![key])
+}
+
+// Runs the query for all rows.
+fn query_each<S: Alter>(conn: &mut Connection<S>) -> Result<Vec<Row>, Error>
+    ensures rows { HasCleanDisk (state S.Store conn.new)
+        → IfOk result (λ rows. Shown each_text [] (state S.Store conn.old) (state S.Store conn.new) rows.items) }
+    ensures clean { HasCleanDisk (state S.Store conn.new) → HasCleanDisk (state S.Store conn.old) }
+{
+    conn.query_all("SELECT key, body FROM entry ORDER BY key", &[])
+}
+
+/// Puts a body under a key. It replaces the body of the same key.
+pub fn put<S: Alter>(conn: &mut Connection<S>, key: &str, body: &str) -> Result<usize, Error>
+    // The key has this body and no other. Other keys keep their bodies.
+    ensures put { HasCleanDisk (state S.Store conn.new) → IsStore (state S.Store conn.old).now
+        → OnOk result (IsPut (state S.Store conn.old).now (state S.Store conn.new).now key.now body.now) }
+
+    // Outside of a transaction that is committed.
+    ensures committed { HasCleanDisk (state S.Store conn.new) → IsStore (state S.Store conn.old).now
+        → (state S.Store conn.old).in_transaction ≡ false → OnOk result (IsCommitted (state S.Store conn.new)) }
+
+    // If it fails there, the rows are as they were.
+    ensures undone { HasCleanDisk (state S.Store conn.new) → IsCommitted (state S.Store conn.old)
+        → OnErr result (IsUndone (state S.Store conn.old) (state S.Store conn.new)) }
+    ensures clean { HasCleanDisk (state S.Store conn.new) → HasCleanDisk (state S.Store conn.old) }
+{
+    execute_put(conn, key, body)
+}
+
+/// Returns the body of a key, or `None` if no row has the key.
+pub fn get<S: Alter>(conn: &mut Connection<S>, key: &str) -> Result<Option<String>, Error>
+    // A row of the table has the key and this body.
+    ensures some { HasCleanDisk (state S.Store conn.new) → (state S.Store conn.old).now.schema ≡ entry_schema
+        → IfOk result (λ answer. IfSome answer (λ body. Holds (state S.Store conn.old).now key.now (string_bytes body))) }
+    ensures none { HasCleanDisk (state S.Store conn.new) → (state S.Store conn.old).now.schema ≡ entry_schema
+        → result ≡ Ok None → HasKey (state S.Store conn.old).now key.now → ⊥ }
+
+    // The database is as it was.
+    ensures same { HasCleanDisk (state S.Store conn.new) → (state S.Store conn.old).now.schema ≡ entry_schema
+        → OnOk result (IsUnchanged (state S.Store conn.old) (state S.Store conn.new)) }
+    ensures clean { HasCleanDisk (state S.Store conn.new) → HasCleanDisk (state S.Store conn.old) }
+{
+    match query_body(conn, key) {
+        Ok(row) => Ok(Some(row.get(0)?)),
+        Err(Error::QueryReturnedNoRows) => Ok(None),
+        Err(error) => Err(error),
+    }
+}
+
+/// Returns all keys with their bodies, in the byte order of the keys.
+pub fn each<S: Alter>(
+    alloc: Global,
+    conn: &mut Connection<S>,
+) -> Result<Vec<(String, String)>, Error>
+    // They are the rows of the table, none left out and none twice.
+    ensures each { HasCleanDisk (state S.Store conn.new) → (state S.Store conn.old).now.schema ≡ entry_schema
+        → IfOk result (λ each. AreEntries (state S.Store conn.old).now (map texts_of each.items)) }
+
+    // The database is as it was.
+    ensures same { HasCleanDisk (state S.Store conn.new) → (state S.Store conn.old).now.schema ≡ entry_schema
+        → OnOk result (IsUnchanged (state S.Store conn.old) (state S.Store conn.new)) }
+    ensures clean { HasCleanDisk (state S.Store conn.new) → HasCleanDisk (state S.Store conn.old) }
+{
+    let rows = query_each(conn)?;
+    let mut each = Vec::new(alloc);
+    for row in rows.iter() {
+        let key: String = row.get(0)?;
+        let body: String = row.get(1)?;
+        each.push((key, body))?;
+    }
+    Ok(each)
+}

@@ -1,0 +1,171 @@
+//! Rows of values of your own types: the key and the body of a row are the canonical texts of two values.
+ghost use Rattle.std.specs.Prelude.{◌≡◌, ◌⊎◌, ℕ, List, false, IfOk, IfSome, OnOk, OnErr, Ok, Err, None};
+ghost use Rattle.std.specs.List.{AllZip};
+ghost use Rattle.miniserde.specs.declared.Error.TheVariants.{Invalid};
+ghost use Rattle.miniserde.specs.Value.{IsJson};
+ghost use Rattle.miniserde.specs.Normal.{norm};
+ghost use Rattle.sqlite.specs.Held.{state};
+ghost use Rattle.sqlite.specs.State.{HasCleanDisk, IsUnchanged};
+ghost use Rattle.rows.specs.Entries.{entry_schema, IsStore, IsPut, Holds, HasKey, AreEntries, IsCommitted, IsUndone};
+ghost use Rattle.rows.specs.declared.error.Error.TheVariants.{Json};
+ghost use Rattle.rows.specs.Values.{canonical_text, IsReadFrom};
+
+use crate::error::Error;
+use crate::texts;
+use miniserde::json::{canonical_of, from_str};
+use miniserde::laws::norm_is_normal;
+use miniserde::{
+    Lossless, Serialize, Stable, canonical_text_determines_content, means_in_normal_form,
+};
+use sqlite::{Alter, Connection};
+use std::alloc::Global;
+
+/// Puts a value under a key. It replaces the value of the same key. Returns `Database` if the database fails, and `Json`
+/// if an allocation fails.
+pub fn put<S: Alter, K: Serialize, V: Serialize>(
+    alloc: Global,
+    conn: &mut Connection<S>,
+    key: &K,
+    value: &V,
+) -> Result<(), Error>
+    // The canonical text of the key has that of the value as its body, and no other. Other keys keep their bodies.
+    ensures put { HasCleanDisk (state S.Store conn.new) → IsStore (state S.Store conn.old).now
+        → OnOk result (IsPut (state S.Store conn.old).now (state S.Store conn.new).now
+        (canonical_text (K.tree key.now)) (canonical_text (V.tree value.now))) }
+
+    // Outside of a transaction that is committed.
+    ensures committed { HasCleanDisk (state S.Store conn.new) → IsStore (state S.Store conn.old).now
+        → (state S.Store conn.old).in_transaction ≡ false → OnOk result (IsCommitted (state S.Store conn.new)) }
+
+    // If it fails there, the rows are as they were.
+    ensures undone { HasCleanDisk (state S.Store conn.new) → IsCommitted (state S.Store conn.old)
+        → OnErr result (IsUndone (state S.Store conn.old) (state S.Store conn.new)) }
+
+    // It fails for the database or for memory alone.
+    ensures valid { result ≡ Err (Json Invalid) → ⊥ }
+
+    // The two texts spell the normal forms of the two trees.
+    ensures spells { OnOk result (IsJson (canonical_text (K.tree key.now)) (norm (K.tree key.now))
+        × IsJson (canonical_text (V.tree value.now)) (norm (V.tree value.now))) }
+    ensures clean { HasCleanDisk (state S.Store conn.new) → HasCleanDisk (state S.Store conn.old) }
+{
+    let key = canonical_of(alloc, key)?;
+    let body = canonical_of(alloc, value)?;
+    texts::put(conn, key.as_str(), body.as_str())?;
+    Ok(())
+}
+
+/// Returns the value that a stored text means. Returns `Invalid` if it means none, and `Memory` if an allocation fails.
+pub fn value_of<V: Stable + Lossless>(alloc: Global, text: &str) -> miniserde::Result<V>
+    // If the text is the canonical text of a value, the answer has the content of that value.
+    ensures read { IfOk result (IsReadFrom V.means V.tree V.real text.now) }
+
+    // The text is the canonical text of no value.
+    ensures invalid { result ≡ Err Invalid → (v : V) → V.real v → IsJson text.now (norm (V.tree v)) → ⊥ }
+{
+    V::round_trips();
+    means_in_normal_form::<V>();
+    norm_is_normal();
+    canonical_text_determines_content::<V>();
+    let value: V = from_str(alloc, text)?;
+    Ok(value)
+}
+
+/// Returns the value of a key, or `None` if no row has the key. Returns `Database` if the database fails, and `Json` if the
+/// body means no value or an allocation fails.
+pub fn get<S: Alter, K: Serialize, V: Stable + Lossless>(
+    alloc: Global,
+    conn: &mut Connection<S>,
+    key: &K,
+) -> Result<Option<V>, Error>
+    // The canonical text of the key has a body, and the answer is read from it.
+    ensures some { HasCleanDisk (state S.Store conn.new) → (state S.Store conn.old).now.schema ≡ entry_schema
+        → IfOk result (λ answer. IfSome answer (λ read. (body : List ℕ)
+        × Holds (state S.Store conn.old).now (canonical_text (K.tree key.now)) body
+        × IsReadFrom V.means V.tree V.real body read)) }
+    ensures none { HasCleanDisk (state S.Store conn.new) → (state S.Store conn.old).now.schema ≡ entry_schema
+        → result ≡ Ok None → HasKey (state S.Store conn.old).now (canonical_text (K.tree key.now)) → ⊥ }
+
+    // The key has a body that is the canonical text of no value.
+    ensures invalid { HasCleanDisk (state S.Store conn.new) → (state S.Store conn.old).now.schema ≡ entry_schema
+        → result ≡ Err (Json Invalid) → (body : List ℕ)
+        × Holds (state S.Store conn.old).now (canonical_text (K.tree key.now)) body
+        × ((v : V) → V.real v → IsJson body (norm (V.tree v)) → ⊥) }
+
+    // The database is as it was.
+    ensures same { HasCleanDisk (state S.Store conn.new) → (state S.Store conn.old).now.schema ≡ entry_schema
+        → OnOk result (IsUnchanged (state S.Store conn.old) (state S.Store conn.new)) }
+    ensures clean { HasCleanDisk (state S.Store conn.new) → HasCleanDisk (state S.Store conn.old) }
+{
+    let key = canonical_of(alloc, key)?;
+    match texts::get(conn, key.as_str())? {
+        Some(body) => {
+            let value: V = value_of(alloc, body.as_str())?;
+            Ok(Some(value))
+        }
+        None => Ok(None),
+    }
+}
+
+/// Puts a value under a key, and reads it back from the database. Returns `Database` if the database fails, and `Json` if
+/// an allocation fails.
+pub fn put_and_get<S: Alter, K: Serialize, V: Stable + Lossless>(
+    alloc: Global,
+    conn: &mut Connection<S>,
+    key: &K,
+    value: &V,
+) -> Result<Option<V>, Error>
+    // The row is put, as `put` says it.
+    ensures put { HasCleanDisk (state S.Store conn.new) → IsStore (state S.Store conn.old).now
+        → OnOk result (IsPut (state S.Store conn.old).now (state S.Store conn.new).now
+        (canonical_text (K.tree key.now)) (canonical_text (V.tree value.now))) }
+    ensures committed { HasCleanDisk (state S.Store conn.new) → IsStore (state S.Store conn.old).now
+        → (state S.Store conn.old).in_transaction ≡ false → OnOk result (IsCommitted (state S.Store conn.new)) }
+
+    // The answer is a value with the content of the one that was put.
+    ensures same { HasCleanDisk (state S.Store conn.new) → IsStore (state S.Store conn.old).now
+        → IfOk result (λ answer. IfSome answer (λ read. V.means.content read ≡ V.means.content value.now)) }
+    ensures some { HasCleanDisk (state S.Store conn.new) → IsStore (state S.Store conn.old).now → result ≡ Ok None → ⊥ }
+
+    // It fails for the database or for memory alone.
+    ensures valid { HasCleanDisk (state S.Store conn.new) → IsStore (state S.Store conn.old).now
+        → result ≡ Err (Json Invalid) → ⊥ }
+    ensures clean { HasCleanDisk (state S.Store conn.new) → HasCleanDisk (state S.Store conn.old) }
+{
+    value.ranged();
+    put(alloc, conn, key, value)?;
+    get(alloc, conn, key)
+}
+
+/// Returns all keys with their values, in the byte order of the keys' canonical texts. Returns `Database` if the database
+/// fails, and `Json` if a text means no value or an allocation fails.
+pub fn each<S: Alter, K: Stable + Lossless, V: Stable + Lossless>(
+    alloc: Global,
+    conn: &mut Connection<S>,
+) -> Result<Vec<(K, V)>, Error>
+    // They are read from the rows of the table, none left out and none twice.
+    ensures each { HasCleanDisk (state S.Store conn.new) → (state S.Store conn.old).now.schema ≡ entry_schema
+        → IfOk result (λ each. (entries : List (List ℕ × List ℕ)) × AreEntries (state S.Store conn.old).now entries
+        × AllZip (λ entry read. IsReadFrom K.means K.tree K.real entry.0 read.0
+        × IsReadFrom V.means V.tree V.real entry.1 read.1) entries each.items) }
+
+    // A row has a key or a body that is the canonical text of no value.
+    ensures invalid { HasCleanDisk (state S.Store conn.new) → (state S.Store conn.old).now.schema ≡ entry_schema
+        → result ≡ Err (Json Invalid) → (key body : List ℕ) × Holds (state S.Store conn.old).now key body
+        × (((k : K) → K.real k → IsJson key (norm (K.tree k)) → ⊥)
+        ⊎ ((v : V) → V.real v → IsJson body (norm (V.tree v)) → ⊥)) }
+
+    // The database is as it was.
+    ensures same { HasCleanDisk (state S.Store conn.new) → (state S.Store conn.old).now.schema ≡ entry_schema
+        → OnOk result (IsUnchanged (state S.Store conn.old) (state S.Store conn.new)) }
+    ensures clean { HasCleanDisk (state S.Store conn.new) → HasCleanDisk (state S.Store conn.old) }
+{
+    let rows = texts::each(alloc, conn)?;
+    let mut each = Vec::new(alloc);
+    for row in rows.iter() {
+        let key: K = value_of(alloc, row.0.as_str())?;
+        let value: V = value_of(alloc, row.1.as_str())?;
+        each.push((key, value))?;
+    }
+    Ok(each)
+}
