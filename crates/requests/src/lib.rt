@@ -5,5 +5,6 @@ pub mod answer;
 pub mod call;
 pub mod counter;
 pub mod service;
+pub mod stream;
 #[cfg(test)]
 mod tests;

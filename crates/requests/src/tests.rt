@@ -2,23 +2,19 @@ use crate::answer::Answer;
 use crate::call::{Addend, Call};
 use crate::counter::{answered, reply};
 use crate::service::CounterService;
-use http_server::{Config, Connection, serve};
+use crate::stream::serve_stream;
+use http_server::Config;
 use miniserde::Error;
 use std::hash::RandomState;
 use std::test::Fail;
 
 // Serves a stream from a counter at 0, and returns what was sent and the count afterwards.
 fn served(rt: &HostRuntime, stream: &str) -> Result<(String, u64), Fail> {
-    let mut connection = Connection::new(rt.alloc(), RandomState::new(rt)?, Config::default());
-    let mut service = CounterService::new(rt.alloc())?;
     let mut sent = Vec::new(rt.alloc());
-    serve(
-        &mut connection,
-        &mut service,
-        &mut stream.as_bytes(),
-        &mut sent,
-    )?;
-    Ok((String::from_utf8(sent)?, service.count()))
+    let keys = RandomState::new(rt)?;
+    let mut stream = stream.as_bytes();
+    let count = serve_stream(rt.alloc(), keys, Config::default(), &mut stream, &mut sent)?;
+    Ok((String::from_utf8(sent)?, count))
 }
 
 #[test]
@@ -58,6 +54,12 @@ fn a_body_is_answered_by_a_text(rt: HostRuntime) -> Result<(), Fail> {
     for body in bad {
         assert!(rt; matches!(reply(rt.alloc(), 1, body), Err(Error::Invalid)));
     }
+    Ok(())
+}
+
+#[test]
+fn a_counter_begins_at_zero(rt: HostRuntime) -> Result<(), Fail> {
+    assert_eq!(rt; CounterService::new(rt.alloc())?.count(), 0);
     Ok(())
 }
 

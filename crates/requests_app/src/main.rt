@@ -1,20 +1,20 @@
 //! Serves the requests of standard input by a counter, and writes the responses to standard output.
 #![tactic(auto)]
 
-use http_server::{Config, Connection, serve};
-use requests::service::CounterService;
+use http_server::Config;
+use requests::stream::serve_stream;
 use std::hash::RandomState;
 use std::io;
 
 fn main(rt: HostRuntime) -> io::Result<()> {
-    let mut connection = Connection::new(rt.alloc(), RandomState::new(&rt)?, Config::default());
-    let Ok(mut service) = CounterService::new(rt.alloc()) else {
-        return Err(io::Error::from(io::ErrorKind::OutOfMemory));
-    };
-    serve(
-        &mut connection,
-        &mut service,
-        &mut rt.stdin(),
-        &mut io::writer(&rt),
-    )
+    let keys = RandomState::new(&rt)?;
+    let (mut reader, mut writer) = (rt.stdin(), io::writer(&rt));
+    serve_stream(
+        rt.alloc(),
+        keys,
+        Config::default(),
+        &mut reader,
+        &mut writer,
+    )?;
+    Ok(())
 }
