@@ -11,9 +11,9 @@ use std::hash::RandomState;
 use std::io;
 use std::io::{ErrorKind, Read, Write};
 
-/// Reads requests, writes the responses of a counter at 0, and returns the count after the last one. Returns the error of
-/// a read or a write that fails, and `OutOfMemory` if an allocation fails before the first read. If one fails later, the
-/// stream ends there.
+/// Reads requests, writes the responses of a counter that begins at 0, and returns the last count. Returns the error of a
+/// read or a write that fails, and `OutOfMemory` if an allocation fails before the first read. If one fails later, the
+/// connection ends there, which is no error.
 pub fn serve_stream<R: Read, W: Write>(
     alloc: Global,
     keys: RandomState,
@@ -21,7 +21,8 @@ pub fn serve_stream<R: Read, W: Write>(
     reader: &mut R,
     writer: &mut W,
 ) -> io::Result<u64>
-    // What was read are the requests that were received, and what was written are the responses that were sent.
+    // What was read is what the connection received, and what was written is what it sent. Each call of the service is
+    // answered as the counter answers, from 0 on, and `count` is the last count.
     ensures served { IfOk result (λ count. (h : History)
         × Consumes (R.remaining reader.old) (R.remaining reader.new) h.received
         × Appends (W.contents writer.old) (W.contents writer.new) h.sent
