@@ -1,0 +1,4 @@
+pub mod Calls
+pub mod Routes
+pub mod Answered
+pub mod Streams
