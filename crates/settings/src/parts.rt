@@ -6,10 +6,11 @@ ghost use Rattle.std.specs.Prelude.{refl};
 
 use miniserde::derived::{
     Deserialize, Error, Event, Field, FromJson, Global, Lossless, NeverNull, NoField, NoSlot,
-    Parts, PlacedRecord, Ranged, Record, RecordPlace, Result, RoundTrip, Serialize, Slot, Slots,
-    Source, Step, Visitor, Writer, WrittenFields, read_record, record_lossless, record_round_trips,
-    write_members,
+    Parts, PlacedRecord, Plain, Ranged, Record, RecordPlace, Result, RoundTrip, Serialize, Slot,
+    Slots, Source, Step, Visitor, Writer, WrittenFields, read_record, record_lossless,
+    record_round_trips, write_members,
 };
+use refused::{FieldByField, FieldPath, NamesOf, NoProbe, Probe, Probes, Way, fields_give};
 
 /// A host, and how much of the work it gets.
 #[derive(Drop)]
@@ -218,6 +219,23 @@ impl Lossless for Tls {
 
 impl NeverNull for Tls {
     fn never_null() {}
+}
+
+// Its fields, one by one.
+type TlsProbes = Probe<String, Plain, Probe<bool, Plain, NoProbe>>;
+
+impl FieldByField for Tls {
+    ghost wrong = { λ gives here. ⟦<TlsProbes as Probes>⟧.wrong gives here ⟦<Tls as Record>⟧.names };
+
+    ghost right = { λ gives. ⟦<TlsProbes as Probes>⟧.right gives ⟦<Tls as Record>⟧.names };
+
+    fn probe<W: Way>(alloc: Global, text: &str) -> Result<Option<FieldPath>> {
+        <TlsProbes as Probes>::probe::<W, NamesOf<Tls>>(alloc, text)
+    }
+
+    fn by_fields() {
+        fields_give::<Tls, TlsProbes>()
+    }
 }
 
 /// The place of a `Tls`.

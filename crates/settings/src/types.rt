@@ -7,9 +7,12 @@ ghost use Rattle.std.specs.Prelude.{refl};
 use crate::parts::{Host, Tls};
 use miniserde::derived::{
     Deserialize, Error, Event, Field, Four, FourLent, FourParts, FourSlot, FromJson, Global,
-    Lossless, NeverNull, NoField, NoSlot, Parts, PlacedRecord, Ranged, Record, RecordPlace, Result,
-    RoundTrip, Serialize, Slot, Slots, Source, Step, Visitor, Writer, WrittenFields, read_record,
-    record_lossless, record_round_trips, take_four, write_members,
+    Lossless, NeverNull, NoField, NoSlot, Parts, PlacedRecord, Plain, Ranged, Record, RecordPlace,
+    Result, RoundTrip, Serialize, Slot, Slots, Source, Step, Visitor, Writer, WrittenFields,
+    read_record, record_lossless, record_round_trips, take_four, write_members,
+};
+use refused::{
+    FieldByField, FieldPath, NamesOf, NoProbe, Probe, ProbeIntoOption, Probes, Way, fields_give,
 };
 use std::collections::BTreeMap;
 
@@ -129,6 +132,35 @@ impl Lossless for Settings {
 
 impl NeverNull for Settings {
     fn never_null() {}
+}
+
+// Its fields, one by one.
+type SettingsProbes = Probe<
+    String,
+    Plain,
+    Probe<
+        u16,
+        Plain,
+        ProbeIntoOption<
+            Tls,
+            Plain,
+            Probe<Vec<Host>, Plain, Probe<BTreeMap<String, u64>, Plain, NoProbe>>,
+        >,
+    >,
+>;
+
+impl FieldByField for Settings {
+    ghost wrong = { λ gives here. ⟦<SettingsProbes as Probes>⟧.wrong gives here ⟦<Settings as Record>⟧.names };
+
+    ghost right = { λ gives. ⟦<SettingsProbes as Probes>⟧.right gives ⟦<Settings as Record>⟧.names };
+
+    fn probe<W: Way>(alloc: Global, text: &str) -> Result<Option<FieldPath>> {
+        <SettingsProbes as Probes>::probe::<W, NamesOf<Settings>>(alloc, text)
+    }
+
+    fn by_fields() {
+        fields_give::<Settings, SettingsProbes>()
+    }
 }
 
 /// The place of a `Settings`.
