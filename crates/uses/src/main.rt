@@ -1,5 +1,5 @@
-//! Uses of the library, one after another: settings, a cache, a store of rows, a request's body, a store of requests, a store
-//! keyed by values, a signed body, calls of a counter, and the field that is wrong.
+//! Uses of the library, one after another: settings, a cache, a request's body, a store of requests, a signed body, calls of
+//! a counter, and the field that is wrong.
 #![tactic(auto)]
 
 mod answer;
@@ -7,17 +7,15 @@ mod bodies;
 mod cache;
 mod call;
 mod calls;
-mod ledger;
 mod loading;
 mod request;
 mod requests;
 mod signed;
-mod store;
 mod transfer;
 
 use calls::Counter;
 use miniserde::Result;
-use miniserde::json::{canonical_of, from_str, to_string};
+use miniserde::json::{from_str, to_string};
 use refused::wrong_field;
 use request::Request;
 use settings::types::Settings;
@@ -34,14 +32,6 @@ fn run_cache(alloc: Global) -> Result<Option<u64>> {
     cache::find(alloc, &answers, " {\"a\":\"a\",\"b\":2}")
 }
 
-/// Returns whether a row that is put in the place of another says what its text says.
-fn run_store(alloc: Global) -> Result<bool> {
-    let mut rows = BTreeMap::new(alloc);
-    store::put(alloc, &mut rows, 1, "[2]")?;
-    store::put(alloc, &mut rows, 1, "[1, {\"x\": -0}]")?;
-    store::is_row(alloc, &rows, 1, "[1,{\"x\":0}]")
-}
-
 /// Puts the request of a body into a store, and returns the text of the one that is found there.
 fn found(alloc: Global, body: &str) -> Result<Option<String>> {
     let request: Request = from_str(alloc, body)?;
@@ -51,21 +41,6 @@ fn found(alloc: Global, body: &str) -> Result<Option<String>> {
         Some(found) => Ok(Some(to_string(alloc, &found)?)),
         None => Ok(None),
     }
-}
-
-/// Keeps a number for a transfer. Returns the number that is there for another text of the transfer, and the transfer
-/// that its key is read as.
-fn counted(alloc: Global, text: &str, other: &str) -> Result<Option<(u64, String)>> {
-    let transfer: Transfer = from_str(alloc, text)?;
-    let mut numbers = BTreeMap::new(alloc);
-    ledger::set(alloc, &mut numbers, &transfer, 3)?;
-    let other: Transfer = from_str(alloc, other)?;
-    let Some(number) = ledger::number_of(alloc, &numbers, &other)? else {
-        return Ok(None);
-    };
-    let key = canonical_of(alloc, &other)?;
-    let read: Transfer = ledger::value_of(alloc, key.as_str())?;
-    Ok(Some((number, to_string(alloc, &read)?)))
 }
 
 /// Returns the text of the transfer of a body, if the canonical text of the body is the one that was signed.
@@ -173,10 +148,6 @@ fn main(rt: HostRuntime) -> io::Result<()> {
         Ok(None) => println!(rt; "cache: nothing")?,
         Err(error) => println!(rt; "cache: {error}")?,
     }
-    match run_store(alloc) {
-        Ok(same) => println!(rt; "store: {same}")?,
-        Err(error) => println!(rt; "store: {error}")?,
-    }
     let body =
         "{\"besides\":{\"b\":[1.50],\"a\":null},\"items\":[{\"goods\":\"nails\",\"count\":100}],\"client\":\"c\"}";
     match bodies::add_note(alloc, body, "by noon") {
@@ -187,11 +158,6 @@ fn main(rt: HostRuntime) -> io::Result<()> {
         Ok(Some(found)) => println!(rt; "found: {found}")?,
         Ok(None) => println!(rt; "found: nothing")?,
         Err(error) => println!(rt; "found: {error}")?,
-    }
-    match counted(alloc, TRANSFER, SAME) {
-        Ok(Some((number, transfer))) => println!(rt; "ledger: {number} {transfer}")?,
-        Ok(None) => println!(rt; "ledger: nothing")?,
-        Err(error) => println!(rt; "ledger: {error}")?,
     }
     tell_transfers(&rt)?;
     tell_calls(&rt)?;
