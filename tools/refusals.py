@@ -236,7 +236,7 @@ def instead_of(parts):
     names = [re.match(r"\w*", part).group() for part in parts]
     none = [name for name in names if name not in SERDE]
     if none:
-        return f" (docs/FROM-SERDE.md), and nothing stands for `{none[0]}`"
+        return f" (docs/YOUR-OWN-TYPES.md), and nothing stands for `{none[0]}`"
     words = []
     for name, part in zip(names, parts):
         value = part.partition("=")[2].strip()
