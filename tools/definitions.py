@@ -2,6 +2,7 @@
 import re
 from dataclasses import dataclass, field, replace
 
+from fields import check_refused, looked_into
 from omitted import check_omitted, mark_never_null
 from refusals import (
     NAME, Refused, check_attribute, check_cycles, check_field_name, check_foreign_marks, check_inside, check_lossless, check_newtype, check_param, check_params, check_places, check_stable,
@@ -14,7 +15,8 @@ class Part:
     """A field or a variant: its name and its name in JSON; and a field's type, the `pub` in front of it and its marks.
 
     `above` are the lines of comments and attributes above it. `default` is the text of the value of a missing field, ""
-    for the empty one and None for no such value; `omit` says that `None` is not written, and `aliases` are other names that it is read by. A variant with data has `values`, the types in its round brackets, or named
+    for the empty one and None for no such value; `omit` says that `None` is not written, `refused` that the field's own fields are looked for,
+    and `aliases` are other names that it is read by. A variant with data has `values`, the types in its round brackets, or named
     `fields`; `of` is the type of its data.
     """
 
@@ -27,6 +29,7 @@ class Part:
     once: bool = False
     default: str = None
     omit: bool = False
+    refused: bool = False
     aliases: tuple = ()
     values: tuple = ()
     fields: list = field(default_factory=list)
@@ -41,6 +44,7 @@ class Definition:
     a field that may be left out needs the law that the type is not written as `null`, and `bounded` are the parameters of which
     it does. `has_laws` says that the type's crate has the crate of the round trip, and `has_stored` that it has the one of stable
     types. `check` is the function that says which values a newtype takes, "" for one that takes all, and `module` its module.
+    `looked_into` are the structs of the file whose fields are looked for one by one.
     """
 
     kind: str
@@ -61,6 +65,7 @@ class Definition:
     has_stored: bool = True
     check: str = ""
     module: str = "checks"
+    looked_into: set = field(default_factory=set)
 
     @property
     def shown(self):
@@ -69,7 +74,7 @@ class Definition:
 
 USE = re.compile(r"(?:pub )?use [A-Za-z0-9_:{}*, ]+;")
 DERIVE = re.compile(r"#\[derive\(([^)]*)\)\]")
-WORD = r'(?:once|closed|lossless|stable|events|inside|(?:rename_all|tag)\b(?:"[^"]*"|[^",])*)'
+WORD = r'(?:once|closed|lossless|stable|events|inside|refused|(?:rename_all|tag)\b(?:"[^"]*"|[^",])*)'
 WORDS = rf"\s*//\s*({WORD}(?:,\s*{WORD})*)"
 PUBLIC = r"(pub(?:\([a-z ]+\))?\s+)?"
 PARAMS = r"(?:<([^{}]*)>)?"
@@ -78,8 +83,8 @@ ON_ONE_LINE = re.compile(rf"({PUBLIC}(?:struct|enum)\s+{NAME}\s*{PARAMS}\s*\{{)(
 NEWTYPE = re.compile(rf"{PUBLIC}struct\s+({NAME})\s*{PARAMS}\s*\(\s*{PUBLIC}(.+?)\s*,?\s*\);(?:\s*//\s*(.*))?")
 NEWTYPE_WORD = re.compile(rf"lossless|stable|key|text|events|check\s+((?:{NAME}::)?{NAME})")
 VARIANT = re.compile(rf"({NAME})\s*(?:\((.*)\)|\{{(.*)\}}|(\{{))?,?")
-MARKS = re.compile(r'//\s*((?:once|default|omit|alias|rename|rename_all)\b.*)$')
-MARK = re.compile(r'\s*(?:(once|omit)|default(?:\s+(-?\d+|true|false|"[^"\\]*"))?|(rename|alias)\s+"([^"\\]*)")\s*(?:,|$)')
+MARKS = re.compile(r'//\s*((?:once|default|omit|refused|alias|rename|rename_all)\b.*)$')
+MARK = re.compile(r'\s*(?:(once|omit|refused)|default(?:\s+(-?\d+|true|false|"[^"\\]*"))?|(rename|alias)\s+"([^"\\]*)")\s*(?:,|$)')
 INTEGER = re.compile(r"[ui](8|16|32|64|size)")
 
 
@@ -137,7 +142,7 @@ def marks_of(kind, text, line):
     while text:
         found = MARK.match(text)
         if not found:
-            raise Refused(f'line {line}: not a mark (`once`, `default VALUE`, `omit`, `rename "x"`, `alias "x"`): {text.strip()}')
+            raise Refused(f'line {line}: not a mark (`once`, `default VALUE`, `omit`, `refused`, `rename "x"`, `alias "x"`): {text.strip()}')
         if found.group(1):
             words.add(found.group(1))
         elif found.group(3) == "rename":
@@ -148,7 +153,7 @@ def marks_of(kind, text, line):
             default = found.group(2) or ""
         text = text[found.end() :]
     if kind == "enum" and (words or default is not None or aliases):
-        raise Refused(f"line {line}: a variant has `rename` alone: `once`, `default`, `omit` and `alias` mark fields")
+        raise Refused(f"line {line}: a variant has `rename` alone: `once`, `default`, `omit`, `refused` and `alias` mark fields")
     return words, default, rename, aliases
 
 
@@ -162,7 +167,7 @@ def part_of(kind, text, line, above, style):
     part = field_of(bare, line, above, style) if kind == "struct" else variant_of(bare, line, above, style)
     if default is not None:
         check_default(part.of, default, line)
-    part.once, part.omit, part.default, part.aliases = "once" in words, "omit" in words, default, aliases
+    part.once, part.omit, part.refused, part.default, part.aliases = "once" in words, "omit" in words, "refused" in words, default, aliases
     part.written = part.written if rename is None else rename
     return part
 
@@ -241,7 +246,7 @@ def head_of(bare, line, above):
         params, style, tag = params_of(params or "", bare, line), style_of(kind, renames, line), tag_of(kind, tags, line)
         return Definition(kind, name, line, above, derives, public or "", words, params, style, tag)
     if re.match(rf"{PUBLIC}(?:struct|enum)\s+{NAME}\s*{PARAMS}\s*\{{\s*//", bare):
-        raise Refused(f'line {line}: behind a type stand words, with commas between: once, closed, lossless, stable, events, inside, tag "kind", rename_all "camelCase": {bare}')
+        raise Refused(f'line {line}: behind a type stand words, with commas between: once, closed, lossless, stable, events, inside, refused, tag "kind", rename_all "camelCase": {bare}')
     if re.match(rf"{PUBLIC}struct\s+{NAME}\s*(?:<[^{{(]*>)?\s*\(", bare):
         raise Refused(f"line {line}: a struct of unnamed values has one, and stands on one line: `struct Name(Type);`: {bare}")
     raise Refused(f"line {line}: not the first line of a `struct Name {{` or an `enum Name {{`: {bare}")
@@ -372,3 +377,6 @@ def check(found, uses):
     check_places(found, uses)
     check_stable(found, uses)
     check_lossless(found, uses)
+    check_refused(found)
+    for it in found:
+        it.looked_into = looked_into(found)

@@ -1,6 +1,7 @@
 """The impls that `./derive` writes for a struct, and what those of each type have."""
 import re
 
+from fields import fields_text
 from omitted import inner_of
 from places import place_text
 
@@ -242,7 +243,7 @@ def struct_text(it, path):
 type {typed(it, "Fields")} = {slots_of(it, it.parts)};
 
 const {const_of(it.name)}: &[&str] = &[{", ".join(f'"{part.written}"' for part in it.parts)}];
-{record_text(it, path)}{aliases_text(it, path)}{reading_text(it)}{writing_text(it)}{laws_text(it, "record", f"{typed(it)}, {typed(it, 'Fields')}")}{inside_text(it)}{place_text(it)}"""
+{record_text(it, path)}{aliases_text(it, path)}{reading_text(it)}{writing_text(it)}{laws_text(it, "record", f"{typed(it)}, {typed(it, 'Fields')}")}{inside_text(it)}{fields_text(it, mark_of)}{place_text(it)}"""
 
 
 def record_text(it, path):

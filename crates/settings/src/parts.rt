@@ -6,10 +6,11 @@ ghost use Rattle.std.specs.Prelude.{refl};
 
 use miniserde::derived::{
     Deserialize, Error, Event, Field, FromJson, Global, Lossless, NeverNull, NoField, NoSlot,
-    Parts, PlacedRecord, Ranged, Record, RecordPlace, Result, RoundTrip, Serialize, Slot, Slots,
-    Source, Step, Visitor, Writer, WrittenFields, read_record, record_lossless, record_round_trips,
-    write_members,
+    Parts, PlacedRecord, Plain, Ranged, Record, RecordPlace, Result, RoundTrip, Serialize, Slot,
+    Slots, Source, Step, Visitor, Writer, WrittenFields, read_record, record_lossless,
+    record_round_trips, write_members,
 };
+use refused::{FieldByField, NoProbe, Probe};
 
 /// A host, and how much of the work it gets.
 #[derive(Drop)]
@@ -218,6 +219,12 @@ impl Lossless for Tls {
 
 impl NeverNull for Tls {
     fn never_null() {}
+}
+
+impl FieldByField for Tls {
+    type Each = Probe<String, Plain, Probe<bool, Plain, NoProbe>>;
+
+    fn by_fields() {}
 }
 
 /// The place of a `Tls`.

@@ -7,10 +7,11 @@ ghost use Rattle.std.specs.Prelude.{refl};
 use crate::parts::{Host, Tls};
 use miniserde::derived::{
     Deserialize, Error, Event, Field, Four, FourLent, FourParts, FourSlot, FromJson, Global,
-    Lossless, NeverNull, NoField, NoSlot, Parts, PlacedRecord, Ranged, Record, RecordPlace, Result,
-    RoundTrip, Serialize, Slot, Slots, Source, Step, Visitor, Writer, WrittenFields, read_record,
-    record_lossless, record_round_trips, take_four, write_members,
+    Lossless, NeverNull, NoField, NoSlot, Parts, PlacedRecord, Plain, Ranged, Record, RecordPlace,
+    Result, RoundTrip, Serialize, Slot, Slots, Source, Step, Visitor, Writer, WrittenFields,
+    read_record, record_lossless, record_round_trips, take_four, write_members,
 };
+use refused::{FieldByField, NoProbe, Probe, ProbeIntoOption};
 use std::collections::BTreeMap;
 
 /// Settings of a server.
@@ -129,6 +130,24 @@ impl Lossless for Settings {
 
 impl NeverNull for Settings {
     fn never_null() {}
+}
+
+impl FieldByField for Settings {
+    type Each = Probe<
+        String,
+        Plain,
+        Probe<
+            u16,
+            Plain,
+            ProbeIntoOption<
+                Tls,
+                Plain,
+                Probe<Vec<Host>, Plain, Probe<BTreeMap<String, u64>, Plain, NoProbe>>,
+            >,
+        >,
+    >;
+
+    fn by_fields() {}
 }
 
 /// The place of a `Settings`.

@@ -5,7 +5,7 @@ pub struct Host { // lossless, events
 }
 
 /// How a connection is secured.
-pub struct Tls { // lossless, events
+pub struct Tls { // lossless, events, refused
     pub cert: String,
     pub verify: bool,
 }

@@ -9,8 +9,6 @@ mod call;
 mod calls;
 mod ledger;
 mod loading;
-mod only;
-mod refused;
 mod request;
 mod requests;
 mod signed;
@@ -20,7 +18,9 @@ mod transfer;
 use calls::Counter;
 use miniserde::Result;
 use miniserde::json::{canonical_of, from_str, to_string};
+use refused::wrong_field;
 use request::Request;
+use settings::types::Settings;
 use signed::Known;
 use std::alloc::Global;
 use std::collections::BTreeMap;
@@ -138,22 +138,23 @@ fn tell_transfers(rt: &HostRuntime) -> io::Result<()> {
     Ok(())
 }
 
-/// Settings: five with a field that is refused, good ones, and a text that is no JSON.
+/// Settings: six with a field that is wrong, good ones, and a text that is no JSON.
 const TEXTS: &str = r#"{"name":7,"port":80,"hosts":[],"limits":{}}
 {"name":"a","port":"x","port":80,"hosts":[],"limits":{}}
+{"name":"a","port":80,"tls":7,"hosts":[],"limits":{}}
 {"name":"a","port":80,"tls":{"cert":""},"hosts":[],"limits":{}}
 {"name":"a","port":80,"limits":{}}
 {"name":"a","port":80,"hosts":[],"limits":{"x":-1}}
 {"name":"a","port":80,"hosts":[],"limits":{}}
 {"name":"a","port":80"#;
 
-/// Prints for each text the field that it is refused for.
+/// Prints for each text the path to the field that is wrong.
 fn tell(rt: &HostRuntime) -> io::Result<()> {
     for text in TEXTS.lines() {
-        match refused::refused(rt.alloc(), text) {
-            Ok(Some(part)) => println!(rt; "refused: {part:?}")?,
-            Ok(None) => println!(rt; "refused: nothing")?,
-            Err(error) => println!(rt; "refused: {error}")?,
+        match wrong_field::<Settings>(rt.alloc(), text) {
+            Ok(Some(path)) => println!(rt; "wrong: {path}")?,
+            Ok(None) => println!(rt; "wrong: nothing")?,
+            Err(error) => println!(rt; "wrong: {error}")?,
         }
     }
     Ok(())

@@ -1,0 +1,100 @@
+//! Fields that are structs, whose own fields are looked for too.
+ghost use Rattle.std.specs.Prelude.{◌≡◌, ◌++◌, ◌⊎◌};
+ghost use Rattle.miniserde.specs.Fields.{missing_content};
+ghost use Rattle.miniserde.specs.FieldsMeaning.{field_and};
+ghost use Rattle.refused.specs.Wrong.{FieldIsWrong, alone, field_gives, first_name, later_names, optional_gives};
+
+use crate::alone::AnyObject;
+use crate::find::FieldByField;
+use crate::names::{LaterNames, Names, NamesOf};
+use crate::path::{Path, enter};
+use crate::probes::Probes;
+use crate::way::{Through, ThroughOption, Way};
+use miniserde::Result;
+use miniserde::record::{Mark, Parts, Plain};
+use std::alloc::Global;
+use std::marker::PhantomData;
+
+/// A field of the struct `T` with the mark `M`, whose own fields are looked for too, and the fields `R` after it.
+pub struct ProbeInto<T, M, R> {
+    of: PhantomData<(T, M, R)>,
+}
+
+impl<T: FieldByField, M: Mark<T>, R: Probes> Probes for ProbeInto<T, M, R> {
+    type Values = Parts<T, R::Values>;
+
+    ghost meaning = { field_and M.once M.given T.means T.absent R.meaning };
+
+    ghost wrong = { λ gives here names path t.
+        FieldIsWrong gives here (alone M.once (missing_content T.means M.given T.absent) T.means.from_tree) names path t
+        ⊎ T.Each.wrong (field_gives gives names) (here ++ first_name names) T.names path t
+        ⊎ R.wrong gives here (later_names names) path t };
+
+    ghost right = { λ gives names t.
+        gives _ (alone M.once (missing_content T.means M.given T.absent) T.means.from_tree (first_name names)) t
+        × R.right gives (later_names names) t };
+
+    fn probe<W: Way, N: Names>(alloc: Global, text: &str) -> Result<Option<Path>> {
+        if W::has::<N, T, M>(alloc, text)? {
+            return R::probe::<W, LaterNames<N>>(alloc, text);
+        }
+        if W::has::<N, AnyObject, Plain>(alloc, text)? {
+            let inside = <T::Each as Probes>::probe::<Through<W, N>, NamesOf<T>>(alloc, text)?;
+            if let Some(path) = inside {
+                return Ok(Some(path));
+            }
+        }
+        let path = enter::<N>(W::path(alloc)?)?;
+        Ok(Some(path))
+    }
+
+    fn tells() {
+        R::tells()
+    }
+}
+
+/// A field of an `Option` of the struct `T` with the mark `M`, whose own fields are looked for too, and the fields `R`
+/// after it.
+pub struct ProbeIntoOption<T, M, R> {
+    of: PhantomData<(T, M, R)>,
+}
+
+impl<T: FieldByField, M: Mark<Option<T>>, R: Probes> Probes for ProbeIntoOption<T, M, R> {
+    ghost use Rattle.std.specs.Prelude.{Some, None};
+    ghost use Rattle.miniserde.specs.Meanings.{option_meaning};
+
+    type Values = Parts<Option<T>, R::Values>;
+
+    ghost meaning = { field_and M.once M.given (option_meaning T.means) (Some None) R.meaning };
+
+    ghost wrong = { λ gives here names path t.
+        FieldIsWrong gives here (alone M.once (missing_content (option_meaning T.means) M.given (Some None))
+        (option_meaning T.means).from_tree) names path t
+        ⊎ T.Each.wrong (optional_gives gives names) (here ++ first_name names) T.names path t
+        ⊎ R.wrong gives here (later_names names) path t };
+
+    ghost right = { λ gives names t.
+        gives _ (alone M.once (missing_content (option_meaning T.means) M.given (Some None))
+        (option_meaning T.means).from_tree (first_name names)) t
+        × R.right gives (later_names names) t };
+
+    fn probe<W: Way, N: Names>(alloc: Global, text: &str) -> Result<Option<Path>> {
+        if W::has::<N, Option<T>, M>(alloc, text)? {
+            return R::probe::<W, LaterNames<N>>(alloc, text);
+        }
+        if W::has::<N, Option<AnyObject>, Plain>(alloc, text)? {
+            let inside = <T::Each as Probes>::probe::<ThroughOption<W, N>, NamesOf<T>>(
+                alloc, text,
+            )?;
+            if let Some(path) = inside {
+                return Ok(Some(path));
+            }
+        }
+        let path = enter::<N>(W::path(alloc)?)?;
+        Ok(Some(path))
+    }
+
+    fn tells() {
+        R::tells()
+    }
+}

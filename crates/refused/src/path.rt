@@ -1,0 +1,52 @@
+//! Paths to fields of structs within structs.
+ghost use Rattle.std.specs.Prelude.{◌≡◌, ◌++◌, [], IfOk, map};
+ghost use Rattle.refused.specs.Wrong.{first_name};
+
+use crate::names::Names;
+use miniserde::Result;
+use std::alloc::Global;
+use std::fmt;
+
+/// A path to a field: the names of the fields that contain it, from the outermost one inwards, and its own name last. It
+/// is empty for the document itself.
+#[derive(Debug, Drop)]
+pub struct Path {
+    pub names: Vec<&'static str>,
+}
+
+impl Path {
+    /// Returns the path to the document itself.
+    pub fn new(alloc: Global) -> Path
+        ensures { map (λ s. s.now) result.names.items ≡ [] }
+    {
+        Path {
+            names: Vec::new(alloc),
+        }
+    }
+}
+
+impl fmt::Display for Path {
+    // Writes the names with a dot between them.
+    fn fmt<W: fmt::Write>(&self, f: &mut fmt::Formatter<W>) -> fmt::Result {
+        let mut first = true;
+        for name in self.names.iter() {
+            if !first {
+                f.write_str(".")?;
+            }
+            f.write_str(name)?;
+            first = false;
+        }
+        Ok(())
+    }
+}
+
+/// Appends the first of the names `N` to a path.
+pub fn enter<N: Names>(mut path: Path) -> Result<Path>
+    ensures { IfOk result (λ p. map (λ s. s.now) p.names.items
+        ≡ map (λ s. s.now) path.names.items ++ first_name N.names) }
+{
+    if let Some((name, _)) = N::names().split_first() {
+        path.names.push(*name)?;
+    }
+    Ok(path)
+}

@@ -1,0 +1,96 @@
+//! The fields of a struct, which are looked for one by one.
+ghost use Rattle.std.specs.Prelude.{◌≡◌, ◌++◌, ◌⊎◌, true, [], Ok, None, IfOk, IfSome, IsSome, List, map, ⊤};
+ghost use Rattle.miniserde.specs.Tree.{Tree, Members, members};
+ghost use Rattle.miniserde.specs.Value.{IsJson};
+ghost use Rattle.miniserde.specs.Objects.{Name};
+ghost use Rattle.miniserde.specs.Fields.{missing_content};
+ghost use Rattle.miniserde.specs.FieldsMeaning.{FieldsMeaning, field_and, no_fields};
+ghost use Rattle.miniserde_record.specs.laws.Left.{left};
+ghost use Rattle.refused.specs.Wrong.{FieldIsWrong, Gives, alone, are_apart, document_gives, first_name};
+ghost use Rattle.refused.specs.Wrong.{later_names};
+
+use crate::names::{LaterNames, Names};
+use crate::path::{Path, enter};
+use crate::way::Way;
+use miniserde::record::{Mark, Parts};
+use miniserde::{FromJson, Result};
+use std::alloc::Global;
+use std::marker::PhantomData;
+
+/// A chain of a struct's fields.
+pub trait Probes {
+    /// The fields' values, in their order.
+    type Values;
+
+    // Which members mean which values of the fields.
+    ghost meaning: { FieldsMeaning Self.Values };
+
+    // The last argument but one is a path to a field that is wrong in the tree. The others are what the place of the struct
+    // gives, the path to that place, and the fields' names.
+    ghost wrong: { Gives → List Name → List Name → List Name → Tree → Type 0 };
+
+    // Each field has a value in the tree, by itself.
+    ghost right: { Gives → List Name → Tree → Type 0 };
+
+    /// Returns the path to the first field that has no value in the text at the place `W`, by the fields' names `N`, or
+    /// `None` if each has one by itself. Returns `Memory` if an allocation fails.
+    fn probe<W: Way, N: Names>(alloc: Global, text: &str) -> Result<Option<Path>>
+        ensures some { IfOk result (λ answer. IfSome answer (λ path. (t : Tree) → IsJson text.now t
+            → wrong W.gives W.to N.names (map (λ s. s.now) path.names.items) t)) }
+        ensures none { result ≡ Ok None → (t : Tree) → IsJson text.now t → right W.gives N.names t };
+
+    /// Does nothing. It promises that members that give a value of each field by itself give values of all.
+    fn tells()
+        ensures { (before names : List Name) → are_apart before names ≡ true → (ms : Members)
+            → right document_gives names (members ms) → IsSome (meaning.from_members names meaning.empty (left before ms)) };
+}
+
+/// The end of a chain of fields.
+pub struct NoProbe {}
+
+impl Probes for NoProbe {
+    type Values = ();
+
+    ghost meaning = { no_fields };
+
+    ghost wrong = { λ _ _ _ _ _. ⊥ };
+
+    ghost right = { λ _ _ _. ⊤ };
+
+    fn probe<W: Way, N: Names>(_alloc: Global, _text: &str) -> Result<Option<Path>> {
+        Ok(None)
+    }
+
+    fn tells() {}
+}
+
+/// A field of the type `T` with the mark `M`, and the fields `R` after it.
+pub struct Probe<T, M, R> {
+    of: PhantomData<(T, M, R)>,
+}
+
+impl<T: FromJson, M: Mark<T>, R: Probes> Probes for Probe<T, M, R> {
+    type Values = Parts<T, R::Values>;
+
+    ghost meaning = { field_and M.once M.given T.means T.absent R.meaning };
+
+    ghost wrong = { λ gives here names path t.
+        FieldIsWrong gives here (alone M.once (missing_content T.means M.given T.absent) T.means.from_tree) names path t
+        ⊎ R.wrong gives here (later_names names) path t };
+
+    ghost right = { λ gives names t.
+        gives _ (alone M.once (missing_content T.means M.given T.absent) T.means.from_tree (first_name names)) t
+        × R.right gives (later_names names) t };
+
+    fn probe<W: Way, N: Names>(alloc: Global, text: &str) -> Result<Option<Path>> {
+        if W::has::<N, T, M>(alloc, text)? {
+            return R::probe::<W, LaterNames<N>>(alloc, text);
+        }
+        let path = enter::<N>(W::path(alloc)?)?;
+        Ok(Some(path))
+    }
+
+    fn tells() {
+        R::tells()
+    }
+}

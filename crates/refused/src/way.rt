@@ -1,0 +1,106 @@
+//! Places in a document, as a path of types leads to them.
+ghost use Rattle.std.specs.Prelude.{◌≡◌, ◌++◌, true, false, [], Ok, None, IfOk, IsSome, List, map};
+ghost use Rattle.miniserde.specs.Tree.{Tree};
+ghost use Rattle.miniserde.specs.Value.{IsJson};
+ghost use Rattle.miniserde.specs.Objects.{Name};
+ghost use Rattle.miniserde.specs.Fields.{missing_content};
+ghost use Rattle.refused.specs.Wrong.{Gives, alone, document_gives, field_gives, first_name, optional_gives};
+
+use crate::alone::Alone;
+use crate::names::Names;
+use crate::path::{Path, enter};
+use miniserde::json::from_str;
+use miniserde::record::{Mark, Plain};
+use miniserde::{Error, FromJson, Result};
+use std::alloc::Global;
+use std::marker::PhantomData;
+
+/// A place in a document, where structs are read.
+pub trait Way {
+    // The path to the place.
+    ghost to: { List Name };
+
+    // Whether what stands at the place gives a content.
+    ghost gives: { Gives };
+
+    /// Returns the path to the place, or `Memory` if an allocation fails.
+    fn path(alloc: Global) -> Result<Path>
+        ensures { IfOk result (λ p. map (λ s. s.now) p.names.items ≡ to) };
+
+    /// Returns whether the text has, at the place, a field of the type `T` with the mark `M` and the first of the names
+    /// `N`, or is no JSON. Returns `Memory` if an allocation fails.
+    fn has<N: Names, T: FromJson, M: Mark<T>>(alloc: Global, text: &str) -> Result<bool>
+        ensures yes { result ≡ Ok true → (t : Tree) → IsJson text.now t
+            → gives _ (alone M.once (missing_content T.means M.given T.absent) T.means.from_tree (first_name N.names)) t }
+        ensures no { result ≡ Ok false → (t : Tree) → IsJson text.now t
+            → gives _ (alone M.once (missing_content T.means M.given T.absent) T.means.from_tree (first_name N.names)) t → ⊥ };
+}
+
+/// Returns whether the text means a value of the type. Returns `Memory` if an allocation fails.
+pub fn is_meant<T: FromJson>(alloc: Global, text: &str) -> Result<bool>
+    ensures meant { result ≡ Ok true → (t : Tree) × IsJson text.now t × (v : T) × T.means.reads t v }
+    ensures yes { result ≡ Ok true → (t : Tree) → IsJson text.now t → IsSome (T.means.from_tree t) }
+    ensures no { result ≡ Ok false → (t : Tree) → IsJson text.now t → T.means.from_tree t ≡ None }
+    ensures not_meant { result ≡ Ok false → (t : Tree) → IsJson text.now t → (v : T) → T.means.reads t v → ⊥ }
+{
+    match from_str::<T>(alloc, text) {
+        Ok(_) => Ok(true),
+        Err(Error::Invalid) => Ok(false),
+        Err(error) => Err(error),
+    }
+}
+
+/// The document itself.
+pub struct Start {}
+
+impl Way for Start {
+    ghost to = { [] };
+
+    ghost gives = { document_gives };
+
+    fn path(alloc: Global) -> Result<Path> {
+        Ok(Path::new(alloc))
+    }
+
+    fn has<N: Names, T: FromJson, M: Mark<T>>(alloc: Global, text: &str) -> Result<bool> {
+        is_meant::<Alone<N, T, M>>(alloc, text)
+    }
+}
+
+/// What stands, at the place `W`, in the field of the first of the names `N`.
+pub struct Through<W, N> {
+    of: PhantomData<(W, N)>,
+}
+
+impl<W: Way, N: Names> Way for Through<W, N> {
+    ghost to = { W.to ++ first_name N.names };
+
+    ghost gives = { field_gives W.gives N.names };
+
+    fn path(alloc: Global) -> Result<Path> {
+        enter::<N>(W::path(alloc)?)
+    }
+
+    fn has<L: Names, T: FromJson, M: Mark<T>>(alloc: Global, text: &str) -> Result<bool> {
+        W::has::<N, Alone<L, T, M>, Plain>(alloc, text)
+    }
+}
+
+/// What stands, at the place `W`, in the optional field of the first of the names `N`.
+pub struct ThroughOption<W, N> {
+    of: PhantomData<(W, N)>,
+}
+
+impl<W: Way, N: Names> Way for ThroughOption<W, N> {
+    ghost to = { W.to ++ first_name N.names };
+
+    ghost gives = { optional_gives W.gives N.names };
+
+    fn path(alloc: Global) -> Result<Path> {
+        enter::<N>(W::path(alloc)?)
+    }
+
+    fn has<L: Names, T: FromJson, M: Mark<T>>(alloc: Global, text: &str) -> Result<bool> {
+        W::has::<N, Option<Alone<L, T, M>>, Plain>(alloc, text)
+    }
+}

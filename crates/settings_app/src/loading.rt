@@ -1,0 +1,71 @@
+//! The settings of a text at another port, as text, or the field that is wrong.
+ghost use Rattle.std.specs.Prelude.{◌≡◌, [], IfOk, Err, string_bytes};
+ghost use Rattle.miniserde.specs.Tree.{Tree};
+ghost use Rattle.miniserde.specs.Value.{IsJson};
+ghost use Rattle.settings_app.specs.Changes.{at_port, IsWrong};
+ghost use Rattle.settings_app.specs.declared.loading.Fault.{Fault};
+
+use miniserde::{Error, FromJson, Serialize};
+use refused::{Path, wrong_field};
+use settings::loader::{load, save};
+use settings::types::Settings;
+use std::alloc::Global;
+use std::fmt;
+
+/// Why settings were not changed.
+#[derive(Debug, Drop)]
+pub enum Fault {
+    /// The text is no JSON.
+    NoJson,
+    /// The text has no value for the field at the path.
+    Field(Path),
+    /// An allocation failed.
+    Memory,
+}
+
+impl fmt::Display for Fault {
+    fn fmt<W: fmt::Write>(&self, f: &mut fmt::Formatter<W>) -> fmt::Result {
+        match self {
+            Fault::NoJson => f.write_str("this is no JSON"),
+            Fault::Field(path) if path.names.is_empty() => f.write_str("this is no object"),
+            Fault::Field(path) => write!(f, "the field {path} is wrong"),
+            Fault::Memory => f.write_str("out of memory"),
+        }
+    }
+}
+
+/// Returns why a text means no settings.
+fn fault_of(alloc: Global, text: &str) -> Fault
+    requires { (t : Tree) → IsJson text.now t → (s : Settings) → ⟦<Settings as FromJson>⟧.means.reads t s → ⊥ }
+    ensures field { (path : _) → result ≡ Fault.Field path → (t : Tree) × IsJson text.now t × IsWrong path t }
+    ensures no_json { result ≡ Fault.NoJson → (t : Tree) → IsJson text.now t → ⊥ }
+{
+    match wrong_field::<Settings>(alloc, text) {
+        Ok(Some(path)) => Fault::Field(path),
+        Ok(None) => Fault::NoJson,
+        Err(_) => Fault::Memory,
+    }
+}
+
+/// Returns the settings of a text at another port, as text, or why the text means none.
+pub fn set_port(alloc: Global, text: &str, port: u16) -> Result<String, Fault>
+    // The text means settings, and the answer spells these at that port.
+    ensures ok { IfOk result (λ j. (t : Tree) × (s : Settings) × IsJson text.now t
+        × ⟦<Settings as FromJson>⟧.means.reads t s
+        × IsJson (string_bytes j) (⟦<Settings as Serialize>⟧.tree (at_port port s))) }
+
+    // The text spells a tree that has no value for the field at the path.
+    ensures field { (path : _) → result ≡ Err (Fault.Field path) → (t : Tree) × IsJson text.now t × IsWrong path t }
+
+    // The text spells no tree.
+    ensures no_json { result ≡ Err Fault.NoJson → (t : Tree) → IsJson text.now t → ⊥ }
+{
+    match load(alloc, text) {
+        Ok(mut settings) => {
+            settings.port = port;
+            save(alloc, &settings).map_err(|_| Fault::Memory)
+        }
+        Err(Error::Invalid) => Err(fault_of(alloc, text)),
+        Err(Error::Memory) => Err(Fault::Memory),
+    }
+}

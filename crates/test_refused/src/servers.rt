@@ -1,0 +1,293 @@
+//! The types of `servers.rs`, with the impls that `./derive` writes.
+ghost use Rattle.miniserde.specs.FieldsMeaning.{struct_meaning};
+ghost use Rattle.miniserde.specs.Structs.{names_of, record_tree};
+ghost use Rattle.miniserde.specs.Tree.{nonneg};
+ghost use Rattle.std.specs.Prelude.{refl};
+
+use miniserde::derived::{
+    Event, FourLent, FourParts, FourSlot, FromJson, Given, Global, MarkedSlot, NoSlot, OmitSlot,
+    Omitted, Once, OnceSlot, Parts, Plain, Ranged, Record, Result, RoundTrip, Serialize, Slot,
+    Slots, Source, WithDefault, Writer, WrittenFields, read_record, record_round_trips, take_four,
+    write_members,
+};
+use refused::{FieldByField, NoProbe, Probe, ProbeInto, ProbeIntoOption};
+
+/// How many connections a server takes.
+#[derive(Drop)]
+pub struct Range {
+    pub most: u16,
+    pub least: u16,
+}
+
+/// The value of a missing `least`.
+#[derive(Drop)]
+pub struct RangeLeastDefault {}
+
+impl Given<u16> for RangeLeastDefault {
+    ghost given = { nonneg 1 };
+
+    fn make(_alloc: Global) -> Result<u16> {
+        Ok(1)
+    }
+}
+
+// Its fields, and their names.
+type RangeFields = OnceSlot<u16, MarkedSlot<u16, WithDefault<RangeLeastDefault>, NoSlot>>;
+
+const RANGE_NAMES: &[&str] = &["most", "least"];
+
+impl Record for Range {
+    ghost use Rattle.test_refused.specs.declared.servers.TheConstants.{RANGE_NAMES};
+
+    type Values = <RangeFields as Slots>::Values;
+
+    ghost names = { names_of RANGE_NAMES };
+
+    ghost values = { λ v. (v.most, (v.least, tt)) };
+
+    ghost made = { λ x. record { most = x.0; least = x.1.0 } };
+
+    ghost bijective = { (λ v. refl, λ x. refl) };
+
+    ghost distinct_names = { refl };
+
+    fn names() -> &'static [&'static str] {
+        RANGE_NAMES
+    }
+
+    fn build(parts: Self::Values) -> Range {
+        let Parts(most, Parts(least, ())) = parts;
+        Range { most, least }
+    }
+}
+
+impl FromJson for Range {
+    ghost means = { struct_meaning ⟦<RangeFields as Slots>⟧.meaning ⟦<Range as Record>⟧.names
+        ⟦<Range as Record>⟧.values };
+
+    fn missing() -> Option<Range> {
+        None
+    }
+
+    fn read<'a>(token: Event<'a>, source: &mut Source<'a>) -> Result<Range> {
+        read_record::<Range, RangeFields>(token, source)
+    }
+}
+
+impl Serialize for Range {
+    ghost tree = { record_tree ⟦<Range as Record>⟧.names ⟦<RangeFields as WrittenFields>⟧.trees
+        ⟦<Range as Record>⟧.values };
+
+    fn begin(&self, w: &mut Writer) -> Result<()> {
+        write_members(w, RANGE_NAMES, &Parts(&self.most, Parts(&self.least, ())))
+    }
+}
+
+impl Ranged for Range {
+    ghost real = { λ v. ⟦<RangeFields as WrittenFields>⟧.real (⟦<Range as Record>⟧.values v) };
+
+    fn ranged(&self) {
+        self.most.ranged();
+        self.least.ranged();
+    }
+}
+
+impl RoundTrip for Range {
+    fn round_trips() {
+        record_round_trips::<Range, RangeFields>()
+    }
+}
+
+impl FieldByField for Range {
+    type Each = Probe<u16, Once<Plain>, Probe<u16, WithDefault<RangeLeastDefault>, NoProbe>>;
+
+    fn by_fields() {}
+}
+
+/// How a connection is secured.
+#[derive(Drop)]
+pub struct Tls {
+    pub cert: String,
+    pub verify: Option<bool>,
+    pub range: Range,
+}
+
+// Its fields, and their names.
+type TlsFields = Slot<String, OmitSlot<bool, Plain, Slot<Range, NoSlot>>>;
+
+const TLS_NAMES: &[&str] = &["cert", "verify", "range"];
+
+impl Record for Tls {
+    ghost use Rattle.test_refused.specs.declared.servers.TheConstants.{TLS_NAMES};
+
+    type Values = <TlsFields as Slots>::Values;
+
+    ghost names = { names_of TLS_NAMES };
+
+    ghost values = { λ v. (v.cert, (v.verify, (v.range, tt))) };
+
+    ghost made = { λ x. record { cert = x.0; verify = x.1.0; range = x.1.1.0 } };
+
+    ghost bijective = { (λ v. refl, λ x. refl) };
+
+    ghost distinct_names = { refl };
+
+    fn names() -> &'static [&'static str] {
+        TLS_NAMES
+    }
+
+    fn build(parts: Self::Values) -> Tls {
+        let Parts(cert, Parts(verify, Parts(range, ()))) = parts;
+        Tls {
+            cert,
+            verify,
+            range,
+        }
+    }
+}
+
+impl FromJson for Tls {
+    ghost means = { struct_meaning ⟦<TlsFields as Slots>⟧.meaning ⟦<Tls as Record>⟧.names ⟦<Tls as Record>⟧.values };
+
+    fn missing() -> Option<Tls> {
+        None
+    }
+
+    fn read<'a>(token: Event<'a>, source: &mut Source<'a>) -> Result<Tls> {
+        read_record::<Tls, TlsFields>(token, source)
+    }
+}
+
+impl Serialize for Tls {
+    ghost tree = { record_tree ⟦<Tls as Record>⟧.names ⟦<TlsFields as WrittenFields>⟧.trees ⟦<Tls as Record>⟧.values };
+
+    fn begin(&self, w: &mut Writer) -> Result<()> {
+        write_members(
+            w,
+            TLS_NAMES,
+            &Parts(
+                &self.cert,
+                Parts(Omitted(&self.verify), Parts(&self.range, ())),
+            ),
+        )
+    }
+}
+
+impl Ranged for Tls {
+    ghost real = { λ v. ⟦<TlsFields as WrittenFields>⟧.real (⟦<Tls as Record>⟧.values v) };
+
+    fn ranged(&self) {
+        self.cert.ranged();
+        self.verify.ranged();
+        self.range.ranged();
+    }
+}
+
+impl RoundTrip for Tls {
+    fn round_trips() {
+        record_round_trips::<Tls, TlsFields>()
+    }
+}
+
+impl FieldByField for Tls {
+    type Each = Probe<String, Plain, Probe<Option<bool>, Plain, ProbeInto<Range, Plain, NoProbe>>>;
+
+    fn by_fields() {}
+}
+
+/// A server.
+#[derive(Drop)]
+pub struct Server {
+    pub name: String,
+    pub inner: Tls,
+    pub outer: Option<Tls>,
+    pub hosts: Vec<Range>,
+}
+
+// Its fields, and their names.
+type ServerFields = FourSlot<String, Tls, Option<Tls>, Vec<Range>, NoSlot>;
+
+const SERVER_NAMES: &[&str] = &["server name", "inner", "outer", "hosts"];
+
+impl Record for Server {
+    ghost use Rattle.test_refused.specs.declared.servers.TheConstants.{SERVER_NAMES};
+
+    type Values = <ServerFields as Slots>::Values;
+
+    ghost names = { names_of SERVER_NAMES };
+
+    ghost values = { λ v. (v.name, (v.inner, (v.outer, (v.hosts, tt)))) };
+
+    ghost made = { λ x. record { name = x.0; inner = x.1.0; outer = x.1.1.0; hosts = x.1.1.1.0 } };
+
+    ghost bijective = { (λ v. refl, λ x. refl) };
+
+    ghost distinct_names = { refl };
+
+    fn names() -> &'static [&'static str] {
+        SERVER_NAMES
+    }
+
+    fn build(parts: Self::Values) -> Server {
+        let FourParts(name, inner, outer, hosts, ()) = take_four(parts);
+        Server {
+            name,
+            inner,
+            outer,
+            hosts,
+        }
+    }
+}
+
+impl FromJson for Server {
+    ghost means = { struct_meaning ⟦<ServerFields as Slots>⟧.meaning ⟦<Server as Record>⟧.names
+        ⟦<Server as Record>⟧.values };
+
+    fn missing() -> Option<Server> {
+        None
+    }
+
+    fn read<'a>(token: Event<'a>, source: &mut Source<'a>) -> Result<Server> {
+        read_record::<Server, ServerFields>(token, source)
+    }
+}
+
+impl Serialize for Server {
+    ghost tree = { record_tree ⟦<Server as Record>⟧.names ⟦<ServerFields as WrittenFields>⟧.trees
+        ⟦<Server as Record>⟧.values };
+
+    fn begin(&self, w: &mut Writer) -> Result<()> {
+        write_members(
+            w,
+            SERVER_NAMES,
+            &FourLent(&self.name, &self.inner, &self.outer, &self.hosts, ()),
+        )
+    }
+}
+
+impl Ranged for Server {
+    ghost real = { λ v. ⟦<ServerFields as WrittenFields>⟧.real (⟦<Server as Record>⟧.values v) };
+
+    fn ranged(&self) {
+        self.name.ranged();
+        self.inner.ranged();
+        self.outer.ranged();
+        self.hosts.ranged();
+    }
+}
+
+impl RoundTrip for Server {
+    fn round_trips() {
+        record_round_trips::<Server, ServerFields>()
+    }
+}
+
+impl FieldByField for Server {
+    type Each = Probe<
+        String,
+        Plain,
+        ProbeInto<Tls, Plain, ProbeIntoOption<Tls, Plain, Probe<Vec<Range>, Plain, NoProbe>>>,
+    >;
+
+    fn by_fields() {}
+}

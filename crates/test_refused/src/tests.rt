@@ -1,0 +1,62 @@
+//! Texts and the paths to the field that is wrong. A text that means a server, or is no JSON, has `none`, and one that is
+//! no object has `document`.
+
+use crate::servers::Server;
+use refused::{Path, wrong_field};
+use std::alloc::Global;
+use std::test::Fail;
+
+const PATHS: &str =
+    r#"{"server name":"a","inner":{"cert":"c","range":{"most":1}},"hosts":[]} => none
+{"server name":"a","inner":{"cert":"c","range":{"most":1}},"hosts":[],"more":{}} => none
+{"server name":"a","inner":{"cert":"c","range":{"most":1}},"outer":null,"hosts":[]} => none
+{"server name":"a","inner":{"cert":"c","range":{"most":1}},"hosts":[ => none
+nothing => none
+7 => document
+[] => document
+{} => server name
+{"server name":null,"inner":7} => server name
+{"name":"a","inner":7} => server name
+{"server name":7,"server name":"a","inner":{"cert":"c","range":{"most":1}},"hosts":[]} => server name
+{"server name":"a","hosts":[]} => inner
+{"server name":"a","inner":null,"hosts":[]} => inner
+{"server name":"a","inner":[],"hosts":[]} => inner
+{"server name":"a","inner":{},"hosts":[]} => inner.cert
+{"server name":"a","inner":{"cert":7,"range":7},"hosts":[]} => inner.cert
+{"server name":"a","inner":{"cert":"c","verify":7,"range":7},"hosts":[]} => inner.verify
+{"server name":"a","inner":{"cert":"c","verify":null},"hosts":[]} => inner.range
+{"server name":"a","inner":{"cert":"c","range":{}},"hosts":[]} => inner.range.most
+{"server name":"a","inner":{"cert":"c","range":{"most":1,"most":2}},"hosts":[]} => inner.range.most
+{"server name":"a","inner":{"cert":"c","range":{"most":1,"least":-1}},"hosts":[]} => inner.range.least
+{"server name":"a","inner":{"cert":"c","range":{"most":1}},"outer":7,"hosts":[]} => outer
+{"server name":"a","inner":{"cert":"c","range":{"most":1}},"outer":{"cert":7},"outer":null,"hosts":[]} => outer.cert
+{"server name":"a","inner":{"cert":"c","range":{"most":1}},"outer":{"cert":"c","range":{"most":65536}},"hosts":[]} => outer.range.most
+{"server name":"a","inner":{"cert":"c","range":{"most":1}}} => hosts
+{"server name":"a","inner":{"cert":"c","range":{"most":1}},"hosts":[{}]} => hosts"#;
+
+// Returns whether the path to the field that is wrong is written so.
+fn is_path(alloc: Global, text: &str, wanted: &str) -> Result<bool, Fail> {
+    match wrong_field::<Server>(alloc, text)? {
+        Some(path) if path.names.is_empty() => Ok(wanted == "document"),
+        Some(path) => Ok(format!(in alloc; "{path}")?.as_str() == wanted),
+        None => Ok(wanted == "none"),
+    }
+}
+
+#[test]
+fn a_path_leads_to_the_field_that_is_wrong(rt: HostRuntime) -> Result<(), Fail> {
+    for line in PATHS.lines() {
+        let (text, path) = line.split_once(" => ").unwrap_or((line, ""));
+        assert!(rt; is_path(rt.alloc(), text, path)?, "{line}");
+    }
+    Ok(())
+}
+
+#[test]
+fn a_path_has_the_names_in_their_order(rt: HostRuntime) -> Result<(), Fail> {
+    let text = r#"{"server name":"a","inner":{"cert":"c","range":{}},"hosts":[]}"#;
+    let path = wrong_field::<Server>(rt.alloc(), text)?;
+    assert_eq!(rt; path.unwrap().names.as_slice(), &["inner", "range", "most"]);
+    assert!(rt; Path::new(rt.alloc()).names.is_empty());
+    Ok(())
+}

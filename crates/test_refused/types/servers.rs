@@ -1,0 +1,20 @@
+/// How many connections a server takes.
+pub struct Range { // refused
+    pub most: u16, // once
+    pub least: u16, // default 1
+}
+
+/// How a connection is secured.
+pub struct Tls { // refused
+    pub cert: String,
+    pub verify: Option<bool>, // omit
+    pub range: Range,
+}
+
+/// A server.
+pub struct Server { // refused
+    pub name: String, // rename "server name"
+    pub inner: Tls,
+    pub outer: Option<Tls>,
+    pub hosts: Vec<Range>,
+}
