@@ -64,14 +64,14 @@ module _ {C : Type 0} (once : Bool) (of : Tree → Option C) (k : Name) where
       ] refl a
 
 -- a field that has a content beside no other has one beside others that have one
-beside : {C D : Type 0} (c : Option C) (d : Option D) → IsSome (option_and_then (content_pair (Some tt)) c) → IsSome d
+beside : {C D : Type 0} (c : Option C) (d : Option D) → IsSome (option_and_then (content_pair (Some (tt {0}))) c) → IsSome d
     → IsSome (option_and_then (content_pair d) c)
 beside None d h i = absurd (cc)
 beside (Some x) None h i = absurd (cc)
 beside (Some x) (Some y) h i = refl
 
 beside-last : {C D : Type 0} (absent : Option C) (o : Option (Option C)) (d : Option D)
-    → IsSome (option_and_then (λ o. option_and_then (content_pair (Some tt)) (option_or o absent)) o) → IsSome d
+    → IsSome (option_and_then (λ o. option_and_then (content_pair (Some (tt {0}))) (option_or o absent)) o) → IsSome d
     → IsSome (option_and_then (λ o. option_and_then (content_pair d) (option_or o absent)) o)
 beside-last absent None d h i = absurd (cc)
 beside-last absent (Some o) d h i = beside (option_or o absent) d h i
@@ -95,4 +95,4 @@ module _ {C S D : Type 0} (once : Bool) (absent : Option C) (of : Tree → Optio
       let l = last-left once of n before b.0 ms in
       let r = subst (λ z. IsSome (rest ns empty z)) (left-append before n ms) (later (before ++ n ∷ []) ns b.1 ms h.1) in
       beside-last absent (last_content once of n None (left before ms)) (rest ns empty (other_members n (left before ms)))
-      (subst (λ o. IsSome (option_and_then (λ o. option_and_then (content_pair (Some tt)) (option_or o absent)) o)) (sym l) h.0) r
+      (subst (λ o. IsSome (option_and_then (λ o. option_and_then (content_pair (Some (tt {0}))) (option_or o absent)) o)) (sym l) h.0) r

@@ -25,7 +25,7 @@ are_apart before (n ∷ ns) = not (is_among before n) && are_apart (before ++ n 
 -- The content that a tree gives of a struct that has one field, whose name is listed, if it gives any. If `once` is true,
 -- at most one member has the name; `absent` is the content of a missing field, and `of` returns that of a member's tree.
 abbrev pub alone : {C : Type 0} → Bool → Option C → (Tree → Option C) → List Name → Tree → Option (C × Unit {0})
-alone once absent of names = object_of (fields_content once of absent (λ _ _ _. Some tt) names (None, tt))
+alone once absent of names = object_of (fields_content once of absent (λ _ _ _. Some (tt {0})) names (None, tt {0}))
 
 -- whether what stands at a place of a document gives a content of the type, as the function tells of a tree
 abbrev pub Gives : Type 1

@@ -23,7 +23,7 @@ pub trait FieldByField: Record + FromJson {
     /// Does nothing. It promises that a tree gives a struct if its members give the fields' values, and that the names
     /// are distinct.
     fn by_fields()
-        ensures gives { (t : Tree) → IsSome (object_of (Each.meaning.from_members Self.names Each.meaning.empty) t)
+        ensures gives { (t : Tree) → IsSome (object_of (Self.Each.meaning.from_members Self.names Self.Each.meaning.empty) t)
             → IsSome (Self.means.from_tree t) }
         ensures apart { are_apart [] Self.names ≡ true };
 }
@@ -41,7 +41,10 @@ pub fn wrong_field<S: FieldByField>(alloc: Global, text: &str) -> Result<Option<
         → ((t : Tree) × IsJson text.now t × (v : S) × S.means.reads t v)
         ⊎ ((t : Tree) → IsJson text.now t → ⊥) }
 {
-    if is_meant::<S>(alloc, text)? || !is_meant::<Ignored>(alloc, text)? {
+    if is_meant::<S>(alloc, text)? {
+        return Ok(None);
+    }
+    if !is_meant::<Ignored>(alloc, text)? {
         return Ok(None);
     }
     if !is_meant::<AnyObject>(alloc, text)? {

@@ -7,9 +7,9 @@ ghost use Rattle.refused.specs.Wrong.{FieldIsWrong, alone, field_gives, first_na
 use crate::alone::AnyObject;
 use crate::find::FieldByField;
 use crate::names::{LaterNames, Names, NamesOf};
-use crate::path::{Path, enter};
+use crate::path::Path;
 use crate::probes::Probes;
-use crate::way::{Through, ThroughOption, Way};
+use crate::way::{Through, ThroughOption, Way, path_to};
 use miniserde::Result;
 use miniserde::record::{Mark, Parts, Plain};
 use std::alloc::Global;
@@ -44,8 +44,7 @@ impl<T: FieldByField, M: Mark<T>, R: Probes> Probes for ProbeInto<T, M, R> {
                 return Ok(Some(path));
             }
         }
-        let path = enter::<N>(W::path(alloc)?)?;
-        Ok(Some(path))
+        Ok(Some(path_to::<W, N>(alloc)?))
     }
 
     fn tells() {
@@ -90,8 +89,7 @@ impl<T: FieldByField, M: Mark<Option<T>>, R: Probes> Probes for ProbeIntoOption<
                 return Ok(Some(path));
             }
         }
-        let path = enter::<N>(W::path(alloc)?)?;
-        Ok(Some(path))
+        Ok(Some(path_to::<W, N>(alloc)?))
     }
 
     fn tells() {

@@ -39,7 +39,7 @@ impl<N: Names> Names for LaterNames<N> {
 
     fn names() -> &'static [&'static str] {
         match N::names().split_first() {
-            Some((_, later)) => later,
+            Some(_) => &N::names()[1..],
             None => &[],
         }
     }

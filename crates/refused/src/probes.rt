@@ -10,8 +10,8 @@ ghost use Rattle.refused.specs.Wrong.{FieldIsWrong, Gives, alone, are_apart, doc
 ghost use Rattle.refused.specs.Wrong.{later_names};
 
 use crate::names::{LaterNames, Names};
-use crate::path::{Path, enter};
-use crate::way::Way;
+use crate::path::Path;
+use crate::way::{Way, path_to};
 use miniserde::record::{Mark, Parts};
 use miniserde::{FromJson, Result};
 use std::alloc::Global;
@@ -86,8 +86,7 @@ impl<T: FromJson, M: Mark<T>, R: Probes> Probes for Probe<T, M, R> {
         if W::has::<N, T, M>(alloc, text)? {
             return R::probe::<W, LaterNames<N>>(alloc, text);
         }
-        let path = enter::<N>(W::path(alloc)?)?;
-        Ok(Some(path))
+        Ok(Some(path_to::<W, N>(alloc)?))
     }
 
     fn tells() {

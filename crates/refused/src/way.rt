@@ -50,6 +50,13 @@ pub fn is_meant<T: FromJson>(alloc: Global, text: &str) -> Result<bool>
     }
 }
 
+/// Returns the path from the place `W` to the field of the first of the names `N`, or `Memory` if an allocation fails.
+pub fn path_to<W: Way, N: Names>(alloc: Global) -> Result<Path>
+    ensures { IfOk result (λ p. map (λ s. s.now) p.names.items ≡ W.to ++ first_name N.names) }
+{
+    enter::<N>(W::path(alloc)?)
+}
+
 /// The document itself.
 pub struct Start {}
 
@@ -78,7 +85,7 @@ impl<W: Way, N: Names> Way for Through<W, N> {
     ghost gives = { field_gives W.gives N.names };
 
     fn path(alloc: Global) -> Result<Path> {
-        enter::<N>(W::path(alloc)?)
+        path_to::<W, N>(alloc)
     }
 
     fn has<L: Names, T: FromJson, M: Mark<T>>(alloc: Global, text: &str) -> Result<bool> {
@@ -97,7 +104,7 @@ impl<W: Way, N: Names> Way for ThroughOption<W, N> {
     ghost gives = { optional_gives W.gives N.names };
 
     fn path(alloc: Global) -> Result<Path> {
-        enter::<N>(W::path(alloc)?)
+        path_to::<W, N>(alloc)
     }
 
     fn has<L: Names, T: FromJson, M: Mark<T>>(alloc: Global, text: &str) -> Result<bool> {

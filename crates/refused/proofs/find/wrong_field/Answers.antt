@@ -1,0 +1,29 @@
+-- Every tree means something that is ignored. An object that gives each field by itself gives a struct.
+use Rattle.std.proofs.Common.{◌≡◌, rules, inl, inr, refl, [], Some, sym, subst}
+use Rattle.std.specs.Prelude.{IsSome}
+use Rattle.miniserde.specs.Tree.{members}
+use Rattle.miniserde.specs.Objects.{object_of}
+use Rattle.refused.specs.Wrong.{document_gives}
+use Rattle.refused.proofs.Objects.{none-some, not-object, is-object}
+use Rattle.refused.proofs.find.wrong_field.Goals as goal
+
+pub returns-then-not-branch-clause-none : goal.returns-then-not-branch-clause-none
+returns-then-not-branch-clause-none g c = λ _. inr (λ t j. none-some _ (c.in_ok-is_meant-2.ensures.no (search rules) t j) refl)
+
+pub returns-then-not-branch-2-clause-some : goal.returns-then-not-branch-2-clause-some
+returns-then-not-branch-2-clause-some g c =
+    let y = c.in_ok-is_meant-2.ensures.meant (search rules) in (
+      y.0,
+      y.1,
+      c.in_ok-is_meant.ensures.not_meant (search rules) y.0 y.1,
+      inl (c.new.ensures, not-object y.0 (c.in_ok-is_meant-3.ensures.no (search rules) y.0 y.1)),
+    )
+
+pub returns-clause-none : goal.returns-clause-none
+returns-clause-none g c = λ e. inr (λ t j.
+    let o = is-object t (c.in_ok-is_meant-3.ensures.yes (search rules) t j) in
+    let each = subst (λ t. g.S.Each.Probes.right document_gives g.S.Record.names t) o.1 (c.probe.ensures.none e t j) in
+    let all = c.tells.ensures [] g.S.Record.names c.by_fields.ensures.apart o.0 each in
+    let gives = c.by_fields.ensures.gives (members o.0) all in
+    none-some _ (c.in_ok-is_meant.ensures.no (search rules) t j)
+        (subst (λ t. IsSome (g.S.FromJson.means.from_tree t)) (sym o.1) gives))
