@@ -51,10 +51,22 @@ def fields_text(it, mark_of):
     """The impl by which the fields of a struct are looked for."""
     if "refused" not in it.words:
         return ""
+    name, probes = it.name, f"{it.name}Probes"
     return f"""
-impl FieldByField for {it.name} {{
-    type Each = {probes_of(it, it.looked_into, mark_of)};
+// Its fields, one by one.
+type {probes} = {probes_of(it, it.looked_into, mark_of)};
 
-    fn by_fields() {{}}
+impl FieldByField for {name} {{
+    ghost wrong = {{ λ gives here. ⟦<{probes} as Probes>⟧.wrong gives here ⟦<{name} as Record>⟧.names }};
+
+    ghost right = {{ λ gives. ⟦<{probes} as Probes>⟧.right gives ⟦<{name} as Record>⟧.names }};
+
+    fn probe<W: Way>(alloc: Global, text: &str) -> Result<Option<FieldPath>> {{
+        <{probes} as Probes>::probe::<W, NamesOf<{name}>>(alloc, text)
+    }}
+
+    fn by_fields() {{
+        fields_give::<{name}, {probes}>()
+    }}
 }}
 """

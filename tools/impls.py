@@ -105,7 +105,7 @@ def printed_for(it):
     """The names of types that are written beside a type."""
     names = [given_of(it, part) for part in it.parts if part.default]
     if it.kind == "struct":
-        names.append(f"{it.name}Fields")
+        names += [f"{it.name}Fields", *([f"{it.name}Probes"] if "refused" in it.words else [])]
     if it.kind in ("struct", "newtype"):
         names += [f"{it.name}Place"] if "events" in it.words else []
     if it.kind == "tagged":

@@ -10,9 +10,9 @@ class Refused(Exception):
 
 # What derived code may name.
 NAMED = (
-    "Aliased BesideTag Cases Checked CheckedLeaf Closed DataCase Deserialize Empty Error Event ExactKey Field FieldByField Four FourLent FourParts FourSlot Fragment FromJson Given "
-    "Global HasAliases HasTag InjectiveKey Inside InsideCases Leaf LeafPlace Lossless MapKey MarkedFour MarkedSlot Members NamePlace NeverNull NoCase NoField NoFields NoProbe NoSlot "
-    "OmitSlot Omitted Once OnceField OnceFour OnceSlot OneOf Parts PlacedRecord Plain Probe ProbeInto ProbeIntoOption Ranged Record RecordPlace Result RoundTrip "
+    "Aliased BesideTag Cases Checked CheckedLeaf Closed DataCase Deserialize Empty Error Event ExactKey Field Four FourLent FourParts FourSlot Fragment FromJson Given "
+    "Global HasAliases HasTag InjectiveKey Inside InsideCases Leaf LeafPlace Lossless MapKey MarkedFour MarkedSlot Members NamePlace NeverNull NoCase NoField NoFields NoSlot "
+    "OmitSlot Omitted Once OnceField OnceFour OnceSlot OneOf Parts PlacedRecord Plain Ranged Record RecordPlace Result RoundTrip "
     "Serialize Slot Slots Source Stable Step TextValue Transparent DataEnum UnitCase UnitEnum Variants Visitor WithDefault Writer WrittenCases WrittenFields "
     "aliased_round_trips checked_from_step checked_lossless checked_round_trips checked_stable enum_lossless enum_round_trips enum_stable fields_named read_checked read_enum read_leaf read_record read_tagged read_variant "
     "record_lossless record_round_trips record_stable tag_fits tagged_lossless tagged_round_trips tagged_stable take_four text_value_from_step text_value_round_trips transparent_round_trips variant_lossless "
@@ -24,8 +24,8 @@ OF_LAWS = {
     "tagged_lossless tagged_round_trips text_value_round_trips transparent_round_trips variant_lossless variant_round_trips",
     "miniserde_stored": "ExactKey Stable checked_stable enum_stable record_stable tagged_stable variant_stable",
 }
-# Those of the crate `refused`, which a crate lists for structs that are marked so.
-OF_REFUSED = {"refused": "FieldByField NoProbe Probe ProbeInto ProbeIntoOption"}
+# Those of the crate `refused`, which code names that is derived of a struct with this word.
+OF_REFUSED = {"refused": "FieldByField FieldPath NamesOf NoProbe Probe ProbeInto ProbeIntoOption Probes Way fields_give"}
 # Names of Rust's prelude and of the clauses, which derived code uses as they are.
 OF_RUST = "Box Err List None Ok Option Self Some String Vec"
 
@@ -161,8 +161,9 @@ def check_written(it):
 def check_type_names(found, printed_for):
     """Refuses types whose names derived code has; `printed_for` returns the names that are written for a type."""
     lines = {}
+    refused = " ".join(OF_REFUSED.values()) if any("refused" in it.words for it in found) else ""
     for it in found:
-        if it.name in NAMED.split() or it.name in OF_RUST.split():
+        if it.name in [*NAMED.split(), *OF_RUST.split(), *refused.split()]:
             raise Refused(f"line {it.line}: derived code uses the name `{it.name}`: call the type otherwise, its JSON stays")
         if it.name in lines and not it.variant:
             raise Refused(f"line {it.line}: line {lines[it.name]} has a type `{it.name}` too")

@@ -6,8 +6,8 @@ ghost use Rattle.refused.specs.Wrong.{FieldIsWrong, alone, field_gives, first_na
 
 use crate::alone::AnyObject;
 use crate::find::FieldByField;
-use crate::names::{LaterNames, Names, NamesOf};
-use crate::path::Path;
+use crate::names::{LaterNames, Names};
+use crate::path::FieldPath;
 use crate::probes::Probes;
 use crate::way::{Through, ThroughOption, Way, path_to};
 use miniserde::Result;
@@ -27,19 +27,19 @@ impl<T: FieldByField, M: Mark<T>, R: Probes> Probes for ProbeInto<T, M, R> {
 
     ghost wrong = { λ gives here names path t.
         FieldIsWrong gives here (alone M.once (missing_content T.means M.given T.absent) T.means.from_tree) names path t
-        ⊎ T.Each.wrong (field_gives gives names) (here ++ first_name names) T.names path t
+        ⊎ T.wrong (field_gives gives names) (here ++ first_name names) path t
         ⊎ R.wrong gives here (later_names names) path t };
 
     ghost right = { λ gives names t.
         gives _ (alone M.once (missing_content T.means M.given T.absent) T.means.from_tree (first_name names)) t
         × R.right gives (later_names names) t };
 
-    fn probe<W: Way, N: Names>(alloc: Global, text: &str) -> Result<Option<Path>> {
+    fn probe<W: Way, N: Names>(alloc: Global, text: &str) -> Result<Option<FieldPath>> {
         if W::has::<N, T, M>(alloc, text)? {
             return R::probe::<W, LaterNames<N>>(alloc, text);
         }
         if W::has::<N, AnyObject, Plain>(alloc, text)? {
-            let inside = <T::Each as Probes>::probe::<Through<W, N>, NamesOf<T>>(alloc, text)?;
+            let inside = T::probe::<Through<W, N>>(alloc, text)?;
             if let Some(path) = inside {
                 return Ok(Some(path));
             }
@@ -69,7 +69,7 @@ impl<T: FieldByField, M: Mark<Option<T>>, R: Probes> Probes for ProbeIntoOption<
     ghost wrong = { λ gives here names path t.
         FieldIsWrong gives here (alone M.once (missing_content (option_meaning T.means) M.given (Some None))
         (option_meaning T.means).from_tree) names path t
-        ⊎ T.Each.wrong (optional_gives gives names) (here ++ first_name names) T.names path t
+        ⊎ T.wrong (optional_gives gives names) (here ++ first_name names) path t
         ⊎ R.wrong gives here (later_names names) path t };
 
     ghost right = { λ gives names t.
@@ -77,14 +77,12 @@ impl<T: FieldByField, M: Mark<Option<T>>, R: Probes> Probes for ProbeIntoOption<
         (option_meaning T.means).from_tree (first_name names)) t
         × R.right gives (later_names names) t };
 
-    fn probe<W: Way, N: Names>(alloc: Global, text: &str) -> Result<Option<Path>> {
+    fn probe<W: Way, N: Names>(alloc: Global, text: &str) -> Result<Option<FieldPath>> {
         if W::has::<N, Option<T>, M>(alloc, text)? {
             return R::probe::<W, LaterNames<N>>(alloc, text);
         }
         if W::has::<N, Option<AnyObject>, Plain>(alloc, text)? {
-            let inside = <T::Each as Probes>::probe::<ThroughOption<W, N>, NamesOf<T>>(
-                alloc, text,
-            )?;
+            let inside = T::probe::<ThroughOption<W, N>>(alloc, text)?;
             if let Some(path) = inside {
                 return Ok(Some(path));
             }

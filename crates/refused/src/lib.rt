@@ -11,9 +11,9 @@ mod probes;
 mod way;
 
 pub use alone::{Alone, AnyObject};
-pub use find::{FieldByField, wrong_field};
+pub use find::{FieldByField, fields_give, wrong_field};
 pub use inside::{ProbeInto, ProbeIntoOption};
 pub use names::{LaterNames, Names, NamesOf};
-pub use path::Path;
+pub use path::FieldPath;
 pub use probes::{NoProbe, Probe, Probes};
 pub use way::{Start, Through, ThroughOption, Way};

@@ -10,22 +10,22 @@ use std::fmt;
 /// A path to a field: the names of the fields that contain it, from the outermost one inwards, and its own name last. It
 /// is empty for the document itself.
 #[derive(Debug, Drop)]
-pub struct Path {
+pub struct FieldPath {
     pub names: Vec<&'static str>,
 }
 
-impl Path {
+impl FieldPath {
     /// Returns the path to the document itself.
-    pub fn new(alloc: Global) -> Path
+    pub fn new(alloc: Global) -> FieldPath
         ensures { map (λ s. s.now) result.names.items ≡ [] }
     {
-        Path {
+        FieldPath {
             names: Vec::new(alloc),
         }
     }
 }
 
-impl fmt::Display for Path {
+impl fmt::Display for FieldPath {
     // Writes the names with a dot between them.
     fn fmt<W: fmt::Write>(&self, f: &mut fmt::Formatter<W>) -> fmt::Result {
         let mut first = true;
@@ -41,7 +41,7 @@ impl fmt::Display for Path {
 }
 
 /// Appends the first of the names `N` to a path.
-pub fn enter<N: Names>(mut path: Path) -> Result<Path>
+pub fn enter<N: Names>(mut path: FieldPath) -> Result<FieldPath>
     ensures { IfOk result (λ p. map (λ s. s.now) p.names.items
         ≡ map (λ s. s.now) path.names.items ++ first_name N.names) }
 {

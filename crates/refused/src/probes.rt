@@ -10,7 +10,7 @@ ghost use Rattle.refused.specs.Wrong.{FieldIsWrong, Gives, alone, are_apart, doc
 ghost use Rattle.refused.specs.Wrong.{later_names};
 
 use crate::names::{LaterNames, Names};
-use crate::path::Path;
+use crate::path::FieldPath;
 use crate::way::{Way, path_to};
 use miniserde::record::{Mark, Parts};
 use miniserde::{FromJson, Result};
@@ -34,7 +34,7 @@ pub trait Probes {
 
     /// Returns the path to the first field that has no value in the text at the place `W`, by the fields' names `N`, or
     /// `None` if each has one by itself. Returns `Memory` if an allocation fails.
-    fn probe<W: Way, N: Names>(alloc: Global, text: &str) -> Result<Option<Path>>
+    fn probe<W: Way, N: Names>(alloc: Global, text: &str) -> Result<Option<FieldPath>>
         ensures some { IfOk result (λ answer. IfSome answer (λ path. (t : Tree) → IsJson text.now t
             → wrong W.gives W.to N.names (map (λ s. s.now) path.names.items) t)) }
         ensures none { result ≡ Ok None → (t : Tree) → IsJson text.now t → right W.gives N.names t };
@@ -57,7 +57,7 @@ impl Probes for NoProbe {
 
     ghost right = { λ _ _ _. ⊤ };
 
-    fn probe<W: Way, N: Names>(_alloc: Global, _text: &str) -> Result<Option<Path>> {
+    fn probe<W: Way, N: Names>(_alloc: Global, _text: &str) -> Result<Option<FieldPath>> {
         Ok(None)
     }
 
@@ -82,7 +82,7 @@ impl<T: FromJson, M: Mark<T>, R: Probes> Probes for Probe<T, M, R> {
         gives _ (alone M.once (missing_content T.means M.given T.absent) T.means.from_tree (first_name names)) t
         × R.right gives (later_names names) t };
 
-    fn probe<W: Way, N: Names>(alloc: Global, text: &str) -> Result<Option<Path>> {
+    fn probe<W: Way, N: Names>(alloc: Global, text: &str) -> Result<Option<FieldPath>> {
         if W::has::<N, T, M>(alloc, text)? {
             return R::probe::<W, LaterNames<N>>(alloc, text);
         }

@@ -8,7 +8,7 @@ ghost use Rattle.refused.specs.Wrong.{Gives, alone, document_gives, field_gives,
 
 use crate::alone::Alone;
 use crate::names::Names;
-use crate::path::{Path, enter};
+use crate::path::{FieldPath, enter};
 use miniserde::json::from_str;
 use miniserde::record::{Mark, Plain};
 use miniserde::{Error, FromJson, Result};
@@ -24,7 +24,7 @@ pub trait Way {
     ghost gives: { Gives };
 
     /// Returns the path to the place, or `Memory` if an allocation fails.
-    fn path(alloc: Global) -> Result<Path>
+    fn path(alloc: Global) -> Result<FieldPath>
         ensures { IfOk result (λ p. map (λ s. s.now) p.names.items ≡ to) };
 
     /// Returns whether the text has, at the place, a field of the type `T` with the mark `M` and the first of the names
@@ -51,7 +51,7 @@ pub fn is_meant<T: FromJson>(alloc: Global, text: &str) -> Result<bool>
 }
 
 /// Returns the path from the place `W` to the field of the first of the names `N`, or `Memory` if an allocation fails.
-pub fn path_to<W: Way, N: Names>(alloc: Global) -> Result<Path>
+pub fn path_to<W: Way, N: Names>(alloc: Global) -> Result<FieldPath>
     ensures { IfOk result (λ p. map (λ s. s.now) p.names.items ≡ W.to ++ first_name N.names) }
 {
     enter::<N>(W::path(alloc)?)
@@ -65,8 +65,8 @@ impl Way for Start {
 
     ghost gives = { document_gives };
 
-    fn path(alloc: Global) -> Result<Path> {
-        Ok(Path::new(alloc))
+    fn path(alloc: Global) -> Result<FieldPath> {
+        Ok(FieldPath::new(alloc))
     }
 
     fn has<N: Names, T: FromJson, M: Mark<T>>(alloc: Global, text: &str) -> Result<bool> {
@@ -84,7 +84,7 @@ impl<W: Way, N: Names> Way for Through<W, N> {
 
     ghost gives = { field_gives W.gives N.names };
 
-    fn path(alloc: Global) -> Result<Path> {
+    fn path(alloc: Global) -> Result<FieldPath> {
         path_to::<W, N>(alloc)
     }
 
@@ -103,7 +103,7 @@ impl<W: Way, N: Names> Way for ThroughOption<W, N> {
 
     ghost gives = { optional_gives W.gives N.names };
 
-    fn path(alloc: Global) -> Result<Path> {
+    fn path(alloc: Global) -> Result<FieldPath> {
         path_to::<W, N>(alloc)
     }
 

@@ -10,7 +10,7 @@ use miniserde::derived::{
     Slots, Source, Step, Visitor, Writer, WrittenFields, read_record, record_lossless,
     record_round_trips, write_members,
 };
-use refused::{FieldByField, NoProbe, Probe};
+use refused::{FieldByField, FieldPath, NamesOf, NoProbe, Probe, Probes, Way, fields_give};
 
 /// A host, and how much of the work it gets.
 #[derive(Drop)]
@@ -221,10 +221,21 @@ impl NeverNull for Tls {
     fn never_null() {}
 }
 
-impl FieldByField for Tls {
-    type Each = Probe<String, Plain, Probe<bool, Plain, NoProbe>>;
+// Its fields, one by one.
+type TlsProbes = Probe<String, Plain, Probe<bool, Plain, NoProbe>>;
 
-    fn by_fields() {}
+impl FieldByField for Tls {
+    ghost wrong = { λ gives here. ⟦<TlsProbes as Probes>⟧.wrong gives here ⟦<Tls as Record>⟧.names };
+
+    ghost right = { λ gives. ⟦<TlsProbes as Probes>⟧.right gives ⟦<Tls as Record>⟧.names };
+
+    fn probe<W: Way>(alloc: Global, text: &str) -> Result<Option<FieldPath>> {
+        <TlsProbes as Probes>::probe::<W, NamesOf<Tls>>(alloc, text)
+    }
+
+    fn by_fields() {
+        fields_give::<Tls, TlsProbes>()
+    }
 }
 
 /// The place of a `Tls`.

@@ -11,7 +11,9 @@ use miniserde::derived::{
     Result, RoundTrip, Serialize, Slot, Slots, Source, Step, Visitor, Writer, WrittenFields,
     read_record, record_lossless, record_round_trips, take_four, write_members,
 };
-use refused::{FieldByField, NoProbe, Probe, ProbeIntoOption};
+use refused::{
+    FieldByField, FieldPath, NamesOf, NoProbe, Probe, ProbeIntoOption, Probes, Way, fields_give,
+};
 use std::collections::BTreeMap;
 
 /// Settings of a server.
@@ -132,22 +134,33 @@ impl NeverNull for Settings {
     fn never_null() {}
 }
 
-impl FieldByField for Settings {
-    type Each = Probe<
-        String,
+// Its fields, one by one.
+type SettingsProbes = Probe<
+    String,
+    Plain,
+    Probe<
+        u16,
         Plain,
-        Probe<
-            u16,
+        ProbeIntoOption<
+            Tls,
             Plain,
-            ProbeIntoOption<
-                Tls,
-                Plain,
-                Probe<Vec<Host>, Plain, Probe<BTreeMap<String, u64>, Plain, NoProbe>>,
-            >,
+            Probe<Vec<Host>, Plain, Probe<BTreeMap<String, u64>, Plain, NoProbe>>,
         >,
-    >;
+    >,
+>;
 
-    fn by_fields() {}
+impl FieldByField for Settings {
+    ghost wrong = { λ gives here. ⟦<SettingsProbes as Probes>⟧.wrong gives here ⟦<Settings as Record>⟧.names };
+
+    ghost right = { λ gives. ⟦<SettingsProbes as Probes>⟧.right gives ⟦<Settings as Record>⟧.names };
+
+    fn probe<W: Way>(alloc: Global, text: &str) -> Result<Option<FieldPath>> {
+        <SettingsProbes as Probes>::probe::<W, NamesOf<Settings>>(alloc, text)
+    }
+
+    fn by_fields() {
+        fields_give::<Settings, SettingsProbes>()
+    }
 }
 
 /// The place of a `Settings`.

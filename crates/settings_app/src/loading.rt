@@ -6,7 +6,7 @@ ghost use Rattle.settings_app.specs.Changes.{at_port, IsWrong};
 ghost use Rattle.settings_app.specs.declared.loading.Fault.{Fault};
 
 use miniserde::{Error, FromJson, Serialize};
-use refused::{Path, wrong_field};
+use refused::{FieldPath, wrong_field};
 use settings::loader::{load, save};
 use settings::types::Settings;
 use std::alloc::Global;
@@ -18,7 +18,7 @@ pub enum Fault {
     /// The text is no JSON.
     NoJson,
     /// The text has no value for the field at the path.
-    Field(Path),
+    Field(FieldPath),
     /// An allocation failed.
     Memory,
 }

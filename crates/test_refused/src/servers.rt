@@ -10,7 +10,10 @@ use miniserde::derived::{
     Slots, Source, WithDefault, Writer, WrittenFields, read_record, record_round_trips, take_four,
     write_members,
 };
-use refused::{FieldByField, NoProbe, Probe, ProbeInto, ProbeIntoOption};
+use refused::{
+    FieldByField, FieldPath, NamesOf, NoProbe, Probe, ProbeInto, ProbeIntoOption, Probes, Way,
+    fields_give,
+};
 
 /// How many connections a server takes.
 #[derive(Drop)]
@@ -98,10 +101,21 @@ impl RoundTrip for Range {
     }
 }
 
-impl FieldByField for Range {
-    type Each = Probe<u16, Once<Plain>, Probe<u16, WithDefault<RangeLeastDefault>, NoProbe>>;
+// Its fields, one by one.
+type RangeProbes = Probe<u16, Once<Plain>, Probe<u16, WithDefault<RangeLeastDefault>, NoProbe>>;
 
-    fn by_fields() {}
+impl FieldByField for Range {
+    ghost wrong = { λ gives here. ⟦<RangeProbes as Probes>⟧.wrong gives here ⟦<Range as Record>⟧.names };
+
+    ghost right = { λ gives. ⟦<RangeProbes as Probes>⟧.right gives ⟦<Range as Record>⟧.names };
+
+    fn probe<W: Way>(alloc: Global, text: &str) -> Result<Option<FieldPath>> {
+        <RangeProbes as Probes>::probe::<W, NamesOf<Range>>(alloc, text)
+    }
+
+    fn by_fields() {
+        fields_give::<Range, RangeProbes>()
+    }
 }
 
 /// How a connection is secured.
@@ -189,10 +203,21 @@ impl RoundTrip for Tls {
     }
 }
 
-impl FieldByField for Tls {
-    type Each = Probe<String, Plain, Probe<Option<bool>, Plain, ProbeInto<Range, Plain, NoProbe>>>;
+// Its fields, one by one.
+type TlsProbes = Probe<String, Plain, Probe<Option<bool>, Plain, ProbeInto<Range, Plain, NoProbe>>>;
 
-    fn by_fields() {}
+impl FieldByField for Tls {
+    ghost wrong = { λ gives here. ⟦<TlsProbes as Probes>⟧.wrong gives here ⟦<Tls as Record>⟧.names };
+
+    ghost right = { λ gives. ⟦<TlsProbes as Probes>⟧.right gives ⟦<Tls as Record>⟧.names };
+
+    fn probe<W: Way>(alloc: Global, text: &str) -> Result<Option<FieldPath>> {
+        <TlsProbes as Probes>::probe::<W, NamesOf<Tls>>(alloc, text)
+    }
+
+    fn by_fields() {
+        fields_give::<Tls, TlsProbes>()
+    }
 }
 
 /// A server.
@@ -282,12 +307,23 @@ impl RoundTrip for Server {
     }
 }
 
-impl FieldByField for Server {
-    type Each = Probe<
-        String,
-        Plain,
-        ProbeInto<Tls, Plain, ProbeIntoOption<Tls, Plain, Probe<Vec<Range>, Plain, NoProbe>>>,
-    >;
+// Its fields, one by one.
+type ServerProbes = Probe<
+    String,
+    Plain,
+    ProbeInto<Tls, Plain, ProbeIntoOption<Tls, Plain, Probe<Vec<Range>, Plain, NoProbe>>>,
+>;
 
-    fn by_fields() {}
+impl FieldByField for Server {
+    ghost wrong = { λ gives here. ⟦<ServerProbes as Probes>⟧.wrong gives here ⟦<Server as Record>⟧.names };
+
+    ghost right = { λ gives. ⟦<ServerProbes as Probes>⟧.right gives ⟦<Server as Record>⟧.names };
+
+    fn probe<W: Way>(alloc: Global, text: &str) -> Result<Option<FieldPath>> {
+        <ServerProbes as Probes>::probe::<W, NamesOf<Server>>(alloc, text)
+    }
+
+    fn by_fields() {
+        fields_give::<Server, ServerProbes>()
+    }
 }

@@ -2,7 +2,7 @@
 //! no object has `document`.
 
 use crate::servers::Server;
-use refused::{Path, wrong_field};
+use refused::{FieldPath, wrong_field};
 use std::alloc::Global;
 use std::test::Fail;
 
@@ -56,7 +56,7 @@ fn a_path_leads_to_the_field_that_is_wrong(rt: HostRuntime) -> Result<(), Fail> 
 fn a_path_has_the_names_in_their_order(rt: HostRuntime) -> Result<(), Fail> {
     let text = r#"{"server name":"a","inner":{"cert":"c","range":{}},"hosts":[]}"#;
     let path = wrong_field::<Server>(rt.alloc(), text)?;
-    assert_eq!(rt; path.unwrap().names.as_slice(), &["inner", "range", "most"]);
-    assert!(rt; Path::new(rt.alloc()).names.is_empty());
+    assert_eq!(rt; path.unwrap().names.as_slice(), ["inner", "range", "most"].as_slice());
+    assert!(rt; FieldPath::new(rt.alloc()).names.is_empty());
     Ok(())
 }

@@ -1,8 +1,6 @@
 -- Every tree means something that is ignored. An object that gives each field by itself gives a struct.
-use Rattle.std.proofs.Common.{◌≡◌, rules, inl, inr, refl, [], Some, sym, subst}
+use Rattle.std.proofs.Common.{◌≡◌, rules, inl, inr, refl, sym, subst}
 use Rattle.std.specs.Prelude.{IsSome}
-use Rattle.miniserde.specs.Tree.{members}
-use Rattle.miniserde.specs.Objects.{object_of}
 use Rattle.refused.specs.Wrong.{document_gives}
 use Rattle.refused.proofs.Objects.{none-some, not-object, is-object}
 use Rattle.refused.proofs.find.wrong_field.Goals as goal
@@ -22,8 +20,6 @@ returns-then-not-branch-2-clause-some g c =
 pub returns-clause-none : goal.returns-clause-none
 returns-clause-none g c = λ e. inr (λ t j.
     let o = is-object t (c.in_ok-is_meant-3.ensures.yes (search rules) t j) in
-    let each = subst (λ t. g.S.Each.Probes.right document_gives g.S.Record.names t) o.1 (c.probe.ensures.none e t j) in
-    let all = c.tells.ensures [] g.S.Record.names c.by_fields.ensures.apart o.0 each in
-    let gives = c.by_fields.ensures.gives (members o.0) all in
+    let each = subst (λ t. g.S.FieldByField.right document_gives t) o.1 (c.probe.ensures.none e t j) in
     none-some _ (c.in_ok-is_meant.ensures.no (search rules) t j)
-        (subst (λ t. IsSome (g.S.FromJson.means.from_tree t)) (sym o.1) gives))
+    (subst (λ t. IsSome (g.S.FromJson.means.from_tree t)) (sym o.1) (c.by_fields.ensures o.0 each)))
