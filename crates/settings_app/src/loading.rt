@@ -1,11 +1,11 @@
 //! The settings of a text at another port, as text, or the field that is wrong.
-ghost use Rattle.std.specs.Prelude.{◌≡◌, [], IfOk, Err, string_bytes};
+ghost use Rattle.std.specs.Prelude.{◌≡◌, IfOk, Err, string_bytes};
 ghost use Rattle.miniserde.specs.Tree.{Tree};
 ghost use Rattle.miniserde.specs.Value.{IsJson};
 ghost use Rattle.settings_app.specs.Changes.{at_port, IsWrong};
 ghost use Rattle.settings_app.specs.declared.loading.Fault.{Fault};
 
-use miniserde::{Error, FromJson, Serialize};
+use miniserde::{Error, FromJson, Result, Serialize};
 use refused::{FieldPath, wrong_field};
 use settings::loader::{load, save};
 use settings::types::Settings;
@@ -47,8 +47,22 @@ fn fault_of(alloc: Global, text: &str) -> Fault
     }
 }
 
+/// Returns the settings of a text at another port, as text.
+fn at_another_port(alloc: Global, text: &str, port: u16) -> Result<String>
+    ensures ok { IfOk result (λ j. (t : Tree) × (s : Settings) × IsJson text.now t
+        × ⟦<Settings as FromJson>⟧.means.reads t s
+        × IsJson (string_bytes j) (⟦<Settings as Serialize>⟧.tree (at_port port s))) }
+    ensures invalid { result ≡ Err Error.Invalid
+        → (t : Tree) → IsJson text.now t → (s : Settings) → ⟦<Settings as FromJson>⟧.means.reads t s → ⊥ }
+{
+    let mut settings = load(alloc, text)?;
+    settings.port = port;
+    let written = save(alloc, &settings)?;
+    Ok(written)
+}
+
 /// Returns the settings of a text at another port, as text, or why the text means none.
-pub fn set_port(alloc: Global, text: &str, port: u16) -> Result<String, Fault>
+pub fn set_port(alloc: Global, text: &str, port: u16) -> std::result::Result<String, Fault>
     // The text means settings, and the answer spells these at that port.
     ensures ok { IfOk result (λ j. (t : Tree) × (s : Settings) × IsJson text.now t
         × ⟦<Settings as FromJson>⟧.means.reads t s
@@ -60,11 +74,8 @@ pub fn set_port(alloc: Global, text: &str, port: u16) -> Result<String, Fault>
     // The text spells no tree.
     ensures no_json { result ≡ Err Fault.NoJson → (t : Tree) → IsJson text.now t → ⊥ }
 {
-    match load(alloc, text) {
-        Ok(mut settings) => {
-            settings.port = port;
-            save(alloc, &settings).map_err(|_| Fault::Memory)
-        }
+    match at_another_port(alloc, text, port) {
+        Ok(changed) => Ok(changed),
         Err(Error::Invalid) => Err(fault_of(alloc, text)),
         Err(Error::Memory) => Err(Fault::Memory),
     }
