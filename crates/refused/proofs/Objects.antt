@@ -1,17 +1,19 @@
--- What gives a content is not what gives none, and what gives one as any object is an object.
+-- What gives a content is not what gives none, and what gives one as any object is an object. An answer of a path that has
+-- one property has another that follows (`weaker`).
 use Rattle.std.proofs.Common.{◌≡◌, Option, Some, None, is_some, true≢false, sym, ap, ◌∙◌, refl}
-use Rattle.std.specs.Prelude.{IsSome}
+use Rattle.std.specs.Prelude.{IsSome, IfOk, IfSome, Result, Ok, Err}
 use Rattle.miniserde.specs.Tree.{Tree, members, Members}
-use Rattle.miniserde.specs.Objects.{object_of}
-use Rattle.refused.specs.Wrong.{IsObject}
+use Rattle.refused.specs.Wrong.{any_object}
 
 pub none-some : {C : Type 0} (o : Option C) → o ≡ None → IsSome o → ⊥
 none-some o n s = true≢false (sym s ∙ ap is_some n)
 
-pub not-object : (t : Tree) → object_of (λ ms. Some (tt {0})) t ≡ None → IsObject t → ⊥
-not-object (members ms) n o = none-some (Some (tt {0})) n refl
-not-object t n o = o
-
-pub is-object : (t : Tree) → IsSome (object_of (λ ms. Some (tt {0})) t) → (ms : Members) × (t ≡ members ms)
+pub is-object : (t : Tree) → IsSome (any_object t) → (ms : Members) × (t ≡ members ms)
 is-object (members ms) s = (ms, refl)
 is-object t s = absurd (none-some {C = Unit {0}} None refl s)
+
+pub weaker : {A E : Type 0} (r : Result (Option A) E) (P Q : A → Type 0) → ((a : A) → P a → Q a)
+    → IfOk r (λ o. IfSome o P) → IfOk r (λ o. IfSome o Q)
+weaker (Ok (Some a)) P Q f h = f a h
+weaker (Ok None) P Q f h = h
+weaker (Err e) P Q f h = h

@@ -1,6 +1,6 @@
 -- Which fields of a struct have a value in a tree, each by itself, and which paths lead to one that has none.
 use Rattle.std.specs.Prelude.{◌≡◌, ◌⊎◌, ◌&&◌, Bool, true, false, not, List, [], ◌∷◌, ◌++◌, Option, Some, None, IsSome, refl}
-use Rattle.miniserde.specs.Tree.{Tree, members, Members}
+use Rattle.miniserde.specs.Tree.{Tree}
 use Rattle.miniserde.specs.Objects.{Name, object_of}
 use Rattle.miniserde.specs.Options.{option_of}
 use Rattle.miniserde.specs.Fields.{fields_content}
@@ -43,18 +43,28 @@ field_gives gives names C of t = gives (C × Unit {0}) (alone false None of (fir
 abbrev pub optional_gives : Gives → List Name → Gives
 optional_gives gives names C of t = gives (Option C × Unit {0}) (alone false (Some None) (option_of of) (first_name names)) t
 
+-- what any object gives
+abbrev pub any_object : Tree → Option (Unit {0})
+any_object = object_of (λ _. Some (tt {0}))
+
 -- the path leads from the place at `here` to the field of the first name, which has no value there
 abbrev pub FieldIsWrong : {C : Type 0} → Gives → List Name → (List Name → Tree → Option C) → List Name → List Name → Tree → Type 0
 FieldIsWrong {C} gives here of names path t = (path ≡ here ++ first_name names) × (gives C (of (first_name names)) t → ⊥)
 
--- the tree is the one of an object
-abbrev pub IsObject : Tree → Type 0
-IsObject (members ms) = Unit {0}
-IsObject t = ⊥
+-- what stands at the place is no object, or has a value of each field by itself
+abbrev pub IsNoMore : Gives → (Gives → Tree → Type 0) → Tree → Type 0
+IsNoMore gives right t = (gives (Unit {0}) any_object t → ⊥) ⊎ right gives t
 
--- the path is empty and the tree is no object, or the path leads to a field that is wrong
+-- The path leads to the field of the first name, which has no value and is no object that has a value of each field, or to a
+-- field within it that is wrong, where `inner` and `right` tell of the fields within. `into` is what stands in the field.
+abbrev pub IsWrongWithin : {C : Type 0} → Gives → Gives → (Gives → List Name → List Name → Tree → Type 0) → (Gives → Tree → Type 0)
+    → List Name → (List Name → Tree → Option C) → List Name → List Name → Tree → Type 0
+IsWrongWithin gives into inner right here of names path t =
+    (FieldIsWrong gives here of names path t × IsNoMore into right t) ⊎ inner into (here ++ first_name names) path t
+
+-- the path is empty and the tree is no object, or the path leads to a field of it that is wrong
 abbrev pub StructIsWrong : (List Name → Tree → Type 0) → List Name → Tree → Type 0
-StructIsWrong fields path t = ((path ≡ []) × (IsObject t → ⊥)) ⊎ fields path t
+StructIsWrong fields path t = ((path ≡ []) × (any_object t ≡ None)) ⊎ fields path t
 
 -- the first name alone has no duplicate
 pub first_apart : (ns : List Name) → are_distinct (first_name ns) ≡ true

@@ -16,8 +16,8 @@ use std::alloc::Global;
 
 /// A struct whose fields can be looked for one by one.
 pub trait FieldByField: FromJson {
-    // The last argument but one is a path to a field that is wrong in the tree. The others are what the place of the struct
-    // gives, and the path to that place.
+    // The last argument but one is a path to the first field that is wrong in the tree. The others are what the place of the
+    // struct gives, and the path to that place.
     ghost wrong: { Gives → List Name → List Name → Tree → Type 0 };
 
     // Each field has a value in the tree, by itself, by what the place of the struct gives.

@@ -2,7 +2,7 @@
 ghost use Rattle.std.specs.Prelude.{◌≡◌, ◌++◌, ◌⊎◌};
 ghost use Rattle.miniserde.specs.Fields.{missing_content};
 ghost use Rattle.miniserde.specs.FieldsMeaning.{field_and};
-ghost use Rattle.refused.specs.Wrong.{FieldIsWrong, alone, field_gives, first_name, later_names, optional_gives};
+ghost use Rattle.refused.specs.Wrong.{IsWrongWithin, alone, field_gives, first_name, later_names, optional_gives};
 
 use crate::alone::AnyObject;
 use crate::find::FieldByField;
@@ -26,9 +26,10 @@ impl<T: FieldByField, M: Mark<T>, R: Probes> Probes for ProbeInto<T, M, R> {
     ghost meaning = { field_and M.once M.given T.means T.absent R.meaning };
 
     ghost wrong = { λ gives here names path t.
-        FieldIsWrong gives here (alone M.once (missing_content T.means M.given T.absent) T.means.from_tree) names path t
-        ⊎ T.wrong (field_gives gives names) (here ++ first_name names) path t
-        ⊎ R.wrong gives here (later_names names) path t };
+        IsWrongWithin gives (field_gives gives names) T.wrong T.right here
+        (alone M.once (missing_content T.means M.given T.absent) T.means.from_tree) names path t
+        ⊎ (gives _ (alone M.once (missing_content T.means M.given T.absent) T.means.from_tree (first_name names)) t
+        × R.wrong gives here (later_names names) path t) };
 
     ghost right = { λ gives names t.
         gives _ (alone M.once (missing_content T.means M.given T.absent) T.means.from_tree (first_name names)) t
@@ -38,13 +39,13 @@ impl<T: FieldByField, M: Mark<T>, R: Probes> Probes for ProbeInto<T, M, R> {
         if W::has::<N, T, M>(alloc, text)? {
             return R::probe::<W, LaterNames<N>>(alloc, text);
         }
-        if W::has::<N, AnyObject, Plain>(alloc, text)? {
-            let inside = T::probe::<Through<W, N>>(alloc, text)?;
-            if let Some(path) = inside {
-                return Ok(Some(path));
-            }
+        if !W::has::<N, AnyObject, Plain>(alloc, text)? {
+            return Ok(Some(path_to::<W, N>(alloc)?));
         }
-        Ok(Some(path_to::<W, N>(alloc)?))
+        match T::probe::<Through<W, N>>(alloc, text)? {
+            Some(path) => Ok(Some(path)),
+            None => Ok(Some(path_to::<W, N>(alloc)?)),
+        }
     }
 
     fn tells() {
@@ -67,10 +68,12 @@ impl<T: FieldByField, M: Mark<Option<T>>, R: Probes> Probes for ProbeIntoOption<
     ghost meaning = { field_and M.once M.given (option_meaning T.means) (Some None) R.meaning };
 
     ghost wrong = { λ gives here names path t.
-        FieldIsWrong gives here (alone M.once (missing_content (option_meaning T.means) M.given (Some None))
-        (option_meaning T.means).from_tree) names path t
-        ⊎ T.wrong (optional_gives gives names) (here ++ first_name names) path t
-        ⊎ R.wrong gives here (later_names names) path t };
+        IsWrongWithin gives (optional_gives gives names) T.wrong T.right here
+        (alone M.once (missing_content (option_meaning T.means) M.given (Some None)) (option_meaning T.means).from_tree)
+        names path t
+        ⊎ (gives _ (alone M.once (missing_content (option_meaning T.means) M.given (Some None))
+        (option_meaning T.means).from_tree (first_name names)) t
+        × R.wrong gives here (later_names names) path t) };
 
     ghost right = { λ gives names t.
         gives _ (alone M.once (missing_content (option_meaning T.means) M.given (Some None))
@@ -81,13 +84,13 @@ impl<T: FieldByField, M: Mark<Option<T>>, R: Probes> Probes for ProbeIntoOption<
         if W::has::<N, Option<T>, M>(alloc, text)? {
             return R::probe::<W, LaterNames<N>>(alloc, text);
         }
-        if W::has::<N, Option<AnyObject>, Plain>(alloc, text)? {
-            let inside = T::probe::<ThroughOption<W, N>>(alloc, text)?;
-            if let Some(path) = inside {
-                return Ok(Some(path));
-            }
+        if !W::has::<N, Option<AnyObject>, Plain>(alloc, text)? {
+            return Ok(Some(path_to::<W, N>(alloc)?));
         }
-        Ok(Some(path_to::<W, N>(alloc)?))
+        match T::probe::<ThroughOption<W, N>>(alloc, text)? {
+            Some(path) => Ok(Some(path)),
+            None => Ok(Some(path_to::<W, N>(alloc)?)),
+        }
     }
 
     fn tells() {

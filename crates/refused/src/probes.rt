@@ -25,8 +25,8 @@ pub trait Probes {
     // Which members mean which values of the fields.
     ghost meaning: { FieldsMeaning Self.Values };
 
-    // The last argument but one is a path to a field that is wrong in the tree. The others are what the place of the struct
-    // gives, the path to that place, and the fields' names.
+    // The last argument but one is a path to the first field that is wrong in the tree. The others are what the place of the
+    // struct gives, the path to that place, and the fields' names.
     ghost wrong: { Gives → List Name → List Name → List Name → Tree → Type 0 };
 
     // Each field has a value in the tree, by itself.
@@ -76,7 +76,8 @@ impl<T: FromJson, M: Mark<T>, R: Probes> Probes for Probe<T, M, R> {
 
     ghost wrong = { λ gives here names path t.
         FieldIsWrong gives here (alone M.once (missing_content T.means M.given T.absent) T.means.from_tree) names path t
-        ⊎ R.wrong gives here (later_names names) path t };
+        ⊎ (gives _ (alone M.once (missing_content T.means M.given T.absent) T.means.from_tree (first_name names)) t
+        × R.wrong gives here (later_names names) path t) };
 
     ghost right = { λ gives names t.
         gives _ (alone M.once (missing_content T.means M.given T.absent) T.means.from_tree (first_name names)) t

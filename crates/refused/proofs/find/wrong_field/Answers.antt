@@ -2,7 +2,7 @@
 use Rattle.std.proofs.Common.{◌≡◌, rules, inl, inr, refl, sym, subst}
 use Rattle.std.specs.Prelude.{IsSome}
 use Rattle.refused.specs.Wrong.{document_gives}
-use Rattle.refused.proofs.Objects.{none-some, not-object, is-object}
+use Rattle.refused.proofs.Objects.{none-some, is-object}
 use Rattle.refused.proofs.find.wrong_field.Goals as goal
 
 pub returns-then-not-branch-clause-none : goal.returns-then-not-branch-clause-none
@@ -14,7 +14,7 @@ returns-then-not-branch-2-clause-some g c =
       y.0,
       y.1,
       c.in_ok-is_meant.ensures.not_meant (search rules) y.0 y.1,
-      inl (c.new.ensures, not-object y.0 (c.in_ok-is_meant-3.ensures.no (search rules) y.0 y.1)),
+      inl (c.new.ensures, c.in_ok-is_meant-3.ensures.no (search rules) y.0 y.1),
     )
 
 pub returns-clause-none : goal.returns-clause-none
