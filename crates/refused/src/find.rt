@@ -1,8 +1,9 @@
 //! Structs whose fields can be looked for one by one, and the call that finds one that is wrong.
-ghost use Rattle.std.specs.Prelude.{◌≡◌, ◌⊎◌, true, [], Ok, None, IfOk, IfSome, IsSome, List, map};
+ghost use Rattle.std.specs.Prelude.{◌≡◌, ◌⊎◌, true, [], Ok, None, IfErr, IfOk, IfSome, IsSome, List, map};
 ghost use Rattle.miniserde.specs.Tree.{Tree, Members, members};
 ghost use Rattle.miniserde.specs.Value.{IsJson};
 ghost use Rattle.miniserde.specs.Objects.{Name};
+ghost use Rattle.miniserde.specs.declared.Error.{Error};
 ghost use Rattle.refused.specs.Wrong.{Gives, StructIsWrong, are_apart, document_gives};
 
 use crate::alone::AnyObject;
@@ -28,7 +29,8 @@ pub trait FieldByField: FromJson {
     fn probe<W: Way>(alloc: Global, text: &str) -> Result<Option<FieldPath>>
         ensures some { IfOk result (λ answer. IfSome answer (λ path. (t : Tree) → IsJson text.now t
             → wrong W.gives W.to (map (λ s. s.now) path.names.items) t)) }
-        ensures none { result ≡ Ok None → (t : Tree) → IsJson text.now t → right W.gives t };
+        ensures none { result ≡ Ok None → (t : Tree) → IsJson text.now t → right W.gives t }
+        ensures memory { IfErr result (λ e. e ≡ Error.Memory) };
 
     /// Does nothing. It promises that an object that has a value of each field, by itself, gives a struct.
     fn by_fields()
@@ -56,6 +58,9 @@ pub fn wrong_field<S: FieldByField>(alloc: Global, text: &str) -> Result<Option<
     ensures none { result ≡ Ok None
         → ((t : Tree) × IsJson text.now t × (v : S) × S.means.reads t v)
         ⊎ ((t : Tree) → IsJson text.now t → ⊥) }
+
+    // It fails only if an allocation fails.
+    ensures memory { IfErr result (λ e. e ≡ Error.Memory) }
 {
     if is_meant::<S>(alloc, text)? {
         return Ok(None);

@@ -1,5 +1,6 @@
 //! Paths to fields of structs within structs.
-ghost use Rattle.std.specs.Prelude.{◌≡◌, ◌++◌, [], IfOk, map};
+ghost use Rattle.std.specs.Prelude.{◌≡◌, ◌++◌, [], IfErr, IfOk, map};
+ghost use Rattle.miniserde.specs.declared.Error.{Error};
 ghost use Rattle.refused.specs.Wrong.{first_name};
 
 use crate::names::Names;
@@ -40,10 +41,11 @@ impl fmt::Display for FieldPath {
     }
 }
 
-/// Appends the first of the names `N` to a path.
+/// Appends the first of the names `N` to a path. Returns `Memory` if an allocation fails.
 pub fn enter<N: Names>(mut path: FieldPath) -> Result<FieldPath>
-    ensures { IfOk result (λ p. map (λ s. s.now) p.names.items
+    ensures path { IfOk result (λ p. map (λ s. s.now) p.names.items
         ≡ map (λ s. s.now) path.names.items ++ first_name N.names) }
+    ensures memory { IfErr result (λ e. e ≡ Error.Memory) }
 {
     if let Some((name, _)) = N::names().split_first() {
         path.names.push(*name)?;

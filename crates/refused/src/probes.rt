@@ -1,11 +1,12 @@
 //! The fields of a struct, which are looked for one by one.
-ghost use Rattle.std.specs.Prelude.{◌≡◌, ◌++◌, ◌⊎◌, true, [], Ok, None, IfOk, IfSome, IsSome, List, map, ⊤};
+ghost use Rattle.std.specs.Prelude.{◌≡◌, ◌++◌, ◌⊎◌, true, [], Ok, None, IfErr, IfOk, IfSome, IsSome, List, map, ⊤};
 ghost use Rattle.miniserde.specs.Tree.{Tree, Members, members};
 ghost use Rattle.miniserde.specs.Value.{IsJson};
 ghost use Rattle.miniserde.specs.Objects.{Name};
 ghost use Rattle.miniserde.specs.Fields.{missing_content};
 ghost use Rattle.miniserde.specs.FieldsMeaning.{FieldsMeaning, field_and, no_fields};
 ghost use Rattle.miniserde_record.specs.laws.Left.{left};
+ghost use Rattle.miniserde.specs.declared.Error.{Error};
 ghost use Rattle.refused.specs.Wrong.{FieldIsWrong, Gives, alone, are_apart, document_gives, first_name};
 ghost use Rattle.refused.specs.Wrong.{later_names};
 
@@ -37,7 +38,8 @@ pub trait Probes {
     fn probe<W: Way, N: Names>(alloc: Global, text: &str) -> Result<Option<FieldPath>>
         ensures some { IfOk result (λ answer. IfSome answer (λ path. (t : Tree) → IsJson text.now t
             → wrong W.gives W.to N.names (map (λ s. s.now) path.names.items) t)) }
-        ensures none { result ≡ Ok None → (t : Tree) → IsJson text.now t → right W.gives N.names t };
+        ensures none { result ≡ Ok None → (t : Tree) → IsJson text.now t → right W.gives N.names t }
+        ensures memory { IfErr result (λ e. e ≡ Error.Memory) };
 
     /// Does nothing. It promises that members that give a value of each field by itself give values of all.
     fn tells()

@@ -1,9 +1,10 @@
 //! Places in a document, as a path of types leads to them.
-ghost use Rattle.std.specs.Prelude.{◌≡◌, ◌++◌, true, false, [], Ok, None, IfOk, IsSome, List, map};
+ghost use Rattle.std.specs.Prelude.{◌≡◌, ◌++◌, true, false, [], Ok, None, IfErr, IfOk, IsSome, List, map};
 ghost use Rattle.miniserde.specs.Tree.{Tree};
 ghost use Rattle.miniserde.specs.Value.{IsJson};
 ghost use Rattle.miniserde.specs.Objects.{Name};
 ghost use Rattle.miniserde.specs.Fields.{missing_content};
+ghost use Rattle.miniserde.specs.declared.Error.{Error};
 ghost use Rattle.refused.specs.Wrong.{Gives, alone, document_gives, field_gives, first_name, optional_gives};
 
 use crate::alone::Alone;
@@ -25,7 +26,8 @@ pub trait Way {
 
     /// Returns the path to the place, or `Memory` if an allocation fails.
     fn path(alloc: Global) -> Result<FieldPath>
-        ensures { IfOk result (λ p. map (λ s. s.now) p.names.items ≡ to) };
+        ensures path { IfOk result (λ p. map (λ s. s.now) p.names.items ≡ to) }
+        ensures memory { IfErr result (λ e. e ≡ Error.Memory) };
 
     /// Returns whether the text has, at the place, a field of the type `T` with the mark `M` and the first of the names
     /// `N`, or is no JSON. Returns `Memory` if an allocation fails.
@@ -33,7 +35,8 @@ pub trait Way {
         ensures yes { result ≡ Ok true → (t : Tree) → IsJson text.now t
             → gives _ (alone M.once (missing_content T.means M.given T.absent) T.means.from_tree (first_name N.names)) t }
         ensures no { result ≡ Ok false → (t : Tree) → IsJson text.now t
-            → gives _ (alone M.once (missing_content T.means M.given T.absent) T.means.from_tree (first_name N.names)) t → ⊥ };
+            → gives _ (alone M.once (missing_content T.means M.given T.absent) T.means.from_tree (first_name N.names)) t → ⊥ }
+        ensures memory { IfErr result (λ e. e ≡ Error.Memory) };
 }
 
 /// Returns whether the text means a value of the type. Returns `Memory` if an allocation fails.
@@ -42,6 +45,7 @@ pub fn is_meant<T: FromJson>(alloc: Global, text: &str) -> Result<bool>
     ensures yes { result ≡ Ok true → (t : Tree) → IsJson text.now t → IsSome (T.means.from_tree t) }
     ensures no { result ≡ Ok false → (t : Tree) → IsJson text.now t → T.means.from_tree t ≡ None }
     ensures not_meant { result ≡ Ok false → (t : Tree) → IsJson text.now t → (v : T) → T.means.reads t v → ⊥ }
+    ensures memory { IfErr result (λ e. e ≡ Error.Memory) }
 {
     match from_str::<T>(alloc, text) {
         Ok(_) => Ok(true),
@@ -52,7 +56,8 @@ pub fn is_meant<T: FromJson>(alloc: Global, text: &str) -> Result<bool>
 
 /// Returns the path from the place `W` to the field of the first of the names `N`, or `Memory` if an allocation fails.
 pub fn path_to<W: Way, N: Names>(alloc: Global) -> Result<FieldPath>
-    ensures { IfOk result (λ p. map (λ s. s.now) p.names.items ≡ W.to ++ first_name N.names) }
+    ensures path { IfOk result (λ p. map (λ s. s.now) p.names.items ≡ W.to ++ first_name N.names) }
+    ensures memory { IfErr result (λ e. e ≡ Error.Memory) }
 {
     enter::<N>(W::path(alloc)?)
 }

@@ -12,4 +12,4 @@ returns-then-branch-clause-some g c =
 
 pub returns-then-not-branch-clause-some : goal.returns-then-not-branch-clause-some
 returns-then-not-branch-clause-some g c = λ t j.
-    inl (inl ((c.in_ok-path_to.ensures, c.in_ok-has.ensures.no (search rules) t j), inl (c.in_ok-has-2.ensures.no (search rules) t j)))
+    inl (inl ((c.in_ok-path_to.ensures.path, c.in_ok-has.ensures.no (search rules) t j), inl (c.in_ok-has-2.ensures.no (search rules) t j)))

@@ -11,4 +11,4 @@ returns-then-branch-clause-some g c =
     weaker c.probe.result _ _ (λ path later t j. inr (c.in_ok-has.ensures.yes (search rules) t j, later t j)) c.probe.ensures.some
 
 pub returns-clause-some : goal.returns-clause-some
-returns-clause-some g c = λ t j. inl (c.in_ok-path_to.ensures, c.in_ok-has.ensures.no (search rules) t j)
+returns-clause-some g c = λ t j. inl (c.in_ok-path_to.ensures.path, c.in_ok-has.ensures.no (search rules) t j)
