@@ -1,5 +1,5 @@
 -- Every tree means something that is ignored. An object that gives each field by itself gives a struct.
-use Rattle.std.proofs.Common.{◌≡◌, rules, inl, inr, refl, sym, subst}
+use Rattle.std.proofs.Common.{rules, inl, inr, refl, sym, subst}
 use Rattle.std.specs.Prelude.{IsSome}
 use Rattle.refused.specs.Wrong.{document_gives}
 use Rattle.refused.proofs.Objects.{none-some, is-object}
