@@ -1,9 +1,13 @@
 -- Which fields of a struct have a value in a tree, each by itself, and which paths lead to one that has none.
-use Rattle.std.specs.Prelude.{◌≡◌, ◌⊎◌, ◌&&◌, Bool, true, false, not, List, [], ◌∷◌, ◌++◌, Option, Some, None, IsSome, refl}
-use Rattle.miniserde.specs.Tree.{Tree}
+use Rattle.std.specs.Prelude.{◌≡◌, ◌⊎◌, ◌&&◌, Bool, true, false, not, List, [], ◌∷◌, ◌++◌, Option, Some, None, IsSome, refl, codes}
+use Rattle.std.proofs.Common.{subst, sym}
+use Rattle.miniserde.specs.Tree.{Tree, null, str, members, Members, no_members, member}
+use Rattle.miniserde.specs.Meaning.{Meaning}
+use Rattle.miniserde.specs.Words.{string_of}
 use Rattle.miniserde.specs.Objects.{Name, object_of}
 use Rattle.miniserde.specs.Options.{option_of}
-use Rattle.miniserde.specs.Fields.{fields_content}
+use Rattle.miniserde.specs.Fields.{FieldReads, MissingReads, fields_content, missing_content}
+use Rattle.miniserde.specs.FieldsMeaning.{field_and, no_fields}
 use Rattle.miniserde.specs.Marks.{is_among}
 use Rattle.miniserde.specs.Structs.{are_distinct}
 
@@ -55,8 +59,8 @@ FieldIsWrong {C} gives here of names path t = (path ≡ here ++ first_name names
 abbrev pub IsNoMore : Gives → (Gives → Tree → Type 0) → Tree → Type 0
 IsNoMore gives right t = (gives (Unit {0}) any_object t → ⊥) ⊎ right gives t
 
--- The path leads to the field of the first name, which has no value and is no object that has a value of each field, or to a
--- field within it that is wrong, where `inner` and `right` tell of the fields within. `into` is what stands in the field.
+-- The path leads to the field of the first name, which has no value, though it is no object or each field within it has a
+-- value by itself (`right`); or to a field within it that is wrong (`inner`). `into` is what stands in the field.
 abbrev pub IsWrongWithin : {C : Type 0} → Gives → Gives → (Gives → List Name → List Name → Tree → Type 0) → (Gives → Tree → Type 0)
     → List Name → (List Name → Tree → Option C) → List Name → List Name → Tree → Type 0
 IsWrongWithin gives into inner right here of names path t =
@@ -70,3 +74,24 @@ StructIsWrong fields path t = ((path ≡ []) × (any_object t ≡ None)) ⊎ fie
 pub first_apart : (ns : List Name) → are_distinct (first_name ns) ≡ true
 first_apart [] = refl
 first_apart (n ∷ ns) = refl
+
+-- If members mean a value of a field (`FieldReads`), the field has one by itself. So they mean none of a field that is wrong.
+pub read_alone : {T : Type 0} (m : Meaning T) (once : Bool) (given : Option Tree) (absent : Option T) (n : Name) (ms : Members) (v : T)
+    → FieldReads false once m.reads m.from_tree (MissingReads m given absent) n ms v
+    → IsSome (alone once (missing_content m given absent) m.from_tree (n ∷ []) (members ms))
+read_alone m once given absent n ms v h =
+    let e = ((field_and once given m absent no_fields).reads_agrees [] (n ∷ []) ms (v, tt {0})).0 (h, tt {0}) in
+    subst (λ o. IsSome o) (sym e) refl
+
+-- Worked cases: of a required text `a`, an object with a text `a` gives this text, whatever else it has; one whose first of
+-- two members `a` is null gives none, and neither does one without the name.
+pub other_names : alone false None string_of (codes "a" ∷ [])
+    (members (member (codes "b") null (member (codes "a") (str (codes "x")) no_members))) ≡ Some (codes "x", tt {0})
+other_names = refl
+
+pub each_counts : alone false None string_of (codes "a" ∷ [])
+    (members (member (codes "a") null (member (codes "a") (str (codes "x")) no_members))) ≡ None
+each_counts = refl
+
+pub no_member : alone false None string_of (codes "a" ∷ []) (members no_members) ≡ None
+no_member = refl
