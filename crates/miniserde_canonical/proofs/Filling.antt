@@ -203,6 +203,7 @@ pub group_less : (q : Span) (later rest later' : List Span) → later ≡ rest +
     → spans_measure later' < spans_measure rest + span_measure q → spans_measure later' < spans_measure later
 group_less q later rest later' e h = omega (arith, h, ap spans_measure e ∙ loads_push rest q)
 
+-- if no span waits any more, the output is that at the start and then the text of the group
 pub group_ends : (ms : List ℕ) (gs : List Splice) (p : Span) (start out : List ℕ) (later : List Span) → later ≡ []
     → ((x : List ℕ) → SpanHolds ms gs p x → (z : List ℕ) × SpansHold ms gs later z × (out ++ z ≡ start ++ x))
     → (x : List ℕ) → SpanHolds ms gs p x → out ≡ start ++ x
