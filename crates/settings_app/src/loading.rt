@@ -20,7 +20,7 @@ pub enum Fault {
     /// The text has no value for the field at the path.
     Field(FieldPath),
     /// An allocation failed.
-    Memory,
+    Failed(Error),
 }
 
 impl fmt::Display for Fault {
@@ -29,7 +29,7 @@ impl fmt::Display for Fault {
             Fault::NoJson => f.write_str("this is no JSON"),
             Fault::Field(path) if path.names.is_empty() => f.write_str("this is no object"),
             Fault::Field(path) => write!(f, "the field {path} is wrong"),
-            Fault::Memory => f.write_str("out of memory"),
+            Fault::Failed(error) => write!(f, "{error}"),
         }
     }
 }
@@ -39,11 +39,12 @@ fn fault_of(alloc: Global, text: &str) -> Fault
     requires { (t : Tree) → IsJson text.now t → (s : Settings) → ⟦<Settings as FromJson>⟧.means.reads t s → ⊥ }
     ensures field { (path : _) → result ≡ Fault.Field path → (t : Tree) × IsJson text.now t × IsWrong path t }
     ensures no_json { result ≡ Fault.NoJson → (t : Tree) → IsJson text.now t → ⊥ }
+    ensures failed { (e : _) → result ≡ Fault.Failed e → e ≡ Error.Memory }
 {
     match wrong_field::<Settings>(alloc, text) {
         Ok(Some(path)) => Fault::Field(path),
         Ok(None) => Fault::NoJson,
-        Err(_) => Fault::Memory,
+        Err(error) => Fault::Failed(error),
     }
 }
 
@@ -73,10 +74,13 @@ pub fn set_port(alloc: Global, text: &str, port: u16) -> std::result::Result<Str
 
     // The text spells no tree.
     ensures no_json { result ≡ Err Fault.NoJson → (t : Tree) → IsJson text.now t → ⊥ }
+
+    // An allocation failed.
+    ensures failed { (e : _) → result ≡ Err (Fault.Failed e) → e ≡ Error.Memory }
 {
     match at_another_port(alloc, text, port) {
         Ok(changed) => Ok(changed),
         Err(Error::Invalid) => Err(fault_of(alloc, text)),
-        Err(Error::Memory) => Err(Fault::Memory),
+        Err(error) => Err(Fault::Failed(error)),
     }
 }

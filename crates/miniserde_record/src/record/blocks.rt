@@ -49,6 +49,7 @@ impl<
         }
     }
 
+    #[inline(always)]
     fn read_member<'a>(
         &mut self,
         names: &[&str],
@@ -109,6 +110,7 @@ impl<A: FromJson, B: FromJson, C: FromJson, D: FromJson, Z: Slots> Slots
         }
     }
 
+    #[inline(always)]
     fn read_member<'a>(
         &mut self,
         names: &[&str],

@@ -178,13 +178,10 @@ impl<T: FromJson, M: Mark<T>, R: Slots> Slots for MarkedSlot<T, M, R> {
             rest,
         } = self;
         let value = match value {
-            Some(value) => Some(value),
-            None => M::missing(alloc)?,
+            Some(value) => value,
+            None => M::missing(alloc)?.ok_or(Error::Invalid)?,
         };
-        match value {
-            Some(value) => Ok(Parts(value, rest.end(alloc)?)),
-            None => Err(Error::Invalid),
-        }
+        Ok(Parts(value, rest.end(alloc)?))
     }
 }
 

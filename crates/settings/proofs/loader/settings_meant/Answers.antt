@@ -1,6 +1,6 @@
 -- A tree means settings exactly if `IsSettings` holds of both. `says` puts hosts, certificates and a missing `tls` in a
 -- user's words; all else of `IsSettings` is what `reads` says.
-use Rattle.std.proofs.Common.{◌≡◌, None, codes, string_bytes}
+use Rattle.std.proofs.Common.{◌≡◌, None, codes}
 use Rattle.std.specs.Prelude.{option_map}
 use Rattle.miniserde.specs.Tree.{members}
 use Rattle.miniserde.specs.Lists.{ListReads, list_of}
