@@ -7,7 +7,7 @@ use crate::optional::{Held, Optional, Owner, Raw};
 use crate::percents::Percent;
 use crate::spans::Span;
 use std::collections::BTreeMap;
-use test_tables::{Wrong, expect_read_itself, expect_table};
+use test_tables::{Wrong, expect_read_again, expect_read_itself, expect_table};
 
 const USER_IDS: &str = r#"0 => same
  18446744073709551615  => 18446744073709551615
@@ -172,9 +172,9 @@ fn newtypes_as_keys(rt: HostRuntime) -> Result<(), Wrong> {
 fn newtypes_in_structs(rt: HostRuntime) -> Result<(), Wrong> {
     let alloc = rt.alloc();
     expect_read_itself::<Account>(alloc, ACCOUNTS)?;
-    expect_read_itself::<Held>(alloc, HELD)?;
+    expect_read_again::<Held>(alloc, HELD)?;
     expect_read_itself::<Optional>(alloc, OPTIONAL)?;
-    expect_read_itself::<Owner>(alloc, OWNERS)?;
+    expect_read_again::<Owner>(alloc, OWNERS)?;
     expect_read_itself::<Span>(alloc, SPANS)?;
     expect_read_itself::<Raw>(alloc, RAW)
 }
