@@ -44,7 +44,6 @@ impl Serialize for Document {
 }
 
 impl Ranged for Document {
-    // Every document is valid.
     ghost real = { λ _. ⊤ };
 
     fn ranged(&self) {}
