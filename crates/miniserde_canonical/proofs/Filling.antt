@@ -203,6 +203,7 @@ pub group_less : (q : Span) (later rest later' : List Span) → later ≡ rest +
     → spans_measure later' < spans_measure rest + span_measure q → spans_measure later' < spans_measure later
 group_less q later rest later' e h = omega (arith, h, ap spans_measure e ∙ loads_push rest q)
 
+-- if no span waits any more, the output is that at the start and then the text of the group
 pub group_ends : (ms : List ℕ) (gs : List Splice) (p : Span) (start out : List ℕ) (later : List Span) → later ≡ []
     → ((x : List ℕ) → SpanHolds ms gs p x → (z : List ℕ) × SpansHold ms gs later z × (out ++ z ≡ start ++ x))
     → (x : List ℕ) → SpanHolds ms gs p x → out ≡ start ++ x
@@ -270,7 +271,7 @@ fill_ends ms gs bs text' hs ks at end out part out' eb e i f' g left = λ x u.
     (take at bs) (drop at bs) (sym (take-append-drop at bs)) (sym (length-take-le at bs t.1)) i in
     g ∙ ap (λ z. out ++ z) (bytes ∙ sym plain) ∙ t.3
 
--- a text without splices holds its own bytes
+-- `fill_splices` returns early: a text without splices (ks, which are hs) holds its own bytes
 pub fill_none : (ms : List ℕ) (gs : List Splice) (bs : List ℕ) (hs ks : List Splice) → ks ≡ hs
     → nat_eq (length ks) 0 ≡ true → (x : List ℕ) → Holds ms gs 0 bs hs x → bs ≡ x
 fill_none ms gs bs hs ks e f = λ x u. sym (plain_text (subst (λ z. Holds ms gs 0 bs z x) (sym e ∙ empty ks f) u))

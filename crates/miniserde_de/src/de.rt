@@ -31,8 +31,7 @@ pub trait Deserialize: FromJson {
     fn tied()
         ensures { Agree (type_meaning Self.Place.meaning) Self.means };
 
-    /// Returns the value of a missing field of this type, or `None` if an object without that field's member is an
-    /// error.
+    /// Returns what `FromJson::missing` returns, under the name that the original has. It is not std's `Default`.
     final fn default() -> Option<Self>
         ensures { result ≡ Self.absent }
     {

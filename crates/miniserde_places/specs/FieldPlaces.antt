@@ -44,9 +44,9 @@ no_field_places skipped = record {
   child = λ f. view_through (λ _. Some tt) (skipped f);
 }
 
--- The view of the current field's place. Its outcome is the state of all fields: v is the first field's content so far,
--- and s the state of the later fields. The last argument is the first field's place if that field is current, and
--- `view` returns the view of it. If it is `None`, `later` is the view of the current place among the later fields.
+-- The view of the current place among a field and those after it, with their state for its outcome: v is the field's
+-- content so far, and s the state of the later fields. If the field is current, the last argument is its place, `view`
+-- gives its view, and its outcome replaces v. Else `later` is the view of the current place, whose outcome replaces s.
 abbrev pub field_view : {P A S : Type 0} → (P → PlaceView A) → Option A → S → PlaceView S → Option P → PlaceView (Option A × S)
 field_view view v s later None = view_through (λ r. Some (v, r)) later
 field_view view v s later (Some p) = view_through (λ a. Some (Some a, s)) (view p)

@@ -96,7 +96,7 @@ module _ {S : Type 0} {next : S → Name → Tree → Option S} {empty : S} {beg
       a.2 ∙ ap (after_members next m) u.is ∙ none_more next m (text_of o x) u.one u.more
       (ap (λ z. next m (text_of z x) u.one) same ∙ n u.one u.event u.behind u.rest u.starts u.is_value)
 
-  -- no object goes on so
+  -- if the rest of the text goes on as no members, no object begins as the text does
   pub object_stops : ((us : Members) (r : List ℕ) → MembersAt us f s r → ⊥) → (ms : Members) (r : List ℕ)
       → MembersAt ms true begin r → ⊥
   object_stops n ms r p = let a = g.back ms r p in n a.0 r a.1

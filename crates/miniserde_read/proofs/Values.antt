@@ -24,6 +24,7 @@ use Rattle.miniserde_text.proofs.Wholes.{nothing_left}
 -- ---- from the tree to its events
 
 mutual
+  -- where a value is due, a text that spells t and then runs through es runs through the events of t and then es
   pub due_runs : (t : Tree) (e : Step) (j s x : List ℕ) (es : List Step) (st : List Kind) (r : List ℕ)
       → Starts j e s → ValueAt t e s x → Runs after es st x r → Runs due (events t ++ es) st j r
   due_runs null e j s x es st r k v h = (s, subst (λ z. Starts j z s) v.0 k, subst (λ z. Runs after es st z r) v.1 h)

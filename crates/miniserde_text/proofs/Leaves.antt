@@ -59,7 +59,7 @@ sign_of m = if m then 45 ∷ [] else []
 digit_no_minus : (c : ℕ) → IsDigit c → (c == 45) ≡ false
 digit_no_minus c h = grind (arith, nat_tests)
 
--- an integer part does not begin with `-`
+-- a text that begins with an int does not begin with `-`, so its first byte tells whether a number has a minus
 pub whole_first : (w r : List ℕ) → IsInt w → (slice_index (w ++ r) 0 == 45) ≡ false
 whole_first [] r h = absurd h
 whole_first (c ∷ cs) r h = digit_no_minus c (whole_digits (c ∷ cs) h).0

@@ -30,7 +30,8 @@ use Rattle.miniserde_value.specs.private.Builds.{Builds, HoleAdvancesBy, NeverGi
 
 -- ---- the open containers
 
--- the innermost of the open kinds of a hole is the kind of its innermost container
+-- The stack of kinds, of which the lexer's lemmas speak, has on top the kind of the hole's innermost container. So what a
+-- hole says serves the lemmas on closing brackets, elements and keys.
 pub kinds_innermost : (h : Hole) → innermost_kind (kinds h) ≡ (innermost h)
 kinds_innermost (outside ts) = refl
 kinds_innermost (in_list ts h) = refl

@@ -80,7 +80,8 @@ StackOrdered (frame.Array a ∷ frames) objects = ItemsOrdered a × StackOrdered
 StackOrdered (frame.Object ∷ frames) [] = ⊤
 StackOrdered (frame.Object ∷ frames) (o ∷ objects) = MembersOrdered o × StackOrdered frames objects
 
--- in what the open containers of the walk have left, the names of each object strictly rise
+-- in each child that the open containers of the walk have left, the names of each object strictly rise; of the names that
+-- the open objects themselves have left it says nothing
 abbrev pub FramesOrdered : Frames → Type 0
 FramesOrdered f = StackOrdered (reverse f.open.items) (reverse f.objects.items)
 

@@ -61,13 +61,14 @@ EndsWithMembers [] [] ms gs bs hs last = ⊤
 EndsWithMembers (n ∷ ns) (e ∷ es) ms gs bs hs last = EndsWithMembersFrom n ns e es ms gs bs hs last
 EndsWithMembers _ _ ms gs bs hs last = ⊥
 
--- the text of the first of the entries, which is the text before the next one, or `last` if there
--- is no next one; empty without entries
+-- the first entry's own text, from its name to before the next comma: the next entry has it as the text before it, and of
+-- the last one it is `last`; empty without entries
 abbrev pub text_at : List Entry → List ℕ → List ℕ
 text_at [] last = []
 text_at (e ∷ es) last = text_before es last
 
--- a string with the text of the entry at the index i; the text of the last entry is `last`
+-- A string with the own text of the entry at the index i, which is empty beyond the last one. It stands in for the tree of
+-- the member, so that what orders members orders texts.
 abbrev pub text_tree_at : List Entry → List ℕ → ℕ → Tree
 text_tree_at es last i = str (text_at (drop i es) last)
 
@@ -99,7 +100,8 @@ PutsMembers ns order out groups groups' n = (es : List Entry) (last ms : List �
     (members_text true (without_repeats (members_at ns (text_tree_at es last) order)))
     × (n ≡ count (without_repeats (members_at ns (text_tree_at es last) order)))
 
--- out' is `out` up to the point, and then holds the text x over groups', which begin with ms and gs
+-- out' is `out` cut off at the point, with bytes and splices behind it that hold the text x over groups'. These are ms and
+-- gs with more behind them. Splices that were in order still are (`good`).
 pub record PutAt (point : Point) (ms : List ℕ) (gs : List Splice) (out out' groups' : SplicedText) (x : List ℕ) : Type 0 where
   pub bytes : List ℕ
   pub splices : List Splice

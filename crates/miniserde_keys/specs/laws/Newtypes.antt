@@ -47,7 +47,7 @@ u64_key = unsigned_key 64 (omega arith)
 pub usize_key : UnsignedLaws 64
 usize_key = u64_key
 
--- the laws of signed integers of so many bits, w as a width
+-- the laws of signed integers of `bits` bits as keys; w is the toolchain's width of as many bits
 abbrev pub SignedLaws : ℕ → Width → Type 0
 SignedLaws bits w = KeyLaws int_eq (FitsSigned w) of_int (read_signed bits) signed_decimal
 
@@ -58,6 +58,7 @@ signed_key bits w e h = record {
   one_text = λ a b same. ap signed_decimal (int-same a b same);
 }
 
+-- each signed type's laws, by its width
 pub i8_key : SignedLaws 8 w8
 i8_key = signed_key 8 w8 refl (omega arith)
 

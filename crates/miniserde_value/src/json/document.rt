@@ -44,6 +44,7 @@ impl Serialize for Document {
 }
 
 impl Ranged for Document {
+    // Every document is valid.
     ghost real = { λ _. ⊤ };
 
     fn ranged(&self) {}
