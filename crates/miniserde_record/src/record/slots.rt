@@ -1,5 +1,5 @@
 //! Reads structs from a text, member by member.
-ghost use Rattle.std.specs.Prelude.{◌≡◌, ◌&&◌, Bool, true, false, None, Some, Ok, Err, IfOk, IfErr, map, Option};
+ghost use Rattle.std.specs.Prelude.{◌≡◌, ◌&&◌, Bool, true, false, None, Some, Ok, Err, IfOk, IfErr, map, Option, bytes_eq};
 ghost use Rattle.miniserde_text.specs.Lexer.{event_of_token};
 ghost use Rattle.miniserde_model.specs.Step as step;
 ghost use Rattle.miniserde_model.specs.declared.error.Error.{Error};
@@ -115,6 +115,31 @@ fn read_unnamed<'a, R: Slots>(
     rest.read_member(names, name, source)
 }
 
+// Returns whether a member's name is that of a field. It compares the lengths first, in line: most names differ in them.
+#[inline(always)]
+fn is_name(name: &str, field: &str) -> bool
+    ensures { result ≡ bytes_eq name.now field.now }
+{
+    if name.len() != field.len() {
+        return false;
+    }
+    name == field
+}
+
+// Reads the value that is due into a field. Kept out of line, so that the chain of fields stays small and compares names
+// in one function.
+#[inline(never)]
+fn read_into<'a, T: FromJson>(value: &mut Option<T>, source: &mut Source<'a>) -> Result<()>
+    requires { source.old.refused ≡ None }
+    ensures going { IfOk result (λ _. source.new.refused ≡ None) }
+    ensures ok { IfOk result (λ _. (v : T) × (value.new ≡ Some v)
+        × ReadsDue T.means.from_tree source.old.rest source.new.rest (T.means.content v)) }
+    ensures invalid { result ≡ Err Error.Invalid → RejectsDue T.means.from_tree source.old.rest }
+{
+    *value = Some(read_due(source)?);
+    Ok(())
+}
+
 /// A field of the type `T` with the mark `M`, and the fields `R` after it.
 #[derive(Drop)]
 pub struct MarkedSlot<T, M, R> {
@@ -157,12 +182,11 @@ impl<T: FromJson, M: Mark<T>, R: Slots> Slots for MarkedSlot<T, M, R> {
     ) -> Result<()> {
         match names.split_first() {
             Some((first, more)) => {
-                if name == *first {
+                if is_name(name, first) {
                     if M::is_once() && self.value.is_some() {
                         return Err(Error::Invalid);
                     }
-                    self.value = Some(read_due(source)?);
-                    Ok(())
+                    read_into(&mut self.value, source)
                 } else {
                     self.rest.read_member(more, name, source)
                 }
