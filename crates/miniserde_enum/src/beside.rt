@@ -4,7 +4,7 @@ ghost use Rattle.miniserde_enum.specs.Inside.{beside_tag};
 use crate::tagged::HasTag;
 use miniserde_model::error::Result;
 use miniserde_read::Source;
-use miniserde_record::record::{NoSlot, Slots};
+use miniserde_record::record::{Layout, NoSlot, Slots};
 use std::alloc::Global;
 use std::marker::PhantomData;
 
@@ -33,7 +33,7 @@ impl<E: HasTag, F: Slots> Slots for BesideTag<E, F> {
     }
 
     #[inline(always)]
-    fn read_member<'a>(
+    fn read_member<'a, L: Layout>(
         &mut self,
         names: &[&str],
         name: &str,
@@ -43,13 +43,13 @@ impl<E: HasTag, F: Slots> Slots for BesideTag<E, F> {
             Some((tag, _)) => {
                 if name == *tag {
                     // `NoSlot` skips the value of each member.
-                    NoSlot::new().read_member(names, name, source)
+                    NoSlot::new().read_member::<L>(names, name, source)
                 } else {
-                    self.fields.read_member(names, name, source)
+                    self.fields.read_member::<L>(names, name, source)
                 }
             }
             // `tag` returns one name, so this does not happen.
-            None => self.fields.read_member(names, name, source),
+            None => self.fields.read_member::<L>(names, name, source),
         }
     }
 

@@ -55,14 +55,9 @@ fn read_named<'a, C: Cases>(
         → RejectsDue (with_data (C.meaning.content_by_name (map (λ n. n.now) names.now) (text_of name.entry source.old.scratch)))
         source.old.rest }
 {
-    match name {
-        Text::Input(name) => read_due_case::<C>(names, name, source),
-        Text::Scratch => {
-            // The data may replace the scratch text, so the name is moved out of the source.
-            let name = source.take_scratch();
-            read_due_case::<C>(names, name.as_str(), source)
-        }
-    }
+    // The data may replace the scratch text.
+    let name = source.take_text(name);
+    read_due_case::<C>(names, name.as_str(), source)
 }
 
 /// Reads an externally tagged enum, whose first token is `token`, and takes no more of the source. A variant without

@@ -1,5 +1,6 @@
 //! The source: the rest of a text, from which a type reads itself.
 ghost use Rattle.std.specs.Prelude.{◌≡◌, Bool, List, ℕ, None, Some, Ok, Err, IfOk, IfErr, IfSome};
+ghost use Rattle.std.specs.Cow.{cow_str_bytes};
 ghost use Rattle.std.specs.String.{string_bytes};
 ghost use Rattle.miniserde_model.specs.Tree.{Members};
 ghost use Rattle.miniserde_model.specs.Step as step;
@@ -16,6 +17,7 @@ use crate::step::Step;
 use miniserde_model::error::{Error, Result};
 use miniserde_text::json::lex::{After, Event, Kind, Lexer, Text};
 use std::alloc::Global;
+use std::borrow::CowStr;
 use std::marker::Model;
 use std::mem;
 
@@ -160,15 +162,21 @@ impl<'a> Source<'a> {
         }
     }
 
-    /// Moves the scratch text out of the source. It is the text of the name or string that the last call took, if that
-    /// is `Text::Scratch` and was not moved out before; only `after` and `end` may come between.
+    /// Returns the text of a name or a string, and borrows nothing of the source: the scratch text is moved out of it. It
+    /// must be the text that the last call took; only `after` and `end` may come between, and one call of this function.
     #[inline(always)]
-    pub fn take_scratch(&mut self) -> String
-        ensures text { string_bytes result ≡ self.old.scratch }
+    pub fn take_text(&mut self, text: Text<'a>) -> CowStr<'a>
+        ensures text { cow_str_bytes result ≡ text_of text.entry self.old.scratch }
         ensures rest { self.new.rest ≡ self.old.rest }
         ensures refused { self.new.refused ≡ self.old.refused }
     {
-        mem::replace(&mut self.scratch, String::new(self.alloc))
+        match text {
+            Text::Input(text) => CowStr::Borrowed(text),
+            Text::Scratch => CowStr::Owned(mem::replace(
+                &mut self.scratch,
+                String::new(self.alloc),
+            )),
+        }
     }
 
     /// Returns the event of `token`, which must be the one that was taken last.

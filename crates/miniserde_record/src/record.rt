@@ -18,6 +18,6 @@ pub use marks::{Closed, Empty, Given, Mark, Once, Plain, Repeats, WithDefault};
 pub use members::{FourLent, Lent, Members, write_members};
 pub use names::{UnitEnum, Variant, Variants, read_variant};
 pub use omit::{Omit, OmitSlot, Omitted};
-pub use slots::{MarkedSlot, NoSlot, OnceSlot, Slot, Slots, read_record};
+pub use slots::{Layout, MarkedSlot, NoSlot, OnceSlot, Slot, Slots, read_record};
 pub use structs::{Parts, Record};
 pub use written::WrittenFields;

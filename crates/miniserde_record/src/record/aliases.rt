@@ -4,7 +4,7 @@ ghost use Rattle.miniserde_read.specs.types.Objects.{Name};
 ghost use Rattle.miniserde_record.specs.Aliases.{field_name_of, are_unaliased};
 ghost use Rattle.miniserde_record.specs.FieldsMeaning.{with_aliases};
 
-use super::slots::Slots;
+use super::slots::{Layout, Slots};
 use super::structs::Record;
 use miniserde_model::error::Result;
 use miniserde_read::Source;
@@ -62,14 +62,14 @@ impl<S: HasAliases, F: Slots> Slots for Aliased<S, F> {
     }
 
     #[inline(always)]
-    fn read_member<'a>(
+    fn read_member<'a, L: Layout>(
         &mut self,
         names: &[&str],
         name: &str,
         source: &mut Source<'a>,
     ) -> Result<()> {
         self.fields
-            .read_member(names, field_name(S::aliases(), name), source)
+            .read_member::<L>(names, field_name(S::aliases(), name), source)
     }
 
     fn end(self, alloc: Global) -> Result<F::Values> {

@@ -1,7 +1,7 @@
 //! Fields of a struct in blocks of four. The time to check a proof grows with each nested slot, and a block of four
 //! counts as one.
 use super::marks::Mark;
-use super::slots::{MarkedSlot, Slot, Slots};
+use super::slots::{Layout, MarkedSlot, OutOfLine, Slot, Slots};
 use super::written::WrittenFields;
 use miniserde_keys::Ranged;
 use miniserde_model::error::Result;
@@ -50,13 +50,13 @@ impl<
     }
 
     #[inline(always)]
-    fn read_member<'a>(
+    fn read_member<'a, L: Layout>(
         &mut self,
         names: &[&str],
         name: &str,
         source: &mut Source<'a>,
     ) -> Result<()> {
-        self.slots.read_member(names, name, source)
+        self.slots.read_member::<OutOfLine>(names, name, source)
     }
 
     fn end(self, alloc: Global) -> Result<Self::Values> {
@@ -111,13 +111,13 @@ impl<A: FromJson, B: FromJson, C: FromJson, D: FromJson, Z: Slots> Slots
     }
 
     #[inline(always)]
-    fn read_member<'a>(
+    fn read_member<'a, L: Layout>(
         &mut self,
         names: &[&str],
         name: &str,
         source: &mut Source<'a>,
     ) -> Result<()> {
-        self.slots.read_member(names, name, source)
+        self.slots.read_member::<OutOfLine>(names, name, source)
     }
 
     fn end(self, alloc: Global) -> Result<Self::Values> {

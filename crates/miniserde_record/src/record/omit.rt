@@ -3,7 +3,7 @@ ghost use Rattle.std.specs.Prelude.{◌∷◌, true, None, option_map};
 
 use super::marks::{Mark, Repeats};
 use super::members::Members;
-use super::slots::{MarkedSlot, Slots};
+use super::slots::{Layout, MarkedSlot, Slots};
 use super::structs::Parts;
 use super::written::WrittenFields;
 use miniserde_keys::Ranged;
@@ -60,13 +60,13 @@ impl<T: FromJson, M: Repeats, R: Slots> Slots for OmitSlot<T, M, R> {
     }
 
     #[inline(always)]
-    fn read_member<'a>(
+    fn read_member<'a, L: Layout>(
         &mut self,
         names: &[&str],
         name: &str,
         source: &mut Source<'a>,
     ) -> Result<()> {
-        self.slot.read_member(names, name, source)
+        self.slot.read_member::<L>(names, name, source)
     }
 
     fn end(self, alloc: Global) -> Result<Parts<Option<T>, R::Values>> {

@@ -1,5 +1,5 @@
 //! Reads structs from a text, member by member.
-ghost use Rattle.std.specs.Prelude.{◌≡◌, ◌&&◌, Bool, true, false, None, Some, Ok, Err, IfOk, IfErr, map, Option};
+ghost use Rattle.std.specs.Prelude.{◌≡◌, ◌&&◌, Bool, true, false, None, Some, Ok, Err, IfOk, IfErr, map, Option, bytes_eq};
 ghost use Rattle.miniserde_text.specs.Lexer.{event_of_token};
 ghost use Rattle.miniserde_model.specs.Step as step;
 ghost use Rattle.miniserde_model.specs.declared.error.Error.{Error};
@@ -12,9 +12,30 @@ use super::marks::{Mark, Once, Plain};
 use super::structs::{Parts, Record};
 use miniserde_model::error::{Error, Result};
 use miniserde_read::{FromJson, Ignored, Source, read_due};
-use miniserde_text::json::lex::{Event, Text};
+use miniserde_text::json::lex::Event;
 use std::alloc::Global;
 use std::marker::PhantomData;
+
+/// Whether the readers of fields are compiled in line or out of line.
+pub trait Layout {
+    /// Whether they are compiled out of line.
+    const OUT_OF_LINE: bool;
+}
+
+/// The layout of a struct of up to three fields.
+pub struct InLine {}
+
+impl Layout for InLine {
+    const OUT_OF_LINE: bool = false;
+}
+
+/// The layout of a longer struct: the compiler packs the comparisons of names in one function if the readers of the
+/// fields are none of its code.
+pub struct OutOfLine {}
+
+impl Layout for OutOfLine {
+    const OUT_OF_LINE: bool = true;
+}
 
 /// A chain of a struct's fields, with the values that were read so far.
 pub trait Slots: Drop {
@@ -41,7 +62,12 @@ pub trait Slots: Drop {
     /// value to skip, and `Memory` if an allocation fails. Returns `Invalid` before it reads
     /// anything if the field is marked `once` and has a value, or if no field has the name and the
     /// struct is marked `closed`.
-    fn read_member<'a>(&mut self, names: &[&str], name: &str, source: &mut Source<'a>) -> Result<()>
+    fn read_member<'a, L: Layout>(
+        &mut self,
+        names: &[&str],
+        name: &str,
+        source: &mut Source<'a>,
+    ) -> Result<()>
         requires { source.old.refused ≡ None }
         ensures going { IfOk result (λ _. source.new.refused ≡ None) }
         ensures ok { IfOk result (λ _.
@@ -77,7 +103,7 @@ impl Slots for NoSlot {
         NoSlot {}
     }
 
-    fn read_member<'a>(
+    fn read_member<'a, L: Layout>(
         &mut self,
         _names: &[&str],
         _name: &str,
@@ -92,27 +118,28 @@ impl Slots for NoSlot {
     }
 }
 
-// Reads a member's value into the later fields `rest`, by their `read_member`, if `names` has no
-// name for the field before them. A derived struct has a name for each, so this does not happen; the
-// function is kept out of line, since in line it would double the code of each slot.
+// Returns whether a member's name is that of a field. It compares the lengths first, in line: most names differ in them.
+#[inline(always)]
+fn is_name(name: &str, field: &str) -> bool
+    ensures { result ≡ bytes_eq name.now field.now }
+{
+    if name.len() != field.len() {
+        return false;
+    }
+    name == field
+}
+
+// Reads the value that is due into a field, out of line.
 #[inline(never)]
-fn read_unnamed<'a, R: Slots>(
-    rest: &mut R,
-    names: &[&str],
-    name: &str,
-    source: &mut Source<'a>,
-) -> Result<()>
+fn read_into<'a, T: FromJson>(value: &mut Option<T>, source: &mut Source<'a>) -> Result<()>
     requires { source.old.refused ≡ None }
     ensures going { IfOk result (λ _. source.new.refused ≡ None) }
-    ensures ok { IfOk result (λ _.
-        ReadsDue (R.meaning.next_state (map (λ n. n.now) names.now) (R.state rest.old) name.now)
-        source.old.rest source.new.rest (R.state rest.new)) }
-    ensures invalid { result ≡ Err Error.Invalid
-        → RejectsDue (R.meaning.next_state (map (λ n. n.now) names.now) (R.state rest.old) name.now) source.old.rest }
-    ensures refuses { R.meaning.refuses (map (λ n. n.now) names.now) (R.state rest.old) name.now ≡ true
-        → (result ≡ Err Error.Invalid) × (source.new ≡ source.old) }
+    ensures ok { IfOk result (λ _. (v : T) × (value.new ≡ Some v)
+        × ReadsDue T.means.from_tree source.old.rest source.new.rest (T.means.content v)) }
+    ensures invalid { result ≡ Err Error.Invalid → RejectsDue T.means.from_tree source.old.rest }
 {
-    rest.read_member(names, name, source)
+    *value = Some(read_due(source)?);
+    Ok(())
 }
 
 /// A field of the type `T` with the mark `M`, and the fields `R` after it.
@@ -149,26 +176,27 @@ impl<T: FromJson, M: Mark<T>, R: Slots> Slots for MarkedSlot<T, M, R> {
     }
 
     #[inline(always)]
-    fn read_member<'a>(
+    fn read_member<'a, L: Layout>(
         &mut self,
         names: &[&str],
         name: &str,
         source: &mut Source<'a>,
     ) -> Result<()> {
-        match names.split_first() {
-            Some((first, more)) => {
-                if name == *first {
-                    if M::is_once() && self.value.is_some() {
-                        return Err(Error::Invalid);
-                    }
-                    self.value = Some(read_due(source)?);
-                    Ok(())
-                } else {
-                    self.rest.read_member(more, name, source)
-                }
-            }
-            None => read_unnamed(&mut self.rest, names, name, source),
+        let (is_mine, later) = match names {
+            [first, later @ ..] => (is_name(name, first), later),
+            [] => (false, names),
+        };
+        if !is_mine {
+            return self.rest.read_member::<L>(later, name, source);
         }
+        if M::is_once() && self.value.is_some() {
+            return Err(Error::Invalid);
+        }
+        if L::OUT_OF_LINE {
+            return read_into(&mut self.value, source);
+        }
+        self.value = Some(read_due(source)?);
+        Ok(())
     }
 
     fn end(self, alloc: Global) -> Result<Parts<T, R::Values>> {
@@ -209,14 +237,9 @@ pub fn read_record<'a, S: Record, F: Slots<Values = S::Values>>(
     let mut fields = F::new();
     let mut first = true;
     while let Some(name) = source.member(first)? {
-        match name {
-            Text::Input(name) => fields.read_member(S::names(), name, source)?,
-            Text::Scratch => {
-                // The value may replace the scratch text, so the name is moved out of the source.
-                let name = source.take_scratch();
-                fields.read_member(S::names(), name.as_str(), source)?;
-            }
-        }
+        // Reading the value may replace the scratch text.
+        let name = source.take_text(name);
+        fields.read_member::<InLine>(S::names(), name.as_str(), source)?;
         first = false;
     }
     Ok(S::build(fields.end(source.alloc())?))

@@ -2,7 +2,7 @@
 ghost use Rattle.std.specs.Prelude.{true, [], ⊤};
 ghost use Rattle.miniserde_record.specs.FieldsMeaning.{closed_end};
 
-use crate::record::slots::Slots;
+use crate::record::slots::{Layout, Slots};
 use crate::record::written::WrittenFields;
 use miniserde_model::error::{Error, Result};
 use miniserde_read::Source;
@@ -26,7 +26,7 @@ impl Slots for Closed {
         Closed {}
     }
 
-    fn read_member<'a>(
+    fn read_member<'a, L: Layout>(
         &mut self,
         _names: &[&str],
         _name: &str,

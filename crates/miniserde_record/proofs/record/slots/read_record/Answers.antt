@@ -1,6 +1,6 @@
 -- `read_record` returns the struct that the members of an object give, and `Invalid` only if no such object follows.
--- The loop keeps that the values so far are given by the members so far (`ObjectGoes`); a decoded name is moved out
--- of the scratch text before its value is read.
+-- The loop keeps that the values so far are given by the members so far (`ObjectGoes`); a name is taken out of the source
+-- before its value is read.
 use Rattle.std.proofs.Common.{refl, Some, sym, ap, ◌∙◌}
 use Rattle.std.specs.Prelude.{option_and_then}
 use Rattle.std.proofs.lemmas.Result.{err_from_is_err_and}
@@ -9,45 +9,36 @@ use Rattle.miniserde_read.proofs.Objects.{member_less, object_ends, object_ended
 use Rattle.miniserde_record.proofs.Members.{fields_go, fields_none}
 use Rattle.miniserde_record.proofs.record.slots.read_record.Goals as goal
 
-pub returns-in_err-read_member-in-Input-clause-invalid : goal.returns-in_err-read_member-in-Input-clause-invalid
-returns-in_err-read_member-in-Input-clause-invalid g c = λ e.
-    let w = err_from_is_err_and c.from_residual-in_err-read_member-in-Input.result c.from_residual-in_err-read_member-in-Input.ensures.1 in
+pub returns-in_err-read_member-clause-invalid : goal.returns-in_err-read_member-clause-invalid
+returns-in_err-read_member-clause-invalid g c = λ e.
+    let w = err_from_is_err_and c.from_residual-in_err-read_member.result c.from_residual-in_err-read_member.ensures.1 in
     object_rejects _ _ _ c.in-MapStart.is (fields_none g.F.Slots.meaning g.S.Record.names c.loop-fields.invariant.goes _ _
-    c.in_ok-name.ensures.ok c.in-Some.is _ _ _ c.names.ensures (sym (ap (λ z. text_of z c.member.new.self.scratch) c.in-Input.is))
-    refl (c.in_err-read_member-in-Input.ensures.invalid (cc (w.1, w.2, e))))
+    c.in_ok-name.ensures.ok c.in-Some.is _ _ _ c.names.ensures (c.as_str.ensures.value ∙ c.take_text-name.ensures.text)
+    c.take_text-name.ensures.rest (c.in_err-read_member.ensures.invalid (cc (w.1, w.2, e))))
 
-pub returns-in_err-read_member-in-Scratch-clause-invalid : goal.returns-in_err-read_member-in-Scratch-clause-invalid
-returns-in_err-read_member-in-Scratch-clause-invalid g c = λ e.
-    let w = err_from_is_err_and c.from_residual-in_err-read_member-in-Scratch.result
-    c.from_residual-in_err-read_member-in-Scratch.ensures.1 in
-    object_rejects _ _ _ c.in-MapStart.is (fields_none g.F.Slots.meaning g.S.Record.names c.loop-fields.invariant.goes _ _
-    c.in_ok-name.ensures.ok c.in-Some.is _ _ _ c.names-in-Scratch.ensures (c.as_str.ensures.value
-    ∙ c.take_scratch-name.ensures.text ∙ sym (ap (λ z. text_of z c.member.new.self.scratch) c.in-Scratch.is))
-    c.take_scratch-name.ensures.rest (c.in_err-read_member-in-Scratch.ensures.invalid (cc (w.1, w.2, e))))
+-- dropping the name splits a turn in two: one that owned it, and one that borrowed it from the text
+pub loop-fields-smaller-in_ok-read_member : goal.loop-fields-smaller-in_ok-read_member
+loop-fields-smaller-in_ok-read_member g c = member_less _ _ _ c.in_ok-name.ensures.ok c.in-Some.is
+    (rw c.take_text-name.ensures.rest at c.in_ok-read_member.ensures.ok)
 
-pub loop-fields-smaller-in_ok-read_member-in-Input : goal.loop-fields-smaller-in_ok-read_member-in-Input
-loop-fields-smaller-in_ok-read_member-in-Input g c =
-    member_less _ _ _ c.in_ok-name.ensures.ok c.in-Some.is c.in_ok-read_member-in-Input.ensures.ok
-
-pub loop-fields-preserved-in_ok-read_member-in-Input : goal.loop-fields-preserved-in_ok-read_member-in-Input
-loop-fields-preserved-in_ok-read_member-in-Input g c = record {
-  going = c.in_ok-read_member-in-Input.ensures.going;
+pub loop-fields-preserved-in_ok-read_member : goal.loop-fields-preserved-in_ok-read_member
+loop-fields-preserved-in_ok-read_member g c = record {
+  going = c.in_ok-read_member.ensures.going;
   goes = fields_go g.F.Slots.meaning g.S.Record.names c.loop-fields.invariant.goes _ _ c.in_ok-name.ensures.ok c.in-Some.is
-      _ _ _ c.names.ensures (sym (ap (λ z. text_of z c.member.new.self.scratch) c.in-Input.is)) refl _ _
-      c.in_ok-read_member-in-Input.ensures.ok;
+      _ _ _ c.names.ensures (c.as_str.ensures.value ∙ c.take_text-name.ensures.text) c.take_text-name.ensures.rest _ _
+      c.in_ok-read_member.ensures.ok;
 }
 
 pub loop-fields-smaller : goal.loop-fields-smaller
 loop-fields-smaller g c = member_less _ _ _ c.in_ok-name.ensures.ok c.in-Some.is
-    (rw c.take_scratch-name.ensures.rest at c.in_ok-read_member-in-Scratch.ensures.ok)
+    (rw c.take_text-name.ensures.rest at c.in_ok-read_member.ensures.ok)
 
 pub loop-fields-preserved : goal.loop-fields-preserved
 loop-fields-preserved g c = record {
-  going = c.in_ok-read_member-in-Scratch.ensures.going;
+  going = c.in_ok-read_member.ensures.going;
   goes = fields_go g.F.Slots.meaning g.S.Record.names c.loop-fields.invariant.goes _ _ c.in_ok-name.ensures.ok c.in-Some.is
-      _ _ _ c.names-in-Scratch.ensures (c.as_str.ensures.value ∙ c.take_scratch-name.ensures.text
-      ∙ sym (ap (λ z. text_of z c.member.new.self.scratch) c.in-Scratch.is)) c.take_scratch-name.ensures.rest _ _
-      c.in_ok-read_member-in-Scratch.ensures.ok;
+      _ _ _ c.names.ensures (c.as_str.ensures.value ∙ c.take_text-name.ensures.text) c.take_text-name.ensures.rest _ _
+      c.in_ok-read_member.ensures.ok;
 }
 
 pub returns-in_err-end-clause-invalid : goal.returns-in_err-end-clause-invalid
