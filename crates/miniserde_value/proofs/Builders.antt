@@ -1,15 +1,14 @@
 -- A closed container is put into the hole around it, and a value put into an open object stands under its name. By
 -- the equations of the builder's lists: an array takes the values after its mark, an object the last open object.
 use Rattle.std.proofs.Common.{◌≡◌, ℕ, List, [], ◌∷◌, Option, Some, None, option_map, map, take, drop, String}
-use Rattle.std.proofs.Common.{BTreeMap, Global, string_bytes, string_cmp, refl, sym, ap, ap₂, ◌∙◌}
+use Rattle.std.proofs.Common.{Global, string_bytes, refl, sym, ap, ap₂, ◌∙◌}
 use Rattle.std.proofs.lemmas.List.{take-map, drop-map}
-use Rattle.std.specs.BTreeMap.{insert_entry}
-use Rattle.miniserde_model.specs.Tree.{Tree, list, members, tree, Members}
-use Rattle.miniserde_ser.specs.Trees.{trees_of, members_of}
+use Rattle.miniserde_model.specs.Normal.{put as put_member}
+use Rattle.miniserde_model.specs.Tree.{Tree, list, tree, Members}
+use Rattle.miniserde_ser.specs.Trees.{trees_of}
 use Rattle.miniserde_value.specs.declared.json.value.Value.{Value}
 use Rattle.miniserde_value.specs.declared.json.value.Value as Value
 use Rattle.miniserde_value.specs.declared.json.array.Array.{Array}
-use Rattle.miniserde_value.specs.declared.json.object.Object.{Object}
 use Rattle.miniserde_value.specs.declared.json.builder.OpenObject.{OpenObject}
 use Rattle.miniserde_value.specs.declared.json.builder.OpenContainer.{OpenContainer}
 use Rattle.miniserde_value.specs.declared.json.builder.OpenContainer.TheVariants as container
@@ -17,7 +16,6 @@ use Rattle.miniserde_value.specs.Hole.{Hole, in_members, put, after_close}
 use Rattle.miniserde_value.specs.Values.{content_of, array_items}
 use Rattle.miniserde_value.specs.Containers.{made_members, with_open_object, hole_of}
 use Rattle.miniserde_value.proofs.ContentTrees.{content_of_array, content_of_object}
-use Rattle.miniserde_value.proofs.Ordered.{inserted}
 
 -- ---- the innermost container is closed
 
@@ -38,25 +36,21 @@ closed_array values rest v os old new a e r i =
     (sym (take-map content_of v values)))
     ∙ ap (λ (ms : List OpenContainer). after_close (hole_of (map content_of values) os ms)) (sym e)
 
--- if the innermost container is the object o and m has its members, to put m into the hole around it closes it
+-- if the innermost container is the object o, to put its members into the hole around it closes it
 pub closed_object : (vs : List Tree) (os rest : List OpenObject) (o : OpenObject) (old new : List OpenContainer)
-    (m : Object) → old ≡ container.Object ∷ new → os ≡ o ∷ rest → m.members ≡ o.members
-    → put (content_of (Value.Object m)) (hole_of vs rest new) ≡ after_close (hole_of vs os old)
-closed_object vs os rest o old new m e r i =
-    ap (λ (t : Tree). put t (hole_of vs rest new))
-    (content_of_object m ∙ ap
-    (λ (x : BTreeMap (String Global) Value). members (members_of string_bytes content_of x.entries)) i)
+    → old ≡ container.Object ∷ new → os ≡ o ∷ rest
+    → put (content_of (Value.Object o.members)) (hole_of vs rest new) ≡ after_close (hole_of vs os old)
+closed_object vs os rest o old new e r =
+    ap (λ (t : Tree). put t (hole_of vs rest new)) (content_of_object o.members)
     ∙ ap (λ (qs : List OpenObject). after_close (hole_of vs qs (container.Object ∷ new))) (sym r)
     ∙ ap (λ (ms : List OpenContainer). after_close (hole_of vs os ms)) (sym e)
 
 -- ---- a value stands under its name
 
--- to insert v under the due name of an open object is to put v into its hole
+-- to add v under the due name of an open object is to put v into its hole
 pub member_put : (old new : OpenObject) (name : String Global) (v : Value) → old.name ≡ Some name → new.name ≡ None
-    → new.members.entries ≡ insert_entry string_cmp old.members.entries name v → (h : Hole)
+    → made_members new ≡ put_member (string_bytes name) (content_of v) (made_members old) → (h : Hole)
     → with_open_object new h ≡ put (content_of v) (with_open_object old h)
 member_put old new name v before after e h =
-    ap₂ (λ (ms : Members) (k : Option (List ℕ)). in_members ms k h)
-    (ap (members_of string_bytes content_of) e ∙ inserted content_of old.members.entries name v)
-    (ap (option_map string_bytes) after)
+    ap₂ (λ (ms : Members) (k : Option (List ℕ)). in_members ms k h) e (ap (option_map string_bytes) after)
     ∙ ap (λ (k : Option (String Global)). put (content_of v) (in_members (made_members old) (option_map string_bytes k) h)) (sym before)

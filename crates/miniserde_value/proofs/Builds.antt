@@ -1,9 +1,10 @@
 -- Each step of the reader passes events of the text, and makes the next hole of them. By cases of the event (first
 -- token, element, name, end); `Builds-append` joins the steps, and `read_ok` and `read_none` are the two ends.
 use Rattle.std.proofs.Common.{cond, ◌≡◌, ℕ, Bool, true, false, Option, Some, None, is_some, option_map, List, []}
-use Rattle.std.proofs.Common.{◌∷◌, ◌++◌, append_assoc, append-nil, refl, sym, ap, subst, ◌∙◌}
+use Rattle.std.proofs.Common.{◌∷◌, ◌++◌, ◌≤◌, length, append_assoc, append-nil, refl, sym, ap, subst, ◌∙◌, arith}
+use Rattle.std.proofs.lemmas.List.{length-append}
 use Rattle.std.proofs.Math.Bool.{and-false}
-use Rattle.std.specs.Prelude.{◌&&◌, option_and_then, Result, Ok, Err, IfOk, OnOk}
+use Rattle.std.specs.Prelude.{◌&&◌, option_and_then}
 use Rattle.miniserde_model.specs.Tree.{Tree, no_members}
 use Rattle.miniserde_model.specs.Step.{Step, boolean, string, negative, nonnegative, float, seq, element, map, key, finish}
 use Rattle.miniserde_model.specs.Step as step
@@ -24,7 +25,7 @@ use Rattle.miniserde_read.proofs.Values.{value_later, whole_at}
 use Rattle.miniserde_value.specs.Hole.{Hole, outside, in_list, in_members, has_member, put, with_name, after_close}
 use Rattle.miniserde_value.specs.Hole.{complete_tree, after_begin, after_step, repeats, outcome}
 use Rattle.miniserde_value.specs.Retained.{retained_tree, retained_if}
-use Rattle.miniserde_value.specs.Containers.{innermost}
+use Rattle.miniserde_value.specs.Containers.{innermost, pending, with_next_name}
 use Rattle.miniserde_value.specs.laws.Unique.{gives-kept}
 use Rattle.miniserde_value.specs.private.Builds.{Builds, HoleAdvancesBy, NeverGives, kinds, is_due}
 
@@ -74,6 +75,37 @@ begins (variant.Number x) scratch h e = absurd (cc)
 begins (variant.Str t) scratch h e = absurd (cc)
 begins variant.SeqStart scratch h e = absurd (cc)
 begins variant.MapStart scratch h e = absurd (cc)
+
+-- ---- the name of the next value
+
+pending_put : (t : Tree) (h : Hole) → pending (put t h) ≡ None
+pending_put t (outside ts) = refl
+pending_put t (in_list ts h) = refl
+pending_put t (in_members ms None h) = refl
+pending_put t (in_members ms (Some n) h) = refl
+
+pending_some : (f g : Hole) → ◌≡◌ {A = Option Hole} (Some f) (Some g) → pending f ≡ None → pending g ≡ None
+pending_some f g e p = let i : g ≡ f = cc in ap pending i ∙ p
+
+-- after a value or an opening bracket no name has come for the next value
+pub pending_begun : (e : Step) (h g : Hole) → after_begin e h ≡ Some g → pending g ≡ None
+pending_begun step.null h g b = pending_some _ g b (pending_put _ h)
+pending_begun (boolean x) h g b = pending_some _ g b (pending_put _ h)
+pending_begun (string x) h g b = pending_some _ g b (pending_put _ h)
+pending_begun (negative x) h g b = pending_some _ g b (pending_put _ h)
+pending_begun (nonnegative x) h g b = pending_some _ g b (pending_put _ h)
+pending_begun (float x) h g b = pending_some _ g b (pending_put _ h)
+pending_begun seq h g b = pending_some _ g b refl
+pending_begun map h g b = pending_some _ g b refl
+pending_begun element h g b = absurd (cc)
+pending_begun (key k) h g b = absurd (cc)
+pending_begun finish h g b = absurd (cc)
+
+-- nor after a closing bracket
+pub pending_closed : (h : Hole) → pending (after_close h) ≡ None
+pending_closed (outside ts) = refl
+pending_closed (in_list ts h) = pending_put _ h
+pending_closed (in_members ms n h) = pending_put _ h
 
 -- ---- one step
 
@@ -156,6 +188,10 @@ kinds_named (outside ts) n = refl
 kinds_named (in_list ts h) n = refl
 kinds_named (in_members ms m h) n = refl
 
+kinds_next : (n : Option (List ℕ)) (h : Hole) → kinds (with_next_name n h) ≡ kinds h
+kinds_next None h = refl
+kinds_next (Some n) h = kinds_named h n
+
 key_done : (h : Hole) (s b n u : List ℕ) (k : Kind) (f : Bool) → innermost h ≡ Some k → k ≡ kind.Map
     → Follows k f false s b → Names b n u → Consumes (before_child f) (kinds h) s (key n ∷ []) due (kinds h) u
 key_done h s b n u k f i q p w = key_passed (kinds h) s b n u k f (kinds_innermost h ∙ i) q p w
@@ -200,13 +236,6 @@ start_builds once h g s r e f p q b = record {
   repeats_none = λ es. start_makes once e h g b es ∙ ap (λ z. outcome once z g es) (sym (not_due f));
 }
 
--- if the text starts with e, and the call r makes the hole g of h by e if it succeeds, the text builds g
-pub entered : {E : Type 0} (once : Bool) (r : Result Bool E) (h g : Hole) (s u : List ℕ) (e : Step) → Starts s e u
-    → IfOk r (λ o. o ≡ is_some (opened_kind e)) → OnOk r (after_begin e h ≡ Some g)
-    → IfOk r (λ o. Builds once due h s (before_child o) g u)
-entered once (Ok o) h g s u e p q b = start_builds once h g s u e o p q b
-entered once (Err x) h g s u e p q b = tt
-
 -- ---- several
 
 -- two steps that build holes, one after the other, are one step
@@ -219,6 +248,37 @@ Builds-append once m h s n g u m' h' s' p q = record {
   makes = λ es. ap (outcome false (is_due m) h) (append_assoc p.done q.done es) ∙ p.makes (q.done ++ es) ∙ q.makes es;
   repeats_none = λ es. ap (outcome once (is_due m) h) (append_assoc p.done q.done es) ∙ p.repeats_none (q.done ++ es) ∙ q.repeats_none es;
 }
+
+-- a child's name, if it has one, and its first token are taken after the events before it
+pub child_builds : (once : Bool) (m : Moment) (h : Hole) (s : List ℕ) (f : Bool) (g : Hole) (t : List ℕ) (k : Hole)
+    (u : List ℕ) (e d : Step) (o : Bool) (l : Hole) (r : List ℕ) → Builds once m h s (before_child f) g t
+    → Builds once (before_child f) g t due k u → Starts u e r → d ≡ e → o ≡ is_some (opened_kind d)
+    → after_begin d k ≡ Some l → Builds once m h s (before_child o) l r
+child_builds once m h s f g t k u e d o l r b n p w q a =
+    Builds-append once m h s due k u (before_child o) l r
+    (Builds-append once m h s (before_child f) g t due k u b n)
+    (start_builds once k l u r e o p (q ∙ ap (λ z. is_some (opened_kind z)) w) (ap (λ z. after_begin z k) (sym w) ∙ a))
+
+-- the text after what stands before a child is no longer than the text
+pub follows_shorter : (k : Kind) (f : Bool) (s r : List ℕ) → Follows k f false s r → length r ≤ length s
+follows_shorter k true s r p =
+    omega (arith, ap length p.0.text, length-append p.0.space (p.0.part ++ r), length-append p.0.part r)
+follows_shorter k false s r p =
+    omega (arith, ap length p.text, length-append p.space (p.part ++ r), length-append p.part r)
+
+-- ---- the innermost container stays
+
+same_stack : (o : Option Kind) (st : List Kind) → false ≡ is_some o → with_opened o st ≡ st
+same_stack None st e = refl
+same_stack (Some k) st e = absurd (cc)
+
+-- a leaf, with a name or without one, leaves the innermost container open
+pub leaf_stays : (n : Option (List ℕ)) (e : Step) (h g : Hole) → after_begin e (with_next_name n h) ≡ Some g
+    → false ≡ is_some (opened_kind e) → innermost g ≡ innermost h
+leaf_stays n e h g b f =
+    sym (kinds_innermost g)
+    ∙ ap innermost_kind (kinds_begun e (with_next_name n h) g b ∙ same_stack (opened_kind e) _ f ∙ kinds_next n h)
+    ∙ kinds_innermost h
 
 -- ---- what can give no value
 

@@ -1,16 +1,18 @@
 -- The marks of a builder still fit its values and open objects after a call that changes them. By induction over the
 -- marks from the innermost on, and by cases of whether the call fails to allocate.
 use Rattle.std.proofs.Common.{◌≡◌, ◌<◌, ◌≤◌, ℕ, suc, List, [], ◌∷◌, ◌++◌, None, Result, Ok, Err, is_ok, Vec, Global}
-use Rattle.std.proofs.Common.{length, take, set, get_or, reverse, refl, sym, ap, ◌∙◌, subst, arith}
+use Rattle.std.proofs.Common.{Some, map, length, take, set, get_or, reverse, refl, sym, ap, ap₂, ◌∙◌, subst, arith}
 use Rattle.std.specs.Prelude.{if◌then◌else◌, OnOk, OnErr}
-use Rattle.std.proofs.lemmas.List.{length-reverse, length-take}
+use Rattle.std.proofs.lemmas.List.{length-reverse, length-take, length-map, map-append, drop-append-le, take-append-le}
 use Rattle.miniserde_model.specs.Tree.{Tree}
 use Rattle.miniserde_value.specs.declared.json.value.Value.{Value}
 use Rattle.miniserde_value.specs.declared.json.builder.OpenObject.{OpenObject}
 use Rattle.miniserde_value.specs.declared.json.builder.OpenContainer.{OpenContainer}
 use Rattle.miniserde_value.specs.declared.json.builder.OpenContainer.TheVariants as container
-use Rattle.miniserde_value.specs.Hole.{Hole, complete_tree}
-use Rattle.miniserde_value.specs.Containers.{with_open_object, outer_objects, hole_of, Fits}
+use Rattle.miniserde_model.specs.declared.kind.Kind.TheVariants as kind
+use Rattle.miniserde_value.specs.Hole.{Hole, in_list, put, complete_tree}
+use Rattle.miniserde_value.specs.Values.{content_of}
+use Rattle.miniserde_value.specs.Containers.{with_open_object, outer_objects, hole_of, innermost, pending, next_name, first_next_name, Fits}
 use Rattle.miniserde_value.proofs.Lasts.{reverse_added, reverse_last, reverse_set, reverse_ends}
 
 -- marks that fit still fit where there are more values
@@ -74,6 +76,49 @@ object_changed f vs os k o p ms below len is top h =
     ∙ h (hole_of vs (reverse (take k os)) below)
     ∙ ap (λ (qs : List OpenObject). f (hole_of vs qs (container.Object ∷ below))) (sym (reverse_ends os k o o len is))
     ∙ ap (λ (ns : List OpenContainer). f (hole_of vs (reverse os) ns)) (sym top)
+
+-- if an object is the innermost container, it is the first of the open containers
+pub object_on_top : (vs : List Tree) (os : List OpenObject) (ms : List OpenContainer)
+    → innermost (hole_of vs os ms) ≡ Some kind.Map → (below : List OpenContainer) × (ms ≡ container.Object ∷ below)
+object_on_top vs os [] e = absurd (cc)
+object_on_top vs os (container.Array v ∷ ms) e = absurd (cc)
+object_on_top vs os (container.Object ∷ ms) e = (ms, refl)
+
+-- if an object is the innermost container, an object is open
+pub object_is_open : (n : ℕ) (vs : List Tree) (os : List OpenObject) (ms : List OpenContainer)
+    → Fits n (reverse os) (reverse ms) → innermost (hole_of vs (reverse os) (reverse ms)) ≡ Some kind.Map → 0 < length os
+object_is_open n vs os ms f e =
+    let top = object_on_top vs (reverse os) (reverse ms) e in
+    let some = (subst (λ (ns : List OpenContainer). Fits n (reverse os) ns) top.1 f).0 in
+    omega (arith, some, length-reverse os)
+
+-- the name that the innermost object has for its next value is the hole's
+pub pending_last : (vs : List Tree) (os : List OpenObject) (k : ℕ) (o : OpenObject) (ms below : List OpenContainer)
+    → length os ≡ suc k → o ≡ get_or os k o → reverse ms ≡ container.Object ∷ below
+    → pending (hole_of vs (reverse os) (reverse ms)) ≡ next_name o
+pending_last vs os k o ms below len is top =
+    ap (λ (ns : List OpenContainer). pending (hole_of vs (reverse os) ns)) top
+    ∙ ap first_next_name (reverse_ends os k o o len is)
+
+-- ---- where an array is the innermost container, its items alone change
+
+item_added : (vs : List Tree) (t : Tree) (os : List OpenObject) (ms : List OpenContainer) → Fits (length vs) os ms
+    → innermost (hole_of vs os ms) ≡ Some kind.Seq → hole_of (vs ++ t ∷ []) os ms ≡ put t (hole_of vs os ms)
+item_added vs t os [] f e = absurd (cc)
+item_added vs t os (container.Array v ∷ ms) f e =
+    ap₂ (λ (ts us : List Tree). in_list ts (hole_of us os ms)) (drop-append-le v vs (t ∷ []) f.0)
+    (take-append-le v vs (t ∷ []) f.0)
+item_added vs t os (container.Object ∷ ms) f e = absurd (cc)
+
+-- if an array is the innermost container, to add v to the values is to put v into the hole
+pub item_put : (old new : List Value) (v : Value) (os : List OpenObject) (ms : List OpenContainer) → new ≡ old ++ v ∷ []
+    → Fits (length old) os ms → innermost (hole_of (map content_of old) os ms) ≡ Some kind.Seq
+    → hole_of (map content_of new) os ms ≡ put (content_of v) (hole_of (map content_of old) os ms)
+item_put old new v os ms e f i =
+    ap (λ (l : List Value). hole_of (map content_of l) os ms) e
+    ∙ ap (λ (l : List Tree). hole_of l os ms) (map-append content_of old (v ∷ []))
+    ∙ item_added (map content_of old) (content_of v) os ms
+    (subst (λ (n : ℕ). Fits n os ms) (sym (length-map old content_of)) f) i
 
 -- ---- the value that is whole
 

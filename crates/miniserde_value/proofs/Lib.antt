@@ -11,7 +11,6 @@ pub mod Replaced
 pub mod Lasts
 pub mod Containers
 pub mod Builders
-pub mod AfterBegin
 pub mod Copies
 pub mod Variants
 pub mod Frames

@@ -1,19 +1,18 @@
 -- The hole of a builder, by its values, its open objects and its open containers.
 use Rattle.std.specs.Prelude.{ℕ, ◌≤◌, List, [], ◌∷◌, Option, Some, None, option_map, string_bytes, reverse, take, drop, length, ⊤}
 use Rattle.miniserde_model.specs.Tree.{Tree, Members, no_members}
-use Rattle.miniserde_ser.specs.Trees.{members_of}
 use Rattle.miniserde_model.specs.declared.kind.Kind.{Kind}
 use Rattle.miniserde_model.specs.declared.kind.Kind.TheVariants as kind
 use Rattle.miniserde_value.specs.declared.json.value.Value.{Value}
 use Rattle.miniserde_value.specs.declared.json.builder.OpenObject.{OpenObject}
 use Rattle.miniserde_value.specs.declared.json.builder.OpenContainer.{OpenContainer}
 use Rattle.miniserde_value.specs.declared.json.builder.OpenContainer.TheVariants as container
-use Rattle.miniserde_value.specs.Hole.{Hole, outside, in_list, in_members}
-use Rattle.miniserde_value.specs.Values.{content_of}
+use Rattle.miniserde_value.specs.Hole.{Hole, outside, in_list, in_members, with_name}
+use Rattle.miniserde_value.specs.Values.{object_members}
 
 -- the members of the open object so far
 abbrev pub made_members : OpenObject → Members
-made_members o = members_of string_bytes content_of o.members.entries
+made_members o = object_members o.members
 
 -- the name of the open object's next value, if it has come
 abbrev pub next_name : OpenObject → Option (List ℕ)
@@ -65,3 +64,19 @@ abbrev pub innermost : Hole → Option Kind
 innermost (outside ts) = None
 innermost (in_list ts h) = Some kind.Seq
 innermost (in_members ms n h) = Some kind.Map
+
+-- the kind of a container whose next child has this name, if it has one
+abbrev pub kind_around : Option (List ℕ) → Kind
+kind_around None = kind.Seq
+kind_around (Some n) = kind.Map
+
+-- the name of the next value of the innermost open container, if it has come
+abbrev pub pending : Hole → Option (List ℕ)
+pending (outside ts) = None
+pending (in_list ts h) = None
+pending (in_members ms n h) = n
+
+-- the hole with the name, if there is one, for the next value
+abbrev pub with_next_name : Option (List ℕ) → Hole → Hole
+with_next_name None h = h
+with_next_name (Some n) h = with_name n h

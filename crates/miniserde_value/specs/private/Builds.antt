@@ -6,7 +6,7 @@ use Rattle.miniserde_model.specs.declared.kind.Kind.{Kind}
 use Rattle.miniserde_model.specs.declared.kind.Kind.TheVariants.{Seq, Map}
 use Rattle.miniserde_model.specs.private.Reading.{Moment, due, first, after}
 use Rattle.miniserde_text.specs.private.Runs.{Runs, Consumes}
-use Rattle.miniserde_value.specs.Hole.{Hole, outside, in_list, in_members, outcome}
+use Rattle.miniserde_value.specs.Hole.{Hole, outside, in_list, in_members, after_close, outcome}
 
 -- the kinds of the open containers, innermost first
 abbrev pub kinds : Hole → List Kind
@@ -19,6 +19,11 @@ abbrev pub is_due : Moment → Bool
 is_due due = true
 is_due first = false
 is_due after = false
+
+-- the hole if a container was just opened in it, and else the hole after its innermost container closes
+abbrev pub closed_unless : Bool → Hole → Hole
+closed_unless true h = h
+closed_unless false h = after_close h
 
 -- From the moment m and the hole h, the events `done` lead to m' and h': whatever events follow,
 -- `done` and these give from h what these alone give from h'. With `once`, a duplicate name gives

@@ -2,14 +2,14 @@
 ghost use Rattle.std.specs.Prelude.{◌≡◌, ◌≤◌, [], None, Some, Option, Err, IfOk, OnOk, OnErr, IsErrOf, option_map};
 ghost use Rattle.std.specs.Prelude.{drop, take, length, string_bytes, is_some};
 ghost use Rattle.miniserde_model.specs.declared.error.Error.TheVariants.{Invalid, Memory};
-ghost use Rattle.miniserde_model.specs.Number.{IsNumber};
-ghost use Rattle.miniserde_model.specs.Tree.{no_members, num, str};
+ghost use Rattle.miniserde_model.specs.Tree.{no_members};
 ghost use Rattle.miniserde_model.specs.Normal.{last_of};
 ghost use Rattle.miniserde_text.specs.private.Moving.{opened_kind};
-ghost use Rattle.miniserde_read.specs.Events.{event_of, EventInRange};
+ghost use Rattle.miniserde_read.specs.Events.{event_of, EventInRange, leaf_of};
 ghost use Rattle.miniserde_value.specs.Hole.{Hole, outside, in_list, in_members, put, with_name, after_close, complete_tree, has_member, after_begin};
 ghost use Rattle.miniserde_value.specs.Values.{content_of};
 ghost use Rattle.miniserde_value.specs.Containers.{ContainersFit, innermost, made_members, next_name, with_open_object};
+ghost use Rattle.miniserde_value.specs.Containers.{kind_around, pending, with_next_name};
 ghost use Rattle.miniserde_value.specs.laws.Containers.{containers-fit-once};
 
 use super::array::Array;
@@ -21,7 +21,6 @@ use miniserde_read::Step;
 use miniserde_text::json::lex::Kind;
 use miniserde_text::json::number::NumberText;
 use std::alloc::{AllocError, Global};
-use std::collections::BTreeMap;
 use std::{mem, result};
 
 /// An open container: an array, with the index of its first item in the builder's values, or an
@@ -35,7 +34,7 @@ pub(crate) enum OpenContainer {
 /// An open object: its members so far, and the name of its next value if that name came already.
 #[derive(Drop)]
 pub(crate) struct OpenObject {
-    members: BTreeMap<String, Value>,
+    members: Object,
     name: Option<String>,
 }
 
@@ -46,7 +45,7 @@ impl OpenObject {
         ensures name { next_name result ≡ None }
     {
         OpenObject {
-            members: BTreeMap::new(alloc),
+            members: Object::new(alloc),
             name: None,
         }
     }
@@ -59,22 +58,22 @@ impl OpenObject {
         self.name = Some(name);
     }
 
-    /// Adds a value under the name that was set for it, and replaces an earlier value of that name.
-    /// If no name was set, drops the value and returns `Ok`. Fails if the map cannot grow.
+    /// Adds a value under the name that was set for it, and replaces an earlier value of that name. If no
+    /// name was set, drops the value and returns `Ok`. Fails if the map cannot grow.
     pub(crate) fn put(&mut self, value: Value) -> result::Result<(), AllocError>
         ensures { OnOk result ((h : Hole) → with_open_object self.new h ≡ put (content_of value) (with_open_object self.old h)) }
     {
-        if let Some(name) = self.name.take() {
-            self.members.insert(name, value)?;
+        match self.name.take() {
+            Some(name) => self.members.insert(name, value),
+            None => Ok(()),
         }
-        Ok(())
     }
 
     /// Returns whether there is a member of the name.
     pub(crate) fn has_name(&self, name: &str) -> bool
         ensures { result ≡ is_some (last_of name.now (made_members self.now)) }
     {
-        self.members.contains_key(name)
+        self.members.inner().contains_key(name)
     }
 }
 
@@ -112,6 +111,26 @@ fn take_from(
         return Ok(mem::replace(values, Vec::new(alloc)));
     }
     Ok(values.split_off(from)?)
+}
+
+// Returns the value of a leaf's event, with a copy of its text. Returns `Invalid` for an event of no leaf, and `Memory`
+// if an allocation fails.
+#[inline(always)]
+fn leaf(alloc: Global, event: Step<'_>) -> Result<Value>
+    requires { EventInRange (event_of event) }
+    ensures ok { IfOk result (λ v. leaf_of (event_of event.entry) ≡ Some (content_of v)) }
+    ensures invalid { result ≡ Err Invalid → leaf_of (event_of event.entry) ≡ None }
+    ensures refuses { leaf_of (event_of event.entry) ≡ None → result ≡ Err Invalid }
+{
+    match event {
+        Step::Null => Ok(Value::Null),
+        Step::Bool(b) => Ok(Value::Bool(b)),
+        Step::Str(s) => Ok(Value::String(String::from_str(alloc, s)?)),
+        Step::Negative(n) => Ok(Value::Number(Number::I64(n))),
+        Step::Nonnegative(n) => Ok(Value::Number(Number::U64(n))),
+        Step::Float(t) => Ok(Value::Number(Number::Text(NumberText::new_unchecked(alloc, t)?))),
+        Step::Seq | Step::Element | Step::Map | Step::Key(_) | Step::Finish => Err(Error::Invalid),
+    }
 }
 
 impl Builder {
@@ -169,25 +188,36 @@ impl Builder {
         Ok(())
     }
 
-    /// Copies a text, and adds it as a string to the innermost open container, or to the finished values if none is
-    /// open, as `put` does. Fails if an allocation fails.
-    fn put_text(&mut self, text: &str) -> result::Result<(), AllocError>
-        ensures { OnOk result (hole_in self.new ≡ put (str text.now) (hole_in self.old)) }
+    /// Adds a complete value to the innermost open container, as `put` does: under the name if it is an object, or
+    /// without one if it is an array. Fails if an allocation fails.
+    #[inline(always)]
+    fn put_child(&mut self, name: Option<String>, value: Value) -> result::Result<(), AllocError>
+        requires inside { innermost (hole_in self.old) ≡ Some (kind_around (option_map string_bytes name)) }
+        requires unnamed { pending (hole_in self.old) ≡ None }
+        ensures { OnOk result (hole_in self.new
+            ≡ put (content_of value) (with_next_name (option_map string_bytes name) (hole_in self.old))) }
     {
-        let text = String::from_str(self.alloc, text)?;
-        self.put(Value::String(text))
+        match name {
+            Some(name) => match self.objects.last_mut() {
+                Some(object) => object.members.insert(name, value),
+                None => unreachable!(),
+            },
+            None => Ok(self.values.push(value)?),
+        }
     }
 
-    /// Copies the text of a number, and adds the number to the innermost open container, or to the finished values if
-    /// none is open, as `put` does. Returns `Memory` if an allocation fails.
-    fn put_number(&mut self, text: &str) -> Result<()>
-        requires { IsNumber text.now (num text.now) }
-        ensures ok { OnOk result (hole_in self.new ≡ put (num text.now) (hole_in self.old)) }
-        ensures memory { OnErr result (IsErrOf result Memory) }
+    /// Sets the name of the next value, if there is one: then the innermost open container is an object.
+    #[inline(always)]
+    fn set_name(&mut self, name: Option<String>)
+        requires { innermost (hole_in self.old) ≡ Some (kind_around (option_map string_bytes name)) }
+        ensures { hole_in self.new ≡ with_next_name (option_map string_bytes name) (hole_in self.old) }
     {
-        let text = NumberText::new_unchecked(self.alloc, text)?;
-        self.put(Value::Number(Number::Text(text)))?;
-        Ok(())
+        if let Some(name) = name {
+            match self.objects.last_mut() {
+                Some(object) => object.name(name),
+                None => unreachable!(),
+            }
+        }
     }
 
     /// Opens an array: inside the innermost open container, or outside of all if none is open.
@@ -225,23 +255,49 @@ impl Builder {
         ensures refuses { after_begin (event_of event.entry) (hole_in self.old) ≡ None → result ≡ Err Invalid }
     {
         match event {
-            Step::Null => self.put(Value::Null)?,
-            Step::Bool(b) => self.put(Value::Bool(b))?,
-            Step::Str(s) => self.put_text(s)?,
-            Step::Negative(n) => self.put(Value::Number(Number::I64(n)))?,
-            Step::Nonnegative(n) => self.put(Value::Number(Number::U64(n)))?,
-            Step::Float(t) => self.put_number(t)?,
             Step::Seq => {
                 self.open_array()?;
-                return Ok(true);
+                Ok(true)
             }
             Step::Map => {
                 self.open_object()?;
-                return Ok(true);
+                Ok(true)
             }
-            Step::Element | Step::Key(_) | Step::Finish => return Err(Error::Invalid),
+            _ => {
+                self.put(leaf(self.alloc, event)?)?;
+                Ok(false)
+            }
         }
-        Ok(false)
+    }
+
+    /// Takes the first event of the next child of the innermost open container, as `begin` does: with its name if the
+    /// container is an object, or without one if it is an array.
+    #[inline(always)]
+    pub(crate) fn begin_child(&mut self, name: Option<String>, event: Step<'_>) -> Result<bool>
+        requires inside { innermost (hole_in self.old) ≡ Some (kind_around (option_map string_bytes name)) }
+        requires unnamed { pending (hole_in self.old) ≡ None }
+        requires event { EventInRange (event_of event) }
+        ensures opens { IfOk result (λ opens. opens ≡ is_some (opened_kind (event_of event.entry))) }
+        ensures ok { OnOk result (after_begin (event_of event.entry)
+            (with_next_name (option_map string_bytes name) (hole_in self.old)) ≡ Some (hole_in self.new)) }
+        ensures invalid { result ≡ Err Invalid → (h : Hole) → after_begin (event_of event.entry) h ≡ None }
+    {
+        match event {
+            Step::Seq => {
+                self.set_name(name);
+                self.open_array()?;
+                Ok(true)
+            }
+            Step::Map => {
+                self.set_name(name);
+                self.open_object()?;
+                Ok(true)
+            }
+            _ => {
+                self.put_child(name, leaf(self.alloc, event)?)?;
+                Ok(false)
+            }
+        }
     }
 
     /// Sets the name of the next value, if the innermost open container is an object; else does nothing. Returns
@@ -279,7 +335,7 @@ impl Builder {
             }
             Some(OpenContainer::Object) => match self.objects.pop() {
                 Some(OpenObject { members, name: _ }) => {
-                    self.put(Value::Object(Object::from_inner(members)))?;
+                    self.put(Value::Object(members))?;
                 }
                 None => unreachable!(),
             },

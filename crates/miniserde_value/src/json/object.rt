@@ -1,5 +1,6 @@
 //! The type `Object`, JSON values by name.
 ghost use Rattle.std.specs.Prelude.{◌≡◌, ◌++◌, ◌∷◌, [], List, String, MatchOption, IfOk, OnOk, OnErr, IsErrOf};
+ghost use Rattle.std.specs.Prelude.{string_bytes};
 ghost use Rattle.std.specs.Iterator.{IsFinite, Drains};
 ghost use Rattle.std.specs.declared.alloc.Global.{Global};
 ghost use Rattle.miniserde_model.specs.declared.error.Error.TheVariants.{Memory};
@@ -16,9 +17,9 @@ ghost use Rattle.miniserde_value.specs.Looks.{ReplacesFirst};
 use super::drop::safely;
 use super::value::Value;
 use miniserde_model::error::Result;
-use std::alloc::Global;
+use std::alloc::{AllocError, Global};
 use std::collections::{BTreeMap, btree_map};
-use std::mem;
+use std::{mem, result};
 
 /// JSON values by name, in byte order of the names. An object is dropped without recursion.
 #[cycle(value)]
@@ -86,6 +87,17 @@ impl Object {
         ensures err { OnErr result (object_entries self.new ≡ object_entries self.old) }
     {
         let name = String::from_str(alloc, name)?;
+        Ok(self.insert(name, value)?)
+    }
+
+    // Adds a member, or replaces the value of the same name. If the map cannot grow, drops both, fails and leaves the
+    // members unchanged. Kept out of line, so that the code of the map stands here alone, inlined.
+    #[inline(never)]
+    pub(crate) fn insert(&mut self, name: String, value: Value) -> result::Result<(), AllocError>
+        ensures ok { OnOk result (object_members self.new
+            ≡ put (string_bytes name) (content_of value) (object_members self.old)) }
+        ensures err { OnErr result (object_entries self.new ≡ object_entries self.old) }
+    {
         self.members.insert(name, value)?;
         Ok(())
     }

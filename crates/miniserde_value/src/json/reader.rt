@@ -1,24 +1,26 @@
 //! The loop that reads a document of any depth, without recursion.
-ghost use Rattle.std.specs.Prelude.{◌≡◌, ◌<◌, ◌&&◌, true, false, Bool, None, Some, Err, IfOk, OnOk, length};
+ghost use Rattle.std.specs.Prelude.{◌≡◌, ◌<◌, ◌≤◌, ◌&&◌, true, false, Bool, List, ℕ, None, Some, Err, IfOk, OnOk, length};
+ghost use Rattle.std.specs.Prelude.{option_map, string_bytes};
+ghost use Rattle.miniserde_model.specs.Lexing.{Follows};
 ghost use Rattle.miniserde_model.specs.private.Reading.{due};
 ghost use Rattle.miniserde_model.specs.declared.error.Error.TheVariants.{Invalid, Memory};
 ghost use Rattle.miniserde_text.specs.Lexer.{event_of_token};
-ghost use Rattle.miniserde_text.specs.private.Moving.{before_child, opened_kind};
+ghost use Rattle.miniserde_text.specs.private.Moving.{before_child};
 ghost use Rattle.miniserde_read.specs.Rest.{GivesAt, GivesNoneAt};
 ghost use Rattle.miniserde_read.specs.Events.{EventInRange};
-ghost use Rattle.miniserde_text.specs.private.Runs.{NeverRuns};
 ghost use Rattle.miniserde_value.specs.Builders.{hole_in};
-ghost use Rattle.miniserde_value.specs.Hole.{after_begin, has_member, with_name};
-ghost use Rattle.miniserde_value.specs.Containers.{innermost};
+ghost use Rattle.miniserde_value.specs.Hole.{has_member};
+ghost use Rattle.miniserde_value.specs.Containers.{innermost, kind_around, pending, with_next_name};
 ghost use Rattle.miniserde_value.specs.Retained.{retained_if};
 ghost use Rattle.miniserde_value.specs.Values.{content_of};
-ghost use Rattle.miniserde_value.specs.private.Builds.{Builds, NeverGives, kinds};
+ghost use Rattle.miniserde_value.specs.private.Builds.{Builds, NeverGives, closed_unless};
 
 use super::builder::Builder;
 use super::value::Value;
 use miniserde_model::error::{Error, Result};
 use miniserde_read::Source;
 use miniserde_text::json::lex::{After, Event, Kind};
+use std::alloc::Global;
 
 /// Reads one value, whose first token is `token`, and takes no more of the source. Returns `Memory` if an allocation
 /// fails. Otherwise returns `Invalid` if the text, from that token on, has no prefix that is a value, or if `once` is
@@ -35,7 +37,7 @@ pub(crate) fn read_value<'a>(token: Event<'a>, source: &mut Source<'a>, once: bo
     let mut builder = Builder::new(source.alloc());
     let mut first = builder.begin(source.step(token))?;
     while let Some(kind) = builder.innermost() {
-        first = take_child_or_end(source, &mut builder, kind, first, once)?;
+        first = take_children(source, &mut builder, kind, first, once)?;
     }
     match builder.into_value() {
         Some(value) => Ok(value),
@@ -43,13 +45,12 @@ pub(crate) fn read_value<'a>(token: Event<'a>, source: &mut Source<'a>, once: bo
     }
 }
 
-/// Closes the innermost open container, which is of the kind `kind`, if its closing bracket is
-/// next. Else takes the start of its next child, up to and with the child's first token. Hands the
-/// builder what it takes. Returns whether a container was opened, or the error of the source or the
-/// builder, or `Invalid` if `once` is `true` and a member's name is a duplicate. `first` says that
-/// the container's opening bracket was just taken.
+/// Takes the children of the innermost open container, which is of the kind `kind`, up to and with its closing bracket
+/// or the opening bracket of a container in it. Hands the builder what it takes. Returns whether a container was opened,
+/// or the error of the source or the builder, or `Invalid` if `once` is `true` and a member's name is a duplicate.
+/// `first` says that the container's opening bracket was just taken.
 #[inline(always)]
-fn take_child_or_end<'a>(
+fn take_children<'a>(
     source: &mut Source<'a>,
     builder: &mut Builder,
     kind: Kind,
@@ -57,58 +58,103 @@ fn take_child_or_end<'a>(
     once: bool,
 ) -> Result<bool>
     requires inside { innermost (hole_in builder.old) ≡ Some kind }
+    requires unnamed { pending (hole_in builder.old) ≡ None }
     requires going { source.old.refused ≡ None }
     ensures going { IfOk result (λ _. source.new.refused ≡ None) }
+    ensures unnamed { IfOk result (λ _. pending (hole_in builder.new) ≡ None) }
     ensures less { IfOk result (λ _. length source.new.rest < length source.old.rest) }
     ensures builds { IfOk result (λ opened. Builds once (before_child first) (hole_in builder.old) source.old.rest
         (before_child opened) (hole_in builder.new) source.new.rest) }
-    ensures invalid { result ≡ Err Invalid → NeverGives once (before_child first) (hole_in builder.old) source.old.rest }
+    ensures invalid { result ≡ Err Invalid
+        → NeverGives once (before_child first) (hole_in builder.old) source.old.rest }
 {
-    match source.after(kind, first)? {
-        After::Close => {
-            builder.close()?;
-            Ok(false)
-        }
-        After::Next => {
-            if let Kind::Map = kind {
-                let name = source.name()?;
-                set_next_name(builder, source.text(name), once)?;
-            }
-            begin(source, builder)
-        }
+    // One loop for each kind, so that no child asks again in which container it is.
+    let opened = match kind {
+        Kind::Seq => take_leaves(source, builder, Kind::Seq, first, once)?,
+        Kind::Map => take_leaves(source, builder, Kind::Map, first, once)?,
+    };
+    if !opened {
+        builder.close()?;
     }
+    Ok(opened)
 }
 
-/// Sets the name of the next value in the innermost open object. Returns `Invalid` if `once` is
-/// `true` and the object has a member of that name already: the builder is then unchanged. Returns `Memory` if an
-/// allocation fails.
+/// Takes the children of the innermost open container as `take_children` does, but does not hand the closing bracket to
+/// the builder.
 #[inline(always)]
-fn set_next_name(builder: &mut Builder, name: &str, once: bool) -> Result<()>
-    ensures ok { OnOk result (hole_in builder.new ≡ with_name name.now (hole_in builder.old)) }
-    ensures new { OnOk result ((once && has_member name.now (hole_in builder.old)) ≡ false) }
-    ensures invalid { result ≡ Err Invalid → (once && has_member name.now (hole_in builder.old)) ≡ true }
-    ensures refuses { (once && has_member name.now (hole_in builder.old)) ≡ true
-        → (result ≡ Err Invalid) × (builder.new ≡ builder.old) }
+fn take_leaves<'a>(
+    source: &mut Source<'a>,
+    builder: &mut Builder,
+    kind: Kind,
+    first: bool,
+    once: bool,
+) -> Result<bool>
+    requires inside { innermost (hole_in builder.old) ≡ Some kind }
+    requires unnamed { pending (hole_in builder.old) ≡ None }
+    requires going { source.old.refused ≡ None }
+    ensures going { IfOk result (λ _. source.new.refused ≡ None) }
+    ensures unnamed { IfOk result (λ _. pending (hole_in builder.new) ≡ None) }
+    ensures less { IfOk result (λ _. length source.new.rest < length source.old.rest) }
+    ensures builds { IfOk result (λ opened. Builds once (before_child first) (hole_in builder.old) source.old.rest
+        (before_child opened) (closed_unless opened (hole_in builder.new)) source.new.rest) }
+    ensures invalid { result ≡ Err Invalid
+        → NeverGives once (before_child first) (hole_in builder.old) source.old.rest }
+{
+    let mut first = first;
+    while let After::Next = source.after(kind, first)? {
+        let name = take_name(source, builder, kind, once)?;
+        let token = source.token()?;
+        if builder.begin_child(name, source.step(token))? {
+            return Ok(true);
+        }
+        first = false;
+    }
+    Ok(false)
+}
+
+/// Takes the name of the next child of the innermost open container, which is of the kind `kind`, and returns a copy;
+/// returns `None` if it is an array. Returns the error of the source, `Invalid` if `once` is `true` and the object has
+/// a member of the name, and `Memory` if an allocation fails.
+#[inline(always)]
+fn take_name<'a>(
+    source: &mut Source<'a>,
+    builder: &Builder,
+    kind: Kind,
+    once: bool,
+) -> Result<Option<String>>
+    requires { source.old.refused ≡ None }
+    ensures going { IfOk result (λ _. source.new.refused ≡ None) }
+    ensures shorter { IfOk result (λ _. length source.new.rest ≤ length source.old.rest) }
+    ensures kind { IfOk result (λ name. kind_around (option_map string_bytes name) ≡ kind) }
+    ensures builds { (first : Bool) (s : List ℕ) → innermost (hole_in builder.now) ≡ Some kind
+        → Follows kind first false s source.old.rest
+        → IfOk result (λ name. Builds once (before_child first) (hole_in builder.now) s due
+        (with_next_name (option_map string_bytes name) (hole_in builder.now)) source.new.rest) }
+    ensures invalid { (first : Bool) (s : List ℕ) → innermost (hole_in builder.now) ≡ Some kind
+        → Follows kind first false s source.old.rest
+        → result ≡ Err Invalid → NeverGives once (before_child first) (hole_in builder.now) s }
+{
+    if let Kind::Seq = kind {
+        return Ok(None);
+    }
+    let name = source.name()?;
+    let copy = new_name(source.alloc(), builder, source.text(name), once)?;
+    Ok(Some(copy))
+}
+
+/// Returns a copy of the name of a member. Returns `Invalid` if `once` is `true` and the innermost open object has a
+/// member of that name already, and `Memory` if an allocation fails.
+#[inline(always)]
+fn new_name(alloc: Global, builder: &Builder, name: &str, once: bool) -> Result<String>
+    ensures ok { IfOk result (λ copy. string_bytes copy ≡ name.now) }
+    ensures new { OnOk result ((once && has_member name.now (hole_in builder.now)) ≡ false) }
+    ensures invalid { result ≡ Err Invalid → (once && has_member name.now (hole_in builder.now)) ≡ true }
+    ensures refuses { (once && has_member name.now (hole_in builder.now)) ≡ true → result ≡ Err Invalid }
 {
     if once {
         if builder.has_name(name) {
             return Err(Error::Invalid);
         }
     }
-    builder.name(name)
-}
-
-/// Takes the first token of a value, and hands its event to the builder. Returns whether the token
-/// opens a container, or the error of the source or the builder.
-#[inline(always)]
-fn begin<'a>(source: &mut Source<'a>, builder: &mut Builder) -> Result<bool>
-    requires { source.old.refused ≡ None }
-    ensures going { IfOk result (λ _. source.new.refused ≡ None) }
-    ensures less { IfOk result (λ _. length source.new.rest < length source.old.rest) }
-    ensures builds { (once : Bool) → IfOk result (λ opened. Builds once due (hole_in builder.old) source.old.rest
-        (before_child opened) (hole_in builder.new) source.new.rest) }
-    ensures invalid { result ≡ Err Invalid → NeverRuns due (kinds (hole_in builder.old)) source.old.rest }
-{
-    let token = source.token()?;
-    builder.begin(source.step(token))
+    Ok(String::from_str(alloc, name)?)
 }

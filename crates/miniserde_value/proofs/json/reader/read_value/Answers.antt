@@ -9,7 +9,7 @@ use Rattle.miniserde_value.specs.Builders.{hole_in}
 use Rattle.miniserde_value.specs.Hole.{after_begin}
 use Rattle.miniserde_value.specs.Retained.{retained_tree}
 use Rattle.miniserde_value.specs.Values.{content_of}
-use Rattle.miniserde_value.proofs.Builds.{begins, builds_init, Builds-append, never_behind, read_ok, read_none}
+use Rattle.miniserde_value.proofs.Builds.{begins, builds_init, Builds-append, pending_begun, never_behind, read_ok, read_none}
 use Rattle.miniserde_value.proofs.json.reader.read_value.Goals as goal
 
 pub loop-kind-init : goal.loop-kind-init
@@ -17,6 +17,7 @@ loop-kind-init c =
     let e = event_of_token c.args.token c.args.source.now.scratch in
     record {
       going = c.requires.going;
+      unnamed = pending_begun _ _ _ c.in_ok-first.ensures.ok;
       builds = builds_init c.args.once e (hole_in c.begin.new.self) c.in_ok-first.first c.args.source.now.rest
           (c.in_ok-first.ensures.opens ∙ ap (λ z. is_some (opened_kind z)) c.step.ensures)
           (ap (after_begin e) (sym c.new-builder.ensures) ∙ ap (λ z. after_begin z (hole_in c.new-builder.result))
@@ -35,10 +36,11 @@ loop-kind-preserved c =
     let e = event_of_token c.args.token c.args.source.now.scratch in
     record {
       going = c.in_ok-first-2.ensures.going;
+      unnamed = c.in_ok-first-2.ensures.unnamed;
       builds = Builds-append c.args.once (before_child (is_some (opened_kind e))) (hole_in c.begin.new.self)
           c.args.source.now.rest (before_child c.loop-kind.first) (hole_in c.loop-kind.builder)
-          c.loop-kind.source.rest (before_child c.in_ok-first-2.first) (hole_in c.take_child_or_end.new.builder)
-          c.take_child_or_end.new.source.rest c.loop-kind.invariant.builds c.in_ok-first-2.ensures.builds;
+          c.loop-kind.source.rest (before_child c.in_ok-first-2.first) (hole_in c.take_children.new.builder)
+          c.take_children.new.source.rest c.loop-kind.invariant.builds c.in_ok-first-2.ensures.builds;
     }
 
 pub returns-in_err-first-2-clause-invalid : goal.returns-in_err-first-2-clause-invalid

@@ -38,6 +38,4 @@ returns-in_ok-put-in-Some-clause-ok c =
     let objects = reverse_added c.pop-in-Some-Object.new.self.items _ _ innermost in
     c.in_ok-put-in-Some.ensures ∙ closed_object (map content_of c.args.self.now.values.items)
     (reverse c.args.self.now.objects.items) (reverse c.pop-in-Some-Object.new.self.items) c.in-Some.field-0
-    (reverse c.args.self.now.containers.items) (reverse c.pop.new.self.items) c.from_inner-in-Some.result
-    containers objects
-    (search rules)
+    (reverse c.args.self.now.containers.items) (reverse c.pop.new.self.items) containers objects
