@@ -269,7 +269,7 @@ def key_text(it):
         alike, one_text, injective, own = "λ a b. refl", "λ a b e. e", "λ a b e. e", "refl"
         exact = f"checked-exact {it.check}" if it.check else "text-exact"
     else:
-        law = f"{of}_key"
+        law = f"{of}_key_laws"
         alike, one_text, injective = f"λ a b. {law}.alike a.{field} b.{field}", f"λ a b. {law}.one_text a.{field} b.{field}", "λ a b e. e"
         own = f"({law}.back v.{field} {'r.0' if it.check else 'r'})"
         exact = {"bool": "bool-exact", "char": "char-exact"}.get(of, "")

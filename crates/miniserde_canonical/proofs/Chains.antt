@@ -100,7 +100,7 @@ chain_more (n ∷ ns) [] ms gs at k bs hs last more inner h = absurd h
 
 -- one more member
 pub chain_begin : (ns : List Member) (es : List Entry) (ms : List ℕ) (gs : List Splice) (at k : ℕ) (bs : List ℕ)
-    (hs : List Splice) (last : List ℕ) (n : Member) (e : Entry) → Chain ns es ms gs at k bs hs last → e.text ≡ last
+    (hs : List Splice) (last : List ℕ) (n : Member) (e : Entry) → Chain ns es ms gs at k bs hs last → e.earlier_text ≡ last
     → name_of n.name ≡ e.name → n.first ≡ e.first → n.point.bytes ≡ at + length (bs ++ comma_before e.first)
     → n.point.splices ≡ k + length hs → Chain (ns ++ n ∷ []) (es ++ e ∷ []) ms gs at k (bs ++ comma_before e.first)
     hs []
@@ -144,12 +144,12 @@ chain_whole (n ∷ ns) (e ∷ es) ms gs at k bs hs last h =
     let behind : Holds ms gs to (comma_before e.first ++ h.behind) h.splices_behind (comma_before e.first ++ entries_text es last) =
     holds_behind ms gs to n.point.bytes (comma_before e.first) h.behind h.splices_behind (entries_text es last) far rest in
     let all : Holds ms gs at (h.before ++ (comma_before e.first ++ h.behind)) (h.splices_before ++ h.splices_behind)
-    (e.text ++ (comma_before e.first ++ entries_text es last)) =
+    (e.earlier_text ++ (comma_before e.first ++ entries_text es last)) =
     holds_append to (comma_before e.first ++ h.behind) h.splices_behind (comma_before e.first ++ entries_text es last) h.is_before refl
     behind in
-    subst (λ z. Holds ms gs at z hs (e.text ++ (comma_before e.first ++ entries_text es last))) (sym h.bytes)
+    subst (λ z. Holds ms gs at z hs (e.earlier_text ++ (comma_before e.first ++ entries_text es last))) (sym h.bytes)
     (subst (λ z. Holds ms gs at (h.before ++ (comma_before e.first ++ h.behind)) z
-    (e.text ++ (comma_before e.first ++ entries_text es last))) (sym h.splices) all)
+    (e.earlier_text ++ (comma_before e.first ++ entries_text es last))) (sym h.splices) all)
 chain_whole [] (e ∷ es) ms gs at k bs hs last h = absurd h
 chain_whole (n ∷ ns) [] ms gs at k bs hs last h = absurd h
 
@@ -168,7 +168,8 @@ chain_merge (m ∷ ns0) [] ns es ms gs at k bs hs last l h = absurd (omega (arit
 abbrev pub Cut : List Member → List Entry → Member → Entry → List Member → List Entry → List ℕ → List Splice → ℕ → ℕ
     → List ℕ → List Splice → List ℕ → Type 0
 Cut ns0 es0 n e ns es ms gs at k bs hs last =
-    Seam (λ b h. Chain ns0 es0 ms gs at k b h e.text) (λ c g. Chain ns es ms gs n.point.bytes n.point.splices c g last) n e at k bs hs
+    Seam (λ b h. Chain ns0 es0 ms gs at k b h e.earlier_text)
+    (λ c g. Chain ns es ms gs n.point.bytes n.point.splices c g last) n e at k bs hs
 
 -- a chain with the member n and its entry e at the same index is cut before n
 pub chain_cut : (ns0 : List Member) (es0 : List Entry) (n : Member) (e : Entry) (ns : List Member) (es : List Entry)

@@ -91,13 +91,13 @@ pub holding_begun : (d d' : Draft) (bs : List ℕ) (s s' : State) (n : Member) (
     → d'.groups.splices.items ≡ d.groups.splices.items → d'.members.items ≡ d.members.items ++ n ∷ []
     → d'.opened.items ≡ d.opened.items → d'.is_distinct ≡ d.is_distinct → name_of n.name ≡ name → n.first ≡ s.first
     → n.point.bytes ≡ length (bs ++ comma_before s.first) → n.point.splices ≡ length d.out.splices.items
-    → s'.entries ≡ s.entries ++ record { text = s.last; first = s.first; name = name } ∷ [] → s'.last ≡ x
+    → s'.entries ≡ s.entries ++ record { earlier_text = s.last; first = s.first; name = name } ∷ [] → s'.last ≡ x
     → s'.opened ≡ s.opened → s'.distinct ≡ s.distinct → Holding d bs s
     → Holding d' ((bs ++ comma_before s.first) ++ x) s'
 holding_begun d d' bs s s' n name x b e f m o t na fi pb ph en la op di r =
     let ms = d.groups.bytes.items in
     let gs = d.groups.splices.items in
-    let y : Entry = record { text = s.last; first = s.first; name = name } in
+    let y : Entry = record { earlier_text = s.last; first = s.first; name = name } in
     let cs = bs ++ comma_before s.first in
     let begun : Chain (d.members.items ++ n ∷ []) (s.entries ++ y ∷ []) ms gs 0 0 cs d.out.splices.items [] =
     chain_begin d.members.items s.entries ms gs 0 0 bs d.out.splices.items s.last n y r.chain refl na fi
@@ -229,18 +229,18 @@ ordered_at d d' s f b n ns e es same good di chain st m t is =
     let far : n.point.bytes ≡ (0 + length c.before) + length (comma_before e.first) =
     omega (arith, here, length-append c.before (comma_before e.first)) in
     let old : Chain (take f d.members.items) (take f s.entries) d'.groups.bytes.items d'.groups.splices.items 0 0
-    c.before c.splices_before e.text =
+    c.before c.splices_before e.earlier_text =
     subst (λ z. Chain (take f d.members.items) (take f s.entries) z d'.groups.splices.items 0 0 c.before
-    c.splices_before e.text) (sym p.groups_bytes)
+    c.splices_before e.earlier_text) (sym p.groups_bytes)
     (subst (λ z. Chain (take f d.members.items) (take f s.entries) (ms ++ p.more_bytes) z 0 0 c.before
-    c.splices_before e.text) (sym p.groups_splices)
-    (chain_more (take f d.members.items) (take f s.entries) ms gs 0 0 c.before c.splices_before e.text
+    c.splices_before e.earlier_text) (sym p.groups_splices)
+    (chain_more (take f d.members.items) (take f s.entries) ms gs 0 0 c.before c.splices_before e.earlier_text
     p.more_bytes p.more_splices c.is_before)) in
     let new : Chain (take f d.members.items) (take f s.entries) d'.groups.bytes.items d'.groups.splices.items 0 0
     (c.before ++ (comma_before e.first ++ p.bytes)) (c.splices_before ++ p.splices)
-    (e.text ++ (comma_before e.first ++ x)) =
+    (e.earlier_text ++ (comma_before e.first ++ x)) =
     chain_add (take f d.members.items) (take f s.entries) d'.groups.bytes.items d'.groups.splices.items 0 0
-    (0 + length c.before) c.before (comma_before e.first ++ p.bytes) c.splices_before p.splices e.text
+    (0 + length c.before) c.before (comma_before e.first ++ p.bytes) c.splices_before p.splices e.earlier_text
     (comma_before e.first ++ x) old refl
     (holds_behind d'.groups.bytes.items d'.groups.splices.items (0 + length c.before) n.point.bytes
     (comma_before e.first) p.bytes p.splices x far p.text) in
@@ -250,7 +250,7 @@ ordered_at d d' s f b n ns e es same good di chain st m t is =
     record {
       state = record {
         entries = take f s.entries;
-        last = e.text ++ (comma_before e.first ++ x);
+        last = e.earlier_text ++ (comma_before e.first ++ x);
         opened =
             d'.opened.items;
         first = s.first;
@@ -258,7 +258,7 @@ ordered_at d d' s f b n ns e es same good di chain st m t is =
       };
       holding = record {
         chain = rw (m, out_bytes, out_splices) new;
-        good = p.good good;
+        good = p.stay_in_order good;
         opened = refl;
         distinct = t ∙ ap₂ (λ (y z : Bool). y && z) di r.1;
       };
@@ -345,6 +345,6 @@ holds_whole d s r e = go d.members.items s.entries e r.chain
 pub sorted_like : (es : List Entry) (s t m : State) → t.last ≡ s.last → t.distinct ≡ s.distinct → Sorted es t m → Sorted es s m
 sorted_like [] s t m h k p = absurd p
 sorted_like (e ∷ es) s t m h k p = (
-  p.0 ∙ ap (λ z. e.text ++ (comma_before e.first ++ members_text true (norm_members (entry_members (e ∷ es) z)))) h,
+  p.0 ∙ ap (λ z. e.earlier_text ++ (comma_before e.first ++ members_text true (norm_members (entry_members (e ∷ es) z)))) h,
   p.1 ∙ ap₂ (λ (x : Bool) (y : List ℕ). x && once_each (entry_members (e ∷ es) y)) k h,
 )

@@ -203,15 +203,6 @@ pub group_less : (q : Span) (later rest later' : List Span) → later ≡ rest +
     → spans_measure later' < spans_measure rest + span_measure q → spans_measure later' < spans_measure later
 group_less q later rest later' e h = omega (arith, h, ap spans_measure e ∙ loads_push rest q)
 
--- if no span waits any more, the output is that at the start and then the text of the group
-pub group_ends : (ms : List ℕ) (gs : List Splice) (p : Span) (start out : List ℕ) (later : List Span) → later ≡ []
-    → ((x : List ℕ) → SpanHolds ms gs p x → (z : List ℕ) × SpansHold ms gs later z × (out ++ z ≡ start ++ x))
-    → (x : List ℕ) → SpanHolds ms gs p x → out ≡ start ++ x
-group_ends ms gs p start out later e f = λ x s.
-    let t = f x s in
-    let none : t.0 ≡ [] = subst (λ z. SpansHold ms gs z t.0) e t.1 in
-    sym (append-nil out) ∙ ap (λ z. out ++ z) (sym none) ∙ t.2
-
 -- ---- a whole text
 
 -- out was written, and of the text what stands behind an index and behind some splices is left
@@ -272,9 +263,9 @@ fill_ends ms gs bs text' hs ks at end out part out' eb e i f' g left = λ x u.
     g ∙ ap (λ z. out ++ z) (bytes ∙ sym plain) ∙ t.3
 
 -- `fill_splices` returns early: a text without splices (ks, which are hs) holds its own bytes
-pub fill_none : (ms : List ℕ) (gs : List Splice) (bs : List ℕ) (hs ks : List Splice) → ks ≡ hs
+pub fill_without_splices : (ms : List ℕ) (gs : List Splice) (bs : List ℕ) (hs ks : List Splice) → ks ≡ hs
     → nat_eq (length ks) 0 ≡ true → (x : List ℕ) → Holds ms gs 0 bs hs x → bs ≡ x
-fill_none ms gs bs hs ks e f = λ x u. sym (plain_text (subst (λ z. Holds ms gs 0 bs z x) (sym e ∙ empty ks f) u))
+fill_without_splices ms gs bs hs ks e f = λ x u. sym (plain_text (subst (λ z. Holds ms gs 0 bs z x) (sym e ∙ empty ks f) u))
   where
     empty : (ks : List Splice) → nat_eq (length ks) 0 ≡ true → ks ≡ []
     empty [] f = refl

@@ -11,20 +11,20 @@ use Rattle.miniserde_model.specs.Tree.{tree, Members, no_members, member}
 use Rattle.miniserde_model.specs.Compact.{compact, compact_children, compact_more, compact_members, compact_more_members, string_text}
 use Rattle.miniserde_model.specs.Distinct.{names_distinct, names_distinct_in_children, names_distinct_in_members}
 use Rattle.miniserde_model.specs.Normal.{norm, norm_children, norm_members, with_if_absent, with_if_absent_by, text_cmp, BeginsAbove, Rise}
-use Rattle.miniserde_canonical.specs.Token.{Token, leaf, name, array_end, object, object_end, tokens, child_tokens, member_tokens}
+use Rattle.miniserde_canonical.specs.TextToken.{TextToken, leaf, name, array_end, object, object_end, tokens, child_tokens, member_tokens}
 use Rattle.miniserde_canonical.specs.private.Arranging.{comma_before, Entry, State, start, text_before}
 use Rattle.miniserde_canonical.specs.private.Arranging.{entry_members, members_text, entries_text, count, once_each}
-use Rattle.miniserde_canonical.specs.private.Arranging.{Arranged, Closes, TokenStep, Run}
+use Rattle.miniserde_canonical.specs.private.Arranging.{Arranged, Closes, TokenStep, TokenSteps}
 use Rattle.miniserde_canonical.proofs.Repeats.{values_distinct, distinct_counted}
 
 -- ---- runs
 
 -- a run over ks and a run over ls from its end are a run over `ks ++ ls`
-pub run_append : (ks ls : List Token) (s m s' : State) → Run ks s m → Run ls m s' → Run (ks ++ ls) s s'
-run_append [] ls s m s' r p = subst (λ z. Run ls z s') (sym r) p
-run_append (k ∷ ks) ls s m s' r p = (r.0, r.1, run_append ks ls r.0 m s' r.2 p)
+pub steps_append : (ks ls : List TextToken) (s m s' : State) → TokenSteps ks s m → TokenSteps ls m s' → TokenSteps (ks ++ ls) s s'
+steps_append [] ls s m s' r p = subst (λ z. TokenSteps ls z s') (sym r) p
+steps_append (k ∷ ks) ls s m s' r p = (r.0, r.1, steps_append ks ls r.0 m s' r.2 p)
 
-run_split : (ks ls : List Token) (s s' : State) → Run (ks ++ ls) s s' → (m : State) × Run ks s m × Run ls m s'
+run_split : (ks ls : List TextToken) (s s' : State) → TokenSteps (ks ++ ls) s s' → (m : State) × TokenSteps ks s m × TokenSteps ls m s'
 run_split [] ls s s' r = (s, refl, r)
 run_split (k ∷ ks) ls s s' r = let t = run_split ks ls r.0 s' r.2 in (t.0, (r.0, r.1, t.1), t.2)
 
@@ -70,7 +70,7 @@ rows_of (member n t ms) = member n (str (row n t)) (rows_of ms)
 -- from a text on, the first of its container or not, up to a last text
 abbrev Lays : List Entry → Members → List ℕ → Bool → List ℕ → Type 0
 Lays [] no_members l f last = last ≡ l
-Lays (e ∷ es) (member n t ms) l f last = (e.text ≡ l) × (e.first ≡ f) × (e.name ≡ n) × Lays es ms (row n (norm t)) false last
+Lays (e ∷ es) (member n t ms) l f last = (e.earlier_text ≡ l) × (e.first ≡ f) × (e.name ≡ n) × Lays es ms (row n (norm t)) false last
 Lays _ _ l f last = ⊥
 
 record Lines (s s' : State) (ms : Members) : Type 0 where
@@ -94,7 +94,7 @@ lines_none s s' e = subst (λ z. Lines s z no_members) e
 lines_cons : (n : List ℕ) (t : Tree) (ms : Members) (s m u s' : State) → TokenStep (name n) s m
     → Grows m u (compact (norm t)) (names_distinct t) → u.first ≡ false → Lines u s' ms → Lines s s' (member n t ms)
 lines_cons n t ms s m u s' a g f l =
-    let e : Entry = record { text = s.last; first = s.first; name = n } in
+    let e : Entry = record { earlier_text = s.last; first = s.first; name = n } in
     let text : u.last ≡ row n (norm t) = g.last ∙ ap (λ z. z ++ compact (norm t)) a.1 ∙ append_assoc (string_text n)
     (58 ∷ []) (compact (norm t)) in
     record {
@@ -206,7 +206,7 @@ made_same es ms l s s' h r e d =
 
 made_sorted : (e : Entry) (es : List Entry) (ms : Members) (l : List ℕ) (s s' : State)
     → Lays (e ∷ es) ms l true s.last
-    → s'.last ≡ e.text ++ (comma_before e.first ++ members_text true (norm_members (entry_members (e ∷ es) s.last)))
+    → s'.last ≡ e.earlier_text ++ (comma_before e.first ++ members_text true (norm_members (entry_members (e ∷ es) s.last)))
     → s'.distinct ≡ (s.distinct && once_each (entry_members (e ∷ es) s.last)) → Made s s' l ms
 made_sorted e es no_members l s s' h p d = absurd h
 made_sorted e es (member n t ms) l s s' h p d =
@@ -274,7 +274,7 @@ leaf_grows t s m s' a e =
     (record { last = a.0.0; entries = a.0.1; opened = a.0.2; distinct = a.0.3 ∙ sym (and-true s.distinct) }, a.1)
 
 mutual
-  tree_grows : (t : Tree) (s s' : State) → Run (tokens t) s s' → Whole s s' (compact (norm t)) (names_distinct t)
+  tree_grows : (t : Tree) (s s' : State) → TokenSteps (tokens t) s s' → Whole s s' (compact (norm t)) (names_distinct t)
   tree_grows null s s' r = leaf_grows null s r.0 s' r.1 r.2
   tree_grows (truth x) s s' r = leaf_grows (truth x) s r.0 s' r.1 r.2
   tree_grows (nonneg n) s s' r = leaf_grows (nonneg n) s r.0 s' r.1 r.2
@@ -327,7 +327,7 @@ mutual
       subst (λ z. Whole s z (compact (norm (members ms))) (names_distinct_in_members ms)) e.2
       (grows_as s e.0 _ _ _ _ refl (and-true (names_distinct_in_members ms)) all, e.1.3)
 
-  children_grow : (ts : Trees) (s s' : State) → Run (child_tokens ts) s s'
+  children_grow : (ts : Trees) (s s' : State) → TokenSteps (child_tokens ts) s s'
       → Grows s s' (children_text s.first (norm_children ts)) (names_distinct_in_children ts)
   children_grow no_trees s s' r = grows_none s s' r
   children_grow (tree t ts) s s' r =
@@ -341,7 +341,7 @@ mutual
       (children_grow ts u.0 s' u.2) in
       grows_append s m s' (comma_before s.first) _ true _ begun (grows_append m u.0 s' (compact (norm t)) _ (names_distinct t) _ a.0 rest)
 
-  members_grow : (ms : Members) (s s' : State) → Run (member_tokens ms) s s' → Lines s s' ms
+  members_grow : (ms : Members) (s s' : State) → TokenSteps (member_tokens ms) s s' → Lines s s' ms
   members_grow no_members s s' r = lines_none s s' r
   members_grow (member n t ms) s s' r =
       let m = r.0 in
@@ -350,6 +350,6 @@ mutual
       lines_cons n t ms s m u.0 s' r.1 a.0 a.1 (members_grow ms u.0 s' u.2)
 
 -- a run over a tree's tokens makes the canonical text and no entries, and `distinct` is `names_distinct`
-pub run_makes : (t : Tree) (s : State) → Run (tokens t) start s → (s.last ≡ compact (norm t)) × (s.entries ≡ [])
+pub steps_make : (t : Tree) (s : State) → TokenSteps (tokens t) start s → (s.last ≡ compact (norm t)) × (s.entries ≡ [])
     × (s.distinct ≡ names_distinct t)
-run_makes t s r = let g = tree_grows t start s r in (g.0.last, g.0.entries, g.0.distinct)
+steps_make t s r = let g = tree_grows t start s r in (g.0.last, g.0.entries, g.0.distinct)

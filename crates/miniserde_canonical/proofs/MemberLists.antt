@@ -19,7 +19,7 @@ use Rattle.miniserde_canonical.specs.private.Names.{name_of}
 use Rattle.miniserde_canonical.specs.private.Members.{first_name, name_in, NamesRise, named_members, members_at}
 use Rattle.miniserde_canonical.specs.private.Members.{begins_with_name, without_repeats}
 use Rattle.miniserde_canonical.specs.private.Arranging.{Entry, text_before, entry_members, count}
-use Rattle.miniserde_canonical.specs.private.Sorting.{text_at, text_tree_at}
+use Rattle.miniserde_canonical.specs.private.Sorting.{text_at, own_text_tree}
 
 -- ---- names and entries
 
@@ -47,19 +47,19 @@ drop_tail {X = X} i xs y ys e = ap (λ z. drop z xs) (add-one i) ∙ tail i xs e
     tail (suc i) (x ∷ xs) e = tail i xs e
 
 rows_from : (i : ℕ) (all ns : List Member) (alles es : List Entry) (last : List ℕ) → drop i all ≡ ns
-    → drop i alles ≡ es → Agree ns es → members_at all (text_tree_at alles last) (range_with_len i (length ns))
+    → drop i alles ≡ es → Agree ns es → members_at all (own_text_tree alles last) (range_with_len i (length ns))
     ≡ entry_members es last
 rows_from i all [] alles [] last e f a = refl
 rows_from i all (n ∷ ns) alles (x ∷ es) last e f a =
     ap₂ (λ (p : List Member) (q : List Entry). member (first_name p) (str (text_at q last))
-    (members_at all (text_tree_at alles last) (range_with_len (i + 1) (length ns)))) e f
+    (members_at all (own_text_tree alles last) (range_with_len (i + 1) (length ns)))) e f
     ∙ ap₂ (λ (p : List ℕ) (q : Members). member p (str (text_before es last)) q) a.0
     (rows_from (i + 1) all ns alles es last (drop_tail i all n ns e) (drop_tail i alles x es f) a.1)
 rows_from i all [] alles (x ∷ es) last e f a = absurd a
 rows_from i all (n ∷ ns) alles [] last e f a = absurd a
 
 pub rows_all : (ns : List Member) (es : List Entry) (last : List ℕ) → Agree ns es
-    → members_at ns (text_tree_at es last) (range_with_len 0 (length ns)) ≡ entry_members es last
+    → members_at ns (own_text_tree es last) (range_with_len 0 (length ns)) ≡ entry_members es last
 rows_all ns es last a = rows_from 0 ns ns es es last refl refl a
 
 -- members that agree with entries are as many as the entries
@@ -289,9 +289,9 @@ normal_last q (e ∷ es) last = normal_tree (bytes_eq e.name q) (last_of q (entr
 pub kept_normal : (ns : List Member) (es : List Entry) (last : List ℕ) (old new : List ℕ) → Agree ns es
     → old ≡ range_with_len 0 (length ns) → IsSortedByKey (name_in ns) text_cmp new
     → ((r : ℕ → Tree) (q : List ℕ) → last_of q (members_at ns r new) ≡ last_of q (members_at ns r old))
-    → without_repeats (members_at ns (text_tree_at es last) new) ≡ norm_members (entry_members es last)
+    → without_repeats (members_at ns (own_text_tree es last) new) ≡ norm_members (entry_members es last)
 kept_normal ns es last old new a e s h =
-    let r = text_tree_at es last in
+    let r = own_text_tree es last in
     let all : members_at ns r old ≡ entry_members es last = ap (members_at ns r) e ∙ rows_all ns es last a in
     norm_only norm_neg (entry_members es last) (without_repeats (members_at ns r new))
     (kept_rise (members_at ns r new) (orders_sorted (name_in ns) r new s))

@@ -51,7 +51,7 @@ own_first n (m ∷ ns) e (f ∷ es) ms gs bs hs last end p q o =
     let long = ap length text ∙ length-append o.front (r.before ++ (comma_before f.first ++ r.behind)) in
     let more = length-append r.before (comma_before f.first ++ r.behind) in
     let many = ap length splices ∙ length-append o.splices_front (r.splices_before ++ r.splices_behind) in
-    holds_between ms gs bs hs n.point (before_comma (m ∷ ns) end) f.text r.before r.splices_before (
+    holds_between ms gs bs hs n.point (before_comma (m ∷ ns) end) f.earlier_text r.before r.splices_before (
       omega (arith, wide),
       omega (arith, wide, o.begins, long, more),
       omega (arith, r.begins_splices),

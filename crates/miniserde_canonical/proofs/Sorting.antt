@@ -17,7 +17,7 @@ use Rattle.miniserde_canonical.specs.private.Spreads.{Within, bytes_in, splices_
 use Rattle.miniserde_canonical.specs.private.Waiting.{SpanHolds}
 use Rattle.miniserde_canonical.specs.private.Members.{name_in, begin_of, end_of, members_at, begins_with_name, without_repeats}
 use Rattle.miniserde_canonical.specs.private.Arranging.{comma_before, Entry, entry_members, members_text, count}
-use Rattle.miniserde_canonical.specs.private.Sorting.{EndsWithMembers, text_at, text_tree_at, Gains, PutsMember}
+use Rattle.miniserde_canonical.specs.private.Sorting.{EndsWithMembers, text_at, own_text_tree, Gains, PutsMember}
 use Rattle.miniserde_canonical.specs.private.Sorting.{PutsMembers, PutAt, PutsBack, SortsMembers}
 use Rattle.miniserde_canonical.proofs.Spreads.{between_end, between_none, holds_plain, plain_text, holds_append}
 use Rattle.miniserde_canonical.proofs.Spreads.{holds_behind, holds_moved, group_holds, splice_holds, all_more}
@@ -89,10 +89,10 @@ abbrev pub PutsSoFar : List Member → List ℕ → SplicedText → SplicedText 
 PutsSoFar ns order out groups groups' k n = (es : List Entry) (last ms : List ℕ) (gs : List Splice)
     → EndsWithMembers ns es ms gs out.bytes.items out.splices.items last
     → (x : List ℕ) × Gains ms gs out.splices.items groups groups' x
-    × (x ++ members_text (nat_eq n 0) (without_repeats (members_at ns (text_tree_at es last) (drop k order)))
-    ≡ members_text true (without_repeats (members_at ns (text_tree_at es last) order)))
-    × (n + count (without_repeats (members_at ns (text_tree_at es last) (drop k order)))
-    ≡ count (without_repeats (members_at ns (text_tree_at es last) order)))
+    × (x ++ members_text (nat_eq n 0) (without_repeats (members_at ns (own_text_tree es last) (drop k order)))
+    ≡ members_text true (without_repeats (members_at ns (own_text_tree es last) order)))
+    × (n + count (without_repeats (members_at ns (own_text_tree es last) (drop k order)))
+    ≡ count (without_repeats (members_at ns (own_text_tree es last) order)))
 
 -- before the first member of the order nothing is put, and the groups are as they were
 pub gather_begin : (ns : List Member) (order : List ℕ) (out groups : SplicedText) → PutsSoFar ns order out groups groups 0 0
@@ -104,7 +104,7 @@ pub gather_skip : (ns : List Member) (order : List ℕ) (out groups groups' : Sp
     → begins_with_name (name_in ns (get_or order k d)) (members_at ns r (drop (k + 1) order)) ≡ true)
     → PutsSoFar ns order out groups groups' k n → PutsSoFar ns order out groups groups' (k + 1) n
 gather_skip ns order out groups groups' k n d l h g = λ es last ms gs own.
-    let r = text_tree_at es last in
+    let r = own_text_tree es last in
     let t = g es last ms gs own in
     let same : without_repeats (members_at ns r (drop k order)) ≡ without_repeats
     (members_at ns r (drop (k + 1) order)) = kept_skip ns r order k d l (h r) in
@@ -117,7 +117,7 @@ pub gather_take : (ns : List Member) (order : List ℕ) (out groups mid groups' 
     → PutsMember ns (get_or order k d) (nat_eq n 0) out mid groups' → PutsSoFar ns order out groups mid k n
     → PutsSoFar ns order out groups groups' (k + 1) (n + 1)
 gather_take ns order out groups mid groups' k n d l h p g = λ es last ms gs own.
-    let r = text_tree_at es last in
+    let r = own_text_tree es last in
     let i = get_or order k d in
     let t = g es last ms gs own in
     let y = text_at (drop i es) last in
@@ -146,7 +146,7 @@ pub gather_end : (ns : List Member) (order : List ℕ) (out groups groups' : Spl
     → PutsMembers ns order out groups groups' n
 gather_end ns order out groups groups' k n e g = λ es last ms gs own.
     let t = g es last ms gs own in
-    let r = text_tree_at es last in
+    let r = own_text_tree es last in
     let text : t.0 ≡ members_text true (without_repeats (members_at ns r order)) =
     sym (ap (λ z. t.0 ++ members_text (nat_eq n 0) (without_repeats (members_at ns r z))) e ∙ append-nil t.0)
     ∙ t.2 in (
@@ -201,7 +201,7 @@ back_short point from to p out mid out' groups groups' i e f tb th none_there ob
       groups_splices = groups_splices ∙ sym (append-nil gs);
       text = subst (λ z. Holds groups'.bytes.items groups'.splices.items point.bytes b [] z) (sym same)
           (holds_plain groups'.bytes.items groups'.splices.items point.bytes b);
-      good = λ g. (
+      stay_in_order = λ g. (
         subst (λ z. Ordered 0 z) (sym groups_splices) g.0,
         subst (λ z. AllBefore (length z) out'.splices.items) (sym groups_splices)
             (subst (λ z. AllBefore (length gs) z) (sym (out_splices ∙ append-nil _))
@@ -236,7 +236,7 @@ back_splice point from to k out mid out' groups i e f tb th ob oh = λ ms b gs h
       groups_bytes = bytes;
       groups_splices = splices;
       text = splice_holds groups.bytes.items groups.splices.items point.bytes splice x refl held;
-      good = λ g. (
+      stay_in_order = λ g. (
         subst (λ z. Ordered 0 z) (sym splices) (ordered_gains gs h g.0 (a g.1)),
         subst (λ z. AllBefore (length groups.splices.items) z) (sym out_splices)
             (all_append (length groups.splices.items) (take point.splices out.splices.items) (splice ∷ [])
@@ -272,7 +272,7 @@ settled ns d point from old new order out out' groups mid groups' n some at e s 
     let gs = groups.splices.items in
     let agree = own_agrees ns es ms gs out.bytes.items out.splices.items last own in
     let t = g es last ms gs own in
-    let r = text_tree_at es last in
+    let r = own_text_tree es last in
     let sorted : without_repeats (members_at ns r order) ≡ norm_members (entry_members es last) =
     ap (λ z. without_repeats (members_at ns r z)) o ∙ kept_normal ns es last old new agree e s h in
     let gains = t.0 in

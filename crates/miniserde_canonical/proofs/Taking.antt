@@ -22,13 +22,13 @@ use Rattle.miniserde_canonical.proofs.Plains.{at_once}
 use Rattle.miniserde_model.specs.private.Reading.{Moment, due, after}
 use Rattle.miniserde_text.specs.private.Stack.{innermost}
 use Rattle.miniserde_text.specs.private.Moving.{opened_kind, before_child}
-use Rattle.miniserde_canonical.specs.Token.{Token, leaf, name, array, array_end, object, object_end, tokens}
-use Rattle.miniserde_canonical.specs.Token as token
+use Rattle.miniserde_canonical.specs.TextToken.{TextToken, leaf, name, array, array_end, object, object_end, tokens}
+use Rattle.miniserde_canonical.specs.TextToken as token
 use Rattle.miniserde_canonical.specs.declared.draft.Draft.{Draft}
-use Rattle.miniserde_canonical.specs.private.Arranging.{comma_before, State, Closes, TokenStep, Run, start}
-use Rattle.miniserde_canonical.specs.private.Drafts.{Wrote, Holding, Represents, ChangesOnlyText, Recalls, Takes}
+use Rattle.miniserde_canonical.specs.private.Arranging.{comma_before, State, Closes, TokenStep, TokenSteps, start}
+use Rattle.miniserde_canonical.specs.private.Drafts.{Wrote, Holding, Represents, ChangesOnlyText, Recalls, DraftTakes}
 use Rattle.miniserde_canonical.specs.private.Moving.{first_token, ReadsTokens}
-use Rattle.miniserde_canonical.proofs.Growing.{run_append}
+use Rattle.miniserde_canonical.proofs.Growing.{steps_append}
 use Rattle.miniserde_canonical.proofs.Drafting.{keep_holding, stays}
 use Rattle.miniserde_canonical.proofs.Running.{wrote_on}
 use Rattle.miniserde_canonical.proofs.Wholes.{ReadsTokens-append, end_ok}
@@ -36,7 +36,7 @@ use Rattle.miniserde_canonical.proofs.Wholes.{ReadsTokens-append, end_ok}
 -- ---- one token
 
 -- behind a token, which is the front of a value
-abbrev fronted : Token → State → State
+abbrev fronted : TextToken → State → State
 fronted (leaf t) s = record { entries = s.entries; last = s.last ++ compact t; opened = s.opened; first = false; distinct = s.distinct }
 fronted array s = record { entries = s.entries; last = s.last ++ 91 ∷ []; opened = s.opened; first = true; distinct = s.distinct }
 fronted object s = record {
@@ -68,7 +68,7 @@ front_step finish b p s = absurd p
 pub takes_front : (e : Step) (b rest mid rest' : List ℕ) (o : Bool) (d d1 d' : Draft) → Piece e b
     → o ≡ is_some (opened_kind e) → ((s : State) → Represents d rest s → Represents d1 mid s)
     → ((s s' : State) → Represents d1 mid s → TokenStep (first_token e) s s' → Represents d' rest' s')
-    → Takes due rest (first_token e ∷ []) (before_child o) rest' d d'
+    → DraftTakes due rest (first_token e ∷ []) (before_child o) rest' d d'
 takes_front e b rest mid rest' o d d1 d' p q k f = λ s r h.
     let t = front_step e b p s in
     let s' = fronted (first_token e) s in
@@ -86,7 +86,7 @@ skipped d d' rest rest' f k s r = record { bytes = r.bytes; wrote = f r.bytes r.
 -- a draft takes the beginning of an element if it leaves out whitespace; a comma before the element joins the run
 pub takes_element : (f : Bool) (rest mid rest' : List ℕ) (d d' : Draft)
     → ((s : State) → Represents d rest s → Represents d' mid s) → mid ≡ comma_before f ++ rest'
-    → Takes (before_child f) rest (token.element ∷ []) due rest' d d'
+    → DraftTakes (before_child f) rest (token.element ∷ []) due rest' d d'
 takes_element f rest mid rest' d d' k e = λ s r h.
     let s' : State = record {
       entries = s.entries;
@@ -110,10 +110,10 @@ pub takes_name : (f : Bool) (n rest mid rest1 rest2 part rest' : List ℕ) (d d1
     → ((bs : List ℕ) → Wrote d1 rest1 bs → Wrote d2 rest2 bs) → ChangesOnlyText d1 d2
     → ((before : List ℕ) (s s' : State) → Wrote d2 rest2 (before ++ comma_before s.first) → Holding d2 before s
     → s.first ≡ f → TokenStep (name n) s s' → Represents d' rest' s')
-    → Takes (before_child f) rest (name n ∷ []) due rest' d d'
+    → DraftTakes (before_child f) rest (name n ∷ []) due rest' d d'
 takes_name f n rest mid rest1 rest2 part rest' d d1 d2 d' k e w p g = λ s r h.
     let s' : State = record {
-      entries = s.entries ++ record { text = s.last; first = s.first; name = n } ∷ [];
+      entries = s.entries ++ record { earlier_text = s.last; first = s.first; name = n } ∷ [];
       last = string_text n ++ 58 ∷ [];
       opened = s.opened;
       first = s.first;
@@ -133,7 +133,7 @@ ended b s = record { entries = s.entries; last = s.last ++ b ∷ []; opened = s.
 -- a draft takes the end of an array if it leaves out whitespace; the bracket joins the run
 pub takes_array_end : (m : Moment) (rest mid rest' : List ℕ) (d d' : Draft)
     → ((s : State) → Represents d rest s → Represents d' mid s) → mid ≡ 93 ∷ rest'
-    → Takes m rest (array_end ∷ []) after rest' d d'
+    → DraftTakes m rest (array_end ∷ []) after rest' d d'
 takes_array_end m rest mid rest' d d' k e = λ s r h.
     let t = ended 93 s in
     (t, (t, ((refl, refl, refl, refl), refl), refl), stays d' mid (93 ∷ []) rest' s t (refl, refl, refl, refl) (k s r) e, refl)
@@ -142,7 +142,7 @@ takes_array_end m rest mid rest' d d' k e = λ s r h.
 pub takes_object_end : (m : Moment) (rest mid rest' : List ℕ) (d d1 d' : Draft)
     → ((s : State) → Represents d rest s → Represents d1 mid s) → mid ≡ 125 ∷ rest'
     → ((s : State) → Represents d1 mid s → (n : State) × Closes s n × Represents d' mid n)
-    → Takes m rest (object_end ∷ []) after rest' d d'
+    → DraftTakes m rest (object_end ∷ []) after rest' d d'
 takes_object_end m rest mid rest' d d1 d' k e f = λ s r h.
     let q = f s (k s r) in
     let t = ended 125 q.0 in (
@@ -156,16 +156,16 @@ takes_object_end m rest mid rest' d d1 d' k e f = λ s r h.
 
 -- tokens of j up to `rest` were read, up to the moment m inside st, and the draft d took them from `start` on
 pub record Taken (j : List ℕ) (m : Moment) (st : List Kind) (rest : List ℕ) (d : Draft) : Type 0 where
-  pub tokens : List Token
+  pub tokens : List TextToken
   pub state : State
   pub reads : ReadsTokens due [] j tokens m st rest
-  pub run : Run tokens start state
+  pub run : TokenSteps tokens start state
   pub represents : Represents d rest state
   pub recalls : Recalls m state
 
 -- if ks are read from the beginning of j, and a draft that represents `start` takes them, `Taken` holds
-pub taken_first : (j s : List ℕ) (st su : List Kind) (ks : List Token) (m : Moment) (rest : List ℕ) (d d' : Draft)
-    → su ≡ [] → s ≡ j → Represents d j start → ReadsTokens due su s ks m st rest → Takes due j ks m rest d d'
+pub taken_first : (j s : List ℕ) (st su : List Kind) (ks : List TextToken) (m : Moment) (rest : List ℕ) (d d' : Draft)
+    → su ≡ [] → s ≡ j → Represents d j start → ReadsTokens due su s ks m st rest → DraftTakes due j ks m rest d d'
     → Taken j m st rest d'
 taken_first j s st su ks m rest d d' e f r p t =
     let a = t start r tt in
@@ -180,8 +180,8 @@ taken_first j s st su ks m rest d d' e f r p t =
     }
 
 -- if `Taken` holds, and then more tokens are read and taken, `Taken` holds after them
-pub taken_more : (j : List ℕ) (m m' : Moment) (st st' : List Kind) (rest rest' : List ℕ) (ks : List Token)
-    (d d' : Draft) → Taken j m st rest d → ReadsTokens m st rest ks m' st' rest' → Takes m rest ks m' rest' d d'
+pub taken_more : (j : List ℕ) (m m' : Moment) (st st' : List Kind) (rest rest' : List ℕ) (ks : List TextToken)
+    (d d' : Draft) → Taken j m st rest d → ReadsTokens m st rest ks m' st' rest' → DraftTakes m rest ks m' rest' d d'
     → Taken j m' st' rest' d'
 taken_more j m m' st st' rest rest' ks d d' t p f =
     let a = f t.state t.represents t.recalls in
@@ -191,7 +191,7 @@ taken_more j m m' st st' rest rest' ks d d' t p f =
       reads =
           ReadsTokens-append due [] j t.tokens m st rest ks m' st' rest' t.reads p;
       run =
-          run_append t.tokens ks start t.state a.0 t.run a.1;
+          steps_append t.tokens ks start t.state a.0 t.run a.1;
       represents = a.2;
       recalls = a.3;
     }
@@ -199,10 +199,10 @@ taken_more j m m' st st' rest rest' ks d d' t p f =
 -- if no container is open and only whitespace is left, the tokens taken are those of a tree that j spells
 pub taken_all : (j : List ℕ) (f : Bool) (st : List Kind) (rest : List ℕ) (d : Draft) → innermost st ≡ None
     → IsWhitespace rest → Taken j (before_child f) st rest d → (t : Tree) × (s : State) × IsJson j t
-    × Run (tokens t) start s × Represents d rest s
+    × TokenSteps (tokens t) start s × Represents d rest s
 taken_all j f st rest d e w k =
     let t = end_ok j k.tokens f st rest e k.reads w in
-    (t.0, k.state, t.1, subst (λ z. Run z start k.state) t.2 k.run, k.represents)
+    (t.0, k.state, t.1, subst (λ z. TokenSteps z start k.state) t.2 k.run, k.represents)
 
 -- the rest after whitespace and a part is no longer than the text
 pub stands_less : {P : List ℕ → Type 0} (s r : List ℕ) → Stands P s r → length r ≤ length s

@@ -26,12 +26,12 @@ document_outcome begins due h es = if is_start due h then accepted_outcome begin
 -- `Value` builds
 pub record DocumentMeaning (V : Type 0) : Type 1 where
   -- the meaning of the type by trees
-  pub meant : Meaning V
+  pub by_trees : Meaning V
   -- whether the type allows the event as the first; if not, no document of the type begins with it
   pub begins : Step → Bool
   -- the content of the document that is built from a tree, if there is a tree and the document is of the type
-  pub only : Option Tree → Option meant.Content
+  pub only : Option Tree → Option by_trees.Content
   -- without a tree there is no content
   pub none : only None ≡ None
   -- the events of a tree give what the tree gives
-  pub events_agree : (t : Tree) → only (document_outcome begins true (outside []) (events t)) ≡ meant.from_tree t
+  pub events_agree : (t : Tree) → only (document_outcome begins true (outside []) (events t)) ≡ by_trees.from_tree t

@@ -108,7 +108,7 @@ unique_place_meaning = place_meaning unique_meaning (outcome true true (outside 
 -- the meaning of the place of a type of documents (`Array`, `Object` or `Document`), by the meaning k of that type; K
 -- is the type's marker
 abbrev pub document_place_meaning : {K V : Type 0} → DocumentMeaning V → PlaceMeaning (DocumentTypePlace K) V
-document_place_meaning k = place_meaning k.meant (λ es. k.only (document_outcome k.begins true (outside []) es)) k.events_agree
+document_place_meaning k = place_meaning k.by_trees (λ es. k.only (document_outcome k.begins true (outside []) es)) k.events_agree
     (λ p. record {
       at = (depth (hole_at p.place), due_in p.place);
       outcome =

@@ -20,7 +20,7 @@ pub fn write_data<T: Serialize>(w: &mut Writer, name: &str, value: &T) -> Result
     ensures in_range { OnOk result (InRange (data_tree external T.tree name.now value.now)) }
     ensures first { OnOk result (w.new.first ≡ false) }
     ensures unrefused { OnOk result (w.new.refused ≡ false) }
-    ensures stays { OnOk result (w.old.refused ≡ false) }
+    ensures was_running { OnOk result (w.old.refused ≡ false) }
     ensures memory { OnErr result (IsErrOf result Memory) }
     ensures err { OnErr result (w.new.refused ≡ true) }
 {
@@ -48,7 +48,7 @@ pub fn write_fields<M: Members>(
         (data_tree external (record_tree (map (λ n. n.now) names.now) M.trees (λ v. v)) name.now values.now)) }
     ensures first { OnOk result (w.new.first ≡ false) }
     ensures unrefused { OnOk result (w.new.refused ≡ false) }
-    ensures stays { OnOk result (w.old.refused ≡ false) }
+    ensures was_running { OnOk result (w.old.refused ≡ false) }
     ensures memory { OnErr result (IsErrOf result Memory) }
     ensures err { OnErr result (w.new.refused ≡ true) }
 {
@@ -68,7 +68,7 @@ pub fn write_tagged<T: Inside>(w: &mut Writer, tag: &str, name: &str, value: &T)
     ensures in_range { OnOk result (InRange (data_tree (internal tag.now) T.tree name.now value.now)) }
     ensures first { OnOk result (w.new.first ≡ false) }
     ensures unrefused { OnOk result (w.new.refused ≡ false) }
-    ensures stays { OnOk result (w.old.refused ≡ false) }
+    ensures was_running { OnOk result (w.old.refused ≡ false) }
     ensures memory { OnErr result (IsErrOf result Memory) }
     ensures err { OnErr result (w.new.refused ≡ true) }
 {
@@ -98,7 +98,7 @@ pub fn write_tagged_fields<M: Members>(
         (data_tree (internal tag.now) (record_tree (map (λ n. n.now) names.now) M.trees (λ v. v)) name.now values.now)) }
     ensures first { OnOk result (w.new.first ≡ false) }
     ensures unrefused { OnOk result (w.new.refused ≡ false) }
-    ensures stays { OnOk result (w.old.refused ≡ false) }
+    ensures was_running { OnOk result (w.old.refused ≡ false) }
     ensures memory { OnErr result (IsErrOf result Memory) }
     ensures err { OnErr result (w.new.refused ≡ true) }
 {

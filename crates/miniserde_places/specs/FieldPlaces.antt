@@ -27,7 +27,7 @@ pub record FieldPlacesMeaning (F V : Type 0) : Type 1 where
   pub events_agree : (names : List Name) (s : meant.State) (k : Name) (t : Tree)
       → by_events names s k (events t) ≡ meant.next_state names s k t
   -- a member for whose name `meant.refuses` holds gives no state, whatever its events
-  pub refused : (names : List Name) (s : meant.State) (k : Name) → meant.refuses names s k ≡ true → (es : List Step)
+  pub refuses_agrees : (names : List Name) (s : meant.State) (k : Name) → meant.refuses names s k ≡ true → (es : List Step)
       → by_events names s k es ≡ None
   -- the view of the current field's place, or of the place of a skipped member; its outcome is the state after that
   -- member
@@ -40,7 +40,7 @@ no_field_places skipped = record {
   state = λ _. tt;
   by_events = λ ns s k es. Some tt;
   events_agree = λ ns s k t. refl;
-  refused = λ ns s k h es. none-refused (Some tt) h;
+  refuses_agrees = λ ns s k h es. none-refused (Some tt) h;
   child = λ f. view_through (λ _. Some tt) (skipped f);
 }
 
@@ -61,7 +61,7 @@ field_place_and once m absent value child rest n = record {
   state = λ f. (option_map m.content (value f), n.state (rest f));
   by_events = field_member once m.from_events n.by_events;
   events_agree = field-meant once m.from_events m.from_tree n.by_events n.meant.next_state m.events_agree n.events_agree;
-  refused = field-refused once m.from_events n.by_events n.meant.refuses n.refused;
+  refuses_agrees = field-refused once m.from_events n.by_events n.meant.refuses n.refuses_agrees;
   child = λ f. field_view m.view (option_map m.content (value f)) (n.state (rest f)) (n.child (rest f)) (child f);
 }
 
@@ -72,7 +72,7 @@ wrapper_field_places inner n = record {
   state = λ g. n.state (inner g);
   by_events = n.by_events;
   events_agree = n.events_agree;
-  refused = n.refused;
+  refuses_agrees = n.refuses_agrees;
   child = λ g. n.child (inner g);
 }
 

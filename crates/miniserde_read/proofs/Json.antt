@@ -20,7 +20,7 @@ use Rattle.miniserde_text.proofs.Starting.{same_start}
 use Rattle.miniserde_text.proofs.Wholes.{json_run, run_json, nothing_left}
 use Rattle.miniserde_read.specs.Rest.{ValueAt}
 use Rattle.miniserde_read.proofs.Same.{value_same}
-use Rattle.miniserde_read.proofs.Values.{due_runs, At, leaf_at, ElementsEnd, MembersEnd}
+use Rattle.miniserde_read.proofs.Values.{value_then_runs, At, leaf_at, ElementsEnd, MembersEnd}
 use Rattle.miniserde_read.proofs.Values.{element_at, member_at, list_at, object_at}
 
 -- ---- from a run over the events of a tree
@@ -103,6 +103,6 @@ json_front j t e s h k =
 -- a text with the first event of a tree, the rest of the value and then whitespace spells the tree
 pub at_json : (j : List ℕ) (t : Tree) (e : Step) (s r : List ℕ) → Starts j e s → ValueAt t e s r → IsWhitespace r → IsJson j t
 at_json j t e s r k v w =
-    let u = run_json (events t ++ []) j r (due_runs t e j s r [] [] r k v refl) w in
+    let u = run_json (events t ++ []) j r (value_then_runs t e j s r [] [] r k v refl) w in
     let a = json_front j u.0 e s u.2 k in
     subst (λ z. IsJson j z) (value_same u.0 t e s a.0 r a.1 v).0 u.2

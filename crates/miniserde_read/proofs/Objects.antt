@@ -1,6 +1,6 @@
 -- While an object is read member by member, the remaining members give from the state so far what the whole object
 -- gives from the empty state. `ObjectGoes` is this invariant: `object_begins` establishes it, `object_goes` carries
--- it over one member, and `object_ends`, `object_none` and `object_stops` use it at the exits of the loop.
+-- it over one member, and `object_ends`, `object_none` and `no_object_follows` use it at the exits of the loop.
 use Rattle.std.proofs.Common.{◌≡◌, ℕ, ◌<◌, Bool, true, false, List, length, Option, Some, None, refl, ap, subst, ◌∙◌, arith}
 use Rattle.miniserde_model.specs.Tree.{Tree, members, Members, no_members, member}
 use Rattle.miniserde_model.specs.Step.{map}
@@ -97,9 +97,9 @@ module _ {S : Type 0} {next : S → Name → Tree → Option S} {empty : S} {beg
       (ap (λ z. next m (text_of z x) u.one) same ∙ n u.one u.event u.behind u.rest u.starts u.is_value)
 
   -- if the rest of the text goes on as no members, no object begins as the text does
-  pub object_stops : ((us : Members) (r : List ℕ) → MembersAt us f s r → ⊥) → (ms : Members) (r : List ℕ)
+  pub no_object_follows : ((us : Members) (r : List ℕ) → MembersAt us f s r → ⊥) → (ms : Members) (r : List ℕ)
       → MembersAt ms true begin r → ⊥
-  object_stops n ms r p = let a = g.back ms r p in n a.0 r a.1
+  no_object_follows n ms r p = let a = g.back ms r p in n a.0 r a.1
 
   -- the object ends
   pub object_ends : (x b : List ℕ) {o : Option Text} → NameFollows o x f s b → o ≡ None

@@ -1,5 +1,5 @@
 -- A text goes on as a list of events exactly if it goes on as the trees of these events. From trees to events by
--- recursion over the tree (`due_runs`), and back by recursion over the number of events (`find_value`); `value_later`
+-- recursion over the tree (`value_then_runs`), and back by recursion over the number of events (`find_value`); `value_later`
 -- and `whole_at` state both for a value whose first event was taken.
 use Rattle.std.proofs.Common.{◌≡◌, ℕ, zero, suc, ◌≤◌, Bool, true, false, is_some, List, [], ◌∷◌, ◌++◌, length, refl}
 use Rattle.std.proofs.Common.{sym, ap, subst, ◌∙◌, append_assoc, arith, length-append}
@@ -25,21 +25,21 @@ use Rattle.miniserde_text.proofs.Wholes.{nothing_left}
 
 mutual
   -- where a value is due, a text that spells t and then runs through es runs through the events of t and then es
-  pub due_runs : (t : Tree) (e : Step) (j s x : List ℕ) (es : List Step) (st : List Kind) (r : List ℕ)
+  pub value_then_runs : (t : Tree) (e : Step) (j s x : List ℕ) (es : List Step) (st : List Kind) (r : List ℕ)
       → Starts j e s → ValueAt t e s x → Runs after es st x r → Runs due (events t ++ es) st j r
-  due_runs null e j s x es st r k v h = (s, subst (λ z. Starts j z s) v.0 k, subst (λ z. Runs after es st z r) v.1 h)
-  due_runs (truth b) e j s x es st r k v h = (s, subst (λ z. Starts j z s) v.0 k, subst (λ z. Runs after es st z r) v.1 h)
-  due_runs (nonneg n) e j s x es st r k v h = (s, subst (λ z. Starts j z s) v.0 k, subst (λ z. Runs after es st z r) v.1 h)
-  due_runs (neg n) e j s x es st r k v h = (s, subst (λ z. Starts j z s) v.0 k, subst (λ z. Runs after es st z r) v.1 h)
-  due_runs (num y) e j s x es st r k v h = (s, subst (λ z. Starts j z s) v.0 k, subst (λ z. Runs after es st z r) v.1 h)
-  due_runs (str y) e j s x es st r k v h = (s, subst (λ z. Starts j z s) v.0 k, subst (λ z. Runs after es st z r) v.1 h)
-  due_runs (list ts) e j s x es st r k v h = (
+  value_then_runs null e j s x es st r k v h = (s, subst (λ z. Starts j z s) v.0 k, subst (λ z. Runs after es st z r) v.1 h)
+  value_then_runs (truth b) e j s x es st r k v h = (s, subst (λ z. Starts j z s) v.0 k, subst (λ z. Runs after es st z r) v.1 h)
+  value_then_runs (nonneg n) e j s x es st r k v h = (s, subst (λ z. Starts j z s) v.0 k, subst (λ z. Runs after es st z r) v.1 h)
+  value_then_runs (neg n) e j s x es st r k v h = (s, subst (λ z. Starts j z s) v.0 k, subst (λ z. Runs after es st z r) v.1 h)
+  value_then_runs (num y) e j s x es st r k v h = (s, subst (λ z. Starts j z s) v.0 k, subst (λ z. Runs after es st z r) v.1 h)
+  value_then_runs (str y) e j s x es st r k v h = (s, subst (λ z. Starts j z s) v.0 k, subst (λ z. Runs after es st z r) v.1 h)
+  value_then_runs (list ts) e j s x es st r k v h = (
     s,
     subst (λ z. Starts j z s) v.0 k,
     subst (λ z. Runs first z (Seq ∷ st) s r)
         (sym (append_assoc (child_events ts) (finish ∷ []) es)) (elements_run ts true s x es st r v.1 h),
   )
-  due_runs (members ms) e j s x es st r k v h = (
+  value_then_runs (members ms) e j s x es st r k v h = (
     s,
     subst (λ z. Starts j z s) v.0 k,
     subst (λ z. Runs first z (Map ∷ st) s r)
@@ -56,7 +56,7 @@ mutual
     p.follows,
     subst (λ z. Runs due z (Seq ∷ st) p.begin r)
         (sym (append_assoc (events t) (child_events ts) (finish ∷ es)))
-        (due_runs t p.event p.begin p.behind p.rest (child_events ts ++ finish ∷ es) (Seq ∷ st) r p.starts
+        (value_then_runs t p.event p.begin p.behind p.rest (child_events ts ++ finish ∷ es) (Seq ∷ st) r p.starts
         p.is_value (elements_run ts false p.rest x es st r p.is_rest h)),
   )
   elements_run (tree t ts) false s x es st r p h = (
@@ -64,7 +64,7 @@ mutual
     p.follows,
     subst (λ z. Runs due z (Seq ∷ st) p.begin r)
         (sym (append_assoc (events t) (child_events ts) (finish ∷ es)))
-        (due_runs t p.event p.begin p.behind p.rest (child_events ts ++ finish ∷ es) (Seq ∷ st) r p.starts
+        (value_then_runs t p.event p.begin p.behind p.rest (child_events ts ++ finish ∷ es) (Seq ∷ st) r p.starts
         p.is_value (elements_run ts false p.rest x es st r p.is_rest h)),
   )
 
@@ -80,7 +80,7 @@ mutual
     p.names,
     subst (λ z. Runs due z (Map ∷ st) p.named r)
         (sym (append_assoc (events t) (member_events ms) (finish ∷ es)))
-        (due_runs t p.event p.named p.behind p.rest (member_events ms ++ finish ∷ es) (Map ∷ st) r p.starts
+        (value_then_runs t p.event p.named p.behind p.rest (member_events ms ++ finish ∷ es) (Map ∷ st) r p.starts
         p.is_value (members_run ms false p.rest x es st r p.is_rest h)),
   )
   members_run (member n t ms) false s x es st r p h = (
@@ -90,7 +90,7 @@ mutual
     p.names,
     subst (λ z. Runs due z (Map ∷ st) p.named r)
         (sym (append_assoc (events t) (member_events ms) (finish ∷ es)))
-        (due_runs t p.event p.named p.behind p.rest (member_events ms ++ finish ∷ es) (Map ∷ st) r p.starts
+        (value_then_runs t p.event p.named p.behind p.rest (member_events ms ++ finish ∷ es) (Map ∷ st) r p.starts
         p.is_value (members_run ms false p.rest x es st r p.is_rest h)),
   )
 

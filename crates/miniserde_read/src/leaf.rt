@@ -40,7 +40,7 @@ pub trait Leaf: Drop {
 #[inline(always)]
 pub fn read_leaf<'a, T: Leaf>(token: Event<'a>, source: &mut Source<'a>) -> Result<T>
     requires { EventInRange (event_of_token token source.old.scratch) }
-    ensures stays { source.new ≡ source.old }
+    ensures unchanged { source.new ≡ source.old }
     ensures ok { IfOk result (λ v. GivesAt T.means.from_tree (event_of_token token.entry source.old.scratch)
         source.old.rest source.old.rest (T.means.content v)) }
     ensures invalid { result ≡ Err Error.Invalid

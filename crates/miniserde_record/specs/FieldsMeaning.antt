@@ -11,7 +11,7 @@ use Rattle.miniserde_record.specs.Marks.{has_no_members, all_among}
 use Rattle.miniserde_record.specs.laws.Left.{left}
 use Rattle.miniserde_record.specs.laws.Aliases.{alias-apart}
 use Rattle.miniserde_record.specs.laws.Fields.{none-refused, field-refused, none-apart, closed-apart, field-apart}
-use Rattle.miniserde_record.specs.laws.Meanings.{none-given, closed-given, missing-agrees, field-given, struct-given}
+use Rattle.miniserde_record.specs.laws.Meanings.{none-agrees, closed-agrees, missing-agrees, field-agrees, struct-agrees}
 
 -- the meaning of the fields of a struct: which members mean which values V, by the names of the fields
 pub record FieldsMeaning (V : Type 0) : Type 1 where
@@ -27,9 +27,9 @@ pub record FieldsMeaning (V : Type 0) : Type 1 where
   -- before it, the member's name and its tree
   pub next_state : List Name → State → Name → Tree → Option State
   -- whether a member's name is an error whatever its tree, by the fields' names and the state
-  -- before; `refused` says that `next_state` returns no state then
+  -- before; `refuses_agrees` says that `next_state` returns no state then
   pub refuses : List Name → State → Name → Bool
-  pub refused : (names : List Name) (s : State) (k : Name) → refuses names s k ≡ true → (t : Tree) → next_state names s k t ≡ None
+  pub refuses_agrees : (names : List Name) (s : State) (k : Name) → refuses names s k ≡ true → (t : Tree) → next_state names s k t ≡ None
   -- the content by the state after the last member, if each field has a value or may be missing
   pub end : State → Option Content
   -- the content that members give, field by field, by the fields' names and the state before them;
@@ -54,12 +54,12 @@ no_fields = record {
   count = 0;
   next_state = λ ns s k t. Some tt;
   refuses = λ ns s k. false;
-  refused = λ ns s k h t. none-refused (Some tt) h;
+  refuses_agrees = λ ns s k h t. none-refused (Some tt) h;
   end = λ s. Some tt;
   from_members = λ ns s ms. Some tt;
   members_agree = λ ns s ms. none-apart ms;
   reads = λ before ns ms v. ⊤;
-  reads_agrees = λ before ns ms v. none-given v;
+  reads_agrees = λ before ns ms v. none-agrees v;
 }
 
 -- the meaning of the end of the fields of a `closed` struct: each member has one of the names before, those of the fields
@@ -73,12 +73,12 @@ closed_end = record {
   count = 0;
   next_state = λ ns s k t. None;
   refuses = λ ns s k. true;
-  refused = λ ns s k h t. refl;
+  refuses_agrees = λ ns s k h t. refl;
   end = λ s. Some tt;
   from_members = λ ns s ms. cond (has_no_members ms) (Some tt) None;
   members_agree = λ ns s ms. closed-apart s ms;
   reads = λ before ns ms v. all_among before ms ≡ true;
-  reads_agrees = λ before ns ms v. closed-given before ms v;
+  reads_agrees = λ before ns ms v. closed-agrees before ms v;
 }
 
 -- The meaning of a field and of the later fields, by the meaning m of the field's type and n of the
@@ -94,12 +94,12 @@ field_and once given m absent n = record {
   count = n.count + 1;
   next_state = field_member once m.from_tree n.next_state;
   refuses = field_refuses once n.refuses;
-  refused = field-refused once m.from_tree n.next_state n.refuses n.refused;
+  refuses_agrees = field-refused once m.from_tree n.next_state n.refuses n.refuses_agrees;
   end = field_end (missing_content m given absent) n.end;
   from_members = fields_content once m.from_tree (missing_content m given absent) n.from_members;
   members_agree = field-apart once m.from_tree (missing_content m given absent) n.next_state n.end n.from_members n.members_agree;
   reads = FieldsRead once m.reads m.from_tree (MissingReads m given absent) n.reads;
-  reads_agrees = field-given once m (missing_content m given absent) (MissingReads m given absent)
+  reads_agrees = field-agrees once m (missing_content m given absent) (MissingReads m given absent)
       (missing-agrees m given absent) n.reads n.from_members n.content n.empty n.reads_agrees;
 }
 
@@ -114,7 +114,7 @@ with_aliases ps n = record {
   count = n.count;
   next_state = λ names s k t. n.next_state names s (field_name_of ps k) t;
   refuses = λ names s k. n.refuses names s (field_name_of ps k);
-  refused = λ names s k h t. n.refused names s (field_name_of ps k) h t;
+  refuses_agrees = λ names s k h t. n.refuses_agrees names s (field_name_of ps k) h t;
   end = n.end;
   from_members = λ names s ms. n.from_members names s (with_field_names ps ms);
   members_agree = λ names s ms. alias-apart ps (n.next_state names) n.end s ms ∙ n.members_agree names s (with_field_names ps ms);
@@ -126,4 +126,4 @@ with_aliases ps n = record {
 abbrev pub struct_meaning : {V W : Type 0} → FieldsMeaning V → List Name → (W → V) → Meaning W
 struct_meaning n names values =
     meaning_with (λ w. n.content (values w)) (object_of (n.from_members names n.empty)) (StructReads (n.reads [] names) values)
-    (struct-given (n.reads [] names) values (n.from_members names n.empty) n.content (n.reads_agrees [] names))
+    (struct-agrees (n.reads [] names) values (n.from_members names n.empty) n.content (n.reads_agrees [] names))

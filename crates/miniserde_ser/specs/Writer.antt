@@ -35,7 +35,7 @@ LacksRoom w bs = w.refused ≡ false → w.capacity < length w.text + length bs
 -- fails.
 pub record Appends (old : WriterView) (bs : List ℕ) (first : Bool) (answer : Result (Unit {0}) Error) (new : WriterView) : Type 0 where
   pub ok : OnOk answer (new ≡ with_first_flag (after_append old bs new.capacity) first)
-  pub stays : OnOk answer (old.refused ≡ false)
+  pub was_running : OnOk answer (old.refused ≡ false)
   pub memory : OnErr answer (IsErrOf answer Memory)
   pub err : OnErr answer (new ≡ with_refused old)
   pub room : OnErr answer (LacksRoom old bs)

@@ -105,7 +105,7 @@ impl Writer {
     // Returns `AllocError` if an earlier call failed.
     #[inline(always)]
     fn check(&self) -> result::Result<(), AllocError>
-        ensures stays { OnOk result (self.now.refused ≡ false) }
+        ensures was_running { OnOk result (self.now.refused ≡ false) }
         ensures err { OnErr result (self.now.refused ≡ true) }
     {
         if self.refused {
@@ -268,7 +268,7 @@ impl Writer {
     pub fn into_string(self) -> Result<String>
         ensures ok { IfOk result (λ s. string_bytes s ≡ self.text) }
         ensures capacity { IfOk result (λ s. string_capacity s ≡ self.capacity) }
-        ensures stays { OnOk result (self.refused ≡ false) }
+        ensures was_running { OnOk result (self.refused ≡ false) }
         ensures memory { OnErr result (IsErrOf result Memory) }
         ensures err { OnErr result (self.refused ≡ true) }
     {
@@ -298,7 +298,7 @@ pub trait Serialize {
         ensures in_range { OnOk result (InRange (tree self.now)) }
         ensures first { OnOk result (w.old.first ≡ false → w.new.first ≡ false) }
         ensures unrefused { OnOk result (w.new.refused ≡ false) }
-        ensures stays { OnOk result (w.old.refused ≡ false) }
+        ensures was_running { OnOk result (w.old.refused ≡ false) }
         ensures memory { OnErr result (IsErrOf result Memory) }
         ensures err { OnErr result (w.new.refused ≡ true) };
 }

@@ -60,9 +60,9 @@ digit_no_minus : (c : ℕ) → IsDigit c → (c == 45) ≡ false
 digit_no_minus c h = grind (arith, nat_tests)
 
 -- a text that begins with an int does not begin with `-`, so its first byte tells whether a number has a minus
-pub whole_first : (w r : List ℕ) → IsInt w → (slice_index (w ++ r) 0 == 45) ≡ false
-whole_first [] r h = absurd h
-whole_first (c ∷ cs) r h = digit_no_minus c (whole_digits (c ∷ cs) h).0
+pub int_has_no_minus : (w r : List ℕ) → IsInt w → (slice_index (w ++ r) 0 == 45) ≡ false
+int_has_no_minus [] r h = absurd h
+int_has_no_minus (c ∷ cs) r h = digit_no_minus c (whole_digits (c ∷ cs) h).0
 
 digit_plain : (c : ℕ) → IsDigit c → not ((c == 46) || (c == 101) || (c == 69)) ≡ true
 digit_plain c h = grind (arith, nat_tests)
@@ -110,10 +110,10 @@ by_tail true w [] h p =
 by_tail false w [] h p =
     let b : List ℕ = w ++ [] in
     sym (ap event_of (leaf_plain b (parts_plain false w [] h)
-    ∙ ap (λ v. cond v (leaf_of_negated (drop 1 b) b) (leaf_of_digits b b)) (whole_first w [] h)
+    ∙ ap (λ v. cond v (leaf_of_negated (drop 1 b) b) (leaf_of_digits b b)) (int_has_no_minus w [] h)
     ∙ ap (λ ds. leaf_of_digits ds b) (append-nil w)) ∙ event_if (nat_lt (digits_value 10 w) (2 ^ 64)) _ _)
 
 -- the event by the parts of a number text is the event of the text's leaf
-pub event_of_text : (m : Bool) (w f e : List ℕ) → IsInt w → IsFraction f → IsExponent e
+pub number_event_of_text : (m : Bool) (w f e : List ℕ) → IsInt w → IsFraction f → IsExponent e
     → event_of_parts (sign_of m ++ (w ++ (f ++ e))) m w (f ++ e) ≡ event_of (leaf (sign_of m ++ (w ++ (f ++ e))))
-event_of_text m w f e h k l = by_tail m w (f ++ e) h (tail_plain f e k l)
+number_event_of_text m w f e h k l = by_tail m w (f ++ e) h (tail_plain f e k l)

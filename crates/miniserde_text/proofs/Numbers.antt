@@ -21,7 +21,7 @@ use Rattle.miniserde_text.specs.private.Taking.{BeginsWith}
 use Rattle.miniserde_text.proofs.Runs.{run_split, run_only, stops_at, stops_of, or_true}
 use Rattle.std.proofs.lemmas.Option.{cond_some, same_Some}
 use Rattle.miniserde_text.proofs.Options.{chosen, none_if, bind_some, first_byte, first_of_test, before_append, before_is}
-use Rattle.miniserde_text.proofs.Leaves.{event_of, sign_of, whole_digits, whole_first, event_of_text}
+use Rattle.miniserde_text.proofs.Leaves.{event_of, sign_of, whole_digits, int_has_no_minus, number_event_of_text}
 
 -- a byte that passes `is_digit` is a digit
 pub digit_of : (c : ℕ) → is_digit c ≡ true → IsDigit c
@@ -178,7 +178,7 @@ number_of t w r (int, is_int, jw) (tail, (fraction, exponent, is_fraction, is_ex
       number = b;
       is_number = n;
       event =
-          rw (e1, e2, e3) (sym (event_of_text m int fraction exponent is_int is_fraction is_exponent));
+          rw (e1, e2, e3) (sym (number_event_of_text m int fraction exponent is_int is_fraction is_exponent));
       text =
           joined;
       ends = ends;
@@ -286,7 +286,7 @@ unfolding number_at
 read_parts m w f e r is_int is_fraction is_exponent ends =
     let rest : List ℕ = w ++ (f ++ (e ++ r)) in
     let t : List ℕ = sign_of m ++ rest in
-    let s = sign_only m rest (whole_first w _ is_int) in
+    let s = sign_only m rest (int_has_no_minus w _ is_int) in
     let parts = number_byte_parts (slice_index r 0) ends in
     let at_e = before_exponent e r is_exponent ends in
     let first : after_int (after_minus t) ≡ Some (f ++ (e ++ r)) =
@@ -333,7 +333,7 @@ number_only b r n stops =
     ∙ ap number_at (append_assoc (sign_of m) _ r ∙ ap (λ x. sign_of m ++ x)
     (append_assoc n.int _ r ∙ ap (λ x. n.int ++ x) (append_assoc n.fraction n.exponent r)))
     ∙ read_parts m n.int n.fraction n.exponent r n.is_int n.is_fraction n.is_exponent ends
-    ∙ ap (λ x. Some (x, r)) (event_of_text m n.int n.fraction n.exponent n.is_int n.is_fraction n.is_exponent
+    ∙ ap (λ x. Some (x, r)) (number_event_of_text m n.int n.fraction n.exponent n.is_int n.is_fraction n.is_exponent
     ∙ ap (λ x. event_of (leaf x)) (sym text))
 
 -- ---- a number of digits alone

@@ -33,10 +33,10 @@ use Rattle.miniserde_value.specs.private.Builds.{Builds, HoleAdvancesBy, NeverGi
 
 -- The stack of kinds, of which the lexer's lemmas speak, has on top the kind of the hole's innermost container. So what a
 -- hole says serves the lemmas on closing brackets, elements and keys.
-pub kinds_innermost : (h : Hole) → innermost_kind (kinds h) ≡ (innermost h)
-kinds_innermost (outside ts) = refl
-kinds_innermost (in_list ts h) = refl
-kinds_innermost (in_members ms n h) = refl
+pub innermost_of_kinds : (h : Hole) → innermost_kind (kinds h) ≡ (innermost h)
+innermost_of_kinds (outside ts) = refl
+innermost_of_kinds (in_list ts h) = refl
+innermost_of_kinds (in_members ms n h) = refl
 
 kinds_put : (t : Tree) (h : Hole) → kinds (put t h) ≡ kinds h
 kinds_put t (outside ts) = refl
@@ -141,7 +141,7 @@ pub close_builds : (once : Bool) (h g : Hole) (s r : List ℕ) (k : Kind) (f : B
     → Follows k f true s r → g ≡ after_close h → Builds once (before_child f) h s after g r
 close_builds once h g s r k f i p c = record {
   done = finish ∷ [];
-  passed = close_passed (kinds h) (kinds g) s r k f (kinds_innermost h ∙ i) p (ap kinds c ∙ kinds_closed h);
+  passed = close_passed (kinds h) (kinds g) s r k f (innermost_of_kinds h ∙ i) p (ap kinds c ∙ kinds_closed h);
   makes = close_makes false h g k f i c;
   repeats_none = close_makes once h g k f i c;
 }
@@ -164,7 +164,7 @@ element_builds once h g s u r k f i q p d e = record {
   done = element ∷ [];
   passed = subst (λ z. Consumes (before_child f) (kinds h) s (element ∷ []) due (kinds z) r) (sym e)
       (subst (λ z. Consumes (before_child f) (kinds h) s (element ∷ []) due (kinds h) z) (sym d)
-      (element_passed (kinds h) s u k f (kinds_innermost h ∙ i) q p));
+      (element_passed (kinds h) s u k f (innermost_of_kinds h ∙ i) q p));
   makes = element_makes false h g k f i q e;
   repeats_none = element_makes once h g k f i q e;
 }
@@ -194,7 +194,7 @@ kinds_next (Some n) h = kinds_named h n
 
 key_done : (h : Hole) (s b n u : List ℕ) (k : Kind) (f : Bool) → innermost h ≡ Some k → k ≡ kind.Map
     → Follows k f false s b → Names b n u → Consumes (before_child f) (kinds h) s (key n ∷ []) due (kinds h) u
-key_done h s b n u k f i q p w = key_passed (kinds h) s b n u k f (kinds_innermost h ∙ i) q p w
+key_done h s b n u k f i q p w = key_passed (kinds h) s b n u k f (innermost_of_kinds h ∙ i) q p w
 
 -- if a member is next in the innermost object, and `once` allows its name, the text builds the hole with the name
 pub key_builds : (once : Bool) (h g : Hole) (s b n u r : List ℕ) (k : Kind) (f : Bool) → innermost h ≡ Some k
@@ -276,9 +276,9 @@ same_stack (Some k) st e = absurd (cc)
 pub leaf_stays : (n : Option (List ℕ)) (e : Step) (h g : Hole) → after_begin e (with_next_name n h) ≡ Some g
     → false ≡ is_some (opened_kind e) → innermost g ≡ innermost h
 leaf_stays n e h g b f =
-    sym (kinds_innermost g)
+    sym (innermost_of_kinds g)
     ∙ ap innermost_kind (kinds_begun e (with_next_name n h) g b ∙ same_stack (opened_kind e) _ f ∙ kinds_next n h)
-    ∙ kinds_innermost h
+    ∙ innermost_of_kinds h
 
 -- ---- what can give no value
 

@@ -12,7 +12,7 @@ use Rattle.miniserde_value.specs.declared.json.walk.frames.Frame.TheVariants as 
 use Rattle.miniserde_value.specs.Values.{content_of}
 use Rattle.miniserde_value.specs.Visits.{element, list_ends, name, members_end, visits, child_visits, member_visits}
 use Rattle.miniserde_value.specs.Visits.{IsOrdered, AreOrdered, AreOrderedMembers}
-use Rattle.miniserde_value.specs.Walks.{stack_left, StackOrdered}
+use Rattle.miniserde_value.specs.Walks.{stack_left, StackNamesRise}
 
 -- ---- the innermost container gave a child
 
@@ -39,12 +39,12 @@ item_left frames then objects it next item g =
 
 -- if the item that was given is ordered, and all that is left is, all that was left is ordered
 pub item_ordered : (frames then : List Frame) (objects : List Entries) (it next : Iter Value) (item : Value)
-    → GaveItem frames then it next item → IsOrdered (content_of item) → StackOrdered (reverse then) objects
-    → StackOrdered (reverse frames) objects
+    → GaveItem frames then it next item → IsOrdered (content_of item) → StackNamesRise (reverse then) objects
+    → StackNamesRise (reverse frames) objects
 item_ordered frames then objects it next item g o p =
-    let r = subst (λ (x : List Frame). StackOrdered x objects) g.after p in
+    let r = subst (λ (x : List Frame). StackNamesRise x objects) g.after p in
     let items = subst (λ (xs : List Value). AreOrdered (trees_of content_of xs)) (sym g.gave) (o, r.0) in
-    subst (λ (x : List Frame). StackOrdered x objects) (sym g.before) (items, r.1)
+    subst (λ (x : List Frame). StackNamesRise x objects) (sym g.before) (items, r.1)
 
 -- an object, whose iterator gave a member: all objects before, and then
 pub record GaveMember (frames also : List Frame) (objects then : List Entries) (ms next : Entries) (text : List ℕ)
@@ -76,13 +76,13 @@ member_left frames also objects then ms next text value g =
 -- if the value of the member that was given is ordered, and all that is left is, all that was left is ordered
 pub member_ordered : (frames also : List Frame) (objects then : List Entries) (ms next : Entries) (text : List ℕ)
     (value : Value) → GaveMember frames also objects then ms next text value → IsOrdered (content_of value)
-    → StackOrdered (reverse also) (reverse then) → StackOrdered (reverse frames) (reverse objects)
+    → StackNamesRise (reverse also) (reverse then) → StackNamesRise (reverse frames) (reverse objects)
 member_ordered frames also objects then ms next text value g o p =
-    let r = subst (λ (x : List Entries). StackOrdered (frame.Object ∷ g.below) x) g.after
-    (subst (λ (x : List Frame). StackOrdered x (reverse then)) g.is_still p) in
+    let r = subst (λ (x : List Entries). StackNamesRise (frame.Object ∷ g.below) x) g.after
+    (subst (λ (x : List Frame). StackNamesRise x (reverse then)) g.is_still p) in
     let members = subst (λ (xs : Entries). AreOrderedMembers (members_of string_bytes content_of xs)) (sym g.gave) (o, r.0) in
-    subst (λ (x : List Frame). StackOrdered x (reverse objects)) (sym g.is_object)
-    (subst (λ (x : List Entries). StackOrdered (frame.Object ∷ g.below) x) (sym g.before) (members, r.1))
+    subst (λ (x : List Frame). StackNamesRise x (reverse objects)) (sym g.is_object)
+    (subst (λ (x : List Entries). StackNamesRise (frame.Object ∷ g.below) x) (sym g.before) (members, r.1))
 
 -- an object that has no member left ends
 pub record Ended (frames then : List Frame) (objects also : List Entries) : Type 0 where
@@ -104,9 +104,9 @@ ended_left frames then objects also g =
 
 -- if all that is left after the end of an object is ordered, all that was left is
 pub ended_ordered : (frames then : List Frame) (objects also : List Entries) → Ended frames then objects also
-    → StackOrdered (reverse then) (reverse also) → StackOrdered (reverse frames) (reverse objects)
+    → StackNamesRise (reverse then) (reverse also) → StackNamesRise (reverse frames) (reverse objects)
 ended_ordered frames then objects also g p =
-    let r = subst (λ (x : List Frame). StackOrdered x g.others) g.popped
-    (subst (λ (x : List Entries). StackOrdered (reverse then) x) g.after p) in
-    subst (λ (x : List Frame). StackOrdered x (reverse objects)) (sym g.is_object)
-    (subst (λ (x : List Entries). StackOrdered (frame.Object ∷ g.below) x) (sym g.before) (tt, r))
+    let r = subst (λ (x : List Frame). StackNamesRise x g.others) g.popped
+    (subst (λ (x : List Entries). StackNamesRise (reverse then) x) g.after p) in
+    subst (λ (x : List Frame). StackNamesRise x (reverse objects)) (sym g.is_object)
+    (subst (λ (x : List Entries). StackNamesRise (frame.Object ∷ g.below) x) (sym g.before) (tt, r))

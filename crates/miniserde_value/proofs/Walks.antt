@@ -22,7 +22,7 @@ use Rattle.miniserde_value.specs.Values.{array_items, object_entries, array_cont
 use Rattle.miniserde_value.specs.Visits.{TreeVisit, leaf, list_begins, list_ends, members_begin, members_end}
 use Rattle.miniserde_value.specs.Visits.{visits, child_visits, member_visits, IsOrdered, AreOrdered}
 use Rattle.miniserde_value.specs.Visits.{AreOrderedMembers}
-use Rattle.miniserde_value.specs.Walks.{items_left, members_left, ItemsOrdered, MembersOrdered}
+use Rattle.miniserde_value.specs.Walks.{items_left, members_left, ItemsNamesRise, ValuesNamesRise}
 use Rattle.miniserde_value.proofs.ContentTrees.{content_of_null, content_of_bool, content_of_number}
 use Rattle.miniserde_value.proofs.ContentTrees.{content_of_string, content_of_array, content_of_object}
 use Rattle.miniserde_value.proofs.Ordered.{ordered_rises}
@@ -100,7 +100,7 @@ begin_object v o it rest more e i m =
 
 -- if the items of an array are ordered, its tree is
 pub ordered_array : (v : Value) (a : Array) (it : Iter Value) → v ≡ value.Array a → iter_rest it ≡ array_items a
-    → ItemsOrdered it → IsOrdered (content_of v)
+    → ItemsNamesRise it → IsOrdered (content_of v)
 ordered_array v a it e i o =
     subst IsOrdered (sym (ap content_of e ∙ content_of_array a)) (subst (λ (xs : List Value). AreOrdered (trees_of content_of xs)) i o)
 
@@ -112,7 +112,7 @@ pub record Opened (o : Object) (m : BTreeMap (String Global) Value) (it : List (
 
 -- if the members that a walk has of an object are ordered, the tree of the object is
 pub ordered_opened : (o : Object) (m : BTreeMap (String Global) Value) (it : List (String Global × Value))
-    → Opened o m it → MembersOrdered it → IsOrdered (object_content o)
+    → Opened o m it → ValuesNamesRise it → IsOrdered (object_content o)
 ordered_opened o m it w p =
     let rises = subst (λ (x : BTreeMap (String Global) Value). Rise (members_of string_bytes content_of x.entries))
     w.map (ordered_rises content_of m w.sorted) in
@@ -121,6 +121,6 @@ ordered_opened o m it w p =
 
 -- if v is an object whose members a walk has, and these are ordered, the tree of v is
 pub ordered_object : (v : Value) (o : Object) (m : BTreeMap (String Global) Value)
-    (it : List (String Global × Value)) → v ≡ value.Object o → Opened o m it → MembersOrdered it
+    (it : List (String Global × Value)) → v ≡ value.Object o → Opened o m it → ValuesNamesRise it
     → IsOrdered (content_of v)
 ordered_object v o m it e w p = subst IsOrdered (sym (ap content_of e ∙ content_of_object o)) (ordered_opened o m it w p)

@@ -23,7 +23,7 @@ wrote old new m before after e text visits first stays whole = record {
   first = ap (λ b. first_flag_after b after) first ∙ first_before old.first m after ∙ ap (first_flag_after old.first) (sym e);
   are_visits = λ h. subst VisitsInRange (sym e) (fronts_before m after visits h);
   shorter = omega (arith, ap length e);
-  stays = stays;
+  was_running = stays;
   unrefused = whole;
 }
 
@@ -38,7 +38,7 @@ on_leaf (Ok x) old new t u n before after e i is w stays =
     (λ rest. append_assoc old.text (compact u) (visits_text old.first rest)
     ∙ ap (λ z. old.text ++ (compact z ++ visits_text old.first rest)) i) (subst InRange i is, tt) refl stays
     stays)
-on_leaf (Err x) old new t u n before after e i is w stays = tt
+on_leaf (Err x) old new t u n before after e i is w was_running = tt
 
 -- ---- a whole tree
 

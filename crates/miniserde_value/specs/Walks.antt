@@ -65,31 +65,31 @@ left w = due_left w.due (frames_left w.frames)
 -- ---- the order of names in what is left
 
 -- in the items that an open array has left, the names of each object strictly rise
-abbrev pub ItemsOrdered : Iter Value → Type 0
-ItemsOrdered it = AreOrdered (trees_of content_of (iter_rest it))
+abbrev pub ItemsNamesRise : Iter Value → Type 0
+ItemsNamesRise it = AreOrdered (trees_of content_of (iter_rest it))
 
 -- in the values of the members that an open object has left, the names of each object strictly rise
-abbrev pub MembersOrdered : List (String Global × Value) → Type 0
-MembersOrdered ms = AreOrderedMembers (members_of string_bytes content_of ms)
+abbrev pub ValuesNamesRise : List (String Global × Value) → Type 0
+ValuesNamesRise ms = AreOrderedMembers (members_of string_bytes content_of ms)
 
 -- in what the open containers have left, the names of each object strictly rise; `objects` has the members that the
 -- open objects have left, and nothing is said from an object on for which it has none
-abbrev pub StackOrdered : List Frame → List (List (String Global × Value)) → Type 0
-StackOrdered [] objects = ⊤
-StackOrdered (frame.Array a ∷ frames) objects = ItemsOrdered a × StackOrdered frames objects
-StackOrdered (frame.Object ∷ frames) [] = ⊤
-StackOrdered (frame.Object ∷ frames) (o ∷ objects) = MembersOrdered o × StackOrdered frames objects
+abbrev pub StackNamesRise : List Frame → List (List (String Global × Value)) → Type 0
+StackNamesRise [] objects = ⊤
+StackNamesRise (frame.Array a ∷ frames) objects = ItemsNamesRise a × StackNamesRise frames objects
+StackNamesRise (frame.Object ∷ frames) [] = ⊤
+StackNamesRise (frame.Object ∷ frames) (o ∷ objects) = ValuesNamesRise o × StackNamesRise frames objects
 
 -- in each child that the open containers of the walk have left, the names of each object strictly rise; of the names that
 -- the open objects themselves have left it says nothing
-abbrev pub FramesOrdered : Frames → Type 0
-FramesOrdered f = StackOrdered (reverse f.open.items) (reverse f.objects.items)
+abbrev pub NestedNamesRise : Frames → Type 0
+NestedNamesRise f = StackNamesRise (reverse f.open.items) (reverse f.objects.items)
 
 -- in the child that is due, the names of each object strictly rise
-abbrev pub DueOrdered : Option (Bor Value) → Type 0
-DueOrdered None = ⊤
-DueOrdered (Some v) = IsOrdered (content_of v.now)
+abbrev pub DueNamesRise : Option (Bor Value) → Type 0
+DueNamesRise None = ⊤
+DueNamesRise (Some v) = IsOrdered (content_of v.now)
 
 -- in all that the walk has left, the names of each object strictly rise
-abbrev pub LeftOrdered : Walk → Type 0
-LeftOrdered w = DueOrdered w.due × FramesOrdered w.frames
+abbrev pub LeftNamesRise : Walk → Type 0
+LeftNamesRise w = DueNamesRise w.due × NestedNamesRise w.frames

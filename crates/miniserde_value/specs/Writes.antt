@@ -12,5 +12,5 @@ pub record Writes (old : WriterView) (before : List TreeVisit) (new : WriterView
   pub first : first_flag_after new.first after ≡ first_flag_after old.first before
   pub are_visits : VisitsInRange after → VisitsInRange before
   pub shorter : length after ≤ length before
-  pub stays : old.refused ≡ false
+  pub was_running : old.refused ≡ false
   pub unrefused : new.refused ≡ false

@@ -1,7 +1,7 @@
 //! The types of `accounts.rs`, with the impls that `./derive` writes.
 ghost use Rattle.miniserde.specs.Checks.{checked_key};
 ghost use Rattle.miniserde.specs.FieldsMeaning.{struct_meaning};
-ghost use Rattle.miniserde.specs.KeyLaws.{u64_key, checked-back, checked-exact};
+ghost use Rattle.miniserde.specs.KeyLaws.{u64_key_laws, checked-back, checked-exact};
 ghost use Rattle.miniserde.specs.Meanings.{box_meaning};
 ghost use Rattle.miniserde.specs.Newtypes.{checked_meaning, same_meaning};
 ghost use Rattle.miniserde.specs.Place.{wrapper_meaning};
@@ -102,11 +102,11 @@ impl MapKey for UserId {
 
     ghost from_key_infallible = { ⟦<u64 as MapKey>⟧.from_key_infallible };
 
-    ghost alike = { λ a b. u64_key.alike a.0 b.0 };
+    ghost alike = { λ a b. u64_key_laws.alike a.0 b.0 };
 
-    ghost back = { λ v r. (v, r, (u64_key.back v.0 r), refl) };
+    ghost back = { λ v r. (v, r, (u64_key_laws.back v.0 r), refl) };
 
-    ghost one_text = { λ a b. u64_key.one_text a.0 b.0 };
+    ghost one_text = { λ a b. u64_key_laws.one_text a.0 b.0 };
 
     fn from_key(alloc: Global, k: &str) -> Result<UserId> {
         Ok(UserId(<u64 as MapKey>::from_key(alloc, k)?))

@@ -1,6 +1,6 @@
 //! The types of `forms.rs`, with the impls that `./derive` writes.
 ghost use Rattle.miniserde.specs.ExactKeys.{text-exact, bool-exact, char-exact};
-ghost use Rattle.miniserde.specs.KeyLaws.{bool_key, char_key};
+ghost use Rattle.miniserde.specs.KeyLaws.{bool_key_laws, char_key_laws};
 ghost use Rattle.miniserde.specs.Meanings.{box_meaning};
 ghost use Rattle.miniserde.specs.Newtypes.{checked_meaning, same_meaning};
 ghost use Rattle.std.specs.Prelude.{◌≡◌, true, option_map, refl};
@@ -246,11 +246,11 @@ impl MapKey for Flag {
 
     ghost from_key_infallible = { ⟦<bool as MapKey>⟧.from_key_infallible };
 
-    ghost alike = { λ a b. bool_key.alike a.0 b.0 };
+    ghost alike = { λ a b. bool_key_laws.alike a.0 b.0 };
 
-    ghost back = { λ v r. (v, r, (bool_key.back v.0 r), refl) };
+    ghost back = { λ v r. (v, r, (bool_key_laws.back v.0 r), refl) };
 
-    ghost one_text = { λ a b. bool_key.one_text a.0 b.0 };
+    ghost one_text = { λ a b. bool_key_laws.one_text a.0 b.0 };
 
     fn from_key(alloc: Global, k: &str) -> Result<Flag> {
         Ok(Flag(<bool as MapKey>::from_key(alloc, k)?))
@@ -290,11 +290,11 @@ impl MapKey for Initial {
 
     ghost from_key_infallible = { ⟦<char as MapKey>⟧.from_key_infallible };
 
-    ghost alike = { λ a b. char_key.alike a.0 b.0 };
+    ghost alike = { λ a b. char_key_laws.alike a.0 b.0 };
 
-    ghost back = { λ v r. (v, r, (char_key.back v.0 r), refl) };
+    ghost back = { λ v r. (v, r, (char_key_laws.back v.0 r), refl) };
 
-    ghost one_text = { λ a b. char_key.one_text a.0 b.0 };
+    ghost one_text = { λ a b. char_key_laws.one_text a.0 b.0 };
 
     fn from_key(alloc: Global, k: &str) -> Result<Initial> {
         Ok(Initial(<char as MapKey>::from_key(alloc, k)?))

@@ -34,7 +34,7 @@ pub record Seam (B K : List ℕ → List Splice → Type 0) (n : Member) (e : En
 abbrev pub Chain : List Member → List Entry → List ℕ → List Splice → ℕ → ℕ → List ℕ → List Splice → List ℕ → Type 0
 Chain [] [] ms gs at k bs hs last = Holds ms gs at bs hs last
 Chain (n ∷ ns) (e ∷ es) ms gs at k bs hs last =
-    Seam (λ b h. Holds ms gs at b h e.text) (λ c g. Chain ns es ms gs n.point.bytes n.point.splices c g last) n e at k bs hs
+    Seam (λ b h. Holds ms gs at b h e.earlier_text) (λ c g. Chain ns es ms gs n.point.bytes n.point.splices c g last) n e at k bs hs
 Chain _ _ ms gs at k bs hs last = ⊥
 
 -- ---- the members of one object, at the end of a text
@@ -69,8 +69,8 @@ text_at (e ∷ es) last = text_before es last
 
 -- A string with the own text of the entry at the index i, which is empty beyond the last one. It stands in for the tree of
 -- the member, so that what orders members orders texts.
-abbrev pub text_tree_at : List Entry → List ℕ → ℕ → Tree
-text_tree_at es last i = str (text_at (drop i es) last)
+abbrev pub own_text_tree : List Entry → List ℕ → ℕ → Tree
+own_text_tree es last i = str (text_at (drop i es) last)
 
 -- ---- what calls do to the groups and the text
 
@@ -97,11 +97,11 @@ abbrev pub PutsMembers : List Member → List ℕ → SplicedText → SplicedTex
 PutsMembers ns order out groups groups' n = (es : List Entry) (last ms : List ℕ) (gs : List Splice)
     → EndsWithMembers ns es ms gs out.bytes.items out.splices.items last
     → Gains ms gs out.splices.items groups groups'
-    (members_text true (without_repeats (members_at ns (text_tree_at es last) order)))
-    × (n ≡ count (without_repeats (members_at ns (text_tree_at es last) order)))
+    (members_text true (without_repeats (members_at ns (own_text_tree es last) order)))
+    × (n ≡ count (without_repeats (members_at ns (own_text_tree es last) order)))
 
 -- out' is `out` cut off at the point, with bytes and splices behind it that hold the text x over groups'. These are ms and
--- gs with more behind them. Splices that were in order still are (`good`).
+-- gs with more behind them. Splices that were in order still are (`stay_in_order`).
 pub record PutAt (point : Point) (ms : List ℕ) (gs : List Splice) (out out' groups' : SplicedText) (x : List ℕ) : Type 0 where
   pub bytes : List ℕ
   pub splices : List Splice
@@ -112,7 +112,7 @@ pub record PutAt (point : Point) (ms : List ℕ) (gs : List Splice) (out out' gr
   pub groups_bytes : groups'.bytes.items ≡ ms ++ more_bytes
   pub groups_splices : groups'.splices.items ≡ gs ++ more_splices
   pub text : Holds groups'.bytes.items groups'.splices.items point.bytes bytes splices x
-  pub good : SplicesInOrder gs out.splices.items → SplicesInOrder groups'.splices.items out'.splices.items
+  pub stay_in_order : SplicesInOrder gs out.splices.items → SplicesInOrder groups'.splices.items out'.splices.items
 
 -- out' is `out` up to `point`, and then holds the text that `groups` have from the point `from` on
 abbrev pub PutsBack : Point → Point → SplicedText → SplicedText → SplicedText → SplicedText → Type 0

@@ -41,14 +41,14 @@ document-whole t = ap (option_map norm) (any_first (events t) _ ∙ outcome-whol
 
 -- the meaning of an `Array`: its first event opens an array, and its content is the retained tree, which is a list
 abbrev pub lists : DocumentMeaning Array
-lists = record { meant = json_array_meaning; begins = is_seq; only = only_list; none = refl; events_agree = list-whole }
+lists = record { by_trees = json_array_meaning; begins = is_seq; only = only_list; none = refl; events_agree = list-whole }
 
 -- the meaning of an `Object`: its first event opens an object, and its content is the retained tree, which is an
 -- object
 abbrev pub objects : DocumentMeaning Object
-objects = record { meant = json_object_meaning; begins = is_map; only = only_members; none = refl; events_agree = members-whole }
+objects = record { by_trees = json_object_meaning; begins = is_map; only = only_members; none = refl; events_agree = members-whole }
 
 -- the meaning of a `Document`: any event may be its first one, and its content is the normal form of the retained
 -- tree
 abbrev pub documents : DocumentMeaning Document
-documents = record { meant = document_meaning; begins = λ e. true; only = option_map norm; none = refl; events_agree = document-whole }
+documents = record { by_trees = document_meaning; begins = λ e. true; only = option_map norm; none = refl; events_agree = document-whole }

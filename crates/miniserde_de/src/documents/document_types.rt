@@ -39,7 +39,7 @@ pub trait DocumentType: Drop {
 
     /// Returns the value as a document of this type, or `None` if it is none. Allocates nothing.
     fn from_value(value: Value) -> Option<Self::Out>
-        ensures { option_map document_meaning.meant.content result ≡ document_meaning.only (Some (content_of value)) };
+        ensures { option_map document_meaning.by_trees.content result ≡ document_meaning.only (Some (content_of value)) };
 }
 
 /// The place of an `Array`, an `Object` or a `Document`: the place of a `Value`, with a check of the first event.

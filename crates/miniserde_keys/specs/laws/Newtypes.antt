@@ -32,20 +32,20 @@ UnsignedLaws bits = KeyLaws nat_eq (λ n. n < 2 ^ bits) of_nat (read_unsigned bi
 unsigned_key : (bits : ℕ) → 2 ^ bits ≤ 2 ^ 64 → UnsignedLaws bits
 unsigned_key bits h = record { alike = nat-alike; back = unsigned-back bits h; one_text = nat-text decimal }
 
-pub u8_key : UnsignedLaws 8
-u8_key = unsigned_key 8 (omega arith)
+pub u8_key_laws : UnsignedLaws 8
+u8_key_laws = unsigned_key 8 (omega arith)
 
-pub u16_key : UnsignedLaws 16
-u16_key = unsigned_key 16 (omega arith)
+pub u16_key_laws : UnsignedLaws 16
+u16_key_laws = unsigned_key 16 (omega arith)
 
-pub u32_key : UnsignedLaws 32
-u32_key = unsigned_key 32 (omega arith)
+pub u32_key_laws : UnsignedLaws 32
+u32_key_laws = unsigned_key 32 (omega arith)
 
-pub u64_key : UnsignedLaws 64
-u64_key = unsigned_key 64 (omega arith)
+pub u64_key_laws : UnsignedLaws 64
+u64_key_laws = unsigned_key 64 (omega arith)
 
-pub usize_key : UnsignedLaws 64
-usize_key = u64_key
+pub usize_key_laws : UnsignedLaws 64
+usize_key_laws = u64_key_laws
 
 -- the laws of signed integers of `bits` bits as keys; w is the toolchain's width of as many bits
 abbrev pub SignedLaws : ℕ → Width → Type 0
@@ -59,32 +59,32 @@ signed_key bits w e h = record {
 }
 
 -- each signed type's laws, by its width
-pub i8_key : SignedLaws 8 w8
-i8_key = signed_key 8 w8 refl (omega arith)
+pub i8_key_laws : SignedLaws 8 w8
+i8_key_laws = signed_key 8 w8 refl (omega arith)
 
-pub i16_key : SignedLaws 16 w16
-i16_key = signed_key 16 w16 refl (omega arith)
+pub i16_key_laws : SignedLaws 16 w16
+i16_key_laws = signed_key 16 w16 refl (omega arith)
 
-pub i32_key : SignedLaws 32 w32
-i32_key = signed_key 32 w32 refl (omega arith)
+pub i32_key_laws : SignedLaws 32 w32
+i32_key_laws = signed_key 32 w32 refl (omega arith)
 
-pub i64_key : SignedLaws 64 w64
-i64_key = signed_key 64 w64 refl (omega arith)
+pub i64_key_laws : SignedLaws 64 w64
+i64_key_laws = signed_key 64 w64 refl (omega arith)
 
-pub isize_key : SignedLaws 64 w64
-isize_key = i64_key
+pub isize_key_laws : SignedLaws 64 w64
+isize_key_laws = i64_key_laws
 
 bool_read : (b : Bool) → read_bool (bool_text b) ≡ Some (of_bool b)
 bool_read true = refl
 bool_read false = refl
 
 -- the laws of `bool`
-pub bool_key : KeyLaws beq (λ _. ⊤) of_bool read_bool bool_text
-bool_key = record { alike = bool-alike; back = λ b r. bool_read b; one_text = bool-text }
+pub bool_key_laws : KeyLaws beq (λ _. ⊤) of_bool read_bool bool_text
+bool_key_laws = record { alike = bool-alike; back = λ b r. bool_read b; one_text = bool-text }
 
 -- the laws of `char`
-pub char_key : KeyLaws nat_eq IsScalar of_nat read_char encode_utf8
-char_key = record { alike = nat-alike; back = char_some; one_text = nat-text encode_utf8 }
+pub char_key_laws : KeyLaws nat_eq IsScalar of_nat read_char encode_utf8
+char_key_laws = record { alike = nat-alike; back = char_some; one_text = nat-text encode_utf8 }
 
 -- a key that the check accepts is read from its text as its content, if it is read so without the check
 pub checked-back : (accepts : Key → Bool) (o : Option Key) (c : Key) → o ≡ Some c → accepts c ≡ true

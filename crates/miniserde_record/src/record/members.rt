@@ -98,7 +98,7 @@ pub fn write_members<M: Members>(w: &mut Writer, names: &[&str], values: &M) -> 
         (members (with_names (map (λ n. n.now) names.now) (M.trees values.now)))) }
     ensures first { OnOk result (w.new.first ≡ false) }
     ensures unrefused { OnOk result (w.new.refused ≡ false) }
-    ensures stays { OnOk result (w.old.refused ≡ false) }
+    ensures was_running { OnOk result (w.old.refused ≡ false) }
     ensures memory { OnErr result (IsErrOf result Memory) }
     ensures err { OnErr result (w.new.refused ≡ true) }
 {

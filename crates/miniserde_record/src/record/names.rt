@@ -96,7 +96,7 @@ pub fn read_variant<'a, T: UnitEnum + 'static>(
     source: &mut Source<'a>,
 ) -> Result<T>
     requires { EventInRange (event_of_token token source.old.scratch) }
-    ensures stays { source.new ≡ source.old }
+    ensures unchanged { source.new ≡ source.old }
     ensures ok { IfOk result (λ v. GivesAt (variant_of T.name_of T.all)
         (event_of_token token.entry source.old.scratch) source.old.rest source.old.rest v) }
     ensures invalid { result ≡ Err Error.Invalid → GivesNoneAt (variant_of T.name_of T.all)

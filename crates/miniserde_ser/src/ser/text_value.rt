@@ -16,7 +16,7 @@ pub fn write_text_value<T: TextValue>(value: &T, w: &mut Writer) -> Result<()>
     ensures in_range { OnOk result (InRange (str (T.text (T.content value.now)))) }
     ensures first { OnOk result (w.old.first ≡ false → w.new.first ≡ false) }
     ensures unrefused { OnOk result (w.new.refused ≡ false) }
-    ensures stays { OnOk result (w.old.refused ≡ false) }
+    ensures was_running { OnOk result (w.old.refused ≡ false) }
     ensures memory { OnErr result (IsErrOf result Memory) }
     ensures err { OnErr result (w.new.refused ≡ true) }
 {

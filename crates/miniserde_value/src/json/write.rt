@@ -7,7 +7,7 @@ ghost use Rattle.miniserde_ser.specs.Fragment.{fragment_tree};
 ghost use Rattle.miniserde_value.specs.Numbers.{number_leaf};
 ghost use Rattle.miniserde_value.specs.Values.{content_of, array_content, object_content};
 ghost use Rattle.miniserde_value.specs.Visits.{TreeVisit, visits, visits_text, first_flag_after, VisitsInRange, IsOrdered};
-ghost use Rattle.miniserde_value.specs.Walks.{visit_of, frames_left, FramesOrdered};
+ghost use Rattle.miniserde_value.specs.Walks.{visit_of, frames_left, NestedNamesRise};
 ghost use Rattle.miniserde_value.specs.Writes.{Writes};
 
 use super::array::Array;
@@ -43,7 +43,7 @@ fn put(visit: Visit<'_>, w: &mut Writer) -> Result<()>
         ≡ w.old.text ++ visits_text w.old.first (visit_of visit.entry ∷ rest)) }
     ensures in_range { OnOk result (VisitsInRange (visit_of visit.entry ∷ [])) }
     ensures first { OnOk result (w.new.first ≡ first_flag_after w.old.first (visit_of visit.entry ∷ [])) }
-    ensures stays { OnOk result (w.old.refused ≡ false) }
+    ensures was_running { OnOk result (w.old.refused ≡ false) }
     ensures unrefused { OnOk result (w.new.refused ≡ false) }
     ensures memory { OnErr result (IsErrOf result Memory) }
     ensures err { OnErr result (w.new.refused ≡ true) }
@@ -65,11 +65,11 @@ fn put(visit: Visit<'_>, w: &mut Writer) -> Result<()>
 // Writes the opening bracket of an array, and opens the array in the frames. Returns `Memory` if an allocation fails
 // or an earlier call of the writer failed.
 #[inline(always)]
-fn put_array<'a>(array: &'a Array, frames: &mut Frames<'a>, w: &mut Writer) -> Result<()>
+fn begin_array<'a>(array: &'a Array, frames: &mut Frames<'a>, w: &mut Writer) -> Result<()>
     ensures ok { OnOk result (Writes w.old (visits (array_content array.entry.now) (frames_left frames.old))
         w.new (frames_left frames.new)) }
-    ensures ordered { OnOk result (FramesOrdered frames.new
-        → IsOrdered (array_content array.entry.now) × FramesOrdered frames.old) }
+    ensures ordered { OnOk result (NestedNamesRise frames.new
+        → IsOrdered (array_content array.entry.now) × NestedNamesRise frames.old) }
     ensures memory { OnErr result (IsErrOf result Memory) }
     ensures err { OnErr result (w.new.refused ≡ true) }
 {
@@ -82,11 +82,11 @@ fn put_array<'a>(array: &'a Array, frames: &mut Frames<'a>, w: &mut Writer) -> R
 // Writes the opening bracket of an object, and opens the object in the frames. Returns `Memory` if an allocation
 // fails or an earlier call of the writer failed.
 #[inline(always)]
-fn put_object<'a>(object: &'a Object, frames: &mut Frames<'a>, w: &mut Writer) -> Result<()>
+fn begin_object<'a>(object: &'a Object, frames: &mut Frames<'a>, w: &mut Writer) -> Result<()>
     ensures ok { OnOk result (Writes w.old (visits (object_content object.entry.now) (frames_left frames.old))
         w.new (frames_left frames.new)) }
-    ensures ordered { OnOk result (FramesOrdered frames.new
-        → IsOrdered (object_content object.entry.now) × FramesOrdered frames.old) }
+    ensures ordered { OnOk result (NestedNamesRise frames.new
+        → IsOrdered (object_content object.entry.now) × NestedNamesRise frames.old) }
     ensures memory { OnErr result (IsErrOf result Memory) }
     ensures err { OnErr result (w.new.refused ≡ true) }
 {
@@ -99,11 +99,11 @@ fn put_object<'a>(object: &'a Object, frames: &mut Frames<'a>, w: &mut Writer) -
 // Writes the value if it is a leaf. Of a container writes the opening bracket alone, and opens it in the frames, from which
 // `put_all` writes the children. Returns `Memory` if an allocation fails or an earlier call of the writer failed.
 #[inline(always)]
-fn put_value<'a>(value: &'a Value, frames: &mut Frames<'a>, w: &mut Writer) -> Result<()>
+fn begin_value<'a>(value: &'a Value, frames: &mut Frames<'a>, w: &mut Writer) -> Result<()>
     ensures ok { OnOk result (Writes w.old (visits (content_of value.entry.now) (frames_left frames.old))
         w.new (frames_left frames.new)) }
-    ensures ordered { OnOk result (FramesOrdered frames.new
-        → IsOrdered (content_of value.entry.now) × FramesOrdered frames.old) }
+    ensures ordered { OnOk result (NestedNamesRise frames.new
+        → IsOrdered (content_of value.entry.now) × NestedNamesRise frames.old) }
     ensures memory { OnErr result (IsErrOf result Memory) }
     ensures err { OnErr result (w.new.refused ≡ true) }
 {
@@ -112,8 +112,8 @@ fn put_value<'a>(value: &'a Value, frames: &mut Frames<'a>, w: &mut Writer) -> R
         Value::Bool(b) => w.fragment(Fragment::Bool(*b)),
         Value::Number(number) => w.fragment(number.fragment()),
         Value::String(text) => w.fragment(Fragment::Str(text.as_str())),
-        Value::Array(array) => put_array(array, frames, w),
-        Value::Object(object) => put_object(object, frames, w),
+        Value::Array(array) => begin_array(array, frames, w),
+        Value::Object(object) => begin_object(object, frames, w),
     }
 }
 
@@ -122,14 +122,14 @@ fn put_value<'a>(value: &'a Value, frames: &mut Frames<'a>, w: &mut Writer) -> R
 fn put_all(mut frames: Frames<'_>, w: &mut Writer) -> Result<()>
     requires { w.old.refused ≡ false }
     ensures ok { OnOk result (Writes w.old (frames_left frames.entry) w.new []) }
-    ensures ordered { OnOk result (FramesOrdered frames.entry) }
+    ensures ordered { OnOk result (NestedNamesRise frames.entry) }
     ensures memory { OnErr result (IsErrOf result Memory) }
     ensures err { OnErr result (w.new.refused ≡ true) }
 {
     while let Some((visit, child)) = frames.next() {
         put(visit, w)?;
         if let Some(value) = child {
-            put_value(value, &mut frames, w)?;
+            begin_value(value, &mut frames, w)?;
         }
     }
     Ok(())
@@ -148,7 +148,7 @@ impl Serialize for Array {
 
     fn begin(&self, w: &mut Writer) -> Result<()> {
         let mut frames = Frames::new(w.alloc());
-        put_array(self, &mut frames, w)?;
+        begin_array(self, &mut frames, w)?;
         put_all(frames, w)
     }
 }
@@ -158,7 +158,7 @@ impl Serialize for Object {
 
     fn begin(&self, w: &mut Writer) -> Result<()> {
         let mut frames = Frames::new(w.alloc());
-        put_object(self, &mut frames, w)?;
+        begin_object(self, &mut frames, w)?;
         put_all(frames, w)
     }
 }
@@ -170,7 +170,7 @@ impl Serialize for Value {
 
     fn begin(&self, w: &mut Writer) -> Result<()> {
         let mut frames = Frames::new(w.alloc());
-        put_value(self, &mut frames, w)?;
+        begin_value(self, &mut frames, w)?;
         put_all(frames, w)
     }
 }

@@ -9,19 +9,19 @@ use Rattle.miniserde_model.proofs.Accepted.{json_tree}
 use Rattle.miniserde_model.proofs.Normal.{norm_tree}
 use Rattle.miniserde_model.proofs.Utf8.{json_utf8}
 use Rattle.miniserde_model.proofs.Written.{written}
-use Rattle.miniserde_canonical.specs.Token.{tokens}
+use Rattle.miniserde_canonical.specs.TextToken.{tokens}
 use Rattle.miniserde_canonical.specs.declared.draft.Draft.{Draft}
-use Rattle.miniserde_canonical.specs.private.Arranging.{State, Run, start}
+use Rattle.miniserde_canonical.specs.private.Arranging.{State, TokenSteps, start}
 use Rattle.miniserde_canonical.specs.private.Drafts.{Holding}
 use Rattle.miniserde_canonical.specs.private.Spreads.{Holds}
-use Rattle.miniserde_canonical.proofs.Growing.{run_makes}
+use Rattle.miniserde_canonical.proofs.Growing.{steps_make}
 use Rattle.miniserde_canonical.proofs.Drafting.{holds_whole}
 use Rattle.miniserde_canonical.proofs.canonicalize.canonicalize.Goals as goal
 
-held : (d : Draft) (t : Tree) (s : State) → Run (tokens t) start s → Holding d d.out.bytes.items s
+held : (d : Draft) (t : Tree) (s : State) → TokenSteps (tokens t) start s → Holding d d.out.bytes.items s
     → Holds d.groups.bytes.items d.groups.splices.items 0 d.out.bytes.items d.out.splices.items (compact (norm t))
 held d t s r h =
-    let m = run_makes t s r in
+    let m = steps_make t s r in
     subst (λ z. Holds d.groups.bytes.items d.groups.splices.items 0 d.out.bytes.items d.out.splices.items z) m.0
     (holds_whole d s h m.1)
 
@@ -41,4 +41,4 @@ pub returns-clause-ok : goal.returns-clause-ok
 returns-clause-ok c =
     let r = c.in_ok-draft.ensures.ok in
     let bytes = c.in_ok-bytes.ensures _ (held c.in_ok-draft.draft r.0 r.1 r.3 r.4) in
-    (r.0, r.2, search (rules, bytes), r.4.distinct ∙ (run_makes r.0 r.1 r.3).2)
+    (r.0, r.2, search (rules, bytes), r.4.distinct ∙ (steps_make r.0 r.1 r.3).2)

@@ -1,12 +1,12 @@
 -- The text up to each splice, and its group.
 use Rattle.std.proofs.Common.{rules, ◌≡◌, refl, length, sym, ◌∙◌}
 use Rattle.std.proofs.lemmas.List.{drop_all}
-use Rattle.miniserde_canonical.proofs.Filling.{fill_begins, fill_goes, fill_ends, fill_none}
+use Rattle.miniserde_canonical.proofs.Filling.{fill_begins, fill_goes, fill_ends, fill_without_splices}
 use Rattle.miniserde_canonical.proofs.groups.fill_splices.Goals as goal
 
 pub returns-then-is_empty : goal.returns-then-is_empty
 returns-then-is_empty c =
-    fill_none _ _ c.args.text.bytes.items _ c.as_slice-splices.result.now c.as_slice-splices.ensures.value
+    fill_without_splices _ _ c.args.text.bytes.items _ c.as_slice-splices.result.now c.as_slice-splices.ensures.value
     (sym c.is_empty.ensures ∙ c.if-is_empty.true)
 
 pub loop-splice-init : goal.loop-splice-init

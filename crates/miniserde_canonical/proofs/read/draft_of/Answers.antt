@@ -6,7 +6,7 @@ use Rattle.miniserde_model.specs.private.Reading.{due, after}
 use Rattle.miniserde_text.specs.private.Stack.{innermost}
 use Rattle.miniserde_text.specs.private.Moving.{before_child, due_or_after}
 use Rattle.miniserde_canonical.specs.private.Moving.{ReadsTokens}
-use Rattle.miniserde_canonical.specs.private.Drafts.{Takes, Holding}
+use Rattle.miniserde_canonical.specs.private.Drafts.{DraftTakes, Holding}
 use Rattle.miniserde_canonical.proofs.Drafting.{keep_holding}
 use Rattle.miniserde_canonical.proofs.Wholes.{barred_from, barred_json, invalid_exit, end_invalid}
 use Rattle.miniserde_canonical.proofs.Taking.{taken_first, taken_more, taken_all}
@@ -20,7 +20,7 @@ loop-kind-init c =
       going = c.in_ok-first.ensures.going;
       taken =
           taken_first _ _ _ _ r.0 _ _ _ _ c.new-3.ensures start c.new-4.ensures r.1
-          (subst (λ z. Takes due z r.0 (before_child c.in_ok-first.first) c.value.new.self.lexer.rest c.new-4.result
+          (subst (λ z. DraftTakes due z r.0 (before_child c.in_ok-first.first) c.value.new.self.lexer.rest c.new-4.result
           c.value.new.self.draft) start r.2);
     }
 
@@ -32,7 +32,7 @@ loop-kind-preserved-then-branch c =
     let l = c.loop-kind.reader in
     let reads = subst (λ z. ReadsTokens (before_child c.loop-kind.first) l.stack l.lexer.rest a.0 (due_or_after z)
     c.take_child_or_end.new.self.stack c.take_child_or_end.new.self.lexer.rest) c.if-branch.true a.1 in
-    let takes = subst (λ z. Takes (before_child c.loop-kind.first) l.lexer.rest a.0 (due_or_after z)
+    let takes = subst (λ z. DraftTakes (before_child c.loop-kind.first) l.lexer.rest a.0 (due_or_after z)
     c.take_child_or_end.new.self.lexer.rest l.draft c.take_child_or_end.new.self.draft) c.if-branch.true a.2
     in
     let turned = taken_more c.args.j.now _ due _ _ _ _ a.0 l.draft c.take_child_or_end.new.self.draft
@@ -45,7 +45,7 @@ loop-kind-preserved c =
     let l = c.loop-kind.reader in
     let reads = subst (λ z. ReadsTokens (before_child c.loop-kind.first) l.stack l.lexer.rest a.0 (due_or_after z)
     c.take_child_or_end.new.self.stack c.take_child_or_end.new.self.lexer.rest) c.if-branch.false a.1 in
-    let takes = subst (λ z. Takes (before_child c.loop-kind.first) l.lexer.rest a.0 (due_or_after z)
+    let takes = subst (λ z. DraftTakes (before_child c.loop-kind.first) l.lexer.rest a.0 (due_or_after z)
     c.take_child_or_end.new.self.lexer.rest l.draft c.take_child_or_end.new.self.draft) c.if-branch.false a.2
     in
     record {
@@ -74,7 +74,7 @@ returns-in_err-first-2-clause-invalid c = λ e.
     let l = c.loop-kind.reader in
     let reads = subst (λ z. ReadsTokens (before_child c.loop-kind.first) l.stack l.lexer.rest a.0 (due_or_after z)
     c.take_child_or_end.new.self.stack c.take_child_or_end.new.self.lexer.rest) c.if-branch.true a.1 in
-    let takes = subst (λ z. Takes (before_child c.loop-kind.first) l.lexer.rest a.0 (due_or_after z)
+    let takes = subst (λ z. DraftTakes (before_child c.loop-kind.first) l.lexer.rest a.0 (due_or_after z)
     c.take_child_or_end.new.self.lexer.rest l.draft c.take_child_or_end.new.self.draft) c.if-branch.true a.2
     in
     let turned = taken_more c.args.j.now _ due _ _ _ _ a.0 l.draft c.take_child_or_end.new.self.draft

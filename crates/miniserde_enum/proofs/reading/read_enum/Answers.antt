@@ -7,7 +7,7 @@ use Rattle.miniserde_model.specs.Tree.{str}
 use Rattle.miniserde_model.specs.Lexing.{Follows}
 use Rattle.miniserde_model.specs.declared.kind.Kind.TheVariants.{Map}
 use Rattle.miniserde_text.specs.Lexer.{event_of_token, text_of, is_close}
-use Rattle.miniserde_read.proofs.Objects.{object_begins, object_stops, object_ends, object_ended, object_gives, object_rejects}
+use Rattle.miniserde_read.proofs.Objects.{object_begins, no_object_follows, object_ends, object_ended, object_gives, object_rejects}
 use Rattle.miniserde_read.proofs.Steps.{members_follow}
 use Rattle.miniserde_enum.proofs.Ones.{one_next, one_all, one_goes, one_rejected, one_full, last}
 use Rattle.miniserde_enum.proofs.reading.read_enum.Goals as goal
@@ -28,7 +28,7 @@ returns-in_err-value-in-MapStart-clause-invalid g c = λ e.
 pub returns-in_err-after-in-MapStart-clause-invalid : goal.returns-in_err-after-in-MapStart-clause-invalid
 returns-in_err-after-in-MapStart-clause-invalid g c = λ e.
     let w = err_from_is_err_and c.from_residual-in_err-after-in-MapStart.result c.from_residual-in_err-after-in-MapStart.ensures.1 in
-    object_rejects _ _ _ c.in-MapStart.is (λ ms r p. absurd (object_stops
+    object_rejects _ _ _ c.in-MapStart.is (λ ms r p. absurd (no_object_follows
     (one_goes (g.C.Cases.meaning.content_by_name g.E.DataEnum.names) _ _ c.in_ok-name-in-MapStart.ensures.ok c.in-Some-2.is
     (rw c.names-in-MapStart.ensures at c.in_ok-value-in-MapStart.ensures.ok))
     (λ us i j. let m = members_follow us false _ i j in

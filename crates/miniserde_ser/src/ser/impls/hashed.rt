@@ -67,7 +67,7 @@ fn write_entries<V: Serialize>(entries: &[(String, &V)], w: &mut Writer) -> Resu
     ensures in_range { OnOk result (InRange (members (members_of string_bytes (λ v. V.tree v.now) entries.entry.now))) }
     ensures first { OnOk result (w.new.first ≡ false) }
     ensures unrefused { OnOk result (w.new.refused ≡ false) }
-    ensures stays { OnOk result (w.old.refused ≡ false) }
+    ensures was_running { OnOk result (w.old.refused ≡ false) }
     ensures memory { OnErr result (IsErrOf result Memory) }
     ensures err { OnErr result (w.new.refused ≡ true) }
 {

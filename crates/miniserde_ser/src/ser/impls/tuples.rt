@@ -16,7 +16,7 @@ fn write_item<T: Serialize>(item: &T, before: &str, w: &mut Writer) -> Result<()
     ensures in_range { OnOk result (InRange (T.tree item.now)) }
     ensures first { OnOk result (w.new.first ≡ false) }
     ensures unrefused { OnOk result (w.new.refused ≡ false) }
-    ensures stays { OnOk result (w.old.refused ≡ false) }
+    ensures was_running { OnOk result (w.old.refused ≡ false) }
     ensures memory { OnErr result (IsErrOf result Memory) }
     ensures err { OnErr result (w.new.refused ≡ true) }
 {

@@ -1,8 +1,8 @@
 //! The open containers of a walk, and what is left of each.
 ghost use Rattle.std.specs.Prelude.{◌≡◌, ◌∷◌, [], OnOk, MatchOption};
 ghost use Rattle.std.specs.Slice.Iter.{iter_rest};
-ghost use Rattle.miniserde_value.specs.Walks.{visit_of, items_left, members_left, ItemsOrdered, MembersOrdered};
-ghost use Rattle.miniserde_value.specs.Walks.{frames_left, due_left, FramesOrdered, DueOrdered};
+ghost use Rattle.miniserde_value.specs.Walks.{visit_of, items_left, members_left, ItemsNamesRise, ValuesNamesRise};
+ghost use Rattle.miniserde_value.specs.Walks.{frames_left, due_left, NestedNamesRise, DueNamesRise};
 
 use super::super::value::Value;
 use super::Visit;
@@ -43,7 +43,7 @@ impl<'a> Frames<'a> {
         items: slice::Iter<'a, Value>,
     ) -> result::Result<(), AllocError>
         ensures left { OnOk result (frames_left self.new ≡ items_left items.entry (frames_left self.old)) }
-        ensures ordered { OnOk result (FramesOrdered self.new → ItemsOrdered items.entry × FramesOrdered self.old) }
+        ensures ordered { OnOk result (NestedNamesRise self.new → ItemsNamesRise items.entry × NestedNamesRise self.old) }
     {
         self.open.push(Frame::Array(items))?;
         Ok(())
@@ -55,7 +55,7 @@ impl<'a> Frames<'a> {
         members: btree_map::Iter<'a, String, Value>,
     ) -> result::Result<(), AllocError>
         ensures left { OnOk result (frames_left self.new ≡ members_left members.entry (frames_left self.old)) }
-        ensures ordered { OnOk result (FramesOrdered self.new → MembersOrdered members.entry × FramesOrdered self.old) }
+        ensures ordered { OnOk result (NestedNamesRise self.new → ValuesNamesRise members.entry × NestedNamesRise self.old) }
     {
         self.objects.push(members)?;
         self.open.push(Frame::Object)?;
@@ -69,8 +69,8 @@ impl<'a> Frames<'a> {
     pub(crate) fn next(&mut self) -> Option<(Visit<'a>, Option<&'a Value>)>
         ensures left { MatchOption result (frames_left self.old ≡ [])
             (λ next. frames_left self.old ≡ visit_of next.0 ∷ due_left next.1 (frames_left self.new)) }
-        ensures ordered { MatchOption result (FramesOrdered self.old)
-            (λ next. DueOrdered next.1 → FramesOrdered self.new → FramesOrdered self.old) }
+        ensures ordered { MatchOption result (NestedNamesRise self.old)
+            (λ next. DueNamesRise next.1 → NestedNamesRise self.new → NestedNamesRise self.old) }
     {
         match self.open.last_mut()? {
             Frame::Array(items) => match items.next() {

@@ -7,10 +7,10 @@ use Rattle.std.specs.String.{string_bytes}
 use Rattle.miniserde_model.specs.Lexing.{Follows, closing}
 use Rattle.miniserde_model.specs.private.Reading.{after}
 use Rattle.miniserde_text.specs.Lexer.{text_of, is_close}
-use Rattle.miniserde_canonical.specs.Token.{name, element}
+use Rattle.miniserde_canonical.specs.TextToken.{name, element}
 use Rattle.miniserde_text.specs.private.Moving.{before_child}
 use Rattle.miniserde_canonical.specs.private.Arranging.{comma_before, State, TokenStep}
-use Rattle.miniserde_canonical.specs.private.Drafts.{Wrote, Holding, Represents, Takes}
+use Rattle.miniserde_canonical.specs.private.Drafts.{Wrote, Holding, Represents, DraftTakes}
 use Rattle.miniserde_canonical.specs.private.Moving.{end_token}
 use Rattle.miniserde_text.proofs.Consumes.{after_ends, name_ends}
 use Rattle.miniserde_canonical.proofs.Wholes.{reads_finish, reads_element, reads_key}
@@ -58,7 +58,7 @@ returns-in-Seq-clause-reads c =
     subst (λ z. Follows k c.args.first (is_close z) mid new) c.in-Close.is c.in_ok-after.ensures.ok.2 in (
       end_token k ∷ [],
       reads_finish _ _ _ _ k c.args.first c.requires.inside (follows_behind k c.args.first true old mid new b p) c.pop.ensures,
-      subst (λ z. Takes (before_child c.args.first) old (end_token z ∷ []) after new d d1) (sym c.in-Seq.is)
+      subst (λ z. DraftTakes (before_child c.args.first) old (end_token z ∷ []) after new d d1) (sym c.in-Seq.is)
           (takes_array_end (before_child c.args.first) old mid new d d1
           (skipped d d1 old mid c.in_ok-before.ensures.wrote c.in_ok-before.ensures.only_text)
           (closing_at k c.args.first mid new b.stops p ∙ ap (λ z. closing z ∷ new) c.in-Seq.is)),
@@ -77,7 +77,7 @@ returns-in_ok-close-in-Map-clause-reads c =
     subst (λ z. Follows k c.args.first (is_close z) mid new) c.in-Close.is c.in_ok-after.ensures.ok.2 in (
       end_token k ∷ [],
       reads_finish _ _ _ _ k c.args.first c.requires.inside (follows_behind k c.args.first true old mid new b p) c.pop.ensures,
-      subst (λ z. Takes (before_child c.args.first) old (end_token z ∷ []) after new d c.close.new.self) (sym c.in-Map.is)
+      subst (λ z. DraftTakes (before_child c.args.first) old (end_token z ∷ []) after new d c.close.new.self) (sym c.in-Map.is)
           (takes_object_end (before_child c.args.first) old mid new d d1 c.close.new.self
           (skipped d d1 old mid c.in_ok-before.ensures.wrote c.in_ok-before.ensures.only_text)
           (closing_at k c.args.first mid new b.stops p ∙ ap (λ z. closing z ∷ new) c.in-Map.is)

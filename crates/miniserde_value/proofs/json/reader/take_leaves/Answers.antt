@@ -12,7 +12,7 @@ use Rattle.miniserde_read.proofs.Tokens.{start_event}
 use Rattle.miniserde_value.specs.Builders.{hole_in}
 use Rattle.miniserde_value.specs.Containers.{with_next_name}
 use Rattle.miniserde_value.specs.private.Builds.{kinds}
-use Rattle.miniserde_value.proofs.Builds.{kinds_innermost, child_builds, close_builds, Builds-append, leaf_stays}
+use Rattle.miniserde_value.proofs.Builds.{innermost_of_kinds, child_builds, close_builds, Builds-append, leaf_stays}
 use Rattle.miniserde_value.proofs.Builds.{pending_begun, follows_shorter, stuck, never_behind}
 use Rattle.miniserde_value.proofs.json.reader.take_leaves.Goals as goal
 
@@ -24,7 +24,7 @@ returns-in_err-after-clause-invalid c = λ e.
     never_behind c.args.once (before_child c.args.first) (hole_in c.args.builder.now) c.args.source.now.rest m h
     c.loop-source.source.rest c.loop-source.invariant.builds
     (stuck c.args.once m h _ (after_ends (kinds h) _ c.args.kind c.loop-source.first
-    (kinds_innermost h ∙ c.loop-source.invariant.inside)
+    (innermost_of_kinds h ∙ c.loop-source.invariant.inside)
     (c.in_err-after.ensures.invalid (cc (w.1, w.2, e)) c.loop-source.invariant.going)))
 
 pub begin_child-requires-clause-event : goal.begin_child-requires-clause-event

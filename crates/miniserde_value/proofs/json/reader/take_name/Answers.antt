@@ -9,7 +9,7 @@ use Rattle.miniserde_text.proofs.Consumes.{name_ends}
 use Rattle.miniserde_value.specs.Builders.{hole_in}
 use Rattle.miniserde_value.specs.Hole.{has_member, with_name}
 use Rattle.miniserde_value.specs.private.Builds.{kinds}
-use Rattle.miniserde_value.proofs.Builds.{kinds_innermost, element_builds, key_builds, stuck, repeat_gives}
+use Rattle.miniserde_value.proofs.Builds.{innermost_of_kinds, element_builds, key_builds, stuck, repeat_gives}
 use Rattle.miniserde_value.proofs.json.reader.take_name.Goals as goal
 
 pub returns-in-Seq-clause-builds : goal.returns-in-Seq-clause-builds
@@ -21,7 +21,7 @@ returns-in_err-name-clause-invalid c = λ first s i p e.
     let w = err_from_is_err_and c.from_residual.result c.from_residual.ensures.1 in
     let h = hole_in c.args.builder.now in
     stuck c.args.once (before_child first) h _
-    (name_ends (kinds h) _ _ c.args.kind first (kinds_innermost h ∙ i) c.in_default.is p
+    (name_ends (kinds h) _ _ c.args.kind first (innermost_of_kinds h ∙ i) c.in_default.is p
     (c.in_err-name.ensures.invalid (cc (w.1, w.2, e)) c.requires))
 
 pub returns-in_err-copy-clause-invalid : goal.returns-in_err-copy-clause-invalid

@@ -1,14 +1,14 @@
 -- The loop keeps the text so far followed by the text of the visits left (`Writes`), and that the names of all visits
 -- are in order if those left are. Each turn takes one visit or more.
 use Rattle.std.proofs.Common.{length}
-use Rattle.miniserde_value.specs.Walks.{frames_left, FramesOrdered}
+use Rattle.miniserde_value.specs.Walks.{frames_left, NestedNamesRise}
 use Rattle.miniserde_value.specs.Writes.{Writes}
 use Rattle.miniserde_value.proofs.json.write.put_all.Given as goal
 
 abbrev pub invariant-loop-visit : goal.invariant-loop-visit
 invariant-loop-visit l = record {
   writes : Writes l.fn.w (frames_left l.fn.frames) l.w (frames_left l.frames);
-  ordered : FramesOrdered l.frames → FramesOrdered l.fn.frames;
+  ordered : NestedNamesRise l.frames → NestedNamesRise l.fn.frames;
 }
 
 abbrev pub decreases-loop-visit : goal.decreases-loop-visit

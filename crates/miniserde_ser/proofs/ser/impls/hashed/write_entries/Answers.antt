@@ -24,5 +24,5 @@ loop-entry-preserved g c =
       start = λ z. absurd (omega arith);
       later = λ _. c.in_ok-begin.ensures.first (ap (λ s. s.first) at);
       unrefused = c.in_ok-begin.ensures.unrefused;
-      stays = inv.stays;
+      was_running = inv.was_running;
     })

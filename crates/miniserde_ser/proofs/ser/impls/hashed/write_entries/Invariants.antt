@@ -14,5 +14,5 @@ invariant-loop-entry g l = record {
   start : l.entry-index ≡ 0 → l.w.first ≡ true;
   later : 0 < l.entry-index → l.w.first ≡ false;
   unrefused : l.w.refused ≡ false;
-  stays : l.fn.w.refused ≡ false;
+  was_running : l.fn.w.refused ≡ false;
 }

@@ -19,5 +19,5 @@ loop-x-preserved g c =
       start = λ e. absurd (omega arith);
       later = λ _. c.in_ok-begin.ensures.first (ap (λ s. s.first) e);
       unrefused = c.in_ok-begin.ensures.unrefused;
-      stays = inv.stays;
+      was_running = inv.was_running;
     }

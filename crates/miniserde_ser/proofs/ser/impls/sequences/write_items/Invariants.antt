@@ -13,5 +13,5 @@ invariant-loop-x g l = record {
   start : l.x-index ≡ 0 → l.w.first ≡ true;
   later : 0 < l.x-index → l.w.first ≡ false;
   unrefused : l.w.refused ≡ false;
-  stays : l.fn.w.refused ≡ false;
+  was_running : l.fn.w.refused ≡ false;
 }

@@ -1,4 +1,4 @@
--- `begin` writes the compact text of the array's normal form. `put_array` writes the opening, `put_all` writes the
+-- `begin` writes the compact text of the array's normal form. `begin_array` writes the opening, `put_all` writes the
 -- visits left, and `text_wrote` joins both.
 use Rattle.std.proofs.Common.{[], subst}
 use Rattle.std.proofs.lemmas.Result.{on_ok_weaker}
@@ -13,33 +13,33 @@ use Rattle.miniserde_value.proofs.json.write.ArraySerialize.begin.Goals as goal
 pub returns-clause-ok : goal.returns-clause-ok
 returns-clause-ok c =
     let t = array_content c.args.self.now in
-    let left = frames_left c.put_array.new.frames in
-    let begun : Writes c.args.w.now (visits t []) c.put_array.new.w left =
-    subst (λ x. Writes c.args.w.now (visits t x) c.put_array.new.w left) c.new-frames.ensures.left
-    c.in_ok-put_array.ensures.ok in
+    let left = frames_left c.begin_array.new.frames in
+    let begun : Writes c.args.w.now (visits t []) c.begin_array.new.w left =
+    subst (λ x. Writes c.args.w.now (visits t x) c.begin_array.new.w left) c.new-frames.ensures.left
+    c.in_ok-begin_array.ensures.ok in
     on_ok_both c.put_all.result
-    (λ ended order. text_wrote t c.args.w.now c.put_array.new.w c.put_all.new.w left
-    (record { begun = begun; ended = ended }) (c.in_ok-put_array.ensures.ordered order).0)
+    (λ ended order. text_wrote t c.args.w.now c.begin_array.new.w c.put_all.new.w left
+    (record { begun = begun; ended = ended }) (c.in_ok-begin_array.ensures.ordered order).0)
     c.put_all.ensures.ok c.put_all.ensures.ordered
 
 pub returns-clause-in_range : goal.returns-clause-in_range
 returns-clause-in_range c =
     let t = array_content c.args.self.now in
-    let left = frames_left c.put_array.new.frames in
-    let begun : Writes c.args.w.now (visits t []) c.put_array.new.w left =
-    subst (λ x. Writes c.args.w.now (visits t x) c.put_array.new.w left) c.new-frames.ensures.left
-    c.in_ok-put_array.ensures.ok in
+    let left = frames_left c.begin_array.new.frames in
+    let begun : Writes c.args.w.now (visits t []) c.begin_array.new.w left =
+    subst (λ x. Writes c.args.w.now (visits t x) c.begin_array.new.w left) c.new-frames.ensures.left
+    c.in_ok-begin_array.ensures.ok in
     on_ok_weaker c.put_all.result
-    (λ ended. tree_wrote t c.args.w.now c.put_array.new.w c.put_all.new.w left
+    (λ ended. tree_wrote t c.args.w.now c.begin_array.new.w c.put_all.new.w left
     (record { begun = begun; ended = ended })) c.put_all.ensures.ok
 
 pub returns-clause-first : goal.returns-clause-first
 returns-clause-first c =
     let t = array_content c.args.self.now in
-    let left = frames_left c.put_array.new.frames in
-    let begun : Writes c.args.w.now (visits t []) c.put_array.new.w left =
-    subst (λ x. Writes c.args.w.now (visits t x) c.put_array.new.w left) c.new-frames.ensures.left
-    c.in_ok-put_array.ensures.ok in
+    let left = frames_left c.begin_array.new.frames in
+    let begun : Writes c.args.w.now (visits t []) c.begin_array.new.w left =
+    subst (λ x. Writes c.args.w.now (visits t x) c.begin_array.new.w left) c.new-frames.ensures.left
+    c.in_ok-begin_array.ensures.ok in
     on_ok_weaker c.put_all.result
-    (λ ended. first_wrote t c.args.w.now c.put_array.new.w c.put_all.new.w left
+    (λ ended. first_wrote t c.args.w.now c.begin_array.new.w c.put_all.new.w left
     (record { begun = begun; ended = ended })) c.put_all.ensures.ok

@@ -24,5 +24,5 @@ loop-key-preserved g c =
       start = λ z. absurd (omega (arith, length-append done ((c.in-Some.key, c.in-Some.value) ∷ []), z));
       later = λ _. c.in_ok-begin.ensures.first (ap (λ s. s.first) at);
       unrefused = c.in_ok-begin.ensures.unrefused;
-      stays = inv.stays;
+      was_running = inv.was_running;
     })

@@ -14,5 +14,5 @@ invariant-loop-key g l = record {
   start : length l.yielded ≡ 0 → l.w.first ≡ true;
   later : 0 < length l.yielded → l.w.first ≡ false;
   unrefused : l.w.refused ≡ false;
-  stays : l.fn.w.refused ≡ false;
+  was_running : l.fn.w.refused ≡ false;
 }
