@@ -22,8 +22,8 @@ pub trait Layout {
     const OUT_OF_LINE: bool;
 }
 
-/// The layout of a struct of up to three fields.
-pub struct InLine {}
+// The layout of a struct of up to three fields.
+struct InLine {}
 
 impl Layout for InLine {
     const OUT_OF_LINE: bool = false;
@@ -31,7 +31,7 @@ impl Layout for InLine {
 
 /// The layout of a longer struct: the compiler packs the comparisons of names in one function if the readers of the
 /// fields are none of its code.
-pub struct OutOfLine {}
+pub(super) struct OutOfLine {}
 
 impl Layout for OutOfLine {
     const OUT_OF_LINE: bool = true;
