@@ -4,11 +4,10 @@ use Rattle.std.proofs.Common.{◌≡◌, ℕ, ◌+◌, ◌-◌, ◌≤◌, ◌<�
 use Rattle.std.proofs.Common.{arith, length-append, length-drop}
 use Rattle.std.specs.List.{position_or_len}
 use Rattle.std.specs.Str.{IsUtf8, IsCharBoundary}
-use Rattle.std.proofs.lemmas.List.{drop-drop}
 use Rattle.std.proofs.lemmas.Str.{IsCharBoundary-after_ascii, IsCharBoundary-from_rest}
 use Rattle.miniserde_model.specs.Bytes.{is_special}
 use Rattle.miniserde_text.specs.private.Reading.{after_run, is_unescaped, FollowsAscii, EndsWith}
-use Rattle.miniserde_text.proofs.Lanes.{after_unescaped_is, boundary}
+use Rattle.miniserde_text.proofs.Lanes.{run_from, boundary}
 
 -- if the byte at i is ASCII, i + 1 follows an ASCII byte
 pub follows_more : (s : List ℕ) (i : ℕ) → i < length s → get_or s i 0 < 128 → FollowsAscii s (i + 1)
@@ -28,9 +27,7 @@ ends_order s i j h k (b, e) = omega (arith, ap length e ∙ length-append b (dro
 
 -- if j is the index of the first special byte from i on, the run of unescaped bytes from i on ends at j
 pub unescaped_from : (s : List ℕ) (i j : ℕ) → j ≡ i + position_or_len is_special (drop i s) → drop j s ≡ after_run is_unescaped (drop i s)
-unescaped_from s i j e =
-    let t = drop i s in
-    ap (λ k. drop k s) e ∙ sym (drop-drop (position_or_len is_special t) i s) ∙ sym (after_unescaped_is t)
+unescaped_from = run_from is_special is_unescaped (λ c. refl)
 
 -- the index j of the first special byte from i on, or else the length, is a character boundary
 pub special_boundary : (s : List ℕ) (i j : ℕ) → i ≤ length s → j ≡ i + position_or_len is_special (drop i s) → IsCharBoundary s j

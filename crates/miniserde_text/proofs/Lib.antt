@@ -4,6 +4,7 @@ pub mod Options
 pub mod Leaves
 pub mod Numbers
 pub mod Lanes
+pub mod Spaces
 pub mod Indices
 pub mod Escapes
 pub mod Strings

@@ -17,4 +17,4 @@ before_first xs i k h l =
 -- if the mask of the n bytes from i on is 0, none of these bytes is special
 pub lanes_plain : (n : ℕ) (xs : List ℕ) (i : ℕ) → i + n ≤ length xs → mask_l (map is_special (chunk i n xs)) ≡ 0
     → (k : ℕ) → i ≤ k → k < i + n → is_special (get_or xs k 0) ≡ false
-lanes_plain n xs i room none k h l = before_first xs i k h (omega (arith, through n xs i room none))
+lanes_plain n xs i room none k h l = before_first xs i k h (omega (arith, through is_special n xs i room none))

@@ -8,6 +8,8 @@ mod lexer;
 #[cfg(test)]
 mod numbers;
 #[cfg(test)]
+mod space;
+#[cfg(test)]
 mod special;
 #[cfg(test)]
 mod wrong;

@@ -8,7 +8,7 @@ use Rattle.std.specs.Prelude.{nat_eq, Option, Some, None, option_and_then, lengt
 use Rattle.std.specs.List.{starts_with}
 use Rattle.std.specs.Char.{digit_value}
 use Rattle.std.specs.Str.Parse.{digits_value}
-use Rattle.miniserde_model.specs.Bytes.{is_number_byte, is_special}
+use Rattle.miniserde_model.specs.Bytes.{is_number_byte, is_space, is_special}
 use Rattle.miniserde_model.specs.Step.{Step, boolean, negative, nonnegative, float, seq, map}
 use Rattle.miniserde_model.specs.Step as step
 use Rattle.miniserde_model.specs.Lexing.{closing}
@@ -31,6 +31,10 @@ is_exponent_letter c = (c == 101) || (c == 69)
 -- whether the byte may stand unescaped inside a string
 abbrev pub is_unescaped : ℕ → Bool
 is_unescaped c = not (is_special c)
+
+-- whether the byte is no whitespace
+abbrev pub is_not_space : ℕ → Bool
+is_not_space c = not (is_space c)
 
 -- whether the byte is a hexadecimal digit
 abbrev pub is_hex : ℕ → Bool
