@@ -11,7 +11,7 @@ use miniserde::{Error, FromJson, Result, Serialize};
 use std::alloc::Global;
 
 /// Marks each order as paid.
-pub fn settle_all(orders: &mut Vec<Order>)
+pub fn mark_all_paid(orders: &mut Vec<Order>)
     ensures { orders.new.items ≡ map settled_of orders.old.items }
 {
     for order in orders.iter_mut() {
@@ -33,7 +33,7 @@ pub fn settled_all(alloc: Global, text: &str) -> Result<String>
         → (orders : Vec Order Global) → ⟦<Vec<Order> as FromJson>⟧.means.reads t orders → ⊥ }
 {
     let mut orders: Vec<Order> = from_str(alloc, text)?;
-    settle_all(&mut orders);
+    mark_all_paid(&mut orders);
     let written = to_string(alloc, &orders)?;
     Ok(written)
 }
