@@ -54,7 +54,7 @@ pub(crate) fn fill(members: &[Member<'_>], order: &mut Vec<usize>) -> Result<(),
 }
 
 /// Sorts the indices in `order` by the names of their members. The sort is stable, so the last of equal names stays
-/// last. Fails if the sort fails to allocate.
+/// last (`last`: by r, which tells the indices apart). Fails if the sort fails to allocate.
 pub(crate) fn sort(members: &[Member<'_>], order: &mut Vec<usize>) -> Result<(), AllocError>
     ensures sorted { OnOk result (IsSortedByKey (name_in members.now) text_cmp order.new.items) }
     ensures last { (r : ℕ → Tree) (q : List ℕ) → last_of q (members_at members.now r order.new.items)

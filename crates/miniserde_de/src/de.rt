@@ -31,7 +31,8 @@ pub trait Deserialize: FromJson {
     fn tied()
         ensures { Agree (type_meaning Self.Place.meaning) Self.means };
 
-    /// Returns what `FromJson::missing` returns, under the name that the original has. It is not std's `Default`.
+    /// Returns the value of a missing field of this type, or `None` if the field must be there. It is
+    /// `FromJson::missing`, under its name in miniserde 0.1.46, and not std's `Default`.
     final fn default() -> Option<Self>
         ensures { result ≡ Self.absent }
     {

@@ -86,13 +86,15 @@ module _ {V : Type 0} {m : Meaning V} {begin : List ℕ} where
             );
       }
 
-  -- the list ends
+  -- If the closing bracket is next, with b behind it, then from `begin` to b stand the children ts and the bracket, and ts
+  -- give the contents of the items that were read.
   pub list_ends : {f : Bool} {s : List ℕ} {items : List V} (b : List ℕ) → ListGoes m begin f s items → Follows Seq f true s b
       → (ts : Trees) × ElementsAt ts true begin b × (each m.from_tree ts ≡ Some (map m.content items))
   list_ends {items = items} b g h =
       let a = g.on no_trees b h in
       (a.0, a.1, a.2 ∙ ap Some (append-nil (map m.content items)))
 
+  -- and any children that `begin` spells up to a closing bracket give these contents
   pub list_ended : {f : Bool} {s : List ℕ} {items : List V} (b : List ℕ) → ListGoes m begin f s items → Follows Seq f true s b
       → (ts : Trees) (r : List ℕ) → ElementsAt ts true begin r → each m.from_tree ts ≡ Some (map m.content items)
   list_ended {f} {s} {items} b g h ts r p =

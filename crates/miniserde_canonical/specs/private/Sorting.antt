@@ -67,8 +67,8 @@ abbrev pub text_at : List Entry → List ℕ → List ℕ
 text_at [] last = []
 text_at (e ∷ es) last = text_before es last
 
--- A string with the own text of the entry at the index i, which is empty beyond the last one. It stands in for the tree of
--- the member, so that what orders members orders texts.
+-- The tree `str x`, where x is the own text of the entry at the index i, empty beyond the last one. `members_at` takes a
+-- tree for each index: with this one, what sorts members and drops duplicates does so with their texts.
 abbrev pub own_text_tree : List Entry → List ℕ → ℕ → Tree
 own_text_tree es last i = str (text_at (drop i es) last)
 

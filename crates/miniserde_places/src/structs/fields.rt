@@ -30,7 +30,7 @@ pub trait Fields: Drop {
     // Whether `join` returns `Memory` only if the place of the current value keeps that error.
     ghost join_infallible: { Bool } = { false };
 
-    /// Returns the fields without values.
+    /// Returns the chain at the start: no field has a value yet.
     fn new() -> Self
         ensures { meaning.state result ≡ meaning.meant.empty };
 

@@ -9,8 +9,9 @@ use Rattle.miniserde_model.specs.private.Reading.{Moment, due, first, after}
 use Rattle.miniserde_text.specs.private.Stack.{with_opened}
 use Rattle.miniserde_text.specs.private.Moving.{opened_kind, before_child, MomentFits}
 
--- from the moment on, inside the open containers st (innermost first), the text from s to r spells
--- the events, after which no container is open
+-- From the moment on, inside the open containers st (innermost first), the text from s to r spells the events, after
+-- which no container is open. s is the text that is left now, and r what is left of it at the end. In `Follows k f c s b`
+-- f says that the opening bracket was just taken, and c that the closing one is taken.
 abbrev pub Runs : Moment → List Step → List Kind → List ℕ → List ℕ → Type 0
 Runs due (e ∷ es) st s r = (b : List ℕ) × Starts s e b × Runs (before_child (is_some (opened_kind e))) es
     (with_opened (opened_kind e) st) b r

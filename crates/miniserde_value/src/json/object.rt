@@ -90,8 +90,8 @@ impl Object {
         Ok(self.insert(name, value)?)
     }
 
-    // Adds a member, or replaces the value of the same name. If the map cannot grow, drops both, fails and leaves the
-    // members unchanged. Kept out of line, so that the code of the map stands here alone, inlined.
+    // Adds a member, or replaces the value of the same name. If the map cannot grow, drops name and value, fails and
+    // leaves the members unchanged. Never inlined, so that the map's own `insert` is compiled into this function alone.
     #[inline(never)]
     pub(crate) fn insert(&mut self, name: String, value: Value) -> result::Result<(), AllocError>
         ensures ok { OnOk result (object_members self.new
