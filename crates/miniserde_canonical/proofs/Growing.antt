@@ -73,6 +73,8 @@ Lays [] no_members l f last = last ≡ l
 Lays (e ∷ es) (member n t ms) l f last = (e.earlier_text ≡ l) × (e.first ≡ f) × (e.name ≡ n) × Lays es ms (row n (norm t)) false last
 Lays _ _ l f last = ⊥
 
+-- From s to s' the members ms of an open object are added: their entries and texts, and whether the names in each value
+-- are distinct. The object's own names count when it closes.
 record Lines (s s' : State) (ms : Members) : Type 0 where
   pub added : List Entry
   pub entries : s'.entries ≡ s.entries ++ added

@@ -109,6 +109,7 @@ fn canonicalize(alloc: Global, j: &str) -> Result<(String, bool)>
     ensures invalid { result ≡ Err Invalid → (t : Tree) → IsJson j.now t → ⊥ }
 {
     let draft = draft_of(alloc, j)?;
+    // Members that were out of order stand sorted in the groups, and a splice in the text marks where they belong.
     let bytes = fill_splices(alloc, draft.out, &draft.groups)?;
     // The bytes are UTF-8: they are the compact text of a tree that a text can spell.
     let text = unsafe { String::from_utf8_unchecked(bytes) };

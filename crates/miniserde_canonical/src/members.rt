@@ -112,6 +112,7 @@ pub(crate) fn span_of(members: &[Member<'_>], i: usize, end: Point) -> Span
         return Span { from, to: end };
     }
     let next = &members[i + 1];
+    // The next member of one object is not its first.
     let comma = if next.first { 0 } else { 1 };
     let to = Point {
         bytes: next.point.bytes.saturating_sub(comma),

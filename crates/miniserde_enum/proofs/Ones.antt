@@ -22,6 +22,7 @@ one_next f None k t = option_map Some (f k (Some t))
 one_next f (Some c) k t = None
 
 module _ {C : Type 0} (f : Name → Option Tree → Option C) where
+  -- what the state gives when the object ends: nothing without a member
   abbrev pub last : Option (Option C) → Option C
   last o = option_and_then (λ o. o) o
 

@@ -4,7 +4,7 @@ use Rattle.miniserde_keys.specs.Integers.{integer}
 use Rattle.miniserde_ser.specs.declared.ser.Fragment.{Fragment}
 use Rattle.miniserde_ser.specs.declared.ser.Fragment.TheVariants.{Null, Bool, Str, U64, I64, Text}
 
--- the tree of a fragment
+-- the tree of a fragment; `Text` is a number that is kept as its text
 abbrev pub fragment_tree : Fragment → Tree
 fragment_tree Null = null
 fragment_tree (Bool b) = truth b

@@ -32,7 +32,7 @@ after_bare s b c p q = record {
   is_part = q.is_part;
 }
 
--- a text that runs on as events up to whitespace spells them
+-- if the text from s to r spells the events (`Runs`) and r is whitespace, the whole text s spells them (`Spells`)
 pub run_spells : (m : Moment) (es : List Step) (st : List Kind) (s r : List ℕ) → Runs m es st s r → IsWhitespace r → Spells m es st s
 run_spells due (e ∷ es) st s r h w =
     starts_on e st s h.0 h.1.0 es

@@ -90,6 +90,7 @@ abbrev pub DueNamesRise : Option (Bor Value) → Type 0
 DueNamesRise None = ⊤
 DueNamesRise (Some v) = IsOrdered (content_of v.now)
 
--- in all that the walk has left, the names of each object strictly rise
+-- in the child that is due and in each child that the open containers have left, the names of each object strictly rise; of
+-- the names that the open objects themselves have left it says nothing
 abbrev pub LeftNamesRise : Walk → Type 0
 LeftNamesRise w = DueNamesRise w.due × NestedNamesRise w.frames

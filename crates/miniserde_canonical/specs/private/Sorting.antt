@@ -100,8 +100,8 @@ PutsMembers ns order out groups groups' n = (es : List Entry) (last ms : List �
     (members_text true (without_repeats (members_at ns (own_text_tree es last) order)))
     × (n ≡ count (without_repeats (members_at ns (own_text_tree es last) order)))
 
--- out' is `out` cut off at the point, with bytes and splices behind it that hold the text x over groups'. These are ms and
--- gs with more behind them. Splices that were in order still are (`stay_in_order`).
+-- out' is `out` cut off at the point, with bytes and splices behind it that hold the text x over groups'. The groups' themselves
+-- are ms and gs with more appended. Splices that were in order still are (`stay_in_order`).
 pub record PutAt (point : Point) (ms : List ℕ) (gs : List Splice) (out out' groups' : SplicedText) (x : List ℕ) : Type 0 where
   pub bytes : List ℕ
   pub splices : List Splice

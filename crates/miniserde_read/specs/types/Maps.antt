@@ -37,8 +37,8 @@ abbrev pub entry_at : {K V : Type 0} → (K → Key) → Key → List (K × V) �
 entry_at code q [] = None
 entry_at code q (e ∷ es) = if bytes_eq (code e.0) q then Some e else entry_at code q es
 
--- there is an entry exactly if there are a key and a tree; then the content of the entry's key is that key, and the
--- tree means the entry's value by R
+-- There is an entry exactly if there is a pair of a key's content and a tree; then the entry's key has that content, and the
+-- tree means the entry's value by R.
 abbrev pub MeansAt : {K V : Type 0} → (K → Key) → (Tree → V → Type 0) → Option (Key × Tree) → Option (K × V) → Type 0
 MeansAt content R None None = ⊤
 MeansAt content R None (Some e) = ⊥

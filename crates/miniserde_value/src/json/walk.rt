@@ -105,6 +105,7 @@ impl<'a> Walk<'a> {
 
     // Returns the next visit of the innermost open container, or `None` if none is open. Notes the
     // child to visit next, if the visit starts an element or a member.
+    // `ordered` goes back from the end, where nothing is left: who walks to the end learns it of the whole document.
     fn next_in_container(&mut self) -> Option<Visit<'a>>
         requires { self.old.due ≡ None }
         ensures left { MatchOption result (left self.old ≡ []) (λ f. left self.old ≡ visit_of f ∷ left self.new) }

@@ -44,7 +44,8 @@ static NUMBER: [u8; 256] = [
     0, 0, 0, 0, 0, 0, 0, 0, 0, 0, 0, 0, 0, 0, 0, 0, 0, 0, 0, 0, 0, 0, 0, 0, 0, 0, 0, 0, 0, 0, 0, 0,
 ];
 
-/// Returns the value of a digit of base 36, or 36 if the byte is no such digit.
+/// Returns the value of a hexadecimal digit, and at least 16 for any other byte: std's `digit_value`, which counts on to 35
+/// for `z`, with 36 for what is no digit.
 #[inline(always)]
 pub(super) fn digit(c: u8) -> u8
     ensures { result ≡ digit_value c }
