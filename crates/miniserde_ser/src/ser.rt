@@ -22,7 +22,7 @@ use miniserde_text::escape::put_name;
 use miniserde_text::json::number::NumberText;
 use std::alloc::{AllocError, Global};
 use std::marker::Model;
-use std::{mem, result};
+use std::result;
 pub use text_value::write_text_value;
 
 /// A leaf, as a writer appends it.
@@ -44,10 +44,7 @@ pub enum Fragment<'a> {
 /// one whole value. A call that fails leaves the text and its room unchanged.
 #[derive(Drop)]
 pub struct Writer {
-    // The text. If a call failed, it is empty and has no capacity, so a call that finds room need not test `refused`.
     text: String,
-    // The text before the call that failed, if a call failed.
-    unfinished: String,
     // Whether the next element or member is the first of its container.
     first: bool,
     // Whether a call failed.
@@ -55,23 +52,22 @@ pub struct Writer {
 }
 
 impl Model for Writer {
-    ghost use Rattle.std.specs.Prelude.{◌≡◌, true, string_bytes, string_capacity, if◌then◌else◌};
+    ghost use Rattle.std.specs.Prelude.{string_bytes, string_capacity};
     ghost use Rattle.miniserde_ser.specs.Writer.{WriterView};
 
     ghost Value = { WriterView };
 
     ghost view = { λ w. record {
-      text = if w.refused then string_bytes w.unfinished else string_bytes w.text;
+      text = string_bytes w.text;
       first = w.first;
       refused = w.refused;
-      capacity = if w.refused then string_capacity w.unfinished else string_capacity w.text;
+      capacity = string_capacity w.text;
     } };
-
-    ghost invariant = { λ w. w.refused ≡ true → string_capacity w.text ≡ 0 };
 }
 
 // Appends `text` to `out`, which has no room for it yet. Returns `AllocError` if `out` cannot grow,
-// and leaves it unchanged.
+// and leaves it unchanged. The function is kept out of line, since it is seldom called.
+#[inline(never)]
 fn push_growing(out: &mut String, text: &str) -> result::Result<(), AllocError>
     ensures { Extends out.old text.now result out.new }
 {
@@ -96,7 +92,6 @@ impl Writer {
         Writer {
             // The contract of `String::new` does not promise a capacity of 0.
             text: String::with_capacity(alloc, 0).unwrap(),
-            unfinished: String::with_capacity(alloc, 0).unwrap(),
             first: true,
             refused: false,
         }
@@ -124,23 +119,11 @@ impl Writer {
     fn append(&mut self, text: &str) -> Result<()>
         ensures { Appends self.old text.now self.old.first result self.new }
     {
-        if !text.is_empty() && self.text.capacity() - self.text.len() >= text.len() {
+        self.check()?;
+        if self.text.capacity() - self.text.len() >= text.len() {
             self.text.push_str(text).unwrap();
             return Ok(());
         }
-        // Taken apart and made again, so that the compiler tests the result here alone.
-        match self.append_growing(text) {
-            Ok(()) => Ok(()),
-            Err(_) => Err(Error::Memory),
-        }
-    }
-
-    // Appends a text as `append` does. Kept out of line, since it is seldom called.
-    #[inline(never)]
-    fn append_growing(&mut self, text: &str) -> Result<()>
-        ensures { Appends self.old text.now self.old.first result self.new }
-    {
-        self.check()?;
         match push_growing(&mut self.text, text) {
             Ok(()) => Ok(()),
             Err(_) => Err(self.refuse()),
@@ -157,6 +140,7 @@ impl Writer {
         if !has_room(&self.text) {
             return self.append(Buffer::new().format(n));
         }
+        self.check()?;
         put_digits(n, &mut self.text);
         Ok(())
     }
@@ -276,11 +260,7 @@ impl Writer {
         ensures memory { result ≡ Memory }
         ensures err { self.new ≡ with_refused self.old }
     {
-        if !self.refused {
-            let empty = String::with_capacity(self.alloc(), 0).unwrap();
-            self.unfinished = mem::replace(&mut self.text, empty);
-            self.refused = true;
-        }
+        self.refused = true;
         Error::Memory
     }
 
@@ -294,7 +274,6 @@ impl Writer {
     {
         let Writer {
             text,
-            unfinished: _,
             first: _,
             refused,
         } = self;
