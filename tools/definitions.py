@@ -85,6 +85,8 @@ NEWTYPE_WORD = re.compile(rf"lossless|stable|key|text|events|check\s+((?:{NAME}:
 VARIANT = re.compile(rf"({NAME})\s*(?:\((.*)\)|\{{(.*)\}}|(\{{))?,?")
 MARKS = re.compile(r'//\s*((?:once|default|omit|refused|alias|rename|rename_all)\b.*)$')
 MARK = re.compile(r'\s*(?:(once|omit|refused)|default(?:\s+(-?\d+|true|false|"[^"\\]*"))?|(rename|alias)\s+"([^"\\]*)")\s*(?:,|$)')
+# A comment that has words or marks alone.
+ALONE = re.compile(rf"""//\s*(?:{WORD}|{NEWTYPE_WORD.pattern}|{MARK.pattern.rpartition("(?:,")[0]})(?:,.*)?""")
 INTEGER = re.compile(r"[ui](8|16|32|64|size)")
 
 
@@ -302,6 +304,8 @@ def definitions_of(text):
             check_attribute(bare, number)
         if re.match(r"\}", bare) and any(line.startswith("#[") for line in above):
             raise Refused(f"line {number}: no field or variant stands below the attribute: {bare}")
+        if ALONE.fullmatch(bare):
+            raise Refused(f"line {number}: words stand behind what they mark, on its line, and not above it: {bare}")
         if not bare or bare.startswith("//") or bare.startswith("#["):
             above += [bare] if bare or above or now and now.parts else []
             continue

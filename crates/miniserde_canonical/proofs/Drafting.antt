@@ -232,10 +232,10 @@ ordered_at d d' s f b n ns e es same good di chain st m t is =
     c.before c.splices_before e.earlier_text =
     subst (λ z. Chain (take f d.members.items) (take f s.entries) z d'.groups.splices.items 0 0 c.before
     c.splices_before e.earlier_text) (sym p.groups_bytes)
-    (subst (λ z. Chain (take f d.members.items) (take f s.entries) (ms ++ p.more_bytes) z 0 0 c.before
+    (subst (λ z. Chain (take f d.members.items) (take f s.entries) (ms ++ p.bytes_gained) z 0 0 c.before
     c.splices_before e.earlier_text) (sym p.groups_splices)
     (chain_more (take f d.members.items) (take f s.entries) ms gs 0 0 c.before c.splices_before e.earlier_text
-    p.more_bytes p.more_splices c.is_before)) in
+    p.bytes_gained p.splices_gained c.is_before)) in
     let new : Chain (take f d.members.items) (take f s.entries) d'.groups.bytes.items d'.groups.splices.items 0 0
     (c.before ++ (comma_before e.first ++ p.bytes)) (c.splices_before ++ p.splices)
     (e.earlier_text ++ (comma_before e.first ++ x)) =

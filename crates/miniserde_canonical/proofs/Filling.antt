@@ -172,9 +172,6 @@ less_splice gs ks p q splice d later mid later' ek l below there e j k o =
     let rest : span_measure q ≡ 1 + (2 ^ (1 + b) - 2 ^ (1 + (a + 1))) = ap span_measure e in
     omega (arith, all, rest, group, up, one, two, high, double)
 
-pub less_plain : (p : Span) (later : List Span) → spans_measure later < spans_measure later + span_measure p
-less_plain p later = omega arith
-
 -- ---- a group
 
 -- if the group is the only span that waits, the waiting spans hold its text

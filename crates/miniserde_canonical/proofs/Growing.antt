@@ -11,20 +11,20 @@ use Rattle.miniserde_model.specs.Tree.{tree, Members, no_members, member}
 use Rattle.miniserde_model.specs.Compact.{compact, compact_children, compact_more, compact_members, compact_more_members, string_text}
 use Rattle.miniserde_model.specs.Distinct.{names_distinct, names_distinct_in_children, names_distinct_in_members}
 use Rattle.miniserde_model.specs.Normal.{norm, norm_children, norm_members, with_if_absent, with_if_absent_by, text_cmp, BeginsAbove, Rise}
-use Rattle.miniserde_canonical.specs.TextToken.{TextToken, leaf, name, array_end, object, object_end, tokens, child_tokens, member_tokens}
+use Rattle.miniserde_canonical.specs.CanonicalToken.{CanonicalToken, leaf, name, array_end, object, object_end, tokens, child_tokens, member_tokens}
 use Rattle.miniserde_canonical.specs.private.Arranging.{comma_before, Entry, State, start, text_before}
 use Rattle.miniserde_canonical.specs.private.Arranging.{entry_members, members_text, entries_text, count, once_each}
 use Rattle.miniserde_canonical.specs.private.Arranging.{Arranged, Closes, TokenStep, TokenSteps}
-use Rattle.miniserde_canonical.proofs.Repeats.{values_distinct, distinct_counted}
+use Rattle.miniserde_canonical.proofs.Repeats.{nested_names_distinct, distinct_counted}
 
 -- ---- runs
 
 -- a run over ks and a run over ls from its end are a run over `ks ++ ls`
-pub steps_append : (ks ls : List TextToken) (s m s' : State) → TokenSteps ks s m → TokenSteps ls m s' → TokenSteps (ks ++ ls) s s'
+pub steps_append : (ks ls : List CanonicalToken) (s m s' : State) → TokenSteps ks s m → TokenSteps ls m s' → TokenSteps (ks ++ ls) s s'
 steps_append [] ls s m s' r p = subst (λ z. TokenSteps ls z s') (sym r) p
 steps_append (k ∷ ks) ls s m s' r p = (r.0, r.1, steps_append ks ls r.0 m s' r.2 p)
 
-run_split : (ks ls : List TextToken) (s s' : State) → TokenSteps (ks ++ ls) s s' → (m : State) × TokenSteps ks s m × TokenSteps ls m s'
+run_split : (ks ls : List CanonicalToken) (s s' : State) → TokenSteps (ks ++ ls) s s' → (m : State) × TokenSteps ks s m × TokenSteps ls m s'
 run_split [] ls s s' r = (s, refl, r)
 run_split (k ∷ ks) ls s s' r = let t = run_split ks ls r.0 s' r.2 in (t.0, (r.0, r.1, t.1), t.2)
 
@@ -79,7 +79,7 @@ record Lines (s s' : State) (ms : Members) : Type 0 where
   pub added : List Entry
   pub entries : s'.entries ≡ s.entries ++ added
   pub opened : s'.opened ≡ s.opened
-  pub distinct : s'.distinct ≡ (s.distinct && values_distinct ms)
+  pub distinct : s'.distinct ≡ (s.distinct && nested_names_distinct ms)
   pub lays : Lays added ms s.last s.first s'.last
 
 lines_none : (s s' : State) → s ≡ s' → Lines s s' no_members
@@ -103,8 +103,8 @@ lines_cons n t ms s m u s' a g f l =
       added = e ∷ l.added;
       entries = l.entries ∙ ap (λ z. z ++ l.added) (g.entries ∙ a.0) ∙ append_assoc s.entries (e ∷ []) l.added;
       opened = l.opened ∙ g.opened ∙ a.2;
-      distinct = l.distinct ∙ ap (λ z. z && values_distinct ms) (g.distinct ∙ ap (λ z. z && names_distinct t) a.3)
-          ∙ and_assoc s.distinct (names_distinct t) (values_distinct ms);
+      distinct = l.distinct ∙ ap (λ z. z && nested_names_distinct ms) (g.distinct ∙ ap (λ z. z && names_distinct t) a.3)
+          ∙ and_assoc s.distinct (names_distinct t) (nested_names_distinct ms);
       lays = (
         refl,
         refl,
@@ -247,7 +247,7 @@ object_grows ms s m u k a l c =
       entries = d.1 ∙ ap (take (length s.entries)) named ∙ take-append_seam s.entries l.added;
       opened = d.0;
       distinct = x.distinct ∙ ap (λ z. z && nat_eq (count (norm_members ms)) (count ms))
-          (l.distinct ∙ ap (λ z. z && values_distinct ms) a.3) ∙ and_assoc s.distinct (values_distinct ms)
+          (l.distinct ∙ ap (λ z. z && nested_names_distinct ms) a.3) ∙ and_assoc s.distinct (nested_names_distinct ms)
           (nat_eq (count (norm_members ms)) (count ms)) ∙ ap (λ z. s.distinct && z) (sym (distinct_counted ms));
     }
 

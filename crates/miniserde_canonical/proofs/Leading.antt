@@ -27,10 +27,6 @@ lead_small (suc n) (c ∷ s) h =
     let most : c * 256 ^ n ≤ 255 * 256 ^ n = mul-le c (256 ^ n) 255 (256 ^ n) (omega (arith, h 0)) (omega arith) in
     omega (arith, rest, most, pow-suc 256 n)
 
-lead_nil : (n : ℕ) → leading_number n [] ≡ 0
-lead_nil zero = refl
-lead_nil (suc n) = refl
-
 lead_below : (n : ℕ) (a b : List ℕ) → Small a → Small b → leading_number n a < leading_number n b → text_cmp a b ≡ Less
 lead_below zero a b h k l = absurd (omega (arith, l))
 lead_below (suc n) [] [] h k l = absurd (omega (arith, l))

@@ -112,9 +112,9 @@ told_by true a b h = eq-eqb a b h
 told_by false a b h = grind (arith, nat_tests, h)
 
 -- each tree of the members is without duplicate names
-abbrev pub values_distinct : Members → Bool
-values_distinct no_members = true
-values_distinct (member n t ms) = names_distinct t && values_distinct ms
+abbrev pub nested_names_distinct : Members → Bool
+nested_names_distinct no_members = true
+nested_names_distinct (member n t ms) = names_distinct t && nested_names_distinct ms
 
 mixed : (h d v n : Bool) → (h && (d && (v && n))) ≡ ((d && v) && (h && n))
 mixed true true v n = refl
@@ -123,11 +123,11 @@ mixed false true true n = refl
 mixed false true false n = refl
 mixed false false v n = refl
 
-distinct_parts : (ms : Members) → names_distinct_in_members ms ≡ (values_distinct ms && names_once ms)
+distinct_parts : (ms : Members) → names_distinct_in_members ms ≡ (nested_names_distinct ms && names_once ms)
 distinct_parts no_members = refl
 distinct_parts (member n t ms) = ap (λ z. not (has_name n ms) && (names_distinct t && z)) (distinct_parts ms)
-    ∙ mixed (not (has_name n ms)) (names_distinct t) (values_distinct ms) (names_once ms)
+    ∙ mixed (not (has_name n ms)) (names_distinct t) (nested_names_distinct ms) (names_once ms)
 
 -- members have distinct names throughout if their trees do and their normal form has as many members
-pub distinct_counted : (ms : Members) → names_distinct_in_members ms ≡ (values_distinct ms && nat_eq (count (norm_members ms)) (count ms))
-distinct_counted ms = distinct_parts ms ∙ ap (λ z. values_distinct ms && z) (sym (told_by (names_once ms) _ _ (counts_names ms)))
+pub distinct_counted : (ms : Members) → names_distinct_in_members ms ≡ (nested_names_distinct ms && nat_eq (count (norm_members ms)) (count ms))
+distinct_counted ms = distinct_parts ms ∙ ap (λ z. nested_names_distinct ms && z) (sym (told_by (names_once ms) _ _ (counts_names ms)))

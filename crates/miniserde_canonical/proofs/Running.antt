@@ -17,7 +17,7 @@ use Rattle.miniserde_text.specs.declared.json.lex.Text.{Text}
 use Rattle.miniserde_text.specs.declared.json.lex.Text.TheVariants.{Input, Scratch}
 use Rattle.miniserde_canonical.specs.declared.draft.Draft.{Draft}
 use Rattle.miniserde_canonical.specs.private.Moving.{first_token}
-use Rattle.miniserde_canonical.specs.private.Plain.{TextSpelled, SpellsToken, NameSpelled}
+use Rattle.miniserde_canonical.specs.private.Plain.{TextSpelled, SpellsToken}
 use Rattle.miniserde_canonical.specs.private.Arranging.{State, TokenStep, Adds}
 use Rattle.miniserde_canonical.specs.private.Spreads.{part_between}
 use Rattle.miniserde_canonical.specs.private.Drafts.{Wrote}
@@ -64,10 +64,6 @@ flushed d d' l all a b piece text ea eb i dl o t an f = λ rest bs w e.
     let out : d'.out.bytes.items ≡ bs = o ∙ ap (λ z. d.out.bytes.items ++ z) is ∙ w.text in
     (rewound d d' rest [] rest bs bs w refl i (dl ∙ e) out, out)
 
-no_bytes : (w : List ℕ) → length w ≡ 0 → w ≡ []
-no_bytes [] e = refl
-no_bytes (c ∷ w) e = absurd (omega (arith, e))
-
 -- ---- what stands in the input is what is written
 
 -- unless z is 0, a number text whose leaf is the integer z with a minus is the compact text of `norm_neg z`
@@ -88,24 +84,6 @@ as_it_is (event.Number x) scratch part s s' p n m o h = subst (λ z. Adds z s s'
 as_it_is (event.Str t) scratch part s s' p n m o h = absurd (m t refl)
 as_it_is event.SeqStart scratch part s s' p n m o h = subst (λ z. Adds z s s') (sym p.0) h.0
 as_it_is event.MapStart scratch part s s' p n m o h = absurd (o refl)
-
-pub name_stands : (t : Text) (scratch part : List ℕ) (len : ℕ) → NameSpelled t part → len ≡ length part
-    → ((x : _) → t ≡ Input x → len ≡ length x.now + 3) → (t ≡ Scratch → ⊥) → part ≡ string_text (text_of t scratch)
-    ++ 58 ∷ []
-name_stands (Input x) scratch part len p e f n =
-    let empty : p.space ≡ [] =
-    no_bytes p.space (omega (
-      arith,
-      e,
-      f x refl,
-      ap length p.text,
-      p.long,
-      length-append (string_text x.now)
-          (p.space ++ 58 ∷ []),
-      length-append p.space (58 ∷ []),
-    )) in
-    p.text ∙ ap (λ z. string_text x.now ++ (z ++ 58 ∷ [])) empty
-name_stands Scratch scratch part len p e f n = absurd (n refl)
 
 -- where the run would end
 pub run_length : (d : Draft) (rest bs : List ℕ) (at point : ℕ) → Wrote d rest bs → at ≡ length rest

@@ -50,9 +50,9 @@ gains_member groups mid groups' out ns i end p f e g u v a b j k = λ es last ms
     record {
       bytes = comma_before f ++ bytes_in p out.bytes.items;
       splices = inner;
-      more_bytes = j s.0 ∙ ap (λ z. z ++ bytes_in p out.bytes.items) e ∙ append_assoc groups.bytes.items
+      bytes_gained = j s.0 ∙ ap (λ z. z ++ bytes_in p out.bytes.items) e ∙ append_assoc groups.bytes.items
           (comma_before f) (bytes_in p out.bytes.items);
-      more_splices = k s.0 ∙ ap (λ z. z ++ inner) g;
+      splices_gained = k s.0 ∙ ap (λ z. z ++ inner) g;
       text = holds_behind ms gs (length groups.bytes.items) to (comma_before f) (bytes_in p out.bytes.items) inner x
           far (holds_moved p.from.bytes to to (omega arith) (omega arith) s.1);
       all_before = λ n h. all_moved n p.from.bytes to (splices_in p hs) (all_between n p.from.splices p.to.splices hs h);
@@ -63,8 +63,8 @@ gains_none ms gs hs groups =
     record {
       bytes = [];
       splices = [];
-      more_bytes = sym (append-nil groups.bytes.items);
-      more_splices =
+      bytes_gained = sym (append-nil groups.bytes.items);
+      splices_gained =
           sym (append-nil groups.splices.items);
       text = none;
       all_before = λ n h. tt;
@@ -75,10 +75,10 @@ gains_append : (ms : List ℕ) (gs hs : List Splice) (a b c : SplicedText) (x y 
 gains_append ms gs hs a b c x y p q = record {
   bytes = p.bytes ++ q.bytes;
   splices = p.splices ++ q.splices;
-  more_bytes = q.more_bytes ∙ ap (λ z. z ++ q.bytes) p.more_bytes ∙ append_assoc a.bytes.items p.bytes q.bytes;
-  more_splices = q.more_splices ∙ ap (λ z. z ++ q.splices) p.more_splices ∙ append_assoc a.splices.items p.splices q.splices;
+  bytes_gained = q.bytes_gained ∙ ap (λ z. z ++ q.bytes) p.bytes_gained ∙ append_assoc a.bytes.items p.bytes q.bytes;
+  splices_gained = q.splices_gained ∙ ap (λ z. z ++ q.splices) p.splices_gained ∙ append_assoc a.splices.items p.splices q.splices;
   text = holds_append (length b.bytes.items) q.bytes q.splices y p.text
-      (ap length p.more_bytes ∙ length-append a.bytes.items p.bytes) q.text;
+      (ap length p.bytes_gained ∙ length-append a.bytes.items p.bytes) q.text;
   all_before = λ n h. all_append n p.splices q.splices (p.all_before n h) (q.all_before n h);
 }
 
@@ -193,8 +193,8 @@ back_short point from to p out mid out' groups groups' i e f tb th none_there ob
     record {
       bytes = b;
       splices = [];
-      more_bytes = [];
-      more_splices = [];
+      bytes_gained = [];
+      splices_gained = [];
       is_bytes = ob v ∙ ap₂ (λ (y z : List ℕ). y ++ z) e is;
       is_splices = out_splices;
       groups_bytes = groups_bytes ∙ sym (append-nil ms);
@@ -229,8 +229,8 @@ back_splice point from to k out mid out' groups i e f tb th ob oh = λ ms b gs h
     record {
       bytes = [];
       splices = splice ∷ [];
-      more_bytes = b;
-      more_splices = h;
+      bytes_gained = b;
+      splices_gained = h;
       is_bytes = ob ∙ e ∙ sym (append-nil _);
       is_splices = out_splices;
       groups_bytes = bytes;
@@ -281,7 +281,7 @@ settled ns d point from old new order out out' groups mid groups' n some at e s 
     subst (λ z. z.bytes ≤ length out.bytes.items) (sym here)
     (own_within ns es ms gs out.bytes.items out.splices.items last own) in
     let back = p ms gains.bytes gs gains.splices (members_text true (without_repeats (members_at ns r order)))
-    gains.more_bytes gains.more_splices fb fk within gains.text (gains.all_before (length gs)) in (
+    gains.bytes_gained gains.splices_gained fb fk within gains.text (gains.all_before (length gs)) in (
       subst (λ z. PutAt (begin_of ns (record { bytes = 0; splices = 0 })) ms gs out out' groups'
           (members_text true z)) sorted
           (subst (λ z. PutAt z ms gs out out' groups' (members_text true (without_repeats (members_at ns r order))))

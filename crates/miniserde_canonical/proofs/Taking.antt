@@ -21,9 +21,9 @@ use Rattle.miniserde_text.proofs.Turning.{begins_stops}
 use Rattle.miniserde_canonical.proofs.Plains.{at_once}
 use Rattle.miniserde_model.specs.private.Reading.{Moment, due, after}
 use Rattle.miniserde_text.specs.private.Stack.{innermost}
-use Rattle.miniserde_text.specs.private.Moving.{opened_kind, before_child}
-use Rattle.miniserde_canonical.specs.TextToken.{TextToken, leaf, name, array, array_end, object, object_end, tokens}
-use Rattle.miniserde_canonical.specs.TextToken as token
+use Rattle.miniserde_text.specs.private.Moving.{opened_kind, first_or_after}
+use Rattle.miniserde_canonical.specs.CanonicalToken.{CanonicalToken, leaf, name, array, array_end, object, object_end, tokens}
+use Rattle.miniserde_canonical.specs.CanonicalToken as token
 use Rattle.miniserde_canonical.specs.declared.draft.Draft.{Draft}
 use Rattle.miniserde_canonical.specs.private.Arranging.{comma_before, State, Closes, TokenStep, TokenSteps, start}
 use Rattle.miniserde_canonical.specs.private.Drafts.{Wrote, Holding, Represents, ChangesOnlyText, Recalls, DraftTakes}
@@ -36,7 +36,7 @@ use Rattle.miniserde_canonical.proofs.Wholes.{ReadsTokens-append, end_ok}
 -- ---- one token
 
 -- behind a token, which is the front of a value
-abbrev fronted : TextToken → State → State
+abbrev fronted : CanonicalToken → State → State
 fronted (leaf t) s = record { entries = s.entries; last = s.last ++ compact t; opened = s.opened; first = false; distinct = s.distinct }
 fronted array s = record { entries = s.entries; last = s.last ++ 91 ∷ []; opened = s.opened; first = true; distinct = s.distinct }
 fronted object s = record {
@@ -50,7 +50,7 @@ fronted object s = record {
 fronted _ s = s
 
 front_step : (e : Step) (b : List ℕ) → Piece e b → (s : State)
-    → TokenStep (first_token e) s (fronted (first_token e) s) × Recalls (before_child (is_some (opened_kind e)))
+    → TokenStep (first_token e) s (fronted (first_token e) s) × Recalls (first_or_after (is_some (opened_kind e)))
     (fronted (first_token e) s)
 front_step step.null b p s = (((refl, refl, refl, refl), refl), refl)
 front_step (boolean x) b p s = (((refl, refl, refl, refl), refl), refl)
@@ -68,13 +68,13 @@ front_step finish b p s = absurd p
 pub takes_front : (e : Step) (b rest mid rest' : List ℕ) (o : Bool) (d d1 d' : Draft) → Piece e b
     → o ≡ is_some (opened_kind e) → ((s : State) → Represents d rest s → Represents d1 mid s)
     → ((s s' : State) → Represents d1 mid s → TokenStep (first_token e) s s' → Represents d' rest' s')
-    → DraftTakes due rest (first_token e ∷ []) (before_child o) rest' d d'
+    → DraftTakes due rest (first_token e ∷ []) (first_or_after o) rest' d d'
 takes_front e b rest mid rest' o d d1 d' p q k f = λ s r h.
     let t = front_step e b p s in
     let s' = fronted (first_token e) s in
-    (s', (s', t.0, refl), f s s' (k s r) t.0, subst (λ z. Recalls (before_child z) s') (sym q) t.1)
+    (s', (s', t.0, refl), f s s' (k s r) t.0, subst (λ z. Recalls (first_or_after z) s') (sym q) t.1)
 
-recalled : (f : Bool) (s : State) → Recalls (before_child f) s → s.first ≡ f
+recalled : (f : Bool) (s : State) → Recalls (first_or_after f) s → s.first ≡ f
 recalled true s h = h
 recalled false s h = h
 
@@ -86,7 +86,7 @@ skipped d d' rest rest' f k s r = record { bytes = r.bytes; wrote = f r.bytes r.
 -- a draft takes the beginning of an element if it leaves out whitespace; a comma before the element joins the run
 pub takes_element : (f : Bool) (rest mid rest' : List ℕ) (d d' : Draft)
     → ((s : State) → Represents d rest s → Represents d' mid s) → mid ≡ comma_before f ++ rest'
-    → DraftTakes (before_child f) rest (token.element ∷ []) due rest' d d'
+    → DraftTakes (first_or_after f) rest (token.element ∷ []) due rest' d d'
 takes_element f rest mid rest' d d' k e = λ s r h.
     let s' : State = record {
       entries = s.entries;
@@ -110,7 +110,7 @@ pub takes_name : (f : Bool) (n rest mid rest1 rest2 part rest' : List ℕ) (d d1
     → ((bs : List ℕ) → Wrote d1 rest1 bs → Wrote d2 rest2 bs) → ChangesOnlyText d1 d2
     → ((before : List ℕ) (s s' : State) → Wrote d2 rest2 (before ++ comma_before s.first) → Holding d2 before s
     → s.first ≡ f → TokenStep (name n) s s' → Represents d' rest' s')
-    → DraftTakes (before_child f) rest (name n ∷ []) due rest' d d'
+    → DraftTakes (first_or_after f) rest (name n ∷ []) due rest' d d'
 takes_name f n rest mid rest1 rest2 part rest' d d1 d2 d' k e w p g = λ s r h.
     let s' : State = record {
       entries = s.entries ++ record { earlier_text = s.last; first = s.first; name = n } ∷ [];
@@ -156,7 +156,7 @@ takes_object_end m rest mid rest' d d1 d' k e f = λ s r h.
 
 -- tokens of j up to `rest` were read, up to the moment m inside st, and the draft d took them from `start` on
 pub record Taken (j : List ℕ) (m : Moment) (st : List Kind) (rest : List ℕ) (d : Draft) : Type 0 where
-  pub tokens : List TextToken
+  pub tokens : List CanonicalToken
   pub state : State
   pub reads : ReadsTokens due [] j tokens m st rest
   pub run : TokenSteps tokens start state
@@ -164,7 +164,7 @@ pub record Taken (j : List ℕ) (m : Moment) (st : List Kind) (rest : List ℕ) 
   pub recalls : Recalls m state
 
 -- if ks are read from the beginning of j, and a draft that represents `start` takes them, `Taken` holds
-pub taken_first : (j s : List ℕ) (st su : List Kind) (ks : List TextToken) (m : Moment) (rest : List ℕ) (d d' : Draft)
+pub taken_first : (j s : List ℕ) (st su : List Kind) (ks : List CanonicalToken) (m : Moment) (rest : List ℕ) (d d' : Draft)
     → su ≡ [] → s ≡ j → Represents d j start → ReadsTokens due su s ks m st rest → DraftTakes due j ks m rest d d'
     → Taken j m st rest d'
 taken_first j s st su ks m rest d d' e f r p t =
@@ -180,7 +180,7 @@ taken_first j s st su ks m rest d d' e f r p t =
     }
 
 -- if `Taken` holds, and then more tokens are read and taken, `Taken` holds after them
-pub taken_more : (j : List ℕ) (m m' : Moment) (st st' : List Kind) (rest rest' : List ℕ) (ks : List TextToken)
+pub taken_more : (j : List ℕ) (m m' : Moment) (st st' : List Kind) (rest rest' : List ℕ) (ks : List CanonicalToken)
     (d d' : Draft) → Taken j m st rest d → ReadsTokens m st rest ks m' st' rest' → DraftTakes m rest ks m' rest' d d'
     → Taken j m' st' rest' d'
 taken_more j m m' st st' rest rest' ks d d' t p f =
@@ -198,7 +198,7 @@ taken_more j m m' st st' rest rest' ks d d' t p f =
 
 -- if no container is open and only whitespace is left, the tokens taken are those of a tree that j spells
 pub taken_all : (j : List ℕ) (f : Bool) (st : List Kind) (rest : List ℕ) (d : Draft) → innermost st ≡ None
-    → IsWhitespace rest → Taken j (before_child f) st rest d → (t : Tree) × (s : State) × IsJson j t
+    → IsWhitespace rest → Taken j (first_or_after f) st rest d → (t : Tree) × (s : State) × IsJson j t
     × TokenSteps (tokens t) start s × Represents d rest s
 taken_all j f st rest d e w k =
     let t = end_ok j k.tokens f st rest e k.reads w in

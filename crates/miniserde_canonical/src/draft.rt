@@ -13,7 +13,7 @@ ghost use Rattle.std.specs.Prelude.{◌≡◌, ◌++◌, ◌∷◌, [], ℕ, Lis
 ghost use Rattle.miniserde_model.specs.Compact.{string_text};
 ghost use Rattle.miniserde_text.specs.Lexer.{Blank, event_of_token, text_of};
 ghost use Rattle.miniserde_text.specs.private.Moving.{opened_kind};
-ghost use Rattle.miniserde_canonical.specs.TextToken.{name};
+ghost use Rattle.miniserde_canonical.specs.CanonicalToken.{name};
 ghost use Rattle.miniserde_canonical.specs.private.Moving.{first_token};
 ghost use Rattle.miniserde_canonical.specs.private.Plain.{TextPlain, SpellsToken, NameSpelled};
 ghost use Rattle.miniserde_canonical.specs.private.Arranging.{State, TokenStep, Closes, comma_before, start};
@@ -99,7 +99,7 @@ impl<'a> Draft<'a> {
         Ok(())
     }
 
-    /// DraftTakes whitespace, and leaves it out: the run before it is appended to the text, and the next run begins after it.
+    /// Takes whitespace, and leaves it out: the run before it is appended to the text, and the next run begins after it.
     /// Returns how many bytes of the input are left after it. Fails if the text cannot grow.
     #[inline(always)]
     pub(crate) fn skip(&mut self, lexer: &mut Lexer<'a>) -> Result<usize, AllocError>
@@ -119,7 +119,7 @@ impl<'a> Draft<'a> {
         Ok(end)
     }
 
-    /// DraftTakes the first token of a value, whose span in the input is `span`, and returns the kind of the container that it
+    /// Takes the first token of a value, whose span in the input is `span`, and returns the kind of the container that it
     /// opens. `-0` and a string that was decoded into `scratch` are written anew; any other token stays in the run. Fails
     /// if an allocation fails.
     #[inline(always)]
@@ -161,7 +161,7 @@ impl<'a> Draft<'a> {
         Ok(None)
     }
 
-    /// DraftTakes the name of a member with its colon, whose span in the input is `span`, and adds the member to those of
+    /// Takes the name of a member with its colon, whose span in the input is `span`, and adds the member to those of
     /// the innermost object. `first` says that the member is the first of its object. If it is not, its comma is in the
     /// text or the run already. Fails if an allocation fails, or if an index overflows.
     #[inline(always)]

@@ -10,7 +10,7 @@ use Rattle.miniserde_keys.specs.Keys.{Key}
 use Rattle.miniserde_read.specs.types.Arrays.{exactly, array_of}
 use Rattle.miniserde_read.specs.types.Pairs.{PairReads, pair_of, both}
 use Rattle.miniserde_read.specs.types.Objects.{Name, after_members}
-use Rattle.miniserde_read.specs.types.Maps.{AllAccepted, MapReads, MeansAt, MapContent, no_entries, with_entry, map_member, map_of}
+use Rattle.miniserde_read.specs.types.Maps.{AllAccepted, MapReads, EntryFits, MapContent, no_entries, with_entry, map_member, map_of}
 use Rattle.miniserde_read.specs.Meaning.{Meaning}
 use Rattle.miniserde_read.specs.Meanings.{list_meaning, array_meaning, option_meaning, box_meaning, pair_meaning, map_meaning}
 use Rattle.miniserde_places.specs.Tied.{Agree}
@@ -206,7 +206,7 @@ module _ {C D : Type 0} (read : Name → Option Key) (code : Key → Key) (f : T
   map_some t = refl
 
 means_to : {K V : Type 0} (m n : Meaning V) (a : Agree m n) (content : K → Key) (p : Option (Key × Tree))
-    (x : Option (K × V)) → MeansAt content m.reads p x → MeansAt content n.reads p x
+    (x : Option (K × V)) → EntryFits content m.reads p x → EntryFits content n.reads p x
 means_to m n a content None None h = h
 means_to m n a content None (Some x) h = h
 means_to m n a content (Some p) None h = h

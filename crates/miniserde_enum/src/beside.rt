@@ -39,18 +39,16 @@ impl<E: HasTag, F: Slots> Slots for BesideTag<E, F> {
         name: &str,
         source: &mut Source<'a>,
     ) -> Result<()> {
-        match E::tag().split_first() {
-            Some((tag, _)) => {
-                if name == *tag {
-                    // `NoSlot` skips the value of each member.
-                    NoSlot::new().read_member::<L>(names, name, source)
-                } else {
-                    self.fields.read_member::<L>(names, name, source)
-                }
-            }
+        let is_tag = match E::tag() {
+            [tag, ..] => name == *tag,
             // `tag` returns one name, so this does not happen.
-            None => self.fields.read_member::<L>(names, name, source),
+            [] => false,
+        };
+        if is_tag {
+            // `NoSlot` skips the value of each member.
+            return NoSlot::new().read_member::<L>(names, name, source);
         }
+        self.fields.read_member::<L>(names, name, source)
     }
 
     fn end(self, alloc: Global) -> Result<F::Values> {

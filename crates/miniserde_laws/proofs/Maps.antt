@@ -17,7 +17,7 @@ use Rattle.miniserde_model.specs.Normal.{with_if_absent}
 use Rattle.miniserde_keys.specs.Keys.{Key}
 use Rattle.miniserde_keys.specs.laws.Keys.{ReadsBack}
 use Rattle.miniserde_read.specs.types.Objects.{Name}
-use Rattle.miniserde_read.specs.types.Maps.{first_and_last, first_and_last_at, AllAccepted, entry_at, MeansAt, MapReads}
+use Rattle.miniserde_read.specs.types.Maps.{first_and_last, first_and_last_at, AllAccepted, entry_at, EntryFits, MapReads}
 use Rattle.miniserde_read.proofs.Entries.{same, same_code, code_same, found}
 use Rattle.miniserde_ser.specs.Trees.{members_of, in_order}
 use Rattle.miniserde_ser.proofs.Names.{distinct_names}
@@ -105,7 +105,7 @@ module _ {K V C : Type 0} (read : Name → Option Key) (code : Key → Key) (con
 
   -- the members mean the entries that are read
   met_read : (q : Key) (es : List (K × V)) (h : Parts es) → Alone es
-      → MeansAt content R (first_and_last_at read code q (members_of text f es)) (entry_at code_of q (read_of es h))
+      → EntryFits content R (first_and_last_at read code q (members_of text f es)) (entry_at code_of q (read_of es h))
   unfolding IsDistinct
   met_read q [] h d = tt
   met_read q (e ∷ es) h d =
@@ -113,7 +113,7 @@ module _ {K V C : Type 0} (read : Name → Option Key) (code : Key → Key) (con
       let v = (round_trips e.1 h.0.1).0 in
       rw b.2 (elim (bytes_eq (code_of b.0) q)
       as (λ c. bytes_eq (code_of b.0) q ≡ c
-      → MeansAt content R (first_and_last (cond c (Some (content b.0)) None) (f e.1)
+      → EntryFits content R (first_and_last (cond c (Some (content b.0)) None) (f e.1)
       (first_and_last_at read code q (members_of text f es)))
       (cond c (Some (b.0, v.0)) (entry_at code_of q (read_of es h.1)))) [
         | true ↦ λ c. rw (none_met q es h.1 (others_apart q e es d (sym b.3 ∙ same_code _ _ c))) (refl, v.2)
@@ -124,7 +124,7 @@ module _ {K V C : Type 0} (read : Name → Option Key) (code : Key → Key) (con
 
   -- where one member was met
   one_written : (q : Key) (e : K × V) (k : Key) → real e.1 → code_of e.0 ≡ q → (o : Option (K × V))
-      → ((g : K × V) → o ≡ Some g → real g.1 × (code_of g.0 ≡ q)) → MeansAt content R (Some (k, f e.1)) o
+      → ((g : K × V) → o ≡ Some g → real g.1 × (code_of g.0 ≡ q)) → EntryFits content R (Some (k, f e.1)) o
       → Some (text e.0, f e.1) ≡ written code_of text f o
   one_written q e k i at None r m = absurd m
   one_written q e k i at (Some g) r m =
@@ -133,7 +133,7 @@ module _ {K V C : Type 0} (read : Name → Option Key) (code : Key → Key) (con
 
   met_written : (q : Key) (es : List (K × V)) → Parts es → Alone es → (o : Option (K × V))
       → ((g : K × V) → o ≡ Some g → real g.1 × (code_of g.0 ≡ q))
-      → MeansAt content R (first_and_last_at read code q (members_of text f es)) o
+      → EntryFits content R (first_and_last_at read code q (members_of text f es)) o
       → written code_of text f (entry_at code_of q es) ≡ written code_of text f o
   unfolding IsDistinct
   met_written q [] h d None r m = refl
@@ -143,7 +143,7 @@ module _ {K V C : Type 0} (read : Name → Option Key) (code : Key → Key) (con
       let first = ap (λ c. bytes_eq c q) (sym b.3) in
       rw first (elim (bytes_eq (code_of b.0) q)
       as (λ c. bytes_eq (code_of b.0) q ≡ c
-      → MeansAt content R (first_and_last (cond c (Some (content b.0)) None) (f e.1)
+      → EntryFits content R (first_and_last (cond c (Some (content b.0)) None) (f e.1)
       (first_and_last_at read code q (members_of text f es))) o
       → written code_of text f (cond c (Some e) (entry_at code_of q es)) ≡ written code_of text f o) [
         | true ↦ λ c n.
@@ -154,7 +154,7 @@ module _ {K V C : Type 0} (read : Name → Option Key) (code : Key → Key) (con
 
   -- entries of which each, at its code, was met
   abbrev Met : List (K × V) → List (K × V) → Type 0
-  Met es fs = (q : Key) → MeansAt content R (first_and_last_at read code q (members_of text f es)) (entry_at code_of q fs)
+  Met es fs = (q : Key) → EntryFits content R (first_and_last_at read code q (members_of text f es)) (entry_at code_of q fs)
 
   met_agree : (es fs : List (K × V)) → Parts es → Alone es → Parts fs → Met es fs → Agree code_of text f es fs
   met_agree es fs h d p m q = met_written q es h d (entry_at code_of q fs) go (m q)

@@ -11,7 +11,7 @@ use Rattle.miniserde_model.specs.declared.kind.Kind.{Kind}
 use Rattle.miniserde_model.specs.private.Reading.{Moment}
 use Rattle.miniserde_place.specs.Place.{PlaceView, PositionAdvances, PositionRejects, PositionAdvancesBy, PositionBeginsTree}
 use Rattle.miniserde_text.specs.private.Stack.{with_opened, innermost}
-use Rattle.miniserde_text.specs.private.Moving.{opened_kind, before_child}
+use Rattle.miniserde_text.specs.private.Moving.{opened_kind, first_or_after}
 use Rattle.miniserde_place.proofs.PositionAdvances.{PositionAdvancesBy-append}
 use Rattle.miniserde_text.specs.Lexer.{event_of_token}
 use Rattle.miniserde_model.specs.declared.error.Error.{Error}
@@ -37,7 +37,7 @@ first_barred at k e s f b t r v =
 -- if the place, at the start, advances by e and rejects all that runs behind, k gives nothing for such a value
 pub later_barred : {C : Type 0} (at : Position) (k : List Step → Option C) (e : Step) (at' : Position)
     (k' : List Step → Option C) (s : List ℕ) → at ≡ start → PositionAdvances at k e at' k'
-    → RejectsRuns (before_child (is_some (opened_kind e))) (with_opened (opened_kind e) []) s k' at'
+    → RejectsRuns (first_or_after (is_some (opened_kind e))) (with_opened (opened_kind e) []) s k' at'
     → (t : Tree) (r : List ℕ) → ValueAt t e s r → k (events t) ≡ None
 later_barred at k e at' k' s f d b t r v =
     let l = value_later t e s r v in
@@ -48,26 +48,26 @@ later_barred at k e at' k' s f d b t r v =
 -- behind the first event e of a value, passing no further event is a move from that moment to itself
 pub moved_init : {C : Type 0} (e : Step) (f : Bool) (st : List Kind) (s : List ℕ) (at : Position)
     (k : List Step → Option C) → f ≡ is_some (opened_kind e) → st ≡ with_opened (opened_kind e) []
-    → Moved (before_child (is_some (opened_kind e))) (with_opened (opened_kind e) []) s at k (before_child f) st s
+    → Moved (first_or_after (is_some (opened_kind e))) (with_opened (opened_kind e) []) s at k (first_or_after f) st s
     at k
 moved_init e f st s at k p q =
-    subst (λ z. Moved (before_child (is_some (opened_kind e))) (with_opened (opened_kind e) []) s at k (before_child z) st s at k) (sym p)
-    (subst (λ z. Moved (before_child (is_some (opened_kind e))) (with_opened (opened_kind e) []) s at k
-    (before_child (is_some (opened_kind e))) z s at k) (sym q)
-    (Moved-none (before_child (is_some (opened_kind e))) (with_opened (opened_kind e) []) s at k (live_opened e)))
+    subst (λ z. Moved (first_or_after (is_some (opened_kind e))) (with_opened (opened_kind e) []) s at k (first_or_after z) st s at k) (sym p)
+    (subst (λ z. Moved (first_or_after (is_some (opened_kind e))) (with_opened (opened_kind e) []) s at k
+    (first_or_after (is_some (opened_kind e))) z s at k) (sym q)
+    (Moved-none (first_or_after (is_some (opened_kind e))) (with_opened (opened_kind e) []) s at k (live_opened e)))
 
 -- if the moves behind the first token leave no container open, they end a tree, by whose events the place advances
 pub feed_ok : {C : Type 0} (x : lexed.Event) (scratch s s' : List ℕ) (at : Position) (k : List Step → Option C)
     (a : Position) (l : List Step → Option C) (f : Bool) (st' : List Kind) (at' : Position)
     (k' : List Step → Option C) → innermost st' ≡ None → PositionAdvances at k (event_of_token x scratch) a l
-    → Moved (before_child (is_some (opened_kind (event_of_token x scratch))))
-    (with_opened (opened_kind (event_of_token x scratch)) []) s a l (before_child f) st' s' at' k'
+    → Moved (first_or_after (is_some (opened_kind (event_of_token x scratch))))
+    (with_opened (opened_kind (event_of_token x scratch)) []) s a l (first_or_after f) st' s' at' k'
     → (t : Tree) × ValueAt t (event_of_token x scratch) s s' × PositionAdvancesBy at k (events t) at' k'
 feed_ok x scratch s s' at k a l true [] at' k' h d p = absurd p.passed.live
 feed_ok x scratch s s' at k a l false [] at' k' h d p =
     let e = event_of_token x scratch in
-    let runs : Runs (before_child (is_some (opened_kind e))) p.done (with_opened (opened_kind e) []) s s' =
-    subst (λ z. Runs (before_child (is_some (opened_kind e))) z (with_opened (opened_kind e) []) s s')
+    let runs : Runs (first_or_after (is_some (opened_kind e))) p.done (with_opened (opened_kind e) []) s s' =
+    subst (λ z. Runs (first_or_after (is_some (opened_kind e))) z (with_opened (opened_kind e) []) s s')
     (append-nil p.done) (p.passed.on [] s' refl) in
     let w = whole_at x scratch p.done s s' runs in (
       w.tree,
@@ -93,7 +93,7 @@ begun_whole at k t at' k' i l = record { done = events t; rest = []; tree = t; i
 pub begun : {C : Type 0} (x : lexed.Event) (scratch s : List ℕ) (at : Position) (k : List Step → Option C)
     (a : Position) (l : List Step → Option C) (m' : Moment) (st' : List Kind) (s' : List ℕ) (at' : Position)
     (k' : List Step → Option C) → PositionAdvances at k (event_of_token x scratch) a l
-    → Moved (before_child (is_some (opened_kind (event_of_token x scratch))))
+    → Moved (first_or_after (is_some (opened_kind (event_of_token x scratch))))
     (with_opened (opened_kind (event_of_token x scratch)) []) s a l m' st' s' at' k' → Unfinished m' st'
     → PositionBeginsTree at k at' k'
 begun x scratch s at k a l m' st' s' at' k' d p u =

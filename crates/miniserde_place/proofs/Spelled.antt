@@ -18,7 +18,7 @@ use Rattle.miniserde_text.specs.Lexer.{event_of_token}
 use Rattle.miniserde_text.specs.declared.json.lex.Event as lexed
 use Rattle.miniserde_text.specs.declared.json.lex.Event.TheVariants as variant
 use Rattle.miniserde_text.specs.private.Stack.{with_opened, innermost, outer}
-use Rattle.miniserde_text.specs.private.Moving.{opened_kind, before_child, MomentFits}
+use Rattle.miniserde_text.specs.private.Moving.{opened_kind, first_or_after, MomentFits}
 use Rattle.miniserde_text.proofs.Stacks.{split_top}
 use Rattle.miniserde_text.proofs.Starting.{starts_on}
 use Rattle.miniserde_place.specs.private.Runs.{Spellable}
@@ -26,19 +26,19 @@ use Rattle.miniserde_place.specs.private.Runs.{Spellable}
 -- ---- one event before others
 
 with_finish : (k : Kind) (f : Bool) (st : List Kind) (es : List Step) → Spellable after es st
-    → Spellable (before_child f) (finish ∷ es) (k ∷ st)
+    → Spellable (first_or_after f) (finish ∷ es) (k ∷ st)
 with_finish Seq true st es h = (93 ∷ h.0, at_front (93 ∷ []) h.0 _ refl h.1 refl)
 with_finish Seq false st es h = (93 ∷ h.0, at_front (93 ∷ []) h.0 _ refl h.1 refl)
 with_finish Map true st es h = (125 ∷ h.0, at_front (125 ∷ []) h.0 _ refl h.1 refl)
 with_finish Map false st es h = (125 ∷ h.0, at_front (125 ∷ []) h.0 _ refl h.1 refl)
 
 with_element : (f : Bool) (st : List Kind) (es : List Step) → Spellable due es (Seq ∷ st)
-    → Spellable (before_child f) (element ∷ es) (Seq ∷ st)
+    → Spellable (first_or_after f) (element ∷ es) (Seq ∷ st)
 with_element true st es h = h
 with_element false st es h = (44 ∷ h.0, at_front (44 ∷ []) h.0 _ refl h.1 refl)
 
 with_key : (f : Bool) (st : List Kind) (s r n : List ℕ) → Names s n r → (es : List Step)
-    → Spellable due es (Map ∷ st) → Spellable (before_child f) (key n ∷ es) (Map ∷ st)
+    → Spellable due es (Map ∷ st) → Spellable (first_or_after f) (key n ∷ es) (Map ∷ st)
 with_key true st s r n p es h = (p.part ++ h.0, at_front p.part h.0 _ p.is_part h.1 refl)
 with_key false st s r n p es h =
     let named = at_front p.part h.0 _ p.is_part h.1 refl in
@@ -48,33 +48,33 @@ with_key false st s r n p es h =
 
 -- if some text spells the events es after a container, some text spells its end and then es
 pub close_spellable : (st st' : List Kind) (k : Kind) (f : Bool) → innermost st ≡ Some k → st' ≡ outer st
-    → (es : List Step) → Spellable after es st' → Spellable (before_child f) (finish ∷ es) st
+    → (es : List Step) → Spellable after es st' → Spellable (first_or_after f) (finish ∷ es) st
 close_spellable st st' k f h q es p =
-    subst (λ z. Spellable (before_child f) (finish ∷ es) z) (sym (split_top st k h))
+    subst (λ z. Spellable (first_or_after f) (finish ∷ es) z) (sym (split_top st k h))
     (with_finish k f (outer st) es (subst (λ z. Spellable after es z) q p))
 
 -- if an array is innermost and some text spells es where a value is due, some text spells `element` and then es
 pub element_spellable : (st : List Kind) (k : Kind) (f : Bool) → innermost st ≡ Some k → k ≡ Seq → (es : List Step)
-    → Spellable due es st → Spellable (before_child f) (element ∷ es) st
+    → Spellable due es st → Spellable (first_or_after f) (element ∷ es) st
 element_spellable st k f h e es =
-    subst (λ z. Spellable due es z → Spellable (before_child f) (element ∷ es) z)
+    subst (λ z. Spellable due es z → Spellable (first_or_after f) (element ∷ es) z)
     (sym (split_top st Seq (h ∙ ap Some e))) (with_element f (outer st) es)
 
 -- if an object is innermost and some text spells es where a value is due, some text spells the name n and then es
 pub key_spellable : (st : List Kind) (s r n : List ℕ) (k : Kind) (f : Bool) → innermost st ≡ Some k → k ≡ Map
-    → Names s n r → (es : List Step) → Spellable due es st → Spellable (before_child f) (key n ∷ es) st
+    → Names s n r → (es : List Step) → Spellable due es st → Spellable (first_or_after f) (key n ∷ es) st
 key_spellable st s r n k f h e p es =
-    subst (λ z. Spellable due es z → Spellable (before_child f) (key n ∷ es) z)
+    subst (λ z. Spellable due es z → Spellable (first_or_after f) (key n ∷ es) z)
     (sym (split_top st Map (h ∙ ap Some e))) (with_key f (outer st) s r n p es)
 
 -- if a text starts with e, and some text spells es behind e, some text spells e and then es
 pub start_spellable : (st : List Kind) (s r : List ℕ) (e : Step) (f : Bool) (st' : List Kind) → Starts s e r
     → f ≡ is_some (opened_kind e) → st' ≡ with_opened (opened_kind e) st → (es : List Step)
-    → Spellable (before_child f) es st' → Spellable due (e ∷ es) st
+    → Spellable (first_or_after f) es st' → Spellable due (e ∷ es) st
 start_spellable st s r e f st' k p q es h =
-    let i : Spellable (before_child (is_some (opened_kind e))) es (with_opened (opened_kind e) st) =
-    subst (λ z. Spellable (before_child z) es (with_opened (opened_kind e) st)) p
-    (subst (λ z. Spellable (before_child f) es z) q h) in
+    let i : Spellable (first_or_after (is_some (opened_kind e))) es (with_opened (opened_kind e) st) =
+    subst (λ z. Spellable (first_or_after z) es (with_opened (opened_kind e) st)) p
+    (subst (λ z. Spellable (first_or_after f) es z) q h) in
     let b = k.0.part in
     (b ++ i.0, starts_on e st (b ++ i.0) i.0 (record { space = []; part = b; text = refl; is_space = tt; is_part = k.0.is_part }) es i.1)
 
@@ -90,7 +90,7 @@ Unfinished after [] = ⊥
 Unfinished _ _ = ⊤
 
 -- inside an open container, the moment before a child is unfinished
-pub inside_unfinished : (f : Bool) (st : List Kind) (k : Kind) → innermost st ≡ Some k → Unfinished (before_child f) st
+pub inside_unfinished : (f : Bool) (st : List Kind) (k : Kind) → innermost st ≡ Some k → Unfinished (first_or_after f) st
 inside_unfinished f [] k h = absurd (true≢false (ap is_some (sym h)))
 inside_unfinished true (c ∷ st) k h = tt
 inside_unfinished false (c ∷ st) k h = tt
@@ -119,7 +119,7 @@ spelled_events es h = let t = spells_json es h.0 h.1 in (t.0, t.1, json_tree h.0
 
 -- the events behind a value's first token, where there are some
 pub tree_spelled : (x : lexed.Event) (scratch : List ℕ) (es : List Step) → (es ≡ [] → ⊥)
-    → Spellable (before_child (is_some (opened_kind (event_of_token x scratch)))) es
+    → Spellable (first_or_after (is_some (opened_kind (event_of_token x scratch)))) es
     (with_opened (opened_kind (event_of_token x scratch)) [])
     → (t : Tree) × (event_of_token x scratch ∷ es ≡ events t) × InRange t
 tree_spelled variant.Null scratch es n h = leaf_ends es n h

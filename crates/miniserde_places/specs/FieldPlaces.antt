@@ -17,26 +17,26 @@ use Rattle.miniserde_record.specs.laws.Fields.{none-refused, field-refused, fiel
 -- with the current field's place, and V the type of the fields' values
 pub record FieldPlacesMeaning (F V : Type 0) : Type 1 where
   -- the meaning of the fields by trees
-  pub meant : FieldsMeaning V
+  pub by_trees : FieldsMeaning V
   -- the state of the fields so far
-  pub state : F → meant.State
+  pub state : F → by_trees.State
   -- the state after one more member, if the member is no error, by the fields' names, the state before it, the member's
   -- name and the events of its value
-  pub by_events : List Name → meant.State → Name → List Step → Option meant.State
+  pub by_events : List Name → by_trees.State → Name → List Step → Option by_trees.State
   -- a member's events lead to the same state as its tree
-  pub events_agree : (names : List Name) (s : meant.State) (k : Name) (t : Tree)
-      → by_events names s k (events t) ≡ meant.next_state names s k t
-  -- a member for whose name `meant.refuses` holds gives no state, whatever its events
-  pub refuses_agrees : (names : List Name) (s : meant.State) (k : Name) → meant.refuses names s k ≡ true → (es : List Step)
+  pub events_agree : (names : List Name) (s : by_trees.State) (k : Name) (t : Tree)
+      → by_events names s k (events t) ≡ by_trees.next_state names s k t
+  -- a member for whose name `by_trees.refuses` holds gives no state, whatever its events
+  pub refuses_agrees : (names : List Name) (s : by_trees.State) (k : Name) → by_trees.refuses names s k ≡ true → (es : List Step)
       → by_events names s k es ≡ None
   -- the view of the current field's place, or of the place of a skipped member; its outcome is the state after that
   -- member
-  pub child : F → PlaceView meant.State
+  pub child : F → PlaceView by_trees.State
 
 -- the meaning of no field: a place skips each member, and `skipped` returns the view of that place
 abbrev pub no_field_places : {F : Type 0} → (F → PlaceView (Unit {0})) → FieldPlacesMeaning F (Unit {0})
 no_field_places skipped = record {
-  meant = no_fields;
+  by_trees = no_fields;
   state = λ _. tt;
   by_events = λ ns s k es. Some tt;
   events_agree = λ ns s k t. refl;
@@ -57,18 +57,18 @@ field_view view v s later (Some p) = view_through (λ a. Some (Some a, s)) (view
 abbrev pub field_place_and : {P T F R V : Type 0} → Bool → PlaceMeaning P T → Option T → (F → Option T)
     → (F → Option P) → (F → R) → FieldPlacesMeaning R V → FieldPlacesMeaning F (T × V)
 field_place_and once m absent value child rest n = record {
-  meant = field_and once None (type_meaning m) absent n.meant;
+  by_trees = field_and once None (type_meaning m) absent n.by_trees;
   state = λ f. (option_map m.content (value f), n.state (rest f));
   by_events = field_member once m.from_events n.by_events;
-  events_agree = field-meant once m.from_events m.from_tree n.by_events n.meant.next_state m.events_agree n.events_agree;
-  refuses_agrees = field-refused once m.from_events n.by_events n.meant.refuses n.refuses_agrees;
+  events_agree = field-meant once m.from_events m.from_tree n.by_events n.by_trees.next_state m.events_agree n.events_agree;
+  refuses_agrees = field-refused once m.from_events n.by_events n.by_trees.refuses n.refuses_agrees;
   child = λ f. field_view m.view (option_map m.content (value f)) (n.state (rest f)) (n.child (rest f)) (child f);
 }
 
 -- the meaning of a wrapper around fields: `inner` returns the fields, and n is their meaning
 abbrev pub wrapper_field_places : {F G V : Type 0} → (G → F) → FieldPlacesMeaning F V → FieldPlacesMeaning G V
 wrapper_field_places inner n = record {
-  meant = n.meant;
+  by_trees = n.by_trees;
   state = λ g. n.state (inner g);
   by_events = n.by_events;
   events_agree = n.events_agree;
@@ -86,14 +86,14 @@ refuses_member refuses _ = false
 -- returns the fields' values of a struct, and `fields` a collector's fields so far
 abbrev pub struct_collector : {F V C W : Type 0} → FieldPlacesMeaning F V → List Name → (W → V) → (C → F) → CollectorMeaning C W
 struct_collector n names values fields = record {
-  meant = struct_meaning n.meant names values;
-  State = n.meant.State;
+  by_trees = struct_meaning n.by_trees names values;
+  State = n.by_trees.State;
   state = λ c. n.state (fields c);
-  empty = n.meant.empty;
+  empty = n.by_trees.empty;
   is_object = true;
-  rules = object_rules (n.by_events names) n.meant.end;
-  events_agree = object-meant (n.by_events names) (n.meant.next_state names) n.meant.end (n.events_agree names)
-      n.meant.empty (n.meant.from_members names n.meant.empty) (n.meant.members_agree names n.meant.empty);
+  rules = object_rules (n.by_events names) n.by_trees.end;
+  events_agree = object-meant (n.by_events names) (n.by_trees.next_state names) n.by_trees.end (n.events_agree names)
+      n.by_trees.empty (n.by_trees.from_members names n.by_trees.empty) (n.by_trees.members_agree names n.by_trees.empty);
   child = λ c. n.child (fields c);
-  refuses = λ s e. refuses_member (n.meant.refuses names s) e;
+  refuses = λ s e. refuses_member (n.by_trees.refuses names s) e;
 }

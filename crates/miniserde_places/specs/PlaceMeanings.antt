@@ -37,7 +37,7 @@ use Rattle.miniserde_places.specs.laws.Maps.{map-meant}
 -- so far, `child` the current item's place, and `whole` the items of a complete list
 abbrev pub list_collector : {P V C W : Type 0} → PlaceMeaning P V → (C → List V) → (C → Option P) → (W → List V) → CollectorMeaning C W
 list_collector m items child whole = record {
-  meant = list_meaning (type_meaning m) whole;
+  by_trees = list_meaning (type_meaning m) whole;
   State = List m.Content;
   state = λ c. map m.content (items c);
   empty = [];
@@ -53,7 +53,7 @@ list_collector m items child whole = record {
 -- array. An item after the n-th fails, and so does a member.
 abbrev pub array_collector : {P V C W : Type 0} → ℕ → PlaceMeaning P V → (C → List V) → (C → Option P) → (W → List V) → CollectorMeaning C W
 array_collector n m items child whole = record {
-  meant = array_meaning n (type_meaning m) whole;
+  by_trees = array_meaning n (type_meaning m) whole;
   State = List m.Content;
   state = λ c. map m.content (items c);
   empty = [];
@@ -79,7 +79,7 @@ part_view f g a b (Second q) = view_through (λ y. Some (a, Some y)) (g q)
 abbrev pub pair_collector : {P Q V U C W : Type 0} → PlaceMeaning P V → PlaceMeaning Q U → (C → Option V)
     → (C → Option U) → (C → Part P Q) → (W → V) → (W → U) → CollectorMeaning C W
 pair_collector m n first second child one two = record {
-  meant = pair_meaning (type_meaning m) (type_meaning n) one two;
+  by_trees = pair_meaning (type_meaning m) (type_meaning n) one two;
   State = Option m.Content × Option n.Content;
   state = λ c. (option_map m.content (first c), option_map n.content (second c));
   empty = (None, None);
@@ -97,7 +97,7 @@ pair_collector m n first second child one two = record {
 abbrev pub map_collector : {K P V C W : Type 0} → (Name → Option Key) → (Key → Key) → (K → Key) → PlaceMeaning P V
     → (C → List (K × V)) → (C → Option (K × P)) → (W → List (K × V)) → CollectorMeaning C W
 map_collector read code key m entries child whole = record {
-  meant = map_meaning read code key (type_meaning m) whole;
+  by_trees = map_meaning read code key (type_meaning m) whole;
   State = Key → Option (Key × m.Content);
   state = λ c. map_content code key m.content (entries c);
   empty = no_entries;

@@ -98,12 +98,12 @@ abbrev pub AppendsPartOfAnswer : Option (List ℕ) → Option (List ℕ) → Lis
 AppendsPartOfAnswer = AppendsPartBy IsAnswer
 
 -- `new` is `old` with an output of `run_unique` for xs appended
-abbrev pub AppendsUniqueAnswer : Option (List ℕ) → Option (List ℕ) → List ℕ → Type 0
-AppendsUniqueAnswer = AppendsBy IsAnswerOfUnique
+abbrev pub AppendsAnswerOfUnique : Option (List ℕ) → Option (List ℕ) → List ℕ → Type 0
+AppendsAnswerOfUnique = AppendsBy IsAnswerOfUnique
 
 -- `new` is `old` with a prefix of an output of `run_unique` for xs appended
-abbrev pub AppendsPartOfUniqueAnswer : Option (List ℕ) → Option (List ℕ) → List ℕ → Type 0
-AppendsPartOfUniqueAnswer = AppendsPartBy IsAnswerOfUnique
+abbrev pub AppendsPartOfAnswerOfUnique : Option (List ℕ) → Option (List ℕ) → List ℕ → Type 0
+AppendsPartOfAnswerOfUnique = AppendsPartBy IsAnswerOfUnique
 
 -- ---- the program
 

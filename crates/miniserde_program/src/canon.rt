@@ -7,7 +7,7 @@ ghost use Rattle.std.specs.Io.KnownBytes.{Consumes, IsAtEnd, Keeps, Appends};
 ghost use Rattle.miniserde_program.specs.Counts.{inner_of, failures, flushes};
 ghost use Rattle.miniserde_program.specs.Runs.{IsAnswer, HasNoAnswer, IsAnswerOfUnique, HasNoAnswerOfUnique};
 ghost use Rattle.miniserde_program.specs.Runs.{fault_of, read_faults, write_faults, IfRead};
-ghost use Rattle.miniserde_program.specs.Runs.{AppendsUniqueAnswer, AppendsPartOfUniqueAnswer};
+ghost use Rattle.miniserde_program.specs.Runs.{AppendsAnswerOfUnique, AppendsPartOfAnswerOfUnique};
 ghost use Rattle.miniserde_program.specs.Runs.{IfSilent, AppendsPart, AppendsAnswer, AppendsPartOfAnswer, status_of, line_of};
 ghost use Rattle.miniserde_program.specs.Runs.{RunEffects};
 ghost use Rattle.miniserde_program.specs.declared.canon.Fault.{Fault};
@@ -85,7 +85,7 @@ pub fn run_unique<R: Read, W: Write>(
 ) -> Result<(), Fault>
     // Bytes are told of streams with a model. At `Ok` the canonical text alone was written, and flushed once.
     ensures ok { OnOk result (IfSome (R.remaining (inner_of r.old))
-        (AppendsUniqueAnswer (W.contents (inner_of w.old)) (W.contents (inner_of w.new)))) }
+        (AppendsAnswerOfUnique (W.contents (inner_of w.old)) (W.contents (inner_of w.new)))) }
     ensures flushed { OnOk result (flushes w.new ≡ flushes w.old + 1) }
 
     // The reader was read to its end, unless the result is `Read` or `Memory`. The failures are counted.
@@ -97,9 +97,9 @@ pub fn run_unique<R: Read, W: Write>(
     ensures invalid { IsErrOf result Fault.Invalid → IfSome (R.remaining (inner_of r.old)) HasNoAnswerOfUnique }
     ensures silent { IfSilent result (Keeps (W.contents (inner_of w.old)) (W.contents (inner_of w.new))) }
     ensures part { IsErrOf result Fault.Write → IfSome (R.remaining (inner_of r.old))
-        (AppendsPartOfUniqueAnswer (W.contents (inner_of w.old)) (W.contents (inner_of w.new))) }
+        (AppendsPartOfAnswerOfUnique (W.contents (inner_of w.old)) (W.contents (inner_of w.new))) }
     ensures all_written { IsErrOf result Fault.Write → flushes w.old < flushes w.new → IfSome (R.remaining (inner_of r.old))
-        (AppendsUniqueAnswer (W.contents (inner_of w.old)) (W.contents (inner_of w.new))) }
+        (AppendsAnswerOfUnique (W.contents (inner_of w.old)) (W.contents (inner_of w.new))) }
 {
     let bytes = read_all(alloc, r)?;
     let text = canonical_unique_of_bytes(alloc, bytes.as_slice())?;

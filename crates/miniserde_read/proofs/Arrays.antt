@@ -14,7 +14,7 @@ use Rattle.miniserde_read.specs.Rest.{ElementsAt}
 use Rattle.miniserde_read.specs.types.Arrays.{exactly, array_of}
 use Rattle.miniserde_read.specs.types.Lists.{each}
 use Rattle.miniserde_read.specs.types.Tuples.{none_of}
-use Rattle.miniserde_read.proofs.Lists.{ListGoes, list_ended}
+use Rattle.miniserde_read.proofs.Lists.{ListGoes, closed_list_gives_no_other}
 
 module _ {C : Type 0} (n : ℕ) where
   so_many : (xs : List C) → length xs ≡ n → exactly n xs ≡ Some xs
@@ -45,7 +45,7 @@ module _ {V : Type 0} (n : ℕ) {m : Meaning V} {begin : List ℕ} {f : Bool} {s
 
   -- the list ends behind fewer items
   pub array_short : (b : List ℕ) → length items < n → Follows Seq f true s b → Rejected
-  array_short b l h ts r p = ap (option_and_then (exactly n)) (list_ended b g h ts r p)
+  array_short b l h ts r p = ap (option_and_then (exactly n)) (closed_list_gives_no_other b g h ts r p)
       ∙ not_so_many n (map m.content items) (λ k. absurd (omega (arith, k, l, length-map items m.content)))
 
   -- the list does not end behind n items

@@ -14,7 +14,7 @@ use Rattle.miniserde_model.specs.Lexing.{Starts}
 use Rattle.miniserde_model.specs.declared.kind.Kind.{Kind}
 use Rattle.miniserde_model.specs.declared.kind.Kind.TheVariants.{Seq, Map}
 use Rattle.miniserde_model.specs.private.Reading.{due, first}
-use Rattle.miniserde_text.specs.private.Moving.{before_child}
+use Rattle.miniserde_text.specs.private.Moving.{first_or_after}
 use Rattle.miniserde_text.specs.private.Runs.{Runs}
 use Rattle.miniserde_text.proofs.Starting.{same_start}
 use Rattle.miniserde_text.proofs.Wholes.{json_run, run_json, nothing_left}
@@ -43,7 +43,7 @@ mutual
       object_at ms rest st s h.0 r h.1 a
 
   elements_at : (ts : Trees) (f : Bool) (rest : List Step) (st : List Kind) (s r : List ℕ)
-      → Runs (before_child f) (child_events ts ++ finish ∷ rest) (Seq ∷ st) s r → ElementsEnd ts f rest st s r
+      → Runs (first_or_after f) (child_events ts ++ finish ∷ rest) (Seq ∷ st) s r → ElementsEnd ts f rest st s r
   elements_at no_trees true rest st s r h = h
   elements_at no_trees false rest st s r h = h
   elements_at (tree t ts) true rest st s r h =
@@ -56,7 +56,7 @@ mutual
       element_at t ts false _ rest st s h.0 r h.1 a (elements_at ts false rest st a.end r a.is_rest)
 
   members_at : (ms : Members) (f : Bool) (rest : List Step) (st : List Kind) (s r : List ℕ)
-      → Runs (before_child f) (member_events ms ++ finish ∷ rest) (Map ∷ st) s r → MembersEnd ms f rest st s r
+      → Runs (first_or_after f) (member_events ms ++ finish ∷ rest) (Map ∷ st) s r → MembersEnd ms f rest st s r
   members_at no_members true rest st s r h = h
   members_at no_members false rest st s r h = h
   members_at (member n t ms) true rest st s r h =

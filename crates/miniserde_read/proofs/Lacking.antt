@@ -2,7 +2,7 @@
 -- of the whole list. The loop keeps the invariant `AmongGoes`, which `among_goes` carries over one element;
 -- `has_escape` carries the fact over to a whole text.
 use Rattle.std.proofs.Common.{◌≡◌, length, ℕ, suc, ◌+◌, ◌-◌, ◌<◌, Bool, true, false, List, [], Some}
-use Rattle.std.proofs.Common.{◌∷◌, ◌++◌, refl, ap, ◌∙◌, subst, arith, inl, inr}
+use Rattle.std.proofs.Common.{◌∷◌, ◌++◌, refl, ap, ◌∙◌, arith, inl, inr}
 use Rattle.std.specs.Prelude.{◌≢◌, ◌⊎◌}
 use Rattle.std.specs.List.{AllByRecursion}
 use Rattle.std.proofs.lemmas.List.{append_assoc, length-append}
@@ -35,11 +35,6 @@ pub record AmongGoes (n : ℕ) (begin : List ℕ) (first : Bool) (s : List ℕ) 
   pub some : (m : ℕ) (r : List ℕ) → m + k ≡ n → SomeElements m first s r → SomeElements n true begin r
 
 module _ (n : ℕ) (begin : List ℕ) where
-  pub among_begins : AmongGoes n begin true begin 0
-  among_begins = record {
-    escaped = λ m e p. let same : m ≡ n = omega (arith, e) in subst (λ z. EscapedAmong z true begin) same p;
-    some = λ m r e p. let same : m ≡ n = omega (arith, e) in subst (λ z. SomeElements z true begin r) same p;
-  }
 
   pub among_goes : (f : Bool) (s d : List ℕ) (k : ℕ) → AmongGoes n begin f s k → AnElement f s d → AmongGoes n begin false d (suc k)
   among_goes f s d k g a = record {

@@ -8,7 +8,7 @@ use Rattle.miniserde_model.specs.Tree.{Tree, null, truth, nonneg, neg, num, str,
 use Rattle.miniserde_model.specs.Normal.{last_of, or_else}
 use Rattle.miniserde_keys.specs.Keys.{Key}
 use Rattle.miniserde_read.specs.types.Objects.{Name}
-use Rattle.miniserde_read.specs.types.Maps.{first_and_last, first_and_last_at, entry_at, MeansAt, MapReads}
+use Rattle.miniserde_read.specs.types.Maps.{first_and_last, first_and_last_at, entry_at, EntryFits, MapReads}
 use Rattle.miniserde_read.specs.Lookups.{last_in, last_at, IsValueOf}
 
 -- ---- the last tree of a name is the last tree of the members whose key it is
@@ -40,7 +40,7 @@ module _ {K V : Type 0} (code : K → Key) where
       ])
 
 module _ {K V : Type 0} (content : K → Key) (R : Tree → V → Type 0) where
-  value_at : (o : Option (Key × Tree)) (e : Option (K × V)) → MeansAt content R o e
+  value_at : (o : Option (Key × Tree)) (e : Option (K × V)) → EntryFits content R o e
       → IsValueOf R (option_map (λ p. p.1) o) (option_map (λ e. e.1) e)
   value_at None None h = refl
   value_at None (Some e) h = absurd h

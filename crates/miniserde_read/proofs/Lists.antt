@@ -1,6 +1,6 @@
 -- While a list is read child by child, the items so far with those of the remaining children are the items of the
 -- whole list. `ListGoes` is this invariant: `list_begins` establishes it, `list_goes` carries it over one child, and
--- `list_ends` uses it where the loop ends.
+-- `closed_list_gives` uses it where the loop ends.
 use Rattle.std.proofs.Common.{◌≡◌, ℕ, Bool, true, false, List, [], ◌∷◌, ◌++◌, map, Option, Some, None, refl, ap}
 use Rattle.std.proofs.Common.{subst, ◌∙◌, append-nil, append_assoc, arith}
 use Rattle.std.specs.Prelude.{option_and_then, option_map}
@@ -88,15 +88,15 @@ module _ {V : Type 0} {m : Meaning V} {begin : List ℕ} where
 
   -- If the closing bracket is next, with b behind it, then from `begin` to b stand the children ts and the bracket, and ts
   -- give the contents of the items that were read.
-  pub list_ends : {f : Bool} {s : List ℕ} {items : List V} (b : List ℕ) → ListGoes m begin f s items → Follows Seq f true s b
+  pub closed_list_gives : {f : Bool} {s : List ℕ} {items : List V} (b : List ℕ) → ListGoes m begin f s items → Follows Seq f true s b
       → (ts : Trees) × ElementsAt ts true begin b × (each m.from_tree ts ≡ Some (map m.content items))
-  list_ends {items = items} b g h =
+  closed_list_gives {items = items} b g h =
       let a = g.on no_trees b h in
       (a.0, a.1, a.2 ∙ ap Some (append-nil (map m.content items)))
 
   -- and any children that `begin` spells up to a closing bracket give these contents
-  pub list_ended : {f : Bool} {s : List ℕ} {items : List V} (b : List ℕ) → ListGoes m begin f s items → Follows Seq f true s b
+  pub closed_list_gives_no_other : {f : Bool} {s : List ℕ} {items : List V} (b : List ℕ) → ListGoes m begin f s items → Follows Seq f true s b
       → (ts : Trees) (r : List ℕ) → ElementsAt ts true begin r → each m.from_tree ts ≡ Some (map m.content items)
-  list_ended {f} {s} {items} b g h ts r p =
+  closed_list_gives_no_other {f} {s} {items} b g h ts r p =
       let a = g.back ts r p in
       a.2 ∙ ap (with m items) (elements_close a.0 f s b r h a.1).0 ∙ ap Some (append-nil (map m.content items))

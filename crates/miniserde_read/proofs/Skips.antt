@@ -13,7 +13,7 @@ use Rattle.miniserde_model.specs.declared.error.Error.{Error}
 use Rattle.miniserde_text.specs.declared.json.lex.Event as lexed
 use Rattle.miniserde_read.specs.Rest.{ValueAt}
 use Rattle.miniserde_text.specs.private.Stack.{with_opened, innermost}
-use Rattle.miniserde_text.specs.private.Moving.{opened_kind, before_child}
+use Rattle.miniserde_text.specs.private.Moving.{opened_kind, first_or_after}
 use Rattle.miniserde_text.specs.private.Runs.{Runs, Reaches, NeverRuns}
 use Rattle.miniserde_text.proofs.Consumes.{Consumes-none, live_opened, value_passed}
 use Rattle.miniserde_read.proofs.Values.{value_later, whole_at}
@@ -22,35 +22,35 @@ use Rattle.miniserde_read.proofs.Values.{value_later, whole_at}
 pub entered : (result : Result Bool Error) (st : List Kind) (s r : List ℕ) (e : Step) (st' : List Kind)
     → Starts s e r → IfOk result (λ b. b ≡ is_some (opened_kind e))
     → IfOk result (λ _. st' ≡ with_opened (opened_kind e) st)
-    → IfOk result (λ b. Reaches due st s (before_child b) st' r)
+    → IfOk result (λ b. Reaches due st s (first_or_after b) st' r)
 entered (Ok b) st s r e st' p q h = record { done = e ∷ []; passed = value_passed st s r e b st' p q h }
 entered (Err x) st s r e st' p q h = tt
 
 -- before the first turn
 pub reaches_init : (e : Step) (f : Bool) (st : List Kind) (s : List ℕ) → f ≡ is_some (opened_kind e)
     → st ≡ with_opened (opened_kind e) []
-    → Reaches (before_child (is_some (opened_kind e))) (with_opened (opened_kind e) []) s (before_child f) st s
+    → Reaches (first_or_after (is_some (opened_kind e))) (with_opened (opened_kind e) []) s (first_or_after f) st s
 reaches_init e f st s p q =
-    subst (λ z. Reaches (before_child (is_some (opened_kind e))) (with_opened (opened_kind e) []) s (before_child z) st s) (sym p)
-    (subst (λ z. Reaches (before_child (is_some (opened_kind e))) (with_opened (opened_kind e) []) s
-    (before_child (is_some (opened_kind e))) z s) (sym q)
+    subst (λ z. Reaches (first_or_after (is_some (opened_kind e))) (with_opened (opened_kind e) []) s (first_or_after z) st s) (sym p)
+    (subst (λ z. Reaches (first_or_after (is_some (opened_kind e))) (with_opened (opened_kind e) []) s
+    (first_or_after (is_some (opened_kind e))) z s) (sym q)
     (record {
       done = [];
       passed =
-          Consumes-none (before_child (is_some (opened_kind e))) (with_opened (opened_kind e) []) s
+          Consumes-none (first_or_after (is_some (opened_kind e))) (with_opened (opened_kind e) []) s
           (live_opened e);
     }))
 
 -- where no container is left open
 pub skip_ok : (x : lexed.Event) (scratch s s' : List ℕ) (f : Bool) (st' : List Kind) → innermost st' ≡ None
-    → Reaches (before_child (is_some (opened_kind (event_of_token x scratch))))
-    (with_opened (opened_kind (event_of_token x scratch)) []) s (before_child f) st' s'
+    → Reaches (first_or_after (is_some (opened_kind (event_of_token x scratch))))
+    (with_opened (opened_kind (event_of_token x scratch)) []) s (first_or_after f) st' s'
     → (t : Tree) × ValueAt t (event_of_token x scratch) s s'
 skip_ok x scratch s s' true [] h p = absurd p.passed.live
 skip_ok x scratch s s' false [] h p =
     let e = event_of_token x scratch in
-    let runs : Runs (before_child (is_some (opened_kind e))) p.done (with_opened (opened_kind e) []) s s' =
-    subst (λ z. Runs (before_child (is_some (opened_kind e))) z (with_opened (opened_kind e) []) s s')
+    let runs : Runs (first_or_after (is_some (opened_kind e))) p.done (with_opened (opened_kind e) []) s s' =
+    subst (λ z. Runs (first_or_after (is_some (opened_kind e))) z (with_opened (opened_kind e) []) s s')
     (append-nil p.done) (p.passed.on [] s' refl) in
     let w = whole_at x scratch p.done s s' runs in
     (w.tree, w.is_value)
@@ -58,6 +58,6 @@ skip_ok x scratch s s' f (c ∷ st) h p = absurd (true≢false (ap is_some h))
 
 -- where the text cannot go on
 pub skip_none : (e : Step) (s : List ℕ)
-    → NeverRuns (before_child (is_some (opened_kind e))) (with_opened (opened_kind e) []) s
+    → NeverRuns (first_or_after (is_some (opened_kind e))) (with_opened (opened_kind e) []) s
     → (t : Tree) (r : List ℕ) → ValueAt t e s r → ⊥
 skip_none e s n t r v = let l = value_later t e s r v in n l.later r l.runs

@@ -13,7 +13,7 @@ use Rattle.miniserde_model.specs.declared.kind.Kind.{Kind}
 use Rattle.miniserde_model.specs.declared.kind.Kind.TheVariants.{Seq, Map}
 use Rattle.miniserde_model.specs.private.Reading.{due, first, after}
 use Rattle.miniserde_text.specs.private.Stack.{with_opened}
-use Rattle.miniserde_text.specs.private.Moving.{opened_kind, before_child}
+use Rattle.miniserde_text.specs.private.Moving.{opened_kind, first_or_after}
 use Rattle.miniserde_text.specs.Lexer.{event_of_token}
 use Rattle.miniserde_text.specs.declared.json.lex.Event as lexed
 use Rattle.miniserde_text.specs.declared.json.lex.Event.TheVariants as variant
@@ -47,7 +47,7 @@ mutual
   )
 
   pub elements_run : (ts : Trees) (f : Bool) (s x : List ℕ) (es : List Step) (st : List Kind) (r : List ℕ)
-      → ElementsAt ts f s x → Runs after es st x r → Runs (before_child f) (child_events ts ++ finish ∷ es)
+      → ElementsAt ts f s x → Runs after es st x r → Runs (first_or_after f) (child_events ts ++ finish ∷ es)
       (Seq ∷ st) s r
   elements_run no_trees true s x es st r p h = (x, p, h)
   elements_run no_trees false s x es st r p h = (x, p, h)
@@ -69,7 +69,7 @@ mutual
   )
 
   pub members_run : (ms : Members) (f : Bool) (s x : List ℕ) (es : List Step) (st : List Kind) (r : List ℕ)
-      → MembersAt ms f s x → Runs after es st x r → Runs (before_child f) (member_events ms ++ finish ∷ es)
+      → MembersAt ms f s x → Runs after es st x r → Runs (first_or_after f) (member_events ms ++ finish ∷ es)
       (Map ∷ st) s r
   members_run no_members true s x es st r p h = (x, p, h)
   members_run no_members false s x es st r p h = (x, p, h)
@@ -98,7 +98,7 @@ mutual
 pub record Later (t : Tree) (e : Step) (s r : List ℕ) : Type 0 where
   pub later : List Step
   pub is : events t ≡ e ∷ later
-  pub runs : Runs (before_child (is_some (opened_kind e))) later (with_opened (opened_kind e) []) s r
+  pub runs : Runs (first_or_after (is_some (opened_kind e))) later (with_opened (opened_kind e) []) s r
 
 -- the same where the event is d
 later_as : (t : Tree) (d e : Step) (s r : List ℕ) → e ≡ d → Later t d s r → Later t e s r
@@ -277,7 +277,7 @@ mutual
   find_value n (finish ∷ es) st s r l h = absurd (h.1.0.is_part)
 
   find_elements : (n : ℕ) (f : Bool) (es : List Step) (st : List Kind) (s r : List ℕ) → length es ≤ n
-      → Runs (before_child f) es (Seq ∷ st) s r → FoundElements f es st s r
+      → Runs (first_or_after f) es (Seq ∷ st) s r → FoundElements f es st s r
   find_elements n true (finish ∷ es) st s r l h =
       record { found = no_trees; left = es; is = refl; at = h }
   find_elements n false (finish ∷ es) st s r l h =
@@ -293,7 +293,7 @@ mutual
   find_elements n _ _ st s r l h = absurd h
 
   find_members : (n : ℕ) (f : Bool) (es : List Step) (st : List Kind) (s r : List ℕ) → length es ≤ n
-      → Runs (before_child f) es (Map ∷ st) s r → FoundMembers f es st s r
+      → Runs (first_or_after f) es (Map ∷ st) s r → FoundMembers f es st s r
   find_members n true (finish ∷ es) st s r l h =
       record { found = no_members; left = es; is = refl; at = h }
   find_members n false (finish ∷ es) st s r l h =
@@ -344,7 +344,7 @@ object_whole es s r h =
 
 -- if the text runs on as es behind the first token x of a value, the event of x and then es are those of a tree
 pub whole_at : (x : lexed.Event) (scratch : List ℕ) (es : List Step) (s r : List ℕ)
-    → Runs (before_child (is_some (opened_kind (event_of_token x scratch)))) es
+    → Runs (first_or_after (is_some (opened_kind (event_of_token x scratch)))) es
     (with_opened (opened_kind (event_of_token x scratch)) []) s r → Whole (event_of_token x scratch) es s r
 whole_at variant.Null scratch es s r h = leaf_whole null step.null es s r refl (λ z i. (refl, i)) h
 whole_at (variant.Bool b) scratch es s r h = leaf_whole (truth b) (boolean b) es s r refl (λ z i. (refl, i)) h

@@ -7,7 +7,7 @@ ghost use Rattle.miniserde_model.specs.declared.error.Error.{Error};
 ghost use Rattle.miniserde_read.specs.Meanings.{ignored_meaning};
 ghost use Rattle.miniserde_read.specs.Rest.{ValueAt};
 ghost use Rattle.miniserde_read.specs.Events.{EventInRange};
-ghost use Rattle.miniserde_text.specs.private.Moving.{before_child};
+ghost use Rattle.miniserde_text.specs.private.Moving.{first_or_after};
 ghost use Rattle.miniserde_text.specs.private.Runs.{Reaches, NeverRuns};
 ghost use Rattle.miniserde_text.specs.private.Stack.{innermost};
 
@@ -70,8 +70,8 @@ fn take_child_or_end<'a>(
     ensures going { IfOk result (λ _. source.new.refused ≡ None) }
     ensures less { IfOk result (λ _. length source.new.rest < length source.old.rest) }
     ensures reaches { IfOk result (λ opened.
-        Reaches (before_child first) stack.old source.old.rest (before_child opened) stack.new source.new.rest) }
-    ensures invalid { result ≡ Err Error.Invalid → NeverRuns (before_child first) stack.old source.old.rest }
+        Reaches (first_or_after first) stack.old source.old.rest (first_or_after opened) stack.new source.new.rest) }
+    ensures invalid { result ≡ Err Error.Invalid → NeverRuns (first_or_after first) stack.old source.old.rest }
 {
     match source.after(kind, first)? {
         After::Close => {
@@ -97,7 +97,7 @@ fn begin<'a>(source: &mut Source<'a>, stack: &mut Stack) -> Result<bool>
     ensures going { IfOk result (λ _. source.new.refused ≡ None) }
     ensures less { IfOk result (λ _. length source.new.rest < length source.old.rest) }
     ensures reaches { IfOk result (λ opened.
-        Reaches due stack.old source.old.rest (before_child opened) stack.new source.new.rest) }
+        Reaches due stack.old source.old.rest (first_or_after opened) stack.new source.new.rest) }
     ensures invalid { result ≡ Err Error.Invalid → NeverRuns due stack.old source.old.rest }
 {
     let token = source.token()?;

@@ -1,13 +1,11 @@
 -- If a tree has a content, its normal form has the same content, for the containers of std except maps. By cases on the
 -- tree (`stable-by`), from the type of the items. Leaves are in `specs/laws/Leaves.antt`.
-use Rattle.std.proofs.Common.{◌≡◌, ℕ, ℤ, pos, negsuc, List, ◌∷◌, Option, Some, None, refl, ap, ◌∙◌}
+use Rattle.std.proofs.Common.{◌≡◌, ℕ, List, ◌∷◌, Option, Some, None, refl, ap, ◌∙◌}
 use Rattle.std.specs.Prelude.{option_map, option_and_then}
-use Rattle.miniserde_model.specs.Tree.{Tree, null, truth, nonneg, neg, num, str, list, members, Trees, no_trees, tree, Members}
-use Rattle.miniserde_model.specs.Normal.{norm, norm_neg, norm_children, norm_members}
+use Rattle.miniserde_model.specs.Tree.{Tree, null, truth, num, str, Trees, no_trees, tree, Members}
+use Rattle.miniserde_model.specs.Normal.{norm, norm_children}
 use Rattle.miniserde_read.specs.types.Lists.{each, list_of}
 use Rattle.miniserde_read.specs.types.Arrays.{exactly, array_of}
-use Rattle.miniserde_read.specs.types.Options.{option_of}
-use Rattle.miniserde_read.specs.types.Pairs.{pair_of}
 use Rattle.miniserde_read.specs.types.Tuples.{none_of, item_of, tuple_of}
 use Rattle.miniserde_stored.specs.Stable.{IsStable}
 use Rattle.miniserde_stored.specs.laws.Leaves.{stable-by}
@@ -27,15 +25,6 @@ mapped f (Some c) p d k e = ap (option_map f) (k c refl) ∙ e
 -- ---- containers, by the law of the type of their values
 
 module _ {C : Type 0} (of : Tree → Option C) (stays : IsStable of) where
-  option-neg : (z : ℤ) (c : Option C) → option_map Some (of (neg z)) ≡ Some c → option_of of (norm_neg z) ≡ Some c
-  option-neg (pos n) c e = mapped Some (of (neg (pos n))) (of (nonneg n)) c (stays (neg (pos n))) e
-  option-neg (negsuc n) c e = e
-
-  pub stable-option : IsStable (option_of of)
-  stable-option = stable-by (option_of of) option-neg
-      (λ ts c e. mapped Some (of (list ts)) (of (list (norm_children ts))) c (stays (list ts)) e)
-      (λ ms c e. mapped Some (of (members ms)) (of (members (norm_members ms))) c (stays (members ms)) e)
-
   stable-each : (ts : Trees) (cs : List C) → each of ts ≡ Some cs → each of (norm_children ts) ≡ Some cs
   stable-each no_trees cs e = e
   stable-each (tree t ts) cs e =
@@ -48,18 +37,6 @@ module _ {C : Type 0} (of : Tree → Option C) (stays : IsStable of) where
 
   pub stable-array : (n : ℕ) → IsStable (array_of n of)
   stable-array n t cs e = bound (list_of of t) (list_of of (norm t)) (exactly n) (exactly n) cs (stable-list t) (λ xs f. f) e
-
-module _ {A B : Type 0} (f : Tree → Option A) (g : Tree → Option B) (first : IsStable f) (second : IsStable g) where
-  pair-list : (ts : Trees) (c : A × B) → pair_of f g (list ts) ≡ Some c → pair_of f g (list (norm_children ts)) ≡ Some c
-  pair-list no_trees c e = e
-  pair-list (tree t no_trees) c e = e
-  pair-list (tree t (tree u no_trees)) c e =
-      bound (f t) (f (norm t)) (λ a. option_map (λ b. (a, b)) (g u)) (λ a. option_map (λ b. (a, b)) (g (norm u))) c (first t)
-      (λ a. mapped (λ b. (a, b)) (g u) (g (norm u)) c (second u)) e
-  pair-list (tree t (tree u (tree v ts))) c e = e
-
-  pub stable-pair : IsStable (pair_of f g)
-  stable-pair = stable-by (pair_of f g) (λ z c e. absurd (cc)) pair-list (λ ms c e. e)
 
 -- ---- tuples, by the laws of the types of their items
 

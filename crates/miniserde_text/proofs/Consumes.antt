@@ -8,7 +8,7 @@ use Rattle.miniserde_model.specs.declared.kind.Kind.{Kind}
 use Rattle.miniserde_model.specs.declared.kind.Kind.TheVariants.{Seq, Map}
 use Rattle.miniserde_model.specs.private.Reading.{Moment, due, after}
 use Rattle.miniserde_text.specs.private.Stack.{with_opened, innermost, outer}
-use Rattle.miniserde_text.specs.private.Moving.{opened_kind, before_child, MomentFits}
+use Rattle.miniserde_text.specs.private.Moving.{opened_kind, first_or_after, MomentFits}
 use Rattle.miniserde_text.proofs.Stacks.{split_top}
 use Rattle.miniserde_text.specs.private.Runs.{Runs, Consumes, Reaches, NeverRuns}
 use Rattle.miniserde_text.proofs.Starting.{live_at, same_start, same_name}
@@ -17,31 +17,31 @@ use Rattle.miniserde_text.proofs.Turning.{close_same, next_same, close_no_next}
 -- ---- a value's first event
 
 start_back : (st : List Kind) (s : List ℕ) (e : Step) (b : List ℕ) → Starts s e b → (es : List Step) (r : List ℕ)
-    → Runs due es st s r → (rest : List Step) × (es ≡ e ∷ rest) × Runs (before_child (is_some (opened_kind e))) rest
+    → Runs due es st s r → (rest : List Step) × (es ≡ e ∷ rest) × Runs (first_or_after (is_some (opened_kind e))) rest
     (with_opened (opened_kind e) st) b r
 start_back st s e b p [] r h = absurd h
 start_back st s e b p (d ∷ es) r h =
     let same = same_start s d e h.0 b h.1 p in (
       es,
       ap (λ z. z ∷ es) same.0,
-      subst (λ z. Runs (before_child (is_some (opened_kind e))) es (with_opened (opened_kind e) st) z r) same.1
-          (subst (λ z. Runs (before_child (is_some (opened_kind z))) es (with_opened (opened_kind z) st) h.0 r)
+      subst (λ z. Runs (first_or_after (is_some (opened_kind e))) es (with_opened (opened_kind e) st) z r) same.1
+          (subst (λ z. Runs (first_or_after (is_some (opened_kind z))) es (with_opened (opened_kind z) st) h.0 r)
           same.0 h.2),
     )
 
 pub passed_start : (st : List Kind) (s : List ℕ) (e : Step) (b : List ℕ) → Starts s e b
-    → Consumes due st s (e ∷ []) (before_child (is_some (opened_kind e))) (with_opened (opened_kind e) st) b
+    → Consumes due st s (e ∷ []) (first_or_after (is_some (opened_kind e))) (with_opened (opened_kind e) st) b
 passed_start st s e b p = record { on = λ es r h. (b, p, h); back = start_back st s e b p; live = live_at (opened_kind e) st }
 
 -- ---- the closing bracket
 
 close_on : (k : Kind) (f : Bool) (st : List Kind) (s b : List ℕ) → Follows k f true s b
-    → (es : List Step) (r : List ℕ) → Runs after es st b r → Runs (before_child f) (finish ∷ es) (k ∷ st) s r
+    → (es : List Step) (r : List ℕ) → Runs after es st b r → Runs (first_or_after f) (finish ∷ es) (k ∷ st) s r
 close_on k true st s b p es r h = (b, p, h)
 close_on k false st s b p es r h = (b, p, h)
 
 close_back : (k : Kind) (f : Bool) (st : List Kind) (s b : List ℕ) → Follows k f true s b
-    → (es : List Step) (r : List ℕ) → Runs (before_child f) es (k ∷ st) s r → (rest : List Step)
+    → (es : List Step) (r : List ℕ) → Runs (first_or_after f) es (k ∷ st) s r → (rest : List Step)
     × (es ≡ finish ∷ rest) × Runs after rest st b r
 close_back k true st s b p (finish ∷ es) r h = (es, refl, subst (λ z. Runs after es st z r) (close_same k true s h.0 b h.1 p) h.2)
 close_back k false st s b p (finish ∷ es) r h = (es, refl, subst (λ z. Runs after es st z r) (close_same k false s h.0 b h.1 p) h.2)
@@ -52,18 +52,18 @@ close_back Map false st s b p (key n ∷ es) r h = absurd (close_no_next Map fal
 close_back _ _ st s b p _ r h = absurd h
 
 pub passed_close : (k : Kind) (f : Bool) (st : List Kind) (s b : List ℕ) → Follows k f true s b
-    → Consumes (before_child f) (k ∷ st) s (finish ∷ []) after st b
+    → Consumes (first_or_after f) (k ∷ st) s (finish ∷ []) after st b
 passed_close k f st s b p = record { on = close_on k f st s b p; back = close_back k f st s b p; live = tt }
 
 -- ---- an element
 
 element_on : (f : Bool) (st : List Kind) (s b : List ℕ) → Follows Seq f false s b → (es : List Step) (r : List ℕ)
-    → Runs due es (Seq ∷ st) b r → Runs (before_child f) (element ∷ es) (Seq ∷ st) s r
+    → Runs due es (Seq ∷ st) b r → Runs (first_or_after f) (element ∷ es) (Seq ∷ st) s r
 element_on true st s b p es r h = (b, p, h)
 element_on false st s b p es r h = (b, p, h)
 
 element_back : (f : Bool) (st : List Kind) (s b : List ℕ) → Follows Seq f false s b → (es : List Step) (r : List ℕ)
-    → Runs (before_child f) es (Seq ∷ st) s r → (rest : List Step) × (es ≡ element ∷ rest)
+    → Runs (first_or_after f) es (Seq ∷ st) s r → (rest : List Step) × (es ≡ element ∷ rest)
     × Runs due rest (Seq ∷ st) b r
 element_back true st s b p (element ∷ es) r h = (es, refl, subst (λ z. Runs due es (Seq ∷ st) z r) (next_same Seq true s h.0 b h.1 p) h.2)
 element_back false st s b p (element ∷ es) r h = (es, refl, subst (λ z. Runs due es (Seq ∷ st) z r) (next_same Seq false s h.0 b h.1 p) h.2)
@@ -72,13 +72,13 @@ element_back false st s b p (finish ∷ es) r h = absurd (close_no_next Seq fals
 element_back _ st s b p _ r h = absurd h
 
 pub passed_element : (f : Bool) (st : List Kind) (s b : List ℕ) → Follows Seq f false s b
-    → Consumes (before_child f) (Seq ∷ st) s (element ∷ []) due (Seq ∷ st) b
+    → Consumes (first_or_after f) (Seq ∷ st) s (element ∷ []) due (Seq ∷ st) b
 passed_element f st s b p = record { on = element_on f st s b p; back = element_back f st s b p; live = tt }
 
 -- ---- a member
 
 key_on : (f : Bool) (st : List Kind) (s b n c : List ℕ) → Follows Map f false s b → Names b n c
-    → (es : List Step) (r : List ℕ) → Runs due es (Map ∷ st) c r → Runs (before_child f) (key n ∷ es) (Map ∷ st) s r
+    → (es : List Step) (r : List ℕ) → Runs due es (Map ∷ st) c r → Runs (first_or_after f) (key n ∷ es) (Map ∷ st) s r
 key_on true st s b n c p q es r h = (b, c, p, q, h)
 key_on false st s b n c p q es r h = (b, c, p, q, h)
 
@@ -86,7 +86,7 @@ named : (b b' n m c d : List ℕ) → b' ≡ b → Names b n c → Names b' m d 
 named b b' n m c d e p q = same_name b m n d c (subst (λ z. Names z m d) e q) p
 
 key_back : (f : Bool) (st : List Kind) (s b n c : List ℕ) → Follows Map f false s b → Names b n c
-    → (es : List Step) (r : List ℕ) → Runs (before_child f) es (Map ∷ st) s r → (rest : List Step)
+    → (es : List Step) (r : List ℕ) → Runs (first_or_after f) es (Map ∷ st) s r → (rest : List Step)
     × (es ≡ key n ∷ rest) × Runs due rest (Map ∷ st) c r
 key_back true st s b n c p q (key m ∷ es) r h =
     let same = named b h.0 n m c h.1 (next_same Map true s h.0 b h.2 p) q h.3 in
@@ -99,35 +99,35 @@ key_back false st s b n c p q (finish ∷ es) r h = absurd (close_no_next Map fa
 key_back _ st s b n c p q _ r h = absurd h
 
 pub passed_key : (f : Bool) (st : List Kind) (s b n c : List ℕ) → Follows Map f false s b → Names b n c
-    → Consumes (before_child f) (Map ∷ st) s (key n ∷ []) due (Map ∷ st) c
+    → Consumes (first_or_after f) (Map ∷ st) s (key n ∷ []) due (Map ∷ st) c
 passed_key f st s b n c p q = record { on = key_on f st s b n c p q; back = key_back f st s b n c p q; live = tt }
 
 -- ---- by the innermost container
 
 -- if the closing bracket of the innermost container is next, the text consumes `finish`
 pub close_passed : (st st' : List Kind) (s r : List ℕ) (k : Kind) (f : Bool) → innermost st ≡ Some k
-    → Follows k f true s r → st' ≡ outer st → Consumes (before_child f) st s (finish ∷ []) after st' r
+    → Follows k f true s r → st' ≡ outer st → Consumes (first_or_after f) st s (finish ∷ []) after st' r
 close_passed st st' s r k f h p q =
-    subst (λ z. Consumes (before_child f) st s (finish ∷ []) after z r) (sym q)
-    (subst (λ z. Consumes (before_child f) z s (finish ∷ []) after (outer st) r) (sym (split_top st k h))
+    subst (λ z. Consumes (first_or_after f) st s (finish ∷ []) after z r) (sym q)
+    (subst (λ z. Consumes (first_or_after f) z s (finish ∷ []) after (outer st) r) (sym (split_top st k h))
     (passed_close k f (outer st) s r p))
 
 -- if the innermost container is an array and an element is next, the text consumes `element`
 pub element_passed : (st : List Kind) (s r : List ℕ) (k : Kind) (f : Bool) → innermost st ≡ Some k → k ≡ Seq
-    → Follows k f false s r → Consumes (before_child f) st s (element ∷ []) due st r
+    → Follows k f false s r → Consumes (first_or_after f) st s (element ∷ []) due st r
 element_passed st s r k f h e p =
-    subst (λ z. Consumes (before_child f) z s (element ∷ []) due z r) (sym (split_top st Seq (h ∙ ap Some e)))
+    subst (λ z. Consumes (first_or_after f) z s (element ∷ []) due z r) (sym (split_top st Seq (h ∙ ap Some e)))
     (passed_element f (outer st) s r (subst (λ z. Follows z f false s r) e p))
 
 -- if the innermost container is an object and a member of the name n is next, the text consumes `key n`
 pub key_passed : (st : List Kind) (s r n x : List ℕ) (k : Kind) (f : Bool) → innermost st ≡ Some k → k ≡ Map
-    → Follows k f false s r → Names r n x → Consumes (before_child f) st s (key n ∷ []) due st x
+    → Follows k f false s r → Names r n x → Consumes (first_or_after f) st s (key n ∷ []) due st x
 key_passed st s r n x k f h e p q =
-    subst (λ z. Consumes (before_child f) z s (key n ∷ []) due z x) (sym (split_top st Map (h ∙ ap Some e)))
+    subst (λ z. Consumes (first_or_after f) z s (key n ∷ []) due z x) (sym (split_top st Map (h ∙ ap Some e)))
     (passed_key f (outer st) s r n x (subst (λ z. Follows z f false s r) e p) q)
 
 runs_follow : (k : Kind) (f : Bool) (es : List Step) (st : List Kind) (s r : List ℕ)
-    → Runs (before_child f) es (k ∷ st) s r → (a : Bool) × (b : List ℕ) × Follows k f a s b
+    → Runs (first_or_after f) es (k ∷ st) s r → (a : Bool) × (b : List ℕ) × Follows k f a s b
 runs_follow k true (finish ∷ es) st s r h = (true, h.0, h.1)
 runs_follow k false (finish ∷ es) st s r h = (true, h.0, h.1)
 runs_follow Seq true (element ∷ es) st s r h = (false, h.0, h.1)
@@ -137,7 +137,7 @@ runs_follow Map false (key n ∷ es) st s r h = (false, h.0, h.2)
 runs_follow _ _ _ st s r h = absurd h
 
 runs_name : (f : Bool) (es : List Step) (st : List Kind) (s b r : List ℕ) → Follows Map f false s b
-    → Runs (before_child f) es (Map ∷ st) s r → (n c : List ℕ) × Names b n c
+    → Runs (first_or_after f) es (Map ∷ st) s r → (n c : List ℕ) × Names b n c
 runs_name true (key n ∷ es) st s b r p h = (n, h.1, subst (λ z. Names z n h.1) (next_same Map true s h.0 b h.2 p) h.3)
 runs_name false (key n ∷ es) st s b r p h = (n, h.1, subst (λ z. Names z n h.1) (next_same Map false s h.0 b h.2 p) h.3)
 runs_name true (finish ∷ es) st s b r p h = absurd (close_no_next Map true s h.0 b h.1 p)
@@ -152,17 +152,17 @@ runs_start (e ∷ es) st s r h = (e, h.0, h.1)
 
 -- if neither a closing bracket nor a child is next in the innermost container, no prefix of the text closes all
 pub after_ends : (st : List Kind) (s : List ℕ) (k : Kind) (f : Bool) → innermost st ≡ Some k
-    → ((a : Bool) (r : List ℕ) → Follows k f a s r → ⊥) → NeverRuns (before_child f) st s
+    → ((a : Bool) (r : List ℕ) → Follows k f a s r → ⊥) → NeverRuns (first_or_after f) st s
 after_ends st s k f h n es r g =
-    let t = runs_follow k f es (outer st) s r (subst (λ z. Runs (before_child f) es z s r) (split_top st k h) g) in
+    let t = runs_follow k f es (outer st) s r (subst (λ z. Runs (first_or_after f) es z s r) (split_top st k h) g) in
     n t.0 t.1 t.2
 
 -- if a member without a name is next in the innermost object, no prefix of the text closes all containers
 pub name_ends : (st : List Kind) (s b : List ℕ) (k : Kind) (f : Bool) → innermost st ≡ Some k → k ≡ Map
-    → Follows k f false s b → ((n x : List ℕ) → Names b n x → ⊥) → NeverRuns (before_child f) st s
+    → Follows k f false s b → ((n x : List ℕ) → Names b n x → ⊥) → NeverRuns (first_or_after f) st s
 name_ends st s b k f h e p n es r g =
     let t = runs_name f es (outer st) s b r (subst (λ z. Follows z f false s b) e p)
-    (subst (λ z. Runs (before_child f) es z s r) (split_top st Map (h ∙ ap Some e)) g) in
+    (subst (λ z. Runs (first_or_after f) es z s r) (split_top st Map (h ∙ ap Some e)) g) in
     n t.0 t.1 t.2
 
 -- if a value is due and the text starts with none, no prefix of the text closes all containers
@@ -208,14 +208,14 @@ pub ends_behind : (m : Moment) (st : List Kind) (s : List ℕ) (m' : Moment) (st
 ends_behind m st s m' st' s' p n es r h = let a = p.passed.back es r h in n a.0 r a.2
 
 -- where e opens the only container
-pub live_opened : (e : Step) → MomentFits (before_child (is_some (opened_kind e))) (with_opened (opened_kind e) [])
+pub live_opened : (e : Step) → MomentFits (first_or_after (is_some (opened_kind e))) (with_opened (opened_kind e) [])
 live_opened e = live_at (opened_kind e) []
 
 -- the first event of a value
 pub value_passed : (st : List Kind) (s r : List ℕ) (e : Step) (f : Bool) (st' : List Kind) → Starts s e r
     → f ≡ is_some (opened_kind e) → st' ≡ with_opened (opened_kind e) st
-    → Consumes due st s (e ∷ []) (before_child f) st' r
+    → Consumes due st s (e ∷ []) (first_or_after f) st' r
 value_passed st s r e f st' p q h =
-    subst (λ z. Consumes due st s (e ∷ []) (before_child z) st' r) (sym q)
-    (subst (λ z. Consumes due st s (e ∷ []) (before_child (is_some (opened_kind e))) z r) (sym h)
+    subst (λ z. Consumes due st s (e ∷ []) (first_or_after z) st' r) (sym q)
+    (subst (λ z. Consumes due st s (e ∷ []) (first_or_after (is_some (opened_kind e))) z r) (sym h)
     (passed_start st s e r p))

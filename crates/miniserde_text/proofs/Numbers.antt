@@ -7,7 +7,7 @@ use Rattle.std.specs.Prelude.{◌⊎◌, slice_index, option_and_then}
 use Rattle.std.specs.List.{AllByRecursion, prefix_len}
 use Rattle.std.specs.Str.Parse.{digits_value}
 use Rattle.std.proofs.lemmas.List.{take-append-drop, length-take-le, get_or-drop}
-use Rattle.std.proofs.lemmas.List.Sums.{prefix_len-le-length, prefix_len_passes}
+use Rattle.std.proofs.lemmas.List.Sums.{prefix_len-le-length}
 use Rattle.std.proofs.lemmas.Bool.Decides.{nat_tests}
 use Rattle.std.proofs.lemmas.Bool.{true≢false}
 use Rattle.miniserde_model.specs.Step.{Step}
@@ -347,9 +347,6 @@ front_digits : (n : ℕ) (s : List ℕ) → n ≤ prefix_len is_digit s → AllB
 front_digits zero s h = tt
 front_digits (suc k) [] h = tt
 front_digits (suc k) (c ∷ cs) h = front_step (is_digit c) c k cs refl h (front_digits k cs)
-
-pub last_digit : (s : List ℕ) (n : ℕ) → 0 < n → n ≤ prefix_len is_digit s → IsDigit (slice_index s (n - 1))
-last_digit s n some h = digit_of (slice_index s (n - 1)) (prefix_len_passes is_digit s (n - 1) 0 (omega arith))
 
 one_digit : (b : Bool) (c : ℕ) → (c == 48) ≡ b → IsDigit c → IsInt (c ∷ [])
 one_digit true c e h = inl (eqb-true c 48 e, refl)

@@ -1,10 +1,10 @@
 -- Runs of bytes that pass a test, by recursion on the list. Whitespace is such a run, so a piece stands behind it
 -- exactly where the rest of the text begins with that piece.
 use Rattle.std.proofs.Common.{◌≡◌, ℕ, ◌+◌, ◌<◌, ◌==◌, ◌||◌, ◌⊎◌, Bool, true, false, cond, List, [], ◌∷◌, ◌++◌}
-use Rattle.std.proofs.Common.{length, drop, get_or, refl, ap, sym, subst, ◌∙◌, inl, inr, arith, lt_of_not-le}
+use Rattle.std.proofs.Common.{length, drop, get_or, refl, ap, sym, subst, ◌∙◌, inl, inr, arith}
 use Rattle.std.proofs.Common.{eqb-true}
 use Rattle.std.proofs.lemmas.Bool.Decides.{nat_tests}
-use Rattle.std.proofs.lemmas.List.{drop_more, get_or_past}
+use Rattle.std.proofs.lemmas.List.{drop_more}
 use Rattle.miniserde_model.specs.Bytes.{is_space, StopsAt}
 use Rattle.miniserde_model.specs.Whitespace.{IsSpace, IsWhitespace}
 use Rattle.miniserde_model.specs.Lexing.{Stands}
@@ -21,9 +21,6 @@ space_ascii c h = grind (arith, nat_tests)
 -- a digit is ASCII
 pub digit_ascii : (c : ℕ) → is_digit c ≡ true → c < 128
 digit_ascii c h = grind (arith, nat_tests)
-
-pub within_from_byte : (s : List ℕ) (i : ℕ) → 0 < get_or s i 0 → i < length s
-within_from_byte s i h = lt_of_not-le (λ past. omega (arith, get_or_past s i 0 past))
 
 -- if a disjunction is true, so is one of its parts
 pub or_true : (a b : Bool) → (a || b) ≡ true → (a ≡ true) ⊎ (b ≡ true)
@@ -123,9 +120,3 @@ blank_of s t e =
           subst (λ x. StopsAt is_space x) (sym e)
           (stops_at is_space (after_run is_space s) (run_stops is_space refl s));
     }
-
-above_space : (c : ℕ) → 32 < c → is_space c ≡ false
-above_space c h = grind (arith, nat_tests)
-
-pub blank_none : (s : List ℕ) → 32 < get_or s 0 0 → Blank s s
-blank_none s h = record { space = []; text = refl; white = tt; stops = stops_at is_space s (above_space (get_or s 0 0) h) }

@@ -17,7 +17,7 @@ use Rattle.miniserde_model.specs.Bytes.{is_space}
 use Rattle.miniserde_model.proofs.Prefixes.{whitespace_passes}
 use Rattle.miniserde_model.proofs.Unique.{kind_of_byte, Head, value_head, head_no_space, string_head, same_word, same_truth}
 use Rattle.miniserde_text.specs.private.Stack.{with_opened}
-use Rattle.miniserde_text.specs.private.Moving.{opened_kind, before_child, MomentFits}
+use Rattle.miniserde_text.specs.private.Moving.{opened_kind, first_or_after, MomentFits}
 
 -- ---- the first byte
 
@@ -218,7 +218,7 @@ standing s r p k =
 
 -- whitespace and a token of e spell e before the events that r spells after it
 pub starts_on : (e : Step) (st : List Kind) (s r : List ℕ) → Stands (Piece e) s r → (rest : List Step)
-    → Spells (before_child (is_some (opened_kind e))) rest (with_opened (opened_kind e) st) r → Spells due (e ∷ rest) st s
+    → Spells (first_or_after (is_some (opened_kind e))) rest (with_opened (opened_kind e) st) r → Spells due (e ∷ rest) st s
 starts_on step.null st s r p rest k = standing s r p k
 starts_on (boolean x) st s r p rest k = standing s r p k
 starts_on (string x) st s r p rest k = standing s r p k
@@ -232,7 +232,7 @@ starts_on (key x) st s r p rest k = absurd p.is_part
 starts_on finish st s r p rest k = absurd p.is_part
 
 -- after an opening bracket a container is open: the moment after a token fits the open containers
-pub live_at : (o : Option Kind) (st : List Kind) → MomentFits (before_child (is_some o)) (with_opened o st)
+pub live_at : (o : Option Kind) (st : List Kind) → MomentFits (first_or_after (is_some o)) (with_opened o st)
 live_at None st = tt
 live_at (Some k) st = tt
 

@@ -24,9 +24,9 @@ use Rattle.miniserde_text.specs.declared.json.lex.Event as answer
 use Rattle.miniserde_text.specs.declared.json.lex.Event.TheVariants as event
 use Rattle.miniserde_text.specs.declared.json.lex.Text.{Text}
 use Rattle.miniserde_text.specs.declared.json.lex.Text.TheVariants as text
-use Rattle.miniserde_text.specs.Lexer.{event_of_token, StandsFor, EventStandsFor, EventLeavesScratch, BeginsEscaped}
+use Rattle.miniserde_text.specs.Lexer.{event_of_token, BorrowedIfPlain, TokenBorrowedIfPlain, TokenLeavesScratch, BeginsEscaped}
 use Rattle.miniserde_text.specs.private.Reading.{after_run, number_at, word_at, token_by, token_at}
-use Rattle.miniserde_text.specs.private.Taking.{SpellsUpToQuote, BeginsWith, TakesToken, EventTakesText, TakesText, ReachesBackslash}
+use Rattle.miniserde_text.specs.private.Taking.{SpellsUpToQuote, BeginsWith, TakesToken, TokenTakesText, TakesText, ReachesBackslash}
 use Rattle.miniserde_text.proofs.Runs.{stops_at, stands_of, stands_only}
 use Rattle.std.proofs.lemmas.Option.{cond_some, same_Some}
 use Rattle.miniserde_text.proofs.Options.{chosen, first_byte, none_is_some}
@@ -207,9 +207,9 @@ read_taken t u e r away h = plain_taken t u e r away (front_takes t (event_of_to
 no_string : (t x r : List ℕ) → slice_index t 0 ≢ 34 → TakesToken t (string x) r → ⊥
 no_string t x r away ((b, h, j), k) = away (ap (λ l. slice_index l 0) (j ∙ ap (λ l. l ++ r) h.text))
 
--- a token that does not begin with a quote is no string, so `EventTakesText` holds
+-- a token that does not begin with a quote is no string, so `TokenTakesText` holds
 pub read_text : (t u : List ℕ) (e : answer.Event) (r : List ℕ) → slice_index t 0 ≢ 34
-    → TakesToken t (event_of_token e u) r → EventTakesText e t r
+    → TakesToken t (event_of_token e u) r → TokenTakesText e t r
 read_text t u event.Null r away h = tt
 read_text t u (event.Bool b) r away h = tt
 read_text t u (event.Negative n) r away h = tt
@@ -219,8 +219,8 @@ read_text t u (event.Str x) r away h = absurd (no_string t _ r away h)
 read_text t u event.SeqStart r away h = tt
 read_text t u event.MapStart r away h = tt
 
--- an unchanged scratch text satisfies `EventLeavesScratch`, whatever the token
-pub keeps : {S : Type 0} (e : answer.Event) (x : S) → EventLeavesScratch e x x
+-- an unchanged scratch text satisfies `TokenLeavesScratch`, whatever the token
+pub keeps : {S : Type 0} (e : answer.Event) (x : S) → TokenLeavesScratch e x x
 keeps event.Null x = refl
 keeps (event.Bool b) x = refl
 keeps (event.Negative n) x = refl
@@ -235,7 +235,7 @@ keeps event.MapStart x = refl
 
 -- if t is a quote and s, and the string text x is taken from s, t begins with that string between quotes
 pub string_text : (x : Text) (t s r : List ℕ) → slice_index t 0 ≡ 34 → s ≡ drop 1 t → TakesText x s r
-    → BeginsWith (Between 34 (StandsFor x) 34) t r
+    → BeginsWith (Between 34 (BorrowedIfPlain x) 34) t r
 string_text x t s r at e (inside, j, h) = (
   34 ∷ (inside ++ 34 ∷ []),
   record { inside = inside; text = refl; is_inside = h },
@@ -243,14 +243,14 @@ string_text x t s r at e (inside, j, h) = (
       ∙ ap (λ y. 34 ∷ y) (sym e ∙ j ∙ sym (append_assoc inside (34 ∷ []) r)),
 )
 
--- if t is s after its whitespace, `EventTakesText` on t gives `EventStandsFor` on s
-pub text_behind : (s t : List ℕ) (e : answer.Event) (r : List ℕ) → t ≡ after_run is_space s → EventTakesText e t r → EventStandsFor e s r
+-- if t is s after its whitespace, `TokenTakesText` on t gives `TokenBorrowedIfPlain` on s
+pub text_behind : (s t : List ℕ) (e : answer.Event) (r : List ℕ) → t ≡ after_run is_space s → TokenTakesText e t r → TokenBorrowedIfPlain e s r
 text_behind s t event.Null r j h = tt
 text_behind s t (event.Bool b) r j h = tt
 text_behind s t (event.Negative n) r j h = tt
 text_behind s t (event.Nonnegative n) r j h = tt
 text_behind s t (event.Number y) r j h = tt
-text_behind s t (event.Str x) r j h = stands_of (Between 34 (StandsFor x) 34) s t r j h
+text_behind s t (event.Str x) r j h = stands_of (Between 34 (BorrowedIfPlain x) 34) s t r j h
 text_behind s t event.SeqStart r j h = tt
 text_behind s t event.MapStart r j h = tt
 

@@ -16,7 +16,7 @@ use Rattle.miniserde_model.proofs.Reading.{due_space, space_append, json_spells}
 use Rattle.miniserde_model.proofs.ReadBack.{spells_json}
 use Rattle.miniserde_model.proofs.Unique.{kind_of_byte, Head, known_no_space}
 use Rattle.miniserde_text.specs.private.Stack.{with_opened}
-use Rattle.miniserde_text.specs.private.Moving.{opened_kind, before_child}
+use Rattle.miniserde_text.specs.private.Moving.{opened_kind, first_or_after}
 use Rattle.miniserde_text.specs.private.Runs.{Runs}
 use Rattle.miniserde_text.proofs.Starting.{class, class_below, piece_head, name_head, stands, standing, starts_on}
 use Rattle.miniserde_text.proofs.Turning.{bare}
@@ -36,7 +36,7 @@ after_bare s b c p q = record {
 pub run_spells : (m : Moment) (es : List Step) (st : List Kind) (s r : List ℕ) → Runs m es st s r → IsWhitespace r → Spells m es st s
 run_spells due (e ∷ es) st s r h w =
     starts_on e st s h.0 h.1.0 es
-    (run_spells (before_child (is_some (opened_kind e))) es (with_opened (opened_kind e) st) h.0 r h.2 w)
+    (run_spells (first_or_after (is_some (opened_kind e))) es (with_opened (opened_kind e) st) h.0 r h.2 w)
 run_spells first (element ∷ es) (Seq ∷ st) s r h w =
     subst (Spells due es (Seq ∷ st)) (sym (bare s h.0 h.1.0))
     (due_space es (Seq ∷ st) h.1.0.space h.0 h.1.0.is_space (run_spells due es (Seq ∷ st) h.0 r h.2 w))
@@ -106,7 +106,7 @@ bared (e ∷ es) st s r h =
     (p.part ++ h.0, (q.0, begins), (h.0, (q.1, h.1.1), h.2))
 
 started : (e : Step) (es : List Step) (st : List Kind) (s b : List ℕ) → Starts s e b
-    → RunsOut (before_child (is_some (opened_kind e))) es (with_opened (opened_kind e) st) b → RunsOut due (e ∷ es) st s
+    → RunsOut (first_or_after (is_some (opened_kind e))) es (with_opened (opened_kind e) st) b → RunsOut due (e ∷ es) st s
 started e es st s b p k = (k.0, (b, p, k.1), k.2)
 
 -- a text that spells events runs on as them up to whitespace

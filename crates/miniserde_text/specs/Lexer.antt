@@ -50,20 +50,20 @@ HasBackslash x = (a b : List ℕ) × (x ≡ a ++ 92 ∷ b)
 
 -- The text of a string fits the bytes `inside` its quotes: if it is borrowed, it equals them, and
 -- they contain no backslash; if it is decoded, they contain one.
-abbrev pub StandsFor : Text → List ℕ → Type 0
-StandsFor (Input x) inside = (inside ≡ x.now) × (HasBackslash inside → ⊥)
-StandsFor Scratch inside = HasBackslash inside
+abbrev pub BorrowedIfPlain : Text → List ℕ → Type 0
+BorrowedIfPlain (Input x) inside = (inside ≡ x.now) × (HasBackslash inside → ⊥)
+BorrowedIfPlain Scratch inside = HasBackslash inside
 
 -- if the token is a string, s begins with it after whitespace, r is the text after it, and the
 -- token's text is decoded if the string has a backslash, and else borrowed
-abbrev pub EventStandsFor : Event → List ℕ → List ℕ → Type 0
-EventStandsFor (event.Str t) s r = Stands (Between 34 (StandsFor t) 34) s r
-EventStandsFor _ s r = ⊤
+abbrev pub TokenBorrowedIfPlain : Event → List ℕ → List ℕ → Type 0
+TokenBorrowedIfPlain (event.Str t) s r = Stands (Between 34 (BorrowedIfPlain t) 34) s r
+TokenBorrowedIfPlain _ s r = ⊤
 
 -- After whitespace, s begins with a name and its colon, r is the text after them, and the name's text t is decoded if the
 -- name has a backslash, and else borrowed. What text the name spells is `Names`.
-abbrev pub NameStandsFor : Text → List ℕ → List ℕ → Type 0
-NameStandsFor t s r = Stands (BeforeColon (Between 34 (StandsFor t) 34)) s r
+abbrev pub NameBorrowedIfPlain : Text → List ℕ → List ℕ → Type 0
+NameBorrowedIfPlain t s r = Stands (BeforeColon (Between 34 (BorrowedIfPlain t) 34)) s r
 
 -- if the text is borrowed, the scratch texts `old` and `new`, each a `String` with its capacity,
 -- are equal
@@ -73,9 +73,9 @@ LeavesScratch Scratch old new = ⊤
 
 -- unless the token is a string that was decoded, the scratch texts `old` and `new`, each a `String`
 -- with its capacity, are equal
-abbrev pub EventLeavesScratch : {S : Type 0} → Event → S → S → Type 0
-EventLeavesScratch (event.Str t) old new = LeavesScratch t old new
-EventLeavesScratch _ old new = new ≡ old
+abbrev pub TokenLeavesScratch : {S : Type 0} → Event → S → S → Type 0
+TokenLeavesScratch (event.Str t) old new = LeavesScratch t old new
+TokenLeavesScratch _ old new = new ≡ old
 
 -- after whitespace, s begins with a quote, bytes that need no escape, and a backslash
 abbrev pub BeginsEscaped : List ℕ → Type 0

@@ -16,7 +16,7 @@ use Rattle.miniserde_model.specs.declared.kind.Kind.TheVariants as kind
 use Rattle.miniserde_text.specs.declared.json.lex.Event as token
 use Rattle.miniserde_text.specs.declared.json.lex.Event.TheVariants as variant
 use Rattle.miniserde_text.specs.private.Stack.{with_opened, outer, innermost as innermost_kind}
-use Rattle.miniserde_text.specs.private.Moving.{opened_kind, before_child, MomentFits}
+use Rattle.miniserde_text.specs.private.Moving.{opened_kind, first_or_after, MomentFits}
 use Rattle.miniserde_read.specs.Rest.{ValueAt}
 use Rattle.miniserde_text.specs.private.Runs.{Runs, Consumes, NeverRuns}
 use Rattle.miniserde_text.proofs.Consumes.{Consumes-none, Consumes-append, close_passed, element_passed, key_passed}
@@ -101,15 +101,9 @@ pending_begun element h g b = absurd (cc)
 pending_begun (key k) h g b = absurd (cc)
 pending_begun finish h g b = absurd (cc)
 
--- nor after a closing bracket
-pub pending_closed : (h : Hole) → pending (after_close h) ≡ None
-pending_closed (outside ts) = refl
-pending_closed (in_list ts h) = pending_put _ h
-pending_closed (in_members ms n h) = pending_put _ h
-
 -- ---- one step
 
-not_due : (f : Bool) → is_due (before_child f) ≡ false
+not_due : (f : Bool) → is_due (first_or_after f) ≡ false
 not_due true = refl
 not_due false = refl
 
@@ -132,13 +126,13 @@ closes_hole once (in_members ms n h) k i es =
     goes_on once false (in_members ms n h) finish false (after_close (in_members ms n h)) (and-false once) refl es
 
 close_makes : (once : Bool) (h g : Hole) (k : Kind) (f : Bool) → innermost h ≡ Some k → g ≡ after_close h
-    → HoleAdvancesBy once (before_child f) h (finish ∷ []) after g
+    → HoleAdvancesBy once (first_or_after f) h (finish ∷ []) after g
 close_makes once h g k f i c = λ es. ap (λ z. outcome once z h (finish ∷ es)) (not_due f) ∙ closes_hole once h k i
     es ∙ ap (λ z. outcome once false z es) (sym c)
 
 -- if the closing bracket of the innermost container is next, the text builds the hole after the close
 pub close_builds : (once : Bool) (h g : Hole) (s r : List ℕ) (k : Kind) (f : Bool) → innermost h ≡ Some k
-    → Follows k f true s r → g ≡ after_close h → Builds once (before_child f) h s after g r
+    → Follows k f true s r → g ≡ after_close h → Builds once (first_or_after f) h s after g r
 close_builds once h g s r k f i p c = record {
   done = finish ∷ [];
   passed = close_passed (kinds h) (kinds g) s r k f (innermost_of_kinds h ∙ i) p (ap kinds c ∙ kinds_closed h);
@@ -153,17 +147,17 @@ goes_to_element once (in_list ts h) k i q es = goes_on once false (in_list ts h)
 goes_to_element once (in_members ms n h) k i q es = absurd (cc)
 
 element_makes : (once : Bool) (h g : Hole) (k : Kind) (f : Bool) → innermost h ≡ Some k → k ≡ kind.Seq → g ≡ h
-    → HoleAdvancesBy once (before_child f) h (element ∷ []) due g
+    → HoleAdvancesBy once (first_or_after f) h (element ∷ []) due g
 element_makes once h g k f i q e = λ es. ap (λ z. outcome once z h (element ∷ es)) (not_due f) ∙ goes_to_element
     once h k i q es ∙ ap (λ z. outcome once true z es) (sym e)
 
 -- if the innermost container is an array and an element is next, the text builds the same hole
 pub element_builds : (once : Bool) (h g : Hole) (s u r : List ℕ) (k : Kind) (f : Bool) → innermost h ≡ Some k
-    → k ≡ kind.Seq → Follows k f false s u → r ≡ u → g ≡ h → Builds once (before_child f) h s due g r
+    → k ≡ kind.Seq → Follows k f false s u → r ≡ u → g ≡ h → Builds once (first_or_after f) h s due g r
 element_builds once h g s u r k f i q p d e = record {
   done = element ∷ [];
-  passed = subst (λ z. Consumes (before_child f) (kinds h) s (element ∷ []) due (kinds z) r) (sym e)
-      (subst (λ z. Consumes (before_child f) (kinds h) s (element ∷ []) due (kinds h) z) (sym d)
+  passed = subst (λ z. Consumes (first_or_after f) (kinds h) s (element ∷ []) due (kinds z) r) (sym e)
+      (subst (λ z. Consumes (first_or_after f) (kinds h) s (element ∷ []) due (kinds h) z) (sym d)
       (element_passed (kinds h) s u k f (innermost_of_kinds h ∙ i) q p));
   makes = element_makes false h g k f i q e;
   repeats_none = element_makes once h g k f i q e;
@@ -178,7 +172,7 @@ goes_to_member once (in_members ms m h) n k i q l es =
     goes_on once false (in_members ms m h) (key n) true (in_members ms (Some n) h) l refl es
 
 key_makes : (once : Bool) (h g : Hole) (n : List ℕ) (k : Kind) (f : Bool) → innermost h ≡ Some k → k ≡ kind.Map
-    → (once && has_member n h) ≡ false → g ≡ with_name n h → HoleAdvancesBy once (before_child f) h (key n ∷ []) due
+    → (once && has_member n h) ≡ false → g ≡ with_name n h → HoleAdvancesBy once (first_or_after f) h (key n ∷ []) due
     g
 key_makes once h g n k f i q l e = λ es. ap (λ z. outcome once z h (key n ∷ es)) (not_due f) ∙ goes_to_member once h
     n k i q l es ∙ ap (λ z. outcome once true z es) (sym e)
@@ -193,18 +187,18 @@ kinds_next None h = refl
 kinds_next (Some n) h = kinds_named h n
 
 key_done : (h : Hole) (s b n u : List ℕ) (k : Kind) (f : Bool) → innermost h ≡ Some k → k ≡ kind.Map
-    → Follows k f false s b → Names b n u → Consumes (before_child f) (kinds h) s (key n ∷ []) due (kinds h) u
+    → Follows k f false s b → Names b n u → Consumes (first_or_after f) (kinds h) s (key n ∷ []) due (kinds h) u
 key_done h s b n u k f i q p w = key_passed (kinds h) s b n u k f (innermost_of_kinds h ∙ i) q p w
 
 -- if a member is next in the innermost object, and `once` allows its name, the text builds the hole with the name
 pub key_builds : (once : Bool) (h g : Hole) (s b n u r : List ℕ) (k : Kind) (f : Bool) → innermost h ≡ Some k
     → k ≡ kind.Map → Follows k f false s b → Names b n u → (once && has_member n h) ≡ false → r ≡ u
-    → g ≡ with_name n h → Builds once (before_child f) h s due g r
+    → g ≡ with_name n h → Builds once (first_or_after f) h s due g r
 key_builds once h g s b n u r k f i q p w l d e = record {
   done = key n ∷ [];
-  passed = subst (λ z. Consumes (before_child f) (kinds h) s (key n ∷ []) due z r)
+  passed = subst (λ z. Consumes (first_or_after f) (kinds h) s (key n ∷ []) due z r)
       (sym (ap kinds e ∙ kinds_named h n))
-      (subst (λ z. Consumes (before_child f) (kinds h) s (key n ∷ []) due (kinds h) z) (sym d)
+      (subst (λ z. Consumes (first_or_after f) (kinds h) s (key n ∷ []) due (kinds h) z) (sym d)
       (key_done h s b n u k f i q p w));
   makes = key_makes false h g n k f i q refl e;
   repeats_none = key_makes once h g n k f i q l e;
@@ -228,7 +222,7 @@ start_makes : (once : Bool) (e : Step) (h g : Hole) → after_begin e h ≡ Some
 start_makes once e h g b es = goes_on once true h e false g (start_new once e h g b) (ap (option_map (λ (z : Hole). (false, z))) b) es
 
 pub start_builds : (once : Bool) (h g : Hole) (s r : List ℕ) (e : Step) (f : Bool) → Starts s e r
-    → f ≡ is_some (opened_kind e) → after_begin e h ≡ Some g → Builds once due h s (before_child f) g r
+    → f ≡ is_some (opened_kind e) → after_begin e h ≡ Some g → Builds once due h s (first_or_after f) g r
 start_builds once h g s r e f p q b = record {
   done = e ∷ [];
   passed = value_passed (kinds h) s r e f (kinds g) p q (kinds_begun e h g b);
@@ -251,12 +245,12 @@ Builds-append once m h s n g u m' h' s' p q = record {
 
 -- a child's name, if it has one, and its first token are taken after the events before it
 pub child_builds : (once : Bool) (m : Moment) (h : Hole) (s : List ℕ) (f : Bool) (g : Hole) (t : List ℕ) (k : Hole)
-    (u : List ℕ) (e d : Step) (o : Bool) (l : Hole) (r : List ℕ) → Builds once m h s (before_child f) g t
-    → Builds once (before_child f) g t due k u → Starts u e r → d ≡ e → o ≡ is_some (opened_kind d)
-    → after_begin d k ≡ Some l → Builds once m h s (before_child o) l r
+    (u : List ℕ) (e d : Step) (o : Bool) (l : Hole) (r : List ℕ) → Builds once m h s (first_or_after f) g t
+    → Builds once (first_or_after f) g t due k u → Starts u e r → d ≡ e → o ≡ is_some (opened_kind d)
+    → after_begin d k ≡ Some l → Builds once m h s (first_or_after o) l r
 child_builds once m h s f g t k u e d o l r b n p w q a =
-    Builds-append once m h s due k u (before_child o) l r
-    (Builds-append once m h s (before_child f) g t due k u b n)
+    Builds-append once m h s due k u (first_or_after o) l r
+    (Builds-append once m h s (first_or_after f) g t due k u b n)
     (start_builds once k l u r e o p (q ∙ ap (λ z. is_some (opened_kind z)) w) (ap (λ z. after_begin z k) (sym w) ∙ a))
 
 -- the text after what stands before a child is no longer than the text
@@ -296,7 +290,7 @@ never_behind once m h s m' h' s' p n es r g =
 -- a name that the object has, where none may be repeated
 pub repeat_gives : (once : Bool) (h : Hole) (s b n u : List ℕ) (k : Kind) (f : Bool) → innermost h ≡ Some k
     → k ≡ kind.Map → Follows k f false s b → Names b n u → (once && has_member n h) ≡ true
-    → NeverGives once (before_child f) h s
+    → NeverGives once (first_or_after f) h s
 repeat_gives once h s b n u k f i q p w l es r g =
     let a = (key_done h s b n u k f i q p w).back es r g in
     let rest : Bool × Hole → Option Tree = λ x. outcome once x.0 x.1 a.0 in
@@ -307,14 +301,14 @@ repeat_gives once h s b n u k f i q p w l es r g =
 
 -- its first token was taken
 pub builds_init : (once : Bool) (e : Step) (h : Hole) (f : Bool) (s : List ℕ) → f ≡ is_some (opened_kind e)
-    → after_begin e (outside []) ≡ Some h → Builds once (before_child (is_some (opened_kind e))) h s
-    (before_child f) h s
+    → after_begin e (outside []) ≡ Some h → Builds once (first_or_after (is_some (opened_kind e))) h s
+    (first_or_after f) h s
 builds_init once e h f s q b =
-    subst (λ z. Builds once (before_child (is_some (opened_kind e))) h s (before_child z) h s) (sym q)
+    subst (λ z. Builds once (first_or_after (is_some (opened_kind e))) h s (first_or_after z) h s) (sym q)
     (record {
       done = [];
-      passed = Consumes-none (before_child (is_some (opened_kind e))) (kinds h) s
-          (subst (λ z. MomentFits (before_child (is_some (opened_kind e))) z)
+      passed = Consumes-none (first_or_after (is_some (opened_kind e))) (kinds h) s
+          (subst (λ z. MomentFits (first_or_after (is_some (opened_kind e))) z)
           (sym (kinds_begun e (outside []) h b)) (live_opened e));
       makes = λ es. refl;
       repeats_none =
@@ -324,13 +318,13 @@ builds_init once e h f s q b =
 -- no container is left open
 pub read_ok : (once : Bool) (x : token.Event) (scratch s s' : List ℕ) (h : Hole) (f : Bool) (g : Hole)
     → after_begin (event_of_token x scratch) (outside []) ≡ Some h → innermost g ≡ None
-    → Builds once (before_child (is_some (opened_kind (event_of_token x scratch)))) h s (before_child f) g s'
+    → Builds once (first_or_after (is_some (opened_kind (event_of_token x scratch)))) h s (first_or_after f) g s'
     → (t : Tree) × ValueAt t (event_of_token x scratch) s s' × (complete_tree g ≡ Some (retained_tree t))
     × (complete_tree g ≡ retained_if once t)
 read_ok once x scratch s s' h true (outside ts) b i p = absurd p.passed.live
 read_ok once x scratch s s' h false (outside ts) b i p =
     let e = event_of_token x scratch in
-    let m = before_child (is_some (opened_kind e)) in
+    let m = first_or_after (is_some (opened_kind e)) in
     let runs : Runs m p.done (with_opened (opened_kind e) []) s s' =
     subst (λ z. Runs m p.done z s s') (kinds_begun e (outside []) h b)
     (subst (λ z. Runs m z (kinds h) s s') (append-nil p.done) (p.passed.on [] s' refl)) in
@@ -344,11 +338,11 @@ read_ok once x scratch s s' h f (in_members ms n g) b i p = absurd (cc)
 
 -- no tree that the text spells is kept
 pub read_none : (once : Bool) (e : Step) (h : Hole) (s : List ℕ) → after_begin e (outside []) ≡ Some h
-    → NeverGives once (before_child (is_some (opened_kind e))) h s → (t : Tree) (r : List ℕ) → ValueAt t e s r
+    → NeverGives once (first_or_after (is_some (opened_kind e))) h s → (t : Tree) (r : List ℕ) → ValueAt t e s r
     → retained_if once t ≡ None
 read_none once e h s b n t r v =
     let l = value_later t e s r v in
-    let none = n l.later r (subst (λ z. Runs (before_child (is_some (opened_kind e))) l.later z s r)
+    let none = n l.later r (subst (λ z. Runs (first_or_after (is_some (opened_kind e))) l.later z s r)
     (sym (kinds_begun e (outside []) h b)) l.runs) in
     sym (gives-kept once t) ∙ ap (outcome once true (outside [])) l.is ∙ start_makes once e (outside []) h b l.later
     ∙ ap (λ z. outcome once z h l.later) (sym (not_due (is_some (opened_kind e)))) ∙ none

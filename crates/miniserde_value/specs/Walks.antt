@@ -92,5 +92,5 @@ DueNamesRise (Some v) = IsOrdered (content_of v.now)
 
 -- in the child that is due and in each child that the open containers have left, the names of each object strictly rise; of
 -- the names that the open objects themselves have left it says nothing
-abbrev pub LeftNamesRise : Walk → Type 0
-LeftNamesRise w = DueNamesRise w.due × NestedNamesRise w.frames
+abbrev pub NamesToComeRise : Walk → Type 0
+NamesToComeRise w = DueNamesRise w.due × NestedNamesRise w.frames

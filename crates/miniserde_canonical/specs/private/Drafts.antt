@@ -1,9 +1,9 @@
 -- How a draft holds a state, and what canonical tokens do to a draft. A state (`State`) is the canonical text so far,
--- with the members of the open objects; canonical tokens (`TextToken`) are leaves, brackets, names and elements'
+-- with the members of the open objects; canonical tokens (`CanonicalToken`) are leaves, brackets, names and elements'
 -- beginnings.
 use Rattle.std.specs.Prelude.{◌≡◌, ℕ, true, false, List, ◌++◌, length, ⊤}
 use Rattle.miniserde_model.specs.private.Reading.{Moment, due, first, after}
-use Rattle.miniserde_canonical.specs.TextToken.{TextToken}
+use Rattle.miniserde_canonical.specs.CanonicalToken.{CanonicalToken}
 use Rattle.miniserde_canonical.specs.declared.draft.Draft.{Draft}
 use Rattle.miniserde_canonical.specs.private.Spreads.{SplicesInOrder}
 use Rattle.miniserde_canonical.specs.private.Sorting.{Chain}
@@ -51,6 +51,6 @@ Recalls after s = s.first ≡ false
 -- Between the moment m, with `rest` left of the input, and m', with rest' left, the draft takes the canonical tokens
 -- ks: if d holds s, and the flag `first` of s fits m, then d' holds a state that is s after ks, and whose flag fits
 -- m'.
-abbrev pub DraftTakes : Moment → List ℕ → List TextToken → Moment → List ℕ → Draft → Draft → Type 0
+abbrev pub DraftTakes : Moment → List ℕ → List CanonicalToken → Moment → List ℕ → Draft → Draft → Type 0
 DraftTakes m rest ks m' rest' d d' = (s : State) → Represents d rest s → Recalls m s → (s' : State) × TokenSteps ks s s'
     × Represents d' rest' s' × Recalls m' s'

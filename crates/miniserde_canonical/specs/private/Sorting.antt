@@ -79,8 +79,8 @@ own_text_tree es last i = str (text_at (drop i es) last)
 pub record Gains (ms : List ℕ) (gs : List Splice) (hs : List Splice) (groups groups' : SplicedText) (x : List ℕ) : Type 0 where
   pub bytes : List ℕ
   pub splices : List Splice
-  pub more_bytes : groups'.bytes.items ≡ groups.bytes.items ++ bytes
-  pub more_splices : groups'.splices.items ≡ groups.splices.items ++ splices
+  pub bytes_gained : groups'.bytes.items ≡ groups.bytes.items ++ bytes
+  pub splices_gained : groups'.splices.items ≡ groups.splices.items ++ splices
   pub text : Holds ms gs (length groups.bytes.items) bytes splices x
   pub all_before : (n : ℕ) → AllBefore n hs → AllBefore n splices
 
@@ -105,12 +105,12 @@ PutsMembers ns order out groups groups' n = (es : List Entry) (last ms : List �
 pub record PutAt (point : Point) (ms : List ℕ) (gs : List Splice) (out out' groups' : SplicedText) (x : List ℕ) : Type 0 where
   pub bytes : List ℕ
   pub splices : List Splice
-  pub more_bytes : List ℕ
-  pub more_splices : List Splice
+  pub bytes_gained : List ℕ
+  pub splices_gained : List Splice
   pub is_bytes : out'.bytes.items ≡ take point.bytes out.bytes.items ++ bytes
   pub is_splices : out'.splices.items ≡ take point.splices out.splices.items ++ splices
-  pub groups_bytes : groups'.bytes.items ≡ ms ++ more_bytes
-  pub groups_splices : groups'.splices.items ≡ gs ++ more_splices
+  pub groups_bytes : groups'.bytes.items ≡ ms ++ bytes_gained
+  pub groups_splices : groups'.splices.items ≡ gs ++ splices_gained
   pub text : Holds groups'.bytes.items groups'.splices.items point.bytes bytes splices x
   pub stay_in_order : SplicesInOrder gs out.splices.items → SplicesInOrder groups'.splices.items out'.splices.items
 

@@ -32,7 +32,7 @@ pub trait Fields: Drop {
 
     /// Returns the chain at the start: no field has a value yet.
     fn new() -> Self
-        ensures { meaning.state result ≡ meaning.meant.empty };
+        ensures { meaning.state result ≡ meaning.by_trees.empty };
 
     /// Begins a fresh place for the value of a member whose name is `name`. `names` has the names of the fields of this
     /// chain, in their order. A field for which it has no name takes no member. Returns `Invalid` if the field of that
@@ -42,8 +42,8 @@ pub trait Fields: Drop {
             (meaning.by_events (map (λ n. n.now) names.now) (meaning.state self.old) name.now)
             (meaning.child self.new)) }
         ensures invalid { result ≡ Err Error.Invalid
-            → meaning.meant.refuses (map (λ n. n.now) names.now) (meaning.state self.old) name.now ≡ true }
-        ensures repeats { meaning.meant.refuses (map (λ n. n.now) names.now) (meaning.state self.old) name.now ≡ true
+            → meaning.by_trees.refuses (map (λ n. n.now) names.now) (meaning.state self.old) name.now ≡ true }
+        ensures repeats { meaning.by_trees.refuses (map (λ n. n.now) names.now) (meaning.state self.old) name.now ≡ true
             → result ≡ Err Error.Invalid };
 
     /// Hands an event to the place of the current value, unless the value is complete. Returns whether it did, or the
@@ -65,11 +65,11 @@ pub trait Fields: Drop {
 
     /// Returns whether each field has a value, from a member or by `missing`.
     fn can_end(&self) -> bool
-        ensures { result ≡ is_some (meaning.meant.end (meaning.state self.now)) };
+        ensures { result ≡ is_some (meaning.by_trees.end (meaning.state self.now)) };
 
     /// Returns the values of the fields, from members or by `missing`, or `None` if a field has none.
     fn end(self) -> Option<Self::Values>
-        ensures { option_map meaning.meant.content result ≡ meaning.meant.end (meaning.state self) };
+        ensures { option_map meaning.by_trees.content result ≡ meaning.by_trees.end (meaning.state self) };
 }
 
 /// The end of a chain of fields. It takes the values of members whose name no field has, and drops them. If no member

@@ -6,7 +6,7 @@ use Rattle.miniserde_model.specs.Tree.{Tree, null, truth, nonneg, neg, num, str,
 use Rattle.miniserde_keys.specs.Keys.{Key}
 use Rattle.miniserde_read.specs.types.Objects.{Name, after_members}
 use Rattle.miniserde_read.specs.types.Maps.{key_at, first_and_last, first_and_last_at, AllAccepted, entry_at}
-use Rattle.miniserde_read.specs.types.Maps.{MeansAt, MapReads, MapContent, no_entries, present_key_or, with_entry}
+use Rattle.miniserde_read.specs.types.Maps.{EntryFits, MapReads, MapContent, no_entries, present_key_or, with_entry}
 use Rattle.miniserde_read.specs.types.Maps.{map_content, map_member, map_of}
 
 -- ---- what the tree means
@@ -90,7 +90,7 @@ module _ {C : Type 0} (read : Name → Option Key) (code : Key → Key) (of : Tr
 
 module _ {K V C : Type 0} (read : Name → Option Key) (code : Key → Key) (content : K → Key) (of : Tree → Option C)
     (value : V → C) (R : Tree → V → Type 0) (given : (t : Tree) (v : V) → R t v ↔ (of t ≡ Some (value v))) where
-  means-given : (o : Option (Key × Tree)) (p : Option (K × V)) → MeansAt content R o p
+  means-given : (o : Option (Key × Tree)) (p : Option (K × V)) → EntryFits content R o p
       → given_at of None o ≡ option_map (λ e. (content e.0, value e.1)) p
   means-given None None h = refl
   means-given None (Some e) h = absurd h
@@ -98,7 +98,7 @@ module _ {K V C : Type 0} (read : Name → Option Key) (code : Key → Key) (con
   means-given (Some t) (Some e) h = rw ((given t.1 e.1).0 h.1) (ap (λ c. Some (c, value e.1)) (sym h.0))
 
   given-means : (o : Option (Key × Tree)) (p : Option (K × V)) → ((t : Key × Tree) → o ≡ Some t → IsSome (of t.1))
-      → given_at of None o ≡ option_map (λ e. (content e.0, value e.1)) p → MeansAt content R o p
+      → given_at of None o ≡ option_map (λ e. (content e.0, value e.1)) p → EntryFits content R o p
   given-means None None s h = tt
   given-means None (Some e) s h = absurd (cc)
   given-means (Some t) None s h = elim (of t.1) as (λ o. of t.1 ≡ o → option_map {U = Key × C} (λ d. (t.0, d)) o ≡ None → ⊥) [

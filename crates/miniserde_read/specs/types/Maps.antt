@@ -39,11 +39,11 @@ entry_at code q (e ∷ es) = if bytes_eq (code e.0) q then Some e else entry_at 
 
 -- There is an entry exactly if there is a pair of a key's content and a tree; then the entry's key has that content, and the
 -- tree means the entry's value by R.
-abbrev pub MeansAt : {K V : Type 0} → (K → Key) → (Tree → V → Type 0) → Option (Key × Tree) → Option (K × V) → Type 0
-MeansAt content R None None = ⊤
-MeansAt content R None (Some e) = ⊥
-MeansAt content R (Some p) None = ⊥
-MeansAt content R (Some p) (Some e) = (content e.0 ≡ p.0) × R p.1 e.1
+abbrev pub EntryFits : {K V : Type 0} → (K → Key) → (Tree → V → Type 0) → Option (Key × Tree) → Option (K × V) → Type 0
+EntryFits content R None None = ⊤
+EntryFits content R None (Some e) = ⊥
+EntryFits content R (Some p) None = ⊥
+EntryFits content R (Some p) (Some e) = (content e.0 ≡ p.0) × R p.1 e.1
 
 -- The tree is an object, of which each member is accepted (`AllAccepted`). At each code q, es has an entry exactly if
 -- the object has a member whose key has that code. The entry then has the key of the first such member, and the tree
@@ -52,7 +52,7 @@ abbrev pub MapReads : {K V C : Type 0} → (Name → Option Key) → (Key → Ke
     → (Tree → V → Type 0) → Tree → List (K × V) → Type 0
 MapReads read code content of R (members ms) es =
     AllAccepted read of ms × ((q : Key)
-    → MeansAt content R (first_and_last_at read code q ms) (entry_at (λ k. code (content k)) q es))
+    → EntryFits content R (first_and_last_at read code q ms) (entry_at (λ k. code (content k)) q es))
 MapReads read code content of R _ es = ⊥
 
 -- ---- maps, member by member

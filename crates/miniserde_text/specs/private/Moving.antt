@@ -12,9 +12,9 @@ opened_kind map = Some Map
 opened_kind _ = None
 
 -- the moment if no value is due: a container was just opened (`true`), or a value just ended (`false`)
-abbrev pub before_child : Bool → Moment
-before_child true = first
-before_child false = after
+abbrev pub first_or_after : Bool → Moment
+first_or_after true = first
+first_or_after false = after
 
 -- the moment if no container was just opened: a value is due (`true`), or one just ended (`false`)
 abbrev pub due_or_after : Bool → Moment

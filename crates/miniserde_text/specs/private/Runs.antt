@@ -7,13 +7,13 @@ use Rattle.miniserde_model.specs.declared.kind.Kind.{Kind}
 use Rattle.miniserde_model.specs.declared.kind.Kind.TheVariants.{Seq, Map}
 use Rattle.miniserde_model.specs.private.Reading.{Moment, due, first, after}
 use Rattle.miniserde_text.specs.private.Stack.{with_opened}
-use Rattle.miniserde_text.specs.private.Moving.{opened_kind, before_child, MomentFits}
+use Rattle.miniserde_text.specs.private.Moving.{opened_kind, first_or_after, MomentFits}
 
 -- From the moment on, inside the open containers st (innermost first), the text from s to r spells the events, after
 -- which no container is open. s is the text that is left now, and r what is left of it at the end. In `Follows k f c s b`
 -- f says that the opening bracket was just taken, and c that the closing one is taken.
 abbrev pub Runs : Moment → List Step → List Kind → List ℕ → List ℕ → Type 0
-Runs due (e ∷ es) st s r = (b : List ℕ) × Starts s e b × Runs (before_child (is_some (opened_kind e))) es
+Runs due (e ∷ es) st s r = (b : List ℕ) × Starts s e b × Runs (first_or_after (is_some (opened_kind e))) es
     (with_opened (opened_kind e) st) b r
 Runs first (element ∷ es) (Seq ∷ st) s r = (b : List ℕ) × Follows Seq true false s b × Runs due es (Seq ∷ st) b r
 Runs first (key n ∷ es) (Map ∷ st) s r = (b c : List ℕ) × Follows Map true false s b × Names b n c × Runs due es (Map ∷ st) c r

@@ -10,7 +10,7 @@ use Rattle.miniserde_model.specs.Lexing.{Piece, Ends, IsName, BeforeColon}
 use Rattle.miniserde_text.specs.declared.json.lex.Text.{Text}
 use Rattle.miniserde_text.specs.declared.json.lex.Event.{Event}
 use Rattle.miniserde_text.specs.declared.json.lex.Event.TheVariants as event
-use Rattle.miniserde_text.specs.Lexer.{StandsFor}
+use Rattle.miniserde_text.specs.Lexer.{BorrowedIfPlain}
 
 -- the text t is a piece (`IsPiece`) for each of the characters, in order, then a quote, then r
 abbrev pub SpellsUpToQuote : List ℕ → List ℕ → List ℕ → Type 0
@@ -46,21 +46,21 @@ TakesName t n r = BeginsWith (IsName n) t r
 
 -- if the token is a string, t begins with it, r is the text after it, and the token's text is
 -- decoded if the string has a backslash, and else borrowed
-abbrev pub EventTakesText : Event → List ℕ → List ℕ → Type 0
-EventTakesText (event.Str x) t r = BeginsWith (Between 34 (StandsFor x) 34) t r
-EventTakesText _ t r = ⊤
+abbrev pub TokenTakesText : Event → List ℕ → List ℕ → Type 0
+TokenTakesText (event.Str x) t r = BeginsWith (Between 34 (BorrowedIfPlain x) 34) t r
+TokenTakesText _ t r = ⊤
 
 -- t begins with a name and its colon, r is the text after them, and the name's text x is decoded if
 -- the name has a backslash, and else borrowed
 abbrev pub NameTakesText : Text → List ℕ → List ℕ → Type 0
-NameTakesText x t r = BeginsWith (BeforeColon (Between 34 (StandsFor x) 34)) t r
+NameTakesText x t r = BeginsWith (BeforeColon (Between 34 (BorrowedIfPlain x) 34)) t r
 
 -- ---- after a quote
 
 -- s is some bytes `inside`, a quote and r, and the text x of a string is decoded if `inside` has a
 -- backslash, and else borrowed and equal to `inside`
 abbrev pub TakesText : Text → List ℕ → List ℕ → Type 0
-TakesText x s r = (inside : List ℕ) × (s ≡ inside ++ 34 ∷ r) × StandsFor x inside
+TakesText x s r = (inside : List ℕ) × (s ≡ inside ++ 34 ∷ r) × BorrowedIfPlain x inside
 
 -- the text s is bytes that need no escape, then a backslash, then any bytes
 abbrev pub ReachesBackslash : List ℕ → Type 0

@@ -8,8 +8,8 @@ ghost use Rattle.std.specs.String.{string_bytes};
 ghost use Rattle.miniserde_model.specs.Whitespace.{IsWhitespace};
 ghost use Rattle.miniserde_model.specs.Step as punctuation;
 ghost use Rattle.miniserde_model.specs.Lexing.{Starts, Names, Follows};
-ghost use Rattle.miniserde_text.specs.Lexer.{event_of_token, text_of, is_close, EventStandsFor, NameStandsFor, Blank};
-ghost use Rattle.miniserde_text.specs.Lexer.{LeavesScratch, EventLeavesScratch, BeginsEscaped};
+ghost use Rattle.miniserde_text.specs.Lexer.{event_of_token, text_of, is_close, TokenBorrowedIfPlain, NameBorrowedIfPlain, Blank};
+ghost use Rattle.miniserde_text.specs.Lexer.{LeavesScratch, TokenLeavesScratch, BeginsEscaped};
 ghost use Rattle.miniserde_model.specs.declared.error.Error.{Error};
 
 mod bytes;
@@ -149,8 +149,8 @@ impl<'a> Lexer<'a> {
     pub fn start(&mut self, scratch: &mut String) -> Result<Event<'a>>
         ensures ok { IfOk result (λ event. (self.old.refused ≡ None) × (self.new.refused ≡ None)
             × Starts self.old.rest (event_of_token event (string_bytes scratch.new)) self.new.rest) }
-        ensures text { IfOk result (λ event. EventStandsFor event self.old.rest self.new.rest) }
-        ensures scratch { IfOk result (λ event. EventLeavesScratch event scratch.old scratch.new) }
+        ensures text { IfOk result (λ event. TokenBorrowedIfPlain event self.old.rest self.new.rest) }
+        ensures scratch { IfOk result (λ event. TokenLeavesScratch event scratch.old scratch.new) }
         ensures invalid { result ≡ Err Error.Invalid → self.old.refused ≡ None
             → (e : punctuation.Step) (r : List ℕ) → Starts self.old.rest e r → ⊥ }
         ensures memory { result ≡ Err Error.Memory → self.old.refused ≡ None → BeginsEscaped self.old.rest }
@@ -177,7 +177,7 @@ impl<'a> Lexer<'a> {
     pub fn name(&mut self, scratch: &mut String) -> Result<Text<'a>>
         ensures ok { IfOk result (λ t. (self.old.refused ≡ None) × (self.new.refused ≡ None)
             × Names self.old.rest (text_of t (string_bytes scratch.new)) self.new.rest) }
-        ensures text { IfOk result (λ t. NameStandsFor t self.old.rest self.new.rest) }
+        ensures text { IfOk result (λ t. NameBorrowedIfPlain t self.old.rest self.new.rest) }
         ensures scratch { IfOk result (λ t. LeavesScratch t scratch.old scratch.new) }
         ensures invalid { result ≡ Err Error.Invalid → self.old.refused ≡ None
             → (n r : List ℕ) → Names self.old.rest n r → ⊥ }

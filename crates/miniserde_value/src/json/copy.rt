@@ -4,7 +4,7 @@ ghost use Rattle.miniserde_model.specs.declared.error.Error.TheVariants.{Memory}
 ghost use Rattle.miniserde_value.specs.Values.{content_of, array_content, object_content};
 ghost use Rattle.miniserde_value.specs.Builders.{hole_in};
 ghost use Rattle.miniserde_value.specs.Visits.{hole_after};
-ghost use Rattle.miniserde_value.specs.Walks.{visit_of, left, LeftNamesRise};
+ghost use Rattle.miniserde_value.specs.Walks.{visit_of, left, NamesToComeRise};
 
 use super::array::Array;
 use super::builder::Builder;
@@ -39,7 +39,7 @@ fn add(alloc: Global, visit: Visit<'_>, builder: &mut Builder) -> Result<()>
 // these visits the names of each object strictly rise, as they do in each `Object`. Returns `Memory` if an allocation fails.
 fn add_all(alloc: Global, mut walk: Walk<'_>, builder: &mut Builder) -> Result<()>
     ensures built { OnOk result (hole_in builder.new ≡ hole_after (hole_in builder.old) (left walk.entry)) }
-    ensures ordered { OnOk result (LeftNamesRise walk.entry) }
+    ensures ordered { OnOk result (NamesToComeRise walk.entry) }
     ensures memory { OnErr result (IsErrOf result Memory) }
 {
     while let Some(visit) = walk.next()? {

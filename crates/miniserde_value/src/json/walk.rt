@@ -2,7 +2,7 @@
 ghost use Rattle.std.specs.Prelude.{◌≡◌, ◌∷◌, [], None, IfOk, OnOk, MatchOption};
 ghost use Rattle.miniserde_value.specs.Values.{content_of, array_content, object_content};
 ghost use Rattle.miniserde_value.specs.Visits.{visits, list_begins, members_begin, IsOrdered};
-ghost use Rattle.miniserde_value.specs.Walks.{visit_of, left, LeftNamesRise};
+ghost use Rattle.miniserde_value.specs.Walks.{visit_of, left, NamesToComeRise};
 
 mod frames;
 
@@ -45,7 +45,7 @@ impl<'a> Walk<'a> {
     /// fails to allocate.
     pub(crate) fn array(alloc: Global, array: &'a Array) -> result::Result<Walk<'a>, AllocError>
         ensures left { IfOk result (λ w. list_begins ∷ left w ≡ visits (array_content array.entry.now) []) }
-        ensures ordered { IfOk result (λ w. LeftNamesRise w → IsOrdered (array_content array.entry.now)) }
+        ensures ordered { IfOk result (λ w. NamesToComeRise w → IsOrdered (array_content array.entry.now)) }
     {
         let mut frames = Frames::new(alloc);
         frames.push_array(array.inner().iter())?;
@@ -56,7 +56,7 @@ impl<'a> Walk<'a> {
     /// fails to allocate.
     pub(crate) fn object(alloc: Global, object: &'a Object) -> result::Result<Walk<'a>, AllocError>
         ensures left { IfOk result (λ w. members_begin ∷ left w ≡ visits (object_content object.entry.now) []) }
-        ensures ordered { IfOk result (λ w. LeftNamesRise w → IsOrdered (object_content object.entry.now)) }
+        ensures ordered { IfOk result (λ w. NamesToComeRise w → IsOrdered (object_content object.entry.now)) }
     {
         let mut frames = Frames::new(alloc);
         frames.push_object(object.inner().iter())?;
@@ -67,8 +67,8 @@ impl<'a> Walk<'a> {
     pub(crate) fn next(&mut self) -> result::Result<Option<Visit<'a>>, AllocError>
         ensures left { IfOk result (λ next. MatchOption next (left self.old ≡ [])
             (λ f. left self.old ≡ visit_of f ∷ left self.new)) }
-        ensures ordered { IfOk result (λ next. MatchOption next (LeftNamesRise self.old)
-            (λ _. LeftNamesRise self.new → LeftNamesRise self.old)) }
+        ensures ordered { IfOk result (λ next. MatchOption next (NamesToComeRise self.old)
+            (λ _. NamesToComeRise self.new → NamesToComeRise self.old)) }
     {
         match self.due {
             Some(value) => {
@@ -84,8 +84,8 @@ impl<'a> Walk<'a> {
     fn begin(&mut self, value: &'a Value) -> result::Result<Visit<'a>, AllocError>
         requires { self.old.due ≡ None }
         ensures left { IfOk result (λ f. visits (content_of value.entry.now) (left self.old) ≡ visit_of f ∷ left self.new) }
-        ensures ordered { OnOk result (LeftNamesRise self.new
-            → IsOrdered (content_of value.entry.now) × LeftNamesRise self.old) }
+        ensures ordered { OnOk result (NamesToComeRise self.new
+            → IsOrdered (content_of value.entry.now) × NamesToComeRise self.old) }
     {
         match value {
             Value::Null => Ok(Visit::Null),
@@ -109,8 +109,8 @@ impl<'a> Walk<'a> {
     fn next_in_container(&mut self) -> Option<Visit<'a>>
         requires { self.old.due ≡ None }
         ensures left { MatchOption result (left self.old ≡ []) (λ f. left self.old ≡ visit_of f ∷ left self.new) }
-        ensures ordered { MatchOption result (LeftNamesRise self.old)
-            (λ _. LeftNamesRise self.new → LeftNamesRise self.old) }
+        ensures ordered { MatchOption result (NamesToComeRise self.old)
+            (λ _. NamesToComeRise self.new → NamesToComeRise self.old) }
     {
         let (visit, child) = self.frames.next()?;
         self.due = child;

@@ -9,7 +9,7 @@ use Rattle.miniserde_model.proofs.Accepted.{json_tree}
 use Rattle.miniserde_model.proofs.Normal.{norm_tree}
 use Rattle.miniserde_model.proofs.Utf8.{json_utf8}
 use Rattle.miniserde_model.proofs.Written.{written}
-use Rattle.miniserde_canonical.specs.TextToken.{tokens}
+use Rattle.miniserde_canonical.specs.CanonicalToken.{tokens}
 use Rattle.miniserde_canonical.specs.declared.draft.Draft.{Draft}
 use Rattle.miniserde_canonical.specs.private.Arranging.{State, TokenSteps, start}
 use Rattle.miniserde_canonical.specs.private.Drafts.{Holding}

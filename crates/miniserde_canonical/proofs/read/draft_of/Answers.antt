@@ -4,7 +4,7 @@ use Rattle.std.proofs.Common.{◌≡◌, None, length, sym, ap, subst, ◌∙◌
 use Rattle.std.proofs.lemmas.Result.{err_from_is_err_and}
 use Rattle.miniserde_model.specs.private.Reading.{due, after}
 use Rattle.miniserde_text.specs.private.Stack.{innermost}
-use Rattle.miniserde_text.specs.private.Moving.{before_child, due_or_after}
+use Rattle.miniserde_text.specs.private.Moving.{first_or_after, due_or_after}
 use Rattle.miniserde_canonical.specs.private.Moving.{ReadsTokens}
 use Rattle.miniserde_canonical.specs.private.Drafts.{DraftTakes, Holding}
 use Rattle.miniserde_canonical.proofs.Drafting.{keep_holding}
@@ -20,7 +20,7 @@ loop-kind-init c =
       going = c.in_ok-first.ensures.going;
       taken =
           taken_first _ _ _ _ r.0 _ _ _ _ c.new-3.ensures start c.new-4.ensures r.1
-          (subst (λ z. DraftTakes due z r.0 (before_child c.in_ok-first.first) c.value.new.self.lexer.rest c.new-4.result
+          (subst (λ z. DraftTakes due z r.0 (first_or_after c.in_ok-first.first) c.value.new.self.lexer.rest c.new-4.result
           c.value.new.self.draft) start r.2);
     }
 
@@ -30,9 +30,9 @@ loop-kind-preserved-then-branch c =
     let a = c.in_ok-take_child_or_end.ensures.reads in
     let b = c.in_ok-first-2.ensures.reads in
     let l = c.loop-kind.reader in
-    let reads = subst (λ z. ReadsTokens (before_child c.loop-kind.first) l.stack l.lexer.rest a.0 (due_or_after z)
+    let reads = subst (λ z. ReadsTokens (first_or_after c.loop-kind.first) l.stack l.lexer.rest a.0 (due_or_after z)
     c.take_child_or_end.new.self.stack c.take_child_or_end.new.self.lexer.rest) c.if-branch.true a.1 in
-    let takes = subst (λ z. DraftTakes (before_child c.loop-kind.first) l.lexer.rest a.0 (due_or_after z)
+    let takes = subst (λ z. DraftTakes (first_or_after c.loop-kind.first) l.lexer.rest a.0 (due_or_after z)
     c.take_child_or_end.new.self.lexer.rest l.draft c.take_child_or_end.new.self.draft) c.if-branch.true a.2
     in
     let turned = taken_more c.args.j.now _ due _ _ _ _ a.0 l.draft c.take_child_or_end.new.self.draft
@@ -43,9 +43,9 @@ pub loop-kind-preserved : goal.loop-kind-preserved
 loop-kind-preserved c =
     let a = c.in_ok-take_child_or_end.ensures.reads in
     let l = c.loop-kind.reader in
-    let reads = subst (λ z. ReadsTokens (before_child c.loop-kind.first) l.stack l.lexer.rest a.0 (due_or_after z)
+    let reads = subst (λ z. ReadsTokens (first_or_after c.loop-kind.first) l.stack l.lexer.rest a.0 (due_or_after z)
     c.take_child_or_end.new.self.stack c.take_child_or_end.new.self.lexer.rest) c.if-branch.false a.1 in
-    let takes = subst (λ z. DraftTakes (before_child c.loop-kind.first) l.lexer.rest a.0 (due_or_after z)
+    let takes = subst (λ z. DraftTakes (first_or_after c.loop-kind.first) l.lexer.rest a.0 (due_or_after z)
     c.take_child_or_end.new.self.lexer.rest l.draft c.take_child_or_end.new.self.draft) c.if-branch.false a.2
     in
     record {
@@ -72,9 +72,9 @@ returns-in_err-first-2-clause-invalid c = λ e.
     let w = err_from_is_err_and c.from_residual-in_err-first-2.result c.from_residual-in_err-first-2.ensures.1 in
     let a = c.in_ok-take_child_or_end.ensures.reads in
     let l = c.loop-kind.reader in
-    let reads = subst (λ z. ReadsTokens (before_child c.loop-kind.first) l.stack l.lexer.rest a.0 (due_or_after z)
+    let reads = subst (λ z. ReadsTokens (first_or_after c.loop-kind.first) l.stack l.lexer.rest a.0 (due_or_after z)
     c.take_child_or_end.new.self.stack c.take_child_or_end.new.self.lexer.rest) c.if-branch.true a.1 in
-    let takes = subst (λ z. DraftTakes (before_child c.loop-kind.first) l.lexer.rest a.0 (due_or_after z)
+    let takes = subst (λ z. DraftTakes (first_or_after c.loop-kind.first) l.lexer.rest a.0 (due_or_after z)
     c.take_child_or_end.new.self.lexer.rest l.draft c.take_child_or_end.new.self.draft) c.if-branch.true a.2
     in
     let turned = taken_more c.args.j.now _ due _ _ _ _ a.0 l.draft c.take_child_or_end.new.self.draft

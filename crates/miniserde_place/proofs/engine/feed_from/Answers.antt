@@ -6,7 +6,7 @@ use Rattle.miniserde_model.specs.private.Reading.{due, after}
 use Rattle.miniserde_text.specs.Lexer.{event_of_token}
 use Rattle.miniserde_place.specs.Place.{Advances, PositionBeginsTree}
 use Rattle.miniserde_text.specs.private.Stack.{with_opened, innermost}
-use Rattle.miniserde_text.specs.private.Moving.{opened_kind, before_child, due_or_after}
+use Rattle.miniserde_text.specs.private.Moving.{opened_kind, first_or_after, due_or_after}
 use Rattle.miniserde_read.proofs.Tokens.{start_event}
 use Rattle.miniserde_place.specs.private.Runs.{Moved}
 use Rattle.miniserde_text.proofs.Consumes.{start_ends, value_passed}
@@ -46,8 +46,8 @@ returns-in_err-take_child_or_end-clause-invalid g c = λ e t r p.
     let lead : Advances (v c.args.place.now) ev (v c.enter.new.place) = c.in_ok-first.ensures.advances in
     later_barred (v c.args.place.now).at (v c.args.place.now).outcome ev (v c.enter.new.place).at
     (v c.enter.new.place).outcome s c.requires.fresh lead
-    (barred_more (before_child (is_some (opened_kind ev))) (with_opened (opened_kind ev) []) s
-    (v c.enter.new.place).at (v c.enter.new.place).outcome (before_child c.loop-kind.first) c.loop-kind.stack
+    (barred_more (first_or_after (is_some (opened_kind ev))) (with_opened (opened_kind ev) []) s
+    (v c.enter.new.place).at (v c.enter.new.place).outcome (first_or_after c.loop-kind.first) c.loop-kind.stack
     c.loop-kind.source.rest (v c.loop-kind.place).at (v c.loop-kind.place).outcome c.loop-kind.invariant.moved
     (c.in_err-take_child_or_end.ensures.invalid (cc (w.1, w.2, e)))) t r p
 
@@ -58,18 +58,18 @@ returns-in_err-token-clause-invalid g c = λ e t r p.
     let ev = event_of_token c.args.token c.args.source.now.scratch in
     let s = c.args.source.now.rest in
     let lead : Advances (v c.args.place.now) ev (v c.enter.new.place) = c.in_ok-first.ensures.advances in
-    let n = subst (λ z. Moved (before_child c.loop-kind.first) c.loop-kind.stack c.loop-kind.source.rest
+    let n = subst (λ z. Moved (first_or_after c.loop-kind.first) c.loop-kind.stack c.loop-kind.source.rest
     (v c.loop-kind.place).at (v c.loop-kind.place).outcome (due_or_after z) c.take_child_or_end.new.stack
     c.take_child_or_end.new.source.rest (v c.take_child_or_end.new.place).at
     (v c.take_child_or_end.new.place).outcome) c.if-branch.true c.in_ok-take_child_or_end.ensures.moved in
-    let two = Moved-append (before_child (is_some (opened_kind ev))) (with_opened (opened_kind ev) []) s
-    (v c.enter.new.place).at (v c.enter.new.place).outcome (before_child c.loop-kind.first) c.loop-kind.stack
+    let two = Moved-append (first_or_after (is_some (opened_kind ev))) (with_opened (opened_kind ev) []) s
+    (v c.enter.new.place).at (v c.enter.new.place).outcome (first_or_after c.loop-kind.first) c.loop-kind.stack
     c.loop-kind.source.rest (v c.loop-kind.place).at (v c.loop-kind.place).outcome due
     c.take_child_or_end.new.stack c.take_child_or_end.new.source.rest (v c.take_child_or_end.new.place).at
     (v c.take_child_or_end.new.place).outcome c.loop-kind.invariant.moved n in
     later_barred (v c.args.place.now).at (v c.args.place.now).outcome ev (v c.enter.new.place).at
     (v c.enter.new.place).outcome s c.requires.fresh lead
-    (barred_more (before_child (is_some (opened_kind ev))) (with_opened (opened_kind ev) []) s
+    (barred_more (first_or_after (is_some (opened_kind ev))) (with_opened (opened_kind ev) []) s
     (v c.enter.new.place).at (v c.enter.new.place).outcome due c.take_child_or_end.new.stack
     c.take_child_or_end.new.source.rest (v c.take_child_or_end.new.place).at
     (v c.take_child_or_end.new.place).outcome two
@@ -88,25 +88,25 @@ returns-in_err-first-2-clause-invalid g c = λ e t r p.
     let ev = event_of_token c.args.token c.args.source.now.scratch in
     let s = c.args.source.now.rest in
     let lead : Advances (v c.args.place.now) ev (v c.enter.new.place) = c.in_ok-first.ensures.advances in
-    let n = subst (λ z. Moved (before_child c.loop-kind.first) c.loop-kind.stack c.loop-kind.source.rest
+    let n = subst (λ z. Moved (first_or_after c.loop-kind.first) c.loop-kind.stack c.loop-kind.source.rest
     (v c.loop-kind.place).at (v c.loop-kind.place).outcome (due_or_after z) c.take_child_or_end.new.stack
     c.take_child_or_end.new.source.rest (v c.take_child_or_end.new.place).at
     (v c.take_child_or_end.new.place).outcome) c.if-branch.true c.in_ok-take_child_or_end.ensures.moved in
-    let two = Moved-append (before_child (is_some (opened_kind ev))) (with_opened (opened_kind ev) []) s
-    (v c.enter.new.place).at (v c.enter.new.place).outcome (before_child c.loop-kind.first) c.loop-kind.stack
+    let two = Moved-append (first_or_after (is_some (opened_kind ev))) (with_opened (opened_kind ev) []) s
+    (v c.enter.new.place).at (v c.enter.new.place).outcome (first_or_after c.loop-kind.first) c.loop-kind.stack
     c.loop-kind.source.rest (v c.loop-kind.place).at (v c.loop-kind.place).outcome due
     c.take_child_or_end.new.stack c.take_child_or_end.new.source.rest (v c.take_child_or_end.new.place).at
     (v c.take_child_or_end.new.place).outcome c.loop-kind.invariant.moved n in
     let ew = event_of_token c.in_ok-token.token c.token.new.self.scratch in
     later_barred (v c.args.place.now).at (v c.args.place.now).outcome ev (v c.enter.new.place).at
     (v c.enter.new.place).outcome s c.requires.fresh lead
-    (barred_more (before_child (is_some (opened_kind ev))) (with_opened (opened_kind ev) []) s
+    (barred_more (first_or_after (is_some (opened_kind ev))) (with_opened (opened_kind ev) []) s
     (v c.enter.new.place).at (v c.enter.new.place).outcome due c.take_child_or_end.new.stack
     c.take_child_or_end.new.source.rest (v c.take_child_or_end.new.place).at
     (v c.take_child_or_end.new.place).outcome two
     (barred_one due c.take_child_or_end.new.stack c.take_child_or_end.new.source.rest
     (v c.take_child_or_end.new.place).at (v c.take_child_or_end.new.place).outcome ew
-    (before_child (is_some (opened_kind ew))) (with_opened (opened_kind ew) c.take_child_or_end.new.stack)
+    (first_or_after (is_some (opened_kind ew))) (with_opened (opened_kind ew) c.take_child_or_end.new.stack)
     c.token.new.self.rest (value_passed c.take_child_or_end.new.stack c.take_child_or_end.new.source.rest
     c.token.new.self.rest ew _ _ c.in_ok-token.ensures.ok refl refl)
     (c.in_err-first-2.ensures.rejects (cc (w.1, w.2, e))))) t r p
@@ -116,12 +116,12 @@ loop-kind-preserved-then-branch g c =
     let v = g.V.Visitor.meaning.view in
     let ev = event_of_token c.args.token c.args.source.now.scratch in
     let s = c.args.source.now.rest in
-    let n = subst (λ z. Moved (before_child c.loop-kind.first) c.loop-kind.stack c.loop-kind.source.rest
+    let n = subst (λ z. Moved (first_or_after c.loop-kind.first) c.loop-kind.stack c.loop-kind.source.rest
     (v c.loop-kind.place).at (v c.loop-kind.place).outcome (due_or_after z) c.take_child_or_end.new.stack
     c.take_child_or_end.new.source.rest (v c.take_child_or_end.new.place).at
     (v c.take_child_or_end.new.place).outcome) c.if-branch.true c.in_ok-take_child_or_end.ensures.moved in
-    let two = Moved-append (before_child (is_some (opened_kind ev))) (with_opened (opened_kind ev) []) s
-    (v c.enter.new.place).at (v c.enter.new.place).outcome (before_child c.loop-kind.first) c.loop-kind.stack
+    let two = Moved-append (first_or_after (is_some (opened_kind ev))) (with_opened (opened_kind ev) []) s
+    (v c.enter.new.place).at (v c.enter.new.place).outcome (first_or_after c.loop-kind.first) c.loop-kind.stack
     c.loop-kind.source.rest (v c.loop-kind.place).at (v c.loop-kind.place).outcome due
     c.take_child_or_end.new.stack c.take_child_or_end.new.source.rest (v c.take_child_or_end.new.place).at
     (v c.take_child_or_end.new.place).outcome c.loop-kind.invariant.moved n in
@@ -129,7 +129,7 @@ loop-kind-preserved-then-branch g c =
     let led : Advances (v c.take_child_or_end.new.place) ew (v c.enter-then-branch.new.place) = c.in_ok-first-2.ensures.advances in
     let one = moved_one due c.take_child_or_end.new.stack c.take_child_or_end.new.source.rest
     (v c.take_child_or_end.new.place).at (v c.take_child_or_end.new.place).outcome ew
-    (before_child c.in_ok-first-2.first) c.enter-then-branch.new.stack c.token.new.self.rest
+    (first_or_after c.in_ok-first-2.first) c.enter-then-branch.new.stack c.token.new.self.rest
     (v c.enter-then-branch.new.place).at (v c.enter-then-branch.new.place).outcome
     (value_passed c.take_child_or_end.new.stack c.take_child_or_end.new.source.rest c.token.new.self.rest ew
     c.in_ok-first-2.first c.enter-then-branch.new.stack c.in_ok-token.ensures.ok c.in_ok-first-2.ensures.opens
@@ -140,10 +140,10 @@ loop-kind-preserved-then-branch g c =
     record {
       unrefused = c.in_ok-first-2.ensures.unrefused;
       going = c.in_ok-token.ensures.going;
-      moved = Moved-append (before_child (is_some (opened_kind ev))) (with_opened (opened_kind ev) []) s
+      moved = Moved-append (first_or_after (is_some (opened_kind ev))) (with_opened (opened_kind ev) []) s
           (v c.enter.new.place).at (v c.enter.new.place).outcome due c.take_child_or_end.new.stack
           c.take_child_or_end.new.source.rest (v c.take_child_or_end.new.place).at
-          (v c.take_child_or_end.new.place).outcome (before_child c.in_ok-first-2.first)
+          (v c.take_child_or_end.new.place).outcome (first_or_after c.in_ok-first-2.first)
           c.enter-then-branch.new.stack c.token.new.self.rest (v c.enter-then-branch.new.place).at
           (v c.enter-then-branch.new.place).outcome two one;
     }
@@ -153,12 +153,12 @@ loop-kind-preserved g c =
     let v = g.V.Visitor.meaning.view in
     let ev = event_of_token c.args.token c.args.source.now.scratch in
     let s = c.args.source.now.rest in
-    let n = subst (λ z. Moved (before_child c.loop-kind.first) c.loop-kind.stack c.loop-kind.source.rest
+    let n = subst (λ z. Moved (first_or_after c.loop-kind.first) c.loop-kind.stack c.loop-kind.source.rest
     (v c.loop-kind.place).at (v c.loop-kind.place).outcome (due_or_after z) c.take_child_or_end.new.stack
     c.take_child_or_end.new.source.rest (v c.take_child_or_end.new.place).at
     (v c.take_child_or_end.new.place).outcome) c.if-branch.false c.in_ok-take_child_or_end.ensures.moved in
-    let two = Moved-append (before_child (is_some (opened_kind ev))) (with_opened (opened_kind ev) []) s
-    (v c.enter.new.place).at (v c.enter.new.place).outcome (before_child c.loop-kind.first) c.loop-kind.stack
+    let two = Moved-append (first_or_after (is_some (opened_kind ev))) (with_opened (opened_kind ev) []) s
+    (v c.enter.new.place).at (v c.enter.new.place).outcome (first_or_after c.loop-kind.first) c.loop-kind.stack
     c.loop-kind.source.rest (v c.loop-kind.place).at (v c.loop-kind.place).outcome after
     c.take_child_or_end.new.stack c.take_child_or_end.new.source.rest (v c.take_child_or_end.new.place).at
     (v c.take_child_or_end.new.place).outcome c.loop-kind.invariant.moved n in
@@ -196,7 +196,7 @@ returns-in_err-take_child_or_end-clause-sticky g c =
     c.take_child_or_end.new.place c.from_residual-in_err-take_child_or_end.result
     c.in_err-take_child_or_end.field-0.0 (cc (w.1, w.2)) c.loop-kind.invariant.unrefused
     (begun c.args.token c.args.source.now.scratch s (v c.args.place.now).at (v c.args.place.now).outcome
-    (v c.enter.new.place).at (v c.enter.new.place).outcome (before_child c.loop-kind.first) c.loop-kind.stack
+    (v c.enter.new.place).at (v c.enter.new.place).outcome (first_or_after c.loop-kind.first) c.loop-kind.stack
     c.loop-kind.source.rest (v c.loop-kind.place).at (v c.loop-kind.place).outcome lead
     c.loop-kind.invariant.moved
     (inside_unfinished c.loop-kind.first c.loop-kind.stack _ (sym c.top.ensures ∙ c.in-Some.is)))
@@ -208,12 +208,12 @@ returns-in_err-token-clause-sticky g c =
     let ev = event_of_token c.args.token c.args.source.now.scratch in
     let s = c.args.source.now.rest in
     let lead : Advances (v c.args.place.now) ev (v c.enter.new.place) = c.in_ok-first.ensures.advances in
-    let n = subst (λ z. Moved (before_child c.loop-kind.first) c.loop-kind.stack c.loop-kind.source.rest
+    let n = subst (λ z. Moved (first_or_after c.loop-kind.first) c.loop-kind.stack c.loop-kind.source.rest
     (v c.loop-kind.place).at (v c.loop-kind.place).outcome (due_or_after z) c.take_child_or_end.new.stack
     c.take_child_or_end.new.source.rest (v c.take_child_or_end.new.place).at
     (v c.take_child_or_end.new.place).outcome) c.if-branch.true c.in_ok-take_child_or_end.ensures.moved in
-    let two = Moved-append (before_child (is_some (opened_kind ev))) (with_opened (opened_kind ev) []) s
-    (v c.enter.new.place).at (v c.enter.new.place).outcome (before_child c.loop-kind.first) c.loop-kind.stack
+    let two = Moved-append (first_or_after (is_some (opened_kind ev))) (with_opened (opened_kind ev) []) s
+    (v c.enter.new.place).at (v c.enter.new.place).outcome (first_or_after c.loop-kind.first) c.loop-kind.stack
     c.loop-kind.source.rest (v c.loop-kind.place).at (v c.loop-kind.place).outcome due
     c.take_child_or_end.new.stack c.take_child_or_end.new.source.rest (v c.take_child_or_end.new.place).at
     (v c.take_child_or_end.new.place).outcome c.loop-kind.invariant.moved n in
@@ -237,12 +237,12 @@ returns-in_err-first-2-clause-sticky g c =
     let s = c.args.source.now.rest in
     let lead : Advances (v c.args.place.now) ev (v c.enter.new.place) = c.in_ok-first.ensures.advances in
     let w = err_from_is_err_and c.from_residual-in_err-first-2.result c.from_residual-in_err-first-2.ensures.1 in
-    let n = subst (λ z. Moved (before_child c.loop-kind.first) c.loop-kind.stack c.loop-kind.source.rest
+    let n = subst (λ z. Moved (first_or_after c.loop-kind.first) c.loop-kind.stack c.loop-kind.source.rest
     (v c.loop-kind.place).at (v c.loop-kind.place).outcome (due_or_after z) c.take_child_or_end.new.stack
     c.take_child_or_end.new.source.rest (v c.take_child_or_end.new.place).at
     (v c.take_child_or_end.new.place).outcome) c.if-branch.true c.in_ok-take_child_or_end.ensures.moved in
-    let two = Moved-append (before_child (is_some (opened_kind ev))) (with_opened (opened_kind ev) []) s
-    (v c.enter.new.place).at (v c.enter.new.place).outcome (before_child c.loop-kind.first) c.loop-kind.stack
+    let two = Moved-append (first_or_after (is_some (opened_kind ev))) (with_opened (opened_kind ev) []) s
+    (v c.enter.new.place).at (v c.enter.new.place).outcome (first_or_after c.loop-kind.first) c.loop-kind.stack
     c.loop-kind.source.rest (v c.loop-kind.place).at (v c.loop-kind.place).outcome due
     c.take_child_or_end.new.stack c.take_child_or_end.new.source.rest (v c.take_child_or_end.new.place).at
     (v c.take_child_or_end.new.place).outcome c.loop-kind.invariant.moved n in

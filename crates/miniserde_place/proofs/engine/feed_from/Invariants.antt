@@ -3,7 +3,7 @@
 use Rattle.std.proofs.Common.{◌≡◌, None, [], is_some, length}
 use Rattle.miniserde_text.specs.Lexer.{event_of_token}
 use Rattle.miniserde_text.specs.private.Stack.{with_opened}
-use Rattle.miniserde_text.specs.private.Moving.{before_child, opened_kind}
+use Rattle.miniserde_text.specs.private.Moving.{first_or_after, opened_kind}
 use Rattle.miniserde_place.specs.private.Runs.{Moved}
 use Rattle.miniserde_place.proofs.engine.feed_from.Given as goal
 
@@ -11,10 +11,10 @@ abbrev pub invariant-loop-kind : goal.invariant-loop-kind
 invariant-loop-kind g l = record {
   unrefused : (g.V.Visitor.meaning.view l.place).refused ≡ None;
   going : l.source.refused ≡ None;
-  moved : Moved (before_child (is_some (opened_kind (event_of_token l.fn.token l.fn.source.scratch))))
+  moved : Moved (first_or_after (is_some (opened_kind (event_of_token l.fn.token l.fn.source.scratch))))
       (with_opened (opened_kind (event_of_token l.fn.token l.fn.source.scratch)) []) l.fn.source.rest
       (g.V.Visitor.meaning.view l.initial.place).at (g.V.Visitor.meaning.view l.initial.place).outcome
-      (before_child l.first) l.stack l.source.rest (g.V.Visitor.meaning.view l.place).at
+      (first_or_after l.first) l.stack l.source.rest (g.V.Visitor.meaning.view l.place).at
       (g.V.Visitor.meaning.view l.place).outcome;
 }
 

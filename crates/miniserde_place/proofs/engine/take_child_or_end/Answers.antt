@@ -4,7 +4,7 @@ use Rattle.std.proofs.Common.{true, false, sym, subst, arith, true≢false}
 use Rattle.std.proofs.lemmas.Result.{err_from_is_err_and}
 use Rattle.miniserde_model.specs.Step.{key, element, finish}
 use Rattle.miniserde_model.specs.Lexing.{Names, Follows}
-use Rattle.miniserde_text.specs.private.Moving.{before_child}
+use Rattle.miniserde_text.specs.private.Moving.{first_or_after}
 use Rattle.miniserde_text.specs.Lexer.{is_close}
 use Rattle.miniserde_text.proofs.Consumes.{close_passed, element_passed, key_passed, after_ends, name_ends}
 use Rattle.miniserde_place.proofs.Moved.{moved_one, barred_one, never_barred}
@@ -15,7 +15,7 @@ use Rattle.miniserde_place.proofs.engine.take_child_or_end.Goals as goal
 pub returns-in_err-after-clause-invalid : goal.returns-in_err-after-clause-invalid
 returns-in_err-after-clause-invalid g c = λ e.
     let w = err_from_is_err_and c.from_residual.result c.from_residual.ensures.1 in
-    never_barred (before_child c.args.first) c.args.stack.now c.args.source.now.rest
+    never_barred (first_or_after c.args.first) c.args.stack.now c.args.source.now.rest
     (g.V.Visitor.meaning.view c.args.place.now).outcome (g.V.Visitor.meaning.view c.args.place.now).at
     (after_ends _ _ c.args.kind c.args.first c.requires.inside
     (c.in_err-after.ensures.invalid (cc (w.1, w.2, e)) c.requires.going))
@@ -26,7 +26,7 @@ returns-in_err-step-in-Close-clause-invalid g c = λ e.
     let p : Follows c.args.kind c.args.first true c.args.source.now.rest c.after.new.self.rest =
     subst (λ z. Follows c.args.kind c.args.first (is_close z) c.args.source.now.rest c.after.new.self.rest)
     c.in-Close.is c.in_ok-after.ensures.ok in
-    barred_one (before_child c.args.first) _ _ (g.V.Visitor.meaning.view c.args.place.now).at
+    barred_one (first_or_after c.args.first) _ _ (g.V.Visitor.meaning.view c.args.place.now).at
     (g.V.Visitor.meaning.view c.args.place.now).outcome finish _ _ _
     (close_passed _ _ _ _ c.args.kind c.args.first c.requires.inside p c.pop.ensures)
     (c.in_err-step-in-Close.ensures.takes.rejects (cc (w.1, w.2, e)) c.requires.unrefused)
@@ -37,7 +37,7 @@ returns-in_err-step-in-Seq-clause-invalid g c = λ e.
     let p : Follows c.args.kind c.args.first false c.args.source.now.rest c.after.new.self.rest =
     subst (λ z. Follows c.args.kind c.args.first (is_close z) c.args.source.now.rest c.after.new.self.rest)
     c.in-Next.is c.in_ok-after.ensures.ok in
-    barred_one (before_child c.args.first) _ _ (g.V.Visitor.meaning.view c.args.place.now).at
+    barred_one (first_or_after c.args.first) _ _ (g.V.Visitor.meaning.view c.args.place.now).at
     (g.V.Visitor.meaning.view c.args.place.now).outcome element _ _ _
     (element_passed _ _ _ c.args.kind c.args.first c.requires.inside c.in-Seq.is p)
     (c.in_err-step-in-Seq.ensures.takes.rejects (cc (w.1, w.2, e)) c.requires.unrefused)
@@ -48,7 +48,7 @@ returns-in_err-name-in-Map-clause-invalid g c = λ e.
     let p : Follows c.args.kind c.args.first false c.args.source.now.rest c.after.new.self.rest =
     subst (λ z. Follows c.args.kind c.args.first (is_close z) c.args.source.now.rest c.after.new.self.rest)
     c.in-Next.is c.in_ok-after.ensures.ok in
-    never_barred (before_child c.args.first) c.args.stack.now c.args.source.now.rest
+    never_barred (first_or_after c.args.first) c.args.stack.now c.args.source.now.rest
     (g.V.Visitor.meaning.view c.args.place.now).outcome (g.V.Visitor.meaning.view c.args.place.now).at
     (name_ends _ _ _ c.args.kind c.args.first c.requires.inside c.in-Map.is p
     (c.in_err-name-in-Map.ensures.invalid (cc (w.1, w.2, e)) c.in_ok-after.ensures.going))
@@ -62,7 +62,7 @@ returns-in_err-step-in-Map-clause-invalid g c = λ e.
     let n : Names c.after.new.self.rest c.text.result.now c.name.new.self.rest =
     subst (λ z. Names c.after.new.self.rest z c.name.new.self.rest) (sym c.text.ensures)
     c.in_ok-name-in-Map.ensures.ok in
-    barred_one (before_child c.args.first) _ _ (g.V.Visitor.meaning.view c.args.place.now).at
+    barred_one (first_or_after c.args.first) _ _ (g.V.Visitor.meaning.view c.args.place.now).at
     (g.V.Visitor.meaning.view c.args.place.now).outcome (key c.text.result.now) _ _ _
     (key_passed _ _ _ _ _ c.args.kind c.args.first c.requires.inside c.in-Map.is p n)
     (c.in_err-step-in-Map.ensures.takes.rejects (cc (w.1, w.2, e)) c.requires.unrefused)
@@ -72,7 +72,7 @@ returns-in_ok-step-in-Close-clause-moved g c =
     let p : Follows c.args.kind c.args.first true c.args.source.now.rest c.after.new.self.rest =
     subst (λ z. Follows c.args.kind c.args.first (is_close z) c.args.source.now.rest c.after.new.self.rest)
     c.in-Close.is c.in_ok-after.ensures.ok in
-    moved_one (before_child c.args.first) _ _ (g.V.Visitor.meaning.view c.args.place.now).at
+    moved_one (first_or_after c.args.first) _ _ (g.V.Visitor.meaning.view c.args.place.now).at
     (g.V.Visitor.meaning.view c.args.place.now).outcome finish _ _ _
     (g.V.Visitor.meaning.view c.step.new.self).at (g.V.Visitor.meaning.view c.step.new.self).outcome
     (close_passed _ _ _ _ c.args.kind c.args.first c.requires.inside p c.pop.ensures)
@@ -84,7 +84,7 @@ returns-in_ok-step-in-Seq-clause-moved g c =
     let p : Follows c.args.kind c.args.first false c.args.source.now.rest c.after.new.self.rest =
     subst (λ z. Follows c.args.kind c.args.first (is_close z) c.args.source.now.rest c.after.new.self.rest)
     c.in-Next.is c.in_ok-after.ensures.ok in
-    moved_one (before_child c.args.first) _ _ (g.V.Visitor.meaning.view c.args.place.now).at
+    moved_one (first_or_after c.args.first) _ _ (g.V.Visitor.meaning.view c.args.place.now).at
     (g.V.Visitor.meaning.view c.args.place.now).outcome element _ _ _
     (g.V.Visitor.meaning.view c.step-in-Seq.new.self).at
     (g.V.Visitor.meaning.view c.step-in-Seq.new.self).outcome
@@ -100,7 +100,7 @@ returns-in_ok-step-in-Map-clause-moved g c =
     let n : Names c.after.new.self.rest c.text.result.now c.name.new.self.rest =
     subst (λ z. Names c.after.new.self.rest z c.name.new.self.rest) (sym c.text.ensures)
     c.in_ok-name-in-Map.ensures.ok in
-    moved_one (before_child c.args.first) _ _ (g.V.Visitor.meaning.view c.args.place.now).at
+    moved_one (first_or_after c.args.first) _ _ (g.V.Visitor.meaning.view c.args.place.now).at
     (g.V.Visitor.meaning.view c.args.place.now).outcome (key c.text.result.now) _ _ _
     (g.V.Visitor.meaning.view c.step-in-Map.new.self).at
     (g.V.Visitor.meaning.view c.step-in-Map.new.self).outcome

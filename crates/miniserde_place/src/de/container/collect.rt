@@ -73,5 +73,5 @@ pub trait Collect: Drop {
     /// current child that was not added is dropped.
     fn end(self) -> Option<Self::Out>
         ensures { MatchOption result (collector_meaning.rules.end (collector_meaning.state self) ≡ None)
-            (λ v. collector_meaning.rules.end (collector_meaning.state self) ≡ Some (collector_meaning.meant.content v)) };
+            (λ v. collector_meaning.rules.end (collector_meaning.state self) ≡ Some (collector_meaning.by_trees.content v)) };
 }

@@ -4,7 +4,7 @@ use Rattle.std.proofs.Common.{◌≡◌, [], None, is_some, sym, ap, ◌∙◌}
 use Rattle.std.proofs.lemmas.Result.{err_from_is_err_and}
 use Rattle.miniserde_text.specs.Lexer.{event_of_token}
 use Rattle.miniserde_text.specs.private.Stack.{with_opened, innermost}
-use Rattle.miniserde_text.specs.private.Moving.{opened_kind, before_child}
+use Rattle.miniserde_text.specs.private.Moving.{opened_kind, first_or_after}
 use Rattle.miniserde_text.proofs.Consumes.{Reaches-append, ends_behind}
 use Rattle.miniserde_read.proofs.Skips.{reaches_init, skip_ok, skip_none}
 use Rattle.miniserde_read.proofs.ignored.skip.Goals as goal
@@ -25,8 +25,8 @@ returns-in_err-first-2-clause-invalid c = λ e t r p.
     let w = err_from_is_err_and c.from_residual-in_err-first-2.result c.from_residual-in_err-first-2.ensures.1 in
     let ev = event_of_token c.args.token c.args.source.now.scratch in
     let s = c.args.source.now.rest in
-    skip_none ev s (ends_behind (before_child (is_some (opened_kind ev))) (with_opened (opened_kind ev) []) s
-    (before_child c.loop-kind.first) c.loop-kind.stack c.loop-kind.source.rest c.loop-kind.invariant.reaches
+    skip_none ev s (ends_behind (first_or_after (is_some (opened_kind ev))) (with_opened (opened_kind ev) []) s
+    (first_or_after c.loop-kind.first) c.loop-kind.stack c.loop-kind.source.rest c.loop-kind.invariant.reaches
     (c.in_err-first-2.ensures.invalid (cc (w.1, w.2, e)))) t r p
 
 pub loop-kind-preserved : goal.loop-kind-preserved
@@ -34,9 +34,9 @@ loop-kind-preserved c =
     let ev = event_of_token c.args.token c.args.source.now.scratch in
     record {
       going = c.in_ok-first-2.ensures.going;
-      reaches = Reaches-append (before_child (is_some (opened_kind ev))) (with_opened (opened_kind ev) [])
-          c.args.source.now.rest (before_child c.loop-kind.first) c.loop-kind.stack c.loop-kind.source.rest
-          (before_child c.in_ok-first-2.first) c.take_child_or_end.new.stack c.take_child_or_end.new.source.rest
+      reaches = Reaches-append (first_or_after (is_some (opened_kind ev))) (with_opened (opened_kind ev) [])
+          c.args.source.now.rest (first_or_after c.loop-kind.first) c.loop-kind.stack c.loop-kind.source.rest
+          (first_or_after c.in_ok-first-2.first) c.take_child_or_end.new.stack c.take_child_or_end.new.source.rest
           c.loop-kind.invariant.reaches c.in_ok-first-2.ensures.reaches;
     }
 

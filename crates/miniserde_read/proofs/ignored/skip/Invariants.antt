@@ -3,16 +3,16 @@
 use Rattle.std.proofs.Common.{◌≡◌, None, [], is_some, length}
 use Rattle.miniserde_text.specs.Lexer.{event_of_token}
 use Rattle.miniserde_text.specs.private.Stack.{with_opened}
-use Rattle.miniserde_text.specs.private.Moving.{before_child, opened_kind}
+use Rattle.miniserde_text.specs.private.Moving.{first_or_after, opened_kind}
 use Rattle.miniserde_text.specs.private.Runs.{Reaches}
 use Rattle.miniserde_read.proofs.ignored.skip.Given as goal
 
 abbrev pub invariant-loop-kind : goal.invariant-loop-kind
 invariant-loop-kind l = record {
   going : l.source.refused ≡ None;
-  reaches : Reaches (before_child (is_some (opened_kind (event_of_token l.fn.token l.fn.source.scratch))))
+  reaches : Reaches (first_or_after (is_some (opened_kind (event_of_token l.fn.token l.fn.source.scratch))))
       (with_opened (opened_kind (event_of_token l.fn.token l.fn.source.scratch)) []) l.fn.source.rest
-      (before_child l.first) l.stack l.source.rest;
+      (first_or_after l.first) l.stack l.source.rest;
 }
 
 abbrev pub decreases-loop-kind : goal.decreases-loop-kind

@@ -6,7 +6,7 @@ use Rattle.std.proofs.lemmas.Result.{err_from_is_err_and, IfOk-weaker}
 use Rattle.miniserde_model.specs.Lexing.{Follows}
 use Rattle.miniserde_model.specs.private.Reading.{due}
 use Rattle.miniserde_text.specs.Lexer.{is_close}
-use Rattle.miniserde_text.specs.private.Moving.{before_child}
+use Rattle.miniserde_text.specs.private.Moving.{first_or_after}
 use Rattle.miniserde_text.specs.private.Runs.{Reaches}
 use Rattle.miniserde_text.proofs.Consumes.{close_passed, element_passed, key_passed, after_ends, name_ends}
 use Rattle.miniserde_text.proofs.Consumes.{ends_behind, Reaches-one, Reaches-append}
@@ -41,9 +41,9 @@ returns-in-Seq-clause-reaches c =
     let p : Follows c.args.kind c.args.first false s u =
     subst (λ z. Follows c.args.kind c.args.first (is_close z) s u) c.in-Next.is c.in_ok-after.ensures.ok in
     let one = Reaches-one _ _ _ _ _ _ _ (element_passed st s u c.args.kind c.args.first c.requires.inside c.in-Seq.is p) in
-    IfOk-weaker c.begin.result (λ b. Reaches due st u (before_child b) c.begin.new.stack c.begin.new.source.rest)
-    (λ b. Reaches (before_child c.args.first) st s (before_child b) c.begin.new.stack c.begin.new.source.rest)
-    (λ b h. Reaches-append (before_child c.args.first) st s due st u (before_child b) c.begin.new.stack
+    IfOk-weaker c.begin.result (λ b. Reaches due st u (first_or_after b) c.begin.new.stack c.begin.new.source.rest)
+    (λ b. Reaches (first_or_after c.args.first) st s (first_or_after b) c.begin.new.stack c.begin.new.source.rest)
+    (λ b h. Reaches-append (first_or_after c.args.first) st s due st u (first_or_after b) c.begin.new.stack
     c.begin.new.source.rest one h) c.begin.ensures.reaches
 
 pub returns-in-Seq-clause-invalid : goal.returns-in-Seq-clause-invalid
@@ -54,7 +54,7 @@ returns-in-Seq-clause-invalid c = λ e.
     let p : Follows c.args.kind c.args.first false s u =
     subst (λ z. Follows c.args.kind c.args.first (is_close z) s u) c.in-Next.is c.in_ok-after.ensures.ok in
     let one = Reaches-one _ _ _ _ _ _ _ (element_passed st s u c.args.kind c.args.first c.requires.inside c.in-Seq.is p) in
-    ends_behind (before_child c.args.first) st s due st u one (c.begin.ensures.invalid e)
+    ends_behind (first_or_after c.args.first) st s due st u one (c.begin.ensures.invalid e)
 
 pub returns-in_ok-name-in-Map-clause-reaches : goal.returns-in_ok-name-in-Map-clause-reaches
 returns-in_ok-name-in-Map-clause-reaches c =
@@ -68,9 +68,9 @@ returns-in_ok-name-in-Map-clause-reaches c =
     (key_passed st s c.after.new.self.rest _ u c.args.kind c.args.first c.requires.inside c.in-Map.is p
     c.in_ok-name-in-Map.ensures.ok) in
     let b = c.begin-in-Map.new in
-    IfOk-weaker c.begin-in-Map.result (λ o. Reaches due st u (before_child o) b.stack b.source.rest)
-    (λ o. Reaches (before_child c.args.first) st s (before_child o) b.stack b.source.rest)
-    (λ o h. Reaches-append (before_child c.args.first) st s due st u (before_child o) b.stack b.source.rest one h)
+    IfOk-weaker c.begin-in-Map.result (λ o. Reaches due st u (first_or_after o) b.stack b.source.rest)
+    (λ o. Reaches (first_or_after c.args.first) st s (first_or_after o) b.stack b.source.rest)
+    (λ o h. Reaches-append (first_or_after c.args.first) st s due st u (first_or_after o) b.stack b.source.rest one h)
     c.begin-in-Map.ensures.reaches
 
 pub returns-in_ok-name-in-Map-clause-invalid : goal.returns-in_ok-name-in-Map-clause-invalid
@@ -84,4 +84,4 @@ returns-in_ok-name-in-Map-clause-invalid c = λ e.
     let one = Reaches-one _ _ _ _ _ _ _
     (key_passed st s c.after.new.self.rest _ u c.args.kind c.args.first c.requires.inside c.in-Map.is p
     c.in_ok-name-in-Map.ensures.ok) in
-    ends_behind (before_child c.args.first) st s due st u one (c.begin-in-Map.ensures.invalid e)
+    ends_behind (first_or_after c.args.first) st s due st u one (c.begin-in-Map.ensures.invalid e)

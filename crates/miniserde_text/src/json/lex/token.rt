@@ -3,9 +3,9 @@ ghost use Rattle.std.specs.Prelude.{◌≡◌, ◌-◌, ◌<◌, ◌≤◌, [], 
 ghost use Rattle.std.specs.Prelude.{option_map, slice_index};
 ghost use Rattle.std.specs.String.{string_bytes};
 ghost use Rattle.miniserde_model.specs.Step as step;
-ghost use Rattle.miniserde_text.specs.Lexer.{event_of_token, text_of, LeavesScratch, EventLeavesScratch};
+ghost use Rattle.miniserde_text.specs.Lexer.{event_of_token, text_of, LeavesScratch, TokenLeavesScratch};
 ghost use Rattle.miniserde_text.specs.private.Reading.{word_at, token_by};
-ghost use Rattle.miniserde_text.specs.private.Taking.{TakesToken, TakesName, EventTakesText, NameTakesText};
+ghost use Rattle.miniserde_text.specs.private.Taking.{TakesToken, TakesName, TokenTakesText, NameTakesText};
 ghost use Rattle.miniserde_text.specs.private.Taking.{ReachesBackslash};
 
 use super::bytes::index_after;
@@ -69,9 +69,9 @@ pub(super) fn take_token<'a>(
     requires first { first ≡ slice_index (drop at text.now) 0 }
     ensures ok { IfOk result (λ x.
         TakesToken (drop at text.now) (event_of_token x.0 (string_bytes scratch.new)) (drop x.1 text.now)) }
-    ensures text { IfOk result (λ x. EventTakesText x.0 (drop at text.now) (drop x.1 text.now)) }
+    ensures text { IfOk result (λ x. TokenTakesText x.0 (drop at text.now) (drop x.1 text.now)) }
     ensures within { IfOk result (λ x. x.1 ≤ length text.now) }
-    ensures unchanged { IfOk result (λ x. EventLeavesScratch x.0 scratch.old scratch.new) }
+    ensures unchanged { IfOk result (λ x. TokenLeavesScratch x.0 scratch.old scratch.new) }
     ensures memory { result ≡ Err Error.Memory
         → (slice_index (drop at text.now) 0 ≡ 34) × ReachesBackslash (drop 1 (drop at text.now)) }
     ensures invalid { result ≡ Err Error.Invalid

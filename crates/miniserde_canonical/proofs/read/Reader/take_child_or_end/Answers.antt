@@ -7,8 +7,8 @@ use Rattle.std.specs.String.{string_bytes}
 use Rattle.miniserde_model.specs.Lexing.{Follows, closing}
 use Rattle.miniserde_model.specs.private.Reading.{after}
 use Rattle.miniserde_text.specs.Lexer.{text_of, is_close}
-use Rattle.miniserde_canonical.specs.TextToken.{name, element}
-use Rattle.miniserde_text.specs.private.Moving.{before_child}
+use Rattle.miniserde_canonical.specs.CanonicalToken.{name, element}
+use Rattle.miniserde_text.specs.private.Moving.{first_or_after}
 use Rattle.miniserde_canonical.specs.private.Arranging.{comma_before, State, TokenStep}
 use Rattle.miniserde_canonical.specs.private.Drafts.{Wrote, Holding, Represents, DraftTakes}
 use Rattle.miniserde_canonical.specs.private.Moving.{end_token}
@@ -58,8 +58,8 @@ returns-in-Seq-clause-reads c =
     subst (λ z. Follows k c.args.first (is_close z) mid new) c.in-Close.is c.in_ok-after.ensures.ok.2 in (
       end_token k ∷ [],
       reads_finish _ _ _ _ k c.args.first c.requires.inside (follows_behind k c.args.first true old mid new b p) c.pop.ensures,
-      subst (λ z. DraftTakes (before_child c.args.first) old (end_token z ∷ []) after new d d1) (sym c.in-Seq.is)
-          (takes_array_end (before_child c.args.first) old mid new d d1
+      subst (λ z. DraftTakes (first_or_after c.args.first) old (end_token z ∷ []) after new d d1) (sym c.in-Seq.is)
+          (takes_array_end (first_or_after c.args.first) old mid new d d1
           (skipped d d1 old mid c.in_ok-before.ensures.wrote c.in_ok-before.ensures.only_text)
           (closing_at k c.args.first mid new b.stops p ∙ ap (λ z. closing z ∷ new) c.in-Seq.is)),
     )
@@ -77,8 +77,8 @@ returns-in_ok-close-in-Map-clause-reads c =
     subst (λ z. Follows k c.args.first (is_close z) mid new) c.in-Close.is c.in_ok-after.ensures.ok.2 in (
       end_token k ∷ [],
       reads_finish _ _ _ _ k c.args.first c.requires.inside (follows_behind k c.args.first true old mid new b p) c.pop.ensures,
-      subst (λ z. DraftTakes (before_child c.args.first) old (end_token z ∷ []) after new d c.close.new.self) (sym c.in-Map.is)
-          (takes_object_end (before_child c.args.first) old mid new d d1 c.close.new.self
+      subst (λ z. DraftTakes (first_or_after c.args.first) old (end_token z ∷ []) after new d c.close.new.self) (sym c.in-Map.is)
+          (takes_object_end (first_or_after c.args.first) old mid new d d1 c.close.new.self
           (skipped d d1 old mid c.in_ok-before.ensures.wrote c.in_ok-before.ensures.only_text)
           (closing_at k c.args.first mid new b.stops p ∙ ap (λ z. closing z ∷ new) c.in-Map.is)
           (λ s r. c.in_ok-close-in-Map.ensures mid s r c.in_ok-before.ensures.at)),

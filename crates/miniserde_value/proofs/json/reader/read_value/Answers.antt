@@ -4,7 +4,7 @@
 use Rattle.std.proofs.Common.{◌≡◌, None, Some, is_some, option_map, sym, ap, ◌∙◌}
 use Rattle.std.proofs.lemmas.Result.{err_from_is_err_and}
 use Rattle.miniserde_text.specs.Lexer.{event_of_token}
-use Rattle.miniserde_text.specs.private.Moving.{opened_kind, before_child}
+use Rattle.miniserde_text.specs.private.Moving.{opened_kind, first_or_after}
 use Rattle.miniserde_value.specs.Builders.{hole_in}
 use Rattle.miniserde_value.specs.Hole.{after_begin}
 use Rattle.miniserde_value.specs.Retained.{retained_tree}
@@ -37,9 +37,9 @@ loop-kind-preserved c =
     record {
       going = c.in_ok-first-2.ensures.going;
       unnamed = c.in_ok-first-2.ensures.unnamed;
-      builds = Builds-append c.args.once (before_child (is_some (opened_kind e))) (hole_in c.begin.new.self)
-          c.args.source.now.rest (before_child c.loop-kind.first) (hole_in c.loop-kind.builder)
-          c.loop-kind.source.rest (before_child c.in_ok-first-2.first) (hole_in c.take_children.new.builder)
+      builds = Builds-append c.args.once (first_or_after (is_some (opened_kind e))) (hole_in c.begin.new.self)
+          c.args.source.now.rest (first_or_after c.loop-kind.first) (hole_in c.loop-kind.builder)
+          c.loop-kind.source.rest (first_or_after c.in_ok-first-2.first) (hole_in c.take_children.new.builder)
           c.take_children.new.source.rest c.loop-kind.invariant.builds c.in_ok-first-2.ensures.builds;
     }
 
@@ -50,8 +50,8 @@ returns-in_err-first-2-clause-invalid c = λ x.
     read_none c.args.once e (hole_in c.begin.new.self) c.args.source.now.rest
     (ap (after_begin e) (sym c.new-builder.ensures) ∙ ap (λ z. after_begin z (hole_in c.new-builder.result))
     (sym c.step.ensures) ∙ c.in_ok-first.ensures.ok)
-    (never_behind c.args.once (before_child (is_some (opened_kind e))) (hole_in c.begin.new.self)
-    c.args.source.now.rest (before_child c.loop-kind.first) (hole_in c.loop-kind.builder)
+    (never_behind c.args.once (first_or_after (is_some (opened_kind e))) (hole_in c.begin.new.self)
+    c.args.source.now.rest (first_or_after c.loop-kind.first) (hole_in c.loop-kind.builder)
     c.loop-kind.source.rest c.loop-kind.invariant.builds
     (c.in_err-first-2.ensures.invalid (cc (w.1, w.2, x))))
 

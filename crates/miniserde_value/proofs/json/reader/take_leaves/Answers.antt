@@ -4,7 +4,7 @@ use Rattle.std.proofs.Common.{◌<◌, length, true, false, sym, subst, ◌∙�
 use Rattle.std.proofs.lemmas.Result.{err_from_is_err_and}
 use Rattle.miniserde_model.specs.Lexing.{Follows}
 use Rattle.miniserde_text.specs.Lexer.{is_close}
-use Rattle.miniserde_text.specs.private.Moving.{before_child}
+use Rattle.miniserde_text.specs.private.Moving.{first_or_after}
 use Rattle.miniserde_text.proofs.Consumes.{after_ends}
 use Rattle.miniserde_text.proofs.Starting.{start_less}
 use Rattle.miniserde_read.specs.Events.{event_of, EventInRange}
@@ -20,8 +20,8 @@ pub returns-in_err-after-clause-invalid : goal.returns-in_err-after-clause-inval
 returns-in_err-after-clause-invalid c = λ e.
     let w = err_from_is_err_and c.from_residual.result c.from_residual.ensures.1 in
     let h = hole_in c.loop-source.builder in
-    let m = before_child c.loop-source.first in
-    never_behind c.args.once (before_child c.args.first) (hole_in c.args.builder.now) c.args.source.now.rest m h
+    let m = first_or_after c.loop-source.first in
+    never_behind c.args.once (first_or_after c.args.first) (hole_in c.args.builder.now) c.args.source.now.rest m h
     c.loop-source.source.rest c.loop-source.invariant.builds
     (stuck c.args.once m h _ (after_ends (kinds h) _ c.args.kind c.loop-source.first
     (innermost_of_kinds h ∙ c.loop-source.invariant.inside)
@@ -89,7 +89,7 @@ returns-clause-builds c =
     let p : Follows c.args.kind c.loop-source.first true s c.after.new.self.rest =
     subst (λ z. Follows c.args.kind c.loop-source.first (is_close z) s c.after.new.self.rest) c.in_default.is
     c.in_ok-after.ensures.ok in
-    Builds-append c.args.once _ _ _ (before_child c.loop-source.first) (hole_in c.loop-source.builder) s _ _ _
+    Builds-append c.args.once _ _ _ (first_or_after c.loop-source.first) (hole_in c.loop-source.builder) s _ _ _
     c.loop-source.invariant.builds
     (close_builds c.args.once (hole_in c.loop-source.builder) _ _ _ c.args.kind c.loop-source.first
     c.loop-source.invariant.inside p refl)

@@ -4,7 +4,7 @@
 use Rattle.std.proofs.Common.{ap, sym, refl, ◌∙◌}
 use Rattle.std.specs.Prelude.{◌&&◌}
 use Rattle.std.proofs.lemmas.Result.{err_from_is_err_and}
-use Rattle.miniserde_text.specs.private.Moving.{before_child}
+use Rattle.miniserde_text.specs.private.Moving.{first_or_after}
 use Rattle.miniserde_text.proofs.Consumes.{name_ends}
 use Rattle.miniserde_value.specs.Builders.{hole_in}
 use Rattle.miniserde_value.specs.Hole.{has_member, with_name}
@@ -20,7 +20,7 @@ pub returns-in_err-name-clause-invalid : goal.returns-in_err-name-clause-invalid
 returns-in_err-name-clause-invalid c = λ first s i p e.
     let w = err_from_is_err_and c.from_residual.result c.from_residual.ensures.1 in
     let h = hole_in c.args.builder.now in
-    stuck c.args.once (before_child first) h _
+    stuck c.args.once (first_or_after first) h _
     (name_ends (kinds h) _ _ c.args.kind first (innermost_of_kinds h ∙ i) c.in_default.is p
     (c.in_err-name.ensures.invalid (cc (w.1, w.2, e)) c.requires))
 

@@ -4,7 +4,7 @@ use Rattle.std.proofs.Common.{ap}
 use Rattle.miniserde_model.specs.Tree.{list}
 use Rattle.miniserde_text.specs.Lexer.{event_of_token}
 use Rattle.miniserde_read.proofs.Due.{element_less}
-use Rattle.miniserde_read.proofs.Lists.{list_goes, list_ends}
+use Rattle.miniserde_read.proofs.Lists.{list_goes, closed_list_gives}
 use Rattle.miniserde_read.proofs.from_json.sequences.VecFromJson.read.Goals as goal
 
 pub loop-items-smaller : goal.loop-items-smaller
@@ -18,5 +18,5 @@ loop-items-preserved g c = record {
 
 pub returns-clause-ok : goal.returns-clause-ok
 returns-clause-ok g c =
-    let d = list_ends _ c.loop-items.invariant.goes (rw c.in_default-2.is at c.in_ok-item.ensures.ok) in
+    let d = closed_list_gives _ c.loop-items.invariant.goes (rw c.in_default-2.is at c.in_ok-item.ensures.ok) in
     (list d.0, (ap (λ z. event_of_token z c.args.source.now.scratch) c.in-SeqStart.is, d.1), d.2)

@@ -5,7 +5,7 @@ use Rattle.miniserde_model.specs.Bytes.{is_space}
 use Rattle.miniserde_model.specs.Value.{Between}
 use Rattle.miniserde_model.specs.Lexing.{BeforeColon}
 use Rattle.miniserde_model.specs.declared.error.Error.TheVariants.{Invalid, Memory}
-use Rattle.miniserde_text.specs.Lexer.{StandsFor}
+use Rattle.miniserde_text.specs.Lexer.{BorrowedIfPlain}
 use Rattle.miniserde_text.specs.private.Reading.{after_run}
 use Rattle.miniserde_text.proofs.Runs.{stands_of}
 use Rattle.miniserde_text.proofs.Tokens.{backslash_behind}
@@ -20,7 +20,7 @@ returns-in-Ok-clause-ok c =
 pub returns-in-Ok-clause-text : goal.returns-in-Ok-clause-text
 returns-in-Ok-clause-text c =
     let from : drop c.after_space-at.result.0 c.self.inside.text.now ≡ after_run is_space c.args.self.now.rest = grind arith in
-    stands_of (BeforeColon (Between 34 (StandsFor c.in-Ok.text) 34)) _
+    stands_of (BeforeColon (Between 34 (BorrowedIfPlain c.in-Ok.text) 34)) _
     (drop c.after_space-at.result.0 c.self.inside.text.now) (drop c.in-Ok.end c.self.inside.text.now) from
     c.in-Ok.ensures.text
 

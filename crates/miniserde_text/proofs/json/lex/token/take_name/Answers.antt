@@ -4,7 +4,7 @@ use Rattle.std.proofs.Common.{◌≡◌, ◌≢◌, Err, ℕ, List, drop, slice_
 use Rattle.std.proofs.lemmas.Result.{err_from_is_err_and}
 use Rattle.miniserde_model.specs.Value.{Between}
 use Rattle.miniserde_model.specs.declared.error.Error.TheVariants.{Invalid, Memory}
-use Rattle.miniserde_text.specs.Lexer.{StandsFor}
+use Rattle.miniserde_text.specs.Lexer.{BorrowedIfPlain}
 use Rattle.miniserde_model.specs.Bytes.{is_space}
 use Rattle.miniserde_text.specs.private.Reading.{after_run}
 use Rattle.miniserde_text.specs.private.Taking.{SpellsUpToQuote, ReachesBackslash}
@@ -71,7 +71,7 @@ returns-clause-text c =
     let colon : slice_index (drop c.after_space-colon.result.0 c.args.text.now) 0 ≡ 58 = grind arith in
     let text = c.in_ok-name.name in
     let rest = (drop c.in_ok-name.end c.args.text.now) in
-    colon_leads (Between 34 (StandsFor text) 34) s rest (drop c.after_space-colon.result.0 c.args.text.now)
+    colon_leads (Between 34 (BorrowedIfPlain text) 34) s rest (drop c.after_space-colon.result.0 c.args.text.now)
     (drop c.index_after-2.result c.args.text.now)
     (string_text text s (drop c.index_after.result c.args.text.now) rest at next c.in_ok-name.ensures.text)
     space colon last
