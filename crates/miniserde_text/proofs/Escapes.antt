@@ -5,7 +5,7 @@ use Rattle.std.proofs.Common.{◌≡◌, ℕ, ◌+◌, ◌*◌, ◌<◌, ◌≤�
 use Rattle.std.proofs.Common.{length, drop, Some, None, refl, ap, sym, subst, ◌∙◌, inl, inr, arith, append_assoc}
 use Rattle.std.proofs.Common.{eqb-true, ltb-true}
 use Rattle.std.specs.Prelude.{◌⊎◌, ◌&&◌, ◌||◌, slice_index, option_and_then, option_map}
-use Rattle.std.specs.Char.{digit_value, IsScalar}
+use Rattle.std.specs.Char.{digit_value, IsScalar, OutOfScalarRange}
 use Rattle.std.proofs.lemmas.Bool.Decides.{nat_tests}
 use Rattle.std.proofs.lemmas.Bool.{true≢false}
 use Rattle.std.proofs.lemmas.List.{get_or_past}
@@ -164,6 +164,19 @@ unicode_takes s c r e =
             h.text ∙ ap (λ x. h.digits ++ x.1) same,
           )
     ]
+
+low_unit : (u : ℕ) → u < 65536 → OutOfScalarRange u → is_high u ≡ false → is_low u ≡ true
+low_unit u small (inl out) high = grind (arith, nat_tests)
+low_unit u small (inr out) high = absurd (omega arith)
+
+-- a code unit that is no character and no high surrogate begins no escape
+pub no_partner : (s : List ℕ) (u : ℕ) (r : List ℕ) → code_unit_at s ≡ Some (u, r) → u < 65536 → OutOfScalarRange u
+    → is_high u ≡ false → unicode_at s ≡ None
+unfolding unicode_at
+no_partner s u r e small out high =
+    ap (option_and_then (λ x. cond (is_high x.0) (low_at x.0 x.1) (cond (is_low x.0) None (Some x)))) e
+    ∙ ap (λ b. cond b (low_at u r) (cond (is_low u) None (Some (u, r)))) high
+    ∙ ap (λ b. cond b None (Some (u, r))) (low_unit u small out high)
 
 short_same : (x c : ℕ) → IsShortEscape x c → (y d : ℕ) → x ≡ y → c ≡ d → IsShortEscape y d
 short_same x c h y d e f = subst (λ z. IsShortEscape z d) e (subst (IsShortEscape x) f h)
