@@ -1,6 +1,6 @@
 //! Decodes the escapes of strings (RFC 8259, section 7).
 ghost use Rattle.std.specs.Prelude.{◌≡◌, ◌++◌, ◌<◌, ◌≤◌, ℕ, true, drop, length, IfSome, IfOk, Some, None, Err};
-ghost use Rattle.std.specs.Char.{digit_value, encode_utf8};
+ghost use Rattle.std.specs.Char.{encode_utf8};
 ghost use Rattle.std.specs.String.{string_bytes};
 ghost use Rattle.miniserde_text.specs.private.Reading.{with_suffix, code_unit_at, is_high, is_low};
 ghost use Rattle.miniserde_text.specs.private.Reading.{begins_unicode_escape, pair_of, low_at, unicode_at, short_at};
@@ -9,16 +9,6 @@ ghost use Rattle.miniserde_text.specs.private.Reading.{escape_at, FollowsAscii};
 use super::bytes::{byte_after, byte_at, index_after};
 use super::tables;
 use miniserde_model::error::{Error, Result};
-
-// Returns the value of a digit of base 36, or 36 if the byte is no such digit. A result below 16 is that of a
-// hexadecimal digit.
-fn digit_value(c: u8) -> u32
-    ensures value { result ≡ digit_value c }
-    ensures ascii { result < 16 → (0 < c) × (c < 128) }
-    ensures small { result ≤ 36 }
-{
-    u32::from(tables::digit(c))
-}
 
 // Takes four hexadecimal digits from `at` on. Returns their value and the index after them, or
 // `None` if they are not there.
@@ -31,12 +21,14 @@ fn take_code_unit(bytes: &[u8], at: usize) -> Option<(u32, usize)>
     if bytes.len() - at < 4 {
         return None;
     }
-    let a = digit_value(byte_after(bytes, at, 0));
-    let b = digit_value(byte_after(bytes, at, 1));
-    let c = digit_value(byte_after(bytes, at, 2));
-    let d = digit_value(byte_after(bytes, at, 3));
-    if a < 16 && b < 16 && c < 16 && d < 16 {
-        Some((a * 4096 + b * 256 + c * 16 + d, index_after(bytes, at, 4)))
+    let a = tables::hex(byte_after(bytes, at, 0));
+    let b = tables::hex(byte_after(bytes, at, 1));
+    let c = tables::hex(byte_after(bytes, at, 2));
+    let d = tables::hex(byte_after(bytes, at, 3));
+    let code = a * 4096 + b * 256 + c * 16 + d;
+    // A byte that is no digit makes the sum larger than any code unit.
+    if code < 65536 {
+        Some((code, index_after(bytes, at, 4)))
     } else {
         None
     }
