@@ -5,7 +5,7 @@ use Rattle.std.proofs.Common.{◌≡◌, ℕ, ◌+◌, ◌*◌, ◌<◌, ◌≤�
 use Rattle.std.proofs.Common.{length, drop, Some, None, refl, ap, sym, subst, ◌∙◌, inl, inr, arith, append_assoc}
 use Rattle.std.proofs.Common.{eqb-true, ltb-true}
 use Rattle.std.specs.Prelude.{◌⊎◌, ◌&&◌, ◌||◌, slice_index, option_and_then, option_map}
-use Rattle.std.specs.Char.{digit_value, IsScalar}
+use Rattle.std.specs.Char.{digit_value, IsScalar, OutOfScalarRange}
 use Rattle.std.proofs.lemmas.Bool.Decides.{nat_tests}
 use Rattle.std.proofs.lemmas.Bool.{true≢false}
 use Rattle.std.proofs.lemmas.List.{get_or_past}
@@ -52,6 +52,51 @@ hex_of c h = ltb-true (digit_value c) 16 h
 
 hex_passes : (c : ℕ) → digit_value c < 16 → is_hex c ≡ true
 hex_passes c h = grind (arith, nat_tests)
+
+small_if : (h : Bool) (v n : ℕ) → n ≡ cond h v 65536 → n < 65536 → (h ≡ true) × (n ≡ v)
+small_if true v n e l = (refl, e)
+small_if false v n e l = absurd (omega (arith, e, l))
+
+small_entry : (c n : ℕ) → n ≡ cond (is_hex c) (digit_value c) 65536 → n < 65536 → (is_hex c ≡ true) × (n ≡ digit_value c)
+small_entry c n e l = small_if (is_hex c) (digit_value c) n e l
+
+hex_entry : (c n : ℕ) → n ≡ cond (is_hex c) (digit_value c) 65536 → is_hex c ≡ true → n < 16
+hex_entry c n e h = omega (arith, e ∙ ap (λ b. cond b (digit_value c) 65536) h, hex_of c h)
+
+-- Each of a, b, c and d is the value of a byte at the front of s if it is a hexadecimal digit, and else 65536. Four digits
+-- make a sum below 65536 (`no_unit`), and other bytes do not (`unit_of`).
+module _ (s : List ℕ) (a b c d : ℕ) (ea : a ≡ cond (is_hex (slice_index s 0)) (digit_value (slice_index s 0)) 65536)
+    (eb : b ≡ cond (is_hex (slice_index s 1)) (digit_value (slice_index s 1)) 65536)
+    (ec : c ≡ cond (is_hex (slice_index s 2)) (digit_value (slice_index s 2)) 65536)
+    (ed : d ≡ cond (is_hex (slice_index s 3)) (digit_value (slice_index s 3)) 65536) where
+  pub unit_of : (r : List ℕ) → r ≡ drop 4 s → a * 4096 + b * 256 + c * 16 + d < 65536
+      → Some (a * 4096 + b * 256 + c * 16 + d, r) ≡ code_unit_at s
+  unit_of r e small =
+      let pa = small_entry (slice_index s 0) a ea (omega (arith, small)) in
+      let pb = small_entry (slice_index s 1) b eb (omega (arith, small)) in
+      let pc = small_entry (slice_index s 2) c ec (omega (arith, small)) in
+      let pd = small_entry (slice_index s 3) d ed (omega (arith, small)) in
+      let same : a * 4096 + b * 256 + c * 16 + d ≡ value_of s = omega (arith, pa.1, pb.1, pc.1, pd.1) in
+      let pair : Some (a * 4096 + b * 256 + c * 16 + d, r) ≡ Some (value_of s, drop 4 s) = cc (same, e) in
+      rw (pa.0, pb.0, pc.0, pd.0) pair
+
+  no_unit_if : (h : Bool) → begins_code_unit s ≡ h → 65536 ≤ a * 4096 + b * 256 + c * 16 + d → None ≡ code_unit_at s
+  no_unit_if false e large = sym (ap (λ h. cond h (Some (value_of s, drop 4 s)) None) e)
+  no_unit_if true e large =
+      let three = and_parts _ (is_hex (slice_index s 3)) e in
+      let two = and_parts _ (is_hex (slice_index s 2)) three.0 in
+      let one = and_parts (is_hex (slice_index s 0)) (is_hex (slice_index s 1)) two.0 in
+      absurd (omega (
+        arith,
+        large,
+        hex_entry (slice_index s 0) a ea one.0,
+        hex_entry (slice_index s 1) b eb one.1,
+        hex_entry (slice_index s 2) c ec two.1,
+        hex_entry (slice_index s 3) d ed three.1,
+      ))
+
+  pub no_unit : 65536 ≤ a * 4096 + b * 256 + c * 16 + d → None ≡ code_unit_at s
+  no_unit large = no_unit_if (begins_code_unit s) refl large
 
 -- four digits of u stand in front
 record TakesUnit (s : List ℕ) (u : ℕ) (r : List ℕ) : Type 0 where
@@ -164,6 +209,19 @@ unicode_takes s c r e =
             h.text ∙ ap (λ x. h.digits ++ x.1) same,
           )
     ]
+
+low_unit : (u : ℕ) → u < 65536 → OutOfScalarRange u → is_high u ≡ false → is_low u ≡ true
+low_unit u small (inl out) high = grind (arith, nat_tests)
+low_unit u small (inr out) high = absurd (omega arith)
+
+-- a code unit that is no character and no high surrogate begins no escape
+pub no_partner : (s : List ℕ) (u : ℕ) (r : List ℕ) → code_unit_at s ≡ Some (u, r) → u < 65536 → OutOfScalarRange u
+    → is_high u ≡ false → unicode_at s ≡ None
+unfolding unicode_at
+no_partner s u r e small out high =
+    ap (option_and_then (λ x. cond (is_high x.0) (low_at x.0 x.1) (cond (is_low x.0) None (Some x)))) e
+    ∙ ap (λ b. cond b (low_at u r) (cond (is_low u) None (Some (u, r)))) high
+    ∙ ap (λ b. cond b None (Some (u, r))) (low_unit u small out high)
 
 short_same : (x c : ℕ) → IsShortEscape x c → (y d : ℕ) → x ≡ y → c ≡ d → IsShortEscape y d
 short_same x c h y d e f = subst (λ z. IsShortEscape z d) e (subst (IsShortEscape x) f h)

@@ -177,39 +177,22 @@ run_ends s t e = let w = run_split is_unescaped s in (w.0, w.2 ∙ ap (λ x. w.0
 pub run_special : (s t : List ℕ) → t ≡ after_run is_unescaped s → is_unescaped (slice_index t 0) ≡ false
 run_special s t e = ap (λ x. is_unescaped (slice_index x 0)) e ∙ run_stops is_unescaped refl s
 
--- an escape and the run of unescaped bytes after it are passed, and their decoded bytes are appended to `old`
-pub escape_adds : (old mid new s : List ℕ) (c : ℕ) (rest next : List ℕ) → escape_at s ≡ Some (c, rest)
-    → next ≡ after_run is_unescaped rest → IsUtf8 rest → IsUtf8 next
-    → mid ≡ old ++ encode_utf8 c → new ≡ mid ++ before rest next → AddsDecoded old new (92 ∷ s) next
-escape_adds old mid new s c rest next e n u v m k =
-    let a = escape_takes s c rest e in
-    let p = piece_passes (92 ∷ a.0) c (92 ∷ s) rest a.1 (ap (λ x. 92 ∷ x) a.2) in
-    let r = run_of rest next n u v in (
-      c ∷ r.0,
-      passes_then (c ∷ []) r.0 (92 ∷ s) rest next p r.1,
-      k ∙ ap (λ x. x ++ before rest next) m ∙ append_assoc old (encode_utf8 c) (before rest next)
-          ∙ ap (λ x. old ++ (encode_utf8 c ++ x)) r.2,
-    )
+-- the text after an escape is no longer than s
+pub escape_shorter : (s : List ℕ) (c : ℕ) (rest : List ℕ) → escape_at s ≡ Some (c, rest) → length rest ≤ length s
+escape_shorter s c rest e = let a = escape_takes s c rest e in omega (arith, ap length a.2 ∙ length-append a.0 rest)
 
--- the text after an escape and the run of unescaped bytes after it is no longer than s
-pub escape_shorter : (s : List ℕ) (c : ℕ) (rest next : List ℕ) → escape_at s ≡ Some (c, rest)
-    → next ≡ after_run is_unescaped rest → length next ≤ length s
-escape_shorter s c rest next e n =
-    let a = escape_takes s c rest e in
-    let b = run_ends rest next n in
-    omega (arith, ap length a.2 ∙ length-append a.0 rest, ap length b.1 ∙ length-append b.0 next)
+-- the run of unescaped bytes is passed, and it is appended to `old`
+pub run_adds : (old new s t : List ℕ) → t ≡ after_run is_unescaped s → IsUtf8 s → IsUtf8 t → new ≡ old ++ before s t
+    → AddsDecoded old new s t
+run_adds old new s t e u v m = let r = run_of s t e u v in (r.0, r.1, m ∙ ap (λ x. old ++ x) r.2)
+
+-- the text after the run is no longer than s
+pub run_shorter : (s t : List ℕ) → t ≡ after_run is_unescaped s → length t ≤ length s
+run_shorter s t e = let b = run_ends s t e in omega (arith, ap length b.1 ∙ length-append b.0 t)
 
 -- with nothing passed, nothing is appended
 pub adds_nil : (old t : List ℕ) → AddsDecoded old old t t
 adds_nil old t = ([], passes_nil t, sym (append-nil old))
-
-adds_then : (a b c t u v : List ℕ) → AddsDecoded a b t u → AddsDecoded b c u v → AddsDecoded a c t v
-adds_then a b c t u v h k = (
-  h.0 ++ k.0,
-  passes_then h.0 k.0 t u v h.1 k.1,
-  k.2 ∙ ap (λ x. x ++ encode_utf8_all k.0) h.2 ∙ append_assoc a _
-      _ ∙ ap (λ x. a ++ x) (sym (encodes-append h.0 k.0)),
-)
 
 -- if the characters ds are passed up to a quote, s spells ds up to that quote
 pub quote_ends : (ds s t : List ℕ) → PassesCharacters ds s t → slice_index t 0 ≡ 34 → SpellsUpToQuote ds s (drop 1 t)
@@ -220,22 +203,36 @@ pub end_refused : (old new s t : List ℕ) → AddsDecoded old new s t → is_un
     → slice_index t 0 ≢ 34 → slice_index t 0 ≢ 92 → (cs r : List ℕ) → SpellsUpToQuote cs s r → ⊥
 end_refused old new s t a special q b cs r h = let back = a.1.back cs r h in no_chars t special q b back.0 r back.2
 
--- if a backslash follows the passed characters, and none are spelled from it up to a quote, s spells none
-pub escape_refused : (old new s t : List ℕ) → AddsDecoded old new s t → slice_index t 0 ≡ 92
-    → ((cs r : List ℕ) → SpellsUpToQuote cs (92 ∷ drop 1 t) r → ⊥) → (cs r : List ℕ) → SpellsUpToQuote cs s r → ⊥
-escape_refused old new s t a e never cs r h =
-    let back = a.1.back cs r h in
-    never back.0 r (subst (λ x. SpellsUpToQuote back.0 x r) (first_byte t 91 e) back.2)
+-- if characters are passed up to t, and none are spelled from it up to a quote, s spells none
+pub rest_refused : (old new s t : List ℕ) → AddsDecoded old new s t → ((cs r : List ℕ) → SpellsUpToQuote cs t r → ⊥)
+    → (cs r : List ℕ) → SpellsUpToQuote cs s r → ⊥
+rest_refused old new s t a never cs r h = let back = a.1.back cs r h in never back.0 r back.2
 
 -- if a quote follows the passed characters, s spells them up to it, and `new` is `old` and their bytes
 pub string_of : (old new s t : List ℕ) → AddsDecoded old new s t → slice_index t 0 ≡ 34
     → (cs : List ℕ) × SpellsUpToQuote cs s (drop 1 t) × (new ≡ old ++ encode_utf8_all cs)
 string_of old new s t a e = (a.0, quote_ends a.0 s t a.1 e, a.2)
 
--- if b adds a part to a, and c adds the next one to b, which begins with a backslash, c adds both to a
-pub adds_escape : (a b c s t u : List ℕ) → AddsDecoded a b s t → slice_index t 0 ≡ 92
-    → AddsDecoded b c (92 ∷ drop 1 t) u → AddsDecoded a c s u
-adds_escape a b c s t u h e k = adds_then a b c s t u h (subst (λ x. AddsDecoded b c x u) (sym (first_byte t 91 e)) k)
+-- if b adds a part to a, and c adds the next one to b, c adds both to a
+pub adds_then : (a b c t u v : List ℕ) → AddsDecoded a b t u → AddsDecoded b c u v → AddsDecoded a c t v
+adds_then a b c t u v h k = (
+  h.0 ++ k.0,
+  passes_then h.0 k.0 t u v h.1 k.1,
+  k.2 ∙ ap (λ x. x ++ encode_utf8_all k.0) h.2 ∙ append_assoc a _
+      _ ∙ ap (λ x. a ++ x) (sym (encodes-append h.0 k.0)),
+)
+
+-- if b adds a part to a, and then the character of an escape is appended, both are added to a
+pub escape_adds : (a b c s t : List ℕ) (x : ℕ) (u : List ℕ) → AddsDecoded a b s (92 ∷ t) → escape_at t ≡ Some (x, u)
+    → c ≡ b ++ encode_utf8 x → AddsDecoded a c s u
+escape_adds a b c s t x u h e m =
+    let q = escape_takes t x u e in
+    let p = piece_passes (92 ∷ q.0) x (92 ∷ t) u q.1 (ap (λ y. 92 ∷ y) q.2) in
+    adds_then a b c s (92 ∷ t) u h (x ∷ [], p, m ∙ ap (λ y. b ++ y) (sym (append-nil (encode_utf8 x))))
+
+-- a text that begins with a backslash is a backslash and the text after it
+pub at_backslash : (s : List ℕ) (i j : ℕ) → slice_index (drop i s) 0 ≡ 92 → drop j s ≡ drop 1 (drop i s) → drop i s ≡ 92 ∷ drop j s
+at_backslash s i j e n = first_byte (drop i s) 91 e ∙ ap (λ x. 92 ∷ x) (sym n)
 
 -- if the characters ds are passed up to t, and t spells cs up to a quote, s spells ds ++ cs up to that quote
 pub join_chars : (ds cs s t r : List ℕ) → PassesCharacters ds s t → SpellsUpToQuote cs t r → SpellsUpToQuote (ds ++ cs) s r

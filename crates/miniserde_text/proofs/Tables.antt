@@ -1,15 +1,15 @@
 -- Each table contains, for each byte, the value of the function that it tabulates. All 256 entries are compared by
 -- computation (`alike`).
-use Rattle.std.proofs.Common.{◌≡◌, ℕ, zero, suc, ◌-◌, ◌<◌, ◌==◌, Bool, true, false, cond, ◌&&◌, T, eqb, get_or}
-use Rattle.std.proofs.Common.{if◌then◌else◌, None, Some, refl, inl, inr, arith, eq-zero-or-pos, eqb→eq}
+use Rattle.std.proofs.Common.{◌≡◌, ℕ, zero, suc, ◌-◌, ◌<◌, ◌≤◌, ◌==◌, Bool, true, false, cond, ◌&&◌, T, eqb, get_or}
+use Rattle.std.proofs.Common.{if◌then◌else◌, None, Some, refl, subst, inl, inr, arith, eq-zero-or-pos, eqb→eq}
 use lib.Ieee.Fits.{and_l, and_r}
 use Rattle.std.specs.Prelude.{◌||◌}
 use Rattle.std.specs.Char.{digit_value}
 use Rattle.std.proofs.lemmas.Bool.Decides.{nat_tests}
-use Rattle.miniserde_text.specs.private.Reading.{short_at}
+use Rattle.miniserde_text.specs.private.Reading.{is_hex, short_at}
 use Rattle.miniserde_model.specs.Bytes.{is_number_byte, is_special, is_space}
 use Rattle.miniserde_text.specs.declared.json.lex.bytes.TheConstants.{SPACE}
-use Rattle.miniserde_text.specs.declared.json.lex.tables.TheConstants.{DIGITS, SHORT, NUMBER}
+use Rattle.miniserde_text.specs.declared.json.lex.tables.TheConstants.{HEX, SHORT, NUMBER}
 use Rattle.miniserde_text.specs.declared.scan.TheConstants.{SPECIAL}
 
 abbrev agree : (ℕ → ℕ) → (ℕ → ℕ) → ℕ → Bool
@@ -24,9 +24,25 @@ alike f g (suc n) c t h =
       | inr g' ↦ alike f g n c (and_r _ (agree f g n) t) (omega arith)
     ]
 
--- the entry of `DIGITS` for a byte is its value as a digit
-pub digit_at : (c : ℕ) → c < 256 → get_or DIGITS c 0 ≡ digit_value c
-digit_at c h = alike (λ k. get_or DIGITS k 0) digit_value 256 c tt h
+abbrev hex_entry : ℕ → ℕ
+hex_entry c = if is_hex c then digit_value c else 65536
+
+-- the entry of `HEX` for a byte is its value as a hexadecimal digit, or 65536
+pub hex_at : (c : ℕ) → c < 256 → get_or HEX c 0 ≡ (if is_hex c then digit_value c else 65536)
+hex_at c h = alike (λ k. get_or HEX k 0) hex_entry 256 c tt h
+
+hex_small : (c : ℕ) → hex_entry c ≤ 65536
+hex_small c = grind (arith, nat_tests)
+
+hex_ascii : (c : ℕ) → hex_entry c < 65536 → (0 < c) × (c < 128)
+hex_ascii c h = (grind (arith, nat_tests), grind (arith, nat_tests))
+
+pub hex_at_small : (c : ℕ) → c < 256 → get_or HEX c 0 ≤ 65536
+hex_at_small c h = rw (hex_at c h) (hex_small c)
+
+-- a byte whose entry of `HEX` is below 65536 is ASCII and not 0
+pub hex_at_ascii : (c : ℕ) → c < 256 → get_or HEX c 0 < 65536 → (0 < c) × (c < 128)
+hex_at_ascii c h k = hex_ascii c (subst (λ n. n < 65536) (hex_at c h) k)
 
 one_if : (b : Bool) (n : ℕ) → n ≡ cond b 1 0 → (n == 1) ≡ b
 one_if true n e = rw e refl

@@ -1,22 +1,14 @@
 //! Decodes the escapes of strings (RFC 8259, section 7).
-ghost use Rattle.std.specs.Prelude.{◌≡◌, ◌<◌, ◌≤◌, true, drop, length, IfSome};
-ghost use Rattle.std.specs.Char.{digit_value};
+ghost use Rattle.std.specs.Prelude.{◌≡◌, ◌++◌, ◌<◌, ◌≤◌, ℕ, true, drop, length, IfSome, IfOk, Some, None, Err};
+ghost use Rattle.std.specs.Char.{encode_utf8};
+ghost use Rattle.std.specs.String.{string_bytes};
 ghost use Rattle.miniserde_text.specs.private.Reading.{with_suffix, code_unit_at, is_high, is_low};
 ghost use Rattle.miniserde_text.specs.private.Reading.{begins_unicode_escape, pair_of, low_at, unicode_at, short_at};
 ghost use Rattle.miniserde_text.specs.private.Reading.{escape_at, FollowsAscii};
 
 use super::bytes::{byte_after, byte_at, index_after};
 use super::tables;
-
-// Returns the value of a digit of base 36, or 36 if the byte is no such digit. A result below 16 is that of a
-// hexadecimal digit.
-fn digit_value(c: u8) -> u32
-    ensures value { result ≡ digit_value c }
-    ensures ascii { result < 16 → (0 < c) × (c < 128) }
-    ensures small { result ≤ 36 }
-{
-    u32::from(tables::digit(c))
-}
+use miniserde_model::error::{Error, Result};
 
 // Takes four hexadecimal digits from `at` on. Returns their value and the index after them, or
 // `None` if they are not there.
@@ -29,12 +21,14 @@ fn take_code_unit(bytes: &[u8], at: usize) -> Option<(u32, usize)>
     if bytes.len() - at < 4 {
         return None;
     }
-    let a = digit_value(byte_after(bytes, at, 0));
-    let b = digit_value(byte_after(bytes, at, 1));
-    let c = digit_value(byte_after(bytes, at, 2));
-    let d = digit_value(byte_after(bytes, at, 3));
-    if a < 16 && b < 16 && c < 16 && d < 16 {
-        Some((a * 4096 + b * 256 + c * 16 + d, index_after(bytes, at, 4)))
+    let a = tables::hex(byte_after(bytes, at, 0));
+    let b = tables::hex(byte_after(bytes, at, 1));
+    let c = tables::hex(byte_after(bytes, at, 2));
+    let d = tables::hex(byte_after(bytes, at, 3));
+    let code = a * 4096 + b * 256 + c * 16 + d;
+    // A byte that is no digit makes the sum larger than any code unit.
+    if code < 65536 {
+        Some((code, index_after(bytes, at, 4)))
     } else {
         None
     }
@@ -98,13 +92,14 @@ fn unicode(bytes: &[u8], at: usize) -> Option<(char, usize)>
     ensures follows { IfSome result (λ x. FollowsAscii bytes.now x.1) }
 {
     let (code, end) = take_code_unit(bytes, at)?;
+    if let Some(c) = char::from_u32(code) {
+        return Some((c, end));
+    }
     if is_high(code) {
-        return low(code, bytes, end);
+        low(code, bytes, end)
+    } else {
+        None
     }
-    if is_low(code) {
-        return None;
-    }
-    Some((char::from_u32(code).unwrap(), end))
 }
 
 // Returns the character of a short escape by its letter, or `None` if the letter has none.
@@ -113,20 +108,37 @@ fn short(letter: u8) -> Option<char>
     ensures ascii { IfSome result (λ c. (0 < letter) × (letter < 128)) }
 {
     let c = tables::short(letter);
-    if c == 0 { None } else { Some(c as char) }
+    // No entry is 128 or more, but the compiler learns by the second test that the character is one byte.
+    if 0 < c && c < 128 {
+        Some(c as char)
+    } else {
+        None
+    }
 }
 
-/// Takes an escape whose backslash is the byte before `at`. Returns its character and the index
-/// after it, or `None` if the escape is wrong or a surrogate has no partner.
+/// Takes an escape whose backslash is the byte before `at`, appends its character to the scratch text, and returns the
+/// index after it. Returns `Invalid` if the escape is wrong or a surrogate has no partner, and `Memory` if the scratch
+/// text cannot grow.
+#[inline(always)]
 #[tactic(auto, unfolding(crate::specs::private::Reading::escape_at))]
-pub(super) fn take_escape(bytes: &[u8], at: usize) -> Option<(char, usize)>
-    ensures value { with_suffix bytes.now result ≡ escape_at (drop at bytes.now) }
-    ensures follows { IfSome result (λ x. FollowsAscii bytes.now x.1) }
+pub(super) fn push_escape(text: &str, at: usize, scratch: &mut String) -> Result<usize>
+    ensures ok { IfOk result (λ r. (c : ℕ) × (escape_at (drop at text.now) ≡ Some (c, drop r text.now))
+        × (string_bytes scratch.new ≡ string_bytes scratch.old ++ encode_utf8 c)) }
+    ensures follows { IfOk result (λ r. FollowsAscii text.now r) }
+    ensures invalid { result ≡ Err Error.Invalid → escape_at (drop at text.now) ≡ None }
 {
+    let bytes = text.as_bytes();
     let letter = byte_at(bytes, at);
     if letter == b'u' {
-        return unicode(bytes, index_after(bytes, at, 1));
+        let Some((c, end)) = unicode(bytes, index_after(bytes, at, 1)) else {
+            return Err(Error::Invalid);
+        };
+        scratch.push(c)?;
+        return Ok(end);
     }
-    let c = short(letter)?;
-    Some((c, index_after(bytes, at, 1)))
+    let Some(c) = short(letter) else {
+        return Err(Error::Invalid);
+    };
+    scratch.push(c)?;
+    Ok(index_after(bytes, at, 1))
 }

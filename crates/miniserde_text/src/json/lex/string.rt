@@ -9,7 +9,7 @@ ghost use Rattle.miniserde_text.specs.private.Taking.{SpellsUpToQuote, AddsDecod
 
 use super::Text;
 use super::bytes::{byte_at, index_after, text_between};
-use super::escape::take_escape;
+use super::escape::push_escape;
 use crate::scan::{special, special_in_lanes};
 use miniserde_model::error::{Error, Result};
 use std::alloc::AllocError;
@@ -28,8 +28,8 @@ fn after_unescaped_in_lanes(text: &str, at: usize) -> usize
 }
 
 // Returns the index of the first byte at or after `at` that is a quote, a backslash or below 0x20,
-// or the length of the text. It tests the first byte before any others, since after an escape the
-// next byte often begins another escape.
+// or the length of the text. It tests the first byte alone, since a string often ends behind an
+// escape.
 #[inline(always)]
 fn after_unescaped(text: &str, at: usize) -> usize
     requires { at ≤ length text.now }
@@ -51,46 +51,46 @@ fn push_run(scratch: &mut String, run: &str) -> result::Result<(), AllocError>
     Ok(())
 }
 
-// Takes an escape whose backslash is the byte before `at`, and the run of unescaped bytes after it. Appends both,
-// decoded, to the scratch text, and returns the index after them. Returns `Invalid` if the escape is wrong, and
-// `Memory` if the scratch text cannot grow.
-fn take_run(text: &str, at: usize, scratch: &mut String) -> Result<usize>
+// Takes the run of unescaped bytes at `at`, which may be empty, appends it to the scratch text, and returns the index
+// after it. Fails if the scratch text cannot grow.
+#[inline(always)]
+fn take_run(text: &str, at: usize, scratch: &mut String) -> result::Result<usize, AllocError>
+    requires { FollowsAscii text.now at }
     ensures ok { IfOk result (λ r.
-        AddsDecoded (string_bytes scratch.old) (string_bytes scratch.new) (92 ∷ drop at text.now) (drop r text.now)) }
+        AddsDecoded (string_bytes scratch.old) (string_bytes scratch.new) (drop at text.now) (drop r text.now)) }
     ensures stops { IfOk result (λ r. is_unescaped (slice_index (drop r text.now) 0) ≡ false) }
     ensures shorter { IfOk result (λ r. length (drop r text.now) ≤ length (drop at text.now)) }
-    ensures invalid { result ≡ Err Error.Invalid
-        → (cs r : List ℕ) → SpellsUpToQuote cs (92 ∷ drop at text.now) r → ⊥ }
 {
-    let Some((c, rest)) = take_escape(text.as_bytes(), at) else {
-        return Err(Error::Invalid);
-    };
-    let next = after_unescaped(text, rest);
-    scratch.push(c)?;
-    push_run(scratch, text_between(text, rest, next))?;
+    let next = after_unescaped(text, at);
+    push_run(scratch, text_between(text, at, next))?;
     Ok(next)
 }
 
-// Takes the rest of a string, and appends it, decoded, to the scratch text. At `at` is a backslash, the closing quote,
-// a byte below 0x20, or the end of the text. Returns the index after the closing quote, or `Memory` if the scratch text
-// cannot grow. Returns `Invalid` if an escape is wrong, or if a byte below 0x20 or the end of the text comes before the
-// closing quote.
+// Takes the rest of a string, and appends it, decoded, to the scratch text. The byte before `at` is a backslash.
+// Returns the index after the closing quote, or `Memory` if the scratch text cannot grow. Returns `Invalid` if an
+// escape is wrong, or if a byte below 0x20 or the end of the text comes before the closing quote.
 fn take_escaped(text: &str, at: usize, scratch: &mut String) -> Result<usize>
-    requires { is_unescaped (slice_index (drop at text.now) 0) ≡ false }
-    ensures ok { IfOk result (λ r. (cs : List ℕ) × SpellsUpToQuote cs (drop at text.now) (drop r text.now)
+    ensures ok { IfOk result (λ r. (cs : List ℕ) × SpellsUpToQuote cs (92 ∷ drop at text.now) (drop r text.now)
         × (string_bytes scratch.new ≡ string_bytes scratch.old ++ encode_utf8_all cs)) }
     ensures within { IfOk result (λ r. r ≤ length text.now) }
-    ensures invalid { result ≡ Err Error.Invalid → (cs r : List ℕ) → SpellsUpToQuote cs (drop at text.now) r → ⊥ }
+    ensures invalid { result ≡ Err Error.Invalid
+        → (cs r : List ℕ) → SpellsUpToQuote cs (92 ∷ drop at text.now) r → ⊥ }
 {
     let bytes = text.as_bytes();
-    let mut tail = at;
-    while byte_at(bytes, tail) == b'\\' {
-        tail = take_run(text, index_after(bytes, tail, 1), scratch)?;
-    }
-    if byte_at(bytes, tail) == b'"' {
-        Ok(index_after(bytes, tail, 1))
-    } else {
-        Err(Error::Invalid)
+    let mut next = at;
+    'escapes: loop {
+        let rest = push_escape(text, next, scratch)?;
+        // Another escape often follows at once.
+        if byte_at(bytes, rest) == b'\\' {
+            next = index_after(bytes, rest, 1);
+            continue;
+        }
+        let tail = take_run(text, rest, scratch)?;
+        match byte_at(bytes, tail) {
+            b'\\' => next = index_after(bytes, tail, 1),
+            b'"' => return Ok(index_after(bytes, tail, 1)),
+            _ => return Err(Error::Invalid),
+        }
     }
 }
 
@@ -103,15 +103,15 @@ fn decode(text: &str, at: usize, tail: usize, scratch: &mut String) -> Result<us
     requires follows { FollowsAscii text.now at }
     requires order { at ≤ tail }
     requires boundary { IsCharBoundary text.now tail }
-    requires stops { is_unescaped (slice_index (drop tail text.now) 0) ≡ false }
+    requires backslash { slice_index (drop tail text.now) 0 ≡ 92 }
     ensures ok { IfOk result (λ r. (cs : List ℕ) × SpellsUpToQuote cs (drop tail text.now) (drop r text.now)
         × (string_bytes scratch.new ≡ before (drop at text.now) (drop tail text.now) ++ encode_utf8_all cs)) }
     ensures within { IfOk result (λ r. r ≤ length text.now) }
     ensures invalid { result ≡ Err Error.Invalid → (cs r : List ℕ) → SpellsUpToQuote cs (drop tail text.now) r → ⊥ }
 {
     scratch.clear();
-    scratch.push_str(text_between(text, at, tail))?;
-    take_escaped(text, tail, scratch)
+    push_run(scratch, text_between(text, at, tail))?;
+    take_escaped(text, index_after(text.as_bytes(), tail, 1), scratch)
 }
 
 // Decodes a string by `decode`, with the same arguments and result. It takes the result apart and makes it again, so
@@ -121,7 +121,7 @@ fn take_decoded(text: &str, at: usize, tail: usize, scratch: &mut String) -> Res
     requires follows { FollowsAscii text.now at }
     requires order { at ≤ tail }
     requires boundary { IsCharBoundary text.now tail }
-    requires stops { is_unescaped (slice_index (drop tail text.now) 0) ≡ false }
+    requires backslash { slice_index (drop tail text.now) 0 ≡ 92 }
     ensures ok { IfOk result (λ r. (cs : List ℕ) × SpellsUpToQuote cs (drop tail text.now) (drop r text.now)
         × (string_bytes scratch.new ≡ before (drop at text.now) (drop tail text.now) ++ encode_utf8_all cs)) }
     ensures within { IfOk result (λ r. r ≤ length text.now) }

@@ -1,49 +1,77 @@
--- The invariant says which characters were passed and added. Where the loop ends, a quote ends the string, and any
--- other byte begins no piece.
-use Rattle.std.proofs.Common.{◌≡◌, ◌∷◌, Err, ℕ, List, drop, slice_index, sym, ap, subst, arith}
-use Rattle.std.specs.String.{string_bytes}
+-- The invariant says which characters were passed and added. Each turn adds that of an escape (`escape_adds`) and
+-- those of the run after it. A quote ends the string, and any other byte but a backslash begins no piece.
+use Rattle.std.proofs.Common.{◌≡◌, ◌∷◌, Err, length, drop, slice_index, sym, ap, subst, arith}
 use Rattle.std.proofs.lemmas.Result.{err_from_is_err_and}
 use Rattle.miniserde_model.specs.declared.error.Error.TheVariants.{Invalid}
 use Rattle.miniserde_text.specs.private.Taking.{SpellsUpToQuote, AddsDecoded}
-use Rattle.miniserde_text.proofs.Strings.{adds_nil, adds_escape, end_refused, escape_refused, string_of}
+use Rattle.miniserde_text.proofs.Strings.{adds_nil, adds_then, escape_adds, at_backslash, no_escape, escape_shorter}
+use Rattle.miniserde_text.proofs.Strings.{end_refused, rest_refused, string_of}
 use Rattle.miniserde_text.proofs.json.lex.string.take_escaped.Goals as goal
 
-pub loop-scratch-init : goal.loop-scratch-init
-loop-scratch-init c = record { adds = adds_nil _ _; stops = c.requires }
+pub escapes-init : goal.escapes-init
+escapes-init c = adds_nil _ _
 
-pub returns-in_err-tail-clause-invalid : goal.returns-in_err-tail-clause-invalid
-returns-in_err-tail-clause-invalid c is cs r h =
-    let text = c.args.text.now in
+pub returns-in_err-rest-clause-invalid : goal.returns-in_err-rest-clause-invalid
+returns-in_err-rest-clause-invalid c is cs r h =
     let p = err_from_is_err_and c.from_residual.result c.from_residual.ensures.1 in
-    let e : c.in_err-tail.field-0.0 ≡ Invalid = cc (p.1, p.2) in
-    let at : slice_index (drop c.loop-scratch.tail text) 0 ≡ 92 = grind arith in
-    let next : drop c.index_after.result text ≡ drop 1 (drop c.loop-scratch.tail text) = grind arith in
-    escape_refused _ _ (drop c.args.at text) (drop c.loop-scratch.tail text) c.loop-scratch.invariant.adds at
-    (subst (λ x. (cs r : List ℕ) → SpellsUpToQuote cs (92 ∷ x) r → ⊥) next
-    (c.in_err-tail.ensures.invalid (ap Err e))) cs r h
+    let e : c.in_err-rest.field-0.0 ≡ Invalid = cc (p.1, p.2) in
+    rest_refused _ _ _ _ c.escapes.invariant
+    (no_escape (drop c.escapes.next c.args.text.now) (c.in_err-rest.ensures.invalid (ap Err e))) cs r h
 
-pub loop-scratch-preserved : goal.loop-scratch-preserved
-loop-scratch-preserved c =
+pub escapes-smaller-then-byte_at-eq92 : goal.escapes-smaller-then-byte_at-eq92
+escapes-smaller-then-byte_at-eq92 c =
     let text = c.args.text.now in
-    let at : slice_index (drop c.loop-scratch.tail text) 0 ≡ 92 = grind arith in
-    let next : drop c.index_after.result text ≡ drop 1 (drop c.loop-scratch.tail text) = grind arith in
-    record {
-      adds = adds_escape _ _ _ (drop c.args.at text) (drop c.loop-scratch.tail text) _ c.loop-scratch.invariant.adds
-          at (subst (λ x. AddsDecoded (string_bytes c.loop-scratch.scratch) (string_bytes c.take_run.new.scratch)
-          (92 ∷ x) (drop c.in_ok-tail.tail text)) next c.in_ok-tail.ensures.ok);
-      stops = c.in_ok-tail.ensures.stops;
-    }
+    let e = c.in_ok-rest.ensures.ok in
+    let at : slice_index (drop c.in_ok-rest.rest text) 0 ≡ 92 = grind arith in
+    let next : drop c.index_after-next.result text ≡ drop 1 (drop c.in_ok-rest.rest text) = grind arith in
+    let split = at_backslash text c.in_ok-rest.rest c.index_after-next.result at next in
+    omega (arith, ap length split, escape_shorter (drop c.escapes.next text) e.0 (drop c.in_ok-rest.rest text) e.1)
 
-pub returns-then-byte_at-eq34-clause-ok : goal.returns-then-byte_at-eq34-clause-ok
-returns-then-byte_at-eq34-clause-ok c =
+pub escapes-preserved-then-byte_at-eq92 : goal.escapes-preserved-then-byte_at-eq92
+escapes-preserved-then-byte_at-eq92 c =
     let text = c.args.text.now in
-    let at : slice_index (drop c.loop-scratch.tail text) 0 ≡ 34 = grind arith in
-    let next : drop c.index_after-then-byte_at-eq34.result text ≡ drop 1 (drop c.loop-scratch.tail text) = grind arith in
-    let p = string_of _ _ (drop c.args.at text) (drop c.loop-scratch.tail text) c.loop-scratch.invariant.adds at in
-    (p.0, subst (λ x. SpellsUpToQuote p.0 (drop c.args.at text) x) (sym next) p.1, p.2)
+    let e = c.in_ok-rest.ensures.ok in
+    let at : slice_index (drop c.in_ok-rest.rest text) 0 ≡ 92 = grind arith in
+    let next : drop c.index_after-next.result text ≡ drop 1 (drop c.in_ok-rest.rest text) = grind arith in
+    subst (AddsDecoded _ _ (92 ∷ drop c.args.at text)) (at_backslash text c.in_ok-rest.rest c.index_after-next.result at next)
+    (escape_adds _ _ _ _ (drop c.escapes.next text) e.0 (drop c.in_ok-rest.rest text) c.escapes.invariant e.1 e.2)
 
-pub returns-else-byte_at-eq34-clause-invalid : goal.returns-else-byte_at-eq34-clause-invalid
-returns-else-byte_at-eq34-clause-invalid c is cs r h =
+pub escapes-smaller : goal.escapes-smaller
+escapes-smaller c =
     let text = c.args.text.now in
-    end_refused _ _ (drop c.args.at text) (drop c.loop-scratch.tail text) c.loop-scratch.invariant.adds
-    c.loop-scratch.invariant.stops (λ e. grind arith) (λ e. grind arith) cs r h
+    let e = c.in_ok-rest.ensures.ok in
+    let at : slice_index (drop c.in_ok-tail.tail text) 0 ≡ 92 = grind arith in
+    let next : drop c.index_after-next-in-92.result text ≡ drop 1 (drop c.in_ok-tail.tail text) = grind arith in
+    let split = at_backslash text c.in_ok-tail.tail c.index_after-next-in-92.result at next in
+    let escape = escape_shorter (drop c.escapes.next text) e.0 (drop c.in_ok-rest.rest text) e.1 in
+    omega (arith, ap length split, escape, c.in_ok-tail.ensures.shorter)
+
+pub escapes-preserved : goal.escapes-preserved
+escapes-preserved c =
+    let text = c.args.text.now in
+    let e = c.in_ok-rest.ensures.ok in
+    let at : slice_index (drop c.in_ok-tail.tail text) 0 ≡ 92 = grind arith in
+    let next : drop c.index_after-next-in-92.result text ≡ drop 1 (drop c.in_ok-tail.tail text) = grind arith in
+    subst (AddsDecoded _ _ (92 ∷ drop c.args.at text)) (at_backslash text c.in_ok-tail.tail c.index_after-next-in-92.result at next)
+    (adds_then _ _ _ _ _ _ (escape_adds _ _ _ _ (drop c.escapes.next text) e.0 (drop c.in_ok-rest.rest text) c.escapes.invariant e.1 e.2)
+    c.in_ok-tail.ensures.ok)
+
+pub returns-in-34-clause-ok : goal.returns-in-34-clause-ok
+returns-in-34-clause-ok c =
+    let text = c.args.text.now in
+    let e = c.in_ok-rest.ensures.ok in
+    let at : slice_index (drop c.in_ok-tail.tail text) 0 ≡ 34 = grind arith in
+    let next : drop c.index_after.result text ≡ drop 1 (drop c.in_ok-tail.tail text) = grind arith in
+    let turn = adds_then _ _ _ _ _ _ (escape_adds _ _ _ _ (drop c.escapes.next text) e.0 (drop c.in_ok-rest.rest text) c.escapes.invariant e.1 e.2)
+    c.in_ok-tail.ensures.ok in
+    let p = string_of _ _ (92 ∷ drop c.args.at text) (drop c.in_ok-tail.tail text) turn at in
+    (p.0, subst (λ x. SpellsUpToQuote p.0 (92 ∷ drop c.args.at text) x) (sym next) p.1, p.2)
+
+pub returns-in_default-clause-invalid : goal.returns-in_default-clause-invalid
+returns-in_default-clause-invalid c is cs r h =
+    let text = c.args.text.now in
+    let e = c.in_ok-rest.ensures.ok in
+    let turn = adds_then _ _ _ _ _ _ (escape_adds _ _ _ _ (drop c.escapes.next text) e.0 (drop c.in_ok-rest.rest text) c.escapes.invariant e.1 e.2)
+    c.in_ok-tail.ensures.ok in
+    end_refused _ _ (92 ∷ drop c.args.at text) (drop c.in_ok-tail.tail text) turn c.in_ok-tail.ensures.stops
+    (λ e. grind arith) (λ e. grind arith) cs r h

@@ -12,11 +12,6 @@ use Rattle.miniserde_text.proofs.Strings.{run_of, run_special, quote_ends, no_ch
 use Rattle.miniserde_text.proofs.Strings.{run_inside, escaped_inside, reaches_backslash}
 use Rattle.miniserde_text.proofs.json.lex.string.take_string.Goals as goal
 
-pub take_decoded-requires-clause-stops : goal.take_decoded-requires-clause-stops
-take_decoded-requires-clause-stops c =
-    run_special (drop c.args.at c.args.text.now) (drop c.after_unescaped_in_lanes-tail.result c.args.text.now)
-    c.after_unescaped_in_lanes-tail.ensures.value
-
 pub text_between-requires-clause-from : goal.text_between-requires-clause-from
 text_between-requires-clause-from c = follows_boundary c.args.text.now c.args.at c.utf8.text c.requires
 
