@@ -11,7 +11,8 @@ use Rattle.miniserde_model.specs.Tree.{tree, Members, no_members, member}
 use Rattle.miniserde_model.specs.Compact.{compact, compact_children, compact_more, compact_members, compact_more_members, string_text}
 use Rattle.miniserde_model.specs.Distinct.{names_distinct, names_distinct_in_children, names_distinct_in_members}
 use Rattle.miniserde_model.specs.Normal.{norm, norm_children, norm_members, with_if_absent, with_if_absent_by, text_cmp, BeginsAbove, Rise}
-use Rattle.miniserde_canonical.specs.CanonicalToken.{CanonicalToken, leaf, name, array_end, object, object_end, tokens, child_tokens, member_tokens}
+use Rattle.miniserde_canonical.specs.CanonicalToken.{CanonicalToken, leaf, name, array_end, object, object_end}
+use Rattle.miniserde_canonical.specs.CanonicalToken.{tokens, child_tokens, member_tokens}
 use Rattle.miniserde_canonical.specs.private.Arranging.{comma_before, Entry, State, start, text_before}
 use Rattle.miniserde_canonical.specs.private.Arranging.{entry_members, members_text, entries_text, count, once_each}
 use Rattle.miniserde_canonical.specs.private.Arranging.{Arranged, Closes, TokenStep, TokenSteps}

@@ -129,5 +129,6 @@ distinct_parts (member n t ms) = ap (λ z. not (has_name n ms) && (names_distinc
     ∙ mixed (not (has_name n ms)) (names_distinct t) (nested_names_distinct ms) (names_once ms)
 
 -- members have distinct names throughout if their trees do and their normal form has as many members
-pub distinct_counted : (ms : Members) → names_distinct_in_members ms ≡ (nested_names_distinct ms && nat_eq (count (norm_members ms)) (count ms))
+pub distinct_counted : (ms : Members) → names_distinct_in_members ms
+    ≡ (nested_names_distinct ms && nat_eq (count (norm_members ms)) (count ms))
 distinct_counted ms = distinct_parts ms ∙ ap (λ z. nested_names_distinct ms && z) (sym (told_by (names_once ms) _ _ (counts_names ms)))

@@ -51,7 +51,8 @@ pub moved_init : {C : Type 0} (e : Step) (f : Bool) (st : List Kind) (s : List �
     → Moved (first_or_after (is_some (opened_kind e))) (with_opened (opened_kind e) []) s at k (first_or_after f) st s
     at k
 moved_init e f st s at k p q =
-    subst (λ z. Moved (first_or_after (is_some (opened_kind e))) (with_opened (opened_kind e) []) s at k (first_or_after z) st s at k) (sym p)
+    subst (λ z. Moved (first_or_after (is_some (opened_kind e))) (with_opened (opened_kind e) []) s at k
+    (first_or_after z) st s at k) (sym p)
     (subst (λ z. Moved (first_or_after (is_some (opened_kind e))) (with_opened (opened_kind e) []) s at k
     (first_or_after (is_some (opened_kind e))) z s at k) (sym q)
     (Moved-none (first_or_after (is_some (opened_kind e))) (with_opened (opened_kind e) []) s at k (live_opened e)))

@@ -95,8 +95,8 @@ module _ {V : Type 0} {m : Meaning V} {begin : List ℕ} where
       (a.0, a.1, a.2 ∙ ap Some (append-nil (map m.content items)))
 
   -- and any children that `begin` spells up to a closing bracket give these contents
-  pub closed_list_gives_no_other : {f : Bool} {s : List ℕ} {items : List V} (b : List ℕ) → ListGoes m begin f s items → Follows Seq f true s b
-      → (ts : Trees) (r : List ℕ) → ElementsAt ts true begin r → each m.from_tree ts ≡ Some (map m.content items)
+  pub closed_list_gives_no_other : {f : Bool} {s : List ℕ} {items : List V} (b : List ℕ) → ListGoes m begin f s items
+      → Follows Seq f true s b → (ts : Trees) (r : List ℕ) → ElementsAt ts true begin r → each m.from_tree ts ≡ Some (map m.content items)
   closed_list_gives_no_other {f} {s} {items} b g h ts r p =
       let a = g.back ts r p in
       a.2 ∙ ap (with m items) (elements_close a.0 f s b r h a.1).0 ∙ ap Some (append-nil (map m.content items))

@@ -186,10 +186,6 @@ pub run_adds : (old new s t : List ℕ) → t ≡ after_run is_unescaped s → I
     → AddsDecoded old new s t
 run_adds old new s t e u v m = let r = run_of s t e u v in (r.0, r.1, m ∙ ap (λ x. old ++ x) r.2)
 
--- the text after the run is no longer than s
-pub run_shorter : (s t : List ℕ) → t ≡ after_run is_unescaped s → length t ≤ length s
-run_shorter s t e = let b = run_ends s t e in omega (arith, ap length b.1 ∙ length-append b.0 t)
-
 -- with nothing passed, nothing is appended
 pub adds_nil : (old t : List ℕ) → AddsDecoded old old t t
 adds_nil old t = ([], passes_nil t, sym (append-nil old))

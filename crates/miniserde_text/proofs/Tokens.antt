@@ -244,7 +244,8 @@ string_text x t s r at e (inside, j, h) = (
 )
 
 -- if t is s after its whitespace, `TokenTakesText` on t gives `TokenBorrowedIfPlain` on s
-pub text_behind : (s t : List ℕ) (e : answer.Event) (r : List ℕ) → t ≡ after_run is_space s → TokenTakesText e t r → TokenBorrowedIfPlain e s r
+pub text_behind : (s t : List ℕ) (e : answer.Event) (r : List ℕ) → t ≡ after_run is_space s → TokenTakesText e t r
+    → TokenBorrowedIfPlain e s r
 text_behind s t event.Null r j h = tt
 text_behind s t (event.Bool b) r j h = tt
 text_behind s t (event.Negative n) r j h = tt

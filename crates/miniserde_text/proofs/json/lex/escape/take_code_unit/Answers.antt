@@ -11,9 +11,11 @@ pub returns-then-code-lt65536-clause-value : goal.returns-then-code-lt65536-clau
 returns-then-code-lt65536-clause-value c =
     let s = drop c.args.at c.args.bytes.now in
     let rest : drop c.index_after.result c.args.bytes.now ≡ drop 4 s = grind arith in
-    unit_of s c.hex-a.result c.hex-b.result c.hex-c.result c.hex-d.result (grind arith) (grind arith) (grind arith) (grind arith) _ rest (omega arith)
+    unit_of s c.hex-a.result c.hex-b.result c.hex-c.result c.hex-d.result (grind arith) (grind arith) (grind arith) (grind arith)
+    _ rest (omega arith)
 
 pub returns-else-code-lt65536-clause-value : goal.returns-else-code-lt65536-clause-value
 returns-else-code-lt65536-clause-value c =
     let s = drop c.args.at c.args.bytes.now in
-    no_unit s c.hex-a.result c.hex-b.result c.hex-c.result c.hex-d.result (grind arith) (grind arith) (grind arith) (grind arith) (omega arith)
+    no_unit s c.hex-a.result c.hex-b.result c.hex-c.result c.hex-d.result (grind arith) (grind arith) (grind arith) (grind arith)
+    (omega arith)

@@ -62,8 +62,8 @@ returns-in-34-clause-ok c =
     let e = c.in_ok-rest.ensures.ok in
     let at : slice_index (drop c.in_ok-tail.tail text) 0 ≡ 34 = grind arith in
     let next : drop c.index_after.result text ≡ drop 1 (drop c.in_ok-tail.tail text) = grind arith in
-    let turn = adds_then _ _ _ _ _ _ (escape_adds _ _ _ _ (drop c.escapes.next text) e.0 (drop c.in_ok-rest.rest text) c.escapes.invariant e.1 e.2)
-    c.in_ok-tail.ensures.ok in
+    let escape = escape_adds _ _ _ _ (drop c.escapes.next text) e.0 (drop c.in_ok-rest.rest text) c.escapes.invariant e.1 e.2 in
+    let turn = adds_then _ _ _ _ _ _ escape c.in_ok-tail.ensures.ok in
     let p = string_of _ _ (92 ∷ drop c.args.at text) (drop c.in_ok-tail.tail text) turn at in
     (p.0, subst (λ x. SpellsUpToQuote p.0 (92 ∷ drop c.args.at text) x) (sym next) p.1, p.2)
 
@@ -71,7 +71,7 @@ pub returns-in_default-clause-invalid : goal.returns-in_default-clause-invalid
 returns-in_default-clause-invalid c is cs r h =
     let text = c.args.text.now in
     let e = c.in_ok-rest.ensures.ok in
-    let turn = adds_then _ _ _ _ _ _ (escape_adds _ _ _ _ (drop c.escapes.next text) e.0 (drop c.in_ok-rest.rest text) c.escapes.invariant e.1 e.2)
-    c.in_ok-tail.ensures.ok in
+    let escape = escape_adds _ _ _ _ (drop c.escapes.next text) e.0 (drop c.in_ok-rest.rest text) c.escapes.invariant e.1 e.2 in
+    let turn = adds_then _ _ _ _ _ _ escape c.in_ok-tail.ensures.ok in
     end_refused _ _ (92 ∷ drop c.args.at text) (drop c.in_ok-tail.tail text) turn c.in_ok-tail.ensures.stops
     (λ e. grind arith) (λ e. grind arith) cs r h
