@@ -35,7 +35,6 @@ pub record AmongGoes (n : ℕ) (begin : List ℕ) (first : Bool) (s : List ℕ) 
   pub some : (m : ℕ) (r : List ℕ) → m + k ≡ n → SomeElements m first s r → SomeElements n true begin r
 
 module _ (n : ℕ) (begin : List ℕ) where
-
   pub among_goes : (f : Bool) (s d : List ℕ) (k : ℕ) → AmongGoes n begin f s k → AnElement f s d → AmongGoes n begin false d (suc k)
   among_goes f s d k g a = record {
     escaped = λ m e p. g.escaped (suc m) (omega (arith, e)) (inr (d, a, p));
