@@ -5,7 +5,6 @@
 ghost use Rattle.std.specs.Prelude.{◌≡◌, ◌++◌, true, false, OnOk, OnErr, IsErrOf};
 ghost use Rattle.miniserde_model.specs.Tree.{Tree};
 ghost use Rattle.miniserde_model.specs.Compact.{compact};
-ghost use Rattle.miniserde_text.specs.Texts.{Extends};
 ghost use Rattle.miniserde_model.specs.InRange.{InRange};
 ghost use Rattle.miniserde_model.specs.declared.error.Error.TheVariants.{Memory};
 
@@ -22,7 +21,7 @@ use miniserde_text::escape::put_name;
 use miniserde_text::json::number::NumberText;
 use std::alloc::{AllocError, Global};
 use std::marker::Model;
-use std::result;
+use std::{mem, result};
 pub use text_value::write_text_value;
 
 /// A leaf, as a writer appends it.
@@ -44,7 +43,10 @@ pub enum Fragment<'a> {
 /// one whole value. A call that fails leaves the text and its room unchanged.
 #[derive(Drop)]
 pub struct Writer {
+    // The text. If a call failed, it is empty and has no capacity, so a call that finds room need not test `refused`.
     text: String,
+    // The text before the call that failed, if a call failed.
+    unfinished: String,
     // Whether the next element or member is the first of its container.
     first: bool,
     // Whether a call failed.
@@ -52,29 +54,19 @@ pub struct Writer {
 }
 
 impl Model for Writer {
-    ghost use Rattle.std.specs.Prelude.{string_bytes, string_capacity};
+    ghost use Rattle.std.specs.Prelude.{◌≡◌, true, string_bytes, string_capacity, if◌then◌else◌};
     ghost use Rattle.miniserde_ser.specs.Writer.{WriterView};
 
     ghost Value = { WriterView };
 
     ghost view = { λ w. record {
-      text = string_bytes w.text;
+      text = if w.refused then string_bytes w.unfinished else string_bytes w.text;
       first = w.first;
       refused = w.refused;
-      capacity = string_capacity w.text;
+      capacity = if w.refused then string_capacity w.unfinished else string_capacity w.text;
     } };
-}
 
-// Appends `text` to `out`, which has no room for it yet. Returns `AllocError` if `out` cannot grow,
-// and leaves it unchanged. The function is kept out of line, since it is seldom called.
-#[inline(never)]
-fn push_growing(out: &mut String, text: &str) -> result::Result<(), AllocError>
-    ensures { Extends out.old text.now result out.new }
-{
-    // A `reserve` that fails leaves the capacity unchanged; the contract of `push_str` does not promise that.
-    out.reserve(text.len())?;
-    out.push_str(text).unwrap();
-    Ok(())
+    ghost invariant = { λ w. w.refused ≡ true → string_capacity w.text ≡ 0 };
 }
 
 impl Writer {
@@ -92,6 +84,7 @@ impl Writer {
         Writer {
             // The contract of `String::new` does not promise a capacity of 0.
             text: String::with_capacity(alloc, 0).unwrap(),
+            unfinished: String::with_capacity(alloc, 0).unwrap(),
             first: true,
             refused: false,
         }
@@ -119,15 +112,29 @@ impl Writer {
     fn append(&mut self, text: &str) -> Result<()>
         ensures { Appends self.old text.now self.old.first result self.new }
     {
-        self.check()?;
-        if self.text.capacity() - self.text.len() >= text.len() {
+        if !text.is_empty() && self.text.capacity() - self.text.len() >= text.len() {
             self.text.push_str(text).unwrap();
             return Ok(());
         }
-        match push_growing(&mut self.text, text) {
+        // The writer has refused already. As `refuse` has an effect, the compiler keeps this test apart from the callers'.
+        match self.append_growing(text) {
             Ok(()) => Ok(()),
             Err(_) => Err(self.refuse()),
         }
+    }
+
+    // Appends a text as `append` does. Kept out of line, since it is seldom called.
+    #[inline(never)]
+    fn append_growing(&mut self, text: &str) -> Result<()>
+        ensures { Appends self.old text.now self.old.first result self.new }
+    {
+        self.check()?;
+        // A `reserve` that fails leaves the capacity unchanged; the contract of `push_str` does not promise that.
+        if self.text.reserve(text.len()).is_err() {
+            return Err(self.refuse());
+        }
+        self.text.push_str(text).unwrap();
+        Ok(())
     }
 
     // Appends the decimal digits of a number. If there is room for the longest number, it copies a
@@ -140,7 +147,6 @@ impl Writer {
         if !has_room(&self.text) {
             return self.append(Buffer::new().format(n));
         }
-        self.check()?;
         put_digits(n, &mut self.text);
         Ok(())
     }
@@ -256,12 +262,27 @@ impl Writer {
     }
 
     /// Makes every later call fail, and returns `Memory`. A value calls it if it fails to allocate memory of its own.
+    #[inline(always)]
     pub fn refuse(&mut self) -> Error
         ensures memory { result ≡ Memory }
         ensures err { self.new ≡ with_refused self.old }
     {
-        self.refused = true;
+        self.set_aside();
         Error::Memory
+    }
+
+    // Makes every later call fail: takes the text and its room away. Kept out of line, so that callers see a small call
+    // and a result that is known.
+    #[cold]
+    #[inline(never)]
+    fn set_aside(&mut self)
+        ensures { self.new ≡ with_refused self.old }
+    {
+        if !self.refused {
+            let empty = String::with_capacity(self.alloc(), 0).unwrap();
+            self.unfinished = mem::replace(&mut self.text, empty);
+            self.refused = true;
+        }
     }
 
     /// Returns the whole text, or `Memory` if a call failed. Allocates nothing.
@@ -274,6 +295,7 @@ impl Writer {
     {
         let Writer {
             text,
+            unfinished: _,
             first: _,
             refused,
         } = self;

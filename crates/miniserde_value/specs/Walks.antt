@@ -12,6 +12,8 @@ use Rattle.miniserde_value.specs.declared.json.walk.Visit.TheVariants as visit
 use Rattle.miniserde_value.specs.declared.json.walk.frames.Frame.{Frame}
 use Rattle.miniserde_value.specs.declared.json.walk.frames.Frame.TheVariants as frame
 use Rattle.miniserde_value.specs.declared.json.walk.frames.Frames.{Frames}
+use Rattle.miniserde_value.specs.declared.json.walk.frames.Part.{Part}
+use Rattle.miniserde_value.specs.declared.json.walk.frames.Part.TheVariants as part
 use Rattle.miniserde_value.specs.declared.json.walk.Walk.{Walk}
 use Rattle.miniserde_value.specs.Numbers.{number_leaf}
 use Rattle.miniserde_value.specs.Values.{content_of}
@@ -53,6 +55,13 @@ stack_left (frame.Object ∷ frames) (o ∷ objects) = members_left o (stack_lef
 abbrev pub frames_left : Frames → List TreeVisit
 frames_left f = stack_left (reverse f.open.items) (reverse f.objects.items)
 
+-- the visits of a part of a container, and then those in `rest`
+abbrev pub part_left : Part → List TreeVisit → List TreeVisit
+part_left (part.Element v) rest = element ∷ visits (content_of v.now) rest
+part_left part.ArrayEnd rest = list_ends ∷ rest
+part_left (part.Member n v) rest = name n.now ∷ visits (content_of v.now) rest
+part_left part.ObjectEnd rest = members_end ∷ rest
+
 -- the visits of the child that is due, if one is, and then those in `rest`
 abbrev pub due_left : Option (Bor Value) → List TreeVisit → List TreeVisit
 due_left None rest = rest
@@ -84,6 +93,13 @@ StackNamesRise (frame.Object ∷ frames) (o ∷ objects) = ValuesNamesRise o × 
 -- the open objects themselves have left it says nothing
 abbrev pub NestedNamesRise : Frames → Type 0
 NestedNamesRise f = StackNamesRise (reverse f.open.items) (reverse f.objects.items)
+
+-- in the child of a part, if it has one, the names of each object strictly rise
+abbrev pub PartNamesRise : Part → Type 0
+PartNamesRise (part.Element v) = IsOrdered (content_of v.now)
+PartNamesRise part.ArrayEnd = ⊤
+PartNamesRise (part.Member n v) = IsOrdered (content_of v.now)
+PartNamesRise part.ObjectEnd = ⊤
 
 -- in the child that is due, the names of each object strictly rise
 abbrev pub DueNamesRise : Option (Bor Value) → Type 0

@@ -6,7 +6,7 @@ ghost use Rattle.miniserde_value.specs.Walks.{visit_of, left, NamesToComeRise};
 
 mod frames;
 
-pub(crate) use self::frames::Frames;
+pub(crate) use self::frames::{Frames, Part};
 use super::array::Array;
 use super::number::Number;
 use super::object::Object;
@@ -112,8 +112,17 @@ impl<'a> Walk<'a> {
         ensures ordered { MatchOption result (NamesToComeRise self.old)
             (λ _. NamesToComeRise self.new → NamesToComeRise self.old) }
     {
-        let (visit, child) = self.frames.next()?;
-        self.due = child;
-        Some(visit)
+        match self.frames.next()? {
+            Part::Element(item) => {
+                self.due = Some(item);
+                Some(Visit::Element)
+            }
+            Part::ArrayEnd => Some(Visit::ArrayEnd),
+            Part::Member(name, value) => {
+                self.due = Some(value);
+                Some(Visit::Name(name))
+            }
+            Part::ObjectEnd => Some(Visit::ObjectEnd),
+        }
     }
 }

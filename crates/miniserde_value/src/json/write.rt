@@ -1,20 +1,20 @@
 //! Writes documents, without recursion.
-ghost use Rattle.std.specs.Prelude.{◌≡◌, ◌++◌, ◌∷◌, List, [], true, false, OnOk, OnErr, IsErrOf};
+ghost use Rattle.std.specs.Prelude.{◌≡◌, ◌++◌, [], true, false, OnOk, OnErr, IsErrOf};
 ghost use Rattle.miniserde_model.specs.InRange.{InRange};
 ghost use Rattle.miniserde_model.specs.Normal.{norm};
 ghost use Rattle.miniserde_model.specs.declared.error.Error.TheVariants.{Memory};
 ghost use Rattle.miniserde_ser.specs.Fragment.{fragment_tree};
 ghost use Rattle.miniserde_value.specs.Numbers.{number_leaf};
 ghost use Rattle.miniserde_value.specs.Values.{content_of, array_content, object_content};
-ghost use Rattle.miniserde_value.specs.Visits.{TreeVisit, visits, visits_text, first_flag_after, VisitsInRange, IsOrdered};
-ghost use Rattle.miniserde_value.specs.Walks.{visit_of, frames_left, NestedNamesRise};
+ghost use Rattle.miniserde_value.specs.Visits.{visits, IsOrdered};
+ghost use Rattle.miniserde_value.specs.Walks.{frames_left, NestedNamesRise};
 ghost use Rattle.miniserde_value.specs.Writes.{Writes};
 
 use super::array::Array;
 use super::number::Number;
 use super::object::Object;
 use super::value::Value;
-use super::walk::{Frames, Visit};
+use super::walk::{Frames, Part};
 use miniserde_model::error::Result;
 use miniserde_ser::ser::{Fragment, Serialize, Writer};
 
@@ -33,32 +33,6 @@ impl Number {
                 Fragment::Text(text)
             }
         }
-    }
-}
-
-// Writes the text of one visit. Returns `Memory` if the writer's text cannot grow or an earlier call failed.
-#[inline(always)]
-fn put(visit: Visit<'_>, w: &mut Writer) -> Result<()>
-    ensures ok { OnOk result ((rest : List TreeVisit) → w.new.text ++ visits_text w.new.first rest
-        ≡ w.old.text ++ visits_text w.old.first (visit_of visit.entry ∷ rest)) }
-    ensures in_range { OnOk result (VisitsInRange (visit_of visit.entry ∷ [])) }
-    ensures first { OnOk result (w.new.first ≡ first_flag_after w.old.first (visit_of visit.entry ∷ [])) }
-    ensures was_running { OnOk result (w.old.refused ≡ false) }
-    ensures unrefused { OnOk result (w.new.refused ≡ false) }
-    ensures memory { OnErr result (IsErrOf result Memory) }
-    ensures err { OnErr result (w.new.refused ≡ true) }
-{
-    match visit {
-        Visit::Null => w.fragment(Fragment::Null),
-        Visit::Bool(b) => w.fragment(Fragment::Bool(b)),
-        Visit::Number(number) => w.fragment(number.fragment()),
-        Visit::String(text) => w.fragment(Fragment::Str(text)),
-        Visit::Array => w.seq(),
-        Visit::Element => w.element(),
-        Visit::ArrayEnd => w.seq_finish(),
-        Visit::Object => w.map(),
-        Visit::Name(name) => w.key_inline(name),
-        Visit::ObjectEnd => w.map_finish(),
     }
 }
 
@@ -126,10 +100,18 @@ fn put_all(mut frames: Frames<'_>, w: &mut Writer) -> Result<()>
     ensures memory { OnErr result (IsErrOf result Memory) }
     ensures err { OnErr result (w.new.refused ≡ true) }
 {
-    while let Some((visit, child)) = frames.next() {
-        put(visit, w)?;
-        if let Some(value) = child {
-            begin_value(value, &mut frames, w)?;
+    while let Some(part) = frames.next() {
+        match part {
+            Part::Element(item) => {
+                w.element()?;
+                begin_value(item, &mut frames, w)?;
+            }
+            Part::ArrayEnd => w.seq_finish()?,
+            Part::Member(name, value) => {
+                w.key_inline(name)?;
+                begin_value(value, &mut frames, w)?;
+            }
+            Part::ObjectEnd => w.map_finish()?,
         }
     }
     Ok(())

@@ -1,11 +1,10 @@
 //! The open containers of a walk, and what is left of each.
-ghost use Rattle.std.specs.Prelude.{◌≡◌, ◌∷◌, [], OnOk, MatchOption};
+ghost use Rattle.std.specs.Prelude.{◌≡◌, [], OnOk, MatchOption};
 ghost use Rattle.std.specs.Slice.Iter.{iter_rest};
-ghost use Rattle.miniserde_value.specs.Walks.{visit_of, items_left, members_left, ItemsNamesRise, ValuesNamesRise};
-ghost use Rattle.miniserde_value.specs.Walks.{frames_left, due_left, NestedNamesRise, DueNamesRise};
+ghost use Rattle.miniserde_value.specs.Walks.{items_left, members_left, ItemsNamesRise, ValuesNamesRise};
+ghost use Rattle.miniserde_value.specs.Walks.{frames_left, part_left, NestedNamesRise, PartNamesRise};
 
 use super::super::value::Value;
-use super::Visit;
 use std::alloc::{AllocError, Global};
 use std::collections::btree_map;
 use std::{result, slice};
@@ -16,6 +15,15 @@ use std::{result, slice};
 pub(crate) enum Frame<'a> {
     Array(slice::Iter<'a, Value>),
     Object,
+}
+
+/// The next part of the innermost open container: a child, an object's with its name, or the end.
+#[derive(Clone, Copy, Drop)]
+pub(crate) enum Part<'a> {
+    Element(&'a Value),
+    ArrayEnd,
+    Member(&'a str, &'a Value),
+    ObjectEnd,
 }
 
 /// The open containers, with the innermost last in each list. The iterators of objects are large, so they have a list
@@ -62,30 +70,29 @@ impl<'a> Frames<'a> {
         Ok(())
     }
 
-    /// Returns the next visit of the innermost open container, and the child to visit after it, if any. Closes the
-    /// container at its end. Returns `None` if no container is open, or if an open object has no iterator, which never
-    /// happens.
+    /// Returns the next part of the innermost open container, and closes the container at its end. The child is not
+    /// opened. Returns `None` if no container is open, or if an open object has no iterator, which never happens.
     #[inline(always)]
-    pub(crate) fn next(&mut self) -> Option<(Visit<'a>, Option<&'a Value>)>
+    pub(crate) fn next(&mut self) -> Option<Part<'a>>
         ensures left { MatchOption result (frames_left self.old ≡ [])
-            (λ next. frames_left self.old ≡ visit_of next.0 ∷ due_left next.1 (frames_left self.new)) }
+            (λ part. frames_left self.old ≡ part_left part (frames_left self.new)) }
         ensures ordered { MatchOption result (NestedNamesRise self.old)
-            (λ next. DueNamesRise next.1 → NestedNamesRise self.new → NestedNamesRise self.old) }
+            (λ part. PartNamesRise part → NestedNamesRise self.new → NestedNamesRise self.old) }
     {
         match self.open.last_mut()? {
             Frame::Array(items) => match items.next() {
-                Some(item) => Some((Visit::Element, Some(item))),
+                Some(item) => Some(Part::Element(item)),
                 None => {
                     self.open.pop();
-                    Some((Visit::ArrayEnd, None))
+                    Some(Part::ArrayEnd)
                 }
             },
             Frame::Object => match self.objects.last_mut()?.next() {
-                Some((name, value)) => Some((Visit::Name(name.as_str()), Some(value))),
+                Some((name, value)) => Some(Part::Member(name.as_str(), value)),
                 None => {
                     self.objects.pop();
                     self.open.pop();
-                    Some((Visit::ObjectEnd, None))
+                    Some(Part::ObjectEnd)
                 }
             },
         }

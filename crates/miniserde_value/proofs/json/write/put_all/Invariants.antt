@@ -5,11 +5,11 @@ use Rattle.miniserde_value.specs.Walks.{frames_left, NestedNamesRise}
 use Rattle.miniserde_value.specs.Writes.{Writes}
 use Rattle.miniserde_value.proofs.json.write.put_all.Given as goal
 
-abbrev pub invariant-loop-visit : goal.invariant-loop-visit
-invariant-loop-visit l = record {
+abbrev pub invariant-loop-part : goal.invariant-loop-part
+invariant-loop-part l = record {
   writes : Writes l.fn.w (frames_left l.fn.frames) l.w (frames_left l.frames);
   ordered : NestedNamesRise l.frames → NestedNamesRise l.fn.frames;
 }
 
-abbrev pub decreases-loop-visit : goal.decreases-loop-visit
-decreases-loop-visit l = length (frames_left l.frames)
+abbrev pub decreases-loop-part : goal.decreases-loop-part
+decreases-loop-part l = length (frames_left l.frames)

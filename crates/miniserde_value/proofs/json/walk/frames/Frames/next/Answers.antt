@@ -27,7 +27,7 @@ returns-in-Some-clause-left c = item_left c.args.self.now.open.items _ _ _ _ _ (
 pub returns-in-Some-clause-ordered : goal.returns-in-Some-clause-ordered
 returns-in-Some-clause-ordered c = item_ordered c.args.self.now.open.items _ _ _ _ _ (gave_item c)
 
-gave_member : (c : goal.After-t37-1)
+gave_member : (c : goal.After-t33-1)
     → GaveMember c.args.self.now.open.items
     (set c.args.self.now.open.items (vec_len c.args.self.now.open - 1) c.in_ok-items.field-0.now)
     c.args.self.now.objects.items
