@@ -29,8 +29,8 @@ macro_rules! value_of {
         }
     };
 
-    // Pushes the items to the array `$array`, one by one. An item of one token tree is made as `value!` itself makes it;
-    // any other is an expression.
+    // Pushes the items to the array `$array`, one by one. An item of one token tree is made as `value!` itself makes
+    // it; any other is an expression.
     (@items $alloc:ident $out:lifetime $array:ident) => {};
     (@items $alloc:ident $out:lifetime $array:ident $item:tt $(, $($rest:tt)*)?) => {
         let item = $crate::value_of!($alloc $out; $item);

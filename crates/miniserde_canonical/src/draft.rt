@@ -99,8 +99,8 @@ impl<'a> Draft<'a> {
         Ok(())
     }
 
-    /// Takes whitespace, and leaves it out: the run before it is appended to the text, and the next run begins after it.
-    /// Returns how many bytes of the input are left after it. Fails if the text cannot grow.
+    /// Takes whitespace, and leaves it out: the run before it is appended to the text, and the next run begins after
+    /// it. Returns how many bytes of the input are left after it. Fails if the text cannot grow.
     #[inline(always)]
     pub(crate) fn skip(&mut self, lexer: &mut Lexer<'a>) -> Result<usize, AllocError>
         ensures at { IfOk result (λ at. at ≡ length lexer.new.rest) }
@@ -119,9 +119,9 @@ impl<'a> Draft<'a> {
         Ok(end)
     }
 
-    /// Takes the first token of a value, whose span in the input is `span`, and returns the kind of the container that it
-    /// opens. `-0` and a string that was decoded into `scratch` are written anew; any other token stays in the run. Fails
-    /// if an allocation fails.
+    /// Takes the first token of a value, whose span in the input is `span`, and returns the kind of the container that
+    /// it opens. `-0` and a string that was decoded into `scratch` are written anew; any other token stays in the run.
+    /// Fails if an allocation fails.
     #[inline(always)]
     pub(crate) fn token(
         &mut self,
@@ -211,10 +211,9 @@ impl<'a> Draft<'a> {
         Ok(())
     }
 
-    /// Closes the innermost object, and puts its members in order if they are not. Does nothing if no object is open
-    /// (no clause says so).
-    /// `at` is how many bytes of the input are left from its bracket on; the bracket stays in the run. Fails if an
-    /// allocation fails.
+    /// Closes the innermost object. If its names do not strictly rise, puts its members in order, and keeps the last of
+    /// equal names alone. `at` is how many bytes of the input are left from the closing bracket on, which stays in the
+    /// run. Does nothing if no object is open (no clause says so). Fails if an allocation fails.
     pub(crate) fn close(&mut self, at: usize) -> Result<(), AllocError>
         ensures { OnOk result ((rest : List ℕ) (s : State) → Represents self.old rest s → at ≡ length rest
             → (m : State) × Closes s m × Represents self.new rest m) }

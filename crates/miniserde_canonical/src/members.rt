@@ -53,8 +53,9 @@ pub(crate) fn fill(members: &[Member<'_>], order: &mut Vec<usize>) -> Result<(),
     Ok(())
 }
 
-/// Sorts the indices in `order` by the names of their members. The sort is stable, so the last of equal names stays
-/// last (`last`: by r, which tells the indices apart). Fails if the sort fails to allocate.
+/// Sorts the indices in `order` by the names of their members. The sort is stable: of equal names the last index stays
+/// last, even if the sort fails (`last`, where r gives each index a tree, by which it is told from others). Fails if
+/// the sort fails to allocate.
 pub(crate) fn sort(members: &[Member<'_>], order: &mut Vec<usize>) -> Result<(), AllocError>
     ensures sorted { OnOk result (IsSortedByKey (name_in members.now) text_cmp order.new.items) }
     ensures last { (r : ℕ → Tree) (q : List ℕ) → last_of q (members_at members.now r order.new.items)
@@ -112,7 +113,7 @@ pub(crate) fn span_of(members: &[Member<'_>], i: usize, end: Point) -> Span
         return Span { from, to: end };
     }
     let next = &members[i + 1];
-    // The next member of one object is not its first.
+    // If the members are those of one object, `next` is not its first, and a comma stands before it.
     let comma = if next.first { 0 } else { 1 };
     let to = Point {
         bytes: next.point.bytes.saturating_sub(comma),

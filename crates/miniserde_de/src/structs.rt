@@ -10,7 +10,8 @@ pub type Field<T, R> = FieldOf<<T as Deserialize>::Place, T, Plain, R>;
 
 /// A field of the type `T` that takes one member alone, and the fields after it. If its name is a duplicate, and each
 /// value before it was complete and gave one, the second `key` event with that name fails: with `Invalid` if `take` of
-/// no field's place fails for memory (`take_infallible`) and the place keeps no error yet. Of duplicates of other names, and inside of values, it says nothing.
+/// no field's place fails for memory (`take_infallible`) and the place keeps no error yet. Of duplicates of other
+/// names, and inside of values, it says nothing.
 pub type OnceField<T, R> = FieldOf<<T as Deserialize>::Place, T, Once<Plain>, R>;
 
 /// Four fields of these types, and the fields after them.

@@ -54,6 +54,7 @@ pub fn write_fields<M: Members>(
 {
     w.map()?;
     w.key_inline(name)?;
+    // The object of the members, with its brackets.
     write_members(w, names, values)?;
     w.map_finish()
 }

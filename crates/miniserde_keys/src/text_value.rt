@@ -6,8 +6,8 @@ ghost use Rattle.miniserde_model.specs.declared.error.Error.TheVariants.{Memory}
 use miniserde_model::error::Result;
 use std::alloc::Global;
 
-/// A type whose values are written as JSON strings, as an identifier or a date of another crate in a newtype. Its text is
-/// parsed as a value of the same content.
+/// A type whose values are written as JSON strings, as an identifier or a date of another crate in a newtype. Its text
+/// is parsed as a value of the same content.
 pub trait TextValue: Sized + Drop {
     // The content of a value, and the type of that content.
     ghost Content: { Type 0 };

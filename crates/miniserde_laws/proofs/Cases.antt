@@ -15,7 +15,7 @@ use Rattle.miniserde_enum.specs.Tagging.{Tagging, variant_of_tree, variant_tree,
 use Rattle.miniserde_enum.specs.Cases.{CaseReads, UnitReads, DataReads, CaseReal, case_tree, unit_tree, data_tree}
 use Rattle.miniserde_enum.specs.Cases.{UnitFits, DataFits, case_content}
 use Rattle.miniserde_enum.specs.laws.Tagging.{tagging-agrees}
-use Rattle.miniserde_enum.specs.laws.Cases.{alone, cond-some, later-none, same-name, new-first}
+use Rattle.miniserde_enum.specs.laws.Cases.{if_named, cond-some, later-none, same-name, new-first}
 
 -- so many names are distinct
 pub names_distinct : (k : ℕ) (ns : List Name) → are_names k ns ≡ true → are_distinct ns ≡ true
@@ -57,7 +57,7 @@ tagging-apart {A} {B} tagging f g a b h t =
 
 module _ {T W C D : Type 0} (given : Option Tree → Option C) (one : Tagging → Name → Tree → T → Type 0)
     (content : T → C) (one_agrees : (tagging : Tagging) (n : Name) (t : Tree) (x : T) → one tagging n t x
-    ↔ (content_by_tagging tagging (alone given n) t ≡ Some (content x)))
+    ↔ (content_by_tagging tagging (if_named given n) t ≡ Some (content x)))
     (later : List Name → Name → Option Tree → Option D) (reads : Tagging → List Name → Tree → W → Type 0)
     (content_w : W → D) (fresh : (ns : List Name) (n : Name) (o : Option Tree) → is_new n ns ≡ true
     → later ns n o ≡ None) (agrees : (tagging : Tagging) (ns : List Name) → are_distinct ns ≡ true
@@ -66,7 +66,7 @@ module _ {T W C D : Type 0} (given : Option Tree → Option C) (one : Tagging �
   apart : (n : Name) (ns : List Name) (t : Tree) (x : T) (w : W) → is_new n ns ≡ true → are_distinct ns ≡ true
       → one tagging n t x → reads tagging ns t w → ⊥
   apart n ns t x w f d a b =
-      tagging-apart tagging (alone given n) (later ns) (content x) (content_w w)
+      tagging-apart tagging (if_named given n) (later ns) (content x) (content_w w)
       (λ k o p q. later-none given one content one_agrees later reads content_w fresh agrees n ns w k o f
       (cond-some (bytes_eq k n) (given o) (content x) p).0 q)
       t ((one_agrees tagging n t x).0 a) ((agrees tagging ns d t w).0 b)

@@ -24,8 +24,8 @@ pub trait Transparent: Sized {
     ghost unwraps: { (x : Self.Inner) → inner (wrapped x) ≡ x };
 }
 
-/// Does nothing. It promises that the tree of a valid newtype without a check means a valid one, and that each valid one
-/// that it means has that tree.
+/// Does nothing. It promises that the tree of a valid newtype without a check means a valid one, and that each valid
+/// one that it means has that tree.
 pub fn transparent_round_trips<T: RoundTrip, N: Transparent<Inner = T>>()
     ensures { (v : N) → T.real (N.inner v) → RoundTrips (λ w. T.real (N.inner w)) (λ w. T.tree (N.inner w))
         (λ t w. T.means.reads t (N.inner w)) (T.tree (N.inner v)) }
@@ -54,8 +54,8 @@ pub fn checked_lossless<T: Lossless, N: Checked<Inner = T>>()
     T::lossless()
 }
 
-/// Does nothing. It promises that the string of a value whose text is parsed as its content means such a value, and that
-/// each such value that it means has that string.
+/// Does nothing. It promises that the string of a value whose text is parsed as its content means such a value, and
+/// that each such value that it means has that string.
 pub fn text_value_round_trips<T: TextValue>()
     ensures { (v : T) → T.parsed (T.text (T.content v)) ≡ Some (T.content v)
         → RoundTrips (λ w. T.parsed (T.text (T.content w)) ≡ Some (T.content w)) (λ w. str (T.text (T.content w)))

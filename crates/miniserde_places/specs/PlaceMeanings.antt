@@ -132,7 +132,7 @@ abbrev pub option_place_meaning : {P V : Type 0} → PlaceMeaning P V → PlaceM
 option_place_meaning m = place_meaning (option_meaning (type_meaning m)) (option_mean m.from_events)
     (option-meant m.from_events m.from_tree m.events_agree) (λ p. option_view m.from_events m.view p.state)
 
--- the meaning of the place of a box: `place` returns the place of the value inside, which has the
+-- the meaning of the place of a box, a place of the type Q: `place` returns the place of the value inside, which has the
 -- meaning m, and `value` returns the value inside a box
 abbrev pub box_place_meaning : {P Q V W : Type 0} → (Q → P) → (W → V) → PlaceMeaning P V → PlaceMeaning Q W
 box_place_meaning place value m = place_meaning (box_meaning (type_meaning m) value) m.from_events m.events_agree (λ q. m.view (place q))

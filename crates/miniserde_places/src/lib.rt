@@ -1,5 +1,6 @@
-//! The places of std's types, structs, unit enums and newtypes with a check: what collects a value from events. Which type has which place is
-//! said in `miniserde_de`, where the places of documents are too. `VecDeque` and tuples of more than two items have none.
+//! The places of std's types, structs, unit enums and newtypes with a check: what collects a value from events. Which
+//! type has which place is said in `miniserde_de`, where the places of documents are too. `VecDeque` and tuples of more
+//! than two items have none.
 #![tactic(auto)]
 
 mod arrays;

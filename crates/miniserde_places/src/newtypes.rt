@@ -14,8 +14,8 @@ pub trait CheckedLeaf: Checked<Inner: Leaf> {
     ghost same_leaf: { SameMeaning Self.Inner.Leaf.means Self.means };
 }
 
-/// Returns the newtype that the event means, or `Invalid` if it means no value of the inner type that the check accepts.
-/// Returns `Memory` if an allocation fails.
+/// Returns the newtype that the event means, or `Invalid` if it means no value of the inner type that the check
+/// accepts. Returns `Memory` if an allocation fails.
 pub fn checked_from_step<N: CheckedLeaf>(alloc: Global, event: Step<'_>) -> Result<N>
     requires { EventInRange (event_of event) }
     ensures ok { IfOk result (λ v. on_leaf (checked_meaning N.means N.accepts N.inner).from_tree (event_of event.entry)

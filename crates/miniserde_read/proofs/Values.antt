@@ -342,7 +342,8 @@ object_whole es s r h =
           (refl, subst (λ z. MembersAt f.found true s z) (sym n.1) f.at.1);
     }
 
--- if the text runs on as es behind the first token x of a value, the event of x and then es are those of a tree
+-- x is the first token of a value. If the text from s to r spells the events es, which close what x opened, the event of x
+-- and es are the events of a tree, which x and that text spell.
 pub whole_at : (x : lexed.Event) (scratch : List ℕ) (es : List Step) (s r : List ℕ)
     → Runs (first_or_after (is_some (opened_kind (event_of_token x scratch)))) es
     (with_opened (opened_kind (event_of_token x scratch)) []) s r → Whole (event_of_token x scratch) es s r

@@ -10,9 +10,9 @@ use crate::source::Source;
 use miniserde_model::error::{Error, Result};
 use miniserde_text::json::lex::{After, Kind};
 
-/// Reads the value that is due, with its first token: that of a member after its name and colon, an element after
-/// its comma, or a whole text's value. Returns `Invalid` if the text has no prefix that means a value of the type, and `Memory` if an
-/// allocation fails.
+/// Reads the value that is due, with its first token: that of a member after its name and colon, an element after its
+/// comma, or a whole text's value. Returns `Invalid` if the text has no prefix that means a value of the type, and
+/// `Memory` if an allocation fails.
 #[inline(always)]
 pub fn read_due<'a, T: FromJson>(source: &mut Source<'a>) -> Result<T>
     requires { source.old.refused ≡ None }

@@ -45,10 +45,10 @@ pub trait FromJson: Sized + Drop {
     fn missing() -> Option<Self>
         ensures { result ≡ absent };
 
-    /// Reads one value, whose first token is `token`, and takes no more of the source. `token` is the one that was taken
-    /// last (the clause `event` asks only that its number is in range), and the source has no error. Returns `Invalid` if
-    /// no value that begins with this token, and goes on as the source does, means a value of the type. Returns `Memory`
-    /// if an allocation fails.
+    /// Reads one value, whose first token is `token`, and takes no more of the source. `token` is the one that was
+    /// taken last (the clause `event` asks only that its number is in range), and the source has no error. Returns
+    /// `Invalid` if no value that begins with this token, and goes on as the source does, means a value of the type.
+    /// Returns `Memory` if an allocation fails.
     fn read<'a>(token: Event<'a>, source: &mut Source<'a>) -> Result<Self>
         requires going { source.old.refused ≡ None }
         requires event { EventInRange (event_of_token token source.old.scratch) }

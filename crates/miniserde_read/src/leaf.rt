@@ -36,7 +36,8 @@ pub trait Leaf: Drop {
 }
 
 /// Returns the value that the token means, or `Invalid` if it means none of this type, or `Memory` if an allocation
-/// fails. `token` must be the one that was taken last. Takes nothing from the source.
+/// fails. `token` must be the one that was taken last: a text that was decoded is read from the source's scratch text.
+/// Takes nothing from the source.
 #[inline(always)]
 pub fn read_leaf<'a, T: Leaf>(token: Event<'a>, source: &mut Source<'a>) -> Result<T>
     requires { EventInRange (event_of_token token source.old.scratch) }

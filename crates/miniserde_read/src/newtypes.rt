@@ -67,8 +67,8 @@ pub fn read_checked<'a, N: Checked>(token: Event<'a>, source: &mut Source<'a>) -
     }
 }
 
-/// Returns the value that the event means, or `Invalid` if it is no string that is parsed as a content. Returns `Memory`
-/// if an allocation fails.
+/// Returns the value that the event's string is parsed as. Returns `Invalid` if the event is no string, or if its
+/// string is parsed as no value, and `Memory` if an allocation fails.
 pub fn text_value_from_step<T: TextValue>(alloc: Global, event: Step<'_>) -> Result<T>
     ensures ok { IfOk result (λ v. on_leaf (parsed_of T.parsed) (event_of event.entry) ≡ Some (T.content v)) }
     ensures invalid { result ≡ Err Error.Invalid → on_leaf (parsed_of T.parsed) (event_of event.entry) ≡ None }

@@ -162,8 +162,9 @@ impl<'a> Source<'a> {
         }
     }
 
-    /// Returns the text of a name or a string, and borrows nothing of the source: the scratch text is moved out of it. It
-    /// must be the text that the last call took; only `after` and `end` may come between, and one call of this function.
+    /// Returns the text of a name or a string, and borrows nothing of the source: the scratch text is moved out of it.
+    /// It must be the text that the last call took; only `after` and `end` may come between, and one call of this
+    /// function.
     #[inline(always)]
     pub fn take_text(&mut self, text: Text<'a>) -> CowStr<'a>
         ensures text { cow_str_bytes result ≡ text_of text.entry self.old.scratch }

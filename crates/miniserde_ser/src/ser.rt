@@ -116,7 +116,8 @@ impl Writer {
             self.text.push_str(text).unwrap();
             return Ok(());
         }
-        // The writer has refused already. As `refuse` has an effect, the compiler keeps this test apart from the callers'.
+        // The writer has refused already. As `refuse` has an effect, the compiler keeps this test apart from the
+        // callers'.
         match self.append_growing(text) {
             Ok(()) => Ok(()),
             Err(_) => Err(self.refuse()),
@@ -313,8 +314,8 @@ pub trait Serialize {
     ghost tree: { Self → Tree };
 
     /// Appends the whole compact text of the value; the original calls it so. If the next element or member was not the
-    /// first of its container, it still is not. Returns `Memory` if an allocation fails or an earlier call of the writer failed; the writer then
-    /// returns no text.
+    /// first of its container, it still is not. Returns `Memory` if an allocation fails or an earlier call of the
+    /// writer failed; the writer then returns no text.
     fn begin(&self, w: &mut Writer) -> Result<()>
         ensures ok { OnOk result (w.new.text ≡ w.old.text ++ compact (tree self.now)) }
         ensures in_range { OnOk result (InRange (tree self.now)) }

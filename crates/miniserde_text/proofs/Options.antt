@@ -53,7 +53,7 @@ pub first_byte : (t : List ℕ) (c : ℕ) → slice_index t 0 ≡ suc c → t �
 first_byte [] c e = cc
 first_byte (x ∷ xs) c e = ap (λ y. y ∷ xs) e
 
--- a byte that passes a test which 0 fails is there
+-- if the first byte of t passes a test that 0 fails, it is there: t is that byte, and `drop 1 t`
 pub first_of_test : (p : ℕ → Bool) (t : List ℕ) → p 0 ≡ false → p (slice_index t 0) ≡ true → t ≡ slice_index t 0 ∷ drop 1 t
 first_of_test p [] z h = absurd (true≢false (sym h ∙ z))
 first_of_test p (x ∷ xs) z h = refl

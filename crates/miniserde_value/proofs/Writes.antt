@@ -47,7 +47,8 @@ pub record Wrote (t : Tree) (old mid new : WriterView) (left : List TreeVisit) :
   pub begun : Writes old (visits t []) mid left
   pub ended : Writes mid left new []
 
--- if an ordered tree was written, the text grew by the compact text of its normal form
+-- if an ordered tree was written, first its first visit (from `old` to `mid`) and then the visits `left` (from `mid` to
+-- `new`), the text grew by the compact text of its normal form
 pub text_wrote : (t : Tree) (old mid new : WriterView) (left : List TreeVisit) → Wrote t old mid new left
     → IsOrdered t → new.text ≡ old.text ++ compact (norm t)
 text_wrote t old mid new left w o =
@@ -57,7 +58,7 @@ text_wrote t old mid new left w o =
 pub tree_wrote : (t : Tree) (old mid new : WriterView) (left : List TreeVisit) → Wrote t old mid new left → InRange (norm t)
 tree_wrote t old mid new left w = (fronts_tree t [] (w.begun.are_visits (w.ended.are_visits tt))).0
 
--- if the next element or member was not the first before a tree was written, it is not the first after
+-- if the flag `first` of the writer was false before a tree was written, it is false after it
 pub first_wrote : (t : Tree) (old mid new : WriterView) (left : List TreeVisit) → Wrote t old mid new left
     → old.first ≡ false → new.first ≡ false
 first_wrote t old mid new left w e = w.ended.first ∙ w.begun.first ∙ ap (λ b. first_flag_after b (visits t [])) e ∙ first_fronts t []

@@ -42,9 +42,9 @@ pub cond-some : {C : Type 0} (b : Bool) (x : Option C) (c : C) → cond b x None
 cond-some true x c e = (refl, e)
 cond-some false x c e = absurd (cc)
 
--- the content that `given` returns for the data o, if the name k is n
-abbrev pub alone : {C : Type 0} → (Option Tree → Option C) → Name → Name → Option Tree → Option C
-alone given n k o = cond (bytes_eq k n) (given o) None
+-- the content by one name: what `given` returns for the data o if the name k is n, and none if it is another
+abbrev pub if_named : {C : Type 0} → (Option Tree → Option C) → Name → Name → Option Tree → Option C
+if_named given n k o = cond (bytes_eq k n) (given o) None
 
 -- ---- by a name and its data
 
@@ -68,7 +68,7 @@ tagging-none {A} tagging a t =
 -- ---- a variant without data
 
 unit-at : (n k : Name) (o : Option Tree) → (◌≡◌ {A = Option (Name × Option Tree)} (Some (k, o)) (Some (n, None)))
-    ↔ (alone unit_content n k o ≡ Some tt)
+    ↔ (if_named unit_content n k o ≡ Some tt)
 unit-at n k None = (
   λ e. let i : ◌≡◌ {A = Name × Option Tree} (k, None) (n, None) = cc in rw (ap (λ z. z.0) i, same-name n) refl,
   λ e. ap (λ z. Some (z, None)) (is-name k n (cond-some (bytes_eq k n) (Some tt) tt e).0),
@@ -79,13 +79,13 @@ unit-at n k (Some t) = (
 )
 
 unit-found : (n : Name) (o : Option (Name × Option Tree)) → (o ≡ Some (n, None))
-    ↔ (option_and_then (λ s. alone unit_content n s.0 s.1) o ≡ Some tt)
+    ↔ (option_and_then (λ s. if_named unit_content n s.0 s.1) o ≡ Some tt)
 unit-found n None = (λ e. absurd (cc), λ e. absurd (cc))
 unit-found n (Some s) = unit-at n s.0 s.1
 
 -- by the tagging, the tree t is the variant n without data exactly if it gives the content of that variant
 pub unit-agrees : (tagging : Tagging) (n : Name) (t : Tree) (u : Unit {0}) → UnitReads tagging n t u
-    ↔ (content_by_tagging tagging (alone unit_content n) t ≡ Some tt)
+    ↔ (content_by_tagging tagging (if_named unit_content n) t ≡ Some tt)
 unit-agrees tagging n t u =
     let is = tagging-agrees tagging t n None in
     let found = unit-found n (variant_of_tree tagging t) in
@@ -97,7 +97,7 @@ module _ {T C : Type 0} (reads : Tree → T → Type 0) (of : Tree → Option C)
     (agrees : (t : Tree) (x : T) → reads t x ↔ (of t ≡ Some (content x))) where
   data-at : (n k : Name) (o : Option Tree) (x : T)
       → ((u : Tree) × (◌≡◌ {A = Option (Name × Option Tree)} (Some (k, o)) (Some (n, Some u))) × reads u x)
-      ↔ (alone (data_content of) n k o ≡ Some (content x))
+      ↔ (if_named (data_content of) n k o ≡ Some (content x))
   data-at n k None x = (
     λ h. let i : ◌≡◌ {A = Name × Option Tree} (k, None) (n, Some h.0) = cc (h.1) in let j = ap (λ z. z.1) i in absurd (cc),
     λ e. let p = (cond-some (bytes_eq k n) None (content x) e).1 in absurd (cc),
@@ -114,12 +114,12 @@ module _ {T C : Type 0} (reads : Tree → T → Type 0) (of : Tree → Option C)
 
   data-found : (n : Name) (o : Option (Name × Option Tree)) (x : T)
       → ((u : Tree) × (o ≡ Some (n, Some u)) × reads u x)
-      ↔ (option_and_then (λ s. alone (data_content of) n s.0 s.1) o ≡ Some (content x))
+      ↔ (option_and_then (λ s. if_named (data_content of) n s.0 s.1) o ≡ Some (content x))
   data-found n None x = (λ h. let e = h.1 in absurd (cc), λ e. absurd (cc))
   data-found n (Some s) x = data-at n s.0 s.1 x
 
   pub data-agrees : (tagging : Tagging) (n : Name) (t : Tree) (x : T) → DataReads reads tagging n t x
-      ↔ (content_by_tagging tagging (alone (data_content of) n) t ≡ Some (content x))
+      ↔ (content_by_tagging tagging (if_named (data_content of) n) t ≡ Some (content x))
   data-agrees tagging n t x =
       let found = data-found n (variant_of_tree tagging t) x in (
         λ h. found.0 (h.0, (tagging-agrees tagging t n (Some h.0)).0 h.1, h.2),
@@ -130,7 +130,7 @@ module _ {T C : Type 0} (reads : Tree → T → Type 0) (of : Tree → Option C)
 
 module _ {T W C D : Type 0} (given : Option Tree → Option C) (one : Tagging → Name → Tree → T → Type 0)
     (content : T → C) (one_agrees : (tagging : Tagging) (n : Name) (t : Tree) (x : T) → one tagging n t x
-    ↔ (content_by_tagging tagging (alone given n) t ≡ Some (content x)))
+    ↔ (content_by_tagging tagging (if_named given n) t ≡ Some (content x)))
     (later : List Name → Name → Option Tree → Option D) (reads : Tagging → List Name → Tree → W → Type 0)
     (content_w : W → D) (fresh : (ns : List Name) (n : Name) (o : Option Tree) → is_new n ns ≡ true
     → later ns n o ≡ None) (agrees : (tagging : Tagging) (ns : List Name) → are_distinct ns ≡ true
@@ -141,7 +141,7 @@ module _ {T W C D : Type 0} (given : Option Tree → Option C) (one : Tagging �
   case-fresh (m ∷ ms) n o h = let p = new-first n m ms h in rw (p.0, fresh ms n o p.1) refl
 
   first-at : (n : Name) (ns : List Name) (x : T) (k : Name) (o : Option Tree)
-      → (alone given n k o ≡ Some (content x))
+      → (if_named given n k o ≡ Some (content x))
       ↔ (variant_content given later (n ∷ ns) k o ≡ Some (First (content x)))
   first-at n ns x k o = elim (bytes_eq k n)
       as (λ b. (cond b (given o) None ≡ Some (content x))
@@ -185,7 +185,7 @@ module _ {T W C D : Type 0} (given : Option Tree → Option C) (one : Tagging �
   case-agrees tagging [] d t v = (λ h. absurd h, λ e. absurd (tagging-none tagging (case_content content content_w v) t e))
   case-agrees tagging (n ∷ ns) d t (First x) =
       let p = one_agrees tagging n t x in
-      let q = tagging-iff tagging (alone given n) (variant_content given later (n ∷ ns)) (content x)
+      let q = tagging-iff tagging (if_named given n) (variant_content given later (n ∷ ns)) (content x)
       (First (content x)) (first-at n ns x) t in
       (λ h. q.0 (p.0 h), λ e. p.1 (q.1 e))
   case-agrees tagging (n ∷ ns) d t (Later w) =

@@ -137,8 +137,8 @@ impl<C: Collect> Visitor for ContainerPlace<C> {
     ghost take_infallible = { true };
 
     // What each event does to the children. If each child so far gave a value, an event fails that begins a child for
-    // which the collector's `refuses` holds, or that cannot follow the children. A first event that does not open the container, and every event
-    // after its end, is `Invalid`, unless the place keeps an error.
+    // which the collector's `refuses` holds, or that cannot follow the children. A first event that does not open the
+    // container, and every event after its end, is `Invalid`, unless the place keeps an error.
     ghost further = { ContainerSteps C.collector_meaning C.join_infallible };
 
     fn begin(alloc: Global) -> Result<ContainerPlace<C>> {

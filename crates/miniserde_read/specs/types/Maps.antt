@@ -32,10 +32,10 @@ abbrev pub AllAccepted : {C : Type 0} → (Name → Option Key) → (Tree → Op
 AllAccepted read of no_members = ⊤
 AllAccepted read of (member k t ms) = IsSome (read k) × (IsSome (of t) × AllAccepted read of ms)
 
--- the first entry whose key has the code q, if there is one
+-- the first entry whose key has the code q, if there is one; `code_of` returns the code of a key's content
 abbrev pub entry_at : {K V : Type 0} → (K → Key) → Key → List (K × V) → Option (K × V)
-entry_at code q [] = None
-entry_at code q (e ∷ es) = if bytes_eq (code e.0) q then Some e else entry_at code q es
+entry_at code_of q [] = None
+entry_at code_of q (e ∷ es) = if bytes_eq (code_of e.0) q then Some e else entry_at code_of q es
 
 -- There is an entry exactly if there is a pair of a key's content and a tree; then the entry's key has that content, and the
 -- tree means the entry's value by R.

@@ -118,7 +118,8 @@ impl Slots for NoSlot {
     }
 }
 
-// Returns whether a member's name is that of a field. It compares the lengths first, in line: most names differ in them.
+// Returns whether a member's name is that of a field. It compares the lengths first, in line: most names differ in
+// them.
 #[inline(always)]
 fn is_name(name: &str, field: &str) -> bool
     ensures { result ≡ bytes_eq name.now field.now }

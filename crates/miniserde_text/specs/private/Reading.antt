@@ -197,8 +197,8 @@ begins_unicode_escape s = (slice_index s 0 == 92) && (slice_index s 1 == 117)
 abbrev pub pair_of : ℕ → ℕ → ℕ
 pair_of high low = 0x10000 + (high - 0xd800) * 1024 + (low - 0xdc00)
 
--- the character of the surrogate `high` and of the low surrogate whose `\u` escape s begins with,
--- and the text after that escape, if there is one
+-- if s begins with the `\u` escape of a low surrogate: the character of the pair of `high` and that surrogate, and the
+-- text after the escape
 abbrev pub low_at : ℕ → List ℕ → Option (ℕ × List ℕ)
 low_at high s =
     cond (begins_unicode_escape s)

@@ -35,8 +35,8 @@ fn add(alloc: Global, visit: Visit<'_>, builder: &mut Builder) -> Result<()>
     Ok(())
 }
 
-// Hands all visits that a walk has left to the builder, as `add` does. Promises too that in
-// these visits the names of each object strictly rise, as they do in each `Object`. Returns `Memory` if an allocation fails.
+// Hands all visits that a walk has left to the builder, as `add` does. Promises too that in these visits the names of
+// each object strictly rise, as they do in each `Object`. Returns `Memory` if an allocation fails.
 fn add_all(alloc: Global, mut walk: Walk<'_>, builder: &mut Builder) -> Result<()>
     ensures built { OnOk result (hole_in builder.new ≡ hole_after (hole_in builder.old) (left walk.entry)) }
     ensures ordered { OnOk result (NamesToComeRise walk.entry) }

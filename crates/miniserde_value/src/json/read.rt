@@ -27,8 +27,8 @@ impl Leaf for Number {
         match event {
             Step::Negative(n) => Ok(Number::I64(n)),
             Step::Nonnegative(n) => Ok(Number::U64(n)),
-            // A number that is no integer of 64 bits, as its text; `NumberText` takes it without a look, since an event has
-            // such a text.
+            // A number that is no integer of 64 bits, as its text; `NumberText` takes it without a look, since an event
+            // has such a text.
             Step::Float(t) => Ok(Number::Text(NumberText::new_unchecked(alloc, t)?)),
             _ => Err(Error::Invalid),
         }

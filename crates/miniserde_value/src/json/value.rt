@@ -74,9 +74,9 @@ pub fn read_is_normal()
     ensures size { (t : Tree) (v : V) → ReadsValue t v → value_size v ≡ size (norm t) }
 {}
 
-/// Does nothing. It promises that a `Value` contains as many values as the tree that it is written as, if no object in
-/// it has a duplicate name. (The iterators of `Object` say of its own names that they are distinct; no clause says it of
-/// a whole `Value`.)
+/// Does nothing. It promises that a `Value` in which no object has a duplicate name contains as many values as the tree
+/// that it is written as. (The clauses of its iterators say that the names of an `Object` are distinct; no clause says
+/// it of all objects in a `Value`.)
 pub fn size_is_tree_size()
     ensures { (v : V) → names_distinct (content_of v) ≡ true → size (tree_of v) ≡ value_size v }
 {}

@@ -195,10 +195,9 @@ fn leading_digits(bytes: &[u8]) -> (usize, u64)
     (i, value)
 }
 
-// Takes an integer of at most 19 digits in one pass. Returns its token and the index after it, or
-// `None` if there is none, or if it is below -2^63; a number that is kept as its text may still be
-// there. `first` is the byte at `at`. The loop is over a slice that begins with the digits, so that it
-// keeps one counter and not two.
+// Takes an integer of at most 19 digits in one pass. Returns its token and the index after it. Returns `None` if no such
+// integer is there, or if it is below -2^63; a number of another form may still be there. `first` is the byte at `at`.
+// `leading_digits` gets a slice that begins with the digits, so that its loop keeps one counter and not two.
 #[inline(always)]
 fn short_number<'a>(bytes: &[u8], at: usize, first: u8) -> Option<(Event<'a>, usize)>
     requires within { at ≤ length bytes.now }

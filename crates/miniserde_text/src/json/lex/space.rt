@@ -50,8 +50,8 @@ fn search(bytes: &[u8], from: usize) -> usize
     search_bytes(bytes, i)
 }
 
-// Skips whitespace as `after_space` does, 16 bytes at a time. Kept out of line, so that its callers stay small, and cold,
-// so that they save registers for this call alone.
+// Skips whitespace as `after_space` does, 16 bytes at a time. Kept out of line, so that its callers stay small, and
+// cold, so that they save registers for this call alone.
 #[cold]
 #[inline(never)]
 fn after_spaces(bytes: &[u8], at: usize) -> (usize, u8)
