@@ -317,8 +317,8 @@ rewritten d e d' rest part rest' s s' x a r q k l p i n o = record {
   holding = holding_added d' r.bytes s s' x a (keep_holding e d' r.bytes s l (keep_holding d e r.bytes s k r.holding));
 }
 
--- if the next part of the input is what the state gains, the draft stays as it is: the part joins what was read and not yet
--- copied
+-- if the next part of the input is what the state gains, the draft stays as it is: the part joins what was read and not
+-- yet copied
 pub stays : (d : Draft) (rest part rest' : List ℕ) (s s' : State) → Adds part s s' → Represents d rest s
     → rest ≡ part ++ rest' → Represents d rest' s'
 stays d rest part rest' s s' a r e = record {

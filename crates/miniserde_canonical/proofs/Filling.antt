@@ -68,9 +68,9 @@ first_splice a b gs d l h =
 
 -- ---- one span
 
--- A call of `put_span` for a span p with a splice: `out'` is `out` with the bytes of p before the splice, and `later'` is
--- `later` with two spans more, the rest q of p and then the group of the splice. If p holds x and `later` holds y, then
--- `out'` and what `later'` holds are `out` and x and y. bs and ks are the groups' bytes and splices, ms and gs.
+-- A call of `put_span` for a span p with a splice: `out'` is `out` with the bytes of p before the splice, and `later'`
+-- is `later` with two spans more, the rest q of p and then the group of the splice. If p holds x and `later` holds y,
+-- then `out'` and what `later'` holds are `out` and x and y. bs and ks are the groups' bytes and splices, ms and gs.
 pub span_splice : (ms bs : List ℕ) (gs ks : List Splice) (p q : Span) (splice d : Splice) (out part out' : List ℕ)
     (later mid later' : List Span) → bs ≡ ms → ks ≡ gs → p.from.splices < p.to.splices → p.from.splices < length ks
     → splice ≡ get_or ks p.from.splices d

@@ -1,6 +1,6 @@
-//! The part of `miniserde` that reads and writes structs, enums and documents, at the paths of `miniserde`. Whoever lists
-//! this crate alone waits for fewer proofs at the first check. A type that has a law lists the law's crate beside it:
-//! `miniserde_laws` for `RoundTrip`, `Lossless` and `NeverNull`, `miniserde_stored` for `Stable`. Places, canonical
+//! The part of `miniserde` that reads and writes structs, enums and documents, at the paths of `miniserde`. Whoever
+//! lists this crate alone waits for fewer proofs at the first check. A type that has a law lists the law's crate beside
+//! it: `miniserde_laws` for `RoundTrip`, `Lossless` and `NeverNull`, `miniserde_stored` for `Stable`. Places, canonical
 //! texts, `value!`, `laws` and `scan` are in `miniserde`. The items are the same, so a type of this crate's is one of
 //! that crate's too.
 #![tactic(auto)]

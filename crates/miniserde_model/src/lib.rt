@@ -67,8 +67,8 @@ pub fn canonical_texts_equal()
     ensures { CanonicalTextsEqual }
 {}
 
-/// Does nothing. It promises that no text that spells a tree is shorter than the canonical text of that tree, which every
-/// tree of the same normal form shares.
+/// Does nothing. It promises that no text that spells a tree is shorter than the canonical text of that tree, which
+/// every tree of the same normal form shares.
 pub fn canonical_is_shortest()
     ensures { CanonicalIsShortest }
 {}

@@ -86,8 +86,8 @@ module _ {V : Type 0} {m : Meaning V} {begin : List ℕ} where
             );
       }
 
-  -- If the closing bracket is next, with b behind it, then from `begin` to b stand the children ts and the bracket, and ts
-  -- give the contents of the items that were read.
+  -- If the closing bracket is next, with b behind it, then from `begin` to b stand the children ts and the bracket, and
+  -- ts give the contents of the items that were read.
   pub closed_list_gives : {f : Bool} {s : List ℕ} {items : List V} (b : List ℕ) → ListGoes m begin f s items → Follows Seq f true s b
       → (ts : Trees) × ElementsAt ts true begin b × (each m.from_tree ts ≡ Some (map m.content items))
   closed_list_gives {items = items} b g h =

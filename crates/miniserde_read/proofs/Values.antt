@@ -1,6 +1,6 @@
 -- A text goes on as a list of events exactly if it goes on as the trees of these events. From trees to events by
--- recursion over the tree (`value_then_runs`), and back by recursion over the number of events (`find_value`); `value_later`
--- and `whole_at` state both for a value whose first event was taken.
+-- recursion over the tree (`value_then_runs`), and back by recursion over the number of events (`find_value`);
+-- `value_later` and `whole_at` state both for a value whose first event was taken.
 use Rattle.std.proofs.Common.{◌≡◌, ℕ, zero, suc, ◌≤◌, Bool, true, false, is_some, List, [], ◌∷◌, ◌++◌, length, refl}
 use Rattle.std.proofs.Common.{sym, ap, subst, ◌∙◌, append_assoc, arith, length-append}
 use Rattle.miniserde_model.specs.Tree.{Tree, null, truth, nonneg, neg, num, str, list, members, Trees, no_trees}
@@ -342,8 +342,8 @@ object_whole es s r h =
           (refl, subst (λ z. MembersAt f.found true s z) (sym n.1) f.at.1);
     }
 
--- x is the first token of a value. If the text from s to r spells the events es, which close what x opened, the event of x
--- and es are the events of a tree, which x and that text spell.
+-- x is the first token of a value. If the text from s to r spells the events es, which close what x opened, the event
+-- of x and es are the events of a tree, which x and that text spell.
 pub whole_at : (x : lexed.Event) (scratch : List ℕ) (es : List Step) (s r : List ℕ)
     → Runs (first_or_after (is_some (opened_kind (event_of_token x scratch)))) es
     (with_opened (opened_kind (event_of_token x scratch)) []) s r → Whole (event_of_token x scratch) es s r

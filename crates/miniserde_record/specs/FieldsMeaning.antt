@@ -62,8 +62,9 @@ no_fields = record {
   reads_agrees = λ before ns ms v. none-agrees v;
 }
 
--- The meaning of the end of the fields of a `closed` struct. Members with the names of the fields, and of a tag beside them,
--- do not reach it, and each member that does is an error: so members are read if each has one of the names `before`.
+-- The meaning of the end of the fields of a `closed` struct. Members with the names of the fields, and of a tag beside
+-- them, do not reach it, and each member that does is an error: so members are read if each has one of the names
+-- `before`.
 abbrev pub closed_end : FieldsMeaning (Unit {0})
 closed_end = record {
   Content = Unit {0};

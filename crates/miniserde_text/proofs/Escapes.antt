@@ -60,11 +60,12 @@ small_if false v n e l = absurd (omega (arith, e, l))
 small_entry : (c n : ℕ) → n ≡ cond (is_hex c) (digit_value c) 65536 → n < 65536 → (is_hex c ≡ true) × (n ≡ digit_value c)
 small_entry c n e l = small_if (is_hex c) (digit_value c) n e l
 
-hex_entry : (c n : ℕ) → n ≡ cond (is_hex c) (digit_value c) 65536 → is_hex c ≡ true → n < 16
-hex_entry c n e h = omega (arith, e ∙ ap (λ b. cond b (digit_value c) 65536) h, hex_of c h)
+digit_below : (c n : ℕ) → n ≡ cond (is_hex c) (digit_value c) 65536 → is_hex c ≡ true → n < 16
+digit_below c n e h = omega (arith, e ∙ ap (λ b. cond b (digit_value c) 65536) h, hex_of c h)
 
--- Each of a, b, c and d is the value of a byte at the front of s if it is a hexadecimal digit, and else 65536. Four digits
--- make a sum below 65536 (`no_unit`), and other bytes do not (`unit_of`).
+-- Each of a, b, c and d is the value of a byte at the front of s if it is a hexadecimal digit, and else 65536. If their
+-- sum is below 65536, all four are digits and the sum is the code unit (`unit_of`); if not, s begins with none
+-- (`no_unit`).
 module _ (s : List ℕ) (a b c d : ℕ) (ea : a ≡ cond (is_hex (slice_index s 0)) (digit_value (slice_index s 0)) 65536)
     (eb : b ≡ cond (is_hex (slice_index s 1)) (digit_value (slice_index s 1)) 65536)
     (ec : c ≡ cond (is_hex (slice_index s 2)) (digit_value (slice_index s 2)) 65536)
@@ -89,10 +90,10 @@ module _ (s : List ℕ) (a b c d : ℕ) (ea : a ≡ cond (is_hex (slice_index s 
       absurd (omega (
         arith,
         large,
-        hex_entry (slice_index s 0) a ea one.0,
-        hex_entry (slice_index s 1) b eb one.1,
-        hex_entry (slice_index s 2) c ec two.1,
-        hex_entry (slice_index s 3) d ed three.1,
+        digit_below (slice_index s 0) a ea one.0,
+        digit_below (slice_index s 1) b eb one.1,
+        digit_below (slice_index s 2) c ec two.1,
+        digit_below (slice_index s 3) d ed three.1,
       ))
 
   pub no_unit : 65536 ≤ a * 4096 + b * 256 + c * 16 + d → None ≡ code_unit_at s

@@ -1,5 +1,5 @@
--- The mask of the bytes in some lanes that pass a test p shows where a run of bytes that do not pass ends. If the mask is
--- 0, the run continues past the lanes (`through`); else its trailing zeros count up to the first byte that passes
+-- The mask of the bytes in some lanes that pass a test p shows where a run of bytes that do not pass ends. If the mask
+-- is 0, the run continues past the lanes (`through`); else its trailing zeros count up to the first byte that passes
 -- (`stops`).
 use Rattle.std.proofs.Common.{◌≡◌, ℕ, suc, get_or, ◌+◌, ◌*◌, ◌%◌, ◌^◌, ◌<◌, ◌≤◌, ltb, Bool, true, false, not, cond}
 use Rattle.std.proofs.Common.{eqb, List, [], ◌∷◌, map, length, drop, replicate, refl, sym, ap, ap₂, ◌∙◌, arith}

@@ -1,6 +1,6 @@
--- `punctuation_at` takes exactly the closing bracket or the step to the next child that the grammar allows. By cases on the
--- kind and on whether the container was just opened: each step taken is one of the grammar (`follows`), and each one
--- of the grammar is taken (`follows_refused`).
+-- `punctuation_at` takes exactly the closing bracket or the step to the next child that the grammar allows. By cases on
+-- the kind and on whether the container was just opened: each step taken is one of the grammar (`follows`), and each
+-- one of the grammar is taken (`follows_refused`).
 use Rattle.std.proofs.Common.{◌≡◌, ℕ, ◌≤◌, ◌==◌, Bool, true, false, cond, not, List, [], ◌∷◌, ◌++◌, length}
 use Rattle.std.proofs.Common.{length-drop, drop, Option, Some, None, refl, ap, sym, subst, ◌∙◌, inl, inr, arith}
 use Rattle.std.proofs.Common.{eqb-true, append-nil}

@@ -1,6 +1,6 @@
 -- Decoding a string takes exactly the characters that the grammar gives it. A run or an escape passes over some
--- characters and no others (`PassesCharacters`), which composes (`passes_then`); if no piece can begin, there is no string
--- (`no_chars`, `no_escape`).
+-- characters and no others (`PassesCharacters`), which composes (`passes_then`); if no piece can begin, there is no
+-- string (`no_chars`, `no_escape`).
 use Rattle.std.proofs.Common.{◌≡◌, ◌≢◌, ℕ, ◌<◌, ◌≤◌, ◌==◌, nat_lt, Bool, true, false, List, [], ◌∷◌, ◌++◌, length}
 use Rattle.std.proofs.Common.{take, drop, Some, None, refl, ap, sym, subst, ◌∙◌, inl, inr, arith, lt_of_not-le}
 use Rattle.std.proofs.Common.{append_assoc, ltb-true}

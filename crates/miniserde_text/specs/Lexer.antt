@@ -25,8 +25,8 @@ abbrev pub text_of : Text → List ℕ → List ℕ
 text_of (Input s) scratch = s.now
 text_of Scratch scratch = scratch
 
--- The event (`Step`) of a token of the lexer (of the type `Event`); the text of a string that was decoded is the scratch text
--- `scratch`.
+-- The event (`Step`) of a token of the lexer (of the type `Event`); the text of a string that was decoded is the
+-- scratch text `scratch`.
 abbrev pub event_of_token : Event → List ℕ → step.Step
 event_of_token event.Null scratch = step.null
 event_of_token (event.Bool b) scratch = boolean b
@@ -60,8 +60,8 @@ abbrev pub TokenBorrowedIfPlain : Event → List ℕ → List ℕ → Type 0
 TokenBorrowedIfPlain (event.Str t) s r = Stands (Between 34 (BorrowedIfPlain t) 34) s r
 TokenBorrowedIfPlain _ s r = ⊤
 
--- After whitespace, s begins with a name and its colon, r is the text after them, and the name's text t is decoded if the
--- name has a backslash, and else borrowed. What text the name spells is `Names`.
+-- After whitespace, s begins with a name and its colon, r is the text after them, and the name's text t is decoded if
+-- the name has a backslash, and else borrowed. What text the name spells is `Names`.
 abbrev pub NameBorrowedIfPlain : Text → List ℕ → List ℕ → Type 0
 NameBorrowedIfPlain t s r = Stands (BeforeColon (Between 34 (BorrowedIfPlain t) 34)) s r
 

@@ -134,7 +134,7 @@ pub(crate) fn special_in_lanes(bytes: &[u8], from: usize) -> usize
 }
 
 /// Returns the index of the first byte at or after `from` that must be escaped in a string, or the length. It tests
-/// the first byte alone, and then 16 bytes at once, if so many are left.
+/// the first byte by itself, and then 16 bytes at once, if so many are left.
 #[inline(always)]
 pub fn special(bytes: &[u8], from: usize) -> usize
     requires { from ≤ length bytes.now }

@@ -1,8 +1,7 @@
 -- Each step of the reader passes events of the text, and makes the next hole of them. By cases of the event (first
 -- token, element, name, end); `Builds-append` joins the steps, and `read_ok` and `read_none` are the two ends.
 use Rattle.std.proofs.Common.{cond, ◌≡◌, ℕ, Bool, true, false, Option, Some, None, is_some, option_map, List, []}
-use Rattle.std.proofs.Common.{◌∷◌, ◌++◌, ◌≤◌, length, append_assoc, append-nil, refl, sym, ap, subst, ◌∙◌, arith}
-use Rattle.std.proofs.lemmas.List.{length-append}
+use Rattle.std.proofs.Common.{◌∷◌, ◌++◌, append_assoc, append-nil, refl, sym, ap, subst, ◌∙◌}
 use Rattle.std.proofs.Math.Bool.{and-false}
 use Rattle.std.specs.Prelude.{◌&&◌, option_and_then}
 use Rattle.miniserde_model.specs.Tree.{Tree, no_members}
@@ -31,8 +30,8 @@ use Rattle.miniserde_value.specs.private.Builds.{Builds, HoleAdvancesBy, NeverGi
 
 -- ---- the open containers
 
--- The stack of kinds, of which the lexer's lemmas speak, has on top the kind of the hole's innermost container. So what a
--- hole says serves the lemmas on closing brackets, elements and keys.
+-- The stack of kinds, of which the lexer's lemmas speak, has on top the kind of the hole's innermost container. So what
+-- a hole says serves the lemmas on closing brackets, elements and keys.
 pub innermost_of_kinds : (h : Hole) → innermost_kind (kinds h) ≡ (innermost h)
 innermost_of_kinds (outside ts) = refl
 innermost_of_kinds (in_list ts h) = refl
@@ -252,13 +251,6 @@ child_builds once m h s f g t k u e d o l r b n p w q a =
     Builds-append once m h s due k u (first_or_after o) l r
     (Builds-append once m h s (first_or_after f) g t due k u b n)
     (start_builds once k l u r e o p (q ∙ ap (λ z. is_some (opened_kind z)) w) (ap (λ z. after_begin z k) (sym w) ∙ a))
-
--- the text after what stands before a child is no longer than the text
-pub follows_shorter : (k : Kind) (f : Bool) (s r : List ℕ) → Follows k f false s r → length r ≤ length s
-follows_shorter k true s r p =
-    omega (arith, ap length p.0.text, length-append p.0.space (p.0.part ++ r), length-append p.0.part r)
-follows_shorter k false s r p =
-    omega (arith, ap length p.text, length-append p.space (p.part ++ r), length-append p.part r)
 
 -- ---- the innermost container stays
 

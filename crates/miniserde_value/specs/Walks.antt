@@ -89,8 +89,8 @@ StackNamesRise (frame.Array a ∷ frames) objects = ItemsNamesRise a × StackNam
 StackNamesRise (frame.Object ∷ frames) [] = ⊤
 StackNamesRise (frame.Object ∷ frames) (o ∷ objects) = ValuesNamesRise o × StackNamesRise frames objects
 
--- in each child that the open containers of the walk have left, the names of each object strictly rise; of the names that
--- the open objects themselves have left it says nothing
+-- in each child that the open containers of the walk have left, the names of each object strictly rise; of the names
+-- that the open objects themselves have left it says nothing
 abbrev pub NestedNamesRise : Frames → Type 0
 NestedNamesRise f = StackNamesRise (reverse f.open.items) (reverse f.objects.items)
 
@@ -106,7 +106,7 @@ abbrev pub DueNamesRise : Option (Bor Value) → Type 0
 DueNamesRise None = ⊤
 DueNamesRise (Some v) = IsOrdered (content_of v.now)
 
--- in the child that is due and in each child that the open containers have left, the names of each object strictly rise; of
--- the names that the open objects themselves have left it says nothing
+-- in the child that is due and in each child that the open containers have left, the names of each object strictly
+-- rise; of the names that the open objects themselves have left it says nothing
 abbrev pub NamesToComeRise : Walk → Type 0
 NamesToComeRise w = DueNamesRise w.due × NestedNamesRise w.frames

@@ -1,5 +1,5 @@
--- What gives a content is not what gives none, and what gives one as any object is an object. An answer of a path that has
--- one property has another that follows (`weaker`).
+-- What gives a content is not what gives none, and what gives one as any object is an object. An answer of a path that
+-- has one property has another that follows (`weaker`).
 use Rattle.std.proofs.Common.{◌≡◌, Option, Some, None, is_some, true≢false, sym, ap, ◌∙◌, refl}
 use Rattle.std.specs.Prelude.{IsSome, IfOk, IfSome, Result, Ok, Err}
 use Rattle.miniserde.specs.Tree.{Tree, members, Members}

@@ -26,8 +26,9 @@ abbrev pub are_apart : List Name → List Name → Bool
 are_apart before [] = true
 are_apart before (n ∷ ns) = not (is_among before n) && are_apart (before ++ n ∷ []) ns
 
--- The content that a tree gives of a struct that has one field, whose name is listed, if it gives any. If `once` is true,
--- at most one member has the name; `absent` is the content of a missing field, and `of` returns that of a member's tree.
+-- The content that a tree gives of a struct that has one field, whose name is listed, if it gives any. If `once` is
+-- true, at most one member has the name; `absent` is the content of a missing field, and `of` returns that of a
+-- member's tree.
 abbrev pub alone : {C : Type 0} → Bool → Option C → (Tree → Option C) → List Name → Tree → Option (C × Unit {0})
 alone once absent of names = object_of (fields_content once of absent (λ _ _ _. Some (tt {0})) names (None, tt {0}))
 
@@ -59,8 +60,8 @@ FieldIsWrong {C} gives here of names path t = (path ≡ here ++ first_name names
 abbrev pub IsNoMore : Gives → (Gives → Tree → Type 0) → Tree → Type 0
 IsNoMore gives right t = (gives (Unit {0}) any_object t → ⊥) ⊎ right gives t
 
--- The path leads to the field of the first name, which has no value, though it is no object or each field within it has a
--- value by itself (`right`); or to a field within it that is wrong (`inner`). `into` is what stands in the field.
+-- The path leads to the field of the first name, which has no value, though it is no object or each field within it has
+-- a value by itself (`right`); or to a field within it that is wrong (`inner`). `into` is what stands in the field.
 abbrev pub IsWrongWithin : {C : Type 0} → Gives → Gives → (Gives → List Name → List Name → Tree → Type 0) → (Gives → Tree → Type 0)
     → List Name → (List Name → Tree → Option C) → List Name → List Name → Tree → Type 0
 IsWrongWithin gives into inner right here of names path t =
@@ -75,7 +76,8 @@ pub first_apart : (ns : List Name) → are_distinct (first_name ns) ≡ true
 first_apart [] = refl
 first_apart (n ∷ ns) = refl
 
--- If members mean a value of a field (`FieldReads`), the field has one by itself. So they mean none of a field that is wrong.
+-- If members mean a value of a field (`FieldReads`), the field has one by itself. So they mean none of a field that is
+-- wrong.
 pub read_alone : {T : Type 0} (m : Meaning T) (once : Bool) (given : Option Tree) (absent : Option T) (n : Name) (ms : Members) (v : T)
     → FieldReads false once m.reads m.from_tree (MissingReads m given absent) n ms v
     → IsSome (alone once (missing_content m given absent) m.from_tree (n ∷ []) (members ms))
@@ -83,8 +85,8 @@ read_alone m once given absent n ms v h =
     let e = ((field_and once given m absent no_fields).reads_agrees [] (n ∷ []) ms (v, tt {0})).0 (h, tt {0}) in
     subst (λ o. IsSome o) (sym e) refl
 
--- Worked cases: of a required text `a`, an object with a text `a` gives this text, whatever else it has; one whose first of
--- two members `a` is null gives none, and neither does one without the name.
+-- Worked cases: of a required text `a`, an object with a text `a` gives this text, whatever else it has; one whose
+-- first of two members `a` is null gives none, and neither does one without the name.
 pub other_names : alone false None string_of (codes "a" ∷ [])
     (members (member (codes "b") null (member (codes "a") (str (codes "x")) no_members))) ≡ Some (codes "x", tt {0})
 other_names = refl

@@ -17,8 +17,8 @@ use std::alloc::Global;
 
 /// A struct whose fields can be looked for one by one.
 pub trait FieldByField: FromJson {
-    // The last argument but one is a path to the first field that is wrong in the tree. The others are what the place of the
-    // struct gives, and the path to that place.
+    // The last argument but one is a path to the first field that is wrong in the tree. The others are what the place
+    // of the struct gives, and the path to that place.
     ghost wrong: { Gives → List Name → List Name → Tree → Type 0 };
 
     // Each field has a value in the tree, by itself, by what the place of the struct gives.
@@ -46,8 +46,8 @@ pub fn fields_give<S: Record, P: Probes>()
     P::tells()
 }
 
-/// Returns the path to a field that keeps a text from meaning a struct, or `None` if the text means one or is no JSON. The
-/// path is empty if the text is JSON and no object. Returns `Memory` if an allocation fails.
+/// Returns the path to a field that keeps a text from meaning a struct, or `None` if the text means one or is no JSON.
+/// The path is empty if the text is JSON and no object. Returns `Memory` if an allocation fails.
 pub fn wrong_field<S: FieldByField>(alloc: Global, text: &str) -> Result<Option<FieldPath>>
     // The text spells a tree that means no struct, and gives no value for the field at the path, by itself.
     ensures some { IfOk result (λ answer. IfSome answer (λ path. (t : Tree) × IsJson text.now t

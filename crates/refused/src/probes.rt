@@ -26,8 +26,8 @@ pub trait Probes {
     // Which members mean which values of the fields.
     ghost meaning: { FieldsMeaning Self.Values };
 
-    // The last argument but one is a path to the first field that is wrong in the tree. The others are what the place of the
-    // struct gives, the path to that place, and the fields' names.
+    // The last argument but one is a path to the first field that is wrong in the tree. The others are what the place
+    // of the struct gives, the path to that place, and the fields' names.
     ghost wrong: { Gives → List Name → List Name → List Name → Tree → Type 0 };
 
     // Each field has a value in the tree, by itself.

@@ -1,4 +1,5 @@
--- A walk over one route without a parameter compares byte by byte, by induction on the route: so it ends at that path alone.
+-- A walk over one route without a parameter compares byte by byte, by induction on the route: so it ends at that path
+-- alone.
 use Rattle.std.proofs.Common.{◌≡◌, ◌≢◌, ℕ, ◌-◌, ◌==◌, List, [], ◌∷◌, Option, Some, None, is_some, Bool, true, false}
 use Rattle.std.proofs.Common.{refl, sym, ap, subst, ◌∙◌, arith, true≢false}
 use Rattle.std.proofs.lemmas.Bool.Decides.{nat_tests}

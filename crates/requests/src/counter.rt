@@ -24,8 +24,8 @@ pub fn answered(count: u64, call: &Call) -> (Answer, u64)
     }
 }
 
-/// Returns the text of the answer to the call of a body, and the count afterwards. Returns `Invalid` if the body means no
-/// call, and `Memory` if an allocation fails.
+/// Returns the text of the answer to the call of a body, and the count afterwards. Returns `Invalid` if the body means
+/// no call, and `Memory` if an allocation fails.
 pub fn reply(alloc: Global, count: u64, body: &[u8]) -> Result<(String, u64)>
     ensures ok { IfOk result (λ r. IsReply count body.now (string_bytes r.0) r.1) }
     ensures invalid { result ≡ Err Error.Invalid → MeansNoCall body.now }

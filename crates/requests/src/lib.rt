@@ -1,4 +1,5 @@
-//! A counter behind HTTP/1.1: the body of a request is a call, and the body of its answer spells what the counter answers.
+//! A counter behind HTTP/1.1: the body of a request is a call, and the body of its answer spells what the counter
+//! answers.
 #![tactic(auto)]
 
 pub mod answer;

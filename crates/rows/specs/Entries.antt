@@ -112,7 +112,8 @@ texts_of e = (string_bytes e.0, string_bytes e.1)
 abbrev pub words_of : List ℕ × List ℕ → Value × Value
 words_of e = (Words e.0, Words e.1)
 
--- the entries are the keys and bodies of the table's rows, as many times as they are there, in the byte order of the keys
+-- the entries are the keys and bodies of the table's rows, as many times as they are there, in the byte order of the
+-- keys
 pub record AreEntries (db : Database) (entries : List (List ℕ × List ℕ)) : Type 0 where
   pub same : IsPermutation (map (λ row. (key_of row, body_of row)) (db.trees 0)) (map words_of entries)
   pub sorted : IsSortedByKey (λ e. e.0) (slice_cmp nat_cmp) entries

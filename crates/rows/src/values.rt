@@ -71,8 +71,8 @@ pub fn value_of<V: Stable + Lossless>(alloc: Global, text: &str) -> miniserde::R
     Ok(value)
 }
 
-/// Returns the value of a key, or `None` if no row has the key. Returns `Database` if the database fails, and `Json` if the
-/// body means no value or an allocation fails.
+/// Returns the value of a key, or `None` if no row has the key. Returns `Database` if the database fails, and `Json` if
+/// the body means no value or an allocation fails.
 pub fn get<S: Alter, K: Serialize, V: Stable + Lossless>(
     alloc: Global,
     conn: &mut Connection<S>,
@@ -107,8 +107,8 @@ pub fn get<S: Alter, K: Serialize, V: Stable + Lossless>(
     }
 }
 
-/// Puts a value under a key, and reads it back from the database. Returns `Database` if the database fails, and `Json` if
-/// an allocation fails.
+/// Puts a value under a key, and reads it back from the database. Returns `Database` if the database fails, and `Json`
+/// if an allocation fails.
 pub fn put_and_get<S: Alter, K: Serialize, V: Stable + Lossless>(
     alloc: Global,
     conn: &mut Connection<S>,
@@ -137,8 +137,8 @@ pub fn put_and_get<S: Alter, K: Serialize, V: Stable + Lossless>(
     get(alloc, conn, key)
 }
 
-/// Returns all keys with their values, in the byte order of the keys' canonical texts. Returns `Database` if the database
-/// fails, and `Json` if a text means no value or an allocation fails.
+/// Returns all keys with their values, in the byte order of the keys' canonical texts. Returns `Database` if the
+/// database fails, and `Json` if a text means no value or an allocation fails.
 pub fn each<S: Alter, K: Stable + Lossless, V: Stable + Lossless>(
     alloc: Global,
     conn: &mut Connection<S>,

@@ -1,4 +1,5 @@
-//! Keeps the stock of a shop in a file of SQLite: prints what the file has, adds a delivery, and prints what it has then.
+//! Keeps the stock of a shop in a file of SQLite: prints what the file has, adds a delivery, and prints what it has
+//! then.
 #![tactic(auto)]
 
 mod goods;

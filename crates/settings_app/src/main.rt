@@ -11,8 +11,8 @@ use std::process::ExitCode;
 use std::rt::Files;
 use std::{fs, io};
 
-/// Sets the port in the file of a path. No clause of std says which bytes a file gives: what is promised of its text, and
-/// of the text that replaces it, is what `set_port` promises.
+/// Sets the port in the file of a path. No clause of std says which bytes a file gives: what is promised of its text,
+/// and of the text that replaces it, is what `set_port` promises.
 fn change<R: Files + AllocGlobal>(rt: &R, path: &str, port: u16) -> io::Result<Result<(), Fault>> {
     let text = fs::read_to_string(rt, path)?;
     match set_port(rt.alloc(), text.as_str(), port) {

@@ -27,7 +27,8 @@ fn is_canonical(alloc: Global, bytes: &[u8]) -> bool {
     }
 }
 
-/// Returns how many of the 256 bytes leave the document a text when they stand at the place, unless an answer is not its own.
+/// Returns how many of the 256 bytes leave the document a text when they stand at the place, unless an answer is not
+/// its own.
 fn taken_at(alloc: Global, bytes: &mut [u8], at: usize) -> Option<u32> {
     let mut taken = 0u32;
     for byte in 0..=255u8 {

@@ -1,4 +1,5 @@
-//! Types of each form that `./derive` takes, one in another, and their callers, proved without a proof file. Nothing here is for users.
+//! Types of each form that `./derive` takes, one in another, and their callers, proved without a proof file. Nothing
+//! here is for users.
 #![tactic(auto)]
 
 #[cfg(test)]

@@ -1,5 +1,5 @@
-//! Texts and the paths to the field that is wrong. A text that means a server, or is no JSON, has `none`, and one that is
-//! no object has `document`.
+//! Texts and the paths to the field that is wrong. A text that means a server, or is no JSON, has `none`, and one that
+//! is no object has `document`.
 
 use crate::servers::Server;
 use refused::{FieldPath, wrong_field};

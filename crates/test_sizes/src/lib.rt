@@ -1,5 +1,5 @@
-//! Tests of sizes: each call that takes memory, once with more than 65,536 items, members or bytes. No contract refuses a
-//! body that fails to allocate above some size. Each test makes its texts, and the texts that it expects, by itself.
+//! Tests of sizes: each call that takes memory, once with more than 65,536 items, members or bytes. No contract refuses
+//! a body that fails to allocate above some size. Each test makes its texts, and the texts that it expects, by itself.
 #![tactic(auto)]
 
 #[cfg(test)]

@@ -17,8 +17,8 @@ pub const FALLING: Order = (MANY - 1, MANY - 1);
 /// The numbers rise by three, and begin anew below the others.
 pub const MIXED: Order = (3, 7);
 
-/// Returns a text of many parts between its ends, with a comma between two. A part is the first text of `part`, one of the
-/// numbers from 100,000 on, in the order, and the second text of `part`. All numbers have six digits.
+/// Returns a text of many parts between its ends, with a comma between two. A part is the first text of `part`, one of
+/// the numbers from 100,000 on, in the order, and the second text of `part`. All numbers have six digits.
 pub fn numbered(
     alloc: Global,
     ends: (&str, &str),

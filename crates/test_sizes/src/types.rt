@@ -49,7 +49,8 @@ fn many_members_are_read_and_written(rt: HostRuntime) -> std::result::Result<(),
     expect_ok(are_maps(rt.alloc()), "maps")
 }
 
-/// Returns whether long strings are taken: without an escape, with many, and spelled with more than they are written with.
+/// Returns whether long strings are taken: without an escape, with many, and spelled with more than they are written
+/// with.
 fn are_strings(alloc: Global) -> Result<bool> {
     let plain = repeated(alloc, MANY, "\"", "é", "\"")?;
     let escaped = repeated(alloc, MANY, "\"", "\\n", "\"")?;

@@ -1,4 +1,5 @@
-//! Tests of structs in structs, lists and maps, with parameters, with names in a style, and of thirty fields, as users write them. Nothing here is for users.
+//! Tests of structs in structs, lists and maps, with parameters, with names in a style, and of thirty fields, as users
+//! write them. Nothing here is for users.
 #![tactic(auto)]
 
 #[cfg(test)]

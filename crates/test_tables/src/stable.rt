@@ -26,8 +26,8 @@ fn is_one_value<T: Stable + Serialize>(alloc: Global, line: &str) -> Result<bool
     Ok(made.as_str() == expected && value.as_str() == written && other.as_str() == written)
 }
 
-/// Fails with the first line of a table for which a type has not one value, if any. A line is a text, its canonical text, and
-/// what the value is written as, unless that is the canonical text.
+/// Fails with the first line of a table for which a type has not one value, if any. A line is a text, its canonical
+/// text, and what the value is written as, unless that is the canonical text.
 pub fn expect_one_value<T: Stable + Serialize>(
     alloc: Global,
     table: &'static str,
@@ -51,8 +51,8 @@ fn is_two_values<T: FromJson + Serialize>(alloc: Global, line: &str) -> Result<b
     Ok(made.as_str() == expected && value.as_str() == written && other.as_str() == other_written)
 }
 
-/// Fails with the first line of a table for which a type has not two values, if any. A line is a text, its canonical text,
-/// and what the values of both are written as.
+/// Fails with the first line of a table for which a type has not two values, if any. A line is a text, its canonical
+/// text, and what the values of both are written as.
 pub fn expect_two_values<T: FromJson + Serialize>(
     alloc: Global,
     table: &'static str,

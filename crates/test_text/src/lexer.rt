@@ -55,7 +55,8 @@ fn is_error(error: Error, word: &str) -> bool {
     matches!(error, Error::Invalid) & (word == "invalid")
 }
 
-/// Makes the call of the lexer that a word names: `start`, `name`, `end`, or `after`, as `first of [` and `next of {`. Returns whether it answers as expected.
+/// Makes the call of the lexer that a word names: `start`, `name`, `end`, or `after`, as `first of [` and `next of {`.
+/// Returns whether it answers as expected.
 fn is_answer(lexer: &mut Lexer<'_>, scratch: &mut String, call: &str, expected: &str) -> bool {
     let (word, content) = expected.split_once(' ').unwrap_or((expected, ""));
     match call {

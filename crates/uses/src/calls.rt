@@ -1,4 +1,5 @@
-//! A request layer: the body of a request is a call, what answers calls is given, and its answer is the body that goes back.
+//! A request layer: the body of a request is a call, what answers calls is given, and its answer is the body that goes
+//! back.
 ghost use Rattle.std.specs.Prelude.{◌≡◌, IfOk, IfErr, None, Err, String, string_bytes};
 ghost use Rattle.miniserde.specs.Tree.{Tree};
 ghost use Rattle.miniserde.specs.Value.{IsJson};

@@ -1,5 +1,5 @@
-//! Uses of the library, one after another: settings, a cache, a request's body, a store of requests, a signed body, calls of
-//! a counter, and the field that is wrong.
+//! Uses of the library, one after another: settings, a cache, a request's body, a store of requests, a signed body,
+//! calls of a counter, and the field that is wrong.
 #![tactic(auto)]
 
 mod answer;

@@ -61,15 +61,15 @@ EndsWithMembers [] [] ms gs bs hs last = ⊤
 EndsWithMembers (n ∷ ns) (e ∷ es) ms gs bs hs last = EndsWithMembersFrom n ns e es ms gs bs hs last
 EndsWithMembers _ _ ms gs bs hs last = ⊥
 
--- the first entry's own text, from its name to before the next comma: the next entry has it as the text before it, and of
--- the last one it is `last`; empty without entries
+-- the first entry's own text, from its name to before the next comma: the next entry has it as the text before it, and
+-- of the last one it is `last`; empty without entries
 abbrev pub text_at : List Entry → List ℕ → List ℕ
 text_at [] last = []
 text_at (e ∷ es) last = text_before es last
 
--- The tree `str x`, where x is the own text of the entry at the index i, or empty if there is no such entry; `last` is that
--- of the last entry. `members_at` takes a tree for each index: by this one each member has its own text in the place of its
--- tree, and keeps it when members are sorted and duplicates are dropped.
+-- The tree `str x`, where x is the own text of the entry at the index i, or empty if there is no such entry; `last` is
+-- that of the last entry. `members_at` takes a tree for each index: by this one each member has its own text in the
+-- place of its tree, and keeps it when members are sorted and duplicates are dropped.
 abbrev pub own_text_tree : List Entry → List ℕ → ℕ → Tree
 own_text_tree es last i = str (text_at (drop i es) last)
 
@@ -101,9 +101,9 @@ PutsMembers ns order out groups groups' n = (es : List Entry) (last ms : List �
     (members_text true (without_repeats (members_at ns (own_text_tree es last) order)))
     × (n ≡ count (without_repeats (members_at ns (own_text_tree es last) order)))
 
--- `out'` is `out` cut off at the point, with `bytes` and `splices` appended, which hold the text x over `groups'`. The bytes
--- and splices of `groups'` are ms and gs with more appended. If the splices of `out` were in order over gs, those of `out'`
--- are over those of `groups'` (`stay_in_order`).
+-- `out'` is `out` cut off at the point, with `bytes` and `splices` appended, which hold the text x over `groups'`. The
+-- bytes and splices of `groups'` are ms and gs with more appended. If the splices of `out` were in order over gs, those
+-- of `out'` are over those of `groups'` (`stay_in_order`).
 pub record PutAt (point : Point) (ms : List ℕ) (gs : List Splice) (out out' groups' : SplicedText) (x : List ℕ) : Type 0 where
   pub bytes : List ℕ
   pub splices : List Splice

@@ -37,8 +37,8 @@ abbrev pub entry_at : {K V : Type 0} → (K → Key) → Key → List (K × V) �
 entry_at code_of q [] = None
 entry_at code_of q (e ∷ es) = if bytes_eq (code_of e.0) q then Some e else entry_at code_of q es
 
--- There is an entry exactly if there is a pair of a key's content and a tree; then the entry's key has that content, and the
--- tree means the entry's value by R.
+-- There is an entry exactly if there is a pair of a key's content and a tree; then the entry's key has that content,
+-- and the tree means the entry's value by R.
 abbrev pub EntryFits : {K V : Type 0} → (K → Key) → (Tree → V → Type 0) → Option (Key × Tree) → Option (K × V) → Type 0
 EntryFits content R None None = ⊤
 EntryFits content R None (Some e) = ⊥

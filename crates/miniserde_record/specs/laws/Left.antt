@@ -74,7 +74,8 @@ left-front k t (n ∷ ns) d ms =
       | false ↦ λ d. left-front k t ns d (other_members n ms)
     ] d
 
--- if k is none of the names, `LastMemberReads` means the same for k by the members without those names and by all members
+-- if k is none of the names, `LastMemberReads` means the same for k by the members without those names and by all
+-- members
 pub moved : {C : Type 0} (missing : Type 0) (Is : Tree → Type 0) (of : Tree → Option C) (k : Name) (ns : List Name)
     → is_among ns k ≡ false → (ms : Members) → LastMemberReads missing Is of k (left ns ms)
     ↔ LastMemberReads missing Is of k ms

@@ -1,5 +1,6 @@
--- If a tree has a content, its normal form has the same content, for the types of std that are one token, and for values
--- that are skipped. By cases on the tree (`stable-by`), as the normal form changes only negated zeros, lists and members.
+-- If a tree has a content, its normal form has the same content, for the types of std that are one token, and for
+-- values that are skipped. By cases on the tree (`stable-by`), as the normal form changes only negated zeros, lists and
+-- members.
 use Rattle.std.proofs.Common.{◌≡◌, ℕ, ℤ, pos, negsuc, Option, Some, refl}
 use Rattle.miniserde_model.specs.Tree.{Tree, null, truth, nonneg, neg, num, str, list, members, Trees, Members}
 use Rattle.miniserde_model.specs.Normal.{norm, norm_neg, norm_children, norm_members}

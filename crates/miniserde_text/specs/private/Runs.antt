@@ -1,5 +1,5 @@
--- How a text goes on event by event, for an engine that reads a value from the middle of a text on. A whole text is a run
--- whose rest is whitespace (`proofs/Wholes.antt`).
+-- How a text goes on event by event, for an engine that reads a value from the middle of a text on. A whole text is a
+-- run whose rest is whitespace (`proofs/Wholes.antt`).
 use Rattle.std.specs.Prelude.{◌≡◌, ℕ, true, false, is_some, List, [], ◌∷◌, ◌++◌}
 use Rattle.miniserde_model.specs.Step.{Step, element, key, finish}
 use Rattle.miniserde_model.specs.Lexing.{Starts, Names, Follows}
@@ -10,8 +10,8 @@ use Rattle.miniserde_text.specs.private.Stack.{with_opened}
 use Rattle.miniserde_text.specs.private.Moving.{opened_kind, first_or_after, MomentFits}
 
 -- From the moment on, inside the open containers st (innermost first), the text from s to r spells the events, after
--- which no container is open. s is the text that is left now, and r what is left of it at the end. In `Follows k f c s b`
--- f says that the opening bracket was just taken, and c that the closing one is taken.
+-- which no container is open. s is the text that is left now, and r what is left of it at the end. In
+-- `Follows k f c s b` f says that the opening bracket was just taken, and c that the closing one is taken.
 abbrev pub Runs : Moment → List Step → List Kind → List ℕ → List ℕ → Type 0
 Runs due (e ∷ es) st s r = (b : List ℕ) × Starts s e b × Runs (first_or_after (is_some (opened_kind e))) es
     (with_opened (opened_kind e) st) b r

@@ -74,8 +74,8 @@ pub enum After {
 /// return `MapStart`, `Next`, `a`, `Null`, `Close` and `Ok`.
 ///
 /// For `{ }`, `start`, `after(Map, true)` and `end` return `MapStart`, `Close` and `Ok`. For `[}`, `start` returns
-/// `SeqStart`, and `after(Seq, true)` and every later call that can fail return `Invalid`. For `[1,]`, `start` returns `Invalid`
-/// after the comma was taken.
+/// `SeqStart`, and `after(Seq, true)` and every later call that can fail return `Invalid`. For `[1,]`, `start` returns
+/// `Invalid` after the comma was taken.
 #[derive(Drop)]
 pub struct Lexer<'a> {
     // The whole text.

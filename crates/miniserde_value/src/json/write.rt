@@ -70,8 +70,8 @@ fn begin_object<'a>(object: &'a Object, frames: &mut Frames<'a>, w: &mut Writer)
     }
 }
 
-// Writes the value if it is a leaf. Of a container writes the opening bracket alone, and opens it in the frames, from which
-// `put_all` writes the children. Returns `Memory` if an allocation fails or an earlier call of the writer failed.
+// Writes the value if it is a leaf. Of a container writes the opening bracket alone, and opens it in the frames, from
+// which `put_all` writes the children. Returns `Memory` if an allocation fails or an earlier call of the writer failed.
 #[inline(always)]
 fn begin_value<'a>(value: &'a Value, frames: &mut Frames<'a>, w: &mut Writer) -> Result<()>
     ensures ok { OnOk result (Writes w.old (visits (content_of value.entry.now) (frames_left frames.old))

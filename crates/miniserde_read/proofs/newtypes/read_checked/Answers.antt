@@ -1,4 +1,5 @@
--- The inner value was read of a tree, which is the one tree of the text; the check says whether the tree means a newtype.
+-- The inner value was read of a tree, which is the one tree of the text; the check says whether the tree means a
+-- newtype.
 use Rattle.std.proofs.Common.{◌≡◌, refl, sym, subst, Some, None}
 use Rattle.miniserde_text.specs.Lexer.{event_of_token}
 use Rattle.miniserde_read.proofs.Same.{value_same}

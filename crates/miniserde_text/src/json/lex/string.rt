@@ -28,8 +28,8 @@ fn after_unescaped_in_lanes(text: &str, at: usize) -> usize
 }
 
 // Returns the index of the first byte at or after `at` that is a quote, a backslash or below 0x20,
-// or the length of the text. It tests the first byte alone, since a string often ends behind an
-// escape.
+// or the length of the text. It tests the first byte before any others, since a string often ends
+// behind an escape.
 #[inline(always)]
 fn after_unescaped(text: &str, at: usize) -> usize
     requires { at ≤ length text.now }

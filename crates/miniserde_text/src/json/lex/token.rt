@@ -16,7 +16,8 @@ use super::{Event, Text};
 use miniserde_model::error::{Error, Result};
 
 // Returns the index after `word`, whose last byte is ASCII and not 0, or `None` if the text does not have the word at
-// `at`. The caller makes the token, so that the compiler keeps the token of a number, which it returns too, in registers.
+// `at`. The caller makes the token, so that the compiler keeps the token of a number, which it returns too, in
+// registers.
 #[tactic(auto, unfolding(crate::specs::private::Reading::word_at))]
 fn after_word(bytes: &[u8], at: usize, word: &[u8]) -> Option<usize>
     requires within { at ≤ length bytes.now }

@@ -1,5 +1,5 @@
--- `-0` and a string with escapes are written anew (`rewritten`), and `{` opens an object in the state (`holding_opened`).
--- Any other first token of a value stays in the run (`stays`).
+-- `-0` and a string with escapes are written anew (`rewritten`), and `{` opens an object in the state
+-- (`holding_opened`). Any other first token of a value stays in the run (`stays`).
 use Rattle.std.proofs.Common.{rules, ◌≡◌, pos, ◌++◌, ◌∷◌, [], length, refl, sym, ap, subst, ◌∙◌}
 use Rattle.miniserde_model.specs.Compact.{compact, string_text}
 use Rattle.miniserde_model.specs.Normal.{norm_neg}

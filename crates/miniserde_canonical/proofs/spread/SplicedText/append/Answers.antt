@@ -1,5 +1,5 @@
--- `append` adds the bytes of a span, and its splices moved to their new indices. The loop invariant says that the splices
--- pushed so far are the first splices of the span, moved; at the end they are all of them.
+-- `append` adds the bytes of a span, and its splices moved to their new indices. The loop invariant says that the
+-- splices pushed so far are the first splices of the span, moved; at the end they are all of them.
 use Rattle.std.proofs.Common.{rules, ◌≡◌, ◌++◌, ◌∷◌, [], List, map, length, refl, sym, ap, ap₂, ◌∙◌, append-nil, append_assoc}
 use Rattle.std.proofs.lemmas.List.{map_more, take_all}
 use Rattle.miniserde_canonical.specs.declared.spread.Splice.{Splice}

@@ -1,6 +1,6 @@
 -- `read_record` returns the struct that the members of an object give, and `Invalid` only if no such object follows.
--- The loop keeps that the values so far are given by the members so far (`ObjectGoes`); a name is taken out of the source
--- before its value is read.
+-- The loop keeps that the values so far are given by the members so far (`ObjectGoes`); a name is taken out of the
+-- source before its value is read.
 use Rattle.std.proofs.Common.{refl, Some, sym, ap, ◌∙◌}
 use Rattle.std.specs.Prelude.{option_and_then}
 use Rattle.std.proofs.lemmas.Result.{err_from_is_err_and}

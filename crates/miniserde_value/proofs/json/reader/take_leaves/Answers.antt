@@ -8,12 +8,13 @@ use Rattle.miniserde_text.specs.private.Moving.{first_or_after}
 use Rattle.miniserde_text.proofs.Consumes.{after_ends}
 use Rattle.miniserde_text.proofs.Starting.{start_less}
 use Rattle.miniserde_read.specs.Events.{event_of, EventInRange}
+use Rattle.miniserde_read.proofs.Length.{follows_least}
 use Rattle.miniserde_read.proofs.Tokens.{start_event}
 use Rattle.miniserde_value.specs.Builders.{hole_in}
 use Rattle.miniserde_value.specs.Containers.{with_next_name}
 use Rattle.miniserde_value.specs.private.Builds.{kinds}
 use Rattle.miniserde_value.proofs.Builds.{innermost_of_kinds, child_builds, close_builds, Builds-append, leaf_stays}
-use Rattle.miniserde_value.proofs.Builds.{pending_begun, follows_shorter, stuck, never_behind}
+use Rattle.miniserde_value.proofs.Builds.{pending_begun, stuck, never_behind}
 use Rattle.miniserde_value.proofs.json.reader.take_leaves.Goals as goal
 
 pub returns-in_err-after-clause-invalid : goal.returns-in_err-after-clause-invalid
@@ -52,7 +53,7 @@ loop-source-smaller c =
     let less : length c.token.new.self.rest < length c.loop-source.source.rest = omega (
       arith,
       c.in_ok-name.ensures.shorter,
-      follows_shorter c.args.kind c.loop-source.first _ _ p,
+      follows_least c.args.kind c.loop-source.first false _ _ p,
       start_less _ _ _ c.in_ok-token.ensures.ok,
     ) in
     less
@@ -72,7 +73,7 @@ loop-source-preserved c =
         arith,
         c.loop-source.invariant.shorter,
         c.in_ok-name.ensures.shorter,
-        follows_shorter c.args.kind c.loop-source.first _ _ p,
+        follows_least c.args.kind c.loop-source.first false _ _ p,
         start_less _ _ _ c.in_ok-token.ensures.ok,
       );
       builds = child_builds c.args.once _ _ _ c.loop-source.first (hole_in c.loop-source.builder) s

@@ -1,4 +1,5 @@
--- The field has a value by itself, and so has each later one, or the path is a later one's. Or the path is its own, or leads into it.
+-- The field has a value by itself, and so has each later one, or the path is a later one's. Or the path is its own, or
+-- leads into it.
 use Rattle.std.proofs.Common.{rules, inl, inr}
 use Rattle.refused.proofs.Objects.{weaker}
 use Rattle.refused.proofs.inside.ProbeIntoProbes.probe.Goals as goal

@@ -1,5 +1,5 @@
--- A written field has one member, so neither `once` nor the value of a missing field is asked (`round_trips-field`). What
--- is read back in turn is read back by each field itself (`round_trips-alone`).
+-- A written field has one member, so neither `once` nor the value of a missing field is asked (`round_trips-field`).
+-- What is read back in turn is read back by each field itself (`round_trips-alone`).
 use Rattle.std.proofs.Common.{Some, [], ◌∷◌}
 use Rattle.miniserde_record.specs.Fields.{MissingReads}
 use Rattle.miniserde_laws.proofs.Fields.{round_trips-field, round_trips-alone}

@@ -1,4 +1,5 @@
--- Fewer than four bytes are no code unit (`few_bytes`). The sum tells whether four bytes are digits (`unit_of`, `no_unit`).
+-- Fewer than four bytes are no code unit (`few_bytes`). The sum tells whether four bytes are digits (`unit_of`,
+-- `no_unit`).
 use Rattle.std.proofs.Common.{◌≡◌, drop, length-drop, sym, arith}
 use Rattle.miniserde_text.proofs.Escapes.{few_bytes, unit_of, no_unit}
 use Rattle.miniserde_text.proofs.json.lex.escape.take_code_unit.Goals as goal
