@@ -79,7 +79,8 @@ holds_more ns ks (splice {ms = ms} {gs = gs} {y = y} h e w u v) =
     (sym (between_more p.from.splices p.to.splices gs ks w.2 w.3)) one in
     splice h e (within_more p ms ns gs ks w) two (holds_more ns ks v)
 
--- the same text where its bytes begin at another index
+-- If bytes that begin at the index `at` hold x, they hold it too after they and their splices are shifted by the
+-- distance from the index `from` to the index `to`; they then begin at the index `here`.
 pub holds_moved : {ms : List ℕ} {gs : List Splice} {at : ℕ} {bs : List ℕ} {hs : List Splice} {x : List ℕ}
     (from to here : ℕ) → from ≤ at → here ≡ to + (at - from) → Holds ms gs at bs hs x
     → Holds ms gs here bs (map (shifted_splice from to) hs) x

@@ -7,7 +7,7 @@ ghost use Rattle.miniserde_model.specs.Distinct.{names_distinct};
 ghost use Rattle.miniserde_model.specs.Normal.{norm};
 ghost use Rattle.miniserde_model.specs.Size.{size};
 ghost use Rattle.miniserde_model.specs.Value.{IsJson};
-ghost use Rattle.miniserde_model.specs.declared.error.Error.TheVariants.{Invalid};
+ghost use Rattle.miniserde_model.specs.declared.error.Error.{Error};
 
 use crate::groups::fill_splices;
 use crate::read::draft_of;
@@ -37,12 +37,12 @@ pub fn canonical(alloc: Global, j: &str) -> Result<String>
         → IsJson b u → norm u ≡ norm t → length (string_bytes c) ≤ length b) }
 
     // If the result is `Invalid`, the text has no tree. No text has two trees.
-    ensures invalid { result ≡ Err Invalid → (t : Tree) → IsJson j.now t → ⊥ }
+    ensures invalid { result ≡ Err Error.Invalid → (t : Tree) → IsJson j.now t → ⊥ }
     ensures one { (t u : Tree) → IsJson j.now t → IsJson j.now u → t ≡ u }
 
     // The canonical text of a canonical text is itself, and the result for it is not `Invalid`.
     ensures idempotent { (b : List ℕ) (t : Tree) → IsJson b t → j.now ≡ compact (norm t)
-        → IfOk result (λ c. string_bytes c ≡ j.now) × (result ≡ Err Invalid → ⊥) }
+        → IfOk result (λ c. string_bytes c ≡ j.now) × (result ≡ Err Error.Invalid → ⊥) }
 {
     let (text, _) = canonicalize(alloc, j)?;
     Ok(text)
@@ -73,12 +73,12 @@ pub fn canonical_unique(alloc: Global, j: &str) -> Result<String>
     ensures size { IfOk result (λ _. (t : Tree) → IsJson j.now t → size (norm t) ≡ size t) }
 
     // If the result is `Invalid`, the text has no tree without duplicate names. No text has two trees.
-    ensures invalid { result ≡ Err Invalid → (t : Tree) → IsJson j.now t → names_distinct t ≡ true → ⊥ }
+    ensures invalid { result ≡ Err Error.Invalid → (t : Tree) → IsJson j.now t → names_distinct t ≡ true → ⊥ }
     ensures one { (t u : Tree) → IsJson j.now t → IsJson j.now u → t ≡ u }
 
     // The canonical text of a canonical text is itself, and the result for it is not `Invalid`.
     ensures idempotent { (b : List ℕ) (t : Tree) → IsJson b t → j.now ≡ compact (norm t)
-        → IfOk result (λ c. string_bytes c ≡ j.now) × (result ≡ Err Invalid → ⊥) }
+        → IfOk result (λ c. string_bytes c ≡ j.now) × (result ≡ Err Error.Invalid → ⊥) }
 {
     let (text, is_distinct) = canonicalize(alloc, j)?;
     if is_distinct {
@@ -95,7 +95,7 @@ pub fn canonical_both(alloc: Global, a: &str, b: &str) -> Result<(String, String
         × (string_bytes c.0 ≡ compact (norm t)) × (string_bytes c.1 ≡ compact (norm u))) }
     ensures tells { IfOk result (λ c. (t u : Tree) → IsJson a.now t → IsJson b.now u
         → (string_bytes c.0 ≡ string_bytes c.1) ↔ (norm t ≡ norm u)) }
-    ensures invalid { result ≡ Err Invalid
+    ensures invalid { result ≡ Err Error.Invalid
         → ((t : Tree) → IsJson a.now t → ⊥) ⊎ ((u : Tree) → IsJson b.now u → ⊥) }
 {
     Ok((canonical(alloc, a)?, canonical(alloc, b)?))
@@ -106,7 +106,7 @@ pub fn canonical_both(alloc: Global, a: &str, b: &str) -> Result<(String, String
 fn canonicalize(alloc: Global, j: &str) -> Result<(String, bool)>
     ensures ok { IfOk result (λ r. (t : Tree) × IsJson j.now t × (string_bytes r.0 ≡ compact (norm t))
         × (r.1 ≡ names_distinct t)) }
-    ensures invalid { result ≡ Err Invalid → (t : Tree) → IsJson j.now t → ⊥ }
+    ensures invalid { result ≡ Err Error.Invalid → (t : Tree) → IsJson j.now t → ⊥ }
 {
     let draft = draft_of(alloc, j)?;
     // Members that were out of order stand sorted in the groups, and a splice in the text marks where they belong.

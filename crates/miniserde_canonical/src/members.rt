@@ -53,9 +53,9 @@ pub(crate) fn fill(members: &[Member<'_>], order: &mut Vec<usize>) -> Result<(),
     Ok(())
 }
 
-/// Sorts the indices in `order` by the names of their members. The sort is stable: of equal names the last index stays
-/// last, even if the sort fails (`last`, where r gives each index a tree, by which it is told from others). Fails if
-/// the sort fails to allocate.
+/// Sorts the indices in `order` by the names of their members. The sort is stable. Even if it fails, the last index of
+/// each name is still the last one of that name: whatever tree r gives each index, the tree of that last one is the
+/// same before and after (`last`). Fails if the sort fails to allocate.
 pub(crate) fn sort(members: &[Member<'_>], order: &mut Vec<usize>) -> Result<(), AllocError>
     ensures sorted { OnOk result (IsSortedByKey (name_in members.now) text_cmp order.new.items) }
     ensures last { (r : ℕ → Tree) (q : List ℕ) → last_of q (members_at members.now r order.new.items)

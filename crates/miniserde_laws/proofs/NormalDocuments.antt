@@ -141,7 +141,8 @@ round_trips-object o =
     let n = normal_object o (all_normal (object_values o)) in
     ((n.0, tt, n.1 ∙ kept_norm (object_content o)), λ w r e. same (object_content w) (object_content o) e)
 
--- a normal form has no duplicate name
+-- the normal form of a `Unique` has no duplicate name, so it means a `Unique`, and each `Unique` that it means has this
+-- normal form
 pub round_trips-unique : (u : Unique) → RoundTrips (λ _. ⊤) (λ u. norm (content_of u.value)) ReadsUnique (norm (content_of u.value))
 round_trips-unique u =
     let n = normal u.value in (

@@ -8,8 +8,8 @@ use miniserde_place::de::{Step, Visitor};
 use std::alloc::Global;
 
 /// The collector of a list: its items so far, and the place of the current item. If there is no
-/// current item, a contract sees a place whose first error is `Invalid`, so `step` and `join` return
-/// `Invalid`.
+/// current item, `collector_meaning` shows the view `no_child`, whose first error is `Invalid`.
+/// Then `step` and `join` return `Invalid`.
 #[derive(Drop)]
 pub struct ListOf<P, T> {
     items: Vec<T>,

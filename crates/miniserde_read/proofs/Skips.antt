@@ -18,7 +18,8 @@ use Rattle.miniserde_text.specs.private.Runs.{Runs, Reaches, NeverRuns}
 use Rattle.miniserde_text.proofs.Consumes.{Consumes-none, live_opened, value_passed}
 use Rattle.miniserde_read.proofs.Values.{value_later, whole_at}
 
--- a value's first token was taken, and its container opened
+-- If `enter` succeeded on the first token of a due value, the token leads to the text r behind it: to the moment
+-- `first` in the container that it opens, or, if it opens none, to the moment `after` in the containers st.
 pub entered : (result : Result Bool Error) (st : List Kind) (s r : List ℕ) (e : Step) (st' : List Kind)
     → Starts s e r → IfOk result (λ b. b ≡ is_some (opened_kind e))
     → IfOk result (λ _. st' ≡ with_opened (opened_kind e) st)

@@ -37,9 +37,9 @@ pub record FieldsMeaning (V : Type 0) : Type 1 where
   pub from_members : List Name → State → Members → Option Content
   pub members_agree : (names : List Name) (s : State) (ms : Members)
       → option_and_then end (after_members (next_state names) s ms) ≡ from_members names s ms
-  -- The members mean the values, by the names that came before (of the fields before these, and of a tag) and by the
-  -- fields' own names.
-  -- `reads_agrees` says that they do exactly if those members whose names did not come before give the values' content.
+  -- The members mean the values, by two lists of names: `before` has those of a tag and of the fields that stand in the
+  -- struct before these fields, and `names` has those of these fields.
+  -- `reads_agrees` says that they do exactly if the members whose names are not in `before` give the values' content.
   pub reads : List Name → List Name → Members → V → Type 0
   pub reads_agrees : (before names : List Name) (ms : Members) (v : V)
       → reads before names ms v ↔ (from_members names empty (left before ms) ≡ Some (content v))

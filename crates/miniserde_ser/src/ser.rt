@@ -313,9 +313,9 @@ pub trait Serialize {
     /// The tree of a value.
     ghost tree: { Self → Tree };
 
-    /// Appends the whole compact text of the value; the original calls it so. If the next element or member was not the
-    /// first of its container, it still is not. Returns `Memory` if an allocation fails or an earlier call of the
-    /// writer failed; the writer then returns no text.
+    /// Appends the whole compact text of the value. The name `begin` is that of the Rust crate miniserde. If the next
+    /// element or member was not the first of its container, it still is not. Returns `Memory` if an allocation fails
+    /// or an earlier call of the writer failed; the writer then returns no text.
     fn begin(&self, w: &mut Writer) -> Result<()>
         ensures ok { OnOk result (w.new.text ≡ w.old.text ++ compact (tree self.now)) }
         ensures in_range { OnOk result (InRange (tree self.now)) }

@@ -6,7 +6,8 @@ ghost use Rattle.miniserde_stored.specs.laws.Leaves.{stable-signed, stable-ignor
 use crate::stable::Stable;
 use miniserde_read::{FromJson, Ignored};
 
-/// A type for which a tree that means a value and its normal form mean the same value, by a law and not by a call.
+/// A type for which a tree that means a value and its normal form mean the same value. The proof is its ghost member,
+/// where a `Stable` type has a function.
 pub trait StableLeaf: FromJson {
     // If a tree means a value, its normal form means a value of the same content.
     ghost leaf_stable: { IsStable Self.means.from_tree };

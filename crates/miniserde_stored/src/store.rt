@@ -4,7 +4,7 @@ ghost use Rattle.miniserde_model.specs.Compact.{compact};
 ghost use Rattle.miniserde_model.specs.Normal.{norm};
 ghost use Rattle.miniserde_model.specs.Tree.{Tree};
 ghost use Rattle.miniserde_model.specs.Value.{IsJson};
-ghost use Rattle.miniserde_model.specs.declared.error.Error.TheVariants.{Invalid, Memory};
+ghost use Rattle.miniserde_model.specs.declared.error.Error.{Error};
 
 use crate::stable::{Stable, means_in_normal_form};
 use miniserde_canonical::canonical;
@@ -29,7 +29,7 @@ pub fn read_canonical<T: Stable>(alloc: Global, j: &str) -> Result<(T, String)>
         → T.means.reads u w → T.means.content w ≡ T.means.content r.0) }
 
     // If the result is `Invalid`, the text means no value.
-    ensures invalid { result ≡ Err Invalid → (t : Tree) → IsJson j.now t → (v : T) → T.means.reads t v → ⊥ }
+    ensures invalid { result ≡ Err Error.Invalid → (t : Tree) → IsJson j.now t → (v : T) → T.means.reads t v → ⊥ }
 {
     means_in_normal_form::<T>();
     json_in_range();
@@ -47,7 +47,7 @@ pub fn canonical_of<T: Serialize>(alloc: Global, value: &T) -> Result<String>
     // A text with that canonical text spells a tree with the same normal form as the value's tree.
     ensures tells { IfOk result (λ c. (b : List ℕ) (u : Tree) → IsJson b u → string_bytes c ≡ compact (norm u)
         → norm u ≡ norm (T.tree value.now)) }
-    ensures memory { OnErr result (IsErrOf result Memory) }
+    ensures memory { OnErr result (IsErrOf result Error.Memory) }
 {
     json_in_range();
     let text = to_string(alloc, value)?;

@@ -182,7 +182,7 @@ Consumes-append m st s es n su u fs m' st' s' p q = record {
   live = q.live;
 }
 
--- no event
+-- from any moment that fits the open containers, a text consumes the empty list of events, and stays where it is
 pub Consumes-none : (m : Moment) (st : List Kind) (s : List ℕ) → MomentFits m st → Consumes m st s [] m st s
 Consumes-none m st s l = record { on = λ es r h. h; back = λ es r h. (es, refl, h); live = l }
 

@@ -150,7 +150,8 @@ element_makes : (once : Bool) (h g : Hole) (k : Kind) (f : Bool) → innermost h
 element_makes once h g k f i q e = λ es. ap (λ z. outcome once z h (element ∷ es)) (not_due f) ∙ goes_to_element
     once h k i q es ∙ ap (λ z. outcome once true z es) (sym e)
 
--- if the innermost container is an array and an element is next, the text builds the same hole
+-- if the innermost container is an array and an element is next, the event `element` leaves the hole as it is, and a
+-- value is due
 pub element_builds : (once : Bool) (h g : Hole) (s u r : List ℕ) (k : Kind) (f : Bool) → innermost h ≡ Some k
     → k ≡ kind.Seq → Follows k f false s u → r ≡ u → g ≡ h → Builds once (first_or_after f) h s due g r
 element_builds once h g s u r k f i q p d e = record {

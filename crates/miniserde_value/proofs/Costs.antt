@@ -7,8 +7,8 @@ use Rattle.miniserde_value.specs.Looks.{value_size}
 use Rattle.miniserde_value.proofs.Trees.{fold_tree, fold_tree_out, Each, tree_ind}
 use Rattle.miniserde_value.proofs.ContentTrees.{sizes, size_children}
 
--- The looks to come for a value in hand: `beside` another that holds values, so that the other is replaced in it,
--- or `alone`, so that nothing is.
+-- The looks to come for a value: `beside` if another value with children waits, and `alone` if none does. One that
+-- waits is put in the place of the value's first child, if the value has children.
 pub record Cost : Type 0 where
   pub beside : ℕ
   pub alone : ℕ

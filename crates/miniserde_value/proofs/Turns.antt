@@ -13,6 +13,7 @@ use Rattle.miniserde_value.proofs.Costs.{Cost, cost_of, cost, looks_left, looks_
 pub bare_size : (v : Value) → IsBare v → value_size v ≡ 1
 bare_size v h = size_children v ∙ ap (λ (vs : List Value). 1 + sizes vs) h
 
+-- no look is to come for a bare value, beside another or alone
 pub bare_cost : (v : Value) → IsBare v → cost v ≡ record { beside = 0; alone = 0 }
 bare_cost v h = cost_out v ∙ ap (λ (vs : List Value). cost_of (map cost vs)) h
 

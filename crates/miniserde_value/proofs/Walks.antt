@@ -110,7 +110,8 @@ pub record Opened (o : Object) (m : BTreeMap (String Global) Value) (it : List (
   pub entries : it ≡ m.entries
   pub sorted : tree_map.IsOrdered string_cmp m
 
--- if the members that a walk has of an object are ordered, the tree of the object is
+-- if the values of the members that a walk has of an object are ordered, so is the tree of the object, since its map
+-- is sorted
 pub ordered_opened : (o : Object) (m : BTreeMap (String Global) Value) (it : List (String Global × Value))
     → Opened o m it → ValuesNamesRise it → IsOrdered (object_content o)
 ordered_opened o m it w p =
@@ -119,7 +120,7 @@ ordered_opened o m it w p =
     let whole : it ≡ object_entries o = w.entries ∙ ap (λ (x : BTreeMap (String Global) Value). x.entries) w.map in
     (rises, subst (λ (xs : List (String Global × Value)). AreOrderedMembers (members_of string_bytes content_of xs)) whole p)
 
--- if v is an object whose members a walk has, and these are ordered, the tree of v is
+-- if v is an object whose members a walk has, and the values of these are ordered, the tree of v is
 pub ordered_object : (v : Value) (o : Object) (m : BTreeMap (String Global) Value)
     (it : List (String Global × Value)) → v ≡ value.Object o → Opened o m it → ValuesNamesRise it
     → IsOrdered (content_of v)

@@ -9,8 +9,8 @@ use Rattle.miniserde_canonical.specs.private.Spreads.{SplicesInOrder}
 use Rattle.miniserde_canonical.specs.private.Sorting.{Chain}
 use Rattle.miniserde_canonical.specs.private.Arranging.{State, TokenSteps}
 
--- where `rest` of the input is left, the text of the draft, with the run of input that is not in
--- the text yet, is the bytes bs
+-- The input is `front`, then `run`, which is read but not in the draft's text yet, then `rest`, which is left to read.
+-- The draft's `left` counts the bytes of `run` and `rest`. The draft's text followed by `run` is the bytes bs.
 pub record Wrote (d : Draft) (rest bs : List ℕ) : Type 0 where
   pub front : List ℕ
   pub run : List ℕ
@@ -18,8 +18,9 @@ pub record Wrote (d : Draft) (rest bs : List ℕ) : Type 0 where
   pub left : d.left ≡ length (run ++ rest)
   pub text : d.out.bytes.items ++ run ≡ bs
 
--- If bs are the bytes of the draft's text with its run, the draft holds the state s: its members are the entries of s,
--- with its splices filled its text is the text of s, and `opened` and `distinct` agree. The draft has no flag `first`.
+-- If bs are the bytes of the draft's text with its run, the draft holds the state s: its members stand for the entries
+-- of s; its text, once the splices are filled, is the text of s; and the two have the same `opened` and the same
+-- `distinct`. The flag `first` of s is left out, since a draft has none.
 pub record Holding (d : Draft) (bs : List ℕ) (s : State) : Type 0 where
   pub chain : Chain d.members.items s.entries d.groups.bytes.items d.groups.splices.items 0 0 bs d.out.splices.items s.last
   pub good : SplicesInOrder d.groups.splices.items d.out.splices.items

@@ -1,6 +1,6 @@
 -- How the members of an object that closes are put in order, in the text and in the groups. ms and gs: the bytes and
--- splices of the groups; bs and hs: the bytes and splices of a text. They hold the text that the bytes are once each
--- splice is filled with its group (`Holds`).
+-- splices of the groups; bs and hs: the bytes and splices of a text. The text that bs and hs hold is bs with the text
+-- of its group put in at each splice (`Holds`).
 use Rattle.std.specs.Prelude.{◌≡◌, ◌≤◌, ◌+◌, ℕ, Bool, true, List, [], ◌∷◌, ◌++◌, length, take, drop, ⊤}
 use Rattle.miniserde_model.specs.Tree.{Tree, str}
 use Rattle.miniserde_model.specs.Normal.{norm_members}
@@ -13,8 +13,9 @@ use Rattle.miniserde_canonical.specs.private.Names.{name_of}
 use Rattle.miniserde_canonical.specs.private.Members.{begin_of, members_at, without_repeats}
 use Rattle.miniserde_canonical.specs.private.Arranging.{Entry, text_before, entry_members, comma_before, members_text, count, once_each}
 
--- The member n, which stands for the entry e, splits a text at its comma: B holds of the bytes and the splices before
--- the comma, and K of those after it. The bytes bs have indices from `at` on, and the splices hs from k on.
+-- The member n, which stands for the entry e, splits a text at the comma before it, or where it begins if it is the
+-- first of its object. B holds of the bytes and the splices before that point, and K of those from the member on. The
+-- bytes bs have indices from `at` on, and the splices hs from k on.
 pub record Seam (B K : List ℕ → List Splice → Type 0) (n : Member) (e : Entry) (at k : ℕ) (bs : List ℕ) (hs : List Splice) : Type 0 where
   pub before : List ℕ
   pub behind : List ℕ

@@ -33,7 +33,7 @@ pub trait DocumentType: Drop {
     ghost document_meaning: { DocumentMeaning Self.Out };
 
     /// Returns whether the type allows the event as the first. If not, no document of this type begins with it. If so,
-    /// the place of the `Value` may still refuse it.
+    /// `ValuePlace`, which the event is then handed to, may still refuse it.
     fn begins(event: &Step<'_>) -> bool
         ensures { result ≡ document_meaning.begins (event_of event.now) };
 

@@ -1,6 +1,6 @@
 //! The place of `Value`, a document of any depth. It collects without recursion.
 ghost use Rattle.std.specs.Prelude.{◌≡◌, true, [], Option, Some, None, Err, IfOk, OnOk};
-ghost use Rattle.miniserde_model.specs.declared.error.Error.TheVariants.{Invalid};
+ghost use Rattle.miniserde_model.specs.declared.error.Error.{Error};
 ghost use Rattle.miniserde_read.specs.Events.{event_of};
 ghost use Rattle.miniserde_read.specs.Events.{EventInRange};
 ghost use Rattle.miniserde_value.specs.Hole.{outside, after_between, after_step};
@@ -49,8 +49,8 @@ impl ValuePlace {
     fn step_between_values(&mut self, event: Step<'_>) -> Result<bool>
         ensures ok { IfOk result (λ due.
             after_between (event_of event.entry) (hole_at self.old) ≡ Some (due, hole_at self.new)) }
-        ensures invalid { result ≡ Err Invalid → after_between (event_of event.entry) (hole_at self.old) ≡ None }
-        ensures refuses { after_between (event_of event.entry) (hole_at self.old) ≡ None → result ≡ Err Invalid }
+        ensures invalid { result ≡ Err Error.Invalid → after_between (event_of event.entry) (hole_at self.old) ≡ None }
+        ensures refuses { after_between (event_of event.entry) (hole_at self.old) ≡ None → result ≡ Err Error.Invalid }
         ensures refused { refusal_of self.new ≡ refusal_of self.old }
     {
         match (event, self.builder.innermost()) {
@@ -74,10 +74,10 @@ impl ValuePlace {
         requires { EventInRange (event_of event) }
         ensures ok { OnOk result (after_step (due_in self.old) (hole_at self.old) (event_of event.entry)
             ≡ Some (due_in self.new, hole_at self.new)) }
-        ensures invalid { result ≡ Err Invalid
+        ensures invalid { result ≡ Err Error.Invalid
             → after_step (due_in self.old) (hole_at self.old) (event_of event.entry) ≡ None }
         ensures refuses { after_step (due_in self.old) (hole_at self.old) (event_of event.entry) ≡ None
-            → result ≡ Err Invalid }
+            → result ≡ Err Error.Invalid }
         ensures refused { refusal_of self.new ≡ refusal_of self.old }
     {
         if self.due {
@@ -119,8 +119,9 @@ impl Visitor for ValuePlace {
 
     ghost take_infallible = { true };
 
-    // An event that is accepted changes the hole as `after_step` says. An event that does not fit the hole is
-    // `Invalid`, unless the place keeps an error already, and no other first error is `Invalid`.
+    // An accepted event changes the hole (what the builder has so far) as `after_step` says. An event that does not
+    // fit the hole gives `Invalid`, or the earlier error of the place. A place without an error returns `Invalid` for
+    // no other event.
     ghost further = { ValueTakes };
 
     fn begin(alloc: Global) -> Result<ValuePlace> {

@@ -1,7 +1,7 @@
 //! The builder of documents. It takes the events of a value, without recursion.
 ghost use Rattle.std.specs.Prelude.{◌≡◌, ◌≤◌, [], None, Some, Option, Err, IfOk, OnOk, OnErr, IsErrOf, option_map};
 ghost use Rattle.std.specs.Prelude.{drop, take, length, string_bytes, is_some};
-ghost use Rattle.miniserde_model.specs.declared.error.Error.TheVariants.{Invalid, Memory};
+ghost use Rattle.miniserde_model.specs.declared.error.Error.{Error};
 ghost use Rattle.miniserde_model.specs.Tree.{no_members};
 ghost use Rattle.miniserde_model.specs.Normal.{last_of};
 ghost use Rattle.miniserde_text.specs.private.Moving.{opened_kind};
@@ -119,8 +119,8 @@ fn take_from(
 fn leaf(alloc: Global, event: Step<'_>) -> Result<Value>
     requires { EventInRange (event_of event) }
     ensures ok { IfOk result (λ v. leaf_of (event_of event.entry) ≡ Some (content_of v)) }
-    ensures invalid { result ≡ Err Invalid → leaf_of (event_of event.entry) ≡ None }
-    ensures refuses { leaf_of (event_of event.entry) ≡ None → result ≡ Err Invalid }
+    ensures invalid { result ≡ Err Error.Invalid → leaf_of (event_of event.entry) ≡ None }
+    ensures refuses { leaf_of (event_of event.entry) ≡ None → result ≡ Err Error.Invalid }
 {
     match event {
         Step::Null => Ok(Value::Null),
@@ -251,8 +251,8 @@ impl Builder {
         requires { EventInRange (event_of event) }
         ensures opens { IfOk result (λ opens. opens ≡ is_some (opened_kind (event_of event.entry))) }
         ensures ok { OnOk result (after_begin (event_of event.entry) (hole_in self.old) ≡ Some (hole_in self.new)) }
-        ensures invalid { result ≡ Err Invalid → after_begin (event_of event.entry) (hole_in self.old) ≡ None }
-        ensures refuses { after_begin (event_of event.entry) (hole_in self.old) ≡ None → result ≡ Err Invalid }
+        ensures invalid { result ≡ Err Error.Invalid → after_begin (event_of event.entry) (hole_in self.old) ≡ None }
+        ensures refuses { after_begin (event_of event.entry) (hole_in self.old) ≡ None → result ≡ Err Error.Invalid }
     {
         match event {
             Step::Seq => {
@@ -280,7 +280,7 @@ impl Builder {
         ensures opens { IfOk result (λ opens. opens ≡ is_some (opened_kind (event_of event.entry))) }
         ensures ok { OnOk result (after_begin (event_of event.entry)
             (with_next_name (option_map string_bytes name) (hole_in self.old)) ≡ Some (hole_in self.new)) }
-        ensures invalid { result ≡ Err Invalid → (h : Hole) → after_begin (event_of event.entry) h ≡ None }
+        ensures invalid { result ≡ Err Error.Invalid → (h : Hole) → after_begin (event_of event.entry) h ≡ None }
     {
         match event {
             Step::Seq => {
@@ -305,7 +305,7 @@ impl Builder {
     #[inline(always)]
     pub fn name(&mut self, name: &str) -> Result<()>
         ensures ok { OnOk result (hole_in self.new ≡ with_name name.now (hole_in self.old)) }
-        ensures memory { OnErr result (IsErrOf result Memory) }
+        ensures memory { OnErr result (IsErrOf result Error.Memory) }
     {
         if let Some(OpenContainer::Object) = self.containers.last() {
             let name = String::from_str(self.alloc, name)?;
@@ -323,7 +323,7 @@ impl Builder {
     #[inline(always)]
     pub fn close(&mut self) -> Result<()>
         ensures ok { OnOk result (hole_in self.new ≡ after_close (hole_in self.old)) }
-        ensures memory { OnErr result (IsErrOf result Memory) }
+        ensures memory { OnErr result (IsErrOf result Error.Memory) }
     {
         match self.containers.pop() {
             None => (),

@@ -3,7 +3,7 @@ ghost use Rattle.std.specs.Prelude.{◌≡◌, ◌<◌, ◌≤◌, ◌&&◌, tru
 ghost use Rattle.std.specs.Prelude.{option_map, string_bytes};
 ghost use Rattle.miniserde_model.specs.Lexing.{Follows};
 ghost use Rattle.miniserde_model.specs.private.Reading.{due};
-ghost use Rattle.miniserde_model.specs.declared.error.Error.TheVariants.{Invalid, Memory};
+ghost use Rattle.miniserde_model.specs.declared.error.Error.{Error};
 ghost use Rattle.miniserde_text.specs.Lexer.{event_of_token};
 ghost use Rattle.miniserde_text.specs.private.Moving.{first_or_after};
 ghost use Rattle.miniserde_read.specs.Rest.{GivesAt, GivesNoneAt};
@@ -31,7 +31,7 @@ pub(crate) fn read_value<'a>(token: Event<'a>, source: &mut Source<'a>, once: bo
     ensures going { IfOk result (λ _. source.new.refused ≡ None) }
     ensures ok { IfOk result (λ v. GivesAt (retained_if once) (event_of_token token.entry source.old.scratch)
         source.old.rest source.new.rest (content_of v)) }
-    ensures invalid { result ≡ Err Invalid
+    ensures invalid { result ≡ Err Error.Invalid
         → GivesNoneAt (retained_if once) (event_of_token token.entry source.old.scratch) source.old.rest }
 {
     let mut builder = Builder::new(source.alloc());
@@ -65,7 +65,7 @@ fn take_children<'a>(
     ensures less { IfOk result (λ _. length source.new.rest < length source.old.rest) }
     ensures builds { IfOk result (λ opened. Builds once (first_or_after first) (hole_in builder.old) source.old.rest
         (first_or_after opened) (hole_in builder.new) source.new.rest) }
-    ensures invalid { result ≡ Err Invalid
+    ensures invalid { result ≡ Err Error.Invalid
         → NeverGives once (first_or_after first) (hole_in builder.old) source.old.rest }
 {
     // One loop for each kind, so that no child asks again in which container it is.
@@ -97,7 +97,7 @@ fn take_leaves<'a>(
     ensures less { IfOk result (λ _. length source.new.rest < length source.old.rest) }
     ensures builds { IfOk result (λ opened. Builds once (first_or_after first) (hole_in builder.old) source.old.rest
         (first_or_after opened) (closed_unless opened (hole_in builder.new)) source.new.rest) }
-    ensures invalid { result ≡ Err Invalid
+    ensures invalid { result ≡ Err Error.Invalid
         → NeverGives once (first_or_after first) (hole_in builder.old) source.old.rest }
 {
     let mut first = first;
@@ -132,7 +132,7 @@ fn take_name<'a>(
         (with_next_name (option_map string_bytes name) (hole_in builder.now)) source.new.rest) }
     ensures invalid { (first : Bool) (s : List ℕ) → innermost (hole_in builder.now) ≡ Some kind
         → Follows kind first false s source.old.rest
-        → result ≡ Err Invalid → NeverGives once (first_or_after first) (hole_in builder.now) s }
+        → result ≡ Err Error.Invalid → NeverGives once (first_or_after first) (hole_in builder.now) s }
 {
     if let Kind::Seq = kind {
         return Ok(None);
@@ -148,8 +148,8 @@ fn take_name<'a>(
 fn new_name(alloc: Global, builder: &Builder, name: &str, once: bool) -> Result<String>
     ensures ok { IfOk result (λ copy. string_bytes copy ≡ name.now) }
     ensures new { OnOk result ((once && has_member name.now (hole_in builder.now)) ≡ false) }
-    ensures invalid { result ≡ Err Invalid → (once && has_member name.now (hole_in builder.now)) ≡ true }
-    ensures refuses { (once && has_member name.now (hole_in builder.now)) ≡ true → result ≡ Err Invalid }
+    ensures invalid { result ≡ Err Error.Invalid → (once && has_member name.now (hole_in builder.now)) ≡ true }
+    ensures refuses { (once && has_member name.now (hole_in builder.now)) ≡ true → result ≡ Err Error.Invalid }
 {
     if once {
         if builder.has_name(name) {

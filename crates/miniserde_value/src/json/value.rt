@@ -6,7 +6,7 @@ ghost use Rattle.miniserde_model.specs.Distinct.{names_distinct};
 ghost use Rattle.miniserde_model.specs.Normal.{norm};
 ghost use Rattle.miniserde_model.specs.Size.{size};
 ghost use Rattle.miniserde_model.specs.Value.{IsJson};
-ghost use Rattle.miniserde_model.specs.declared.error.Error.TheVariants.{Invalid};
+ghost use Rattle.miniserde_model.specs.declared.error.Error.{Error};
 ghost use Rattle.miniserde_value.specs.declared.json.value.Value.{Value as V};
 ghost use Rattle.miniserde_value.specs.Looks.{value_size};
 ghost use Rattle.miniserde_value.specs.Values.{ReadsValue, content_of, tree_of};
@@ -89,7 +89,7 @@ pub fn canonical_by_value(alloc: Global, j: &str) -> Result<String>
     ensures text { IfOk result (λ c. (t : Tree) → IsJson j.now t → string_bytes c ≡ compact (norm t)) }
 
     // If the result is `Invalid`, the text has no tree. No text has two trees.
-    ensures invalid { result ≡ Err Invalid → (t : Tree) → IsJson j.now t → ⊥ }
+    ensures invalid { result ≡ Err Error.Invalid → (t : Tree) → IsJson j.now t → ⊥ }
     ensures one { (t u : Tree) → IsJson j.now t → IsJson j.now u → t ≡ u }
 {
     let document: Value = from_str(alloc, j)?;

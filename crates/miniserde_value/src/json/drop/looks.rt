@@ -7,8 +7,9 @@ ghost use Rattle.miniserde_value.specs.Values.{IsBare};
 use super::super::value::Value;
 use std::marker::{Model, PhantomData};
 
-/// How many looks a drop made (`counted` says what counts as one), and how many values it dropped. It takes no bytes,
-/// since only contracts see the counts.
+/// How many looks a drop made, and how many values it dropped. A drop makes one look for the value that it drops, and
+/// one for each time that it takes a value out of a container (`counted` in `drop.rt`).
+/// The counts take no bytes, since only contracts see them.
 #[derive(Drop)]
 pub struct Looks {
     marker: PhantomData<u8>,
@@ -32,7 +33,7 @@ impl Looks {
         }
     }
 
-    // Counts one look.
+    // Counts one look. The body is empty, since only contracts see the count.
     pub(crate) fn look(&mut self)
         ensures { (self.new.visited ≡ self.old.visited + 1) × (self.new.released ≡ self.old.released) }
     {}
