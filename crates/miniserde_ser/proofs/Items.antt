@@ -1,9 +1,9 @@
 -- Appending an element to a list appends its text to the compact text of the list, behind a comma unless it is the
--- first. By recursion over the elements (`compact_children-snoc`); `compact_children_turn` and
--- `compact_children_step` state it for one turn of a loop.
+-- first. By recursion over the elements (`compact_children-snoc`); `compact_children_turn` states it for one turn of a
+-- loop, and `compact_children_later` what is due behind an element that is not the last.
 use Rattle.std.proofs.Common.{◌≡◌, ℕ, ◌+◌, ◌<◌, List, [], ◌∷◌, ◌++◌, length, Bool, true, false, cond, take, get_or}
 use Rattle.std.proofs.Common.{refl, ap, append_assoc, ◌∙◌, sym, arith}
-use Rattle.std.proofs.lemmas.List.{take_more, append-nil, length-take-le}
+use Rattle.std.proofs.lemmas.List.{take_more, append-nil}
 use Rattle.miniserde_model.specs.Tree.{Tree}
 use Rattle.miniserde_model.specs.Compact.{compact, compact_children, compact_more}
 use Rattle.miniserde_model.specs.InRange.{InRange, AllInRange}
@@ -45,18 +45,14 @@ compact_children_turn f xs x n b pre old mid new len s l o m w =
     let grown = compact_children-snoc f xs x b (λ z. s (sym len ∙ z)) (λ z. l (omega (arith, len))) in
     rw (w, m, o, grown) (simp append_assoc refl)
 
--- the same by the index of the element
-pub compact_children_step : {A : Type 0} (f : A → Tree) (xs : List A) (i : ℕ) (x : A) (b : Bool)
-    (pre old mid new : List ℕ) → i < length xs → x ≡ get_or xs i x → (i ≡ 0 → b ≡ true) → (0 < i → b ≡ false)
-    → old ≡ pre ++ compact_children (trees_of f (take i xs)) → mid ≡ old ++ cond b [] (44 ∷ [])
-    → new ≡ mid ++ compact (f x) → new ≡ pre ++ compact_children (trees_of f (take (i + 1) xs))
-compact_children_step f xs i x b pre old mid new h e s n o m w =
-    rw (took xs i x h e) (compact_children_turn f (take i xs) x i b pre old mid new (length-take-le i xs (omega arith)) s n o m w)
-
--- the trees of the elements so far are trees
-pub AllInRange_step : {A : Type 0} (f : A → Tree) (xs : List A) (i : ℕ) (x : A) → i < length xs → x ≡ get_or xs i x
-    → AllInRange (trees_of f (take i xs)) → InRange (f x) → AllInRange (trees_of f (take (i + 1) xs))
-AllInRange_step f xs i x h e a r = rw (took xs i x h e) (AllInRange-snoc f (take i xs) x a r)
+-- The elements xs are x and then `later`, which has one at least. If old and the text of xs make all, so do old, the text
+-- of x, a comma and the text of `later`.
+pub compact_children_later : {A : Type 0} (f : A → Tree) (xs later : List A) (x : A) (all old mid new : List ℕ)
+    → xs ≡ x ∷ later → 0 < length later → old ++ compact_children (trees_of f xs) ≡ all → mid ≡ old ++ compact (f x)
+    → new ≡ mid ++ (44 ∷ []) → new ++ compact_children (trees_of f later) ≡ all
+compact_children_later f xs [] x all old mid new e h o m n = absurd (omega (arith, h))
+compact_children_later f xs (y ∷ ys) x all old mid new e h o m n =
+    rw (n, m) (simp append_assoc refl) ∙ ap (λ z. old ++ compact_children (trees_of f z)) (sym e) ∙ o
 
 -- what a last piece makes of the text of all items before it
 pub appends_text : (old new : WriterView) (bs whole : List ℕ) (first : Bool) (r : Result (Unit {0}) Error)

@@ -22,9 +22,13 @@ fn write_items<T: Serialize>(items: &[T], w: &mut Writer) -> Result<()>
     ensures err { OnErr result (w.new.refused ≡ true) }
 {
     w.seq()?;
-    for x in items {
-        w.element()?;
-        x.begin(w)?;
+    let mut rest = items;
+    while let Some((item, later)) = rest.split_first() {
+        item.begin(w)?;
+        if !later.is_empty() {
+            w.append(",")?;
+        }
+        rest = later;
     }
     w.seq_finish()
 }

@@ -1,23 +1,22 @@
--- A turn writes the element at the index: `compact_children_step` gives the text with it, and `AllInRange_step` says
--- that the trees with it are in range.
-use Rattle.std.proofs.Common.{arith, ap}
-use Rattle.miniserde_ser.proofs.Items.{compact_children_step, AllInRange_step}
+-- Behind an element that is not the last, a comma and the text of the elements that are left are due
+-- (`compact_children_later`).
+use Rattle.std.proofs.Common.{arith, ap, subst, sym, ◌∙◌}
+use Rattle.std.proofs.lemmas.Bool.Decides.{nat_tests}
+use Rattle.miniserde_model.specs.InRange.{AllInRange}
+use Rattle.miniserde_ser.specs.Trees.{trees_of}
+use Rattle.miniserde_ser.proofs.Items.{compact_children_later}
 use Rattle.miniserde_ser.proofs.ser.impls.sequences.write_items.Goals as goal
 
-pub loop-x-preserved : goal.loop-x-preserved
-loop-x-preserved g c =
+pub loop-item-preserved-in_ok-append : goal.loop-item-preserved-in_ok-append
+loop-item-preserved-in_ok-append g c =
     let f = g.T.Serialize.tree in
-    let i = c.loop-x.x-index in
-    let xs = c.args.items.now in
-    let x = c.x-item.result in
-    let inv = c.loop-x.invariant in
-    let e = c.in_ok-element.ensures.ok in
+    let inv = c.loop-item.invariant in
+    let split = c.in-Some.ensures.cases in
     record {
-      text = compact_children_step f xs i x c.loop-x.w.first _ _ _ _ (omega arith) c.x-item.is inv.start inv.later
-          inv.text (ap (λ s. s.text) e) c.in_ok-begin.ensures.ok;
-      all_in_range = AllInRange_step f xs i x (omega arith) c.x-item.is inv.all_in_range c.in_ok-begin.ensures.in_range;
-      start = λ e. absurd (omega arith);
-      later = λ _. c.in_ok-begin.ensures.first (ap (λ s. s.first) e);
-      unrefused = c.in_ok-begin.ensures.unrefused;
+      text = compact_children_later f c.loop-item.rest.now c.in-Some.later.now c.in-Some.item.now _ _ _ _ split.0
+          (grind (arith, nat_tests, c.is_empty.ensures, c.if-not-is_empty.true)) inv.text c.in_ok-begin.ensures.ok
+          (ap (λ s. s.text) c.in_ok-append.ensures.ok);
+      in_range = λ r. inv.in_range (subst (λ xs. AllInRange (trees_of f xs)) (sym split.0) (c.in_ok-begin.ensures.in_range, r));
+      unrefused = ap (λ s. s.refused) c.in_ok-append.ensures.ok ∙ c.in_ok-begin.ensures.unrefused;
       was_running = inv.was_running;
     }
