@@ -110,6 +110,10 @@ impl Leaf for {name} {{
 
     ghost only_leaves = {{ (λ ts. refl, λ ms. refl) }};
 
+    ghost read_infallible = {{ {value}.parse_infallible }};
+
+    ghost lacking = {{ IsStringEvent }};
+
     fn from_step(alloc: Global, event: Step<'_>) -> Result<{name}> {{
         text_value_from_step(alloc, event)
     }}
@@ -117,6 +121,10 @@ impl Leaf for {name} {{
 
 impl FromJson for {name} {{
     ghost means = {{ ⟦<{name} as Leaf>⟧.means }};
+
+    ghost read_infallible = {{ {value}.parse_infallible }};
+
+    ghost lacking = {{ λ event _ _. IsStringEvent event }};
 
     fn missing() -> Option<{name}> {{
         None
@@ -358,6 +366,10 @@ impl Leaf for {name} {{
 {wrapped("means", means)}
 
     ghost only_leaves = {{ (λ ts. refl, λ ms. refl) }};
+
+    ghost read_infallible = {{ ⟦<{of} as Leaf>⟧.read_infallible }};
+
+    ghost lacking = {{ ⟦<{of} as Leaf>⟧.lacking }};
 
     fn from_step(alloc: Global, event: Step<'_>) -> Result<{name}> {{
         checked_from_step(alloc, event)

@@ -1,5 +1,6 @@
 //! The trait `TextValue` of types whose values are written as JSON strings.
-ghost use Rattle.std.specs.Prelude.{◌≡◌, ◌++◌, ℕ, List, Option, Some, Ok, Err, IfOk, OnOk, OnErr, IsErrOf, string_bytes};
+ghost use Rattle.std.specs.Prelude.{◌≡◌, ◌++◌, ℕ, Bool, true, false, List, Option, Some, Ok, Err, IfOk, IfErr, OnOk, OnErr};
+ghost use Rattle.std.specs.Prelude.{IsErrOf, string_bytes};
 ghost use Rattle.miniserde_model.specs.declared.error.Error.{Error};
 ghost use Rattle.miniserde_model.specs.declared.error.Error.TheVariants.{Memory};
 
@@ -9,7 +10,8 @@ use std::alloc::Global;
 /// A type whose values are written as JSON strings, as an identifier or a date of another crate in a newtype. Its text
 /// is parsed as a value of the same content.
 pub trait TextValue: Sized + Drop {
-    // The content of a value, and the type of that content.
+    // The content of a value, and the type of that content. It must tell apart values that are not equal: contracts
+    // compare values by it alone, and no law asks for that.
     ghost Content: { Type 0 };
 
     ghost content: { Self → Content };
@@ -20,10 +22,14 @@ pub trait TextValue: Sized + Drop {
     // The text of a value of the content.
     ghost text: { Content → List ℕ };
 
+    // If true, `parse` never returns `Memory`.
+    ghost parse_infallible: { Bool } = { false };
+
     /// Parses a value. Returns `Invalid` if the text is parsed as no content, and `Memory` if an allocation fails.
     fn parse(alloc: Global, s: &str) -> Result<Self>
         ensures value { IfOk result (λ v. parsed s.now ≡ Some (content v)) }
-        ensures invalid { result ≡ Err Error.Invalid → ((c : Content) × (parsed s.now ≡ Some c)) → ⊥ };
+        ensures invalid { result ≡ Err Error.Invalid → ((c : Content) × (parsed s.now ≡ Some c)) → ⊥ }
+        ensures infallible { parse_infallible ≡ true → IfErr result (λ e. e ≡ Error.Invalid) };
 
     /// Appends the text of the value to `out`. Each error is `Memory`; no clause says what is then in `out`.
     fn write(&self, out: &mut String) -> Result<()>

@@ -1,6 +1,6 @@
 -- A text that spells a tree spells the events of the tree, one after another. By recursion over the tree, with the
 -- later events as a parameter; whitespace before an event belongs to that event (`due_space`, `after_space`).
-use Rattle.std.proofs.Common.{◌≡◌, ℕ, List, [], ◌∷◌, ◌++◌, refl, sym, ap, subst, ◌∙◌, append_assoc, append-nil}
+use Rattle.std.proofs.Common.{◌≡◌, ℕ, false, List, [], ◌∷◌, ◌++◌, refl, sym, ap, subst, ◌∙◌, append_assoc, append-nil}
 use Rattle.miniserde_model.specs.Tree.{Tree, null, truth, nonneg, neg, num, str, list, members, Trees, no_trees}
 use Rattle.miniserde_model.specs.Tree.{tree, Members, no_members, member}
 use Rattle.miniserde_model.specs.String.{IsString}
@@ -10,10 +10,12 @@ use Rattle.miniserde_model.specs.Value.{AreMembers, AreMoreMembers, IsJson}
 use Rattle.miniserde_model.specs.Step.{Step, boolean, string, negative, nonnegative, float, seq, element, map, key}
 use Rattle.miniserde_model.specs.Step.{finish, events, child_events, member_events}
 use Rattle.miniserde_model.specs.Step as step
-use Rattle.miniserde_model.specs.Lexing.{IsName}
+use Rattle.miniserde_model.specs.Bytes.{StopsAt, is_number_byte}
+use Rattle.miniserde_model.specs.Lexing.{IsByte, IsName}
 use Rattle.miniserde_model.specs.declared.kind.Kind.{Kind}
 use Rattle.miniserde_model.specs.declared.kind.Kind.TheVariants.{Seq, Map}
 use Rattle.miniserde_model.specs.private.Reading.{Moment, due, first, after, StandsThen, Spells}
+use Rattle.miniserde_model.proofs.Prefixes.{goes_on, space_ends_number}
 
 -- whitespace with whitespace behind it is whitespace
 pub space_append : (v w : List ℕ) → IsWhitespace v → IsWhitespace w → IsWhitespace (v ++ w)
@@ -59,6 +61,13 @@ after_space _ _ w b h p = absurd p
 -- a text that is a part and then a rest, without whitespace before the part
 pub at_front : {P K : List ℕ → Type 0} (v r b : List ℕ) → P v → K r → b ≡ v ++ r → StandsThen P K b
 at_front v r b p k e = record { space = []; part = v; rest = r; text = e; is_space = tt; is_part = p; is_rest = k }
+
+-- in front of a byte that is part of no number, no number goes on
+pub front_byte_stops : (c : ℕ) (K : List ℕ → Type 0) (b : List ℕ) → goes_on c ≡ false → StandsThen (IsByte c) K b
+    → StopsAt is_number_byte b
+front_byte_stops c K b h p =
+    subst (StopsAt is_number_byte) (sym (p.text ∙ ap (λ z. p.space ++ (z ++ p.rest)) p.is_part))
+    (space_ends_number p.space (c ∷ p.rest) p.is_space h)
 
 -- an element, from what follows its value
 spaced_due : {P : List ℕ → Type 0} (es more : List Step) (st : List Kind) (a r : List ℕ) (p : Spaced P a)

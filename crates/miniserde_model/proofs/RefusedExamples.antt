@@ -3,6 +3,7 @@
 -- (`element_first`), or the first character of a string (`behind_quote`).
 use Rattle.std.proofs.Common.{◌≡◌, ℕ, ◌+◌, ◌*◌, ◌<◌, false, List, [], ◌∷◌, ◌++◌, codes, length, length-append, refl}
 use Rattle.std.proofs.Common.{sym, ap, subst, ◌∙◌, append_assoc, append-nil, arith, inl, inr}
+use Rattle.std.specs.List.{AllByRecursion}
 use Rattle.std.specs.Char.{digit_value}
 use Rattle.std.proofs.lemmas.Str.{char_from_byte}
 use lib.Utf8.{scalar_cases}
@@ -16,14 +17,15 @@ use Rattle.miniserde_model.specs.Step.{Step, element, finish, child_events}
 use Rattle.miniserde_model.specs.Lexing.{IsByte}
 use Rattle.miniserde_model.specs.declared.kind.Kind.{Kind}
 use Rattle.miniserde_model.specs.declared.kind.Kind.TheVariants.{Seq}
-use Rattle.miniserde_model.specs.private.Reading.{due, first, StandsThen, Spells}
+use Rattle.miniserde_model.specs.private.Reading.{due, first, after, StandsThen, Spells}
 use Rattle.miniserde_model.specs.Examples.{RefusedTexts}
 use Rattle.miniserde_model.proofs.Runs.{AllPass, same_run}
 use Rattle.miniserde_model.proofs.Prefixes.{whitespace_passes, space_ends_number}
 use Rattle.miniserde_model.proofs.Numbers.{number_pass}
-use Rattle.miniserde_model.proofs.Unique.{kind, kind_of_byte, kind_below, known_no_space, value_head, value_heads}
-use Rattle.miniserde_model.proofs.Reading.{json_spells}
+use Rattle.miniserde_model.proofs.Unique.{kind, kind_of_byte, kind_below, known_no_space, value_head, value_heads, same_value}
+use Rattle.miniserde_model.proofs.Reading.{front_byte_stops, json_spells}
 use Rattle.miniserde_model.proofs.ReadBack.{find_value}
+use Rattle.miniserde_model.proofs.Examples.{numeral_1, numeral_2}
 
 -- where a text begins with no space, a value stands at its front
 record AtFront (c : ℕ) (r : List ℕ) (t : Tree) : Type 0 where
@@ -54,6 +56,10 @@ at_front c r t s p =
           p.is_after;
       of_kind = value_kind t c r p.inner p.after p.is_inner split.1;
     }
+
+-- a text whose first byte is no space and begins no value
+no_value : (c : ℕ) (r : List ℕ) → is_space c ≡ false → kind_of_byte c ≡ 7 → HasNoTree (c ∷ r)
+no_value c r s k t p = let f = at_front c r t s p in omega (arith, k, f.of_kind, kind_below t)
 
 no_text : HasNoTree []
 no_text t p =
@@ -111,6 +117,31 @@ zero_alone c r d n =
 leading_zero : HasNoTree (codes "01")
 leading_zero t p = zero_alone 49 [] (omega arith, omega arith) (whole_number 48 (codes "1") t refl (refl, (refl, tt)) p)
 
+no_point_exponent : (x : List ℕ) → IsExponent x → 46 ∷ [] ≡ x → ⊥
+no_point_exponent x (inl h) e = cc
+no_point_exponent x (inr h) e = let same : 46 ≡ h.0 = cc in elim (h.4) [ inl k ↦ omega arith | inr k ↦ omega arith ]
+
+lone_point : (f x : List ℕ) → IsFraction f → IsExponent x → 46 ∷ [] ≡ f ++ x → ⊥
+lone_point f x (inl h) q e = no_point_exponent x q (e ∙ ap (λ z. z ++ x) h)
+lone_point f x (inr h) q e =
+    let g : ◌≡◌ {A = List ℕ} (46 ∷ []) (46 ∷ (h.0 ++ x)) = e ∙ ap (λ z. z ++ x) h.1 in
+    omega (arith, ap length g, length-append h.0 x, h.2.0)
+
+point_behind : (ds y : List ℕ) → AllByRecursion IsDigit ds → 46 ∷ [] ≡ ds ++ y → 46 ∷ [] ≡ y
+point_behind [] y h e = e
+point_behind (d ∷ ds) y h e = let same : 46 ≡ d = cc in absurd (omega (arith, h.0.0))
+
+one_point : (w y : List ℕ) → IsInt w → 49 ∷ 46 ∷ [] ≡ w ++ y → 46 ∷ [] ≡ y
+one_point [] y p e = absurd p
+one_point (d ∷ ds) y (inl h) e = let same : ◌≡◌ {A = ℕ} 49 d = cc in absurd (omega arith)
+one_point (d ∷ ds) y (inr h) e = let f : 46 ∷ [] ≡ ds ++ y = cc in point_behind ds y h.1 f
+
+no_fraction_digits : HasNoTree (codes "1.")
+no_fraction_digits t p =
+    let n = whole_number 49 (codes ".") t refl (refl, (refl, tt)) p in
+    let e = unsigned 49 (codes ".") n.minus (n.int ++ (n.fraction ++ n.exponent)) n.is_minus (λ k. omega arith) n.text in
+    lone_point n.fraction n.exponent n.is_fraction n.is_exponent (one_point n.int (n.fraction ++ n.exponent) n.is_int e)
+
 -- lists, one byte or value after another
 
 front_byte : (c d : ℕ) (r : List ℕ) (K : List ℕ → Type 0) → is_space c ≡ false → is_space d ≡ false
@@ -145,11 +176,42 @@ element_first c r (element ∷ es) st s n p = (es, p)
 element_first c r (finish ∷ es) st s n p = absurd (n (front_byte c 93 r _ s refl p).0)
 element_first c r _ st s n p = absurd p
 
+comma_after : (r : List ℕ) (es : List Step) (st : List Kind) → Spells after es (Seq ∷ st) (44 ∷ r)
+    → (left : List Step) × Spells due left (Seq ∷ st) r
+comma_after r (element ∷ es) st p = (es, (front_byte 44 44 r _ refl refl p).1)
+comma_after r (finish ∷ es) st p = let same : ◌≡◌ {A = ℕ} 44 93 = (front_byte 44 93 r _ refl refl p).0 in absurd (omega arith)
+comma_after r _ st p = absurd p
+
+-- behind an element no number goes on
+element_stops : (es : List Step) (st : List Kind) (b : List ℕ) → Spells after es (Seq ∷ st) b → StopsAt is_number_byte b
+element_stops (element ∷ es) st b p = front_byte_stops 44 _ b refl p
+element_stops (finish ∷ es) st b p = front_byte_stops 93 _ b refl p
+element_stops _ st b p = absurd p
+
+-- a value and a comma
+value_comma : (t : Tree) (b r : List ℕ) (es : List Step) (st : List Kind) → IsValue t b
+    → Spells due es (Seq ∷ st) (b ++ 44 ∷ r) → (left : List Step) × Spells due left (Seq ∷ st) r
+value_comma t b r es st v p =
+    let f = find_value (length es) es (Seq ∷ st) (b ++ 44 ∷ r) (omega arith) p in
+    let front = same_run is_space [] f.space (b ++ 44 ∷ r) (f.value ++ f.rest) tt (whitespace_passes f.space f.is_space)
+    ((value_heads t).no_space b (44 ∷ r) v) ((value_heads f.found).no_space f.value f.rest f.is_value) f.text in
+    let same = same_value t f.found b f.value (44 ∷ r) f.rest v f.is_value refl
+    (element_stops f.left st f.rest f.is_rest) front.1 in
+    comma_after r f.left st (subst (Spells after f.left (Seq ∷ st)) (sym same.1) f.is_rest)
+
 wrong_bracket : HasNoTree (codes "[}")
 wrong_bracket t p =
     let inside = list_opened (codes "}") t p in
     let f = element_first 125 [] inside.0 [] refl (λ e. omega arith) inside.1 in
     no_value_due 125 [] f.0 (Seq ∷ []) refl refl f.1
+
+last_comma : HasNoTree (codes "[1,2,]")
+last_comma t p =
+    let inside = list_opened (codes "1,2,]") t p in
+    let at_1 = element_first 49 (codes ",2,]") inside.0 [] refl (λ e. omega arith) inside.1 in
+    let at_2 = value_comma (nonneg 1) (codes "1") (codes "2,]") at_1.0 [] numeral_1 at_1.1 in
+    let at_end = value_comma (nonneg 2) (codes "2") (codes "]") at_2.0 [] numeral_2 at_2.1 in
+    no_value_due 93 [] at_end.0 (Seq ∷ []) refl refl at_end.1
 
 -- strings
 
@@ -191,6 +253,27 @@ behind_quote z r t n p =
 raw_byte : (a x r : List ℕ) (c z : ℕ) → z < 128 → IsRaw a c → a ++ x ≡ z ∷ r → c ≡ z
 raw_byte a x r c z low p e = char_from_byte (z ∷ r) x c (sym e ∙ ap (λ w. w ++ x) p.text) low (omega arith)
 
+control_no_piece : (a x r : List ℕ) (c z : ℕ) → z < 32 → IsPiece a c → a ++ x ≡ z ∷ r → ⊥
+control_no_piece a x r c z low (raw p) e = let same = raw_byte a x r c z (omega arith) p e in omega (arith, p.printable)
+control_no_piece a x r c z low (short l s k) e =
+    let f : ◌≡◌ {A = List ℕ} (92 ∷ l ∷ x) (z ∷ r) = ap (λ w. w ++ x) (sym k) ∙ e in
+    let same : 92 ≡ z = cc in
+    omega arith
+control_no_piece a x r c z low (unit s p) e =
+    let f : ◌≡◌ {A = List ℕ} (92 ∷ 117 ∷ p.d3 ∷ p.d2 ∷ p.d1 ∷ p.d0 ∷ x) (z ∷ r) = ap (λ w. w ++ x) (sym p.text) ∙ e in
+    let same : 92 ≡ z = cc in
+    omega arith
+control_no_piece a x r c z low (pair p) e =
+    let u = p.is_first in
+    let f : ◌≡◌ {A = List ℕ} (92 ∷ 117 ∷ u.d3 ∷ u.d2 ∷ u.d1 ∷ u.d0 ∷ (p.second ++ x)) (z ∷ r) =
+    ap (λ w. w ++ (p.second ++ x)) (sym u.text) ∙ sym (append_assoc p.first p.second x) ∙ ap (λ w. w ++ x) (sym p.text) ∙ e in
+    let same : 92 ≡ z = cc in
+    omega arith
+
+control_byte : HasNoTree (34 ∷ 0x1F ∷ 34 ∷ [])
+control_byte t p = let f = behind_quote 31 (34 ∷ []) t (λ e. omega arith) p in
+    control_no_piece f.piece f.rest (34 ∷ []) f.character 31 (omega arith) f.is_piece f.text
+
 short_not_u : (l c : ℕ) → IsShortEscape l c → l ≡ 117 → ⊥
 short_not_u l c quote e = omega arith
 short_not_u l c _ e = omega arith
@@ -229,7 +312,13 @@ lone_surrogate t p = let f = behind_quote 92 (codes "ud800\"") t (λ e. omega ar
 pub refused_texts : RefusedTexts
 refused_texts = record {
   empty = no_text;
+  form_feed = no_value 12 (49 ∷ []) refl refl;
+  plus_sign = no_value 43 (codes "1") refl refl;
+  no_whole_part = no_value 46 (codes "5") refl refl;
   leading_zero = leading_zero;
+  no_fraction_digits = no_fraction_digits;
   wrong_bracket = wrong_bracket;
+  last_comma = last_comma;
   lone_surrogate = lone_surrogate;
+  control_byte = control_byte;
 }

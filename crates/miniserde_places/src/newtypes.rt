@@ -23,6 +23,7 @@ pub fn checked_from_step<N: CheckedLeaf>(alloc: Global, event: Step<'_>) -> Resu
     ensures invalid { result ≡ Err Error.Invalid
         → on_leaf (checked_meaning N.means N.accepts N.inner).from_tree (event_of event.entry) ≡ None }
     ensures infallible { N.Inner.Leaf.read_infallible ≡ true → IfErr result (λ e. e ≡ Error.Invalid) }
+    ensures memory { result ≡ Err Error.Memory → N.Inner.Leaf.lacking (event_of event.entry) }
 {
     match N::new(<N::Inner as Leaf>::from_step(alloc, event)?) {
         Some(value) => Ok(value),

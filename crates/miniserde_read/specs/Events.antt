@@ -29,6 +29,11 @@ EventInRange (negative n) = n ≤ℤ pos 0
 EventInRange (float x) = IsNumber x (num x)
 EventInRange _ = ⊤
 
+-- the event is a string
+abbrev pub IsStringEvent : model.Step → Type 0
+IsStringEvent (string s) = ⊤
+IsStringEvent _ = ⊥
+
 -- the leaf whose only event this is, if there is such a leaf
 abbrev pub leaf_of : model.Step → Option Tree
 leaf_of model.null = Some null

@@ -1,5 +1,6 @@
 //! The trait of types whose values are single tokens.
-ghost use Rattle.std.specs.Prelude.{◌≡◌, Bool, true, false, None, Some, Err, IfOk, IfErr};
+ghost use Rattle.std.specs.Prelude.{◌≡◌, Bool, true, false, None, Some, Err, IfOk, IfErr, ⊤};
+ghost use Rattle.miniserde_model.specs.Step as step;
 ghost use Rattle.miniserde_text.specs.Lexer.{event_of_token};
 ghost use Rattle.miniserde_model.specs.declared.error.Error.{Error};
 ghost use Rattle.miniserde_read.specs.Meaning.{Meaning};
@@ -26,13 +27,17 @@ pub trait Leaf: Drop {
     // If true, `from_step` never returns `Memory`.
     ghost read_infallible: { Bool } = { false };
 
+    // What holds of the event if `from_step` returns `Memory`. By default it says nothing.
+    ghost lacking: { step.Step → Type 0 } = { λ _. ⊤ };
+
     /// Returns the value that the event means, or `Invalid` if it means none of this type. Returns `Memory` if an
     /// allocation fails.
     fn from_step(alloc: Global, event: Step<'_>) -> Result<Self>
         requires { EventInRange (event_of event) }
         ensures ok { IfOk result (λ v. on_leaf means.from_tree (event_of event.entry) ≡ Some (means.content v)) }
         ensures invalid { result ≡ Err Error.Invalid → on_leaf means.from_tree (event_of event.entry) ≡ None }
-        ensures infallible { read_infallible ≡ true → IfErr result (λ e. e ≡ Error.Invalid) };
+        ensures infallible { read_infallible ≡ true → IfErr result (λ e. e ≡ Error.Invalid) }
+        ensures memory { result ≡ Err Error.Memory → lacking (event_of event.entry) };
 }
 
 /// Returns the value that the token means, or `Invalid` if it means none of this type, or `Memory` if an allocation
@@ -47,6 +52,7 @@ pub fn read_leaf<'a, T: Leaf>(token: Event<'a>, source: &mut Source<'a>) -> Resu
     ensures invalid { result ≡ Err Error.Invalid
         → GivesNoneAt T.means.from_tree (event_of_token token.entry source.old.scratch) source.old.rest }
     ensures infallible { T.read_infallible ≡ true → IfErr result (λ e. e ≡ Error.Invalid) }
+    ensures memory { result ≡ Err Error.Memory → T.lacking (event_of_token token.entry source.old.scratch) }
 {
     T::from_step(source.alloc(), source.step(token))
 }

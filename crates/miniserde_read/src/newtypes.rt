@@ -4,7 +4,7 @@ ghost use Rattle.miniserde_text.specs.Lexer.{event_of_token};
 ghost use Rattle.miniserde_model.specs.declared.error.Error.{Error};
 ghost use Rattle.miniserde_read.specs.Meaning.{Meaning};
 ghost use Rattle.miniserde_read.specs.Rest.{GivesAt, GivesNoneAt};
-ghost use Rattle.miniserde_read.specs.Events.{event_of, EventInRange, on_leaf};
+ghost use Rattle.miniserde_read.specs.Events.{event_of, EventInRange, IsStringEvent, on_leaf};
 ghost use Rattle.miniserde_read.specs.Newtypes.{checked_meaning, parsed_of, SameMeaning};
 
 use crate::from_json::FromJson;
@@ -68,10 +68,12 @@ pub fn read_checked<'a, N: Checked>(token: Event<'a>, source: &mut Source<'a>) -
 }
 
 /// Returns the value that the event's string is parsed as. Returns `Invalid` if the event is no string, or if its
-/// string is parsed as no value, and `Memory` if an allocation fails.
+/// string is parsed as no value, and `Memory` if the event is a string and an allocation fails.
 pub fn text_value_from_step<T: TextValue>(alloc: Global, event: Step<'_>) -> Result<T>
     ensures ok { IfOk result (λ v. on_leaf (parsed_of T.parsed) (event_of event.entry) ≡ Some (T.content v)) }
     ensures invalid { result ≡ Err Error.Invalid → on_leaf (parsed_of T.parsed) (event_of event.entry) ≡ None }
+    ensures infallible { T.parse_infallible ≡ true → IfErr result (λ e. e ≡ Error.Invalid) }
+    ensures memory { result ≡ Err Error.Memory → IsStringEvent (event_of event.entry) }
 {
     match event {
         Step::Str(text) => T::parse(alloc, text),

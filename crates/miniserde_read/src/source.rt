@@ -11,7 +11,7 @@ ghost use Rattle.miniserde_model.specs.declared.error.Error.{Error};
 ghost use Rattle.miniserde_read.specs.Events.{event_of};
 ghost use Rattle.miniserde_read.specs.Lacking.{EscapedMember};
 ghost use Rattle.miniserde_read.specs.Rest.{MembersAt};
-ghost use Rattle.miniserde_read.specs.Source.{NameFollows};
+ghost use Rattle.miniserde_read.specs.Source.{NameFollows, left_scratch};
 
 use crate::step::Step;
 use miniserde_model::error::{Error, Result};
@@ -162,14 +162,14 @@ impl<'a> Source<'a> {
         }
     }
 
-    /// Returns the text of a name or a string, and borrows nothing of the source: the scratch text is moved out of it.
-    /// It must be the text that the last call took; only `after` and `end` may come between, and one call of this
-    /// function.
+    /// Returns the text of a name or a string, and borrows nothing of the source: the scratch text is moved out of it,
+    /// and is empty afterwards. It must be the text that the last call took; only `after` and `end` may come between.
     #[inline(always)]
     pub fn take_text(&mut self, text: Text<'a>) -> CowStr<'a>
         ensures text { cow_str_bytes result ≡ text_of text.entry self.old.scratch }
         ensures rest { self.new.rest ≡ self.old.rest }
         ensures refused { self.new.refused ≡ self.old.refused }
+        ensures scratch { self.new.scratch ≡ left_scratch text.entry self.old.scratch }
     {
         match text {
             Text::Input(text) => CowStr::Borrowed(text),

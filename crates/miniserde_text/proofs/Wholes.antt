@@ -11,8 +11,8 @@ use Rattle.miniserde_model.specs.Lexing.{IsByte, Stands, Starts, Begins, Follows
 use Rattle.miniserde_model.specs.declared.kind.Kind.{Kind}
 use Rattle.miniserde_model.specs.declared.kind.Kind.TheVariants.{Seq, Map}
 use Rattle.miniserde_model.specs.private.Reading.{Moment, due, first, after, StandsThen, Spells}
-use Rattle.miniserde_model.proofs.Prefixes.{goes_on, space_ends_number}
-use Rattle.miniserde_model.proofs.Reading.{due_space, space_append, json_spells}
+use Rattle.miniserde_model.proofs.Prefixes.{space_ends_number}
+use Rattle.miniserde_model.proofs.Reading.{due_space, front_byte_stops, space_append, json_spells}
 use Rattle.miniserde_model.proofs.ReadBack.{spells_json}
 use Rattle.miniserde_model.proofs.Unique.{kind_of_byte, Head, known_no_space}
 use Rattle.miniserde_text.specs.private.Stack.{with_opened}
@@ -53,11 +53,6 @@ run_spells after (finish ∷ es) (Map ∷ st) s r h w = standing s h.0 h.1 (run_
 run_spells _ _ _ s r h w = absurd h
 
 -- ---- to a run
-
-front_byte_stops : (c : ℕ) (K : List ℕ → Type 0) (b : List ℕ) → goes_on c ≡ false → StandsThen (IsByte c) K b → StopsAt is_number_byte b
-front_byte_stops c K b h p =
-    subst (StopsAt is_number_byte) (sym (p.text ∙ ap (λ z. p.space ++ (z ++ p.rest)) p.is_part))
-    (space_ends_number p.space (c ∷ p.rest) p.is_space h)
 
 all_space_stops : (b : List ℕ) → IsWhitespace b → StopsAt is_number_byte b
 all_space_stops [] h = tt

@@ -44,10 +44,10 @@ impl<T: Leaf> Visitor for LeafPlace<T> {
 
     ghost take_infallible = { true };
 
-    // If reading an event never fails to allocate, `step` returns `Memory` only if the place keeps that error
-    // already.
-    ghost further = { λ old e answer new.
-        T.read_infallible ≡ true → answer ≡ Err Error.Memory → refusal_of old ≡ Some Error.Memory };
+    // If reading an event, or this one, never fails to allocate, `step` returns `Memory` only if the place keeps that
+    // error already.
+    ghost further = { λ old e answer new. (T.lacking e → T.read_infallible ≡ true)
+        → answer ≡ Err Error.Memory → refusal_of old ≡ Some Error.Memory };
 
     fn begin(alloc: Global) -> Result<LeafPlace<T>> {
         Ok(LeafPlace {

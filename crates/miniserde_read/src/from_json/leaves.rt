@@ -41,6 +41,8 @@ impl<T: StdLeaf> FromJson for T {
 
     ghost read_infallible = { T.read_infallible };
 
+    ghost lacking = { λ event _ _. T.lacking event };
+
     fn missing() -> Option<T> {
         None
     }

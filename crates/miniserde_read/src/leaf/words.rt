@@ -1,5 +1,6 @@
 //! Reads `()`, `bool` and `String` from single tokens.
 ghost use Rattle.std.specs.Prelude.{◌≡◌, true, refl, string_bytes};
+ghost use Rattle.miniserde_read.specs.Events.{IsStringEvent};
 ghost use Rattle.miniserde_read.specs.Meanings.{unit_meaning, boolean_meaning, string_meaning};
 
 use super::Leaf;
@@ -43,6 +44,8 @@ impl Leaf for String {
     ghost means = { string_meaning string_bytes };
 
     ghost only_leaves = { (λ ts. refl, λ ms. refl) };
+
+    ghost lacking = { IsStringEvent };
 
     #[inline(always)]
     fn from_step(alloc: Global, event: Step<'_>) -> Result<String> {
