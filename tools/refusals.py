@@ -26,6 +26,8 @@ OF_LAWS = {
 }
 # Those of the crate `refused`, which code names that is derived of a struct with this word.
 OF_REFUSED = {"refused": "FieldByField FieldPath NamesOf NoProbe Probe ProbeInto ProbeIntoOption Probes Way fields_give"}
+# Those of places, which `miniserde_core` has not.
+OF_PLACED = "CheckedLeaf Deserialize Field Four LeafPlace NamePlace NoField OnceField OnceFour PlacedRecord RecordPlace Visitor checked_from_step"
 # Names of Rust's prelude and of the clauses, which derived code uses as they are.
 OF_RUST = "Box Err List None Ok Option Self Some String Vec"
 

@@ -106,6 +106,10 @@ impl Leaf for Percent {
 
     ghost only_leaves = { (λ ts. refl, λ ms. refl) };
 
+    ghost read_infallible = { ⟦<u8 as Leaf>⟧.read_infallible };
+
+    ghost lacking = { ⟦<u8 as Leaf>⟧.lacking };
+
     fn from_step(alloc: Global, event: Step<'_>) -> Result<Percent> {
         checked_from_step(alloc, event)
     }

@@ -1,4 +1,5 @@
 //! The types of `ids.rs`, with the impls that `./derive` writes.
+ghost use Rattle.miniserde.specs.Events.{IsStringEvent};
 ghost use Rattle.miniserde.specs.FieldsMeaning.{struct_meaning};
 ghost use Rattle.miniserde.specs.Newtypes.{text_value_meaning};
 ghost use Rattle.miniserde.specs.Place.{wrapper_meaning};
@@ -24,6 +25,10 @@ impl Leaf for AccountId {
 
     ghost only_leaves = { (λ ts. refl, λ ms. refl) };
 
+    ghost read_infallible = { ⟦<AccountId as TextValue>⟧.parse_infallible };
+
+    ghost lacking = { IsStringEvent };
+
     fn from_step(alloc: Global, event: Step<'_>) -> Result<AccountId> {
         text_value_from_step(alloc, event)
     }
@@ -31,6 +36,10 @@ impl Leaf for AccountId {
 
 impl FromJson for AccountId {
     ghost means = { ⟦<AccountId as Leaf>⟧.means };
+
+    ghost read_infallible = { ⟦<AccountId as TextValue>⟧.parse_infallible };
+
+    ghost lacking = { λ event _ _. IsStringEvent event };
 
     fn missing() -> Option<AccountId> {
         None

@@ -1,4 +1,5 @@
 //! The types of `releases.rs`, with the impls that `./derive` writes.
+ghost use Rattle.miniserde.specs.Events.{IsStringEvent};
 ghost use Rattle.miniserde.specs.Newtypes.{text_value_meaning};
 ghost use Rattle.miniserde.specs.Tree.{str};
 ghost use Rattle.std.specs.Prelude.{◌≡◌, Some, refl};
@@ -19,6 +20,10 @@ impl Leaf for Release {
 
     ghost only_leaves = { (λ ts. refl, λ ms. refl) };
 
+    ghost read_infallible = { ⟦<Release as TextValue>⟧.parse_infallible };
+
+    ghost lacking = { IsStringEvent };
+
     fn from_step(alloc: Global, event: Step<'_>) -> Result<Release> {
         text_value_from_step(alloc, event)
     }
@@ -26,6 +31,10 @@ impl Leaf for Release {
 
 impl FromJson for Release {
     ghost means = { ⟦<Release as Leaf>⟧.means };
+
+    ghost read_infallible = { ⟦<Release as TextValue>⟧.parse_infallible };
+
+    ghost lacking = { λ event _ _. IsStringEvent event };
 
     fn missing() -> Option<Release> {
         None

@@ -304,6 +304,10 @@ impl Leaf for Slug {
 
     ghost only_leaves = { (λ ts. refl, λ ms. refl) };
 
+    ghost read_infallible = { ⟦<String as Leaf>⟧.read_infallible };
+
+    ghost lacking = { ⟦<String as Leaf>⟧.lacking };
+
     fn from_step(alloc: Global, event: Step<'_>) -> Result<Slug> {
         checked_from_step(alloc, event)
     }

@@ -3,6 +3,7 @@
 
 use crate::accounts::{Account, Slug, Tagged, UserId};
 use crate::forms::{Celsius, Fee, Flag, Initial, Maybe, Name};
+use crate::kinds::{At, Choice, Consent, Count, Offset, Port, Title, Word, Wrapped};
 use crate::optional::{Held, Optional, Owner, Raw};
 use crate::percents::Percent;
 use crate::spans::Span;
@@ -142,6 +143,76 @@ const RAW: &str = r#"{"b":-0,"a":[1.50, -0]} => {"a":[1.50,0],"b":0}
 null => same
 {"a":1.5.0}
 [1,]"#;
+
+const NUMBERS: &str = r#"{"value":0} => same
+{"value":255} => same
+{"value":-1}
+{"value":"7"}
+{"value":null}
+{}"#;
+
+const PORTS: &str = r#"{"value":1} => same
+{"value":65535} => same
+{"value":0}
+{"value":65536}
+{"value":-1}
+{"value":"443"}"#;
+
+const BY_PORT: &str = r#"{"443":1,"80":2} => {"80":2,"443":1}
+{"+0443":1} => {"443":1}
+{"80":1,"080":2} => {"80":2}
+{"0":1}
+{"65536":1}
+{"-1":1}
+{"":1}"#;
+
+const OFFSETS: &str = r#"{"value":-2147483648} => same
+{"value":2147483647} => same
+{"value":-2147483649}
+{"value":2147483648}"#;
+
+const BY_OFFSET: &str = r#"{"-5":1,"+3":2,"-0":3} => {"-5":1,"0":3,"3":2}
+{"2147483648":1}
+{"a":1}"#;
+
+const TITLES: &str = r#"{"value":""} => same
+{"value":"\u0041 b"} => {"value":"A b"}
+{"value":7}"#;
+
+const WORDS: &str = r#"{"value":"a-9"} => same
+{"value":""}
+{"value":"A"}
+{"value":7}"#;
+
+const CHOICES: &str = r#"{"value":true} => same
+{"value":false} => same
+{"value":"true"}
+{"value":1}"#;
+
+const CONSENTS: &str = r#"{"value":true} => same
+{"value":false}
+{"value":null}"#;
+
+// Each kind of newtype with each word that goes with it, as a field, and with the word `key` as a map's key.
+#[test]
+fn newtypes_of_each_kind(rt: HostRuntime) -> Result<(), Wrong> {
+    let alloc = rt.alloc();
+    expect_read_itself::<At<Count>>(alloc, NUMBERS)?;
+    expect_read_itself::<At<UserId>>(alloc, NUMBERS)?;
+    expect_read_itself::<At<Wrapped<u8>>>(alloc, NUMBERS)?;
+    expect_read_itself::<At<Tagged<u16>>>(alloc, NUMBERS)?;
+    expect_read_itself::<At<Port>>(alloc, PORTS)?;
+    expect_read_itself::<BTreeMap<Port, u8>>(alloc, BY_PORT)?;
+    expect_read_itself::<At<Offset>>(alloc, OFFSETS)?;
+    expect_read_itself::<BTreeMap<Offset, u8>>(alloc, BY_OFFSET)?;
+    expect_read_itself::<At<Title>>(alloc, TITLES)?;
+    expect_read_again::<At<Name>>(alloc, TITLES)?;
+    expect_read_itself::<At<Word>>(alloc, WORDS)?;
+    expect_read_itself::<At<Slug>>(alloc, WORDS)?;
+    expect_read_itself::<At<Choice>>(alloc, CHOICES)?;
+    expect_read_again::<At<Flag>>(alloc, CHOICES)?;
+    expect_read_itself::<At<Consent>>(alloc, CONSENTS)
+}
 
 #[test]
 fn texts_of_newtypes(rt: HostRuntime) -> Result<(), Wrong> {
