@@ -1,4 +1,4 @@
-/* Writes the canonical text of standard input. Built by: gcc example.c $(pkg-config --cflags --libs miniserde) */
+/* Writes the canonical text of standard input. Built by: gcc canonical.c $(pkg-config --cflags --libs miniserde) */
 #include <miniserde.h>
 #include <stdio.h>
 #include <stdlib.h>

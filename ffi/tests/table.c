@@ -129,6 +129,20 @@ static void is_json_without_memory(struct bytes text, int wanted)
     }
 }
 
+/* The same of equal. */
+static void equal_without_memory(struct bytes a, struct bytes b, int wanted)
+{
+    for (long n = 1;; n++) {
+        requests = 0, failing = n, inside = 1;
+        int status = miniserde_equal(a.start, a.len, b.start, b.len);
+        failing = 0, inside = 0;
+        expect(blocks == 0, "every block was freed");
+        expect(status == wanted || (requests >= n && status == MINISERDE_MEMORY), "equal out of memory");
+        if (requests < n)
+            return;
+    }
+}
+
 static void one(struct bytes text, const struct bytes *wanted)
 {
     is_json_without_memory(text, wanted ? MINISERDE_OK : MINISERDE_INVALID);
@@ -140,11 +154,13 @@ static void one(struct bytes text, const struct bytes *wanted)
     expect(asked == (wanted ? MINISERDE_ROOM : MINISERDE_INVALID) && alone == (wanted ? wanted->len : 0), "the length alone");
     int unique = in_room(miniserde_canonical_unique, text, text.len, wanted);
     expect(unique == MINISERDE_INVALID || (wanted && unique == MINISERDE_OK), "canonical_unique");
+    without_memory(miniserde_canonical_unique, text, unique == MINISERDE_OK ? wanted : NULL);
     for (size_t room = 0; room <= text.len; room++) {
         int status = in_room(miniserde_canonical, text, room, wanted);
         expect(status == (!wanted ? MINISERDE_INVALID : room < wanted->len ? MINISERDE_ROOM : MINISERDE_OK), "the status");
     }
     struct bytes other = wanted ? *wanted : text;
+    equal_without_memory(text, other, wanted ? MINISERDE_OK : MINISERDE_INVALID);
     inside = 1;
     int same = miniserde_equal(text.start, text.len, other.start, other.len);
     int differs = miniserde_equal("[7,\"no row\"]", 12, text.start, text.len);
