@@ -6,7 +6,7 @@
 
 The prototypes of miniserde.h and of its manual page, with the names of parameters, must be those that follow from the
 signatures in lib.rt: a `Global` is nothing, a slice a pointer and a length, a `&mut usize` a pointer. The statuses must
-have one number in lib.rt, in miniserde.h and in the Python package, and the version script must name the exports.
+have one number in lib.rt, in miniserde.h and in the Python package, the version script must name the exports, and the version be one.
 """
 import pathlib
 import re
@@ -31,6 +31,7 @@ CASES = {
     "another number in the library": (RUST, "const ROOM: u32 = 3;", "const ROOM: u32 = 6;"),
     "another number in Python": (PYTHON, "_OK, _INVALID, _MEMORY, _ROOM, _DIFFERENT = range(5)", "_OK, _MEMORY, _INVALID, _ROOM, _DIFFERENT = range(5)"),
     "a parameter less in Python": (PYTHON, '"miniserde_equal": [text, length, text, length]', '"miniserde_equal": [text, length, text]'),
+    "another version in Python": (PYTHON, '__version__ = "0.1.0"', '__version__ = "0.2.0"'),
     "a name less in the map": (MAP, "    miniserde_is_json;\n", ""),
     "a parameter less in the manual": (PAGE, '.Fn miniserde_is_json "const char *text" "size_t text_len"', '.Fn miniserde_is_json "const char *text"'),
 }
@@ -76,6 +77,9 @@ def faults(texts):
             owed = (of_ctypes if file == PYTHON else of_c)[name]
             if has[name] != owed:
                 yield f"{file} has {name}({has[name]}), and not ({owed})"
+    versions = [re.search(r'#define MINISERDE_VERSION "(.*)"', texts[HEADER])[1], re.search(r'^__version__ = "(.*)"$', texts[PYTHON], re.M)[1]]
+    if versions[0] != versions[1]:
+        yield f"{HEADER} and {PYTHON} have the versions {versions}"
     numbers = statuses(texts)
     for file in (HEADER, PYTHON):
         if numbers[file] != numbers[RUST]:

@@ -134,6 +134,7 @@ class Calls(unittest.TestCase):
 
     def test_dumps(self):
         self.assertEqual(miniserde.dumps({"b": (1, 2.5), "a": None, "é": "\n"}), '{"a":null,"b":[1,2.5],"é":"\\n"}'.encode())
+        self.assertEqual(miniserde.dumps([0.0, -0.0, 1.0, 1e22]), b"[0.0,-0.0,1.0,1e+22]")
         self.assertEqual(miniserde.dumps({1}, default=sorted), b"[1]")
         for bad in (float("nan"), "\ud800", {1: 0, "1": 0}):
             self.assertRaises(ValueError, miniserde.dumps, bad)
