@@ -5,7 +5,8 @@
     bench/picture.py --check    compares it with what it would draw
 
 A bar is our figure as a part of serde_json's for the same job, which is the line at 1: instructions, and thinner below it
-time. A mark is the original crate's part, if the page has one and it is on the scale. Shorter is better.
+time. A mark is the original crate's part, if the page has one; beyond the scale it is written behind the figures. Shorter is
+better.
 """
 import pathlib
 import re
@@ -63,6 +64,7 @@ def job_of(name, y, figures, times):
     if original and original < WIDEST:
         parts.append(f'<rect x="{LEFT + ONE * original - 1:.1f}" y="{y - 1}" width="3" height="14" fill="#d4a72c"/>')
     words = f"{ours:.2f}" + (f", time {time:.2f}" if time else "")
+    words += f", miniserde {original:.2f}" if original and original >= WIDEST else ""
     return [*parts, text(LEFT + ONE * WIDEST + 10, y + 12, words)]
 
 
@@ -70,14 +72,14 @@ def picture(page):
     """Returns the picture of a page's figures, with the machine and the date that it names."""
     tables, height = tables_of(page), TOP + STEP * len(JOBS)
     machine = re.search(r"^.*GHz.*?\d{4}-\d\d-\d\d", page, re.M)
-    parts = [text(8, 16, "Read and write, as a part of serde_json's figure (the line at 1): shorter is better", weight="bold")]
+    parts = [text(8, 16, "Read and write, as a fraction of serde_json (line = 1.0): shorter is better", weight="bold")]
     for x, colour, name in ((8, "#1f6feb", "instructions"), (110, "#a5c7f7", "time"), (170, "#d4a72c", "instructions of miniserde 0.1.46")):
         parts += [f'<rect x="{x}" y="24" width="10" height="10" fill="{colour}"/>', text(x + 14, 33, name)]
     for at, (name, (instructions, times), row) in enumerate(JOBS):
         parts += job_of(name, TOP + at * STEP, tables[instructions][row], tables.get(times, {}).get(row, {}))
     parts.append(f'<rect x="{LEFT + ONE}" y="{TOP - 4}" width="1" height="{height - TOP}" fill="#57606a"/>')
     parts.append(text(8, height + 12, machine.group() if machine else ""))
-    head = f'<svg xmlns="http://www.w3.org/2000/svg" width="740" height="{height + 20}" font-family="sans-serif" font-size="11">'
+    head = f'<svg xmlns="http://www.w3.org/2000/svg" width="790" height="{height + 20}" font-family="sans-serif" font-size="11">'
     return "\n".join([head, '<rect width="100%" height="100%" fill="#ffffff"/>', *parts, "</svg>", ""])
 
 

@@ -367,6 +367,7 @@ def names_known(found, uses):
 def check(found, uses):
     """Refuses types that no impl can be written for."""
     known = names_known(found, uses)
+    foreign = names_known(found, [line for line in uses if not re.match(r"(?:pub )?use (?:std|core|alloc)::", line)])
     mark_inside(found, known)
     for it in found:
         check_foreign_marks(it)
@@ -374,7 +375,8 @@ def check(found, uses):
         check_written(it)
         check_params(it, known)
         for part in it.parts:
-            check_type(part.of, {*known, "char"} if it.kind == "newtype" else known, part.line)
+            named = known if "text" in it.words else foreign
+            check_type(part.of, {*named, "char"} if it.kind == "newtype" else named, part.line)
     check_cycles(found)
     check_omitted(found, uses)
     mark_never_null(found)

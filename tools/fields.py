@@ -65,8 +65,8 @@ impl FieldByField for {name} {{
         <{probes} as Probes>::probe::<W, NamesOf<{name}>>(alloc, text)
     }}
 
-    fn by_fields() {{
-        fields_give::<{name}, {probes}>()
+    fn by_fields<W: Way>() {{
+        fields_give::<{name}, {probes}, W>()
     }}
 }}
 """

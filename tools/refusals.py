@@ -51,6 +51,8 @@ UNREAD = {
     "Arc Cell Cow Mutex Rc RefCell": "the type in it, or a `Box` of that",
     "Duration Instant SystemTime": "an integer, or a newtype of one",
     "Result": "a struct of two `Option`s",
+    "NonZeroU8 NonZeroU16 NonZeroU32 NonZeroU64 NonZeroUsize NonZeroI8 NonZeroI16 NonZeroI32 NonZeroI64 NonZeroIsize": "a newtype of an integer with `check`",
+    "IpAddr Ipv4Addr Ipv6Addr SocketAddr": "a newtype of it with `text`",
 }
 # What stands for attributes of serde.
 SERDE = {
@@ -239,11 +241,13 @@ def instead_of(parts):
     none = [name for name in names if name not in SERDE]
     if none:
         return f" (docs/YOUR-OWN-TYPES.md), and nothing stands for `{none[0]}`"
-    words = []
+    words, is_closed_enum = [], "tag" in names and "deny_unknown_fields" in names
     for name, part in zip(names, parts):
         value = part.partition("=")[2].strip()
-        words.append("default VALUE" if name == "default" and value else SERDE[name][0].format(value))
-    return f": write `// {', '.join(dict.fromkeys(words))}` behind {SERDE[names[0]][1]}"
+        if not (is_closed_enum and name == "deny_unknown_fields"):
+            words.append("default VALUE" if name == "default" and value else SERDE[name][0].format(value))
+    closed = ", and `// closed` behind each struct of a variant, since an enum has no members" if is_closed_enum else ""
+    return f": write `// {', '.join(dict.fromkeys(words))}` behind {SERDE[names[0]][1]}{closed}"
 
 
 def check_newtype(it, integer, bare):

@@ -1,5 +1,5 @@
 //! The text of an `AccountId`, by the toolchain's crate `uuid`.
-ghost use Rattle.std.specs.Prelude.{ℕ, List};
+ghost use Rattle.std.specs.Prelude.{ℕ, List, true};
 ghost use Rattle.uuid.specs.Text.{hyphenated_text, lower, parsed};
 
 use crate::ids::AccountId;
@@ -15,6 +15,8 @@ impl TextValue for AccountId {
     ghost parsed = { parsed };
 
     ghost text = { hyphenated_text lower };
+
+    ghost parse_infallible = { true };
 
     fn parse(_alloc: Global, s: &str) -> Result<AccountId> {
         match Uuid::parse_str(s) {

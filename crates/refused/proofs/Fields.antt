@@ -1,16 +1,23 @@
 -- A field that has a content by itself has it in what the fields before it leave (`last-left`), and so the fields of a
--- struct that have one each have one together (`field-tells`, of a field and the later ones).
-use Rattle.std.proofs.Common.{◌≡◌, Bool, true, false, ◌&&◌, ◌||◌, cond, not, List, [], ◌∷◌, ◌++◌, Option, Some, None}
-use Rattle.std.proofs.Common.{refl, sym, subst, ◌∙◌, true≢false}
+-- struct that have one each have one together (`field-right`, of a field and the later ones). What keeps one of them
+-- from a content keeps them all (`probe-wrong`, `into-wrong`, `into-optional-wrong`).
+use Rattle.std.proofs.Common.{◌≡◌, Bool, true, false, ◌&&◌, ◌||◌, cond, not, List, [], ◌∷◌, ◌++◌, Option, Some, None, ◌⊎◌, inl, inr}
+use Rattle.std.proofs.Common.{refl, sym, subst, ◌∙◌, true≢false, append_assoc}
 use Rattle.std.specs.Prelude.{IsSome, bytes_eq, is_some, option_and_then}
 use Rattle.std.specs.Option.{option_or}
 use Rattle.std.proofs.lemmas.Slice.Eq.{bytes_eq-Decides}
 use Rattle.miniserde.specs.Tree.{Tree, members, Members, no_members, member}
 use Rattle.miniserde.specs.Objects.{Name}
+use Rattle.miniserde.specs.Options.{option_of}
 use Rattle.miniserde.specs.Fields.{content_pair, fields_content, last_content, other_members}
 use Rattle.miniserde.specs.Marks.{is_among}
 use Rattle.miniserde_record.specs.laws.Left.{left, left-append}
-use Rattle.refused.specs.Wrong.{alone, are_apart, first_name, later_names}
+use Rattle.refused.specs.Agree.{AgreeAt}
+use Rattle.refused.specs.Ways.{IsWay, IsWrongFrom, LeadsOn}
+use Rattle.refused.specs.Wrong.{FieldIsWrong, Gives, alone, any_object, are_apart, field_gives, fields_of, first_name}
+use Rattle.refused.specs.Wrong.{later_names, name_or_empty, optional_gives}
+use Rattle.refused.specs.laws.Alone.{none-some, alone-both, alone-depends}
+use Rattle.refused.specs.laws.Ways.{agree-turn}
 
 turned : (n k : Name) → bytes_eq k n ≡ false → bytes_eq n k ≡ false
 turned n k d =
@@ -70,29 +77,199 @@ beside None d h i = absurd (cc)
 beside (Some x) None h i = absurd (cc)
 beside (Some x) (Some y) h i = refl
 
+-- the content of a field, by its last member, and of others
+abbrev ended : {C D : Type 0} → Option D → Option C → Option (Option C) → Option (C × D)
+ended d absent o = option_and_then (λ o. option_and_then (content_pair d) (option_or o absent)) o
+
 beside-last : {C D : Type 0} (absent : Option C) (o : Option (Option C)) (d : Option D)
-    → IsSome (option_and_then (λ o. option_and_then (content_pair (Some (tt {0}))) (option_or o absent)) o) → IsSome d
-    → IsSome (option_and_then (λ o. option_and_then (content_pair d) (option_or o absent)) o)
+    → IsSome (ended (Some (tt {0})) absent o) → IsSome d → IsSome (ended d absent o)
 beside-last absent None d h i = absurd (cc)
 beside-last absent (Some o) d h i = beside (option_or o absent) d h i
+
+-- a field and others that have a content have one each
+beside-own : {C D : Type 0} (c : Option C) (d : Option D) → IsSome (option_and_then (content_pair d) c)
+    → IsSome (option_and_then (content_pair (Some (tt {0}))) c)
+beside-own None d h = h
+beside-own (Some x) d h = refl
+
+beside-other : {C D : Type 0} (c : Option C) (d : Option D) → IsSome (option_and_then (content_pair d) c) → IsSome d
+beside-other {C} {D} None d h = absurd (none-some {C = C × D} None refl h)
+beside-other {C} {D} (Some x) None h = absurd (none-some {C = C × D} None refl h)
+beside-other (Some x) (Some y) h = refl
+
+last-own : {C D : Type 0} (absent : Option C) (o : Option (Option C)) (d : Option D)
+    → IsSome (ended d absent o) → IsSome (ended (Some (tt {0})) absent o)
+last-own absent None d h = h
+last-own absent (Some o) d h = beside-own (option_or o absent) d h
+
+last-other : {C D : Type 0} (absent : Option C) (o : Option (Option C)) (d : Option D)
+    → IsSome (ended d absent o) → IsSome d
+last-other {C} {D} absent None d h = absurd (none-some {C = C × D} None refl h)
+last-other absent (Some o) d h = beside-other (option_or o absent) d h
 
 -- both are true if `and` is
 both : (a b : Bool) → (not a && b) ≡ true → (a ≡ false) × (b ≡ true)
 both true b e = absurd (cc)
 both false b e = (refl, e)
 
+-- the names before the later fields
+abbrev pub before_later : List Name → List Name → List Name
+before_later before [] = before
+before_later before (n ∷ ns) = before ++ n ∷ []
+
+-- no name stands twice among the later ones and those before them
+pub later-apart : (before names : List Name) → are_apart before names ≡ true
+    → are_apart (before_later before names) (later_names names) ≡ true
+later-apart before [] a = refl
+later-apart before (n ∷ ns) a = (both (is_among before n) (are_apart (before ++ n ∷ []) ns) a).1
+
 module _ {C S D : Type 0} (once : Bool) (absent : Option C) (of : Tree → Option C) (rest : List Name → S → Members → Option D)
-    (empty : S) (Right : List Name → Tree → Type 0)
-    (later : (before names : List Name) → are_apart before names ≡ true → (ms : Members) → Right names (members ms)
-    → IsSome (rest names empty (left before ms))) where
-  pub field-tells : (before names : List Name) → are_apart before names ≡ true → (ms : Members)
-      → IsSome (alone once absent of (first_name names) (members ms)) × Right (later_names names) (members ms)
+    (empty : S) where
+  members-all : (before names : List Name) → are_apart before names ≡ true → (ms : Members)
+      → IsSome (alone once absent of (first_name names) (members ms))
+      → IsSome (rest (later_names names) empty (left (before_later before names) ms))
       → IsSome (fields_content once of absent rest names (None, empty) (left before ms))
-  field-tells before [] a ms h =
-      beside (option_or None absent) (rest [] empty (left before ms)) h.0 (later before [] refl ms h.1)
-  field-tells before (n ∷ ns) a ms h =
+  members-all before [] a ms o l = beside (option_or None absent) (rest [] empty (left before ms)) o l
+  members-all before (n ∷ ns) a ms o l =
       let b = both (is_among before n) (are_apart (before ++ n ∷ []) ns) a in
-      let l = last-left once of n before b.0 ms in
-      let r = subst (λ z. IsSome (rest ns empty z)) (left-append before n ms) (later (before ++ n ∷ []) ns b.1 ms h.1) in
+      let e = last-left once of n before b.0 ms in
+      let r = subst (λ z. IsSome (rest ns empty z)) (left-append before n ms) l in
       beside-last absent (last_content once of n None (left before ms)) (rest ns empty (other_members n (left before ms)))
-      (subst (λ o. IsSome (option_and_then (λ o. option_and_then (content_pair (Some (tt {0}))) (option_or o absent)) o)) (sym l) h.0) r
+      (subst (λ o. IsSome (ended (Some (tt {0})) absent o)) (sym e) o) r
+
+  members-own : (before names : List Name) → are_apart before names ≡ true → (ms : Members)
+      → IsSome (fields_content once of absent rest names (None, empty) (left before ms))
+      → IsSome (alone once absent of (first_name names) (members ms))
+  members-own before [] a ms h = beside-own (option_or None absent) (rest [] empty (left before ms)) h
+  members-own before (n ∷ ns) a ms h =
+      let b = both (is_among before n) (are_apart (before ++ n ∷ []) ns) a in
+      subst (λ o. IsSome (ended (Some (tt {0})) absent o)) (last-left once of n before b.0 ms)
+      (last-own absent (last_content once of n None (left before ms)) (rest ns empty (other_members n (left before ms))) h)
+
+  members-later : (before names : List Name) → (ms : Members)
+      → IsSome (fields_content once of absent rest names (None, empty) (left before ms))
+      → IsSome (rest (later_names names) empty (left (before_later before names) ms))
+  members-later before [] ms h = beside-other (option_or None absent) (rest [] empty (left before ms)) h
+  members-later before (n ∷ ns) ms h =
+      subst (λ z. IsSome (rest ns empty z)) (sym (left-append before n ms))
+      (last-other absent (last_content once of n None (left before ms)) (rest ns empty (other_members n (left before ms))) h)
+
+-- a path that leads on from a field leads on from the place of its struct
+abbrev leads-on : (here names path : List Name) → LeadsOn (here ++ name_or_empty names ∷ []) path → LeadsOn here path
+leads-on here names path h =
+    (name_or_empty names, h.0 ∷ h.1, h.2 ∙ append_assoc here (name_or_empty names ∷ []) (h.0 ∷ h.1))
+
+-- any tree
+abbrev any_tree : Tree → Option (Unit {0})
+any_tree t = Some (tt {0})
+
+module _ {C S D : Type 0} (once : Bool) (absent : Option C) (of : Tree → Option C) (rest : List Name → S → Members → Option D)
+    (empty : S) (before names : List Name) (apart : are_apart before names ≡ true) where
+  -- the field and the later ones, the field by itself, and the later ones
+  abbrev all_fields : Tree → Option (C × D)
+  all_fields = fields_of (fields_content once of absent rest) (None, empty) before names
+
+  abbrev own_field : Tree → Option (C × Unit {0})
+  own_field = alone once absent of (first_name names)
+
+  abbrev later_fields : Tree → Option D
+  later_fields = fields_of rest empty (before_later before names) (later_names names)
+
+  all-from : (t : Tree) → IsSome (own_field t) → IsSome (later_fields t) → IsSome (all_fields t)
+  all-from (members ms) o l = members-all once absent of rest empty before names apart ms o l
+  all-from t o l = absurd (none-some {C = C × Unit {0}} None refl o)
+
+  own-from : (t : Tree) → IsSome (all_fields t) → IsSome (own_field t)
+  own-from (members ms) h = members-own once absent of rest empty before names apart ms h
+  own-from t h = absurd (none-some {C = C × D} None refl h)
+
+  later-from : (t : Tree) → IsSome (all_fields t) → IsSome (later_fields t)
+  later-from (members ms) h = members-later once absent of rest empty before names ms h
+  later-from t h = absurd (none-some {C = C × D} None refl h)
+
+  module _ {gives : Gives} {here : List Name} (way : IsWay gives here) where
+    -- a place that gives a content of the field, and one of the later ones if they are right, gives one of all
+    pub field-right : (Right : Tree → Type 0)
+        → ((t : Tree) → gives (Unit {0}) any_object t → Right t → gives D later_fields t) → (t : Tree)
+        → gives (Unit {0}) any_object t → gives (C × Unit {0}) own_field t × Right t → gives (C × D) all_fields t
+    field-right Right later t o h = way.both own_field later_fields all_fields all-from t h.0 (later t o h.1)
+
+    -- what keeps the field from a content, and what keeps the later ones from theirs, keeps all from one
+    field-wrong : (path : List Name) (t : Tree) → FieldIsWrong gives here (alone once absent of) names path t
+        → IsWrongFrom gives here all_fields path t
+    field-wrong path t h = (
+      (name_or_empty names, [], h.0),
+      λ u a g. h.1 (way.depends own_field (name_or_empty names ∷ [])
+          (alone-depends once absent of names [] (λ t u e s. subst (λ t. IsSome (of t)) e s)) u t
+          (agree-turn (here ++ name_or_empty names ∷ []) t u (subst (λ p. AgreeAt p t u) h.0 a))
+          (way.both all_fields all_fields own_field (λ t p q. own-from t p) u g g)),
+    )
+
+    later-wrong : (path : List Name) (t : Tree) → IsWrongFrom gives here later_fields path t
+        → IsWrongFrom gives here all_fields path t
+    later-wrong path t h = (h.0, λ u a g. h.1 u a (way.both all_fields all_fields later_fields (λ t p q. later-from t p) u g g))
+
+    -- what keeps the field from a content, or the later ones
+    pub probe-wrong : {X L : Type 0} (path : List Name) (t : Tree) → (L → IsWrongFrom gives here later_fields path t)
+        → FieldIsWrong gives here (alone once absent of) names path t ⊎ (X × L) → IsWrongFrom gives here all_fields path t
+    probe-wrong path t later (inl w) = field-wrong path t w
+    probe-wrong path t later (inr h) = later-wrong path t (later h.1)
+
+    -- The field stands in each document that agrees with one at a path that leads on from it, if it stands there. So
+    -- what keeps its tree from a content keeps the field from one, whatever a missing field means.
+    within-wrong : (path : List Name) (t : Tree) → field_gives gives names (Unit {0}) any_object t
+        → IsWrongFrom (field_gives gives names) (here ++ name_or_empty names ∷ []) of path t
+        → IsWrongFrom gives here all_fields path t
+    within-wrong path t o h =
+        let there = way.both (alone false None any_object (first_name names)) (alone false None any_object (first_name names))
+        (alone false None any_tree (first_name names))
+        (alone-both false false None None None any_object any_object any_tree names (λ t p q. refl) (λ p q. p)) t o o in (
+          leads-on here names path h.0,
+          λ u a g. h.1 u a (way.both all_fields (alone false None any_tree (first_name names)) (alone false None of (first_name names))
+              (λ t p q. alone-both once false absent None None of any_tree of names (λ t p q. p) (λ p q. q) t (own-from t p) q) u g
+              (way.depends (alone false None any_tree (first_name names)) (name_or_empty names ∷ h.0.0 ∷ h.0.1)
+              (alone-depends false None any_tree names (h.0.0 ∷ h.0.1) (λ t u a s. refl)) t u
+              (subst (λ p. AgreeAt p t u) (leads-on here names path h.0).2 a) there)),
+        )
+
+    -- what keeps the field from a content, or its tree, or the later ones
+    pub into-wrong : {M I X L : Type 0} (path : List Name) (t : Tree)
+        → (I → IsWrongFrom (field_gives gives names) (here ++ name_or_empty names ∷ []) of path t)
+        → (L → IsWrongFrom gives here later_fields path t)
+        → ((FieldIsWrong gives here (alone once absent of) names path t × M)
+        ⊎ (field_gives gives names (Unit {0}) any_object t × I)) ⊎ (X × L)
+        → IsWrongFrom gives here all_fields path t
+    into-wrong path t inner later (inl (inl w)) = field-wrong path t w.0
+    into-wrong path t inner later (inl (inr w)) = within-wrong path t w.0 (inner w.1)
+    into-wrong path t inner later (inr h) = later-wrong path t (later h.1)
+
+module _ {C S D : Type 0} (once : Bool) (absent : Option (Option C)) (of : Tree → Option C)
+    (rest : List Name → S → Members → Option D) (empty : S) (before names : List Name)
+    (apart : are_apart before names ≡ true) {gives : Gives} {here : List Name} (way : IsWay gives here) where
+  -- the field and the later ones
+  abbrev all_optional : Tree → Option (Option C × D)
+  all_optional = fields_of (fields_content once (option_of of) absent rest) (None, empty) before names
+
+  -- What keeps the value of an optional field from a content keeps the field from one, since a missing one has one.
+  optional-wrong : (path : List Name) (t : Tree)
+      → IsWrongFrom (optional_gives gives names) (here ++ name_or_empty names ∷ []) of path t
+      → IsWrongFrom gives here all_optional path t
+  optional-wrong path t h = (
+    leads-on here names path h.0,
+    λ u a g. h.1 u a (way.both all_optional all_optional (alone false (Some None) (option_of of) (first_name names))
+        (λ t p q. let o = own-from once absent (option_of of) rest empty before names apart t p in
+        alone-both once once absent absent (Some None) (option_of of) (option_of of) (option_of of) names (λ t p q. p) (λ p q. refl)
+        t o o) u g g),
+  )
+
+  -- what keeps the field from a content, or the tree of its value, or the later ones
+  pub into-optional-wrong : {M O I X L : Type 0} (path : List Name) (t : Tree)
+      → (I → IsWrongFrom (optional_gives gives names) (here ++ name_or_empty names ∷ []) of path t)
+      → (L → IsWrongFrom gives here (fields_of rest empty (before_later before names) (later_names names)) path t)
+      → ((FieldIsWrong gives here (alone once absent (option_of of)) names path t × M) ⊎ (O × I)) ⊎ (X × L)
+      → IsWrongFrom gives here all_optional path t
+  into-optional-wrong path t inner later (inl (inl w)) =
+      field-wrong once absent (option_of of) rest empty before names apart way path t w.0
+  into-optional-wrong path t inner later (inl (inr w)) = optional-wrong path t (inner w.1)
+  into-optional-wrong path t inner later (inr h) =
+      later-wrong once absent (option_of of) rest empty before names apart way path t (later h.1)

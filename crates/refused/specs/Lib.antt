@@ -1,1 +1,5 @@
+pub mod Agree
+pub mod Text
+pub mod Ways
 pub mod Wrong
+pub mod laws

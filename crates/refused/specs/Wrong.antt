@@ -10,11 +10,17 @@ use Rattle.miniserde.specs.Fields.{FieldReads, MissingReads, fields_content, mis
 use Rattle.miniserde.specs.FieldsMeaning.{field_and, no_fields}
 use Rattle.miniserde.specs.Marks.{is_among}
 use Rattle.miniserde.specs.Structs.{are_distinct}
+use Rattle.miniserde_record.specs.laws.Left.{left}
 
 -- the first name alone, if there is one
 abbrev pub first_name : List Name → List Name
 first_name [] = []
 first_name (n ∷ ns) = n ∷ []
+
+-- the first name, or the empty one if there is none
+abbrev pub name_or_empty : List Name → Name
+name_or_empty [] = []
+name_or_empty (n ∷ ns) = n
 
 -- the names without the first
 abbrev pub later_names : List Name → List Name
@@ -52,20 +58,26 @@ optional_gives gives names C of t = gives (Option C × Unit {0}) (alone false (S
 abbrev pub any_object : Tree → Option (Unit {0})
 any_object = object_of (λ _. Some (tt {0}))
 
+-- the content that the members of an object give of fields, without the members of the names `before`
+abbrev pub fields_of : {S D : Type 0} → (List Name → S → Members → Option D) → S → List Name → List Name → Tree → Option D
+fields_of from_members empty before names = object_of (λ ms. from_members names empty (left before ms))
+
 -- the path leads from the place at `here` to the field of the first name, which has no value there
 abbrev pub FieldIsWrong : {C : Type 0} → Gives → List Name → (List Name → Tree → Option C) → List Name → List Name → Tree → Type 0
-FieldIsWrong {C} gives here of names path t = (path ≡ here ++ first_name names) × (gives C (of (first_name names)) t → ⊥)
+FieldIsWrong {C} gives here of names path t = (path ≡ here ++ name_or_empty names ∷ []) × (gives C (of (first_name names)) t → ⊥)
 
 -- what stands at the place is no object, or has a value of each field by itself
 abbrev pub IsNoMore : Gives → (Gives → Tree → Type 0) → Tree → Type 0
 IsNoMore gives right t = (gives (Unit {0}) any_object t → ⊥) ⊎ right gives t
 
 -- The path leads to the field of the first name, which has no value, though it is no object or each field within it has
--- a value by itself (`right`); or to a field within it that is wrong (`inner`). `into` is what stands in the field.
+-- a value by itself (`right`). Or what stands in the field gives any object, and the path leads to a field within it
+-- that is wrong (`inner`). `into` is what stands in the field.
 abbrev pub IsWrongWithin : {C : Type 0} → Gives → Gives → (Gives → List Name → List Name → Tree → Type 0) → (Gives → Tree → Type 0)
     → List Name → (List Name → Tree → Option C) → List Name → List Name → Tree → Type 0
 IsWrongWithin gives into inner right here of names path t =
-    (FieldIsWrong gives here of names path t × IsNoMore into right t) ⊎ inner into (here ++ first_name names) path t
+    (FieldIsWrong gives here of names path t × IsNoMore into right t)
+    ⊎ (into (Unit {0}) any_object t × inner into (here ++ name_or_empty names ∷ []) path t)
 
 -- the path is empty and the tree is no object, or the path leads to a field of it that is wrong
 abbrev pub StructIsWrong : (List Name → Tree → Type 0) → List Name → Tree → Type 0

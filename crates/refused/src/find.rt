@@ -1,12 +1,15 @@
 //! Structs whose fields can be looked for one by one, and the call that finds one that is wrong.
-ghost use Rattle.std.specs.Prelude.{◌≡◌, ◌⊎◌, true, [], Ok, None, IfErr, IfOk, IfSome, IsSome, List, map};
-ghost use Rattle.miniserde.specs.Tree.{Tree, Members, members};
+ghost use Rattle.std.specs.Prelude.{◌≡◌, ◌⊎◌, true, [], Ok, None, IfErr, IfOk, IfSome, List, map};
+ghost use Rattle.miniserde.specs.Tree.{Tree};
 ghost use Rattle.miniserde.specs.Value.{IsJson};
-ghost use Rattle.miniserde.specs.Objects.{Name};
+ghost use Rattle.miniserde.specs.Objects.{Name, object_of};
 ghost use Rattle.miniserde.specs.declared.Error.{Error};
-ghost use Rattle.refused.specs.Wrong.{Gives, StructIsWrong, are_apart, document_gives};
+ghost use Rattle.refused.specs.Agree.{IsWrongAt};
+ghost use Rattle.refused.specs.Ways.{IsWrongFrom};
+ghost use Rattle.refused.specs.Wrong.{Gives, StructIsWrong, any_object, are_apart, document_gives};
 
 use crate::alone::AnyObject;
+use crate::names::NamesOf;
 use crate::path::FieldPath;
 use crate::probes::Probes;
 use crate::way::{Start, Way, is_meant};
@@ -15,7 +18,8 @@ use miniserde::record::Record;
 use miniserde::{FromJson, Result};
 use std::alloc::Global;
 
-/// A struct whose fields can be looked for one by one.
+/// A struct whose fields can be looked for one by one. `probe` reads the whole text once for each field up to the first
+/// that is wrong, and once more for each struct that it looks into.
 pub trait FieldByField: FromJson {
     // The last argument but one is a path to the first field that is wrong in the tree. The others are what the place
     // of the struct gives, and the path to that place.
@@ -32,27 +36,40 @@ pub trait FieldByField: FromJson {
         ensures none { result ≡ Ok None → (t : Tree) → IsJson text.now t → right W.gives t }
         ensures memory { IfErr result (λ e. e ≡ Error.Memory) };
 
-    /// Does nothing. It promises that an object that has a value of each field, by itself, gives a struct.
-    fn by_fields()
-        ensures { (ms : Members) → right document_gives (members ms) → IsSome (Self.means.from_tree (members ms)) };
+    /// Does nothing. It promises that an object at the place `W` gives a struct if each field has a value by itself. If a
+    /// path is wrong there, no document that agrees at the path gives a struct at the place.
+    fn by_fields<W: Way>()
+        ensures right { (t : Tree) → W.gives _ any_object t → right W.gives t → W.gives _ Self.means.from_tree t }
+        ensures wrong { (path : List Name) (t : Tree) → wrong W.gives W.to path t
+            → IsWrongFrom W.gives W.to Self.means.from_tree path t };
 }
 
-/// Does nothing. It promises that members that have a value of each field of a struct, by itself, give a struct.
-pub fn fields_give<S: Record, P: Probes>()
+/// Does nothing. It promises of a struct with the fields `P` what `by_fields` promises.
+pub fn fields_give<S: Record, P: Probes, W: Way>()
     requires { are_apart [] S.names ≡ true }
-    ensures { (ms : Members) → P.right document_gives S.names (members ms)
-        → IsSome (P.meaning.from_members S.names P.meaning.empty ms) }
+    ensures right { (t : Tree) → W.gives _ any_object t → P.right W.gives S.names t
+        → W.gives _ (object_of (P.meaning.from_members S.names P.meaning.empty)) t }
+    ensures wrong { (path : List Name) (t : Tree) → P.wrong W.gives W.to S.names path t
+        → IsWrongFrom W.gives W.to (object_of (P.meaning.from_members S.names P.meaning.empty)) path t }
 {
-    P::tells()
+    P::tells::<W, NamesOf<S>>()
 }
 
 /// Returns the path to a field that keeps a text from meaning a struct, or `None` if the text means one or is no JSON.
-/// The path is empty if the text is JSON and no object. Returns `Memory` if an allocation fails.
+/// The path is empty if the text is JSON and no object. Reads the whole text up to three times before the first field,
+/// then once for each field up to the wrong one, and once more for each struct that it looks into. Returns `Memory` if an
+/// allocation fails.
 pub fn wrong_field<S: FieldByField>(alloc: Global, text: &str) -> Result<Option<FieldPath>>
     // The text spells a tree that means no struct, and gives no value for the field at the path, by itself.
     ensures some { IfOk result (λ answer. IfSome answer (λ path. (t : Tree) × IsJson text.now t
         × ((v : S) → S.means.reads t v → ⊥)
         × StructIsWrong (S.wrong document_gives []) (map (λ s. s.now) path.names.items) t)) }
+
+    // No text that agrees with this one at the path means a struct, whatever else it has. The path is empty only if the
+    // text is no object.
+    ensures alone { IfOk result (λ answer. IfSome answer (λ path. (t : Tree) → IsJson text.now t
+        → (map (λ s. s.now) path.names.items ≡ [] → any_object t ≡ None)
+        × IsWrongAt S.means.reads (map (λ s. s.now) path.names.items) t)) }
 
     // The text means a struct, or is no JSON.
     ensures none { result ≡ Ok None
@@ -71,6 +88,6 @@ pub fn wrong_field<S: FieldByField>(alloc: Global, text: &str) -> Result<Option<
     if !is_meant::<AnyObject>(alloc, text)? {
         return Ok(Some(FieldPath::new(alloc)));
     }
-    S::by_fields();
+    S::by_fields::<Start>();
     S::probe::<Start>(alloc, text)
 }

@@ -48,8 +48,9 @@ impl<T: FieldByField, M: Mark<T>, R: Probes> Probes for ProbeInto<T, M, R> {
         }
     }
 
-    fn tells() {
-        R::tells()
+    fn tells<W: Way, N: Names>() {
+        T::by_fields::<Through<W, N>>();
+        R::tells::<W, LaterNames<N>>()
     }
 }
 
@@ -93,7 +94,8 @@ impl<T: FieldByField, M: Mark<Option<T>>, R: Probes> Probes for ProbeIntoOption<
         }
     }
 
-    fn tells() {
-        R::tells()
+    fn tells<W: Way, N: Names>() {
+        T::by_fields::<ThroughOption<W, N>>();
+        R::tells::<W, LaterNames<N>>()
     }
 }

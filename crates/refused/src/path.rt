@@ -1,7 +1,9 @@
 //! Paths to fields of structs within structs.
-ghost use Rattle.std.specs.Prelude.{◌≡◌, ◌++◌, [], IfErr, IfOk, map};
+ghost use Rattle.std.specs.Prelude.{◌≡◌, ◌∷◌, ◌++◌, [], IfErr, IfOk, map};
 ghost use Rattle.miniserde.specs.declared.Error.{Error};
-ghost use Rattle.refused.specs.Wrong.{first_name};
+ghost use Rattle.refused.specs.Text.{char_text, name_text};
+ghost use Rattle.refused.specs.Wrong.{name_or_empty};
+ghost use Rattle.std.specs.Fmt.{WritesOnOk, WritesStyledOnOk};
 
 use crate::names::Names;
 use miniserde::Result;
@@ -26,29 +28,68 @@ impl FieldPath {
     }
 }
 
+/// Shows the names with dots between them, as `tls.cert`. A dot, a quotation mark and a backslash in a name have a
+/// backslash before them, and the empty name is `""`, so that another path has another text. Allocates nothing.
 impl fmt::Display for FieldPath {
-    // Writes the names with a dot between them.
+    ghost use Rattle.std.specs.Prelude.{Some};
+    ghost use Rattle.refused.specs.Text.{path_text};
+
+    ghost output = { λ p. Some (path_text (map (λ s. s.now) p.names.items)) };
+
+    // Formatting options, as in `{:>20}`, change nothing.
+    ghost styled_output = { λ p _. Some (path_text (map (λ s. s.now) p.names.items)) };
+
     fn fmt<W: fmt::Write>(&self, f: &mut fmt::Formatter<W>) -> fmt::Result {
-        let mut first = true;
-        for name in self.names.iter() {
-            if !first {
+        if let Some((first, later)) = self.names.split_first() {
+            write_name(first, f)?;
+            for name in later {
                 f.write_str(".")?;
+                write_name(name, f)?;
             }
-            f.write_str(name)?;
-            first = false;
         }
         Ok(())
     }
 }
 
-/// Appends the first of the names `N` to a path. Returns `Memory` if an allocation fails.
+// Writes the text for a name.
+fn write_name<W: fmt::Write>(name: &str, f: &mut fmt::Formatter<W>) -> fmt::Result
+    ensures writes { WritesOnOk W.write_str_gives f.old result (name_text name.now) f.new }
+    ensures styled { WritesStyledOnOk W.write_str_gives f.old result (name_text name.now) f.new }
+{
+    if name.is_empty() {
+        return f.write_str("\"\"");
+    }
+    for c in name.chars() {
+        write_escaped(c, f)?;
+    }
+    Ok(())
+}
+
+// Writes a character of a name, with a backslash before it if it needs one.
+fn write_escaped<W: fmt::Write>(c: char, f: &mut fmt::Formatter<W>) -> fmt::Result
+    ensures writes { WritesOnOk W.write_str_gives f.old result (char_text c) f.new }
+    ensures styled { WritesStyledOnOk W.write_str_gives f.old result (char_text c) f.new }
+{
+    match c {
+        '.' | '"' | '\\' => {
+            f.write_str("\\")?;
+            f.write_char(c)
+        }
+        _ => f.write_char(c),
+    }
+}
+
+/// Appends the first of the names `N` to a path, or the empty name if there is none. Returns `Memory` if an allocation
+/// fails.
 pub fn enter<N: Names>(mut path: FieldPath) -> Result<FieldPath>
     ensures path { IfOk result (λ p. map (λ s. s.now) p.names.items
-        ≡ map (λ s. s.now) path.names.items ++ first_name N.names) }
+        ≡ map (λ s. s.now) path.names.items ++ name_or_empty N.names ∷ []) }
     ensures memory { IfErr result (λ e. e ≡ Error.Memory) }
 {
-    if let Some((name, _)) = N::names().split_first() {
-        path.names.push(*name)?;
-    }
+    let name = match N::names().split_first() {
+        Some((name, _)) => *name,
+        None => "",
+    };
+    path.names.push(name)?;
     Ok(path)
 }

@@ -1,14 +1,13 @@
 //! The fields of a struct, which are looked for one by one.
-ghost use Rattle.std.specs.Prelude.{◌≡◌, ◌++◌, ◌⊎◌, true, [], Ok, None, IfErr, IfOk, IfSome, IsSome, List, map, ⊤};
-ghost use Rattle.miniserde.specs.Tree.{Tree, Members, members};
+ghost use Rattle.std.specs.Prelude.{◌≡◌, ◌++◌, ◌⊎◌, true, Ok, None, IfErr, IfOk, IfSome, List, map, ⊤};
+ghost use Rattle.miniserde.specs.Tree.{Tree};
 ghost use Rattle.miniserde.specs.Value.{IsJson};
 ghost use Rattle.miniserde.specs.Objects.{Name};
 ghost use Rattle.miniserde.specs.Fields.{missing_content};
 ghost use Rattle.miniserde.specs.FieldsMeaning.{FieldsMeaning, field_and, no_fields};
-ghost use Rattle.miniserde_record.specs.laws.Left.{left};
 ghost use Rattle.miniserde.specs.declared.Error.{Error};
-ghost use Rattle.refused.specs.Wrong.{FieldIsWrong, Gives, alone, are_apart, document_gives, first_name};
-ghost use Rattle.refused.specs.Wrong.{later_names};
+ghost use Rattle.refused.specs.Ways.{IsWrongFrom};
+ghost use Rattle.refused.specs.Wrong.{FieldIsWrong, Gives, alone, any_object, are_apart, fields_of, first_name, later_names};
 
 use crate::names::{LaterNames, Names};
 use crate::path::FieldPath;
@@ -41,10 +40,15 @@ pub trait Probes {
         ensures none { result ≡ Ok None → (t : Tree) → IsJson text.now t → right W.gives N.names t }
         ensures memory { IfErr result (λ e. e ≡ Error.Memory) };
 
-    /// Does nothing. It promises that members that give a value of each field by itself give values of all.
-    fn tells()
-        ensures { (before names : List Name) → are_apart before names ≡ true → (ms : Members)
-            → right document_gives names (members ms) → IsSome (meaning.from_members names meaning.empty (left before ms)) };
+    /// Does nothing. It promises that an object at the place `W` gives the fields' values if each field has one by itself.
+    /// If a path is wrong there, no document that agrees at the path gives them at the place.
+    fn tells<W: Way, N: Names>()
+        ensures right { (before : List Name) → are_apart before N.names ≡ true → (t : Tree)
+            → W.gives _ any_object t → right W.gives N.names t
+            → W.gives _ (fields_of meaning.from_members meaning.empty before N.names) t }
+        ensures wrong { (before : List Name) → are_apart before N.names ≡ true → (path : List Name) (t : Tree)
+            → wrong W.gives W.to N.names path t
+            → IsWrongFrom W.gives W.to (fields_of meaning.from_members meaning.empty before N.names) path t };
 }
 
 /// The end of a chain of fields.
@@ -63,7 +67,7 @@ impl Probes for NoProbe {
         Ok(None)
     }
 
-    fn tells() {}
+    fn tells<W: Way, N: Names>() {}
 }
 
 /// A field of the type `T` with the mark `M`, and the fields `R` after it.
@@ -92,7 +96,7 @@ impl<T: FromJson, M: Mark<T>, R: Probes> Probes for Probe<T, M, R> {
         Ok(Some(path_to::<W, N>(alloc)?))
     }
 
-    fn tells() {
-        R::tells()
+    fn tells<W: Way, N: Names>() {
+        R::tells::<W, LaterNames<N>>()
     }
 }

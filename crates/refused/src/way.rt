@@ -1,11 +1,13 @@
 //! Places in a document, as a path of types leads to them.
-ghost use Rattle.std.specs.Prelude.{◌≡◌, ◌++◌, true, false, [], Ok, None, IfErr, IfOk, IsSome, List, map};
+ghost use Rattle.std.specs.Prelude.{◌≡◌, ◌∷◌, ◌++◌, true, false, [], Ok, None, IfErr, IfOk, IsSome, List, map};
 ghost use Rattle.miniserde.specs.Tree.{Tree};
 ghost use Rattle.miniserde.specs.Value.{IsJson};
 ghost use Rattle.miniserde.specs.Objects.{Name};
 ghost use Rattle.miniserde.specs.Fields.{missing_content};
 ghost use Rattle.miniserde.specs.declared.Error.{Error};
-ghost use Rattle.refused.specs.Wrong.{Gives, alone, document_gives, field_gives, first_name, optional_gives};
+ghost use Rattle.refused.specs.Ways.{IsWay};
+ghost use Rattle.refused.specs.Wrong.{Gives, alone, document_gives, field_gives, first_name, name_or_empty, optional_gives};
+ghost use Rattle.refused.specs.laws.Ways.{document_way, field_way, option_way};
 
 use crate::alone::Alone;
 use crate::names::Names;
@@ -23,6 +25,9 @@ pub trait Way {
 
     // Whether what stands at the place gives a content.
     ghost gives: { Gives };
+
+    // What the place gives depends on what stands at the path alone.
+    ghost is_way: { IsWay gives to };
 
     /// Returns the path to the place, or `Memory` if an allocation fails.
     fn path(alloc: Global) -> Result<FieldPath>
@@ -56,7 +61,7 @@ pub fn is_meant<T: FromJson>(alloc: Global, text: &str) -> Result<bool>
 
 /// Returns the path from the place `W` to the field of the first of the names `N`, or `Memory` if an allocation fails.
 pub fn path_to<W: Way, N: Names>(alloc: Global) -> Result<FieldPath>
-    ensures path { IfOk result (λ p. map (λ s. s.now) p.names.items ≡ W.to ++ first_name N.names) }
+    ensures path { IfOk result (λ p. map (λ s. s.now) p.names.items ≡ W.to ++ name_or_empty N.names ∷ []) }
     ensures memory { IfErr result (λ e. e ≡ Error.Memory) }
 {
     enter::<N>(W::path(alloc)?)
@@ -69,6 +74,8 @@ impl Way for Start {
     ghost to = { [] };
 
     ghost gives = { document_gives };
+
+    ghost is_way = { document_way };
 
     fn path(alloc: Global) -> Result<FieldPath> {
         Ok(FieldPath::new(alloc))
@@ -85,9 +92,11 @@ pub struct Through<W, N> {
 }
 
 impl<W: Way, N: Names> Way for Through<W, N> {
-    ghost to = { W.to ++ first_name N.names };
+    ghost to = { W.to ++ name_or_empty N.names ∷ [] };
 
     ghost gives = { field_gives W.gives N.names };
+
+    ghost is_way = { field_way W.is_way N.names };
 
     fn path(alloc: Global) -> Result<FieldPath> {
         path_to::<W, N>(alloc)
@@ -104,9 +113,11 @@ pub struct ThroughOption<W, N> {
 }
 
 impl<W: Way, N: Names> Way for ThroughOption<W, N> {
-    ghost to = { W.to ++ first_name N.names };
+    ghost to = { W.to ++ name_or_empty N.names ∷ [] };
 
     ghost gives = { optional_gives W.gives N.names };
+
+    ghost is_way = { option_way W.is_way N.names };
 
     fn path(alloc: Global) -> Result<FieldPath> {
         path_to::<W, N>(alloc)

@@ -11,9 +11,9 @@ use std::hash::RandomState;
 use std::io;
 use std::io::{ErrorKind, Read, Write};
 
-/// Reads requests, writes the responses of a counter that begins at 0, and returns the last count. Returns the error of
-/// a read or a write that fails, and `OutOfMemory` if an allocation fails before the first read. If one fails later,
-/// the connection ends there, which is no error.
+/// Reads requests, writes the responses of a counter that begins at 0, and returns the last count. Returns an error of
+/// the reader, the writer or the server, and `OutOfMemory` if an allocation fails before the first read. If one fails
+/// later, the connection ends there, which is no error.
 pub fn serve_stream<R: Read, W: Write>(
     alloc: Global,
     keys: RandomState,

@@ -45,6 +45,10 @@ impl<T: Drop> From<AllocFailed<T>> for Error {
 }
 
 impl fmt::Display for Error {
+    ghost use Rattle.rows.specs.Errors.{error_text};
+
+    ghost output = { error_text };
+
     fn fmt<W: fmt::Write>(&self, f: &mut fmt::Formatter<W>) -> fmt::Result {
         match self {
             Error::Database(error) => write!(f, "{error}"),

@@ -233,8 +233,8 @@ impl FieldByField for Tls {
         <TlsProbes as Probes>::probe::<W, NamesOf<Tls>>(alloc, text)
     }
 
-    fn by_fields() {
-        fields_give::<Tls, TlsProbes>()
+    fn by_fields<W: Way>() {
+        fields_give::<Tls, TlsProbes, W>()
     }
 }
 

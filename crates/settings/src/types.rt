@@ -158,8 +158,8 @@ impl FieldByField for Settings {
         <SettingsProbes as Probes>::probe::<W, NamesOf<Settings>>(alloc, text)
     }
 
-    fn by_fields() {
-        fields_give::<Settings, SettingsProbes>()
+    fn by_fields<W: Way>() {
+        fields_give::<Settings, SettingsProbes, W>()
     }
 }
 

@@ -113,8 +113,8 @@ impl FieldByField for Range {
         <RangeProbes as Probes>::probe::<W, NamesOf<Range>>(alloc, text)
     }
 
-    fn by_fields() {
-        fields_give::<Range, RangeProbes>()
+    fn by_fields<W: Way>() {
+        fields_give::<Range, RangeProbes, W>()
     }
 }
 
@@ -215,8 +215,8 @@ impl FieldByField for Tls {
         <TlsProbes as Probes>::probe::<W, NamesOf<Tls>>(alloc, text)
     }
 
-    fn by_fields() {
-        fields_give::<Tls, TlsProbes>()
+    fn by_fields<W: Way>() {
+        fields_give::<Tls, TlsProbes, W>()
     }
 }
 
@@ -323,7 +323,98 @@ impl FieldByField for Server {
         <ServerProbes as Probes>::probe::<W, NamesOf<Server>>(alloc, text)
     }
 
-    fn by_fields() {
-        fields_give::<Server, ServerProbes>()
+    fn by_fields<W: Way>() {
+        fields_give::<Server, ServerProbes, W>()
+    }
+}
+
+/// A name with a dot, and the empty name.
+#[derive(Drop)]
+pub struct Names {
+    pub dotted: u8,
+    pub empty: Option<u8>,
+}
+
+// Its fields, and their names.
+type NamesFields = Slot<u8, Slot<Option<u8>, NoSlot>>;
+
+const NAMES_NAMES: &[&str] = &["a.b", ""];
+
+impl Record for Names {
+    ghost use Rattle.test_refused.specs.declared.servers.TheConstants.{NAMES_NAMES};
+
+    type Values = <NamesFields as Slots>::Values;
+
+    ghost names = { names_of NAMES_NAMES };
+
+    ghost values = { λ v. (v.dotted, (v.empty, tt)) };
+
+    ghost made = { λ x. record { dotted = x.0; empty = x.1.0 } };
+
+    ghost bijective = { (λ v. refl, λ x. refl) };
+
+    ghost distinct_names = { refl };
+
+    fn names() -> &'static [&'static str] {
+        NAMES_NAMES
+    }
+
+    fn build(parts: Self::Values) -> Names {
+        let Parts(dotted, Parts(empty, ())) = parts;
+        Names { dotted, empty }
+    }
+}
+
+impl FromJson for Names {
+    ghost means = { struct_meaning ⟦<NamesFields as Slots>⟧.meaning ⟦<Names as Record>⟧.names
+        ⟦<Names as Record>⟧.values };
+
+    fn missing() -> Option<Names> {
+        None
+    }
+
+    fn read<'a>(token: Event<'a>, source: &mut Source<'a>) -> Result<Names> {
+        read_record::<Names, NamesFields>(token, source)
+    }
+}
+
+impl Serialize for Names {
+    ghost tree = { record_tree ⟦<Names as Record>⟧.names ⟦<NamesFields as WrittenFields>⟧.trees
+        ⟦<Names as Record>⟧.values };
+
+    fn begin(&self, w: &mut Writer) -> Result<()> {
+        write_members(w, NAMES_NAMES, &Parts(&self.dotted, Parts(&self.empty, ())))
+    }
+}
+
+impl Ranged for Names {
+    ghost real = { λ v. ⟦<NamesFields as WrittenFields>⟧.real (⟦<Names as Record>⟧.values v) };
+
+    fn ranged(&self) {
+        self.dotted.ranged();
+        self.empty.ranged();
+    }
+}
+
+impl RoundTrip for Names {
+    fn round_trips() {
+        record_round_trips::<Names, NamesFields>()
+    }
+}
+
+// Its fields, one by one.
+type NamesProbes = Probe<u8, Plain, Probe<Option<u8>, Plain, NoProbe>>;
+
+impl FieldByField for Names {
+    ghost wrong = { λ gives here. ⟦<NamesProbes as Probes>⟧.wrong gives here ⟦<Names as Record>⟧.names };
+
+    ghost right = { λ gives. ⟦<NamesProbes as Probes>⟧.right gives ⟦<Names as Record>⟧.names };
+
+    fn probe<W: Way>(alloc: Global, text: &str) -> Result<Option<FieldPath>> {
+        <NamesProbes as Probes>::probe::<W, NamesOf<Names>>(alloc, text)
+    }
+
+    fn by_fields<W: Way>() {
+        fields_give::<Names, NamesProbes, W>()
     }
 }

@@ -1,8 +1,8 @@
 //! Texts and the paths to the field that is wrong. A text that means a server, or is no JSON, has `none`, and one that
 //! is no object has `document`.
 
-use crate::servers::Server;
-use refused::{FieldPath, wrong_field};
+use crate::servers::{Names, Server};
+use refused::{FieldByField, FieldPath, wrong_field};
 use std::alloc::Global;
 use std::test::Fail;
 
@@ -35,8 +35,8 @@ nothing => none
 {"server name":"a","inner":{"cert":"c","range":{"most":1}},"hosts":[{}]} => hosts"#;
 
 // Returns whether the path to the field that is wrong is written so.
-fn is_path(alloc: Global, text: &str, wanted: &str) -> Result<bool, Fail> {
-    match wrong_field::<Server>(alloc, text)? {
+fn is_path<S: FieldByField>(alloc: Global, text: &str, wanted: &str) -> Result<bool, Fail> {
+    match wrong_field::<S>(alloc, text)? {
         Some(path) if path.names.is_empty() => Ok(wanted == "document"),
         Some(path) => Ok(format!(in alloc; "{path}")?.as_str() == wanted),
         None => Ok(wanted == "none"),
@@ -47,8 +47,39 @@ fn is_path(alloc: Global, text: &str, wanted: &str) -> Result<bool, Fail> {
 fn a_path_leads_to_the_field_that_is_wrong(rt: HostRuntime) -> Result<(), Fail> {
     for line in PATHS.lines() {
         let (text, path) = line.split_once(" => ").unwrap_or((line, ""));
-        assert!(rt; is_path(rt.alloc(), text, path)?, "{line}");
+        assert!(rt; is_path::<Server>(rt.alloc(), text, path)?, "{line}");
     }
+    Ok(())
+}
+
+#[test]
+fn a_path_tells_a_dot_in_a_name_from_one_between_two(rt: HostRuntime) -> Result<(), Fail> {
+    let alloc = rt.alloc();
+    assert!(rt; is_path::<Names>(alloc, r#"{"a.b":null}"#, r"a\.b")?);
+    assert!(rt; is_path::<Names>(alloc, r#"{"a":{"b":1}}"#, r"a\.b")?);
+    assert!(rt; is_path::<Names>(alloc, r#"{"a.b":1,"":null}"#, "none")?);
+    assert!(rt; is_path::<Names>(alloc, r#"{"a.b":1,"":[]}"#, r#""""#)?);
+    Ok(())
+}
+
+// Returns whether the path of these names is written so.
+fn is_shown(alloc: Global, names: &[&'static str], wanted: &str) -> Result<bool, Fail> {
+    let mut path = FieldPath::new(alloc);
+    for name in names {
+        path.names.push(*name)?;
+    }
+    Ok(format!(in alloc; "{path}")?.as_str() == wanted)
+}
+
+#[test]
+fn another_path_has_another_text(rt: HostRuntime) -> Result<(), Fail> {
+    let alloc = rt.alloc();
+    assert!(rt; is_shown(alloc, FieldPath::new(alloc).names.as_slice(), "")?);
+    assert!(rt; is_shown(alloc, [""].as_slice(), r#""""#)?);
+    assert!(rt; is_shown(alloc, ["a", "b"].as_slice(), "a.b")?);
+    assert!(rt; is_shown(alloc, ["a.b"].as_slice(), r"a\.b")?);
+    assert!(rt; is_shown(alloc, ["a\\", "b"].as_slice(), r"a\\.b")?);
+    assert!(rt; is_shown(alloc, ["\"\"", "", "ß c"].as_slice(), r#"\"\"."".ß c"#)?);
     Ok(())
 }
 

@@ -18,3 +18,9 @@ pub struct Server { // refused
     pub outer: Option<Tls>,
     pub hosts: Vec<Range>,
 }
+
+/// A name with a dot, and the empty name.
+pub struct Names { // refused
+    pub dotted: u8, // rename "a.b"
+    pub empty: Option<u8>, // rename ""
+}

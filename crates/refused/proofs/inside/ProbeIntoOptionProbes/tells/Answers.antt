@@ -1,14 +1,27 @@
--- A field and the later ones (`field-tells`).
+-- A field and the later ones (`field-right`, `into-optional-wrong`).
 use Rattle.std.proofs.Common.{Some, None}
 use Rattle.miniserde.specs.Fields.{missing_content}
 use Rattle.miniserde.specs.Meanings.{option_meaning}
-use Rattle.refused.specs.Wrong.{document_gives}
-use Rattle.refused.proofs.Fields.{field-tells}
+use Rattle.refused.specs.Wrong.{later_names}
+use Rattle.refused.proofs.Fields.{before_later, field-right, into-optional-wrong, later-apart}
 use Rattle.refused.proofs.inside.ProbeIntoOptionProbes.tells.Goals as goal
 
-pub returns : goal.returns
-returns g c =
-    let t = option_meaning g.T.FromJson.means in
+pub returns-clause-right : goal.returns-clause-right
+returns-clause-right g c =
+    let of = option_meaning g.T.FromJson.means in
     let m = g.R.Probes in
-    field-tells g.M.Repeats.once (missing_content t g.M.Mark.given (Some None)) t.from_tree m.meaning.from_members
-    m.meaning.empty (m.right document_gives) c.tells.ensures
+    let names = g.N.Names.names in
+    λ before apart.
+    field-right g.M.Repeats.once (missing_content of g.M.Mark.given (Some None)) of.from_tree m.meaning.from_members
+    m.meaning.empty before names apart g.W.Way.is_way (m.right g.W.Way.gives (later_names names))
+    (c.tells.ensures.right (before_later before names) (later-apart before names apart))
+
+pub returns-clause-wrong : goal.returns-clause-wrong
+returns-clause-wrong g c =
+    let of = option_meaning g.T.FromJson.means in
+    let m = g.R.Probes in
+    let names = g.N.Names.names in
+    λ before apart path t.
+    into-optional-wrong g.M.Repeats.once (missing_content of g.M.Mark.given (Some None)) g.T.FromJson.means.from_tree
+    m.meaning.from_members m.meaning.empty before names apart g.W.Way.is_way path t (c.by_fields.ensures.wrong path t)
+    (c.tells.ensures.wrong (before_later before names) (later-apart before names apart) path t)

@@ -1,12 +1,25 @@
--- A field and the later ones (`field-tells`).
+-- A field and the later ones (`field-right`, `probe-wrong`).
 use Rattle.miniserde.specs.Fields.{missing_content}
-use Rattle.refused.specs.Wrong.{document_gives}
-use Rattle.refused.proofs.Fields.{field-tells}
+use Rattle.refused.specs.Wrong.{later_names}
+use Rattle.refused.proofs.Fields.{before_later, field-right, later-apart, probe-wrong}
 use Rattle.refused.proofs.probes.ProbeProbes.tells.Goals as goal
 
-pub returns : goal.returns
-returns g c =
-    let t = g.T.FromJson in
+pub returns-clause-right : goal.returns-clause-right
+returns-clause-right g c =
+    let of = g.T.FromJson.means in
     let m = g.R.Probes in
-    field-tells g.M.Repeats.once (missing_content t.means g.M.Mark.given t.absent) t.means.from_tree m.meaning.from_members
-    m.meaning.empty (m.right document_gives) c.tells.ensures
+    let names = g.N.Names.names in
+    λ before apart.
+    field-right g.M.Repeats.once (missing_content of g.M.Mark.given g.T.FromJson.absent) of.from_tree m.meaning.from_members
+    m.meaning.empty before names apart g.W.Way.is_way (m.right g.W.Way.gives (later_names names))
+    (c.tells.ensures.right (before_later before names) (later-apart before names apart))
+
+pub returns-clause-wrong : goal.returns-clause-wrong
+returns-clause-wrong g c =
+    let of = g.T.FromJson.means in
+    let m = g.R.Probes in
+    let names = g.N.Names.names in
+    λ before apart path t.
+    probe-wrong g.M.Repeats.once (missing_content of g.M.Mark.given g.T.FromJson.absent) of.from_tree m.meaning.from_members
+    m.meaning.empty before names apart g.W.Way.is_way path t
+    (c.tells.ensures.wrong (before_later before names) (later-apart before names apart) path t)

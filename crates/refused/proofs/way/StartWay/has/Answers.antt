@@ -1,5 +1,5 @@
 -- What gives no content does not give one.
-use Rattle.refused.proofs.Objects.{none-some}
+use Rattle.refused.specs.laws.Alone.{none-some}
 use Rattle.refused.proofs.way.StartWay.has.Goals as goal
 
 pub returns-clause-no : goal.returns-clause-no

@@ -1,0 +1,184 @@
+-- Whether a field gives a content by itself, by the trees of the members of its name (`alone-fits`, `fits-alone`). So it
+-- depends on these alone (`alone-depends`), and follows if each tree's content does (`alone-both`).
+use Rattle.std.proofs.Common.{◌≡◌, Bool, true, false, ◌&&◌, cond, List, [], ◌∷◌, Option, Some, None, ◌⊎◌, inl, inr}
+use Rattle.std.proofs.Common.{refl, sym, ap, subst, ◌∙◌, true≢false}
+use Rattle.std.specs.Prelude.{IsSome, bytes_eq, is_some, option_and_then, option_map, ⊤}
+use Rattle.std.specs.Option.{option_or}
+use Rattle.miniserde.specs.Tree.{Tree, null, members, Members, no_members, member}
+use Rattle.miniserde.specs.Objects.{Name}
+use Rattle.miniserde.specs.Options.{option_of}
+use Rattle.miniserde.specs.Fields.{content_pair, last_content}
+use Rattle.refused.specs.Agree.{AgreeAt, Pairwise, trees_named}
+use Rattle.refused.specs.Ways.{DependsAt}
+use Rattle.refused.specs.Wrong.{alone, first_name, name_or_empty}
+
+pub none-some : {C : Type 0} (o : Option C) → o ≡ None → IsSome o → ⊥
+none-some o n s = true≢false (sym s ∙ ap is_some n)
+
+map-some : {C D : Type 0} (f : C → D) (o : Option C) → IsSome (option_map f o) → IsSome o
+map-some f None s = s
+map-some f (Some x) s = refl
+
+some-map : {C D : Type 0} (f : C → D) (o : Option C) → IsSome o → IsSome (option_map f o)
+some-map f None s = s
+some-map f (Some x) s = refl
+
+-- P holds of each tree, and if `once` is true, there is at most one. `has` says whether one stood before them. If there
+-- is none at all, `Absent` holds.
+abbrev pub Fits : Bool → (Tree → Type 0) → Type 0 → Bool → List Tree → Type 0
+Fits once P Absent false [] = Absent
+Fits once P Absent true [] = ⊤
+Fits once P Absent has (t ∷ ts) = ((once && has) ≡ false) × P t × Fits once P Absent true ts
+
+-- the trees of the members of the first name, if there is one
+abbrev pub trees_of : List Name → Members → List Tree
+trees_of [] ms = []
+trees_of (n ∷ ns) ms = trees_named n ms
+
+-- the content of a field by itself, by that of the last member of its name
+abbrev pub ends : {C : Type 0} → Option C → Option (Option C) → Option (C × Unit {0})
+ends absent o = option_and_then (λ o. option_and_then (content_pair (Some (tt {0}))) (option_or o absent)) o
+
+module _ {C : Type 0} (once : Bool) (absent : Option C) (of : Tree → Option C) where
+  pair-some : (c : Option C) → IsSome (option_and_then (content_pair (Some (tt {0}))) c) → IsSome c
+  pair-some None h = h
+  pair-some (Some x) h = refl
+
+  some-pair : (c : Option C) → IsSome c → IsSome (option_and_then (content_pair (Some (tt {0}))) c)
+  some-pair None h = h
+  some-pair (Some x) h = refl
+
+  -- the trees of one name give a content exactly if they fit
+  fits-last : (n : Name) (d : Option C) (ms : Members) → IsSome (ends absent (last_content once of n d ms))
+      → Fits once (λ t. IsSome (of t)) (IsSome absent) (is_some d) (trees_named n ms)
+  fits-last n None no_members h = pair-some absent h
+  fits-last n (Some d) no_members h = tt
+  fits-last n d (member k t ms) h =
+      elim (bytes_eq k n) as (λ b. IsSome (ends absent (cond b (cond (once && is_some d) None
+      (option_and_then (λ c. last_content once of n (Some c) ms) (of t))) (last_content once of n d ms)))
+      → Fits once (λ t. IsSome (of t)) (IsSome absent) (is_some d) (cond b (t ∷ trees_named n ms) (trees_named n ms))) [
+        | true ↦ elim (once && is_some d) as (λ b. IsSome (ends absent (cond b None
+            (option_and_then (λ c. last_content once of n (Some c) ms) (of t))))
+            → (b ≡ false) × IsSome (of t) × Fits once (λ t. IsSome (of t)) (IsSome absent) true (trees_named n ms)) [
+              | true ↦ λ h. absurd (none-some {C = C × Unit {0}} None refl h)
+              | false ↦ elim (of t) as (λ o. IsSome (ends absent (option_and_then (λ c. last_content once of n (Some c) ms) o))
+                  → (false ≡ false) × IsSome o × Fits once (λ t. IsSome (of t)) (IsSome absent) true (trees_named n ms)) [
+                    | None ↦ λ h. absurd (none-some {C = C × Unit {0}} None refl h)
+                    | Some c ↦ λ h. (refl, refl, fits-last n (Some c) ms h)
+                  ]
+            ]
+        | false ↦ fits-last n d ms
+      ] h
+
+  last-fits : (n : Name) (d : Option C) (ms : Members)
+      → Fits once (λ t. IsSome (of t)) (IsSome absent) (is_some d) (trees_named n ms)
+      → IsSome (ends absent (last_content once of n d ms))
+  last-fits n None no_members h = some-pair absent h
+  last-fits n (Some d) no_members h = refl
+  last-fits n d (member k t ms) h =
+      elim (bytes_eq k n) as (λ b.
+      Fits once (λ t. IsSome (of t)) (IsSome absent) (is_some d) (cond b (t ∷ trees_named n ms) (trees_named n ms))
+      → IsSome (ends absent (cond b (cond (once && is_some d) None
+      (option_and_then (λ c. last_content once of n (Some c) ms) (of t))) (last_content once of n d ms)))) [
+        | true ↦ elim (once && is_some d) as (λ b.
+            (b ≡ false) × IsSome (of t) × Fits once (λ t. IsSome (of t)) (IsSome absent) true (trees_named n ms)
+            → IsSome (ends absent (cond b None (option_and_then (λ c. last_content once of n (Some c) ms) (of t))))) [
+              | true ↦ λ h. absurd (true≢false h.0)
+              | false ↦ elim (of t) as (λ o.
+                  (false ≡ false) × IsSome o × Fits once (λ t. IsSome (of t)) (IsSome absent) true (trees_named n ms)
+                  → IsSome (ends absent (option_and_then (λ c. last_content once of n (Some c) ms) o))) [
+                    | None ↦ λ h. absurd (none-some {C = C} None refl h.1)
+                    | Some c ↦ λ h. last-fits n (Some c) ms h.2
+                  ]
+            ]
+        | false ↦ last-fits n d ms
+      ] h
+
+  alone-fits : (names : List Name) (ms : Members) → IsSome (alone once absent of (first_name names) (members ms))
+      → Fits once (λ t. IsSome (of t)) (IsSome absent) false (trees_of names ms)
+  alone-fits [] ms h = pair-some absent h
+  alone-fits (n ∷ ns) ms h = fits-last n None ms h
+
+  fits-alone : (names : List Name) (ms : Members) → Fits once (λ t. IsSome (of t)) (IsSome absent) false (trees_of names ms)
+      → IsSome (alone once absent of (first_name names) (members ms))
+  fits-alone [] ms h = some-pair absent h
+  fits-alone (n ∷ ns) ms h = last-fits n None ms h
+
+module _ {P Q R : Tree → Type 0} {A B D : Type 0} (once twice : Bool) (pass : (t : Tree) → P t → Q t → R t) (lack : A → B → D) where
+  fits-both : (has : Bool) (ts : List Tree) → Fits once P A has ts → Fits twice Q B has ts → Fits false R D has ts
+  fits-both false [] p q = lack p q
+  fits-both true [] p q = tt
+  fits-both has (t ∷ ts) p q = (refl, pass t p.1 q.1, fits-both true ts p.2 q.2)
+
+-- a field that may stand twice gives a content if two others of its name do, and each tree and its lack follow
+pub alone-both : {C D E : Type 0} (once twice : Bool) (absent : Option C) (lacking : Option D) (missing : Option E)
+    (f : Tree → Option C) (g : Tree → Option D) (h : Tree → Option E) (names : List Name)
+    → ((t : Tree) → IsSome (f t) → IsSome (g t) → IsSome (h t)) → (IsSome absent → IsSome lacking → IsSome missing) → (t : Tree)
+    → IsSome (alone once absent f (first_name names) t) → IsSome (alone twice lacking g (first_name names) t)
+    → IsSome (alone false missing h (first_name names) t)
+alone-both once twice absent lacking missing f g h names pass lack (members ms) p q =
+    fits-alone false missing h names ms (fits-both once twice pass lack false (trees_of names ms)
+    (alone-fits once absent f names ms p) (alone-fits twice lacking g names ms q))
+alone-both {C} once twice absent lacking missing f g h names pass lack t p q = absurd (none-some {C = C × Unit {0}} None refl p)
+
+module _ {P : Tree → Type 0} {R : Tree → Tree → Type 0} (A : Type 0) (once : Bool) (pass : (t u : Tree) → R t u → P t → P u) where
+  fits-pairwise : (has : Bool) (ts us : List Tree) → Pairwise R ts us → Fits once P A has ts → Fits once P A has us
+  fits-pairwise has [] [] r p = p
+  fits-pairwise has [] (u ∷ us) r p = absurd r
+  fits-pairwise has (t ∷ ts) [] r p = absurd r
+  fits-pairwise has (t ∷ ts) (u ∷ us) r p = (p.0, pass t u r.0 p.1, fits-pairwise true ts us r.1 p.2)
+
+-- members that agree at the first name have it in trees that agree pairwise
+of-first : (names rest : List Name) (ms ls : Members)
+    → Pairwise (AgreeAt rest) (trees_named (name_or_empty names) ms) (trees_named (name_or_empty names) ls)
+    → Pairwise (AgreeAt rest) (trees_of names ms) (trees_of names ls)
+of-first [] rest ms ls p = tt
+of-first (n ∷ ns) rest ms ls p = p
+
+-- what a field gives depends on the members of its name, as what it gives of their trees depends on them
+pub alone-depends : {C : Type 0} (once : Bool) (absent : Option C) (of : Tree → Option C) (names rest : List Name) → DependsAt of rest
+    → DependsAt (alone once absent of (first_name names)) (name_or_empty names ∷ rest)
+alone-depends once absent of names rest d t u (inl e) s = subst (λ t. IsSome (alone once absent of (first_name names) t)) e s
+alone-depends once absent of names rest d t u (inr (ms, ls, e, f, p)) s =
+    let o = subst (λ t. IsSome (alone once absent of (first_name names) t)) e s in
+    subst (λ t. IsSome (alone once absent of (first_name names) t)) (sym f)
+    (fits-alone once absent of names ls (fits-pairwise (IsSome absent) once d false (trees_of names ms) (trees_of names ls)
+    (of-first names rest ms ls p) (alone-fits once absent of names ms o)))
+
+option-cases : {C : Type 0} (of : Tree → Option C) (t : Tree) → IsSome (option_of of t) → (t ≡ null) ⊎ IsSome (of t)
+option-cases of null s = inl refl
+option-cases of t s = inr (map-some Some (of t) s)
+
+some-option : {C : Type 0} (of : Tree → Option C) (t : Tree) → IsSome (of t) → IsSome (option_of of t)
+some-option of null s = refl
+some-option of t s = some-map Some (of t) s
+
+-- an optional value is there if the value inside is, or the tree is null
+pub option-both : {C D E : Type 0} (f : Tree → Option C) (g : Tree → Option D) (h : Tree → Option E)
+    → ((t : Tree) → IsSome (f t) → IsSome (g t) → IsSome (h t)) → (t : Tree) → IsSome (option_of f t) → IsSome (option_of g t)
+    → IsSome (option_of h t)
+option-both f g h pass t p q =
+    elim (option-cases f t p) as (λ _. IsSome (option_of h t)) [
+      | inl e ↦ subst (λ t. IsSome (option_of h t)) (sym e) refl
+      | inr a ↦ elim (option-cases g t q) as (λ _. IsSome (option_of h t)) [
+        | inl e ↦ subst (λ t. IsSome (option_of h t)) (sym e) refl
+        | inr b ↦ some-option h t (pass t a b)
+      ]
+    ]
+
+abbrev is_null : Tree → Bool
+is_null null = true
+is_null _ = false
+
+null-agrees : (path : List Name) (u : Tree) → AgreeAt path null u → null ≡ u
+null-agrees [] u a = a
+null-agrees (n ∷ ns) u (inl e) = e
+null-agrees (n ∷ ns) u (inr (ms, ls, e, f, p)) = absurd (true≢false (ap is_null e))
+
+-- an optional value depends on what the value inside depends on
+pub option-depends : {C : Type 0} (of : Tree → Option C) (path : List Name) → DependsAt of path → DependsAt (option_of of) path
+option-depends of path d t u a s =
+    elim (option-cases of t s) as (λ _. IsSome (option_of of u)) [
+      | inl e ↦ subst (λ u. IsSome (option_of of u)) (null-agrees path u (subst (λ t. AgreeAt path t u) e a)) refl
+      | inr i ↦ some-option of u (d t u a i)
+    ]

@@ -1,0 +1,48 @@
+-- The document is a place (`document_way`), and so is what stands in a field of a struct at a place (`field_way`), and in
+-- an optional one (`option_way`). Trees that agree do so the other way round (`agree-turn`).
+use Rattle.std.proofs.Common.{false, List, [], ◌∷◌, ◌++◌, Some, None, inl, inr, refl, sym, subst, append_assoc}
+use Rattle.miniserde.specs.Tree.{Tree}
+use Rattle.miniserde.specs.Objects.{Name}
+use Rattle.miniserde.specs.Options.{option_of}
+use Rattle.refused.specs.Agree.{AgreeAt, Pairwise}
+use Rattle.refused.specs.Ways.{IsWay}
+use Rattle.refused.specs.Wrong.{Gives, alone, document_gives, field_gives, optional_gives, first_name, name_or_empty}
+use Rattle.refused.specs.laws.Alone.{alone-both, alone-depends, option-both, option-depends}
+
+pairwise-turn : {R : Tree → Tree → Type 0} → ((t u : Tree) → R t u → R u t) → (ts us : List Tree) → Pairwise R ts us → Pairwise R us ts
+pairwise-turn turn [] [] p = tt
+pairwise-turn turn (t ∷ ts) [] p = p
+pairwise-turn turn [] (u ∷ us) p = p
+pairwise-turn turn (t ∷ ts) (u ∷ us) p = (turn t u p.0, pairwise-turn turn ts us p.1)
+
+pub agree-turn : (path : List Name) (t u : Tree) → AgreeAt path t u → AgreeAt path u t
+agree-turn [] t u a = sym a
+agree-turn (n ∷ ns) t u (inl e) = inl (sym e)
+agree-turn (n ∷ ns) t u (inr (ms, ls, e, f, p)) = inr (ls, ms, f, e, pairwise-turn (agree-turn ns) _ _ p)
+
+abbrev pub document_way : IsWay document_gives []
+document_way = record { both = λ f g h pass t p q. pass t p q; depends = λ of path d t u a s. d t u a s }
+
+module _ {gives : Gives} {here : List Name} (way : IsWay gives here) (names : List Name) where
+  longer : (path : List Name) (t u : Tree) → AgreeAt ((here ++ name_or_empty names ∷ []) ++ path) t u
+      → AgreeAt (here ++ name_or_empty names ∷ path) t u
+  longer path t u a = subst (λ p. AgreeAt p t u) (append_assoc here (name_or_empty names ∷ []) path) a
+
+  pub field_way : IsWay (field_gives gives names) (here ++ name_or_empty names ∷ [])
+  field_way = record {
+    both = λ f g h pass. way.both (alone false None f (first_name names)) (alone false None g (first_name names))
+        (alone false None h (first_name names)) (alone-both false false None None None f g h names pass (λ a b. a));
+    depends = λ of path d t u a. way.depends (alone false None of (first_name names)) (name_or_empty names ∷ path)
+        (alone-depends false None of names path d) t u (longer path t u a);
+  }
+
+  pub option_way : IsWay (optional_gives gives names) (here ++ name_or_empty names ∷ [])
+  option_way = record {
+    both = λ f g h pass. way.both (alone false (Some None) (option_of f) (first_name names))
+        (alone false (Some None) (option_of g) (first_name names)) (alone false (Some None) (option_of h) (first_name names))
+        (alone-both false false (Some None) (Some None) (Some None) (option_of f) (option_of g) (option_of h) names
+        (option-both f g h pass) (λ a b. refl));
+    depends = λ of path d t u a. way.depends (alone false (Some None) (option_of of) (first_name names))
+        (name_or_empty names ∷ path)
+        (alone-depends false (Some None) (option_of of) names path (option-depends of path d)) t u (longer path t u a);
+  }
