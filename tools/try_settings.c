@@ -3,7 +3,7 @@
  * The calls open, openat, write, fsync, fchmod, chmod, chown and rename are counted from 1, and AT is the number of the
  * chosen one. HOW=end ends the process there with status 99, HOW=half too, but a write has written half of its bytes;
  * HOW=stop stops the process until somebody continues it, and then makes the call; HOW=fail returns the error EIO.
- * HOW=list writes the name of each call as a line to descriptor 3. */
+ * HOW=list writes the name of each call as a line to descriptor 3, of openat as open. */
 #define _GNU_SOURCE
 #include <errno.h>
 #include <fcntl.h>
@@ -41,7 +41,7 @@ int openat(int folder, const char *path, int flags, ...) {
     va_start(more, flags);
     mode_t mode = flags & O_CREAT ? va_arg(more, mode_t) : 0;
     va_end(more);
-    return fails("openat") ? -1 : (int)syscall(SYS_openat, folder, path, flags, mode);
+    return fails("open") ? -1 : (int)syscall(SYS_openat, folder, path, flags, mode);
 }
 
 int open(const char *path, int flags, ...) {
