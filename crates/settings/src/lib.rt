@@ -4,3 +4,7 @@
 pub mod loader;
 pub mod parts;
 pub mod types;
+
+pub use loader::{load, reloaded, save};
+pub use parts::{Host, Tls};
+pub use types::Settings;

@@ -7,8 +7,8 @@ ghost use Rattle.std.specs.Prelude.{refl};
 use miniserde::derived::{
     Deserialize, Error, Event, Field, FromJson, Global, Lossless, NeverNull, NoField, NoSlot,
     Parts, PlacedRecord, Plain, Ranged, Record, RecordPlace, Result, RoundTrip, Serialize, Slot,
-    Slots, Source, Step, Visitor, Writer, WrittenFields, read_record, record_lossless,
-    record_round_trips, write_members,
+    Slots, Source, Stable, Step, Visitor, Writer, WrittenFields, read_record, record_lossless,
+    record_round_trips, record_stable, write_members,
 };
 use refused::{FieldByField, FieldPath, NamesOf, NoProbe, Probe, Probes, Way, fields_give};
 
@@ -92,6 +92,12 @@ impl Lossless for Host {
 
 impl NeverNull for Host {
     fn never_null() {}
+}
+
+impl Stable for Host {
+    fn stable() {
+        record_stable::<Host, HostFields>()
+    }
 }
 
 /// The place of a `Host`.
@@ -219,6 +225,12 @@ impl Lossless for Tls {
 
 impl NeverNull for Tls {
     fn never_null() {}
+}
+
+impl Stable for Tls {
+    fn stable() {
+        record_stable::<Tls, TlsFields>()
+    }
 }
 
 // Its fields, one by one.

@@ -8,8 +8,9 @@ use crate::parts::{Host, Tls};
 use miniserde::derived::{
     Deserialize, Error, Event, Field, Four, FourLent, FourParts, FourSlot, FromJson, Global,
     Lossless, NeverNull, NoField, NoSlot, Parts, PlacedRecord, Plain, Ranged, Record, RecordPlace,
-    Result, RoundTrip, Serialize, Slot, Slots, Source, Step, Visitor, Writer, WrittenFields,
-    read_record, record_lossless, record_round_trips, take_four, write_members,
+    Result, RoundTrip, Serialize, Slot, Slots, Source, Stable, Step, Visitor, Writer,
+    WrittenFields, read_record, record_lossless, record_round_trips, record_stable, take_four,
+    write_members,
 };
 use refused::{
     FieldByField, FieldPath, NamesOf, NoProbe, Probe, ProbeIntoOption, Probes, Way, fields_give,
@@ -132,6 +133,12 @@ impl Lossless for Settings {
 
 impl NeverNull for Settings {
     fn never_null() {}
+}
+
+impl Stable for Settings {
+    fn stable() {
+        record_stable::<Settings, SettingsFields>()
+    }
 }
 
 // Its fields, one by one.

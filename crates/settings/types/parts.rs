@@ -1,11 +1,11 @@
 /// A host, and how much of the work it gets.
-pub struct Host { // lossless, events
+pub struct Host { // lossless, stable, events
     pub host: String,
     pub weight: u8,
 }
 
 /// How a connection is secured.
-pub struct Tls { // lossless, events, refused
+pub struct Tls { // lossless, stable, events, refused
     pub cert: String,
     pub verify: bool,
 }

@@ -1,14 +1,18 @@
-//! The settings of a text at another port, as text, or the field that is wrong.
-ghost use Rattle.std.specs.Prelude.{◌≡◌, IfOk, Err, string_bytes};
-ghost use Rattle.miniserde.specs.Tree.{Tree};
+//! The text of settings at another port, or the field that is wrong.
+ghost use Rattle.std.specs.Prelude.{◌≡◌, IfOk, Err, codes, string_bytes};
+ghost use Rattle.miniserde.specs.Tree.{Tree, Members, members, nonneg};
 ghost use Rattle.miniserde.specs.Value.{IsJson};
-ghost use Rattle.settings_app.specs.Changes.{at_port, IsWrong};
+ghost use Rattle.miniserde.specs.Compact.{compact};
+ghost use Rattle.miniserde.specs.Normal.{norm};
+ghost use Rattle.settings_app.specs.Changes.{at_port, HasOnlyChange, IsWrong};
 ghost use Rattle.settings_app.specs.declared.loading.Fault.{Fault};
 
-use miniserde::{Error, FromJson, Result, Serialize};
+use crate::member::with_number;
+use miniserde::laws::{norm_is_normal, norm_of_members, text_has_one_tree};
+use miniserde::{Error, FromJson, Result, means_in_normal_form};
 use refused::{FieldPath, wrong_field};
-use settings::loader::{load, save};
-use settings::types::Settings;
+use settings::loader::settings_meant;
+use settings::{Settings, load};
 use std::alloc::Global;
 use std::fmt;
 
@@ -24,6 +28,10 @@ pub enum Fault {
 }
 
 impl fmt::Display for Fault {
+    ghost use Rattle.settings_app.specs.Faults.{fault_text};
+
+    ghost output = { fault_text ⟦<FieldPath as fmt::Display>⟧.output };
+
     fn fmt<W: fmt::Write>(&self, f: &mut fmt::Formatter<W>) -> fmt::Result {
         match self {
             Fault::NoJson => f.write_str("this is no JSON"),
@@ -48,26 +56,35 @@ fn fault_of(alloc: Global, text: &str) -> Fault
     }
 }
 
-/// Returns the settings of a text at another port, as text.
+/// Returns the text of settings at another port. Returns `Invalid` if the text means no settings, and `Memory` if an
+/// allocation fails.
 fn at_another_port(alloc: Global, text: &str, port: u16) -> Result<String>
-    ensures ok { IfOk result (λ j. (t : Tree) × (s : Settings) × IsJson text.now t
-        × ⟦<Settings as FromJson>⟧.means.reads t s
-        × IsJson (string_bytes j) (⟦<Settings as Serialize>⟧.tree (at_port port s))) }
+    ensures ok { IfOk result (λ j. (ms : Members) × (s : Settings) × (changed : Members)
+        × IsJson text.now (members ms) × ⟦<Settings as FromJson>⟧.means.reads (members ms) s
+        × IsJson (string_bytes j) (members changed) × ⟦<Settings as FromJson>⟧.means.reads (members changed) (at_port port s)
+        × HasOnlyChange (codes "port") (nonneg port) ms changed × (string_bytes j ≡ compact (norm (members changed)))) }
     ensures invalid { result ≡ Err Error.Invalid
         → (t : Tree) → IsJson text.now t → (s : Settings) → ⟦<Settings as FromJson>⟧.means.reads t s → ⊥ }
 {
-    let mut settings = load(alloc, text)?;
-    settings.port = port;
-    let written = save(alloc, &settings)?;
-    Ok(written)
+    means_in_normal_form::<Settings>();
+    norm_is_normal();
+    norm_of_members();
+    settings_meant();
+    text_has_one_tree();
+    load(alloc, text)?;
+    let changed = with_number(alloc, text, "port", port)?;
+    Ok(changed)
 }
 
-/// Returns the settings of a text at another port, as text, or why the text means none.
+/// Returns the text of settings at another port, with all other members, in canonical text: members in byte order, of
+/// duplicates the last. Returns why the text means no settings if it means none.
 pub fn set_port(alloc: Global, text: &str, port: u16) -> std::result::Result<String, Fault>
-    // The text means settings, and the answer spells these at that port.
-    ensures ok { IfOk result (λ j. (t : Tree) × (s : Settings) × IsJson text.now t
-        × ⟦<Settings as FromJson>⟧.means.reads t s
-        × IsJson (string_bytes j) (⟦<Settings as Serialize>⟧.tree (at_port port s))) }
+    // The text spells members that mean settings. The answer spells members that mean these settings at that port; at
+    // each other name they have the normal form of the last tree that the text has there.
+    ensures ok { IfOk result (λ j. (ms : Members) × (s : Settings) × (changed : Members)
+        × IsJson text.now (members ms) × ⟦<Settings as FromJson>⟧.means.reads (members ms) s
+        × IsJson (string_bytes j) (members changed) × ⟦<Settings as FromJson>⟧.means.reads (members changed) (at_port port s)
+        × HasOnlyChange (codes "port") (nonneg port) ms changed × (string_bytes j ≡ compact (norm (members changed)))) }
 
     // The text spells a tree that has no value for the field at the path.
     ensures field { (path : _) → result ≡ Err (Fault.Field path) → (t : Tree) × IsJson text.now t × IsWrong path t }

@@ -3,6 +3,7 @@
 
 mod file;
 mod loading;
+mod member;
 
 use clap::{Arg, Command, value_parser};
 use file::replace;
@@ -14,25 +15,27 @@ use std::{fs, io};
 /// Sets the port in the file of a path. No clause of std says which bytes a file gives: what is promised of its text,
 /// and of the text that replaces it, is what `set_port` promises.
 fn change<R: Files + AllocGlobal>(rt: &R, path: &str, port: u16) -> io::Result<Result<(), Fault>> {
-    let text = fs::read_to_string(rt, path)?;
+    // If the path is a symlink, its target is replaced.
+    let file = fs::canonicalize(rt, path)?;
+    let text = fs::read_to_string(rt, file.as_path())?;
     match set_port(rt.alloc(), text.as_str(), port) {
         Ok(changed) => {
-            replace(rt, path, changed.as_str())?;
+            replace(rt, file.as_path(), changed.as_str())?;
             Ok(Ok(()))
         }
         Err(fault) => Ok(Err(fault)),
     }
 }
 
-/// Sets the port in the file of a path and prints it, or prints why that failed.
+/// Sets the port in the file of a path and prints it, or prints why that failed to standard error.
 fn run(rt: &HostRuntime, path: &str, port: u16) -> anyhow::Result<ExitCode> {
     match change(rt, path, port) {
         Ok(Ok(())) => {
             println!(rt; "{path}: the port is {port}")?;
             return Ok(ExitCode::SUCCESS);
         }
-        Ok(Err(fault)) => println!(rt; "{path}: {fault}")?,
-        Err(error) => println!(rt; "{path}: {error}")?,
+        Ok(Err(fault)) => eprintln!(rt; "{path}: {fault}")?,
+        Err(error) => eprintln!(rt; "{path}: {error}")?,
     }
     Ok(ExitCode::FAILURE)
 }
