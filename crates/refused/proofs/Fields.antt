@@ -117,7 +117,7 @@ abbrev pub before_later : List Name → List Name → List Name
 before_later before [] = before
 before_later before (n ∷ ns) = before ++ n ∷ []
 
--- no name stands twice among the later ones and those before them
+-- no name is a duplicate among the later ones and those before them
 pub later-apart : (before names : List Name) → are_apart before names ≡ true
     → are_apart (before_later before names) (later_names names) ≡ true
 later-apart before [] a = refl
