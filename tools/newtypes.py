@@ -171,7 +171,7 @@ impl Clone for {it.name} {{
 
 
 def transparent_text(it):
-    """The impl that says that a newtype is its value, no more and no less. Its round trip asks for it."""
+    """The impl that says that each value of the inner type may stand in the newtype. Its round trip asks for it."""
     if not it.has_laws:
         return ""
     params = f"<{', '.join(it.params)}>" if it.params else ""

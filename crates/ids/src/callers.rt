@@ -32,7 +32,7 @@ pub fn same_account(alloc: Global, account: &Account) -> Result<Account>
     read_itself(alloc, account)
 }
 
-/// Does nothing. It promises that a text that means an account and its canonical text mean the same.
+/// Does nothing. It promises that the normal form of a tree that means an account means the same account.
 pub fn accounts_are_stable()
     ensures { (t : Tree) (a : Account) → ⟦<Account as FromJson>⟧.means.reads t a
         → ⟦<Account as FromJson>⟧.means.reads (norm t) a }

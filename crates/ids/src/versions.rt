@@ -1,5 +1,4 @@
-//! A type of another crate of which no lemma says that its text is parsed back: the text is kept beside the value, and
-//! is what is written.
+//! A type of another crate without a lemma for its round trip. The newtype keeps the text that was read, and writes it.
 ghost use Rattle.std.specs.Prelude.{◌≡◌, ℕ, List, Ok, string_bytes};
 ghost use Rattle.semver.specs.Identifiers.{parts_of};
 ghost use Rattle.semver.specs.Parse.{version_parts};

@@ -1,4 +1,4 @@
--- The text of a path: its names with dots between them, each written so that no two paths have one text.
+-- The text of a path: its names with dots between them, each written so that a name with a dot is told from two names.
 use Rattle.std.specs.Prelude.{◌≡◌, ℕ, ◌==◌, ◌||◌, List, [], ◌∷◌, ◌++◌, flat_map, if◌then◌else◌, codes, refl}
 use Rattle.std.specs.Char.{encode_utf8}
 use Rattle.std.specs.Str.{chars}

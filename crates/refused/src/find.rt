@@ -18,18 +18,18 @@ use miniserde::record::Record;
 use miniserde::{FromJson, Result};
 use std::alloc::Global;
 
-/// A struct whose fields can be looked for one by one. `probe` reads the whole text once for each field up to the first
-/// that is wrong, and once more for each struct that it looks into.
+/// A struct whose fields can be looked for one by one. What `./derive` writes reads the whole text once for each field up
+/// to the first that is wrong, and once more for each struct that it looks into.
 pub trait FieldByField: FromJson {
-    // The last argument but one is a path to the first field that is wrong in the tree. The others are what the place
+    // The last argument but one is a path to a field that is wrong in the tree, by `./derive` the first one. The others are what the place
     // of the struct gives, and the path to that place.
     ghost wrong: { Gives → List Name → List Name → Tree → Type 0 };
 
     // Each field has a value in the tree, by itself, by what the place of the struct gives.
     ghost right: { Gives → Tree → Type 0 };
 
-    /// Returns the path to the first field that has no value in the text at the place `W`, or `None` if each has one by
-    /// itself. Returns `Memory` if an allocation fails.
+    /// Returns a path that is `wrong` in the text at the place `W`, or `None` if each field is `right`. Returns `Memory` if
+    /// an allocation fails.
     fn probe<W: Way>(alloc: Global, text: &str) -> Result<Option<FieldPath>>
         ensures some { IfOk result (λ answer. IfSome answer (λ path. (t : Tree) → IsJson text.now t
             → wrong W.gives W.to (map (λ s. s.now) path.names.items) t)) }
@@ -56,11 +56,12 @@ pub fn fields_give<S: Record, P: Probes, W: Way>()
 }
 
 /// Returns the path to a field that keeps a text from meaning a struct, or `None` if the text means one or is no JSON.
-/// The path is empty if the text is JSON and no object. Reads the whole text up to three times before the first field,
+/// The path is empty only if the text is JSON and no object. Reads the whole text up to three times before the first field,
 /// then once for each field up to the wrong one, and once more for each struct that it looks into. Returns `Memory` if an
 /// allocation fails.
 pub fn wrong_field<S: FieldByField>(alloc: Global, text: &str) -> Result<Option<FieldPath>>
-    // The text spells a tree that means no struct, and gives no value for the field at the path, by itself.
+    // The text spells a tree that means no struct. It gives no value for the field at the path, by itself; or the path
+    // is empty, and the tree is no object.
     ensures some { IfOk result (λ answer. IfSome answer (λ path. (t : Tree) × IsJson text.now t
         × ((v : S) → S.means.reads t v → ⊥)
         × StructIsWrong (S.wrong document_gives []) (map (λ s. s.now) path.names.items) t)) }

@@ -29,7 +29,7 @@ impl FieldPath {
 }
 
 /// Shows the names with dots between them, as `tls.cert`. A dot, a quotation mark and a backslash in a name have a
-/// backslash before them, and the empty name is `""`, so that another path has another text. Allocates nothing.
+/// backslash before them, and the empty name is `""`: a name with a dot is told from two names. Allocates nothing.
 impl fmt::Display for FieldPath {
     ghost use Rattle.std.specs.Prelude.{Some};
     ghost use Rattle.refused.specs.Text.{path_text};

@@ -32,16 +32,17 @@ pub trait Probes {
     // Each field has a value in the tree, by itself.
     ghost right: { Gives → List Name → Tree → Type 0 };
 
-    /// Returns the path to the first field that has no value in the text at the place `W`, by the fields' names `N`, or
-    /// `None` if each has one by itself. Returns `Memory` if an allocation fails.
+    /// Returns a path that is `wrong` in the text at the place `W`, by the fields' names `N`, or `None` if each field is
+    /// `right`. Returns `Memory` if an allocation fails.
     fn probe<W: Way, N: Names>(alloc: Global, text: &str) -> Result<Option<FieldPath>>
         ensures some { IfOk result (λ answer. IfSome answer (λ path. (t : Tree) → IsJson text.now t
             → wrong W.gives W.to N.names (map (λ s. s.now) path.names.items) t)) }
         ensures none { result ≡ Ok None → (t : Tree) → IsJson text.now t → right W.gives N.names t }
         ensures memory { IfErr result (λ e. e ≡ Error.Memory) };
 
-    /// Does nothing. It promises that an object at the place `W` gives the fields' values if each field has one by itself.
-    /// If a path is wrong there, no document that agrees at the path gives them at the place.
+    /// Does nothing. If the fields' names are distinct, it promises that an object at the place `W` gives the fields' values
+    /// if each field has one by itself. If a path is wrong there, no document that agrees at the path gives them at the
+    /// place.
     fn tells<W: Way, N: Names>()
         ensures right { (before : List Name) → are_apart before N.names ≡ true → (t : Tree)
             → W.gives _ any_object t → right W.gives N.names t

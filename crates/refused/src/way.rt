@@ -34,8 +34,8 @@ pub trait Way {
         ensures path { IfOk result (λ p. map (λ s. s.now) p.names.items ≡ to) }
         ensures memory { IfErr result (λ e. e ≡ Error.Memory) };
 
-    /// Returns whether the text has, at the place, a field of the type `T` with the mark `M` and the first of the names
-    /// `N`, or is no JSON. Returns `Memory` if an allocation fails.
+    /// Returns whether the text has, at the place, a value for a field of the type `T` with the mark `M` and the first of
+    /// the names `N`. Returns `Memory` if an allocation fails. No clause says what it returns for a text that is no JSON.
     fn has<N: Names, T: FromJson, M: Mark<T>>(alloc: Global, text: &str) -> Result<bool>
         ensures yes { result ≡ Ok true → (t : Tree) → IsJson text.now t
             → gives _ (alone M.once (missing_content T.means M.given T.absent) T.means.from_tree (first_name N.names)) t }
@@ -86,7 +86,7 @@ impl Way for Start {
     }
 }
 
-/// What stands, at the place `W`, in the field of the first of the names `N`.
+/// The field of the first of the names `N`, in the struct at the place `W`.
 pub struct Through<W, N> {
     of: PhantomData<(W, N)>,
 }
@@ -107,7 +107,7 @@ impl<W: Way, N: Names> Way for Through<W, N> {
     }
 }
 
-/// What stands, at the place `W`, in the optional field of the first of the names `N`.
+/// The optional field of the first of the names `N`, in the struct at the place `W`.
 pub struct ThroughOption<W, N> {
     of: PhantomData<(W, N)>,
 }

@@ -28,7 +28,7 @@ IsTls (members ms) s = LastMemberReads ⊥ (λ t. t ≡ str (string_bytes s.cert
 IsTls t s = ⊥
 
 -- The tree has the settings' members: a text `name`, a `port` of at most 65535, `tls` that may be null or missing, a
--- list `hosts`, and `limits` by their names, which are below 2 ^ 64. `host` and `tls` tell what the types of these two
+-- list `hosts`, and an object `limits`, whose values are below 2 ^ 64. `host` and `tls` tell what the types of these two
 -- accept.
 abbrev pub IsSettings : {C D : Type 0} → (Tree → Option C) → (Tree → Option D) → Tree → Settings → Type 0
 IsSettings host tls (members ms) s = LastMemberReads ⊥ (λ t. t ≡ str (string_bytes s.name)) string_of (codes "name") ms

@@ -26,7 +26,7 @@ pub fn settings_meant()
     parts_meant()
 }
 
-/// The settings of a text.
+/// Loads settings from a text. Returns `Invalid` if the text means none, and `Memory` if an allocation fails.
 pub fn load(alloc: Global, j: &str) -> Result<Settings>
     // The text spells a tree that means the settings, as their types say, and as `IsSettings` does.
     ensures ok { IfOk result (λ s. (t : Tree) × IsJson j.now t × ⟦<Settings as FromJson>⟧.means.reads t s) }
@@ -43,9 +43,9 @@ pub fn load(alloc: Global, j: &str) -> Result<Settings>
     from_str(alloc, j)
 }
 
-/// The text of settings.
+/// Writes settings as a text. Returns `Memory` if an allocation fails.
 pub fn save(alloc: Global, s: &Settings) -> Result<String>
-    // It spells the tree of the settings, which means them, and nothing that counts otherwise.
+    // The text spells the tree of the settings. The tree means them, and only settings of the same content.
     ensures spells { IfOk result (λ j. IsJson (string_bytes j) (⟦<Settings as Serialize>⟧.tree s.now)) }
     ensures means { ⟦<Settings as FromJson>⟧.means.reads (⟦<Settings as Serialize>⟧.tree s.now) s.now }
     ensures only { (v : Settings) → ⟦<Settings as FromJson>⟧.means.reads (⟦<Settings as Serialize>⟧.tree s.now) v
@@ -58,7 +58,7 @@ pub fn save(alloc: Global, s: &Settings) -> Result<String>
     to_string(alloc, s)
 }
 
-/// The settings, saved and loaded.
+/// Saves settings and loads them. Returns `Memory` if an allocation fails.
 pub fn reloaded(alloc: Global, s: &Settings) -> Result<Settings>
     ensures same { IfOk result (λ v. AreSame v s.now) }
     ensures memory { result ≡ Err Error.Invalid → ⊥ }

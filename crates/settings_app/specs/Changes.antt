@@ -21,6 +21,6 @@ abbrev pub HasOnlyChange : List ℕ → Tree → Members → Members → Type 0
 HasOnlyChange name u ms ns = (last_of name ns ≡ Some u)
     × ((q : List ℕ) → q ≢ name → last_of q ns ≡ option_map norm (last_of q ms))
 
--- the path leads to a field of settings that has no value in the tree, or is empty if the tree is no object
+-- the path leads to a field of settings that has no value in the tree, or it is empty and the tree is no object
 abbrev pub IsWrong : FieldPath → Tree → Type 0
 IsWrong path t = StructIsWrong (fields.ghosts.wrong document_gives []) (map (λ s. s.now) path.names.items) t

@@ -11,7 +11,7 @@ const TRIES: u32 = 1000;
 
 /// Replaces the text of the file at a path that leads through no symlink. The text is written to a new file beside it
 /// with the same owner, group and mode, which is synced and renamed, and then the folder is synced. If a step up to the
-/// rename fails, the new file is removed and the old one stays. No clause of std says so: read the body.
+/// rename fails, the old file stays, and the new one is removed if it can be. No clause of std says so: read the body.
 pub fn replace<R: Files + AllocGlobal>(rt: &R, path: Path<'_>, text: &str) -> io::Result<()> {
     let old = fs::metadata(rt, path)?;
     let (mut file, fresh) = create_beside(rt, path)?;

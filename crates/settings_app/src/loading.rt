@@ -21,7 +21,7 @@ use std::fmt;
 pub enum Fault {
     /// The text is no JSON.
     NoJson,
-    /// The text has no value for the field at the path.
+    /// The text has no value for the field at the path. If the path is empty, the text is no object.
     Field(FieldPath),
     /// An allocation failed.
     Failed(Error),
@@ -77,7 +77,7 @@ fn at_another_port(alloc: Global, text: &str, port: u16) -> Result<String>
 }
 
 /// Returns the text of settings at another port, with all other members, in canonical text: members in byte order, of
-/// duplicates the last. Returns why the text means no settings if it means none.
+/// duplicates the last. Returns `Field` or `NoJson` if the text means no settings, and `Failed` if an allocation fails.
 pub fn set_port(alloc: Global, text: &str, port: u16) -> std::result::Result<String, Fault>
     // The text spells members that mean settings. The answer spells members that mean these settings at that port; at
     // each other name they have the normal form of the last tree that the text has there.
@@ -86,7 +86,7 @@ pub fn set_port(alloc: Global, text: &str, port: u16) -> std::result::Result<Str
         × IsJson (string_bytes j) (members changed) × ⟦<Settings as FromJson>⟧.means.reads (members changed) (at_port port s)
         × HasOnlyChange (codes "port") (nonneg port) ms changed × (string_bytes j ≡ compact (norm (members changed)))) }
 
-    // The text spells a tree that has no value for the field at the path.
+    // The text spells a tree that has no value for the field at the path, or the path is empty and the tree no object.
     ensures field { (path : _) → result ≡ Err (Fault.Field path) → (t : Tree) × IsJson text.now t × IsWrong path t }
 
     // The text spells no tree.

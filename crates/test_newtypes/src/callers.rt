@@ -99,7 +99,7 @@ pub fn same_account(alloc: Global, account: &Account) -> Result<Account>
     read_itself(alloc, account)
 }
 
-/// Does nothing. It promises that a text of percents by slugs and its canonical text mean the same.
+/// Does nothing. It promises that the normal form of a tree that means percents by slugs means the same.
 pub fn by_slug_is_stable()
     ensures { (t : Tree) (m : _) → ⟦<BTreeMap<Slug, Percent> as FromJson>⟧.means.reads t m
         → ⟦<BTreeMap<Slug, Percent> as FromJson>⟧.means.reads (norm t) m }
@@ -126,7 +126,8 @@ pub fn percent_of(n: u8) -> Option<Percent>
 
 /// Returns the value inside of any newtype with a check, which accepts it.
 pub fn checked_value<N: Checked>(value: &N) -> &N::Inner
-    ensures { N.accepts (N.means.content result.now) ≡ true }
+    ensures inner { result.now ≡ N.inner value.now }
+    ensures accepted { N.accepts (N.means.content result.now) ≡ true }
 {
     value.get()
 }
