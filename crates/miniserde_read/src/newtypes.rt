@@ -44,10 +44,9 @@ pub trait Checked: Sized + Drop {
     ghost same: { SameMeaning Self.Inner.means means };
 }
 
-/// Reads a newtype with a check, whose first token is `token`, and takes no more of the source. `token` must be the one
-/// that was taken last. Returns `Invalid` if the text, from
-/// that token on, has no prefix that means a value of the inner type which the check accepts, and `Memory` if an
-/// allocation fails.
+/// Reads a newtype with a check, and takes no more of the source. `token` is its first token, and was taken last.
+/// Returns `Invalid` if no prefix of the text, from that token on, means a value of the inner type that the check
+/// accepts, and `Memory` if an allocation fails.
 pub fn read_checked<'a, N: Checked>(token: Event<'a>, source: &mut Source<'a>) -> Result<N>
     requires going { source.old.refused ≡ None }
     requires event { EventInRange (event_of_token token source.old.scratch) }

@@ -162,8 +162,9 @@ impl<'a> Source<'a> {
         }
     }
 
-    /// Returns the text of a name or a string, and borrows nothing of the source: the scratch text is moved out of it,
-    /// and is empty afterwards. It must be the text that the last call took; only `after` and `end` may come between.
+    /// Returns the text of a name or a string, which borrows nothing of the source. Moves a decoded text out of the
+    /// scratch text, which is empty afterwards; for a borrowed text the scratch text stays. It must be the text that was
+    /// taken last, since a later name or string may replace the scratch text.
     #[inline(always)]
     pub fn take_text(&mut self, text: Text<'a>) -> CowStr<'a>
         ensures text { cow_str_bytes result ≡ text_of text.entry self.old.scratch }
