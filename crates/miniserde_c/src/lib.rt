@@ -12,9 +12,9 @@ ghost use Rattle.miniserde_model.specs.declared.error.Error.{Error};
 
 use miniserde_canonical::{canonical, canonical_both, canonical_unique};
 use miniserde_model::error::Error;
-use miniserde_read::{Ignored, from_slice};
+use miniserde_read::check_json;
+use simdutf8::basic::from_utf8;
 use std::alloc::Global;
-use std::str;
 
 // The statuses, as `miniserde.h` has them.
 const OK: u32 = 0;
@@ -110,15 +110,15 @@ pub extern "C" fn miniserde_equal(alloc: Global, a: &[u8], b: &[u8]) -> u32
 }
 
 /// Returns `OK` if the bytes are JSON in UTF-8, `INVALID` if they are not, and `MEMORY` if an allocation fails. Needs
-/// one bit of memory for each level of depth, in words of 64, and room for the longest string that has an escape.
+/// one bit of memory for each level of depth, in words of 64, and no other.
 #[unsafe(no_mangle)]
 pub extern "C" fn miniserde_is_json(alloc: Global, text: &[u8]) -> u32
     ensures ok { result ≡ OK → (t : Tree) × IsJson text.now t }
     ensures invalid { result ≡ INVALID → HasNoTree text.now }
     ensures only { result ≤ MEMORY }
 {
-    match parse(alloc, text) {
-        Ok(_) => OK,
+    match check(alloc, text) {
+        Ok(()) => OK,
         Err(status) => status,
     }
 }
@@ -130,7 +130,7 @@ fn canonical_of_bytes(alloc: Global, bytes: &[u8]) -> Result<String, u32>
     ensures invalid { IfErr result (λ s. s ≡ INVALID → HasNoTree bytes.now) }
     ensures only { IfErr result (λ s. (s ≡ INVALID) ⊎ (s ≡ MEMORY)) }
 {
-    let Ok(text) = str::from_utf8(bytes) else {
+    let Ok(text) = from_utf8(bytes) else {
         return Err(INVALID);
     };
     match canonical(alloc, text) {
@@ -147,7 +147,7 @@ fn unique_of_bytes(alloc: Global, bytes: &[u8]) -> Result<String, u32>
         → (t : Tree) → IsJson bytes.now t → names_distinct t ≡ true → ⊥) }
     ensures only { IfErr result (λ s. (s ≡ INVALID) ⊎ (s ≡ MEMORY)) }
 {
-    let Ok(text) = str::from_utf8(bytes) else {
+    let Ok(text) = from_utf8(bytes) else {
         return Err(INVALID);
     };
     match canonical_unique(alloc, text) {
@@ -163,10 +163,10 @@ fn both_of_bytes(alloc: Global, a: &[u8], b: &[u8]) -> Result<(String, String), 
     ensures invalid { IfErr result (λ s. s ≡ INVALID → HasNoTree a.now ⊎ HasNoTree b.now) }
     ensures only { IfErr result (λ s. (s ≡ INVALID) ⊎ (s ≡ MEMORY)) }
 {
-    let Ok(a) = str::from_utf8(a) else {
+    let Ok(a) = from_utf8(a) else {
         return Err(INVALID);
     };
-    let Ok(b) = str::from_utf8(b) else {
+    let Ok(b) = from_utf8(b) else {
         return Err(INVALID);
     };
     match canonical_both(alloc, a, b) {
@@ -175,14 +175,17 @@ fn both_of_bytes(alloc: Global, a: &[u8], b: &[u8]) -> Result<(String, String), 
     }
 }
 
-// Fails with `INVALID` if the bytes are not JSON in UTF-8. Every tree means the one value of `Ignored`.
-fn parse(alloc: Global, bytes: &[u8]) -> Result<Ignored, u32>
+// Fails with `INVALID` if the bytes are not JSON in UTF-8.
+fn check(alloc: Global, bytes: &[u8]) -> Result<(), u32>
     ensures ok { IfOk result (λ _. (t : Tree) × IsJson bytes.now t) }
     ensures invalid { IfErr result (λ s. s ≡ INVALID → HasNoTree bytes.now) }
     ensures only { IfErr result (λ s. (s ≡ INVALID) ⊎ (s ≡ MEMORY)) }
 {
-    match from_slice::<Ignored>(alloc, bytes) {
-        Ok(found) => Ok(found),
+    let Ok(text) = from_utf8(bytes) else {
+        return Err(INVALID);
+    };
+    match check_json(alloc, text) {
+        Ok(()) => Ok(()),
         Err(error) => Err(status_of(error)),
     }
 }

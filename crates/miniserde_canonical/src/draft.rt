@@ -11,7 +11,8 @@
 //! says both.
 ghost use Rattle.std.specs.Prelude.{◌≡◌, ◌++◌, ◌∷◌, [], ℕ, List, length, IfOk, OnOk};
 ghost use Rattle.miniserde_model.specs.Compact.{string_text};
-ghost use Rattle.miniserde_text.specs.Lexer.{Blank, event_of_token, text_of};
+ghost use Rattle.miniserde_text.specs.Lexer.{Blank, event_of_token, text_of, SpelledToken};
+ghost use Rattle.miniserde_text.specs.private.Escape.{escapes};
 ghost use Rattle.miniserde_text.specs.private.Moving.{opened_kind};
 ghost use Rattle.miniserde_canonical.specs.CanonicalToken.{name};
 ghost use Rattle.miniserde_canonical.specs.private.Moving.{first_token};
@@ -21,7 +22,7 @@ ghost use Rattle.miniserde_canonical.specs.private.Drafts.{Wrote, Holding, Chang
 
 use crate::member::{Member, Name};
 use crate::members::rises;
-use crate::put::{is_as_written, put_escaped, put_string};
+use crate::put::{is_as_written, put_quoted, put_string};
 use crate::sort_members::sort_members;
 use crate::spread::{Point, SplicedText, part};
 use miniserde_text::json::lex::{Event, Kind, Lexer, Text};
@@ -55,7 +56,7 @@ pub(crate) struct Draft<'a> {
     pub(crate) is_distinct: bool,
     // Room for the indices of members that are being sorted.
     order: Vec<usize>,
-    // Room for a string that is being escaped.
+    // Room for a name that is being escaped.
     escaped: String,
 }
 
@@ -120,20 +121,20 @@ impl<'a> Draft<'a> {
     }
 
     /// Takes the first token of a value, whose span in the input is `span`, and returns the kind of the container that
-    /// it opens. `-0` and a string that was decoded into `scratch` are written anew; any other token stays in the run.
-    /// Fails if an allocation fails.
+    /// it opens. `-0` and a string with a backslash, which is in `escaped` as the escape rule writes it, are written
+    /// anew; any other token stays in the run. Fails if an allocation fails.
     #[inline(always)]
     pub(crate) fn token(
         &mut self,
         token: Event<'_>,
-        scratch: &str,
+        escaped: &str,
         span: InputSpan,
     ) -> Result<Option<Kind>, AllocError>
-        ensures opens { IfOk result (λ k. k ≡ opened_kind (event_of_token token.entry scratch.now)) }
-        ensures takes { OnOk result ((rest part rest' : List ℕ) (s s' : State) → Represents self.old rest s
+        ensures opens { (x : List ℕ) → IfOk result (λ k. k ≡ opened_kind (event_of_token token.entry x)) }
+        ensures takes { OnOk result ((rest part rest' x : List ℕ) (s s' : State) → Represents self.old rest s
             → rest ≡ part ++ rest' → span.at ≡ length rest → span.end ≡ length rest'
-            → SpellsToken token.entry scratch.now part → TokenStep (first_token (event_of_token token.entry scratch.now)) s s'
-            → Represents self.new rest' s') }
+            → SpelledToken escapes token.entry escaped.now x → SpellsToken token.entry x part
+            → TokenStep (first_token (event_of_token token.entry x)) s s' → Represents self.new rest' s') }
     {
         match token {
             Event::Negative(n) => {
@@ -147,7 +148,7 @@ impl<'a> Draft<'a> {
             Event::Str(text) => {
                 if let Text::Scratch = text {
                     self.flush(span.at)?;
-                    put_escaped(scratch, &mut self.escaped, &mut self.out.bytes)?;
+                    put_quoted(escaped, &mut self.out.bytes)?;
                     self.left = span.end;
                 }
             }

@@ -33,14 +33,20 @@ pub(crate) fn put_string(
     ensures { OnOk result (out.new.items ≡ out.old.items ++ string_text (text_of text.entry scratch.now)) }
 {
     match text {
-        Text::Input(s) => {
-            out.push(b'"')?;
-            out.extend_from_slice(s.as_bytes())?;
-            out.push(b'"')?;
-            Ok(())
-        }
+        Text::Input(s) => put_quoted(s, out),
         Text::Scratch => put_escaped(scratch, escape_room, out),
     }
+}
+
+/// Appends a text between quotes as it stands. Fails if `out` cannot grow.
+#[inline(always)]
+pub(crate) fn put_quoted(inside: &str, out: &mut Vec<u8>) -> Result<(), AllocError>
+    ensures { OnOk result (out.new.items ≡ out.old.items ++ 34 ∷ (inside.now ++ 34 ∷ [])) }
+{
+    out.push(b'"')?;
+    out.extend_from_slice(inside.as_bytes())?;
+    out.push(b'"')?;
+    Ok(())
 }
 
 /// Appends a decoded text as a string, by the escape rule. `escape_room` is room for its escaped text. Fails if an

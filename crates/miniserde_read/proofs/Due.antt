@@ -1,6 +1,6 @@
 -- The text gets shorter where a value is read (`due_less`, `element_less`), and where no value is due, no element is
 -- (`element_rejects`). `due_front` goes from the first token that a text has to the one that was taken.
-use Rattle.std.proofs.Common.{◌≡◌, ℕ, ◌<◌, Bool, true, false, List, length, Option, Some, refl, subst, arith}
+use Rattle.std.proofs.Common.{ℕ, ◌<◌, Bool, false, List, length, Option, Some, refl, subst, arith}
 use Rattle.miniserde_model.specs.Tree.{Tree, no_trees, tree}
 use Rattle.miniserde_model.specs.Step.{Step}
 use Rattle.miniserde_model.specs.Lexing.{Starts, Follows}

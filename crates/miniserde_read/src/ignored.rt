@@ -6,7 +6,7 @@ ghost use Rattle.miniserde_text.specs.Lexer.{event_of_token};
 ghost use Rattle.miniserde_model.specs.declared.error.Error.{Error};
 ghost use Rattle.miniserde_read.specs.Meanings.{ignored_meaning};
 ghost use Rattle.miniserde_read.specs.Rest.{ValueAt};
-ghost use Rattle.miniserde_read.specs.Events.{EventInRange};
+ghost use Rattle.miniserde_read.specs.Due.{ReadsDue, RejectsDue};
 ghost use Rattle.miniserde_text.specs.private.Moving.{first_or_after};
 ghost use Rattle.miniserde_text.specs.private.Runs.{Reaches, NeverRuns};
 ghost use Rattle.miniserde_text.specs.private.Stack.{innermost};
@@ -17,8 +17,8 @@ use miniserde_model::error::{Error, Result};
 use miniserde_text::json::lex::{After, Event, Kind};
 use miniserde_text::stack::Stack;
 
-/// Any JSON value, of which nothing is kept. Reading it takes no recursion. It takes one bit of memory for each level
-/// of depth, in words of 64, and room for the longest decoded string that has a backslash.
+/// Any JSON value, of which nothing is kept. Reading it takes no recursion, one bit of memory for each level of depth,
+/// in words of 64, and room for the decoded text if the value is itself a string with a backslash.
 #[derive(Drop)]
 pub struct Ignored {}
 
@@ -35,16 +35,28 @@ impl FromJson for Ignored {
     }
 }
 
-/// Skips one value, whose first token is `token`. Returns `Invalid` if the text, from that token on, has no prefix
-/// that is a value, and `Memory` if an allocation fails.
+/// Skips the value that is due, with its first token. Takes one bit of memory for each level of depth, in words of 64,
+/// and none for strings. Returns `Invalid` if the text has no prefix that is a value, and `Memory` if an allocation
+/// fails.
+pub fn skip_due<'a>(source: &mut Source<'a>) -> Result<()>
+    requires { source.old.refused ≡ None }
+    ensures going { IfOk result (λ _. source.new.refused ≡ None) }
+    ensures ok { IfOk result (λ _. ReadsDue {S = Unit {0}} (λ _. Some tt) source.old.rest source.new.rest tt) }
+    ensures invalid { result ≡ Err Error.Invalid → RejectsDue {S = Unit {0}} (λ _. Some tt) source.old.rest }
+{
+    let token = source.token_checked()?;
+    skip(token, source)
+}
+
+// Skips the rest of a value, whose first token is `token`. Returns `Invalid` if the text, from that token on, has no
+// prefix that is a value, and `Memory` if an allocation fails. The clauses hold for any text x of a string.
 fn skip<'a>(token: Event<'a>, source: &mut Source<'a>) -> Result<()>
     requires going { source.old.refused ≡ None }
-    requires event { EventInRange (event_of_token token source.old.scratch) }
     ensures going { IfOk result (λ _. source.new.refused ≡ None) }
-    ensures ok { IfOk result (λ _. (t : Tree)
-        × ValueAt t (event_of_token token.entry source.old.scratch) source.old.rest source.new.rest) }
-    ensures invalid { result ≡ Err Error.Invalid → (t : Tree) (r : List ℕ)
-        → ValueAt t (event_of_token token.entry source.old.scratch) source.old.rest r → ⊥ }
+    ensures ok { IfOk result (λ _. (x : List ℕ)
+        → (t : Tree) × ValueAt t (event_of_token token.entry x) source.old.rest source.new.rest) }
+    ensures invalid { result ≡ Err Error.Invalid → (x : List ℕ) (t : Tree) (r : List ℕ)
+        → ValueAt t (event_of_token token.entry x) source.old.rest r → ⊥ }
 {
     let mut stack = Stack::new(source.alloc());
     let mut first = stack.enter(token)?;
@@ -54,11 +66,11 @@ fn skip<'a>(token: Event<'a>, source: &mut Source<'a>) -> Result<()>
     Ok(())
 }
 
-/// Takes the closing bracket of the innermost container, whose kind is `kind`, or everything up to
-/// the first token of its next child, with that token. Pops the kind of a container that is closed,
-/// and pushes that of one that is opened. `first` says that the opening bracket was just taken.
-/// Returns whether a container was opened, `Invalid` if neither is next, or `Memory` if an
-/// allocation fails.
+// Takes the closing bracket of the innermost container, whose kind is `kind`, or everything up to
+// the first token of its next child, with that token. Pops the kind of a container that is closed,
+// and pushes that of one that is opened. `first` says that the opening bracket was just taken.
+// Returns whether a container was opened, `Invalid` if neither is next, or `Memory` if an
+// allocation fails.
 fn take_child_or_end<'a>(
     source: &mut Source<'a>,
     stack: &mut Stack,
@@ -81,16 +93,16 @@ fn take_child_or_end<'a>(
         After::Next => match kind {
             Kind::Seq => begin(source, stack),
             Kind::Map => {
-                source.name()?;
+                source.name_checked()?;
                 begin(source, stack)
             }
         },
     }
 }
 
-/// Takes the first token of a value, and pushes the kind of the container that the token opens, if
-/// any. Returns whether there is one, `Invalid` if no token is next, or `Memory` if an allocation
-/// fails.
+// Takes the first token of a value, and pushes the kind of the container that the token opens, if
+// any. Returns whether there is one, `Invalid` if no token is next, or `Memory` if an allocation
+// fails.
 #[inline(always)]
 fn begin<'a>(source: &mut Source<'a>, stack: &mut Stack) -> Result<bool>
     requires { source.old.refused ≡ None }
@@ -100,6 +112,6 @@ fn begin<'a>(source: &mut Source<'a>, stack: &mut Stack) -> Result<bool>
         Reaches due stack.old source.old.rest (first_or_after opened) stack.new source.new.rest) }
     ensures invalid { result ≡ Err Error.Invalid → NeverRuns due stack.old source.old.rest }
 {
-    let token = source.token()?;
+    let token = source.token_checked()?;
     stack.enter(token)
 }

@@ -1,12 +1,13 @@
 //! Reads one value from a whole text.
 ghost use Rattle.std.specs.Prelude.{◌≡◌, true, List, ℕ, None, Some, Ok, Err, IfOk, IsUtf8};
 ghost use Rattle.miniserde_model.specs.Tree.{Tree};
-ghost use Rattle.miniserde_model.specs.Value.{IsJson};
+ghost use Rattle.miniserde_model.specs.Value.{IsJson, HasNoTree};
 ghost use Rattle.miniserde_model.specs.declared.error.Error.{Error};
 ghost use Rattle.miniserde_read.specs.Escaped.{BeginsWithEscapedString};
 
 use crate::children::read_due;
 use crate::from_json::FromJson;
+use crate::ignored::skip_due;
 use crate::source::Source;
 use miniserde_model::error::{Error, Result};
 use std::alloc::Global;
@@ -64,4 +65,16 @@ pub fn from_slice<T: FromJson>(alloc: Global, bytes: &[u8]) -> Result<T>
         Ok(text) => from_str(alloc, text),
         Err(_) => Err(Error::Invalid),
     }
+}
+
+/// Returns `Invalid` if the text is not JSON (RFC 8259, section 2), and `Memory` if an allocation fails. Takes one bit
+/// of memory for each level of depth, in words of 64, and none for strings.
+pub fn check_json(alloc: Global, j: &str) -> Result<()>
+    ensures ok { IfOk result (λ _. (t : Tree) × IsJson j.now t) }
+    ensures invalid { result ≡ Err Error.Invalid → HasNoTree j.now }
+{
+    let mut whole = Source::new(alloc, j);
+    skip_due(&mut whole)?;
+    whole.end()?;
+    Ok(())
 }

@@ -15,9 +15,9 @@ mod step;
 
 pub use children::{next_element, read_due};
 pub use from_json::{FromJson, StdLeaf, Table};
-pub use ignored::Ignored;
+pub use ignored::{Ignored, skip_due};
 pub use items::{Item, Items, NoItem, read_tuple};
-pub use json_text::{from_slice, from_str};
+pub use json_text::{check_json, from_slice, from_str};
 pub use leaf::{Leaf, read_leaf};
 pub use lookups::{gets_last, gets_last_by_hashed_key, gets_last_by_key};
 #[doc(hidden)]

@@ -87,6 +87,18 @@ impl<'a> Source<'a> {
         self.lexer.start(&mut self.scratch)
     }
 
+    /// Does what `token` does, but checks a string without decoding it, so it never returns `Memory`.
+    #[inline(always)]
+    pub(crate) fn token_checked(&mut self) -> Result<Event<'a>>
+        ensures going { IfOk result (λ _. self.new.refused ≡ None) }
+        ensures ok { IfOk result (λ e. (s : List ℕ) × Starts self.old.rest (event_of_token e s) self.new.rest) }
+        ensures invalid { result ≡ Err Error.Invalid → self.old.refused ≡ None
+            → (e : step.Step) (r : List ℕ) → Starts self.old.rest e r → ⊥ }
+        ensures only { IfErr result (λ e. self.old.refused ≡ None → e ≡ Error.Invalid) }
+    {
+        self.lexer.start_checked(&mut self.scratch)
+    }
+
     /// Takes the closing bracket of an object and returns `None`, or takes the comma before a member, its name and
     /// its colon, and returns the name. `first` says that the opening bracket was just taken, so that no comma is
     /// due. Returns `Invalid` if neither is next, and `Memory` if decoding the name fails to allocate.
@@ -136,6 +148,18 @@ impl<'a> Source<'a> {
         ensures sticky { IfSome self.old.refused (λ e. result ≡ Err e) }
     {
         self.lexer.name(&mut self.scratch)
+    }
+
+    /// Does what `name` does, but checks the name without decoding it, so it never returns `Memory`.
+    #[inline(always)]
+    pub(crate) fn name_checked(&mut self) -> Result<Text<'a>>
+        ensures going { IfOk result (λ _. self.new.refused ≡ None) }
+        ensures ok { IfOk result (λ _. (n : List ℕ) × Names self.old.rest n self.new.rest) }
+        ensures invalid { result ≡ Err Error.Invalid → self.old.refused ≡ None
+            → (n r : List ℕ) → Names self.old.rest n r → ⊥ }
+        ensures only { IfErr result (λ e. self.old.refused ≡ None → e ≡ Error.Invalid) }
+    {
+        self.lexer.name_checked(&mut self.scratch)
     }
 
     /// Returns `Invalid` if more than whitespace is left.

@@ -3,12 +3,16 @@
 use Rattle.std.proofs.Common.{◌≡◌, ℕ, suc, ◌+◌, ◌-◌, ◌*◌, ◌<◌, ◌≤◌, List, [], ◌∷◌, ◌++◌, length, true, false, take}
 use Rattle.std.proofs.Common.{drop, get_or, refl, ap, sym, ◌∙◌, arith, length-append, length-drop, take-add}
 use Rattle.std.proofs.Common.{append_assoc}
-use Rattle.std.proofs.lemmas.Grind.{flat_map-append}
 use Rattle.std.proofs.lemmas.List.{take_more, append-nil, take-append-drop, length-take, get_or-take, get_or-drop}
 use Rattle.std.proofs.lemmas.Bool.Decides.{nat_tests}
+use Rattle.std.proofs.lemmas.Str.{encode_ascii}
+use Rattle.std.specs.Char.{encode_utf8}
+use Rattle.std.specs.List.{AllByRecursion}
 use Rattle.miniserde_model.specs.Bytes.{is_special}
+use Rattle.miniserde_model.proofs.Written.{high_stays, low_stays}
 use Rattle.miniserde_model.specs.Compact.{string_text}
 use Rattle.miniserde_text.specs.private.Escape.{escape, escapes}
+use Rattle.miniserde_text.specs.laws.Escapes.{escapes-append}
 
 -- a byte that may stand for itself does
 pub escape_plain : (b : ℕ) → is_special b ≡ false → escape b ≡ b ∷ []
@@ -25,10 +29,6 @@ pub escapes-cons : (b : ℕ) (bs : List ℕ) → escapes (b ∷ bs) ≡ escape b
 unfolding escapes
 escapes-cons b bs = refl
 
-pub escapes-append : (xs ys : List ℕ) → escapes (xs ++ ys) ≡ escapes xs ++ escapes ys
-unfolding escapes
-escapes-append xs ys = flat_map-append escape xs ys
-
 pub escapes-one : (b : ℕ) → escapes (b ∷ []) ≡ escape b
 escapes-one b = escapes-cons b [] ∙ (rw escapes-nil (append-nil (escape b)))
 
@@ -37,6 +37,11 @@ pub escapes_plain : (xs : List ℕ) → ((k : ℕ) → k < length xs → is_spec
 escapes_plain [] h = escapes-nil
 escapes_plain (x ∷ xs) h =
     rw (escapes-cons x xs, escape_plain x (h 0 (omega arith)), escapes_plain xs (λ k l. h (suc k) (omega arith))) refl
+
+-- the same by recursion
+pub escapes_all : (xs : List ℕ) → AllByRecursion (λ b. is_special b ≡ false) xs → escapes xs ≡ xs
+escapes_all [] h = escapes-nil
+escapes_all (x ∷ xs) h = rw (escapes-cons x xs, escape_plain x h.0, escapes_all xs h.1) refl
 
 -- one more byte, and its length
 pub length_escapes_more : (xs : List ℕ) (i : ℕ) → i < length xs
@@ -102,7 +107,7 @@ pub length_escapes_rest : (xs : List ℕ) (i : ℕ) → i ≤ length xs → leng
 length_escapes_rest xs i h = omega (arith, length_escapes_cut xs i, length_escapes_ge (drop i xs), length-drop i xs)
 
 -- a byte takes six bytes at most
-length_escape_le : (b : ℕ) → length (escape b) ≤ 6
+pub length_escape_le : (b : ℕ) → length (escape b) ≤ 6
 unfolding escape
 length_escape_le b = grind (arith, nat_tests)
 
@@ -111,6 +116,20 @@ pub length_escapes_six : (xs : List ℕ) → length (escapes xs) ≤ 6 * length 
 length_escapes_six [] = omega (arith, ap length escapes-nil)
 length_escapes_six (x ∷ xs) =
     rw escapes-cons (omega (arith, length-append (escape x) (escapes xs), length_escape_le x, length_escapes_six xs))
+
+-- a character from 128 on is written as its bytes
+pub escapes_high : (c : ℕ) → 128 ≤ c → escapes (encode_utf8 c) ≡ encode_utf8 c
+unfolding escapes escape
+escapes_high c h = high_stays c h
+
+-- a character below 128 is one byte, and is written as that byte is
+pub escapes_low : (c : ℕ) → c < 128 → escapes (encode_utf8 c) ≡ escape c
+unfolding escapes escape
+escapes_low c h = low_stays c h
+
+-- such a character that needs no escape is written as its byte
+pub escapes_stays : (c : ℕ) → c < 128 → is_special c ≡ false → escapes (encode_utf8 c) ≡ encode_utf8 c
+escapes_stays c h plain = escapes_low c h ∙ escape_plain c plain ∙ sym (encode_ascii c h)
 
 -- the words of a string, and the model's
 pub quoted_escapes : (s : List ℕ) → string_text s ≡ 34 ∷ (escapes s ++ 34 ∷ [])

@@ -10,7 +10,7 @@ use Rattle.std.specs.Char.{IsScalar, encode_utf8}
 use Rattle.std.specs.Str.{encode_utf8_all, IsUtf8}
 use Rattle.std.proofs.lemmas.Bool.Decides.{nat_tests}
 use Rattle.std.proofs.lemmas.Bool.{true≢false}
-use Rattle.std.proofs.lemmas.List.{append-nil, length-append, take-append-le, take_all}
+use Rattle.std.proofs.lemmas.List.{append-nil, length-append, take-append-le, take_all, nil_from_length}
 use Rattle.std.proofs.lemmas.Str.{encode_ascii, inside_one, length-encode, len_utf8_bounds, IsUtf8-take}
 use Rattle.std.proofs.lemmas.Str.{IsCharBoundary-at_seam, encodes-append}
 use lib.Utf8.{scalars, scalar}
@@ -21,7 +21,7 @@ use Rattle.miniserde_model.proofs.Runs.{AllPass}
 use Rattle.miniserde_model.proofs.Strings.{same_piece}
 use Rattle.miniserde_text.specs.Lexer.{HasBackslash}
 use Rattle.miniserde_text.specs.private.Reading.{after_run, before, is_unescaped, escape_at}
-use Rattle.miniserde_text.specs.private.Taking.{SpellsUpToQuote, PassesCharacters, AddsDecoded, BeginsWith}
+use Rattle.miniserde_text.specs.private.Taking.{SpellsUpToQuote, PassesCharacters, Adds, BeginsWith}
 use Rattle.miniserde_text.proofs.Runs.{run_split, run_stops}
 use Rattle.miniserde_text.proofs.Options.{first_byte, none_is_some, and_parts, before_is}
 use Rattle.miniserde_text.proofs.Escapes.{piece_cases, escape_takes}
@@ -181,50 +181,55 @@ run_special s t e = ap (λ x. is_unescaped (slice_index x 0)) e ∙ run_stops is
 pub escape_shorter : (s : List ℕ) (c : ℕ) (rest : List ℕ) → escape_at s ≡ Some (c, rest) → length rest ≤ length s
 escape_shorter s c rest e = let a = escape_takes s c rest e in omega (arith, ap length a.2 ∙ length-append a.0 rest)
 
--- the run of unescaped bytes is passed, and it is appended to `old`
-pub run_adds : (old new s t : List ℕ) → t ≡ after_run is_unescaped s → IsUtf8 s → IsUtf8 t → new ≡ old ++ before s t
-    → AddsDecoded old new s t
-run_adds old new s t e u v m = let r = run_of s t e u v in (r.0, r.1, m ∙ ap (λ x. old ++ x) r.2)
-
--- with nothing passed, nothing is appended
-pub adds_nil : (old t : List ℕ) → AddsDecoded old old t t
-adds_nil old t = ([], passes_nil t, sym (append-nil old))
-
 -- if the characters ds are passed up to a quote, s spells ds up to that quote
 pub quote_ends : (ds s t : List ℕ) → PassesCharacters ds s t → slice_index t 0 ≡ 34 → SpellsUpToQuote ds s (drop 1 t)
 quote_ends ds s t p e = subst (λ x. SpellsUpToQuote x s (drop 1 t)) (append-nil ds) (p.on [] (drop 1 t) (first_byte t 33 e))
 
--- if t, after the passed characters, is empty or begins with a byte below 32, s spells none up to a quote
-pub end_refused : (old new s t : List ℕ) → AddsDecoded old new s t → is_unescaped (slice_index t 0) ≡ false
-    → slice_index t 0 ≢ 34 → slice_index t 0 ≢ 92 → (cs r : List ℕ) → SpellsUpToQuote cs s r → ⊥
-end_refused old new s t a special q b cs r h = let back = a.1.back cs r h in no_chars t special q b back.0 r back.2
+-- the spelling of no text, by that of two
+spelled_nil : (f : List ℕ → List ℕ) → ((a b : List ℕ) → f (a ++ b) ≡ f a ++ f b) → f [] ≡ []
+spelled_nil f joins = nil_from_length (f []) (omega (arith, ap length (joins [] []), length-append (f []) (f [])))
 
--- if characters are passed up to t, and none are spelled from it up to a quote, s spells none
-pub rest_refused : (old new s t : List ℕ) → AddsDecoded old new s t → ((cs r : List ℕ) → SpellsUpToQuote cs t r → ⊥)
-    → (cs r : List ℕ) → SpellsUpToQuote cs s r → ⊥
-rest_refused old new s t a never cs r h = let back = a.1.back cs r h in never back.0 r back.2
+module _ (f : List ℕ → List ℕ) (joins : (a b : List ℕ) → f (a ++ b) ≡ f a ++ f b) where
+  -- with nothing passed, nothing is appended
+  pub adds_nil : (old t : List ℕ) → Adds f old old t t
+  adds_nil old t = ([], passes_nil t, sym (append-nil old) ∙ ap (λ x. old ++ x) (sym (spelled_nil f joins)))
 
--- if a quote follows the passed characters, s spells them up to it, and `new` is `old` and their bytes
-pub string_of : (old new s t : List ℕ) → AddsDecoded old new s t → slice_index t 0 ≡ 34
-    → (cs : List ℕ) × SpellsUpToQuote cs s (drop 1 t) × (new ≡ old ++ encode_utf8_all cs)
-string_of old new s t a e = (a.0, quote_ends a.0 s t a.1 e, a.2)
+  -- the run of unescaped bytes is passed, and its spelling is appended to `old`
+  pub run_adds : (old new s t : List ℕ) → t ≡ after_run is_unescaped s → IsUtf8 s → IsUtf8 t → new ≡ old ++ f (before s t)
+      → Adds f old new s t
+  run_adds old new s t e u v m = let r = run_of s t e u v in (r.0, r.1, m ∙ ap (λ x. old ++ f x) r.2)
 
--- if b adds a part to a, and c adds the next one to b, c adds both to a
-pub adds_then : (a b c t u v : List ℕ) → AddsDecoded a b t u → AddsDecoded b c u v → AddsDecoded a c t v
-adds_then a b c t u v h k = (
-  h.0 ++ k.0,
-  passes_then h.0 k.0 t u v h.1 k.1,
-  k.2 ∙ ap (λ x. x ++ encode_utf8_all k.0) h.2 ∙ append_assoc a _
-      _ ∙ ap (λ x. a ++ x) (sym (encodes-append h.0 k.0)),
-)
+  -- if t, after the passed characters, is empty or begins with a byte below 32, s spells none up to a quote
+  pub end_refused : (old new s t : List ℕ) → Adds f old new s t → is_unescaped (slice_index t 0) ≡ false
+      → slice_index t 0 ≢ 34 → slice_index t 0 ≢ 92 → (cs r : List ℕ) → SpellsUpToQuote cs s r → ⊥
+  end_refused old new s t a special q b cs r h = let back = a.1.back cs r h in no_chars t special q b back.0 r back.2
 
--- if b adds a part to a, and then the character of an escape is appended, both are added to a
-pub escape_adds : (a b c s t : List ℕ) (x : ℕ) (u : List ℕ) → AddsDecoded a b s (92 ∷ t) → escape_at t ≡ Some (x, u)
-    → c ≡ b ++ encode_utf8 x → AddsDecoded a c s u
-escape_adds a b c s t x u h e m =
-    let q = escape_takes t x u e in
-    let p = piece_passes (92 ∷ q.0) x (92 ∷ t) u q.1 (ap (λ y. 92 ∷ y) q.2) in
-    adds_then a b c s (92 ∷ t) u h (x ∷ [], p, m ∙ ap (λ y. b ++ y) (sym (append-nil (encode_utf8 x))))
+  -- if characters are passed up to t, and none are spelled from it up to a quote, s spells none
+  pub rest_refused : (old new s t : List ℕ) → Adds f old new s t → ((cs r : List ℕ) → SpellsUpToQuote cs t r → ⊥)
+      → (cs r : List ℕ) → SpellsUpToQuote cs s r → ⊥
+  rest_refused old new s t a never cs r h = let back = a.1.back cs r h in never back.0 r back.2
+
+  -- if a quote follows the passed characters, s spells them up to it, and `new` is `old` and their spelling
+  pub string_of : (old new s t : List ℕ) → Adds f old new s t → slice_index t 0 ≡ 34
+      → (cs : List ℕ) × SpellsUpToQuote cs s (drop 1 t) × (new ≡ old ++ f (encode_utf8_all cs))
+  string_of old new s t a e = (a.0, quote_ends a.0 s t a.1 e, a.2)
+
+  -- if b adds a part to a, and c adds the next one to b, c adds both to a
+  pub adds_then : (a b c t u v : List ℕ) → Adds f a b t u → Adds f b c u v → Adds f a c t v
+  adds_then a b c t u v h k = (
+    h.0 ++ k.0,
+    passes_then h.0 k.0 t u v h.1 k.1,
+    k.2 ∙ ap (λ x. x ++ f (encode_utf8_all k.0)) h.2 ∙ append_assoc a _ _
+        ∙ ap (λ x. a ++ x) (sym (ap f (encodes-append h.0 k.0) ∙ joins (encode_utf8_all h.0) (encode_utf8_all k.0))),
+  )
+
+  -- if b adds a part to a, and then the spelling of an escape's character is appended, both are added to a
+  pub escape_adds : (a b c s t : List ℕ) (x : ℕ) (u : List ℕ) → Adds f a b s (92 ∷ t) → escape_at t ≡ Some (x, u)
+      → c ≡ b ++ f (encode_utf8 x) → Adds f a c s u
+  escape_adds a b c s t x u h e m =
+      let q = escape_takes t x u e in
+      let p = piece_passes (92 ∷ q.0) x (92 ∷ t) u q.1 (ap (λ y. 92 ∷ y) q.2) in
+      adds_then a b c s (92 ∷ t) u h (x ∷ [], p, m ∙ ap (λ y. b ++ f y) (sym (append-nil (encode_utf8 x))))
 
 -- a text that begins with a backslash is a backslash and the text after it
 pub at_backslash : (s : List ℕ) (i j : ℕ) → slice_index (drop i s) 0 ≡ 92 → drop j s ≡ drop 1 (drop i s) → drop i s ≡ 92 ∷ drop j s
@@ -274,7 +279,9 @@ plain_of : (w : List ℕ) → AllPass is_unescaped w → AllByRecursion (λ c. i
 plain_of [] h = tt
 plain_of (c ∷ w) h = (unescaped_plain c h.0, plain_of w h.1)
 
-plain_run : (s t : List ℕ) → t ≡ after_run is_unescaped s → AllByRecursion (λ c. is_special c ≡ false) (before s t) × (s ≡ before s t ++ t)
+-- the run of unescaped bytes at the front has no special byte
+pub plain_run : (s t : List ℕ) → t ≡ after_run is_unescaped s
+    → AllByRecursion (λ c. is_special c ≡ false) (before s t) × (s ≡ before s t ++ t)
 plain_run s t e =
     let w = run_split is_unescaped s in
     let j : s ≡ w.0 ++ t = w.2 ∙ ap (λ x. w.0 ++ x) (sym e) in

@@ -24,7 +24,8 @@ use Rattle.miniserde_text.specs.declared.json.lex.Event as answer
 use Rattle.miniserde_text.specs.declared.json.lex.Event.TheVariants as event
 use Rattle.miniserde_text.specs.declared.json.lex.Text.{Text}
 use Rattle.miniserde_text.specs.declared.json.lex.Text.TheVariants as text
-use Rattle.miniserde_text.specs.Lexer.{event_of_token, BorrowedIfPlain, TokenBorrowedIfPlain, TokenLeavesScratch, BeginsEscaped}
+use Rattle.miniserde_text.specs.Lexer.{event_of_token, text_of, BorrowedIfPlain, TokenBorrowedIfPlain, TokenLeavesScratch}
+use Rattle.miniserde_text.specs.Lexer.{BeginsEscaped, SpelledText, SpelledToken}
 use Rattle.miniserde_text.specs.private.Reading.{after_run, number_at, word_at, token_by, token_at}
 use Rattle.miniserde_text.specs.private.Taking.{SpellsUpToQuote, BeginsWith, TakesToken, TokenTakesText, TakesText, ReachesBackslash}
 use Rattle.miniserde_text.proofs.Runs.{stops_at, stands_of, stands_only}
@@ -65,7 +66,8 @@ as_number t r e n =
     let p = number_piece n.number r n.is_number (stops_at is_number_byte r n.ends) in
     subst (λ x. TakesToken t x r) n.event ((n.number, p.0, n.text), p.1)
 
-front_takes : (t : List ℕ) (e : Step) (r : List ℕ) → token_at t ≡ Some (e, r) → TakesToken t e r
+-- what `token_at` reads is a token
+pub front_takes : (t : List ℕ) (e : Step) (r : List ℕ) → token_at t ≡ Some (e, r) → TakesToken t e r
 unfolding token_by
 front_takes t e r h =
     elim (chosen (slice_index t 0 == 110) _ _ _ h) [
@@ -187,37 +189,48 @@ string_refused t at never finish r ((b, h, j), k) = h
 
 -- ---- an answer without a string
 
-plain_taken : (t u : List ℕ) (e : answer.Event) (r : List ℕ) → slice_index t 0 ≢ 34
-    → TakesToken t (event_of_token e []) r → TakesToken t (event_of_token e u) r
-plain_taken t u event.Null r away h = h
-plain_taken t u (event.Bool b) r away h = h
-plain_taken t u (event.Negative n) r away h = h
-plain_taken t u (event.Nonnegative n) r away h = h
-plain_taken t u (event.Number x) r away h = h
-plain_taken t u (event.Str (text.Input x)) r away h = h
-plain_taken t u (event.Str text.Scratch) r away ((b, h, j), k) = absurd (away (ap (λ x. slice_index x 0) (j ∙ ap (λ x. x ++ r) h.text)))
-plain_taken t u event.SeqStart r away h = h
-plain_taken t u event.MapStart r away h = h
-
--- if `token_at` reads the event of e from t, t begins with a token of it, whatever the scratch text u
-pub read_taken : (t u : List ℕ) (e : answer.Event) (r : List ℕ) → slice_index t 0 ≢ 34
-    → token_at t ≡ Some (event_of_token e [], r) → TakesToken t (event_of_token e u) r
-read_taken t u e r away h = plain_taken t u e r away (front_takes t (event_of_token e []) r h)
-
 no_string : (t x r : List ℕ) → slice_index t 0 ≢ 34 → TakesToken t (string x) r → ⊥
 no_string t x r away ((b, h, j), k) = away (ap (λ l. slice_index l 0) (j ∙ ap (λ l. l ++ r) h.text))
 
 -- a token that does not begin with a quote is no string, so `TokenTakesText` holds
-pub read_text : (t u : List ℕ) (e : answer.Event) (r : List ℕ) → slice_index t 0 ≢ 34
-    → TakesToken t (event_of_token e u) r → TokenTakesText e t r
-read_text t u event.Null r away h = tt
-read_text t u (event.Bool b) r away h = tt
-read_text t u (event.Negative n) r away h = tt
-read_text t u (event.Nonnegative n) r away h = tt
-read_text t u (event.Number x) r away h = tt
-read_text t u (event.Str x) r away h = absurd (no_string t _ r away h)
-read_text t u event.SeqStart r away h = tt
-read_text t u event.MapStart r away h = tt
+pub read_text : (t : List ℕ) (e : answer.Event) (r : List ℕ) → slice_index t 0 ≢ 34
+    → TakesToken t (event_of_token e []) r → TokenTakesText e t r
+read_text t event.Null r away h = tt
+read_text t (event.Bool b) r away h = tt
+read_text t (event.Negative n) r away h = tt
+read_text t (event.Nonnegative n) r away h = tt
+read_text t (event.Number x) r away h = tt
+read_text t (event.Str x) r away h = absurd (no_string t _ r away h)
+read_text t event.SeqStart r away h = tt
+read_text t event.MapStart r away h = tt
+
+-- nor does `SpelledToken` ask anything of it
+pub read_spelled : (f : List ℕ → List ℕ) (t u : List ℕ) (e : answer.Event) (r : List ℕ) → slice_index t 0 ≢ 34
+    → TakesToken t (event_of_token e []) r → SpelledToken f e u []
+read_spelled f t u event.Null r away h = tt
+read_spelled f t u (event.Bool b) r away h = tt
+read_spelled f t u (event.Negative n) r away h = tt
+read_spelled f t u (event.Nonnegative n) r away h = tt
+read_spelled f t u (event.Number x) r away h = tt
+read_spelled f t u (event.Str x) r away h = absurd (no_string t _ r away h)
+read_spelled f t u event.SeqStart r away h = tt
+read_spelled f t u event.MapStart r away h = tt
+
+-- a text that was decoded into the scratch text u is u
+pub decoded_text : (x : Text) (u s : List ℕ) → SpelledText (λ y. y) x u s → text_of x u ≡ text_of x s
+decoded_text (text.Input y) u s h = refl
+decoded_text text.Scratch u s h = h
+
+-- so is that of a token
+pub decoded : (e : answer.Event) (u s : List ℕ) → SpelledToken (λ y. y) e u s → event_of_token e u ≡ event_of_token e s
+decoded event.Null u s h = refl
+decoded (event.Bool b) u s h = refl
+decoded (event.Negative n) u s h = refl
+decoded (event.Nonnegative n) u s h = refl
+decoded (event.Number x) u s h = refl
+decoded (event.Str x) u s h = ap string (decoded_text x u s h)
+decoded event.SeqStart u s h = refl
+decoded event.MapStart u s h = refl
 
 -- an unchanged scratch text satisfies `TokenLeavesScratch`, whatever the token
 pub keeps : {S : Type 0} (e : answer.Event) (x : S) → TokenLeavesScratch e x x

@@ -7,10 +7,10 @@ use Rattle.miniserde_model.specs.Value.{IsJson}
 use Rattle.miniserde_model.specs.Step.{Step, boolean, string, negative, nonnegative, float, seq, element, map, key, finish, events}
 use Rattle.miniserde_model.specs.Step as step
 use Rattle.miniserde_model.specs.Bytes.{StopsAt, is_number_byte}
-use Rattle.miniserde_model.specs.Lexing.{IsByte, Stands, Starts, Begins, Follows}
+use Rattle.miniserde_model.specs.Lexing.{Stands, Starts, Begins, Follows}
 use Rattle.miniserde_model.specs.declared.kind.Kind.{Kind}
 use Rattle.miniserde_model.specs.declared.kind.Kind.TheVariants.{Seq, Map}
-use Rattle.miniserde_model.specs.private.Reading.{Moment, due, first, after, StandsThen, Spells}
+use Rattle.miniserde_model.specs.private.Reading.{Moment, due, first, after, Spells}
 use Rattle.miniserde_model.proofs.Prefixes.{space_ends_number}
 use Rattle.miniserde_model.proofs.Reading.{due_space, front_byte_stops, space_append, json_spells}
 use Rattle.miniserde_model.proofs.ReadBack.{spells_json}

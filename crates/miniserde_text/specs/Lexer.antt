@@ -77,6 +77,16 @@ abbrev pub TokenLeavesScratch : {S : Type 0} → Event → S → S → Type 0
 TokenLeavesScratch (event.Str t) old new = LeavesScratch t old new
 TokenLeavesScratch _ old new = new ≡ old
 
+-- if the text is decoded, the scratch text is `spelled` of the string's text s
+abbrev pub SpelledText : (List ℕ → List ℕ) → Text → List ℕ → List ℕ → Type 0
+SpelledText spelled (Input x) scratch s = ⊤
+SpelledText spelled Scratch scratch s = scratch ≡ spelled s
+
+-- if the token is a string with a backslash, the scratch text is `spelled` of the string's text s
+abbrev pub SpelledToken : (List ℕ → List ℕ) → Event → List ℕ → List ℕ → Type 0
+SpelledToken spelled (event.Str t) scratch s = SpelledText spelled t scratch s
+SpelledToken spelled _ scratch s = ⊤
+
 -- after whitespace, s begins with a quote, bytes that need no escape, and a backslash
 abbrev pub BeginsEscaped : List ℕ → Type 0
 BeginsEscaped s = (r : List ℕ) × Stands (Between 34 (AllByRecursion (λ c. is_special c ≡ false)) 92) s r

@@ -1,3 +1,4 @@
 pub mod Lexer
 pub mod Texts
 pub mod private
+pub mod laws

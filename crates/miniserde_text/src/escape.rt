@@ -3,7 +3,7 @@
 ghost use Rattle.std.specs.Prelude.{◌≡◌, ◌≢◌, ℕ, ◌+◌, ◌/◌, ◌%◌, ◌^◌, ◌<◌, ◌≤◌, [], ◌∷◌, ◌++◌, length, true, false};
 ghost use Rattle.std.specs.Prelude.{codes, if◌then◌else◌, ◌-◌, take, drop, slice_index, OnOk, OnErr, IfSome, IfNone, IsErrOf, string_bytes, string_len};
 ghost use Rattle.std.specs.Prelude.{string_capacity};
-ghost use Rattle.std.specs.Char.{digit_char};
+ghost use Rattle.std.specs.Char.{digit_char, encode_utf8};
 ghost use Rattle.std.specs.Str.{IsAscii, IsCharBoundary};
 ghost use Rattle.miniserde_model.specs.Bytes as bytes;
 ghost use Rattle.miniserde_model.specs.Compact.{string_text};
@@ -14,7 +14,7 @@ ghost use Rattle.miniserde_text.specs.private.Escape.{escape, escapes};
 mod plain;
 
 use self::plain::is_short_and_plain;
-use crate::scan::special;
+use crate::scan::{is_special, special};
 use miniserde_model::error::Result;
 use std::alloc::AllocError;
 use std::{result, str};
@@ -129,6 +129,27 @@ fn put_escape(b: u8, out: &mut String)
             out,
         );
     }
+}
+
+/// Appends a character by the escape rule. Fails if `out` cannot grow.
+#[inline(always)]
+pub(crate) fn push_escaped(c: char, out: &mut String) -> result::Result<(), AllocError>
+    ensures { OnOk result (string_bytes out.new ≡ string_bytes out.old ++ escapes (encode_utf8 c)) }
+{
+    let code = c as u32;
+    if code >= 128 {
+        out.push(c)?;
+        return Ok(());
+    }
+    let b = code as u8;
+    if !is_special(b) {
+        out.push(c)?;
+        return Ok(());
+    }
+    // No escape is longer than six bytes.
+    out.reserve(6)?;
+    put_escape(b, out);
+    Ok(())
 }
 
 // Appends the bytes of `value` from `start` to `end`, of which there may be none. `out` has room for them.

@@ -11,13 +11,13 @@ of_bytes a b x y e f (inl h) = inl (λ t p. h t (subst (λ xs. IsJson xs t) (sym
 of_bytes a b x y e f (inr h) = inr (λ t p. h t (subst (λ xs. IsJson xs t) (sym f) p))
 
 pub returns-in_default-clause-invalid : goal.returns-in_default-clause-invalid
-returns-in_default-clause-invalid c = λ _. inl (λ t p. c.in_default.ensures.cases.0 (json_utf8 c.args.a.now t p))
+returns-in_default-clause-invalid c = λ _. inl (λ t p. c.in_default.ensures (json_utf8 c.args.a.now t p))
 
 pub returns-in_default-from_utf8-clause-invalid : goal.returns-in_default-from_utf8-clause-invalid
 returns-in_default-from_utf8-clause-invalid c = λ _.
-    inr (λ t p. c.in_default-from_utf8.ensures.cases.0 (json_utf8 c.args.b.now t p))
+    inr (λ t p. c.in_default-from_utf8.ensures (json_utf8 c.args.b.now t p))
 
 pub returns-in-Err-clause-invalid : goal.returns-in-Err-clause-invalid
 returns-in-Err-clause-invalid c = λ s.
-    of_bytes _ _ _ _ c.in-Ok.ensures.cases.0 c.in-Ok-from_utf8.ensures.cases.0
+    of_bytes _ _ _ _ c.in-Ok.ensures.0 c.in-Ok-from_utf8.ensures.0
     (c.in-Err.ensures.invalid (ap Err (c.status_of.ensures.invalid s)))

@@ -11,7 +11,7 @@ ghost use Rattle.miniserde_read.specs.Due.{ReadsDue, RejectsDue};
 use super::marks::{Mark, Once, Plain};
 use super::structs::{Parts, Record};
 use miniserde_model::error::{Error, Result};
-use miniserde_read::{FromJson, Ignored, Source, read_due};
+use miniserde_read::{FromJson, Source, read_due, skip_due};
 use miniserde_text::json::lex::Event;
 use std::alloc::Global;
 use std::marker::PhantomData;
@@ -109,8 +109,7 @@ impl Slots for NoSlot {
         _name: &str,
         source: &mut Source<'a>,
     ) -> Result<()> {
-        let _skipped = read_due::<Ignored>(source)?;
-        Ok(())
+        skip_due(source)
     }
 
     fn end(self, _alloc: Global) -> Result<()> {

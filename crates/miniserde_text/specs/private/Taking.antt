@@ -24,10 +24,9 @@ pub record PassesCharacters (ds t t' : List ℕ) : Type 0 where
   pub on : (cs r : List ℕ) → SpellsUpToQuote cs t' r → SpellsUpToQuote (ds ++ cs) t r
   pub back : (cs r : List ℕ) → SpellsUpToQuote cs t r → (es : List ℕ) × (cs ≡ ds ++ es) × SpellsUpToQuote es t' r
 
--- `new` is `old` with the UTF-8 bytes of some characters appended, which t spells before t'
--- (`PassesCharacters`)
-abbrev pub AddsDecoded : List ℕ → List ℕ → List ℕ → List ℕ → Type 0
-AddsDecoded old new t t' = (ds : List ℕ) × PassesCharacters ds t t' × (new ≡ old ++ encode_utf8_all ds)
+-- `new` is `old` with `spelled` of a text appended, whose characters t spells before t' (`PassesCharacters`)
+abbrev pub Adds : (List ℕ → List ℕ) → List ℕ → List ℕ → List ℕ → List ℕ → Type 0
+Adds spelled old new t t' = (ds : List ℕ) × PassesCharacters ds t t' × (new ≡ old ++ spelled (encode_utf8_all ds))
 
 -- the text t is some bytes, of which P holds, and then r
 abbrev pub BeginsWith : (List ℕ → Type 0) → List ℕ → List ℕ → Type 0

@@ -3,13 +3,14 @@
 //!
 //! `start` takes the first token of a value, `after` the punctuation after a child of a container or after its
 //! opening bracket, `name` a member's name with its colon. `end` checks that the text ends.
-ghost use Rattle.std.specs.Prelude.{◌≡◌, ◌≤◌, length, List, ℕ, Bool, None, Some, Err, IfOk, IfErr, IfSome};
+ghost use Rattle.std.specs.Prelude.{◌≡◌, ◌≤◌, length, List, ℕ, Bool, true, None, Some, Err, IfOk, IfErr, IfSome};
 ghost use Rattle.std.specs.String.{string_bytes};
 ghost use Rattle.miniserde_model.specs.Whitespace.{IsWhitespace};
 ghost use Rattle.miniserde_model.specs.Step as punctuation;
 ghost use Rattle.miniserde_model.specs.Lexing.{Starts, Names, Follows};
 ghost use Rattle.miniserde_text.specs.Lexer.{event_of_token, text_of, is_close, TokenBorrowedIfPlain, NameBorrowedIfPlain, Blank};
-ghost use Rattle.miniserde_text.specs.Lexer.{LeavesScratch, TokenLeavesScratch, BeginsEscaped};
+ghost use Rattle.miniserde_text.specs.Lexer.{LeavesScratch, TokenLeavesScratch, BeginsEscaped, SpelledText, SpelledToken};
+ghost use Rattle.miniserde_text.specs.private.Escape.{escapes};
 ghost use Rattle.miniserde_model.specs.declared.error.Error.{Error};
 
 mod bytes;
@@ -17,12 +18,14 @@ mod escape;
 pub(super) mod number;
 mod punctuation;
 mod space;
+mod spelling;
 mod string;
 mod tables;
 mod token;
 
 use self::punctuation::take_punctuation;
 use self::space::after_space;
+use self::spelling::{Checked, Decoded, Escaped, Spelling};
 use self::token::{take_name, take_token};
 use miniserde_model::error::{Error, Result};
 pub use miniserde_model::kind::Kind;
@@ -157,11 +160,60 @@ impl<'a> Lexer<'a> {
         ensures err { IfErr result (λ e. self.new.refused ≡ Some e) }
         ensures sticky { IfSome self.old.refused (λ e. (result ≡ Err e) × (self.new ≡ self.old)) }
     {
+        self.take_start::<Decoded>(scratch)
+    }
+
+    /// Does what `start` does, but `scratch` has the decoded text by the escape rule, as it is written between quotes.
+    #[doc(hidden)]
+    #[inline(always)]
+    pub fn start_escaped(&mut self, scratch: &mut String) -> Result<Event<'a>>
+        ensures ok { IfOk result (λ event. (self.old.refused ≡ None) × (self.new.refused ≡ None)
+            × (s : List ℕ) × Starts self.old.rest (event_of_token event s) self.new.rest
+            × SpelledToken escapes event (string_bytes scratch.new) s) }
+        ensures text { IfOk result (λ event. TokenBorrowedIfPlain event self.old.rest self.new.rest) }
+        ensures invalid { result ≡ Err Error.Invalid → self.old.refused ≡ None
+            → (e : punctuation.Step) (r : List ℕ) → Starts self.old.rest e r → ⊥ }
+        ensures err { IfErr result (λ e. self.new.refused ≡ Some e) }
+        ensures sticky { IfSome self.old.refused (λ e. (result ≡ Err e) × (self.new ≡ self.old)) }
+    {
+        self.take_start::<Escaped>(scratch)
+    }
+
+    /// Does what `start` does, but checks a string without decoding it, so it never returns `Memory`. What is in
+    /// `scratch` has no meaning then.
+    #[inline(always)]
+    pub fn start_checked(&mut self, scratch: &mut String) -> Result<Event<'a>>
+        ensures ok { IfOk result (λ event. (self.old.refused ≡ None) × (self.new.refused ≡ None)
+            × (s : List ℕ) × Starts self.old.rest (event_of_token event s) self.new.rest) }
+        ensures invalid { result ≡ Err Error.Invalid → self.old.refused ≡ None
+            → (e : punctuation.Step) (r : List ℕ) → Starts self.old.rest e r → ⊥ }
+        ensures only { IfErr result (λ e. self.old.refused ≡ None → e ≡ Error.Invalid) }
+        ensures err { IfErr result (λ e. self.new.refused ≡ Some e) }
+        ensures sticky { IfSome self.old.refused (λ e. (result ≡ Err e) × (self.new ≡ self.old)) }
+    {
+        self.take_start::<Checked>(scratch)
+    }
+
+    // Takes whitespace and the first token of a value. For a string with a backslash the scratch text gets what `S` says.
+    #[inline(always)]
+    fn take_start<S: Spelling>(&mut self, scratch: &mut String) -> Result<Event<'a>>
+        ensures ok { IfOk result (λ event. (self.old.refused ≡ None) × (self.new.refused ≡ None)
+            × (s : List ℕ) × Starts self.old.rest (event_of_token event s) self.new.rest
+            × SpelledToken S.spelled event (string_bytes scratch.new) s) }
+        ensures text { IfOk result (λ event. TokenBorrowedIfPlain event self.old.rest self.new.rest) }
+        ensures scratch { IfOk result (λ event. TokenLeavesScratch event scratch.old scratch.new) }
+        ensures invalid { result ≡ Err Error.Invalid → self.old.refused ≡ None
+            → (e : punctuation.Step) (r : List ℕ) → Starts self.old.rest e r → ⊥ }
+        ensures memory { result ≡ Err Error.Memory → self.old.refused ≡ None → BeginsEscaped self.old.rest }
+        ensures infallible { S.infallible ≡ true → result ≡ Err Error.Memory → self.old.refused ≡ None → ⊥ }
+        ensures err { IfErr result (λ e. self.new.refused ≡ Some e) }
+        ensures sticky { IfSome self.old.refused (λ e. (result ≡ Err e) × (self.new ≡ self.old)) }
+    {
         if let Some(e) = self.refused {
             return Err(e);
         }
         let (at, first) = after_space(self.text.as_bytes(), self.at);
-        match take_token(self.text, at, first, scratch) {
+        match take_token::<S>(self.text, at, first, scratch) {
             Ok((event, end)) => {
                 self.at = end;
                 Ok(event)
@@ -185,11 +237,44 @@ impl<'a> Lexer<'a> {
         ensures err { IfErr result (λ e. self.new.refused ≡ Some e) }
         ensures sticky { IfSome self.old.refused (λ e. (result ≡ Err e) × (self.new ≡ self.old)) }
     {
+        self.take_name::<Decoded>(scratch)
+    }
+
+    /// Does what `name` does, but checks the name without decoding it, so it never returns `Memory`. What is in
+    /// `scratch` has no meaning then.
+    #[inline(always)]
+    pub fn name_checked(&mut self, scratch: &mut String) -> Result<Text<'a>>
+        ensures ok { IfOk result (λ t. (self.old.refused ≡ None) × (self.new.refused ≡ None)
+            × (n : List ℕ) × Names self.old.rest n self.new.rest) }
+        ensures invalid { result ≡ Err Error.Invalid → self.old.refused ≡ None
+            → (n r : List ℕ) → Names self.old.rest n r → ⊥ }
+        ensures only { IfErr result (λ e. self.old.refused ≡ None → e ≡ Error.Invalid) }
+        ensures err { IfErr result (λ e. self.new.refused ≡ Some e) }
+        ensures sticky { IfSome self.old.refused (λ e. (result ≡ Err e) × (self.new ≡ self.old)) }
+    {
+        self.take_name::<Checked>(scratch)
+    }
+
+    // Takes whitespace and the name of a member. For a name with a backslash the scratch text gets what `S` says.
+    #[inline(always)]
+    fn take_name<S: Spelling>(&mut self, scratch: &mut String) -> Result<Text<'a>>
+        ensures ok { IfOk result (λ t. (self.old.refused ≡ None) × (self.new.refused ≡ None)
+            × (n : List ℕ) × Names self.old.rest (text_of t n) self.new.rest
+            × SpelledText S.spelled t (string_bytes scratch.new) n) }
+        ensures text { IfOk result (λ t. NameBorrowedIfPlain t self.old.rest self.new.rest) }
+        ensures scratch { IfOk result (λ t. LeavesScratch t scratch.old scratch.new) }
+        ensures invalid { result ≡ Err Error.Invalid → self.old.refused ≡ None
+            → (n r : List ℕ) → Names self.old.rest n r → ⊥ }
+        ensures memory { result ≡ Err Error.Memory → self.old.refused ≡ None → BeginsEscaped self.old.rest }
+        ensures infallible { S.infallible ≡ true → result ≡ Err Error.Memory → self.old.refused ≡ None → ⊥ }
+        ensures err { IfErr result (λ e. self.new.refused ≡ Some e) }
+        ensures sticky { IfSome self.old.refused (λ e. (result ≡ Err e) × (self.new ≡ self.old)) }
+    {
         if let Some(e) = self.refused {
             return Err(e);
         }
         let (at, first) = after_space(self.text.as_bytes(), self.at);
-        match take_name(self.text, at, first, scratch) {
+        match take_name::<S>(self.text, at, first, scratch) {
             Ok((text, end)) => {
                 self.at = end;
                 Ok(text)

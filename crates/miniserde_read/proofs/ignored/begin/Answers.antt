@@ -5,7 +5,6 @@ use Rattle.miniserde_read.proofs.ignored.begin.Goals as goal
 
 pub returns-clause-reaches : goal.returns-clause-reaches
 returns-clause-reaches c =
-    let x = c.token.new.self.scratch in
-    entered c.enter.result c.args.stack.now c.args.source.now.rest c.token.new.self.rest
-    (event_of_token c.in_ok-token.token x) c.enter.new.self c.in_ok-token.ensures.ok (c.enter.ensures.opens x)
-    (c.enter.ensures.ok x)
+    let q = c.in_ok-token.ensures.ok in
+    entered c.enter.result c.args.stack.now c.args.source.now.rest c.token_checked.new.self.rest
+    (event_of_token c.in_ok-token.token q.0) c.enter.new.self q.1 (c.enter.ensures.opens q.0) (c.enter.ensures.ok q.0)

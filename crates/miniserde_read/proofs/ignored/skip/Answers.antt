@@ -11,37 +11,36 @@ use Rattle.miniserde_read.proofs.ignored.skip.Goals as goal
 
 pub loop-kind-init : goal.loop-kind-init
 loop-kind-init c =
-    let x = c.args.source.now.scratch in
-    let ev = event_of_token c.args.token x in
     record {
       going = c.requires.going;
-      reaches = reaches_init ev c.in_ok-first.first c.enter.new.self c.args.source.now.rest
+      reaches = λ x. let ev = event_of_token c.args.token x in reaches_init ev c.in_ok-first.first c.enter.new.self c.args.source.now.rest
           (c.in_ok-first.ensures.opens x)
           (c.in_ok-first.ensures.ok x ∙ ap (with_opened (opened_kind ev)) c.new-stack.ensures);
     }
 
 pub returns-in_err-first-2-clause-invalid : goal.returns-in_err-first-2-clause-invalid
-returns-in_err-first-2-clause-invalid c = λ e t r p.
+returns-in_err-first-2-clause-invalid c = λ e x t r p.
     let w = err_from_is_err_and c.from_residual-in_err-first-2.result c.from_residual-in_err-first-2.ensures.1 in
-    let ev = event_of_token c.args.token c.args.source.now.scratch in
+    let ev = event_of_token c.args.token x in
     let s = c.args.source.now.rest in
     skip_none ev s (ends_behind (first_or_after (is_some (opened_kind ev))) (with_opened (opened_kind ev) []) s
-    (first_or_after c.loop-kind.first) c.loop-kind.stack c.loop-kind.source.rest c.loop-kind.invariant.reaches
+    (first_or_after c.loop-kind.first) c.loop-kind.stack c.loop-kind.source.rest (c.loop-kind.invariant.reaches x)
     (c.in_err-first-2.ensures.invalid (cc (w.1, w.2, e)))) t r p
 
 pub loop-kind-preserved : goal.loop-kind-preserved
 loop-kind-preserved c =
-    let ev = event_of_token c.args.token c.args.source.now.scratch in
     record {
       going = c.in_ok-first-2.ensures.going;
-      reaches = Reaches-append (first_or_after (is_some (opened_kind ev))) (with_opened (opened_kind ev) [])
+      reaches = λ x.
+          let ev = event_of_token c.args.token x in
+          Reaches-append (first_or_after (is_some (opened_kind ev))) (with_opened (opened_kind ev) [])
           c.args.source.now.rest (first_or_after c.loop-kind.first) c.loop-kind.stack c.loop-kind.source.rest
           (first_or_after c.in_ok-first-2.first) c.take_child_or_end.new.stack c.take_child_or_end.new.source.rest
-          c.loop-kind.invariant.reaches c.in_ok-first-2.ensures.reaches;
+          (c.loop-kind.invariant.reaches x) c.in_ok-first-2.ensures.reaches;
     }
 
 pub returns-clause-ok : goal.returns-clause-ok
-returns-clause-ok c =
+returns-clause-ok c = λ x.
     let n : innermost c.loop-kind.stack ≡ None = sym c.top.ensures ∙ c.in_default.is in
-    skip_ok c.args.token c.args.source.now.scratch c.args.source.now.rest c.loop-kind.source.rest c.loop-kind.first
-    c.loop-kind.stack n c.loop-kind.invariant.reaches
+    skip_ok c.args.token x c.args.source.now.rest c.loop-kind.source.rest c.loop-kind.first c.loop-kind.stack n
+    (c.loop-kind.invariant.reaches x)

@@ -1,6 +1,6 @@
--- The loop keeps that the text behind the first token reaches the present moment (`Reaches`). Each turn shortens the
--- text.
-use Rattle.std.proofs.Common.{◌≡◌, None, [], is_some, length}
+-- The loop keeps that the text behind the first token reaches the present moment (`Reaches`), whatever the text x of a
+-- string is. Each turn shortens the text.
+use Rattle.std.proofs.Common.{◌≡◌, ℕ, List, None, [], is_some, length}
 use Rattle.miniserde_text.specs.Lexer.{event_of_token}
 use Rattle.miniserde_text.specs.private.Stack.{with_opened}
 use Rattle.miniserde_text.specs.private.Moving.{first_or_after, opened_kind}
@@ -10,8 +10,8 @@ use Rattle.miniserde_read.proofs.ignored.skip.Given as goal
 abbrev pub invariant-loop-kind : goal.invariant-loop-kind
 invariant-loop-kind l = record {
   going : l.source.refused ≡ None;
-  reaches : Reaches (first_or_after (is_some (opened_kind (event_of_token l.fn.token l.fn.source.scratch))))
-      (with_opened (opened_kind (event_of_token l.fn.token l.fn.source.scratch)) []) l.fn.source.rest
+  reaches : (x : List ℕ) → Reaches (first_or_after (is_some (opened_kind (event_of_token l.fn.token x))))
+      (with_opened (opened_kind (event_of_token l.fn.token x)) []) l.fn.source.rest
       (first_or_after l.first) l.stack l.source.rest;
 }
 

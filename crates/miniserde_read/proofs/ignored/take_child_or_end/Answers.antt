@@ -17,14 +17,14 @@ returns-in_err-after-clause-invalid c = λ e.
     let w = err_from_is_err_and c.from_residual.result c.from_residual.ensures.1 in
     after_ends _ _ c.args.kind c.args.first c.requires.inside (c.in_err-after.ensures.invalid (cc (w.1, w.2, e)) c.requires.going)
 
-pub returns-in_err-name-in-Map-clause-invalid : goal.returns-in_err-name-in-Map-clause-invalid
-returns-in_err-name-in-Map-clause-invalid c = λ e.
-    let w = err_from_is_err_and c.from_residual-in_err-name-in-Map.result c.from_residual-in_err-name-in-Map.ensures.1 in
+pub returns-in_err-name_checked-in-Map-clause-invalid : goal.returns-in_err-name_checked-in-Map-clause-invalid
+returns-in_err-name_checked-in-Map-clause-invalid c = λ e.
+    let w = err_from_is_err_and c.from_residual-in_err-name_checked-in-Map.result c.from_residual-in_err-name_checked-in-Map.ensures.1 in
     let p : Follows c.args.kind c.args.first false c.args.source.now.rest c.after.new.self.rest =
     subst (λ z. Follows c.args.kind c.args.first (is_close z) c.args.source.now.rest c.after.new.self.rest)
     c.in-Next.is c.in_ok-after.ensures.ok in
     name_ends _ _ _ c.args.kind c.args.first c.requires.inside c.in-Map.is p
-    (c.in_err-name-in-Map.ensures.invalid (cc (w.1, w.2, e)) c.in_ok-after.ensures.going)
+    (c.in_err-name_checked-in-Map.ensures.invalid (cc (w.1, w.2, e)) c.in_ok-after.ensures.going)
 
 pub returns-in-Close-clause-reaches : goal.returns-in-Close-clause-reaches
 returns-in-Close-clause-reaches c =
@@ -56,32 +56,32 @@ returns-in-Seq-clause-invalid c = λ e.
     let one = Reaches-one _ _ _ _ _ _ _ (element_passed st s u c.args.kind c.args.first c.requires.inside c.in-Seq.is p) in
     ends_behind (first_or_after c.args.first) st s due st u one (c.begin.ensures.invalid e)
 
-pub returns-in_ok-name-in-Map-clause-reaches : goal.returns-in_ok-name-in-Map-clause-reaches
-returns-in_ok-name-in-Map-clause-reaches c =
+pub returns-in_ok-name_checked-in-Map-clause-reaches : goal.returns-in_ok-name_checked-in-Map-clause-reaches
+returns-in_ok-name_checked-in-Map-clause-reaches c =
     let st = c.args.stack.now in
     let s = c.args.source.now.rest in
-    let u = c.name.new.self.rest in
+    let u = c.name_checked.new.self.rest in
     let p : Follows c.args.kind c.args.first false s c.after.new.self.rest =
     subst (λ z. Follows c.args.kind c.args.first (is_close z) s c.after.new.self.rest) c.in-Next.is
     c.in_ok-after.ensures.ok in
     let one = Reaches-one _ _ _ _ _ _ _
     (key_passed st s c.after.new.self.rest _ u c.args.kind c.args.first c.requires.inside c.in-Map.is p
-    c.in_ok-name-in-Map.ensures.ok) in
+    c.in_ok-name_checked-in-Map.ensures.ok.1) in
     let b = c.begin-in-Map.new in
     IfOk-weaker c.begin-in-Map.result (λ o. Reaches due st u (first_or_after o) b.stack b.source.rest)
     (λ o. Reaches (first_or_after c.args.first) st s (first_or_after o) b.stack b.source.rest)
     (λ o h. Reaches-append (first_or_after c.args.first) st s due st u (first_or_after o) b.stack b.source.rest one h)
     c.begin-in-Map.ensures.reaches
 
-pub returns-in_ok-name-in-Map-clause-invalid : goal.returns-in_ok-name-in-Map-clause-invalid
-returns-in_ok-name-in-Map-clause-invalid c = λ e.
+pub returns-in_ok-name_checked-in-Map-clause-invalid : goal.returns-in_ok-name_checked-in-Map-clause-invalid
+returns-in_ok-name_checked-in-Map-clause-invalid c = λ e.
     let st = c.args.stack.now in
     let s = c.args.source.now.rest in
-    let u = c.name.new.self.rest in
+    let u = c.name_checked.new.self.rest in
     let p : Follows c.args.kind c.args.first false s c.after.new.self.rest =
     subst (λ z. Follows c.args.kind c.args.first (is_close z) s c.after.new.self.rest) c.in-Next.is
     c.in_ok-after.ensures.ok in
     let one = Reaches-one _ _ _ _ _ _ _
     (key_passed st s c.after.new.self.rest _ u c.args.kind c.args.first c.requires.inside c.in-Map.is p
-    c.in_ok-name-in-Map.ensures.ok) in
+    c.in_ok-name_checked-in-Map.ensures.ok.1) in
     ends_behind (first_or_after c.args.first) st s due st u one (c.begin-in-Map.ensures.invalid e)

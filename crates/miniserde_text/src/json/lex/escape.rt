@@ -7,6 +7,7 @@ ghost use Rattle.miniserde_text.specs.private.Reading.{begins_unicode_escape, pa
 ghost use Rattle.miniserde_text.specs.private.Reading.{escape_at, FollowsAscii};
 
 use super::bytes::{byte_after, byte_at, index_after};
+use super::spelling::Spelling;
 use super::tables;
 use miniserde_model::error::{Error, Result};
 
@@ -116,16 +117,17 @@ fn short(letter: u8) -> Option<char>
     }
 }
 
-/// Takes an escape whose backslash is the byte before `at`, appends its character to the scratch text, and returns the
-/// index after it. Returns `Invalid` if the escape is wrong or a surrogate has no partner, and `Memory` if the scratch
-/// text cannot grow.
+/// Takes an escape whose backslash is the byte before `at`, appends what the scratch text gets for its character, and
+/// returns the index after it. Returns `Invalid` if the escape is wrong or a surrogate has no partner, and `Memory` if
+/// the scratch text cannot grow.
 #[inline(always)]
 #[tactic(auto, unfolding(crate::specs::private::Reading::escape_at))]
-pub(super) fn push_escape(text: &str, at: usize, scratch: &mut String) -> Result<usize>
+pub(super) fn push_escape<S: Spelling>(text: &str, at: usize, scratch: &mut String) -> Result<usize>
     ensures ok { IfOk result (λ r. (c : ℕ) × (escape_at (drop at text.now) ≡ Some (c, drop r text.now))
-        × (string_bytes scratch.new ≡ string_bytes scratch.old ++ encode_utf8 c)) }
+        × (string_bytes scratch.new ≡ string_bytes scratch.old ++ S.spelled (encode_utf8 c))) }
     ensures follows { IfOk result (λ r. FollowsAscii text.now r) }
     ensures invalid { result ≡ Err Error.Invalid → escape_at (drop at text.now) ≡ None }
+    ensures infallible { S.infallible ≡ true → result ≡ Err Error.Memory → ⊥ }
 {
     let bytes = text.as_bytes();
     let letter = byte_at(bytes, at);
@@ -133,12 +135,12 @@ pub(super) fn push_escape(text: &str, at: usize, scratch: &mut String) -> Result
         let Some((c, end)) = unicode(bytes, index_after(bytes, at, 1)) else {
             return Err(Error::Invalid);
         };
-        scratch.push(c)?;
+        S::push(scratch, c)?;
         return Ok(end);
     }
     let Some(c) = short(letter) else {
         return Err(Error::Invalid);
     };
-    scratch.push(c)?;
+    S::push(scratch, c)?;
     Ok(index_after(bytes, at, 1))
 }

@@ -1,9 +1,10 @@
 //! Takes the first token of a value, or the name of a member.
-ghost use Rattle.std.specs.Prelude.{◌≡◌, ◌-◌, ◌<◌, ◌≤◌, [], drop, length, ℕ, List, Err, IfOk, IfSome};
+ghost use Rattle.std.specs.Prelude.{◌≡◌, ◌-◌, ◌<◌, ◌≤◌, [], drop, length, ℕ, List, true, Err, IfOk, IfSome};
 ghost use Rattle.std.specs.Prelude.{option_map, slice_index};
 ghost use Rattle.std.specs.String.{string_bytes};
 ghost use Rattle.miniserde_model.specs.Step as step;
 ghost use Rattle.miniserde_text.specs.Lexer.{event_of_token, text_of, LeavesScratch, TokenLeavesScratch};
+ghost use Rattle.miniserde_text.specs.Lexer.{SpelledText, SpelledToken};
 ghost use Rattle.miniserde_text.specs.private.Reading.{word_at, token_by};
 ghost use Rattle.miniserde_text.specs.private.Taking.{TakesToken, TakesName, TokenTakesText, NameTakesText};
 ghost use Rattle.miniserde_text.specs.private.Taking.{ReachesBackslash};
@@ -11,6 +12,7 @@ ghost use Rattle.miniserde_text.specs.private.Taking.{ReachesBackslash};
 use super::bytes::index_after;
 use super::number::take_number;
 use super::space::after_space;
+use super::spelling::Spelling;
 use super::string::take_string;
 use super::{Event, Text};
 use miniserde_model::error::{Error, Result};
@@ -57,10 +59,10 @@ fn take_plain<'a>(text: &'a str, at: usize, first: u8) -> Option<(Event<'a>, usi
     }
 }
 
-/// Takes the first token of a value. Returns the token and the index after it, `Invalid` if there is none, or
-/// `Memory` if decoding a string fails to allocate. `first` is the byte at `at`.
+/// Takes the first token of a value. Returns the token and the index after it, `Invalid` if there is none, or `Memory`
+/// if the scratch text cannot grow. `first` is the byte at `at`.
 #[inline(always)]
-pub(super) fn take_token<'a>(
+pub(super) fn take_token<'a, S: Spelling>(
     text: &'a str,
     at: usize,
     first: u8,
@@ -68,18 +70,20 @@ pub(super) fn take_token<'a>(
 ) -> Result<(Event<'a>, usize)>
     requires within { at ≤ length text.now }
     requires first { first ≡ slice_index (drop at text.now) 0 }
-    ensures ok { IfOk result (λ x.
-        TakesToken (drop at text.now) (event_of_token x.0 (string_bytes scratch.new)) (drop x.1 text.now)) }
+    ensures ok { IfOk result (λ x. (s : List ℕ)
+        × TakesToken (drop at text.now) (event_of_token x.0 s) (drop x.1 text.now)
+        × SpelledToken S.spelled x.0 (string_bytes scratch.new) s) }
     ensures text { IfOk result (λ x. TokenTakesText x.0 (drop at text.now) (drop x.1 text.now)) }
     ensures within { IfOk result (λ x. x.1 ≤ length text.now) }
     ensures unchanged { IfOk result (λ x. TokenLeavesScratch x.0 scratch.old scratch.new) }
     ensures memory { result ≡ Err Error.Memory
         → (slice_index (drop at text.now) 0 ≡ 34) × ReachesBackslash (drop 1 (drop at text.now)) }
+    ensures infallible { S.infallible ≡ true → result ≡ Err Error.Memory → ⊥ }
     ensures invalid { result ≡ Err Error.Invalid
         → (e : step.Step) (r : List ℕ) → TakesToken (drop at text.now) e r → ⊥ }
 {
     if first == b'"' {
-        let (text, end) = take_string(text, index_after(text.as_bytes(), at, 1), scratch)?;
+        let (text, end) = take_string::<S>(text, index_after(text.as_bytes(), at, 1), scratch)?;
         return Ok((Event::Str(text), end));
     }
     match take_plain(text, at, first) {
@@ -89,21 +93,22 @@ pub(super) fn take_token<'a>(
 }
 
 /// Takes a string, whitespace and a colon. Returns the string's text and the index after the colon, `Invalid` if they
-/// are not there, or `Memory` if decoding the string fails to allocate. `first` is the byte at `at`.
-pub(super) fn take_name<'a>(
+/// are not there, or `Memory` if the scratch text cannot grow. `first` is the byte at `at`.
+pub(super) fn take_name<'a, S: Spelling>(
     text: &'a str,
     at: usize,
     first: u8,
     scratch: &mut String,
 ) -> Result<(Text<'a>, usize)>
     requires { first ≡ slice_index (drop at text.now) 0 }
-    ensures ok { IfOk result (λ x.
-        TakesName (drop at text.now) (text_of x.0 (string_bytes scratch.new)) (drop x.1 text.now)) }
+    ensures ok { IfOk result (λ x. (n : List ℕ) × TakesName (drop at text.now) (text_of x.0 n) (drop x.1 text.now)
+        × SpelledText S.spelled x.0 (string_bytes scratch.new) n) }
     ensures text { IfOk result (λ x. NameTakesText x.0 (drop at text.now) (drop x.1 text.now)) }
     ensures within { IfOk result (λ x. x.1 ≤ length text.now) }
     ensures unchanged { IfOk result (λ x. LeavesScratch x.0 scratch.old scratch.new) }
     ensures memory { result ≡ Err Error.Memory
         → (slice_index (drop at text.now) 0 ≡ 34) × ReachesBackslash (drop 1 (drop at text.now)) }
+    ensures infallible { S.infallible ≡ true → result ≡ Err Error.Memory → ⊥ }
     ensures invalid { result ≡ Err Error.Invalid
         → (n r : List ℕ) → TakesName (drop at text.now) n r → ⊥ }
 {
@@ -111,7 +116,7 @@ pub(super) fn take_name<'a>(
         return Err(Error::Invalid);
     }
     let bytes = text.as_bytes();
-    let (name, end) = take_string(text, index_after(bytes, at, 1), scratch)?;
+    let (name, end) = take_string::<S>(text, index_after(bytes, at, 1), scratch)?;
     let (colon, byte) = after_space(bytes, end);
     if byte != b':' {
         return Err(Error::Invalid);

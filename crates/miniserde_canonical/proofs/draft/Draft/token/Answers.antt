@@ -3,7 +3,9 @@
 use Rattle.std.proofs.Common.{rules, ◌≡◌, pos, ◌++◌, ◌∷◌, [], length, refl, sym, ap, subst, ◌∙◌}
 use Rattle.miniserde_model.specs.Compact.{compact, string_text}
 use Rattle.miniserde_model.specs.Normal.{norm_neg}
-use Rattle.miniserde_text.specs.Lexer.{event_of_token, text_of}
+use Rattle.miniserde_text.specs.Lexer.{event_of_token, text_of, SpelledText, SpelledToken}
+use Rattle.miniserde_text.specs.private.Escape.{escapes}
+use Rattle.miniserde_text.proofs.Escaping.{quoted_escapes}
 use Rattle.miniserde_canonical.specs.private.Moving.{first_token}
 use Rattle.miniserde_canonical.specs.private.Plain.{SpellsToken}
 use Rattle.miniserde_canonical.specs.private.Arranging.{TokenStep, Adds}
@@ -13,16 +15,14 @@ use Rattle.miniserde_canonical.proofs.Running.{wrote_on, as_negative, as_it_is, 
 use Rattle.miniserde_canonical.proofs.draft.Draft.token.Goals as goal
 
 pub returns-then-n-ne0-clause-takes : goal.returns-then-n-ne0-clause-takes
-returns-then-n-ne0-clause-takes c = λ rest part rest' s s' r e f g p h.
-    let x = c.args.scratch.now in
+returns-then-n-ne0-clause-takes c = λ rest part rest' x s s' r e f g w p h.
     let q = subst (λ z. SpellsToken z x part) c.in-Negative.is p in
     let a = subst (λ z. TokenStep (first_token (event_of_token z x)) s s') c.in-Negative.is h in
     stays c.args.self.now rest part rest' s s'
     (subst (λ z. Adds z s s') (sym (as_negative c.in-Negative.n part q.0 (search rules))) a.0) r e
 
 pub returns-in_ok-push-in-Negative-clause-takes : goal.returns-in_ok-push-in-Negative-clause-takes
-returns-in_ok-push-in-Negative-clause-takes c = λ rest part rest' s s' r e f g p h.
-    let x = c.args.scratch.now in
+returns-in_ok-push-in-Negative-clause-takes c = λ rest part rest' x s s' r e f g w p h.
     let zero : c.in-Negative.n ≡ pos 0 = search rules in
     let a = subst (λ z. TokenStep (first_token (event_of_token z x)) s s') c.in-Negative.is h in
     let k = c.in_ok-flush-in-Negative.ensures in
@@ -32,35 +32,36 @@ returns-in_ok-push-in-Negative-clause-takes c = λ rest part rest' s s' r e f g 
     (record { splices = refl; groups = refl; inner = refl; members = refl; opened = refl; distinct = refl })
     e refl g c.in_ok-push-in-Negative.ensures.items
 
-pub returns-in_ok-put_escaped-in-Str-clause-takes : goal.returns-in_ok-put_escaped-in-Str-clause-takes
-returns-in_ok-put_escaped-in-Str-clause-takes c = λ rest part rest' s s' r e f g p h.
-    let x = c.args.scratch.now in
+pub returns-in_ok-put_quoted-in-Str-clause-takes : goal.returns-in_ok-put_quoted-in-Str-clause-takes
+returns-in_ok-put_quoted-in-Str-clause-takes c = λ rest part rest' x s s' r e f g w p h.
     let a = subst (λ z. TokenStep (first_token (event_of_token z x)) s s') c.in-Str.is h in
     let k = c.in_ok-flush-in-Str.ensures in
+    let inside : c.args.escaped.now ≡ escapes x =
+    subst (λ z. SpelledText escapes z c.args.escaped.now x) c.in-Scratch.is
+    (subst (λ z. SpelledToken escapes z c.args.escaped.now x) c.in-Str.is w) in
+    let text : 34 ∷ (c.args.escaped.now ++ 34 ∷ []) ≡ string_text x =
+    ap (λ z. 34 ∷ (z ++ 34 ∷ [])) inside ∙ sym (quoted_escapes x) in
     rewritten c.args.self.now c.flush-in-Scratch.new.self _ rest part rest' s s' (string_text x)
     (subst (λ z. Adds (string_text (text_of z x)) s s') c.in-Scratch.is a.0) r
     (k.wrote rest r.bytes r.wrote f) k.only_text
     (record { splices = refl; groups = refl; inner = refl; members = refl; opened = refl; distinct = refl })
-    e refl g c.in_ok-put_escaped-in-Str.ensures
+    e refl g (c.in_ok-put_quoted-in-Str.ensures ∙ ap (λ z. c.flush-in-Scratch.new.self.out.bytes.items ++ z) text)
 
 pub returns-in_default-text-clause-takes : goal.returns-in_default-text-clause-takes
-returns-in_default-text-clause-takes c = λ rest part rest' s s' r e f g p h.
-    let x = c.args.scratch.now in
+returns-in_default-text-clause-takes c = λ rest part rest' x s s' r e f g w p h.
     let q = subst (λ z. SpellsToken z x part) c.in-Str.is p in
     let a = subst (λ z. TokenStep (first_token (event_of_token z x)) s s') c.in-Str.is h in
     stays c.args.self.now rest part rest' s s'
     (string_stands c.in-Str.text x part s s' c.in_default-text.not-Scratch q.1 a.0) r e
 
 pub returns-in-SeqStart-clause-takes : goal.returns-in-SeqStart-clause-takes
-returns-in-SeqStart-clause-takes c = λ rest part rest' s s' r e f g p h.
-    let x = c.args.scratch.now in
+returns-in-SeqStart-clause-takes c = λ rest part rest' x s s' r e f g w p h.
     let q = subst (λ z. SpellsToken z x part) c.in-SeqStart.is p in
     let a = subst (λ z. TokenStep (first_token (event_of_token z x)) s s') c.in-SeqStart.is h in
     stays c.args.self.now rest part rest' s s' (subst (λ z. Adds z s s') (sym q.0) a.0) r e
 
 pub returns-in-MapStart-clause-takes : goal.returns-in-MapStart-clause-takes
-returns-in-MapStart-clause-takes c = λ rest part rest' s s' r e f g p h.
-    let x = c.args.scratch.now in
+returns-in-MapStart-clause-takes c = λ rest part rest' x s s' r e f g w p h.
     let q = subst (λ z. SpellsToken z x part) c.in-MapStart.is p in
     let o = subst (λ z. TokenStep (first_token (event_of_token z x)) s s') c.in-MapStart.is h in
     let d = c.args.self.now in
@@ -75,7 +76,7 @@ returns-in-MapStart-clause-takes c = λ rest part rest' s s' r e f g p h.
     }
 
 pub returns-in_default-clause-takes : goal.returns-in_default-clause-takes
-returns-in_default-clause-takes c = λ rest part rest' s s' r e f g p h.
+returns-in_default-clause-takes c = λ rest part rest' x s s' r e f g w p h.
     let n = c.in_default in
     stays c.args.self.now rest part rest' s s'
-    (as_it_is c.args.token c.args.scratch.now part s s' p n.not-Negative n.not-Str n.not-MapStart h) r e
+    (as_it_is c.args.token x part s s' p n.not-Negative n.not-Str n.not-MapStart h) r e

@@ -2,14 +2,13 @@
 -- `reads_start` is the lemma for the text and `takes_front` the lemma for the draft.
 use Rattle.std.proofs.Common.{◌≡◌, is_some, ◌∷◌, [], subst, sym, ap, ◌∙◌}
 use Rattle.std.proofs.lemmas.Result.{err_from_is_err_and}
-use Rattle.std.specs.String.{string_bytes}
-use Rattle.miniserde_text.specs.Lexer.{event_of_token}
+use Rattle.miniserde_text.specs.Lexer.{event_of_token, SpelledToken}
+use Rattle.miniserde_text.specs.private.Escape.{escapes}
 use Rattle.miniserde_text.specs.private.Stack.{with_opened}
 use Rattle.miniserde_text.specs.private.Moving.{opened_kind}
 use Rattle.miniserde_canonical.specs.private.Arranging.{State, TokenStep}
 use Rattle.miniserde_canonical.specs.private.Drafts.{Represents}
 use Rattle.miniserde_canonical.specs.private.Moving.{first_token}
-use Rattle.miniserde_canonical.specs.private.Plain.{SpellsToken}
 use Rattle.miniserde_text.proofs.Consumes.{start_ends}
 use Rattle.miniserde_canonical.proofs.Wholes.{reads_start}
 use Rattle.miniserde_canonical.proofs.Plains.{spelled, at_once}
@@ -24,29 +23,26 @@ returns-in_err-event-clause-invalid c = λ e.
 
 pub returns-clause-reads : goal.returns-clause-reads
 returns-clause-reads c =
-    let x = string_bytes c.start.new.scratch in
+    let q = c.in_ok-event.ensures.ok in
+    let x = q.2 in
     let event = c.in_ok-event.event in
     let e = event_of_token event x in
     let old = c.args.self.now.lexer.rest in
     let mid = c.skip.new.lexer.rest in
-    let new = c.start.new.self.rest in
+    let new = c.start_escaped.new.self.rest in
     let d = c.args.self.now.draft in
     let d1 = c.skip.new.self in
     let b = c.in_ok-at.ensures.blank in
     let v = c.as_str.ensures.value in
-    let k : c.in_ok-opened.opened ≡ opened_kind e =
-    c.in_ok-opened.ensures.opens ∙ ap (λ z. opened_kind (event_of_token event z)) v in
+    let k : c.in_ok-opened.opened ≡ opened_kind e = c.in_ok-opened.ensures.opens x in
     let st = c.in_ok-push.ensures.ok ∙ ap (λ z. with_opened z c.args.self.now.stack) k in
     let o = c.is_some.ensures ∙ ap is_some k in
-    let s = c.in_ok-event.ensures.ok.2 in
+    let s = q.3 in
     let full = starts_behind old mid e new b s in
-    let spells : SpellsToken event c.as_str.result.now s.0.part =
-    subst (λ z. SpellsToken event z s.0.part) (sym v)
-    (spelled event x mid new s c.in_ok-event.ensures.text) in
-    let takes = subst (λ z. (u u' : State) → Represents d1 mid u
-    → TokenStep (first_token (event_of_token event z)) u u' → Represents c.token.new.self new u')
-    v (λ u u' r a. c.in_ok-opened.ensures.takes mid s.0.part new u u' r
-    (at_once mid new s.0 b.stops) c.in_ok-at.ensures.at c.left-end.ensures spells a) in (
+    let takes : (u u' : State) → Represents d1 mid u → TokenStep (first_token e) u u' → Represents c.token.new.self new u' =
+    λ u u' r a. c.in_ok-opened.ensures.takes mid s.0.part new x u u' r
+    (at_once mid new s.0 b.stops) c.in_ok-at.ensures.at c.left-end.ensures
+    (subst (λ z. SpelledToken escapes event z x) (sym v) q.4) (spelled event x mid new s c.in_ok-event.ensures.text) a in (
       first_token e ∷ [],
       reads_start _ _ _ e c.is_some.result _ full o st,
       takes_front e s.0.part old mid new c.is_some.result

@@ -1,32 +1,13 @@
--- The text at the index that `after_space` returns is the rest without its whitespace. Each clause of `take_token` on
--- that text gives the clause on the rest by one lemma of `Tokens`.
-use Rattle.std.proofs.Common.{◌≡◌, Err, drop, ap, arith}
-use Rattle.miniserde_model.specs.Bytes.{is_space}
-use Rattle.miniserde_model.specs.declared.error.Error.TheVariants.{Invalid, Memory}
-use Rattle.miniserde_text.specs.private.Reading.{after_run}
-use Rattle.miniserde_text.proofs.Tokens.{start_takes, start_only, text_behind, backslash_behind}
+-- The scratch text is the decoded text of the string (`decoded`).
+use Rattle.std.proofs.Common.{sym, subst}
+use Rattle.std.proofs.lemmas.Result.{IfOk-weaker}
+use Rattle.miniserde_model.specs.Lexing.{Starts}
+use Rattle.miniserde_text.proofs.Tokens.{decoded}
 use Rattle.miniserde_text.proofs.json.lex.Lexer.start.Goals as goal
 
-pub returns-in-Ok-clause-ok : goal.returns-in-Ok-clause-ok
-returns-in-Ok-clause-ok c =
-    let from : drop c.after_space-at.result.0 c.self.inside.text.now ≡ after_run is_space c.args.self.now.rest = grind arith in
-    (grind arith, grind arith, start_takes _ (drop c.after_space-at.result.0 c.self.inside.text.now) _ _ from c.in-Ok.ensures.ok)
-
-pub returns-in-Ok-clause-text : goal.returns-in-Ok-clause-text
-returns-in-Ok-clause-text c =
-    let from : drop c.after_space-at.result.0 c.self.inside.text.now ≡ after_run is_space c.args.self.now.rest = grind arith in
-    text_behind _ (drop c.after_space-at.result.0 c.self.inside.text.now) c.in-Ok.event
-    (drop c.in-Ok.end c.self.inside.text.now) from c.in-Ok.ensures.text
-
-pub returns-in-Err-clause-invalid : goal.returns-in-Err-clause-invalid
-returns-in-Err-clause-invalid c is fresh e r h =
-    let from : drop c.after_space-at.result.0 c.self.inside.text.now ≡ after_run is_space c.args.self.now.rest = grind arith in
-    let v : c.in-Err.e ≡ Invalid = cc in
-    c.in-Err.ensures.invalid (ap Err v) e r (start_only _ (drop c.after_space-at.result.0 c.self.inside.text.now) e r from h)
-
-pub returns-in-Err-clause-memory : goal.returns-in-Err-clause-memory
-returns-in-Err-clause-memory c is fresh =
-    let from : drop c.after_space-at.result.0 c.self.inside.text.now ≡ after_run is_space c.args.self.now.rest = grind arith in
-    let v : c.in-Err.e ≡ Memory = cc in
-    let m = c.in-Err.ensures.memory (ap Err v) in
-    backslash_behind _ (drop c.after_space-at.result.0 c.self.inside.text.now) from m.0 m.1
+pub returns-clause-ok : goal.returns-clause-ok
+returns-clause-ok c =
+    let rest = c.args.self.now.rest in
+    let rest' = c.take_start.new.self.rest in
+    IfOk-weaker c.take_start.result _ _
+    (λ e p. (p.0, p.1, subst (λ x. Starts rest x rest') (sym (decoded e _ p.2 p.4)) p.3)) c.take_start.ensures.ok

@@ -1,6 +1,6 @@
 -- The run at the front passes its characters. A quote ends the string there. Where a backslash stands, the characters
--- of `take_escaped` are joined to them.
-use Rattle.std.proofs.Common.{◌≡◌, ◌++◌, ℕ, List, Err, drop, slice_index, sym, ap, subst, ◌∙◌, arith}
+-- of `take_decoded` are joined to them.
+use Rattle.std.proofs.Common.{◌≡◌, ◌++◌, ℕ, List, Err, drop, slice_index, refl, sym, ap, subst, ◌∙◌, arith}
 use Rattle.std.specs.Str.{encode_utf8_all, IsUtf8, IsCharBoundary}
 use Rattle.std.proofs.lemmas.Result.{err_from_is_err_and}
 use Rattle.std.proofs.lemmas.Str.{encodes-append, IsUtf8-drop}
@@ -13,7 +13,7 @@ use Rattle.miniserde_text.proofs.Strings.{run_inside, escaped_inside, reaches_ba
 use Rattle.miniserde_text.proofs.json.lex.string.take_string.Goals as goal
 
 pub text_between-requires-clause-from : goal.text_between-requires-clause-from
-text_between-requires-clause-from c = follows_boundary c.args.text.now c.args.at c.utf8.text c.requires
+text_between-requires-clause-from g c = follows_boundary c.args.text.now c.args.at c.utf8.text c.requires
 
 module _ (text : List ℕ) (at tail : ℕ) (utf8 : IsUtf8 text) (follows : FollowsAscii text at)
     (value : drop tail text ≡ after_run is_unescaped (drop at text)) (boundary : IsCharBoundary text tail) where
@@ -22,7 +22,7 @@ module _ (text : List ℕ) (at tail : ℕ) (utf8 : IsUtf8 text) (follows : Follo
       (IsUtf8-drop text at utf8 (follows_boundary text at utf8 follows)) (IsUtf8-drop text tail utf8 boundary)
 
 pub returns-in-34-clause-ok : goal.returns-in-34-clause-ok
-returns-in-34-clause-ok c =
+returns-in-34-clause-ok g c =
     let text = c.args.text.now in
     let s = drop c.args.at text in
     let tail = c.after_unescaped_in_lanes-tail in
@@ -30,10 +30,10 @@ returns-in-34-clause-ok c =
     let p = run text c.args.at tail.result c.utf8.text c.requires tail.ensures.value tail.ensures.boundary in
     let at : slice_index t 0 ≡ 34 = grind arith in
     let next : drop c.index_after.result text ≡ drop 1 t = grind arith in
-    (p.0, subst (λ x. SpellsUpToQuote p.0 s x) (sym next) (quote_ends p.0 s t p.1 at), c.text_between.ensures ∙ p.2)
+    (p.0, subst (λ x. SpellsUpToQuote p.0 s x) (sym next) (quote_ends p.0 s t p.1 at), c.text_between.ensures ∙ p.2, tt)
 
 pub returns-in_ok-end-in-92-clause-ok : goal.returns-in_ok-end-in-92-clause-ok
-returns-in_ok-end-in-92-clause-ok c =
+returns-in_ok-end-in-92-clause-ok g c =
     let text = c.args.text.now in
     let tail = c.after_unescaped_in_lanes-tail in
     let p = run text c.args.at tail.result c.utf8.text c.requires tail.ensures.value tail.ensures.boundary in
@@ -41,11 +41,12 @@ returns-in_ok-end-in-92-clause-ok c =
       p.0 ++ q.0,
       join_chars p.0 q.0 (drop c.args.at text) (drop tail.result text) (drop c.in_ok-end-in-92.end text)
           p.1 q.1,
-      q.2 ∙ ap (λ x. x ++ encode_utf8_all q.0) p.2 ∙ sym (encodes-append p.0 q.0),
+      refl,
+      q.2 ∙ ap g.S.Spelling.spelled (ap (λ x. x ++ encode_utf8_all q.0) p.2 ∙ sym (encodes-append p.0 q.0)),
     )
 
 pub returns-in_err-end-in-92-clause-invalid : goal.returns-in_err-end-in-92-clause-invalid
-returns-in_err-end-in-92-clause-invalid c is cs r h =
+returns-in_err-end-in-92-clause-invalid g c is cs r h =
     let text = c.args.text.now in
     let tail = c.after_unescaped_in_lanes-tail in
     let p = run text c.args.at tail.result c.utf8.text c.requires tail.ensures.value tail.ensures.boundary in
@@ -54,7 +55,7 @@ returns-in_err-end-in-92-clause-invalid c is cs r h =
     run_refused p.0 (drop c.args.at text) (drop tail.result text) p.1 (c.in_err-end-in-92.ensures.invalid (ap Err e)) cs r h
 
 pub returns-in_default-clause-invalid : goal.returns-in_default-clause-invalid
-returns-in_default-clause-invalid c is cs r h =
+returns-in_default-clause-invalid g c is cs r h =
     let text = c.args.text.now in
     let s = drop c.args.at text in
     let tail = c.after_unescaped_in_lanes-tail in
@@ -63,7 +64,7 @@ returns-in_default-clause-invalid c is cs r h =
     run_refused p.0 s t p.1 (no_chars t (run_special s t tail.ensures.value) (λ e. grind arith) (λ e. grind arith)) cs r h
 
 pub returns-in-34-clause-text : goal.returns-in-34-clause-text
-returns-in-34-clause-text c =
+returns-in-34-clause-text g c =
     let text = c.args.text.now in
     let t = drop c.after_unescaped_in_lanes-tail.result text in
     let at : slice_index t 0 ≡ 34 = grind arith in
@@ -73,7 +74,7 @@ returns-in-34-clause-text c =
     (q.0, q.1, (q.2, q.3))
 
 pub returns-in_ok-end-in-92-clause-text : goal.returns-in_ok-end-in-92-clause-text
-returns-in_ok-end-in-92-clause-text c =
+returns-in_ok-end-in-92-clause-text g c =
     let text = c.args.text.now in
     let t = drop c.after_unescaped_in_lanes-tail.result text in
     let at : slice_index t 0 ≡ 92 = grind arith in
@@ -81,7 +82,7 @@ returns-in_ok-end-in-92-clause-text c =
     escaped_inside (drop c.args.at text) t (drop c.in_ok-end-in-92.end text) q.0 c.after_unescaped_in_lanes-tail.ensures.value at q.1
 
 pub returns-in_err-end-in-92-clause-memory : goal.returns-in_err-end-in-92-clause-memory
-returns-in_err-end-in-92-clause-memory c is =
+returns-in_err-end-in-92-clause-memory g c is =
     let text = c.args.text.now in
     let t = drop c.after_unescaped_in_lanes-tail.result text in
     let at : slice_index t 0 ≡ 92 = grind arith in

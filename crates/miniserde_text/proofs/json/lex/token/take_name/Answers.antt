@@ -1,6 +1,7 @@
 -- A name is put together from the string of `take_string`, the whitespace and the colon. Where a part is missing, no
 -- name stands there.
 use Rattle.std.proofs.Common.{◌≡◌, ◌≢◌, Err, ℕ, List, drop, slice_index, ap, subst, arith}
+use Rattle.std.specs.Str.{encode_utf8_all}
 use Rattle.std.proofs.lemmas.Result.{err_from_is_err_and}
 use Rattle.miniserde_model.specs.Value.{Between}
 use Rattle.miniserde_model.specs.declared.error.Error.TheVariants.{Invalid, Memory}
@@ -13,12 +14,12 @@ use Rattle.miniserde_text.proofs.Names.{colon_leads, name_taken, name_quote, nam
 use Rattle.miniserde_text.proofs.json.lex.token.take_name.Goals as goal
 
 pub returns-then-first-ne34-clause-invalid : goal.returns-then-first-ne34-clause-invalid
-returns-then-first-ne34-clause-invalid c is n r h =
+returns-then-first-ne34-clause-invalid g c is n r h =
     let s = drop c.args.at c.args.text.now in
     let at = name_quote s n r h in absurd (grind arith)
 
 pub returns-in_err-name-clause-invalid : goal.returns-in_err-name-clause-invalid
-returns-in_err-name-clause-invalid c is n r h =
+returns-in_err-name-clause-invalid g c is n r h =
     let s = drop c.args.at c.args.text.now in
     let next : drop c.index_after.result c.args.text.now ≡ drop 1 s = grind arith in
     let q = err_from_is_err_and c.from_residual.result c.from_residual.ensures.1 in
@@ -26,7 +27,7 @@ returns-in_err-name-clause-invalid c is n r h =
     name_string s n r h (subst (λ x. (cs r : List ℕ) → SpellsUpToQuote cs x r → ⊥) next (c.in_err-name.ensures.invalid (ap Err e)))
 
 pub returns-in_err-name-clause-memory : goal.returns-in_err-name-clause-memory
-returns-in_err-name-clause-memory c is =
+returns-in_err-name-clause-memory g c is =
     let s = drop c.args.at c.args.text.now in
     let next : drop c.index_after.result c.args.text.now ≡ drop 1 s = grind arith in
     let q = err_from_is_err_and c.from_residual.result c.from_residual.ensures.1 in
@@ -35,7 +36,7 @@ returns-in_err-name-clause-memory c is =
     (at, subst ReachesBackslash next (c.in_err-name.ensures.memory (ap Err e)))
 
 pub returns-then-byte-ne58-clause-invalid : goal.returns-then-byte-ne58-clause-invalid
-returns-then-byte-ne58-clause-invalid c is n r h =
+returns-then-byte-ne58-clause-invalid g c is n r h =
     let s = drop c.args.at c.args.text.now in
     let next : drop c.index_after.result c.args.text.now ≡ drop 1 s = grind arith in
     let space : drop c.after_space-colon.result.0 c.args.text.now ≡ after_run is_space
@@ -47,7 +48,7 @@ returns-then-byte-ne58-clause-invalid c is n r h =
     at h (subst (λ x. SpellsUpToQuote q.0 x (drop c.in_ok-name.end c.args.text.now)) next q.1) space away
 
 pub returns-clause-ok : goal.returns-clause-ok
-returns-clause-ok c =
+returns-clause-ok g c =
     let s = drop c.args.at c.args.text.now in
     let next : drop c.index_after.result c.args.text.now ≡ drop 1 s = grind arith in
     let space : drop c.after_space-colon.result.0 c.args.text.now ≡ after_run is_space
@@ -56,12 +57,13 @@ returns-clause-ok c =
     let q = c.in_ok-name.ensures.ok in
     let at : slice_index s 0 ≡ 34 = grind arith in
     let colon : slice_index (drop c.after_space-colon.result.0 c.args.text.now) 0 ≡ 58 = grind arith in
-    name_taken s _ (drop c.in_ok-name.end c.args.text.now) (drop c.after_space-colon.result.0 c.args.text.now)
-    (drop c.index_after-2.result c.args.text.now) q.0 at
-    (subst (λ x. SpellsUpToQuote q.0 x (drop c.in_ok-name.end c.args.text.now)) next q.1) q.2 space colon last
+    let chars = subst (λ x. SpellsUpToQuote q.0 x (drop c.in_ok-name.end c.args.text.now)) next q.1 in
+    let taken = name_taken s _ (drop c.in_ok-name.end c.args.text.now) (drop c.after_space-colon.result.0 c.args.text.now)
+    (drop c.index_after-2.result c.args.text.now) q.0 at chars q.2 space colon last in
+    (encode_utf8_all q.0, taken, q.3)
 
 pub returns-clause-text : goal.returns-clause-text
-returns-clause-text c =
+returns-clause-text g c =
     let s = drop c.args.at c.args.text.now in
     let next : drop c.index_after.result c.args.text.now ≡ drop 1 s = grind arith in
     let space : drop c.after_space-colon.result.0 c.args.text.now ≡ after_run is_space
