@@ -41,6 +41,14 @@ fn is_front(event: Result<Event<'_>>, scratch: &str, word: &str, content: &str) 
     }
 }
 
+/// Returns whether the lexer checks a front that is a word, or refuses it as the word says.
+fn is_checked(event: Result<Event<'_>>, word: &str) -> bool {
+    match event {
+        Ok(event) => front(event) == word,
+        Err(error) => is_error(error, word),
+    }
+}
+
 /// Returns whether what follows in a container is a word.
 fn is_step(after: Result<After>, word: &str) -> bool {
     match after {
@@ -55,18 +63,33 @@ fn is_error(error: Error, word: &str) -> bool {
     matches!(error, Error::Invalid) & (word == "invalid")
 }
 
-/// Makes the call of the lexer that a word names: `start`, `name`, `end`, or `after`, as `first of [` and `next of {`.
-/// Returns whether it answers as expected.
+/// Makes the call of the lexer that a word names: `start`, `escaped`, `name`, `end`, or `after`, as `first of [` and
+/// `next of {`. Returns whether it answers as expected, and whether `start_checked` and `name_checked` take as much as
+/// `start` and `name` do, from the same place.
 fn is_answer(lexer: &mut Lexer<'_>, scratch: &mut String, call: &str, expected: &str) -> bool {
     let (word, content) = expected.split_once(' ').unwrap_or((expected, ""));
     match call {
-        "start" => is_front(lexer.start(scratch), scratch.as_str(), word, content),
-        "name" => is_front(
-            lexer.name(scratch).map(Event::Str),
+        "start" => {
+            let mut other = lexer.fork();
+            let is_taken = is_checked(other.start_checked(scratch), word);
+            is_taken
+                & is_front(lexer.start(scratch), scratch.as_str(), word, content)
+                & (lexer.left() == other.left())
+        }
+        "escaped" => is_front(
+            lexer.start_escaped(scratch),
             scratch.as_str(),
             word,
             content,
         ),
+        "name" => {
+            let mut other = lexer.fork();
+            let is_taken = is_checked(other.name_checked(scratch).map(Event::Str), word);
+            let name = lexer.name(scratch).map(Event::Str);
+            is_taken
+                & is_front(name, scratch.as_str(), word, content)
+                & (lexer.left() == other.left())
+        }
         "end" => match lexer.end() {
             Ok(()) => word == "ok",
             Err(error) => is_error(error, word),
@@ -223,6 +246,28 @@ fn each_escape_is_decoded(rt: HostRuntime) -> std::result::Result<(), Wrong> {
         alloc,
         "\"\u{e9}\\u00E9\\b\\f\\n\\r\\t\\/\\\\\\\"\"",
         "decoded \u{e9}\u{e9}\x08\x0c\n\r\t/\\\"",
+    )
+}
+
+#[test]
+fn a_string_stands_in_the_scratch_text_by_the_escape_rule(
+    rt: HostRuntime,
+) -> std::result::Result<(), Wrong> {
+    expect_answers(
+        rt.alloc(),
+        "\"ab\" => escaped: borrowed ab\n\
+        17 => escaped: nonnegative 17\n\
+        \"a\\u0062\" => escaped: decoded ab\n\
+        \"ab\\ncd\" => escaped: decoded ab\\ncd\n\
+        \"\\ud83d\\ude00\" => escaped: decoded \u{1f600}\n\
+        \"\\u0000\\u001F\" => escaped: decoded \\u0000\\u001f\n\
+        \"\\\"\\\\\\/\" => escaped: decoded \\\"\\\\/\n\
+        \"\\u0022\\u005c\\u002f\" => escaped: decoded \\\"\\\\/\n\
+        \"\\b\\f\\n\\r\\t\" => escaped: decoded \\b\\f\\n\\r\\t\n\
+        \"\\u0008\\u000c\\u000a\\u000d\\u0009\" => escaped: decoded \\b\\f\\n\\r\\t\n\
+        \"\\u007f\\u0080\\u00e9\" => escaped: decoded \u{7f}\u{80}\u{e9}\n\
+        \"\\ud800\" => escaped: invalid\n\
+        \"\\n => escaped: invalid",
     )
 }
 
