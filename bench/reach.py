@@ -7,6 +7,7 @@ TEXTS is a folder of make_texts.py, IN_PROCESS the program of peers/in_process.c
 with the Python package. In each table ours is absolute, and the others are multiples of ours.
 """
 import argparse
+import functools
 import json
 import os
 import subprocess
@@ -22,6 +23,9 @@ TEXTS = [
     ('escapes', 'escapes'), ('not ASCII', 'not_ascii'), ('distinct names', 'names'), ('100 deep', 'nested'),
 ]
 UNITS = {'time': 'nanoseconds a byte', 'instructions': 'instructions a byte', 'memory': 'peak memory in multiples of the text'}
+# How answers differ that are of one document, and how numbers are read to see that nothing else differs.
+LIKENESSES = {'strings spelled otherwise': {'parse_int': str, 'parse_float': str}, 'fractions spelled otherwise': {},
+              'integers rounded to doubles': {'parse_int': float}}
 # What is less than this is measured by many calls, and told a call.
 SMALL = 100
 
@@ -52,6 +56,11 @@ class Command(Program):
         return self.words
 
 
+@functools.cache
+def instructions(program, kind, mode, text):
+    return program.instructions(kind, mode, text)
+
+
 def able(programs, kind, text, notes):
     """Returns the programs that take the text, and notes what the others' answers are."""
     answers = {p: p.answer(kind, 'answer', text) for p in programs}
@@ -74,7 +83,7 @@ def likeness(answer, ours):
     """Returns how an answer differs from ours, '' if in nothing but a line's end, None if it is another document."""
     if answer.rstrip(b'\n') == ours:
         return ''
-    for what, numbers in (('numbers or strings spelled otherwise', {}), ('integers rounded to doubles', {'parse_int': float})):
+    for what, numbers in LIKENESSES.items():
         # As lists, so that the order of names counts, and duplicates do.
         if json.loads(answer, object_pairs_hook=list, **numbers) == json.loads(ours, object_pairs_hook=list, **numbers):
             return what
@@ -92,9 +101,11 @@ def from_c(libraries, kind, text, given, notes):
         if given.no_instructions:
             continue
         if size < SMALL:
-            figures[p.name, 'instructions'] = (p.instructions(kind, '1001', text) - p.instructions(kind, '1', text)) / 1000
+            more = instructions(p, kind, '1001', text) - instructions(p, kind, '1', text)
+            figures[p.name, 'instructions'] = more / 1000
         else:
-            figures[p.name, 'instructions'] = (p.instructions(kind, 'answer', text) - p.instructions(kind, 'answer', empty)) / size
+            more = instructions(p, kind, 'answer', text) - instructions(p, kind, 'answer', empty)
+            figures[p.name, 'instructions'] = more / size
     least = dict.fromkeys(libraries, 1e9)
     for _ in range(given.rounds):
         for p in libraries:
@@ -133,7 +144,7 @@ def as_process(commands, kind, text, given, notes):
     for p in commands:
         figures[p.name, 'memory'] = less([p.memory(kind, '', t) for t in texts]) / part
         if not given.no_instructions:
-            figures[p.name, 'instructions'] = less([p.instructions(kind, '', t) for t in texts]) / part
+            figures[p.name, 'instructions'] = less([instructions(p, kind, '', t) for t in texts]) / part
     with open('/dev/shm/%d' % os.getpid(), 'wb') as to:
         for _ in range(given.rounds):
             for p, t in least:
@@ -207,10 +218,11 @@ def tell(section, names, rows, notes):
         rows = [(label + ', a call' * (label == '7 bytes'), figures) for label, figures in rows]
     for what, unit in UNITS.items():
         table(f'{section}: {unit}', names, rows, what)
-    for name in names[1:]:
-        found = [f'{label} ({notes[label][name]})' for label in notes if notes[label].get(name)]
-        if found:
-            print(f'- {name} has another answer than ours for {", ".join(found)}.\n', flush=True)
+    told = [f'- {name}, {what}: {"; ".join(found)}.' for name in names[1:] for what in ('refused', *LIKENESSES)
+            if (found := [label for label in notes if notes[label].get(name) == what])]
+    if told:
+        print(*told, sep='\n', end='\n\n')
+    sys.stdout.flush()
 
 
 def sections(given):
