@@ -84,8 +84,8 @@ def likeness(answer, ours):
     if answer.rstrip(b'\n') == ours:
         return ''
     for what, numbers in LIKENESSES.items():
-        # As lists, so that the order of names counts, and duplicates do.
-        if json.loads(answer, object_pairs_hook=list, **numbers) == json.loads(ours, object_pairs_hook=list, **numbers):
+        # As tuples, so that the order of names counts, and duplicates do.
+        if json.loads(answer, object_pairs_hook=tuple, **numbers) == json.loads(ours, object_pairs_hook=tuple, **numbers):
             return what
     return None
 
