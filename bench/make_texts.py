@@ -137,6 +137,7 @@ def texts():
     row = lambda: listed(number(r) for _ in range(10))
     yield 'empty', '[]'
     yield 'empty_map', '{}'
+    yield 'seven_bytes', '{"a":1}'
     yield 'short_numbers', fill(SIZE, lambda: str(r.randrange(1000)))
     yield 'long_numbers', fill(SIZE, lambda: number(r))
     yield 'short_strings', fill(SIZE, lambda: '"%s"' % word(r, 3, 15))

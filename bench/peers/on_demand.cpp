@@ -2,7 +2,6 @@
 // C++'s library that stand for the job's type, and drops them. Fails for every other job, and in every other mode. The
 // text is read into one buffer, in which simdjson parses it.
 #include <simdjson.h>
-#include <unistd.h>
 
 #include <map>
 #include <optional>
@@ -12,20 +11,10 @@
 #include <variant>
 #include <vector>
 
+#include "peer.h"
+
 using namespace simdjson;
 using Value = ondemand::value;
-
-static std::string input() {
-  std::string s(1 << 16, 0);
-  size_t length = 0;
-  for (ssize_t n; (n = read(0, &s[length], s.size() - length)) > 0;) {
-    length += n;
-    if (s.size() - length < (1 << 12)) s.resize(s.size() * 2);
-  }
-  s.resize(length);
-  s.reserve(length + SIMDJSON_PADDING);
-  return s;
-}
 
 // Each `get` reads a value of its second parameter's type, and throws if the text has none.
 template <class T> static void get(Value v, T &out) {
@@ -166,7 +155,7 @@ template <class T> static int job(ondemand::document &document) {
 int main(int count, char **words) {
   if (count != 3 || std::string_view(words[2]) != "read") return 2;
   std::string_view kind = words[1];
-  auto text = input();
+  auto text = read_all();
   ondemand::parser parser;
   try {
     ondemand::document document = parser.iterate(text.data(), text.size(), text.capacity());
