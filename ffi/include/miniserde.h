@@ -95,8 +95,7 @@ MINISERDE_CALL MINISERDE_ACCESS(read_only, 1, 2) MINISERDE_ACCESS(read_only, 3, 
 miniserde_status miniserde_equal(const char *a, size_t a_len, const char *b, size_t b_len);
 
 /* Returns MINISERDE_OK if the bytes are JSON in UTF-8, MINISERDE_INVALID if they are not, and MINISERDE_MEMORY if an
- * allocation failed. It allocates one bit for each level that the text nests, in words of 64, and for a text with an
- * escape in a string, room for that string. */
+ * allocation failed. It allocates one bit for each level that the text nests, in words of 64, and nothing else. */
 MINISERDE_CALL MINISERDE_ACCESS(read_only, 1, 2)
 miniserde_status miniserde_is_json(const char *text, size_t text_len);
 

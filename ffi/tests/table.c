@@ -112,7 +112,7 @@ static void without_memory(canonical_call *call, struct bytes text, const struct
     }
 }
 
-/* The same of is_json, which makes one request for a text of 64 levels without an escape. */
+/* The same of is_json, which makes one request for a text of at most 64 levels, and none for its strings. */
 static void is_json_without_memory(struct bytes text, int wanted)
 {
     for (long n = 1;; n++) {
@@ -125,7 +125,7 @@ static void is_json_without_memory(struct bytes text, int wanted)
             return;
         }
         expect(status == MINISERDE_MEMORY || status == wanted, "is_json out of memory");
-        expect(n == 1 || text.len > 64 || memchr(text.start, '\\', text.len) != NULL, "is_json with one request");
+        expect(n == 1 || text.len > 64, "is_json with one request");
     }
 }
 
