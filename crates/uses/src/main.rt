@@ -1,19 +1,15 @@
-//! Uses of the library, one after another: settings, a cache, a request's body, a store of requests, a signed body,
-//! calls of a counter, and the field that is wrong.
+//! Uses of the library, one after another: settings, a cache, a request's body, a store of requests, a signed body, and
+//! the field that is wrong.
 #![tactic(auto)]
 
-mod answer;
 mod bodies;
 mod cache;
-mod call;
-mod calls;
 mod loading;
 mod request;
 mod requests;
 mod signed;
 mod transfer;
 
-use calls::Counter;
 use miniserde::Result;
 use miniserde::json::{from_str, to_string};
 use refused::wrong_field;
@@ -52,26 +48,6 @@ fn run_transfer(alloc: Global, signed: &str, body: &str) -> Result<Option<String
         Some(transfer) => Ok(Some(to_string(alloc, &transfer)?)),
         None => Ok(None),
     }
-}
-
-/// Bodies of requests to a counter, one after another; the last one means no call.
-const CALLS: &str = r#"{"call":"look"}
-{"by":40,"call":"add"}
-{"call":"add","note":"two more","by":2}
-{"call":"reset","to":18446744073709551615}
-{"call":"add","by":1}
-{"call":"add"}"#;
-
-/// Prints what a counter answers to each body.
-fn tell_calls(rt: &HostRuntime) -> io::Result<()> {
-    let mut counter = Counter { count: 0 };
-    for body in CALLS.lines() {
-        match calls::serve(rt.alloc(), &mut counter, body) {
-            Ok(answer) => println!(rt; "call: {answer}")?,
-            Err(error) => println!(rt; "call: {error}")?,
-        }
-    }
-    Ok(())
 }
 
 /// A transfer, two bodies, and what a client signed: its canonical text.
@@ -160,6 +136,5 @@ fn main(rt: HostRuntime) -> io::Result<()> {
         Err(error) => println!(rt; "found: {error}")?,
     }
     tell_transfers(&rt)?;
-    tell_calls(&rt)?;
     tell(&rt)
 }

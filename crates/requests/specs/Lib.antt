@@ -1,4 +1,0 @@
-pub mod Calls
-pub mod Routes
-pub mod Answered
-pub mod Streams
