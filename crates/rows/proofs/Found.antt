@@ -23,7 +23,7 @@ use Rattle.sqlite.specs.Order.{Row, column}
 use Rattle.sqlite.specs.Tree.{Trees}
 use Rattle.sqlite.specs.Term.{holds}
 use Rattle.sqlite.specs.Query.{Output, output, matches, IsAnswer}
-use Rattle.rows.proofs.Statements.{query}
+use Rattle.rows.proofs.Statements.{query_at}
 
 -- ---- equal texts
 
@@ -84,14 +84,16 @@ matched_has p f (z ∷ xs) x (inr later) passes = has_right (cond (p z) (f z ∷
 pub has_permuted : {X : Type 0} (xs ys : List X) (x : X) → IsPermutation xs ys → Has ys x → Has xs x
 has_permuted xs ys x same = all_has (Has xs) ys x (all-permutation (Has xs) xs ys same (all_from (Has xs) xs (λ e h. h)))
 
--- the rows that the query shows are the bodies of the rows that have the key
-pub record AreShown (rows : List Row) (key : List ℕ) (found : List Row) : Type 0 where
-  pub sound : (x : Row) → Has found x → (r : Row) × Has rows r × (column r 1 ≡ Text key) × (x ≡ column r 2 ∷ [])
-  pub complete : (r : Row) → Has rows r → column r 1 ≡ Text key → Has found (column r 2 ∷ [])
+-- the rows that the query shows have this column of the rows that have the key
+pub record AreShown (at : ℕ) (rows : List Row) (key : List ℕ) (found : List Row) : Type 0 where
+  pub sound : (x : Row) → Has found x → (r : Row) × Has rows r × (column r 1 ≡ Text key) × (x ≡ column r at ∷ [])
+  pub complete : (r : Row) → Has rows r → column r 1 ≡ Text key → Has found (column r at ∷ [])
 
 -- an answer to the query shows them
-pub found_bodies : (db : Trees) (key : List ℕ) (found : List Row) → IsAnswer query db (Text key ∷ []) found → AreShown (db 0) key found
-found_bodies db key found answer =
+pub found_at : (at : ℕ) (db : Trees) (key : List ℕ) (found : List Row) → IsAnswer (query_at at) db (Text key ∷ []) found
+    → AreShown at (db 0) key found
+found_at at db key found answer =
+    let query = query_at at in
     let given = Text key ∷ [] in
     let test = λ (r : Row). list_all (holds (given ∷ r ∷ [])) query.filter in
     let env = λ (r : Row). given ∷ r ∷ [] in
@@ -108,7 +110,7 @@ found_bodies db key found answer =
           let o = output query (env r) in
           let passes : test r ≡ true = and_true _ ∙ text_is (column r 1) key has in
           let there = subst (λ l. Has l o) (sym kept) (mapped_has (output query) all (env r) (matched_has test env (db 0) r h passes)) in
-          subst (λ l. Has l (column r 2 ∷ [])) (sym answer.shown)
+          subst (λ l. Has l (column r at ∷ [])) (sym answer.shown)
           (mapped_has (λ (k : Output). k.1) answer.ordered o
           (has_permuted answer.ordered answer.kept o (IsPermutation-sym _ _ answer.same) there));
     }

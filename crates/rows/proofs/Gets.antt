@@ -18,7 +18,7 @@ use Rattle.sqlite_schema.specs.declared.command.Returning.{Returning}
 use Rattle.sqlite.proofs.Callers.{first_as, reads_as, command_of, IsPlain}
 use Rattle.rows.specs.Entries.{get_text, entry_schema, HasKey}
 use Rattle.rows.proofs.Statements.{get_command, get_is, get_plain}
-use Rattle.rows.proofs.Found.{found_bodies}
+use Rattle.rows.proofs.Found.{found_at}
 
 -- a row that is found is one of the key, and shows its body
 pub gets : (old new : State) (key : List ℕ) (r : Result Row Error) → old.now.schema ≡ entry_schema
@@ -27,10 +27,10 @@ pub gets : (old new : State) (key : List ℕ) (r : Result Row Error) → old.now
 gets old new key (Err e) has h = tt
 gets old new key (Ok row) has h =
     let got = (first_as get_text (Text key ∷ []) old new entry_schema has get_command get_is.0 get_plain get_is.1 row h).1 in
-    let f = found_bodies (overlay old.now.trees []) key (row ∷ got.0) (got.1 Null) in
+    let f = found_at 2 (overlay old.now.trees []) key (row ∷ got.0) (got.1 Null) in
     f.sound row (inl refl)
 
-not_stored : (cause : StoreError) → QueryReturnedNoRows ≡ store_error cause → ⊥
+pub not_stored : (cause : StoreError) → QueryReturnedNoRows ≡ store_error cause → ⊥
 not_stored store.OutOfMemory e = cc
 not_stored store.Io e = cc
 not_stored store.Corrupt e = cc
@@ -76,5 +76,5 @@ unfolding QueriesRow
 gets_none old new key has (inl h) there = no_failure old new key has h
 gets_none old new key has (inr h) there =
     let all = reads_as get_text (Text key ∷ []) old new entry_schema has get_command get_is.0 get_plain get_is.1 [] h.1 in
-    let f = found_bodies (overlay old.now.trees []) key [] (all.answer Null) in
+    let f = found_at 2 (overlay old.now.trees []) key [] (all.answer Null) in
     f.complete there.0 there.1 there.2

@@ -62,17 +62,18 @@ rowid_of rows key body = ap (λ v. with_rowid Chosen rows (v ∷ Text key ∷ Te
 itself : (v : Value) → is_eq (value_cmp v v) ≡ true
 itself v = ap is_eq (tied_itself value_cmp_total v)
 
-own_id : (row : Row) → is_int (rowid row) ≡ true → has_rowid (id_in (rowid row)) row ≡ true
+pub own_id : (row : Row) → is_int (rowid row) ≡ true → has_rowid (id_in (rowid row)) row ≡ true
 own_id row keyed = subst (λ v. is_eq (value_cmp (rowid row) v) ≡ true) (int_is (rowid row) keyed) (itself (rowid row))
 
-not_left : (ids : List ℤ) (rows : List Row) (id : ℤ) (row : Row) → Has ids id → has_rowid id row ≡ true → Has (without_all rows ids) row → ⊥
+pub not_left : (ids : List ℤ) (rows : List Row) (id : ℤ) (row : Row) → Has ids id → has_rowid id row ≡ true
+    → Has (without_all rows ids) row → ⊥
 not_left [] rows id row listed is there = listed
 not_left (i ∷ ids) rows id row (inl same) is there =
     let kept = (has_filtered (λ r. not (has_rowid i r)) rows row (without_all_has ids (without_rowid i rows) row there)).1 in
     true≢false (sym kept ∙ ap not (subst (λ k. has_rowid k row ≡ true) same is))
 not_left (i ∷ ids) rows id row (inr later) is there = not_left ids (without_rowid i rows) id row later is there
 
-rising_left : (ids : List ℤ) (rows : List Row) → IsTable rows → IsTable (without_all rows ids)
+pub rising_left : (ids : List ℤ) (rows : List Row) → IsTable rows → IsTable (without_all rows ids)
 rising_left [] rows up = up
 rising_left (i ∷ ids) rows up = rising_left ids (without_rowid i rows)
     (ascending-filter (λ a b. value_cmp (rowid a) (rowid b) ≡ Less) (λ r. not (has_rowid i r)) rows up)

@@ -1,5 +1,5 @@
 -- What the texts of the statements mean under the schema of the table: the checker computes each of them.
-use Rattle.std.proofs.Common.{◌≡◌, List, [], ◌∷◌, Ok, None, codes, pos, negsuc, false, refl}
+use Rattle.std.proofs.Common.{◌≡◌, ℕ, List, [], ◌∷◌, Ok, None, codes, pos, negsuc, false, refl}
 use Rattle.sqlite.specs.Compile.{table_defined_by}
 use Rattle.sqlite_tied.specs.Compute.{everything}
 use Rattle.sqlite.specs.Listing.{understood, reads_listing}
@@ -8,30 +8,34 @@ use Rattle.sqlite.specs.Term.{Term, lit, col, op2}
 use Rattle.sqlite.specs.Query.{Query, inner, end}
 use Rattle.sqlite.specs.Source.TheVariants.{Values}
 use Rattle.sqlite.specs.Command.{Command}
-use Rattle.sqlite.specs.Command.TheVariants.{CreateTable, InsertOr, Select, Nothing}
+use Rattle.sqlite.specs.Command.TheVariants.{CreateTable, InsertOr, Delete, Select, Nothing}
 use Rattle.sqlite.specs.Collation.TheVariants.{Binary}
 use Rattle.sqlite_value.specs.Keys.{ascending}
 use Rattle.sqlite_schema.specs.declared.command.Conflict.TheVariants.{Replace}
 use Rattle.sqlite_sql.specs.declared.ops.BinaryOp.TheVariants.{Compare}
 use Rattle.sqlite_sql.specs.declared.ops.CompareOp.TheVariants.{Eq}
 use Rattle.sqlite.proofs.Callers.{IsPlain, command_of, statement_of}
-use Rattle.rows.specs.Entries.{create_text, put_text, get_text, each_text, entry, no_schema, entry_schema}
+use Rattle.rows.specs.Entries.{create_text, put_text, remove_text, get_text, each_text, entry, no_schema, entry_schema}
 
 abbrev pub terms : List Term
 terms = lit Null ∷ col 0 0 ∷ col 0 1 ∷ []
 
-abbrev pub query : Query
-query = record {
+-- the query that shows this column of the rows of a key
+abbrev pub query_at : ℕ → Query
+query_at at = record {
   from = inner 0 end;
   filter = op2 (Compare Eq Binary) (col 1 1) (col 0 0) ∷ [];
   group = None;
-  project = col 1 2 ∷ [];
+  project = col 1 at ∷ [];
   distinct = false;
   collations = [];
   order = [];
   limit = lit (Int (negsuc 0));
   offset = lit (Int (pos 0));
 }
+
+abbrev pub query : Query
+query = query_at 2
 
 pub create_is : (command_of (understood no_schema create_text) ≡ CreateTable)
     × (statement_of create_text (understood no_schema create_text) ≡ create_text) × (table_defined_by create_text ≡ Ok entry)
@@ -49,6 +53,17 @@ put_is = refl
 pub put_plain : IsPlain (understood entry_schema put_text)
 unfolding understood everything
 put_plain = (refl, refl)
+
+abbrev pub remove_command : Command
+remove_command = Delete 0 (record { lets = []; body = query_at 0 })
+
+pub remove_is : command_of (understood entry_schema remove_text) ≡ remove_command
+unfolding understood everything
+remove_is = refl
+
+pub remove_plain : IsPlain (understood entry_schema remove_text)
+unfolding understood everything
+remove_plain = (refl, refl)
 
 abbrev pub get_command : Command
 get_command = Select (record { lets = []; body = query }) (codes "body" ∷ [])
