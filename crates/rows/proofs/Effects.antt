@@ -3,7 +3,7 @@ use Rattle.std.proofs.Common.{arith, ◌≡◌, ◌⊎◌, ◌↔◌, inl, inr, 
 use Rattle.std.proofs.Common.{Result, OnOk, OnErr}
 use Rattle.std.proofs.Common.{IsTrue, refl, sym, ap, subst, ◌∙◌, true≢false}
 use Rattle.sqlite.specs.declared.types.Value.TheVariants.{Text}
-use Rattle.sqlite.specs.Order.{Row, column}
+use Rattle.sqlite.specs.Order.{Row}
 use Rattle.sqlite.specs.Change.{created, next_tree}
 use Rattle.sqlite.specs.Does.{Tally, lacks_sequence}
 use Rattle.sqlite.specs.Effect.{Database}
@@ -17,13 +17,17 @@ use Rattle.rows.proofs.Gets.{no_failure}
 use Rattle.sqlite.proofs.Callers.{IsPlain, runs_as}
 use Rattle.std.proofs.lemmas.Bool.{cases_Bool}
 use Rattle.std.proofs.lemmas.Bool.Decides.{nat_tests}
-use Rattle.rows.specs.Entries.{create_text, put_text, get_text, entry, no_schema, entry_schema, Holds, HasKey, IsStore, IsPut, IsCommitted}
+use Rattle.rows.specs.Entries.{create_text, put_text, get_text, entry, no_schema, entry_schema, body_of, Holds, HasKey}
+use Rattle.rows.specs.Entries.{IsStore, IsPut, IsCommitted}
 use Rattle.rows.specs.Entries.{remove_text, IsRemoved, IsUndone}
 use Rattle.rows.proofs.Statements.{create_is, create_plain, again_is, again_plain, get_plain}
 use Rattle.rows.proofs.Puts.{went, same_value, puts, puts_commits, committed_by}
 use Rattle.rows.proofs.Removed.{removes, any_taken, none_taken, removes_commits, left_from, none_left, keyed_left}
 use Rattle.rows.proofs.Removed.{rising_taken, others_stay}
-use Rattle.rows.proofs.Kept.{text_of_same, is_there, alone, keyed_still, rising_still, was_there, stays}
+use Rattle.sqlite_schema.specs.declared.schema.Constraint.TheVariants.{Unique}
+use Rattle.sqlite_schema.specs.Rules.{Keeps}
+use Rattle.rows.proofs.Unique.{one_row}
+use Rattle.rows.proofs.Kept.{text_of_same, is_there, keyed_still, rising_still, was_there, stays}
 
 -- the row is put into the store
 pub puts_in : (old new : State) (key body : List ℕ) (r : Result ℕ Error) → IsStore old.now
@@ -32,18 +36,21 @@ puts_in old new key body (Err e) was h = tt
 puts_in old new key body (Ok count) was h =
     let rows = old.now.trees 0 in
     let out = new.now.trees 0 in
-    let p = puts old new key body count was.schema h in
-    let here = is_there rows key body out was.keyed was.rising p.1 in
-    let keyed = keyed_still rows key body out was.keyed was.rising p.1 in
-    let rising = rising_still rows key body out was.keyed was.rising p.1 in
+    let p = puts old new key body count was h in
+    let put = p.2 in
+    let here = is_there rows key body out was.keyed was.rising put in
+    let keyed = keyed_still rows key body out was.keyed was.rising put in
+    let rising = rising_still rows key body out was.keyed was.rising put in
+    let unique = subst (λ s. Keeps Unique s new.now.trees) p.0 (p.1.obeys.rules Unique) in
     record {
       store = record { schema = p.0; keyed = keyed; rising = rising };
-      here = (_, here.0, here.1, here.2);
-      only = λ other h. text_of_same other body
-          (sym h.3 ∙ ap (λ r. column r 2) (alone rows key body out was.keyed was.rising p.1 h.0 h.1 h.2) ∙ here.2);
+      here = here;
+      only = λ other h.
+          let same = one_row new.now.trees h.0 here.0 key unique keyed rising h.1 here.1 h.2 here.2 in
+          text_of_same other body (sym h.3 ∙ ap body_of same ∙ here.3);
       others = λ k b apart. (
-        (λ h. (h.0, was_there rows key body out was.keyed was.rising p.1 h.0 k apart h.2 h.1, h.2, h.3)),
-        (λ h. (h.0, stays rows key body out was.keyed was.rising p.1 h.0 k apart h.2 h.1, h.2, h.3)),
+        (λ h. (h.0, was_there rows key body out was.keyed was.rising put h.0 k apart h.2 h.1, h.2, h.3)),
+        (λ h. (h.0, stays rows key body out was.keyed was.rising put h.0 k apart h.2 h.1, h.2, h.3)),
       );
     }
 

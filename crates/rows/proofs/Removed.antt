@@ -10,7 +10,6 @@ use Rattle.sqlite_rules.specs.declared.error.Rowids.TheVariants.{Given}
 use Rattle.sqlite_rules.proofs.ListLemmas.{all_has, all_from}
 use Rattle.sqlite_rules.proofs.ProbeLemmas.{has_mapped, mapped_has}
 use Rattle.sqlite_rules.proofs.TableLemmas.{without_all_has}
-use Rattle.sqlite_rules.proofs.PlaceLemmas.{row_at_is, left_or_taken}
 use Rattle.sqlite.specs.declared.types.Value.TheVariants.{Null, Text}
 use Rattle.sqlite.specs.Order.{Row, column}
 use Rattle.sqlite.specs.Tree.{Trees, rowid, IsTable}
@@ -26,7 +25,7 @@ use Rattle.rows.specs.Entries.{entry, entry_schema, remove_text, key_of, IsCommi
 use Rattle.rows.proofs.Statements.{remove_command, remove_is, remove_plain}
 use Rattle.rows.proofs.Found.{AreShown, found_at}
 use Rattle.rows.proofs.Puts.{went, same_value, committed_by}
-use Rattle.rows.proofs.Kept.{own_id, not_left, rising_left, text_of_same}
+use Rattle.rows.proofs.Kept.{own_id, not_left, rising_left, left_unless, text_of_same}
 
 -- the rowids of the rows of the key are found, the rows that have them are taken out, and so many are counted
 pub record IsTakenFrom (rows : List Row) (key : List ℕ) (count : ℕ) (out : List Row) : Type 0 where
@@ -121,14 +120,11 @@ module _ (rows : List Row) (key : List ℕ) (count : ℕ) (out : List Row) (keye
 
   -- a row of another key stays
   pub others_stay : (x : Row) (other : List ℕ) → (other ≡ key → ⊥) → column x 1 ≡ Text other → Has rows x → Has out x
-  others_stay x other apart has there = subst (λ l. Has l x) (sym it.rows_are) (elim (left_or_taken rows ids x rising there) [
-    | inl stays ↦ stays
-    | inr taken ↦
-        let i = has_mapped (row_at rows) ids x taken in
-        let y = has_mapped (λ r. id_in (rowid r)) it.found i.0 i.1 in
-        let r = it.shown.sound y.0 y.1 in
-        let id : i.0 ≡ id_in (rowid r.0) = y.2 ∙ ap (λ z. id_in (rowid z)) r.3 in
-        let at = row_at_is rows (id_in (rowid r.0)) r.0 rising r.1 (own_id r.0 (all_has _ rows r.0 keyed r.1)) in
-        let same : x ≡ r.0 = i.2 ∙ ap (row_at rows) id ∙ at in
-        absurd (apart (text_of_same other key (sym has ∙ ap (λ z. column z 1) same ∙ r.2)))
-  ])
+  others_stay x other apart has there = subst (λ l. Has l x) (sym it.rows_are)
+      (left_unless rows ids key x rising keyed taken there (λ e. apart (text_of_same other key (sym has ∙ e))))
+    where
+      taken : (id : ℤ) → Has ids id → (r : Row) × Has rows r × (key_of r ≡ Text key) × (id ≡ id_in (rowid r))
+      taken id h =
+          let y = has_mapped (λ (r : Row). id_in (rowid r)) it.found id h in
+          let r = it.shown.sound y.0 y.1 in
+          (r.0, r.1, r.2, y.2 ∙ ap (λ (z : Row). id_in (rowid z)) r.3)

@@ -1,5 +1,5 @@
 -- What the texts of the statements mean under the schema of the table: the checker computes each of them.
-use Rattle.std.proofs.Common.{◌≡◌, ℕ, List, [], ◌∷◌, Ok, None, codes, pos, negsuc, false, refl}
+use Rattle.std.proofs.Common.{◌≡◌, ℕ, List, [], ◌∷◌, Ok, Some, None, codes, pos, negsuc, false, refl}
 use Rattle.sqlite.specs.Compile.{table_defined_by}
 use Rattle.sqlite_tied.specs.Compute.{everything}
 use Rattle.sqlite.specs.Listing.{understood, reads_listing}
@@ -11,7 +11,9 @@ use Rattle.sqlite.specs.Command.{Command}
 use Rattle.sqlite.specs.Command.TheVariants.{CreateTable, InsertOr, Delete, Select, Nothing}
 use Rattle.sqlite.specs.Collation.TheVariants.{Binary}
 use Rattle.sqlite_value.specs.Keys.{ascending}
-use Rattle.sqlite_schema.specs.declared.command.Conflict.TheVariants.{Replace}
+use Rattle.sqlite_schema.specs.declared.command.Conflict.TheVariants.{Abort}
+use Rattle.sqlite_schema.specs.declared.command.Upsert.{Upsert}
+use Rattle.sqlite_schema.specs.declared.program.Program.{Program}
 use Rattle.sqlite_sql.specs.declared.ops.BinaryOp.TheVariants.{Compare}
 use Rattle.sqlite_sql.specs.declared.ops.CompareOp.TheVariants.{Eq}
 use Rattle.sqlite.proofs.Callers.{IsPlain, command_of, statement_of}
@@ -20,19 +22,23 @@ use Rattle.rows.specs.Entries.{create_text, put_text, remove_text, get_text, eac
 abbrev pub terms : List Term
 terms = lit Null ∷ col 0 0 ∷ col 0 1 ∷ []
 
--- the query that shows this column of the rows of a key
-abbrev pub query_at : ℕ → Query
-query_at at = record {
+-- the query that shows these columns of the rows that pass a test
+abbrev pub query_by : Term → List Term → Query
+query_by test shown = record {
   from = inner 0 end;
-  filter = op2 (Compare Eq Binary) (col 1 1) (col 0 0) ∷ [];
+  filter = test ∷ [];
   group = None;
-  project = col 1 at ∷ [];
+  project = shown;
   distinct = false;
   collations = [];
   order = [];
   limit = lit (Int (negsuc 0));
   offset = lit (Int (pos 0));
 }
+
+-- the query that shows this column of the rows of a key
+abbrev pub query_at : ℕ → Query
+query_at at = query_by (op2 (Compare Eq Binary) (col 1 1) (col 0 0)) (col 1 at ∷ [])
 
 abbrev pub query : Query
 query = query_at 2
@@ -46,7 +52,21 @@ pub create_plain : IsPlain (understood no_schema create_text)
 unfolding understood everything
 create_plain = (refl, refl)
 
-pub put_is : command_of (understood entry_schema put_text) ≡ InsertOr 0 Replace (Values terms 3) []
+-- the query that gives the row of a rowid, with the new body
+abbrev pub has_id : Term
+has_id = op2 (Compare Eq Binary) (col 1 0) (col 0 2)
+
+abbrev pub with_body : List Term
+with_body = col 1 0 ∷ col 1 0 ∷ col 1 1 ∷ col 0 5 ∷ []
+
+abbrev pub update : Program
+update = record { lets = []; body = query_by has_id with_body }
+
+-- a row of the key is updated
+abbrev pub clause : Upsert
+clause = record { target = Some (1 ∷ []); update = Some update }
+
+pub put_is : command_of (understood entry_schema put_text) ≡ InsertOr 0 Abort (Values terms 3) (clause ∷ [])
 unfolding understood everything
 put_is = refl
 

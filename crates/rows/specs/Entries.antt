@@ -29,7 +29,7 @@ create_text = codes "CREATE TABLE IF NOT EXISTS entry (key TEXT PRIMARY KEY NOT 
 
 -- the statement that puts a body under a key
 abbrev pub put_text : List ℕ
-put_text = codes "INSERT OR REPLACE INTO entry (key, body) VALUES (?1, ?2)"
+put_text = codes "INSERT INTO entry (key, body) VALUES (?1, ?2) ON CONFLICT(key) DO UPDATE SET body = excluded.body"
 
 -- the statement that removes the row of a key
 abbrev pub remove_text : List ℕ

@@ -65,7 +65,7 @@ fn execute_put<S: Alter>(conn: &mut Connection<S>, key: &str, body: &str) -> Res
     ensures clean { HasCleanDisk (state S.Store conn.new) → HasCleanDisk (state S.Store conn.old) }
 {
     conn.execute(
-        "INSERT OR REPLACE INTO entry (key, body) VALUES (?1, ?2)",
+        "INSERT INTO entry (key, body) VALUES (?1, ?2) ON CONFLICT(key) DO UPDATE SET body = excluded.body",
         params![key, body],
     )
 }
