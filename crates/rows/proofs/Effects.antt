@@ -17,10 +17,10 @@ use Rattle.rows.proofs.Gets.{no_failure}
 use Rattle.sqlite.proofs.Callers.{IsPlain, runs_as}
 use Rattle.std.proofs.lemmas.Bool.{cases_Bool}
 use Rattle.std.proofs.lemmas.Bool.Decides.{nat_tests}
-use Rattle.rows.specs.Entries.{create_text, put_text, get_text, entry, no_schema, entry_schema, body_of, Holds, HasKey}
+use Rattle.rows.specs.Entries.{create_text, put_text, entry, no_schema, entry_schema, body_of, Holds, HasKey}
 use Rattle.rows.specs.Entries.{IsStore, IsPut, IsCommitted}
 use Rattle.rows.specs.Entries.{remove_text, IsRemoved, IsUndone}
-use Rattle.rows.proofs.Statements.{create_is, create_plain, again_is, again_plain, get_plain}
+use Rattle.rows.proofs.Statements.{create_is, create_plain, again_is, again_plain, IsKeyQuery}
 use Rattle.rows.proofs.Puts.{went, same_value, puts, puts_commits, committed_by}
 use Rattle.rows.proofs.Removed.{removes, any_taken, none_taken, removes_commits, left_from, none_left, keyed_left}
 use Rattle.rows.proofs.Removed.{rising_taken, others_stay}
@@ -167,16 +167,16 @@ shown_same sql params old new rows plain has h =
     let it = subst (ShowsRows old new sql h.0 (timed params h.0.formats h.1.now) rows) bare.0 h.2 in
     it.3
 
--- the query for a key changes nothing
-pub gets_same : (old new : State) (key : List ℕ) (row : Row) → old.now.schema ≡ entry_schema
-    → QueriesRow get_text (Text key ∷ []) old new (Ok row) → IsUnchanged old new
+-- a query for a key changes nothing
+pub gets_same : {sql : List ℕ} {at : ℕ} (q : IsKeyQuery sql at) (old new : State) (key : List ℕ) (row : Row)
+    → old.now.schema ≡ entry_schema → QueriesRow sql (Text key ∷ []) old new (Ok row) → IsUnchanged old new
 unfolding QueriesRow
-gets_same old new key row has (inl h) = h.1
-gets_same old new key row has (inr h) = shown_same get_text (Text key ∷ []) old new h.0 get_plain has h.1
+gets_same q old new key row has (inl h) = h.1
+gets_same {sql} q old new key row has (inr h) = shown_same sql (Text key ∷ []) old new h.0 q.plain has h.1
 
 -- and so if it finds no row
-pub gets_none_same : (old new : State) (key : List ℕ) → old.now.schema ≡ entry_schema
-    → QueriesRow get_text (Text key ∷ []) old new (Err QueryReturnedNoRows) → IsUnchanged old new
+pub gets_none_same : {sql : List ℕ} {at : ℕ} (q : IsKeyQuery sql at) (old new : State) (key : List ℕ) → old.now.schema ≡ entry_schema
+    → QueriesRow sql (Text key ∷ []) old new (Err QueryReturnedNoRows) → IsUnchanged old new
 unfolding QueriesRow
-gets_none_same old new key has (inl h) = absurd (no_failure old new key has h)
-gets_none_same old new key has (inr h) = shown_same get_text (Text key ∷ []) old new [] get_plain has h.1
+gets_none_same q old new key has (inl h) = absurd (no_failure q old new key has h)
+gets_none_same {sql} q old new key has (inr h) = shown_same sql (Text key ∷ []) old new [] q.plain has h.1

@@ -18,9 +18,9 @@ use Rattle.sqlite.specs.Order.{Row}
 use Rattle.sqlite.specs.State.{State, ExecutesIn, Executes, IsNotRun, Runs, RunsCommand, FailsToQuery, FailsToShow, QueriesRow}
 use Rattle.sqlite.specs.State.{Shown, ShowsRows, shows_rows, text_of, IsUnchanged}
 use Rattle.sqlite.specs.Clock.{timed}
-use Rattle.rows.specs.Entries.{get_text, put_text, remove_text, each_text, IsStore, IsServing, Keeps, Aborts}
+use Rattle.rows.specs.Entries.{put_text, remove_text, each_text, IsStore, IsServing, Keeps, Aborts}
 use Rattle.rows.proofs.Gets.{not_stored}
-use Rattle.rows.proofs.Statements.{get_plain, each_plain}
+use Rattle.rows.proofs.Statements.{each_plain, IsKeyQuery}
 use Rattle.rows.proofs.Effects.{shown_same, gets_same, gets_none_same, puts_in, commits_in, removes_in, removes_commits_in}
 
 pub aborts_keeps : (old new : State) → IsServing old → Aborts old new → Keeps old new
@@ -144,19 +144,19 @@ none_open sql params old new (inr h) = shown_open sql params old new [] h.1
 
 -- ---- the calls of a store
 
--- the query for a key that finds a row
-pub got : (old new : State) (key : List ℕ) (row : Row) → IsServing old → QueriesRow get_text (Text key ∷ []) old new (Ok row)
-    → IsTrue old.is_open × Aborts old new
-got old new key row s h =
-    let live = row_open get_text (Text key ∷ []) old new row h in
-    (live, inl (gets_same old new key row (s.1 live).1.schema h))
+-- a query for a key that finds a row
+pub got : {sql : List ℕ} {at : ℕ} (q : IsKeyQuery sql at) (old new : State) (key : List ℕ) (row : Row) → IsServing old
+    → QueriesRow sql (Text key ∷ []) old new (Ok row) → IsTrue old.is_open × Aborts old new
+got {sql} q old new key row s h =
+    let live = row_open sql (Text key ∷ []) old new row h in
+    (live, inl (gets_same q old new key row (s.1 live).1.schema h))
 
--- the query for a key that finds none
-pub got_none : (old new : State) (key : List ℕ) → IsServing old → QueriesRow get_text (Text key ∷ []) old new (Err QueryReturnedNoRows)
-    → IsTrue old.is_open × Aborts old new
-got_none old new key s h =
-    let live = none_open get_text (Text key ∷ []) old new h in
-    (live, inl (gets_none_same old new key (s.1 live).1.schema h))
+-- a query for a key that finds none
+pub got_none : {sql : List ℕ} {at : ℕ} (q : IsKeyQuery sql at) (old new : State) (key : List ℕ) → IsServing old
+    → QueriesRow sql (Text key ∷ []) old new (Err QueryReturnedNoRows) → IsTrue old.is_open × Aborts old new
+got_none {sql} q old new key s h =
+    let live = none_open sql (Text key ∷ []) old new h in
+    (live, inl (gets_none_same q old new key (s.1 live).1.schema h))
 
 -- a query for a key that fails otherwise fails for the database
 pub failed_for : (sql : List ℕ) (params : Row) (old new : State) (e : Error) → (e ≡ QueryReturnedNoRows → ⊥)
@@ -166,13 +166,13 @@ failed_for sql params old new e other (inl h) = h
 failed_for sql params old new e other (inr h) = absurd (other h.0)
 
 -- a query for a key that fails
-pub got_failed : (old new : State) (key : List ℕ) (e : Error) → IsServing old → QueriesRow get_text (Text key ∷ []) old new (Err e)
-    → Aborts old new
+pub got_failed : {sql : List ℕ} {at : ℕ} (q : IsKeyQuery sql at) (old new : State) (key : List ℕ) (e : Error) → IsServing old
+    → QueriesRow sql (Text key ∷ []) old new (Err e) → Aborts old new
 unfolding QueriesRow
-got_failed old new key e s (inl h) = query_aborts get_text (Text key ∷ []) old new e h
-got_failed old new key e s (inr h) =
-    let live = shown_open get_text (Text key ∷ []) old new [] h.1 in
-    inl (shown_same get_text (Text key ∷ []) old new [] get_plain (s.1 live).1.schema h.1)
+got_failed {sql} q old new key e s (inl h) = query_aborts sql (Text key ∷ []) old new e h
+got_failed {sql} q old new key e s (inr h) =
+    let live = shown_open sql (Text key ∷ []) old new [] h.1 in
+    inl (shown_same sql (Text key ∷ []) old new [] q.plain (s.1 live).1.schema h.1)
 
 -- the query for all rows, if it shows them
 pub listed : (old new : State) (found : List Row) → IsServing old → Shown each_text [] old new found → IsTrue old.is_open × Aborts old new

@@ -17,7 +17,7 @@ use Rattle.sqlite_schema.specs.declared.program.Program.{Program}
 use Rattle.sqlite_sql.specs.declared.ops.BinaryOp.TheVariants.{Compare}
 use Rattle.sqlite_sql.specs.declared.ops.CompareOp.TheVariants.{Eq}
 use Rattle.sqlite.proofs.Callers.{IsPlain, command_of, statement_of}
-use Rattle.rows.specs.Entries.{create_text, put_text, remove_text, get_text, each_text, entry, no_schema, entry_schema}
+use Rattle.rows.specs.Entries.{create_text, put_text, remove_text, get_text, has_text, each_text, entry, no_schema, entry_schema}
 
 abbrev pub terms : List Term
 terms = lit Null ∷ col 0 0 ∷ col 0 1 ∷ []
@@ -39,9 +39,6 @@ query_by test shown = record {
 -- the query that shows this column of the rows of a key
 abbrev pub query_at : ℕ → Query
 query_at at = query_by (op2 (Compare Eq Binary) (col 1 1) (col 0 0)) (col 1 at ∷ [])
-
-abbrev pub query : Query
-query = query_at 2
 
 pub create_is : (command_of (understood no_schema create_text) ≡ CreateTable)
     × (statement_of create_text (understood no_schema create_text) ≡ create_text) × (table_defined_by create_text ≡ Ok entry)
@@ -85,16 +82,23 @@ pub remove_plain : IsPlain (understood entry_schema remove_text)
 unfolding understood everything
 remove_plain = (refl, refl)
 
-abbrev pub get_command : Command
-get_command = Select (record { lets = []; body = query }) (codes "body" ∷ [])
+abbrev pub key_command : ℕ → List (List ℕ) → Command
+key_command at names = Select (record { lets = []; body = query_at at }) names
 
-pub get_is : (command_of (understood entry_schema get_text) ≡ get_command) × (reads_listing entry_schema get_text ≡ false)
-unfolding understood everything
-get_is = (refl, refl)
+-- the text is the query that shows this column of the rows of a key
+pub record IsKeyQuery (sql : List ℕ) (at : ℕ) : Type 0 where
+  pub names : List (List ℕ)
+  pub is : command_of (understood entry_schema sql) ≡ key_command at names
+  pub unlisted : reads_listing entry_schema sql ≡ false
+  pub plain : IsPlain (understood entry_schema sql)
 
-pub get_plain : IsPlain (understood entry_schema get_text)
+pub get_query : IsKeyQuery get_text 2
 unfolding understood everything
-get_plain = (refl, refl)
+get_query = record { names = codes "body" ∷ []; is = refl; unlisted = refl; plain = (refl, refl) }
+
+pub has_query : IsKeyQuery has_text 1
+unfolding understood everything
+has_query = record { names = codes "key" ∷ []; is = refl; unlisted = refl; plain = (refl, refl) }
 
 pub again_is : command_of (understood entry_schema create_text) ≡ Nothing
 unfolding understood everything

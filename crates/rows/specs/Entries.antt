@@ -39,6 +39,10 @@ remove_text = codes "DELETE FROM entry WHERE key = ?1"
 abbrev pub get_text : List ℕ
 get_text = codes "SELECT body FROM entry WHERE key = ?1"
 
+-- the query for a key
+abbrev pub has_text : List ℕ
+has_text = codes "SELECT key FROM entry WHERE key = ?1"
+
 -- the query for all rows
 abbrev pub each_text : List ℕ
 each_text = codes "SELECT key, body FROM entry ORDER BY key"

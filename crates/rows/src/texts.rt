@@ -4,7 +4,7 @@ ghost use Rattle.sqlite.specs.Held.{state};
 ghost use Rattle.sqlite.specs.State.{HasCleanDisk, IsUnchanged, Executes, FailsToQuery, QueriesRow, Shown};
 ghost use Rattle.sqlite.specs.declared.error.Error.TheVariants.{QueryReturnedNoRows};
 ghost use Rattle.sqlite.specs.declared.types.Value.TheVariants.{Text};
-ghost use Rattle.rows.specs.Entries.{put_text, remove_text, get_text, each_text, entry_schema, no_schema, IsStore, IsMap, IsPut, IsRemoved, Holds, HasKey, AreEntries, IsCommitted, IsUndone, IsServing, Keeps, Aborts, texts_of};
+ghost use Rattle.rows.specs.Entries.{put_text, remove_text, get_text, has_text, each_text, entry_schema, no_schema, IsStore, IsMap, IsPut, IsRemoved, Holds, HasKey, AreEntries, IsCommitted, IsUndone, IsServing, Keeps, Aborts, texts_of};
 
 use crate::schemas::is_entry_schema;
 use sqlite::{Alter, Connection, Error, Row, params};
@@ -86,6 +86,15 @@ fn query_body<S: Alter>(conn: &mut Connection<S>, key: &str) -> Result<Row, Erro
     ensures clean { HasCleanDisk (state S.Store conn.new) → HasCleanDisk (state S.Store conn.old) }
 {
     conn.query_row("SELECT body FROM entry WHERE key = ?1", params![key])
+}
+
+// Runs the query for a key.
+fn query_key<S: Alter>(conn: &mut Connection<S>, key: &str) -> Result<Row, Error>
+    ensures row { HasCleanDisk (state S.Store conn.new) → QueriesRow has_text (Text key.now ∷ [])
+        (state S.Store conn.old) (state S.Store conn.new) result }
+    ensures clean { HasCleanDisk (state S.Store conn.new) → HasCleanDisk (state S.Store conn.old) }
+{
+    conn.query_row("SELECT key FROM entry WHERE key = ?1", params![key])
 }
 
 // Runs the query for all rows.
@@ -205,6 +214,42 @@ pub fn get<S: Alter>(conn: &mut Connection<S>, key: &str) -> Result<Option<Strin
     match query_body(conn, key) {
         Ok(row) => Ok(Some(row.get(0)?)),
         Err(Error::QueryReturnedNoRows) => Ok(None),
+        Err(error) => Err(error),
+    }
+}
+
+/// Returns whether a row has the key, and reads no body. Returns the error of the database if it fails.
+pub fn has<S: Alter>(conn: &mut Connection<S>, key: &str) -> Result<bool, Error>
+    // It returns true exactly if a row has the key.
+    ensures found { HasCleanDisk (state S.Store conn.new) → (state S.Store conn.old).now.schema ≡ entry_schema
+        → IfOk result (λ found. IsTrue found ↔ HasKey (state S.Store conn.old).now key.now) }
+    ensures missing { result ≡ Err QueryReturnedNoRows → ⊥ }
+
+    // The database is as it was.
+    ensures same { HasCleanDisk (state S.Store conn.new) → (state S.Store conn.old).now.schema ≡ entry_schema
+        → OnOk result (IsUnchanged (state S.Store conn.old) (state S.Store conn.new)) }
+
+    // If it fails, the connection is as it was, or its transaction is rolled back.
+    ensures aborts { HasCleanDisk (state S.Store conn.new)
+        → OnErr result (Aborts (state S.Store conn.old) (state S.Store conn.new)) }
+
+    // A connection that serves a store goes on, and one that was shut runs no query.
+    ensures serving { HasCleanDisk (state S.Store conn.new) → IsServing (state S.Store conn.old)
+        → IsServing (state S.Store conn.new) }
+    ensures live { HasCleanDisk (state S.Store conn.new) → IsServing (state S.Store conn.old)
+        → OnOk result (IsTrue (state S.Store conn.old).is_open) }
+
+    // Whatever it returns, the rows are as they were.
+    ensures kept { HasCleanDisk (state S.Store conn.new) → IsServing (state S.Store conn.old)
+        → Keeps (state S.Store conn.old) (state S.Store conn.new) }
+    ensures clean { HasCleanDisk (state S.Store conn.new) → HasCleanDisk (state S.Store conn.old) }
+{
+    match query_key(conn, key) {
+        Ok(row) => {
+            drop(row);
+            Ok(true)
+        }
+        Err(Error::QueryReturnedNoRows) => Ok(false),
         Err(error) => Err(error),
     }
 }

@@ -178,6 +178,41 @@ pub fn get<S: Alter, K: Serialize, V: Stable + Lossless>(
     }
 }
 
+/// Returns whether a row has the key, and reads no body. Returns `Database` if the database fails, and `Json` if an
+/// allocation fails.
+pub fn has<S: Alter, K: Serialize>(
+    alloc: Global,
+    conn: &mut Connection<S>,
+    key: &K,
+) -> Result<bool, Error>
+    // It returns true exactly if a row has the canonical text of the key.
+    ensures found { HasCleanDisk (state S.Store conn.new) → (state S.Store conn.old).now.schema ≡ entry_schema
+        → IfOk result (λ found. IsTrue found ↔ HasKey (state S.Store conn.old).now (canonical_text (K.tree key.now))) }
+    ensures missing { result ≡ Err (Database QueryReturnedNoRows) → ⊥ }
+
+    // The database is as it was.
+    ensures same { HasCleanDisk (state S.Store conn.new) → (state S.Store conn.old).now.schema ≡ entry_schema
+        → OnOk result (IsUnchanged (state S.Store conn.old) (state S.Store conn.new)) }
+
+    // A connection that serves a store goes on, and one that was shut runs no query.
+    ensures serving { HasCleanDisk (state S.Store conn.new) → IsServing (state S.Store conn.old)
+        → IsServing (state S.Store conn.new) }
+    ensures live { HasCleanDisk (state S.Store conn.new) → IsServing (state S.Store conn.old)
+        → OnOk result (IsTrue (state S.Store conn.old).is_open) }
+
+    // Whatever it returns, the rows are as they were.
+    ensures kept { HasCleanDisk (state S.Store conn.new) → IsServing (state S.Store conn.old)
+        → Keeps (state S.Store conn.old) (state S.Store conn.new) }
+
+    // It fails for the database or for memory alone.
+    ensures valid { result ≡ Err (Json Invalid) → ⊥ }
+    ensures clean { HasCleanDisk (state S.Store conn.new) → HasCleanDisk (state S.Store conn.old) }
+{
+    let key = canonical_of(alloc, key)?;
+    let found = texts::has(conn, key.as_str())?;
+    Ok(found)
+}
+
 /// Puts a value under a key, and reads it back from the database. Returns `Database` if the database fails, and `Json`
 /// if an allocation fails.
 pub fn put_and_get<S: Alter, K: Serialize, V: Stable + Lossless>(
