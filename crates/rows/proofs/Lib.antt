@@ -9,6 +9,7 @@ mod Mapped
 mod Removed
 mod Effects
 mod Serving
+mod Commits
 mod Each
 mod Recognized
 mod Reopened

@@ -47,6 +47,14 @@ has_text = codes "SELECT key FROM entry WHERE key = ?1"
 abbrev pub each_text : List ℕ
 each_text = codes "SELECT key, body FROM entry ORDER BY key"
 
+-- the statement that begins a transaction
+abbrev pub begin_text : List ℕ
+begin_text = codes "BEGIN"
+
+-- the statement that commits a transaction
+abbrev pub commit_text : List ℕ
+commit_text = codes "COMMIT"
+
 -- a column of texts that are never NULL
 abbrev pub text_column : List ℕ → Column
 text_column name =
@@ -135,6 +143,13 @@ pub record IsRemoved (old new : Database) (key : List ℕ) : Type 0 where
 -- the connection is outside of a transaction, and what it sees is its last commit
 abbrev pub IsCommitted : State → Type 0
 IsCommitted s = (s.in_transaction ≡ false) × (s.committed ≡ s.now)
+
+-- the connection was outside of a transaction and is inside of one, where it sees what it saw before
+pub record IsBegun (old new : State) : Type 0 where
+  pub outside : old.in_transaction ≡ false
+  pub inside : new.in_transaction ≡ true
+  pub now : new.now ≡ old.now
+  pub committed : new.committed ≡ old.committed
 
 -- the connection sees what it saw before, unless the call has shut it
 abbrev pub IsUndone : State → State → Type 0

@@ -1,10 +1,13 @@
 //! The table of the rows: a body, which is a text, under each key, which is a text too.
-ghost use Rattle.std.specs.Prelude.{◌≡◌, ◌⊎◌, ◌↔◌, ◌∷◌, [], ℕ, List, map, false, IfOk, IfErr, IfSome, OnOk, OnErr, Ok, Err, None, IsTrue, string_bytes};
+ghost use Rattle.std.specs.Prelude.{◌≡◌, ◌⊎◌, ◌↔◌, ◌∷◌, [], ℕ, List, map, false, Ok, Err, None, IsTrue, string_bytes};
+ghost use Rattle.std.specs.Prelude.{IfOk, IfErr, IfSome, OnOk, OnErr};
 ghost use Rattle.sqlite.specs.Held.{state};
 ghost use Rattle.sqlite.specs.State.{HasCleanDisk, IsUnchanged, Executes, FailsToQuery, QueriesRow, Shown};
 ghost use Rattle.sqlite.specs.declared.error.Error.TheVariants.{QueryReturnedNoRows};
 ghost use Rattle.sqlite.specs.declared.types.Value.TheVariants.{Text};
-ghost use Rattle.rows.specs.Entries.{put_text, remove_text, get_text, has_text, each_text, entry_schema, no_schema, IsStore, IsMap, IsPut, IsRemoved, Holds, HasKey, AreEntries, IsCommitted, IsUndone, IsServing, Keeps, Aborts, texts_of};
+ghost use Rattle.rows.specs.Entries.{put_text, remove_text, get_text, has_text, each_text, entry_schema, no_schema, texts_of};
+ghost use Rattle.rows.specs.Entries.{IsStore, IsMap, IsPut, IsRemoved, Holds, HasKey, AreEntries, IsCommitted, IsUndone};
+ghost use Rattle.rows.specs.Entries.{IsServing, IsBegun, Keeps, Aborts};
 
 use crate::schemas::is_entry_schema;
 use sqlite::{Alter, Connection, Error, Row, params};
@@ -175,6 +178,36 @@ pub fn remove<S: Alter>(conn: &mut Connection<S>, key: &str) -> Result<bool, Err
 {
     let count = execute_remove(conn, key)?;
     Ok(count > 0)
+}
+
+/// Begins a transaction, so that several puts are one commit. Returns the error of the database if it fails, as it does
+/// inside of a transaction.
+pub fn begin<S: Alter>(conn: &mut Connection<S>) -> Result<usize, Error>
+    // The connection sees the same rows, and each put is committed by `commit`.
+    ensures begun { HasCleanDisk (state S.Store conn.new) → (state S.Store conn.old).now.schema ≡ entry_schema
+        → OnOk result (IsBegun (state S.Store conn.old) (state S.Store conn.new)) }
+
+    // If it fails, the connection is as it was, or its transaction is rolled back.
+    ensures aborts { HasCleanDisk (state S.Store conn.new)
+        → OnErr result (Aborts (state S.Store conn.old) (state S.Store conn.new)) }
+    ensures clean { HasCleanDisk (state S.Store conn.new) → HasCleanDisk (state S.Store conn.old) }
+{
+    conn.execute("BEGIN", &[])
+}
+
+/// Commits a transaction. Returns the error of the database if it fails, as it does outside of a transaction.
+pub fn commit<S: Alter>(conn: &mut Connection<S>) -> Result<usize, Error>
+    // What the connection saw is its last commit.
+    ensures committed { HasCleanDisk (state S.Store conn.new) → (state S.Store conn.old).now.schema ≡ entry_schema
+        → OnOk result (IsCommitted (state S.Store conn.new)
+        × ((state S.Store conn.new).now ≡ (state S.Store conn.old).now)) }
+
+    // If it fails, the connection is as it was, or its transaction is rolled back.
+    ensures aborts { HasCleanDisk (state S.Store conn.new)
+        → OnErr result (Aborts (state S.Store conn.old) (state S.Store conn.new)) }
+    ensures clean { HasCleanDisk (state S.Store conn.new) → HasCleanDisk (state S.Store conn.old) }
+{
+    conn.execute("COMMIT", &[])
 }
 
 /// Returns the body of a key, or `None` if no row has the key. Returns the error of the database if it fails, or if the
