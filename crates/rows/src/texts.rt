@@ -5,7 +5,8 @@ ghost use Rattle.sqlite.specs.Held.{state};
 ghost use Rattle.sqlite.specs.State.{HasCleanDisk, IsUnchanged, Executes, FailsToQuery, QueriesRow, Shown};
 ghost use Rattle.sqlite.specs.declared.error.Error.TheVariants.{QueryReturnedNoRows};
 ghost use Rattle.sqlite.specs.declared.types.Value.TheVariants.{Text};
-ghost use Rattle.rows.specs.Entries.{put_text, remove_text, get_text, has_text, each_text, entry_schema, no_schema, texts_of};
+ghost use Rattle.rows.specs.Entries.{put_text, remove_text, get_text, has_text, each_text, begin_text, commit_text};
+ghost use Rattle.rows.specs.Entries.{entry_schema, no_schema, texts_of};
 ghost use Rattle.rows.specs.Entries.{IsStore, IsMap, IsPut, IsRemoved, Holds, HasKey, AreEntries, IsCommitted, IsUndone};
 ghost use Rattle.rows.specs.Entries.{IsServing, IsBegun, Keeps, Aborts};
 
@@ -111,6 +112,24 @@ fn query_each<S: Alter>(conn: &mut Connection<S>) -> Result<Vec<Row>, Error>
     conn.query_all("SELECT key, body FROM entry ORDER BY key", &[])
 }
 
+// Runs the statement that begins a transaction.
+fn execute_begin<S: Alter>(conn: &mut Connection<S>) -> Result<usize, Error>
+    ensures runs { HasCleanDisk (state S.Store conn.new) → Executes begin_text []
+        (state S.Store conn.old) (state S.Store conn.new) result }
+    ensures clean { HasCleanDisk (state S.Store conn.new) → HasCleanDisk (state S.Store conn.old) }
+{
+    conn.execute("BEGIN", &[])
+}
+
+// Runs the statement that commits a transaction.
+fn execute_commit<S: Alter>(conn: &mut Connection<S>) -> Result<usize, Error>
+    ensures runs { HasCleanDisk (state S.Store conn.new) → Executes commit_text []
+        (state S.Store conn.old) (state S.Store conn.new) result }
+    ensures clean { HasCleanDisk (state S.Store conn.new) → HasCleanDisk (state S.Store conn.old) }
+{
+    conn.execute("COMMIT", &[])
+}
+
 /// Puts a body under a key. It replaces the body of the same key. Returns the error of the database if it fails.
 pub fn put<S: Alter>(conn: &mut Connection<S>, key: &str, body: &str) -> Result<usize, Error>
     // The key has this body and no other. Other keys keep their bodies.
@@ -192,7 +211,7 @@ pub fn begin<S: Alter>(conn: &mut Connection<S>) -> Result<usize, Error>
         → OnErr result (Aborts (state S.Store conn.old) (state S.Store conn.new)) }
     ensures clean { HasCleanDisk (state S.Store conn.new) → HasCleanDisk (state S.Store conn.old) }
 {
-    conn.execute("BEGIN", &[])
+    execute_begin(conn)
 }
 
 /// Commits a transaction. Returns the error of the database if it fails, as it does outside of a transaction.
@@ -207,7 +226,7 @@ pub fn commit<S: Alter>(conn: &mut Connection<S>) -> Result<usize, Error>
         → OnErr result (Aborts (state S.Store conn.old) (state S.Store conn.new)) }
     ensures clean { HasCleanDisk (state S.Store conn.new) → HasCleanDisk (state S.Store conn.old) }
 {
-    conn.execute("COMMIT", &[])
+    execute_commit(conn)
 }
 
 /// Returns the body of a key, or `None` if no row has the key. Returns the error of the database if it fails, or if the

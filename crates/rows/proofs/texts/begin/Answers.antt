@@ -8,9 +8,10 @@ use Rattle.rows.proofs.texts.begin.Goals as goal
 
 pub returns-clause-begun : goal.returns-clause-begun
 returns-clause-begun g c clean has =
-    begins (state g.S.Store c.args.conn.now) (state g.S.Store c.execute.new.self) c.execute.result has (c.execute.ensures.runs clean)
+    begins (state g.S.Store c.args.conn.now) (state g.S.Store c.execute_begin.new.conn) c.execute_begin.result has
+    (c.execute_begin.ensures.runs clean)
 
 pub returns-clause-aborts : goal.returns-clause-aborts
 returns-clause-aborts g c clean =
-    executes_aborts begin_text [] (state g.S.Store c.args.conn.now) (state g.S.Store c.execute.new.self) c.execute.result
-    (c.execute.ensures.runs clean)
+    executes_aborts begin_text [] (state g.S.Store c.args.conn.now) (state g.S.Store c.execute_begin.new.conn) c.execute_begin.result
+    (c.execute_begin.ensures.runs clean)
