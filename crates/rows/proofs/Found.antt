@@ -21,13 +21,15 @@ use Rattle.sqlite_schema.specs.Rules.{equal}
 use Rattle.sqlite.specs.Collation.TheVariants.{Binary}
 use Rattle.sqlite.specs.Order.{Row, column}
 use Rattle.sqlite.specs.Tree.{Trees}
-use Rattle.sqlite.specs.Term.{holds}
+use Rattle.sqlite.specs.Term.{Term, holds, col, op2}
+use Rattle.sqlite_sql.specs.declared.ops.BinaryOp.TheVariants.{Compare}
+use Rattle.sqlite_sql.specs.declared.ops.CompareOp.TheVariants.{Eq}
 use Rattle.sqlite.specs.Query.{Output, output, matches, IsAnswer}
-use Rattle.rows.proofs.Statements.{query}
+use Rattle.rows.proofs.Statements.{query_by, query_at}
 
 -- ---- equal texts
 
-and_true : (a : Bool) → (a && true) ≡ a
+pub and_true : (a : Bool) → (a && true) ≡ a
 and_true true = refl
 and_true false = refl
 
@@ -84,15 +86,17 @@ matched_has p f (z ∷ xs) x (inr later) passes = has_right (cond (p z) (f z ∷
 pub has_permuted : {X : Type 0} (xs ys : List X) (x : X) → IsPermutation xs ys → Has ys x → Has xs x
 has_permuted xs ys x same = all_has (Has xs) ys x (all-permutation (Has xs) xs ys same (all_from (Has xs) xs (λ e h. h)))
 
--- the rows that the query shows are the bodies of the rows that have the key
-pub record AreShown (rows : List Row) (key : List ℕ) (found : List Row) : Type 0 where
-  pub sound : (x : Row) → Has found x → (r : Row) × Has rows r × (column r 1 ≡ Text key) × (x ≡ column r 2 ∷ [])
-  pub complete : (r : Row) → Has rows r → column r 1 ≡ Text key → Has found (column r 2 ∷ [])
+-- the rows that a query shows are what it makes of the rows that pass its test
+pub record AreFound (test : Row → Bool) (show : Row → Row) (rows found : List Row) : Type 0 where
+  pub sound : (x : Row) → Has found x → (r : Row) × Has rows r × (test r ≡ true) × (x ≡ show r)
+  pub complete : (r : Row) → Has rows r → test r ≡ true → Has found (show r)
 
 -- an answer to the query shows them
-pub found_bodies : (db : Trees) (key : List ℕ) (found : List Row) → IsAnswer query db (Text key ∷ []) found → AreShown (db 0) key found
-found_bodies db key found answer =
-    let given = Text key ∷ [] in
+pub found_by : (term : Term) (shown : List Term) (db : Trees) (given : Row) (found : List Row)
+    → IsAnswer (query_by term shown) db given found
+    → AreFound (λ r. list_all (holds (given ∷ r ∷ [])) (term ∷ [])) (λ r. (output (query_by term shown) (given ∷ r ∷ [])).1) (db 0) found
+found_by term shown db given found answer =
+    let query = query_by term shown in
     let test = λ (r : Row). list_all (holds (given ∷ r ∷ [])) query.filter in
     let env = λ (r : Row). given ∷ r ∷ [] in
     let all = matches db query.filter query.from (given ∷ []) in
@@ -103,12 +107,26 @@ found_bodies db key found answer =
           let e = has_mapped (output query) all o.0
           (subst (λ l. Has l o.0) kept (has_permuted answer.kept answer.ordered o.0 answer.same o.1)) in
           let r = has_matched test env (db 0) e.0 e.1 in
-          (r.0, r.1, is_text (column r.0 1) key (sym (and_true _) ∙ r.2), o.2 ∙ ap (λ (k : Output). k.1) (e.2 ∙ ap (output query) r.3));
-      complete = λ r h has.
+          (r.0, r.1, r.2, o.2 ∙ ap (λ (k : Output). k.1) (e.2 ∙ ap (output query) r.3));
+      complete = λ r h passes.
           let o = output query (env r) in
-          let passes : test r ≡ true = and_true _ ∙ text_is (column r 1) key has in
           let there = subst (λ l. Has l o) (sym kept) (mapped_has (output query) all (env r) (matched_has test env (db 0) r h passes)) in
-          subst (λ l. Has l (column r 2 ∷ [])) (sym answer.shown)
+          subst (λ l. Has l o.1) (sym answer.shown)
           (mapped_has (λ (k : Output). k.1) answer.ordered o
           (has_permuted answer.ordered answer.kept o (IsPermutation-sym _ _ answer.same) there));
+    }
+
+-- the rows that the query shows have this column of the rows that have the key
+pub record AreShown (at : ℕ) (rows : List Row) (key : List ℕ) (found : List Row) : Type 0 where
+  pub sound : (x : Row) → Has found x → (r : Row) × Has rows r × (column r 1 ≡ Text key) × (x ≡ column r at ∷ [])
+  pub complete : (r : Row) → Has rows r → column r 1 ≡ Text key → Has found (column r at ∷ [])
+
+-- an answer to the query for a key shows them
+pub found_at : (at : ℕ) (db : Trees) (key : List ℕ) (found : List Row) → IsAnswer (query_at at) db (Text key ∷ []) found
+    → AreShown at (db 0) key found
+found_at at db key found answer =
+    let f = found_by (op2 (Compare Eq Binary) (col 1 1) (col 0 0)) (col 1 at ∷ []) db (Text key ∷ []) found answer in
+    record {
+      sound = λ x h. let r = f.sound x h in (r.0, r.1, is_text (column r.0 1) key (sym (and_true _) ∙ r.2), r.3);
+      complete = λ r h has. f.complete r h (and_true _ ∙ text_is (column r 1) key has);
     }

@@ -1,4 +1,4 @@
--- What the query for a key answers: a row is one of the key, and there is none only if no row has the key.
+-- What a query for a key answers: a row is one of the key, and there is none only if no row has the key.
 use Rattle.std.proofs.Common.{◌≡◌, inl, inr, ℕ, List, [], ◌∷◌, Option, Some, None, Ok, Err, Result, IfOk, refl}
 use Rattle.std.proofs.Common.{sym, ap, subst, ◌∙◌}
 use Rattle.sqlite_rules.specs.Lists.{Has}
@@ -16,21 +16,21 @@ use Rattle.sqlite.specs.State.{State, QueriesRow, IsNotRun, FailsToQuery, FailsT
 use Rattle.sqlite_resolve.specs.declared.compiled.Compiled.{Compiled}
 use Rattle.sqlite_schema.specs.declared.command.Returning.{Returning}
 use Rattle.sqlite.proofs.Callers.{first_as, reads_as, command_of, IsPlain}
-use Rattle.rows.specs.Entries.{get_text, entry_schema, HasKey}
-use Rattle.rows.proofs.Statements.{get_command, get_is, get_plain}
-use Rattle.rows.proofs.Found.{found_bodies}
+use Rattle.rows.specs.Entries.{entry_schema, HasKey}
+use Rattle.rows.proofs.Statements.{key_command, IsKeyQuery}
+use Rattle.rows.proofs.Found.{found_at}
 
--- a row that is found is one of the key, and shows its body
-pub gets : (old new : State) (key : List ℕ) (r : Result Row Error) → old.now.schema ≡ entry_schema
-    → QueriesRow get_text (Text key ∷ []) old new r
-    → IfOk r (λ row. (it : Row) × Has (old.now.trees 0) it × (column it 1 ≡ Text key) × (row ≡ column it 2 ∷ []))
-gets old new key (Err e) has h = tt
-gets old new key (Ok row) has h =
-    let got = (first_as get_text (Text key ∷ []) old new entry_schema has get_command get_is.0 get_plain get_is.1 row h).1 in
-    let f = found_bodies (overlay old.now.trees []) key (row ∷ got.0) (got.1 Null) in
+-- a row that is found is one of the key, and shows its column
+pub gets : {sql : List ℕ} {at : ℕ} (q : IsKeyQuery sql at) (old new : State) (key : List ℕ) (r : Result Row Error)
+    → old.now.schema ≡ entry_schema → QueriesRow sql (Text key ∷ []) old new r
+    → IfOk r (λ row. (it : Row) × Has (old.now.trees 0) it × (column it 1 ≡ Text key) × (row ≡ column it at ∷ []))
+gets q old new key (Err e) has h = tt
+gets {sql} {at} q old new key (Ok row) has h =
+    let got = (first_as sql (Text key ∷ []) old new entry_schema has (key_command at q.names) q.is q.plain q.unlisted row h).1 in
+    let f = found_at at (overlay old.now.trees []) key (row ∷ got.0) (got.1 Null) in
     f.sound row (inl refl)
 
-not_stored : (cause : StoreError) → QueryReturnedNoRows ≡ store_error cause → ⊥
+pub not_stored : (cause : StoreError) → QueryReturnedNoRows ≡ store_error cause → ⊥
 not_stored store.OutOfMemory e = cc
 not_stored store.Io e = cc
 not_stored store.Corrupt e = cc
@@ -38,10 +38,11 @@ not_stored store.Full e = cc
 not_stored store.Broken e = cc
 not_stored store.Unstorable e = cc
 
-not_read : (limit : Option ℕ) (db : Database) (params : Row) → RefusesToRead limit get_command db params QueryReturnedNoRows → ⊥
-not_read limit db params (inl h) = let e = h.0 in cc
-not_read limit db params (inr (inl h)) = let e = h.0 in cc
-not_read limit db params (inr (inr h)) = let e = h.0 in cc
+not_read : (at : ℕ) (names : List (List ℕ)) (limit : Option ℕ) (db : Database) (params : Row)
+    → RefusesToRead limit (key_command at names) db params QueryReturnedNoRows → ⊥
+not_read at names limit db params (inl h) = let e = h.0 in cc
+not_read at names limit db params (inr (inl h)) = let e = h.0 in cc
+not_read at names limit db params (inr (inr h)) = let e = h.0 in cc
 
 none_stated : (s : State) (sql : List ℕ) (params : Row) → IsNoStatement s sql params QueryReturnedNoRows → ⊥
 none_stated s sql params (inl h) = let e = h.2 in cc
@@ -49,32 +50,33 @@ none_stated s sql params (inr (c, is, inl h)) = let e = h.1 in cc
 none_stated s sql params (inr (c, is, inr (inl h))) = let e = h.1 in cc
 none_stated s sql params (inr (c, is, inr (inr h))) = let e = h.1 in cc
 
-not_read_as : (limit : Option ℕ) (command : Command) (db : Database) (params : Row) → command ≡ get_command
-    → RefusesToRead limit command db params QueryReturnedNoRows → ⊥
-not_read_as limit command db params is h = not_read limit db params (subst (λ k. RefusesToRead limit k db params QueryReturnedNoRows) is h)
+not_read_as : (at : ℕ) (names : List (List ℕ)) (limit : Option ℕ) (command : Command) (db : Database) (params : Row)
+    → command ≡ key_command at names → RefusesToRead limit command db params QueryReturnedNoRows → ⊥
+not_read_as at names limit command db params is h =
+    not_read at names limit db params (subst (λ k. RefusesToRead limit k db params QueryReturnedNoRows) is h)
 
-not_shown : (old new : State) (c : Compiled) (params : Row) (returning : Option Returning) → returning ≡ None → c.command ≡ get_command
-    → FailsToShow old new get_text c params QueryReturnedNoRows returning → ⊥
-not_shown old new c params None bare is h = not_read_as old.step_limit c.command h.0 params is h.2
-not_shown old new c params (Some what) bare is h = cc
+not_shown : (at : ℕ) (names : List (List ℕ)) (old new : State) (sql : List ℕ) (c : Compiled) (params : Row) (returning : Option Returning)
+    → returning ≡ None → c.command ≡ key_command at names → FailsToShow old new sql c params QueryReturnedNoRows returning → ⊥
+not_shown at names old new sql c params None bare is h = not_read_as at names old.step_limit c.command h.0 params is h.2
+not_shown at names old new sql c params (Some what) bare is h = cc
 
 -- no failure is told as the lack of a row
-pub no_failure : (old new : State) (key : List ℕ) → old.now.schema ≡ entry_schema
-    → FailsToQuery get_text (Text key ∷ []) old new QueryReturnedNoRows → ⊥
+pub no_failure : {sql : List ℕ} {at : ℕ} (q : IsKeyQuery sql at) (old new : State) (key : List ℕ) → old.now.schema ≡ entry_schema
+    → FailsToQuery sql (Text key ∷ []) old new QueryReturnedNoRows → ⊥
 unfolding FailsToQuery IsNotRun
-no_failure old new key has (inl (inl h)) = none_stated old get_text (Text key ∷ []) h.0
-no_failure old new key has (inl (inr h)) = not_stored h.0 h.1
-no_failure old new key has (inr h) =
-    let known = sym h.1.is ∙ ap (λ s. understood s get_text) has in
-    let bare = subst IsPlain (sym known) get_plain in
-    not_shown old new h.0 _ h.0.returning bare.0 (ap command_of known ∙ get_is.0) h.2
+no_failure {sql} q old new key has (inl (inl h)) = none_stated old sql (Text key ∷ []) h.0
+no_failure q old new key has (inl (inr h)) = not_stored h.0 h.1
+no_failure {sql} {at} q old new key has (inr h) =
+    let known = sym h.1.is ∙ ap (λ s. understood s sql) has in
+    let bare = subst IsPlain (sym known) q.plain in
+    not_shown at q.names old new sql h.0 _ h.0.returning bare.0 (ap command_of known ∙ q.is) h.2
 
 -- where it says that there is no row, there is none
-pub gets_none : (old new : State) (key : List ℕ) → old.now.schema ≡ entry_schema
-    → QueriesRow get_text (Text key ∷ []) old new (Err QueryReturnedNoRows) → HasKey old.now key → ⊥
+pub gets_none : {sql : List ℕ} {at : ℕ} (q : IsKeyQuery sql at) (old new : State) (key : List ℕ) → old.now.schema ≡ entry_schema
+    → QueriesRow sql (Text key ∷ []) old new (Err QueryReturnedNoRows) → HasKey old.now key → ⊥
 unfolding QueriesRow
-gets_none old new key has (inl h) there = no_failure old new key has h
-gets_none old new key has (inr h) there =
-    let all = reads_as get_text (Text key ∷ []) old new entry_schema has get_command get_is.0 get_plain get_is.1 [] h.1 in
-    let f = found_bodies (overlay old.now.trees []) key [] (all.answer Null) in
+gets_none q old new key has (inl h) there = no_failure q old new key has h
+gets_none {sql} {at} q old new key has (inr h) there =
+    let all = reads_as sql (Text key ∷ []) old new entry_schema has (key_command at q.names) q.is q.plain q.unlisted [] h.1 in
+    let f = found_at at (overlay old.now.trees []) key [] (all.answer Null) in
     f.complete there.0 there.1 there.2

@@ -4,7 +4,14 @@ mod Found
 mod Gets
 mod Puts
 mod Kept
+mod Unique
+mod Mapped
+mod Removed
 mod Effects
+mod Serving
+mod Commits
 mod Each
+mod Recognized
 mod Reopened
+mod Opened
 mod Errors

@@ -1,6 +1,8 @@
 -- The table of the rows: its statements, its schema, and what its rows are.
-use Rattle.std.specs.Prelude.{◌≡◌, ◌↔◌, ℕ, List, [], ◌∷◌, map, codes, true, false, None, String, string_bytes, IsTrue, IsPermutation}
+use Rattle.std.specs.Prelude.{◌≡◌, ◌⊎◌, ◌↔◌, ℕ, List, [], ◌∷◌, map, codes, true, false, None, String, string_bytes, IsTrue, IsPermutation}
 use Rattle.sqlite_schema.specs.declared.schema.Column.{Column}
+use Rattle.sqlite_schema.specs.declared.schema.Index.{Index}
+use Rattle.sqlite_schema.specs.declared.schema.Stamps.{Stamps}
 use Rattle.std.specs.Global.{Global}
 use Rattle.std.specs.Ordering.{nat_cmp}
 use Rattle.std.specs.Cmp.Lexicographic.{slice_cmp}
@@ -11,7 +13,7 @@ use Rattle.sqlite.specs.declared.types.Value.{Value}
 use Rattle.sqlite.specs.declared.types.Value.TheVariants.{Null, Text as Words}
 use Rattle.sqlite.specs.Order.{Row, column}
 use Rattle.sqlite.specs.Effect.{Database}
-use Rattle.sqlite.specs.State.{State}
+use Rattle.sqlite.specs.State.{State, IsUnchanged, IsRolledBack}
 use Rattle.sqlite_rules.specs.Lists.{Has}
 use Rattle.std.specs.List.{AllByRecursion}
 use Rattle.sqlite.specs.Tree.{rowid, IsTable}
@@ -27,20 +29,40 @@ create_text = codes "CREATE TABLE IF NOT EXISTS entry (key TEXT PRIMARY KEY NOT 
 
 -- the statement that puts a body under a key
 abbrev pub put_text : List ℕ
-put_text = codes "INSERT OR REPLACE INTO entry (key, body) VALUES (?1, ?2)"
+put_text = codes "INSERT INTO entry (key, body) VALUES (?1, ?2) ON CONFLICT(key) DO UPDATE SET body = excluded.body"
+
+-- the statement that removes the row of a key
+abbrev pub remove_text : List ℕ
+remove_text = codes "DELETE FROM entry WHERE key = ?1"
 
 -- the query for the body of a key
 abbrev pub get_text : List ℕ
 get_text = codes "SELECT body FROM entry WHERE key = ?1"
 
+-- the query for a key
+abbrev pub has_text : List ℕ
+has_text = codes "SELECT key FROM entry WHERE key = ?1"
+
 -- the query for all rows
 abbrev pub each_text : List ℕ
 each_text = codes "SELECT key, body FROM entry ORDER BY key"
+
+-- the statement that begins a transaction
+abbrev pub begin_text : List ℕ
+begin_text = codes "BEGIN"
+
+-- the statement that commits a transaction
+abbrev pub commit_text : List ℕ
+commit_text = codes "COMMIT"
 
 -- a column of texts that are never NULL
 abbrev pub text_column : List ℕ → Column
 text_column name =
     record { name = name; kind = Text; is_strict = true; not_null = true; default = Null; collation = Binary }
+
+-- no default that reads the time
+abbrev pub no_stamps : Stamps
+no_stamps = record { places = []; terms = []; formats = [] }
 
 -- the table: two columns of texts that are never NULL, and the first is its primary key
 abbrev pub entry : Table
@@ -55,8 +77,19 @@ entry = record {
   checks = [];
   references = [];
   computed = [];
-  stamps = record { places = []; terms = []; formats = [] };
+  stamps = no_stamps;
   is_counted = false;
+}
+
+-- the index of its primary key
+abbrev pub entry_index : Index
+entry_index = record {
+  name = codes "sqlite_autoindex_entry_1";
+  tree = 1;
+  table = 0;
+  columns = 1 ∷ [];
+  order = plain;
+  is_unique = true;
 }
 
 -- the schema of a database with no table
@@ -89,6 +122,11 @@ pub record IsStore (db : Database) : Type 0 where
   pub keyed : AllByRecursion (λ row. is_int (rowid row) ≡ true) (db.trees 0)
   pub rising : IsTable (db.trees 0)
 
+-- each row has a text as its key and a text as its body, and a key has one body
+pub record IsMap (db : Database) : Type 0 where
+  pub texts : (row : Row) → Has (db.trees 0) row → (k b : List ℕ) × (key_of row ≡ Words k) × (body_of row ≡ Words b)
+  pub only : (key a b : List ℕ) → Holds db key a → Holds db key b → a ≡ b
+
 -- the new database is a store where the key has this body and no other, and other keys have the bodies that they had
 pub record IsPut (old new : Database) (key body : List ℕ) : Type 0 where
   pub store : IsStore new
@@ -96,13 +134,38 @@ pub record IsPut (old new : Database) (key body : List ℕ) : Type 0 where
   pub only : (other : List ℕ) → Holds new key other → other ≡ body
   pub others : (k b : List ℕ) → (k ≡ key → ⊥) → Holds new k b ↔ Holds old k b
 
+-- the new database is a store where no row has the key, and other keys have the bodies that they had
+pub record IsRemoved (old new : Database) (key : List ℕ) : Type 0 where
+  pub store : IsStore new
+  pub gone : HasKey new key → ⊥
+  pub others : (k b : List ℕ) → (k ≡ key → ⊥) → Holds new k b ↔ Holds old k b
+
 -- the connection is outside of a transaction, and what it sees is its last commit
 abbrev pub IsCommitted : State → Type 0
 IsCommitted s = (s.in_transaction ≡ false) × (s.committed ≡ s.now)
 
+-- the connection was outside of a transaction and is inside of one, where it sees what it saw before
+pub record IsBegun (old new : State) : Type 0 where
+  pub outside : old.in_transaction ≡ false
+  pub inside : new.in_transaction ≡ true
+  pub now : new.now ≡ old.now
+  pub committed : new.committed ≡ old.committed
+
 -- the connection sees what it saw before, unless the call has shut it
 abbrev pub IsUndone : State → State → Type 0
 IsUndone old new = IsTrue new.is_open → new.now ≡ old.now
+
+-- The connection is outside of a transaction. Unless it is shut, it sees a store, which is its last commit.
+abbrev pub IsServing : State → Type 0
+IsServing s = (s.in_transaction ≡ false) × (IsTrue s.is_open → (s.committed ≡ s.now) × IsStore s.now)
+
+-- the connection sees what it saw before, unless it is shut, and no call opens one that was shut
+abbrev pub Keeps : State → State → Type 0
+Keeps old new = IsTrue new.is_open → IsTrue old.is_open × (new.now ≡ old.now)
+
+-- the connection is as it was, or its transaction is rolled back
+abbrev pub Aborts : State → State → Type 0
+Aborts old new = IsUnchanged old new ⊎ IsRolledBack old new
 
 -- the bytes of a key and of a body
 abbrev pub texts_of : String Global × String Global → List ℕ × List ℕ

@@ -1,7 +1,7 @@
 //! The error of a call on rows: that of the database, or that of the JSON.
 ghost use Rattle.std.specs.Prelude.{◌≡◌};
 
-use std::alloc::AllocFailed;
+use std::alloc::{AllocError, AllocFailed};
 use std::fmt;
 
 /// Why a row is not written or not read.
@@ -30,6 +30,17 @@ impl From<miniserde::Error> for Error {
 
     fn from(error: miniserde::Error) -> Error {
         Error::Json(error)
+    }
+}
+
+impl From<AllocError> for Error {
+    ghost use Rattle.miniserde.specs.declared.Error.TheVariants.{Memory};
+    ghost use Rattle.rows.specs.declared.error.Error.TheVariants.{Json};
+
+    ghost from_gives = { λ _ e. e ≡ Json Memory };
+
+    fn from(error: AllocError) -> Error {
+        Error::Json(miniserde::Error::from(error))
     }
 }
 

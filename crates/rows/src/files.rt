@@ -4,7 +4,7 @@ ghost use Rattle.sqlite.specs.WalFiles.{image_at};
 ghost use Rattle.sqlite.specs.Effect.{Database, IsDatabase};
 ghost use Rattle.sqlite.specs.State.{HasCleanDisk};
 ghost use Rattle.sqlite.specs.Files.{file_state, HoldsDatabase, IsOpened};
-ghost use Rattle.rows.specs.Entries.{IsStore, IsPut, IsCommitted};
+ghost use Rattle.rows.specs.Entries.{entry_schema, IsStore, IsPut, IsCommitted, IsServing};
 ghost use Rattle.rows.specs.Values.{canonical_text};
 
 use crate::error::Error;
@@ -24,6 +24,10 @@ pub fn open<S: Start>(
     ensures found { IfOk result (λ conn. HasCleanDisk (file_state conn) → (db : Database) → IsDatabase db
         → ∥ HoldsDatabase (image_at S.Start) db.trees ∥₁ → (file_state conn).now ≡ db) }
     ensures opened { IfOk result (λ conn. HasCleanDisk (file_state conn) → IsOpened conn) }
+
+    // If it has the table and nothing else, as `is_store` tells, it serves a store.
+    ensures serving { IfOk result (λ conn. HasCleanDisk (file_state conn)
+        → (file_state conn).now.schema ≡ entry_schema → IsServing (file_state conn)) }
 {
     match Connection::open_from(rt, path, false, start) {
         Ok(conn) => Ok(conn),
@@ -41,6 +45,8 @@ pub fn reopen<D: Disk + Drop>(
     ensures found { IfOk result (λ again. HasCleanDisk (file_state again)
         → (file_state again).now ≡ (file_state conn).committed) }
     ensures opened { IfOk result (λ again. HasCleanDisk (file_state again) → IsOpened again) }
+    ensures serving { IfOk result (λ again. HasCleanDisk (file_state again)
+        → (file_state again).now.schema ≡ entry_schema → IsServing (file_state again)) }
     ensures clean { IfOk result (λ again. HasCleanDisk (file_state again) → HasCleanDisk (file_state conn)) }
 {
     let _schema = conn.schema();

@@ -3,5 +3,6 @@
 
 pub mod error;
 pub mod files;
+mod schemas;
 pub mod texts;
 pub mod values;

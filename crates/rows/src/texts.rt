@@ -1,16 +1,22 @@
 //! The table of the rows: a body, which is a text, under each key, which is a text too.
-ghost use Rattle.std.specs.Prelude.{◌≡◌, ◌∷◌, [], ℕ, List, map, false, IfOk, IfSome, OnOk, OnErr, Ok, None, IsTrue, string_bytes};
+ghost use Rattle.std.specs.Prelude.{◌≡◌, ◌⊎◌, ◌↔◌, ◌∷◌, [], ℕ, List, map, false, Ok, Err, None, IsTrue, string_bytes};
+ghost use Rattle.std.specs.Prelude.{IfOk, IfErr, IfSome, OnOk, OnErr};
 ghost use Rattle.sqlite.specs.Held.{state};
-ghost use Rattle.sqlite.specs.State.{HasCleanDisk, IsUnchanged, Executes, QueriesRow, Shown};
+ghost use Rattle.sqlite.specs.State.{HasCleanDisk, IsUnchanged, Executes, FailsToQuery, QueriesRow, Shown};
+ghost use Rattle.sqlite.specs.declared.error.Error.TheVariants.{QueryReturnedNoRows};
 ghost use Rattle.sqlite.specs.declared.types.Value.TheVariants.{Text};
-ghost use Rattle.rows.specs.Entries.{put_text, get_text, each_text, entry_schema, no_schema, IsStore, IsPut, Holds, HasKey, AreEntries, IsCommitted, IsUndone, texts_of};
+ghost use Rattle.rows.specs.Entries.{put_text, remove_text, get_text, has_text, each_text, begin_text, commit_text};
+ghost use Rattle.rows.specs.Entries.{entry_schema, no_schema, texts_of};
+ghost use Rattle.rows.specs.Entries.{IsStore, IsMap, IsPut, IsRemoved, Holds, HasKey, AreEntries, IsCommitted, IsUndone};
+ghost use Rattle.rows.specs.Entries.{IsServing, IsBegun, Keeps, Aborts};
 
+use crate::schemas::is_entry_schema;
 use sqlite::{Alter, Connection, Error, Row, params};
 use std::alloc::Global;
 
 /// Returns whether the database has no table, index or view, as one that an open has just made.
 pub fn is_empty<S: Alter>(conn: &Connection<S>) -> bool
-    ensures { IsTrue result → (state S.Store conn.now).now.schema ≡ no_schema }
+    ensures { IsTrue result ↔ ((state S.Store conn.now).now.schema ≡ no_schema) }
 {
     let schema = conn.schema();
     if !schema.tables.is_empty() {
@@ -20,6 +26,18 @@ pub fn is_empty<S: Alter>(conn: &Connection<S>) -> bool
         return false;
     }
     schema.views.is_empty()
+}
+
+/// Returns whether the database has the table that `create` makes, and no other table, index or view.
+pub fn is_store<S: Alter>(conn: &Connection<S>) -> bool
+    // A table with another column, collation or rule is not that table.
+    ensures exact { IsTrue result ↔ ((state S.Store conn.now).now.schema ≡ entry_schema) }
+
+    // The rows of an open store are a map from keys to bodies.
+    ensures map { IsTrue (state S.Store conn.now).is_open → IsStore (state S.Store conn.now).now
+        → IsMap (state S.Store conn.now).now }
+{
+    is_entry_schema(conn.schema())
 }
 
 /// Makes the table if the database has none.
@@ -51,9 +69,18 @@ fn execute_put<S: Alter>(conn: &mut Connection<S>, key: &str, body: &str) -> Res
     ensures clean { HasCleanDisk (state S.Store conn.new) → HasCleanDisk (state S.Store conn.old) }
 {
     conn.execute(
-        "INSERT OR REPLACE INTO entry (key, body) VALUES (?1, ?2)",
+        "INSERT INTO entry (key, body) VALUES (?1, ?2) ON CONFLICT(key) DO UPDATE SET body = excluded.body",
         params![key, body],
     )
+}
+
+// Runs the statement that removes the row of a key.
+fn execute_remove<S: Alter>(conn: &mut Connection<S>, key: &str) -> Result<usize, Error>
+    ensures runs { HasCleanDisk (state S.Store conn.new) → Executes remove_text (Text key.now ∷ [])
+        (state S.Store conn.old) (state S.Store conn.new) result }
+    ensures clean { HasCleanDisk (state S.Store conn.new) → HasCleanDisk (state S.Store conn.old) }
+{
+    conn.execute("DELETE FROM entry WHERE key = ?1", params![key])
 }
 
 // Runs the query for the body of a key.
@@ -65,16 +92,45 @@ fn query_body<S: Alter>(conn: &mut Connection<S>, key: &str) -> Result<Row, Erro
     conn.query_row("SELECT body FROM entry WHERE key = ?1", params![key])
 }
 
+// Runs the query for a key.
+fn query_key<S: Alter>(conn: &mut Connection<S>, key: &str) -> Result<Row, Error>
+    ensures row { HasCleanDisk (state S.Store conn.new) → QueriesRow has_text (Text key.now ∷ [])
+        (state S.Store conn.old) (state S.Store conn.new) result }
+    ensures clean { HasCleanDisk (state S.Store conn.new) → HasCleanDisk (state S.Store conn.old) }
+{
+    conn.query_row("SELECT key FROM entry WHERE key = ?1", params![key])
+}
+
 // Runs the query for all rows.
 fn query_each<S: Alter>(conn: &mut Connection<S>) -> Result<Vec<Row>, Error>
     ensures rows { HasCleanDisk (state S.Store conn.new)
         → IfOk result (λ rows. Shown each_text [] (state S.Store conn.old) (state S.Store conn.new) rows.items) }
+    ensures failed { HasCleanDisk (state S.Store conn.new)
+        → IfErr result (FailsToQuery each_text [] (state S.Store conn.old) (state S.Store conn.new)) }
     ensures clean { HasCleanDisk (state S.Store conn.new) → HasCleanDisk (state S.Store conn.old) }
 {
     conn.query_all("SELECT key, body FROM entry ORDER BY key", &[])
 }
 
-/// Puts a body under a key. It replaces the body of the same key.
+// Runs the statement that begins a transaction.
+fn execute_begin<S: Alter>(conn: &mut Connection<S>) -> Result<usize, Error>
+    ensures runs { HasCleanDisk (state S.Store conn.new) → Executes begin_text []
+        (state S.Store conn.old) (state S.Store conn.new) result }
+    ensures clean { HasCleanDisk (state S.Store conn.new) → HasCleanDisk (state S.Store conn.old) }
+{
+    conn.execute("BEGIN", &[])
+}
+
+// Runs the statement that commits a transaction.
+fn execute_commit<S: Alter>(conn: &mut Connection<S>) -> Result<usize, Error>
+    ensures runs { HasCleanDisk (state S.Store conn.new) → Executes commit_text []
+        (state S.Store conn.old) (state S.Store conn.new) result }
+    ensures clean { HasCleanDisk (state S.Store conn.new) → HasCleanDisk (state S.Store conn.old) }
+{
+    conn.execute("COMMIT", &[])
+}
+
+/// Puts a body under a key. It replaces the body of the same key. Returns the error of the database if it fails.
 pub fn put<S: Alter>(conn: &mut Connection<S>, key: &str, body: &str) -> Result<usize, Error>
     // The key has this body and no other. Other keys keep their bodies.
     ensures put { HasCleanDisk (state S.Store conn.new) → IsStore (state S.Store conn.old).now
@@ -87,12 +143,94 @@ pub fn put<S: Alter>(conn: &mut Connection<S>, key: &str, body: &str) -> Result<
     // If it fails there, the rows are as they were.
     ensures undone { HasCleanDisk (state S.Store conn.new) → IsCommitted (state S.Store conn.old)
         → OnErr result (IsUndone (state S.Store conn.old) (state S.Store conn.new)) }
+
+    // If it fails, the connection is as it was, or its transaction is rolled back.
+    ensures aborts { HasCleanDisk (state S.Store conn.new)
+        → OnErr result (Aborts (state S.Store conn.old) (state S.Store conn.new)) }
+
+    // A connection that serves a store goes on, and one that was shut runs no statement.
+    ensures serving { HasCleanDisk (state S.Store conn.new) → IsServing (state S.Store conn.old)
+        → IsServing (state S.Store conn.new) }
+    ensures live { HasCleanDisk (state S.Store conn.new) → IsServing (state S.Store conn.old)
+        → OnOk result (IsTrue (state S.Store conn.old).is_open) }
+
+    // If it fails, the rows are as they were.
+    ensures kept { HasCleanDisk (state S.Store conn.new) → IsServing (state S.Store conn.old)
+        → OnErr result (Keeps (state S.Store conn.old) (state S.Store conn.new)) }
     ensures clean { HasCleanDisk (state S.Store conn.new) → HasCleanDisk (state S.Store conn.old) }
 {
     execute_put(conn, key, body)
 }
 
-/// Returns the body of a key, or `None` if no row has the key.
+/// Removes the row of a key, and returns whether there was one. Returns the error of the database if it fails.
+pub fn remove<S: Alter>(conn: &mut Connection<S>, key: &str) -> Result<bool, Error>
+    // It returns true exactly if a row had the key.
+    ensures found { HasCleanDisk (state S.Store conn.new) → IsStore (state S.Store conn.old).now
+        → IfOk result (λ found. IsTrue found ↔ HasKey (state S.Store conn.old).now key.now) }
+
+    // No row has the key. Other keys keep their bodies.
+    ensures removed { HasCleanDisk (state S.Store conn.new) → IsStore (state S.Store conn.old).now
+        → OnOk result (IsRemoved (state S.Store conn.old).now (state S.Store conn.new).now key.now) }
+
+    // Outside of a transaction that is committed.
+    ensures committed { HasCleanDisk (state S.Store conn.new) → IsStore (state S.Store conn.old).now
+        → (state S.Store conn.old).in_transaction ≡ false → OnOk result (IsCommitted (state S.Store conn.new)) }
+
+    // If it fails there, the rows are as they were.
+    ensures undone { HasCleanDisk (state S.Store conn.new) → IsCommitted (state S.Store conn.old)
+        → OnErr result (IsUndone (state S.Store conn.old) (state S.Store conn.new)) }
+
+    // If it fails, the connection is as it was, or its transaction is rolled back.
+    ensures aborts { HasCleanDisk (state S.Store conn.new)
+        → OnErr result (Aborts (state S.Store conn.old) (state S.Store conn.new)) }
+
+    // A connection that serves a store goes on, and one that was shut runs no statement.
+    ensures serving { HasCleanDisk (state S.Store conn.new) → IsServing (state S.Store conn.old)
+        → IsServing (state S.Store conn.new) }
+    ensures live { HasCleanDisk (state S.Store conn.new) → IsServing (state S.Store conn.old)
+        → OnOk result (IsTrue (state S.Store conn.old).is_open) }
+
+    // If it fails, the rows are as they were.
+    ensures kept { HasCleanDisk (state S.Store conn.new) → IsServing (state S.Store conn.old)
+        → OnErr result (Keeps (state S.Store conn.old) (state S.Store conn.new)) }
+    ensures clean { HasCleanDisk (state S.Store conn.new) → HasCleanDisk (state S.Store conn.old) }
+{
+    let count = execute_remove(conn, key)?;
+    Ok(count > 0)
+}
+
+/// Begins a transaction, so that several puts are one commit. Returns the error of the database if it fails, as it does
+/// inside of a transaction.
+pub fn begin<S: Alter>(conn: &mut Connection<S>) -> Result<usize, Error>
+    // The connection sees the same rows, and each put is committed by `commit`.
+    ensures begun { HasCleanDisk (state S.Store conn.new) → (state S.Store conn.old).now.schema ≡ entry_schema
+        → OnOk result (IsBegun (state S.Store conn.old) (state S.Store conn.new)) }
+
+    // If it fails, the connection is as it was, or its transaction is rolled back.
+    ensures aborts { HasCleanDisk (state S.Store conn.new)
+        → OnErr result (Aborts (state S.Store conn.old) (state S.Store conn.new)) }
+    ensures clean { HasCleanDisk (state S.Store conn.new) → HasCleanDisk (state S.Store conn.old) }
+{
+    execute_begin(conn)
+}
+
+/// Commits a transaction. Returns the error of the database if it fails, as it does outside of a transaction.
+pub fn commit<S: Alter>(conn: &mut Connection<S>) -> Result<usize, Error>
+    // What the connection saw is its last commit.
+    ensures committed { HasCleanDisk (state S.Store conn.new) → (state S.Store conn.old).now.schema ≡ entry_schema
+        → OnOk result (IsCommitted (state S.Store conn.new)
+        × ((state S.Store conn.new).now ≡ (state S.Store conn.old).now)) }
+
+    // If it fails, the connection is as it was, or its transaction is rolled back.
+    ensures aborts { HasCleanDisk (state S.Store conn.new)
+        → OnErr result (Aborts (state S.Store conn.old) (state S.Store conn.new)) }
+    ensures clean { HasCleanDisk (state S.Store conn.new) → HasCleanDisk (state S.Store conn.old) }
+{
+    execute_commit(conn)
+}
+
+/// Returns the body of a key, or `None` if no row has the key. Returns the error of the database if it fails, or if the
+/// body is no text.
 pub fn get<S: Alter>(conn: &mut Connection<S>, key: &str) -> Result<Option<String>, Error>
     // A row of the table has the key and this body.
     ensures some { HasCleanDisk (state S.Store conn.new) → (state S.Store conn.old).now.schema ≡ entry_schema
@@ -103,6 +241,26 @@ pub fn get<S: Alter>(conn: &mut Connection<S>, key: &str) -> Result<Option<Strin
     // The database is as it was.
     ensures same { HasCleanDisk (state S.Store conn.new) → (state S.Store conn.old).now.schema ≡ entry_schema
         → OnOk result (IsUnchanged (state S.Store conn.old) (state S.Store conn.new)) }
+
+    // If it fails, a row has the key, or the database fails to query.
+    ensures cause { HasCleanDisk (state S.Store conn.new) → (state S.Store conn.old).now.schema ≡ entry_schema
+        → IfErr result (λ error. HasKey (state S.Store conn.old).now key.now
+        ⊎ FailsToQuery get_text (Text key.now ∷ []) (state S.Store conn.old) (state S.Store conn.new) error) }
+    ensures missing { result ≡ Err QueryReturnedNoRows → ⊥ }
+
+    // If it fails, the connection is as it was, or its transaction is rolled back.
+    ensures aborts { HasCleanDisk (state S.Store conn.new) → (state S.Store conn.old).now.schema ≡ entry_schema
+        → OnErr result (Aborts (state S.Store conn.old) (state S.Store conn.new)) }
+
+    // A connection that serves a store goes on, and one that was shut runs no query.
+    ensures serving { HasCleanDisk (state S.Store conn.new) → IsServing (state S.Store conn.old)
+        → IsServing (state S.Store conn.new) }
+    ensures live { HasCleanDisk (state S.Store conn.new) → IsServing (state S.Store conn.old)
+        → OnOk result (IsTrue (state S.Store conn.old).is_open) }
+
+    // Whatever it returns, the rows are as they were.
+    ensures kept { HasCleanDisk (state S.Store conn.new) → IsServing (state S.Store conn.old)
+        → Keeps (state S.Store conn.old) (state S.Store conn.new) }
     ensures clean { HasCleanDisk (state S.Store conn.new) → HasCleanDisk (state S.Store conn.old) }
 {
     match query_body(conn, key) {
@@ -112,7 +270,43 @@ pub fn get<S: Alter>(conn: &mut Connection<S>, key: &str) -> Result<Option<Strin
     }
 }
 
-/// Returns all keys with their bodies, in the byte order of the keys.
+/// Returns whether a row has the key, and reads no body. Returns the error of the database if it fails.
+pub fn has<S: Alter>(conn: &mut Connection<S>, key: &str) -> Result<bool, Error>
+    // It returns true exactly if a row has the key.
+    ensures found { HasCleanDisk (state S.Store conn.new) → (state S.Store conn.old).now.schema ≡ entry_schema
+        → IfOk result (λ found. IsTrue found ↔ HasKey (state S.Store conn.old).now key.now) }
+    ensures missing { result ≡ Err QueryReturnedNoRows → ⊥ }
+
+    // The database is as it was.
+    ensures same { HasCleanDisk (state S.Store conn.new) → (state S.Store conn.old).now.schema ≡ entry_schema
+        → OnOk result (IsUnchanged (state S.Store conn.old) (state S.Store conn.new)) }
+
+    // If it fails, the connection is as it was, or its transaction is rolled back.
+    ensures aborts { HasCleanDisk (state S.Store conn.new)
+        → OnErr result (Aborts (state S.Store conn.old) (state S.Store conn.new)) }
+
+    // A connection that serves a store goes on, and one that was shut runs no query.
+    ensures serving { HasCleanDisk (state S.Store conn.new) → IsServing (state S.Store conn.old)
+        → IsServing (state S.Store conn.new) }
+    ensures live { HasCleanDisk (state S.Store conn.new) → IsServing (state S.Store conn.old)
+        → OnOk result (IsTrue (state S.Store conn.old).is_open) }
+
+    // Whatever it returns, the rows are as they were.
+    ensures kept { HasCleanDisk (state S.Store conn.new) → IsServing (state S.Store conn.old)
+        → Keeps (state S.Store conn.old) (state S.Store conn.new) }
+    ensures clean { HasCleanDisk (state S.Store conn.new) → HasCleanDisk (state S.Store conn.old) }
+{
+    match query_key(conn, key) {
+        Ok(row) => {
+            drop(row);
+            Ok(true)
+        }
+        Err(Error::QueryReturnedNoRows) => Ok(false),
+        Err(error) => Err(error),
+    }
+}
+
+/// Returns all keys with their bodies, in the byte order of the keys. Returns the error of the database if it fails.
 pub fn each<S: Alter>(
     alloc: Global,
     conn: &mut Connection<S>,
@@ -124,6 +318,20 @@ pub fn each<S: Alter>(
     // The database is as it was.
     ensures same { HasCleanDisk (state S.Store conn.new) → (state S.Store conn.old).now.schema ≡ entry_schema
         → OnOk result (IsUnchanged (state S.Store conn.old) (state S.Store conn.new)) }
+
+    // If it fails, the connection is as it was, or its transaction is rolled back.
+    ensures aborts { HasCleanDisk (state S.Store conn.new) → (state S.Store conn.old).now.schema ≡ entry_schema
+        → OnErr result (Aborts (state S.Store conn.old) (state S.Store conn.new)) }
+
+    // A connection that serves a store goes on, and one that was shut runs no query.
+    ensures serving { HasCleanDisk (state S.Store conn.new) → IsServing (state S.Store conn.old)
+        → IsServing (state S.Store conn.new) }
+    ensures live { HasCleanDisk (state S.Store conn.new) → IsServing (state S.Store conn.old)
+        → OnOk result (IsTrue (state S.Store conn.old).is_open) }
+
+    // Whatever it returns, the rows are as they were.
+    ensures kept { HasCleanDisk (state S.Store conn.new) → IsServing (state S.Store conn.old)
+        → Keeps (state S.Store conn.old) (state S.Store conn.new) }
     ensures clean { HasCleanDisk (state S.Store conn.new) → HasCleanDisk (state S.Store conn.old) }
 {
     let rows = query_each(conn)?;

@@ -1,13 +1,14 @@
 //! Rows of values of your own types: the key and the body of a row are the canonical texts of two values.
-ghost use Rattle.std.specs.Prelude.{◌≡◌, ◌⊎◌, ℕ, List, false, IfOk, IfSome, OnOk, OnErr, Ok, Err, None};
+ghost use Rattle.std.specs.Prelude.{◌≡◌, ◌⊎◌, ◌↔◌, ℕ, List, false, IfOk, IfSome, OnOk, OnErr, Ok, Err, None, IsTrue};
 ghost use Rattle.std.specs.List.{AllZip};
 ghost use Rattle.miniserde.specs.declared.Error.TheVariants.{Invalid};
 ghost use Rattle.miniserde.specs.Value.{IsJson};
 ghost use Rattle.miniserde.specs.Normal.{norm};
 ghost use Rattle.sqlite.specs.Held.{state};
 ghost use Rattle.sqlite.specs.State.{HasCleanDisk, IsUnchanged};
-ghost use Rattle.rows.specs.Entries.{entry_schema, IsStore, IsPut, Holds, HasKey, AreEntries, IsCommitted, IsUndone};
-ghost use Rattle.rows.specs.declared.error.Error.TheVariants.{Json};
+ghost use Rattle.sqlite.specs.declared.error.Error.TheVariants.{QueryReturnedNoRows};
+ghost use Rattle.rows.specs.Entries.{entry_schema, IsStore, IsPut, IsRemoved, Holds, HasKey, AreEntries, IsCommitted, IsUndone, IsServing, Keeps};
+ghost use Rattle.rows.specs.declared.error.Error.TheVariants.{Database, Json};
 ghost use Rattle.rows.specs.Values.{canonical_text, IsReadFrom};
 
 use crate::error::Error;
@@ -41,6 +42,16 @@ pub fn put<S: Alter, K: Serialize, V: Serialize>(
     ensures undone { HasCleanDisk (state S.Store conn.new) → IsCommitted (state S.Store conn.old)
         → OnErr result (IsUndone (state S.Store conn.old) (state S.Store conn.new)) }
 
+    // A connection that serves a store goes on, and one that was shut runs no statement.
+    ensures serving { HasCleanDisk (state S.Store conn.new) → IsServing (state S.Store conn.old)
+        → IsServing (state S.Store conn.new) }
+    ensures live { HasCleanDisk (state S.Store conn.new) → IsServing (state S.Store conn.old)
+        → OnOk result (IsTrue (state S.Store conn.old).is_open) }
+
+    // If it fails, the rows are as they were.
+    ensures kept { HasCleanDisk (state S.Store conn.new) → IsServing (state S.Store conn.old)
+        → OnErr result (Keeps (state S.Store conn.old) (state S.Store conn.new)) }
+
     // It fails for the database or for memory alone.
     ensures valid { result ≡ Err (Json Invalid) → ⊥ }
 
@@ -53,6 +64,48 @@ pub fn put<S: Alter, K: Serialize, V: Serialize>(
     let body = canonical_of(alloc, value)?;
     texts::put(conn, key.as_str(), body.as_str())?;
     Ok(())
+}
+
+/// Removes the row of a key, and returns whether there was one. Returns `Database` if the database fails, and `Json` if an
+/// allocation fails.
+pub fn remove<S: Alter, K: Serialize>(
+    alloc: Global,
+    conn: &mut Connection<S>,
+    key: &K,
+) -> Result<bool, Error>
+    // It returns true exactly if a row had the canonical text of the key.
+    ensures found { HasCleanDisk (state S.Store conn.new) → IsStore (state S.Store conn.old).now
+        → IfOk result (λ found. IsTrue found ↔ HasKey (state S.Store conn.old).now (canonical_text (K.tree key.now))) }
+
+    // No row has it. Other keys keep their bodies.
+    ensures removed { HasCleanDisk (state S.Store conn.new) → IsStore (state S.Store conn.old).now
+        → OnOk result (IsRemoved (state S.Store conn.old).now (state S.Store conn.new).now (canonical_text (K.tree key.now))) }
+
+    // Outside of a transaction that is committed.
+    ensures committed { HasCleanDisk (state S.Store conn.new) → IsStore (state S.Store conn.old).now
+        → (state S.Store conn.old).in_transaction ≡ false → OnOk result (IsCommitted (state S.Store conn.new)) }
+
+    // If it fails there, the rows are as they were.
+    ensures undone { HasCleanDisk (state S.Store conn.new) → IsCommitted (state S.Store conn.old)
+        → OnErr result (IsUndone (state S.Store conn.old) (state S.Store conn.new)) }
+
+    // A connection that serves a store goes on, and one that was shut runs no statement.
+    ensures serving { HasCleanDisk (state S.Store conn.new) → IsServing (state S.Store conn.old)
+        → IsServing (state S.Store conn.new) }
+    ensures live { HasCleanDisk (state S.Store conn.new) → IsServing (state S.Store conn.old)
+        → OnOk result (IsTrue (state S.Store conn.old).is_open) }
+
+    // If it fails, the rows are as they were.
+    ensures kept { HasCleanDisk (state S.Store conn.new) → IsServing (state S.Store conn.old)
+        → OnErr result (Keeps (state S.Store conn.old) (state S.Store conn.new)) }
+
+    // It fails for the database or for memory alone.
+    ensures valid { result ≡ Err (Json Invalid) → ⊥ }
+    ensures clean { HasCleanDisk (state S.Store conn.new) → HasCleanDisk (state S.Store conn.old) }
+{
+    let key = canonical_of(alloc, key)?;
+    let found = texts::remove(conn, key.as_str())?;
+    Ok(found)
 }
 
 /// Returns the value that a stored text means. Returns `Invalid` if it means none, and `Memory` if an allocation fails.
@@ -95,6 +148,24 @@ pub fn get<S: Alter, K: Serialize, V: Stable + Lossless>(
     // The database is as it was.
     ensures same { HasCleanDisk (state S.Store conn.new) → (state S.Store conn.old).now.schema ≡ entry_schema
         → OnOk result (IsUnchanged (state S.Store conn.old) (state S.Store conn.new)) }
+
+    // If a text means no value, or an allocation fails, the database is as it was too.
+    ensures unread { HasCleanDisk (state S.Store conn.new) → (state S.Store conn.old).now.schema ≡ entry_schema
+        → IsTrue (state S.Store conn.old).is_open → (error : _) → result ≡ Err (Json error)
+        → IsUnchanged (state S.Store conn.old) (state S.Store conn.new) }
+
+    // A missing key is no error.
+    ensures missing { result ≡ Err (Database QueryReturnedNoRows) → ⊥ }
+
+    // A connection that serves a store goes on, and one that was shut runs no query.
+    ensures serving { HasCleanDisk (state S.Store conn.new) → IsServing (state S.Store conn.old)
+        → IsServing (state S.Store conn.new) }
+    ensures live { HasCleanDisk (state S.Store conn.new) → IsServing (state S.Store conn.old)
+        → OnOk result (IsTrue (state S.Store conn.old).is_open) }
+
+    // Whatever it returns, the rows are as they were.
+    ensures kept { HasCleanDisk (state S.Store conn.new) → IsServing (state S.Store conn.old)
+        → Keeps (state S.Store conn.old) (state S.Store conn.new) }
     ensures clean { HasCleanDisk (state S.Store conn.new) → HasCleanDisk (state S.Store conn.old) }
 {
     let key = canonical_of(alloc, key)?;
@@ -105,6 +176,41 @@ pub fn get<S: Alter, K: Serialize, V: Stable + Lossless>(
         }
         None => Ok(None),
     }
+}
+
+/// Returns whether a row has the key, and reads no body. Returns `Database` if the database fails, and `Json` if an
+/// allocation fails.
+pub fn has<S: Alter, K: Serialize>(
+    alloc: Global,
+    conn: &mut Connection<S>,
+    key: &K,
+) -> Result<bool, Error>
+    // It returns true exactly if a row has the canonical text of the key.
+    ensures found { HasCleanDisk (state S.Store conn.new) → (state S.Store conn.old).now.schema ≡ entry_schema
+        → IfOk result (λ found. IsTrue found ↔ HasKey (state S.Store conn.old).now (canonical_text (K.tree key.now))) }
+    ensures missing { result ≡ Err (Database QueryReturnedNoRows) → ⊥ }
+
+    // The database is as it was.
+    ensures same { HasCleanDisk (state S.Store conn.new) → (state S.Store conn.old).now.schema ≡ entry_schema
+        → OnOk result (IsUnchanged (state S.Store conn.old) (state S.Store conn.new)) }
+
+    // A connection that serves a store goes on, and one that was shut runs no query.
+    ensures serving { HasCleanDisk (state S.Store conn.new) → IsServing (state S.Store conn.old)
+        → IsServing (state S.Store conn.new) }
+    ensures live { HasCleanDisk (state S.Store conn.new) → IsServing (state S.Store conn.old)
+        → OnOk result (IsTrue (state S.Store conn.old).is_open) }
+
+    // Whatever it returns, the rows are as they were.
+    ensures kept { HasCleanDisk (state S.Store conn.new) → IsServing (state S.Store conn.old)
+        → Keeps (state S.Store conn.old) (state S.Store conn.new) }
+
+    // It fails for the database or for memory alone.
+    ensures valid { result ≡ Err (Json Invalid) → ⊥ }
+    ensures clean { HasCleanDisk (state S.Store conn.new) → HasCleanDisk (state S.Store conn.old) }
+{
+    let key = canonical_of(alloc, key)?;
+    let found = texts::has(conn, key.as_str())?;
+    Ok(found)
 }
 
 /// Puts a value under a key, and reads it back from the database. Returns `Database` if the database fails, and `Json`
@@ -130,6 +236,10 @@ pub fn put_and_get<S: Alter, K: Serialize, V: Stable + Lossless>(
     // It fails for the database or for memory alone.
     ensures valid { HasCleanDisk (state S.Store conn.new) → IsStore (state S.Store conn.old).now
         → result ≡ Err (Json Invalid) → ⊥ }
+
+    // A connection that serves a store goes on.
+    ensures serving { HasCleanDisk (state S.Store conn.new) → IsServing (state S.Store conn.old)
+        → IsServing (state S.Store conn.new) }
     ensures clean { HasCleanDisk (state S.Store conn.new) → HasCleanDisk (state S.Store conn.old) }
 {
     value.ranged();
@@ -158,6 +268,21 @@ pub fn each<S: Alter, K: Stable + Lossless, V: Stable + Lossless>(
     // The database is as it was.
     ensures same { HasCleanDisk (state S.Store conn.new) → (state S.Store conn.old).now.schema ≡ entry_schema
         → OnOk result (IsUnchanged (state S.Store conn.old) (state S.Store conn.new)) }
+
+    // If a text means no value, or an allocation fails, the database is as it was too.
+    ensures unread { HasCleanDisk (state S.Store conn.new) → (state S.Store conn.old).now.schema ≡ entry_schema
+        → IsTrue (state S.Store conn.old).is_open → (error : _) → result ≡ Err (Json error)
+        → IsUnchanged (state S.Store conn.old) (state S.Store conn.new) }
+
+    // A connection that serves a store goes on, and one that was shut runs no query.
+    ensures serving { HasCleanDisk (state S.Store conn.new) → IsServing (state S.Store conn.old)
+        → IsServing (state S.Store conn.new) }
+    ensures live { HasCleanDisk (state S.Store conn.new) → IsServing (state S.Store conn.old)
+        → OnOk result (IsTrue (state S.Store conn.old).is_open) }
+
+    // Whatever it returns, the rows are as they were.
+    ensures kept { HasCleanDisk (state S.Store conn.new) → IsServing (state S.Store conn.old)
+        → Keeps (state S.Store conn.old) (state S.Store conn.new) }
     ensures clean { HasCleanDisk (state S.Store conn.new) → HasCleanDisk (state S.Store conn.old) }
 {
     let rows = texts::each(alloc, conn)?;

@@ -4,6 +4,7 @@ use Rattle.std.proofs.lemmas.Result.{err_from_is_err_and}
 use Rattle.sqlite.specs.Held.{state}
 use Rattle.rows.specs.Entries.{Holds}
 use Rattle.rows.proofs.Errors.{json_error}
+use Rattle.rows.proofs.Serving.{unmoved}
 use Rattle.rows.proofs.values.get.Goals as goal
 
 pub returns-in-Some-clause-some : goal.returns-in-Some-clause-some
@@ -25,3 +26,6 @@ returns-in_err-value-in-Some-clause-invalid g c clean has wrong =
       subst (λ k. Holds (state g.S.Store c.args.conn.now).now k body) (c.as_str.ensures.value ∙ c.in_ok-key.ensures.ok) held,
       rw c.as_str-in-Some.ensures.value at (c.in_err-value-in-Some.ensures.invalid (ap Err known)),
     )
+
+pub returns-in_err-key-clause-unread : goal.returns-in_err-key-clause-unread
+returns-in_err-key-clause-unread g c clean has live error is = unmoved (state g.S.Store c.args.conn.now) live

@@ -1,0 +1,4 @@
+mod Steps
+mod MapLemmas
+mod ChainLemmas
+mod LastLemmas

@@ -1,0 +1,161 @@
+-- Each response of the store is one of a map that has its rows.
+use Rattle.std.proofs.Common.{◌≡◌, ◌≢◌, ◌⊎◌, ◌↔◌, inl, inr, ℕ, List, Bool, true, false, if◌then◌else◌, Option, Some, None, is_some, IsTrue}
+use Rattle.std.proofs.Common.{refl, sym, ap, subst, ◌∙◌, true≢false}
+use Rattle.std.specs.Prelude.{bytes_eq}
+use Rattle.std.proofs.lemmas.Slice.Eq.{bytes_eq-Decides}
+use Rattle.http.specs.declared.request.Request.{Request as HttpRequest}
+use Rattle.http.specs.Request.{body_of}
+use Rattle.http_header.specs.FieldValue.{FieldValue}
+use Rattle.http_header.specs.HeaderMap.{Entries}
+use Rattle.http_server.specs.declared.response.Response.{Response}
+use Rattle.miniserde.specs.Tree.{Tree}
+use Rattle.miniserde.specs.Meaning.{Meaning}
+use Rattle.sqlite.specs.declared.types.Value.TheVariants.{Text}
+use Rattle.sqlite.specs.State.{State}
+use Rattle.rows.specs.Entries.{Holds, HasKey, IsPut, IsRemoved, IsServing, Keeps, key_of}
+use Rattle.store.specs.declared.conditions.Condition.TheVariants.{Met}
+use Rattle.store.specs.Routes.{headers_of}
+use Rattle.store.specs.Answered.{IsTextOf, MeansNoValue, IsStatus, IsCurrent, condition_on, Shows, Reads, PutsOver, Puts}
+use Rattle.store.specs.Answered.{RemovesOver, Removes, AnsweredAt, Answered}
+use Rattle.store.specs.Maps.{Map, with_text, without_key, ReadsMap, PutsMap, RemovesMap, AnsweredAtMap, AnsweredMap, Represents}
+
+some_same : {a b : List ℕ} → ◌≡◌ {A = Option (List ℕ)} (Some a) (Some b) → a ≡ b
+some_same e = cc
+
+apart_by : (a b : List ℕ) → bytes_eq a b ≡ false → a ≡ b → ⊥
+apart_by a b e same = true≢false (sym ((bytes_eq-Decides a b).1 same) ∙ e)
+
+-- what a response leads to
+abbrev pub Leads : State → (Map → Type 0) → Type 0
+Leads new Answer = (after : Map) × Answer after × Represents new after
+
+module _ (old new : State) (m : Map) (r : Represents old m) (serving : IsServing new) where
+  pub kept_represents : Keeps old new → Represents new m
+  kept_represents kept = (
+    serving,
+    λ live k b.
+        let was = kept live in
+        subst (λ db. Holds db k b ↔ (m k ≡ Some b)) (sym was.1) (r.1 was.0 k b),
+  )
+
+  put_represents : (key text : List ℕ) → IsTrue old.is_open → IsPut old.now new.now key text → Represents new (with_text m key text)
+  put_represents key text live p = (serving, λ _ k b. entry k b (bytes_eq k key) refl)
+    where
+      entry : (k b : List ℕ) (v : Bool) → bytes_eq k key ≡ v → Holds new.now k b ↔ ((if v then Some text else m k) ≡ Some b)
+      entry k b true e =
+          let same : k ≡ key = (bytes_eq-Decides k key).0 e in (
+            λ h. ap Some (sym (p.only b (subst (λ x. Holds new.now x b) same h))),
+            λ is. subst (λ x. Holds new.now x b) (sym same) (subst (λ t. Holds new.now key t) (some_same is) p.here),
+          )
+      entry k b false e =
+          let o = p.others k b (apart_by k key e) in
+          let was = r.1 live k b in (
+            λ h. was.0 (o.0 h),
+            λ is. o.1 (was.1 is),
+          )
+
+  removed_represents : (key : List ℕ) → IsTrue old.is_open → IsRemoved old.now new.now key → Represents new (without_key m key)
+  removed_represents key live p = (serving, λ _ k b. entry k b (bytes_eq k key) refl)
+    where
+      entry : (k b : List ℕ) (v : Bool) → bytes_eq k key ≡ v → Holds new.now k b ↔ ((if v then None else m k) ≡ Some b)
+      entry k b true e =
+          let same : k ≡ key = (bytes_eq-Decides k key).0 e in (
+            λ h. absurd (p.gone (h.0, h.1, subst (λ x. key_of h.0 ≡ Text x) same h.2)),
+            λ is. absurd (true≢false (sym (ap is_some is))),
+          )
+      entry k b false e =
+          let o = p.others k b (apart_by k key e) in
+          let was = r.1 live k b in (
+            λ h. was.0 (o.0 h),
+            λ is. o.1 (was.1 is),
+          )
+
+  none_at : (key : List ℕ) → IsTrue old.is_open → (HasKey old.now key → ⊥) → m key ≡ None
+  none_at key live lacks = by (m key) refl
+    where
+      by : (o : Option (List ℕ)) → m key ≡ o → o ≡ None
+      by None e = refl
+      by (Some text) e = let h = (r.1 live key text).1 e in absurd (lacks (h.0, h.1, h.2))
+
+  some_at : (key text : List ℕ) → IsTrue old.is_open → Holds old.now key text → m key ≡ Some text
+  some_at key text live h = (r.1 live key text).0 h
+
+  -- what the key has in the map
+  current_at : (key : List ℕ) (current : Option (List ℕ)) → IsTrue old.is_open → IsCurrent old.now key current → m key ≡ current
+  current_at key None live lacks = none_at key live lacks
+  current_at key (Some text) live held = some_at key text live held
+
+  module _ (headers : Entries FieldValue) (key : List ℕ) (response : Response) where
+    reads_map : Reads old headers key response new → Leads new (ReadsMap m headers key response)
+    reads_map (kept, inl (live, current, is, shown)) =
+        (m, (refl, inl (subst (λ o. Shows headers o response) (sym (current_at key current live is)) shown)), kept_represents kept)
+    reads_map (kept, inr failed) = (m, (refl, inr failed), kept_represents kept)
+
+    -- a removal of what the map has there
+    abbrev At : Option (List ℕ) → Map → Type 0
+    At o after =
+        (IsTrue (is_some o) × (condition_on headers o ≡ Met) × (after ≡ without_key m key) × IsStatus 204 response)
+        ⊎ ((after ≡ m) × (((o ≡ None) × IsStatus 404 response)
+        ⊎ ((IsTrue (is_some o) × (condition_on headers o ≢ Met) × IsStatus 412 response) ⊎ IsStatus 503 response)))
+
+    removes_at : (current : Option (List ℕ)) → RemovesOver old headers key current response new → Leads new (At current)
+    removes_at None (kept, status) = (m, inr (refl, inl (refl, status)), kept_represents kept)
+    removes_at (Some text) (inl (met, inl (live, removed, status))) =
+        (without_key m key, inl (refl, met, refl, status), removed_represents key live removed)
+    removes_at (Some text) (inl (met, inr (kept, failed))) = (m, inr (refl, inr (inr failed)), kept_represents kept)
+    removes_at (Some text) (inr (kept, inl (unmet, status))) =
+        (m, inr (refl, inr (inl (refl, unmet, status))), kept_represents kept)
+    removes_at (Some text) (inr (kept, inr failed)) = (m, inr (refl, inr (inr failed)), kept_represents kept)
+
+    removes_map : Removes old headers key response new → Leads new (RemovesMap m headers key response)
+    removes_map (inl (live, current, is, removes)) =
+        let it = removes_at current removes in
+        (it.0, subst (λ o. At o it.0) (sym (current_at key current live is)) it.1, it.2)
+    removes_map (inr (kept, failed)) = (m, inr (refl, inr (inr failed)), kept_represents kept)
+
+  module _ {V : Type 0} (means : Meaning V) (tree : V → Tree) where
+    module _ (headers : Entries FieldValue) (key body : List ℕ) (response : Response) where
+      -- a put over what the map has there
+      abbrev ValueAt : Option (List ℕ) → Map → Type 0
+      ValueAt o after =
+          ((text : List ℕ) × IsTextOf means tree body text × (after ≡ with_text m key text)
+          × IsStatus (if is_some o then 204 else 201) response)
+          ⊎ ((after ≡ m) × ((MeansNoValue means body × IsStatus 400 response) ⊎ IsStatus 503 response))
+
+      abbrev OverAt : Option (List ℕ) → Map → Type 0
+      OverAt o after =
+          ((condition_on headers o ≡ Met) × ValueAt o after)
+          ⊎ ((after ≡ m) × (((condition_on headers o ≢ Met) × IsStatus 412 response) ⊎ IsStatus 503 response))
+
+      puts_at : (current : Option (List ℕ)) → PutsOver means tree old headers key current body response new → Leads new (OverAt current)
+      puts_at current (inl (met, inl (live, text, of, put, status))) =
+          (with_text m key text, inl (met, inl (text, of, refl, status)), put_represents key text live put)
+      puts_at current (inl (met, inr (kept, why))) = (m, inl (met, inr (refl, why)), kept_represents kept)
+      puts_at current (inr (kept, why)) = (m, inr (refl, why), kept_represents kept)
+
+      puts_map : Puts means tree old headers key body response new → Leads new (PutsMap means tree m headers key body response)
+      puts_map (inl (live, current, is, puts)) =
+          let it = puts_at current puts in
+          (it.0, subst (λ o. OverAt o it.0) (sym (current_at key current live is)) it.1, it.2)
+      puts_map (inr (kept, failed)) = (m, inr (refl, inr failed), kept_represents kept)
+
+    answered_at : (key : List ℕ) (request : HttpRequest (List ℕ)) (response : Response) → AnsweredAt means tree old key request response new
+        → Leads new (AnsweredAtMap means tree m key request response)
+    answered_at key request response (inl (is, reads)) =
+        let it = reads_map (headers_of request) key response reads in
+        (it.0, inl (is, it.1), it.2)
+    answered_at key request response (inr (inl (is, puts))) =
+        let it = puts_map (headers_of request) key (body_of request) response puts in
+        (it.0, inr (inl (is, it.1)), it.2)
+    answered_at key request response (inr (inr (inl (is, removes)))) =
+        let it = removes_map (headers_of request) key response removes in
+        (it.0, inr (inr (inl (is, it.1))), it.2)
+    answered_at key request response (inr (inr (inr (is, kept, sent)))) =
+        (m, inr (inr (inr (is, refl, sent))), kept_represents kept)
+
+    pub answered_map : (request : HttpRequest (List ℕ)) (response : Response) → Answered means tree old request response new
+        → Leads new (AnsweredMap means tree m request response)
+    answered_map request response (inl (key, is, answer)) =
+        let it = answered_at key request response answer in
+        (it.0, inl (key, is, it.1), it.2)
+    answered_map request response (inr (none, kept, sent)) = (m, inr (none, refl, sent), kept_represents kept)

@@ -1,0 +1,69 @@
+-- The path is that of an entry or not, and the method says what is done with it.
+use Rattle.std.proofs.Common.{◌≡◌, Ok, inl, inr, string_bytes, refl, sym, ap, subst, ◌∙◌}
+use Rattle.http.specs.Request.{body_of}
+use Rattle.http_uri.specs.Uri.{uri_path}
+use Rattle.sqlite.specs.Held.{state}
+use Rattle.store.specs.Routes.{IsEntry, IsRead, path_of, method_of, put_method, delete_method}
+use Rattle.store.specs.Answered.{Answered, Reads, Puts, Removes}
+use Rattle.store.proofs.Steps.{stays, so, keeps_self}
+use Rattle.store.proofs.service.StoreServiceService.call.Goals.{in-Read, in-Put, in-Delete}
+use Rattle.store.proofs.service.StoreServiceService.call.Goals as goal
+
+pub returns-in_default-clause-ok : goal.returns-in_default-clause-ok
+returns-in_default-clause-ok g c =
+    let s = state g.S.Store c.args.self.now in
+    let path : c.path.result.now ≡ path_of c.args.request.now = c.path.ensures.value ∙ ap uri_path c.uri.ensures in
+    stays s _ (inr (
+      λ key is. c.entry_key.ensures.none (c.in_ok-key.was ∙ ap Ok c.in_default.is) key (subst (λ p. IsEntry p key) (sym path) is),
+      keeps_self s,
+      record { status = refl; headers = c.requires.headers; body = c.requires.body },
+    ))
+
+pub returns-clause-ok : goal.returns-clause-ok
+returns-clause-ok g c =
+    let old = state g.S.Store c.self.inside.conn in
+    let request = c.args.request.now in
+    let means = g.V.FromJson.means in
+    let tree = g.V.Serialize.tree in
+    let path : c.path.result.now ≡ path_of request = c.path.ensures.value ∙ ap uri_path c.uri.ensures in
+    let there : IsEntry c.path.result.now (string_bytes c.in-Some.key) = rw c.in-Some.is at c.in_ok-key.ensures.some in
+    let entry : IsEntry (path_of request) (string_bytes c.in-Some.key) = subst (λ p. IsEntry p (string_bytes c.in-Some.key)) path there in
+    elim c.match-verb_of.branch [
+      | in-Read w ↦
+          let key = w.as_str.result.now in
+          let new = state g.S.Store w.read.new.conn in
+          let at : IsEntry (path_of request) key = subst (IsEntry (path_of request)) (sym w.as_str.ensures.value) entry in
+          let is : IsRead (method_of request) = subst IsRead c.method.ensures (c.verb_of.ensures.read w.in-Read.is) in
+          rw (w.self-is, w.response-is, ← c.self.view_is)
+          (so old new (Reads old w.headers.result.now key w.read.new.response new) (Answered means tree old request w.read.new.response new)
+          (λ p. inl (key, at, inl (is, subst (λ h. Reads old h key w.read.new.response new) w.headers.ensures p))) w.read.ensures)
+      | in-Put w ↦
+          let key = w.as_str-in-Put.result.now in
+          let new = state g.S.Store w.put.new.conn in
+          let at : IsEntry (path_of request) key = subst (IsEntry (path_of request)) (sym w.as_str-in-Put.ensures.value) entry in
+          let is : method_of request ≡ put_method = sym c.method.ensures ∙ c.verb_of.ensures.put w.in-Put.is in
+          let body : w.as_slice.result.now ≡ body_of request = w.as_slice.ensures ∙ w.body.ensures in
+          rw (w.self-is, w.response-is, ← c.self.view_is)
+          (so old new (Puts means tree old w.headers-in-Put.result.now key w.as_slice.result.now w.put.new.response new)
+          (Answered means tree old request w.put.new.response new)
+          (λ p. inl (
+            key,
+            at,
+            inr (inl (
+              is,
+              subst (λ h. Puts means tree old h key (body_of request) w.put.new.response new)
+                  w.headers-in-Put.ensures
+                  (subst (λ b. Puts means tree old w.headers-in-Put.result.now key b w.put.new.response new) body p),
+            )),
+          )) w.put.ensures)
+      | in-Delete w ↦
+          let key = w.as_str-in-Delete.result.now in
+          let new = state g.S.Store w.remove.new.conn in
+          let at : IsEntry (path_of request) key = subst (IsEntry (path_of request)) (sym w.as_str-in-Delete.ensures.value) entry in
+          let is : method_of request ≡ delete_method = sym c.method.ensures ∙ c.verb_of.ensures.delete w.in-Delete.is in
+          rw (w.self-is, w.response-is, ← c.self.view_is)
+          (so old new (Removes old w.headers-in-Delete.result.now key w.remove.new.response new)
+          (Answered means tree old request w.remove.new.response new)
+          (λ p. inl (key, at, inr (inr (inl (is, subst (λ h. Removes old h key w.remove.new.response new) w.headers-in-Delete.ensures p)))))
+          w.remove.ensures)
+    ]

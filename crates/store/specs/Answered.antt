@@ -1,0 +1,149 @@
+-- What the store answers to a request, and what becomes of its rows.
+use Rattle.std.specs.Prelude.{◌≡◌, ◌≢◌, ◌⊎◌, ℕ, List, [], ◌∷◌, ◌++◌, Option, Some, None, is_some, option_map, if◌then◌else◌, codes, IsTrue}
+use Rattle.sha2.specs.Sha256.{sha256}
+use Rattle.hex.specs.Hex.{encode_lower}
+use Rattle.http.specs.declared.request.Request.{Request as HttpRequest}
+use Rattle.http.specs.Request.{body_of}
+use Rattle.http_header.specs.FieldValue.{FieldValue}
+use Rattle.http_header.specs.HeaderMap.{Entries}
+use Rattle.http1.specs.Fields.{Header}
+use Rattle.http_server.specs.declared.response.Response.{Response}
+use Rattle.http_server.specs.Response.{IsResponse}
+use Rattle.miniserde.specs.Tree.{Tree}
+use Rattle.miniserde.specs.Value.{IsJson}
+use Rattle.miniserde.specs.Meaning.{Meaning}
+use Rattle.sqlite.specs.Effect.{Database}
+use Rattle.sqlite.specs.State.{State, HasCleanDisk}
+use Rattle.rows.specs.Entries.{Holds, HasKey, IsPut, IsRemoved, IsServing, Keeps}
+use Rattle.rows.specs.Values.{canonical_text}
+use Rattle.store.specs.declared.conditions.Condition.{Condition}
+use Rattle.store.specs.declared.conditions.Condition.TheVariants.{Met, Failed, Cached}
+use Rattle.store.specs.Conditions.{condition_at}
+use Rattle.store.specs.Routes.{IsEntry, IsRead, IsOther, path_of, method_of, headers_of, put_method, delete_method}
+
+-- the field that says that a body is JSON
+abbrev pub json_field : Header
+json_field = (codes "content-type", codes "application/json")
+
+-- the mark of a quotation
+abbrev pub quote : ℕ
+quote = 34
+
+-- the strong entity tag of a text: its SHA-256 in hex, in quotes
+abbrev pub tag_of : List ℕ → List ℕ
+tag_of text = quote ∷ (encode_lower (sha256 text) ++ quote ∷ [])
+
+-- the fields of a response that shows a text
+abbrev pub shown_fields : List ℕ → List Header
+shown_fields text = json_field ∷ (codes "etag", tag_of text) ∷ []
+
+-- the field that says by which methods an entry is requested
+abbrev pub allow_field : Header
+allow_field = (codes "allow", codes "GET, HEAD, PUT, DELETE")
+
+-- the body means a value whose canonical text is this
+abbrev pub IsTextOf : {V : Type 0} → Meaning V → (V → Tree) → List ℕ → List ℕ → Type 0
+IsTextOf {V} means tree body text = (t : Tree) × (v : V) × IsJson body t × means.reads t v × (text ≡ canonical_text (tree v))
+
+-- the body means no value
+abbrev pub MeansNoValue : {V : Type 0} → Meaning V → List ℕ → Type 0
+MeansNoValue {V} means body = (t : Tree) → IsJson body t → (v : V) → means.reads t v → ⊥
+
+-- the response is empty and has this status
+abbrev pub IsStatus : ℕ → Response → Type 0
+IsStatus code response = IsResponse code [] [] response
+
+-- the field that has the tag of a text
+abbrev pub etag_field : List ℕ → Header
+etag_field text = (codes "etag", tag_of text)
+
+-- what the conditions of a request say of the text of a key, if it has one
+abbrev pub condition_on : Entries FieldValue → Option (List ℕ) → Condition
+condition_on headers current = condition_at headers (option_map tag_of current)
+
+-- The response to a read of a text: 200 with the text, 304 with its tag if the client has it, or 412 if the client does not
+-- want it (RFC 9110, sections 13.1.1, 13.1.2 and 15.4.5).
+abbrev pub ShownBy : Condition → List ℕ → Response → Type 0
+ShownBy Met text response = IsResponse 200 (shown_fields text) text response
+ShownBy Cached text response = IsResponse 304 (etag_field text ∷ []) [] response
+ShownBy Failed text response = IsStatus 412 response
+
+-- the response to a read of a key. 404: it has no text, whatever the conditions are (section 13.2.1).
+abbrev pub Shows : Entries FieldValue → Option (List ℕ) → Response → Type 0
+Shows headers None response = IsStatus 404 response
+Shows headers (Some text) response = ShownBy (condition_on headers (Some text)) text response
+
+-- the body of the key's row, if there is one
+abbrev pub IsCurrent : Database → List ℕ → Option (List ℕ) → Type 0
+IsCurrent db key None = HasKey db key → ⊥
+IsCurrent db key (Some text) = Holds db key text
+
+-- the response to a read. 503: the database failed, or an allocation. Reads change no row.
+abbrev pub Reads : State → Entries FieldValue → List ℕ → Response → State → Type 0
+Reads old headers key response new =
+    Keeps old new × ((IsTrue old.is_open × (current : Option (List ℕ)) × IsCurrent old.now key current × Shows headers current response)
+    ⊎ IsStatus 503 response)
+
+-- what becomes of a text that is put under a key, with this status if it is
+abbrev pub PutsAs : State → List ℕ → List ℕ → ℕ → Response → State → Type 0
+PutsAs old key text code response new =
+    (IsTrue old.is_open × IsPut old.now new.now key text × IsStatus code response) ⊎ (Keeps old new × IsStatus 503 response)
+
+-- what becomes of the row of a key that is removed
+abbrev pub Takes : State → List ℕ → Response → State → Type 0
+Takes old key response new =
+    (IsTrue old.is_open × IsRemoved old.now new.now key × IsStatus 204 response) ⊎ (Keeps old new × IsStatus 503 response)
+
+-- The body means a value, and its canonical text is put under the key, with this status if it is. 400: the body means no
+-- value. 503: the database failed, or an allocation.
+abbrev pub PutsValue : {V : Type 0} → Meaning V → (V → Tree) → State → List ℕ → List ℕ → ℕ → Response → State → Type 0
+PutsValue means tree old key body code response new =
+    (IsTrue old.is_open × (text : List ℕ) × IsTextOf means tree body text × IsPut old.now new.now key text × IsStatus code response)
+    ⊎ (Keeps old new × ((MeansNoValue means body × IsStatus 400 response) ⊎ IsStatus 503 response))
+
+-- A put over what the key has. 201: nothing. 204: a text. 412: the conditions do not hold (sections 13.1.1 and 13.1.2).
+abbrev pub PutsOver : {V : Type 0} → Meaning V → (V → Tree) → State → Entries FieldValue → List ℕ → Option (List ℕ) → List ℕ → Response
+    → State → Type 0
+PutsOver means tree old headers key current body response new =
+    ((condition_on headers current ≡ Met) × PutsValue means tree old key body (if is_some current then 204 else 201) response new)
+    ⊎ (Keeps old new × (((condition_on headers current ≢ Met) × IsStatus 412 response) ⊎ IsStatus 503 response))
+
+-- the response to a put
+abbrev pub Puts : {V : Type 0} → Meaning V → (V → Tree) → State → Entries FieldValue → List ℕ → List ℕ → Response → State → Type 0
+Puts means tree old headers key body response new =
+    (IsTrue old.is_open × (current : Option (List ℕ)) × IsCurrent old.now key current
+    × PutsOver means tree old headers key current body response new)
+    ⊎ (Keeps old new × IsStatus 503 response)
+
+-- a removal of what the key has. 204: no row has the key any more. 404: none had it. 412: the conditions do not hold.
+abbrev pub RemovesOver : State → Entries FieldValue → List ℕ → Option (List ℕ) → Response → State → Type 0
+RemovesOver old headers key None response new = Keeps old new × IsStatus 404 response
+RemovesOver old headers key (Some text) response new =
+    ((condition_on headers (Some text) ≡ Met) × Takes old key response new)
+    ⊎ (Keeps old new × (((condition_on headers (Some text) ≢ Met) × IsStatus 412 response) ⊎ IsStatus 503 response))
+
+-- the response to a removal
+abbrev pub Removes : State → Entries FieldValue → List ℕ → Response → State → Type 0
+Removes old headers key response new =
+    (IsTrue old.is_open × (current : Option (List ℕ)) × IsCurrent old.now key current
+    × RemovesOver old headers key current response new)
+    ⊎ (Keeps old new × IsStatus 503 response)
+
+-- the response to a request for an entry, by its method
+abbrev pub AnsweredAt : {V : Type 0} → Meaning V → (V → Tree) → State → List ℕ → HttpRequest (List ℕ) → Response → State → Type 0
+AnsweredAt means tree old key request response new =
+    (IsRead (method_of request) × Reads old (headers_of request) key response new)
+    ⊎ (((method_of request ≡ put_method) × Puts means tree old (headers_of request) key (body_of request) response new)
+    ⊎ (((method_of request ≡ delete_method) × Removes old (headers_of request) key response new)
+    ⊎ (IsOther (method_of request) × Keeps old new × IsResponse 405 (allow_field ∷ []) [] response)))
+
+-- the response to a request, and the states of the connection before and after it
+abbrev pub Answered : {V : Type 0} → Meaning V → (V → Tree) → State → HttpRequest (List ℕ) → Response → State → Type 0
+Answered means tree old request response new =
+    ((key : List ℕ) × IsEntry (path_of request) key × AnsweredAt means tree old key request response new)
+    ⊎ (((key : List ℕ) → IsEntry (path_of request) key → ⊥) × Keeps old new × IsStatus 404 response)
+
+-- A connection that serves a store goes on, by this step. What is said of values holds if the disk has returned what was
+-- written.
+abbrev pub Goes : State → State → Type 0 → Type 0
+Goes old new Step = HasCleanDisk new → HasCleanDisk old × (IsServing old → IsServing new × Step)

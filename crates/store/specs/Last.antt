@@ -1,0 +1,42 @@
+-- Which put a read shows, by the calls alone.
+use Rattle.std.specs.Prelude.{◌≡◌, ◌⊎◌, ℕ, List, ◌∷◌, ◌++◌, MatchOption}
+use Rattle.std.specs.List.{AllByRecursion}
+use Rattle.http.specs.Request.{body_of}
+use Rattle.http_server.specs.Exchange.{Call, Chain}
+use Rattle.miniserde.specs.Tree.{Tree}
+use Rattle.miniserde.specs.Meaning.{Meaning}
+use Rattle.store.specs.Routes.{IsEntry, path_of, method_of, put_method, delete_method}
+use Rattle.store.specs.Answered.{IsTextOf}
+use Rattle.store.specs.Maps.{Map, empty, AnsweredMap}
+
+-- a put or a removal of the key that was answered by success
+abbrev pub Changes : List ℕ → Call → Type 0
+Changes key c = IsEntry (path_of c.0) key × ((c.1.status ≡ 201) ⊎ (c.1.status ≡ 204))
+
+-- a put of a value of this canonical text under the key, answered by success
+abbrev pub IsPutOf : {V : Type 0} → Meaning V → (V → Tree) → List ℕ → List ℕ → Call → Type 0
+IsPutOf means tree key text c =
+    IsEntry (path_of c.0) key × (method_of c.0 ≡ put_method) × IsTextOf means tree (body_of c.0) text
+    × ((c.1.status ≡ 201) ⊎ (c.1.status ≡ 204))
+
+-- a removal of the key, answered by success
+abbrev pub IsRemovalOf : List ℕ → Call → Type 0
+IsRemovalOf key c = IsEntry (path_of c.0) key × (method_of c.0 ≡ delete_method) × (c.1.status ≡ 204)
+
+-- no call changed the key
+abbrev pub AreQuiet : List ℕ → List Call → Type 0
+AreQuiet key calls = AllByRecursion (λ c. Changes key c → ⊥) calls
+
+-- the last call that changed the key is such
+abbrev pub LastIs : (Call → Type 0) → List ℕ → List Call → Type 0
+LastIs P key calls = (before : List Call) × (c : Call) × (later : List Call) × (calls ≡ before ++ c ∷ later) × P c × AreQuiet key later
+
+-- no put of the key stands: none was made, or a removal came after the last one
+abbrev pub NoPutStands : List ℕ → List Call → Type 0
+NoPutStands key calls = AreQuiet key calls ⊎ LastIs (IsRemovalOf key) key calls
+
+-- After calls that begin with no entry, the text of a key is that of the value that was last put, and there is none only
+-- if no put stands.
+abbrev pub LastPutIsShown : {V : Type 0} → Meaning V → (V → Tree) → Type 0
+LastPutIsShown means tree = (calls : List Call) (m : Map) (key : List ℕ) → Chain (AnsweredMap means tree) empty calls m
+    → MatchOption (m key) (NoPutStands key calls) (λ text. LastIs (IsPutOf means tree key text) key calls)

@@ -1,0 +1,6 @@
+pub mod Routes
+pub mod Conditions
+pub mod Answered
+pub mod Maps
+pub mod Streams
+pub mod Last

@@ -1,0 +1,80 @@
+-- The store as a map from keys to texts.
+use Rattle.std.specs.Prelude.{◌≡◌, ◌≢◌, ◌⊎◌, ◌↔◌, ℕ, List, [], ◌∷◌, Option, Some, None, is_some, if◌then◌else◌, bytes_eq, IsTrue}
+use Rattle.http.specs.declared.request.Request.{Request as HttpRequest}
+use Rattle.http.specs.Request.{body_of}
+use Rattle.http_header.specs.FieldValue.{FieldValue}
+use Rattle.http_header.specs.HeaderMap.{Entries}
+use Rattle.http_server.specs.declared.response.Response.{Response}
+use Rattle.http_server.specs.Response.{IsResponse}
+use Rattle.miniserde.specs.Tree.{Tree}
+use Rattle.miniserde.specs.Meaning.{Meaning}
+use Rattle.sqlite.specs.Effect.{Database}
+use Rattle.sqlite.specs.State.{State}
+use Rattle.rows.specs.Entries.{Holds, IsServing}
+use Rattle.store.specs.declared.conditions.Condition.TheVariants.{Met}
+use Rattle.store.specs.Routes.{IsEntry, IsRead, IsOther, path_of, method_of, headers_of, put_method, delete_method}
+use Rattle.store.specs.Answered.{allow_field, IsTextOf, MeansNoValue, IsStatus, condition_on, Shows}
+
+-- the text of each key that has one
+abbrev pub Map : Type 0
+Map = List ℕ → Option (List ℕ)
+
+-- no key has a text
+abbrev pub empty : Map
+empty key = None
+
+-- the map with this text under this key
+abbrev pub with_text : Map → List ℕ → List ℕ → Map
+with_text m key text other = if bytes_eq other key then Some text else m other
+
+-- the map without the key
+abbrev pub without_key : Map → List ℕ → Map
+without_key m key other = if bytes_eq other key then None else m other
+
+-- A read shows the text of the key as the conditions of the request say, or that there is none. It may fail instead. It
+-- changes nothing.
+abbrev pub ReadsMap : Map → Entries FieldValue → List ℕ → Response → Map → Type 0
+ReadsMap m headers key response after = (after ≡ m) × (Shows headers (m key) response ⊎ IsStatus 503 response)
+
+-- the key gets the canonical text of the value that the body means, or nothing changes
+abbrev pub PutsValueMap : {V : Type 0} → Meaning V → (V → Tree) → Map → List ℕ → List ℕ → Response → Map → Type 0
+PutsValueMap means tree m key body response after =
+    ((text : List ℕ) × IsTextOf means tree body text × (after ≡ with_text m key text)
+    × IsStatus (if is_some (m key) then 204 else 201) response)
+    ⊎ ((after ≡ m) × ((MeansNoValue means body × IsStatus 400 response) ⊎ IsStatus 503 response))
+
+-- A put changes the map only if the conditions of the request hold for what the key has: with `If-Match`, for the text whose
+-- tag the client knows.
+abbrev pub PutsMap : {V : Type 0} → Meaning V → (V → Tree) → Map → Entries FieldValue → List ℕ → List ℕ → Response → Map → Type 0
+PutsMap means tree m headers key body response after =
+    ((condition_on headers (m key) ≡ Met) × PutsValueMap means tree m key body response after)
+    ⊎ ((after ≡ m) × (((condition_on headers (m key) ≢ Met) × IsStatus 412 response) ⊎ IsStatus 503 response))
+
+-- A removal takes the text of the key only if there is one and the conditions hold for it. Any other changes nothing.
+abbrev pub RemovesMap : Map → Entries FieldValue → List ℕ → Response → Map → Type 0
+RemovesMap m headers key response after =
+    (IsTrue (is_some (m key)) × (condition_on headers (m key) ≡ Met) × (after ≡ without_key m key) × IsStatus 204 response)
+    ⊎ ((after ≡ m) × (((m key ≡ None) × IsStatus 404 response)
+    ⊎ ((IsTrue (is_some (m key)) × (condition_on headers (m key) ≢ Met) × IsStatus 412 response) ⊎ IsStatus 503 response)))
+
+-- the response to a request for an entry, by its method
+abbrev pub AnsweredAtMap : {V : Type 0} → Meaning V → (V → Tree) → Map → List ℕ → HttpRequest (List ℕ) → Response → Map → Type 0
+AnsweredAtMap means tree m key request response after =
+    (IsRead (method_of request) × ReadsMap m (headers_of request) key response after)
+    ⊎ (((method_of request ≡ put_method) × PutsMap means tree m (headers_of request) key (body_of request) response after)
+    ⊎ (((method_of request ≡ delete_method) × RemovesMap m (headers_of request) key response after)
+    ⊎ (IsOther (method_of request) × (after ≡ m) × IsResponse 405 (allow_field ∷ []) [] response)))
+
+-- the response to a request, and the map after it
+abbrev pub AnsweredMap : {V : Type 0} → Meaning V → (V → Tree) → Map → HttpRequest (List ℕ) → Response → Map → Type 0
+AnsweredMap means tree m request response after =
+    ((key : List ℕ) × IsEntry (path_of request) key × AnsweredAtMap means tree m key request response after)
+    ⊎ (((key : List ℕ) → IsEntry (path_of request) key → ⊥) × (after ≡ m) × IsStatus 404 response)
+
+-- the rows of a database are the entries of the map
+abbrev pub IsMapOf : Database → Map → Type 0
+IsMapOf db m = (key text : List ℕ) → Holds db key text ↔ (m key ≡ Some text)
+
+-- the connection serves a store whose rows are the entries of the map, unless it is shut
+abbrev pub Represents : State → Map → Type 0
+Represents s m = IsServing s × (IsTrue s.is_open → IsMapOf s.now m)

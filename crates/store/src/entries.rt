@@ -1,0 +1,300 @@
+//! What a store does with one entry, and its response.
+ghost use Rattle.std.specs.Prelude.{◌≡◌, ◌⊎◌, [], ◌∷◌, IfOk, OnOk, Err, Some, None, string_bytes};
+ghost use Rattle.http_server.specs.Response.{IsBlank, IsResponse};
+ghost use Rattle.miniserde.specs.declared.Error.TheVariants.{Invalid};
+ghost use Rattle.sqlite.specs.Held.{state};
+ghost use Rattle.store.specs.Answered.{tag_of, shown_fields, etag_field, allow_field, condition_on, IsTextOf, MeansNoValue, Shows, IsStatus, Reads, PutsAs, PutsValue, PutsOver, Puts, Takes, RemovesOver, Removes, Goes};
+
+use crate::conditions::{Condition, allows_new, judge};
+use bytes::BufMut;
+use http::{HeaderMap, HeaderValue, StatusCode, header};
+use http_header::HeaderValueError;
+use http_server::Response;
+use miniserde::json::{canonical_of, from_slice};
+use miniserde::{Error, Lossless, Stable};
+use rows::texts;
+use sha2::{Digest, Sha256};
+use sqlite::{Alter, Connection};
+use std::alloc::{AllocError, Global};
+
+// Returns the strong entity tag of a text.
+fn entity_tag(alloc: Global, text: &str) -> Result<HeaderValue, HeaderValueError>
+    ensures { IfOk result (λ tag. tag.bytes ≡ tag_of text.now) }
+{
+    let digest = Sha256::digest(text.as_bytes());
+    let hex = hex::encode(alloc, digest.as_slice())?;
+    let mut tag = String::new(alloc);
+    tag.push_str("\"")?;
+    tag.push_str(hex.as_str())?;
+    tag.push_str("\"")?;
+    HeaderValue::from_string(tag)
+}
+
+// Returns what the conditions of a request say of an entry of this text.
+fn judged(alloc: Global, headers: &HeaderMap, text: &str) -> Result<Condition, HeaderValueError>
+    ensures { IfOk result (λ c. c ≡ condition_on headers.now (Some text.now)) }
+{
+    let tag = entity_tag(alloc, text)?;
+    Ok(judge(headers, tag.as_bytes()))
+}
+
+// Fills the response whose body is a JSON text.
+fn json_body(alloc: Global, text: &str, response: &mut Response) -> Result<(), HeaderValueError>
+    requires { IsBlank response.old }
+    ensures { OnOk result (IsResponse 200 (shown_fields text.now) text.now response.new) }
+{
+    let tag = entity_tag(alloc, text)?;
+    let value = HeaderValue::from_static("application/json");
+    response.add_header(header::CONTENT_TYPE, value)?;
+    response.add_header(header::ETAG, tag)?;
+    response.body.put_slice(text.as_bytes())?;
+    Ok(())
+}
+
+// Fills the response to a client that has the text (RFC 9110, section 15.4.5).
+fn not_modified(alloc: Global, text: &str, response: &mut Response) -> Result<(), HeaderValueError>
+    requires { IsBlank response.old }
+    ensures { OnOk result (IsResponse 304 (etag_field text.now ∷ []) [] response.new) }
+{
+    let tag = entity_tag(alloc, text)?;
+    response.status = StatusCode::NOT_MODIFIED;
+    response.add_header(header::ETAG, tag)?;
+    Ok(())
+}
+
+// Fills the response to a read of a text, as the conditions of the request say.
+fn fill(
+    alloc: Global,
+    headers: &HeaderMap,
+    text: &str,
+    response: &mut Response,
+) -> Result<(), HeaderValueError>
+    requires { IsBlank response.old }
+    ensures { OnOk result (Shows headers.now (Some text.now) response.new) }
+{
+    match judged(alloc, headers, text)? {
+        Condition::Met => json_body(alloc, text, response)?,
+        Condition::Cached => not_modified(alloc, text, response)?,
+        Condition::Failed => response.status = StatusCode::PRECONDITION_FAILED,
+    }
+    Ok(())
+}
+
+// Fills the response to a request that failed for the database or for memory.
+fn unavailable(response: &mut Response)
+    ensures { IsStatus 503 response.new }
+{
+    response.clear();
+    response.status = StatusCode::SERVICE_UNAVAILABLE;
+}
+
+// Shows a text, or says that the server is unavailable.
+fn show(alloc: Global, headers: &HeaderMap, text: &str, response: &mut Response)
+    requires { IsBlank response.old }
+    ensures { Shows headers.now (Some text.now) response.new ⊎ IsStatus 503 response.new }
+{
+    if fill(alloc, headers, text, response).is_err() {
+        unavailable(response);
+    }
+}
+
+/// Fills the response to a method that is not allowed (RFC 9110, section 15.5.6).
+pub fn not_allowed(response: &mut Response) -> Result<(), AllocError>
+    requires { IsBlank response.old }
+    ensures { OnOk result (IsResponse 405 (allow_field ∷ []) [] response.new) }
+{
+    response.status = StatusCode::METHOD_NOT_ALLOWED;
+    response.add_header(
+        header::ALLOW,
+        HeaderValue::from_static("GET, HEAD, PUT, DELETE"),
+    )
+}
+
+/// Shows the body of a key, as the conditions of the request say.
+pub fn read<S: Alter>(
+    alloc: Global,
+    conn: &mut Connection<S>,
+    key: &str,
+    headers: &HeaderMap,
+    response: &mut Response,
+)
+    requires { IsBlank response.old }
+    ensures { Goes (state S.Store conn.old) (state S.Store conn.new)
+        (Reads (state S.Store conn.old) headers.now key.now response.new (state S.Store conn.new)) }
+{
+    match texts::get(conn, key) {
+        Ok(Some(body)) => show(alloc, headers, body.as_str(), response),
+        Ok(None) => response.status = StatusCode::NOT_FOUND,
+        Err(_) => response.status = StatusCode::SERVICE_UNAVAILABLE,
+    }
+}
+
+// Puts a text under a key, with this status if that is done.
+fn put_as<S: Alter>(
+    conn: &mut Connection<S>,
+    key: &str,
+    text: &str,
+    status: StatusCode,
+    response: &mut Response,
+)
+    requires { IsBlank response.old }
+    ensures { Goes (state S.Store conn.old) (state S.Store conn.new)
+        (PutsAs (state S.Store conn.old) key.now text.now status response.new (state S.Store conn.new)) }
+{
+    match texts::put(conn, key, text) {
+        Ok(_) => response.status = status,
+        Err(_) => response.status = StatusCode::SERVICE_UNAVAILABLE,
+    }
+}
+
+// Returns the canonical text of the value that a body means. Returns `Invalid` if it means none, and `Memory` if an
+// allocation fails.
+fn text_of<V: Stable + Lossless>(alloc: Global, body: &[u8]) -> miniserde::Result<String>
+    ensures ok { IfOk result (λ text. IsTextOf V.means V.tree body.now (string_bytes text)) }
+    ensures invalid { result ≡ Err Invalid → MeansNoValue V.means body.now }
+{
+    let value: V = from_slice(alloc, body)?;
+    canonical_of(alloc, &value)
+}
+
+// Puts the value of a body under a key, with this status if that is done.
+fn put_value<S: Alter, V: Stable + Lossless>(
+    alloc: Global,
+    conn: &mut Connection<S>,
+    key: &str,
+    body: &[u8],
+    status: StatusCode,
+    response: &mut Response,
+)
+    requires { IsBlank response.old }
+    ensures { Goes (state S.Store conn.old) (state S.Store conn.new) (PutsValue V.means V.tree
+        (state S.Store conn.old) key.now body.now status response.new (state S.Store conn.new)) }
+{
+    match text_of::<V>(alloc, body) {
+        Ok(text) => put_as(conn, key, text.as_str(), status, response),
+        Err(Error::Invalid) => response.status = StatusCode::BAD_REQUEST,
+        Err(Error::Memory) => response.status = StatusCode::SERVICE_UNAVAILABLE,
+    }
+}
+
+// Puts the value of a body under a key that has none, if the conditions of the request allow it.
+fn create<S: Alter, V: Stable + Lossless>(
+    alloc: Global,
+    conn: &mut Connection<S>,
+    key: &str,
+    headers: &HeaderMap,
+    body: &[u8],
+    response: &mut Response,
+)
+    requires { IsBlank response.old }
+    ensures { Goes (state S.Store conn.old) (state S.Store conn.new) (PutsOver V.means V.tree
+        (state S.Store conn.old) headers.now key.now None body.now response.new (state S.Store conn.new)) }
+{
+    if allows_new(headers) {
+        put_value::<S, V>(alloc, conn, key, body, StatusCode::CREATED, response);
+    } else {
+        response.status = StatusCode::PRECONDITION_FAILED;
+    }
+}
+
+// Puts the value of a body under a key that has a text, if the conditions of the request hold for that.
+fn replace<S: Alter, V: Stable + Lossless>(
+    alloc: Global,
+    conn: &mut Connection<S>,
+    key: &str,
+    before: &str,
+    headers: &HeaderMap,
+    body: &[u8],
+    response: &mut Response,
+)
+    requires { IsBlank response.old }
+    ensures { Goes (state S.Store conn.old) (state S.Store conn.new) (PutsOver V.means V.tree
+        (state S.Store conn.old) headers.now key.now (Some before.now) body.now response.new (state S.Store conn.new)) }
+{
+    let Ok(condition) = judged(alloc, headers, before) else {
+        response.status = StatusCode::SERVICE_UNAVAILABLE;
+        return;
+    };
+    if condition == Condition::Met {
+        put_value::<S, V>(alloc, conn, key, body, StatusCode::NO_CONTENT, response);
+    } else {
+        response.status = StatusCode::PRECONDITION_FAILED;
+    }
+}
+
+/// Puts the value of a body under a key, if the conditions of the request hold.
+pub fn put<S: Alter, V: Stable + Lossless>(
+    alloc: Global,
+    conn: &mut Connection<S>,
+    key: &str,
+    headers: &HeaderMap,
+    body: &[u8],
+    response: &mut Response,
+)
+    requires { IsBlank response.old }
+    ensures { Goes (state S.Store conn.old) (state S.Store conn.new) (Puts V.means V.tree
+        (state S.Store conn.old) headers.now key.now body.now response.new (state S.Store conn.new)) }
+{
+    match texts::get(conn, key) {
+        Ok(Some(before)) => {
+            replace::<S, V>(alloc, conn, key, before.as_str(), headers, body, response)
+        }
+        Ok(None) => create::<S, V>(alloc, conn, key, headers, body, response),
+        Err(_) => response.status = StatusCode::SERVICE_UNAVAILABLE,
+    }
+}
+
+// Removes the row of a key that has one.
+fn take<S: Alter>(conn: &mut Connection<S>, key: &str, response: &mut Response)
+    requires { IsBlank response.old }
+    ensures { Goes (state S.Store conn.old) (state S.Store conn.new)
+        (Takes (state S.Store conn.old) key.now response.new (state S.Store conn.new)) }
+{
+    match texts::remove(conn, key) {
+        Ok(_) => response.status = StatusCode::NO_CONTENT,
+        Err(_) => response.status = StatusCode::SERVICE_UNAVAILABLE,
+    }
+}
+
+// Removes the row of a key that has a text, if the conditions of the request hold for that.
+fn take_if<S: Alter>(
+    alloc: Global,
+    conn: &mut Connection<S>,
+    key: &str,
+    before: &str,
+    headers: &HeaderMap,
+    response: &mut Response,
+)
+    requires { IsBlank response.old }
+    ensures { Goes (state S.Store conn.old) (state S.Store conn.new) (RemovesOver (state S.Store conn.old)
+        headers.now key.now (Some before.now) response.new (state S.Store conn.new)) }
+{
+    let Ok(condition) = judged(alloc, headers, before) else {
+        response.status = StatusCode::SERVICE_UNAVAILABLE;
+        return;
+    };
+    if condition == Condition::Met {
+        take(conn, key, response);
+    } else {
+        response.status = StatusCode::PRECONDITION_FAILED;
+    }
+}
+
+/// Removes the row of a key, if the conditions of the request hold.
+pub fn remove<S: Alter>(
+    alloc: Global,
+    conn: &mut Connection<S>,
+    key: &str,
+    headers: &HeaderMap,
+    response: &mut Response,
+)
+    requires { IsBlank response.old }
+    ensures { Goes (state S.Store conn.old) (state S.Store conn.new)
+        (Removes (state S.Store conn.old) headers.now key.now response.new (state S.Store conn.new)) }
+{
+    match texts::get(conn, key) {
+        Ok(Some(before)) => take_if(alloc, conn, key, before.as_str(), headers, response),
+        Ok(None) => response.status = StatusCode::NOT_FOUND,
+        Err(_) => response.status = StatusCode::SERVICE_UNAVAILABLE,
+    }
+}

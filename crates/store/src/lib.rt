@@ -1,0 +1,16 @@
+//! A document store behind HTTP/1.1: entries of a type of your own in SQLite, by `GET`, `PUT` and `DELETE` at
+//! `/entries/{key}`.
+#![tactic(auto)]
+
+pub mod conditions;
+mod entries;
+#[cfg(test)]
+mod goods;
+pub mod laws;
+pub mod opening;
+mod routes;
+pub mod service;
+pub mod shared;
+pub mod stream;
+#[cfg(test)]
+mod tests;

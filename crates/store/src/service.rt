@@ -1,0 +1,101 @@
+//! The store as a service.
+ghost use Rattle.std.specs.Prelude.{◌≡◌};
+ghost use Rattle.http_server.specs.Response.{IsBlank};
+
+use crate::entries::{not_allowed, put, read, remove};
+use crate::routes::{Verb, entry_key, verb_of};
+use bytes::Bytes;
+use http::{Request, StatusCode};
+use http_server::{Response, Service};
+use miniserde::{Lossless, Stable};
+use sqlite::{Alter, Connection};
+use std::alloc::{AllocError, Global};
+use std::marker::{Model, PhantomData};
+
+/// Entries of the type `V` in a database. A clause sees the connection.
+#[derive(Drop)]
+pub struct StoreService<S: Alter, V> {
+    alloc: Global,
+    conn: Connection<S>,
+    of: PhantomData<V>,
+}
+
+impl<S: Alter, V> Model for StoreService<S, V> {
+    ghost use Rattle.sqlite.specs.Held.{Held, held_code};
+
+    ghost Value = { Held S };
+
+    ghost coded = { held_code S.code };
+
+    ghost view = { λ s. s.conn };
+}
+
+impl<S: Alter, V: Stable + Lossless> StoreService<S, V> {
+    /// Returns the store of a connection, which has the table.
+    pub fn new(alloc: Global, conn: Connection<S>) -> StoreService<S, V>
+        ensures { result ≡ conn }
+    {
+        StoreService {
+            alloc,
+            conn,
+            of: PhantomData,
+        }
+    }
+
+    /// Returns the connection.
+    pub fn into_connection(self) -> Connection<S>
+        ensures { result ≡ self }
+    {
+        let StoreService {
+            alloc: _,
+            conn,
+            of: _,
+        } = self;
+        conn
+    }
+}
+
+impl<S: Alter, V: Stable + Lossless> Service for StoreService<S, V> {
+    ghost use Rattle.sqlite.specs.Held.{state};
+    ghost use Rattle.store.specs.Answered.{Answered, Goes};
+
+    ghost answers = { λ old request response new. Goes (state S.Store old) (state S.Store new)
+        (Answered V.means V.tree (state S.Store old) request response (state S.Store new)) };
+
+    fn call(
+        &mut self,
+        request: &Request<Bytes>,
+        response: &mut Response,
+    ) -> Result<(), AllocError> {
+        let Some(key) = entry_key(self.alloc, request.uri().path())? else {
+            response.status = StatusCode::NOT_FOUND;
+            return Ok(());
+        };
+        match verb_of(request.method()) {
+            Verb::Read => read(
+                self.alloc,
+                &mut self.conn,
+                key.as_str(),
+                request.headers(),
+                response,
+            ),
+            Verb::Put => put::<S, V>(
+                self.alloc,
+                &mut self.conn,
+                key.as_str(),
+                request.headers(),
+                request.body().as_slice(),
+                response,
+            ),
+            Verb::Delete => remove(
+                self.alloc,
+                &mut self.conn,
+                key.as_str(),
+                request.headers(),
+                response,
+            ),
+            Verb::Other => return not_allowed(response),
+        }
+        Ok(())
+    }
+}

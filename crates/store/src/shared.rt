@@ -1,0 +1,41 @@
+//! The store over many connections.
+ghost use Rattle.std.specs.Prelude.{◌≡◌, OnOk, OnErr};
+ghost use Rattle.std.specs.List.{AllByRecursion};
+ghost use Rattle.sqlite.specs.Held.{state};
+ghost use Rattle.sqlite.specs.State.{HasCleanDisk};
+ghost use Rattle.slab.specs.Slab.{get};
+ghost use Rattle.turns.specs.Shared.{Turns, IsShared, IsAtRest};
+ghost use Rattle.store.specs.Maps.{Map, AnsweredMap, Represents};
+
+use crate::service::StoreService;
+use miniserde::{Lossless, Stable};
+use slab::Slab;
+use sqlite::Alter;
+use std::alloc::AllocError;
+use std::io::{Read, Write};
+use std::time::Instant;
+use turns::peers::{Peer, round};
+
+/// Gives the connections of these keys their turns. Appends the keys of those that may have more to do. Returns an
+/// error, before the first turn, if `unfinished` cannot grow.
+pub fn serve_round<S: Alter, V: Stable + Lossless, T: Read + Write + Drop>(
+    peers: &mut Slab<Peer<T>>,
+    keys: &[usize],
+    service: &mut StoreService<S, V>,
+    now: Instant,
+    unfinished: &mut Vec<usize>,
+) -> Result<(), AllocError>
+    // The responses of all connections, in the order of their turns, are those of one map that begins with the rows of the
+    // store, and the rows afterwards are the map's last entries. Those of each connection are the ones of its turns.
+    ensures shared { HasCleanDisk (state S.Store service.new) → (m : Map) → Represents (state S.Store service.old) m
+        → (turns : Turns) × (after : Map)
+        × IsShared (AnsweredMap V.means V.tree) m after (get peers.old) (get peers.new) turns
+        × Represents (state S.Store service.new) after }
+
+    // Each connection of these keys has had its turn: if it is still there, it has called the service for each whole
+    // request that it received, as far as its output has room.
+    ensures rests { OnOk result (AllByRecursion (λ key. IsAtRest (get peers.new key)) keys.now) }
+    ensures none { OnErr result ((peers.new ≡ peers.old) × (service.new ≡ service.old)) }
+{
+    round(peers, keys, service, now, unfinished)
+}

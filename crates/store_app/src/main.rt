@@ -1,0 +1,51 @@
+//! Serves the requests of standard input by the entries of a file of SQLite, and writes the responses to standard output.
+#![tactic(auto)]
+
+mod goods;
+
+use goods::Goods;
+use http_server::Config;
+use rows::files;
+use sqlite::Unknown;
+use std::hash::RandomState;
+use std::process::ExitCode;
+use std::{env, io};
+use store::opening::prepare;
+use store::service::StoreService;
+use store::stream::serve_stream;
+
+/// Serves the file of the first word of the command line. Returns the status to exit with.
+fn run(rt: &HostRuntime) -> io::Result<u8> {
+    let Some(path) = env::args(rt)?.nth(1) else {
+        eprintln!(rt; "usage: store_app FILE")?;
+        return Ok(2);
+    };
+    let Ok(mut conn) = files::open(rt, path.as_str(), Unknown) else {
+        return Ok(1);
+    };
+    if prepare(&mut conn).is_err() {
+        return Ok(1);
+    }
+    let mut service: StoreService<_, Goods> = StoreService::new(rt.alloc(), conn);
+    let keys = RandomState::new(rt)?;
+    let (mut reader, mut writer) = (rt.stdin(), io::writer(rt));
+    serve_stream(
+        rt.alloc(),
+        keys,
+        Config::default(),
+        &mut service,
+        &mut reader,
+        &mut writer,
+    )?;
+    if service.into_connection().close().is_err() {
+        return Ok(1);
+    }
+    Ok(0)
+}
+
+fn main(rt: HostRuntime) -> ExitCode {
+    match run(&rt) {
+        Ok(status) => ExitCode::from(status),
+        Err(_) => ExitCode::from(3),
+    }
+}

@@ -1,0 +1,124 @@
+-- Turns after turns.
+use Rattle.std.proofs.Common.{◌≡◌, ℕ, ◌==◌, List, [], ◌∷◌, ◌++◌, if◌then◌else◌, Bool, true, false, Option, Some, None, is_some}
+use Rattle.std.proofs.Common.{refl, sym, ap, subst, ◌∙◌, append_assoc, append-nil, true≢false, arith}
+use Rattle.std.proofs.lemmas.Bool.Decides.{nat_tests}
+use Rattle.http.specs.declared.request.Request.{Request}
+use Rattle.http_server.specs.declared.response.Response.{Response}
+use Rattle.http_server.specs.Connection.{history}
+use Rattle.http_server.specs.Exchange.{Call, Chain}
+use Rattle.http_server.proofs.StreamLemmas.{Chain-append}
+use Rattle.turns.specs.declared.peers.Peer.{Peer}
+use Rattle.std.specs.List.{AllByRecursion}
+use Rattle.turns.specs.Shared.{Turns, all_calls, calls_at, IsShared, IsAtRest}
+
+all_append : (s t : Turns) → all_calls (s ++ t) ≡ all_calls s ++ all_calls t
+all_append [] t = refl
+all_append (x ∷ s) t = ap (λ (l : List Call). x.1 ++ l) (all_append s t) ∙ sym (append_assoc x.1 (all_calls s) (all_calls t))
+
+abbrev at : ℕ → ℕ × List Call → List Call
+at key x = if x.0 == key then x.1 else []
+
+at_append : (key : ℕ) (s t : Turns) → calls_at key (s ++ t) ≡ calls_at key s ++ calls_at key t
+at_append key [] t = refl
+at_append key (x ∷ s) t =
+    ap (λ (l : List Call). at key x ++ l) (at_append key s t) ∙ sym (append_assoc (at key x) (calls_at key s) (calls_at key t))
+
+same_number : (a : ℕ) → (a == a) ≡ true
+same_number a = grind (arith, nat_tests)
+
+other_number : (a b : ℕ) → (b ≡ a → ⊥) → (a == b) ≡ false
+other_number a b apart = grind (arith, nat_tests)
+
+-- one turn of the connection of a key, and of another one
+at_own : (key : ℕ) (calls : List Call) → calls_at key ((key, calls) ∷ []) ≡ calls
+at_own key calls =
+    ap (λ b. (if b then calls else []) ++ []) (same_number key) ∙ append-nil calls
+
+at_other : (key other : ℕ) (calls : List Call) → (other ≡ key → ⊥) → calls_at other ((key, calls) ∷ []) ≡ []
+at_other key other calls apart = ap (λ b. (if b then calls else []) ++ []) (other_number key other apart)
+
+all_one : (key : ℕ) (calls : List Call) → all_calls ((key, calls) ∷ []) ≡ calls
+all_one key calls = append-nil calls
+
+module _ {S T : Type 0} (answers : S → Request (List ℕ) → Response → S → Type 0) where
+  -- no turn was given
+  pub shared_none : (s : S) (peers : ℕ → Option (Peer T)) → IsShared answers s s peers peers []
+  shared_none s peers = record { calls = refl; each = λ key peer is. (peer, is, sym (append-nil (history peer.connection).calls)) }
+
+  -- turns after turns
+  pub shared_then : (a b c : S) (p q r : ℕ → Option (Peer T)) (s t : Turns) → IsShared answers a b p q s → IsShared answers b c q r t
+      → IsShared answers a c p r (s ++ t)
+  shared_then a b c p q r s t x y = record {
+    calls = subst (λ l. Chain answers a l c) (sym (all_append s t))
+        (Chain-append answers (all_calls s) (all_calls t) a b c x.calls y.calls);
+    each = λ key peer is.
+        let late = y.each key peer is in
+        let soon = x.each key late.0 late.1 in (
+          soon.0,
+          soon.1,
+          late.2 ∙ ap (λ (l : List Call). l ++ calls_at key t) soon.2
+              ∙ append_assoc (history soon.0.connection).calls (calls_at key s) (calls_at key t)
+              ∙ ap (λ (l : List Call). (history soon.0.connection).calls ++ l) (sym (at_append key s t)),
+        );
+  }
+
+  -- the connection of a key had a turn, and is there or not
+  pub shared_one : (a b : S) (p q : ℕ → Option (Peer T)) (key : ℕ) (was : Peer T) (calls : List Call) → p key ≡ Some was
+      → Chain answers a calls b → ((other : ℕ) → (other ≡ key → ⊥) → q other ≡ p other)
+      → ((peer : Peer T) → q key ≡ Some peer → (history peer.connection).calls ≡ (history was.connection).calls ++ calls)
+      → IsShared answers a b p q ((key, calls) ∷ [])
+  shared_one a b p q key was calls had chain others own = record {
+    calls = subst (λ l. Chain answers a l b) (sym (all_one key calls)) chain;
+    each = λ k peer is. by k peer is (k == key) refl;
+  }
+    where
+      by : (k : ℕ) (peer : Peer T) → q k ≡ Some peer → (v : Bool) → (k == key) ≡ v → (was : Peer T) × (p k ≡ Some was)
+          × ((history peer.connection).calls ≡ (history was.connection).calls ++ calls_at k ((key, calls) ∷ []))
+      by k peer is true e =
+          let same : k ≡ key = grind (arith, nat_tests) in (
+            was,
+            ap p same ∙ had,
+            own peer (ap q (sym same) ∙ is)
+                ∙ ap (λ (l : List Call). (history was.connection).calls ++ l)
+                (sym (ap (λ n. calls_at n ((key, calls) ∷ [])) same ∙ at_own key calls)),
+          )
+      by k peer is false e =
+          let apart : k ≡ key → ⊥ = λ same. grind (arith, nat_tests) in (
+            peer,
+            sym (others k apart) ∙ is,
+            sym (append-nil (history peer.connection).calls)
+                ∙ ap (λ (l : List Call). (history peer.connection).calls ++ l) (sym (at_other key k calls apart)),
+          )
+
+  -- nothing was called, and the connection of a key is not there
+  pub shared_left : (s : S) (p q : ℕ → Option (Peer T)) (key : ℕ) → ((other : ℕ) → (other ≡ key → ⊥) → q other ≡ p other)
+      → q key ≡ None → IsShared answers s s p q []
+  shared_left s p q key others none = record { calls = refl; each = λ k peer is. by k peer is (k == key) refl }
+    where
+      by : (k : ℕ) (peer : Peer T) → q k ≡ Some peer → (v : Bool) → (k == key) ≡ v → (was : Peer T) × (p k ≡ Some was)
+          × ((history peer.connection).calls ≡ (history was.connection).calls ++ [])
+      by k peer is true e =
+          let same : k ≡ key = grind (arith, nat_tests) in
+          absurd (true≢false (sym (ap is_some (sym (ap q same ∙ none) ∙ is))))
+      by k peer is false e =
+          let apart : k ≡ key → ⊥ = λ same. grind (arith, nat_tests) in
+          (peer, sym (others k apart) ∙ is, sym (append-nil (history peer.connection).calls))
+
+pub one_peer : {P : Type 0} {a b : P} → ◌≡◌ {A = Option P} (Some a) (Some b) → a ≡ b
+one_peer e = cc
+
+-- the connections of these keys rest, and then that of one more key has its turn
+pub rest_then : {T : Type 0} (p q : ℕ → Option (Peer T)) (key : ℕ) (done : List ℕ) → IsAtRest (q key)
+    → ((other : ℕ) → (other ≡ key → ⊥) → q other ≡ p other) → AllByRecursion (λ k. IsAtRest (p k)) done
+    → AllByRecursion (λ k. IsAtRest (q k)) (done ++ key ∷ [])
+rest_then p q key [] own others rest = (own, tt)
+rest_then {T} p q key (k ∷ done) own others (first, rest) =
+    (by (k == key) refl, rest_then p q key done own others rest)
+  where
+    by : (v : Bool) → (k == key) ≡ v → IsAtRest (q k)
+    by true e =
+        let same : k ≡ key = grind (arith, nat_tests) in
+        subst (λ n. IsAtRest (q n)) (sym same) own
+    by false e =
+        let apart : k ≡ key → ⊥ = λ same. grind (arith, nat_tests) in
+        subst IsAtRest (sym (others k apart)) first

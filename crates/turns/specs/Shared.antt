@@ -1,0 +1,32 @@
+-- Connections that share one service.
+use Rattle.std.specs.Prelude.{◌≡◌, ℕ, ◌==◌, List, [], ◌++◌, flat_map, if◌then◌else◌, Option, Some, IfSome}
+use Rattle.http.specs.declared.request.Request.{Request}
+use Rattle.http_server.specs.declared.response.Response.{Response}
+use Rattle.http_server.specs.Connection.{config_of, history}
+use Rattle.http_server.specs.Exchange.{Call, Chain}
+use Rattle.http_server.specs.History.{Rests}
+use Rattle.turns.specs.declared.peers.Peer.{Peer}
+
+-- the turns that were given: the key of the connection, and the calls of the service that were made for it
+abbrev pub Turns : Type 0
+Turns = List (ℕ × List Call)
+
+-- the calls of all turns
+abbrev pub all_calls : Turns → List Call
+all_calls turns = flat_map (λ t. t.1) turns
+
+-- the calls for the connection of a key
+abbrev pub calls_at : ℕ → Turns → List Call
+calls_at key turns = flat_map (λ t. if t.0 == key then t.1 else []) turns
+
+-- The calls of all turns lead, one after another, from the first state of the service to the second. Each connection that
+-- is there afterwards was there before, and its calls since are those of its turns.
+pub record IsShared {S T : Type 0} (answers : S → Request (List ℕ) → Response → S → Type 0) (old new : S)
+    (before after : ℕ → Option (Peer T)) (turns : Turns) : Type 0 where
+  pub calls : Chain answers old (all_calls turns) new
+  pub each : (key : ℕ) (peer : Peer T) → after key ≡ Some peer → (was : Peer T) × (before key ≡ Some was)
+      × ((history peer.connection).calls ≡ (history was.connection).calls ++ calls_at key turns)
+
+-- a connection that is there has called the service for each whole request that it received, as far as its output has room
+abbrev pub IsAtRest : {T : Type 0} → Option (Peer T) → Type 0
+IsAtRest entry = IfSome entry (λ peer. Rests (config_of peer.connection) (history peer.connection))

@@ -1,0 +1,7 @@
+//! Many connections of `http_server` on one thread: each has its turn, and none waits for another.
+#![tactic(auto)]
+
+pub mod peers;
+#[cfg(test)]
+mod tests;
+pub mod turn;
