@@ -202,7 +202,7 @@ pub fn remove<S: Alter>(conn: &mut Connection<S>, key: &str) -> Result<bool, Err
 /// Begins a transaction, so that several puts are one commit. Returns the error of the database if it fails, as it does
 /// inside of a transaction.
 pub fn begin<S: Alter>(conn: &mut Connection<S>) -> Result<usize, Error>
-    // The connection sees the same rows, and each put is committed by `commit`.
+    // The connection was outside of a transaction, and sees the same rows inside of one.
     ensures begun { HasCleanDisk (state S.Store conn.new) → (state S.Store conn.old).now.schema ≡ entry_schema
         → OnOk result (IsBegun (state S.Store conn.old) (state S.Store conn.new)) }
 
@@ -216,9 +216,9 @@ pub fn begin<S: Alter>(conn: &mut Connection<S>) -> Result<usize, Error>
 
 /// Commits a transaction. Returns the error of the database if it fails, as it does outside of a transaction.
 pub fn commit<S: Alter>(conn: &mut Connection<S>) -> Result<usize, Error>
-    // What the connection saw is its last commit.
+    // The connection was inside of a transaction, and what it saw is its last commit.
     ensures committed { HasCleanDisk (state S.Store conn.new) → (state S.Store conn.old).now.schema ≡ entry_schema
-        → OnOk result (IsCommitted (state S.Store conn.new)
+        → OnOk result (IsTrue (state S.Store conn.old).in_transaction × IsCommitted (state S.Store conn.new)
         × ((state S.Store conn.new).now ≡ (state S.Store conn.old).now)) }
 
     // If it fails, the connection is as it was, or its transaction is rolled back.
