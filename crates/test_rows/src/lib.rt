@@ -1,0 +1,5 @@
+//! Tests of rows in SQLite.
+#![tactic(auto)]
+
+#[cfg(test)]
+mod kept;
