@@ -81,15 +81,15 @@ pub record IsPutIn (rows : List Row) (key body : List ℕ) (out : List Row) : Ty
 abbrev numbered_if : Bool → Value → Row → Row
 numbered_if b v row = cond b (v ∷ drop 1 row) row
 
-columns_if : (b : Bool) (v : Value) (key body : List ℕ) → let row = numbered_if b v (cast_row entry (source key body)) in
-    (column row 1 ≡ Text key) × (column row 2 ≡ Text body)
-    × (column (cast_row entry row) 1 ≡ Text key) × (column (cast_row entry row) 2 ≡ Text body)
+columns_if : (b : Bool) (v : Value) (key body : List ℕ) → let r = numbered_if b v (cast_row entry (source key body)) in
+    (column r 1 ≡ Text key) × (column r 2 ≡ Text body)
+    × (column (cast_row entry r) 1 ≡ Text key) × (column (cast_row entry r) 2 ≡ Text body)
 columns_if true v key body = (refl, refl, refl, refl)
 columns_if false v key body = (refl, refl, refl, refl)
 
-columns_of : (rows : List Row) (key body : List ℕ) → let row = wanted rows key body in
-    (column row 1 ≡ Text key) × (column row 2 ≡ Text body)
-    × (column (cast_row entry row) 1 ≡ Text key) × (column (cast_row entry row) 2 ≡ Text body)
+columns_of : (rows : List Row) (key body : List ℕ) → let r = wanted rows key body in
+    (column r 1 ≡ Text key) × (column r 2 ≡ Text body)
+    × (column (cast_row entry r) 1 ≡ Text key) × (column (cast_row entry r) 2 ≡ Text body)
 columns_of rows key body = columns_if _ _ key body
 
 equal_is : (o : Ordering) → is_eq o ≡ true → o ≡ Equal
@@ -253,7 +253,7 @@ module _ (limit : Option ℕ) (keys : Keys) (key body : List ℕ) (db : Trees)
       let was : each.0.0.trees ≡ first.0.trees = ap (λ (p : Written × ℤ). p.0.trees) (same_value first.2) in
       subst (λ (t : Trees). IsPutIn (db 0) key body (t 0)) (sym (last ∙ mid ∙ was)) (tried first.0 first.1)
 
-abbrev put_command : Command
+abbrev pub put_command : Command
 put_command = InsertOr 0 Abort (Values terms 3) (clause ∷ [])
 
 -- the statement puts the row, and keeps the schema

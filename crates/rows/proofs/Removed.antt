@@ -47,7 +47,7 @@ removes old new key count has h =
     (Ok (w.tally, new.now))) has w.changed) in
     let pair = same_value (went (went done.2).2).2 in
     let now = ap (λ (p : Tally × Database). p.1) pair in
-    let tally = ap (λ (p : Tally × Database). unwrap_or p.0.rows 0) pair in
+    let tally = ap (λ (p : Tally × Database). unwrap_or (p.0.rows) 0) pair in
     let trees : new.now.trees ≡ done.0.trees = ap (λ (d : Database). d.trees) now in
     let asked = went done.1 in
     let left = went asked.2 in
@@ -86,9 +86,9 @@ any_taken rows key count out it = go it.found it.counted it.shown.sound
 -- and none is counted if none has it
 pub none_taken : (rows : List Row) (key : List ℕ) (count : ℕ) (out : List Row) → IsTakenFrom rows key count out → count ≡ 0
     → (row : Row) → Has rows row → key_of row ≡ Text key → ⊥
-none_taken rows key count out it none row there has = go it.found (sym it.counted ∙ none) (it.shown.complete row there has)
+none_taken rows key count out it none r there has = go it.found (sym it.counted ∙ none) (it.shown.complete r there has)
   where
-    go : (found : List Row) → length found ≡ 0 → Has found (column row 0 ∷ []) → ⊥
+    go : (found : List Row) → length found ≡ 0 → Has found (column r 0 ∷ []) → ⊥
     go [] is had = had
     go (x ∷ more) is had = omega (arith, is)
 
