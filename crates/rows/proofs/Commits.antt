@@ -1,18 +1,23 @@
--- What the statements that begin and commit a transaction do.
-use Rattle.std.proofs.Common.{◌≡◌, ℕ, [], Ok, Err, Result, OnOk, IsTrue, sym, ◌∙◌}
+-- What the statements that begin, commit and roll back a transaction do, and what a write does inside of one.
+use Rattle.std.proofs.Common.{◌≡◌, ℕ, List, [], ◌∷◌, Bool, true, false, if◌then◌else◌, Ok, Err, Result, OnOk, IsTrue, sym, subst, ◌∙◌}
+use Rattle.std.proofs.Common.{true≢false}
 use Rattle.sqlite.specs.declared.error.Error.{Error}
-use Rattle.sqlite.specs.Command.TheVariants.{Begin, Commit}
-use Rattle.sqlite.specs.State.{State, Executes}
+use Rattle.sqlite.specs.declared.types.Value.TheVariants.{Text}
+use Rattle.sqlite.specs.Command.TheVariants.{Begin, Commit, Rollback}
+use Rattle.sqlite.specs.State.{State, Executes, Shows}
 use Rattle.sqlite.proofs.Callers.{runs_as}
-use Rattle.rows.specs.Entries.{begin_text, commit_text, entry_schema, IsBegun, IsCommitted}
-use Rattle.rows.proofs.Statements.{begin_is, commit_is}
+use Rattle.rows.specs.Entries.{put_text, remove_text, begin_text, commit_text, rollback_text, entry_schema}
+use Rattle.rows.specs.Entries.{IsBegun, IsCommitted, IsBack, IsStore, IsServing, StaysInside}
+use Rattle.rows.proofs.Statements.{begin_is, commit_is, rollback_is, remove_command, remove_is, remove_plain}
+use Rattle.rows.proofs.Statements.{put_is, put_plain}
+use Rattle.rows.proofs.Puts.{put_command}
 
 pub begins : (old new : State) (r : Result ℕ Error) → old.now.schema ≡ entry_schema → Executes begin_text [] old new r
     → OnOk r (IsBegun old new)
 begins old new (Err e) has h = tt
 begins old new (Ok count) has h =
     let w = runs_as begin_text [] old new entry_schema has Begin begin_is.0 begin_is.1 count h in
-    record { outside = w.0; inside = w.1.mode; now = w.1.now_is; committed = w.1.committed_is }
+    record { outside = w.0; inside = w.1.mode; is_open = w.1.is_open; now = w.1.now_is; committed = w.1.committed_is }
 
 pub commits : (old new : State) (r : Result ℕ Error) → old.now.schema ≡ entry_schema → Executes commit_text [] old new r
     → OnOk r (IsTrue old.in_transaction × IsCommitted new × (new.now ≡ old.now))
@@ -20,3 +25,45 @@ commits old new (Err e) has h = tt
 commits old new (Ok count) has h =
     let w = runs_as commit_text [] old new entry_schema has Commit commit_is.0 commit_is.1 count h in
     (w.0, (w.1.mode, w.1.committed_is ∙ sym w.1.now_is), w.1.now_is)
+
+pub rolls_back : (old new : State) (r : Result ℕ Error) → old.now.schema ≡ entry_schema → Executes rollback_text [] old new r
+    → OnOk r (IsTrue old.in_transaction × IsBack old new)
+rolls_back old new (Err e) has h = tt
+rolls_back old new (Ok count) has h =
+    let w = runs_as rollback_text [] old new entry_schema has Rollback rollback_is.0 rollback_is.1 count h in (
+      w.0,
+      record {
+        outside = w.1.autocommit;
+        was_open = w.1.was_open;
+        now = λ live. (w.1.undone live).0;
+        committed = λ live. (w.1.undone live).1;
+      },
+    )
+
+-- a connection that is back at a commit that is a store serves it
+pub back_serving : (old new : State) (r : Result ℕ Error) → IsStore old.committed → OnOk r (IsTrue old.in_transaction × IsBack old new)
+    → OnOk r (IsServing new)
+back_serving old new (Err e) was h = tt
+back_serving old new (Ok count) was h =
+    (h.1.outside, λ live. (h.1.committed live ∙ sym (h.1.now live), subst IsStore (sym (h.1.now live)) was))
+
+-- a write inside of a transaction commits nothing
+stays_by : (old new : State) (inside : Bool) → inside ≡ true
+    → Shows old new new.now (if inside then old.committed else new.now) inside → StaysInside old new
+stays_by old new true is shown =
+    record { was_open = shown.was_open; is_open = shown.is_open; inside = shown.mode; committed = shown.committed_is }
+stays_by old new false is shown = absurd (true≢false (sym is))
+
+pub puts_inside : (old new : State) (key body : List ℕ) (r : Result ℕ Error) → old.now.schema ≡ entry_schema
+    → IsTrue old.in_transaction → Executes put_text (Text key ∷ Text body ∷ []) old new r → OnOk r (StaysInside old new)
+puts_inside old new key body (Err e) has inside h = tt
+puts_inside old new key body (Ok count) has inside h =
+    let w = runs_as put_text (Text key ∷ Text body ∷ []) old new entry_schema has put_command put_is put_plain count h in
+    stays_by old new old.in_transaction inside w.shown
+
+pub removes_inside : (old new : State) (key : List ℕ) (r : Result ℕ Error) → old.now.schema ≡ entry_schema
+    → IsTrue old.in_transaction → Executes remove_text (Text key ∷ []) old new r → OnOk r (StaysInside old new)
+removes_inside old new key (Err e) has inside h = tt
+removes_inside old new key (Ok count) has inside h =
+    let w = runs_as remove_text (Text key ∷ []) old new entry_schema has remove_command remove_is remove_plain count h in
+    stays_by old new old.in_transaction inside w.shown

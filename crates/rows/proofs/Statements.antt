@@ -8,7 +8,7 @@ use Rattle.sqlite.specs.Term.{Term, lit, col, op2}
 use Rattle.sqlite.specs.Query.{Query, inner, end}
 use Rattle.sqlite.specs.Source.TheVariants.{Values}
 use Rattle.sqlite.specs.Command.{Command}
-use Rattle.sqlite.specs.Command.TheVariants.{CreateTable, InsertOr, Delete, Select, Begin, Commit, Nothing}
+use Rattle.sqlite.specs.Command.TheVariants.{CreateTable, InsertOr, Delete, Select, Begin, Commit, Rollback, Nothing}
 use Rattle.sqlite.specs.Collation.TheVariants.{Binary}
 use Rattle.sqlite_value.specs.Keys.{ascending}
 use Rattle.sqlite_schema.specs.declared.command.Conflict.TheVariants.{Abort}
@@ -18,7 +18,7 @@ use Rattle.sqlite_sql.specs.declared.ops.BinaryOp.TheVariants.{Compare}
 use Rattle.sqlite_sql.specs.declared.ops.CompareOp.TheVariants.{Eq}
 use Rattle.sqlite.proofs.Callers.{IsPlain, command_of, statement_of}
 use Rattle.rows.specs.Entries.{create_text, put_text, remove_text, get_text, has_text, each_text, begin_text, commit_text}
-use Rattle.rows.specs.Entries.{entry, no_schema, entry_schema}
+use Rattle.rows.specs.Entries.{rollback_text, entry, no_schema, entry_schema}
 
 abbrev pub terms : List Term
 terms = lit Null ∷ col 0 0 ∷ col 0 1 ∷ []
@@ -116,6 +116,10 @@ begin_is = (refl, (refl, refl))
 pub commit_is : (command_of (understood entry_schema commit_text) ≡ Commit) × IsPlain (understood entry_schema commit_text)
 unfolding understood everything
 commit_is = (refl, (refl, refl))
+
+pub rollback_is : (command_of (understood entry_schema rollback_text) ≡ Rollback) × IsPlain (understood entry_schema rollback_text)
+unfolding understood everything
+rollback_is = (refl, (refl, refl))
 
 abbrev pub each_query : Query
 each_query = record {

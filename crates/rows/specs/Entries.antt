@@ -55,6 +55,10 @@ begin_text = codes "BEGIN"
 abbrev pub commit_text : List ℕ
 commit_text = codes "COMMIT"
 
+-- the statement that rolls a transaction back
+abbrev pub rollback_text : List ℕ
+rollback_text = codes "ROLLBACK"
+
 -- a column of texts that are never NULL
 abbrev pub text_column : List ℕ → Column
 text_column name =
@@ -148,8 +152,23 @@ IsCommitted s = (s.in_transaction ≡ false) × (s.committed ≡ s.now)
 pub record IsBegun (old new : State) : Type 0 where
   pub outside : old.in_transaction ≡ false
   pub inside : new.in_transaction ≡ true
+  pub is_open : IsTrue new.is_open
   pub now : new.now ≡ old.now
   pub committed : new.committed ≡ old.committed
+
+-- the connection was open, and is open inside of a transaction, and its last commit is the one from before
+pub record StaysInside (old new : State) : Type 0 where
+  pub was_open : IsTrue old.is_open
+  pub is_open : IsTrue new.is_open
+  pub inside : new.in_transaction ≡ true
+  pub committed : new.committed ≡ old.committed
+
+-- The connection is outside of a transaction. Unless it is shut, it sees its last commit, which is the one from before.
+pub record IsBack (old new : State) : Type 0 where
+  pub outside : new.in_transaction ≡ false
+  pub was_open : IsTrue new.is_open → IsTrue old.is_open
+  pub now : IsTrue new.is_open → new.now ≡ old.committed
+  pub committed : IsTrue new.is_open → new.committed ≡ old.committed
 
 -- the connection sees what it saw before, unless the call has shut it
 abbrev pub IsUndone : State → State → Type 0

@@ -5,10 +5,10 @@ ghost use Rattle.sqlite.specs.Held.{state};
 ghost use Rattle.sqlite.specs.State.{HasCleanDisk, IsUnchanged, Executes, FailsToQuery, QueriesRow, Shown};
 ghost use Rattle.sqlite.specs.declared.error.Error.TheVariants.{QueryReturnedNoRows};
 ghost use Rattle.sqlite.specs.declared.types.Value.TheVariants.{Text};
-ghost use Rattle.rows.specs.Entries.{put_text, remove_text, get_text, has_text, each_text, begin_text, commit_text};
-ghost use Rattle.rows.specs.Entries.{entry_schema, no_schema, texts_of};
+ghost use Rattle.rows.specs.Entries.{put_text, remove_text, get_text, has_text, each_text};
+ghost use Rattle.rows.specs.Entries.{begin_text, commit_text, rollback_text, entry_schema, no_schema, texts_of};
 ghost use Rattle.rows.specs.Entries.{IsStore, IsMap, IsPut, IsRemoved, Holds, HasKey, AreEntries, IsCommitted, IsUndone};
-ghost use Rattle.rows.specs.Entries.{IsServing, IsBegun, Keeps, Aborts};
+ghost use Rattle.rows.specs.Entries.{IsServing, IsBegun, IsBack, StaysInside, Keeps, Aborts};
 
 use crate::schemas::is_entry_schema;
 use sqlite::{Alter, Connection, Error, Row, params};
@@ -130,6 +130,15 @@ fn execute_commit<S: Alter>(conn: &mut Connection<S>) -> Result<usize, Error>
     conn.execute("COMMIT", &[])
 }
 
+// Runs the statement that rolls a transaction back.
+fn execute_rollback<S: Alter>(conn: &mut Connection<S>) -> Result<usize, Error>
+    ensures runs { HasCleanDisk (state S.Store conn.new) → Executes rollback_text []
+        (state S.Store conn.old) (state S.Store conn.new) result }
+    ensures clean { HasCleanDisk (state S.Store conn.new) → HasCleanDisk (state S.Store conn.old) }
+{
+    conn.execute("ROLLBACK", &[])
+}
+
 /// Puts a body under a key. It replaces the body of the same key. Returns the error of the database if it fails.
 pub fn put<S: Alter>(conn: &mut Connection<S>, key: &str, body: &str) -> Result<usize, Error>
     // The key has this body and no other. Other keys keep their bodies.
@@ -143,6 +152,11 @@ pub fn put<S: Alter>(conn: &mut Connection<S>, key: &str, body: &str) -> Result<
     // If it fails there, the rows are as they were.
     ensures undone { HasCleanDisk (state S.Store conn.new) → IsCommitted (state S.Store conn.old)
         → OnErr result (IsUndone (state S.Store conn.old) (state S.Store conn.new)) }
+
+    // Inside of a transaction nothing is committed, and the transaction goes on.
+    ensures inside { HasCleanDisk (state S.Store conn.new) → (state S.Store conn.old).now.schema ≡ entry_schema
+        → IsTrue (state S.Store conn.old).in_transaction
+        → OnOk result (StaysInside (state S.Store conn.old) (state S.Store conn.new)) }
 
     // If it fails, the connection is as it was, or its transaction is rolled back.
     ensures aborts { HasCleanDisk (state S.Store conn.new)
@@ -180,6 +194,11 @@ pub fn remove<S: Alter>(conn: &mut Connection<S>, key: &str) -> Result<bool, Err
     ensures undone { HasCleanDisk (state S.Store conn.new) → IsCommitted (state S.Store conn.old)
         → OnErr result (IsUndone (state S.Store conn.old) (state S.Store conn.new)) }
 
+    // Inside of a transaction nothing is committed, and the transaction goes on.
+    ensures inside { HasCleanDisk (state S.Store conn.new) → (state S.Store conn.old).now.schema ≡ entry_schema
+        → IsTrue (state S.Store conn.old).in_transaction
+        → OnOk result (StaysInside (state S.Store conn.old) (state S.Store conn.new)) }
+
     // If it fails, the connection is as it was, or its transaction is rolled back.
     ensures aborts { HasCleanDisk (state S.Store conn.new)
         → OnErr result (Aborts (state S.Store conn.old) (state S.Store conn.new)) }
@@ -197,6 +216,17 @@ pub fn remove<S: Alter>(conn: &mut Connection<S>, key: &str) -> Result<bool, Err
 {
     let count = execute_remove(conn, key)?;
     Ok(count > 0)
+}
+
+/// Returns whether the connection is inside of a transaction.
+pub fn is_in_transaction<S: Alter>(conn: &Connection<S>) -> bool
+    ensures value { result ≡ (state S.Store conn.now).in_transaction }
+
+    // An open connection outside of one sees its last commit.
+    ensures settled { result ≡ false → IsTrue (state S.Store conn.now).is_open
+        → (state S.Store conn.now).committed ≡ (state S.Store conn.now).now }
+{
+    !conn.is_autocommit()
 }
 
 /// Begins a transaction, so that several puts are one commit. Returns the error of the database if it fails, as it does
@@ -227,6 +257,25 @@ pub fn commit<S: Alter>(conn: &mut Connection<S>) -> Result<usize, Error>
     ensures clean { HasCleanDisk (state S.Store conn.new) → HasCleanDisk (state S.Store conn.old) }
 {
     execute_commit(conn)
+}
+
+/// Rolls a transaction back. Returns the error of the database if it fails, as it does outside of a transaction.
+pub fn rollback<S: Alter>(conn: &mut Connection<S>) -> Result<usize, Error>
+    // The connection was inside of a transaction, and sees its last commit outside of one.
+    ensures back { HasCleanDisk (state S.Store conn.new) → (state S.Store conn.old).now.schema ≡ entry_schema
+        → OnOk result (IsTrue (state S.Store conn.old).in_transaction
+        × IsBack (state S.Store conn.old) (state S.Store conn.new)) }
+
+    // If its last commit is a store, it serves it.
+    ensures serving { HasCleanDisk (state S.Store conn.new) → (state S.Store conn.old).now.schema ≡ entry_schema
+        → IsStore (state S.Store conn.old).committed → OnOk result (IsServing (state S.Store conn.new)) }
+
+    // If it fails, the connection is as it was, or its transaction is rolled back.
+    ensures aborts { HasCleanDisk (state S.Store conn.new)
+        → OnErr result (Aborts (state S.Store conn.old) (state S.Store conn.new)) }
+    ensures clean { HasCleanDisk (state S.Store conn.new) → HasCleanDisk (state S.Store conn.old) }
+{
+    execute_rollback(conn)
 }
 
 /// Returns the body of a key, or `None` if no row has the key. Returns the error of the database if it fails, or if the

@@ -74,8 +74,17 @@ fn several_puts_are_one_commit_and_a_file_is_opened_again(rt: HostRuntime) -> Re
     assert!(rt; texts::begin(&mut conn).is_err());
     values::put(alloc, &mut conn, &nails, &1u64)?;
     values::put(alloc, &mut conn, &rope, &2u64)?;
+    assert!(rt; texts::is_in_transaction(&conn));
     texts::commit(&mut conn)?;
     assert!(rt; texts::commit(&mut conn).is_err());
+    assert!(rt; texts::rollback(&mut conn).is_err());
+    texts::begin(&mut conn)?;
+    values::put(alloc, &mut conn, &nails, &3u64)?;
+    assert!(rt; values::remove(alloc, &mut conn, &rope)?);
+    texts::rollback(&mut conn)?;
+    assert!(rt; !texts::is_in_transaction(&conn));
+    assert!(rt; is(alloc, &mut conn, &nails, Some(1))?);
+    assert!(rt; is(alloc, &mut conn, &rope, Some(2))?);
     let (conn, read) = files::put_and_reopen(alloc, conn, Options::new(2), &nails, &7u64)?;
     assert_eq!(rt; read, Some(7));
     let mut conn = files::reopen(alloc, conn, Options::new(3))?;

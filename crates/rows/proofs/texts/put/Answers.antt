@@ -5,6 +5,7 @@ use Rattle.sqlite.specs.Held.{state}
 use Rattle.rows.specs.Entries.{put_text}
 use Rattle.rows.proofs.Effects.{puts_in, commits_in, undone_in}
 use Rattle.rows.proofs.Serving.{put_kept, executes_aborts}
+use Rattle.rows.proofs.Commits.{puts_inside}
 use Rattle.rows.proofs.texts.put.Goals as goal
 
 pub returns-clause-put : goal.returns-clause-put
@@ -49,3 +50,9 @@ returns-clause-kept g c clean s =
     let old = state g.S.Store c.args.conn.now in
     let new = state g.S.Store c.execute_put.new.conn in
     (put_kept old new c.args.key.now c.args.body.now c.execute_put.result s (c.execute_put.ensures.runs clean)).1.1
+
+pub returns-clause-inside : goal.returns-clause-inside
+returns-clause-inside g c clean has inside =
+    let old = state g.S.Store c.args.conn.now in
+    let new = state g.S.Store c.execute_put.new.conn in
+    puts_inside old new c.args.key.now c.args.body.now c.execute_put.result has inside (c.execute_put.ensures.runs clean)

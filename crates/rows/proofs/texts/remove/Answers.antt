@@ -5,6 +5,7 @@ use Rattle.sqlite.specs.Held.{state}
 use Rattle.rows.specs.Entries.{remove_text}
 use Rattle.rows.proofs.Effects.{removes_in, removes_any, removes_commits_in, removes_undone}
 use Rattle.rows.proofs.Serving.{remove_kept, failed_aborts, on_err}
+use Rattle.rows.proofs.Commits.{removes_inside}
 use Rattle.rows.proofs.texts.remove.Goals as goal
 
 pub returns-clause-found : goal.returns-clause-found
@@ -60,3 +61,9 @@ returns-in_err-count-clause-kept g c clean s =
     let old = state g.S.Store c.args.conn.now in
     let new = state g.S.Store c.execute_remove.new.conn in
     on_err _ (remove_kept old new c.args.key.now (Err _) s (c.in_err-count.ensures.runs clean)).1.1
+
+pub returns-clause-inside : goal.returns-clause-inside
+returns-clause-inside g c clean has inside =
+    let old = state g.S.Store c.args.conn.now in
+    let new = state g.S.Store c.execute_remove.new.conn in
+    removes_inside old new c.args.key.now (Ok c.in_ok-count.count) has inside (c.in_ok-count.ensures.runs clean)
