@@ -40,27 +40,27 @@ shown r = (column r 0, column r 1)
 -- ---- lists
 
 module _ {X Y : Type 0} (f : X → Y) where
-  sorted_before : (lt : Y → Y → Bool) (xs : List X) → IsSortedBy lt (map f xs) → IsSortedBy (λ a b. lt (f a) (f b)) xs
+  pub sorted_before : (lt : Y → Y → Bool) (xs : List X) → IsSortedBy lt (map f xs) → IsSortedBy (λ a b. lt (f a) (f b)) xs
   sorted_before lt xs up k d low high =
       let there = subst (λ n. k + 1 < n) (sym (length-map xs f)) high in
       subst₂ (λ a b. lt a b ≡ false) (get_or-map f xs (k + 1) d (f d) high) (get_or-map f xs k d (f d) (omega arith)) (up k (f d) low there)
 
-  sorted_after : (lt : Y → Y → Bool) (xs : List X) → IsSortedBy (λ a b. lt (f a) (f b)) xs → IsSortedBy lt (map f xs)
+  pub sorted_after : (lt : Y → Y → Bool) (xs : List X) → IsSortedBy (λ a b. lt (f a) (f b)) xs → IsSortedBy lt (map f xs)
   sorted_after lt [] up k e low high = absurd (omega arith)
   sorted_after lt (x ∷ xs) up k e low high =
       let there = subst (λ n. k + 1 < n) (length-map (x ∷ xs) f) high in
       subst₂ (λ a b. lt a b ≡ false) (sym (get_or-map f (x ∷ xs) (k + 1) x e there)) (sym (get_or-map f (x ∷ xs) k x e (omega arith)))
       (up k x low there)
 
-map_alike : {X Y : Type 0} (f g : X → Y) (xs : List X) → AllByRecursion (λ x. f x ≡ g x) xs → map f xs ≡ map g xs
+pub map_alike : {X Y : Type 0} (f g : X → Y) (xs : List X) → AllByRecursion (λ x. f x ≡ g x) xs → map f xs ≡ map g xs
 map_alike f g [] same = refl
 map_alike f g (x ∷ xs) same = rw (same.0, map_alike f g xs same.1) refl
 
-map_twice : {X Y Z : Type 0} (f : X → Y) (g : Y → Z) (xs : List X) → map g (map f xs) ≡ map (λ x. g (f x)) xs
+pub map_twice : {X Y Z : Type 0} (f : X → Y) (g : Y → Z) (xs : List X) → map g (map f xs) ≡ map (λ x. g (f x)) xs
 map_twice f g [] = refl
 map_twice f g (x ∷ xs) = ap (λ zs. g (f x) ∷ zs) (map_twice f g xs)
 
-each_mapped : {X Y : Type 0} (P : Y → Type 0) (f : X → Y) → ((x : X) → P (f x)) → (xs : List X) → AllByRecursion P (map f xs)
+pub each_mapped : {X Y : Type 0} (P : Y → Type 0) (f : X → Y) → ((x : X) → P (f x)) → (xs : List X) → AllByRecursion P (map f xs)
 each_mapped P f holds [] = tt
 each_mapped P f holds (x ∷ xs) = (holds x, each_mapped P f holds xs)
 
@@ -70,10 +70,10 @@ abbrev env : Row → List Row
 env row = [] ∷ row ∷ []
 
 -- what an output is sorted by is the key that it shows
-abbrev ShowsKey : Output → Type 0
+abbrev pub ShowsKey : Output → Type 0
 ShowsKey o = column o.0 0 ≡ column o.1 0
 
-abbrev less : Value → Value → Bool
+abbrev pub less : Value → Value → Bool
 less a b = is_lt (value_cmp a b)
 
 module _ (db : Trees) (found : List Row) (answer : IsAnswer each_query db [] found) (entries : List (List ℕ × List ℕ))

@@ -38,7 +38,7 @@ pub truth_back : (b : Bool) → is_true (from_truth (Some b)) ≡ b
 truth_back true = refl
 truth_back false = refl
 
-is_equal : (o : Ordering) → is_eq o ≡ true → o ≡ Equal
+pub is_equal : (o : Ordering) → is_eq o ≡ true → o ≡ Equal
 is_equal Less h = cc
 is_equal Equal h = refl
 is_equal Greater h = cc

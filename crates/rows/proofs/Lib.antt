@@ -11,6 +11,10 @@ mod Effects
 mod Serving
 mod Commits
 mod Each
+mod Apart
+mod Cut
+mod Pages
+mod Counted
 mod Recognized
 mod Reopened
 mod Opened

@@ -18,7 +18,9 @@ use Rattle.sqlite.specs.Order.{Row}
 use Rattle.sqlite.specs.State.{State, ExecutesIn, Executes, IsNotRun, Runs, RunsCommand, FailsToQuery, FailsToShow, QueriesRow}
 use Rattle.sqlite.specs.State.{Shown, ShowsRows, shows_rows, text_of, IsUnchanged}
 use Rattle.sqlite.specs.Clock.{timed}
-use Rattle.rows.specs.Entries.{put_text, remove_text, each_text, IsStore, IsServing, Keeps, Aborts}
+use Rattle.sqlite.specs.Listing.{understood}
+use Rattle.sqlite.proofs.Callers.{IsPlain}
+use Rattle.rows.specs.Entries.{put_text, remove_text, each_text, entry_schema, IsStore, IsServing, Keeps, Aborts}
 use Rattle.rows.proofs.Gets.{not_stored}
 use Rattle.rows.proofs.Statements.{each_plain, IsKeyQuery}
 use Rattle.rows.proofs.Effects.{shown_same, gets_same, gets_none_same, puts_in, commits_in, removes_in, removes_commits_in}
@@ -112,11 +114,11 @@ rows_open : (old new : State) (sql : List ℕ) (c : Compiled) (params : Row) (ro
 rows_open old new sql c params rows None h = h.3.0.was_open
 rows_open old new sql c params rows (Some what) h = h.1.shown.was_open
 
-shown_open : (sql : List ℕ) (params : Row) (old new : State) (rows : List Row) → Shown sql params old new rows → IsTrue old.is_open
+pub shown_open : (sql : List ℕ) (params : Row) (old new : State) (rows : List Row) → Shown sql params old new rows → IsTrue old.is_open
 unfolding Shown
 shown_open sql params old new rows h = rows_open old new sql h.0 (timed params h.0.formats h.1.now) rows h.0.returning h.2
 
-row_open : (sql : List ℕ) (params : Row) (old new : State) (row : Row) → QueriesRow sql params old new (Ok row) → IsTrue old.is_open
+pub row_open : (sql : List ℕ) (params : Row) (old new : State) (row : Row) → QueriesRow sql params old new (Ok row) → IsTrue old.is_open
 unfolding QueriesRow
 row_open sql params old new row (inl h) = h.1.0.was_open
 row_open sql params old new row (inr h) = shown_open sql params old new h.0 h.1
@@ -174,11 +176,16 @@ got_failed {sql} q old new key e s (inr h) =
     let live = shown_open sql (Text key ∷ []) old new [] h.1 in
     inl (shown_same sql (Text key ∷ []) old new [] q.plain (s.1 live).1.schema h.1)
 
+-- a query that shows its rows changes nothing
+pub listed_by : (sql : List ℕ) (params : Row) → IsPlain (understood entry_schema sql) → (old new : State) (found : List Row) → IsServing old
+    → Shown sql params old new found → IsTrue old.is_open × Aborts old new
+listed_by sql params plain old new found s h =
+    let live = shown_open sql params old new found h in
+    (live, inl (shown_same sql params old new found plain (s.1 live).1.schema h))
+
 -- the query for all rows, if it shows them
 pub listed : (old new : State) (found : List Row) → IsServing old → Shown each_text [] old new found → IsTrue old.is_open × Aborts old new
-listed old new found s h =
-    let live = shown_open each_text [] old new found h in
-    (live, inl (shown_same each_text [] old new found each_plain (s.1 live).1.schema h))
+listed old new found = listed_by each_text [] each_plain old new found
 
 -- a connection that was not called is as it was
 pub unmoved : (s : State) → IsTrue s.is_open → IsUnchanged s s

@@ -15,10 +15,12 @@ use Rattle.sqlite_schema.specs.declared.command.Conflict.TheVariants.{Abort}
 use Rattle.sqlite_schema.specs.declared.command.Upsert.{Upsert}
 use Rattle.sqlite_schema.specs.declared.program.Program.{Program}
 use Rattle.sqlite_sql.specs.declared.ops.BinaryOp.TheVariants.{Compare}
-use Rattle.sqlite_sql.specs.declared.ops.CompareOp.TheVariants.{Eq}
+use Rattle.sqlite_sql.specs.declared.ops.CompareOp.TheVariants.{Eq, Ge}
+use Rattle.sqlite_sql.specs.declared.aggregate.AggregateOp.TheVariants.{CountRows}
+use Rattle.sqlite_sql.specs.Group.{Grouping}
 use Rattle.sqlite.proofs.Callers.{IsPlain, command_of, statement_of}
 use Rattle.rows.specs.Entries.{create_text, put_text, remove_text, get_text, has_text, each_text, begin_text, commit_text}
-use Rattle.rows.specs.Entries.{rollback_text, entry, no_schema, entry_schema}
+use Rattle.rows.specs.Entries.{range_text, len_text, rollback_text, entry, no_schema, entry_schema}
 
 abbrev pub terms : List Term
 terms = lit Null ∷ col 0 0 ∷ col 0 1 ∷ []
@@ -144,3 +146,64 @@ each_is = (refl, refl)
 pub each_plain : IsPlain (understood entry_schema each_text)
 unfolding understood everything
 each_plain = (refl, refl)
+
+-- the query for the first rows from a key on
+abbrev pub is_from : Term
+is_from = op2 (Compare Ge Binary) (col 1 1) (col 0 0)
+
+abbrev pub range_query : Query
+range_query = record {
+  from = inner 0 end;
+  filter = is_from ∷ [];
+  group = None;
+  project = col 1 1 ∷ col 1 2 ∷ [];
+  distinct = false;
+  collations = [];
+  order = (col 1 1, ascending Binary) ∷ [];
+  limit = col 0 1;
+  offset = lit (Int (pos 0));
+}
+
+abbrev pub range_command : Command
+range_command = Select (record { lets = []; body = range_query }) (codes "key" ∷ codes "body" ∷ [])
+
+pub range_is : (command_of (understood entry_schema range_text) ≡ range_command) × (reads_listing entry_schema range_text ≡ false)
+unfolding understood everything
+range_is = (refl, refl)
+
+pub range_plain : IsPlain (understood entry_schema range_text)
+unfolding understood everything
+range_plain = (refl, refl)
+
+-- the query for the number of rows
+abbrev pub all_rows : Grouping
+all_rows = record {
+  keys = [];
+  collations = [];
+  aggregates = record { op = CountRows; distinct = false; collation = Binary; argument = lit Null } ∷ [];
+  having = [];
+}
+
+abbrev pub len_query : Query
+len_query = record {
+  from = inner 0 end;
+  filter = [];
+  group = Some all_rows;
+  project = col 1 0 ∷ [];
+  distinct = false;
+  collations = [];
+  order = [];
+  limit = lit (Int (negsuc 0));
+  offset = lit (Int (pos 0));
+}
+
+abbrev pub len_command : Command
+len_command = Select (record { lets = []; body = len_query }) (codes "count(*)" ∷ [])
+
+pub len_is : (command_of (understood entry_schema len_text) ≡ len_command) × (reads_listing entry_schema len_text ≡ false)
+unfolding understood everything
+len_is = (refl, refl)
+
+pub len_plain : IsPlain (understood entry_schema len_text)
+unfolding understood everything
+len_plain = (refl, refl)

@@ -1,12 +1,14 @@
 -- The table of the rows: its statements, its schema, and what its rows are.
-use Rattle.std.specs.Prelude.{◌≡◌, ◌⊎◌, ◌↔◌, ℕ, List, [], ◌∷◌, map, codes, true, false, None, String, string_bytes, IsTrue, IsPermutation}
+use Rattle.std.specs.Prelude.{◌≡◌, ◌⊎◌, ◌↔◌, ◌≤◌, ℕ, min, List, [], ◌∷◌, map, length, codes, true, false, None, String}
+use Rattle.std.specs.Prelude.{string_bytes, IsTrue, IsPermutation}
+use Rattle.std.specs.declared.cmp.Ordering.TheVariants.{Less}
 use Rattle.sqlite_schema.specs.declared.schema.Column.{Column}
 use Rattle.sqlite_schema.specs.declared.schema.Index.{Index}
 use Rattle.sqlite_schema.specs.declared.schema.Stamps.{Stamps}
 use Rattle.std.specs.Global.{Global}
-use Rattle.std.specs.Ordering.{nat_cmp}
+use Rattle.std.specs.Ordering.{nat_cmp, is_ge}
 use Rattle.std.specs.Cmp.Lexicographic.{slice_cmp}
-use Rattle.std.specs.List.Sorted.{IsSortedByKey}
+use Rattle.std.specs.List.Sorted.{IsSortedByKey, IsStrictlySortedBy}
 use Rattle.sqlite_value.specs.Keys.{plain}
 use Rattle.sqlite.specs.Collation.TheVariants.{Binary}
 use Rattle.sqlite.specs.declared.types.Value.{Value}
@@ -46,6 +48,14 @@ has_text = codes "SELECT key FROM entry WHERE key = ?1"
 -- the query for all rows
 abbrev pub each_text : List ℕ
 each_text = codes "SELECT key, body FROM entry ORDER BY key"
+
+-- the query for the first rows from a key on
+abbrev pub range_text : List ℕ
+range_text = codes "SELECT key, body FROM entry WHERE key >= ?1 ORDER BY key LIMIT ?2"
+
+-- the query for the number of rows
+abbrev pub len_text : List ℕ
+len_text = codes "SELECT count(*) FROM entry"
 
 -- the statement that begins a transaction
 abbrev pub begin_text : List ℕ
@@ -199,3 +209,20 @@ words_of e = (Words e.0, Words e.1)
 pub record AreEntries (db : Database) (entries : List (List ℕ × List ℕ)) : Type 0 where
   pub same : IsPermutation (map (λ row. (key_of row, body_of row)) (db.trees 0)) (map words_of entries)
   pub sorted : IsSortedByKey (λ e. e.0) (slice_cmp nat_cmp) entries
+
+-- a key does not come before another in the byte order
+abbrev pub IsFrom : List ℕ → List ℕ → Type 0
+IsFrom start key = IsTrue (is_ge (slice_cmp nat_cmp key start))
+
+-- The entries are rows of the table from a key on, in the byte order of the keys, each once and at most so many. Of the rows
+-- from that key on, one is left out only if so many come before it.
+pub record IsPage (db : Database) (start : List ℕ) (limit : ℕ) (entries : List (List ℕ × List ℕ)) : Type 0 where
+  pub held : (e : List ℕ × List ℕ) → Has entries e → IsFrom start e.0 × Holds db e.0 e.1
+  pub rising : IsStrictlySortedBy (slice_cmp nat_cmp) (map (λ e. e.0) entries)
+  pub most : length entries ≤ limit
+  pub complete : (k b : List ℕ) → IsFrom start k → Holds db k b → Has entries (k, b)
+      ⊎ ((length entries ≡ limit) × ((e : List ℕ × List ℕ) → Has entries e → slice_cmp nat_cmp e.0 k ≡ Less))
+
+-- the number of rows of the table, as SQLite counts them: up to the greatest integer of 64 bits
+abbrev pub row_count : Database → ℕ
+row_count db = min (length (db.trees 0)) 9223372036854775807

@@ -4,5 +4,6 @@
 pub mod error;
 pub mod files;
 mod schemas;
+mod sql;
 pub mod texts;
 pub mod values;

@@ -2,16 +2,19 @@
 ghost use Rattle.std.specs.Prelude.{◌≡◌, ◌⊎◌, ◌↔◌, ◌∷◌, [], ℕ, List, map, false, Ok, Err, None, IsTrue, string_bytes};
 ghost use Rattle.std.specs.Prelude.{IfOk, IfErr, IfSome, OnOk, OnErr};
 ghost use Rattle.sqlite.specs.Held.{state};
-ghost use Rattle.sqlite.specs.State.{HasCleanDisk, IsUnchanged, Executes, FailsToQuery, QueriesRow, Shown};
+ghost use Rattle.sqlite.specs.State.{HasCleanDisk, IsUnchanged, FailsToQuery};
 ghost use Rattle.sqlite.specs.declared.error.Error.TheVariants.{QueryReturnedNoRows};
 ghost use Rattle.sqlite.specs.declared.types.Value.TheVariants.{Text};
-ghost use Rattle.rows.specs.Entries.{put_text, remove_text, get_text, has_text, each_text};
-ghost use Rattle.rows.specs.Entries.{begin_text, commit_text, rollback_text, entry_schema, no_schema, texts_of};
+ghost use Rattle.rows.specs.Entries.{get_text, entry_schema, no_schema, texts_of};
 ghost use Rattle.rows.specs.Entries.{IsStore, IsMap, IsPut, IsRemoved, Holds, HasKey, AreEntries, IsCommitted, IsUndone};
-ghost use Rattle.rows.specs.Entries.{IsServing, IsBegun, IsBack, StaysInside, Keeps, Aborts};
+ghost use Rattle.rows.specs.Entries.{row_count, IsPage, IsServing, IsBegun, IsBack, StaysInside, Keeps, Aborts};
 
 use crate::schemas::is_entry_schema;
-use sqlite::{Alter, Connection, Error, Row, params};
+use crate::sql::{
+    execute_begin, execute_commit, execute_put, execute_remove, execute_rollback, query_body,
+    query_each, query_key, query_len, query_range,
+};
+use sqlite::{Alter, Connection, Error};
 use std::alloc::Global;
 
 /// Returns whether the database has no table, index or view, as one that an open has just made.
@@ -60,83 +63,6 @@ pub fn create<S: Alter>(conn: &mut Connection<S>) -> Result<usize, Error>
         "CREATE TABLE IF NOT EXISTS entry (key TEXT PRIMARY KEY NOT NULL, body TEXT NOT NULL) STRICT",
         &[],
     )
-}
-
-// Runs the statement that puts a body under a key.
-fn execute_put<S: Alter>(conn: &mut Connection<S>, key: &str, body: &str) -> Result<usize, Error>
-    ensures runs { HasCleanDisk (state S.Store conn.new) → Executes put_text (Text key.now ∷ Text body.now ∷ [])
-        (state S.Store conn.old) (state S.Store conn.new) result }
-    ensures clean { HasCleanDisk (state S.Store conn.new) → HasCleanDisk (state S.Store conn.old) }
-{
-    conn.execute(
-        "INSERT INTO entry (key, body) VALUES (?1, ?2) ON CONFLICT(key) DO UPDATE SET body = excluded.body",
-        params![key, body],
-    )
-}
-
-// Runs the statement that removes the row of a key.
-fn execute_remove<S: Alter>(conn: &mut Connection<S>, key: &str) -> Result<usize, Error>
-    ensures runs { HasCleanDisk (state S.Store conn.new) → Executes remove_text (Text key.now ∷ [])
-        (state S.Store conn.old) (state S.Store conn.new) result }
-    ensures clean { HasCleanDisk (state S.Store conn.new) → HasCleanDisk (state S.Store conn.old) }
-{
-    conn.execute("DELETE FROM entry WHERE key = ?1", params![key])
-}
-
-// Runs the query for the body of a key.
-fn query_body<S: Alter>(conn: &mut Connection<S>, key: &str) -> Result<Row, Error>
-    ensures row { HasCleanDisk (state S.Store conn.new) → QueriesRow get_text (Text key.now ∷ [])
-        (state S.Store conn.old) (state S.Store conn.new) result }
-    ensures clean { HasCleanDisk (state S.Store conn.new) → HasCleanDisk (state S.Store conn.old) }
-{
-    conn.query_row("SELECT body FROM entry WHERE key = ?1", params![key])
-}
-
-// Runs the query for a key.
-fn query_key<S: Alter>(conn: &mut Connection<S>, key: &str) -> Result<Row, Error>
-    ensures row { HasCleanDisk (state S.Store conn.new) → QueriesRow has_text (Text key.now ∷ [])
-        (state S.Store conn.old) (state S.Store conn.new) result }
-    ensures clean { HasCleanDisk (state S.Store conn.new) → HasCleanDisk (state S.Store conn.old) }
-{
-    conn.query_row("SELECT key FROM entry WHERE key = ?1", params![key])
-}
-
-// Runs the query for all rows.
-fn query_each<S: Alter>(conn: &mut Connection<S>) -> Result<Vec<Row>, Error>
-    ensures rows { HasCleanDisk (state S.Store conn.new)
-        → IfOk result (λ rows. Shown each_text [] (state S.Store conn.old) (state S.Store conn.new) rows.items) }
-    ensures failed { HasCleanDisk (state S.Store conn.new)
-        → IfErr result (FailsToQuery each_text [] (state S.Store conn.old) (state S.Store conn.new)) }
-    ensures clean { HasCleanDisk (state S.Store conn.new) → HasCleanDisk (state S.Store conn.old) }
-{
-    conn.query_all("SELECT key, body FROM entry ORDER BY key", &[])
-}
-
-// Runs the statement that begins a transaction.
-fn execute_begin<S: Alter>(conn: &mut Connection<S>) -> Result<usize, Error>
-    ensures runs { HasCleanDisk (state S.Store conn.new) → Executes begin_text []
-        (state S.Store conn.old) (state S.Store conn.new) result }
-    ensures clean { HasCleanDisk (state S.Store conn.new) → HasCleanDisk (state S.Store conn.old) }
-{
-    conn.execute("BEGIN", &[])
-}
-
-// Runs the statement that commits a transaction.
-fn execute_commit<S: Alter>(conn: &mut Connection<S>) -> Result<usize, Error>
-    ensures runs { HasCleanDisk (state S.Store conn.new) → Executes commit_text []
-        (state S.Store conn.old) (state S.Store conn.new) result }
-    ensures clean { HasCleanDisk (state S.Store conn.new) → HasCleanDisk (state S.Store conn.old) }
-{
-    conn.execute("COMMIT", &[])
-}
-
-// Runs the statement that rolls a transaction back.
-fn execute_rollback<S: Alter>(conn: &mut Connection<S>) -> Result<usize, Error>
-    ensures runs { HasCleanDisk (state S.Store conn.new) → Executes rollback_text []
-        (state S.Store conn.old) (state S.Store conn.new) result }
-    ensures clean { HasCleanDisk (state S.Store conn.new) → HasCleanDisk (state S.Store conn.old) }
-{
-    conn.execute("ROLLBACK", &[])
 }
 
 /// Puts a body under a key. It replaces the body of the same key. Returns the error of the database if it fails.
@@ -391,4 +317,75 @@ pub fn each<S: Alter>(
         each.push((key, body))?;
     }
     Ok(each)
+}
+
+/// Returns the first keys with their bodies from a key on, at most so many, in the byte order of the keys. Returns the error of
+/// the database if it fails.
+pub fn range<S: Alter>(
+    alloc: Global,
+    conn: &mut Connection<S>,
+    from: &str,
+    limit: u32,
+) -> Result<Vec<(String, String)>, Error>
+    // They are rows of the store, none twice. A row from the key on is left out only if so many come before it.
+    ensures page { HasCleanDisk (state S.Store conn.new) → IsStore (state S.Store conn.old).now
+        → IfOk result (λ page. IsPage (state S.Store conn.old).now from.now limit (map texts_of page.items)) }
+
+    // The database is as it was.
+    ensures same { HasCleanDisk (state S.Store conn.new) → (state S.Store conn.old).now.schema ≡ entry_schema
+        → OnOk result (IsUnchanged (state S.Store conn.old) (state S.Store conn.new)) }
+
+    // If it fails, the connection is as it was, or its transaction is rolled back.
+    ensures aborts { HasCleanDisk (state S.Store conn.new) → (state S.Store conn.old).now.schema ≡ entry_schema
+        → OnErr result (Aborts (state S.Store conn.old) (state S.Store conn.new)) }
+
+    // A connection that serves a store goes on, and one that was shut runs no query.
+    ensures serving { HasCleanDisk (state S.Store conn.new) → IsServing (state S.Store conn.old)
+        → IsServing (state S.Store conn.new) }
+    ensures live { HasCleanDisk (state S.Store conn.new) → IsServing (state S.Store conn.old)
+        → OnOk result (IsTrue (state S.Store conn.old).is_open) }
+
+    // Whatever it returns, the rows are as they were.
+    ensures kept { HasCleanDisk (state S.Store conn.new) → IsServing (state S.Store conn.old)
+        → Keeps (state S.Store conn.old) (state S.Store conn.new) }
+    ensures clean { HasCleanDisk (state S.Store conn.new) → HasCleanDisk (state S.Store conn.old) }
+{
+    let _schema = conn.schema();
+    let rows = query_range(conn, from, limit)?;
+    let mut page = Vec::new(alloc);
+    for row in rows.iter() {
+        let key: String = row.get(0)?;
+        let body: String = row.get(1)?;
+        page.push((key, body))?;
+    }
+    Ok(page)
+}
+
+/// Returns the number of rows. Returns the error of the database if it fails.
+pub fn len<S: Alter>(conn: &mut Connection<S>) -> Result<u64, Error>
+    ensures count { HasCleanDisk (state S.Store conn.new) → (state S.Store conn.old).now.schema ≡ entry_schema
+        → IfOk result (λ count. count ≡ row_count (state S.Store conn.old).now) }
+
+    // The database is as it was.
+    ensures same { HasCleanDisk (state S.Store conn.new) → (state S.Store conn.old).now.schema ≡ entry_schema
+        → OnOk result (IsUnchanged (state S.Store conn.old) (state S.Store conn.new)) }
+
+    // If it fails, the connection is as it was, or its transaction is rolled back.
+    ensures aborts { HasCleanDisk (state S.Store conn.new) → (state S.Store conn.old).now.schema ≡ entry_schema
+        → OnErr result (Aborts (state S.Store conn.old) (state S.Store conn.new)) }
+
+    // A connection that serves a store goes on, and one that was shut runs no query.
+    ensures serving { HasCleanDisk (state S.Store conn.new) → IsServing (state S.Store conn.old)
+        → IsServing (state S.Store conn.new) }
+    ensures live { HasCleanDisk (state S.Store conn.new) → IsServing (state S.Store conn.old)
+        → OnOk result (IsTrue (state S.Store conn.old).is_open) }
+
+    // Whatever it returns, the rows are as they were.
+    ensures kept { HasCleanDisk (state S.Store conn.new) → IsServing (state S.Store conn.old)
+        → Keeps (state S.Store conn.old) (state S.Store conn.new) }
+    ensures clean { HasCleanDisk (state S.Store conn.new) → HasCleanDisk (state S.Store conn.old) }
+{
+    let row = query_len(conn)?;
+    let count: u64 = row.get(0)?;
+    Ok(count)
 }
