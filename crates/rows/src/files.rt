@@ -1,8 +1,11 @@
 //! Rows in a file: what an open finds, and what is found again after a close.
-ghost use Rattle.std.specs.Prelude.{◌≡◌, false, IfOk, IfSome, Ok, None};
+ghost use Rattle.std.specs.Prelude.{◌≡◌, false, codes, IfOk, IfErr, IfSome, Ok, Err, None, IsTrue};
 ghost use Rattle.sqlite.specs.WalFiles.{image_at};
 ghost use Rattle.sqlite.specs.Effect.{Database, IsDatabase};
 ghost use Rattle.sqlite.specs.State.{HasCleanDisk};
+ghost use Rattle.sqlite.specs.Opening.{is_open_error};
+ghost use Rattle.sqlite.specs.declared.error.Error.TheVariants.{SqliteFailure};
+ghost use Rattle.sqlite.specs.declared.error.ErrorCode.TheVariants.{CannotOpen};
 ghost use Rattle.sqlite.specs.Files.{file_state, HoldsDatabase, IsOpened};
 ghost use Rattle.rows.specs.Entries.{entry_schema, IsStore, IsPut, IsCommitted, IsServing};
 ghost use Rattle.rows.specs.Values.{canonical_text};
@@ -28,6 +31,10 @@ pub fn open<S: Start>(
     // If it has the table and nothing else, as `is_store` tells, it serves a store.
     ensures serving { IfOk result (λ conn. HasCleanDisk (file_state conn)
         → (file_state conn).now.schema ≡ entry_schema → IsServing (file_state conn)) }
+
+    // The path of a database in memory names no file, and an error is one of those of an open.
+    ensures memory { path.now ≡ codes ":memory:" → result ≡ Err (SqliteFailure CannotOpen) }
+    ensures named { IfErr result (λ error. IsTrue (is_open_error error)) }
 {
     match Connection::open_from(rt, path, false, start) {
         Ok(conn) => Ok(conn),
