@@ -71,29 +71,47 @@ fn sent_for(
     sent_if(rt, service, line, "Accept: */*", body)
 }
 
+// Serves one request after another, each of a line and a body, and returns whether each response begins as it should.
+fn have_statuses(
+    rt: &HostRuntime,
+    service: &mut StoreService<MemStore, Goods>,
+    requests: &[(&str, &str, &str)],
+) -> Result<bool, Fail> {
+    for (line, body, status) in requests {
+        let sent = sent_for(rt, service, line, body)?;
+        if !sent.as_str().starts_with(status) {
+            return Ok(false);
+        }
+    }
+    Ok(true)
+}
+
+const PUTS: &[(&str, &str, &str)] = &[
+    ("GET /entries/nails", "", "HTTP/1.1 404 "),
+    ("DELETE /entries/nails", "", "HTTP/1.1 404 "),
+    (
+        "PUT /entries/n%61ils",
+        "{\"name\":\"nails\", \"count\":2}",
+        "HTTP/1.1 201 ",
+    ),
+    (
+        "PUT /entries/nails",
+        "{\"name\":\"n\\u0061ils\", \"count\":3}",
+        "HTTP/1.1 204 ",
+    ),
+];
+
+const REMOVALS: &[(&str, &str, &str)] = &[
+    ("GET /entries/nai", "", "HTTP/1.1 404 "),
+    ("DELETE /entries/nails", "", "HTTP/1.1 204 "),
+    ("DELETE /entries/nails", "", "HTTP/1.1 404 "),
+    ("GET /entries/nails", "", "HTTP/1.1 404 "),
+];
+
 #[test]
 fn an_entry_is_put_read_and_removed(rt: HostRuntime) -> Result<(), Fail> {
     let mut service = opened(&rt)?;
-    for (line, body, status) in [
-        ("GET /entries/nails", "", "HTTP/1.1 404 "),
-        ("DELETE /entries/nails", "", "HTTP/1.1 404 "),
-        (
-            "PUT /entries/n%61ils",
-            "{\"name\":\"nails\", \"count\":2}",
-            "HTTP/1.1 201 ",
-        ),
-        (
-            "PUT /entries/nails",
-            "{\"name\":\"n\\u0061ils\", \"count\":3}",
-            "HTTP/1.1 204 ",
-        ),
-    ] {
-        assert!(rt;
-            sent_for(&rt, &mut service, line, body)?
-                .as_str()
-                .starts_with(status)
-        );
-    }
+    assert!(rt; have_statuses(&rt, &mut service, PUTS)?);
     let head = format!(in rt.alloc();
         "HTTP/1.1 200 OK\r\ncontent-type: application/json\r\netag: {NAILS_TAG}\r\ncontent-length: 38\r\n\r\n"
     )?;
@@ -102,51 +120,36 @@ fn an_entry_is_put_read_and_removed(rt: HostRuntime) -> Result<(), Fail> {
     assert_eq!(rt; sent.as_str(), shown.as_str());
     let sent = sent_for(&rt, &mut service, "HEAD /entries/nails", "")?;
     assert_eq!(rt; sent.as_str(), head.as_str());
-    for (line, status) in [
-        ("GET /entries/nai", "HTTP/1.1 404 "),
-        ("DELETE /entries/nails", "HTTP/1.1 204 "),
-        ("DELETE /entries/nails", "HTTP/1.1 404 "),
-        ("GET /entries/nails", "HTTP/1.1 404 "),
-    ] {
-        assert!(rt;
-            sent_for(&rt, &mut service, line, "")?
-                .as_str()
-                .starts_with(status)
-        );
-    }
+    assert!(rt; have_statuses(&rt, &mut service, REMOVALS)?);
     let mut conn = service.into_connection();
     assert!(rt; texts::get(&mut conn, "nails")?.is_none());
     Ok(())
 }
 
+const REFUSALS: &[(&str, &str, &str)] = &[
+    ("PUT /entries/a", "", "HTTP/1.1 400 "),
+    ("PUT /entries/a", "{\"name\":\"a\"}", "HTTP/1.1 400 "),
+    (
+        "PUT /entries/a",
+        "{\"name\":\"a\",\"count\":-1}",
+        "HTTP/1.1 400 ",
+    ),
+    (
+        "POST /entries/a",
+        NAILS,
+        "HTTP/1.1 405 Method Not Allowed\r\nallow: GET, HEAD, PUT, DELETE\r\n",
+    ),
+    ("POST /", NAILS, "HTTP/1.1 404 "),
+    ("PUT /entries/", NAILS, "HTTP/1.1 404 "),
+    ("PUT /entry/a", NAILS, "HTTP/1.1 404 "),
+    ("DELETE /entries/%ff", "", "HTTP/1.1 404 "),
+];
+
 #[test]
 fn other_requests_leave_the_entries(rt: HostRuntime) -> Result<(), Fail> {
     let mut service = opened(&rt)?;
     sent_for(&rt, &mut service, "PUT /entries/a", NAILS)?;
-    for (line, body, status) in [
-        ("PUT /entries/a", "", "HTTP/1.1 400 "),
-        ("PUT /entries/a", "{\"name\":\"a\"}", "HTTP/1.1 400 "),
-        (
-            "PUT /entries/a",
-            "{\"name\":\"a\",\"count\":-1}",
-            "HTTP/1.1 400 ",
-        ),
-        (
-            "POST /entries/a",
-            NAILS,
-            "HTTP/1.1 405 Method Not Allowed\r\nallow: GET, HEAD, PUT, DELETE\r\n",
-        ),
-        ("POST /", NAILS, "HTTP/1.1 404 "),
-        ("PUT /entries/", NAILS, "HTTP/1.1 404 "),
-        ("PUT /entry/a", NAILS, "HTTP/1.1 404 "),
-        ("DELETE /entries/%ff", "", "HTTP/1.1 404 "),
-    ] {
-        assert!(rt;
-            sent_for(&rt, &mut service, line, body)?
-                .as_str()
-                .starts_with(status)
-        );
-    }
+    assert!(rt; have_statuses(&rt, &mut service, REFUSALS)?);
     let sent = sent_for(&rt, &mut service, "GET /entries/a", "")?;
     assert!(rt; sent.as_str().ends_with(NAILS));
     last_put_is_shown::<Goods>();
