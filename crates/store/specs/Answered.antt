@@ -33,9 +33,13 @@ quote = 34
 abbrev pub tag_of : List ℕ → List ℕ
 tag_of text = quote ∷ (encode_lower (sha256 text) ++ quote ∷ [])
 
+-- the field that has a tag
+abbrev pub etag_field : List ℕ → Header
+etag_field tag = (codes "etag", tag)
+
 -- the fields of a response that shows a text
 abbrev pub shown_fields : List ℕ → List Header
-shown_fields text = json_field ∷ (codes "etag", tag_of text) ∷ []
+shown_fields text = json_field ∷ etag_field (tag_of text) ∷ []
 
 -- the field that says by which methods an entry is requested
 abbrev pub allow_field : Header
@@ -53,10 +57,6 @@ MeansNoValue {V} means body = (t : Tree) → IsJson body t → (v : V) → means
 abbrev pub IsStatus : ℕ → Response → Type 0
 IsStatus code response = IsResponse code [] [] response
 
--- the field that has the tag of a text
-abbrev pub etag_field : List ℕ → Header
-etag_field text = (codes "etag", tag_of text)
-
 -- what the conditions of a request say of the text of a key, if it has one
 abbrev pub condition_on : Entries FieldValue → Option (List ℕ) → Condition
 condition_on headers current = condition_at headers (option_map tag_of current)
@@ -65,7 +65,7 @@ condition_on headers current = condition_at headers (option_map tag_of current)
 -- want it (RFC 9110, sections 13.1.1, 13.1.2 and 15.4.5).
 abbrev pub ShownBy : Condition → List ℕ → Response → Type 0
 ShownBy Met text response = IsResponse 200 (shown_fields text) text response
-ShownBy Cached text response = IsResponse 304 (etag_field text ∷ []) [] response
+ShownBy Cached text response = IsResponse 304 (etag_field (tag_of text) ∷ []) [] response
 ShownBy Failed text response = IsStatus 412 response
 
 -- the response to a read of a key. 404: it has no text, whatever the conditions are (section 13.2.1).

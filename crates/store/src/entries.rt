@@ -38,12 +38,12 @@ fn judged(alloc: Global, headers: &HeaderMap, text: &str) -> Result<Condition, H
     Ok(judge(headers, tag.as_bytes()))
 }
 
-// Fills the response whose body is a JSON text.
-fn json_body(alloc: Global, text: &str, response: &mut Response) -> Result<(), HeaderValueError>
-    requires { IsBlank response.old }
+// Fills the response whose body is a JSON text of this tag.
+fn json_body(tag: HeaderValue, text: &str, response: &mut Response) -> Result<(), AllocError>
+    requires blank { IsBlank response.old }
+    requires tag { tag.bytes ≡ tag_of text.now }
     ensures { OnOk result (IsResponse 200 (shown_fields text.now) text.now response.new) }
 {
-    let tag = entity_tag(alloc, text)?;
     let value = HeaderValue::from_static("application/json");
     response.add_header(header::CONTENT_TYPE, value)?;
     response.add_header(header::ETAG, tag)?;
@@ -51,12 +51,11 @@ fn json_body(alloc: Global, text: &str, response: &mut Response) -> Result<(), H
     Ok(())
 }
 
-// Fills the response to a client that has the text (RFC 9110, section 15.4.5).
-fn not_modified(alloc: Global, text: &str, response: &mut Response) -> Result<(), HeaderValueError>
+// Fills the response to a client that has the text of this tag (RFC 9110, section 15.4.5).
+fn not_modified(tag: HeaderValue, response: &mut Response) -> Result<(), AllocError>
     requires { IsBlank response.old }
-    ensures { OnOk result (IsResponse 304 (etag_field text.now ∷ []) [] response.new) }
+    ensures { OnOk result (IsResponse 304 (etag_field tag.bytes ∷ []) [] response.new) }
 {
-    let tag = entity_tag(alloc, text)?;
     response.status = StatusCode::NOT_MODIFIED;
     response.add_header(header::ETAG, tag)?;
     Ok(())
@@ -72,9 +71,10 @@ fn fill(
     requires { IsBlank response.old }
     ensures { OnOk result (Shows headers.now (Some text.now) response.new) }
 {
-    match judged(alloc, headers, text)? {
-        Condition::Met => json_body(alloc, text, response)?,
-        Condition::Cached => not_modified(alloc, text, response)?,
+    let tag = entity_tag(alloc, text)?;
+    match judge(headers, tag.as_bytes()) {
+        Condition::Met => json_body(tag, text, response)?,
+        Condition::Cached => not_modified(tag, response)?,
         Condition::Failed => response.status = StatusCode::PRECONDITION_FAILED,
     }
     Ok(())
