@@ -4,10 +4,12 @@
 
 pub mod conditions;
 mod entries;
+pub mod explain;
 #[cfg(test)]
 mod goods;
 pub mod laws;
 pub mod opening;
+pub mod reason;
 mod routes;
 pub mod service;
 pub mod shared;
