@@ -5,8 +5,6 @@
 pub mod conditions;
 mod entries;
 pub mod explain;
-#[cfg(test)]
-mod goods;
 pub mod laws;
 pub mod opening;
 pub mod reason;
