@@ -124,7 +124,7 @@ module _ {V : Type 0} (means : Meaning V) (tree : V → Tree) (key : List ℕ) w
       put_step m next c other text entry put (λ there. (there, is, of, stored_success (is_some (m other)) c.1 status))
       (bytes_eq key other) refl
   at_step m next c other entry (inr (inl (is, inl (met, inr (same, inl bad))))) =
-      inl (same_at m next same, λ change. no_success 400 c.1 bad.1.status quiet_400 change.1)
+      inl (same_at m next same, λ change. no_success 400 c.1 bad.1.2.status quiet_400 change.1)
   at_step m next c other entry (inr (inl (is, inl (met, inr (same, inr failed))))) =
       inl (same_at m next same, λ change. no_success 503 c.1 failed.status quiet_503 change.1)
   at_step m next c other entry (inr (inl (is, inr (same, inl unmet)))) =

@@ -15,7 +15,7 @@ use Rattle.sqlite.specs.State.{State}
 use Rattle.rows.specs.Entries.{Holds, HasKey, IsPut, IsRemoved, IsServing, Keeps, key_of}
 use Rattle.store.specs.declared.conditions.Condition.TheVariants.{Met}
 use Rattle.store.specs.Routes.{headers_of}
-use Rattle.store.specs.Answered.{IsTextOf, MeansNoValue, IsStatus, IsCurrent, condition_on, Shows, Reads, PutsOver, Puts}
+use Rattle.store.specs.Answered.{IsTextOf, MeansNoValue, IsProblem, IsStatus, IsCurrent, condition_on, Shows, Reads, PutsOver, Puts}
 use Rattle.store.specs.Answered.{RemovesOver, Removes, AnsweredAt, Answered}
 use Rattle.store.specs.Maps.{Map, with_text, without_key, ReadsMap, PutsMap, RemovesMap, AnsweredAtMap, AnsweredMap, Represents}
 
@@ -120,7 +120,7 @@ module _ (old new : State) (m : Map) (r : Represents old m) (serving : IsServing
       ValueAt o after =
           ((text : List ℕ) × IsTextOf means tree body text × (after ≡ with_text m key text)
           × IsStatus (if is_some o then 204 else 201) response)
-          ⊎ ((after ≡ m) × ((MeansNoValue means body × IsStatus 400 response) ⊎ IsStatus 503 response))
+          ⊎ ((after ≡ m) × ((MeansNoValue means body × IsProblem means body response) ⊎ IsStatus 503 response))
 
       abbrev OverAt : Option (List ℕ) → Map → Type 0
       OverAt o after =

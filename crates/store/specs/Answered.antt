@@ -18,7 +18,9 @@ use Rattle.rows.specs.Entries.{Holds, HasKey, IsPut, IsRemoved, IsServing, Keeps
 use Rattle.rows.specs.Values.{canonical_text}
 use Rattle.store.specs.declared.conditions.Condition.{Condition}
 use Rattle.store.specs.declared.conditions.Condition.TheVariants.{Met, Failed, Cached}
+use Rattle.store.specs.declared.reason.Reason.{Reason}
 use Rattle.store.specs.Conditions.{condition_at}
+use Rattle.store.specs.Reasons.{IsReason, problem_text}
 use Rattle.store.specs.Routes.{IsEntry, IsRead, IsOther, path_of, method_of, headers_of, put_method, delete_method}
 
 -- the field that says that a body is JSON
@@ -33,9 +35,17 @@ quote = 34
 abbrev pub tag_of : List ℕ → List ℕ
 tag_of text = quote ∷ (encode_lower (sha256 text) ++ quote ∷ [])
 
+-- the field that has a tag
+abbrev pub etag_field : List ℕ → Header
+etag_field tag = (codes "etag", tag)
+
 -- the fields of a response that shows a text
 abbrev pub shown_fields : List ℕ → List Header
-shown_fields text = json_field ∷ (codes "etag", tag_of text) ∷ []
+shown_fields text = json_field ∷ etag_field (tag_of text) ∷ []
+
+-- the field that says that a body is the details of a problem (RFC 9457, section 3)
+abbrev pub problem_field : Header
+problem_field = (codes "content-type", codes "application/problem+json")
 
 -- the field that says by which methods an entry is requested
 abbrev pub allow_field : Header
@@ -49,13 +59,14 @@ IsTextOf {V} means tree body text = (t : Tree) × (v : V) × IsJson body t × me
 abbrev pub MeansNoValue : {V : Type 0} → Meaning V → List ℕ → Type 0
 MeansNoValue {V} means body = (t : Tree) → IsJson body t → (v : V) → means.reads t v → ⊥
 
+-- the response says by a true reason why the body means no value
+abbrev pub IsProblem : {V : Type 0} → Meaning V → List ℕ → Response → Type 0
+IsProblem means body response =
+    (reason : Reason) × IsReason means body reason × IsResponse 400 (problem_field ∷ []) (problem_text reason) response
+
 -- the response is empty and has this status
 abbrev pub IsStatus : ℕ → Response → Type 0
 IsStatus code response = IsResponse code [] [] response
-
--- the field that has the tag of a text
-abbrev pub etag_field : List ℕ → Header
-etag_field text = (codes "etag", tag_of text)
 
 -- what the conditions of a request say of the text of a key, if it has one
 abbrev pub condition_on : Entries FieldValue → Option (List ℕ) → Condition
@@ -65,7 +76,7 @@ condition_on headers current = condition_at headers (option_map tag_of current)
 -- want it (RFC 9110, sections 13.1.1, 13.1.2 and 15.4.5).
 abbrev pub ShownBy : Condition → List ℕ → Response → Type 0
 ShownBy Met text response = IsResponse 200 (shown_fields text) text response
-ShownBy Cached text response = IsResponse 304 (etag_field text ∷ []) [] response
+ShownBy Cached text response = IsResponse 304 (etag_field (tag_of text) ∷ []) [] response
 ShownBy Failed text response = IsStatus 412 response
 
 -- the response to a read of a key. 404: it has no text, whatever the conditions are (section 13.2.1).
@@ -95,11 +106,11 @@ Takes old key response new =
     (IsTrue old.is_open × IsRemoved old.now new.now key × IsStatus 204 response) ⊎ (Keeps old new × IsStatus 503 response)
 
 -- The body means a value, and its canonical text is put under the key, with this status if it is. 400: the body means no
--- value. 503: the database failed, or an allocation.
+-- value, and the response says why. 503: the database failed, or an allocation.
 abbrev pub PutsValue : {V : Type 0} → Meaning V → (V → Tree) → State → List ℕ → List ℕ → ℕ → Response → State → Type 0
 PutsValue means tree old key body code response new =
     (IsTrue old.is_open × (text : List ℕ) × IsTextOf means tree body text × IsPut old.now new.now key text × IsStatus code response)
-    ⊎ (Keeps old new × ((MeansNoValue means body × IsStatus 400 response) ⊎ IsStatus 503 response))
+    ⊎ (Keeps old new × ((MeansNoValue means body × IsProblem means body response) ⊎ IsStatus 503 response))
 
 -- A put over what the key has. 201: nothing. 204: a text. 412: the conditions do not hold (sections 13.1.1 and 13.1.2).
 abbrev pub PutsOver : {V : Type 0} → Meaning V → (V → Tree) → State → Entries FieldValue → List ℕ → Option (List ℕ) → List ℕ → Response

@@ -1,5 +1,6 @@
 pub mod Routes
 pub mod Conditions
+pub mod Reasons
 pub mod Answered
 pub mod Maps
 pub mod Streams

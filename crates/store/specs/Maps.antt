@@ -13,7 +13,7 @@ use Rattle.sqlite.specs.State.{State}
 use Rattle.rows.specs.Entries.{Holds, IsServing}
 use Rattle.store.specs.declared.conditions.Condition.TheVariants.{Met}
 use Rattle.store.specs.Routes.{IsEntry, IsRead, IsOther, path_of, method_of, headers_of, put_method, delete_method}
-use Rattle.store.specs.Answered.{allow_field, IsTextOf, MeansNoValue, IsStatus, condition_on, Shows}
+use Rattle.store.specs.Answered.{allow_field, IsTextOf, MeansNoValue, IsProblem, IsStatus, condition_on, Shows}
 
 -- the text of each key that has one
 abbrev pub Map : Type 0
@@ -36,12 +36,13 @@ without_key m key other = if bytes_eq other key then None else m other
 abbrev pub ReadsMap : Map → Entries FieldValue → List ℕ → Response → Map → Type 0
 ReadsMap m headers key response after = (after ≡ m) × (Shows headers (m key) response ⊎ IsStatus 503 response)
 
--- the key gets the canonical text of the value that the body means, or nothing changes
+-- The key gets the canonical text of the value that the body means, or nothing changes. If the body means none, the response
+-- says why.
 abbrev pub PutsValueMap : {V : Type 0} → Meaning V → (V → Tree) → Map → List ℕ → List ℕ → Response → Map → Type 0
 PutsValueMap means tree m key body response after =
     ((text : List ℕ) × IsTextOf means tree body text × (after ≡ with_text m key text)
     × IsStatus (if is_some (m key) then 204 else 201) response)
-    ⊎ ((after ≡ m) × ((MeansNoValue means body × IsStatus 400 response) ⊎ IsStatus 503 response))
+    ⊎ ((after ≡ m) × ((MeansNoValue means body × IsProblem means body response) ⊎ IsStatus 503 response))
 
 -- A put changes the map only if the conditions of the request hold for what the key has: with `If-Match`, for the text whose
 -- tag the client knows.

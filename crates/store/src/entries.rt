@@ -3,15 +3,17 @@ ghost use Rattle.std.specs.Prelude.{◌≡◌, ◌⊎◌, [], ◌∷◌, IfOk, O
 ghost use Rattle.http_server.specs.Response.{IsBlank, IsResponse};
 ghost use Rattle.miniserde.specs.declared.Error.TheVariants.{Invalid};
 ghost use Rattle.sqlite.specs.Held.{state};
-ghost use Rattle.store.specs.Answered.{tag_of, shown_fields, etag_field, allow_field, condition_on, IsTextOf, MeansNoValue, Shows, IsStatus, Reads, PutsAs, PutsValue, PutsOver, Puts, Takes, RemovesOver, Removes, Goes};
+ghost use Rattle.store.specs.Answered.{tag_of, shown_fields, etag_field, allow_field, condition_on, IsTextOf, MeansNoValue, IsProblem, Shows, IsStatus, Reads, PutsAs, PutsValue, PutsOver, Puts, Takes, RemovesOver, Removes, Goes};
 
 use crate::conditions::{Condition, allows_new, judge};
+use crate::explain::Explain;
+use crate::reason::problem_text;
 use bytes::BufMut;
 use http::{HeaderMap, HeaderValue, StatusCode, header};
 use http_header::HeaderValueError;
 use http_server::Response;
 use miniserde::json::{canonical_of, from_slice};
-use miniserde::{Error, Lossless, Stable};
+use miniserde::{Error, FromJson, Lossless, Stable};
 use rows::texts;
 use sha2::{Digest, Sha256};
 use sqlite::{Alter, Connection};
@@ -38,12 +40,12 @@ fn judged(alloc: Global, headers: &HeaderMap, text: &str) -> Result<Condition, H
     Ok(judge(headers, tag.as_bytes()))
 }
 
-// Fills the response whose body is a JSON text.
-fn json_body(alloc: Global, text: &str, response: &mut Response) -> Result<(), HeaderValueError>
-    requires { IsBlank response.old }
+// Fills the response whose body is a JSON text of this tag.
+fn json_body(tag: HeaderValue, text: &str, response: &mut Response) -> Result<(), AllocError>
+    requires blank { IsBlank response.old }
+    requires tag { tag.bytes ≡ tag_of text.now }
     ensures { OnOk result (IsResponse 200 (shown_fields text.now) text.now response.new) }
 {
-    let tag = entity_tag(alloc, text)?;
     let value = HeaderValue::from_static("application/json");
     response.add_header(header::CONTENT_TYPE, value)?;
     response.add_header(header::ETAG, tag)?;
@@ -51,12 +53,11 @@ fn json_body(alloc: Global, text: &str, response: &mut Response) -> Result<(), H
     Ok(())
 }
 
-// Fills the response to a client that has the text (RFC 9110, section 15.4.5).
-fn not_modified(alloc: Global, text: &str, response: &mut Response) -> Result<(), HeaderValueError>
+// Fills the response to a client that has the text of this tag (RFC 9110, section 15.4.5).
+fn not_modified(tag: HeaderValue, response: &mut Response) -> Result<(), AllocError>
     requires { IsBlank response.old }
-    ensures { OnOk result (IsResponse 304 (etag_field text.now ∷ []) [] response.new) }
+    ensures { OnOk result (IsResponse 304 (etag_field tag.bytes ∷ []) [] response.new) }
 {
-    let tag = entity_tag(alloc, text)?;
     response.status = StatusCode::NOT_MODIFIED;
     response.add_header(header::ETAG, tag)?;
     Ok(())
@@ -72,9 +73,10 @@ fn fill(
     requires { IsBlank response.old }
     ensures { OnOk result (Shows headers.now (Some text.now) response.new) }
 {
-    match judged(alloc, headers, text)? {
-        Condition::Met => json_body(alloc, text, response)?,
-        Condition::Cached => not_modified(alloc, text, response)?,
+    let tag = entity_tag(alloc, text)?;
+    match judge(headers, tag.as_bytes()) {
+        Condition::Met => json_body(tag, text, response)?,
+        Condition::Cached => not_modified(tag, response)?,
         Condition::Failed => response.status = StatusCode::PRECONDITION_FAILED,
     }
     Ok(())
@@ -157,8 +159,38 @@ fn text_of<V: Stable + Lossless>(alloc: Global, body: &[u8]) -> miniserde::Resul
     canonical_of(alloc, &value)
 }
 
+// Fills the response to a body that means no value: it says why (RFC 9457).
+fn fill_problem<V: FromJson, E: Explain<V>>(
+    alloc: Global,
+    body: &[u8],
+    response: &mut Response,
+) -> miniserde::Result<()>
+    requires blank { IsBlank response.old }
+    requires meaning { MeansNoValue V.means body.now }
+    ensures { OnOk result (IsProblem V.means body.now response.new) }
+{
+    let reason = E::explain(alloc, body)?;
+    let details = problem_text(alloc, &reason)?;
+    let value = HeaderValue::from_static("application/problem+json");
+    response.status = StatusCode::BAD_REQUEST;
+    response.add_header(header::CONTENT_TYPE, value)?;
+    response.body.put_slice(details.as_bytes())?;
+    Ok(())
+}
+
+// Says why a body means no value, or that the server is unavailable.
+fn explained<V: FromJson, E: Explain<V>>(alloc: Global, body: &[u8], response: &mut Response)
+    requires blank { IsBlank response.old }
+    requires meaning { MeansNoValue V.means body.now }
+    ensures { (MeansNoValue V.means body.now × IsProblem V.means body.now response.new) ⊎ IsStatus 503 response.new }
+{
+    if fill_problem::<V, E>(alloc, body, response).is_err() {
+        unavailable(response);
+    }
+}
+
 // Puts the value of a body under a key, with this status if that is done.
-fn put_value<S: Alter, V: Stable + Lossless>(
+fn put_value<S: Alter, V: Stable + Lossless, E: Explain<V>>(
     alloc: Global,
     conn: &mut Connection<S>,
     key: &str,
@@ -172,13 +204,13 @@ fn put_value<S: Alter, V: Stable + Lossless>(
 {
     match text_of::<V>(alloc, body) {
         Ok(text) => put_as(conn, key, text.as_str(), status, response),
-        Err(Error::Invalid) => response.status = StatusCode::BAD_REQUEST,
+        Err(Error::Invalid) => explained::<V, E>(alloc, body, response),
         Err(Error::Memory) => response.status = StatusCode::SERVICE_UNAVAILABLE,
     }
 }
 
 // Puts the value of a body under a key that has none, if the conditions of the request allow it.
-fn create<S: Alter, V: Stable + Lossless>(
+fn create<S: Alter, V: Stable + Lossless, E: Explain<V>>(
     alloc: Global,
     conn: &mut Connection<S>,
     key: &str,
@@ -191,14 +223,14 @@ fn create<S: Alter, V: Stable + Lossless>(
         (state S.Store conn.old) headers.now key.now None body.now response.new (state S.Store conn.new)) }
 {
     if allows_new(headers) {
-        put_value::<S, V>(alloc, conn, key, body, StatusCode::CREATED, response);
+        put_value::<S, V, E>(alloc, conn, key, body, StatusCode::CREATED, response);
     } else {
         response.status = StatusCode::PRECONDITION_FAILED;
     }
 }
 
 // Puts the value of a body under a key that has a text, if the conditions of the request hold for that.
-fn replace<S: Alter, V: Stable + Lossless>(
+fn replace<S: Alter, V: Stable + Lossless, E: Explain<V>>(
     alloc: Global,
     conn: &mut Connection<S>,
     key: &str,
@@ -216,14 +248,14 @@ fn replace<S: Alter, V: Stable + Lossless>(
         return;
     };
     if condition == Condition::Met {
-        put_value::<S, V>(alloc, conn, key, body, StatusCode::NO_CONTENT, response);
+        put_value::<S, V, E>(alloc, conn, key, body, StatusCode::NO_CONTENT, response);
     } else {
         response.status = StatusCode::PRECONDITION_FAILED;
     }
 }
 
 /// Puts the value of a body under a key, if the conditions of the request hold.
-pub fn put<S: Alter, V: Stable + Lossless>(
+pub fn put<S: Alter, V: Stable + Lossless, E: Explain<V>>(
     alloc: Global,
     conn: &mut Connection<S>,
     key: &str,
@@ -237,9 +269,9 @@ pub fn put<S: Alter, V: Stable + Lossless>(
 {
     match texts::get(conn, key) {
         Ok(Some(before)) => {
-            replace::<S, V>(alloc, conn, key, before.as_str(), headers, body, response)
+            replace::<S, V, E>(alloc, conn, key, before.as_str(), headers, body, response)
         }
-        Ok(None) => create::<S, V>(alloc, conn, key, headers, body, response),
+        Ok(None) => create::<S, V, E>(alloc, conn, key, headers, body, response),
         Err(_) => response.status = StatusCode::SERVICE_UNAVAILABLE,
     }
 }

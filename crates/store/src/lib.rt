@@ -4,10 +4,10 @@
 
 pub mod conditions;
 mod entries;
-#[cfg(test)]
-mod goods;
+pub mod explain;
 pub mod laws;
 pub mod opening;
+pub mod reason;
 mod routes;
 pub mod service;
 pub mod shared;

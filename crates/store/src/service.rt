@@ -3,6 +3,7 @@ ghost use Rattle.std.specs.Prelude.{◌≡◌};
 ghost use Rattle.http_server.specs.Response.{IsBlank};
 
 use crate::entries::{not_allowed, put, read, remove};
+use crate::explain::{ByValue, Explain};
 use crate::routes::{Verb, entry_key, verb_of};
 use bytes::Bytes;
 use http::{Request, StatusCode};
@@ -12,15 +13,16 @@ use sqlite::{Alter, Connection};
 use std::alloc::{AllocError, Global};
 use std::marker::{Model, PhantomData};
 
-/// Entries of the type `V` in a database. A clause sees the connection.
+/// Entries of the type `V` in a database. The response to a body that means no value says why in the way `E`. A clause sees
+/// the connection.
 #[derive(Drop)]
-pub struct StoreService<S: Alter, V> {
+pub struct StoreService<S: Alter, V, E = ByValue> {
     alloc: Global,
     conn: Connection<S>,
-    of: PhantomData<V>,
+    of: PhantomData<(V, E)>,
 }
 
-impl<S: Alter, V> Model for StoreService<S, V> {
+impl<S: Alter, V, E> Model for StoreService<S, V, E> {
     ghost use Rattle.sqlite.specs.Held.{Held, held_code};
 
     ghost Value = { Held S };
@@ -30,9 +32,9 @@ impl<S: Alter, V> Model for StoreService<S, V> {
     ghost view = { λ s. s.conn };
 }
 
-impl<S: Alter, V: Stable + Lossless> StoreService<S, V> {
+impl<S: Alter, V: Stable + Lossless, E: Explain<V>> StoreService<S, V, E> {
     /// Returns the store of a connection, which has the table.
-    pub fn new(alloc: Global, conn: Connection<S>) -> StoreService<S, V>
+    pub fn new(alloc: Global, conn: Connection<S>) -> StoreService<S, V, E>
         ensures { result ≡ conn }
     {
         StoreService {
@@ -55,7 +57,7 @@ impl<S: Alter, V: Stable + Lossless> StoreService<S, V> {
     }
 }
 
-impl<S: Alter, V: Stable + Lossless> Service for StoreService<S, V> {
+impl<S: Alter, V: Stable + Lossless, E: Explain<V>> Service for StoreService<S, V, E> {
     ghost use Rattle.sqlite.specs.Held.{state};
     ghost use Rattle.store.specs.Answered.{Answered, Goes};
 
@@ -79,7 +81,7 @@ impl<S: Alter, V: Stable + Lossless> Service for StoreService<S, V> {
                 request.headers(),
                 response,
             ),
-            Verb::Put => put::<S, V>(
+            Verb::Put => put::<S, V, E>(
                 self.alloc,
                 &mut self.conn,
                 key.as_str(),

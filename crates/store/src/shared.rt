@@ -7,6 +7,7 @@ ghost use Rattle.slab.specs.Slab.{get};
 ghost use Rattle.turns.specs.Shared.{Turns, IsShared, IsAtRest};
 ghost use Rattle.store.specs.Maps.{Map, AnsweredMap, Represents};
 
+use crate::explain::Explain;
 use crate::service::StoreService;
 use miniserde::{Lossless, Stable};
 use slab::Slab;
@@ -18,10 +19,10 @@ use turns::peers::{Peer, round};
 
 /// Gives the connections of these keys their turns. Appends the keys of those that may have more to do. Returns an
 /// error, before the first turn, if `unfinished` cannot grow.
-pub fn serve_round<S: Alter, V: Stable + Lossless, T: Read + Write + Drop>(
+pub fn serve_round<S: Alter, V: Stable + Lossless, E: Explain<V>, T: Read + Write + Drop>(
     peers: &mut Slab<Peer<T>>,
     keys: &[usize],
-    service: &mut StoreService<S, V>,
+    service: &mut StoreService<S, V, E>,
     now: Instant,
     unfinished: &mut Vec<usize>,
 ) -> Result<(), AllocError>

@@ -7,6 +7,7 @@ ghost use Rattle.sqlite.specs.State.{HasCleanDisk};
 ghost use Rattle.store.specs.Maps.{Map, Represents};
 ghost use Rattle.store.specs.Streams.{IsServedByMap};
 
+use crate::explain::Explain;
 use crate::service::StoreService;
 use http_server::{Config, Connection, serve};
 use miniserde::{Lossless, Stable};
@@ -18,11 +19,11 @@ use std::io::{Read, Write};
 
 /// Reads requests, and writes the responses of a store. Returns the error of a read or a write that fails. If an
 /// allocation fails, the connection ends there, which is no error.
-pub fn serve_stream<S: Alter, V: Stable + Lossless, R: Read, W: Write>(
+pub fn serve_stream<S: Alter, V: Stable + Lossless, E: Explain<V>, R: Read, W: Write>(
     alloc: Global,
     keys: RandomState,
     config: Config,
-    service: &mut StoreService<S, V>,
+    service: &mut StoreService<S, V, E>,
     reader: &mut R,
     writer: &mut W,
 ) -> io::Result<()>

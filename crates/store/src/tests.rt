@@ -1,4 +1,3 @@
-use crate::goods::Goods;
 use crate::laws::last_put_is_shown;
 use crate::opening::prepare;
 use crate::service::StoreService;
@@ -15,41 +14,126 @@ use std::test::Fail;
 use std::time::Instant;
 use turns::peers::Peer;
 
-const NAILS: &str = "{\"count\":3,\"name\":\"nails\",\"note\":null}";
+// Requests in a row, each of a line, a field and a body, and what its response begins with behind `HTTP/1.1`.
+const REQUESTS: &[(&str, &str, &str, &str)] = &[
+    ("GET /entries/a", "Accept: */*", "", "404 "),
+    ("DELETE /entries/a", "Accept: */*", "", "404 "),
+    ("PUT /entries/%61", "Accept: */*", "\"rope\"", "201 "),
+    ("PUT /entries/a", "Accept: */*", " \"n\\u0061ils\"", "204 "),
+    (
+        "GET /entries/a",
+        "Accept: */*",
+        "",
+        "200 OK\r\ncontent-type: application/json\r\netag: \"11fe879ab1e1913bf68875fc2be09d52189e668b3eec523c303d146809d30bfa\"\r\ncontent-length: 7\r\n\r\n\"nails\"",
+    ),
+    (
+        "HEAD /entries/a",
+        "Accept: */*",
+        "",
+        "200 OK\r\ncontent-type: application/json\r\netag: \"11fe879ab1e1913bf68875fc2be09d52189e668b3eec523c303d146809d30bfa\"\r\ncontent-length: 7\r\n\r\n",
+    ),
+    ("GET /entries/ab", "Accept: */*", "", "404 "),
+    (
+        "PUT /entries/a",
+        "Accept: */*",
+        "",
+        "400 Bad Request\r\ncontent-type: application/problem+json\r\ncontent-length: 67\r\n\r\n{\"title\":\"Bad Request\",\"status\":400,\"detail\":\"the body is no JSON\"}",
+    ),
+    (
+        "PUT /entries/a",
+        "Accept: */*",
+        "7",
+        "400 Bad Request\r\ncontent-type: application/problem+json\r\ncontent-length: 71\r\n\r\n{\"title\":\"Bad Request\",\"status\":400,\"detail\":\"the body means no value\"}",
+    ),
+    (
+        "POST /entries/a",
+        "Accept: */*",
+        "\"nails\"",
+        "405 Method Not Allowed\r\nallow: GET, HEAD, PUT, DELETE\r\n",
+    ),
+    ("POST /", "Accept: */*", "\"nails\"", "404 "),
+    ("PUT /entries/", "Accept: */*", "\"nails\"", "404 "),
+    ("PUT /entry/a", "Accept: */*", "\"nails\"", "404 "),
+    ("DELETE /entries/%ff", "Accept: */*", "", "404 "),
+    (
+        "GET /entries/a",
+        "Accept: */*",
+        "",
+        "200 OK\r\ncontent-type: application/json\r\netag: \"11fe879ab1e1913bf68875fc2be09d52189e668b3eec523c303d146809d30bfa\"\r\ncontent-length: 7\r\n\r\n\"nails\"",
+    ),
+    ("DELETE /entries/a", "Accept: */*", "", "204 "),
+    ("DELETE /entries/a", "Accept: */*", "", "404 "),
+    ("GET /entries/a", "Accept: */*", "", "404 "),
+];
 
-const NAILS_TAG: &str = "\"f7b1df6d18a3240c190897c81fbe32056ef07be325f3cf55adc0415d1e9d342a\"";
+// Requests with conditions, in a row.
+const CONDITIONS: &[(&str, &str, &str, &str)] = &[
+    ("PUT /entries/a", "If-Match: *", "\"nails\"", "412 "),
+    (
+        "PUT /entries/a",
+        "If-Match: \"x\", \"11fe879ab1e1913bf68875fc2be09d52189e668b3eec523c303d146809d30bfa\"",
+        "\"nails\"",
+        "412 ",
+    ),
+    ("DELETE /entries/a", "If-Match: *", "", "404 "),
+    ("GET /entries/a", "If-Match: *", "", "404 "),
+    ("PUT /entries/a", "If-None-Match: *", "\"nails\"", "201 "),
+    ("PUT /entries/a", "If-None-Match: *", "\"nails\"", "412 "),
+    ("PUT /entries/a", "If-Match: \"x\"", "\"nails\"", "412 "),
+    ("PUT /entries/a", "If-Match: \"x\"", "", "412 "),
+    (
+        "PUT /entries/a",
+        "If-Match: W/\"11fe879ab1e1913bf68875fc2be09d52189e668b3eec523c303d146809d30bfa\"",
+        "\"nails\"",
+        "412 ",
+    ),
+    (
+        "PUT /entries/a",
+        "If-Match: \"x\", \"11fe879ab1e1913bf68875fc2be09d52189e668b3eec523c303d146809d30bfa\"",
+        "",
+        "400 ",
+    ),
+    (
+        "PUT /entries/a",
+        "If-Match: \"x\", \"11fe879ab1e1913bf68875fc2be09d52189e668b3eec523c303d146809d30bfa\"",
+        "\"nails\"",
+        "204 ",
+    ),
+    ("PUT /entries/a", "If-Match: *", "\"nails\"", "204 "),
+    ("GET /entries/a", "If-Match: \"x\"", "", "412 "),
+    ("GET /entries/a", "If-None-Match: \"x\"", "", "200 "),
+    (
+        "GET /entries/a",
+        "If-None-Match: \"x\", \"11fe879ab1e1913bf68875fc2be09d52189e668b3eec523c303d146809d30bfa\"",
+        "",
+        "304 ",
+    ),
+    (
+        "HEAD /entries/a",
+        "If-None-Match: W/\"11fe879ab1e1913bf68875fc2be09d52189e668b3eec523c303d146809d30bfa\"",
+        "",
+        "304 ",
+    ),
+    ("DELETE /entries/a", "If-Match: \"x\"", "", "412 "),
+    (
+        "DELETE /entries/a",
+        "If-Match: \"x\", \"11fe879ab1e1913bf68875fc2be09d52189e668b3eec523c303d146809d30bfa\"",
+        "",
+        "204 ",
+    ),
+];
 
 // Opens a store in memory that has no entry.
-fn opened(rt: &HostRuntime) -> Result<StoreService<MemStore, Goods>, Fail> {
+fn opened(rt: &HostRuntime) -> Result<StoreService<MemStore, String>, Fail> {
     let mut conn = Connection::open_in_memory(rt.alloc())?;
     prepare(&mut conn)?;
     Ok(StoreService::new(rt.alloc(), conn))
 }
 
-// Serves a stream, and returns what was sent.
-fn served(
+// Serves a request of these line, field and body, and returns what was sent.
+fn sent(
     rt: &HostRuntime,
-    service: &mut StoreService<MemStore, Goods>,
-    stream: &str,
-) -> Result<String, Fail> {
-    let mut sent = Vec::new(rt.alloc());
-    let keys = RandomState::new(rt)?;
-    let mut stream = stream.as_bytes();
-    serve_stream(
-        rt.alloc(),
-        keys,
-        Config::default(),
-        service,
-        &mut stream,
-        &mut sent,
-    )?;
-    Ok(String::from_utf8(sent)?)
-}
-
-// Serves one request, of these line, field and body, and returns what was sent.
-fn sent_if(
-    rt: &HostRuntime,
-    service: &mut StoreService<MemStore, Goods>,
+    service: &mut StoreService<MemStore, String>,
     line: &str,
     field: &str,
     body: &str,
@@ -58,137 +142,45 @@ fn sent_if(
         "{line} HTTP/1.1\r\nHost: a\r\n{field}\r\nContent-Length: {}\r\n\r\n{body}",
         body.len()
     )?;
-    served(rt, service, stream.as_str())
-}
-
-// Serves one request, of these line and body, and returns what was sent.
-fn sent_for(
-    rt: &HostRuntime,
-    service: &mut StoreService<MemStore, Goods>,
-    line: &str,
-    body: &str,
-) -> Result<String, Fail> {
-    sent_if(rt, service, line, "Accept: */*", body)
-}
-
-#[test]
-fn an_entry_is_put_read_and_removed(rt: HostRuntime) -> Result<(), Fail> {
-    let mut service = opened(&rt)?;
-    for (line, body, status) in [
-        ("GET /entries/nails", "", "HTTP/1.1 404 "),
-        ("DELETE /entries/nails", "", "HTTP/1.1 404 "),
-        (
-            "PUT /entries/n%61ils",
-            "{\"name\":\"nails\", \"count\":2}",
-            "HTTP/1.1 201 ",
-        ),
-        (
-            "PUT /entries/nails",
-            "{\"name\":\"n\\u0061ils\", \"count\":3}",
-            "HTTP/1.1 204 ",
-        ),
-    ] {
-        assert!(rt;
-            sent_for(&rt, &mut service, line, body)?
-                .as_str()
-                .starts_with(status)
-        );
-    }
-    let head = format!(in rt.alloc();
-        "HTTP/1.1 200 OK\r\ncontent-type: application/json\r\netag: {NAILS_TAG}\r\ncontent-length: 38\r\n\r\n"
+    let keys = RandomState::new(rt)?;
+    let mut output = Vec::new(rt.alloc());
+    serve_stream(
+        rt.alloc(),
+        keys,
+        Config::default(),
+        service,
+        &mut stream.as_bytes(),
+        &mut output,
     )?;
-    let shown = format!(in rt.alloc(); "{}{NAILS}", head.as_str())?;
-    let sent = sent_for(&rt, &mut service, "GET /entries/nails", "")?;
-    assert_eq!(rt; sent.as_str(), shown.as_str());
-    let sent = sent_for(&rt, &mut service, "HEAD /entries/nails", "")?;
-    assert_eq!(rt; sent.as_str(), head.as_str());
-    for (line, status) in [
-        ("GET /entries/nai", "HTTP/1.1 404 "),
-        ("DELETE /entries/nails", "HTTP/1.1 204 "),
-        ("DELETE /entries/nails", "HTTP/1.1 404 "),
-        ("GET /entries/nails", "HTTP/1.1 404 "),
-    ] {
-        assert!(rt;
-            sent_for(&rt, &mut service, line, "")?
-                .as_str()
-                .starts_with(status)
-        );
+    Ok(String::from_utf8(output)?)
+}
+
+// Serves requests in a row, and returns whether each response begins as it should.
+fn have_responses(
+    rt: &HostRuntime,
+    service: &mut StoreService<MemStore, String>,
+    requests: &[(&str, &str, &str, &str)],
+) -> Result<bool, Fail> {
+    for (line, field, body, wanted) in requests {
+        let response = sent(rt, service, line, field, body)?;
+        let Some(rest) = response.as_str().strip_prefix("HTTP/1.1 ") else {
+            return Ok(false);
+        };
+        if !rest.starts_with(wanted) {
+            return Ok(false);
+        }
     }
+    Ok(true)
+}
+
+#[test]
+fn responses_are_those_of_a_map(rt: HostRuntime) -> Result<(), Fail> {
+    let mut service = opened(&rt)?;
+    assert!(rt; have_responses(&rt, &mut service, REQUESTS)?);
+    assert!(rt; have_responses(&rt, &mut service, CONDITIONS)?);
     let mut conn = service.into_connection();
-    assert!(rt; texts::get(&mut conn, "nails")?.is_none());
-    Ok(())
-}
-
-#[test]
-fn other_requests_leave_the_entries(rt: HostRuntime) -> Result<(), Fail> {
-    let mut service = opened(&rt)?;
-    sent_for(&rt, &mut service, "PUT /entries/a", NAILS)?;
-    for (line, body, status) in [
-        ("PUT /entries/a", "", "HTTP/1.1 400 "),
-        ("PUT /entries/a", "{\"name\":\"a\"}", "HTTP/1.1 400 "),
-        (
-            "PUT /entries/a",
-            "{\"name\":\"a\",\"count\":-1}",
-            "HTTP/1.1 400 ",
-        ),
-        (
-            "POST /entries/a",
-            NAILS,
-            "HTTP/1.1 405 Method Not Allowed\r\nallow: GET, HEAD, PUT, DELETE\r\n",
-        ),
-        ("POST /", NAILS, "HTTP/1.1 404 "),
-        ("PUT /entries/", NAILS, "HTTP/1.1 404 "),
-        ("PUT /entry/a", NAILS, "HTTP/1.1 404 "),
-        ("DELETE /entries/%ff", "", "HTTP/1.1 404 "),
-    ] {
-        assert!(rt;
-            sent_for(&rt, &mut service, line, body)?
-                .as_str()
-                .starts_with(status)
-        );
-    }
-    let sent = sent_for(&rt, &mut service, "GET /entries/a", "")?;
-    assert!(rt; sent.as_str().ends_with(NAILS));
-    last_put_is_shown::<Goods>();
-    Ok(())
-}
-
-#[test]
-fn conditions_are_those_of_the_entry(rt: HostRuntime) -> Result<(), Fail> {
-    let mut service = opened(&rt)?;
-    let own = format!(in rt.alloc(); "\"x\", {NAILS_TAG}")?;
-    let own_is = format!(in rt.alloc(); "If-Match: {own}")?;
-    let own_is_not = format!(in rt.alloc(); "If-None-Match: {own}")?;
-    let weak_is = format!(in rt.alloc(); "If-Match: W/{NAILS_TAG}")?;
-    let weak_is_not = format!(in rt.alloc(); "If-None-Match: W/{NAILS_TAG}")?;
-    for (line, field, body, status) in [
-        ("PUT /entries/a", "If-Match: *", NAILS, "HTTP/1.1 412 "),
-        ("PUT /entries/a", own_is.as_str(), NAILS, "HTTP/1.1 412 "),
-        ("DELETE /entries/a", "If-Match: *", "", "HTTP/1.1 404 "),
-        ("GET /entries/a", "If-Match: *", "", "HTTP/1.1 404 "),
-        ("PUT /entries/a", "If-None-Match: *", NAILS, "HTTP/1.1 201 "),
-        ("PUT /entries/a", "If-None-Match: *", NAILS, "HTTP/1.1 412 "),
-        ("PUT /entries/a", "If-Match: \"x\"", NAILS, "HTTP/1.1 412 "),
-        ("PUT /entries/a", "If-Match: \"x\"", "", "HTTP/1.1 412 "),
-        ("PUT /entries/a", weak_is.as_str(), NAILS, "HTTP/1.1 412 "),
-        ("PUT /entries/a", own_is.as_str(), "", "HTTP/1.1 400 "),
-        ("PUT /entries/a", own_is.as_str(), NAILS, "HTTP/1.1 204 "),
-        ("PUT /entries/a", "If-Match: *", NAILS, "HTTP/1.1 204 "),
-        ("GET /entries/a", "If-Match: \"x\"", "", "HTTP/1.1 412 "),
-        (
-            "GET /entries/a",
-            "If-None-Match: \"x\"",
-            "",
-            "HTTP/1.1 200 ",
-        ),
-        ("GET /entries/a", own_is_not.as_str(), "", "HTTP/1.1 304 "),
-        ("HEAD /entries/a", weak_is_not.as_str(), "", "HTTP/1.1 304 "),
-        ("DELETE /entries/a", "If-Match: \"x\"", "", "HTTP/1.1 412 "),
-        ("DELETE /entries/a", own_is.as_str(), "", "HTTP/1.1 204 "),
-    ] {
-        let sent = sent_if(&rt, &mut service, line, field, body)?;
-        assert!(rt; sent.as_str().starts_with(status));
-    }
+    assert!(rt; texts::get(&mut conn, "a")?.is_none());
+    last_put_is_shown::<String>();
     Ok(())
 }
 
@@ -228,7 +220,7 @@ fn connections_share_the_entries(rt: HostRuntime) -> Result<(), Fail> {
     let mut peers = Slab::new(rt.alloc());
     let keys = RandomState::new(&rt)?;
     let inputs: [&[u8]; 2] = [
-        b"PUT /entries/a HTTP/1.1\r\nHost: a\r\nContent-Length: 22\r\n\r\n{\"name\":\"b\",\"count\":1}",
+        b"PUT /entries/a HTTP/1.1\r\nHost: a\r\nContent-Length: 7\r\n\r\n\"nails\"",
         b"GET /entries/a HTTP/1.1\r\nHost: a\r\n\r\n",
     ];
     for input in inputs {
@@ -248,11 +240,6 @@ fn connections_share_the_entries(rt: HostRuntime) -> Result<(), Fail> {
     let Some(peer) = peers.get(1) else {
         return Err(Fail::from(ErrorKind::NotFound));
     };
-    assert!(rt;
-        peer.stream
-            .output
-            .as_slice()
-            .ends_with(b"{\"count\":1,\"name\":\"b\",\"note\":null}")
-    );
+    assert!(rt; peer.stream.output.as_slice().ends_with(b"\"nails\""));
     Ok(())
 }

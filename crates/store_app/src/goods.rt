@@ -4,10 +4,11 @@ ghost use Rattle.miniserde.specs.Structs.{names_of, record_tree};
 ghost use Rattle.std.specs.Prelude.{refl};
 
 use miniserde::derived::{
-    Event, FromJson, Lossless, NeverNull, NoSlot, Parts, Ranged, Record, Result, RoundTrip,
-    Serialize, Slot, Slots, Source, Stable, Writer, WrittenFields, read_record, record_lossless,
-    record_round_trips, record_stable, write_members,
+    Event, FromJson, Global, Lossless, NeverNull, NoSlot, Parts, Plain, Ranged, Record, Result,
+    RoundTrip, Serialize, Slot, Slots, Source, Stable, Writer, WrittenFields, read_record,
+    record_lossless, record_round_trips, record_stable, write_members,
 };
+use refused::{FieldByField, FieldPath, NamesOf, NoProbe, Probe, Probes, Way, fields_give};
 
 /// Goods in stock.
 #[derive(Drop)]
@@ -102,5 +103,22 @@ impl NeverNull for Goods {
 impl Stable for Goods {
     fn stable() {
         record_stable::<Goods, GoodsFields>()
+    }
+}
+
+// Its fields, one by one.
+type GoodsProbes = Probe<String, Plain, Probe<u32, Plain, Probe<Option<String>, Plain, NoProbe>>>;
+
+impl FieldByField for Goods {
+    ghost wrong = { λ gives here. ⟦<GoodsProbes as Probes>⟧.wrong gives here ⟦<Goods as Record>⟧.names };
+
+    ghost right = { λ gives. ⟦<GoodsProbes as Probes>⟧.right gives ⟦<Goods as Record>⟧.names };
+
+    fn probe<W: Way>(alloc: Global, text: &str) -> Result<Option<FieldPath>> {
+        <GoodsProbes as Probes>::probe::<W, NamesOf<Goods>>(alloc, text)
+    }
+
+    fn by_fields<W: Way>() {
+        fields_give::<Goods, GoodsProbes, W>()
     }
 }

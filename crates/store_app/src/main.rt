@@ -10,6 +10,7 @@ use sqlite::Unknown;
 use std::hash::RandomState;
 use std::process::ExitCode;
 use std::{env, io};
+use store::explain::ByField;
 use store::opening::prepare;
 use store::service::StoreService;
 use store::stream::serve_stream;
@@ -26,7 +27,7 @@ fn run(rt: &HostRuntime) -> io::Result<u8> {
     if prepare(&mut conn).is_err() {
         return Ok(1);
     }
-    let mut service: StoreService<_, Goods> = StoreService::new(rt.alloc(), conn);
+    let mut service: StoreService<_, Goods, ByField> = StoreService::new(rt.alloc(), conn);
     let keys = RandomState::new(rt)?;
     let (mut reader, mut writer) = (rt.stdin(), io::writer(rt));
     serve_stream(

@@ -1,6 +1,0 @@
-/// Goods in stock.
-pub struct Goods { // lossless, stable
-    pub name: String,
-    pub count: u32,
-    pub note: Option<String>,
-}
