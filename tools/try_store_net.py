@@ -17,7 +17,6 @@ import random
 import re
 import resource
 import shutil
-import signal
 import socket
 import subprocess
 import tempfile
@@ -25,61 +24,18 @@ import threading
 import time
 from concurrent.futures import ThreadPoolExecutor
 
+from store_net import Client, Server, shown
 from store_requests import HAS_SQLITE, KEYS, Request, Wrong, answer, expect, made_put, made_request, response_from, rows
+from try_store_ends import full_disk, killed, terminated
 
 ROOT = pathlib.Path(__file__).resolve().parent.parent
 # What main.rt of the server says.
 CONNECTIONS, IDLE = 1000, 30
 # A response to a fast client comes within so many seconds, whatever the slow ones do.
 BOUND = 0.5
+# Beside clients that send many puts at once: by them each turn may take some hundred syncs of the disk.
+FLOOD_BOUND = 2
 STATUSES = {200, 201, 204, 304, 400, 404, 405, 412, 413, 414, 431}
-
-
-class Server:
-    """The program on a file, at a port that the system picks."""
-
-    def __init__(self, program, path, **words):
-        self.run = subprocess.Popen([program, path, "127.0.0.1:0"], stdout=subprocess.PIPE, stderr=subprocess.PIPE, text=True, **words)
-        said = self.run.stdout.readline()
-        found = re.fullmatch(r"listening on 127\.0\.0\.1:(\d+)\n", said)
-        expect(found, f"the server says {said!r} and {'' if said else self.run.stderr.read()!r}")
-        self.port = int(found[1])
-
-    def __enter__(self):
-        return self
-
-    def __exit__(self, *_):
-        self.run.kill()
-        self.run.communicate()
-
-    def end(self, number=signal.SIGTERM):
-        """Ends the server by a signal, of which it dies."""
-        self.run.send_signal(number)
-        rest, errors = self.run.communicate(timeout=20)
-        expect((self.run.returncode, rest, errors) == (-number, "", ""), f"after {number!r}: {self.run.returncode}, {rest!r}, {errors!r}")
-
-
-class Client:
-    """A connection to a server, which sends one request at a time."""
-
-    def __init__(self, port):
-        self.socket = socket.create_connection(("127.0.0.1", port), timeout=60)
-        self.stream = self.socket.makefile("rb")
-
-    def __enter__(self):
-        return self
-
-    def __exit__(self, *_):
-        self.stream.close()
-        self.socket.close()
-
-    def ask(self, request):
-        """Returns the response, or None if the connection ends."""
-        try:
-            self.socket.sendall(request.sent())
-            return response_from(self.stream, request.method)
-        except ConnectionError:
-            return None
 
 
 def by_curl(port, method, target, body=b"", fields=()):
@@ -91,15 +47,6 @@ def by_curl(port, method, target, body=b"", fields=()):
     out = subprocess.run(words, input=body, capture_output=True, timeout=60).stdout
     came = response_from(stream := io.BytesIO(out), method)
     return response_from(stream, method) if came and came[0] == 100 else came
-
-
-def shown(port, keys):
-    """Returns the entries of these keys, as the server shows them."""
-    with Client(port) as client:
-        found = {key: client.ask(Request("GET", key)) for key in keys}
-    for key, came in found.items():
-        expect(came and (came[0] == 404 or came == answer({key: came[2]}, Request("GET", key))[0]), f"{key} is shown by {came}")
-    return {key: came[2] for key, came in found.items() if came[0] == 200}
 
 
 def each_status(program, folder):
@@ -227,6 +174,36 @@ def slow_clients(program, folder):
             f"median {times[len(times) // 2] * 1e3:.2f} ms, longest {times[-1] * 1e3:.0f} ms (bound {BOUND * 1e3:.0f})")
 
 
+def flood(program, folder):
+    """Has four clients that send many puts without waiting beside a fast one."""
+    text = '{"count":1,"name":"nails","note":null}'
+    puts = b"".join(Request("PUT", f"k{number % 50}", text, text).sent() for number in range(1500))
+    times = []
+
+    def send():
+        with Client(server.port) as client:
+            sender = threading.Thread(target=client.socket.sendall, args=(puts,))
+            sender.start()
+            statuses = collections.Counter(response_from(client.stream, "PUT")[0] for _ in range(1500))
+            sender.join()
+        return statuses
+
+    with Server(program, f"{folder}/flood.db") as server, ThreadPoolExecutor(4) as pool, Client(server.port) as client:
+        begun = time.monotonic()
+        floods = [pool.submit(send) for _ in range(4)]
+        while not times or not all(it.done() for it in floods):
+            asked = time.monotonic()
+            came = client.ask(Request("GET", "k0"))
+            times.append(time.monotonic() - asked)
+            expect(came in (answer({}, Request("GET", "k0"))[0], answer({"k0": text}, Request("GET", "k0"))[0]), f"beside a flood: {came}")
+        took = time.monotonic() - begun
+        statuses = sum((it.result() for it in floods), collections.Counter())
+    expect(statuses == {201: 50, 204: 5950}, f"the statuses of a flood: {statuses}")
+    expect(max(times) < FLOOD_BOUND, f"beside a flood a client waited {max(times):.2f} s")
+    return (f"6,000 puts by 4 clients that do not wait: {took:.1f} s; beside them {len(times)} gets, longest {max(times) * 1e3:.0f} ms "
+            f"(bound {FLOOD_BOUND * 1e3:.0f})")
+
+
 def too_many(program, folder):
     """Has more connections than the limit: the last ones are answered once others are closed."""
     beyond = 100
@@ -259,110 +236,6 @@ def too_many(program, folder):
     return f"{len(clients)} connections: {len(first)} answered, and {len(then)} more once as many were closed; {memory / 1000:.0f} MB"
 
 
-class Writer(threading.Thread):
-    """A client that puts under keys of its own until its connection ends. `known` are their entries before."""
-
-    def __init__(self, port, number, seed, known):
-        super().__init__()
-        self.port, self.number, self.made = port, number, random.Random(seed)
-        self.entries, self.last, self.puts, self.wrong = known, None, 0, None
-
-    def run(self):
-        with Client(self.port) as client:
-            while True:
-                request = made_put(self.made, f"k{self.number}/{self.made.randrange(7)}")
-                wanted, after = answer(self.entries, request)
-                self.last = request.key, after.get(request.key)
-                came = client.ask(request)
-                if came is None:
-                    return
-                if came != wanted:
-                    self.wrong = f"{request.sent()!r}: {came}, and not {wanted}"
-                    return
-                self.entries, self.puts = after, self.puts + 1
-
-
-def ended(program, folder, number, turns, name):
-    """Ends the server by a signal during puts by eight clients, some times, on one file. Returns how many puts were answered."""
-    path, found, puts = f"{folder}/{name}.db", {}, 0
-    keys = [f"k{writer}/{key}" for writer in range(8) for key in range(7)]
-    for turn in range(turns):
-        with Server(program, path) as server:
-            expect(shown(server.port, keys) == found, f"{name}, turn {turn}: what is shown is not what was found")
-            known = [{key: text for key, text in found.items() if key.startswith(f"k{writer}/")} for writer in range(8)]
-            writers = [Writer(server.port, writer, 100 * turn + writer, known[writer]) for writer in range(8)]
-            for it in writers:
-                it.start()
-            time.sleep(random.Random(turn).uniform(0.3, 1))
-            server.end(number)
-            for it in writers:
-                it.join()
-        expect(not any(it.wrong for it in writers), f"{name}: {[it.wrong for it in writers if it.wrong]}")
-        if HAS_SQLITE and turn % 2:
-            found = rows(path)
-        else:
-            with Server(program, path) as server:
-                found = shown(server.port, keys)
-        for it in writers:
-            own = {key: text for key, text in found.items() if key.startswith(f"k{it.number}/")}
-            key, text = it.last
-            expect(own in (it.entries, {**it.entries, key: text}), f"{name}, turn {turn}: {own}, and not {it.entries} or {it.last}")
-        puts += sum(it.puts for it in writers)
-    expect(not HAS_SQLITE or rows(path) == found, f"the rows after {name}")
-    return puts
-
-
-def killed(program, folder):
-    return f"10 times `kill -9` during puts by 8 clients, {ended(program, folder, signal.SIGKILL, 10, 'killed')} puts answered, none lost"
-
-
-def terminated(program, folder):
-    return f"4 times SIGTERM during puts by 8 clients, {ended(program, folder, signal.SIGTERM, 4, 'terminated')} puts answered, none lost"
-
-
-@contextlib.contextmanager
-def small_disk(folder):
-    """Gives a folder of 700 kB and what is left of it, or one with files of at most 1 MB if none may be mounted."""
-    room = pathlib.Path(folder, "disk")
-    room.mkdir()
-    if subprocess.run(["mount", "-t", "tmpfs", "-o", "size=700k", "none", room], capture_output=True).returncode:
-        def limited():
-            signal.signal(signal.SIGXFSZ, signal.SIG_IGN)
-            resource.setrlimit(resource.RLIMIT_FSIZE, (1_000_000, 1_000_000))
-        yield room, "a file that cannot grow", {"preexec_fn": limited}
-        return
-    try:
-        yield room, "a full disk of 700 kB", {}
-    finally:
-        subprocess.run(["umount", room], check=True)
-
-
-def full_disk(program, folder):
-    """Puts until the disk is full: what was answered by success is there, and nothing of what was answered by 503."""
-    made, entries, refused = random.Random(7), {}, 0
-    with small_disk(folder) as (room, name, words):
-        path = f"{room}/full.db"
-        with Server(program, path, **words) as server, Client(server.port) as client:
-            for number in range(120):
-                text = '{"count":%d,"name":"%s","note":null}' % (number, "x" * made.randrange(20_000))
-                request = Request("PUT", f"k{number % 90}", text, text)
-                came = client.ask(request)
-                wanted, after = answer(entries, request)
-                expect(came in (wanted, (503, {}, "")), f"{name}: {came}")
-                entries, refused = (after, refused) if came == wanted else (entries, refused + 1)
-            keys = [f"k{number}" for number in range(90)]
-            expect(shown(server.port, keys) == entries, f"what is shown at {name}")
-            server.end()
-        with Server(program, path) as server:
-            expect(shown(server.port, keys) == entries, f"what is shown after {name}")
-            server.end()
-        for file in room.glob("full.db*"):
-            shutil.copy(file, folder)
-    expect(not HAS_SQLITE or rows(f"{folder}/full.db") == entries, f"the rows after {name}")
-    expect(entries and refused, f"{name}: no put was refused, or each")
-    return f"{name}: {len(entries)} entries, and {refused} puts answered by 503"
-
-
 def refused_starts(program, folder):
     """Starts the server where it cannot run: each time it says why, and no file changes."""
     def start(*words):
@@ -386,7 +259,7 @@ def refused_starts(program, folder):
     return "a second server on a file, one on a port, wrong words, no folder, another table: refused"
 
 
-TRIALS = (each_status, pieces, at_once, slow_clients, too_many, killed, terminated, full_disk, refused_starts)
+TRIALS = (each_status, pieces, at_once, slow_clients, flood, too_many, killed, terminated, full_disk, refused_starts)
 
 
 def made_program(folder):
