@@ -16,6 +16,7 @@ import pathlib
 import random
 import re
 import resource
+import selectors
 import shutil
 import socket
 import subprocess
@@ -212,24 +213,31 @@ def too_many(program, folder):
     usual = {"preexec_fn": lambda: resource.setrlimit(resource.RLIMIT_NOFILE, (1024, most))}
     sent = Request("GET", "nails").sent()
 
-    def answered(some, seconds):
-        until = time.monotonic() + seconds
-        for it in some:
-            it.settimeout(max(0.001, until - time.monotonic()))
-            with contextlib.suppress(TimeoutError):
-                yield it, it.recv(1000).startswith(b"HTTP/1.1 404 ")
+    def answered(some, count):
+        """Returns those that get a response, until so many have and for a second more."""
+        found, until = [], time.monotonic() + IDLE - 5
+        with selectors.DefaultSelector() as ready:
+            for it in some:
+                ready.register(it, selectors.EVENT_READ)
+            while (left := until - time.monotonic()) > 0:
+                for it in [key.fileobj for key, _ in ready.select(left)]:
+                    expect(it.recv(1000).startswith(b"HTTP/1.1 404 "), "another response than 404")
+                    ready.unregister(it)
+                    found.append(it)
+                    if len(found) == count:
+                        until = time.monotonic() + 1
+        return found
 
     with Server(program, f"{folder}/many.db", **usual) as server, contextlib.ExitStack() as stack:
         clients = []
         for _ in range(CONNECTIONS + beyond):
             clients.append(stack.enter_context(socket.create_connection(("127.0.0.1", server.port), timeout=20)))
             clients[-1].sendall(sent)
-        first = [it for it, is_right in answered(clients, 5) if is_right]
+        first = answered(clients, CONNECTIONS)
         expect(len(first) == CONNECTIONS, f"{len(first)} connections of {len(clients)} are answered")
         for it in first[:beyond]:
             it.close()
-        last = [it for it in clients if it not in first]
-        then = [it for it, is_right in answered(last, 5) if is_right]
+        then = answered([it for it in clients if it not in first], beyond)
         expect(len(then) == beyond, f"{len(then)} connections of {beyond} are answered once others are closed")
         memory = int(re.search(r"VmRSS:\s+(\d+)", pathlib.Path(f"/proc/{server.run.pid}/status").read_text())[1])
         server.end()
@@ -284,8 +292,8 @@ def main(words):
             if given.only in trial.__name__:
                 try:
                     print(trial(program, folder), flush=True)
-                except Wrong as wrong:
-                    print(wrong, flush=True)
+                except (Wrong, OSError, subprocess.SubprocessError) as wrong:
+                    print(f"{trial.__name__}: {wrong}", flush=True)
                     failed += 1
     print(f"try_store --net: {f'{failed} failed' if failed else 'all as expected'}" + ("" if HAS_SQLITE else "; NOT RUN: sqlite3, which is not on PATH"))
     return 1 if failed else 0
