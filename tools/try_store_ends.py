@@ -76,17 +76,17 @@ def terminated(program, folder):
 
 @contextlib.contextmanager
 def small_disk(folder):
-    """Gives a folder of 700 kB and what is left of it, or one with files of at most 1 MB if none may be mounted."""
+    """Gives a folder of 700 kB, its name, the server's words, and a call that makes it larger; or of files of at most 1 MB."""
     room = pathlib.Path(folder, "disk")
     room.mkdir()
     if subprocess.run(["mount", "-t", "tmpfs", "-o", "size=700k", "none", room], capture_output=True).returncode:
         def limited():
             signal.signal(signal.SIGXFSZ, signal.SIG_IGN)
             resource.setrlimit(resource.RLIMIT_FSIZE, (1_000_000, 1_000_000))
-        yield room, "a file that cannot grow", {"preexec_fn": limited}
+        yield room, "a file that cannot grow", {"preexec_fn": limited}, None
         return
     try:
-        yield room, "a full disk of 700 kB", {}
+        yield room, "a full disk of 700 kB", {}, lambda: subprocess.run(["mount", "-o", "remount,size=8m", room], check=True)
     finally:
         subprocess.run(["umount", room], check=True)
 
@@ -94,7 +94,7 @@ def small_disk(folder):
 def full_disk(program, folder):
     """Puts until the disk is full: what was answered by success is there, and nothing of what was answered by 503."""
     made, entries, refused = random.Random(7), {}, 0
-    with small_disk(folder) as (room, name, words):
+    with small_disk(folder) as (room, name, words, enlarge):
         path = f"{room}/full.db"
         with Server(program, path, **words) as server, Client(server.port) as client:
             for number in range(120):
@@ -106,6 +106,10 @@ def full_disk(program, folder):
                 entries, refused = (after, refused) if came == wanted else (entries, refused + 1)
             keys = [f"k{number}" for number in range(90)]
             expect(shown(server.port, keys) == entries, f"what is shown at {name}")
+            if enlarge:
+                enlarge()
+                wanted, entries = answer(entries, request)
+                expect(client.ask(request) == wanted, f"the last put again, after {name} got room")
             server.end()
         with Server(program, path) as server:
             expect(shown(server.port, keys) == entries, f"what is shown after {name}")
@@ -114,4 +118,4 @@ def full_disk(program, folder):
             shutil.copy(file, folder)
     expect(not HAS_SQLITE or rows(f"{folder}/full.db") == entries, f"the rows after {name}")
     expect(entries and refused, f"{name}: no put was refused, or each")
-    return f"{name}: {len(entries)} entries, and {refused} puts answered by 503"
+    return f"{name}: {len(entries)} entries, and {refused} puts answered by 503{', and one put once there was room' if enlarge else ''}"
