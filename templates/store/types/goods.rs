@@ -1,0 +1,6 @@
+/// Goods in stock.
+pub struct Goods { // lossless, stable
+    pub name: String,
+    pub count: u32,
+    pub note: Option<String>,
+}

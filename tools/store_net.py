@@ -1,0 +1,63 @@
+"""The server that `./new FOLDER store` makes, on a file, and its clients: what the trials over 127.0.0.1 share."""
+import re
+import signal
+import socket
+import subprocess
+
+from store_requests import Request, answer, expect, response_from
+
+
+class Server:
+    """The program on a file, at a port that the system picks."""
+
+    def __init__(self, program, path, **words):
+        self.run = subprocess.Popen([program, path, "127.0.0.1:0"], stdout=subprocess.PIPE, stderr=subprocess.PIPE, text=True, **words)
+        said = self.run.stdout.readline()
+        found = re.fullmatch(r"listening on 127\.0\.0\.1:(\d+)\n", said)
+        expect(found, f"the server says {said!r} and {'' if said else self.run.stderr.read()!r}")
+        self.port = int(found[1])
+
+    def __enter__(self):
+        return self
+
+    def __exit__(self, *_):
+        self.run.kill()
+        self.run.communicate()
+
+    def end(self, number=signal.SIGTERM):
+        """Ends the server by a signal, of which it dies."""
+        self.run.send_signal(number)
+        rest, errors = self.run.communicate(timeout=20)
+        expect((self.run.returncode, rest, errors) == (-number, "", ""), f"after {number!r}: {self.run.returncode}, {rest!r}, {errors!r}")
+
+
+class Client:
+    """A connection to a server, which sends one request at a time."""
+
+    def __init__(self, port):
+        self.socket = socket.create_connection(("127.0.0.1", port), timeout=60)
+        self.stream = self.socket.makefile("rb")
+
+    def __enter__(self):
+        return self
+
+    def __exit__(self, *_):
+        self.stream.close()
+        self.socket.close()
+
+    def ask(self, request):
+        """Returns the response, or None if the connection ends."""
+        try:
+            self.socket.sendall(request.sent())
+            return response_from(self.stream, request.method)
+        except ConnectionError:
+            return None
+
+
+def shown(port, keys):
+    """Returns the entries of these keys, as the server shows them."""
+    with Client(port) as client:
+        found = {key: client.ask(Request("GET", key)) for key in keys}
+    for key, came in found.items():
+        expect(came and (came[0] == 404 or came == answer({key: came[2]}, Request("GET", key))[0]), f"{key} is shown by {came}")
+    return {key: came[2] for key, came in found.items() if came[0] == 200}
