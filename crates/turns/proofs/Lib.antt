@@ -1,1 +1,2 @@
 mod SharedLemmas
+mod SettledLemmas

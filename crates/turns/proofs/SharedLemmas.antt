@@ -18,7 +18,7 @@ all_append (x ∷ s) t = ap (λ (l : List Call). x.1 ++ l) (all_append s t) ∙ 
 abbrev at : ℕ → ℕ × List Call → List Call
 at key x = if x.0 == key then x.1 else []
 
-at_append : (key : ℕ) (s t : Turns) → calls_at key (s ++ t) ≡ calls_at key s ++ calls_at key t
+pub at_append : (key : ℕ) (s t : Turns) → calls_at key (s ++ t) ≡ calls_at key s ++ calls_at key t
 at_append key [] t = refl
 at_append key (x ∷ s) t =
     ap (λ (l : List Call). at key x ++ l) (at_append key s t) ∙ sym (append_assoc (at key x) (calls_at key s) (calls_at key t))
@@ -34,7 +34,7 @@ at_own : (key : ℕ) (calls : List Call) → calls_at key ((key, calls) ∷ []) 
 at_own key calls =
     ap (λ b. (if b then calls else []) ++ []) (same_number key) ∙ append-nil calls
 
-at_other : (key other : ℕ) (calls : List Call) → (other ≡ key → ⊥) → calls_at other ((key, calls) ∷ []) ≡ []
+pub at_other : (key other : ℕ) (calls : List Call) → (other ≡ key → ⊥) → calls_at other ((key, calls) ∷ []) ≡ []
 at_other key other calls apart = ap (λ b. (if b then calls else []) ++ []) (other_number key other apart)
 
 all_one : (key : ℕ) (calls : List Call) → all_calls ((key, calls) ∷ []) ≡ calls

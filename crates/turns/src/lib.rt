@@ -2,6 +2,7 @@
 #![tactic(auto)]
 
 pub mod peers;
+pub mod settled;
 #[cfg(test)]
 mod tests;
 pub mod turn;

@@ -9,7 +9,7 @@ use std::io;
 use std::io::{ErrorKind, Read, Write};
 
 /// A turn makes at most this many reads and writes, so that others have theirs.
-const MAX_STEPS: u32 = 16;
+pub(crate) const MAX_STEPS: u32 = 16;
 
 /// What a connection waits for after its turn.
 #[derive(Clone, Copy, PartialEq, Eq, Debug, Drop)]
@@ -65,7 +65,7 @@ pub fn take_turn<S: Service, T: Read + Write>(
 }
 
 // What a connection waits for after an error of its stream.
-fn after(error: &io::Error, wrote: bool) -> Turn {
+pub(crate) fn after(error: &io::Error, wrote: bool) -> Turn {
     match error.kind() {
         ErrorKind::WouldBlock => Turn::Waits { wrote },
         ErrorKind::Interrupted => Turn::More,

@@ -1,0 +1,44 @@
+-- One turn after another. A push has room, since the loop began with room for all keys.
+use Rattle.std.proofs.Common.{◌≤◌, ◌+◌, [], ◌∷◌, ◌++◌, length, take, get_or, sym, subst, rules}
+use Rattle.std.proofs.lemmas.List.{take_more}
+use Rattle.std.specs.List.{AllByRecursion}
+use Rattle.slab.specs.Slab.{get}
+use Rattle.turns.specs.Shared.{IsAtRest}
+use Rattle.turns.specs.Settled.{OnlyAmong}
+use Rattle.turns.proofs.SharedLemmas.{shared_none, shared_then, rest_then}
+use Rattle.turns.proofs.SettledLemmas.{keep_none, keep_then, among_none, among_then}
+use Rattle.turns.proofs.settled.hear_all.Goals as goal
+
+pub returns-in_err-heard-clause-silent : goal.returns-in_err-heard-clause-silent
+returns-in_err-heard-clause-silent g c = keep_none (λ h. h.sent) (get c.args.peers.now)
+
+pub loop-key-init : goal.loop-key-init
+loop-key-init g c = (
+  ([], among_none, shared_none g.S.Settle.answers c.args.service.now (get c.args.peers.now)),
+  keep_none (λ h. h.sent) (get c.args.peers.now),
+  tt,
+  search rules,
+  search rules,
+)
+
+pub loop-key-preserved : goal.loop-key-preserved
+loop-key-preserved g c =
+    let done = c.loop-key.invariant in
+    let one = c.hear_peer-more.ensures in
+    let keys = c.args.keys.now in
+    let i = c.loop-key.key-index in
+    let key = get_or keys i 0 in
+    let before = get c.loop-key.peers in
+    let after = get c.hear_peer-more.new.peers in
+    let more = sym (take_more keys i 0 (search rules)) in (
+      (
+        done.0.0 ++ one.shared.0,
+        subst (λ k. OnlyAmong k (done.0.0 ++ one.shared.0)) more
+            (among_then key (take i keys) done.0.0 one.shared.0 done.0.1 one.shared.1),
+        shared_then g.S.Settle.answers _ _ _ _ _ _ done.0.0 one.shared.0 done.0.2 one.shared.2,
+      ),
+      keep_then (λ h. h.sent) (get c.args.peers.now) before after done.1 one.silent,
+      subst (AllByRecursion (λ k. IsAtRest (after k))) more (rest_then before after key (take i keys) one.rests one.others done.2),
+      search rules,
+      search rules,
+    )

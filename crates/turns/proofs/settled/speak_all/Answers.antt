@@ -1,0 +1,23 @@
+-- One connection after another writes.
+use Rattle.std.proofs.Common.{◌≤◌, ◌+◌, length, vec_len, vec_capacity, rules}
+use Rattle.slab.specs.Slab.{get}
+use Rattle.turns.proofs.SettledLemmas.{keep_none, keep_then}
+use Rattle.turns.proofs.settled.speak_all.Goals.{then-speak_peer+in_ok-push, else-speak_peer}
+use Rattle.turns.proofs.settled.speak_all.Goals as goal
+
+pub loop-key-init : goal.loop-key-init
+loop-key-init g c = (keep_none (λ h. h.calls) (get c.args.peers.now), search rules)
+
+pub loop-key-preserved : goal.loop-key-preserved
+loop-key-preserved g c =
+    let heard = c.args.heard.now in
+    let i = c.loop-key.key-index in
+    let grown = c.if-speak_peer.unfinished in
+    let room : vec_len grown + length heard ≤ vec_capacity grown + (i + 1) = elim c.if-speak_peer.branch [
+      | then-speak_peer+in_ok-push w ↦ search rules
+      | else-speak_peer w ↦ search rules
+    ] in (
+      keep_then (λ h. h.calls) (get c.args.peers.now) (get c.loop-key.peers) (get c.speak_peer.new.peers) c.loop-key.invariant.0
+          c.speak_peer.ensures.quiet,
+      room,
+    )

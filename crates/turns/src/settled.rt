@@ -1,0 +1,244 @@
+//! Connections whose responses go out once their round is settled, as where the requests of many share one commit.
+ghost use Rattle.std.specs.Prelude.{◌≡◌, ◌+◌, ◌≤◌, ℕ, None, length, vec_len, vec_capacity, OnOk, IfOk, OnErr, IsOk};
+ghost use Rattle.std.specs.List.{AllByRecursion};
+ghost use Rattle.http_server.specs.Connection.{config_of, history};
+ghost use Rattle.http_server.specs.Exchange.{Calls};
+ghost use Rattle.http_server.specs.History.{Rests};
+ghost use Rattle.slab.specs.Slab.{get};
+ghost use Rattle.turns.specs.Shared.{Turns, IsShared, IsAtRest};
+ghost use Rattle.turns.specs.Settled.{AreSilent, AreQuiet, OnlyAt, OnlyAmong, IsSettled};
+
+use crate::peers::Peer;
+use crate::turn::{MAX_STEPS, Turn, after};
+use bytes::Bytes;
+use http::Request;
+use http_server::{Connection, Response, Service, Settle};
+use slab::Slab;
+use std::alloc::{AllocError, Global};
+use std::io::{Read, Write};
+use std::time::Instant;
+
+/// A service that is called in a round.
+#[derive(Drop)]
+struct InRound<'a, S: Settle> {
+    service: &'a mut S,
+}
+
+impl<'a, S: Settle> Service for InRound<'a, S> {
+    ghost answers = { λ old request response new. S.answers old.service.now request response new.service.now
+        × (new.service.ghost_name ≡ old.service.ghost_name) };
+
+    fn call(
+        &mut self,
+        request: &Request<Bytes>,
+        response: &mut Response,
+    ) -> Result<(), AllocError> {
+        self.service.call(request, response)
+    }
+}
+
+// Calls the service for what was received.
+fn advance<S: Settle>(connection: &mut Connection, service: &mut S)
+    ensures calls { Calls S.answers service.old service.new
+        (history connection.old).calls (history connection.new).calls }
+    ensures rests { Rests (config_of connection.new) (history connection.new) }
+    ensures silent { (history connection.new).sent ≡ (history connection.old).sent }
+    ensures config { config_of connection.new ≡ config_of connection.old }
+{
+    let mut round = InRound { service };
+    connection.advance(&mut round);
+    // No effect at run time. The proof reads what `service` holds from this use of it.
+    let InRound { service } = round;
+    let _ = &*service;
+}
+
+/// Reads, and calls the service, until a read returns `WouldBlock`, or the turn has made as many as it may, or the
+/// output has no room. Writes nothing. Returns `Done` if the stream fails.
+pub fn hear<S: Settle, T: Read>(
+    connection: &mut Connection,
+    service: &mut S,
+    stream: &mut T,
+) -> Turn
+    // The new calls of this connection lead from the state of the service before to the state after.
+    ensures calls { Calls S.answers service.old service.new
+        (history connection.old).calls (history connection.new).calls }
+
+    // The connection has called the service for each whole request that it received, as far as its output has room.
+    ensures rests { Rests (config_of connection.new) (history connection.new) }
+    ensures silent { (history connection.new).sent ≡ (history connection.old).sent }
+    ensures config { config_of connection.new ≡ config_of connection.old }
+{
+    advance(connection, service);
+    for _ in 0..MAX_STEPS {
+        if !connection.wants_read() {
+            return Turn::More;
+        }
+        if let Err(error) = connection.read_from(stream) {
+            return after(&error, false);
+        }
+        advance(connection, service);
+    }
+    Turn::More
+}
+
+/// Writes until a write returns `WouldBlock`, or nothing is left to write, or the turn has made as many as it may.
+/// Returns `Done` if HTTP has nothing more to do, or the stream fails.
+pub fn speak<T: Write>(connection: &mut Connection, stream: &mut T) -> Turn
+    ensures quiet { (history connection.new).calls ≡ (history connection.old).calls }
+    ensures config { config_of connection.new ≡ config_of connection.old }
+{
+    let mut wrote = false;
+    for _ in 0..MAX_STEPS {
+        if connection.is_done() {
+            return Turn::Done;
+        }
+        if !connection.wants_write() {
+            return Turn::Waits { wrote };
+        }
+        match connection.write_to(stream) {
+            Ok(0) => return Turn::Done,
+            Ok(_) => wrote = true,
+            Err(error) => return after(&error, wrote),
+        }
+    }
+    Turn::More
+}
+
+// Hears the connection of a key, and removes it if its stream fails. Returns whether it may have more to say.
+fn hear_peer<S: Settle, T: Read + Write + Drop>(
+    peers: &mut Slab<Peer<T>>,
+    key: usize,
+    service: &mut S,
+    now: Instant,
+) -> bool
+    // The calls of the turn are answered one after another by the service, and belong to this key.
+    ensures shared { (turns : Turns) × OnlyAt key turns
+        × IsShared S.answers service.old service.new (get peers.old) (get peers.new) turns }
+    ensures silent { AreSilent (get peers.old) (get peers.new) }
+    ensures rests { IsAtRest (get peers.new key) }
+    ensures others { (other : ℕ) → (other ≡ key → ⊥) → get peers.new other ≡ get peers.old other }
+{
+    let Some(mut peer) = peers.try_remove(key) else {
+        return false;
+    };
+    let next = hear(&mut peer.connection, service, &mut peer.stream);
+    if next == Turn::Done {
+        return false;
+    }
+    if next == Turn::More {
+        peer.since = now;
+    }
+    peers.insert_reserved(peer);
+    next == Turn::More
+}
+
+// Hears the connections of these keys. Returns those that had a turn, each with whether it may have more to say. Returns
+// an error, before the first turn, if an allocation fails.
+fn hear_all<S: Settle, T: Read + Write + Drop>(
+    alloc: Global,
+    peers: &mut Slab<Peer<T>>,
+    keys: &[usize],
+    service: &mut S,
+    now: Instant,
+) -> Result<Vec<(usize, bool)>, AllocError>
+    // The calls of all turns are answered one after another by the service, and belong to these keys.
+    ensures shared { OnOk result ((turns : Turns) × OnlyAmong keys.now turns
+        × IsShared S.answers service.old service.new (get peers.old) (get peers.new) turns) }
+    ensures silent { AreSilent (get peers.old) (get peers.new) }
+    ensures rests { OnOk result (AllByRecursion (λ key. IsAtRest (get peers.new key)) keys.now) }
+    ensures count { IfOk result (λ heard. length heard.items ≡ length keys.now) }
+    ensures none { OnErr result ((peers.new ≡ peers.old) × (service.new ≡ service.old)) }
+{
+    let mut heard = Vec::with_capacity(alloc, keys.len())?;
+    for key in keys.iter() {
+        let more = hear_peer(peers, *key, service, now);
+        heard.push((*key, more))?;
+    }
+    Ok(heard)
+}
+
+// Whether a connection may have more to do: more to write, or more to say and room for it.
+fn may_go_on(next: Turn, more: bool, connection: &Connection) -> bool {
+    next == Turn::More || more && !connection.wants_write()
+}
+
+// Lets the connection of a key write, and removes it if it is done. Returns whether it may have more to do.
+fn speak_peer<T: Write + Drop>(
+    peers: &mut Slab<Peer<T>>,
+    key: usize,
+    more: bool,
+    now: Instant,
+) -> bool
+    ensures quiet { AreQuiet (get peers.old) (get peers.new) }
+{
+    let Some(mut peer) = peers.try_remove(key) else {
+        return false;
+    };
+    let next = speak(&mut peer.connection, &mut peer.stream);
+    if next == Turn::Done {
+        return false;
+    }
+    if next != (Turn::Waits { wrote: false }) {
+        peer.since = now;
+    }
+    let again = may_go_on(next, more, &peer.connection);
+    peers.insert_reserved(peer);
+    again
+}
+
+// Lets the connections that were heard write. Appends the keys of those that may have more to do.
+fn speak_all<T: Write + Drop>(
+    peers: &mut Slab<Peer<T>>,
+    heard: &[(usize, bool)],
+    now: Instant,
+    unfinished: &mut Vec<usize>,
+) -> Result<(), AllocError>
+    requires { vec_len unfinished.old + length heard.now ≤ vec_capacity unfinished.old }
+    ensures done { IsOk result }
+    ensures quiet { AreQuiet (get peers.old) (get peers.new) }
+{
+    for (key, more) in heard.iter() {
+        if speak_peer(peers, *key, *more, now) {
+            unfinished.push(*key)?;
+        }
+    }
+    Ok(())
+}
+
+// Removes the connections of these keys.
+fn remove_all<T: Drop>(peers: &mut Slab<Peer<T>>, keys: &[usize])
+    ensures quiet { AreQuiet (get peers.old) (get peers.new) }
+    ensures gone { AllByRecursion (λ key. get peers.new key ≡ None) keys.now }
+{
+    for key in keys.iter() {
+        drop(peers.try_remove(*key));
+    }
+}
+
+/// Hears the connections of these keys, has the service settle the round, and then lets them write, or removes them if
+/// its answers do not stand. Appends the keys of those that may have more to do, and returns whether the answers stand.
+/// Returns an error, before the first turn, if an allocation fails.
+pub fn settled_round<S: Settle, T: Read + Write + Drop>(
+    alloc: Global,
+    peers: &mut Slab<Peer<T>>,
+    keys: &[usize],
+    service: &mut S,
+    now: Instant,
+    unfinished: &mut Vec<usize>,
+) -> Result<bool, AllocError>
+    // The calls of all turns are answered one after another by the service, and nothing is sent before it settles them.
+    // Those of a connection are the ones of its turns, and none that made one is left if they do not stand.
+    ensures settled { IfOk result (λ stands. (turns : Turns) × IsSettled S.answers S.settles keys.now
+        service.old service.new (get peers.old) (get peers.new) turns stands) }
+    ensures none { OnErr result ((peers.new ≡ peers.old) × (service.new ≡ service.old)) }
+{
+    unfinished.reserve(keys.len())?;
+    let heard = hear_all(alloc, peers, keys, service, now)?;
+    let stands = service.settle();
+    if stands {
+        speak_all(peers, heard.as_slice(), now, unfinished)?;
+    } else {
+        remove_all(peers, keys);
+    }
+    Ok(stands)
+}
