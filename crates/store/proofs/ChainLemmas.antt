@@ -1,5 +1,5 @@
 -- The calls of a service that lead from one state of its database to another are answered by a map.
-use Rattle.std.proofs.Common.{ℕ, List, [], ◌∷◌, refl, sym, subst}
+use Rattle.std.proofs.Common.{ℕ, List, [], ◌∷◌, None, refl, sym, subst}
 use Rattle.http.specs.declared.request.Request.{Request as HttpRequest}
 use Rattle.http_server.specs.declared.response.Response.{Response}
 use Rattle.http_server.specs.Exchange.{Call, Chain}
@@ -26,7 +26,7 @@ module _ {S : Type 0} (g : Ghosts S) {V : Type 0} (means : Meaning V) (tree : V 
       → (after : Map) × Chain (AnsweredMap means tree) m calls after × Represents (state g new) after
   answered_by_map [] old new m same clean r = (m, refl, subst (λ h. Represents (state g h) m) (sym same) r)
   answered_by_map (c ∷ calls) old new m (next, step, later) clean r =
-      let went = (step (was_clean calls next new later clean)).1 r.0 in
-      let one = answered_map (state g old) (state g next) m r went.0 means tree c.0 c.1 went.1 in
-      let rest = answered_by_map calls next new one.0 later clean one.2 in
+      let went = (step (was_clean calls next new later clean)).1 None r.0 in
+      let one = answered_map (state g old) (state g next) m r.1 means tree c.0 c.1 went.1 in
+      let rest = answered_by_map calls next new one.0 later clean (went.0, one.2) in
       (rest.0, (one.0, one.1, rest.1), rest.2)

@@ -12,12 +12,12 @@ use Rattle.miniserde.specs.Tree.{Tree}
 use Rattle.miniserde.specs.Meaning.{Meaning}
 use Rattle.sqlite.specs.declared.types.Value.TheVariants.{Text}
 use Rattle.sqlite.specs.State.{State}
-use Rattle.rows.specs.Entries.{Holds, HasKey, IsPut, IsRemoved, IsServing, Keeps, key_of}
+use Rattle.rows.specs.Entries.{Holds, HasKey, IsPut, IsRemoved, Keeps, key_of}
 use Rattle.store.specs.declared.conditions.Condition.TheVariants.{Met}
 use Rattle.store.specs.Routes.{headers_of}
 use Rattle.store.specs.Answered.{IsTextOf, MeansNoValue, IsProblem, IsStatus, IsCurrent, condition_on, Shows, Reads, PutsOver, Puts}
 use Rattle.store.specs.Answered.{RemovesOver, Removes, AnsweredAt, Answered}
-use Rattle.store.specs.Maps.{Map, with_text, without_key, ReadsMap, PutsMap, RemovesMap, AnsweredAtMap, AnsweredMap, Represents}
+use Rattle.store.specs.Maps.{Map, with_text, without_key, ReadsMap, PutsMap, RemovesMap, AnsweredAtMap, AnsweredMap, SeesMap}
 
 some_same : {a b : List ℕ} → ◌≡◌ {A = Option (List ℕ)} (Some a) (Some b) → a ≡ b
 some_same e = cc
@@ -27,19 +27,16 @@ apart_by a b e same = true≢false (sym ((bytes_eq-Decides a b).1 same) ∙ e)
 
 -- what a response leads to
 abbrev pub Leads : State → (Map → Type 0) → Type 0
-Leads new Answer = (after : Map) × Answer after × Represents new after
+Leads new Answer = (after : Map) × Answer after × SeesMap new after
 
-module _ (old new : State) (m : Map) (r : Represents old m) (serving : IsServing new) where
-  pub kept_represents : Keeps old new → Represents new m
-  kept_represents kept = (
-    serving,
-    λ live k b.
-        let was = kept live in
-        subst (λ db. Holds db k b ↔ (m k ≡ Some b)) (sym was.1) (r.1 was.0 k b),
-  )
+module _ (old new : State) (m : Map) (sees : SeesMap old m) where
+  pub kept_sees : Keeps old new → SeesMap new m
+  kept_sees kept live k b =
+      let was = kept live in
+      subst (λ db. Holds db k b ↔ (m k ≡ Some b)) (sym was.1) (sees was.0 k b)
 
-  put_represents : (key text : List ℕ) → IsTrue old.is_open → IsPut old.now new.now key text → Represents new (with_text m key text)
-  put_represents key text live p = (serving, λ _ k b. entry k b (bytes_eq k key) refl)
+  put_sees : (key text : List ℕ) → IsTrue old.is_open → IsPut old.now new.now key text → SeesMap new (with_text m key text)
+  put_sees key text live p _ k b = entry k b (bytes_eq k key) refl
     where
       entry : (k b : List ℕ) (v : Bool) → bytes_eq k key ≡ v → Holds new.now k b ↔ ((if v then Some text else m k) ≡ Some b)
       entry k b true e =
@@ -49,13 +46,13 @@ module _ (old new : State) (m : Map) (r : Represents old m) (serving : IsServing
           )
       entry k b false e =
           let o = p.others k b (apart_by k key e) in
-          let was = r.1 live k b in (
+          let was = sees live k b in (
             λ h. was.0 (o.0 h),
             λ is. o.1 (was.1 is),
           )
 
-  removed_represents : (key : List ℕ) → IsTrue old.is_open → IsRemoved old.now new.now key → Represents new (without_key m key)
-  removed_represents key live p = (serving, λ _ k b. entry k b (bytes_eq k key) refl)
+  removed_sees : (key : List ℕ) → IsTrue old.is_open → IsRemoved old.now new.now key → SeesMap new (without_key m key)
+  removed_sees key live p _ k b = entry k b (bytes_eq k key) refl
     where
       entry : (k b : List ℕ) (v : Bool) → bytes_eq k key ≡ v → Holds new.now k b ↔ ((if v then None else m k) ≡ Some b)
       entry k b true e =
@@ -65,7 +62,7 @@ module _ (old new : State) (m : Map) (r : Represents old m) (serving : IsServing
           )
       entry k b false e =
           let o = p.others k b (apart_by k key e) in
-          let was = r.1 live k b in (
+          let was = sees live k b in (
             λ h. was.0 (o.0 h),
             λ is. o.1 (was.1 is),
           )
@@ -75,10 +72,10 @@ module _ (old new : State) (m : Map) (r : Represents old m) (serving : IsServing
     where
       by : (o : Option (List ℕ)) → m key ≡ o → o ≡ None
       by None e = refl
-      by (Some text) e = let h = (r.1 live key text).1 e in absurd (lacks (h.0, h.1, h.2))
+      by (Some text) e = let h = (sees live key text).1 e in absurd (lacks (h.0, h.1, h.2))
 
   some_at : (key text : List ℕ) → IsTrue old.is_open → Holds old.now key text → m key ≡ Some text
-  some_at key text live h = (r.1 live key text).0 h
+  some_at key text live h = (sees live key text).0 h
 
   -- what the key has in the map
   current_at : (key : List ℕ) (current : Option (List ℕ)) → IsTrue old.is_open → IsCurrent old.now key current → m key ≡ current
@@ -88,8 +85,8 @@ module _ (old new : State) (m : Map) (r : Represents old m) (serving : IsServing
   module _ (headers : Entries FieldValue) (key : List ℕ) (response : Response) where
     reads_map : Reads old headers key response new → Leads new (ReadsMap m headers key response)
     reads_map (kept, inl (live, current, is, shown)) =
-        (m, (refl, inl (subst (λ o. Shows headers o response) (sym (current_at key current live is)) shown)), kept_represents kept)
-    reads_map (kept, inr failed) = (m, (refl, inr failed), kept_represents kept)
+        (m, (refl, inl (subst (λ o. Shows headers o response) (sym (current_at key current live is)) shown)), kept_sees kept)
+    reads_map (kept, inr failed) = (m, (refl, inr failed), kept_sees kept)
 
     -- a removal of what the map has there
     abbrev At : Option (List ℕ) → Map → Type 0
@@ -99,19 +96,19 @@ module _ (old new : State) (m : Map) (r : Represents old m) (serving : IsServing
         ⊎ ((IsTrue (is_some o) × (condition_on headers o ≢ Met) × IsStatus 412 response) ⊎ IsStatus 503 response)))
 
     removes_at : (current : Option (List ℕ)) → RemovesOver old headers key current response new → Leads new (At current)
-    removes_at None (kept, status) = (m, inr (refl, inl (refl, status)), kept_represents kept)
+    removes_at None (kept, status) = (m, inr (refl, inl (refl, status)), kept_sees kept)
     removes_at (Some text) (inl (met, inl (live, removed, status))) =
-        (without_key m key, inl (refl, met, refl, status), removed_represents key live removed)
-    removes_at (Some text) (inl (met, inr (kept, failed))) = (m, inr (refl, inr (inr failed)), kept_represents kept)
+        (without_key m key, inl (refl, met, refl, status), removed_sees key live removed)
+    removes_at (Some text) (inl (met, inr (kept, failed))) = (m, inr (refl, inr (inr failed)), kept_sees kept)
     removes_at (Some text) (inr (kept, inl (unmet, status))) =
-        (m, inr (refl, inr (inl (refl, unmet, status))), kept_represents kept)
-    removes_at (Some text) (inr (kept, inr failed)) = (m, inr (refl, inr (inr failed)), kept_represents kept)
+        (m, inr (refl, inr (inl (refl, unmet, status))), kept_sees kept)
+    removes_at (Some text) (inr (kept, inr failed)) = (m, inr (refl, inr (inr failed)), kept_sees kept)
 
     removes_map : Removes old headers key response new → Leads new (RemovesMap m headers key response)
     removes_map (inl (live, current, is, removes)) =
         let it = removes_at current removes in
         (it.0, subst (λ o. At o it.0) (sym (current_at key current live is)) it.1, it.2)
-    removes_map (inr (kept, failed)) = (m, inr (refl, inr (inr failed)), kept_represents kept)
+    removes_map (inr (kept, failed)) = (m, inr (refl, inr (inr failed)), kept_sees kept)
 
   module _ {V : Type 0} (means : Meaning V) (tree : V → Tree) where
     module _ (headers : Entries FieldValue) (key body : List ℕ) (response : Response) where
@@ -129,15 +126,15 @@ module _ (old new : State) (m : Map) (r : Represents old m) (serving : IsServing
 
       puts_at : (current : Option (List ℕ)) → PutsOver means tree old headers key current body response new → Leads new (OverAt current)
       puts_at current (inl (met, inl (live, text, of, put, status))) =
-          (with_text m key text, inl (met, inl (text, of, refl, status)), put_represents key text live put)
-      puts_at current (inl (met, inr (kept, why))) = (m, inl (met, inr (refl, why)), kept_represents kept)
-      puts_at current (inr (kept, why)) = (m, inr (refl, why), kept_represents kept)
+          (with_text m key text, inl (met, inl (text, of, refl, status)), put_sees key text live put)
+      puts_at current (inl (met, inr (kept, why))) = (m, inl (met, inr (refl, why)), kept_sees kept)
+      puts_at current (inr (kept, why)) = (m, inr (refl, why), kept_sees kept)
 
       puts_map : Puts means tree old headers key body response new → Leads new (PutsMap means tree m headers key body response)
       puts_map (inl (live, current, is, puts)) =
           let it = puts_at current puts in
           (it.0, subst (λ o. OverAt o it.0) (sym (current_at key current live is)) it.1, it.2)
-      puts_map (inr (kept, failed)) = (m, inr (refl, inr failed), kept_represents kept)
+      puts_map (inr (kept, failed)) = (m, inr (refl, inr failed), kept_sees kept)
 
     answered_at : (key : List ℕ) (request : HttpRequest (List ℕ)) (response : Response) → AnsweredAt means tree old key request response new
         → Leads new (AnsweredAtMap means tree m key request response)
@@ -151,11 +148,11 @@ module _ (old new : State) (m : Map) (r : Represents old m) (serving : IsServing
         let it = removes_map (headers_of request) key response removes in
         (it.0, inr (inr (inl (is, it.1))), it.2)
     answered_at key request response (inr (inr (inr (is, kept, sent)))) =
-        (m, inr (inr (inr (is, refl, sent))), kept_represents kept)
+        (m, inr (inr (inr (is, refl, sent))), kept_sees kept)
 
     pub answered_map : (request : HttpRequest (List ℕ)) (response : Response) → Answered means tree old request response new
         → Leads new (AnsweredMap means tree m request response)
     answered_map request response (inl (key, is, answer)) =
         let it = answered_at key request response answer in
         (it.0, inl (key, is, it.1), it.2)
-    answered_map request response (inr (none, kept, sent)) = (m, inr (none, refl, sent), kept_represents kept)
+    answered_map request response (inr (none, kept, sent)) = (m, inr (none, refl, sent), kept_sees kept)

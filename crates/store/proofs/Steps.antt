@@ -3,10 +3,11 @@ use Rattle.std.proofs.Common.{◌≡◌, ◌⊎◌, inl, inr, ℕ, List, Option,
 use Rattle.http_header.specs.FieldValue.{FieldValue}
 use Rattle.http_header.specs.HeaderMap.{Entries}
 use Rattle.http_server.specs.declared.response.Response.{Response}
+use Rattle.sqlite.specs.Effect.{Database}
 use Rattle.sqlite.specs.State.{State, HasCleanDisk, IsUnchanged}
-use Rattle.rows.specs.Entries.{entry_schema, IsStore, IsPut, IsRemoved, IsServing, Keeps}
+use Rattle.rows.specs.Entries.{entry_schema, IsStore, IsPut, IsRemoved, IsServing, StaysInside, Keeps, Aborts}
 use Rattle.store.specs.Answered.{IsTextOf, IsStatus, IsCurrent, Shows, Reads, PutsAs, PutsValue, PutsOver, Puts}
-use Rattle.store.specs.Answered.{Takes, RemovesOver, Removes, Goes}
+use Rattle.store.specs.Answered.{Takes, RemovesOver, Removes, IsInside, IsReady, GoesIn, Goes}
 use Rattle.miniserde.specs.Tree.{Tree}
 use Rattle.miniserde.specs.Meaning.{Meaning}
 
@@ -19,15 +20,39 @@ keeps_then a b c p q live =
     let soon = p late.0 in
     (soon.0, late.1 ∙ soon.1)
 
+-- a connection that is ready goes on, and a step is what it says
+on_in : (mode : Option Database) (s : State) (P : Type 0) → IsReady mode s → P → GoesIn mode s P
+on_in None s P ready p = (ready, p)
+on_in (Some base) s P ready p = inl (ready, p)
+
+so_in : (mode : Option Database) (s : State) (P Q : Type 0) → (P → Q) → GoesIn mode s P → GoesIn mode s Q
+so_in None s P Q f (ready, p) = (ready, f p)
+so_in (Some base) s P Q f (inl (ready, p)) = inl (ready, f p)
+so_in (Some base) s P Q f (inr lost) = inr lost
+
 -- a connection that is left alone goes on
 pub stays : (s : State) (P : Type 0) → P → Goes s s P
-stays s P p clean = (clean, λ serving. (serving, p))
+stays s P p clean = (clean, λ mode ready. on_in mode s P ready p)
 
 -- a step is what it says
 pub so : (a b : State) (P Q : Type 0) → (P → Q) → Goes a b P → Goes a b Q
 so a b P Q f goes clean =
     let it = goes clean in
-    (it.0, λ serving. let on = it.1 serving in (on.0, f on.1))
+    (it.0, λ mode ready. so_in mode b P Q f (it.1 mode ready))
+
+-- a step that loses no transaction
+abbrev pub Stays : State → State → Type 0 → Type 0
+Stays a b Step = HasCleanDisk b → HasCleanDisk a × ((mode : Option Database) → IsReady mode a → IsReady mode b × Step)
+
+pub then : (a b c : State) (P Q R : Type 0) → Stays a b P → Goes b c Q → (P → Q → R) → Goes a c R
+then a b c P Q R first second f clean =
+    let late = second clean in
+    let soon = first late.0 in (
+      soon.0,
+      λ mode ready.
+          let one = soon.1 mode ready in
+          so_in mode c Q R (λ q. f one.1 q) (late.1 mode one.0),
+    )
 
 -- a call that changed nothing leaves a connection that serves
 pub unchanged_serving : (a b : State) → IsServing a → IsUnchanged a b → IsServing b
@@ -50,89 +75,91 @@ pub value_by : {V : Type 0} (means : Meaning V) (tree : V → Tree) (old new : S
 value_by means tree old new key body text code response of (inl (live, put, status)) = inl (live, text, of, put, status)
 value_by means tree old new key body text code response of (inr (kept, status)) = inr (kept, inr status)
 
--- what `rows` says of a call
-pub record Called (a b : State) : Type 0 where
+-- what `rows` says of a query that returned
+pub record Finds (a b : State) : Type 0 where
   pub clean : HasCleanDisk b → HasCleanDisk a
   pub serving : HasCleanDisk b → IsServing a → IsServing b
+  pub live : HasCleanDisk b → IsServing a → IsTrue a.is_open
+  pub kept : HasCleanDisk b → IsServing a → Keeps a b
+  pub same : HasCleanDisk b → a.now.schema ≡ entry_schema → IsUnchanged a b
 
--- of a call that returned a value
-abbrev pub Lives : State → State → Type 0
-Lives a b = HasCleanDisk b → IsServing a → IsTrue a.is_open
+-- of a call that failed
+pub record Fails (a b : State) : Type 0 where
+  pub clean : HasCleanDisk b → HasCleanDisk a
+  pub serving : HasCleanDisk b → IsServing a → IsServing b
+  pub kept : HasCleanDisk b → IsServing a → Keeps a b
+  pub aborts : HasCleanDisk b → a.now.schema ≡ entry_schema → Aborts a b
 
--- of one that kept the rows
-abbrev pub Kept : State → State → Type 0
-Kept a b = HasCleanDisk b → IsServing a → Keeps a b
+-- of one that changed the rows
+pub record Changes (a b : State) (Change : Type 0) : Type 0 where
+  pub clean : HasCleanDisk b → HasCleanDisk a
+  pub serving : HasCleanDisk b → IsServing a → IsServing b
+  pub live : HasCleanDisk b → IsServing a → IsTrue a.is_open
+  pub change : HasCleanDisk b → IsStore a.now → Change
+  pub inside : HasCleanDisk b → a.now.schema ≡ entry_schema → IsTrue a.in_transaction → StaysInside a b
+  pub store : Change → IsStore b.now
 
-module _ (a b : State) (called : Called a b) where
-  goes_by : (P : Type 0) → (HasCleanDisk b → IsServing a → P) → Goes a b P
-  goes_by P f clean = (called.clean clean, λ s. (called.serving clean s, f clean s))
+-- what the connection sees inside of its transaction is the same
+unchanged_inside : (base : Database) (a b : State) → IsInside base a → IsUnchanged a b → IsInside base b
+unchanged_inside base a b (inside, live, committed, store) same = (
+  same.0.mode ∙ inside,
+  same.0.is_open,
+  same.0.committed_is ∙ committed,
+  subst IsStore (sym same.0.now_is) store,
+)
 
-  schema_of : IsServing a → IsTrue a.is_open → a.now.schema ≡ entry_schema
-  schema_of s live = (s.1 live).1.schema
+module _ (a b : State) where
+  -- a query finds something of an open connection, and keeps what it sees
+  abbrev pub Found : Type 0 → Type 0
+  Found P = IsTrue a.is_open × Keeps a b × P
 
-  -- what the key has, by what a query found
-  abbrev Found : List ℕ → Option (List ℕ) → Type 0
-  Found key current = HasCleanDisk b → a.now.schema ≡ entry_schema → IsCurrent a.now key current
+  pub found : (P : Type 0) → Finds a b → (HasCleanDisk b → a.now.schema ≡ entry_schema → P) → Stays a b (Found P)
+  found P call p clean = (call.clean clean, by)
+    where
+      by : (mode : Option Database) → IsReady mode a → IsReady mode b × Found P
+      by None s =
+          let live = call.live clean s in
+          (call.serving clean s, (live, call.kept clean s, p clean (s.1 live).1.schema))
+      by (Some base) s =
+          let same = call.same clean s.3.schema in
+          (unchanged_inside base a b s same, (s.1, (λ _. (s.1, same.0.now_is)), p clean s.3.schema))
+
+  pub failed : Fails a b → Goes a b (Keeps a b)
+  failed call clean = (call.clean clean, by)
+    where
+      aborted : (base : Database) → IsInside base a → Aborts a b → GoesIn (Some base) b (Keeps a b)
+      aborted base s (inl same) = inl (unchanged_inside base a b s same, λ _. (s.1, same.0.now_is))
+      aborted base s (inr back) =
+          inr (back.autocommit, λ live. let undone = back.undone live in (undone.0 ∙ s.2, undone.1 ∙ s.2))
+      by : (mode : Option Database) → IsReady mode a → GoesIn mode b (Keeps a b)
+      by None s = (call.serving clean s, call.kept clean s)
+      by (Some base) s = aborted base s (call.aborts clean s.3.schema)
+
+  pub changed : (Change : Type 0) → Changes a b Change → Goes a b (IsTrue a.is_open × Change)
+  changed Change call clean = (call.clean clean, by)
+    where
+      by : (mode : Option Database) → IsReady mode a → GoesIn mode b (IsTrue a.is_open × Change)
+      by None s =
+          let live = call.live clean s in
+          (call.serving clean s, (live, call.change clean (s.1 live).1))
+      by (Some base) s =
+          let change = call.change clean s.3 in
+          let on = call.inside clean s.3.schema s.0 in
+          inl ((on.inside, on.is_open, on.committed ∙ s.2, call.store change), (s.1, change))
 
   -- what the key has was shown, or could not be
-  pub read_found : (headers : Entries FieldValue) (key : List ℕ) (current : Option (List ℕ)) (response : Response) → Lives a b → Kept a b
-      → Found key current → Shows headers current response ⊎ IsStatus 503 response → Goes a b (Reads a headers key response b)
-  read_found headers key current response lives kept found (inl shown) = goes_by (Reads a headers key response b) (λ clean s.
-      let live = lives clean s in
-      (kept clean s, inl (live, current, found clean (schema_of s live), shown)))
-  read_found headers key current response lives kept found (inr failed) =
-      goes_by (Reads a headers key response b) (λ clean s. (kept clean s, inr failed))
-
-  pub read_failed : (headers : Entries FieldValue) (key : List ℕ) (response : Response) → Kept a b → IsStatus 503 response
+  pub read_found : (headers : Entries FieldValue) (key : List ℕ) (current : Option (List ℕ)) (response : Response)
+      → Stays a b (Found (IsCurrent a.now key current)) → Shows headers current response ⊎ IsStatus 503 response
       → Goes a b (Reads a headers key response b)
-  read_failed headers key response kept status =
-      goes_by (Reads a headers key response b) (λ clean s. (kept clean s, inr status))
-
-  -- a text was put
-  pub put_done : (key text : List ℕ) (code : ℕ) (response : Response) → Lives a b
-      → (HasCleanDisk b → IsStore a.now → IsPut a.now b.now key text) → IsStatus code response
-      → Goes a b (PutsAs a key text code response b)
-  put_done key text code response lives put status = goes_by (PutsAs a key text code response b) (λ clean s.
-      let live = lives clean s in
-      inl (live, put clean (s.1 live).1, status))
-
-  pub put_failed : (key text : List ℕ) (code : ℕ) (response : Response) → Kept a b → IsStatus 503 response
-      → Goes a b (PutsAs a key text code response b)
-  put_failed key text code response kept status =
-      goes_by (PutsAs a key text code response b) (λ clean s. inr (kept clean s, status))
-
-  -- a row was removed
-  pub take_done : (key : List ℕ) (response : Response) → Lives a b
-      → (HasCleanDisk b → IsStore a.now → IsRemoved a.now b.now key) → IsStatus 204 response → Goes a b (Takes a key response b)
-  take_done key response lives removed status = goes_by (Takes a key response b) (λ clean s.
-      let live = lives clean s in
-      inl (live, removed clean (s.1 live).1, status))
-
-  pub take_failed : (key : List ℕ) (response : Response) → Kept a b → IsStatus 503 response → Goes a b (Takes a key response b)
-  take_failed key response kept status = goes_by (Takes a key response b) (λ clean s. inr (kept clean s, status))
-
-  -- the query before a put or a removal failed
-  pub put_unknown : {V : Type 0} (means : Meaning V) (tree : V → Tree) (headers : Entries FieldValue) (key body : List ℕ)
-      (response : Response) → Kept a b → IsStatus 503 response → Goes a b (Puts means tree a headers key body response b)
-  put_unknown means tree headers key body response kept status =
-      goes_by (Puts means tree a headers key body response b) (λ clean s. inr (kept clean s, status))
-
-  pub remove_unknown : (headers : Entries FieldValue) (key : List ℕ) (response : Response) → Kept a b → IsStatus 503 response
-      → Goes a b (Removes a headers key response b)
-  remove_unknown headers key response kept status =
-      goes_by (Removes a headers key response b) (λ clean s. inr (kept clean s, status))
+  read_found headers key current response query shown =
+      then a b b _ (key ≡ key) (Reads a headers key response b) query (stays b (key ≡ key) refl) (λ it _. by it shown)
+    where
+      by : Found (IsCurrent a.now key current) → Shows headers current response ⊎ IsStatus 503 response → Reads a headers key response b
+      by (live, kept, is) (inl shown) = (kept, inl (live, current, is, shown))
+      by (live, kept, is) (inr status) = (kept, inr status)
 
   -- the query was followed by another call, from b to c
-  module _ (c : State) (lives : Lives a b) (kept : Kept a b) where
-    goes_on : (P Q : Type 0) → Goes b c P → (HasCleanDisk b → IsServing a → P → Q) → Goes a c Q
-    goes_on P Q goes f clean =
-        let late = goes clean in (
-          called.clean late.0,
-          λ s.
-              let on = late.1 (called.serving late.0 s) in
-              (on.0, f late.0 s on.1),
-        )
-
+  module _ (c : State) where
     module _ {V : Type 0} (means : Meaning V) (tree : V → Tree) (headers : Entries FieldValue) (key body : List ℕ)
         (response : Response) where
       value_from : (code : ℕ) → Keeps a b → PutsValue means tree b key body code response c
@@ -146,11 +173,10 @@ module _ (a b : State) (called : Called a b) where
       over_from current keeps (inl (met, value)) = inl (met, value_from _ keeps value)
       over_from current keeps (inr (on, why)) = inr (keeps_then a b c keeps on, why)
 
-      pub put_over : (current : Option (List ℕ)) → Found key current
+      pub put_over : (current : Option (List ℕ)) → Stays a b (Found (IsCurrent a.now key current))
           → Goes b c (PutsOver means tree b headers key current body response c) → Goes a c (Puts means tree a headers key body response c)
-      put_over current found goes = goes_on _ (Puts means tree a headers key body response c) goes (λ clean s over.
-          let live = lives clean s in
-          inl (live, current, found clean (schema_of s live), over_from current (kept clean s) over))
+      put_over current query goes = then a b c _ _ (Puts means tree a headers key body response c) query goes (λ it over.
+          inl (it.0, current, it.2, over_from current it.1 over))
 
     module _ (headers : Entries FieldValue) (key : List ℕ) (response : Response) where
       take_from : Keeps a b → Takes b key response c → Takes a key response c
@@ -164,8 +190,7 @@ module _ (a b : State) (called : Called a b) where
       removes_from (Some text) keeps (inl (met, takes)) = inl (met, take_from keeps takes)
       removes_from (Some text) keeps (inr (on, why)) = inr (keeps_then a b c keeps on, why)
 
-      pub remove_over : (current : Option (List ℕ)) → Found key current → Goes b c (RemovesOver b headers key current response c)
-          → Goes a c (Removes a headers key response c)
-      remove_over current found goes = goes_on _ (Removes a headers key response c) goes (λ clean s over.
-          let live = lives clean s in
-          inl (live, current, found clean (schema_of s live), removes_from current (kept clean s) over))
+      pub remove_over : (current : Option (List ℕ)) → Stays a b (Found (IsCurrent a.now key current))
+          → Goes b c (RemovesOver b headers key current response c) → Goes a c (Removes a headers key response c)
+      remove_over current query goes = then a b c _ _ (Removes a headers key response c) query goes (λ it over.
+          inl (it.0, current, it.2, removes_from current it.1 over))

@@ -1,5 +1,5 @@
 -- What the store answers to a request, and what becomes of its rows.
-use Rattle.std.specs.Prelude.{◌≡◌, ◌≢◌, ◌⊎◌, ℕ, List, [], ◌∷◌, ◌++◌, Option, Some, None, is_some, option_map, if◌then◌else◌, codes, IsTrue}
+use Rattle.std.specs.Prelude.{◌≡◌, ◌≢◌, ◌⊎◌, ℕ, List, [], ◌∷◌, ◌++◌, true, false, Option, Some, None, is_some, option_map, if◌then◌else◌, codes, IsTrue}
 use Rattle.sha2.specs.Sha256.{sha256}
 use Rattle.hex.specs.Hex.{encode_lower}
 use Rattle.http.specs.declared.request.Request.{Request as HttpRequest}
@@ -14,7 +14,7 @@ use Rattle.miniserde.specs.Value.{IsJson}
 use Rattle.miniserde.specs.Meaning.{Meaning}
 use Rattle.sqlite.specs.Effect.{Database}
 use Rattle.sqlite.specs.State.{State, HasCleanDisk}
-use Rattle.rows.specs.Entries.{Holds, HasKey, IsPut, IsRemoved, IsServing, Keeps}
+use Rattle.rows.specs.Entries.{Holds, HasKey, IsStore, IsPut, IsRemoved, IsServing, Keeps}
 use Rattle.rows.specs.Values.{canonical_text}
 use Rattle.store.specs.declared.conditions.Condition.{Condition}
 use Rattle.store.specs.declared.conditions.Condition.TheVariants.{Met, Failed, Cached}
@@ -154,7 +154,25 @@ Answered means tree old request response new =
     ((key : List ℕ) × IsEntry (path_of request) key × AnsweredAt means tree old key request response new)
     ⊎ (((key : List ℕ) → IsEntry (path_of request) key → ⊥) × Keeps old new × IsStatus 404 response)
 
+-- the connection is inside of a transaction, where it sees a store, and its last commit is this one
+abbrev pub IsInside : Database → State → Type 0
+IsInside base s = (s.in_transaction ≡ true) × IsTrue s.is_open × (s.committed ≡ base) × IsStore s.now
+
+-- the transaction is rolled back to its last commit, which is this one, unless the connection is shut
+abbrev pub IsLost : Database → State → Type 0
+IsLost base s = (s.in_transaction ≡ false) × (IsTrue s.is_open → (s.now ≡ base) × (s.committed ≡ base))
+
+-- The connection serves a store: each call is a commit by itself, or a part of a transaction over this last commit.
+abbrev pub IsReady : Option Database → State → Type 0
+IsReady None s = IsServing s
+IsReady (Some base) s = IsInside base s
+
+-- by this step the connection goes on, or its transaction is lost
+abbrev pub GoesIn : Option Database → State → Type 0 → Type 0
+GoesIn None new Step = IsServing new × Step
+GoesIn (Some base) new Step = (IsInside base new × Step) ⊎ IsLost base new
+
 -- A connection that serves a store goes on, by this step. What is said of values holds if the disk has returned what was
 -- written.
 abbrev pub Goes : State → State → Type 0 → Type 0
-Goes old new Step = HasCleanDisk new → HasCleanDisk old × (IsServing old → IsServing new × Step)
+Goes old new Step = HasCleanDisk new → HasCleanDisk old × ((mode : Option Database) → IsReady mode old → GoesIn mode new Step)

@@ -76,6 +76,10 @@ AnsweredMap means tree m request response after =
 abbrev pub IsMapOf : Database → Map → Type 0
 IsMapOf db m = (key text : List ℕ) → Holds db key text ↔ (m key ≡ Some text)
 
+-- the connection sees the entries of the map, unless it is shut
+abbrev pub SeesMap : State → Map → Type 0
+SeesMap s m = IsTrue s.is_open → IsMapOf s.now m
+
 -- the connection serves a store whose rows are the entries of the map, unless it is shut
 abbrev pub Represents : State → Map → Type 0
-Represents s m = IsServing s × (IsTrue s.is_open → IsMapOf s.now m)
+Represents s m = IsServing s × SeesMap s m

@@ -1,12 +1,13 @@
-ghost use Rattle.std.specs.Prelude.{◌≡◌, ◌+◌, ◌%◌, [], ◌∷◌};
+ghost use Rattle.std.specs.Prelude.{◌≡◌, ◌+◌, ◌%◌, [], ◌∷◌, nat_lt};
 ghost use Rattle.http.specs.Request.{body_of};
 ghost use Rattle.http_server.specs.Response.{IsResponse};
 
 use crate::peers::{Peer, give_turn, round};
+use crate::settled::settled_round;
 use crate::turn::{Turn, take_turn};
 use bytes::{BufMut, Bytes};
 use http::Request;
-use http_server::{Config, Connection, Response, Service};
+use http_server::{Config, Connection, Response, Service, Settle};
 use slab::Slab;
 use std::alloc::AllocError;
 use std::hash::RandomState;
@@ -33,6 +34,25 @@ impl Service for Counter {
         response.body.put_u8(b'0' + self.count % 10)?;
         self.count = self.count.wrapping_add(1);
         Ok(())
+    }
+}
+
+/// What it answered in a round stands while fewer than four calls were made.
+impl Settle for Counter {
+    ghost answers = { λ old request response new.
+        IsResponse 200 [] ((48 + old.count % 10) ∷ []) response × (new.count ≡ (old.count + 1) % 256) };
+    ghost settles = { λ old stands new. (stands ≡ nat_lt old.count 4) × (new ≡ old) };
+
+    fn call(
+        &mut self,
+        request: &Request<Bytes>,
+        response: &mut Response,
+    ) -> Result<(), AllocError> {
+        Service::call(self, request, response)
+    }
+
+    fn settle(&mut self) -> bool {
+        self.count < 4
     }
 }
 
@@ -80,6 +100,7 @@ impl Write for Wire {
 
 const ONE: &[u8] = b"GET / HTTP/1.1\r\nHost: a\r\n\r\n";
 
+const RESPONSE: &[u8] = b"HTTP/1.1 200 OK\r\ncontent-length: 1\r\n\r\n1";
 const TWO: &[u8] = b"GET / HTTP/1.1\r\nHost: a\r\n\r\nGET / HTTP/1.1\r\nHost: a\r\n\r\n";
 
 fn stream_of(rt: &HostRuntime, input: &'static [u8]) -> Wire {
@@ -149,6 +170,32 @@ fn a_connection_that_is_done_is_removed(rt: HostRuntime) -> Result<(), Fail> {
     assert!(rt; !peers.contains(first));
     assert!(rt; peers.contains(second));
     assert_eq!(rt; service.count, 2);
+    Ok(())
+}
+
+#[test]
+fn responses_go_out_once_their_round_stands(rt: HostRuntime) -> Result<(), Fail> {
+    let mut peers = Slab::new(rt.alloc());
+    let mut slow = stream_of(&rt, ONE);
+    slow.most = 1;
+    let first = peers.insert(peer(&rt, slow)?)?;
+    let second = peers.insert(peer(&rt, stream_of(&rt, TWO))?)?;
+    let third = peers.insert(peer(&rt, stream_of(&rt, TWO))?)?;
+    let mut service = Counter { count: 0 };
+    let mut unfinished = Vec::new(rt.alloc());
+    let now = Instant::now(&rt)?;
+    let heard = [first, second];
+    assert!(rt; settled_round(rt.alloc(), &mut peers, &heard, &mut service, now, &mut unfinished)?);
+    assert_eq!(rt; unfinished.as_slice(), &[first][..]);
+    let Some(peer) = peers.get(second) else {
+        return Err(Fail::from(ErrorKind::NotFound));
+    };
+    assert_eq!(rt; peer.stream.output.len(), 2 * RESPONSE.len());
+    let lost = [third];
+    assert!(rt; !settled_round(rt.alloc(), &mut peers, &lost, &mut service, now, &mut unfinished)?);
+    assert!(rt; !peers.contains(third));
+    assert!(rt; peers.contains(first));
+    assert!(rt; peers.contains(second));
     Ok(())
 }
 

@@ -1,25 +1,42 @@
 -- What the key has was found, and then put over.
-use Rattle.std.proofs.Common.{Some, None, Ok, sym, ap, subst}
+use Rattle.std.proofs.Common.{inr, Some, None, Ok, refl, sym, ap, subst}
 use Rattle.sqlite.specs.Held.{state}
-use Rattle.rows.specs.Entries.{Holds}
-use Rattle.store.proofs.Steps.{put_over}
+use Rattle.rows.specs.Entries.{Holds, Keeps}
+use Rattle.store.specs.Answered.{IsCurrent, Puts}
+use Rattle.store.proofs.Steps.{so, found, failed, put_over}
 use Rattle.store.proofs.entries.put.Goals as goal
 
 pub returns-in-Ok-Some : goal.returns-in-Ok-Some
 returns-in-Ok-Some g c =
     let old = state g.S.Store c.args.conn.now in
+    let mid = state g.S.Store c.get.new.conn in
     let key = c.args.key.now in
     let rows = c.in-Ok-Some.ensures in
-    put_over old (state g.S.Store c.get.new.conn) (record { clean = rows.clean; serving = rows.serving })
-    (state g.S.Store c.replace.new.conn) rows.live rows.kept g.V.FromJson.means g.V.Serialize.tree c.args.headers.now key
+    put_over old mid (state g.S.Store c.replace.new.conn) g.V.FromJson.means g.V.Serialize.tree c.args.headers.now key
     c.args.body.now c.replace.new.response (Some c.as_str.result.now)
-    (λ clean has. subst (Holds old.now key) (sym c.as_str.ensures.value) (rw c.in-Ok-Some.field-0-is at (rows.some clean has)))
+    (found old mid (IsCurrent old.now key (Some c.as_str.result.now))
+    (record { clean = rows.clean; serving = rows.serving; live = rows.live; kept = rows.kept; same = rows.same })
+    (λ clean has. subst (Holds old.now key) (sym c.as_str.ensures.value) (rw c.in-Ok-Some.field-0-is at (rows.some clean has))))
     c.replace.ensures
 
 pub returns-in-Ok-None : goal.returns-in-Ok-None
 returns-in-Ok-None g c =
+    let old = state g.S.Store c.args.conn.now in
+    let mid = state g.S.Store c.get.new.conn in
+    let key = c.args.key.now in
     let rows = c.in-Ok-None.ensures in
-    put_over (state g.S.Store c.args.conn.now) (state g.S.Store c.get.new.conn)
-    (record { clean = rows.clean; serving = rows.serving }) (state g.S.Store c.create.new.conn) rows.live rows.kept
-    g.V.FromJson.means g.V.Serialize.tree c.args.headers.now c.args.key.now c.args.body.now c.create.new.response None
-    (λ clean has. rows.none clean has (ap Ok c.in-Ok-None.field-0-is)) c.create.ensures
+    put_over old mid (state g.S.Store c.create.new.conn) g.V.FromJson.means g.V.Serialize.tree c.args.headers.now key
+    c.args.body.now c.create.new.response None
+    (found old mid (IsCurrent old.now key None)
+    (record { clean = rows.clean; serving = rows.serving; live = rows.live; kept = rows.kept; same = rows.same })
+    (λ clean has. rows.none clean has (ap Ok c.in-Ok-None.field-0-is)))
+    c.create.ensures
+
+pub returns-in-Err : goal.returns-in-Err
+returns-in-Err g c =
+    let old = state g.S.Store c.args.conn.now in
+    let new = state g.S.Store c.get.new.conn in
+    let rows = c.in-Err.ensures in
+    so old new (Keeps old new) (Puts g.V.FromJson.means g.V.Serialize.tree old c.args.headers.now c.args.key.now c.args.body.now _ new)
+    (λ kept. inr (kept, record { status = refl; headers = c.requires.headers; body = c.requires.body }))
+    (failed old new (record { clean = rows.clean; serving = rows.serving; kept = rows.kept; aborts = rows.aborts }))

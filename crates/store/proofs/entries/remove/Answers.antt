@@ -1,17 +1,41 @@
 -- The row was found, and then removed if the conditions hold for it.
-use Rattle.std.proofs.Common.{Some, sym, subst}
+use Rattle.std.proofs.Common.{inr, Some, None, Ok, refl, sym, ap, subst}
 use Rattle.sqlite.specs.Held.{state}
-use Rattle.rows.specs.Entries.{Holds}
-use Rattle.store.proofs.Steps.{remove_over}
+use Rattle.rows.specs.Entries.{Holds, Keeps}
+use Rattle.store.specs.Answered.{IsCurrent, RemovesOver, Removes}
+use Rattle.store.proofs.Steps.{so, stays, keeps_self, found, failed, remove_over}
 use Rattle.store.proofs.entries.remove.Goals as goal
 
 pub returns-in-Ok-Some : goal.returns-in-Ok-Some
 returns-in-Ok-Some g c =
     let old = state g.S.Store c.args.conn.now in
+    let mid = state g.S.Store c.get.new.conn in
     let key = c.args.key.now in
     let rows = c.in-Ok-Some.ensures in
-    remove_over old (state g.S.Store c.get.new.conn) (record { clean = rows.clean; serving = rows.serving })
-    (state g.S.Store c.take_if.new.conn) rows.live rows.kept c.args.headers.now key c.take_if.new.response
-    (Some c.as_str.result.now)
-    (λ clean has. subst (Holds old.now key) (sym c.as_str.ensures.value) (rw c.in-Ok-Some.field-0-is at (rows.some clean has)))
+    remove_over old mid (state g.S.Store c.take_if.new.conn) c.args.headers.now key c.take_if.new.response (Some c.as_str.result.now)
+    (found old mid (IsCurrent old.now key (Some c.as_str.result.now))
+    (record { clean = rows.clean; serving = rows.serving; live = rows.live; kept = rows.kept; same = rows.same })
+    (λ clean has. subst (Holds old.now key) (sym c.as_str.ensures.value) (rw c.in-Ok-Some.field-0-is at (rows.some clean has))))
     c.take_if.ensures
+
+pub returns-in-Ok-None : goal.returns-in-Ok-None
+returns-in-Ok-None g c =
+    let old = state g.S.Store c.args.conn.now in
+    let mid = state g.S.Store c.get.new.conn in
+    let key = c.args.key.now in
+    let rows = c.in-Ok-None.ensures in
+    remove_over old mid mid c.args.headers.now key _ None
+    (found old mid (IsCurrent old.now key None)
+    (record { clean = rows.clean; serving = rows.serving; live = rows.live; kept = rows.kept; same = rows.same })
+    (λ clean has. rows.none clean has (ap Ok c.in-Ok-None.field-0-is)))
+    (stays mid (RemovesOver mid c.args.headers.now key None _ mid)
+    (keeps_self mid, record { status = refl; headers = c.requires.headers; body = c.requires.body }))
+
+pub returns-in-Err : goal.returns-in-Err
+returns-in-Err g c =
+    let old = state g.S.Store c.args.conn.now in
+    let new = state g.S.Store c.get.new.conn in
+    let rows = c.in-Err.ensures in
+    so old new (Keeps old new) (Removes old c.args.headers.now c.args.key.now _ new)
+    (λ kept. inr (kept, record { status = refl; headers = c.requires.headers; body = c.requires.body }))
+    (failed old new (record { clean = rows.clean; serving = rows.serving; kept = rows.kept; aborts = rows.aborts }))

@@ -1,7 +1,7 @@
 -- The table was made, or was there.
 use Rattle.std.proofs.Common.{is_some, sym, ap, true≢false}
 use Rattle.sqlite.specs.Held.{state}
-use Rattle.store.proofs.MapLemmas.{kept_represents}
+use Rattle.store.proofs.MapLemmas.{kept_sees}
 use Rattle.store.proofs.Steps.{unchanged_serving}
 use Rattle.store.proofs.opening.prepare.Goals as goal
 
@@ -17,5 +17,7 @@ pub returns-clause-again : goal.returns-clause-again
 returns-clause-again g c clean live m represents =
     let serving = represents.0 in
     let same = c.in_ok-create.ensures.again clean (serving.1 live).1.schema in
-    kept_represents (state g.S.Store c.args.conn.now) (state g.S.Store c.create.new.conn) m represents
-    (unchanged_serving _ _ serving same) (λ _. (live, same.0.now_is))
+    (
+      unchanged_serving _ _ serving same,
+      kept_sees (state g.S.Store c.args.conn.now) (state g.S.Store c.create.new.conn) m represents.1 (λ _. (live, same.0.now_is)),
+    )
