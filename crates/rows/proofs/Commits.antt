@@ -11,6 +11,7 @@ use Rattle.rows.specs.Entries.{IsBegun, IsCommitted, IsBack, IsStore, IsServing,
 use Rattle.rows.proofs.Statements.{begin_is, commit_is, rollback_is, remove_command, remove_is, remove_plain}
 use Rattle.rows.proofs.Statements.{put_is, put_plain}
 use Rattle.rows.proofs.Puts.{put_command}
+use Rattle.rows.proofs.Serving.{executed_open}
 
 pub begins : (old new : State) (r : Result ℕ Error) → old.now.schema ≡ entry_schema → Executes begin_text [] old new r
     → OnOk r (IsBegun old new)
@@ -18,6 +19,11 @@ begins old new (Err e) has h = tt
 begins old new (Ok count) has h =
     let w = runs_as begin_text [] old new entry_schema has Begin begin_is.0 begin_is.1 count h in
     record { outside = w.0; inside = w.1.mode; is_open = w.1.is_open; now = w.1.now_is; committed = w.1.committed_is }
+
+pub begins_open : (old new : State) (r : Result ℕ Error) → old.in_transaction ≡ false → Executes begin_text [] old new r
+    → OnOk r (IsTrue old.is_open)
+begins_open old new (Err e) outside h = tt
+begins_open old new (Ok count) outside h = executed_open begin_text [] old new count outside h
 
 pub commits : (old new : State) (r : Result ℕ Error) → old.now.schema ≡ entry_schema → Executes commit_text [] old new r
     → OnOk r (IsTrue old.in_transaction × IsCommitted new × (new.now ≡ old.now))

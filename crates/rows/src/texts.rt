@@ -162,6 +162,10 @@ pub fn begin<S: Alter>(conn: &mut Connection<S>) -> Result<usize, Error>
     ensures begun { HasCleanDisk (state S.Store conn.new) → (state S.Store conn.old).now.schema ≡ entry_schema
         → OnOk result (IsBegun (state S.Store conn.old) (state S.Store conn.new)) }
 
+    // A connection that was shut begins none.
+    ensures live { HasCleanDisk (state S.Store conn.new) → (state S.Store conn.old).in_transaction ≡ false
+        → OnOk result (IsTrue (state S.Store conn.old).is_open) }
+
     // If it fails, the connection is as it was, or its transaction is rolled back.
     ensures aborts { HasCleanDisk (state S.Store conn.new)
         → OnErr result (Aborts (state S.Store conn.old) (state S.Store conn.new)) }

@@ -1,4 +1,6 @@
 mod Steps
+mod RoundLemmas
+mod ShareLemmas
 mod MapLemmas
 mod ChainLemmas
 mod LastLemmas

@@ -83,7 +83,7 @@ module _ (old new : State) (m : Map) (sees : SeesMap old m) where
   current_at key (Some text) live held = some_at key text live held
 
   module _ (headers : Entries FieldValue) (key : List ℕ) (response : Response) where
-    reads_map : Reads old headers key response new → Leads new (ReadsMap m headers key response)
+    pub reads_map : Reads old headers key response new → Leads new (ReadsMap m headers key response)
     reads_map (kept, inl (live, current, is, shown)) =
         (m, (refl, inl (subst (λ o. Shows headers o response) (sym (current_at key current live is)) shown)), kept_sees kept)
     reads_map (kept, inr failed) = (m, (refl, inr failed), kept_sees kept)
@@ -104,7 +104,7 @@ module _ (old new : State) (m : Map) (sees : SeesMap old m) where
         (m, inr (refl, inr (inl (refl, unmet, status))), kept_sees kept)
     removes_at (Some text) (inr (kept, inr failed)) = (m, inr (refl, inr (inr failed)), kept_sees kept)
 
-    removes_map : Removes old headers key response new → Leads new (RemovesMap m headers key response)
+    pub removes_map : Removes old headers key response new → Leads new (RemovesMap m headers key response)
     removes_map (inl (live, current, is, removes)) =
         let it = removes_at current removes in
         (it.0, subst (λ o. At o it.0) (sym (current_at key current live is)) it.1, it.2)
@@ -130,7 +130,7 @@ module _ (old new : State) (m : Map) (sees : SeesMap old m) where
       puts_at current (inl (met, inr (kept, why))) = (m, inl (met, inr (refl, why)), kept_sees kept)
       puts_at current (inr (kept, why)) = (m, inr (refl, why), kept_sees kept)
 
-      puts_map : Puts means tree old headers key body response new → Leads new (PutsMap means tree m headers key body response)
+      pub puts_map : Puts means tree old headers key body response new → Leads new (PutsMap means tree m headers key body response)
       puts_map (inl (live, current, is, puts)) =
           let it = puts_at current puts in
           (it.0, subst (λ o. OverAt o it.0) (sym (current_at key current live is)) it.1, it.2)

@@ -4,10 +4,10 @@ use Rattle.http_header.specs.FieldValue.{FieldValue}
 use Rattle.http_header.specs.HeaderMap.{Entries}
 use Rattle.http_server.specs.declared.response.Response.{Response}
 use Rattle.sqlite.specs.Effect.{Database}
-use Rattle.sqlite.specs.State.{State, HasCleanDisk, IsUnchanged}
+use Rattle.sqlite.specs.State.{State, HasCleanDisk, IsUnchanged, IsRolledBack}
 use Rattle.rows.specs.Entries.{entry_schema, IsStore, IsPut, IsRemoved, IsServing, StaysInside, Keeps, Aborts}
 use Rattle.store.specs.Answered.{IsTextOf, IsStatus, IsCurrent, Shows, Reads, PutsAs, PutsValue, PutsOver, Puts}
-use Rattle.store.specs.Answered.{Takes, RemovesOver, Removes, IsInside, IsReady, GoesIn, Goes}
+use Rattle.store.specs.Answered.{Takes, RemovesOver, Removes, IsInside, IsLost, IsReady, GoesIn, Goes}
 use Rattle.miniserde.specs.Tree.{Tree}
 use Rattle.miniserde.specs.Meaning.{Meaning}
 
@@ -100,13 +100,22 @@ pub record Changes (a b : State) (Change : Type 0) : Type 0 where
   pub store : Change → IsStore b.now
 
 -- what the connection sees inside of its transaction is the same
-unchanged_inside : (base : Database) (a b : State) → IsInside base a → IsUnchanged a b → IsInside base b
-unchanged_inside base a b (inside, live, committed, store) same = (
-  same.0.mode ∙ inside,
-  same.0.is_open,
-  same.0.committed_is ∙ committed,
-  subst IsStore (sym same.0.now_is) store,
-)
+pub unchanged_inside : (base : Database) (a b : State) → IsInside base a → IsUnchanged a b → IsInside base b
+unchanged_inside base a b s same = record {
+  inside = same.0.mode ∙ s.inside;
+  is_open = same.0.is_open;
+  committed = same.0.committed_is ∙ s.committed;
+  store = subst IsStore (sym same.0.now_is) s.store;
+  last = s.last;
+}
+
+-- a transaction that is rolled back is lost
+pub rolled_lost : (base : Database) (a b : State) → IsInside base a → IsRolledBack a b → IsLost base b
+rolled_lost base a b s rolled = record {
+  outside = rolled.autocommit;
+  back = λ live. let undone = rolled.undone live in (undone.0 ∙ s.committed, undone.1 ∙ s.committed);
+  last = s.last;
+}
 
 module _ (a b : State) where
   -- a query finds something of an open connection, and keeps what it sees
@@ -121,19 +130,18 @@ module _ (a b : State) where
           let live = call.live clean s in
           (call.serving clean s, (live, call.kept clean s, p clean (s.1 live).1.schema))
       by (Some base) s =
-          let same = call.same clean s.3.schema in
-          (unchanged_inside base a b s same, (s.1, (λ _. (s.1, same.0.now_is)), p clean s.3.schema))
+          let same = call.same clean s.store.schema in
+          (unchanged_inside base a b s same, (s.is_open, (λ _. (s.is_open, same.0.now_is)), p clean s.store.schema))
 
   pub failed : Fails a b → Goes a b (Keeps a b)
   failed call clean = (call.clean clean, by)
     where
       aborted : (base : Database) → IsInside base a → Aborts a b → GoesIn (Some base) b (Keeps a b)
-      aborted base s (inl same) = inl (unchanged_inside base a b s same, λ _. (s.1, same.0.now_is))
-      aborted base s (inr back) =
-          inr (back.autocommit, λ live. let undone = back.undone live in (undone.0 ∙ s.2, undone.1 ∙ s.2))
+      aborted base s (inl same) = inl (unchanged_inside base a b s same, λ _. (s.is_open, same.0.now_is))
+      aborted base s (inr rolled) = inr (rolled_lost base a b s rolled)
       by : (mode : Option Database) → IsReady mode a → GoesIn mode b (Keeps a b)
       by None s = (call.serving clean s, call.kept clean s)
-      by (Some base) s = aborted base s (call.aborts clean s.3.schema)
+      by (Some base) s = aborted base s (call.aborts clean s.store.schema)
 
   pub changed : (Change : Type 0) → Changes a b Change → Goes a b (IsTrue a.is_open × Change)
   changed Change call clean = (call.clean clean, by)
@@ -143,9 +151,16 @@ module _ (a b : State) where
           let live = call.live clean s in
           (call.serving clean s, (live, call.change clean (s.1 live).1))
       by (Some base) s =
-          let change = call.change clean s.3 in
-          let on = call.inside clean s.3.schema s.0 in
-          inl ((on.inside, on.is_open, on.committed ∙ s.2, call.store change), (s.1, change))
+          let change = call.change clean s.store in
+          let on = call.inside clean s.store.schema s.inside in
+          let still : IsInside base b = record {
+            inside = on.inside;
+            is_open = on.is_open;
+            committed = on.committed ∙ s.committed;
+            store = call.store change;
+            last = s.last;
+          } in
+          inl (still, (s.is_open, change))
 
   -- what the key has was shown, or could not be
   pub read_found : (headers : Entries FieldValue) (key : List ℕ) (current : Option (List ℕ)) (response : Response)

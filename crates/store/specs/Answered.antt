@@ -154,13 +154,19 @@ Answered means tree old request response new =
     ((key : List ℕ) × IsEntry (path_of request) key × AnsweredAt means tree old key request response new)
     ⊎ (((key : List ℕ) → IsEntry (path_of request) key → ⊥) × Keeps old new × IsStatus 404 response)
 
--- the connection is inside of a transaction, where it sees a store, and its last commit is this one
-abbrev pub IsInside : Database → State → Type 0
-IsInside base s = (s.in_transaction ≡ true) × IsTrue s.is_open × (s.committed ≡ base) × IsStore s.now
+-- the connection is inside of a transaction, where it sees a store, and its last commit is this store
+pub record IsInside (base : Database) (s : State) : Type 0 where
+  pub inside : s.in_transaction ≡ true
+  pub is_open : IsTrue s.is_open
+  pub committed : s.committed ≡ base
+  pub store : IsStore s.now
+  pub last : IsStore base
 
--- the transaction is rolled back to its last commit, which is this one, unless the connection is shut
-abbrev pub IsLost : Database → State → Type 0
-IsLost base s = (s.in_transaction ≡ false) × (IsTrue s.is_open → (s.now ≡ base) × (s.committed ≡ base))
+-- the transaction is rolled back to its last commit, which is this store, unless the connection is shut
+pub record IsLost (base : Database) (s : State) : Type 0 where
+  pub outside : s.in_transaction ≡ false
+  pub back : IsTrue s.is_open → (s.now ≡ base) × (s.committed ≡ base)
+  pub last : IsStore base
 
 -- The connection serves a store: each call is a commit by itself, or a part of a transaction over this last commit.
 abbrev pub IsReady : Option Database → State → Type 0

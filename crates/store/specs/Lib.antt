@@ -5,3 +5,4 @@ pub mod Answered
 pub mod Maps
 pub mod Streams
 pub mod Last
+pub mod Rounds

@@ -8,6 +8,7 @@ pub mod explain;
 pub mod laws;
 pub mod opening;
 pub mod reason;
+pub mod rounds;
 mod routes;
 pub mod service;
 pub mod shared;

@@ -1,21 +1,24 @@
 //! The store over many connections.
-ghost use Rattle.std.specs.Prelude.{◌≡◌, OnOk, OnErr};
+ghost use Rattle.std.specs.Prelude.{◌≡◌, IfOk, OnOk, OnErr};
 ghost use Rattle.std.specs.List.{AllByRecursion};
 ghost use Rattle.sqlite.specs.Held.{state};
 ghost use Rattle.sqlite.specs.State.{HasCleanDisk};
 ghost use Rattle.slab.specs.Slab.{get};
 ghost use Rattle.turns.specs.Shared.{Turns, IsShared, IsAtRest};
 ghost use Rattle.store.specs.Maps.{Map, AnsweredMap, Represents};
+ghost use Rattle.store.specs.Rounds.{IsBetween, IsRoundOfMap};
 
 use crate::explain::Explain;
+use crate::rounds::RoundService;
 use crate::service::StoreService;
 use miniserde::{Lossless, Stable};
 use slab::Slab;
 use sqlite::Alter;
-use std::alloc::AllocError;
+use std::alloc::{AllocError, Global};
 use std::io::{Read, Write};
 use std::time::Instant;
 use turns::peers::{Peer, round};
+use turns::settled::settled_round;
 
 /// Gives the connections of these keys their turns. Appends the keys of those that may have more to do. Returns an
 /// error, before the first turn, if `unfinished` cannot grow.
@@ -39,4 +42,30 @@ pub fn serve_round<S: Alter, V: Stable + Lossless, E: Explain<V>, T: Read + Writ
     ensures none { OnErr result ((peers.new ≡ peers.old) × (service.new ≡ service.old)) }
 {
     round(peers, keys, service, now, unfinished)
+}
+
+/// Gives the connections of these keys their turns, commits what they changed at once, and then sends their responses.
+/// Appends the keys of those that may have more to do, and returns whether the round is committed. If it is not, those
+/// that made a call are closed. Returns an error, before the first turn, if an allocation fails.
+pub fn serve_settled_round<
+    S: Alter,
+    V: Stable + Lossless,
+    E: Explain<V>,
+    T: Read + Write + Drop,
+>(
+    alloc: Global,
+    peers: &mut Slab<Peer<T>>,
+    keys: &[usize],
+    service: &mut RoundService<S, V, E>,
+    now: Instant,
+    unfinished: &mut Vec<usize>,
+) -> Result<bool, AllocError>
+    // The responses of all connections, in the order of their turns, are those of one map that begins with the rows of the
+    // store, and the map's last entries are committed. If the round is not committed, no connection that made a call is left.
+    ensures settled { IfOk result (λ kept. HasCleanDisk (state S.Store service.new.0) → (m : Map)
+        → IsBetween m (state S.Store service.old.0) service.old.1
+        → IsRoundOfMap V.means V.tree m (get peers.old) (get peers.new) (state S.Store service.new.0) service.new.1 kept) }
+    ensures none { OnErr result ((peers.new ≡ peers.old) × (service.new ≡ service.old)) }
+{
+    settled_round(alloc, peers, keys, service, now, unfinished)
 }

@@ -1,0 +1,77 @@
+-- The path is that of an entry or not, and the method says what is done with it.
+use Rattle.std.proofs.Common.{◌≡◌, true, Ok, inl, inr, string_bytes, refl, sym, ap, subst, ◌∙◌, rules}
+use Rattle.http.specs.Request.{body_of}
+use Rattle.http_uri.specs.Uri.{uri_path}
+use Rattle.sqlite.specs.Held.{state}
+use Rattle.store.specs.Routes.{IsEntry, IsRead, path_of, method_of, headers_of, put_method, delete_method}
+use Rattle.store.specs.Maps.{ReadsMap, PutsMap, RemovesMap}
+use Rattle.store.proofs.RoundLemmas.{answered}
+use Rattle.store.proofs.rounds.RoundServiceSettle.call.Goals.{in-Read, in-Put, in-Delete}
+use Rattle.store.proofs.rounds.RoundServiceSettle.call.Goals as goal
+
+pub returns-in_default-clause-ok : goal.returns-in_default-clause-ok
+returns-in_default-clause-ok g c clean =
+    let path : c.path.result.now ≡ path_of c.args.request.now = c.path.ensures.value ∙ ap uri_path c.uri.ensures in (
+      clean,
+      λ begun m round. (
+        m,
+        round,
+        λ yes. (
+          yes,
+          inr (
+            λ key is. c.entry_key.ensures.none (c.in_ok-key.was ∙ ap Ok c.in_default.is) key (subst (λ p. IsEntry p key) (sym path) is),
+            refl,
+            record { status = refl; headers = c.requires.headers; body = c.requires.body },
+          ),
+        ),
+      ),
+    )
+
+pub returns-clause-ok : goal.returns-clause-ok
+returns-clause-ok g c =
+    let old = state g.S.Store c.self.inside.conn in
+    let stood : c.self.inside.stands ≡ true = search rules in
+    let request = c.args.request.now in
+    let means = g.V.FromJson.means in
+    let tree = g.V.Serialize.tree in
+    let key = c.as_str-key.result.now in
+    let headers : c.headers-headers.result.now ≡ headers_of request = c.headers-headers.ensures in
+    let path : c.path.result.now ≡ path_of request = c.path.ensures.value ∙ ap uri_path c.uri.ensures in
+    let there : IsEntry c.path.result.now (string_bytes c.in-Some.key) = rw c.in-Some.is at c.in_ok-key.ensures.some in
+    let entry : IsEntry (path_of request) (string_bytes c.in-Some.key) = subst (λ p. IsEntry p (string_bytes c.in-Some.key)) path there in
+    let at : IsEntry (path_of request) key = subst (IsEntry (path_of request)) (sym c.as_str-key.ensures.value) entry in
+    elim c.match-verb_of.branch [
+      | in-Read w ↦
+          let call = w.read_in_round-self-inside in
+          let response = call.new.response in
+          let is : IsRead (method_of request) = subst IsRead c.method.ensures (c.verb_of.ensures.read w.in-Read.is) in
+          rw (w.self-is, w.response-is, ← c.self.view_is)
+          (answered means tree old (state g.S.Store call.new.conn) c.self.inside.stands call.result request response
+          (λ m after. ReadsMap m c.headers-headers.result.now key response after) stood call.ensures
+          (λ m after reads. inl (key, at, inl (is, subst (λ h. ReadsMap m h key response after) headers reads))))
+      | in-Put w ↦
+          let call = w.put_in_round-self-inside in
+          let response = call.new.response in
+          let is : method_of request ≡ put_method = sym c.method.ensures ∙ c.verb_of.ensures.put w.in-Put.is in
+          let body : w.as_slice-body.result.now ≡ body_of request = w.as_slice-body.ensures ∙ w.body.ensures in
+          rw (w.self-is, w.response-is, ← c.self.view_is)
+          (answered means tree old (state g.S.Store call.new.conn) c.self.inside.stands call.result request response
+          (λ m after. PutsMap means tree m c.headers-headers.result.now key w.as_slice-body.result.now response after) stood call.ensures
+          (λ m after puts. inl (
+            key,
+            at,
+            inr (inl (
+              is,
+              subst (λ h. PutsMap means tree m h key (body_of request) response after) headers
+                  (subst (λ b. PutsMap means tree m c.headers-headers.result.now key b response after) body puts),
+            )),
+          )))
+      | in-Delete w ↦
+          let call = w.remove_in_round-self-inside in
+          let response = call.new.response in
+          let is : method_of request ≡ delete_method = sym c.method.ensures ∙ c.verb_of.ensures.delete w.in-Delete.is in
+          rw (w.self-is, w.response-is, ← c.self.view_is)
+          (answered means tree old (state g.S.Store call.new.conn) c.self.inside.stands call.result request response
+          (λ m after. RemovesMap m c.headers-headers.result.now key response after) stood call.ensures
+          (λ m after removes. inl (key, at, inr (inr (inl (is, subst (λ h. RemovesMap m h key response after) headers removes))))))
+    ]

@@ -1,0 +1,41 @@
+-- The transaction of the round was begun, or could not be, and the text was put inside of it.
+use Rattle.std.proofs.Common.{◌≡◌, true, Some, inr, refl, rules}
+use Rattle.sqlite.specs.Held.{state}
+use Rattle.store.specs.Answered.{Puts}
+use Rattle.store.specs.Maps.{PutsMap}
+use Rattle.store.proofs.MapLemmas.{puts_map}
+use Rattle.store.proofs.RoundLemmas.{was_inside, called}
+use Rattle.store.proofs.rounds.put_in_round.Goals as goal
+
+pub returns-then-not-begin_round : goal.returns-then-not-begin_round
+returns-then-not-begin_round g c clean =
+    let it = c.begin_round.ensures clean in (
+      it.0,
+      λ begun m way. (
+        m,
+        (it.1 begun m way).0,
+        λ _. inr (refl, inr (record { status = refl; headers = c.requires.headers; body = c.requires.body })),
+      ),
+    )
+
+pub returns : goal.returns
+returns g c clean =
+    let means = g.V.FromJson.means in
+    let tree = g.V.Serialize.tree in
+    let mid = state g.S.Store c.begin_round.new.conn in
+    let new = state g.S.Store c.put.new.conn in
+    let headers = c.args.headers.now in
+    let key = c.args.key.now in
+    let body = c.args.body.now in
+    let response = c.put.new.response in
+    let it = c.put.ensures clean in
+    let begin = c.begin_round.ensures it.0 in (
+      begin.0,
+      λ begun m way.
+          let on = begin.1 begun m way in
+          let inside : mid.in_transaction ≡ true = on.1 (search rules) in
+          let (base, s, is, sees) = was_inside begun m mid on.0 inside in
+          called begun base new (Puts means tree mid headers key body response new) (PutsMap means tree m headers key body response)
+          c.is_in_transaction.result is (it.1 (Some base) s) (puts_map mid new m sees means tree headers key body response)
+          c.is_in_transaction.ensures.value,
+    )

@@ -1,0 +1,54 @@
+-- The store in rounds: what becomes of its map if a round is committed, and if it is lost.
+use Rattle.std.specs.Prelude.{◌≡◌, ◌⊎◌, Bool, true, false, if◌then◌else◌, List, ℕ, Option, IsTrue}
+use Rattle.http.specs.declared.request.Request.{Request as HttpRequest}
+use Rattle.http_server.specs.declared.response.Response.{Response}
+use Rattle.miniserde.specs.Tree.{Tree}
+use Rattle.miniserde.specs.Meaning.{Meaning}
+use Rattle.sqlite.specs.Effect.{Database}
+use Rattle.sqlite.specs.State.{State, HasCleanDisk}
+use Rattle.turns.specs.declared.peers.Peer.{Peer}
+use Rattle.turns.specs.Shared.{Turns, IsShared}
+use Rattle.turns.specs.Settled.{AreQuiet}
+use Rattle.store.specs.Answered.{IsInside, IsLost}
+use Rattle.store.specs.Maps.{Map, AnsweredMap, IsMapOf, SeesMap, Represents}
+
+-- A round that began at the first map and has come to the second: nothing was put yet, or the connection is inside of a
+-- transaction.
+abbrev pub IsUnderWay : Map → State → Map → Type 0
+IsUnderWay begun s m =
+    (Represents s m × (m ≡ begun)) ⊎ ((base : Database) × IsInside base s × IsMapOf base begun × SeesMap s m)
+
+-- a round that began at this map and will not be committed: its transaction is rolled back, or is still to be
+abbrev pub IsOff : Map → State → Type 0
+IsOff begun s = (base : Database) × (IsLost base s ⊎ IsInside base s) × IsMapOf base begun
+
+-- a round, and whether it stands
+abbrev pub InRound : Map → State → Bool → Map → Type 0
+InRound begun s true m = IsUnderWay begun s m
+InRound begun s false m = IsOff begun s
+
+-- Between two rounds the connection serves a store whose rows are the entries of the map. If a transaction could not be rolled
+-- back, that is still to be done, and these are the rows of the last commit.
+abbrev pub IsBetween : Map → State → Bool → Type 0
+IsBetween m s true = Represents s m
+IsBetween m s false = IsOff m s
+
+-- The response to a request, if the round still stands afterwards, is that of the map to which the round has come.
+abbrev pub AnsweredInRound : {V : Type 0} → Meaning V → (V → Tree) → State → Bool → HttpRequest (List ℕ) → Response → State → Bool → Type 0
+AnsweredInRound means tree old stood request response new stands = HasCleanDisk new → HasCleanDisk old
+    × ((begun m : Map) → InRound begun old stood m → (after : Map) × InRound begun new stands after
+    × (IsTrue stands → IsTrue stood × AnsweredMap means tree m request response after))
+
+-- The round is settled. If its answers stand, the map to which it has come is committed, and else the map is the one from
+-- before the round.
+abbrev pub SettlesRound : State → Bool → Bool → State → Bool → Type 0
+SettlesRound old stood kept new stands = HasCleanDisk new → HasCleanDisk old
+    × ((begun m : Map) → InRound begun old stood m → IsBetween (if kept then m else begun) new stands × (IsTrue kept → IsTrue stood))
+
+-- The connections of a round before and after it, if its answers stand: their responses, in the order of their turns, are those
+-- of the map from before, and the map to which they lead is committed. If they do not stand, no connection that made a call is
+-- left, and the map is the one from before.
+abbrev pub IsRoundOfMap : {V T : Type 0} → Meaning V → (V → Tree) → Map → (ℕ → Option (Peer T)) → (ℕ → Option (Peer T)) → State → Bool → Bool → Type 0
+IsRoundOfMap means tree m before after new ready true =
+    (turns : Turns) × (last : Map) × IsShared (AnsweredMap means tree) m last before after turns × IsBetween last new ready
+IsRoundOfMap means tree m before after new ready false = AreQuiet before after × IsBetween m new ready

@@ -1,0 +1,213 @@
+//! The store in rounds: the changes of a round are one commit, and its responses stand once that is done.
+ghost use Rattle.std.specs.Prelude.{◌≡◌, true, if◌then◌else◌, IsTrue};
+ghost use Rattle.http_server.specs.Response.{IsBlank};
+ghost use Rattle.sqlite.specs.Held.{state};
+ghost use Rattle.sqlite.specs.State.{HasCleanDisk};
+ghost use Rattle.store.specs.Maps.{Map, ReadsMap, PutsMap, RemovesMap};
+ghost use Rattle.store.specs.Rounds.{IsUnderWay, IsOff, InRound, IsBetween};
+
+use crate::entries::{not_allowed, put, read, remove};
+use crate::explain::{ByValue, Explain};
+use crate::routes::{Verb, entry_key, verb_of};
+use bytes::Bytes;
+use http::{HeaderMap, Request, StatusCode};
+use http_server::{Response, Settle};
+use miniserde::{Lossless, Stable};
+use rows::texts;
+use sqlite::{Alter, Connection};
+use std::alloc::{AllocError, Global};
+use std::marker::{Model, PhantomData};
+
+// Begins the transaction of a round, unless it has begun. Returns whether the round has one.
+fn begin_round<S: Alter>(conn: &mut Connection<S>) -> bool
+    ensures { HasCleanDisk (state S.Store conn.new) → HasCleanDisk (state S.Store conn.old)
+        × ((begun m : Map) → IsUnderWay begun (state S.Store conn.old) m → IsUnderWay begun (state S.Store conn.new) m
+        × (IsTrue result → IsTrue (state S.Store conn.new).in_transaction)) }
+{
+    if texts::is_in_transaction(conn) {
+        return true;
+    }
+    texts::begin(conn).is_ok()
+}
+
+// Commits the transaction of a round, if it has one. Returns whether the round is committed.
+fn commit_round<S: Alter>(conn: &mut Connection<S>) -> bool
+    ensures { HasCleanDisk (state S.Store conn.new) → HasCleanDisk (state S.Store conn.old)
+        × ((begun m : Map) → IsUnderWay begun (state S.Store conn.old) m
+        → IsBetween (if result then m else begun) (state S.Store conn.new) result) }
+{
+    if !texts::is_in_transaction(conn) {
+        return true;
+    }
+    texts::commit(conn).is_ok()
+}
+
+// Rolls the transaction of a round back, if that is still to be done.
+fn roll_back<S: Alter>(conn: &mut Connection<S>)
+    ensures { HasCleanDisk (state S.Store conn.new) → HasCleanDisk (state S.Store conn.old)
+        × ((begun : Map) → IsOff begun (state S.Store conn.old) → IsOff begun (state S.Store conn.new)) }
+{
+    if texts::is_in_transaction(conn) {
+        let _ = texts::rollback(conn);
+    }
+}
+
+// Rolls the transaction of a round back, if that is still to be done. Returns whether it is done.
+fn drop_round<S: Alter>(conn: &mut Connection<S>) -> bool
+    ensures { HasCleanDisk (state S.Store conn.new) → HasCleanDisk (state S.Store conn.old)
+        × ((begun : Map) → IsOff begun (state S.Store conn.old) → IsBetween begun (state S.Store conn.new) result) }
+{
+    roll_back(conn);
+    !texts::is_in_transaction(conn)
+}
+
+// Reads in a round. Returns whether the round still stands.
+fn read_in_round<S: Alter>(
+    alloc: Global,
+    conn: &mut Connection<S>,
+    key: &str,
+    headers: &HeaderMap,
+    response: &mut Response,
+) -> bool
+    requires { IsBlank response.old }
+    ensures { HasCleanDisk (state S.Store conn.new) → HasCleanDisk (state S.Store conn.old)
+        × ((begun m : Map) → IsUnderWay begun (state S.Store conn.old) m → (after : Map)
+        × InRound begun (state S.Store conn.new) result after
+        × (IsTrue result → ReadsMap m headers.now key.now response.new after)) }
+{
+    let begun = texts::is_in_transaction(conn);
+    read(alloc, conn, key, headers, response);
+    if !begun {
+        return true;
+    }
+    texts::is_in_transaction(conn)
+}
+
+// Puts in a round. Returns whether the round still stands.
+fn put_in_round<S: Alter, V: Stable + Lossless, E: Explain<V>>(
+    alloc: Global,
+    conn: &mut Connection<S>,
+    key: &str,
+    headers: &HeaderMap,
+    body: &[u8],
+    response: &mut Response,
+) -> bool
+    requires { IsBlank response.old }
+    ensures { HasCleanDisk (state S.Store conn.new) → HasCleanDisk (state S.Store conn.old)
+        × ((begun m : Map) → IsUnderWay begun (state S.Store conn.old) m → (after : Map)
+        × InRound begun (state S.Store conn.new) result after
+        × (IsTrue result → PutsMap V.means V.tree m headers.now key.now body.now response.new after)) }
+{
+    if !begin_round(conn) {
+        response.status = StatusCode::SERVICE_UNAVAILABLE;
+        return true;
+    }
+    put::<S, V, E>(alloc, conn, key, headers, body, response);
+    texts::is_in_transaction(conn)
+}
+
+// Removes in a round. Returns whether the round still stands.
+fn remove_in_round<S: Alter>(
+    alloc: Global,
+    conn: &mut Connection<S>,
+    key: &str,
+    headers: &HeaderMap,
+    response: &mut Response,
+) -> bool
+    requires { IsBlank response.old }
+    ensures { HasCleanDisk (state S.Store conn.new) → HasCleanDisk (state S.Store conn.old)
+        × ((begun m : Map) → IsUnderWay begun (state S.Store conn.old) m → (after : Map)
+        × InRound begun (state S.Store conn.new) result after
+        × (IsTrue result → RemovesMap m headers.now key.now response.new after)) }
+{
+    if !begin_round(conn) {
+        response.status = StatusCode::SERVICE_UNAVAILABLE;
+        return true;
+    }
+    remove(alloc, conn, key, headers, response);
+    texts::is_in_transaction(conn)
+}
+
+/// Entries of the type `V` in a database, where the changes of a round are one commit. The response to a body that means no
+/// value says why in the way `E`. A clause sees the connection, and whether the round stands.
+#[derive(Drop)]
+pub struct RoundService<S: Alter, V, E = ByValue> {
+    alloc: Global,
+    conn: Connection<S>,
+    stands: bool,
+    of: PhantomData<(V, E)>,
+}
+
+impl<S: Alter, V, E> Model for RoundService<S, V, E> {
+    ghost use Rattle.std.specs.Prelude.{Bool};
+    ghost use Rattle.std.specs.Coded.{coded×, coded_bool};
+    ghost use Rattle.sqlite.specs.Held.{Held, held_code};
+
+    ghost Value = { Held S × Bool };
+
+    ghost coded = { coded× (held_code S.code) coded_bool };
+
+    ghost view = { λ s. (s.conn, s.stands) };
+}
+
+impl<S: Alter, V: Stable + Lossless, E: Explain<V>> RoundService<S, V, E> {
+    /// Returns the store of a connection, which has the table.
+    pub fn new(alloc: Global, conn: Connection<S>) -> RoundService<S, V, E>
+        ensures { result ≡ (conn, true) }
+    {
+        RoundService {
+            alloc,
+            conn,
+            stands: true,
+            of: PhantomData,
+        }
+    }
+}
+
+impl<S: Alter, V: Stable + Lossless, E: Explain<V>> Settle for RoundService<S, V, E> {
+    ghost use Rattle.sqlite.specs.Held.{state};
+    ghost use Rattle.store.specs.Rounds.{AnsweredInRound, SettlesRound};
+
+    ghost answers = { λ old request response new. AnsweredInRound V.means V.tree
+        (state S.Store old.0) old.1 request response (state S.Store new.0) new.1 };
+
+    ghost settles = { λ old kept new. SettlesRound (state S.Store old.0) old.1 kept (state S.Store new.0) new.1 };
+
+    fn call(
+        &mut self,
+        request: &Request<Bytes>,
+        response: &mut Response,
+    ) -> Result<(), AllocError> {
+        if !self.stands {
+            response.status = StatusCode::SERVICE_UNAVAILABLE;
+            return Ok(());
+        }
+        let Some(key) = entry_key(self.alloc, request.uri().path())? else {
+            response.status = StatusCode::NOT_FOUND;
+            return Ok(());
+        };
+        let (key, headers) = (key.as_str(), request.headers());
+        match verb_of(request.method()) {
+            Verb::Read => {
+                self.stands = read_in_round(self.alloc, &mut self.conn, key, headers, response)
+            }
+            Verb::Put => {
+                let body = request.body().as_slice();
+                self.stands = put_in_round::<S, V, E>(self.alloc, &mut self.conn, key, headers, body, response)
+            }
+            Verb::Delete => {
+                self.stands = remove_in_round(self.alloc, &mut self.conn, key, headers, response)
+            }
+            Verb::Other => return not_allowed(response),
+        }
+        Ok(())
+    }
+
+    fn settle(&mut self) -> bool {
+        if self.stands && commit_round(&mut self.conn) {
+            return true;
+        }
+        self.stands = drop_round(&mut self.conn);
+        false
+    }
+}
