@@ -8,7 +8,7 @@ mod Unique
 mod Mapped
 mod Removed
 mod Effects
-mod Serving
+pub mod Serving
 mod Commits
 mod Each
 mod Apart
