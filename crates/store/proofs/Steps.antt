@@ -139,6 +139,7 @@ module _ (a b : State) where
       aborted : (base : Database) → IsInside base a → Aborts a b → GoesIn (Some base) b (Keeps a b)
       aborted base s (inl same) = inl (unchanged_inside base a b s same, λ _. (s.is_open, same.0.now_is))
       aborted base s (inr rolled) = inr (rolled_lost base a b s rolled)
+
       by : (mode : Option Database) → IsReady mode a → GoesIn mode b (Keeps a b)
       by None s = (call.serving clean s, call.kept clean s)
       by (Some base) s = aborted base s (call.aborts clean s.store.schema)

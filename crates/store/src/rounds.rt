@@ -162,6 +162,19 @@ impl<S: Alter, V: Stable + Lossless, E: Explain<V>> RoundService<S, V, E> {
             of: PhantomData,
         }
     }
+
+    /// Returns the connection.
+    pub fn into_connection(self) -> Connection<S>
+        ensures { result ≡ self.0 }
+    {
+        let RoundService {
+            alloc: _,
+            conn,
+            stands: _,
+            of: _,
+        } = self;
+        conn
+    }
 }
 
 impl<S: Alter, V: Stable + Lossless, E: Explain<V>> Settle for RoundService<S, V, E> {
@@ -193,7 +206,14 @@ impl<S: Alter, V: Stable + Lossless, E: Explain<V>> Settle for RoundService<S, V
             }
             Verb::Put => {
                 let body = request.body().as_slice();
-                self.stands = put_in_round::<S, V, E>(self.alloc, &mut self.conn, key, headers, body, response)
+                self.stands = put_in_round::<S, V, E>(
+                    self.alloc,
+                    &mut self.conn,
+                    key,
+                    headers,
+                    body,
+                    response,
+                )
             }
             Verb::Delete => {
                 self.stands = remove_in_round(self.alloc, &mut self.conn, key, headers, response)

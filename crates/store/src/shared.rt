@@ -47,12 +47,7 @@ pub fn serve_round<S: Alter, V: Stable + Lossless, E: Explain<V>, T: Read + Writ
 /// Gives the connections of these keys their turns, commits what they changed at once, and then sends their responses.
 /// Appends the keys of those that may have more to do, and returns whether the round is committed. If it is not, those
 /// that made a call are closed. Returns an error, before the first turn, if an allocation fails.
-pub fn serve_settled_round<
-    S: Alter,
-    V: Stable + Lossless,
-    E: Explain<V>,
-    T: Read + Write + Drop,
->(
+pub fn serve_settled_round<S: Alter, V: Stable + Lossless, E: Explain<V>, T: Read + Write + Drop>(
     alloc: Global,
     peers: &mut Slab<Peer<T>>,
     keys: &[usize],

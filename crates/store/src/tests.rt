@@ -1,7 +1,8 @@
 use crate::laws::last_put_is_shown;
 use crate::opening::prepare;
+use crate::rounds::RoundService;
 use crate::service::StoreService;
-use crate::shared::serve_round;
+use crate::shared::{serve_round, serve_settled_round};
 use crate::stream::serve_stream;
 use http_server::{Config, Connection as HttpConnection};
 use rows::texts;
@@ -214,11 +215,10 @@ impl Write for Wire {
     }
 }
 
-#[test]
-fn connections_share_the_entries(rt: HostRuntime) -> Result<(), Fail> {
-    let mut service = opened(&rt)?;
+// Returns a connection whose client has sent a put of an entry, and one whose client asks for it.
+fn writer_and_reader(rt: &HostRuntime) -> Result<Slab<Peer<Wire>>, Fail> {
     let mut peers = Slab::new(rt.alloc());
-    let keys = RandomState::new(&rt)?;
+    let keys = RandomState::new(rt)?;
     let inputs: [&[u8]; 2] = [
         b"PUT /entries/a HTTP/1.1\r\nHost: a\r\nContent-Length: 7\r\n\r\n\"nails\"",
         b"GET /entries/a HTTP/1.1\r\nHost: a\r\n\r\n",
@@ -230,16 +230,55 @@ fn connections_share_the_entries(rt: HostRuntime) -> Result<(), Fail> {
                 input,
                 output: Vec::new(rt.alloc()),
             },
-            since: Instant::now(&rt)?,
+            since: Instant::now(rt)?,
         })?;
     }
+    Ok(peers)
+}
+
+// Returns whether the reader has got the entry.
+fn is_read(peers: &Slab<Peer<Wire>>) -> bool {
+    match peers.get(1) {
+        Some(peer) => peer.stream.output.as_slice().ends_with(b"\"nails\""),
+        None => false,
+    }
+}
+
+#[test]
+fn connections_share_the_entries(rt: HostRuntime) -> Result<(), Fail> {
+    let mut service = opened(&rt)?;
+    let mut peers = writer_and_reader(&rt)?;
     let mut unfinished = Vec::new(rt.alloc());
     let now = Instant::now(&rt)?;
     serve_round(&mut peers, &[0, 1], &mut service, now, &mut unfinished)?;
     assert!(rt; unfinished.is_empty());
-    let Some(peer) = peers.get(1) else {
-        return Err(Fail::from(ErrorKind::NotFound));
-    };
-    assert!(rt; peer.stream.output.as_slice().ends_with(b"\"nails\""));
+    assert!(rt; is_read(&peers));
+    Ok(())
+}
+
+#[test]
+fn a_round_is_one_commit(rt: HostRuntime) -> Result<(), Fail> {
+    let mut service: RoundService<MemStore, String> = RoundService::new(
+        rt.alloc(),
+        opened(&rt)?.into_connection(),
+    );
+    let mut peers = writer_and_reader(&rt)?;
+    let mut unfinished = Vec::new(rt.alloc());
+    let now = Instant::now(&rt)?;
+    assert!(rt;
+        serve_settled_round(
+            rt.alloc(),
+            &mut peers,
+            &[0, 1],
+            &mut service,
+            now,
+            &mut unfinished
+        )?
+    );
+    assert!(rt; unfinished.is_empty());
+    assert!(rt; is_read(&peers));
+    let mut conn = service.into_connection();
+    assert!(rt; !texts::is_in_transaction(&conn));
+    assert!(rt; texts::get(&mut conn, "a")?.is_some());
     Ok(())
 }

@@ -41,6 +41,7 @@ impl Service for Counter {
 impl Settle for Counter {
     ghost answers = { λ old request response new.
         IsResponse 200 [] ((48 + old.count % 10) ∷ []) response × (new.count ≡ (old.count + 1) % 256) };
+
     ghost settles = { λ old stands new. (stands ≡ nat_lt old.count 4) × (new ≡ old) };
 
     fn call(
@@ -101,6 +102,7 @@ impl Write for Wire {
 const ONE: &[u8] = b"GET / HTTP/1.1\r\nHost: a\r\n\r\n";
 
 const RESPONSE: &[u8] = b"HTTP/1.1 200 OK\r\ncontent-length: 1\r\n\r\n1";
+
 const TWO: &[u8] = b"GET / HTTP/1.1\r\nHost: a\r\n\r\nGET / HTTP/1.1\r\nHost: a\r\n\r\n";
 
 fn stream_of(rt: &HostRuntime, input: &'static [u8]) -> Wire {
@@ -185,14 +187,32 @@ fn responses_go_out_once_their_round_stands(rt: HostRuntime) -> Result<(), Fail>
     let mut unfinished = Vec::new(rt.alloc());
     let now = Instant::now(&rt)?;
     let heard = [first, second];
-    assert!(rt; settled_round(rt.alloc(), &mut peers, &heard, &mut service, now, &mut unfinished)?);
+    assert!(rt;
+        settled_round(
+            rt.alloc(),
+            &mut peers,
+            &heard,
+            &mut service,
+            now,
+            &mut unfinished
+        )?
+    );
     assert_eq!(rt; unfinished.as_slice(), &[first][..]);
     let Some(peer) = peers.get(second) else {
         return Err(Fail::from(ErrorKind::NotFound));
     };
     assert_eq!(rt; peer.stream.output.len(), 2 * RESPONSE.len());
     let lost = [third];
-    assert!(rt; !settled_round(rt.alloc(), &mut peers, &lost, &mut service, now, &mut unfinished)?);
+    assert!(rt;
+        !settled_round(
+            rt.alloc(),
+            &mut peers,
+            &lost,
+            &mut service,
+            now,
+            &mut unfinished
+        )?
+    );
     assert!(rt; !peers.contains(third));
     assert!(rt; peers.contains(first));
     assert!(rt; peers.contains(second));

@@ -16,8 +16,7 @@ returns-clause-fresh g c clean has outside =
 pub returns-clause-again : goal.returns-clause-again
 returns-clause-again g c clean live m represents =
     let serving = represents.0 in
-    let same = c.in_ok-create.ensures.again clean (serving.1 live).1.schema in
-    (
+    let same = c.in_ok-create.ensures.again clean (serving.1 live).1.schema in (
       unchanged_serving _ _ serving same,
       kept_sees (state g.S.Store c.args.conn.now) (state g.S.Store c.create.new.conn) m represents.1 (λ _. (live, same.0.now_is)),
     )
