@@ -71,7 +71,8 @@ rises Greater w back up other = absurd (true≢false (sym (ap is_lt back) ∙ up
 -- values in order that are apart rise
 pub strict : (vs : List Value) (d : Value) → IsSortedBy less vs → IsDistinct tie vs → IsStrictlySortedBy value_cmp vs
 strict vs d up distinct = sorted_from_all_adjacent value_cmp_total vs d (λ k high.
-    rises _ _ (value_cmp_total.antisymm _ _) (up k d (omega arith) high) (apart_from_distinct tie vs k (k + 1) d distinct (omega arith) high))
+    rises _ _ (value_cmp_total.antisymm _ _) (up k d (omega arith) high)
+    (apart_from_distinct tie vs k (k + 1) d distinct (omega arith) high))
 
 -- and so do values that have changed places
 pub distinct_permuted : (vs ws : List Value) → IsPermutation vs ws → IsDistinct tie vs → IsDistinct tie ws

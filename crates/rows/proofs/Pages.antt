@@ -1,5 +1,6 @@
 -- What the query for the first rows from a key on shows of a store: the first of its rows whose keys do not come before it.
-use Rattle.std.proofs.Common.{◌≡◌, ◌⊎◌, ◌≤◌, inl, inr, ℕ, pos, List, [], ◌∷◌, ◌++◌, map, flat_map, filter, take, drop, length, Bool, true, false}
+use Rattle.std.proofs.Common.{◌≡◌, ◌⊎◌, ◌≤◌, inl, inr, ℕ, pos, List, [], ◌∷◌, ◌++◌, map}
+use Rattle.std.proofs.Common.{flat_map, filter, take, drop, length, Bool, true, false}
 use Rattle.std.proofs.Common.{cond, refl, sym, ap, subst, ◌∙◌, IsPermutation}
 use Rattle.std.specs.Cmp.Lexicographic.{slice_cmp}
 use Rattle.std.specs.List.{AllByRecursion, IsDistinct, list_all}
@@ -121,7 +122,8 @@ module _ (db : Database) (sound : IsDatabase db) (store : IsStore db) (trees : T
   -- the first of them are the entries
   first : take limit all ≡ map words_of entries
   first =
-      sym (ap (take limit) (map_twice (λ (o : Output). o.1) shown answer.ordered)) ∙ take-map shown limit (map (λ (o : Output). o.1) answer.ordered)
+      sym (ap (take limit) (map_twice (λ (o : Output). o.1) shown answer.ordered))
+      ∙ take-map shown limit (map (λ (o : Output). o.1) answer.ordered)
       ∙ sym (ap (map shown) answer.shown) ∙ read
 
   halves : take limit all ++ drop limit all ≡ all
@@ -175,7 +177,8 @@ module _ (db : Database) (sound : IsDatabase db) (store : IsStore db) (trees : T
   is_page = record {
     held = comes_from;
     rising = texts_rise entries (subst (IsStrictlySortedBy value_cmp) entry_keys
-        (front_rises value_cmp (map (λ (v : Value × Value). v.0) (take limit all)) (map (λ (v : Value × Value). v.0) (drop limit all)) split));
+        (front_rises value_cmp (map (λ (v : Value × Value). v.0) (take limit all))
+        (map (λ (v : Value × Value). v.0) (drop limit all)) split));
     most = subst (λ n. n ≤ limit) (ap length first ∙ length-map entries words_of) (at_most limit all);
     complete = goes_to;
   }

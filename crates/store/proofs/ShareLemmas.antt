@@ -1,5 +1,6 @@
 -- A round of connections that share a store is one of a map.
-use Rattle.std.proofs.Common.{◌≡◌, ◌++◌, inl, ℕ, List, [], ◌∷◌, Bool, true, false, Option, Some, IsTrue, refl, sym, ap, subst, ◌∙◌, append-nil}
+use Rattle.std.proofs.Common.{◌≡◌, ◌++◌, inl, ℕ, List, [], ◌∷◌, Bool, true, false, Option}
+use Rattle.std.proofs.Common.{Some, IsTrue, refl, sym, ap, subst, ◌∙◌, append-nil}
 use Rattle.http.specs.declared.request.Request.{Request as HttpRequest}
 use Rattle.http_server.specs.declared.response.Response.{Response}
 use Rattle.http_server.specs.Connection.{history}
@@ -33,7 +34,8 @@ module _ {S : Type 0} (g : Ghosts S) {V : Type 0} (means : Meaning V) (tree : V 
   -- the calls of a round that still stands are answered by the map to which it has come
   answered_in_round : (calls : List Call) (old new : Held S × Bool) (begun m : Map) → Chain answers old calls new
       → HasCleanDisk (state g new.0) → InRound begun (state g old.0) old.1 m
-      → (last : Map) × InRound begun (state g new.0) new.1 last × (IsTrue new.1 → IsTrue old.1 × Chain (AnsweredMap means tree) m calls last)
+      → (last : Map) × InRound begun (state g new.0) new.1 last
+      × (IsTrue new.1 → IsTrue old.1 × Chain (AnsweredMap means tree) m calls last)
   answered_in_round [] old new begun m same clean way = (
     m,
     subst (λ h. InRound begun (state g h.0) h.1 m) (sym same) way,

@@ -1,5 +1,6 @@
 -- What the store answers to a request, and what becomes of its rows.
-use Rattle.std.specs.Prelude.{◌≡◌, ◌≢◌, ◌⊎◌, ℕ, List, [], ◌∷◌, ◌++◌, true, false, Option, Some, None, is_some, option_map, if◌then◌else◌, codes, IsTrue}
+use Rattle.std.specs.Prelude.{◌≡◌, ◌≢◌, ◌⊎◌, ℕ, List, [], ◌∷◌, ◌++◌, true, false, Option}
+use Rattle.std.specs.Prelude.{Some, None, is_some, option_map, if◌then◌else◌, codes, IsTrue}
 use Rattle.sha2.specs.Sha256.{sha256}
 use Rattle.hex.specs.Hex.{encode_lower}
 use Rattle.http.specs.declared.request.Request.{Request as HttpRequest}

@@ -48,7 +48,8 @@ SettlesRound old stood kept new stands = HasCleanDisk new → HasCleanDisk old
 -- The connections of a round before and after it, if its answers stand: their responses, in the order of their turns, are those
 -- of the map from before, and the map to which they lead is committed. If they do not stand, no connection that made a call is
 -- left, and the map is the one from before.
-abbrev pub IsRoundOfMap : {V T : Type 0} → Meaning V → (V → Tree) → Map → (ℕ → Option (Peer T)) → (ℕ → Option (Peer T)) → State → Bool → Bool → Type 0
+abbrev pub IsRoundOfMap : {V T : Type 0} → Meaning V → (V → Tree) → Map → (ℕ → Option (Peer T)) → (ℕ → Option (Peer T)) → State → Bool
+    → Bool → Type 0
 IsRoundOfMap means tree m before after new ready true =
     (turns : Turns) × (last : Map) × IsShared (AnsweredMap means tree) m last before after turns × IsBetween last new ready
 IsRoundOfMap means tree m before after new ready false = AreQuiet before after × IsBetween m new ready

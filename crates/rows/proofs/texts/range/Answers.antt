@@ -29,79 +29,92 @@ pub returns-clause-same : goal.returns-clause-same
 returns-clause-same g c clean has =
     let old = state g.S.Store c.args.conn.now in
     let new = state g.S.Store c.query_range.new.conn in
-    shown_same range_text (Text c.args.from.now ∷ Int (pos c.args.limit) ∷ []) old new c.in_ok-rows.rows.items range_plain has (c.in_ok-rows.ensures.rows clean)
+    let params = Text c.args.from.now ∷ Int (pos c.args.limit) ∷ [] in
+    shown_same range_text params old new c.in_ok-rows.rows.items range_plain has (c.in_ok-rows.ensures.rows clean)
 
 pub returns-in_err-key-clause-aborts : goal.returns-in_err-key-clause-aborts
 returns-in_err-key-clause-aborts g c clean has =
     let old = state g.S.Store c.args.conn.now in
     let new = state g.S.Store c.query_range.new.conn in
-    on_err _ (inl (shown_same range_text (Text c.args.from.now ∷ Int (pos c.args.limit) ∷ []) old new c.in_ok-rows.rows.items range_plain has (c.in_ok-rows.ensures.rows clean)))
+    let params = Text c.args.from.now ∷ Int (pos c.args.limit) ∷ [] in
+    on_err _ (inl (shown_same range_text params old new c.in_ok-rows.rows.items range_plain has (c.in_ok-rows.ensures.rows clean)))
 
 pub returns-in_err-key-clause-serving : goal.returns-in_err-key-clause-serving
 returns-in_err-key-clause-serving g c clean s =
     let old = state g.S.Store c.args.conn.now in
     let new = state g.S.Store c.query_range.new.conn in
-    aborts_serving old new s (listed_by range_text (Text c.args.from.now ∷ Int (pos c.args.limit) ∷ []) range_plain old new c.in_ok-rows.rows.items s (c.in_ok-rows.ensures.rows clean)).1
+    let params = Text c.args.from.now ∷ Int (pos c.args.limit) ∷ [] in
+    aborts_serving old new s (listed_by range_text params range_plain old new c.in_ok-rows.rows.items s (c.in_ok-rows.ensures.rows clean)).1
 
 pub returns-in_err-key-clause-kept : goal.returns-in_err-key-clause-kept
 returns-in_err-key-clause-kept g c clean s =
     let old = state g.S.Store c.args.conn.now in
     let new = state g.S.Store c.query_range.new.conn in
-    aborts_keeps old new s (listed_by range_text (Text c.args.from.now ∷ Int (pos c.args.limit) ∷ []) range_plain old new c.in_ok-rows.rows.items s (c.in_ok-rows.ensures.rows clean)).1
+    let params = Text c.args.from.now ∷ Int (pos c.args.limit) ∷ [] in
+    aborts_keeps old new s (listed_by range_text params range_plain old new c.in_ok-rows.rows.items s (c.in_ok-rows.ensures.rows clean)).1
 
 pub returns-in_err-body-clause-aborts : goal.returns-in_err-body-clause-aborts
 returns-in_err-body-clause-aborts g c clean has =
     let old = state g.S.Store c.args.conn.now in
     let new = state g.S.Store c.query_range.new.conn in
-    on_err _ (inl (shown_same range_text (Text c.args.from.now ∷ Int (pos c.args.limit) ∷ []) old new c.in_ok-rows.rows.items range_plain has (c.in_ok-rows.ensures.rows clean)))
+    let params = Text c.args.from.now ∷ Int (pos c.args.limit) ∷ [] in
+    on_err _ (inl (shown_same range_text params old new c.in_ok-rows.rows.items range_plain has (c.in_ok-rows.ensures.rows clean)))
 
 pub returns-in_err-body-clause-serving : goal.returns-in_err-body-clause-serving
 returns-in_err-body-clause-serving g c clean s =
     let old = state g.S.Store c.args.conn.now in
     let new = state g.S.Store c.query_range.new.conn in
-    aborts_serving old new s (listed_by range_text (Text c.args.from.now ∷ Int (pos c.args.limit) ∷ []) range_plain old new c.in_ok-rows.rows.items s (c.in_ok-rows.ensures.rows clean)).1
+    let params = Text c.args.from.now ∷ Int (pos c.args.limit) ∷ [] in
+    aborts_serving old new s (listed_by range_text params range_plain old new c.in_ok-rows.rows.items s (c.in_ok-rows.ensures.rows clean)).1
 
 pub returns-in_err-body-clause-kept : goal.returns-in_err-body-clause-kept
 returns-in_err-body-clause-kept g c clean s =
     let old = state g.S.Store c.args.conn.now in
     let new = state g.S.Store c.query_range.new.conn in
-    aborts_keeps old new s (listed_by range_text (Text c.args.from.now ∷ Int (pos c.args.limit) ∷ []) range_plain old new c.in_ok-rows.rows.items s (c.in_ok-rows.ensures.rows clean)).1
+    let params = Text c.args.from.now ∷ Int (pos c.args.limit) ∷ [] in
+    aborts_keeps old new s (listed_by range_text params range_plain old new c.in_ok-rows.rows.items s (c.in_ok-rows.ensures.rows clean)).1
 
 pub returns-in_err-push-clause-aborts : goal.returns-in_err-push-clause-aborts
 returns-in_err-push-clause-aborts g c clean has =
     let old = state g.S.Store c.args.conn.now in
     let new = state g.S.Store c.query_range.new.conn in
-    on_err _ (inl (shown_same range_text (Text c.args.from.now ∷ Int (pos c.args.limit) ∷ []) old new c.in_ok-rows.rows.items range_plain has (c.in_ok-rows.ensures.rows clean)))
+    let params = Text c.args.from.now ∷ Int (pos c.args.limit) ∷ [] in
+    on_err _ (inl (shown_same range_text params old new c.in_ok-rows.rows.items range_plain has (c.in_ok-rows.ensures.rows clean)))
 
 pub returns-in_err-push-clause-serving : goal.returns-in_err-push-clause-serving
 returns-in_err-push-clause-serving g c clean s =
     let old = state g.S.Store c.args.conn.now in
     let new = state g.S.Store c.query_range.new.conn in
-    aborts_serving old new s (listed_by range_text (Text c.args.from.now ∷ Int (pos c.args.limit) ∷ []) range_plain old new c.in_ok-rows.rows.items s (c.in_ok-rows.ensures.rows clean)).1
+    let params = Text c.args.from.now ∷ Int (pos c.args.limit) ∷ [] in
+    aborts_serving old new s (listed_by range_text params range_plain old new c.in_ok-rows.rows.items s (c.in_ok-rows.ensures.rows clean)).1
 
 pub returns-in_err-push-clause-kept : goal.returns-in_err-push-clause-kept
 returns-in_err-push-clause-kept g c clean s =
     let old = state g.S.Store c.args.conn.now in
     let new = state g.S.Store c.query_range.new.conn in
-    aborts_keeps old new s (listed_by range_text (Text c.args.from.now ∷ Int (pos c.args.limit) ∷ []) range_plain old new c.in_ok-rows.rows.items s (c.in_ok-rows.ensures.rows clean)).1
+    let params = Text c.args.from.now ∷ Int (pos c.args.limit) ∷ [] in
+    aborts_keeps old new s (listed_by range_text params range_plain old new c.in_ok-rows.rows.items s (c.in_ok-rows.ensures.rows clean)).1
 
 pub returns-clause-live : goal.returns-clause-live
 returns-clause-live g c clean s =
     let old = state g.S.Store c.args.conn.now in
     let new = state g.S.Store c.query_range.new.conn in
-    (listed_by range_text (Text c.args.from.now ∷ Int (pos c.args.limit) ∷ []) range_plain old new c.in_ok-rows.rows.items s (c.in_ok-rows.ensures.rows clean)).0
+    let params = Text c.args.from.now ∷ Int (pos c.args.limit) ∷ [] in
+    (listed_by range_text params range_plain old new c.in_ok-rows.rows.items s (c.in_ok-rows.ensures.rows clean)).0
 
 pub returns-clause-serving : goal.returns-clause-serving
 returns-clause-serving g c clean s =
     let old = state g.S.Store c.args.conn.now in
     let new = state g.S.Store c.query_range.new.conn in
-    aborts_serving old new s (listed_by range_text (Text c.args.from.now ∷ Int (pos c.args.limit) ∷ []) range_plain old new c.in_ok-rows.rows.items s (c.in_ok-rows.ensures.rows clean)).1
+    let params = Text c.args.from.now ∷ Int (pos c.args.limit) ∷ [] in
+    aborts_serving old new s (listed_by range_text params range_plain old new c.in_ok-rows.rows.items s (c.in_ok-rows.ensures.rows clean)).1
 
 pub returns-clause-kept : goal.returns-clause-kept
 returns-clause-kept g c clean s =
     let old = state g.S.Store c.args.conn.now in
     let new = state g.S.Store c.query_range.new.conn in
-    aborts_keeps old new s (listed_by range_text (Text c.args.from.now ∷ Int (pos c.args.limit) ∷ []) range_plain old new c.in_ok-rows.rows.items s (c.in_ok-rows.ensures.rows clean)).1
+    let params = Text c.args.from.now ∷ Int (pos c.args.limit) ∷ [] in
+    aborts_keeps old new s (listed_by range_text params range_plain old new c.in_ok-rows.rows.items s (c.in_ok-rows.ensures.rows clean)).1
 
 pub returns-in_err-rows-clause-aborts : goal.returns-in_err-rows-clause-aborts
 returns-in_err-rows-clause-aborts g c clean has =
@@ -113,10 +126,12 @@ pub returns-in_err-rows-clause-serving : goal.returns-in_err-rows-clause-serving
 returns-in_err-rows-clause-serving g c clean s =
     let old = state g.S.Store c.args.conn.now in
     let new = state g.S.Store c.query_range.new.conn in
-    aborts_serving old new s (query_aborts range_text (Text c.args.from.now ∷ Int (pos c.args.limit) ∷ []) old new _ (c.in_err-rows.ensures.failed clean))
+    let params = Text c.args.from.now ∷ Int (pos c.args.limit) ∷ [] in
+    aborts_serving old new s (query_aborts range_text params old new _ (c.in_err-rows.ensures.failed clean))
 
 pub returns-in_err-rows-clause-kept : goal.returns-in_err-rows-clause-kept
 returns-in_err-rows-clause-kept g c clean s =
     let old = state g.S.Store c.args.conn.now in
     let new = state g.S.Store c.query_range.new.conn in
-    aborts_keeps old new s (query_aborts range_text (Text c.args.from.now ∷ Int (pos c.args.limit) ∷ []) old new _ (c.in_err-rows.ensures.failed clean))
+    let params = Text c.args.from.now ∷ Int (pos c.args.limit) ∷ [] in
+    aborts_keeps old new s (query_aborts range_text params old new _ (c.in_err-rows.ensures.failed clean))

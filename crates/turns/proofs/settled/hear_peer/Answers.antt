@@ -14,7 +14,8 @@ returns-in_default-clause-shared g c =
     let gone = c.try_remove.ensures.updates in (
       [],
       only_none c.args.key,
-      shared_left g.S.Settle.answers c.args.service.now (get c.args.peers.now) (get c.try_remove.new.self) c.args.key gone.others gone.changed,
+      shared_left g.S.Settle.answers c.args.service.now (get c.args.peers.now) (get c.try_remove.new.self) c.args.key gone.others
+          gone.changed,
     )
 
 pub returns-in_default-clause-silent : goal.returns-in_default-clause-silent

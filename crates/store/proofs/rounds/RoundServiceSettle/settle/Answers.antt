@@ -20,8 +20,8 @@ returns g c =
     elim c.else-self.branch [
       | else-self-via-then-self+else-commit_round w ↦
           rw (← c.self.view_is)
-          (lost_round old (state g.S.Store w.commit_round.new.conn) new c.self.inside.stands w.commit_round.result drop.result w.if-self.true
-          w.if-commit_round.false w.commit_round.ensures (rw w.self-inside-is at drop.ensures))
+          (lost_round old (state g.S.Store w.commit_round.new.conn) new c.self.inside.stands w.commit_round.result drop.result
+          w.if-self.true w.if-commit_round.false w.commit_round.ensures (rw w.self-inside-is at drop.ensures))
       | else-self-via-else-self w ↦
           rw (← c.self.view_is)
           (off_round old new c.self.inside.stands drop.result w.if-self.false (rw w.self-inside-is at drop.ensures))
