@@ -4,12 +4,14 @@ use Rattle.std.proofs.Common.{refl, sym, ap, subst, ◌∙◌, append_assoc, app
 use Rattle.std.proofs.lemmas.Bool.Decides.{nat_tests}
 use Rattle.http.specs.declared.request.Request.{Request}
 use Rattle.http_server.specs.declared.response.Response.{Response}
-use Rattle.http_server.specs.Connection.{history}
+use Rattle.http_server.specs.declared.connection.Connection.{Connection}
+use Rattle.http_server.specs.Connection.{config_of, history}
 use Rattle.http_server.specs.Exchange.{Call, Chain}
+use Rattle.http_server.specs.History.{IsServed, Rests}
 use Rattle.http_server.proofs.StreamLemmas.{Chain-append}
 use Rattle.turns.specs.declared.peers.Peer.{Peer}
 use Rattle.std.specs.List.{AllByRecursion}
-use Rattle.turns.specs.Shared.{Turns, all_calls, calls_at, IsShared, IsAtRest}
+use Rattle.turns.specs.Shared.{Turns, all_calls, calls_at, IsShared, IsCaughtUp, IsAtRest}
 
 all_append : (s t : Turns) → all_calls (s ++ t) ≡ all_calls s ++ all_calls t
 all_append [] t = refl
@@ -103,6 +105,12 @@ module _ {S T : Type 0} (answers : S → Request (List ℕ) → Response → S �
       by k peer is false e =
           let apart : k ≡ key → ⊥ = λ same. grind (arith, nat_tests) in
           (peer, sym (others k apart) ∙ is, sym (append-nil (history peer.connection).calls))
+
+-- a connection that did nothing is still caught up
+pub same_caught_up : (a b : Connection) → config_of b ≡ config_of a → history b ≡ history a → IsCaughtUp a → IsCaughtUp b
+same_caught_up a b config same up =
+    subst (λ c. ∥ IsServed c (history b) ∥₁ × Rests c (history b)) (sym config)
+    (subst (λ h. ∥ IsServed (config_of a) h ∥₁ × Rests (config_of a) h) (sym same) up)
 
 pub one_peer : {P : Type 0} {a b : P} → ◌≡◌ {A = Option P} (Some a) (Some b) → a ≡ b
 one_peer e = cc

@@ -1,11 +1,14 @@
 -- Connections that share one service.
-use Rattle.std.specs.Prelude.{◌≡◌, ℕ, ◌==◌, List, [], ◌++◌, flat_map, if◌then◌else◌, Option, Some, IfSome}
+use Rattle.std.specs.Prelude.{◌≡◌, ℕ, ◌==◌, Bool, false, List, [], ◌++◌, flat_map, if◌then◌else◌, Option, Some, IfSome}
 use Rattle.http.specs.declared.request.Request.{Request}
 use Rattle.http_server.specs.declared.response.Response.{Response}
+use Rattle.http_server.specs.declared.connection.Connection.{Connection}
 use Rattle.http_server.specs.Connection.{config_of, history}
 use Rattle.http_server.specs.Exchange.{Call, Chain}
-use Rattle.http_server.specs.History.{Rests}
+use Rattle.http_server.specs.History.{IsServed, Rests}
 use Rattle.turns.specs.declared.peers.Peer.{Peer}
+use Rattle.turns.specs.declared.turn.Turn.{Turn}
+use Rattle.turns.specs.declared.turn.Turn.TheVariants.{Waits, More, Done}
 
 -- the turns that were given: the key of the connection, and the calls of the service that were made for it
 abbrev pub Turns : Type 0
@@ -27,6 +30,17 @@ pub record IsShared {S T : Type 0} (answers : S → Request (List ℕ) → Respo
   pub each : (key : ℕ) (peer : Peer T) → after key ≡ Some peer → (was : Peer T) × (before key ≡ Some was)
       × ((history peer.connection).calls ≡ (history was.connection).calls ++ calls_at key turns)
 
--- a connection that is there has called the service for each whole request that it received, as far as its output has room
+-- The connection has called the service for each whole request that it received, as far as its output has room. What it has sent
+-- and is still to send are the responses to its calls, in their order.
+abbrev pub IsCaughtUp : Connection → Type 0
+IsCaughtUp connection = ∥ IsServed (config_of connection) (history connection) ∥₁ × Rests (config_of connection) (history connection)
+
+-- a connection that is there is caught up
 abbrev pub IsAtRest : {T : Type 0} → Option (Peer T) → Type 0
-IsAtRest entry = IfSome entry (λ peer. Rests (config_of peer.connection) (history peer.connection))
+IsAtRest entry = IfSome entry (λ peer. IsCaughtUp peer.connection)
+
+-- the turn wrote a part of a response
+abbrev pub has_written : Turn → Bool
+has_written (Waits wrote) = wrote
+has_written (More wrote) = wrote
+has_written Done = false

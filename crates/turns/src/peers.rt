@@ -16,7 +16,7 @@ use std::time::Instant;
 pub struct Peer<T> {
     pub connection: Connection,
     pub stream: T,
-    /// When it came, or was last written to.
+    /// When it came, or when its stream last took a part of a response.
     pub since: Instant,
 }
 
@@ -43,11 +43,11 @@ pub fn give_turn<S: Service, T: Read + Write + Drop>(
     if next == Turn::Done {
         return false;
     }
-    if next != (Turn::Waits { wrote: false }) {
+    if next.wrote() {
         peer.since = now;
     }
     peers.insert_reserved(peer);
-    next == Turn::More
+    next.goes_on()
 }
 
 /// Gives the connections of these keys their turns. Appends the keys of those that may have more to do. Returns an

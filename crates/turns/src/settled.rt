@@ -1,12 +1,13 @@
 //! Connections whose responses go out once their round is settled, as where the requests of many share one commit.
-ghost use Rattle.std.specs.Prelude.{◌≡◌, ◌+◌, ◌≤◌, ℕ, None, length, vec_len, vec_capacity, OnOk, IfOk, OnErr, IsOk};
+ghost use Rattle.std.specs.Prelude.{◌≡◌, ◌≢◌, ◌+◌, ◌≤◌, ℕ, None, length, vec_len, vec_capacity};
+ghost use Rattle.std.specs.Prelude.{OnOk, IfOk, OnErr, IsOk, IsTrue};
 ghost use Rattle.std.specs.List.{AllByRecursion};
 ghost use Rattle.http_server.specs.Connection.{config_of, history};
 ghost use Rattle.http_server.specs.Exchange.{Calls};
-ghost use Rattle.http_server.specs.History.{Rests};
+ghost use Rattle.http_server.specs.History.{IsQuiet};
 ghost use Rattle.slab.specs.Slab.{get};
-ghost use Rattle.turns.specs.Shared.{Turns, IsShared, IsAtRest};
-ghost use Rattle.turns.specs.Settled.{AreSilent, AreQuiet, OnlyAt, OnlyAmong, IsSettled};
+ghost use Rattle.turns.specs.Shared.{Turns, has_written, IsShared, IsCaughtUp, IsAtRest};
+ghost use Rattle.turns.specs.Settled.{AreLeft, IsHeard, AreHeard, IsSpoken, AreSpoken, OnlyAt, OnlyAmong, IsSettled};
 
 use crate::peers::Peer;
 use crate::turn::{MAX_STEPS, Turn, after};
@@ -41,8 +42,8 @@ impl<'a, S: Settle> Service for InRound<'a, S> {
 fn advance<S: Settle>(connection: &mut Connection, service: &mut S)
     ensures calls { Calls S.answers service.old service.new
         (history connection.old).calls (history connection.new).calls }
-    ensures rests { Rests (config_of connection.new) (history connection.new) }
-    ensures silent { (history connection.new).sent ≡ (history connection.old).sent }
+    ensures rests { IsCaughtUp connection.new }
+    ensures quiet { IsQuiet (history connection.old) (history connection.new) }
     ensures config { config_of connection.new ≡ config_of connection.old }
 {
     let mut round = InRound { service };
@@ -52,106 +53,98 @@ fn advance<S: Settle>(connection: &mut Connection, service: &mut S)
     let _ = &*service;
 }
 
-/// Reads, and calls the service, until a read returns `WouldBlock`, or the turn has made as many as it may, or the
-/// output has no room. Writes nothing. Returns `Done` if the stream fails.
-pub fn hear<S: Settle, T: Read>(
-    connection: &mut Connection,
-    service: &mut S,
-    stream: &mut T,
-) -> Turn
+// Reads, and calls the service, until a read returns `WouldBlock`, or the turn has made as many as it may, or the output has
+// no room. Writes nothing. Returns `Done` if the stream fails.
+fn hear<S: Settle, T: Read>(peer: &mut Peer<T>, service: &mut S) -> Turn
     // The new calls of this connection lead from the state of the service before to the state after.
     ensures calls { Calls S.answers service.old service.new
-        (history connection.old).calls (history connection.new).calls }
-
-    // The connection has called the service for each whole request that it received, as far as its output has room.
-    ensures rests { Rests (config_of connection.new) (history connection.new) }
-    ensures silent { (history connection.new).sent ≡ (history connection.old).sent }
-    ensures config { config_of connection.new ≡ config_of connection.old }
+        (history peer.old.connection).calls (history peer.new.connection).calls }
+    ensures heard { IsHeard T.remaining peer.old peer.new }
+    ensures rests { IsCaughtUp peer.new.connection }
 {
-    advance(connection, service);
+    advance(&mut peer.connection, service);
     for _ in 0..MAX_STEPS {
-        if !connection.wants_read() {
-            return Turn::More;
+        if !peer.connection.wants_read() {
+            return Turn::More { wrote: false };
         }
-        if let Err(error) = connection.read_from(stream) {
+        if let Err(error) = peer.connection.read_from(&mut peer.stream) {
             return after(&error, false);
         }
-        advance(connection, service);
+        advance(&mut peer.connection, service);
     }
-    Turn::More
+    Turn::More { wrote: false }
 }
 
-/// Writes until a write returns `WouldBlock`, or nothing is left to write, or the turn has made as many as it may.
-/// Returns `Done` if HTTP has nothing more to do, or the stream fails.
-pub fn speak<T: Write>(connection: &mut Connection, stream: &mut T) -> Turn
-    ensures quiet { (history connection.new).calls ≡ (history connection.old).calls }
-    ensures config { config_of connection.new ≡ config_of connection.old }
+// Writes until a write returns `WouldBlock`, or nothing is left to write, or the turn has made as many as it may. Returns
+// `Done` if HTTP has nothing more to do, or the stream fails.
+fn speak<T: Write>(peer: &mut Peer<T>) -> Turn
+    ensures spoken { IsSpoken T.contents peer.old peer.new }
+    ensures since { peer.new.since ≡ peer.old.since }
+
+    // It says that it wrote only if the stream took a part of a response.
+    ensures wrote { IsTrue (has_written result)
+        → (history peer.new.connection).sent ≢ (history peer.old.connection).sent }
 {
     let mut wrote = false;
     for _ in 0..MAX_STEPS {
-        if connection.is_done() {
+        if peer.connection.is_done() {
             return Turn::Done;
         }
-        if !connection.wants_write() {
+        if !peer.connection.wants_write() {
             return Turn::Waits { wrote };
         }
-        match connection.write_to(stream) {
+        match peer.connection.write_to(&mut peer.stream) {
             Ok(0) => return Turn::Done,
             Ok(_) => wrote = true,
             Err(error) => return after(&error, wrote),
         }
     }
-    Turn::More
+    Turn::More { wrote }
 }
 
 // Hears the connection of a key, and removes it if its stream fails. Returns whether it may have more to say.
-fn hear_peer<S: Settle, T: Read + Write + Drop>(
+fn hear_peer<S: Settle, T: Read + Drop>(
     peers: &mut Slab<Peer<T>>,
     key: usize,
     service: &mut S,
-    now: Instant,
 ) -> bool
     // The calls of the turn are answered one after another by the service, and belong to this key.
     ensures shared { (turns : Turns) × OnlyAt key turns
         × IsShared S.answers service.old service.new (get peers.old) (get peers.new) turns }
-    ensures silent { AreSilent (get peers.old) (get peers.new) }
+    ensures heard { AreHeard T.remaining (get peers.old) (get peers.new) }
     ensures rests { IsAtRest (get peers.new key) }
     ensures others { (other : ℕ) → (other ≡ key → ⊥) → get peers.new other ≡ get peers.old other }
 {
     let Some(mut peer) = peers.try_remove(key) else {
         return false;
     };
-    let next = hear(&mut peer.connection, service, &mut peer.stream);
+    let next = hear(&mut peer, service);
     if next == Turn::Done {
         return false;
     }
-    if next == Turn::More {
-        peer.since = now;
-    }
     peers.insert_reserved(peer);
-    next == Turn::More
+    next.goes_on()
 }
 
 // Hears the connections of these keys. Returns those that had a turn, each with whether it may have more to say. Returns
 // an error, before the first turn, if an allocation fails.
-fn hear_all<S: Settle, T: Read + Write + Drop>(
+fn hear_all<S: Settle, T: Read + Drop>(
     alloc: Global,
     peers: &mut Slab<Peer<T>>,
     keys: &[usize],
     service: &mut S,
-    now: Instant,
 ) -> Result<Vec<(usize, bool)>, AllocError>
     // The calls of all turns are answered one after another by the service, and belong to these keys.
     ensures shared { OnOk result ((turns : Turns) × OnlyAmong keys.now turns
         × IsShared S.answers service.old service.new (get peers.old) (get peers.new) turns) }
-    ensures silent { AreSilent (get peers.old) (get peers.new) }
+    ensures heard { AreHeard T.remaining (get peers.old) (get peers.new) }
     ensures rests { OnOk result (AllByRecursion (λ key. IsAtRest (get peers.new key)) keys.now) }
     ensures count { IfOk result (λ heard. length heard.items ≡ length keys.now) }
     ensures none { OnErr result ((peers.new ≡ peers.old) × (service.new ≡ service.old)) }
 {
     let mut heard = Vec::with_capacity(alloc, keys.len())?;
     for key in keys.iter() {
-        let more = hear_peer(peers, *key, service, now);
+        let more = hear_peer(peers, *key, service);
         heard.push((*key, more))?;
     }
     Ok(heard)
@@ -159,7 +152,7 @@ fn hear_all<S: Settle, T: Read + Write + Drop>(
 
 // Whether a connection may have more to do: more to write, or more to say and room for it.
 fn may_go_on(next: Turn, more: bool, connection: &Connection) -> bool {
-    next == Turn::More || more && !connection.wants_write()
+    next.goes_on() || more && !connection.wants_write()
 }
 
 // Lets the connection of a key write, and removes it if it is done. Returns whether it may have more to do.
@@ -169,16 +162,16 @@ fn speak_peer<T: Write + Drop>(
     more: bool,
     now: Instant,
 ) -> bool
-    ensures quiet { AreQuiet (get peers.old) (get peers.new) }
+    ensures spoken { AreSpoken T.contents (get peers.old) (get peers.new) }
 {
     let Some(mut peer) = peers.try_remove(key) else {
         return false;
     };
-    let next = speak(&mut peer.connection, &mut peer.stream);
+    let next = speak(&mut peer);
     if next == Turn::Done {
         return false;
     }
-    if next != (Turn::Waits { wrote: false }) {
+    if next.wrote() {
         peer.since = now;
     }
     let again = may_go_on(next, more, &peer.connection);
@@ -195,7 +188,7 @@ fn speak_all<T: Write + Drop>(
 ) -> Result<(), AllocError>
     requires { vec_len unfinished.old + length heard.now ≤ vec_capacity unfinished.old }
     ensures done { IsOk result }
-    ensures quiet { AreQuiet (get peers.old) (get peers.new) }
+    ensures spoken { AreSpoken T.contents (get peers.old) (get peers.new) }
 {
     for (key, more) in heard.iter() {
         if speak_peer(peers, *key, *more, now) {
@@ -207,7 +200,7 @@ fn speak_all<T: Write + Drop>(
 
 // Removes the connections of these keys.
 fn remove_all<T: Drop>(peers: &mut Slab<Peer<T>>, keys: &[usize])
-    ensures quiet { AreQuiet (get peers.old) (get peers.new) }
+    ensures left { AreLeft (get peers.old) (get peers.new) }
     ensures gone { AllByRecursion (λ key. get peers.new key ≡ None) keys.now }
 {
     for key in keys.iter() {
@@ -228,12 +221,12 @@ pub fn settled_round<S: Settle, T: Read + Write + Drop>(
 ) -> Result<bool, AllocError>
     // The calls of all turns are answered one after another by the service, and nothing is sent before it settles them.
     // Those of a connection are the ones of its turns, and none that made one is left if they do not stand.
-    ensures settled { IfOk result (λ stands. (turns : Turns) × IsSettled S.answers S.settles keys.now
-        service.old service.new (get peers.old) (get peers.new) turns stands) }
+    ensures settled { IfOk result (λ stands. (turns : Turns) × IsSettled S.answers S.settles T.remaining T.contents
+        keys.now service.old service.new (get peers.old) (get peers.new) turns stands) }
     ensures none { OnErr result ((peers.new ≡ peers.old) × (service.new ≡ service.old)) }
 {
     unfinished.reserve(keys.len())?;
-    let heard = hear_all(alloc, peers, keys, service, now)?;
+    let heard = hear_all(alloc, peers, keys, service)?;
     let stands = service.settle();
     if stands {
         speak_all(peers, heard.as_slice(), now, unfinished)?;

@@ -14,7 +14,7 @@ use std::hash::RandomState;
 use std::io;
 use std::io::{ErrorKind, Read, Write};
 use std::test::Fail;
-use std::time::Instant;
+use std::time::{Duration, Instant};
 
 /// Responds with a digit, the number of calls before this one.
 #[derive(Drop)]
@@ -141,7 +141,7 @@ fn a_turn_tells_what_the_connection_waits_for(rt: HostRuntime) -> Result<(), Fai
     assert_eq!(rt; turn_of(&rt, stream_of(&rt, b""))?, (silent, 0));
     let mut slow = stream_of(&rt, ONE);
     slow.most = 1;
-    assert_eq!(rt; turn_of(&rt, slow)?, (Turn::More, 0));
+    assert_eq!(rt; turn_of(&rt, slow)?, (Turn::More { wrote: false }, 0));
     let mut closed = stream_of(&rt, ONE);
     closed.behind = None;
     assert_eq!(rt; turn_of(&rt, closed)?, (Turn::Done, 1));
@@ -150,7 +150,7 @@ fn a_turn_tells_what_the_connection_waits_for(rt: HostRuntime) -> Result<(), Fai
     assert_eq!(rt; turn_of(&rt, failed)?, (Turn::Done, 1));
     let mut interrupted = stream_of(&rt, ONE);
     interrupted.behind = Some(ErrorKind::Interrupted);
-    assert_eq!(rt; turn_of(&rt, interrupted)?, (Turn::More, 1));
+    assert_eq!(rt; turn_of(&rt, interrupted)?, (Turn::More { wrote: true }, 1));
     let mut full = stream_of(&rt, ONE);
     full.blocked = Some(ErrorKind::WouldBlock);
     assert_eq!(rt; turn_of(&rt, full)?, (silent, 1));
@@ -175,6 +175,19 @@ fn a_connection_that_is_done_is_removed(rt: HostRuntime) -> Result<(), Fail> {
     Ok(())
 }
 
+// Gives the connections of these keys a round at this time, and returns whether it stands and which may have more to do.
+fn round_of(
+    rt: &HostRuntime,
+    peers: &mut Slab<Peer<Wire>>,
+    keys: &[usize],
+    service: &mut Counter,
+    now: Instant,
+) -> Result<(bool, Vec<usize>), Fail> {
+    let mut unfinished = Vec::new(rt.alloc());
+    let stands = settled_round(rt.alloc(), peers, keys, service, now, &mut unfinished)?;
+    Ok((stands, unfinished))
+}
+
 #[test]
 fn responses_go_out_once_their_round_stands(rt: HostRuntime) -> Result<(), Fail> {
     let mut peers = Slab::new(rt.alloc());
@@ -184,38 +197,46 @@ fn responses_go_out_once_their_round_stands(rt: HostRuntime) -> Result<(), Fail>
     let second = peers.insert(peer(&rt, stream_of(&rt, TWO))?)?;
     let third = peers.insert(peer(&rt, stream_of(&rt, TWO))?)?;
     let mut service = Counter { count: 0 };
-    let mut unfinished = Vec::new(rt.alloc());
     let now = Instant::now(&rt)?;
-    let heard = [first, second];
-    assert!(rt;
-        settled_round(
-            rt.alloc(),
-            &mut peers,
-            &heard,
-            &mut service,
-            now,
-            &mut unfinished
-        )?
-    );
+    let (stands, unfinished) = round_of(&rt, &mut peers, &[first, second], &mut service, now)?;
+    assert!(rt; stands);
     assert_eq!(rt; unfinished.as_slice(), &[first][..]);
     let Some(peer) = peers.get(second) else {
         return Err(Fail::from(ErrorKind::NotFound));
     };
     assert_eq!(rt; peer.stream.output.len(), 2 * RESPONSE.len());
-    let lost = [third];
-    assert!(rt;
-        !settled_round(
-            rt.alloc(),
-            &mut peers,
-            &lost,
-            &mut service,
-            now,
-            &mut unfinished
-        )?
-    );
+    let (stands, _) = round_of(&rt, &mut peers, &[third], &mut service, now)?;
+    assert!(rt; !stands);
     assert!(rt; !peers.contains(third));
     assert!(rt; peers.contains(first));
     assert!(rt; peers.contains(second));
+    Ok(())
+}
+
+// Returns whether the time of a connection was left by a round at this later time.
+fn is_left(rt: &HostRuntime, stream: Wire, later: Duration) -> Result<bool, Fail> {
+    let mut peers = Slab::new(rt.alloc());
+    let came = peer(rt, stream)?;
+    let since = came.since;
+    let key = peers.insert(came)?;
+    let mut service = Counter { count: 0 };
+    round_of(rt, &mut peers, &[key], &mut service, since + later)?;
+    let Some(peer) = peers.get(key) else {
+        return Err(Fail::from(ErrorKind::NotFound));
+    };
+    Ok(peer.since == since)
+}
+
+#[test]
+fn a_client_that_takes_nothing_is_idle(rt: HostRuntime) -> Result<(), Fail> {
+    let later = Duration::from_secs(1);
+    assert!(rt; !is_left(&rt, stream_of(&rt, TWO), later)?);
+    let mut full = stream_of(&rt, TWO);
+    full.blocked = Some(ErrorKind::WouldBlock);
+    assert!(rt; is_left(&rt, full, later)?);
+    let mut slow = stream_of(&rt, ONE);
+    slow.most = 1;
+    assert!(rt; is_left(&rt, slow, later)?);
     Ok(())
 }
 

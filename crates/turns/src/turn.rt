@@ -1,8 +1,8 @@
 //! One connection among many: what it has received is answered, and nothing waits.
-ghost use Rattle.std.specs.Prelude.{◌≡◌, ◌≢◌};
+ghost use Rattle.std.specs.Prelude.{◌≡◌, ◌≢◌, IsTrue};
 ghost use Rattle.http_server.specs.Connection.{config_of, history};
 ghost use Rattle.http_server.specs.Exchange.{Calls};
-ghost use Rattle.http_server.specs.History.{Rests};
+ghost use Rattle.turns.specs.Shared.{has_written, IsCaughtUp};
 
 use http_server::{Connection, Service};
 use std::io;
@@ -20,9 +20,32 @@ pub enum Turn {
         wrote: bool,
     },
     /// There may be more to do, in another turn.
-    More,
+    More {
+        /// The turn wrote a part of a response.
+        wrote: bool,
+    },
     /// HTTP has nothing more to do, or the stream failed: close it.
     Done,
+}
+
+impl Turn {
+    /// Returns whether the turn wrote a part of a response.
+    pub fn wrote(self) -> bool
+        ensures { result ≡ has_written self }
+    {
+        match self {
+            Turn::Waits { wrote } | Turn::More { wrote } => wrote,
+            Turn::Done => false,
+        }
+    }
+
+    /// Returns whether there may be more to do, in another turn.
+    pub fn goes_on(self) -> bool {
+        match self {
+            Turn::More { .. } => true,
+            _ => false,
+        }
+    }
 }
 
 /// Reads, answers and writes until a read or a write of the stream returns `WouldBlock`, or the turn has made as many
@@ -38,7 +61,7 @@ pub fn take_turn<S: Service, T: Read + Write>(
 
     // Unless it is done, the connection has called the service for each whole request that it received, as far as its
     // output has room.
-    ensures rests { result ≢ Turn.Done → Rests (config_of connection.new) (history connection.new) }
+    ensures rests { result ≢ Turn.Done → IsCaughtUp connection.new }
     ensures config { config_of connection.new ≡ config_of connection.old }
 {
     connection.advance(service);
@@ -61,14 +84,16 @@ pub fn take_turn<S: Service, T: Read + Write>(
         }
         connection.advance(service);
     }
-    Turn::More
+    Turn::More { wrote }
 }
 
 // What a connection waits for after an error of its stream.
-pub(crate) fn after(error: &io::Error, wrote: bool) -> Turn {
+pub(crate) fn after(error: &io::Error, wrote: bool) -> Turn
+    ensures { IsTrue (has_written result) → IsTrue wrote }
+{
     match error.kind() {
         ErrorKind::WouldBlock => Turn::Waits { wrote },
-        ErrorKind::Interrupted => Turn::More,
+        ErrorKind::Interrupted => Turn::More { wrote },
         _ => Turn::Done,
     }
 }

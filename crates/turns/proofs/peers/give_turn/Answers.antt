@@ -1,12 +1,11 @@
 -- The connection is taken out, has its turn, and goes back under its key unless it is done.
 use Rattle.std.proofs.Common.{◌≡◌, ◌≢◌, Some, None, is_some, sym, ap, subst, ◌∙◌, true≢false, [], ◌∷◌, rules}
 use Rattle.slab.specs.Slab.{get}
-use Rattle.http_server.specs.Connection.{config_of, history}
-use Rattle.http_server.specs.History.{Rests}
+use Rattle.http_server.specs.Connection.{history}
 use Rattle.turns.specs.declared.turn.Turn.TheVariants.{Done}
-use Rattle.turns.specs.Shared.{IsAtRest}
+use Rattle.turns.specs.Shared.{IsCaughtUp, IsAtRest}
 use Rattle.turns.proofs.SharedLemmas.{shared_one, shared_left, one_peer}
-use Rattle.turns.proofs.peers.give_turn.Goals.{then-ne, else-ne}
+use Rattle.turns.proofs.peers.give_turn.Goals.{then-wrote, else-wrote}
 use Rattle.turns.proofs.peers.give_turn.Goals as goal
 
 pub returns-in_default-clause-shared : goal.returns-in_default-clause-shared
@@ -29,9 +28,9 @@ pub returns-clause-shared : goal.returns-clause-shared
 returns-clause-shared g c =
     let calls = c.take_turn-next.ensures.calls in
     let same : c.insert_reserved.result ≡ c.args.key = c.insert_reserved.ensures.key ∙ c.in-Some.ensures.key_is_next in
-    let back : c.if-ne.peer.connection ≡ c.take_turn-next.new.connection = elim c.if-ne.branch [
-      | then-ne w ↦ ap (λ p. p.connection) w.peer-is
-      | else-ne w ↦ ap (λ p. p.connection) w.peer-is
+    let back : c.if-wrote.peer.connection ≡ c.take_turn-next.new.connection = elim c.if-wrote.branch [
+      | then-wrote w ↦ ap (λ p. p.connection) w.peer-is
+      | else-wrote w ↦ ap (λ p. p.connection) w.peer-is
     ] in (
       (c.args.key, calls.0) ∷ [],
       shared_one g.S.Service.answers c.args.service.now c.take_turn-next.new.service (get c.args.peers.now)
@@ -46,11 +45,11 @@ returns-clause-shared g c =
 pub returns-clause-rests : goal.returns-clause-rests
 returns-clause-rests g c =
     let same : c.insert_reserved.result ≡ c.args.key = c.insert_reserved.ensures.key ∙ c.in-Some.ensures.key_is_next in
-    let back : c.if-ne.peer.connection ≡ c.take_turn-next.new.connection = elim c.if-ne.branch [
-      | then-ne w ↦ ap (λ p. p.connection) w.peer-is
-      | else-ne w ↦ ap (λ p. p.connection) w.peer-is
+    let back : c.if-wrote.peer.connection ≡ c.take_turn-next.new.connection = elim c.if-wrote.branch [
+      | then-wrote w ↦ ap (λ p. p.connection) w.peer-is
+      | else-wrote w ↦ ap (λ p. p.connection) w.peer-is
     ] in
     let undone : c.take_turn-next.result ≢ Done = search rules in
-    let there : get c.insert_reserved.new.self c.args.key ≡ Some c.if-ne.peer =
+    let there : get c.insert_reserved.new.self c.args.key ≡ Some c.if-wrote.peer =
     ap (get c.insert_reserved.new.self) (sym same) ∙ c.insert_reserved.ensures.updates.changed in
-    subst IsAtRest (sym there) (subst (λ k. Rests (config_of k) (history k)) (sym back) (c.take_turn-next.ensures.rests undone))
+    subst IsAtRest (sym there) (subst IsCaughtUp (sym back) (c.take_turn-next.ensures.rests undone))

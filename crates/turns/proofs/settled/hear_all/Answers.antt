@@ -4,18 +4,18 @@ use Rattle.std.proofs.lemmas.List.{take_more}
 use Rattle.std.specs.List.{AllByRecursion}
 use Rattle.slab.specs.Slab.{get}
 use Rattle.turns.specs.Shared.{IsAtRest}
-use Rattle.turns.specs.Settled.{OnlyAmong}
+use Rattle.turns.specs.Settled.{OnlyAmong, IsHeard}
 use Rattle.turns.proofs.SharedLemmas.{shared_none, shared_then, rest_then}
-use Rattle.turns.proofs.SettledLemmas.{keep_none, keep_then, among_none, among_then}
+use Rattle.turns.proofs.SettledLemmas.{heard_none, heard_then, each_none, each_then, among_none, among_then}
 use Rattle.turns.proofs.settled.hear_all.Goals as goal
 
-pub returns-in_err-heard-clause-silent : goal.returns-in_err-heard-clause-silent
-returns-in_err-heard-clause-silent g c = keep_none (λ h. h.sent) (get c.args.peers.now)
+pub returns-in_err-heard-clause-heard : goal.returns-in_err-heard-clause-heard
+returns-in_err-heard-clause-heard g c = each_none (IsHeard g.T.Read.remaining) (heard_none g.T.Read.remaining) (get c.args.peers.now)
 
 pub loop-key-init : goal.loop-key-init
 loop-key-init g c = (
   ([], among_none, shared_none g.S.Settle.answers c.args.service.now (get c.args.peers.now)),
-  keep_none (λ h. h.sent) (get c.args.peers.now),
+  each_none (IsHeard g.T.Read.remaining) (heard_none g.T.Read.remaining) (get c.args.peers.now),
   tt,
   search rules,
   search rules,
@@ -37,7 +37,7 @@ loop-key-preserved g c =
             (among_then key (take i keys) done.0.0 one.shared.0 done.0.1 one.shared.1),
         shared_then g.S.Settle.answers _ _ _ _ _ _ done.0.0 one.shared.0 done.0.2 one.shared.2,
       ),
-      keep_then (λ h. h.sent) (get c.args.peers.now) before after done.1 one.silent,
+      each_then (IsHeard g.T.Read.remaining) (heard_then g.T.Read.remaining) (get c.args.peers.now) before after done.1 one.heard,
       subst (AllByRecursion (λ k. IsAtRest (after k))) more (rest_then before after key (take i keys) one.rests one.others done.2),
       search rules,
       search rules,

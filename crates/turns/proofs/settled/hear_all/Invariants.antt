@@ -1,16 +1,16 @@
--- The turns so far, to the keys so far. Their connections rest, and nothing was sent. What was heard has room for each key that is left.
+-- The turns so far, to the keys so far. What was received is what was read, and the connections rest. What was heard has room for each key that is left.
 use Rattle.std.proofs.Common.{◌≡◌, ◌≤◌, length, take, vec_capacity}
 use Rattle.std.specs.List.{AllByRecursion}
 use Rattle.slab.specs.Slab.{get}
 use Rattle.turns.specs.Shared.{Turns, IsShared, IsAtRest}
-use Rattle.turns.specs.Settled.{AreSilent, OnlyAmong}
+use Rattle.turns.specs.Settled.{AreHeard, OnlyAmong}
 use Rattle.turns.proofs.settled.hear_all.Given as goal
 
 abbrev pub invariant-loop-key : goal.invariant-loop-key
 invariant-loop-key g l =
     ((turns : Turns) × OnlyAmong (take l.key-index l.keys) turns
     × IsShared g.S.Settle.answers l.fn.service l.service (get l.fn.peers) (get l.peers) turns)
-    × AreSilent (get l.fn.peers) (get l.peers)
+    × AreHeard g.T.Read.remaining (get l.fn.peers) (get l.peers)
     × AllByRecursion (λ key. IsAtRest (get l.peers key)) (take l.key-index l.keys)
     × (length l.heard.items ≡ l.key-index)
     × (length l.keys ≤ vec_capacity l.heard)

@@ -1,9 +1,9 @@
 -- One connection after another is gone.
-use Rattle.std.proofs.Common.{◌≡◌, ◌+◌, None, take, get_or, sym, subst, rules}
+use Rattle.std.proofs.Common.{◌≡◌, ◌+◌, None, take, get_or, refl, sym, subst, ◌∙◌, rules}
 use Rattle.std.proofs.lemmas.List.{take_more}
 use Rattle.std.specs.List.{AllByRecursion}
 use Rattle.slab.specs.Slab.{get}
-use Rattle.turns.proofs.SettledLemmas.{keep_then, keep_left, gone_then}
+use Rattle.turns.proofs.SettledLemmas.{each_then, each_left, gone_then}
 use Rattle.turns.proofs.settled.remove_all.Goals as goal
 
 pub loop-key-preserved : goal.loop-key-preserved
@@ -14,8 +14,8 @@ loop-key-preserved g c =
     let i = c.loop-key.key-index in
     let key = get_or keys i 0 in
     let gone = c.try_remove.ensures.updates in (
-      keep_then (λ h. h.calls) (get c.args.peers.now) before after c.loop-key.invariant.0
-          (keep_left (λ h. h.calls) before after key gone.others gone.changed),
+      each_then (λ was peer. peer ≡ was) (λ a b d x y. y ∙ x) (get c.args.peers.now) before after c.loop-key.invariant.0
+          (each_left (λ was peer. peer ≡ was) (λ peer. refl) before after key gone.others gone.changed),
       subst (AllByRecursion (λ k. after k ≡ None)) (sym (take_more keys i 0 (search rules)))
           (gone_then before after key (take i keys) gone.changed gone.others c.loop-key.invariant.1),
     )

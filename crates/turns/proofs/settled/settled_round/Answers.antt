@@ -3,8 +3,8 @@ use Rattle.std.proofs.Common.{◌≡◌, ℕ, false, Some, [], sym, ap, subst, �
 use Rattle.slab.specs.Slab.{get}
 use Rattle.turns.specs.declared.peers.Peer.{Peer}
 use Rattle.turns.specs.Shared.{calls_at}
-use Rattle.turns.specs.Settled.{AreQuiet}
-use Rattle.turns.proofs.SettledLemmas.{apart_from}
+use Rattle.turns.specs.Settled.{AreSpoken}
+use Rattle.turns.proofs.SettledLemmas.{apart_from, left_spoken}
 use Rattle.turns.proofs.settled.settled_round.Goals.{then-stands+in_ok-speak_all, else-stands}
 use Rattle.turns.proofs.settled.settled_round.Goals as goal
 
@@ -13,9 +13,11 @@ returns-clause-settled g c =
     let turns = c.in_ok-heard.ensures.shared in
     let heard = get c.hear_all.new.peers in
     let after = get c.if-stands.peers in
-    let quiet : AreQuiet heard after = elim c.if-stands.branch [
-      | then-stands+in_ok-speak_all w ↦ subst (λ p. AreQuiet heard (get p)) (sym w.peers-is) w.speak_all.ensures.quiet
-      | else-stands w ↦ subst (λ p. AreQuiet heard (get p)) (sym w.peers-is) w.remove_all.ensures.quiet
+    let spoken = AreSpoken g.T.Write.contents heard in
+    let sent : spoken after = elim c.if-stands.branch [
+      | then-stands+in_ok-speak_all w ↦ subst (λ p. spoken (get p)) (sym w.peers-is) w.speak_all.ensures.spoken
+      | else-stands w ↦ subst (λ p. spoken (get p)) (sym w.peers-is)
+          (left_spoken g.T.Write.contents heard (get w.remove_all.new.peers) w.remove_all.ensures.left)
     ] in
     let lost : c.settle-stands.result ≡ false → (key : ℕ) (peer : Peer g.row.T.Denot) → after key ≡ Some peer → calls_at key turns.0 ≡ [] =
     λ no key peer is. elim c.if-stands.branch [
@@ -30,9 +32,9 @@ returns-clause-settled g c =
         heard = heard;
         shared = turns.2;
         rests = c.in_ok-heard.ensures.rests;
-        silent = c.hear_all.ensures.silent;
+        received = c.hear_all.ensures.heard;
         settled = c.settle-stands.ensures;
-        quiet = quiet;
+        sent = sent;
         lost = lost;
       },
     )

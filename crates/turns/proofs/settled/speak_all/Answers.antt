@@ -1,12 +1,13 @@
 -- One connection after another writes.
 use Rattle.std.proofs.Common.{◌≤◌, ◌+◌, length, vec_len, vec_capacity, rules}
 use Rattle.slab.specs.Slab.{get}
-use Rattle.turns.proofs.SettledLemmas.{keep_none, keep_then}
+use Rattle.turns.specs.Settled.{IsSpoken}
+use Rattle.turns.proofs.SettledLemmas.{spoken_none, spoken_then, each_none, each_then}
 use Rattle.turns.proofs.settled.speak_all.Goals.{then-speak_peer+in_ok-push, else-speak_peer}
 use Rattle.turns.proofs.settled.speak_all.Goals as goal
 
 pub loop-key-init : goal.loop-key-init
-loop-key-init g c = (keep_none (λ h. h.calls) (get c.args.peers.now), search rules)
+loop-key-init g c = (each_none (IsSpoken g.T.Write.contents) (spoken_none g.T.Write.contents) (get c.args.peers.now), search rules)
 
 pub loop-key-preserved : goal.loop-key-preserved
 loop-key-preserved g c =
@@ -17,7 +18,7 @@ loop-key-preserved g c =
       | then-speak_peer+in_ok-push w ↦ search rules
       | else-speak_peer w ↦ search rules
     ] in (
-      keep_then (λ h. h.calls) (get c.args.peers.now) (get c.loop-key.peers) (get c.speak_peer.new.peers) c.loop-key.invariant.0
-          c.speak_peer.ensures.quiet,
+      each_then (IsSpoken g.T.Write.contents) (spoken_then g.T.Write.contents) (get c.args.peers.now) (get c.loop-key.peers)
+          (get c.speak_peer.new.peers) c.loop-key.invariant.0 c.speak_peer.ensures.spoken,
       room,
     )

@@ -3,19 +3,20 @@
 use Rattle.std.proofs.Common.{◌≡◌, ◌++◌, List, sym, ap, subst, ◌∙◌}
 use Rattle.http_server.specs.Connection.{config_of, history}
 use Rattle.http_server.specs.Exchange.{Call}
-use Rattle.http_server.specs.History.{History, Rests}
+use Rattle.http_server.specs.History.{History}
 use Rattle.http_server.proofs.StreamLemmas.{Calls-then}
+use Rattle.turns.specs.Shared.{IsCaughtUp}
+use Rattle.turns.proofs.SharedLemmas.{same_caught_up}
 use Rattle.turns.proofs.turn.take_turn.Goals.{then-wants_write+in-Ok, else-wants_write+in-Ok-read_from}
 use Rattle.turns.proofs.turn.take_turn.Goals as goal
 
 pub returns-in-Err-clause-rests : goal.returns-in-Err-clause-rests
 returns-in-Err-clause-rests g c _ =
-    subst (λ k. Rests (config_of k) (history k)) (sym c.in-Err.ensures.err.0) c.loop.invariant.2
+    subst IsCaughtUp (sym c.in-Err.ensures.err.0) c.loop.invariant.2
 
 pub returns-in-Err-read_from-clause-rests : goal.returns-in-Err-read_from-clause-rests
 returns-in-Err-read_from-clause-rests g c _ =
-    subst (Rests (config_of c.read_from.new.self)) (sym c.in-Err-read_from.ensures.err.0)
-    (subst (λ config. Rests config (history c.loop.connection)) (sym c.read_from.ensures.config) c.loop.invariant.2)
+    same_caught_up c.loop.connection c.read_from.new.self c.read_from.ensures.config c.in-Err-read_from.ensures.err.0 c.loop.invariant.2
 
 pub loop-preserved : goal.loop-preserved
 loop-preserved g c =
@@ -35,5 +36,5 @@ loop-preserved g c =
       Calls-then g.S.Service.answers _ _ _ _ _ _ c.loop.invariant.0
           (more, next.calls.1 ∙ ap (λ (l : List Call). l ++ more) called, next.calls.2),
       next.config ∙ config ∙ c.loop.invariant.1,
-      next.rests,
+      (next.served, next.rests),
     )

@@ -2,11 +2,11 @@
 use Rattle.std.proofs.Common.{◌≡◌}
 use Rattle.http_server.specs.Connection.{config_of, history}
 use Rattle.http_server.specs.Exchange.{Calls}
-use Rattle.http_server.specs.History.{Rests}
+use Rattle.turns.specs.Shared.{IsCaughtUp}
 use Rattle.turns.proofs.turn.take_turn.Given as goal
 
 abbrev pub invariant-loop : goal.invariant-loop
 invariant-loop g l =
     Calls g.S.Service.answers l.fn.service l.service (history l.fn.connection).calls (history l.connection).calls
     × (config_of l.connection ≡ config_of l.fn.connection)
-    × Rests (config_of l.connection) (history l.connection)
+    × IsCaughtUp l.connection
