@@ -143,10 +143,27 @@ def byte_a_second(port, stop):
                 return None
 
 
+def takes_nothing(port, stop):
+    """Asks for an entry again and again, and takes no response. Returns whether it is closed before it is stopped."""
+    asked, at = Request("GET", "nails").sent() * 1000, 0
+    with socket.socket() as greedy:
+        greedy.setsockopt(socket.SOL_SOCKET, socket.SO_RCVBUF, 4096)
+        greedy.settimeout(0.2)
+        greedy.connect(("127.0.0.1", port))
+        while not stop.is_set():
+            try:
+                at = (at + greedy.send(asked[at:])) % len(asked)
+            except TimeoutError:
+                pass
+            except ConnectionError:
+                return True
+    return False
+
+
 def slow_clients(program, folder):
-    """Has clients of a byte a second, and one that sends nothing, beside two fast ones."""
+    """Has clients of a byte a second, one that sends nothing and one that takes nothing, beside two fast ones."""
     stop, times = threading.Event(), []
-    with Server(program, f"{folder}/slow.db") as server, ThreadPoolExecutor(9) as pool:
+    with Server(program, f"{folder}/slow.db") as server, ThreadPoolExecutor(10) as pool:
         put = Request("PUT", "nails", text := '{"count":1,"name":"nails","note":null}', text)
         _, entries = answer({}, put)
 
@@ -161,17 +178,19 @@ def slow_clients(program, folder):
         with Client(server.port) as client, Client(server.port) as idle:
             expect(client.ask(put) == (201, {}, ""), "a put before the slow clients")
             slow = [pool.submit(byte_a_second, server.port, stop) for _ in range(6)]
+            greedy = pool.submit(takes_nothing, server.port, stop)
             quick = [pool.submit(fast) for _ in range(2)]
-            time.sleep(IDLE + 4)
+            time.sleep(IDLE + 6)
             stop.set()
             closed = [it.result() for it in slow]
             [it.result() for it in quick]
             idle.socket.settimeout(1)
             expect(idle.stream.read(1) == b"", "a client that sent nothing is not closed")
+            expect(greedy.result(), "a client that takes nothing is not closed")
         expect(all(it and IDLE - 1 <= it <= IDLE + 3 for it in closed), f"slow clients are closed after {closed}")
     times.sort()
     expect(times[-1] < BOUND, f"a fast client waited {times[-1]:.2f} s")
-    return (f"6 clients of a byte a second, closed after {min(closed):.0f} to {max(closed):.0f} s; beside them {len(times)} gets, "
+    return (f"6 clients of a byte a second, closed after {min(closed):.0f} to {max(closed):.0f} s, and one that takes nothing; beside them {len(times)} gets, "
             f"median {times[len(times) // 2] * 1e3:.2f} ms, longest {times[-1] * 1e3:.0f} ms (bound {BOUND * 1e3:.0f})")
 
 
@@ -262,8 +281,10 @@ def refused_starts(program, folder):
     expect(start(f"{folder}/none/a.db") == (1, "", f"{folder}/none/a.db cannot be opened\n"), "a folder that is not there")
     if HAS_SQLITE:
         subprocess.run(["sqlite3", other, "CREATE TABLE entry (key TEXT, body TEXT)"], check=True)
+        before = pathlib.Path(other).read_bytes()
         status, said, errors = start(other, "127.0.0.1:0")
         expect((status, said) == (1, "") and errors.startswith(other), "a file with another table")
+        expect(pathlib.Path(other).read_bytes() == before, "a file with another table is changed")
     return "a second server on a file, one on a port, wrong words, no folder, another table: refused"
 
 

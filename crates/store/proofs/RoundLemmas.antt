@@ -126,7 +126,7 @@ answered means tree old new stood stands request response Answer stood_is call l
 pub kept_round : (old new : State) (stood kept : Bool) → stood ≡ true → kept ≡ true
     → (HasCleanDisk new → HasCleanDisk old × ((begun m : Map) → IsUnderWay begun old m → IsBetween (if kept then m else begun) new kept))
     → SettlesRound old stood true new stood
-kept_round old new true true is done commit clean = let it = commit clean in (it.0, λ begun m way. (it.1 begun m way, λ _. refl))
+kept_round old new true true is done commit clean = let it = commit clean in (it.0, λ begun m way. (it.1 begun m way, λ _. (refl, refl)))
 kept_round old new true false is done commit clean = absurd (true≢false (sym done))
 kept_round old new false kept is done commit clean = absurd (true≢false (sym is))
 

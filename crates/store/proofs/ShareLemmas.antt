@@ -1,9 +1,8 @@
 -- A round of connections that share a store is one of a map.
-use Rattle.std.proofs.Common.{◌≡◌, ◌++◌, inl, ℕ, List, [], ◌∷◌, Bool, true, false, Option}
-use Rattle.std.proofs.Common.{Some, IsTrue, refl, sym, ap, subst, ◌∙◌, append-nil}
+use Rattle.std.proofs.Common.{◌≡◌, inl, ℕ, List, [], ◌∷◌, Bool, true, false, if◌then◌else◌, Option}
+use Rattle.std.proofs.Common.{IsTrue, refl, sym, subst, true≢false}
 use Rattle.http.specs.declared.request.Request.{Request as HttpRequest}
 use Rattle.http_server.specs.declared.response.Response.{Response}
-use Rattle.http_server.specs.Connection.{history}
 use Rattle.http_server.specs.Exchange.{Call, Chain}
 use Rattle.miniserde.specs.Tree.{Tree}
 use Rattle.miniserde.specs.Meaning.{Meaning}
@@ -11,10 +10,11 @@ use Rattle.sqlite_trees.specs.declared.store.Store.{Ghosts}
 use Rattle.sqlite.specs.Held.{Held, state}
 use Rattle.sqlite.specs.State.{State, HasCleanDisk}
 use Rattle.turns.specs.declared.peers.Peer.{Peer}
-use Rattle.turns.specs.Shared.{Turns, all_calls, calls_at, IsShared}
-use Rattle.turns.specs.Settled.{AreQuiet, IsSettled}
+use Rattle.turns.specs.Shared.{Turns, all_calls}
+use Rattle.turns.specs.Settled.{IsSettled}
 use Rattle.store.specs.Maps.{Map, AnsweredMap}
-use Rattle.store.specs.Rounds.{InRound, IsBetween, AnsweredInRound, SettlesRound, IsRoundOfMap}
+use Rattle.store.specs.Rounds.{InRound, IsBetween, AnsweredInRound, SettlesRound, AnsweredIf, LeavesMap}
+use Rattle.store.proofs.ChainLemmas.{back}
 
 -- a round begins at the map of what was between the rounds
 starts : (m : Map) (s : State) (ready : Bool) → IsBetween m s ready → InRound m s ready m
@@ -25,11 +25,6 @@ module _ {S : Type 0} (g : Ghosts S) {V : Type 0} (means : Meaning V) (tree : V 
   -- what the service answers, and what it settles
   abbrev pub answers : Held S × Bool → HttpRequest (List ℕ) → Response → Held S × Bool → Type 0
   answers old request response new = AnsweredInRound means tree (state g old.0) old.1 request response (state g new.0) new.1
-
-  was_clean : (calls : List Call) (old new : Held S × Bool) → Chain answers old calls new → HasCleanDisk (state g new.0)
-      → HasCleanDisk (state g old.0)
-  was_clean [] old new same clean = subst (λ h. HasCleanDisk (state g h.0)) same clean
-  was_clean (c ∷ calls) old new (next, step, later) clean = (step (was_clean calls next new later clean)).0
 
   -- the calls of a round that still stands are answered by the map to which it has come
   answered_in_round : (calls : List Call) (old new : Held S × Bool) (begun m : Map) → Chain answers old calls new
@@ -42,7 +37,8 @@ module _ {S : Type 0} (g : Ghosts S) {V : Type 0} (means : Meaning V) (tree : V 
     λ yes. (subst (λ (h : Held S × Bool). IsTrue h.1) same yes, refl),
   )
   answered_in_round (c ∷ calls) old new begun m (next, step, later) clean way =
-      let one = (step (was_clean calls next new later clean)).1 begun m way in
+      let late = back answers (λ h. HasCleanDisk (state g h.0)) (λ _ _ _ one was. (one was).0) calls next new later clean in
+      let one = (step late).1 begun m way in
       let rest = answered_in_round calls next new begun one.0 later clean one.1 in (
         rest.0,
         rest.1,
@@ -56,40 +52,53 @@ module _ {S : Type 0} (g : Ghosts S) where
   abbrev pub settles : Held S × Bool → Bool → Held S × Bool → Type 0
   settles old kept new = SettlesRound (state g old.0) old.1 kept (state g new.0) new.1
 
-module _ {S : Type 0} (g : Ghosts S) {V T : Type 0} (means : Meaning V) (tree : V → Tree) (keys : List ℕ) (old new : Held S × Bool)
-    (before after : ℕ → Option (Peer T)) (turns : Turns) where
-  pub round_of_map : (kept : Bool) → IsSettled (answers g means tree) (settles g) keys old new before after turns kept
-      → HasCleanDisk (state g new.0) → (m : Map) → IsBetween m (state g old.0) old.1
-      → IsRoundOfMap means tree m before after (state g new.0) new.1 kept
+module _ {V : Type 0} (means : Meaning V) (tree : V → Tree) where
+  -- the calls of a round that is committed, and of one that is not
+  answered_if : (calls : List Call) (m last : Map) → Chain (AnsweredMap means tree) m calls last
+      → Chain (AnsweredIf means tree true) m calls last
+  answered_if [] m last same = same
+  answered_if (c ∷ calls) m last (next, one, later) = (next, λ _. one, answered_if calls next last later)
+
+  unanswered : (calls : List Call) (m : Map) → Chain (AnsweredIf means tree false) m calls m
+  unanswered [] m = refl
+  unanswered (c ∷ calls) m = (m, λ no. absurd (true≢false (sym no)), unanswered calls m)
+
+module _ {S : Type 0} (g : Ghosts S) {V T : Type 0} (means : Meaning V) (tree : V → Tree) (remaining contents : T → Option (List ℕ))
+    (keys : List ℕ) (old new : Held S × Bool) (before after : ℕ → Option (Peer T)) (turns : Turns) where
+  -- what a round is to the service, and to the map
+  abbrev pub Settled : Bool → Type 0
+  Settled kept = IsSettled (answers g means tree) (settles g) remaining contents keys old new before after turns kept
+
+  abbrev pub SettledMap : Map → Map → Bool → Type 0
+  SettledMap m last kept =
+      IsSettled (AnsweredIf means tree kept) (LeavesMap m) remaining contents keys m last before after turns kept
+
+  -- the round of the service, with the maps in place of its states
+  over_map : (kept : Bool) (m called : Map) (it : Settled kept) → Chain (AnsweredIf means tree kept) m (all_calls turns) called
+      → SettledMap m (if kept then called else m) kept
+  over_map kept m called it calls = record {
+    called = called;
+    heard = it.heard;
+    shared = record { calls = calls; each = it.shared.each };
+    rests = it.rests;
+    received = it.received;
+    settled = refl;
+    sent = it.sent;
+    lost = it.lost;
+  }
+
+  pub round_of_map : (kept : Bool) → Settled kept → HasCleanDisk (state g new.0) → (m : Map) → IsBetween m (state g old.0) old.1
+      → (last : Map) × SettledMap m last kept × IsBetween last (state g new.0) new.1 × (IsTrue kept → IsTrue new.1)
   round_of_map true it clean m ready =
       let settled = it.settled clean in
       let way = answered_in_round g means tree (all_calls turns) old it.called m m it.shared.calls settled.0
       (starts m (state g old.0) old.1 ready) in
       let end = settled.1 m way.0 way.1 in
-      let answered = (way.2 (end.1 refl)).1 in (
-        turns,
-        way.0,
-        record {
-          calls = answered;
-          each = λ key peer is.
-              let late = it.quiet key peer is in
-              let soon = it.shared.each key late.0 late.1 in
-              (soon.0, soon.1, late.2 ∙ soon.2);
-        },
-        end.0,
-      )
+      let stood = end.1 refl in
+      (way.0, over_map true m way.0 it (answered_if means tree (all_calls turns) m way.0 (way.2 stood.0).1), end.0, λ _. stood.1)
   round_of_map false it clean m ready =
       let settled = it.settled clean in
       let way = answered_in_round g means tree (all_calls turns) old it.called m m it.shared.calls settled.0
       (starts m (state g old.0) old.1 ready) in
-      let end = settled.1 m way.0 way.1 in (
-        (λ key peer is.
-            let late = it.quiet key peer is in
-            let soon = it.shared.each key late.0 late.1 in (
-              soon.0,
-              soon.1,
-              late.2 ∙ soon.2 ∙ ap (λ (l : List Call). (history soon.0.connection).calls ++ l) (it.lost refl key peer is)
-                  ∙ append-nil (history soon.0.connection).calls,
-            )),
-        end.0,
-      )
+      let end = settled.1 m way.0 way.1 in
+      (m, over_map false m m it (unanswered means tree (all_calls turns) m), end.0, λ no. absurd (true≢false (sym no)))

@@ -1,14 +1,11 @@
 -- The store in rounds: what becomes of its map if a round is committed, and if it is lost.
-use Rattle.std.specs.Prelude.{◌≡◌, ◌⊎◌, Bool, true, false, if◌then◌else◌, List, ℕ, Option, IsTrue}
+use Rattle.std.specs.Prelude.{◌≡◌, ◌⊎◌, Bool, true, false, if◌then◌else◌, List, ℕ, IsTrue}
 use Rattle.http.specs.declared.request.Request.{Request as HttpRequest}
 use Rattle.http_server.specs.declared.response.Response.{Response}
 use Rattle.miniserde.specs.Tree.{Tree}
 use Rattle.miniserde.specs.Meaning.{Meaning}
 use Rattle.sqlite.specs.Effect.{Database}
 use Rattle.sqlite.specs.State.{State, HasCleanDisk}
-use Rattle.turns.specs.declared.peers.Peer.{Peer}
-use Rattle.turns.specs.Shared.{Turns, IsShared}
-use Rattle.turns.specs.Settled.{AreQuiet}
 use Rattle.store.specs.Answered.{IsInside, IsLost}
 use Rattle.store.specs.Maps.{Map, AnsweredMap, IsMapOf, SeesMap, Represents}
 
@@ -43,13 +40,13 @@ AnsweredInRound means tree old stood request response new stands = HasCleanDisk 
 -- before the round.
 abbrev pub SettlesRound : State → Bool → Bool → State → Bool → Type 0
 SettlesRound old stood kept new stands = HasCleanDisk new → HasCleanDisk old
-    × ((begun m : Map) → InRound begun old stood m → IsBetween (if kept then m else begun) new stands × (IsTrue kept → IsTrue stood))
+    × ((begun m : Map) → InRound begun old stood m
+    → IsBetween (if kept then m else begun) new stands × (IsTrue kept → IsTrue stood × IsTrue stands))
 
--- The connections of a round before and after it, if its answers stand: their responses, in the order of their turns, are those
--- of the map from before, and the map to which they lead is committed. If they do not stand, no connection that made a call is
--- left, and the map is the one from before.
-abbrev pub IsRoundOfMap : {V T : Type 0} → Meaning V → (V → Tree) → Map → (ℕ → Option (Peer T)) → (ℕ → Option (Peer T)) → State → Bool
-    → Bool → Type 0
-IsRoundOfMap means tree m before after new ready true =
-    (turns : Turns) × (last : Map) × IsShared (AnsweredMap means tree) m last before after turns × IsBetween last new ready
-IsRoundOfMap means tree m before after new ready false = AreQuiet before after × IsBetween m new ready
+-- the response to a call of a round is that of the map, if the round is committed
+abbrev pub AnsweredIf : {V : Type 0} → Meaning V → (V → Tree) → Bool → Map → HttpRequest (List ℕ) → Response → Map → Type 0
+AnsweredIf means tree kept m request response after = IsTrue kept → AnsweredMap means tree m request response after
+
+-- the map after a round is the one to which its calls lead, if it is committed, and else the one from before
+abbrev pub LeavesMap : Map → Map → Bool → Map → Type 0
+LeavesMap begun called kept last = last ≡ (if kept then called else begun)

@@ -2,13 +2,11 @@
 use Rattle.miniserde.specs.Tree.{Tree}
 use Rattle.miniserde.specs.Meaning.{Meaning}
 use Rattle.http_server.specs.declared.state.Config.{Config}
-use Rattle.http_server.specs.History.{History, IsServed, IsDone}
+use Rattle.http_server.specs.History.{History, IsServed}
 use Rattle.http_server.specs.Exchange.{Chain}
 use Rattle.store.specs.Maps.{Map, AnsweredMap}
 
--- The history is one of a connection of `http_server` that has nothing more to do, and its calls are answered by a map,
--- from the first one to the second.
+-- the history is one of a connection of `http_server`, and its calls are answered by a map, from the first one to the second
 pub record IsServedByMap {V : Type 0} (means : Meaning V) (tree : V → Tree) (config : Config) (h : History) (m after : Map) : Type 0 where
   pub served : ∥ IsServed config h ∥₁
-  pub done : IsDone h
   pub calls : Chain (AnsweredMap means tree) m h.calls after

@@ -1,12 +1,13 @@
 //! The store over many connections.
-ghost use Rattle.std.specs.Prelude.{◌≡◌, IfOk, OnOk, OnErr};
+ghost use Rattle.std.specs.Prelude.{◌≡◌, IfOk, OnOk, OnErr, IsTrue};
 ghost use Rattle.std.specs.List.{AllByRecursion};
 ghost use Rattle.sqlite.specs.Held.{state};
 ghost use Rattle.sqlite.specs.State.{HasCleanDisk};
 ghost use Rattle.slab.specs.Slab.{get};
 ghost use Rattle.turns.specs.Shared.{Turns, IsShared, IsAtRest};
 ghost use Rattle.store.specs.Maps.{Map, AnsweredMap, Represents};
-ghost use Rattle.store.specs.Rounds.{IsBetween, IsRoundOfMap};
+ghost use Rattle.turns.specs.Settled.{IsSettled};
+ghost use Rattle.store.specs.Rounds.{IsBetween, AnsweredIf, LeavesMap};
 
 use crate::explain::Explain;
 use crate::rounds::RoundService;
@@ -55,11 +56,15 @@ pub fn serve_settled_round<S: Alter, V: Stable + Lossless, E: Explain<V>, T: Rea
     now: Instant,
     unfinished: &mut Vec<usize>,
 ) -> Result<bool, AllocError>
-    // The responses of all connections, in the order of their turns, are those of one map that begins with the rows of the
-    // store, and the map's last entries are committed. If the round is not committed, no connection that made a call is left.
+    // The connections of these keys are heard, the round is settled, and then they are written to, as `settled_round` says it.
+    // If the round is committed, their responses, in the order of their turns, are those of one map that begins with the rows of
+    // the store, and the map's last entries are the last commit. If not, the map is the one from before, and no connection that
+    // made a call is left.
     ensures settled { IfOk result (λ kept. HasCleanDisk (state S.Store service.new.0) → (m : Map)
-        → IsBetween m (state S.Store service.old.0) service.old.1
-        → IsRoundOfMap V.means V.tree m (get peers.old) (get peers.new) (state S.Store service.new.0) service.new.1 kept) }
+        → IsBetween m (state S.Store service.old.0) service.old.1 → (turns : Turns) × (last : Map)
+        × IsSettled (AnsweredIf V.means V.tree kept) (LeavesMap m) T.remaining T.contents keys.now m last
+        (get peers.old) (get peers.new) turns kept
+        × IsBetween last (state S.Store service.new.0) service.new.1 × (IsTrue kept → IsTrue service.new.1)) }
     ensures none { OnErr result ((peers.new ≡ peers.old) × (service.new ≡ service.old)) }
 {
     settled_round(alloc, peers, keys, service, now, unfinished)

@@ -1,7 +1,7 @@
 //! The store over one stream of requests.
-ghost use Rattle.std.specs.Prelude.{IfOk};
+ghost use Rattle.std.specs.Prelude.{OnOk};
 ghost use Rattle.std.specs.Io.KnownBytes.{Appends, Consumes};
-ghost use Rattle.http_server.specs.History.{History};
+ghost use Rattle.http_server.specs.History.{History, IsDone};
 ghost use Rattle.sqlite.specs.Held.{state};
 ghost use Rattle.sqlite.specs.State.{HasCleanDisk};
 ghost use Rattle.store.specs.Maps.{Map, Represents};
@@ -17,8 +17,8 @@ use std::hash::RandomState;
 use std::io;
 use std::io::{Read, Write};
 
-/// Reads requests, and writes the responses of a store. Returns the error of a read or a write that fails. If an
-/// allocation fails, the connection ends there, which is no error.
+/// Reads requests, and writes the responses of a store. Returns the error of a read or a write that fails. If memory for a
+/// request or its response cannot be had, the connection ends there, which is no error.
 pub fn serve_stream<S: Alter, V: Stable + Lossless, E: Explain<V>, R: Read, W: Write>(
     alloc: Global,
     keys: RandomState,
@@ -28,14 +28,15 @@ pub fn serve_stream<S: Alter, V: Stable + Lossless, E: Explain<V>, R: Read, W: W
     writer: &mut W,
 ) -> io::Result<()>
     // What was read is what the connection received, and what was written is what it sent. Its responses are those of a
-    // map that begins with the rows of the store, and the rows afterwards are the map's last entries.
-    ensures served { IfOk result (λ _. HasCleanDisk (state S.Store service.new) → (m : Map)
+    // map that begins with the rows of the store, and the rows afterwards are the map's last entries. If it returns no error,
+    // nothing is left to do.
+    ensures served { HasCleanDisk (state S.Store service.new) → (m : Map)
         → Represents (state S.Store service.old) m → (h : History) × (after : Map)
         × Consumes (R.remaining reader.old) (R.remaining reader.new) h.received
         × Appends (W.contents writer.old) (W.contents writer.new) h.sent
-        × IsServedByMap V.means V.tree config h m after × Represents (state S.Store service.new) after) }
+        × IsServedByMap V.means V.tree config h m after × Represents (state S.Store service.new) after
+        × OnOk result (IsDone h) }
 {
     let mut connection = Connection::new(alloc, keys, config);
-    serve(&mut connection, service, reader, writer)?;
-    Ok(())
+    serve(&mut connection, service, reader, writer)
 }

@@ -5,7 +5,7 @@ mod goods;
 
 use goods::Goods;
 use http_server::Config;
-use rows::files;
+use rows::{files, texts};
 use sqlite::Unknown;
 use std::hash::RandomState;
 use std::process::ExitCode;
@@ -24,6 +24,9 @@ fn run(rt: &HostRuntime) -> io::Result<u8> {
     let Ok(mut conn) = files::open(rt, path.as_str(), Unknown) else {
         return Ok(1);
     };
+    if !texts::is_empty(&conn) && !texts::is_store(&conn) {
+        return Ok(1);
+    }
     if prepare(&mut conn).is_err() {
         return Ok(1);
     }

@@ -32,9 +32,9 @@ returns g c = record {
         subst (λ bytes. Appends (contents c.args.writer.now) (contents c.serve.new.writer) bytes) (sym sent) written.1,
         record {
           served = subst (λ limits. ∥ IsServed limits h ∥₁) config (always_served connection);
-          done = c.in_ok-serve.ensures.done;
           calls = subst (λ all. Chain (AnsweredMap means g.V.Serialize.tree) m all it.0) (sym called) it.1;
         },
         it.2,
+        c.serve.ensures.done,
       );
 }
