@@ -4,6 +4,7 @@ The map is a dictionary here: what RFC 9110 and the page USES say of each method
 """
 import hashlib
 import json
+import re
 import shutil
 import subprocess
 import urllib.parse
@@ -40,6 +41,19 @@ class Request:
         if self.body:
             lines.append(f"Content-Length: {len(self.body)}")
         return "\r\n".join([*lines, "", ""]).encode() + self.body
+
+
+class Listing(Request):
+    """A request for the first entries from a key on, with the texts of its parameters, or None for one that is left out."""
+
+    def __init__(self, method, start, limit, fields=()):
+        super().__init__(method, start or "", fields=fields)
+        self.start, self.limit = start, limit
+
+    def target(self):
+        asked = {"from": self.start, "limit": self.limit}
+        query = urllib.parse.urlencode({name: text for name, text in asked.items() if text is not None})
+        return "/entries" + (f"?{query}" if query else "")
 
 
 def response_from(stream, method):
@@ -90,9 +104,26 @@ def problem(body):
     return json.dumps({name: told[name] for name in ("title", "status", "detail", "field") if name in told}, separators=(",", ":"))
 
 
+def listed(entries, request):
+    """Returns the text of the object of the entries that a request lists, or None if its limit is wrong."""
+    limit = "100" if request.limit is None else request.limit
+    if not re.fullmatch("[0-9]{1,4}", limit) or not 1 <= int(limit) <= 1000:
+        return None
+    names = sorted((key for key in entries if key.encode() >= request.key.encode()), key=str.encode)[:int(limit)]
+    return "{" + ",".join(f"{json.dumps(name, ensure_ascii=False)}:{entries[name]}" for name in names) + "}"
+
+
 def answer(entries, request):
     """Returns the response of a map of entries, as status, fields and body, and the map after it."""
-    current = entries.get(request.key)
+    if isinstance(request, Listing):
+        if request.method not in ("GET", "HEAD"):
+            return (405, {"allow": "GET, HEAD"}, ""), entries
+        current = listed(entries, request)
+        if current is None:
+            said = '{"title":"Bad Request","status":400,"detail":"the limit is no number from 1 to 1000"}'
+            return (400, {"content-type": "application/problem+json"}, "" if request.method == "HEAD" else said), entries
+    else:
+        current = entries.get(request.key)
     if request.method == "POST":
         return (405, {"allow": "GET, HEAD, PUT, DELETE"}, ""), entries
     if request.method == "PUT":
@@ -134,7 +165,17 @@ def made_put(made, key, fields=()):
     return Request("PUT", key, text, body, fields)
 
 
+def made_listing(made, entries):
+    method, start = made.choice(("GET", "GET", "HEAD", "PUT")), made.choice((None, "", *KEYS))
+    limit = made.choice((None, "1", "2", "3", "007", "1000", "0", "1001", "", "-1", "1.5", "ten"))
+    text = listed(entries, Listing(method, start, limit))
+    value = made.choice(("*", '"another"', tag(text or "")))
+    return Listing(method, start, limit, made.choice(((), (), (("If-Match", value),), (("If-None-Match", value),))))
+
+
 def made_request(made, entries):
+    if made.random() < 0.15:
+        return made_listing(made, entries)
     key, method = made.choice(KEYS), made.choice(METHODS)
     known = [tag(text) for text in entries.values()] + ['"another"', "*"]
     value = made.choice(known)
