@@ -27,7 +27,6 @@ returns-clause-settled g c =
     × SettledMap g.S.Store means tree remaining contents c.args.keys.now old new before after turns m last kept
     × IsBetween last (state g.S.Store new.0) new.1 × (IsTrue kept → IsTrue new.1))
     call.ensures.settled
-    (λ kept it clean m ready. (
-      it.0,
-      round_of_map g.S.Store means tree remaining contents c.args.keys.now old new before after it.0 kept it.1 clean m ready,
-    ))
+    (λ kept it clean m ready.
+    let round = round_of_map g.S.Store means tree remaining contents c.args.keys.now old new before after it.0 kept it.1 clean m ready in
+    (it.0, round.0, round.1, round.2, round.3))
