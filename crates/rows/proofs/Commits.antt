@@ -4,7 +4,7 @@ use Rattle.std.proofs.Common.{true≢false}
 use Rattle.sqlite.specs.declared.error.Error.{Error}
 use Rattle.sqlite.specs.declared.types.Value.TheVariants.{Text}
 use Rattle.sqlite.specs.Command.TheVariants.{Begin, Commit, Rollback}
-use Rattle.sqlite.specs.State.{State, Executes, Shows}
+use Rattle.sqlite.specs.State.{State, Executes, Shows, IsUnchanged}
 use Rattle.sqlite.proofs.Callers.{runs_as}
 use Rattle.rows.specs.Entries.{put_text, remove_text, begin_text, commit_text, rollback_text, entry_schema}
 use Rattle.rows.specs.Entries.{IsBegun, IsCommitted, IsBack, IsStore, IsServing, StaysInside}
@@ -73,3 +73,12 @@ removes_inside old new key (Err e) has inside h = tt
 removes_inside old new key (Ok count) has inside h =
     let w = runs_as remove_text (Text key ∷ []) old new entry_schema has remove_command remove_is remove_plain count h in
     stays_by old new old.in_transaction inside w.shown
+
+-- a call that changes nothing leaves the transaction where it is
+pub still_inside : (old mid new : State) → StaysInside old mid → IsUnchanged mid new → StaysInside old new
+still_inside old mid new stays same = record {
+  was_open = stays.was_open;
+  is_open = same.0.is_open;
+  inside = same.0.mode ∙ stays.inside;
+  committed = same.0.committed_is ∙ stays.committed;
+}

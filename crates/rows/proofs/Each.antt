@@ -76,26 +76,35 @@ ShowsKey o = column o.0 0 ≡ column o.1 0
 abbrev pub less : Value → Value → Bool
 less a b = is_lt (value_cmp a b)
 
-module _ (db : Trees) (found : List Row) (answer : IsAnswer each_query db [] found) (entries : List (List ℕ × List ℕ))
-    (read : map shown found ≡ map words_of entries) where
+module _ (db : Trees) (found : List Row) (answer : IsAnswer each_query db [] found) where
   kept_is : answer.kept ≡ map (λ row. output each_query (env row)) (db 0)
   kept_is =
       answer.distinct ∙ ap (map (output each_query)) (answer.grouped ∙ flat_map_single env (db 0))
       ∙ map_twice env (output each_query) (db 0)
 
-  out_shows : map (λ (o : Output). shown o.1) answer.ordered ≡ map words_of entries
-  out_shows = sym (map_twice (λ (o : Output). o.1) shown answer.ordered) ∙ ap (map shown) (sym answer.shown) ∙ read
+  out_is : map (λ (o : Output). shown o.1) answer.ordered ≡ map shown found
+  out_is = sym (map_twice (λ (o : Output). o.1) shown answer.ordered) ∙ ap (map shown) (sym answer.shown)
 
-  same : IsPermutation (map stored (db 0)) (map words_of entries)
-  same =
+  -- the rows that are shown are those of the table
+  pub permuted : IsPermutation (map stored (db 0)) (map shown found)
+  permuted =
       subst₂ IsPermutation
       (ap (map (λ (o : Output). shown o.1)) kept_is ∙ map_twice (λ row. output each_query (env row)) (λ (o : Output). shown o.1) (db 0))
-      out_shows (IsPermutation-map (λ (o : Output). shown o.1) answer.kept answer.ordered answer.same)
+      out_is (IsPermutation-map (λ (o : Output). shown o.1) answer.kept answer.ordered answer.same)
+
+module _ (db : Trees) (found : List Row) (answer : IsAnswer each_query db [] found) (entries : List (List ℕ × List ℕ))
+    (read : map shown found ≡ map words_of entries) where
+  out_shows : map (λ (o : Output). shown o.1) answer.ordered ≡ map words_of entries
+  out_shows = out_is db found answer ∙ read
+
+  same : IsPermutation (map stored (db 0)) (map words_of entries)
+  same = subst (IsPermutation (map stored (db 0))) read (permuted db found answer)
 
   shows_keys : AllByRecursion ShowsKey answer.ordered
   shows_keys =
       all-permutation ShowsKey answer.kept answer.ordered answer.same
-      (subst (AllByRecursion ShowsKey) (sym kept_is) (each_mapped ShowsKey (λ row. output each_query (env row)) (λ row. refl) (db 0)))
+      (subst (AllByRecursion ShowsKey) (sym (kept_is db found answer))
+      (each_mapped ShowsKey (λ row. output each_query (env row)) (λ row. refl) (db 0)))
 
   keys_are : map (λ (o : Output). column o.0 0) answer.ordered ≡ map (λ (e : List ℕ × List ℕ). Text e.0) entries
   keys_are =
@@ -111,14 +120,19 @@ module _ (db : Trees) (found : List Row) (answer : IsAnswer each_query db [] fou
       (subst (IsSortedBy less) keys_are (sorted_after (λ (o : Output). column o.0 0) less answer.ordered by_keys)) in
       ap is_lt (sym (value_cmp-Text _ _)) ∙ rises k d low high
 
+-- an answer that is read is the entries of the table
+pub answers_each : (db : Database) (found : List Row) (entries : List (List ℕ × List ℕ))
+    → IsAnswer each_query (overlay db.trees []) [] found → map shown found ≡ map words_of entries → AreEntries db entries
+answers_each db found entries answer read =
+    let trees = overlay db.trees [] in
+    record { same = same trees found answer entries read; sorted = sorted trees found answer entries read }
+
 -- the rows that were read are those of the table
 pub shows_each : (old new : State) (found : List Row) (entries : List (List ℕ × List ℕ)) → old.now.schema ≡ entry_schema
     → Shown each_text [] old new found → map shown found ≡ map words_of entries → AreEntries old.now entries
 shows_each old new found entries has h read =
     let all = reads_as each_text [] old new entry_schema has each_command each_is.0 each_plain each_is.1 found h in
-    let db = overlay old.now.trees [] in
-    let answer = all.answer Null in
-    record { same = same db found answer entries read; sorted = sorted db found answer entries read }
+    answers_each old.now found entries (all.answer Null) read
 
 -- the query for all rows changes nothing
 pub each_same : (old new : State) (found : List Row) → old.now.schema ≡ entry_schema → Shown each_text [] old new found

@@ -11,6 +11,7 @@ mod Effects
 pub mod Serving
 mod Commits
 mod Each
+pub mod Walks
 mod Apart
 mod Cut
 mod Pages

@@ -1,3 +1,4 @@
 pub mod Entries
 pub mod Errors
 pub mod Values
+pub mod Visits

@@ -7,7 +7,7 @@ use std::fmt;
 /// Why a row is not written or not read.
 #[derive(Clone, Copy, PartialEq, Eq, Debug)]
 pub enum Error {
-    /// The database refused a statement, or an allocation of the database failed.
+    /// The database refused a statement, the connection is shut, or an allocation of the database failed.
     Database(sqlite::Error),
     /// A key or a body means no value of the type, or an allocation failed.
     Json(miniserde::Error),

@@ -7,3 +7,4 @@ mod schemas;
 mod sql;
 pub mod texts;
 pub mod values;
+pub mod visits;

@@ -57,6 +57,10 @@ pub fn create<S: Alter>(conn: &mut Connection<S>) -> Result<usize, Error>
     // A database that has the table stays as it is.
     ensures again { HasCleanDisk (state S.Store conn.new) → (state S.Store conn.old).now.schema ≡ entry_schema
         → OnOk result (IsUnchanged (state S.Store conn.old) (state S.Store conn.new)) }
+
+    // If it fails, the connection is as it was, or its transaction is rolled back.
+    ensures aborts { HasCleanDisk (state S.Store conn.new)
+        → OnErr result (Aborts (state S.Store conn.old) (state S.Store conn.new)) }
     ensures clean { HasCleanDisk (state S.Store conn.new) → HasCleanDisk (state S.Store conn.old) }
 {
     conn.execute(
@@ -75,7 +79,7 @@ pub fn put<S: Alter>(conn: &mut Connection<S>, key: &str, body: &str) -> Result<
     ensures committed { HasCleanDisk (state S.Store conn.new) → IsStore (state S.Store conn.old).now
         → (state S.Store conn.old).in_transaction ≡ false → OnOk result (IsCommitted (state S.Store conn.new)) }
 
-    // If it fails there, the rows are as they were.
+    // If it fails outside of a transaction, the rows are as they were, unless the connection is shut.
     ensures undone { HasCleanDisk (state S.Store conn.new) → IsCommitted (state S.Store conn.old)
         → OnErr result (IsUndone (state S.Store conn.old) (state S.Store conn.new)) }
 
@@ -94,7 +98,7 @@ pub fn put<S: Alter>(conn: &mut Connection<S>, key: &str, body: &str) -> Result<
     ensures live { HasCleanDisk (state S.Store conn.new) → IsServing (state S.Store conn.old)
         → OnOk result (IsTrue (state S.Store conn.old).is_open) }
 
-    // If it fails, the rows are as they were.
+    // If it fails outside of a transaction, the rows are as they were, unless the connection is shut.
     ensures kept { HasCleanDisk (state S.Store conn.new) → IsServing (state S.Store conn.old)
         → OnErr result (Keeps (state S.Store conn.old) (state S.Store conn.new)) }
     ensures clean { HasCleanDisk (state S.Store conn.new) → HasCleanDisk (state S.Store conn.old) }
@@ -116,7 +120,7 @@ pub fn remove<S: Alter>(conn: &mut Connection<S>, key: &str) -> Result<bool, Err
     ensures committed { HasCleanDisk (state S.Store conn.new) → IsStore (state S.Store conn.old).now
         → (state S.Store conn.old).in_transaction ≡ false → OnOk result (IsCommitted (state S.Store conn.new)) }
 
-    // If it fails there, the rows are as they were.
+    // If it fails outside of a transaction, the rows are as they were, unless the connection is shut.
     ensures undone { HasCleanDisk (state S.Store conn.new) → IsCommitted (state S.Store conn.old)
         → OnErr result (IsUndone (state S.Store conn.old) (state S.Store conn.new)) }
 
@@ -135,7 +139,7 @@ pub fn remove<S: Alter>(conn: &mut Connection<S>, key: &str) -> Result<bool, Err
     ensures live { HasCleanDisk (state S.Store conn.new) → IsServing (state S.Store conn.old)
         → OnOk result (IsTrue (state S.Store conn.old).is_open) }
 
-    // If it fails, the rows are as they were.
+    // If it fails outside of a transaction, the rows are as they were, unless the connection is shut.
     ensures kept { HasCleanDisk (state S.Store conn.new) → IsServing (state S.Store conn.old)
         → OnErr result (Keeps (state S.Store conn.old) (state S.Store conn.new)) }
     ensures clean { HasCleanDisk (state S.Store conn.new) → HasCleanDisk (state S.Store conn.old) }
@@ -237,7 +241,7 @@ pub fn get<S: Alter>(conn: &mut Connection<S>, key: &str) -> Result<Option<Strin
     ensures live { HasCleanDisk (state S.Store conn.new) → IsServing (state S.Store conn.old)
         → OnOk result (IsTrue (state S.Store conn.old).is_open) }
 
-    // Whatever it returns, the rows are as they were.
+    // Outside of a transaction the rows are as they were, whatever it returns, unless the connection is shut.
     ensures kept { HasCleanDisk (state S.Store conn.new) → IsServing (state S.Store conn.old)
         → Keeps (state S.Store conn.old) (state S.Store conn.new) }
     ensures clean { HasCleanDisk (state S.Store conn.new) → HasCleanDisk (state S.Store conn.old) }
@@ -270,7 +274,7 @@ pub fn has<S: Alter>(conn: &mut Connection<S>, key: &str) -> Result<bool, Error>
     ensures live { HasCleanDisk (state S.Store conn.new) → IsServing (state S.Store conn.old)
         → OnOk result (IsTrue (state S.Store conn.old).is_open) }
 
-    // Whatever it returns, the rows are as they were.
+    // Outside of a transaction the rows are as they were, whatever it returns, unless the connection is shut.
     ensures kept { HasCleanDisk (state S.Store conn.new) → IsServing (state S.Store conn.old)
         → Keeps (state S.Store conn.old) (state S.Store conn.new) }
     ensures clean { HasCleanDisk (state S.Store conn.new) → HasCleanDisk (state S.Store conn.old) }
@@ -308,7 +312,7 @@ pub fn each<S: Alter>(
     ensures live { HasCleanDisk (state S.Store conn.new) → IsServing (state S.Store conn.old)
         → OnOk result (IsTrue (state S.Store conn.old).is_open) }
 
-    // Whatever it returns, the rows are as they were.
+    // Outside of a transaction the rows are as they were, whatever it returns, unless the connection is shut.
     ensures kept { HasCleanDisk (state S.Store conn.new) → IsServing (state S.Store conn.old)
         → Keeps (state S.Store conn.old) (state S.Store conn.new) }
     ensures clean { HasCleanDisk (state S.Store conn.new) → HasCleanDisk (state S.Store conn.old) }
@@ -349,7 +353,7 @@ pub fn range<S: Alter>(
     ensures live { HasCleanDisk (state S.Store conn.new) → IsServing (state S.Store conn.old)
         → OnOk result (IsTrue (state S.Store conn.old).is_open) }
 
-    // Whatever it returns, the rows are as they were.
+    // Outside of a transaction the rows are as they were, whatever it returns, unless the connection is shut.
     ensures kept { HasCleanDisk (state S.Store conn.new) → IsServing (state S.Store conn.old)
         → Keeps (state S.Store conn.old) (state S.Store conn.new) }
     ensures clean { HasCleanDisk (state S.Store conn.new) → HasCleanDisk (state S.Store conn.old) }
@@ -384,7 +388,7 @@ pub fn len<S: Alter>(conn: &mut Connection<S>) -> Result<u64, Error>
     ensures live { HasCleanDisk (state S.Store conn.new) → IsServing (state S.Store conn.old)
         → OnOk result (IsTrue (state S.Store conn.old).is_open) }
 
-    // Whatever it returns, the rows are as they were.
+    // Outside of a transaction the rows are as they were, whatever it returns, unless the connection is shut.
     ensures kept { HasCleanDisk (state S.Store conn.new) → IsServing (state S.Store conn.old)
         → Keeps (state S.Store conn.old) (state S.Store conn.new) }
     ensures clean { HasCleanDisk (state S.Store conn.new) → HasCleanDisk (state S.Store conn.old) }

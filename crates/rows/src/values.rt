@@ -1,13 +1,15 @@
 //! Rows of values of your own types: the key and the body of a row are the canonical texts of two values.
-ghost use Rattle.std.specs.Prelude.{◌≡◌, ◌⊎◌, ◌↔◌, ℕ, List, false, IfOk, IfSome, OnOk, OnErr, Ok, Err, None, IsTrue};
+ghost use Rattle.std.specs.Prelude.{◌≡◌, ◌⊎◌, ◌↔◌, ◌∷◌, [], ℕ, List, false, IfOk, IfSome, OnOk, OnErr, Ok, Err, None, IsTrue};
 ghost use Rattle.std.specs.List.{AllZip};
 ghost use Rattle.miniserde.specs.declared.Error.TheVariants.{Invalid};
 ghost use Rattle.miniserde.specs.Value.{IsJson};
 ghost use Rattle.miniserde.specs.Normal.{norm};
 ghost use Rattle.sqlite.specs.Held.{state};
-ghost use Rattle.sqlite.specs.State.{HasCleanDisk, IsUnchanged};
+ghost use Rattle.sqlite.specs.State.{HasCleanDisk, IsUnchanged, FailsToQuery};
 ghost use Rattle.sqlite.specs.declared.error.Error.TheVariants.{QueryReturnedNoRows};
-ghost use Rattle.rows.specs.Entries.{entry_schema, IsStore, IsPut, IsRemoved, Holds, HasKey, AreEntries, IsCommitted, IsUndone, IsServing, Keeps};
+ghost use Rattle.sqlite.specs.declared.types.Value.TheVariants.{Text};
+ghost use Rattle.rows.specs.Entries.{get_text, entry_schema, IsStore, IsPut, IsRemoved, Holds, HasKey, AreEntries};
+ghost use Rattle.rows.specs.Entries.{IsCommitted, IsUndone, IsServing, StaysInside, Keeps, Aborts};
 ghost use Rattle.rows.specs.declared.error.Error.TheVariants.{Database, Json};
 ghost use Rattle.rows.specs.Values.{canonical_text, IsReadFrom};
 
@@ -38,9 +40,18 @@ pub fn put<S: Alter, K: Serialize, V: Serialize>(
     ensures committed { HasCleanDisk (state S.Store conn.new) → IsStore (state S.Store conn.old).now
         → (state S.Store conn.old).in_transaction ≡ false → OnOk result (IsCommitted (state S.Store conn.new)) }
 
-    // If it fails there, the rows are as they were.
+    // If it fails outside of a transaction, the rows are as they were, unless the connection is shut.
     ensures undone { HasCleanDisk (state S.Store conn.new) → IsCommitted (state S.Store conn.old)
         → OnErr result (IsUndone (state S.Store conn.old) (state S.Store conn.new)) }
+
+    // Inside of a transaction nothing is committed, and the transaction goes on.
+    ensures inside { HasCleanDisk (state S.Store conn.new) → (state S.Store conn.old).now.schema ≡ entry_schema
+        → IsTrue (state S.Store conn.old).in_transaction
+        → OnOk result (StaysInside (state S.Store conn.old) (state S.Store conn.new)) }
+
+    // If it fails on an open connection, the connection is as it was, or its transaction is rolled back.
+    ensures aborts { HasCleanDisk (state S.Store conn.new) → IsTrue (state S.Store conn.old).is_open
+        → OnErr result (Aborts (state S.Store conn.old) (state S.Store conn.new)) }
 
     // A connection that serves a store goes on, and one that was shut runs no statement.
     ensures serving { HasCleanDisk (state S.Store conn.new) → IsServing (state S.Store conn.old)
@@ -48,7 +59,7 @@ pub fn put<S: Alter, K: Serialize, V: Serialize>(
     ensures live { HasCleanDisk (state S.Store conn.new) → IsServing (state S.Store conn.old)
         → OnOk result (IsTrue (state S.Store conn.old).is_open) }
 
-    // If it fails, the rows are as they were.
+    // If it fails outside of a transaction, the rows are as they were, unless the connection is shut.
     ensures kept { HasCleanDisk (state S.Store conn.new) → IsServing (state S.Store conn.old)
         → OnErr result (Keeps (state S.Store conn.old) (state S.Store conn.new)) }
 
@@ -85,9 +96,18 @@ pub fn remove<S: Alter, K: Serialize>(
     ensures committed { HasCleanDisk (state S.Store conn.new) → IsStore (state S.Store conn.old).now
         → (state S.Store conn.old).in_transaction ≡ false → OnOk result (IsCommitted (state S.Store conn.new)) }
 
-    // If it fails there, the rows are as they were.
+    // If it fails outside of a transaction, the rows are as they were, unless the connection is shut.
     ensures undone { HasCleanDisk (state S.Store conn.new) → IsCommitted (state S.Store conn.old)
         → OnErr result (IsUndone (state S.Store conn.old) (state S.Store conn.new)) }
+
+    // Inside of a transaction nothing is committed, and the transaction goes on.
+    ensures inside { HasCleanDisk (state S.Store conn.new) → (state S.Store conn.old).now.schema ≡ entry_schema
+        → IsTrue (state S.Store conn.old).in_transaction
+        → OnOk result (StaysInside (state S.Store conn.old) (state S.Store conn.new)) }
+
+    // If it fails on an open connection, the connection is as it was, or its transaction is rolled back.
+    ensures aborts { HasCleanDisk (state S.Store conn.new) → IsTrue (state S.Store conn.old).is_open
+        → OnErr result (Aborts (state S.Store conn.old) (state S.Store conn.new)) }
 
     // A connection that serves a store goes on, and one that was shut runs no statement.
     ensures serving { HasCleanDisk (state S.Store conn.new) → IsServing (state S.Store conn.old)
@@ -95,7 +115,7 @@ pub fn remove<S: Alter, K: Serialize>(
     ensures live { HasCleanDisk (state S.Store conn.new) → IsServing (state S.Store conn.old)
         → OnOk result (IsTrue (state S.Store conn.old).is_open) }
 
-    // If it fails, the rows are as they were.
+    // If it fails outside of a transaction, the rows are as they were, unless the connection is shut.
     ensures kept { HasCleanDisk (state S.Store conn.new) → IsServing (state S.Store conn.old)
         → OnErr result (Keeps (state S.Store conn.old) (state S.Store conn.new)) }
 
@@ -154,6 +174,11 @@ pub fn get<S: Alter, K: Serialize, V: Stable + Lossless>(
         → IsTrue (state S.Store conn.old).is_open → (error : _) → result ≡ Err (Json error)
         → IsUnchanged (state S.Store conn.old) (state S.Store conn.new) }
 
+    // If the database fails, a row has the key, or the database fails to query.
+    ensures cause { HasCleanDisk (state S.Store conn.new) → (state S.Store conn.old).now.schema ≡ entry_schema
+        → (error : _) → result ≡ Err (Database error) → HasKey (state S.Store conn.old).now (canonical_text (K.tree key.now))
+        ⊎ FailsToQuery get_text (Text (canonical_text (K.tree key.now)) ∷ []) (state S.Store conn.old) (state S.Store conn.new) error }
+
     // A missing key is no error.
     ensures missing { result ≡ Err (Database QueryReturnedNoRows) → ⊥ }
 
@@ -163,7 +188,7 @@ pub fn get<S: Alter, K: Serialize, V: Stable + Lossless>(
     ensures live { HasCleanDisk (state S.Store conn.new) → IsServing (state S.Store conn.old)
         → OnOk result (IsTrue (state S.Store conn.old).is_open) }
 
-    // Whatever it returns, the rows are as they were.
+    // Outside of a transaction the rows are as they were, whatever it returns, unless the connection is shut.
     ensures kept { HasCleanDisk (state S.Store conn.new) → IsServing (state S.Store conn.old)
         → Keeps (state S.Store conn.old) (state S.Store conn.new) }
     ensures clean { HasCleanDisk (state S.Store conn.new) → HasCleanDisk (state S.Store conn.old) }
@@ -200,7 +225,7 @@ pub fn has<S: Alter, K: Serialize>(
     ensures live { HasCleanDisk (state S.Store conn.new) → IsServing (state S.Store conn.old)
         → OnOk result (IsTrue (state S.Store conn.old).is_open) }
 
-    // Whatever it returns, the rows are as they were.
+    // Outside of a transaction the rows are as they were, whatever it returns, unless the connection is shut.
     ensures kept { HasCleanDisk (state S.Store conn.new) → IsServing (state S.Store conn.old)
         → Keeps (state S.Store conn.old) (state S.Store conn.new) }
 
@@ -228,6 +253,11 @@ pub fn put_and_get<S: Alter, K: Serialize, V: Stable + Lossless>(
     ensures committed { HasCleanDisk (state S.Store conn.new) → IsStore (state S.Store conn.old).now
         → (state S.Store conn.old).in_transaction ≡ false → OnOk result (IsCommitted (state S.Store conn.new)) }
 
+    // Inside of a transaction nothing is committed, and the transaction goes on.
+    ensures inside { HasCleanDisk (state S.Store conn.new) → IsStore (state S.Store conn.old).now
+        → IsTrue (state S.Store conn.old).in_transaction
+        → OnOk result (StaysInside (state S.Store conn.old) (state S.Store conn.new)) }
+
     // The answer is a value with the content of the one that was put.
     ensures same { HasCleanDisk (state S.Store conn.new) → IsStore (state S.Store conn.old).now
         → IfOk result (λ answer. IfSome answer (λ read. V.means.content read ≡ V.means.content value.now)) }
@@ -240,6 +270,12 @@ pub fn put_and_get<S: Alter, K: Serialize, V: Stable + Lossless>(
     // A connection that serves a store goes on.
     ensures serving { HasCleanDisk (state S.Store conn.new) → IsServing (state S.Store conn.old)
         → IsServing (state S.Store conn.new) }
+
+    // If it fails outside of a transaction, the rows are as they were, or the row is put, unless the connection is shut.
+    ensures kept { HasCleanDisk (state S.Store conn.new) → IsServing (state S.Store conn.old) → IsTrue (state S.Store conn.new).is_open
+        → OnErr result (((state S.Store conn.new).now ≡ (state S.Store conn.old).now)
+        ⊎ IsPut (state S.Store conn.old).now (state S.Store conn.new).now
+        (canonical_text (K.tree key.now)) (canonical_text (V.tree value.now))) }
     ensures clean { HasCleanDisk (state S.Store conn.new) → HasCleanDisk (state S.Store conn.old) }
 {
     value.ranged();
@@ -280,7 +316,7 @@ pub fn each<S: Alter, K: Stable + Lossless, V: Stable + Lossless>(
     ensures live { HasCleanDisk (state S.Store conn.new) → IsServing (state S.Store conn.old)
         → OnOk result (IsTrue (state S.Store conn.old).is_open) }
 
-    // Whatever it returns, the rows are as they were.
+    // Outside of a transaction the rows are as they were, whatever it returns, unless the connection is shut.
     ensures kept { HasCleanDisk (state S.Store conn.new) → IsServing (state S.Store conn.old)
         → Keeps (state S.Store conn.old) (state S.Store conn.new) }
     ensures clean { HasCleanDisk (state S.Store conn.new) → HasCleanDisk (state S.Store conn.old) }
