@@ -2,7 +2,7 @@
 ghost use Rattle.miniserde.specs.Cases.{each_case, enum_tree, first_case, later_case, any_of_never};
 ghost use Rattle.miniserde.specs.CasesMeaning.{enum_meaning};
 ghost use Rattle.miniserde.specs.ExactKeys.{text-exact, bool-exact, char-exact};
-ghost use Rattle.miniserde.specs.KeyLaws.{bool_key_laws, char_key_laws};
+ghost use Rattle.miniserde.specs.KeyLaws.{i32_key_laws, bool_key_laws, char_key_laws};
 ghost use Rattle.miniserde.specs.Meanings.{box_meaning};
 ghost use Rattle.miniserde.specs.Newtypes.{checked_meaning, same_meaning};
 ghost use Rattle.miniserde.specs.Structs.{names_of};
@@ -85,6 +85,86 @@ impl RoundTrip for Celsius {
     fn round_trips() {
         checked_round_trips::<i16, Celsius>()
     }
+}
+
+/// How far a thing lies from a point.
+#[derive(PartialEq, Eq, PartialOrd, Ord, Drop)]
+pub struct Offset(pub i32);
+
+impl Transparent for Offset {
+    type Inner = i32;
+
+    ghost inner = { λ v. v.0 };
+
+    ghost wrapped = { λ x. record { 0 = x } };
+
+    ghost unwraps = { λ x. refl };
+}
+
+impl FromJson for Offset {
+    ghost means = { box_meaning ⟦<i32 as FromJson>⟧.means (λ v. v.0) };
+
+    ghost read_infallible = { ⟦<i32 as FromJson>⟧.read_infallible };
+
+    ghost lacking = { ⟦<i32 as FromJson>⟧.lacking };
+
+    fn missing() -> Option<Offset> {
+        None
+    }
+
+    fn read<'a>(token: Event<'a>, source: &mut Source<'a>) -> Result<Offset> {
+        Ok(Offset(<i32 as FromJson>::read(token, source)?))
+    }
+}
+
+impl Serialize for Offset {
+    ghost tree = { λ v. ⟦<i32 as Serialize>⟧.tree v.0 };
+
+    fn begin(&self, w: &mut Writer) -> Result<()> {
+        self.0.begin(w)
+    }
+}
+
+impl Ranged for Offset {
+    ghost real = { λ v. ⟦<i32 as Ranged>⟧.real v.0 };
+
+    fn ranged(&self) {
+        self.0.ranged()
+    }
+}
+
+impl RoundTrip for Offset {
+    fn round_trips() {
+        transparent_round_trips::<i32, Offset>()
+    }
+}
+
+impl MapKey for Offset {
+    ghost content = { λ v. ⟦<i32 as MapKey>⟧.content v.0 };
+
+    ghost read = { ⟦<i32 as MapKey>⟧.read };
+
+    ghost text = { λ v. ⟦<i32 as MapKey>⟧.text v.0 };
+
+    ghost from_key_infallible = { ⟦<i32 as MapKey>⟧.from_key_infallible };
+
+    ghost alike = { λ a b. i32_key_laws.alike a.0 b.0 };
+
+    ghost back = { λ v r. (v, r, (i32_key_laws.back v.0 r), refl) };
+
+    ghost one_text = { λ a b. i32_key_laws.one_text a.0 b.0 };
+
+    fn from_key(alloc: Global, k: &str) -> Result<Offset> {
+        Ok(Offset(<i32 as MapKey>::from_key(alloc, k)?))
+    }
+
+    fn to_key(&self, out: &mut String) -> Result<()> {
+        self.0.to_key(out)
+    }
+}
+
+impl InjectiveKey for Offset {
+    ghost injective = { λ a b e. e };
 }
 
 /// A name.

@@ -3,7 +3,7 @@
 
 use crate::accounts::{Account, Slug, Tagged, UserId};
 use crate::ends::Ends;
-use crate::forms::{Celsius, Flag, Initial, Maybe, Name, Owner};
+use crate::forms::{Celsius, Flag, Initial, Maybe, Name, Offset, Owner};
 use crate::percents::Percent;
 use crate::spans::Span;
 use miniserde::json::Document;
@@ -216,7 +216,7 @@ fn newtypes_as_keys(rt: HostRuntime) -> Result<(), Wrong> {
     expect_read_itself::<BTreeMap<Slug, Option<Percent>>>(alloc, r#"{"a":null,"b":7} => same"#)?;
     expect_read_itself::<BTreeMap<Tagged<UserId>, Tagged<Percent>>>(alloc, TAGGED)?;
     expect_read_itself::<BTreeMap<Percent, u8>>(alloc, BY_PERCENT)?;
-    expect_read_itself::<BTreeMap<Tagged<i32>, u8>>(alloc, BY_OFFSET)?;
+    expect_read_itself::<BTreeMap<Offset, u8>>(alloc, BY_OFFSET)?;
     expect_read_itself::<BTreeMap<Name, u8>>(alloc, NAMES)?;
     expect_read_itself::<BTreeMap<Flag, u8>>(alloc, FLAGS)?;
     expect_read_itself::<BTreeMap<Initial, u8>>(alloc, INITIALS)
@@ -230,7 +230,7 @@ fn newtypes_in_structs(rt: HostRuntime) -> Result<(), Wrong> {
     expect_read_again::<Span>(alloc, SPANS)?;
     expect_read_itself::<Ends<UserId>>(alloc, NUMBERS)?;
     expect_read_itself::<Ends<Tagged<u16>>>(alloc, NUMBERS)?;
-    expect_read_itself::<Ends<Tagged<i32>>>(alloc, OFFSETS)?;
+    expect_read_again::<Ends<Offset>>(alloc, OFFSETS)?;
     expect_read_itself::<Ends<Percent>>(alloc, PERCENT_ENDS)?;
     expect_read_itself::<Ends<Slug>>(alloc, SLUG_ENDS)?;
     expect_read_again::<Ends<Name>>(alloc, NAME_ENDS)?;
