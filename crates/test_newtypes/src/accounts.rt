@@ -13,12 +13,12 @@ ghost use Rattle.test_newtypes.specs.Checks.{is_slug};
 use crate::checks::is_slug;
 use crate::percents::Percent;
 use miniserde::derived::{
-    Checked, CheckedLeaf, Deserialize, Error, Event, ExactKey, FourLent, FourParts, FourSlot,
-    FromJson, Global, InjectiveKey, Leaf, LeafPlace, Lossless, MapKey, NeverNull, NoSlot, Ranged,
-    Record, Result, RoundTrip, Serialize, Slots, Source, Stable, Step, Transparent, Visitor,
-    Writer, WrittenFields, checked_from_step, checked_lossless, checked_round_trips,
-    checked_stable, read_checked, read_record, record_lossless, record_round_trips, take_four,
-    transparent_round_trips, write_members,
+    Checked, CheckedLeaf, Deserialize, Error, Event, ExactKey, FourParts, FromJson, Global,
+    InjectiveKey, Leaf, LeafPlace, Lossless, MapKey, NeverNull, NoSlot, OmitSlot, Omitted, Parts,
+    Plain, Ranged, Record, Result, RoundTrip, Serialize, Slot, Slots, Source, Stable, Step,
+    Transparent, Visitor, Writer, WrittenFields, checked_from_step, checked_lossless,
+    checked_round_trips, checked_stable, read_checked, read_record, record_lossless,
+    record_round_trips, take_four, transparent_round_trips, write_members,
 };
 use std::alloc::AllocError;
 use std::collections::BTreeMap;
@@ -474,7 +474,10 @@ pub struct Account {
 }
 
 // Its fields, and their names.
-type AccountFields = FourSlot<UserId, Slug, Option<Percent>, BTreeMap<UserId, Percent>, NoSlot>;
+type AccountFields = Slot<
+    UserId,
+    Slot<Slug, OmitSlot<Percent, Plain, Slot<BTreeMap<UserId, Percent>, NoSlot>>>,
+>;
 
 const ACCOUNT_NAMES: &[&str] = &["owner", "slug", "fee", "shares"];
 
@@ -529,7 +532,13 @@ impl Serialize for Account {
         write_members(
             w,
             ACCOUNT_NAMES,
-            &FourLent(&self.owner, &self.slug, &self.fee, &self.shares, ()),
+            &Parts(
+                &self.owner,
+                Parts(
+                    &self.slug,
+                    Parts(Omitted(&self.fee), Parts(&self.shares, ())),
+                ),
+            ),
         )
     }
 }

@@ -8,7 +8,6 @@ ghost use Rattle.test_newtypes.specs.Checks.{at_most_100, is_slug};
 ghost use Rattle.test_newtypes.specs.Orders.{is_ordered};
 
 use crate::accounts::{Account, Slug, Tagged, UserId};
-use crate::optional::Optional;
 use crate::percents::Percent;
 use crate::spans::Span;
 use miniserde::json::from_str;
@@ -29,28 +28,6 @@ pub fn percent(alloc: Global, text: &str) -> Result<u8>
     Ok(*percent.get())
 }
 
-/// Reads the shares of users.
-pub fn shares(alloc: Global, text: &str) -> Result<BTreeMap<UserId, Percent>>
-    ensures ok { IfOk result (λ m. (t : Tree) × IsJson text.now t
-        × ⟦<BTreeMap<UserId, Percent> as FromJson>⟧.means.reads t m) }
-    ensures invalid { result ≡ Err Error.Invalid → (t : Tree) → IsJson text.now t
-        → ⟦<BTreeMap<UserId, Percent> as FromJson>⟧.means.from_tree t ≡ None }
-{
-    from_str(alloc, text)
-}
-
-/// Writes the shares of users and reads them again: the same content.
-pub fn same_shares(
-    alloc: Global,
-    shares: &BTreeMap<UserId, Percent>,
-) -> Result<BTreeMap<UserId, Percent>>
-    ensures same { IfOk result (λ m. ⟦<BTreeMap<UserId, Percent> as FromJson>⟧.means.content m
-        ≡ ⟦<BTreeMap<UserId, Percent> as FromJson>⟧.means.content shares.now) }
-    ensures memory { result ≡ Err Error.Invalid → ⊥ }
-{
-    read_itself(alloc, shares)
-}
-
 /// Writes a slug and reads it again: the same text.
 pub fn same_slug(alloc: Global, slug: &Slug) -> Result<Slug>
     ensures same { IfOk result (λ s. string_bytes s.value ≡ string_bytes slug.now.value) }
@@ -68,15 +45,6 @@ pub fn by_slug(alloc: Global, text: &str) -> Result<BTreeMap<Slug, Option<Percen
         → ⟦<BTreeMap<Slug, Option<Percent>> as FromJson>⟧.means.from_tree t ≡ None }
 {
     from_str(alloc, text)
-}
-
-/// Writes a tagged value and reads it again: the same content.
-pub fn same_tagged(alloc: Global, value: &Tagged<Vec<Percent>>) -> Result<Tagged<Vec<Percent>>>
-    ensures same { IfOk result (λ v. ⟦<Tagged<Vec<Percent>> as FromJson>⟧.means.content v
-        ≡ ⟦<Tagged<Vec<Percent>> as FromJson>⟧.means.content value.now) }
-    ensures memory { result ≡ Err Error.Invalid → ⊥ }
-{
-    read_itself(alloc, value)
 }
 
 /// Reads an account, and returns its owner.
@@ -137,15 +105,6 @@ pub fn half(percent: &Percent) -> Percent
     ensures { result.value ≡ percent.now.value / 2 }
 {
     Percent::new(*percent.get() / 2).unwrap()
-}
-
-/// Writes fields that may be left out and reads them again: the same content.
-pub fn same_optional(alloc: Global, optional: &Optional) -> Result<Optional>
-    ensures same { IfOk result (λ o. ⟦<Optional as FromJson>⟧.means.content o
-        ≡ ⟦<Optional as FromJson>⟧.means.content optional.now) }
-    ensures memory { result ≡ Err Error.Invalid → ⊥ }
-{
-    read_itself(alloc, optional)
 }
 
 /// Reads a span. Each one ends no earlier than it begins.

@@ -1,7 +1,7 @@
 //! The checks of the newtypes.
 ghost use Rattle.std.specs.Prelude.{◌≡◌};
 ghost use Rattle.std.specs.List.{list_all};
-ghost use Rattle.test_newtypes.specs.Checks.{at_most_100, is_celsius, is_given, is_port, is_slug, is_slug_byte};
+ghost use Rattle.test_newtypes.specs.Checks.{at_most_100, is_celsius, is_slug, is_slug_byte};
 
 /// Returns whether the number is at most 100.
 pub fn at_most_100(n: u8) -> bool
@@ -36,18 +36,4 @@ pub fn is_celsius(n: i16) -> bool
     ensures { result ≡ is_celsius n }
 {
     -273 <= n
-}
-
-/// Returns whether a server can listen on the port: 0 asks for any.
-pub fn is_port(n: u16) -> bool
-    ensures { result ≡ is_port n }
-{
-    0 < n
-}
-
-/// Returns whether a consent was given.
-pub fn is_given(given: &bool) -> bool
-    ensures { result ≡ is_given given.now }
-{
-    *given
 }

@@ -5,26 +5,26 @@ ghost use Rattle.std.specs.Prelude.{refl};
 
 use miniserde::derived::{
     Event, FromJson, Lossless, NeverNull, NoSlot, Parts, Ranged, Record, Result, RoundTrip,
-    Serialize, Slot, Slots, Source, Stable, Writer, WrittenFields, read_record, record_lossless,
-    record_round_trips, record_stable, write_members,
+    Serialize, Slot, Slots, Source, Writer, WrittenFields, read_record, record_lossless,
+    record_round_trips, write_members,
 };
 
-/// The ends of a span.
+/// Both ends of a span.
 #[derive(Drop)]
-pub struct Ends {
-    pub from: u32,
-    pub to: u32,
+pub struct Ends<T> {
+    pub from: T,
+    pub to: T,
 }
 
 // Its fields, and their names.
-type EndsFields = Slot<u32, Slot<u32, NoSlot>>;
+type EndsFields<T> = Slot<T, Slot<T, NoSlot>>;
 
 const ENDS_NAMES: &[&str] = &["from", "to"];
 
-impl Record for Ends {
+impl<T: FromJson> Record for Ends<T> {
     ghost use Rattle.test_newtypes.specs.declared.ends.TheConstants.{ENDS_NAMES};
 
-    type Values = <EndsFields as Slots>::Values;
+    type Values = <EndsFields<T> as Slots>::Values;
 
     ghost names = { names_of ENDS_NAMES };
 
@@ -40,34 +40,36 @@ impl Record for Ends {
         ENDS_NAMES
     }
 
-    fn build(parts: Self::Values) -> Ends {
+    fn build(parts: Self::Values) -> Ends<T> {
         let Parts(from, Parts(to, ())) = parts;
         Ends { from, to }
     }
 }
 
-impl FromJson for Ends {
-    ghost means = { struct_meaning ⟦<EndsFields as Slots>⟧.meaning ⟦<Ends as Record>⟧.names ⟦<Ends as Record>⟧.values };
+impl<T: FromJson> FromJson for Ends<T> {
+    ghost means = { struct_meaning ⟦<EndsFields<T> as Slots>⟧.meaning ⟦<Ends<T> as Record>⟧.names
+        ⟦<Ends<T> as Record>⟧.values };
 
-    fn missing() -> Option<Ends> {
+    fn missing() -> Option<Ends<T>> {
         None
     }
 
-    fn read<'a>(token: Event<'a>, source: &mut Source<'a>) -> Result<Ends> {
-        read_record::<Ends, EndsFields>(token, source)
+    fn read<'a>(token: Event<'a>, source: &mut Source<'a>) -> Result<Ends<T>> {
+        read_record::<Ends<T>, EndsFields<T>>(token, source)
     }
 }
 
-impl Serialize for Ends {
-    ghost tree = { record_tree ⟦<Ends as Record>⟧.names ⟦<EndsFields as WrittenFields>⟧.trees ⟦<Ends as Record>⟧.values };
+impl<T: FromJson + Ranged + Serialize> Serialize for Ends<T> {
+    ghost tree = { record_tree ⟦<Ends<T> as Record>⟧.names ⟦<EndsFields<T> as WrittenFields>⟧.trees
+        ⟦<Ends<T> as Record>⟧.values };
 
     fn begin(&self, w: &mut Writer) -> Result<()> {
         write_members(w, ENDS_NAMES, &Parts(&self.from, Parts(&self.to, ())))
     }
 }
 
-impl Ranged for Ends {
-    ghost real = { λ v. ⟦<EndsFields as WrittenFields>⟧.real (⟦<Ends as Record>⟧.values v) };
+impl<T: FromJson + Ranged + Serialize> Ranged for Ends<T> {
+    ghost real = { λ v. ⟦<EndsFields<T> as WrittenFields>⟧.real (⟦<Ends<T> as Record>⟧.values v) };
 
     fn ranged(&self) {
         self.from.ranged();
@@ -75,24 +77,18 @@ impl Ranged for Ends {
     }
 }
 
-impl RoundTrip for Ends {
+impl<T: RoundTrip> RoundTrip for Ends<T> {
     fn round_trips() {
-        record_round_trips::<Ends, EndsFields>()
+        record_round_trips::<Ends<T>, EndsFields<T>>()
     }
 }
 
-impl Lossless for Ends {
+impl<T: Lossless> Lossless for Ends<T> {
     fn lossless() {
-        record_lossless::<Ends, EndsFields>()
+        record_lossless::<Ends<T>, EndsFields<T>>()
     }
 }
 
-impl NeverNull for Ends {
+impl<T: RoundTrip> NeverNull for Ends<T> {
     fn never_null() {}
-}
-
-impl Stable for Ends {
-    fn stable() {
-        record_stable::<Ends, EndsFields>()
-    }
 }

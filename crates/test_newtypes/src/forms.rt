@@ -1,17 +1,21 @@
 //! The types of `forms.rs`, with the impls that `./derive` writes.
+ghost use Rattle.miniserde.specs.Cases.{each_case, enum_tree, first_case, later_case, any_of_never};
+ghost use Rattle.miniserde.specs.CasesMeaning.{enum_meaning};
 ghost use Rattle.miniserde.specs.ExactKeys.{text-exact, bool-exact, char-exact};
-ghost use Rattle.miniserde.specs.KeyLaws.{bool_key_laws, char_key_laws};
+ghost use Rattle.miniserde.specs.KeyLaws.{i32_key_laws, bool_key_laws, char_key_laws};
 ghost use Rattle.miniserde.specs.Meanings.{box_meaning};
 ghost use Rattle.miniserde.specs.Newtypes.{checked_meaning, same_meaning};
+ghost use Rattle.miniserde.specs.Structs.{names_of};
 ghost use Rattle.std.specs.Prelude.{◌≡◌, true, option_map, refl};
 ghost use Rattle.test_newtypes.specs.Checks.{is_celsius};
 
+use crate::accounts::{Slug, UserId};
 use crate::checks::is_celsius;
-use crate::percents::Percent;
 use miniserde::derived::{
-    Checked, Event, ExactKey, FromJson, Global, InjectiveKey, Lossless, MapKey, NeverNull, Ranged,
-    Result, RoundTrip, Serialize, Source, Stable, Transparent, Writer, checked_lossless,
-    checked_round_trips, checked_stable, read_checked, transparent_round_trips,
+    Cases, Checked, DataCase, DataEnum, Event, ExactKey, FromJson, Global, InjectiveKey, Lossless,
+    MapKey, NoCase, OneOf, Ranged, Result, RoundTrip, Serialize, Source, Stable, Transparent,
+    Writer, WrittenCases, checked_round_trips, enum_round_trips, read_checked, read_enum,
+    transparent_round_trips, write_data,
 };
 
 /// A temperature.
@@ -83,22 +87,84 @@ impl RoundTrip for Celsius {
     }
 }
 
-impl Lossless for Celsius {
-    fn lossless() {
-        checked_lossless::<i16, Celsius>()
+/// How far a thing lies from a point.
+#[derive(PartialEq, Eq, PartialOrd, Ord, Drop)]
+pub struct Offset(pub i32);
+
+impl Transparent for Offset {
+    type Inner = i32;
+
+    ghost inner = { λ v. v.0 };
+
+    ghost wrapped = { λ x. record { 0 = x } };
+
+    ghost unwraps = { λ x. refl };
+}
+
+impl FromJson for Offset {
+    ghost means = { box_meaning ⟦<i32 as FromJson>⟧.means (λ v. v.0) };
+
+    ghost read_infallible = { ⟦<i32 as FromJson>⟧.read_infallible };
+
+    ghost lacking = { ⟦<i32 as FromJson>⟧.lacking };
+
+    fn missing() -> Option<Offset> {
+        None
+    }
+
+    fn read<'a>(token: Event<'a>, source: &mut Source<'a>) -> Result<Offset> {
+        Ok(Offset(<i32 as FromJson>::read(token, source)?))
     }
 }
 
-impl NeverNull for Celsius {
-    fn never_null() {
-        <i16 as NeverNull>::never_null()
+impl Serialize for Offset {
+    ghost tree = { λ v. ⟦<i32 as Serialize>⟧.tree v.0 };
+
+    fn begin(&self, w: &mut Writer) -> Result<()> {
+        self.0.begin(w)
     }
 }
 
-impl Stable for Celsius {
-    fn stable() {
-        checked_stable::<i16, Celsius>()
+impl Ranged for Offset {
+    ghost real = { λ v. ⟦<i32 as Ranged>⟧.real v.0 };
+
+    fn ranged(&self) {
+        self.0.ranged()
     }
+}
+
+impl RoundTrip for Offset {
+    fn round_trips() {
+        transparent_round_trips::<i32, Offset>()
+    }
+}
+
+impl MapKey for Offset {
+    ghost content = { λ v. ⟦<i32 as MapKey>⟧.content v.0 };
+
+    ghost read = { ⟦<i32 as MapKey>⟧.read };
+
+    ghost text = { λ v. ⟦<i32 as MapKey>⟧.text v.0 };
+
+    ghost from_key_infallible = { ⟦<i32 as MapKey>⟧.from_key_infallible };
+
+    ghost alike = { λ a b. i32_key_laws.alike a.0 b.0 };
+
+    ghost back = { λ v r. (v, r, (i32_key_laws.back v.0 r), refl) };
+
+    ghost one_text = { λ a b. i32_key_laws.one_text a.0 b.0 };
+
+    fn from_key(alloc: Global, k: &str) -> Result<Offset> {
+        Ok(Offset(<i32 as MapKey>::from_key(alloc, k)?))
+    }
+
+    fn to_key(&self, out: &mut String) -> Result<()> {
+        self.0.to_key(out)
+    }
+}
+
+impl InjectiveKey for Offset {
+    ghost injective = { λ a b e. e };
 }
 
 /// A name.
@@ -313,7 +379,7 @@ impl ExactKey for Initial {
     ghost one_name = { char-exact };
 }
 
-/// A number, or none.
+/// A number, or none. As a field it may be missing.
 #[derive(Drop)]
 pub struct Maybe(pub Option<u8>);
 
@@ -379,68 +445,90 @@ impl Stable for Maybe {
     }
 }
 
-/// A part of a hundred in a type of its own.
+/// Whose a thing is.
 #[derive(Drop)]
-pub struct Fee(pub Percent);
-
-impl Transparent for Fee {
-    type Inner = Percent;
-
-    ghost inner = { λ v. v.0 };
-
-    ghost wrapped = { λ x. record { 0 = x } };
-
-    ghost unwraps = { λ x. refl };
+pub enum Owner {
+    User(UserId),
+    Named(Slug),
 }
 
-impl FromJson for Fee {
-    ghost means = { box_meaning ⟦<Percent as FromJson>⟧.means (λ v. v.0) };
+// Its variants, and their names.
+type OwnerCases = DataCase<UserId, DataCase<Slug, NoCase>>;
 
-    ghost absent = { option_map (λ v. record { 0 = v }) ⟦<Percent as FromJson>⟧.absent };
+const OWNER_NAMES: &[&str] = &["User", "Named"];
 
-    ghost read_infallible = { ⟦<Percent as FromJson>⟧.read_infallible };
+impl DataEnum for Owner {
+    ghost use Rattle.test_newtypes.specs.declared.forms.TheConstants.{OWNER_NAMES};
+    ghost use Rattle.test_newtypes.specs.declared.forms.Owner.TheVariants.{User, Named};
 
-    ghost lacking = { ⟦<Percent as FromJson>⟧.lacking };
+    type Values = <OwnerCases as Cases>::Values;
 
-    fn missing() -> Option<Fee> {
-        Some(Fee(<Percent as FromJson>::missing()?))
+    ghost names = { names_of OWNER_NAMES };
+
+    ghost values = { elim [ User x0 ↦ first_case x0 | Named x0 ↦ later_case (first_case x0) ] };
+
+    ghost made = { each_case _ (λ x. User x) (each_case _ (λ x. Named x) (any_of_never _)) };
+
+    ghost bijective = { (
+      elim [ User x0 ↦ refl | Named x0 ↦ refl ],
+      each_case _ (λ x. refl)
+          (each_case _ (λ x. refl) (any_of_never _)),
+    ) };
+
+    ghost distinct_names = { refl };
+
+    fn names() -> &'static [&'static str] {
+        OWNER_NAMES
     }
 
-    fn read<'a>(token: Event<'a>, source: &mut Source<'a>) -> Result<Fee> {
-        Ok(Fee(<Percent as FromJson>::read(token, source)?))
+    fn build(value: Self::Values) -> Owner {
+        match value {
+            OneOf::First(a) => Owner::User(a),
+            OneOf::Later(value) => match value {
+                OneOf::First(a) => Owner::Named(a),
+                OneOf::Later(value) => match value {},
+            },
+        }
     }
 }
 
-impl Serialize for Fee {
-    ghost tree = { λ v. ⟦<Percent as Serialize>⟧.tree v.0 };
+impl FromJson for Owner {
+    ghost means = { enum_meaning ⟦<OwnerCases as Cases>⟧.meaning ⟦<Owner as DataEnum>⟧.names refl
+        ⟦<Owner as DataEnum>⟧.values };
+
+    fn missing() -> Option<Owner> {
+        None
+    }
+
+    fn read<'a>(token: Event<'a>, source: &mut Source<'a>) -> Result<Owner> {
+        read_enum::<Owner, OwnerCases>(token, source)
+    }
+}
+
+impl Serialize for Owner {
+    ghost tree = { enum_tree ⟦<Owner as DataEnum>⟧.names ⟦<OwnerCases as WrittenCases>⟧.tree ⟦<Owner as DataEnum>⟧.values };
 
     fn begin(&self, w: &mut Writer) -> Result<()> {
-        self.0.begin(w)
+        match self {
+            Owner::User(a) => write_data(w, "User", a),
+            Owner::Named(a) => write_data(w, "Named", a),
+        }
     }
 }
 
-impl Ranged for Fee {
-    ghost real = { λ v. ⟦<Percent as Ranged>⟧.real v.0 };
+impl Ranged for Owner {
+    ghost real = { λ v. ⟦<OwnerCases as WrittenCases>⟧.real (⟦<Owner as DataEnum>⟧.values v) };
 
     fn ranged(&self) {
-        self.0.ranged()
+        match self {
+            Owner::User(a) => a.ranged(),
+            Owner::Named(a) => a.ranged(),
+        }
     }
 }
 
-impl RoundTrip for Fee {
+impl RoundTrip for Owner {
     fn round_trips() {
-        transparent_round_trips::<Percent, Fee>()
-    }
-}
-
-impl Lossless for Fee {
-    fn lossless() {
-        <Percent as Lossless>::lossless()
-    }
-}
-
-impl NeverNull for Fee {
-    fn never_null() {
-        <Percent as NeverNull>::never_null()
+        enum_round_trips::<Owner, OwnerCases>()
     }
 }

@@ -6,8 +6,8 @@ use crate::ends::Ends;
 use miniserde::FromJson;
 
 /// Returns whether a span ends no earlier than it begins.
-pub fn is_ordered(ends: &Ends) -> bool
-    ensures { result ≡ is_ordered (⟦<Ends as FromJson>⟧.means.content ends.now) }
+pub fn is_ordered(ends: &Ends<u32>) -> bool
+    ensures { result ≡ is_ordered (⟦<Ends<u32> as FromJson>⟧.means.content ends.now) }
 {
     ends.from <= ends.to
 }

@@ -1,5 +1,6 @@
 //! The types of `percents.rs`, with the impls that `./derive` writes.
-ghost use Rattle.miniserde.specs.Checks.{on_unsigned};
+ghost use Rattle.miniserde.specs.Checks.{on_unsigned, on_unsigned_key, checked_key};
+ghost use Rattle.miniserde.specs.KeyLaws.{u8_key_laws, checked-back};
 ghost use Rattle.miniserde.specs.Newtypes.{checked_meaning, same_meaning};
 ghost use Rattle.miniserde.specs.Place.{wrapper_meaning};
 ghost use Rattle.std.specs.Prelude.{◌≡◌, true, refl};
@@ -7,13 +8,14 @@ ghost use Rattle.test_newtypes.specs.Checks.{at_most_100};
 
 use crate::checks::at_most_100;
 use miniserde::derived::{
-    Checked, CheckedLeaf, Deserialize, Error, Event, FromJson, Global, Leaf, LeafPlace, Lossless,
-    NeverNull, Ranged, Result, RoundTrip, Serialize, Source, Stable, Step, Visitor, Writer,
-    checked_from_step, checked_lossless, checked_round_trips, checked_stable, read_checked,
+    Checked, CheckedLeaf, Deserialize, Error, Event, FromJson, Global, InjectiveKey, Leaf,
+    LeafPlace, Lossless, MapKey, NeverNull, Ranged, Result, RoundTrip, Serialize, Source, Stable,
+    Step, Visitor, Writer, checked_from_step, checked_lossless, checked_round_trips,
+    checked_stable, read_checked,
 };
 
 /// A part of a hundred.
-#[derive(PartialEq, Eq, Debug, Clone, Copy, Drop)]
+#[derive(Debug, Clone, Copy, PartialEq, Eq, PartialOrd, Ord, Drop)]
 pub struct Percent {
     value: u8,
     pub ghost checked: { at_most_100 value ≡ true },
@@ -98,6 +100,37 @@ impl Stable for Percent {
     fn stable() {
         checked_stable::<u8, Percent>()
     }
+}
+
+impl MapKey for Percent {
+    ghost content = { λ v. ⟦<u8 as MapKey>⟧.content v.value };
+
+    ghost read = { checked_key (on_unsigned_key at_most_100) ⟦<u8 as MapKey>⟧.read };
+
+    ghost text = { λ v. ⟦<u8 as MapKey>⟧.text v.value };
+
+    ghost from_key_infallible = { ⟦<u8 as MapKey>⟧.from_key_infallible };
+
+    ghost alike = { λ a b. u8_key_laws.alike a.value b.value };
+
+    ghost back = { λ v r. (v, r, (checked-back (on_unsigned_key at_most_100) _ _ (u8_key_laws.back v.value r.0) r.1), refl) };
+
+    ghost one_text = { λ a b. u8_key_laws.one_text a.value b.value };
+
+    fn from_key(alloc: Global, k: &str) -> Result<Percent> {
+        match Percent::new(<u8 as MapKey>::from_key(alloc, k)?) {
+            Some(key) => Ok(key),
+            None => Err(Error::Invalid),
+        }
+    }
+
+    fn to_key(&self, out: &mut String) -> Result<()> {
+        self.value.to_key(out)
+    }
+}
+
+impl InjectiveKey for Percent {
+    ghost injective = { λ a b e. e };
 }
 
 impl Leaf for Percent {

@@ -6,29 +6,29 @@ ghost use Rattle.test_newtypes.specs.Orders.{is_ordered};
 use crate::ends::Ends;
 use crate::orders::is_ordered;
 use miniserde::derived::{
-    Checked, Event, FromJson, Lossless, NeverNull, Ranged, Result, RoundTrip, Serialize, Source,
-    Stable, Writer, checked_lossless, checked_round_trips, checked_stable, read_checked,
+    Checked, Event, FromJson, Ranged, Result, RoundTrip, Serialize, Source, Writer,
+    checked_round_trips, read_checked,
 };
 
 /// A span, which ends no earlier than it begins.
 #[derive(Drop)]
 pub struct Span {
-    value: Ends,
-    pub ghost checked: { is_ordered (⟦<Ends as FromJson>⟧.means.content value) ≡ true },
+    value: Ends<u32>,
+    pub ghost checked: { is_ordered (⟦<Ends<u32> as FromJson>⟧.means.content value) ≡ true },
 }
 
 impl Checked for Span {
-    type Inner = Ends;
+    type Inner = Ends<u32>;
 
     ghost inner = { λ v. v.value };
 
-    ghost means = { ⟦<Ends as FromJson>⟧.means };
+    ghost means = { ⟦<Ends<u32> as FromJson>⟧.means };
 
     ghost accepts = { is_ordered };
 
-    ghost same = { same_meaning ⟦<Ends as FromJson>⟧.means };
+    ghost same = { same_meaning ⟦<Ends<u32> as FromJson>⟧.means };
 
-    fn new(value: Ends) -> Option<Span> {
+    fn new(value: Ends<u32>) -> Option<Span> {
         if is_ordered(&value) {
             Some(Span { value })
         } else {
@@ -36,17 +36,17 @@ impl Checked for Span {
         }
     }
 
-    fn get(&self) -> &Ends {
+    fn get(&self) -> &Ends<u32> {
         &self.value
     }
 }
 
 impl FromJson for Span {
-    ghost means = { checked_meaning ⟦<Ends as FromJson>⟧.means is_ordered (λ v. v.value) };
+    ghost means = { checked_meaning ⟦<Ends<u32> as FromJson>⟧.means is_ordered (λ v. v.value) };
 
-    ghost read_infallible = { ⟦<Ends as FromJson>⟧.read_infallible };
+    ghost read_infallible = { ⟦<Ends<u32> as FromJson>⟧.read_infallible };
 
-    ghost lacking = { ⟦<Ends as FromJson>⟧.lacking };
+    ghost lacking = { ⟦<Ends<u32> as FromJson>⟧.lacking };
 
     fn missing() -> Option<Span> {
         None
@@ -58,7 +58,7 @@ impl FromJson for Span {
 }
 
 impl Serialize for Span {
-    ghost tree = { λ v. ⟦<Ends as Serialize>⟧.tree v.value };
+    ghost tree = { λ v. ⟦<Ends<u32> as Serialize>⟧.tree v.value };
 
     fn begin(&self, w: &mut Writer) -> Result<()> {
         self.value.begin(w)
@@ -66,7 +66,7 @@ impl Serialize for Span {
 }
 
 impl Ranged for Span {
-    ghost real = { λ v. ⟦<Ends as Ranged>⟧.real v.value × (is_ordered (⟦<Ends as FromJson>⟧.means.content v.value) ≡ true) };
+    ghost real = { λ v. ⟦<Ends<u32> as Ranged>⟧.real v.value × (is_ordered (⟦<Ends<u32> as FromJson>⟧.means.content v.value) ≡ true) };
 
     fn ranged(&self) {
         self.value.ranged()
@@ -75,24 +75,6 @@ impl Ranged for Span {
 
 impl RoundTrip for Span {
     fn round_trips() {
-        checked_round_trips::<Ends, Span>()
-    }
-}
-
-impl Lossless for Span {
-    fn lossless() {
-        checked_lossless::<Ends, Span>()
-    }
-}
-
-impl NeverNull for Span {
-    fn never_null() {
-        <Ends as NeverNull>::never_null()
-    }
-}
-
-impl Stable for Span {
-    fn stable() {
-        checked_stable::<Ends, Span>()
+        checked_round_trips::<Ends<u32>, Span>()
     }
 }

@@ -2,11 +2,11 @@
 //! what serde_json gives for the same types with `transparent`, or `try_from` and `into`.
 
 use crate::accounts::{Account, Slug, Tagged, UserId};
-use crate::forms::{Celsius, Fee, Flag, Initial, Maybe, Name};
-use crate::kinds::{At, Choice, Consent, Count, Offset, Port, Title, Word, Wrapped};
-use crate::optional::{Held, Optional, Owner, Raw};
+use crate::ends::Ends;
+use crate::forms::{Celsius, Flag, Initial, Maybe, Name, Offset, Owner};
 use crate::percents::Percent;
 use crate::spans::Span;
+use miniserde::json::Document;
 use std::collections::BTreeMap;
 use test_tables::{Wrong, expect_read_again, expect_read_itself, expect_table};
 
@@ -89,36 +89,38 @@ const TAGGED: &str = r#"{"10":100,"9":0} => {"9":0,"10":100}
 {"x":1}
 {"1":256}"#;
 
-const ACCOUNTS: &str = r#"{"owner":7,"slug":"a-b","fee":null,"shares":{"7":60,"10":40}} => same
-{"shares":{},"slug":"x","owner":0} => {"owner":0,"slug":"x","fee":null,"shares":{}}
+const ACCOUNTS: &str = r#"{"owner":7,"slug":"a-b","shares":{"7":60,"10":40}} => same
+{"shares":{},"slug":"x","owner":0} => {"owner":0,"slug":"x","shares":{}}
 {"owner":7,"slug":"A","fee":null,"shares":{}}
 {"owner":7,"slug":"a","fee":101,"shares":{}}
 {"slug":"a","shares":{}}
-{"owner":null,"slug":"a","shares":{}}"#;
+{"slug":"a","fee":null,"shares":{}}
+{"owner":null,"slug":"a","shares":{}}
+{"owner":7,"slug":"a","shares":{}} => same
+{"owner":7,"slug":"a","fee":null,"shares":{}} => {"owner":7,"slug":"a","shares":{}}
+{"owner":7,"slug":"a","fee":7,"shares":{}} => same
+{"fee":100,"slug":"a","shares":{},"owner":7} => {"owner":7,"slug":"a","fee":100,"shares":{}}
+{"owner":7,"slug":"a","fee":101,"fee":7,"shares":{}}
+{"owner":7,"slug":"","shares":{}}"#;
 
-const HELD: &str = r#"{"id":1} => {"id":1,"maybe":null}
-{"id":1,"maybe":null} => same
-{"id":1,"maybe":2} => same
-{"maybe":2}"#;
-
-const OPTIONAL: &str = r#"{} => same
-{"fee":null,"slug":null} => {}
-{"fee":7} => same
-{"slug":"a","fee":100} => {"fee":100,"slug":"a"}
-{"fee":101}
-{"slug":"A"}"#;
+const MAYBE_ENDS: &str = r#"{"from":1} => {"from":1,"to":null}
+{"from":1,"to":null} => same
+{"from":1,"to":2} => same"#;
 
 const OWNERS: &str = r#"{"User":7} => same
-{"Named":{"slug":"a"}} => same
+{"Named":"a"} => same
 {"User":-1}
-{"Named":{"slug":"A"}}
+{"Named":"A"}
 {"User":"7"}
 "User""#;
 
 const SPANS: &str = r#"{"from":1,"to":2} => same
 {"to":2,"from":2} => {"from":2,"to":2}
+{"from":7,"to":7} => same
 {"from":2,"to":1}
+{"from":4294967295,"to":4294967294}
 {"from":1}
+{"from":null,"to":1}
 {"from":0,"to":4294967295} => same
 {"from":0,"to":4294967296}
 null"#;
@@ -144,86 +146,64 @@ null => same
 {"a":1.5.0}
 [1,]"#;
 
-const NUMBERS: &str = r#"{"value":0} => same
-{"value":255} => same
-{"value":-1}
-{"value":"7"}
-{"value":null}
+const NUMBERS: &str = r#"{"from":0,"to":1} => same
+{"from":255,"to":0} => same
+{"from":-1,"to":0}
+{"from":"7","to":0}
+{"from":null,"to":0}
+{"to":2}
 {}"#;
 
-const PORTS: &str = r#"{"value":1} => same
-{"value":65535} => same
-{"value":0}
-{"value":65536}
-{"value":-1}
-{"value":"443"}"#;
+const PERCENT_ENDS: &str = r#"{"from":0,"to":0} => same
+{"from":100,"to":0} => same
+{"from":101,"to":0}
+{"from":256,"to":0}
+{"from":-1,"to":0}
+{"from":"44","to":0}"#;
 
-const BY_PORT: &str = r#"{"443":1,"80":2} => {"80":2,"443":1}
-{"+0443":1} => {"443":1}
-{"80":1,"080":2} => {"80":2}
-{"0":1}
-{"65536":1}
+const BY_PERCENT: &str = r#"{"43":1,"8":2} => {"8":2,"43":1}
+{"+043":1} => {"43":1}
+{"8":1,"08":2} => {"8":2}
+{"101":1}
+{"256":1}
 {"-1":1}
 {"":1}"#;
 
-const OFFSETS: &str = r#"{"value":-2147483648} => same
-{"value":2147483647} => same
-{"value":-2147483649}
-{"value":2147483648}"#;
+const OFFSETS: &str = r#"{"from":-2147483648,"to":0} => same
+{"from":2147483647,"to":0} => same
+{"from":-2147483649,"to":0}
+{"from":2147483648,"to":0}"#;
 
 const BY_OFFSET: &str = r#"{"-5":1,"+3":2,"-0":3} => {"-5":1,"0":3,"3":2}
 {"2147483648":1}
 {"a":1}"#;
 
-const TITLES: &str = r#"{"value":""} => same
-{"value":"\u0041 b"} => {"value":"A b"}
-{"value":7}"#;
+const NAME_ENDS: &str = r#"{"from":"","to":"b"} => same
+{"from":"\u0041 b","to":""} => {"from":"A b","to":""}
+{"from":7,"to":""}"#;
 
-const WORDS: &str = r#"{"value":"a-9"} => same
-{"value":""}
-{"value":"A"}
-{"value":7}"#;
+const SLUG_ENDS: &str = r#"{"from":"a-9","to":"b"} => same
+{"from":"","to":"b"}
+{"from":"A","to":"b"}
+{"from":7,"to":"b"}"#;
 
-const CHOICES: &str = r#"{"value":true} => same
-{"value":false} => same
-{"value":"true"}
-{"value":1}"#;
-
-const CONSENTS: &str = r#"{"value":true} => same
-{"value":false}
-{"value":null}"#;
-
-// Each kind of newtype with each word that goes with it, as a field, and with the word `key` as a map's key.
-#[test]
-fn newtypes_of_each_kind(rt: HostRuntime) -> Result<(), Wrong> {
-    let alloc = rt.alloc();
-    expect_read_itself::<At<Count>>(alloc, NUMBERS)?;
-    expect_read_itself::<At<UserId>>(alloc, NUMBERS)?;
-    expect_read_itself::<At<Wrapped<u8>>>(alloc, NUMBERS)?;
-    expect_read_itself::<At<Tagged<u16>>>(alloc, NUMBERS)?;
-    expect_read_itself::<At<Port>>(alloc, PORTS)?;
-    expect_read_itself::<BTreeMap<Port, u8>>(alloc, BY_PORT)?;
-    expect_read_itself::<At<Offset>>(alloc, OFFSETS)?;
-    expect_read_itself::<BTreeMap<Offset, u8>>(alloc, BY_OFFSET)?;
-    expect_read_itself::<At<Title>>(alloc, TITLES)?;
-    expect_read_again::<At<Name>>(alloc, TITLES)?;
-    expect_read_itself::<At<Word>>(alloc, WORDS)?;
-    expect_read_itself::<At<Slug>>(alloc, WORDS)?;
-    expect_read_itself::<At<Choice>>(alloc, CHOICES)?;
-    expect_read_again::<At<Flag>>(alloc, CHOICES)?;
-    expect_read_itself::<At<Consent>>(alloc, CONSENTS)
-}
+const FLAG_ENDS: &str = r#"{"from":true,"to":false} => same
+{"from":false,"to":true} => same
+{"from":"true","to":true}
+{"from":1,"to":true}"#;
 
 #[test]
 fn texts_of_newtypes(rt: HostRuntime) -> Result<(), Wrong> {
     let alloc = rt.alloc();
     expect_read_itself::<UserId>(alloc, USER_IDS)?;
     expect_read_itself::<Percent>(alloc, PERCENTS)?;
-    expect_read_itself::<Fee>(alloc, PERCENTS)?;
-    expect_read_itself::<Celsius>(alloc, TEMPERATURES)?;
+    expect_read_itself::<Tagged<Percent>>(alloc, PERCENTS)?;
+    expect_read_again::<Celsius>(alloc, TEMPERATURES)?;
     expect_read_itself::<Slug>(alloc, SLUGS)?;
     expect_read_itself::<Tagged<Vec<Percent>>>(alloc, LISTS)?;
     expect_read_itself::<Maybe>(alloc, MAYBES)?;
+    expect_read_itself::<Tagged<Document>>(alloc, RAW)?;
+    expect_read_again::<Owner>(alloc, OWNERS)?;
     // serde_json takes `-0` for a float, which is no integer there.
     expect_table::<Celsius>(alloc, "-0 => 0")
 }
@@ -233,19 +213,27 @@ fn newtypes_as_keys(rt: HostRuntime) -> Result<(), Wrong> {
     let alloc = rt.alloc();
     expect_read_itself::<BTreeMap<UserId, Percent>>(alloc, SHARES)?;
     expect_read_itself::<BTreeMap<Slug, Percent>>(alloc, BY_SLUG)?;
+    expect_read_itself::<BTreeMap<Slug, Option<Percent>>>(alloc, r#"{"a":null,"b":7} => same"#)?;
     expect_read_itself::<BTreeMap<Tagged<UserId>, Tagged<Percent>>>(alloc, TAGGED)?;
+    expect_read_itself::<BTreeMap<Percent, u8>>(alloc, BY_PERCENT)?;
+    expect_read_itself::<BTreeMap<Offset, u8>>(alloc, BY_OFFSET)?;
     expect_read_itself::<BTreeMap<Name, u8>>(alloc, NAMES)?;
     expect_read_itself::<BTreeMap<Flag, u8>>(alloc, FLAGS)?;
     expect_read_itself::<BTreeMap<Initial, u8>>(alloc, INITIALS)
 }
 
+// Each kind of newtype as a field.
 #[test]
 fn newtypes_in_structs(rt: HostRuntime) -> Result<(), Wrong> {
     let alloc = rt.alloc();
     expect_read_itself::<Account>(alloc, ACCOUNTS)?;
-    expect_read_again::<Held>(alloc, HELD)?;
-    expect_read_itself::<Optional>(alloc, OPTIONAL)?;
-    expect_read_again::<Owner>(alloc, OWNERS)?;
-    expect_read_itself::<Span>(alloc, SPANS)?;
-    expect_read_itself::<Raw>(alloc, RAW)
+    expect_read_again::<Span>(alloc, SPANS)?;
+    expect_read_itself::<Ends<UserId>>(alloc, NUMBERS)?;
+    expect_read_itself::<Ends<Tagged<u16>>>(alloc, NUMBERS)?;
+    expect_read_again::<Ends<Offset>>(alloc, OFFSETS)?;
+    expect_read_itself::<Ends<Percent>>(alloc, PERCENT_ENDS)?;
+    expect_read_itself::<Ends<Slug>>(alloc, SLUG_ENDS)?;
+    expect_read_again::<Ends<Name>>(alloc, NAME_ENDS)?;
+    expect_read_again::<Ends<Flag>>(alloc, FLAG_ENDS)?;
+    expect_read_itself::<Ends<Maybe>>(alloc, MAYBE_ENDS)
 }

@@ -1,5 +1,5 @@
-/// The ends of a span.
-pub struct Ends { // lossless, stable
-    pub from: u32,
-    pub to: u32,
+/// Both ends of a span.
+pub struct Ends<T> { // lossless
+    pub from: T,
+    pub to: T,
 }
