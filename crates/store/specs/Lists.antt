@@ -22,9 +22,13 @@ query_of request = unwrap_or (uri_query (head_of request).uri) []
 abbrev pub parameters : List ℕ → List (List ℕ × List ℕ)
 parameters query = map (λ p. (utf8_lossy p.0, utf8_lossy p.1)) (parse query)
 
--- the value of the first parameter of a name, if there is one
+-- the value of the first of these parameters that has the name, if there is one
+abbrev pub first_value : List ℕ → List (List ℕ × List ℕ) → Option (List ℕ)
+first_value name pairs = option_map (λ p. p.1) (find (λ p. bytes_eq p.0 name) pairs)
+
+-- the value of the first parameter of a name in a query, if there is one
 abbrev pub parameter : List ℕ → List ℕ → Option (List ℕ)
-parameter name query = option_map (λ p. p.1) (find (λ p. bytes_eq p.0 name) (parameters query))
+parameter name query = first_value name (parameters query)
 
 -- the key from which on the list is: the parameter `from`, or else the empty text
 abbrev pub start_of : List ℕ → List ℕ

@@ -78,7 +78,8 @@ pub record IsPageOf (m : Map) (start : List ℕ) (limit : ℕ) (entries : List (
 -- The first entries from a key on, at most so many, are shown as one object. That may fail instead. It changes nothing.
 abbrev pub ListsFromMap : Map → Entries FieldValue → List ℕ → ℕ → Response → Map → Type 0
 ListsFromMap m headers start limit response after =
-    (after ≡ m) × (((entries : List (List ℕ × List ℕ)) × IsPageOf m start limit entries × Shows headers (Some (object_text entries)) response)
+    (after ≡ m) × (((entries : List (List ℕ × List ℕ)) × IsPageOf m start limit entries
+    × Shows headers (Some (object_text entries)) response)
     ⊎ IsStatus 503 response)
 
 -- A query shows the first entries from the key that it gives, at most as many as it asks for. It is refused if it asks for no

@@ -1,12 +1,15 @@
 //! The first entries from a key on, as one JSON object.
-ghost use Rattle.std.specs.Prelude.{◌≡◌, ◌⊎◌, ◌++◌, [], ◌∷◌, ℕ, map, codes, Some, MatchOption, IfOk, OnOk, OnErr};
-ghost use Rattle.std.specs.Prelude.{if◌then◌else◌, option_map, unwrap_or, string_bytes};
+ghost use Rattle.std.specs.Prelude.{◌≡◌, ◌⊎◌, ◌++◌, [], ◌∷◌, ℕ, ◌<◌, ◌==◌, map, length, codes, Some, MatchOption, IfOk, OnOk, OnErr};
+ghost use Rattle.std.specs.Prelude.{if◌then◌else◌, option_map, unwrap_or, String, string_bytes};
+ghost use Rattle.std.specs.Global.{Global};
+ghost use Rattle.std.specs.List.{slice_index_or};
 ghost use Rattle.http_server.specs.Response.{IsBlank, IsResponse};
 ghost use Rattle.sqlite.specs.Held.{state};
 ghost use Rattle.rows.specs.Entries.{texts_of};
 ghost use Rattle.store.specs.Lists as spec;
 ghost use Rattle.store.specs.Lists.{IsLimit, member_text, object_text};
-ghost use Rattle.store.specs.Answered.{allow_list_field, problem_field, limit_problem, IsStatus, Shows, ListsFrom, Lists, AnsweredList, Goes};
+ghost use Rattle.store.specs.Answered.{allow_list_field, problem_field, limit_problem, IsStatus, Shows};
+ghost use Rattle.store.specs.Answered.{ListsFrom, Lists, AnsweredList, Goes};
 
 use crate::entries::{bad_request, show, unavailable};
 use crate::reason::details;
@@ -39,17 +42,30 @@ fn parameter(alloc: Global, query: &str, name: &str) -> Result<Option<String>, A
     Ok(None)
 }
 
+// Returns the limit of this text, or `None` if it is no limit.
+fn read_limit(text: &str) -> Option<u32>
+    ensures { MatchOption result ((limit : ℕ) → IsLimit (Some text.now) limit → ⊥) (λ limit. IsLimit (Some text.now) limit) }
+{
+    let Ok(limit) = text.parse::<u32>() else {
+        return None;
+    };
+    if limit == 0 {
+        return None;
+    }
+    if limit > MAX_LIMIT {
+        return None;
+    }
+    Some(limit)
+}
+
 // Returns the limit that a request gives, or `None` if that is none.
 fn limit_of(given: &Option<String>) -> Option<u32>
     ensures { MatchOption result ((limit : ℕ) → IsLimit (option_map string_bytes given.now) limit → ⊥)
         (λ limit. IsLimit (option_map string_bytes given.now) limit) }
 {
-    let Some(text) = given else {
-        return Some(DEFAULT_LIMIT);
-    };
-    match text.as_str().parse::<u32>() {
-        Ok(limit) if 1 <= limit && limit <= MAX_LIMIT => Some(limit),
-        _ => None,
+    match given {
+        Some(text) => read_limit(text.as_str()),
+        None => Some(DEFAULT_LIMIT),
     }
 }
 
@@ -70,15 +86,17 @@ fn separator(is_first: bool) -> &'static str
     if is_first { "" } else { "," }
 }
 
-// Appends a member of an object: a name, and a text as it is.
-fn append_member(text: &mut String, is_first: bool, name: &str, body: &str) -> miniserde::Result<()>
-    ensures { OnOk result (string_bytes text.new
-        ≡ string_bytes text.old ++ (if is_first then [] else codes ",") ++ member_text (name.now, body.now)) }
+// Appends the member of an entry to an object, behind a comma unless it is the first.
+fn append_member(text: &mut String, entries: &[(String, String)], i: usize) -> miniserde::Result<()>
+    requires { i < length entries.now }
+    ensures { (entry : String Global × String Global) → entry ≡ slice_index_or entries.now i entry → OnOk result
+        (string_bytes text.new ≡ string_bytes text.old ++ (if i == 0 then [] else codes ",") ++ member_text (texts_of entry)) }
 {
-    text.push_str(separator(is_first))?;
-    escape_str(name, text)?;
+    let (name, body) = &entries[i];
+    text.push_str(separator(i == 0))?;
+    escape_str(name.as_str(), text)?;
     text.push_str(":")?;
-    text.push_str(body)?;
+    text.push_str(body.as_str())?;
     Ok(())
 }
 
@@ -89,12 +107,7 @@ fn object_of(alloc: Global, entries: &[(String, String)]) -> miniserde::Result<S
     let mut text = String::new(alloc);
     text.push_str("{")?;
     for i in 0..entries.len() {
-        append_member(
-            &mut text,
-            i == 0,
-            entries[i].0.as_str(),
-            entries[i].1.as_str(),
-        )?;
+        append_member(&mut text, entries, i)?;
     }
     text.push_str("}")?;
     Ok(text)
@@ -167,10 +180,11 @@ fn list<S: Alter>(
     ensures { Goes (state S.Store conn.old) (state S.Store conn.new)
         (Lists (state S.Store conn.old) headers.now query.now response.new (state S.Store conn.new)) }
 {
-    let (Ok(limit), Ok(from)) = (
-        parameter(alloc, query, "limit"),
-        parameter(alloc, query, "from"),
-    ) else {
+    let Ok(limit) = parameter(alloc, query, "limit") else {
+        response.status = StatusCode::SERVICE_UNAVAILABLE;
+        return;
+    };
+    let Ok(from) = parameter(alloc, query, "from") else {
         response.status = StatusCode::SERVICE_UNAVAILABLE;
         return;
     };
