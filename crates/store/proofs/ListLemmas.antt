@@ -71,9 +71,9 @@ module _ {X : Type 0} (f : X → List ℕ × List ℕ) where
       ap (λ l. l ++ member_text (f x)) (append_assoc (codes "{") all (if i == 0 then [] else codes ","))
       ∙ append_assoc (codes "{") (all ++ (if i == 0 then [] else codes ",")) (member_text (f x))
       ∙ ap (λ l. codes "{" ++ l) (
-          ap (λ b. all ++ b ++ member_text (f x)) (sym (between i entries low))
-          ∙ sym (joined_more member_text (codes ",") so_far (f x))
-          ∙ ap (join_by member_text (codes ",")) (ap (λ y. so_far ++ f y ∷ []) is ∙ sym (map_more f entries i x low))
+      ap (λ b. all ++ b ++ member_text (f x)) (sym (between i entries low))
+      ∙ sym (joined_more member_text (codes ",") so_far (f x))
+      ∙ ap (join_by member_text (codes ",")) (ap (λ y. so_far ++ f y ∷ []) is ∙ sym (map_more f entries i x low))
       )
 
   there : (i : ℕ) (entries : List X) → i < length entries → (x : X) × (x ≡ slice_index_or entries i x)

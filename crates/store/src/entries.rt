@@ -3,7 +3,9 @@ ghost use Rattle.std.specs.Prelude.{◌≡◌, ◌⊎◌, [], ◌∷◌, IfOk, O
 ghost use Rattle.http_server.specs.Response.{IsBlank, IsResponse};
 ghost use Rattle.miniserde.specs.declared.Error.TheVariants.{Invalid};
 ghost use Rattle.sqlite.specs.Held.{state};
-ghost use Rattle.store.specs.Answered.{tag_of, shown_fields, etag_field, allow_field, problem_field, condition_on, IsTextOf, MeansNoValue, IsProblem, Shows, IsStatus, Reads, PutsAs, PutsValue, PutsOver, Puts, Takes, RemovesOver, Removes, Goes};
+ghost use Rattle.store.specs.Answered.{tag_of, shown_fields, etag_field, allow_field, problem_field, condition_on};
+ghost use Rattle.store.specs.Answered.{IsTextOf, MeansNoValue, IsProblem, Shows, IsStatus};
+ghost use Rattle.store.specs.Answered.{Reads, PutsAs, PutsValue, PutsOver, Puts, Takes, RemovesOver, Removes, Goes};
 
 use crate::conditions::{Condition, allows_new, judge};
 use crate::explain::Explain;

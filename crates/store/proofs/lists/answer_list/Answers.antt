@@ -27,6 +27,9 @@ returns-clause-ok g c =
     ap (λ (b : Bor (List ℕ)). b.now) c.unwrap_or-query.ensures ∙ now_or c.query.result _
     ∙ ap (λ (o : Option (List ℕ)). unwrap_or o []) (c.query.ensures.value ∙ ap uri_query c.uri.ensures) in
     so old new (Lists old headers c.unwrap_or-query.result.now response new) (AnsweredList old request response new)
-    (λ p. inl (is, subst (λ h. Lists old h (query_of request) response new) c.headers.ensures
-        (subst (λ q. Lists old headers q response new) query p)))
+    (λ p. inl (
+      is,
+      subst (λ h. Lists old h (query_of request) response new) c.headers.ensures
+          (subst (λ q. Lists old headers q response new) query p),
+    ))
     c.list.ensures

@@ -5,7 +5,7 @@ use Rattle.http_uri.specs.Uri.{uri_path}
 use Rattle.sqlite.specs.Held.{state}
 use Rattle.store.specs.Routes.{IsEntry, IsRead, path_of, method_of, headers_of, put_method, delete_method}
 use Rattle.store.specs.Lists.{IsList}
-use Rattle.store.specs.Maps.{ReadsMap, PutsMap, RemovesMap}
+use Rattle.store.specs.Maps.{ReadsMap, PutsMap, RemovesMap, AnsweredListMap}
 use Rattle.store.proofs.RoundLemmas.{answered}
 use Rattle.store.proofs.rounds.RoundServiceSettle.call.Goals.{in-Read, in-Put, in-Delete}
 use Rattle.store.proofs.rounds.RoundServiceSettle.call.Goals as goal
@@ -34,13 +34,15 @@ pub returns-then-is_list-clause-ok : goal.returns-then-is_list-clause-ok
 returns-then-is_list-clause-ok g c =
     let old = state g.S.Store c.self.inside.conn in
     let stood : c.self.inside.stands ≡ true = search rules in
-    let call = c.list_in_round-self-inside in
-    let stands = c.in_ok-self-inside in
+    let call = c.list_in_round in
     let request = c.args.request.now in
     let response = call.new.response in
     let path : c.path.result.now ≡ path_of request = c.path.ensures.value ∙ ap uri_path c.uri.ensures in
     let is : IsList (path_of request) = sym path ∙ c.is_list.ensures.0 c.if-is_list.true in
-    ?
+    rw (← c.self.view_is)
+    (answered g.V.FromJson.means g.V.Serialize.tree old (state g.S.Store call.new.conn) c.self.inside.stands c.in_ok-self-inside.field-0
+    request response (λ m after. AnsweredListMap m request response after) stood c.in_ok-self-inside.ensures.ok
+    (λ m after lists. inr (inl (is, lists))))
 
 pub returns-clause-ok : goal.returns-clause-ok
 returns-clause-ok g c =
