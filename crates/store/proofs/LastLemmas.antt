@@ -14,7 +14,8 @@ use Rattle.store.specs.declared.conditions.Condition.{Condition}
 use Rattle.store.specs.declared.conditions.Condition.TheVariants.{Met, Failed, Cached}
 use Rattle.store.specs.Routes.{IsEntry, path_of, headers_of}
 use Rattle.store.specs.Answered.{IsStatus, condition_on, ShownBy, Shows}
-use Rattle.store.specs.Maps.{Map, empty, with_text, without_key, AnsweredAtMap, AnsweredMap}
+use Rattle.store.specs.Lists.{query_of, start_of, object_text}
+use Rattle.store.specs.Maps.{Map, empty, with_text, without_key, ListsFromMap, AnsweredListMap, AnsweredAtMap, AnsweredMap}
 use Rattle.store.specs.Last.{Changes, IsPutOf, IsRemovalOf, AreQuiet, LastIs, NoPutStands}
 
 -- ---- statuses
@@ -142,9 +143,25 @@ module _ {V : Type 0} (means : Meaning V) (tree : V → Tree) (key : List ℕ) w
   at_step m next c other entry (inr (inr (inr (is, same, sent)))) =
       inl (same_at m next same, λ change. no_success 405 c.1 sent.status quiet_405 change.1)
 
+  from_step : (m next : Map) (c : Call) (start : List ℕ) (limit : ℕ) → ListsFromMap m (headers_of c.0) start limit c.1 next → Step m c next
+  from_step m next c start limit (same, inl (entries, page, shown)) =
+      inl (same_at m next same, λ change. shown_quiet (headers_of c.0) (Some (object_text entries)) c.1 shown change.1)
+  from_step m next c start limit (same, inr failed) =
+      inl (same_at m next same, λ change. no_success 503 c.1 failed.status quiet_503 change.1)
+
+  list_step : (m next : Map) (c : Call) → AnsweredListMap m c.0 c.1 next → Step m c next
+  list_step m next c (inl (is, inl (limit, asks, from))) = from_step m next c (start_of (query_of c.0)) limit from
+  list_step m next c (inl (is, inr (same, inl bad))) =
+      inl (same_at m next same, λ change. no_success 400 c.1 bad.1.status quiet_400 change.1)
+  list_step m next c (inl (is, inr (same, inr failed))) =
+      inl (same_at m next same, λ change. no_success 503 c.1 failed.status quiet_503 change.1)
+  list_step m next c (inr (other, same, sent)) =
+      inl (same_at m next same, λ change. no_success 405 c.1 sent.status quiet_405 change.1)
+
   one_step : (m next : Map) (c : Call) → AnsweredMap means tree m c.0 c.1 next → Step m c next
   one_step m next c (inl (other, entry, answer)) = at_step m next c other entry answer
-  one_step m next c (inr (none, same, sent)) = inl (same_at m next same, λ change. none key change.0)
+  one_step m next c (inr (inl (is, lists))) = list_step m next c lists
+  one_step m next c (inr (inr (none, no_list, same, sent))) = inl (same_at m next same, λ change. none key change.0)
 
   -- ---- many calls
 

@@ -1,4 +1,5 @@
 mod Steps
+mod ListLemmas
 mod RoundLemmas
 mod ShareLemmas
 mod MapLemmas

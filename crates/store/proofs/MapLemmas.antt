@@ -12,12 +12,14 @@ use Rattle.miniserde.specs.Tree.{Tree}
 use Rattle.miniserde.specs.Meaning.{Meaning}
 use Rattle.sqlite.specs.declared.types.Value.TheVariants.{Text}
 use Rattle.sqlite.specs.State.{State}
-use Rattle.rows.specs.Entries.{Holds, HasKey, IsPut, IsRemoved, Keeps, key_of}
+use Rattle.rows.specs.Entries.{Holds, HasKey, IsPage, IsPut, IsRemoved, Keeps, key_of}
 use Rattle.store.specs.declared.conditions.Condition.TheVariants.{Met}
 use Rattle.store.specs.Routes.{headers_of}
 use Rattle.store.specs.Answered.{IsTextOf, MeansNoValue, IsProblem, IsStatus, IsCurrent, condition_on, Shows, Reads, PutsOver, Puts}
-use Rattle.store.specs.Answered.{RemovesOver, Removes, AnsweredAt, Answered}
-use Rattle.store.specs.Maps.{Map, with_text, without_key, ReadsMap, PutsMap, RemovesMap, AnsweredAtMap, AnsweredMap, SeesMap}
+use Rattle.store.specs.Answered.{RemovesOver, Removes, ListsFrom, Lists, AnsweredList, AnsweredAt, Answered}
+use Rattle.store.specs.Lists.{query_of, start_of}
+use Rattle.store.specs.Maps.{Map, with_text, without_key, IsPageOf, ReadsMap, PutsMap, RemovesMap, ListsFromMap, ListsMap}
+use Rattle.store.specs.Maps.{AnsweredListMap, AnsweredAtMap, AnsweredMap, SeesMap}
 
 some_same : {a b : List ℕ} → ◌≡◌ {A = Option (List ℕ)} (Some a) (Some b) → a ≡ b
 some_same e = cc
@@ -28,6 +30,13 @@ apart_by a b e same = true≢false (sym ((bytes_eq-Decides a b).1 same) ∙ e)
 -- what a response leads to
 abbrev pub Leads : State → (Map → Type 0) → Type 0
 Leads new Answer = (after : Map) × Answer after × SeesMap new after
+
+-- a list changes nothing
+pub list_same : (m after : Map) (request : HttpRequest (List ℕ)) (response : Response) → AnsweredListMap m request response after
+    → after ≡ m
+list_same m after request response (inl (is, inl (limit, asks, (same, shown)))) = same
+list_same m after request response (inl (is, inr (same, why))) = same
+list_same m after request response (inr (other, same, sent)) = same
 
 module _ (old new : State) (m : Map) (sees : SeesMap old m) where
   pub kept_sees : Keeps old new → SeesMap new m
@@ -110,6 +119,36 @@ module _ (old new : State) (m : Map) (sees : SeesMap old m) where
         (it.0, subst (λ o. At o it.0) (sym (current_at key current live is)) it.1, it.2)
     removes_map (inr (kept, failed)) = (m, inr (refl, inr (inr failed)), kept_sees kept)
 
+  -- a page of the rows is one of the map
+  page_at : (start : List ℕ) (limit : ℕ) (entries : List (List ℕ × List ℕ)) → IsTrue old.is_open → IsPage old.now start limit entries
+      → IsPageOf m start limit entries
+  page_at start limit entries live page = record {
+    held = λ e has. let it = page.held e has in (it.0, (sees live e.0 e.1).0 it.1);
+    rising = page.rising;
+    most = page.most;
+    complete = λ key text from is. page.complete key text from ((sees live key text).1 is);
+  }
+
+  module _ (request : HttpRequest (List ℕ)) (response : Response) where
+    from_map : (start : List ℕ) (limit : ℕ) → ListsFrom old (headers_of request) start limit response new
+        → Leads new (ListsFromMap m (headers_of request) start limit response)
+    from_map start limit (kept, inl (live, entries, page, shown)) =
+        (m, (refl, inl (entries, page_at start limit entries live page, shown)), kept_sees kept)
+    from_map start limit (kept, inr failed) = (m, (refl, inr failed), kept_sees kept)
+
+    lists_map : Lists old (headers_of request) (query_of request) response new
+        → Leads new (ListsMap m (headers_of request) (query_of request) response)
+    lists_map (inl (limit, asks, from)) =
+        let it = from_map (start_of (query_of request)) limit from in
+        (it.0, inl (limit, asks, it.1), it.2)
+    lists_map (inr (kept, why)) = (m, inr (refl, why), kept_sees kept)
+
+    pub answered_list : AnsweredList old request response new → Leads new (AnsweredListMap m request response)
+    answered_list (inl (is, lists)) =
+        let it = lists_map lists in
+        (it.0, inl (is, it.1), it.2)
+    answered_list (inr (other, kept, sent)) = (m, inr (other, refl, sent), kept_sees kept)
+
   module _ {V : Type 0} (means : Meaning V) (tree : V → Tree) where
     module _ (headers : Entries FieldValue) (key body : List ℕ) (response : Response) where
       -- a put over what the map has there
@@ -155,4 +194,8 @@ module _ (old new : State) (m : Map) (sees : SeesMap old m) where
     answered_map request response (inl (key, is, answer)) =
         let it = answered_at key request response answer in
         (it.0, inl (key, is, it.1), it.2)
-    answered_map request response (inr (none, kept, sent)) = (m, inr (none, refl, sent), kept_sees kept)
+    answered_map request response (inr (inl (is, lists))) =
+        let it = answered_list request response lists in
+        (it.0, inr (inl (is, it.1)), it.2)
+    answered_map request response (inr (inr (none, no_list, kept, sent))) =
+        (m, inr (inr (none, no_list, refl, sent)), kept_sees kept)

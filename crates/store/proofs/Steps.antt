@@ -1,12 +1,13 @@
 -- The exits of a call on one entry: what each of them makes of the rows, by what the calls of `rows` say.
-use Rattle.std.proofs.Common.{◌≡◌, ◌⊎◌, inl, inr, ℕ, List, Option, Some, None, Result, Ok, Err, IfOk, IsTrue, refl, sym, subst, ◌∙◌}
+use Rattle.std.proofs.Common.{◌≡◌, ◌⊎◌, inl, inr, ℕ, List, Option, Some, None, Result, Ok, Err, IfOk, OnOk, IsTrue, refl, sym, subst, ◌∙◌}
 use Rattle.http_header.specs.FieldValue.{FieldValue}
 use Rattle.http_header.specs.HeaderMap.{Entries}
 use Rattle.http_server.specs.declared.response.Response.{Response}
 use Rattle.sqlite.specs.Effect.{Database}
 use Rattle.sqlite.specs.State.{State, HasCleanDisk, IsUnchanged, IsRolledBack}
-use Rattle.rows.specs.Entries.{entry_schema, IsStore, IsPut, IsRemoved, IsServing, StaysInside, Keeps, Aborts}
-use Rattle.store.specs.Answered.{IsTextOf, IsStatus, IsCurrent, Shows, Reads, PutsAs, PutsValue, PutsOver, Puts}
+use Rattle.rows.specs.Entries.{entry_schema, IsStore, IsPage, IsPut, IsRemoved, IsServing, StaysInside, Keeps, Aborts}
+use Rattle.store.specs.Lists.{object_text}
+use Rattle.store.specs.Answered.{IsTextOf, IsStatus, IsCurrent, Shows, Reads, PutsAs, PutsValue, PutsOver, Puts, ListsFrom}
 use Rattle.store.specs.Answered.{Takes, RemovesOver, Removes, IsInside, IsLost, IsReady, GoesIn, Goes}
 use Rattle.miniserde.specs.Tree.{Tree}
 use Rattle.miniserde.specs.Meaning.{Meaning}
@@ -68,6 +69,11 @@ pub result_by : {A E : Type 0} (r : Result A E) (P Q : A → Type 0) → IfOk r 
 result_by (Ok a) P Q h f = f a h
 result_by (Err e) P Q h f = tt
 
+-- what holds if a result is no error
+pub ok_by : {A E : Type 0} (r : Result A E) (P Q : Type 0) → (P → Q) → OnOk r P → OnOk r Q
+ok_by (Ok a) P Q f h = f h
+ok_by (Err e) P Q f h = tt
+
 -- a text that was put is that of the value that the body means
 pub value_by : {V : Type 0} (means : Meaning V) (tree : V → Tree) (old new : State) (key body text : List ℕ) (code : ℕ)
     (response : Response)
@@ -122,16 +128,19 @@ module _ (a b : State) where
   abbrev pub Found : Type 0 → Type 0
   Found P = IsTrue a.is_open × Keeps a b × P
 
-  pub found : (P : Type 0) → Finds a b → (HasCleanDisk b → a.now.schema ≡ entry_schema → P) → Stays a b (Found P)
-  found P call p clean = (call.clean clean, by)
+  pub found_in_store : (P : Type 0) → Finds a b → (HasCleanDisk b → IsStore a.now → P) → Stays a b (Found P)
+  found_in_store P call p clean = (call.clean clean, by)
     where
       by : (mode : Option Database) → IsReady mode a → IsReady mode b × Found P
       by None s =
           let live = call.live clean s in
-          (call.serving clean s, (live, call.kept clean s, p clean (s.1 live).1.schema))
+          (call.serving clean s, (live, call.kept clean s, p clean (s.1 live).1))
       by (Some base) s =
           let same = call.same clean s.store.schema in
-          (unchanged_inside base a b s same, (s.is_open, (λ _. (s.is_open, same.0.now_is)), p clean s.store.schema))
+          (unchanged_inside base a b s same, (s.is_open, (λ _. (s.is_open, same.0.now_is)), p clean s.store))
+
+  pub found : (P : Type 0) → Finds a b → (HasCleanDisk b → a.now.schema ≡ entry_schema → P) → Stays a b (Found P)
+  found P call p = found_in_store P call (λ clean store. p clean store.schema)
 
   pub failed : Fails a b → Goes a b (Keeps a b)
   failed call clean = (call.clean clean, by)
@@ -172,6 +181,18 @@ module _ (a b : State) where
     where
       by : Found (IsCurrent a.now key current) → Shows headers current response ⊎ IsStatus 503 response → Reads a headers key response b
       by (live, kept, is) (inl shown) = (kept, inl (live, current, is, shown))
+      by (live, kept, is) (inr status) = (kept, inr status)
+
+  -- a page was shown, or could not be
+  pub page_found : (headers : Entries FieldValue) (start : List ℕ) (limit : ℕ) (entries : List (List ℕ × List ℕ)) (response : Response)
+      → Stays a b (Found (IsPage a.now start limit entries)) → Shows headers (Some (object_text entries)) response ⊎ IsStatus 503 response
+      → Goes a b (ListsFrom a headers start limit response b)
+  page_found headers start limit entries response query shown =
+      then a b b _ (start ≡ start) (ListsFrom a headers start limit response b) query (stays b (start ≡ start) refl) (λ it _. by it shown)
+    where
+      by : Found (IsPage a.now start limit entries) → Shows headers (Some (object_text entries)) response ⊎ IsStatus 503 response
+          → ListsFrom a headers start limit response b
+      by (live, kept, is) (inl shown) = (kept, inl (live, entries, is, shown))
       by (live, kept, is) (inr status) = (kept, inr status)
 
   -- the query was followed by another call, from b to c

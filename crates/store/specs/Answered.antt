@@ -13,15 +13,17 @@ use Rattle.http_server.specs.Response.{IsResponse}
 use Rattle.miniserde.specs.Tree.{Tree}
 use Rattle.miniserde.specs.Value.{IsJson}
 use Rattle.miniserde.specs.Meaning.{Meaning}
+use Rattle.miniserde.specs.Compact.{compact}
 use Rattle.sqlite.specs.Effect.{Database}
 use Rattle.sqlite.specs.State.{State, HasCleanDisk}
-use Rattle.rows.specs.Entries.{Holds, HasKey, IsStore, IsPut, IsRemoved, IsServing, Keeps}
+use Rattle.rows.specs.Entries.{Holds, HasKey, IsStore, IsPage, IsPut, IsRemoved, IsServing, Keeps}
 use Rattle.rows.specs.Values.{canonical_text}
 use Rattle.store.specs.declared.conditions.Condition.{Condition}
 use Rattle.store.specs.declared.conditions.Condition.TheVariants.{Met, Failed, Cached}
 use Rattle.store.specs.declared.reason.Reason.{Reason}
 use Rattle.store.specs.Conditions.{condition_at}
-use Rattle.store.specs.Reasons.{IsReason, problem_text}
+use Rattle.store.specs.Reasons.{IsReason, problem, problem_text}
+use Rattle.store.specs.Lists.{IsList, AsksFor, query_of, start_of, object_text}
 use Rattle.store.specs.Routes.{IsEntry, IsRead, IsOther, path_of, method_of, headers_of, put_method, delete_method}
 
 -- the field that says that a body is JSON
@@ -51,6 +53,14 @@ problem_field = (codes "content-type", codes "application/problem+json")
 -- the field that says by which methods an entry is requested
 abbrev pub allow_field : Header
 allow_field = (codes "allow", codes "GET, HEAD, PUT, DELETE")
+
+-- the field that says by which methods the list of entries is requested
+abbrev pub allow_list_field : Header
+allow_list_field = (codes "allow", codes "GET, HEAD")
+
+-- the details of the problem that a limit is none
+abbrev pub limit_problem : List ℕ
+limit_problem = compact (problem (codes "the limit is no number from 1 to 1000") None)
 
 -- the body means a value whose canonical text is this
 abbrev pub IsTextOf : {V : Type 0} → Meaning V → (V → Tree) → List ℕ → List ℕ → Type 0
@@ -149,11 +159,32 @@ AnsweredAt means tree old key request response new =
     ⊎ (((method_of request ≡ delete_method) × Removes old (headers_of request) key response new)
     ⊎ (IsOther (method_of request) × Keeps old new × IsResponse 405 (allow_field ∷ []) [] response)))
 
+-- The first entries from a key on, at most so many, are shown as one object. 503: the database failed, or an allocation.
+abbrev pub ListsFrom : State → Entries FieldValue → List ℕ → ℕ → Response → State → Type 0
+ListsFrom old headers start limit response new =
+    Keeps old new × ((IsTrue old.is_open × (entries : List (List ℕ × List ℕ)) × IsPage old.now start limit entries
+    × Shows headers (Some (object_text entries)) response)
+    ⊎ IsStatus 503 response)
+
+-- the response to a query for entries. 400: the query asks for no limit that there is.
+abbrev pub Lists : State → Entries FieldValue → List ℕ → Response → State → Type 0
+Lists old headers query response new =
+    ((limit : ℕ) × AsksFor query limit × ListsFrom old headers (start_of query) limit response new)
+    ⊎ (Keeps old new × ((((limit : ℕ) → AsksFor query limit → ⊥) × IsResponse 400 (problem_field ∷ []) limit_problem response)
+    ⊎ IsStatus 503 response))
+
+-- the response to a request for the list of entries, by its method
+abbrev pub AnsweredList : State → HttpRequest (List ℕ) → Response → State → Type 0
+AnsweredList old request response new =
+    (IsRead (method_of request) × Lists old (headers_of request) (query_of request) response new)
+    ⊎ ((IsRead (method_of request) → ⊥) × Keeps old new × IsResponse 405 (allow_list_field ∷ []) [] response)
+
 -- the response to a request, and the states of the connection before and after it
 abbrev pub Answered : {V : Type 0} → Meaning V → (V → Tree) → State → HttpRequest (List ℕ) → Response → State → Type 0
 Answered means tree old request response new =
     ((key : List ℕ) × IsEntry (path_of request) key × AnsweredAt means tree old key request response new)
-    ⊎ (((key : List ℕ) → IsEntry (path_of request) key → ⊥) × Keeps old new × IsStatus 404 response)
+    ⊎ ((IsList (path_of request) × AnsweredList old request response new)
+    ⊎ (((key : List ℕ) → IsEntry (path_of request) key → ⊥) × (IsList (path_of request) → ⊥) × Keeps old new × IsStatus 404 response))
 
 -- the connection is inside of a transaction, where it sees a store, and its last commit is this store
 pub record IsInside (base : Database) (s : State) : Type 0 where

@@ -1,5 +1,11 @@
 -- The store as a map from keys to texts.
-use Rattle.std.specs.Prelude.{◌≡◌, ◌≢◌, ◌⊎◌, ◌↔◌, ℕ, List, [], ◌∷◌, Option, Some, None, is_some, if◌then◌else◌, bytes_eq, IsTrue}
+use Rattle.std.specs.Prelude.{◌≡◌, ◌≢◌, ◌⊎◌, ◌↔◌, ◌≤◌, ℕ, List, [], ◌∷◌, map, length, bytes_eq}
+use Rattle.std.specs.Prelude.{Option, Some, None, is_some, if◌then◌else◌, IsTrue}
+use Rattle.std.specs.declared.cmp.Ordering.TheVariants.{Less}
+use Rattle.std.specs.Ordering.{nat_cmp}
+use Rattle.std.specs.Cmp.Lexicographic.{slice_cmp}
+use Rattle.std.specs.List.Sorted.{IsStrictlySortedBy}
+use Rattle.sqlite_rules.specs.Lists.{Has}
 use Rattle.http.specs.declared.request.Request.{Request as HttpRequest}
 use Rattle.http.specs.Request.{body_of}
 use Rattle.http_header.specs.FieldValue.{FieldValue}
@@ -10,10 +16,12 @@ use Rattle.miniserde.specs.Tree.{Tree}
 use Rattle.miniserde.specs.Meaning.{Meaning}
 use Rattle.sqlite.specs.Effect.{Database}
 use Rattle.sqlite.specs.State.{State}
-use Rattle.rows.specs.Entries.{Holds, IsServing}
+use Rattle.rows.specs.Entries.{Holds, IsFrom, IsServing}
 use Rattle.store.specs.declared.conditions.Condition.TheVariants.{Met}
 use Rattle.store.specs.Routes.{IsEntry, IsRead, IsOther, path_of, method_of, headers_of, put_method, delete_method}
-use Rattle.store.specs.Answered.{allow_field, IsTextOf, MeansNoValue, IsProblem, IsStatus, condition_on, Shows}
+use Rattle.store.specs.Lists.{IsList, AsksFor, query_of, start_of, object_text}
+use Rattle.store.specs.Answered.{allow_field, allow_list_field, problem_field, limit_problem, IsTextOf, MeansNoValue, IsProblem, IsStatus}
+use Rattle.store.specs.Answered.{condition_on, Shows}
 
 -- the text of each key that has one
 abbrev pub Map : Type 0
@@ -58,6 +66,36 @@ RemovesMap m headers key response after =
     ⊎ ((after ≡ m) × (((m key ≡ None) × IsStatus 404 response)
     ⊎ ((IsTrue (is_some (m key)) × (condition_on headers (m key) ≢ Met) × IsStatus 412 response) ⊎ IsStatus 503 response)))
 
+-- The entries are keys of the map from a key on with their texts, in the byte order of the keys, each once and at most so many.
+-- Of the keys from that key on that have a text, one is left out only if so many come before it.
+pub record IsPageOf (m : Map) (start : List ℕ) (limit : ℕ) (entries : List (List ℕ × List ℕ)) : Type 0 where
+  pub held : (e : List ℕ × List ℕ) → Has entries e → IsFrom start e.0 × (m e.0 ≡ Some e.1)
+  pub rising : IsStrictlySortedBy (slice_cmp nat_cmp) (map (λ e. e.0) entries)
+  pub most : length entries ≤ limit
+  pub complete : (key text : List ℕ) → IsFrom start key → m key ≡ Some text → Has entries (key, text)
+      ⊎ ((length entries ≡ limit) × ((e : List ℕ × List ℕ) → Has entries e → slice_cmp nat_cmp e.0 key ≡ Less))
+
+-- The first entries from a key on, at most so many, are shown as one object. That may fail instead. It changes nothing.
+abbrev pub ListsFromMap : Map → Entries FieldValue → List ℕ → ℕ → Response → Map → Type 0
+ListsFromMap m headers start limit response after =
+    (after ≡ m) × (((entries : List (List ℕ × List ℕ)) × IsPageOf m start limit entries
+    × Shows headers (Some (object_text entries)) response)
+    ⊎ IsStatus 503 response)
+
+-- A query shows the first entries from the key that it gives, at most as many as it asks for. It is refused if it asks for no
+-- limit that there is.
+abbrev pub ListsMap : Map → Entries FieldValue → List ℕ → Response → Map → Type 0
+ListsMap m headers query response after =
+    ((limit : ℕ) × AsksFor query limit × ListsFromMap m headers (start_of query) limit response after)
+    ⊎ ((after ≡ m) × ((((limit : ℕ) → AsksFor query limit → ⊥) × IsResponse 400 (problem_field ∷ []) limit_problem response)
+    ⊎ IsStatus 503 response))
+
+-- the response to a request for the list of entries, by its method
+abbrev pub AnsweredListMap : Map → HttpRequest (List ℕ) → Response → Map → Type 0
+AnsweredListMap m request response after =
+    (IsRead (method_of request) × ListsMap m (headers_of request) (query_of request) response after)
+    ⊎ ((IsRead (method_of request) → ⊥) × (after ≡ m) × IsResponse 405 (allow_list_field ∷ []) [] response)
+
 -- the response to a request for an entry, by its method
 abbrev pub AnsweredAtMap : {V : Type 0} → Meaning V → (V → Tree) → Map → List ℕ → HttpRequest (List ℕ) → Response → Map → Type 0
 AnsweredAtMap means tree m key request response after =
@@ -70,7 +108,8 @@ AnsweredAtMap means tree m key request response after =
 abbrev pub AnsweredMap : {V : Type 0} → Meaning V → (V → Tree) → Map → HttpRequest (List ℕ) → Response → Map → Type 0
 AnsweredMap means tree m request response after =
     ((key : List ℕ) × IsEntry (path_of request) key × AnsweredAtMap means tree m key request response after)
-    ⊎ (((key : List ℕ) → IsEntry (path_of request) key → ⊥) × (after ≡ m) × IsStatus 404 response)
+    ⊎ ((IsList (path_of request) × AnsweredListMap m request response after)
+    ⊎ (((key : List ℕ) → IsEntry (path_of request) key → ⊥) × (IsList (path_of request) → ⊥) × (after ≡ m) × IsStatus 404 response))
 
 -- the rows of a database are the entries of the map
 abbrev pub IsMapOf : Database → Map → Type 0

@@ -3,7 +3,9 @@ ghost use Rattle.std.specs.Prelude.{◌≡◌, ◌⊎◌, [], ◌∷◌, IfOk, O
 ghost use Rattle.http_server.specs.Response.{IsBlank, IsResponse};
 ghost use Rattle.miniserde.specs.declared.Error.TheVariants.{Invalid};
 ghost use Rattle.sqlite.specs.Held.{state};
-ghost use Rattle.store.specs.Answered.{tag_of, shown_fields, etag_field, allow_field, condition_on, IsTextOf, MeansNoValue, IsProblem, Shows, IsStatus, Reads, PutsAs, PutsValue, PutsOver, Puts, Takes, RemovesOver, Removes, Goes};
+ghost use Rattle.store.specs.Answered.{tag_of, shown_fields, etag_field, allow_field, problem_field, condition_on};
+ghost use Rattle.store.specs.Answered.{IsTextOf, MeansNoValue, IsProblem, Shows, IsStatus};
+ghost use Rattle.store.specs.Answered.{Reads, PutsAs, PutsValue, PutsOver, Puts, Takes, RemovesOver, Removes, Goes};
 
 use crate::conditions::{Condition, allows_new, judge};
 use crate::explain::Explain;
@@ -82,16 +84,16 @@ fn fill(
     Ok(())
 }
 
-// Fills the response to a request that failed for the database or for memory.
-fn unavailable(response: &mut Response)
+/// Fills the response to a request that failed for the database or for memory.
+pub fn unavailable(response: &mut Response)
     ensures { IsStatus 503 response.new }
 {
     response.clear();
     response.status = StatusCode::SERVICE_UNAVAILABLE;
 }
 
-// Shows a text, or says that the server is unavailable.
-fn show(alloc: Global, headers: &HeaderMap, text: &str, response: &mut Response)
+/// Shows a text, or says that the server is unavailable.
+pub fn show(alloc: Global, headers: &HeaderMap, text: &str, response: &mut Response)
     requires { IsBlank response.old }
     ensures { Shows headers.now (Some text.now) response.new ⊎ IsStatus 503 response.new }
 {
@@ -159,6 +161,18 @@ fn text_of<V: Stable + Lossless>(alloc: Global, body: &[u8]) -> miniserde::Resul
     canonical_of(alloc, &value)
 }
 
+/// Fills the response to a bad request, whose body is the details of the problem (RFC 9457).
+pub fn bad_request(details: &str, response: &mut Response) -> Result<(), AllocError>
+    requires { IsBlank response.old }
+    ensures { OnOk result (IsResponse 400 (problem_field ∷ []) details.now response.new) }
+{
+    let value = HeaderValue::from_static("application/problem+json");
+    response.status = StatusCode::BAD_REQUEST;
+    response.add_header(header::CONTENT_TYPE, value)?;
+    response.body.put_slice(details.as_bytes())?;
+    Ok(())
+}
+
 // Fills the response to a body that means no value: it says why (RFC 9457).
 fn fill_problem<V: FromJson, E: Explain<V>>(
     alloc: Global,
@@ -171,10 +185,7 @@ fn fill_problem<V: FromJson, E: Explain<V>>(
 {
     let reason = E::explain(alloc, body)?;
     let details = problem_text(alloc, &reason)?;
-    let value = HeaderValue::from_static("application/problem+json");
-    response.status = StatusCode::BAD_REQUEST;
-    response.add_header(header::CONTENT_TYPE, value)?;
-    response.body.put_slice(details.as_bytes())?;
+    bad_request(details.as_str(), response)?;
     Ok(())
 }
 

@@ -44,8 +44,8 @@ fn field_detail(alloc: Global, field: &Option<String>) -> Result<String>
     }
 }
 
-// Returns the problem details of a sentence, and of a field that is wrong.
-fn details(alloc: Global, detail: &str, field: &Option<String>) -> Result<String>
+/// Returns the problem details of a sentence, and of a field that is wrong. Returns `Memory` if an allocation fails.
+pub fn details(alloc: Global, detail: &str, field: &Option<String>) -> Result<String>
     ensures { IfOk result (λ text. string_bytes text
         ≡ compact (problem detail.now (option_map string_bytes field.now))) }
 {

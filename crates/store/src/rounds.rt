@@ -1,14 +1,15 @@
 //! The store in rounds: the changes of a round are one commit, and its responses stand once that is done.
-ghost use Rattle.std.specs.Prelude.{◌≡◌, true, if◌then◌else◌, IsTrue};
+ghost use Rattle.std.specs.Prelude.{◌≡◌, true, if◌then◌else◌, IsTrue, IfOk, OnErr};
 ghost use Rattle.http_server.specs.Response.{IsBlank};
 ghost use Rattle.sqlite.specs.Held.{state};
 ghost use Rattle.sqlite.specs.State.{HasCleanDisk};
-ghost use Rattle.store.specs.Maps.{Map, ReadsMap, PutsMap, RemovesMap};
+ghost use Rattle.store.specs.Maps.{Map, ReadsMap, PutsMap, RemovesMap, AnsweredListMap};
 ghost use Rattle.store.specs.Rounds.{IsUnderWay, IsOff, InRound, IsBetween};
 
 use crate::entries::{not_allowed, put, read, remove};
 use crate::explain::{ByValue, Explain};
-use crate::routes::{Verb, entry_key, verb_of};
+use crate::lists::answer_list;
+use crate::routes::{Verb, entry_key, is_list, verb_of};
 use bytes::Bytes;
 use http::{HeaderMap, Request, StatusCode};
 use http_server::{Response, Settle};
@@ -128,6 +129,29 @@ fn remove_in_round<S: Alter>(
     texts::is_in_transaction(conn)
 }
 
+// Answers a request for the list of entries in a round. Returns whether the round still stands. Returns an error if an
+// allocation fails, and has then changed nothing.
+fn list_in_round<S: Alter>(
+    alloc: Global,
+    conn: &mut Connection<S>,
+    request: &Request<Bytes>,
+    response: &mut Response,
+) -> Result<bool, AllocError>
+    requires { IsBlank response.old }
+    ensures ok { IfOk result (λ stands. HasCleanDisk (state S.Store conn.new) → HasCleanDisk (state S.Store conn.old)
+        × ((begun m : Map) → IsUnderWay begun (state S.Store conn.old) m → (after : Map)
+        × InRound begun (state S.Store conn.new) stands after
+        × (IsTrue stands → AnsweredListMap m request.now response.new after))) }
+    ensures err { OnErr result (conn.new ≡ conn.old) }
+{
+    let begun = texts::is_in_transaction(conn);
+    answer_list(alloc, conn, request, response)?;
+    if !begun {
+        return Ok(true);
+    }
+    Ok(texts::is_in_transaction(conn))
+}
+
 /// Entries of the type `V` in a database, where the changes of a round are one commit. The response to a body that means no
 /// value says why in the way `E`. A clause sees the connection, and whether the round stands.
 #[derive(Drop)]
@@ -193,6 +217,10 @@ impl<S: Alter, V: Stable + Lossless, E: Explain<V>> Settle for RoundService<S, V
     ) -> Result<(), AllocError> {
         if !self.stands {
             response.status = StatusCode::SERVICE_UNAVAILABLE;
+            return Ok(());
+        }
+        if is_list(request.uri().path()) {
+            self.stands = list_in_round(self.alloc, &mut self.conn, request, response)?;
             return Ok(());
         }
         let Some(key) = entry_key(self.alloc, request.uri().path())? else {

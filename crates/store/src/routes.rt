@@ -1,10 +1,14 @@
 //! Which requests are for an entry, and by which method.
 ghost use Rattle.std.specs.Prelude.{◌≡◌, ◌↔◌, List, ℕ, Ok, None, IfOk, IfSome, IsTrue, string_bytes};
 ghost use Rattle.store.specs.Routes.{IsEntry, IsRead, IsOther, put_method, delete_method};
+ghost use Rattle.store.specs.Lists.{IsList};
 
 use http::Method;
 use percent_encoding::percent_decode;
 use std::alloc::{AllocError, Global};
+
+/// The path of the list of entries.
+const LIST: &str = "/entries";
 
 /// What the path of an entry begins with.
 const ENTRIES: &[u8] = b"/entries/";
@@ -41,11 +45,25 @@ pub fn entry_key(alloc: Global, path: &str) -> Result<Option<String>, AllocError
     }
 }
 
+/// Returns whether a path is that of the list of entries.
+pub fn is_list(path: &str) -> bool
+    ensures { IsTrue result ↔ IsList path.now }
+{
+    path == LIST
+}
+
 // Whether a method has this name.
 fn is(method: &Method, name: &str) -> bool
     ensures { IsTrue result ↔ (method.now ≡ name.now) }
 {
     method.as_str() == name
+}
+
+/// Returns whether a request of this method reads.
+pub fn is_read(method: &Method) -> bool
+    ensures { IsTrue result ↔ IsRead method.now }
+{
+    is(method, "GET") || is(method, "HEAD")
 }
 
 /// Returns what a request of this method does with an entry.
@@ -55,7 +73,7 @@ pub fn verb_of(method: &Method) -> Verb
     ensures delete { result ≡ Verb.Delete → method.now ≡ delete_method }
     ensures other { result ≡ Verb.Other → IsOther method.now }
 {
-    if is(method, "GET") || is(method, "HEAD") {
+    if is_read(method) {
         Verb::Read
     } else if is(method, "PUT") {
         Verb::Put

@@ -4,7 +4,8 @@ ghost use Rattle.http_server.specs.Response.{IsBlank};
 
 use crate::entries::{not_allowed, put, read, remove};
 use crate::explain::{ByValue, Explain};
-use crate::routes::{Verb, entry_key, verb_of};
+use crate::lists::answer_list;
+use crate::routes::{Verb, entry_key, is_list, verb_of};
 use bytes::Bytes;
 use http::{Request, StatusCode};
 use http_server::{Response, Service};
@@ -69,6 +70,9 @@ impl<S: Alter, V: Stable + Lossless, E: Explain<V>> Service for StoreService<S, 
         request: &Request<Bytes>,
         response: &mut Response,
     ) -> Result<(), AllocError> {
+        if is_list(request.uri().path()) {
+            return answer_list(self.alloc, &mut self.conn, request, response);
+        }
         let Some(key) = entry_key(self.alloc, request.uri().path())? else {
             response.status = StatusCode::NOT_FOUND;
             return Ok(());

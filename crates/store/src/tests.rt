@@ -124,6 +124,95 @@ const CONDITIONS: &[(&str, &str, &str, &str)] = &[
     ),
 ];
 
+// Entries that are put in a row.
+const ENTRIES: &[(&str, &str, &str, &str)] = &[
+    (
+        "GET /entries",
+        "Accept: */*",
+        "",
+        "200 OK\r\ncontent-type: application/json\r\netag: \"44136fa355b3678a1146ad16f7e8649e94fb4fc21fe77e8310c060f61caaff8a\"\r\ncontent-length: 2\r\n\r\n{}",
+    ),
+    ("PUT /entries/b", "Accept: */*", "\"tar\"", "201 "),
+    ("PUT /entries/c/d", "Accept: */*", "\"oak\"", "201 "),
+    ("PUT /entries/a", "Accept: */*", "\"rope\"", "201 "),
+    ("PUT /entries/a%22b", "Accept: */*", "\"nails\"", "201 "),
+];
+
+// Requests for lists of these entries, each of a line and a field, and what its response begins and ends with.
+const LISTS: &[(&str, &str, &str, &str)] = &[
+    (
+        "GET /entries",
+        "Accept: */*",
+        "200 OK\r\ncontent-type: application/json\r\netag: \"d803e786566e568a99896b71d2dadff07fee9a8b07120fbde0229d4d5cf68798\"\r\ncontent-length: 49\r\n",
+        "\r\n\r\n{\"a\":\"rope\",\"a\\\"b\":\"nails\",\"b\":\"tar\",\"c/d\":\"oak\"}",
+    ),
+    (
+        "GET /entries?from&limit=1000",
+        "Accept: */*",
+        "200 ",
+        "\"c/d\":\"oak\"}",
+    ),
+    (
+        "GET /entries?limit=2",
+        "Accept: */*",
+        "200 ",
+        "\r\n\r\n{\"a\":\"rope\",\"a\\\"b\":\"nails\"}",
+    ),
+    (
+        "GET /entries?from=a%22b&limit=2",
+        "Accept: */*",
+        "200 ",
+        "\r\n\r\n{\"a\\\"b\":\"nails\",\"b\":\"tar\"}",
+    ),
+    (
+        "GET /entries?limit=01&x=y&limit=z&from=aa&from=c",
+        "Accept: */*",
+        "200 ",
+        "\r\n\r\n{\"b\":\"tar\"}",
+    ),
+    (
+        "GET /entries?from=a+",
+        "Accept: */*",
+        "200 ",
+        "\r\n\r\n{\"a\\\"b\":\"nails\",\"b\":\"tar\",\"c/d\":\"oak\"}",
+    ),
+    ("GET /entries?from=c/e", "Accept: */*", "200 ", "\r\n\r\n{}"),
+    (
+        "HEAD /entries?limit=1",
+        "Accept: */*",
+        "200 OK\r\ncontent-type: application/json\r\netag: \"31f39ab8124f81058568299929742148fc11e0251faaffd5f4c5274f825d97ba\"\r\ncontent-length: 12\r\n",
+        "\r\n\r\n",
+    ),
+    (
+        "GET /entries?limit=1",
+        "If-None-Match: \"31f39ab8124f81058568299929742148fc11e0251faaffd5f4c5274f825d97ba\"",
+        "304 ",
+        "\r\n\r\n",
+    ),
+    ("GET /entries?limit=2", "If-None-Match: \"x\"", "200 ", "}"),
+    ("GET /entries", "If-Match: \"x\"", "412 ", "\r\n\r\n"),
+    (
+        "GET /entries?limit=0",
+        "Accept: */*",
+        "400 Bad Request\r\ncontent-type: application/problem+json\r\ncontent-length: 85\r\n",
+        "\r\n\r\n{\"title\":\"Bad Request\",\"status\":400,\"detail\":\"the limit is no number from 1 to 1000\"}",
+    ),
+    ("GET /entries?limit=1001", "Accept: */*", "400 ", "}"),
+    ("GET /entries?limit=-1", "Accept: */*", "400 ", "}"),
+    ("GET /entries?limit=+1", "Accept: */*", "400 ", "}"),
+    ("GET /entries?limit=", "Accept: */*", "400 ", "}"),
+    ("GET /entries?limit=4294967297", "Accept: */*", "400 ", "}"),
+    (
+        "POST /entries?limit=0",
+        "Accept: */*",
+        "405 Method Not Allowed\r\nallow: GET, HEAD\r\n",
+        "\r\n\r\n",
+    ),
+    ("DELETE /entries", "Accept: */*", "405 ", "\r\n\r\n"),
+    ("GET /entries/", "Accept: */*", "404 ", "\r\n\r\n"),
+    ("GET /%65ntries", "Accept: */*", "404 ", "\r\n\r\n"),
+];
+
 // Opens a store in memory that has no entry.
 fn opened(rt: &HostRuntime) -> Result<StoreService<MemStore, String>, Fail> {
     let mut conn = Connection::open_in_memory(rt.alloc())?;
@@ -156,6 +245,14 @@ fn sent(
     Ok(String::from_utf8(output)?)
 }
 
+// Returns whether a response begins and ends so.
+fn fits(response: &str, begin: &str, end: &str) -> bool {
+    match response.strip_prefix("HTTP/1.1 ") {
+        Some(rest) => rest.starts_with(begin) && rest.ends_with(end),
+        None => false,
+    }
+}
+
 // Serves requests in a row, and returns whether each response begins as it should.
 fn have_responses(
     rt: &HostRuntime,
@@ -164,10 +261,7 @@ fn have_responses(
 ) -> Result<bool, Fail> {
     for (line, field, body, wanted) in requests {
         let response = sent(rt, service, line, field, body)?;
-        let Some(rest) = response.as_str().strip_prefix("HTTP/1.1 ") else {
-            return Ok(false);
-        };
-        if !rest.starts_with(wanted) {
+        if !fits(response.as_str(), wanted, "") {
             return Ok(false);
         }
     }
@@ -182,6 +276,17 @@ fn responses_are_those_of_a_map(rt: HostRuntime) -> Result<(), Fail> {
     let mut conn = service.into_connection();
     assert!(rt; texts::get(&mut conn, "a")?.is_none());
     last_put_is_shown::<String>();
+    Ok(())
+}
+
+#[test]
+fn lists_are_those_of_a_map(rt: HostRuntime) -> Result<(), Fail> {
+    let mut service = opened(&rt)?;
+    assert!(rt; have_responses(&rt, &mut service, ENTRIES)?);
+    for (line, field, begin, end) in LISTS {
+        let response = sent(&rt, &mut service, line, field, "")?;
+        assert!(rt; fits(response.as_str(), begin, end));
+    }
     Ok(())
 }
 
@@ -215,13 +320,15 @@ impl Write for Wire {
     }
 }
 
-// Returns a connection whose client has sent a put of an entry, and one whose client asks for it.
-fn writer_and_reader(rt: &HostRuntime) -> Result<Slab<Peer<Wire>>, Fail> {
+// Returns a connection whose client has sent a put of an entry, one whose client asks for it, and one whose client asks for
+// the list.
+fn writer_and_readers(rt: &HostRuntime) -> Result<Slab<Peer<Wire>>, Fail> {
     let mut peers = Slab::new(rt.alloc());
     let keys = RandomState::new(rt)?;
-    let inputs: [&[u8]; 2] = [
+    let inputs: [&[u8]; 3] = [
         b"PUT /entries/a HTTP/1.1\r\nHost: a\r\nContent-Length: 7\r\n\r\n\"nails\"",
         b"GET /entries/a HTTP/1.1\r\nHost: a\r\n\r\n",
+        b"GET /entries HTTP/1.1\r\nHost: a\r\n\r\n",
     ];
     for input in inputs {
         peers.insert(Peer {
@@ -236,23 +343,28 @@ fn writer_and_reader(rt: &HostRuntime) -> Result<Slab<Peer<Wire>>, Fail> {
     Ok(peers)
 }
 
-// Returns whether the reader has got the entry.
-fn is_read(peers: &Slab<Peer<Wire>>) -> bool {
-    match peers.get(1) {
-        Some(peer) => peer.stream.output.as_slice().ends_with(b"\"nails\""),
+// Returns whether the output of a connection ends so.
+fn ends_with(peers: &Slab<Peer<Wire>>, key: usize, end: &[u8]) -> bool {
+    match peers.get(key) {
+        Some(peer) => peer.stream.output.as_slice().ends_with(end),
         None => false,
     }
+}
+
+// Returns whether the readers have got the entry, and the list.
+fn are_read(peers: &Slab<Peer<Wire>>) -> bool {
+    ends_with(peers, 1, b"\r\n\r\n\"nails\"") && ends_with(peers, 2, b"\r\n\r\n{\"a\":\"nails\"}")
 }
 
 #[test]
 fn connections_share_the_entries(rt: HostRuntime) -> Result<(), Fail> {
     let mut service = opened(&rt)?;
-    let mut peers = writer_and_reader(&rt)?;
+    let mut peers = writer_and_readers(&rt)?;
     let mut unfinished = Vec::new(rt.alloc());
     let now = Instant::now(&rt)?;
-    serve_round(&mut peers, &[0, 1], &mut service, now, &mut unfinished)?;
+    serve_round(&mut peers, &[0, 1, 2], &mut service, now, &mut unfinished)?;
     assert!(rt; unfinished.is_empty());
-    assert!(rt; is_read(&peers));
+    assert!(rt; are_read(&peers));
     Ok(())
 }
 
@@ -262,21 +374,21 @@ fn a_round_is_one_commit(rt: HostRuntime) -> Result<(), Fail> {
         rt.alloc(),
         opened(&rt)?.into_connection(),
     );
-    let mut peers = writer_and_reader(&rt)?;
+    let mut peers = writer_and_readers(&rt)?;
     let mut unfinished = Vec::new(rt.alloc());
     let now = Instant::now(&rt)?;
     assert!(rt;
         serve_settled_round(
             rt.alloc(),
             &mut peers,
-            &[0, 1],
+            &[0, 1, 2],
             &mut service,
             now,
             &mut unfinished
         )?
     );
     assert!(rt; unfinished.is_empty());
-    assert!(rt; is_read(&peers));
+    assert!(rt; are_read(&peers));
     let mut conn = service.into_connection();
     assert!(rt; !texts::is_in_transaction(&conn));
     assert!(rt; texts::get(&mut conn, "a")?.is_some());

@@ -1,31 +1,48 @@
--- The path is that of an entry or not, and the method says what is done with it.
-use Rattle.std.proofs.Common.{◌≡◌, true, Ok, inl, inr, string_bytes, refl, sym, ap, subst, ◌∙◌, rules}
+-- The path is that of the list, of an entry or of neither, and the method says what is done with it.
+use Rattle.std.proofs.Common.{◌≡◌, true, Ok, inl, inr, string_bytes, refl, sym, ap, subst, ◌∙◌, true≢false, rules}
 use Rattle.http.specs.Request.{body_of}
 use Rattle.http_uri.specs.Uri.{uri_path}
 use Rattle.sqlite.specs.Held.{state}
 use Rattle.store.specs.Routes.{IsEntry, IsRead, path_of, method_of, headers_of, put_method, delete_method}
-use Rattle.store.specs.Maps.{ReadsMap, PutsMap, RemovesMap}
+use Rattle.store.specs.Lists.{IsList}
+use Rattle.store.specs.Maps.{ReadsMap, PutsMap, RemovesMap, AnsweredListMap}
 use Rattle.store.proofs.RoundLemmas.{answered}
 use Rattle.store.proofs.rounds.RoundServiceSettle.call.Goals.{in-Read, in-Put, in-Delete}
 use Rattle.store.proofs.rounds.RoundServiceSettle.call.Goals as goal
 
 pub returns-in_default-clause-ok : goal.returns-in_default-clause-ok
 returns-in_default-clause-ok g c clean =
-    let path : c.path.result.now ≡ path_of c.args.request.now = c.path.ensures.value ∙ ap uri_path c.uri.ensures in (
+    let path : c.path-2.result.now ≡ path_of c.args.request.now = c.path-2.ensures.value ∙ ap uri_path c.uri-2.ensures in
+    let first : c.path.result.now ≡ path_of c.args.request.now = c.path.ensures.value ∙ ap uri_path c.uri.ensures in (
       clean,
       λ begun m round. (
         m,
         round,
         λ yes. (
           yes,
-          inr (
+          inr (inr (
             λ key is. c.entry_key.ensures.none (c.in_ok-key.was ∙ ap Ok c.in_default.is) key (subst (λ p. IsEntry p key) (sym path) is),
+            λ is. true≢false (sym (c.is_list.ensures.1 (first ∙ is)) ∙ c.if-is_list.false),
             refl,
             record { status = refl; headers = c.requires.headers; body = c.requires.body },
-          ),
+          )),
         ),
       ),
     )
+
+pub returns-then-is_list-clause-ok : goal.returns-then-is_list-clause-ok
+returns-then-is_list-clause-ok g c =
+    let old = state g.S.Store c.self.inside.conn in
+    let stood : c.self.inside.stands ≡ true = search rules in
+    let call = c.list_in_round in
+    let request = c.args.request.now in
+    let response = call.new.response in
+    let path : c.path.result.now ≡ path_of request = c.path.ensures.value ∙ ap uri_path c.uri.ensures in
+    let is : IsList (path_of request) = sym path ∙ c.is_list.ensures.0 c.if-is_list.true in
+    rw (← c.self.view_is)
+    (answered g.V.FromJson.means g.V.Serialize.tree old (state g.S.Store call.new.conn) c.self.inside.stands c.in_ok-self-inside.field-0
+    request response (λ m after. AnsweredListMap m request response after) stood c.in_ok-self-inside.ensures.ok
+    (λ m after lists. inr (inl (is, lists))))
 
 pub returns-clause-ok : goal.returns-clause-ok
 returns-clause-ok g c =
@@ -36,8 +53,8 @@ returns-clause-ok g c =
     let tree = g.V.Serialize.tree in
     let key = c.as_str-key.result.now in
     let headers : c.headers-headers.result.now ≡ headers_of request = c.headers-headers.ensures in
-    let path : c.path.result.now ≡ path_of request = c.path.ensures.value ∙ ap uri_path c.uri.ensures in
-    let there : IsEntry c.path.result.now (string_bytes c.in-Some.key) = rw c.in-Some.is at c.in_ok-key.ensures.some in
+    let path : c.path-2.result.now ≡ path_of request = c.path-2.ensures.value ∙ ap uri_path c.uri-2.ensures in
+    let there : IsEntry c.path-2.result.now (string_bytes c.in-Some.key) = rw c.in-Some.is at c.in_ok-key.ensures.some in
     let entry : IsEntry (path_of request) (string_bytes c.in-Some.key) = subst (λ p. IsEntry p (string_bytes c.in-Some.key)) path there in
     let at : IsEntry (path_of request) key = subst (IsEntry (path_of request)) (sym c.as_str-key.ensures.value) entry in
     elim c.match-verb_of.branch [

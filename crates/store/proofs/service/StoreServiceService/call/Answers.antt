@@ -1,23 +1,39 @@
--- The path is that of an entry or not, and the method says what is done with it.
-use Rattle.std.proofs.Common.{◌≡◌, Ok, inl, inr, string_bytes, refl, sym, ap, subst, ◌∙◌}
+-- The path is that of the list, of an entry or of neither, and the method says what is done with it.
+use Rattle.std.proofs.Common.{◌≡◌, Ok, inl, inr, string_bytes, refl, sym, ap, subst, ◌∙◌, true≢false}
 use Rattle.http.specs.Request.{body_of}
 use Rattle.http_uri.specs.Uri.{uri_path}
 use Rattle.sqlite.specs.Held.{state}
 use Rattle.store.specs.Routes.{IsEntry, IsRead, path_of, method_of, put_method, delete_method}
-use Rattle.store.specs.Answered.{Answered, Reads, Puts, Removes}
-use Rattle.store.proofs.Steps.{stays, so, keeps_self}
+use Rattle.store.specs.Answered.{Answered, AnsweredList, Reads, Puts, Removes, Goes}
+use Rattle.store.specs.Lists.{IsList}
+use Rattle.store.proofs.Steps.{stays, so, ok_by, keeps_self}
 use Rattle.store.proofs.service.StoreServiceService.call.Goals.{in-Read, in-Put, in-Delete}
 use Rattle.store.proofs.service.StoreServiceService.call.Goals as goal
 
 pub returns-in_default-clause-ok : goal.returns-in_default-clause-ok
 returns-in_default-clause-ok g c =
     let s = state g.S.Store c.args.self.now in
-    let path : c.path.result.now ≡ path_of c.args.request.now = c.path.ensures.value ∙ ap uri_path c.uri.ensures in
-    stays s _ (inr (
+    let path : c.path-2.result.now ≡ path_of c.args.request.now = c.path-2.ensures.value ∙ ap uri_path c.uri-2.ensures in
+    let first : c.path.result.now ≡ path_of c.args.request.now = c.path.ensures.value ∙ ap uri_path c.uri.ensures in
+    stays s _ (inr (inr (
       λ key is. c.entry_key.ensures.none (c.in_ok-key.was ∙ ap Ok c.in_default.is) key (subst (λ p. IsEntry p key) (sym path) is),
+      λ is. true≢false (sym (c.is_list.ensures.1 (first ∙ is)) ∙ c.if-is_list.false),
       keeps_self s,
       record { status = refl; headers = c.requires.headers; body = c.requires.body },
-    ))
+    )))
+
+pub returns-then-is_list-clause-ok : goal.returns-then-is_list-clause-ok
+returns-then-is_list-clause-ok g c =
+    let old = state g.S.Store c.self.inside.conn in
+    let new = state g.S.Store c.answer_list.new.conn in
+    let request = c.args.request.now in
+    let response = c.answer_list.new.response in
+    let answers = Answered g.V.FromJson.means g.V.Serialize.tree old request response new in
+    let path : c.path.result.now ≡ path_of request = c.path.ensures.value ∙ ap uri_path c.uri.ensures in
+    let is : IsList (path_of request) = sym path ∙ c.is_list.ensures.0 c.if-is_list.true in
+    rw (← c.self.view_is)
+    (ok_by c.answer_list.result (Goes old new (AnsweredList old request response new)) (Goes old new answers)
+    (so old new (AnsweredList old request response new) answers (λ p. inr (inl (is, p)))) c.answer_list.ensures.ok)
 
 pub returns-clause-ok : goal.returns-clause-ok
 returns-clause-ok g c =
@@ -25,8 +41,8 @@ returns-clause-ok g c =
     let request = c.args.request.now in
     let means = g.V.FromJson.means in
     let tree = g.V.Serialize.tree in
-    let path : c.path.result.now ≡ path_of request = c.path.ensures.value ∙ ap uri_path c.uri.ensures in
-    let there : IsEntry c.path.result.now (string_bytes c.in-Some.key) = rw c.in-Some.is at c.in_ok-key.ensures.some in
+    let path : c.path-2.result.now ≡ path_of request = c.path-2.ensures.value ∙ ap uri_path c.uri-2.ensures in
+    let there : IsEntry c.path-2.result.now (string_bytes c.in-Some.key) = rw c.in-Some.is at c.in_ok-key.ensures.some in
     let entry : IsEntry (path_of request) (string_bytes c.in-Some.key) = subst (λ p. IsEntry p (string_bytes c.in-Some.key)) path there in
     elim c.match-verb_of.branch [
       | in-Read w ↦

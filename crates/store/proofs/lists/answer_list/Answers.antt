@@ -1,0 +1,35 @@
+-- The method reads, and the query of the URI was listed.
+use Rattle.std.proofs.Common.{◌≡◌, inl, [], ℕ, List, Option, Some, None, refl, ap, subst, ◌∙◌}
+use Rattle.std.specs.Prelude.{unwrap_or}
+use Rattle.std.specs.Option.{option_copied}
+use Rattle.std.specs.Borrow.{Bor}
+use Rattle.http_uri.specs.Uri.{uri_query}
+use Rattle.sqlite.specs.Held.{state}
+use Rattle.store.specs.Routes.{IsRead, method_of}
+use Rattle.store.specs.Lists.{query_of}
+use Rattle.store.specs.Answered.{Lists, AnsweredList}
+use Rattle.store.proofs.Steps.{so}
+use Rattle.store.proofs.lists.answer_list.Goals as goal
+
+now_or : (o : Option (Bor (List ℕ))) (default : Bor (List ℕ)) → (unwrap_or o default).now ≡ unwrap_or (option_copied o) default.now
+now_or None default = refl
+now_or (Some b) default = refl
+
+pub returns-clause-ok : goal.returns-clause-ok
+returns-clause-ok g c =
+    let old = state g.S.Store c.args.conn.now in
+    let new = state g.S.Store c.list.new.conn in
+    let request = c.args.request.now in
+    let response = c.list.new.response in
+    let headers = c.headers.result.now in
+    let is : IsRead (method_of request) = subst IsRead c.method.ensures (c.is_read.ensures.0 c.if-not-is_read.false) in
+    let query : c.unwrap_or-query.result.now ≡ query_of request =
+    ap (λ (b : Bor (List ℕ)). b.now) c.unwrap_or-query.ensures ∙ now_or c.query.result _
+    ∙ ap (λ (o : Option (List ℕ)). unwrap_or o []) (c.query.ensures.value ∙ ap uri_query c.uri.ensures) in
+    so old new (Lists old headers c.unwrap_or-query.result.now response new) (AnsweredList old request response new)
+    (λ p. inl (
+      is,
+      subst (λ h. Lists old h (query_of request) response new) c.headers.ensures
+          (subst (λ q. Lists old headers q response new) query p),
+    ))
+    c.list.ensures
