@@ -1,6 +1,6 @@
 -- What becomes of a round at each call, by what the calls of `rows` say.
-use Rattle.std.proofs.Common.{◌≡◌, ◌⊎◌, ◌↔◌, inl, inr, ℕ, List, Bool, true, false, not, if◌then◌else◌}
-use Rattle.std.proofs.Common.{Some, None, Result, Ok, Err, is_ok, OnOk, OnErr, IsTrue}
+use Rattle.std.proofs.Common.{◌≡◌, ◌↔◌, inl, inr, ℕ, List, Bool, true, false, not, if◌then◌else◌}
+use Rattle.std.proofs.Common.{Some, Result, Ok, Err, is_ok, OnOk, OnErr, IsTrue}
 use Rattle.std.proofs.Common.{refl, sym, subst, ◌∙◌, true≢false}
 use Rattle.http.specs.declared.request.Request.{Request as HttpRequest}
 use Rattle.http_server.specs.declared.response.Response.{Response}

@@ -1,5 +1,5 @@
 -- A round of connections that share a store is one of a map.
-use Rattle.std.proofs.Common.{◌≡◌, inl, ℕ, List, [], ◌∷◌, Bool, true, false, if◌then◌else◌, Option}
+use Rattle.std.proofs.Common.{inl, ℕ, List, [], ◌∷◌, Bool, true, false, if◌then◌else◌, Option}
 use Rattle.std.proofs.Common.{IsTrue, refl, sym, subst, true≢false}
 use Rattle.http.specs.declared.request.Request.{Request as HttpRequest}
 use Rattle.http_server.specs.declared.response.Response.{Response}

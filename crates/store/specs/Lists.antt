@@ -1,5 +1,5 @@
 -- Which requests are for the list of entries, what they ask for, and what is shown of entries.
-use Rattle.std.specs.Prelude.{◌≡◌, ◌≤◌, ℕ, List, [], ◌∷◌, ◌++◌, map, codes, bytes_eq, Option, Some, None, option_map, unwrap_or}
+use Rattle.std.specs.Prelude.{◌≡◌, ◌≤◌, ℕ, List, [], ◌++◌, map, codes, bytes_eq, Option, Some, None, option_map, unwrap_or}
 use Rattle.std.specs.List.{find, join_by}
 use Rattle.std.specs.Str.Lossy.{utf8_lossy}
 use Rattle.std.specs.Str.Parse.{IsNumeral, digits_value, without_leading_plus}

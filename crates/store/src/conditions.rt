@@ -12,7 +12,7 @@ pub enum Condition {
     Met,
     /// `If-Match` does not hold.
     Failed,
-    /// `If-None-Match` does not hold, since it lists the tag of the entry.
+    /// `If-None-Match` does not hold, since it is `*` or lists the tag of the entry.
     Cached,
 }
 

@@ -37,8 +37,8 @@ pub fn serve_round<S: Alter, V: Stable + Lossless, E: Explain<V>, T: Read + Writ
         × IsShared (AnsweredMap V.means V.tree) m after (get peers.old) (get peers.new) turns
         × Represents (state S.Store service.new) after }
 
-    // Each connection of these keys has had its turn: if it is still there, it has called the service for each whole
-    // request that it received, as far as its output has room.
+    // Each connection of these keys has had its turn: if it is still there and open, it has called the service for
+    // each whole request that it received, as far as its output has room.
     ensures rests { OnOk result (AllByRecursion (λ key. IsAtRest (get peers.new key)) keys.now) }
     ensures none { OnErr result ((peers.new ≡ peers.old) × (service.new ≡ service.old)) }
 {
@@ -46,8 +46,8 @@ pub fn serve_round<S: Alter, V: Stable + Lossless, E: Explain<V>, T: Read + Writ
 }
 
 /// Gives the connections of these keys their turns, commits what they changed at once, and then sends their responses.
-/// Appends the keys of those that may have more to do, and returns whether the round is committed. If it is not, those
-/// that made a call are closed. Returns an error, before the first turn, if an allocation fails.
+/// Appends the keys of those that may have more to do, and returns whether the round is committed. If it is not, all
+/// connections of these keys are closed. Returns an error, before the first turn, if an allocation fails.
 pub fn serve_settled_round<S: Alter, V: Stable + Lossless, E: Explain<V>, T: Read + Write + Drop>(
     alloc: Global,
     peers: &mut Slab<Peer<T>>,

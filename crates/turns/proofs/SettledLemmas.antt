@@ -13,7 +13,7 @@ use Rattle.http_server.specs.Exchange.{Call, Chain, Calls}
 use Rattle.turns.specs.declared.peers.Peer.{Peer}
 use Rattle.turns.specs.Shared.{Turns, calls_at}
 use Rattle.turns.specs.Settled.{Each, AreLeft, IsHeard, IsSpoken, AreSpoken, OnlyAt, OnlyAmong}
-use Rattle.turns.proofs.SharedLemmas.{at_append, at_other, one_peer}
+use Rattle.turns.proofs.SharedLemmas.{at_append, at_other}
 
 -- calls of what holds a service are calls of the service, and it holds the same one
 chain_through : {A B N : Type 0} (of : A → B) (name : A → N) (answers : B → Request (List ℕ) → Response → B → Type 0) (calls : List Call)

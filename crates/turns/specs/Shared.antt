@@ -30,8 +30,8 @@ pub record IsShared {S T : Type 0} (answers : S → Request (List ℕ) → Respo
   pub each : (key : ℕ) (peer : Peer T) → after key ≡ Some peer → (was : Peer T) × (before key ≡ Some was)
       × ((history peer.connection).calls ≡ (history was.connection).calls ++ calls_at key turns)
 
--- The connection has called the service for each whole request that it received, as far as its output has room. What it has sent
--- and is still to send are the responses to its calls, in their order.
+-- If the connection is open, it has called the service for each whole request that it received, as far as its output has room.
+-- What it has sent and is still to send are the responses to its calls, in their order.
 abbrev pub IsCaughtUp : Connection → Type 0
 IsCaughtUp connection = ∥ IsServed (config_of connection) (history connection) ∥₁ × Rests (config_of connection) (history connection)
 

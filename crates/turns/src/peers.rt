@@ -31,8 +31,8 @@ pub fn give_turn<S: Service, T: Read + Write + Drop>(
     // The calls of the turn are answered one after another by the service.
     ensures shared { (turns : Turns) × IsShared S.answers service.old service.new (get peers.old) (get peers.new) turns }
 
-    // If the connection is still there, it has called the service for each whole request that it received, as far as its
-    // output has room. No other connection is touched.
+    // If the connection is still there and open, it has called the service for each whole request that it received, as far
+    // as its output has room. No other connection is touched.
     ensures rests { IsAtRest (get peers.new key) }
     ensures others { (other : ℕ) → (other ≡ key → ⊥) → get peers.new other ≡ get peers.old other }
 {
@@ -63,8 +63,8 @@ pub fn round<S: Service, T: Read + Write + Drop>(
     // the one after. The calls of each connection are those of its turns, in order.
     ensures shared { (turns : Turns) × IsShared S.answers service.old service.new (get peers.old) (get peers.new) turns }
 
-    // Each connection of these keys has had its turn: if it is still there, it has called the service for each whole
-    // request that it received, as far as its output has room.
+    // Each connection of these keys has had its turn: if it is still there and open, it has called the service for
+    // each whole request that it received, as far as its output has room.
     ensures rests { OnOk result (AllByRecursion (λ key. IsAtRest (get peers.new key)) keys.now) }
     ensures none { OnErr result ((peers.new ≡ peers.old) × (service.new ≡ service.old)) }
 {

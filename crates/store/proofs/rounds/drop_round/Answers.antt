@@ -1,7 +1,5 @@
 -- The round is over exactly if the connection is outside of a transaction.
-use Rattle.std.proofs.Common.{◌≡◌, not, rules, subst, sym}
 use Rattle.sqlite.specs.Held.{state}
-use Rattle.store.specs.Rounds.{IsBetween}
 use Rattle.store.proofs.RoundLemmas.{is_over}
 use Rattle.store.proofs.rounds.drop_round.Goals as goal
 

@@ -1,6 +1,5 @@
 -- A step that fails leaves the history, so the connection is still caught up. What a step called comes after what was called before.
-use Rattle.std.proofs.Common.{◌≡◌, ◌++◌, List, refl, ap, ◌∙◌}
-use Rattle.http_server.specs.Connection.{history}
+use Rattle.std.proofs.Common.{◌++◌, List, refl, ap, ◌∙◌}
 use Rattle.http_server.specs.Exchange.{Call}
 use Rattle.http_server.specs.History.{History}
 use Rattle.http_server.proofs.StreamLemmas.{Calls-then}

@@ -1,5 +1,4 @@
 -- The turn so far: what was called since it began, what was received, and that the connection is caught up after its last `advance`.
-use Rattle.std.proofs.Common.{◌≡◌}
 use Rattle.http_server.specs.Connection.{history}
 use Rattle.http_server.specs.Exchange.{Calls}
 use Rattle.turns.specs.Shared.{IsCaughtUp}

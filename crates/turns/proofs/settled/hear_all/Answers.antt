@@ -1,5 +1,5 @@
 -- One turn after another. A push has room, since the loop began with room for all keys.
-use Rattle.std.proofs.Common.{◌≤◌, ◌+◌, [], ◌∷◌, ◌++◌, length, take, get_or, sym, subst, rules}
+use Rattle.std.proofs.Common.{◌+◌, [], ◌++◌, take, get_or, sym, subst, rules}
 use Rattle.std.proofs.lemmas.List.{take_more}
 use Rattle.std.specs.List.{AllByRecursion}
 use Rattle.slab.specs.Slab.{get}

@@ -1,4 +1,5 @@
--- The turns so far, to the keys so far. What was received is what was read, and the connections rest. What was heard has room for each key that is left.
+-- The turns so far, to the keys so far. What was received is what was read, and the connections rest.
+-- What was heard has room for each key that is left.
 use Rattle.std.proofs.Common.{◌≡◌, ◌≤◌, length, take, vec_capacity}
 use Rattle.std.specs.List.{AllByRecursion}
 use Rattle.slab.specs.Slab.{get}

@@ -1,5 +1,5 @@
 -- The connection is taken out, is heard, and goes back under its key unless its stream failed.
-use Rattle.std.proofs.Common.{◌≡◌, Some, None, is_some, sym, ap, subst, ◌∙◌, true≢false, [], ◌∷◌}
+use Rattle.std.proofs.Common.{◌≡◌, Some, is_some, sym, ap, subst, ◌∙◌, true≢false, [], ◌∷◌}
 use Rattle.slab.specs.Slab.{get}
 use Rattle.http_server.specs.Connection.{history}
 use Rattle.turns.specs.Shared.{IsAtRest}

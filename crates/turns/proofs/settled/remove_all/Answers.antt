@@ -1,5 +1,5 @@
 -- One connection after another is gone.
-use Rattle.std.proofs.Common.{◌≡◌, ◌+◌, None, take, get_or, refl, sym, subst, ◌∙◌, rules}
+use Rattle.std.proofs.Common.{◌≡◌, None, take, get_or, refl, sym, subst, ◌∙◌, rules}
 use Rattle.std.proofs.lemmas.List.{take_more}
 use Rattle.std.specs.List.{AllByRecursion}
 use Rattle.slab.specs.Slab.{get}

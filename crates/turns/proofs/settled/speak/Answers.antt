@@ -1,9 +1,8 @@
 -- What a write took is the next of what was pending, and not nothing, since something was pending.
-use Rattle.std.proofs.Common.{◌≡◌, ◌≢◌, ◌<◌, ◌++◌, List, ℕ, IsTrue, length, take, drop, refl, sym, ap, ◌∙◌, append_assoc, rules}
+use Rattle.std.proofs.Common.{◌≢◌, ◌<◌, ◌++◌, List, ℕ, length, take, drop, refl, sym, ap, ◌∙◌, append_assoc, rules}
 use Rattle.std.proofs.lemmas.List.{take-append-drop}
 use Rattle.http_server.specs.Connection.{history}
-use Rattle.http_server.specs.History.{History, output, after_sent}
-use Rattle.turns.specs.Settled.{IsSpoken}
+use Rattle.http_server.specs.History.{History, output}
 use Rattle.turns.proofs.SettledLemmas.{spoken_then, neither, taken_some}
 use Rattle.turns.proofs.settled.speak.Goals as goal
 

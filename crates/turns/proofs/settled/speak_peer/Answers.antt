@@ -1,5 +1,5 @@
 -- The connection is taken out, writes, and goes back under its key unless it is done. Its time moves only if it wrote.
-use Rattle.std.proofs.Common.{◌≡◌, Some, sym, ap, subst, ◌∙◌}
+use Rattle.std.proofs.Common.{◌≡◌, sym, ap, subst, ◌∙◌}
 use Rattle.slab.specs.Slab.{get}
 use Rattle.turns.specs.Settled.{IsSpoken}
 use Rattle.turns.proofs.SharedLemmas.{one_peer}
