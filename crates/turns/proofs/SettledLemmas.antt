@@ -13,7 +13,7 @@ use Rattle.http_server.specs.Exchange.{Call, Chain, Calls}
 use Rattle.turns.specs.declared.peers.Peer.{Peer}
 use Rattle.turns.specs.Shared.{Turns, calls_at}
 use Rattle.turns.specs.Settled.{Each, AreLeft, IsHeard, IsSpoken, AreSpoken, OnlyAt, OnlyAmong}
-use Rattle.turns.proofs.SharedLemmas.{at_append, at_other}
+use Rattle.turns.proofs.SharedLemmas.{at_append, at_other, all_front}
 
 -- calls of what holds a service are calls of the service, and it holds the same one
 chain_through : {A B N : Type 0} (of : A → B) (name : A → N) (answers : B → Request (List ℕ) → Response → B → Type 0) (calls : List Call)
@@ -154,10 +154,6 @@ only_one key calls other apart = at_other key other calls apart
 pub among_none : OnlyAmong [] []
 among_none other apart = refl
 
-all_front : (P : ℕ → Type 0) (key : ℕ) (done : List ℕ) → AllByRecursion P (done ++ key ∷ []) → AllByRecursion P done × P key
-all_front P key [] (own, rest) = (tt, own)
-all_front P key (k ∷ done) (first, rest) = let it = all_front P key done rest in ((first, it.0), it.1)
-
 pub among_then : (key : ℕ) (done : List ℕ) (s t : Turns) → OnlyAmong done s → OnlyAt key t → OnlyAmong (done ++ key ∷ []) (s ++ t)
 among_then key done s t a b other apart =
     let it = all_front (λ k. k ≡ other → ⊥) key done apart in
@@ -178,10 +174,3 @@ gone_then {T} p q key (k ∷ done) own others (first, rest) = (by (k == key) ref
     by false e =
         let apart : k ≡ key → ⊥ = λ same. grind (arith, nat_tests) in
         others k apart ∙ first
-
--- a connection that is there is none of those that are gone
-pub apart_from : {T : Type 0} (p : ℕ → Option (Peer T)) (keys : List ℕ) (key : ℕ) (peer : Peer T) → AllByRecursion (λ k. p k ≡ None) keys
-    → p key ≡ Some peer → AllByRecursion (λ k. k ≡ key → ⊥) keys
-apart_from p [] key peer gone is = tt
-apart_from p (k ∷ keys) key peer (first, rest) is =
-    (λ same. true≢false (sym (ap is_some (sym (ap p (sym same) ∙ first) ∙ is))), apart_from p keys key peer rest is)

@@ -11,7 +11,7 @@ use Rattle.http_server.specs.History.{IsServed, Rests}
 use Rattle.http_server.proofs.StreamLemmas.{Chain-append}
 use Rattle.turns.specs.declared.peers.Peer.{Peer}
 use Rattle.std.specs.List.{AllByRecursion}
-use Rattle.turns.specs.Shared.{Turns, all_calls, calls_at, IsShared, IsCaughtUp, IsAtRest}
+use Rattle.turns.specs.Shared.{Turns, all_calls, calls_at, IsShared, IsCaughtUp, IsAtRest, OthersStay}
 
 all_append : (s t : Turns) → all_calls (s ++ t) ≡ all_calls s ++ all_calls t
 all_append [] t = refl
@@ -105,6 +105,17 @@ module _ {S T : Type 0} (answers : S → Request (List ℕ) → Response → S �
       by k peer is false e =
           let apart : k ≡ key → ⊥ = λ same. grind (arith, nat_tests) in
           (peer, sym (others k apart) ∙ is, sym (append-nil (history peer.connection).calls))
+
+pub all_front : (P : ℕ → Type 0) (key : ℕ) (done : List ℕ) → AllByRecursion P (done ++ key ∷ []) → AllByRecursion P done × P key
+all_front P key [] (own, rest) = (tt, own)
+all_front P key (k ∷ done) (first, rest) = let it = all_front P key done rest in ((first, it.0), it.1)
+
+-- the connections of no keys but these have changed, and then that of one more key alone
+pub stay_then : {T : Type 0} (p q r : ℕ → Option (Peer T)) (key : ℕ) (done : List ℕ) → OthersStay done p q
+    → ((other : ℕ) → (other ≡ key → ⊥) → r other ≡ q other) → OthersStay (done ++ key ∷ []) p r
+stay_then p q r key done first step other apart =
+    let it = all_front (λ k. k ≡ other → ⊥) key done apart in
+    step other (λ same. it.1 (sym same)) ∙ first other it.0
 
 -- a connection that did nothing is still caught up
 pub same_caught_up : (a b : Connection) → config_of b ≡ config_of a → history b ≡ history a → IsCaughtUp a → IsCaughtUp b

@@ -1,5 +1,5 @@
 -- Connections whose responses go out once their round is settled.
-use Rattle.std.specs.Prelude.{◌≡◌, ℕ, Bool, false, List, [], ◌++◌, Option, Some}
+use Rattle.std.specs.Prelude.{◌≡◌, ℕ, Bool, false, List, [], ◌++◌, Option, Some, None}
 use Rattle.std.specs.Io.KnownBytes.{Appends, Consumes}
 use Rattle.std.specs.List.{AllByRecursion}
 use Rattle.http.specs.declared.request.Request.{Request}
@@ -7,7 +7,7 @@ use Rattle.http_server.specs.declared.response.Response.{Response}
 use Rattle.http_server.specs.Connection.{history}
 use Rattle.http_server.specs.History.{output}
 use Rattle.turns.specs.declared.peers.Peer.{Peer}
-use Rattle.turns.specs.Shared.{Turns, calls_at, IsShared, IsAtRest}
+use Rattle.turns.specs.Shared.{Turns, calls_at, IsShared, IsAtRest, OthersStay}
 
 -- each connection that is there afterwards was there before, and became so what it is
 abbrev pub Each : {T : Type 0} → (Peer T → Peer T → Type 0) → (ℕ → Option (Peer T)) → (ℕ → Option (Peer T)) → Type 0
@@ -48,17 +48,19 @@ OnlyAt key turns = (other : ℕ) → (other ≡ key → ⊥) → calls_at other 
 abbrev pub OnlyAmong : List ℕ → Turns → Type 0
 OnlyAmong keys turns = (other : ℕ) → AllByRecursion (λ key. key ≡ other → ⊥) keys → calls_at other turns ≡ []
 
--- The connections of these keys were heard: their calls lead from the first state of the service to another, and nothing was
--- sent. Then the service settled the round. If its answers stand, they went out, and else no connection that made a call is
--- left.
+-- The connections of these keys were heard, and of no others: their calls lead from the first state of the service to another,
+-- and those that are left had been sent nothing. The service settled the round. If its answers stand, each connection that is
+-- left wrote the next bytes of its output, perhaps none. If not, none of these connections is left.
 pub record IsSettled {S T : Type 0} (answers : S → Request (List ℕ) → Response → S → Type 0) (settles : S → Bool → S → Type 0)
     (remaining contents : T → Option (List ℕ)) (keys : List ℕ) (old new : S) (before after : ℕ → Option (Peer T)) (turns : Turns)
     (stands : Bool) : Type 0 where
   pub called : S
   pub heard : ℕ → Option (Peer T)
   pub shared : IsShared answers old called before heard turns
+  pub among : OnlyAmong keys turns
   pub rests : AllByRecursion (λ key. IsAtRest (heard key)) keys
   pub received : AreHeard remaining before heard
   pub settled : settles called stands new
   pub sent : AreSpoken contents heard after
-  pub lost : stands ≡ false → (key : ℕ) (peer : Peer T) → after key ≡ Some peer → calls_at key turns ≡ []
+  pub gone : stands ≡ false → AllByRecursion (λ key. after key ≡ None) keys
+  pub others : OthersStay keys before after

@@ -1,4 +1,5 @@
 -- Connections that share one service.
+use Rattle.std.specs.List.{AllByRecursion}
 use Rattle.std.specs.Prelude.{◌≡◌, ℕ, ◌==◌, Bool, false, List, [], ◌++◌, flat_map, if◌then◌else◌, Option, Some, IfSome}
 use Rattle.http.specs.declared.request.Request.{Request}
 use Rattle.http_server.specs.declared.response.Response.{Response}
@@ -31,13 +32,18 @@ pub record IsShared {S T : Type 0} (answers : S → Request (List ℕ) → Respo
       × ((history peer.connection).calls ≡ (history was.connection).calls ++ calls_at key turns)
 
 -- If the connection is open, it has called the service for each whole request that it received, as far as its output has room.
--- What it has sent and is still to send are the responses to its calls, in their order.
+-- What it has sent and is still to send are the responses to its calls, in their order, with what `http_server` adds: an invitation
+-- to go on, or a refusal. If memory ran out, it is the first part of these.
 abbrev pub IsCaughtUp : Connection → Type 0
 IsCaughtUp connection = ∥ IsServed (config_of connection) (history connection) ∥₁ × Rests (config_of connection) (history connection)
 
 -- a connection that is there is caught up
 abbrev pub IsAtRest : {T : Type 0} → Option (Peer T) → Type 0
 IsAtRest entry = IfSome entry (λ peer. IsCaughtUp peer.connection)
+
+-- the connections of no key but these have changed
+abbrev pub OthersStay : {T : Type 0} → List ℕ → (ℕ → Option (Peer T)) → (ℕ → Option (Peer T)) → Type 0
+OthersStay keys before after = (other : ℕ) → AllByRecursion (λ key. key ≡ other → ⊥) keys → after other ≡ before other
 
 -- the turn wrote a part of a response
 abbrev pub has_written : Turn → Bool

@@ -2,7 +2,7 @@
 ghost use Rattle.std.specs.Prelude.{◌≡◌, ℕ, OnOk, OnErr};
 ghost use Rattle.std.specs.List.{AllByRecursion};
 ghost use Rattle.slab.specs.Slab.{get};
-ghost use Rattle.turns.specs.Shared.{Turns, IsShared, IsAtRest};
+ghost use Rattle.turns.specs.Shared.{Turns, IsShared, IsAtRest, OthersStay};
 
 use crate::turn::{Turn, take_turn};
 use http_server::{Connection, Service};
@@ -66,6 +66,9 @@ pub fn round<S: Service, T: Read + Write + Drop>(
     // Each connection of these keys has had its turn: if it is still there and open, it has called the service for
     // each whole request that it received, as far as its output has room.
     ensures rests { OnOk result (AllByRecursion (λ key. IsAtRest (get peers.new key)) keys.now) }
+
+    // No other connection is touched.
+    ensures others { OthersStay keys.now (get peers.old) (get peers.new) }
     ensures none { OnErr result ((peers.new ≡ peers.old) × (service.new ≡ service.old)) }
 {
     unfinished.reserve(keys.len())?;

@@ -1,12 +1,12 @@
 //! Connections whose responses go out once their round is settled, as where the requests of many share one commit.
-ghost use Rattle.std.specs.Prelude.{◌≡◌, ◌≢◌, ◌+◌, ◌≤◌, ℕ, None, length, vec_len, vec_capacity};
+ghost use Rattle.std.specs.Prelude.{◌≡◌, ◌≢◌, ◌+◌, ◌≤◌, ℕ, None, map, length, vec_len, vec_capacity};
 ghost use Rattle.std.specs.Prelude.{OnOk, IfOk, OnErr, IsOk, IsTrue};
 ghost use Rattle.std.specs.List.{AllByRecursion};
 ghost use Rattle.http_server.specs.Connection.{config_of, history};
 ghost use Rattle.http_server.specs.Exchange.{Calls};
 ghost use Rattle.http_server.specs.History.{IsQuiet};
 ghost use Rattle.slab.specs.Slab.{get};
-ghost use Rattle.turns.specs.Shared.{Turns, has_written, IsShared, IsCaughtUp, IsAtRest};
+ghost use Rattle.turns.specs.Shared.{Turns, has_written, IsShared, IsCaughtUp, IsAtRest, OthersStay};
 ghost use Rattle.turns.specs.Settled.{AreLeft, IsHeard, AreHeard, IsSpoken, AreSpoken, OnlyAt, OnlyAmong, IsSettled};
 
 use crate::peers::Peer;
@@ -102,7 +102,7 @@ fn speak<T: Write>(peer: &mut Peer<T>) -> Turn
     Turn::More { wrote }
 }
 
-// Hears the connection of a key, and removes it if its stream fails. Returns whether it may have more to say.
+// Hears the connection of a key, and removes it if its stream fails. Returns whether it may have more to read.
 fn hear_peer<S: Settle, T: Read + Drop>(
     peers: &mut Slab<Peer<T>>,
     key: usize,
@@ -126,7 +126,7 @@ fn hear_peer<S: Settle, T: Read + Drop>(
     next.goes_on()
 }
 
-// Hears the connections of these keys. Returns those that had a turn, each with whether it may have more to say. Returns
+// Hears the connections of these keys. Returns those that had a turn, each with whether it may have more to read. Returns
 // an error, before the first turn, if an allocation fails.
 fn hear_all<S: Settle, T: Read + Drop>(
     alloc: Global,
@@ -139,7 +139,8 @@ fn hear_all<S: Settle, T: Read + Drop>(
         × IsShared S.answers service.old service.new (get peers.old) (get peers.new) turns) }
     ensures heard { AreHeard T.remaining (get peers.old) (get peers.new) }
     ensures rests { OnOk result (AllByRecursion (λ key. IsAtRest (get peers.new key)) keys.now) }
-    ensures count { IfOk result (λ heard. length heard.items ≡ length keys.now) }
+    ensures keys { IfOk result (λ heard. map (λ h. h.0) heard.items ≡ keys.now) }
+    ensures others { OthersStay keys.now (get peers.old) (get peers.new) }
     ensures none { OnErr result ((peers.new ≡ peers.old) × (service.new ≡ service.old)) }
 {
     let mut heard = Vec::with_capacity(alloc, keys.len())?;
@@ -150,7 +151,7 @@ fn hear_all<S: Settle, T: Read + Drop>(
     Ok(heard)
 }
 
-// Whether a connection may have more to do: more to write, or more to say and room for it.
+// Whether a connection may have more to do: more to write, or more to read and room for it.
 fn may_go_on(next: Turn, more: bool, connection: &Connection) -> bool {
     next.goes_on() || more && !connection.wants_write()
 }
@@ -163,6 +164,7 @@ fn speak_peer<T: Write + Drop>(
     now: Instant,
 ) -> bool
     ensures spoken { AreSpoken T.contents (get peers.old) (get peers.new) }
+    ensures others { (other : ℕ) → (other ≡ key → ⊥) → get peers.new other ≡ get peers.old other }
 {
     let Some(mut peer) = peers.try_remove(key) else {
         return false;
@@ -189,6 +191,7 @@ fn speak_all<T: Write + Drop>(
     requires { vec_len unfinished.old + length heard.now ≤ vec_capacity unfinished.old }
     ensures done { IsOk result }
     ensures spoken { AreSpoken T.contents (get peers.old) (get peers.new) }
+    ensures others { OthersStay (map (λ h. h.0) heard.now) (get peers.old) (get peers.new) }
 {
     for (key, more) in heard.iter() {
         if speak_peer(peers, *key, *more, now) {
@@ -202,6 +205,7 @@ fn speak_all<T: Write + Drop>(
 fn remove_all<T: Drop>(peers: &mut Slab<Peer<T>>, keys: &[usize])
     ensures left { AreLeft (get peers.old) (get peers.new) }
     ensures gone { AllByRecursion (λ key. get peers.new key ≡ None) keys.now }
+    ensures others { OthersStay keys.now (get peers.old) (get peers.new) }
 {
     for key in keys.iter() {
         drop(peers.try_remove(*key));
@@ -219,8 +223,9 @@ pub fn settled_round<S: Settle, T: Read + Write + Drop>(
     now: Instant,
     unfinished: &mut Vec<usize>,
 ) -> Result<bool, AllocError>
-    // The calls of all turns are answered one after another by the service, and nothing is sent before it settles them.
-    // Those of a connection are the ones of its turns, and none that made one is left if they do not stand.
+    // The calls of all turns are answered one after another by the service, which settles them. Those of a connection are the
+    // ones of its turns. One that is left has been sent nothing of a round that does not stand, and none of these keys is left
+    // then. No other connection is touched.
     ensures settled { IfOk result (λ stands. (turns : Turns) × IsSettled S.answers S.settles T.remaining T.contents
         keys.now service.old service.new (get peers.old) (get peers.new) turns stands) }
     ensures none { OnErr result ((peers.new ≡ peers.old) × (service.new ≡ service.old)) }

@@ -59,8 +59,8 @@ pub fn take_turn<S: Service, T: Read + Write>(
     ensures calls { Calls S.answers service.old service.new
         (history connection.old).calls (history connection.new).calls }
 
-    // Unless it is done, the connection has called the service for each whole request that it received while it was open,
-    // as far as its output has room.
+    // Unless it is done, the connection has called the service for each whole request that it received, if it is open, as
+    // far as its output has room.
     ensures rests { result ≢ Turn.Done → IsCaughtUp connection.new }
     ensures config { config_of connection.new ≡ config_of connection.old }
 {
