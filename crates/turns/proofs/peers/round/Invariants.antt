@@ -1,4 +1,5 @@
--- The turns so far. The connections of the keys so far rest, no other has changed, and each key that is left has room among the unfinished ones.
+-- The turns so far. The connections of the keys so far rest, and no other has changed.
+-- Each key that is left has room among the unfinished ones.
 use Rattle.std.proofs.Common.{◌≤◌, ◌+◌, length, take, vec_len, vec_capacity}
 use Rattle.std.specs.List.{AllByRecursion}
 use Rattle.slab.specs.Slab.{get}

@@ -28,8 +28,8 @@ returns-clause-settled g c =
     ] in
     let stay : OthersStay keys heard after = elim c.if-stands.branch [
       | then-stands+in_ok-speak_all w ↦ subst (λ p. OthersStay keys heard (get p)) (sym w.peers-is)
-          (subst (λ ks. OthersStay ks heard (get w.speak_all.new.peers)) (ap (map (λ h. h.0)) w.as_slice.ensures.value ∙ c.in_ok-heard.ensures.keys)
-          w.speak_all.ensures.others)
+          (subst (λ ks. OthersStay ks heard (get w.speak_all.new.peers))
+          (ap (map (λ h. h.0)) w.as_slice.ensures.value ∙ c.in_ok-heard.ensures.keys) w.speak_all.ensures.others)
       | else-stands w ↦ subst (λ p. OthersStay keys heard (get p)) (sym w.peers-is) w.remove_all.ensures.others
     ] in (
       turns.0,

@@ -10,7 +10,11 @@ use Rattle.turns.proofs.settled.speak_all.Goals.{then-speak_peer+in_ok-push, els
 use Rattle.turns.proofs.settled.speak_all.Goals as goal
 
 pub loop-key-init : goal.loop-key-init
-loop-key-init g c = (each_none (IsSpoken g.T.Write.contents) (spoken_none g.T.Write.contents) (get c.args.peers.now), (λ other apart. refl), search rules)
+loop-key-init g c = (
+  each_none (IsSpoken g.T.Write.contents) (spoken_none g.T.Write.contents) (get c.args.peers.now),
+  (λ other apart. refl),
+  search rules,
+)
 
 pub loop-key-preserved : goal.loop-key-preserved
 loop-key-preserved g c =
@@ -19,7 +23,8 @@ loop-key-preserved g c =
     let entry = get_or heard i (0, false) in
     let before = get c.loop-key.peers in
     let after = get c.speak_peer.new.peers in
-    let more = sym (ap (map (λ h. h.0)) (take_more heard i (0, false) (search rules)) ∙ map-append (λ h. h.0) (take i heard) (entry ∷ [])) in
+    let more = sym (ap (map (λ h. h.0)) (take_more heard i (0, false) (search rules))
+    ∙ map-append (λ h. h.0) (take i heard) (entry ∷ [])) in
     let grown = c.if-speak_peer.unfinished in
     let room : vec_len grown + length heard ≤ vec_capacity grown + (i + 1) = elim c.if-speak_peer.branch [
       | then-speak_peer+in_ok-push w ↦ search rules
