@@ -23,14 +23,14 @@ begins old new (Ok count) has h =
 pub begins_open : (old new : State) (r : Result ℕ Error) → old.in_transaction ≡ false → Executes begin_text [] old new r
     → OnOk r (IsTrue old.is_open)
 begins_open old new (Err e) outside h = tt
-begins_open old new (Ok count) outside h = executed_open begin_text [] old new count outside h
+begins_open old new (Ok count) outside h = (executed_open begin_text [] old new count outside h).0
 
 pub commits : (old new : State) (r : Result ℕ Error) → old.now.schema ≡ entry_schema → Executes commit_text [] old new r
-    → OnOk r (IsTrue old.in_transaction × IsCommitted new × (new.now ≡ old.now))
+    → OnOk r (IsTrue old.in_transaction × IsCommitted new × (new.now ≡ old.now) × IsTrue new.is_open)
 commits old new (Err e) has h = tt
 commits old new (Ok count) has h =
     let w = runs_as commit_text [] old new entry_schema has Commit commit_is.0 commit_is.1 count h in
-    (w.0, (w.1.mode, w.1.committed_is ∙ sym w.1.now_is), w.1.now_is)
+    (w.0, (w.1.mode, w.1.committed_is ∙ sym w.1.now_is), w.1.now_is, w.1.is_open)
 
 pub rolls_back : (old new : State) (r : Result ℕ Error) → old.now.schema ≡ entry_schema → Executes rollback_text [] old new r
     → OnOk r (IsTrue old.in_transaction × IsBack old new)

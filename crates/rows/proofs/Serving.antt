@@ -62,33 +62,37 @@ failed_aborts sql params old new e (inr h) = elim (cases_Bool (shows_rows false 
   | inr runs ↦ command_aborts old new sql h.0 (timed params h.0.formats h.1.now) e (rw runs at h.2)
 ]
 
+-- a statement that succeeds outside of a transaction leaves the connection open
+abbrev pub AreOpen : State → State → Type 0
+AreOpen old new = IsTrue old.is_open × IsTrue new.is_open
+
 runs_open : (old new : State) (returning : Option Returning) (command : Command) (text : List ℕ) (params : Row) (count : ℕ)
-    → old.in_transaction ≡ false → Runs old new returning command text params count → IsTrue old.is_open
+    → old.in_transaction ≡ false → Runs old new returning command text params count → AreOpen old new
 runs_open old new returning (Select q names) text params count outside h = absurd h
-runs_open old new returning (Insert at from) text params count outside h = h.shown.was_open
-runs_open old new returning (InsertOr at how from clauses) text params count outside h = h.shown.was_open
-runs_open old new returning (Update at q) text params count outside h = h.shown.was_open
-runs_open old new returning (Delete at q) text params count outside h = h.shown.was_open
-runs_open old new returning CreateTable text params count outside h = h.shown.was_open
-runs_open old new returning (CreateIndex at) text params count outside h = h.shown.was_open
-runs_open old new returning (DropTable at) text params count outside h = h.shown.was_open
-runs_open old new returning (DropIndex at) text params count outside h = h.shown.was_open
-runs_open old new returning Begin text params count outside h = h.1.was_open
-runs_open old new returning Commit text params count outside h = h.1.was_open
+runs_open old new returning (Insert at from) text params count outside h = (h.shown.was_open, h.shown.is_open)
+runs_open old new returning (InsertOr at how from clauses) text params count outside h = (h.shown.was_open, h.shown.is_open)
+runs_open old new returning (Update at q) text params count outside h = (h.shown.was_open, h.shown.is_open)
+runs_open old new returning (Delete at q) text params count outside h = (h.shown.was_open, h.shown.is_open)
+runs_open old new returning CreateTable text params count outside h = (h.shown.was_open, h.shown.is_open)
+runs_open old new returning (CreateIndex at) text params count outside h = (h.shown.was_open, h.shown.is_open)
+runs_open old new returning (DropTable at) text params count outside h = (h.shown.was_open, h.shown.is_open)
+runs_open old new returning (DropIndex at) text params count outside h = (h.shown.was_open, h.shown.is_open)
+runs_open old new returning Begin text params count outside h = (h.1.was_open, h.1.is_open)
+runs_open old new returning Commit text params count outside h = (h.1.was_open, h.1.is_open)
 runs_open old new returning Rollback text params count outside h = absurd (true≢false (sym h.0 ∙ outside))
-runs_open old new returning (Save name) text params count outside h = h.0.0.was_open
+runs_open old new returning (Save name) text params count outside h = (h.0.0.was_open, h.0.0.is_open)
 runs_open old new returning (Release name) text params count outside h = elim h.2 [
-  | inl commits ↦ commits.1.0.was_open
-  | inr drops ↦ drops.1.0.was_open
+  | inl commits ↦ (commits.1.0.was_open, commits.1.0.is_open)
+  | inr drops ↦ (drops.1.0.was_open, drops.1.0.is_open)
 ]
-runs_open old new returning (RollbackTo name) text params count outside h = h.2.2.was_open
-runs_open old new returning (Rows values width names) text params count outside h = h.0.0.was_open
-runs_open old new returning Nothing text params count outside h = h.0.0.was_open
-runs_open old new returning CreateView text params count outside h = h.shown.was_open
-runs_open old new returning (DropView at) text params count outside h = h.shown.was_open
+runs_open old new returning (RollbackTo name) text params count outside h = (h.2.2.was_open, h.2.2.is_open)
+runs_open old new returning (Rows values width names) text params count outside h = (h.0.0.was_open, h.0.0.is_open)
+runs_open old new returning Nothing text params count outside h = (h.0.0.was_open, h.0.0.is_open)
+runs_open old new returning CreateView text params count outside h = (h.shown.was_open, h.shown.is_open)
+runs_open old new returning (DropView at) text params count outside h = (h.shown.was_open, h.shown.is_open)
 
 pub executed_open : (sql : List ℕ) (params : Row) (old new : State) (count : ℕ) → old.in_transaction ≡ false
-    → Executes sql params old new (Ok count) → IsTrue old.is_open
+    → Executes sql params old new (Ok count) → AreOpen old new
 unfolding ExecutesIn
 executed_open sql params old new count outside h = elim (cases_Bool (shows_rows false h.0)) [
   | inl shows ↦ absurd (let e = (rw shows at h.2).0 in cc)
@@ -206,26 +210,26 @@ on_err (Err e) p = p
 
 -- a put that was done
 pub put_serving : (old new : State) (key body : List ℕ) (count : ℕ) → IsServing old
-    → Executes put_text (Text key ∷ Text body ∷ []) old new (Ok count) → IsTrue old.is_open × IsServing new
+    → Executes put_text (Text key ∷ Text body ∷ []) old new (Ok count) → AreOpen old new × IsServing new
 put_serving old new key body count s h =
     let live = executed_open put_text (Text key ∷ Text body ∷ []) old new count s.0 h in
-    let was = (s.1 live).1 in
+    let was = (s.1 live.0).1 in
     let done = commits_in old new key body (Ok count) was s.0 h in
     (live, (done.0, λ l. (done.1, (puts_in old new key body (Ok count) was h).store)))
 
 -- a removal that was done
 pub remove_serving : (old new : State) (key : List ℕ) (count : ℕ) → IsServing old
-    → Executes remove_text (Text key ∷ []) old new (Ok count) → IsTrue old.is_open × IsServing new
+    → Executes remove_text (Text key ∷ []) old new (Ok count) → AreOpen old new × IsServing new
 remove_serving old new key count s h =
     let live = executed_open remove_text (Text key ∷ []) old new count s.0 h in
-    let was = (s.1 live).1 in
+    let was = (s.1 live.0).1 in
     let done = removes_commits_in old new key (Ok count) was s.0 h in
     (live, (done.0, λ l. (done.1, (removes_in old new key (Ok count) was h).store)))
 
 -- what becomes of a connection by a put, whatever it returns
 pub put_kept : (old new : State) (key body : List ℕ) (r : Result ℕ Error) → IsServing old
     → Executes put_text (Text key ∷ Text body ∷ []) old new r
-    → IsServing new × (OnOk r (IsTrue old.is_open) × OnErr r (Keeps old new))
+    → IsServing new × (OnOk r (AreOpen old new) × OnErr r (Keeps old new))
 put_kept old new key body (Ok count) s h = let p = put_serving old new key body count s h in (p.1, (p.0, tt))
 put_kept old new key body (Err e) s h =
     let aborts = failed_aborts put_text (Text key ∷ Text body ∷ []) old new e h in
@@ -234,7 +238,7 @@ put_kept old new key body (Err e) s h =
 -- and by a removal
 pub remove_kept : (old new : State) (key : List ℕ) (r : Result ℕ Error) → IsServing old
     → Executes remove_text (Text key ∷ []) old new r
-    → IsServing new × (OnOk r (IsTrue old.is_open) × OnErr r (Keeps old new))
+    → IsServing new × (OnOk r (AreOpen old new) × OnErr r (Keeps old new))
 remove_kept old new key (Ok count) s h = let p = remove_serving old new key count s h in (p.1, (p.0, tt))
 remove_kept old new key (Err e) s h =
     let aborts = failed_aborts remove_text (Text key ∷ []) old new e h in

@@ -92,11 +92,11 @@ pub fn put<S: Alter>(conn: &mut Connection<S>, key: &str, body: &str) -> Result<
     ensures aborts { HasCleanDisk (state S.Store conn.new)
         → OnErr result (Aborts (state S.Store conn.old) (state S.Store conn.new)) }
 
-    // A connection that serves a store goes on, and one that was shut runs no statement.
+    // A connection that serves a store goes on. If it succeeds, the connection was open and is.
     ensures serving { HasCleanDisk (state S.Store conn.new) → IsServing (state S.Store conn.old)
         → IsServing (state S.Store conn.new) }
     ensures live { HasCleanDisk (state S.Store conn.new) → IsServing (state S.Store conn.old)
-        → OnOk result (IsTrue (state S.Store conn.old).is_open) }
+        → OnOk result (IsTrue (state S.Store conn.old).is_open × IsTrue (state S.Store conn.new).is_open) }
 
     // If it fails outside of a transaction, the rows are as they were, unless the connection is shut.
     ensures kept { HasCleanDisk (state S.Store conn.new) → IsServing (state S.Store conn.old)
@@ -133,11 +133,11 @@ pub fn remove<S: Alter>(conn: &mut Connection<S>, key: &str) -> Result<bool, Err
     ensures aborts { HasCleanDisk (state S.Store conn.new)
         → OnErr result (Aborts (state S.Store conn.old) (state S.Store conn.new)) }
 
-    // A connection that serves a store goes on, and one that was shut runs no statement.
+    // A connection that serves a store goes on. If it succeeds, the connection was open and is.
     ensures serving { HasCleanDisk (state S.Store conn.new) → IsServing (state S.Store conn.old)
         → IsServing (state S.Store conn.new) }
     ensures live { HasCleanDisk (state S.Store conn.new) → IsServing (state S.Store conn.old)
-        → OnOk result (IsTrue (state S.Store conn.old).is_open) }
+        → OnOk result (IsTrue (state S.Store conn.old).is_open × IsTrue (state S.Store conn.new).is_open) }
 
     // If it fails outside of a transaction, the rows are as they were, unless the connection is shut.
     ensures kept { HasCleanDisk (state S.Store conn.new) → IsServing (state S.Store conn.old)
@@ -180,10 +180,10 @@ pub fn begin<S: Alter>(conn: &mut Connection<S>) -> Result<usize, Error>
 
 /// Commits a transaction. Returns the error of the database if it fails, as it does outside of a transaction.
 pub fn commit<S: Alter>(conn: &mut Connection<S>) -> Result<usize, Error>
-    // The connection was inside of a transaction, and what it saw is its last commit.
+    // The connection was inside of a transaction and is open, and what it saw is its last commit.
     ensures committed { HasCleanDisk (state S.Store conn.new) → (state S.Store conn.old).now.schema ≡ entry_schema
         → OnOk result (IsTrue (state S.Store conn.old).in_transaction × IsCommitted (state S.Store conn.new)
-        × ((state S.Store conn.new).now ≡ (state S.Store conn.old).now)) }
+        × ((state S.Store conn.new).now ≡ (state S.Store conn.old).now) × IsTrue (state S.Store conn.new).is_open) }
 
     // If it fails, the connection is as it was, or its transaction is rolled back.
     ensures aborts { HasCleanDisk (state S.Store conn.new)

@@ -53,11 +53,11 @@ pub fn put<S: Alter, K: Serialize, V: Serialize>(
     ensures aborts { HasCleanDisk (state S.Store conn.new) → IsTrue (state S.Store conn.old).is_open
         → OnErr result (Aborts (state S.Store conn.old) (state S.Store conn.new)) }
 
-    // A connection that serves a store goes on, and one that was shut runs no statement.
+    // A connection that serves a store goes on. If it succeeds, the connection was open and is.
     ensures serving { HasCleanDisk (state S.Store conn.new) → IsServing (state S.Store conn.old)
         → IsServing (state S.Store conn.new) }
     ensures live { HasCleanDisk (state S.Store conn.new) → IsServing (state S.Store conn.old)
-        → OnOk result (IsTrue (state S.Store conn.old).is_open) }
+        → OnOk result (IsTrue (state S.Store conn.old).is_open × IsTrue (state S.Store conn.new).is_open) }
 
     // If it fails outside of a transaction, the rows are as they were, unless the connection is shut.
     ensures kept { HasCleanDisk (state S.Store conn.new) → IsServing (state S.Store conn.old)
@@ -109,11 +109,11 @@ pub fn remove<S: Alter, K: Serialize>(
     ensures aborts { HasCleanDisk (state S.Store conn.new) → IsTrue (state S.Store conn.old).is_open
         → OnErr result (Aborts (state S.Store conn.old) (state S.Store conn.new)) }
 
-    // A connection that serves a store goes on, and one that was shut runs no statement.
+    // A connection that serves a store goes on. If it succeeds, the connection was open and is.
     ensures serving { HasCleanDisk (state S.Store conn.new) → IsServing (state S.Store conn.old)
         → IsServing (state S.Store conn.new) }
     ensures live { HasCleanDisk (state S.Store conn.new) → IsServing (state S.Store conn.old)
-        → OnOk result (IsTrue (state S.Store conn.old).is_open) }
+        → OnOk result (IsTrue (state S.Store conn.old).is_open × IsTrue (state S.Store conn.new).is_open) }
 
     // If it fails outside of a transaction, the rows are as they were, unless the connection is shut.
     ensures kept { HasCleanDisk (state S.Store conn.new) → IsServing (state S.Store conn.old)

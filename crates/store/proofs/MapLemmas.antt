@@ -106,7 +106,7 @@ module _ (old new : State) (m : Map) (sees : SeesMap old m) where
 
     removes_at : (current : Option (List ℕ)) → RemovesOver old headers key current response new → Leads new (At current)
     removes_at None (kept, status) = (m, inr (refl, inl (refl, status)), kept_sees kept)
-    removes_at (Some text) (inl (met, inl (live, removed, status))) =
+    removes_at (Some text) (inl (met, inl (live, late, removed, status))) =
         (without_key m key, inl (refl, met, refl, status), removed_sees key live removed)
     removes_at (Some text) (inl (met, inr (kept, failed))) = (m, inr (refl, inr (inr failed)), kept_sees kept)
     removes_at (Some text) (inr (kept, inl (unmet, status))) =
@@ -164,7 +164,7 @@ module _ (old new : State) (m : Map) (sees : SeesMap old m) where
           ⊎ ((after ≡ m) × (((condition_on headers o ≢ Met) × IsStatus 412 response) ⊎ IsStatus 503 response))
 
       puts_at : (current : Option (List ℕ)) → PutsOver means tree old headers key current body response new → Leads new (OverAt current)
-      puts_at current (inl (met, inl (live, text, of, put, status))) =
+      puts_at current (inl (met, inl (live, late, text, of, put, status))) =
           (with_text m key text, inl (met, inl (text, of, refl, status)), put_sees key text live put)
       puts_at current (inl (met, inr (kept, why))) = (m, inl (met, inr (refl, why)), kept_sees kept)
       puts_at current (inr (kept, why)) = (m, inr (refl, why), kept_sees kept)

@@ -1,5 +1,5 @@
 -- What becomes of a round at each call, by what the calls of `rows` say.
-use Rattle.std.proofs.Common.{◌≡◌, ◌↔◌, inl, inr, ℕ, List, Bool, true, false, not, if◌then◌else◌}
+use Rattle.std.proofs.Common.{◌≡◌, ◌⊎◌, ◌↔◌, inl, inr, ℕ, List, Bool, true, false, not, if◌then◌else◌}
 use Rattle.std.proofs.Common.{Some, Result, Ok, Err, is_ok, OnOk, OnErr, IsTrue}
 use Rattle.std.proofs.Common.{refl, sym, subst, ◌∙◌, true≢false}
 use Rattle.http.specs.declared.request.Request.{Request as HttpRequest}
@@ -61,17 +61,18 @@ module _ (begun m : Map) (a b : State) where
       )
 
   pub commits : (r : Result ℕ Error) → IsUnderWay begun a m → a.in_transaction ≡ true
-      → (a.now.schema ≡ entry_schema → OnOk r (IsTrue a.in_transaction × IsCommitted b × (b.now ≡ a.now))) → OnErr r (Aborts a b)
-      → IsBetween (if is_ok r then m else begun) b (is_ok r)
+      → (a.now.schema ≡ entry_schema → OnOk r (IsTrue a.in_transaction × IsCommitted b × (b.now ≡ a.now) × IsTrue b.is_open))
+      → OnErr r (Aborts a b)
+      → IsBetween (if is_ok r then m else begun) b (is_ok r) × (IsTrue (is_ok r) → IsTrue b.is_open ⊎ (m ≡ begun))
   commits (Ok count) way inside commit aborts =
       let (base, s, is, sees) = was_inside begun m a way inside in
       let it = commit s.store.schema in (
-        (it.1.0, λ _. (it.1.1, subst IsStore (sym it.2) s.store)),
-        λ _. same_map a.now b.now m it.2 (sees s.is_open),
+        ((it.1.0, λ _. (it.1.1, subst IsStore (sym it.2) s.store)), λ _. same_map a.now b.now m it.2 (sees s.is_open)),
+        λ _. inl it.3,
       )
   commits (Err e) way inside commit aborts =
       let (base, s, is, sees) = was_inside begun m a way inside in
-      aborts_off begun base a b s is aborts
+      (aborts_off begun base a b s is aborts, λ no. absurd (true≢false (sym no)))
 
   pub rolls_back : (r : Result ℕ Error) → IsOff begun a → a.in_transaction ≡ true
       → (a.now.schema ≡ entry_schema → OnOk r (IsTrue a.in_transaction × IsBack a b)) → OnErr r (Aborts a b) → IsOff begun b
@@ -122,22 +123,33 @@ answered means tree old new stood stands request response Answer stood_is call l
           (one.0, one.1, λ yes. (refl, leads m one.0 (one.2 yes))),
     ))
 
+-- what the call that commits a round says
+abbrev pub CommitsRound : State → State → Bool → Type 0
+CommitsRound old new kept = HasCleanDisk new → HasCleanDisk old × ((begun m : Map) → IsUnderWay begun old m
+    → IsBetween (if kept then m else begun) new kept × (IsTrue kept → IsTrue new.is_open ⊎ (m ≡ begun)))
+
 -- a round that stood and was committed, and one that was dropped
 pub kept_round : (old new : State) (stood kept : Bool) → stood ≡ true → kept ≡ true
-    → (HasCleanDisk new → HasCleanDisk old × ((begun m : Map) → IsUnderWay begun old m → IsBetween (if kept then m else begun) new kept))
+    → CommitsRound old new kept
     → SettlesRound old stood true new stood
-kept_round old new true true is done commit clean = let it = commit clean in (it.0, λ begun m way. (it.1 begun m way, λ _. (refl, refl)))
+kept_round old new true true is done commit clean =
+    let it = commit clean in (
+      it.0,
+      λ begun m way.
+          let (between, open_or) = it.1 begun m way in
+          (between, λ _. (refl, refl, open_or refl)),
+    )
 kept_round old new true false is done commit clean = absurd (true≢false (sym done))
 kept_round old new false kept is done commit clean = absurd (true≢false (sym is))
 
 pub lost_round : (old mid new : State) (stood kept stands : Bool) → stood ≡ true → kept ≡ false
-    → (HasCleanDisk mid → HasCleanDisk old × ((begun m : Map) → IsUnderWay begun old m → IsBetween (if kept then m else begun) mid kept))
+    → CommitsRound old mid kept
     → (HasCleanDisk new → HasCleanDisk mid × ((begun : Map) → IsOff begun mid → IsBetween begun new stands))
     → SettlesRound old stood false new stands
 lost_round old mid new true false stands is failed commit drop clean =
     let late = drop clean in
     let soon = commit late.0 in
-    (soon.0, λ begun m way. (late.1 begun (soon.1 begun m way), λ no. absurd (true≢false (sym no))))
+    (soon.0, λ begun m way. (late.1 begun (soon.1 begun m way).0, λ no. absurd (true≢false (sym no))))
 lost_round old mid new true true stands is failed commit drop clean = absurd (true≢false failed)
 lost_round old mid new false kept stands is failed commit drop clean = absurd (true≢false (sym is))
 

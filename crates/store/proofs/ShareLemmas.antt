@@ -1,5 +1,5 @@
 -- A round of connections that share a store is one of a map.
-use Rattle.std.proofs.Common.{inl, ℕ, List, [], ◌∷◌, Bool, true, false, if◌then◌else◌, Option}
+use Rattle.std.proofs.Common.{◌≡◌, ◌⊎◌, inl, ℕ, List, [], ◌∷◌, Bool, true, false, if◌then◌else◌, Option}
 use Rattle.std.proofs.Common.{IsTrue, refl, sym, subst, true≢false}
 use Rattle.http.specs.declared.request.Request.{Request as HttpRequest}
 use Rattle.http_server.specs.declared.response.Response.{Response}
@@ -88,14 +88,15 @@ module _ {S : Type 0} (g : Ghosts S) {V T : Type 0} (means : Meaning V) (tree : 
   }
 
   pub round_of_map : (kept : Bool) → Settled kept → HasCleanDisk (state g new.0) → (m : Map) → IsBetween m (state g old.0) old.1
-      → (last : Map) × SettledMap m last kept × IsBetween last (state g new.0) new.1 × (IsTrue kept → IsTrue new.1)
+      → (last : Map) × SettledMap m last kept × IsBetween last (state g new.0) new.1
+      × (IsTrue kept → IsTrue new.1 × (IsTrue (state g new.0).is_open ⊎ (last ≡ m)))
   round_of_map true it clean m ready =
       let settled = it.settled clean in
       let way = answered_in_round g means tree (all_calls turns) old it.called m m it.shared.calls settled.0
       (starts m (state g old.0) old.1 ready) in
       let end = settled.1 m way.0 way.1 in
       let stood = end.1 refl in
-      (way.0, over_map true m way.0 it (answered_if means tree (all_calls turns) m way.0 (way.2 stood.0).1), end.0, λ _. stood.1)
+      (way.0, over_map true m way.0 it (answered_if means tree (all_calls turns) m way.0 (way.2 stood.0).1), end.0, λ _. (stood.1, stood.2))
   round_of_map false it clean m ready =
       let settled = it.settled clean in
       let way = answered_in_round g means tree (all_calls turns) old it.called m m it.shared.calls settled.0

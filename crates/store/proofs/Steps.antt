@@ -78,7 +78,7 @@ ok_by (Err e) P Q f h = tt
 pub value_by : {V : Type 0} (means : Meaning V) (tree : V → Tree) (old new : State) (key body text : List ℕ) (code : ℕ)
     (response : Response)
     → IsTextOf means tree body text → PutsAs old key text code response new → PutsValue means tree old key body code response new
-value_by means tree old new key body text code response of (inl (live, put, status)) = inl (live, text, of, put, status)
+value_by means tree old new key body text code response of (inl (live, on, put, status)) = inl (live, on, text, of, put, status)
 value_by means tree old new key body text code response of (inr (kept, status)) = inr (kept, inr status)
 
 -- what `rows` says of a query that returned
@@ -100,7 +100,7 @@ pub record Fails (a b : State) : Type 0 where
 pub record Changes (a b : State) (Change : Type 0) : Type 0 where
   pub clean : HasCleanDisk b → HasCleanDisk a
   pub serving : HasCleanDisk b → IsServing a → IsServing b
-  pub live : HasCleanDisk b → IsServing a → IsTrue a.is_open
+  pub live : HasCleanDisk b → IsServing a → IsTrue a.is_open × IsTrue b.is_open
   pub change : HasCleanDisk b → IsStore a.now → Change
   pub inside : HasCleanDisk b → a.now.schema ≡ entry_schema → IsTrue a.in_transaction → StaysInside a b
   pub store : Change → IsStore b.now
@@ -153,13 +153,13 @@ module _ (a b : State) where
       by None s = (call.serving clean s, call.kept clean s)
       by (Some base) s = aborted base s (call.aborts clean s.store.schema)
 
-  pub changed : (Change : Type 0) → Changes a b Change → Goes a b (IsTrue a.is_open × Change)
+  pub changed : (Change : Type 0) → Changes a b Change → Goes a b (IsTrue a.is_open × IsTrue b.is_open × Change)
   changed Change call clean = (call.clean clean, by)
     where
-      by : (mode : Option Database) → IsReady mode a → GoesIn mode b (IsTrue a.is_open × Change)
+      by : (mode : Option Database) → IsReady mode a → GoesIn mode b (IsTrue a.is_open × IsTrue b.is_open × Change)
       by None s =
           let live = call.live clean s in
-          (call.serving clean s, (live, call.change clean (s.1 live).1))
+          (call.serving clean s, (live.0, live.1, call.change clean (s.1 live.0).1))
       by (Some base) s =
           let change = call.change clean s.store in
           let on = call.inside clean s.store.schema s.inside in
@@ -170,7 +170,7 @@ module _ (a b : State) where
             store = call.store change;
             last = s.last;
           } in
-          inl (still, (s.is_open, change))
+          inl (still, (s.is_open, on.is_open, change))
 
   -- what the key has was shown, or could not be
   pub read_found : (headers : Entries FieldValue) (key : List ℕ) (current : Option (List ℕ)) (response : Response)
@@ -201,8 +201,8 @@ module _ (a b : State) where
         (response : Response) where
       value_from : (code : ℕ) → Keeps a b → PutsValue means tree b key body code response c
           → PutsValue means tree a key body code response c
-      value_from code keeps (inl (live, text, of, put, status)) =
-          inl ((keeps live).0, text, of, subst (λ db. IsPut db c.now key text) (keeps live).1 put, status)
+      value_from code keeps (inl (live, late, text, of, put, status)) =
+          inl ((keeps live).0, late, text, of, subst (λ db. IsPut db c.now key text) (keeps live).1 put, status)
       value_from code keeps (inr (on, why)) = inr (keeps_then a b c keeps on, why)
 
       over_from : (current : Option (List ℕ)) → Keeps a b → PutsOver means tree b headers key current body response c
@@ -217,8 +217,8 @@ module _ (a b : State) where
 
     module _ (headers : Entries FieldValue) (key : List ℕ) (response : Response) where
       take_from : Keeps a b → Takes b key response c → Takes a key response c
-      take_from keeps (inl (live, removed, status)) =
-          inl ((keeps live).0, subst (λ db. IsRemoved db c.now key) (keeps live).1 removed, status)
+      take_from keeps (inl (live, late, removed, status)) =
+          inl ((keeps live).0, late, subst (λ db. IsRemoved db c.now key) (keeps live).1 removed, status)
       take_from keeps (inr (on, status)) = inr (keeps_then a b c keeps on, status)
 
       removes_from : (current : Option (List ℕ)) → Keeps a b → RemovesOver b headers key current response c

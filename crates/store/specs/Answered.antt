@@ -106,21 +106,27 @@ Reads old headers key response new =
     Keeps old new × ((IsTrue old.is_open × (current : Option (List ℕ)) × IsCurrent old.now key current × Shows headers current response)
     ⊎ IsStatus 503 response)
 
--- what becomes of a text that is put under a key, with this status if it is
+-- What becomes of a text that is put under a key, with this status if it is. The connection is then open, so what it serves
+-- (`IsServing`) is committed.
 abbrev pub PutsAs : State → List ℕ → List ℕ → ℕ → Response → State → Type 0
 PutsAs old key text code response new =
-    (IsTrue old.is_open × IsPut old.now new.now key text × IsStatus code response) ⊎ (Keeps old new × IsStatus 503 response)
+    (IsTrue old.is_open × IsTrue new.is_open × IsPut old.now new.now key text × IsStatus code response)
+    ⊎ (Keeps old new × IsStatus 503 response)
 
--- what becomes of the row of a key that is removed
+-- What becomes of the row of a key that is removed. If it is, the connection is open, so what it serves (`IsServing`) is
+-- committed.
 abbrev pub Takes : State → List ℕ → Response → State → Type 0
 Takes old key response new =
-    (IsTrue old.is_open × IsRemoved old.now new.now key × IsStatus 204 response) ⊎ (Keeps old new × IsStatus 503 response)
+    (IsTrue old.is_open × IsTrue new.is_open × IsRemoved old.now new.now key × IsStatus 204 response)
+    ⊎ (Keeps old new × IsStatus 503 response)
 
--- The body means a value, and its canonical text is put under the key, with this status if it is. 400: the body means no
--- value, and the response says why. 503: the database failed, or an allocation.
+-- The body means a value, and its canonical text is put under the key, with this status if it is. The connection is then open,
+-- so what it serves is committed. 400: the body means no value, and the response says why. 503: the database failed, or an
+-- allocation.
 abbrev pub PutsValue : {V : Type 0} → Meaning V → (V → Tree) → State → List ℕ → List ℕ → ℕ → Response → State → Type 0
 PutsValue means tree old key body code response new =
-    (IsTrue old.is_open × (text : List ℕ) × IsTextOf means tree body text × IsPut old.now new.now key text × IsStatus code response)
+    (IsTrue old.is_open × IsTrue new.is_open × (text : List ℕ) × IsTextOf means tree body text × IsPut old.now new.now key text
+    × IsStatus code response)
     ⊎ (Keeps old new × ((MeansNoValue means body × IsProblem means body response) ⊎ IsStatus 503 response))
 
 -- A put over what the key has. 201: nothing. 204: a text. 412: the conditions do not hold (sections 13.1.1 and 13.1.2).

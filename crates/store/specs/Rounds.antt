@@ -36,12 +36,13 @@ AnsweredInRound means tree old stood request response new stands = HasCleanDisk 
     × ((begun m : Map) → InRound begun old stood m → (after : Map) × InRound begun new stands after
     × (IsTrue stands → IsTrue stood × AnsweredMap means tree m request response after))
 
--- The round is settled. If its answers stand, the map to which it has come is committed, and else the map is the one from
--- before the round.
+-- The round is settled. If its answers stand, the map to which it has come is committed, on a connection that is open if the
+-- round changed the map, and else the map is the one from before the round.
 abbrev pub SettlesRound : State → Bool → Bool → State → Bool → Type 0
 SettlesRound old stood kept new stands = HasCleanDisk new → HasCleanDisk old
     × ((begun m : Map) → InRound begun old stood m
-    → IsBetween (if kept then m else begun) new stands × (IsTrue kept → IsTrue stood × IsTrue stands))
+    → IsBetween (if kept then m else begun) new stands
+    × (IsTrue kept → IsTrue stood × IsTrue stands × (IsTrue new.is_open ⊎ (m ≡ begun))))
 
 -- the response to a call of a round is that of the map, if the round is committed
 abbrev pub AnsweredIf : {V : Type 0} → Meaning V → (V → Tree) → Bool → Map → HttpRequest (List ℕ) → Response → Map → Type 0

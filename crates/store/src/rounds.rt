@@ -1,5 +1,5 @@
 //! The store in rounds: the changes of a round are one commit, and its responses stand once that is done.
-ghost use Rattle.std.specs.Prelude.{◌≡◌, true, if◌then◌else◌, IsTrue, IfOk, OnErr};
+ghost use Rattle.std.specs.Prelude.{◌≡◌, ◌⊎◌, true, if◌then◌else◌, IsTrue, IfOk, OnErr};
 ghost use Rattle.http_server.specs.Response.{IsBlank};
 ghost use Rattle.sqlite.specs.Held.{state};
 ghost use Rattle.sqlite.specs.State.{HasCleanDisk};
@@ -31,11 +31,13 @@ fn begin_round<S: Alter>(conn: &mut Connection<S>) -> bool
     texts::begin(conn).is_ok()
 }
 
-// Commits the transaction of a round, if it has one. Returns whether the round is committed.
+// Commits the transaction of a round, if it has one. Returns whether the round is committed, on a connection that is open if
+// the round changed the map.
 fn commit_round<S: Alter>(conn: &mut Connection<S>) -> bool
     ensures { HasCleanDisk (state S.Store conn.new) → HasCleanDisk (state S.Store conn.old)
         × ((begun m : Map) → IsUnderWay begun (state S.Store conn.old) m
-        → IsBetween (if result then m else begun) (state S.Store conn.new) result) }
+        → IsBetween (if result then m else begun) (state S.Store conn.new) result
+        × (IsTrue result → IsTrue (state S.Store conn.new).is_open ⊎ (m ≡ begun))) }
 {
     if !texts::is_in_transaction(conn) {
         return true;

@@ -1,5 +1,5 @@
 //! The store over many connections.
-ghost use Rattle.std.specs.Prelude.{◌≡◌, IfOk, OnOk, OnErr, IsTrue};
+ghost use Rattle.std.specs.Prelude.{◌≡◌, ◌⊎◌, IfOk, OnOk, OnErr, IsTrue};
 ghost use Rattle.std.specs.List.{AllByRecursion};
 ghost use Rattle.sqlite.specs.Held.{state};
 ghost use Rattle.sqlite.specs.State.{HasCleanDisk};
@@ -64,7 +64,8 @@ pub fn serve_settled_round<S: Alter, V: Stable + Lossless, E: Explain<V>, T: Rea
         → IsBetween m (state S.Store service.old.0) service.old.1 → (turns : Turns) × (last : Map)
         × IsSettled (AnsweredIf V.means V.tree kept) (LeavesMap m) T.remaining T.contents keys.now m last
         (get peers.old) (get peers.new) turns kept
-        × IsBetween last (state S.Store service.new.0) service.new.1 × (IsTrue kept → IsTrue service.new.1)) }
+        × IsBetween last (state S.Store service.new.0) service.new.1
+        × (IsTrue kept → IsTrue service.new.1 × (IsTrue (state S.Store service.new.0).is_open ⊎ (last ≡ m)))) }
     ensures none { OnErr result ((peers.new ≡ peers.old) × (service.new ≡ service.old)) }
 {
     settled_round(alloc, peers, keys, service, now, unfinished)

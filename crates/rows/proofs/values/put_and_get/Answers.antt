@@ -54,6 +54,6 @@ returns-clause-inside g c clean was inside =
 pub returns-clause-kept : goal.returns-clause-kept
 returns-clause-kept g c clean s live =
     let late = c.get.ensures.clean clean in
-    let was = (s.1 (c.in_ok-put.ensures.live late s)).1 in
+    let was = (s.1 (c.in_ok-put.ensures.live late s).0).1 in
     let same = c.get.ensures.kept clean (c.in_ok-put.ensures.serving late s) live in
     on_err _ (inr (still_put _ _ _ _ _ _ (c.in_ok-put.ensures.put late was) refl same.1))

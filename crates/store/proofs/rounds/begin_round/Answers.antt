@@ -1,5 +1,5 @@
 -- What the statement that begins a transaction says.
-use Rattle.std.proofs.Common.{◌≡◌, false, is_ok, IsTrue, rules, subst, sym}
+use Rattle.std.proofs.Common.{◌≡◌, false, IsTrue, rules, subst, sym}
 use Rattle.sqlite.specs.Held.{state}
 use Rattle.store.specs.Rounds.{IsUnderWay}
 use Rattle.store.proofs.RoundLemmas.{begins}

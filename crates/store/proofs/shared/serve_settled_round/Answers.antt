@@ -1,5 +1,5 @@
 -- The calls of all turns are answered by a map, which is committed, or none of them is left.
-use Rattle.std.proofs.Common.{IsTrue}
+use Rattle.std.proofs.Common.{◌≡◌, ◌⊎◌, IsTrue}
 use Rattle.sqlite.specs.Held.{state}
 use Rattle.slab.specs.Slab.{get}
 use Rattle.sqlite.specs.State.{HasCleanDisk}
@@ -25,7 +25,8 @@ returns-clause-settled g c =
     (λ kept. (turns : Turns) × Settled g.S.Store means tree remaining contents c.args.keys.now old new before after turns kept)
     (λ kept. HasCleanDisk (state g.S.Store new.0) → (m : Map) → IsBetween m (state g.S.Store old.0) old.1 → (turns : Turns) × (last : Map)
     × SettledMap g.S.Store means tree remaining contents c.args.keys.now old new before after turns m last kept
-    × IsBetween last (state g.S.Store new.0) new.1 × (IsTrue kept → IsTrue new.1))
+    × IsBetween last (state g.S.Store new.0) new.1
+    × (IsTrue kept → IsTrue new.1 × (IsTrue (state g.S.Store new.0).is_open ⊎ (last ≡ m))))
     call.ensures.settled
     (λ kept it clean m ready.
     let round = round_of_map g.S.Store means tree remaining contents c.args.keys.now old new before after it.0 kept it.1 clean m ready in

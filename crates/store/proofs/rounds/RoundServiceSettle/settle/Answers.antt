@@ -1,5 +1,4 @@
 -- The round is committed, or dropped: since it did not stand, or since that failed.
-use Rattle.std.proofs.Common.{true, false}
 use Rattle.sqlite.specs.Held.{state}
 use Rattle.store.proofs.RoundLemmas.{kept_round, lost_round, off_round}
 use Rattle.store.proofs.rounds.RoundServiceSettle.settle.Goals.{else-self-via-then-self+else-commit_round, else-self-via-else-self}
