@@ -192,7 +192,7 @@ IsServing s = (s.in_transaction ≡ false) × (IsTrue s.is_open → (s.committed
 abbrev pub Keeps : State → State → Type 0
 Keeps old new = IsTrue new.is_open → IsTrue old.is_open × (new.now ≡ old.now)
 
--- the connection is as it was, or its transaction is rolled back
+-- the connection is as it was, or its transaction is rolled back unless it is shut
 abbrev pub Aborts : State → State → Type 0
 Aborts old new = IsUnchanged old new ⊎ IsRolledBack old new
 
@@ -210,7 +210,7 @@ pub record AreEntries (db : Database) (entries : List (List ℕ × List ℕ)) : 
   pub same : IsPermutation (map (λ row. (key_of row, body_of row)) (db.trees 0)) (map words_of entries)
   pub sorted : IsSortedByKey (λ e. e.0) (slice_cmp nat_cmp) entries
 
--- a key does not come before another in the byte order
+-- the second text does not come before the first in the byte order
 abbrev pub IsFrom : List ℕ → List ℕ → Type 0
 IsFrom start key = IsTrue (is_ge (slice_cmp nat_cmp key start))
 

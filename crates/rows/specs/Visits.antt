@@ -41,8 +41,8 @@ module _ {V : Type 0} (takes : Takes V) where
   abbrev pub TakesFirst : Database → V → V → Type 0
   TakesFirst db old new = (front : List Entry) × BeginsEntries db front × GoesOn old front new
 
-  -- what the visitor took, by what the call returns: all rows, the first up to one at which it stopped or failed, or, if the
-  -- database fails, the first or none
+  -- what the visitor took, by what the call returns: all rows, the first up to one at which it stopped or failed, or, at another
+  -- error, which is a `Database`, the first or none
   abbrev pub Visited : Database → V → V → Result Bool Error → Type 0
   Visited db old new (Ok true) = TakesAll db old new
   Visited db old new (Ok false) = StopsAt db old new (Ok false)

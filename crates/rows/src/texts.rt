@@ -58,7 +58,7 @@ pub fn create<S: Alter>(conn: &mut Connection<S>) -> Result<usize, Error>
     ensures again { HasCleanDisk (state S.Store conn.new) → (state S.Store conn.old).now.schema ≡ entry_schema
         → OnOk result (IsUnchanged (state S.Store conn.old) (state S.Store conn.new)) }
 
-    // If it fails, the connection is as it was, or its transaction is rolled back.
+    // If it fails, the connection is as it was, or its transaction is rolled back, or it is shut.
     ensures aborts { HasCleanDisk (state S.Store conn.new)
         → OnErr result (Aborts (state S.Store conn.old) (state S.Store conn.new)) }
     ensures clean { HasCleanDisk (state S.Store conn.new) → HasCleanDisk (state S.Store conn.old) }
@@ -88,7 +88,7 @@ pub fn put<S: Alter>(conn: &mut Connection<S>, key: &str, body: &str) -> Result<
         → IsTrue (state S.Store conn.old).in_transaction
         → OnOk result (StaysInside (state S.Store conn.old) (state S.Store conn.new)) }
 
-    // If it fails, the connection is as it was, or its transaction is rolled back.
+    // If it fails, the connection is as it was, or its transaction is rolled back, or it is shut.
     ensures aborts { HasCleanDisk (state S.Store conn.new)
         → OnErr result (Aborts (state S.Store conn.old) (state S.Store conn.new)) }
 
@@ -129,7 +129,7 @@ pub fn remove<S: Alter>(conn: &mut Connection<S>, key: &str) -> Result<bool, Err
         → IsTrue (state S.Store conn.old).in_transaction
         → OnOk result (StaysInside (state S.Store conn.old) (state S.Store conn.new)) }
 
-    // If it fails, the connection is as it was, or its transaction is rolled back.
+    // If it fails, the connection is as it was, or its transaction is rolled back, or it is shut.
     ensures aborts { HasCleanDisk (state S.Store conn.new)
         → OnErr result (Aborts (state S.Store conn.old) (state S.Store conn.new)) }
 
@@ -170,7 +170,7 @@ pub fn begin<S: Alter>(conn: &mut Connection<S>) -> Result<usize, Error>
     ensures live { HasCleanDisk (state S.Store conn.new) → (state S.Store conn.old).in_transaction ≡ false
         → OnOk result (IsTrue (state S.Store conn.old).is_open) }
 
-    // If it fails, the connection is as it was, or its transaction is rolled back.
+    // If it fails, the connection is as it was, or its transaction is rolled back, or it is shut.
     ensures aborts { HasCleanDisk (state S.Store conn.new)
         → OnErr result (Aborts (state S.Store conn.old) (state S.Store conn.new)) }
     ensures clean { HasCleanDisk (state S.Store conn.new) → HasCleanDisk (state S.Store conn.old) }
@@ -185,7 +185,7 @@ pub fn commit<S: Alter>(conn: &mut Connection<S>) -> Result<usize, Error>
         → OnOk result (IsTrue (state S.Store conn.old).in_transaction × IsCommitted (state S.Store conn.new)
         × ((state S.Store conn.new).now ≡ (state S.Store conn.old).now) × IsTrue (state S.Store conn.new).is_open) }
 
-    // If it fails, the connection is as it was, or its transaction is rolled back.
+    // If it fails, the connection is as it was, or its transaction is rolled back, or it is shut.
     ensures aborts { HasCleanDisk (state S.Store conn.new)
         → OnErr result (Aborts (state S.Store conn.old) (state S.Store conn.new)) }
     ensures clean { HasCleanDisk (state S.Store conn.new) → HasCleanDisk (state S.Store conn.old) }
@@ -204,7 +204,7 @@ pub fn rollback<S: Alter>(conn: &mut Connection<S>) -> Result<usize, Error>
     ensures serving { HasCleanDisk (state S.Store conn.new) → (state S.Store conn.old).now.schema ≡ entry_schema
         → IsStore (state S.Store conn.old).committed → OnOk result (IsServing (state S.Store conn.new)) }
 
-    // If it fails, the connection is as it was, or its transaction is rolled back.
+    // If it fails, the connection is as it was, or its transaction is rolled back, or it is shut.
     ensures aborts { HasCleanDisk (state S.Store conn.new)
         → OnErr result (Aborts (state S.Store conn.old) (state S.Store conn.new)) }
     ensures clean { HasCleanDisk (state S.Store conn.new) → HasCleanDisk (state S.Store conn.old) }
@@ -221,7 +221,7 @@ pub fn get<S: Alter>(conn: &mut Connection<S>, key: &str) -> Result<Option<Strin
     ensures none { HasCleanDisk (state S.Store conn.new) → (state S.Store conn.old).now.schema ≡ entry_schema
         → result ≡ Ok None → HasKey (state S.Store conn.old).now key.now → ⊥ }
 
-    // The database is as it was.
+    // If it succeeds, the database is as it was.
     ensures same { HasCleanDisk (state S.Store conn.new) → (state S.Store conn.old).now.schema ≡ entry_schema
         → OnOk result (IsUnchanged (state S.Store conn.old) (state S.Store conn.new)) }
 
@@ -231,7 +231,7 @@ pub fn get<S: Alter>(conn: &mut Connection<S>, key: &str) -> Result<Option<Strin
         ⊎ FailsToQuery get_text (Text key.now ∷ []) (state S.Store conn.old) (state S.Store conn.new) error) }
     ensures missing { result ≡ Err QueryReturnedNoRows → ⊥ }
 
-    // If it fails, the connection is as it was, or its transaction is rolled back.
+    // If it fails, the connection is as it was, or its transaction is rolled back, or it is shut.
     ensures aborts { HasCleanDisk (state S.Store conn.new) → (state S.Store conn.old).now.schema ≡ entry_schema
         → OnErr result (Aborts (state S.Store conn.old) (state S.Store conn.new)) }
 
@@ -260,11 +260,11 @@ pub fn has<S: Alter>(conn: &mut Connection<S>, key: &str) -> Result<bool, Error>
         → IfOk result (λ found. IsTrue found ↔ HasKey (state S.Store conn.old).now key.now) }
     ensures missing { result ≡ Err QueryReturnedNoRows → ⊥ }
 
-    // The database is as it was.
+    // If it succeeds, the database is as it was.
     ensures same { HasCleanDisk (state S.Store conn.new) → (state S.Store conn.old).now.schema ≡ entry_schema
         → OnOk result (IsUnchanged (state S.Store conn.old) (state S.Store conn.new)) }
 
-    // If it fails, the connection is as it was, or its transaction is rolled back.
+    // If it fails, the connection is as it was, or its transaction is rolled back, or it is shut.
     ensures aborts { HasCleanDisk (state S.Store conn.new)
         → OnErr result (Aborts (state S.Store conn.old) (state S.Store conn.new)) }
 
@@ -298,11 +298,11 @@ pub fn each<S: Alter>(
     ensures each { HasCleanDisk (state S.Store conn.new) → (state S.Store conn.old).now.schema ≡ entry_schema
         → IfOk result (λ each. AreEntries (state S.Store conn.old).now (map texts_of each.items)) }
 
-    // The database is as it was.
+    // If it succeeds, the database is as it was.
     ensures same { HasCleanDisk (state S.Store conn.new) → (state S.Store conn.old).now.schema ≡ entry_schema
         → OnOk result (IsUnchanged (state S.Store conn.old) (state S.Store conn.new)) }
 
-    // If it fails, the connection is as it was, or its transaction is rolled back.
+    // If it fails, the connection is as it was, or its transaction is rolled back, or it is shut.
     ensures aborts { HasCleanDisk (state S.Store conn.new) → (state S.Store conn.old).now.schema ≡ entry_schema
         → OnErr result (Aborts (state S.Store conn.old) (state S.Store conn.new)) }
 
@@ -339,11 +339,11 @@ pub fn range<S: Alter>(
     ensures page { HasCleanDisk (state S.Store conn.new) → IsStore (state S.Store conn.old).now
         → IfOk result (λ page. IsPage (state S.Store conn.old).now from.now limit (map texts_of page.items)) }
 
-    // The database is as it was.
+    // If it succeeds, the database is as it was.
     ensures same { HasCleanDisk (state S.Store conn.new) → (state S.Store conn.old).now.schema ≡ entry_schema
         → OnOk result (IsUnchanged (state S.Store conn.old) (state S.Store conn.new)) }
 
-    // If it fails, the connection is as it was, or its transaction is rolled back.
+    // If it fails, the connection is as it was, or its transaction is rolled back, or it is shut.
     ensures aborts { HasCleanDisk (state S.Store conn.new) → (state S.Store conn.old).now.schema ≡ entry_schema
         → OnErr result (Aborts (state S.Store conn.old) (state S.Store conn.new)) }
 
@@ -374,11 +374,11 @@ pub fn len<S: Alter>(conn: &mut Connection<S>) -> Result<u64, Error>
     ensures count { HasCleanDisk (state S.Store conn.new) → (state S.Store conn.old).now.schema ≡ entry_schema
         → IfOk result (λ count. count ≡ row_count (state S.Store conn.old).now) }
 
-    // The database is as it was.
+    // If it succeeds, the database is as it was.
     ensures same { HasCleanDisk (state S.Store conn.new) → (state S.Store conn.old).now.schema ≡ entry_schema
         → OnOk result (IsUnchanged (state S.Store conn.old) (state S.Store conn.new)) }
 
-    // If it fails, the connection is as it was, or its transaction is rolled back.
+    // If it fails, the connection is as it was, or its transaction is rolled back, or it is shut.
     ensures aborts { HasCleanDisk (state S.Store conn.new) → (state S.Store conn.old).now.schema ≡ entry_schema
         → OnErr result (Aborts (state S.Store conn.old) (state S.Store conn.new)) }
 

@@ -49,7 +49,7 @@ pub fn put<S: Alter, K: Serialize, V: Serialize>(
         → IsTrue (state S.Store conn.old).in_transaction
         → OnOk result (StaysInside (state S.Store conn.old) (state S.Store conn.new)) }
 
-    // If it fails on an open connection, the connection is as it was, or its transaction is rolled back.
+    // If it fails on an open connection, that is as it was, or its transaction is rolled back, or it is shut.
     ensures aborts { HasCleanDisk (state S.Store conn.new) → IsTrue (state S.Store conn.old).is_open
         → OnErr result (Aborts (state S.Store conn.old) (state S.Store conn.new)) }
 
@@ -63,7 +63,7 @@ pub fn put<S: Alter, K: Serialize, V: Serialize>(
     ensures kept { HasCleanDisk (state S.Store conn.new) → IsServing (state S.Store conn.old)
         → OnErr result (Keeps (state S.Store conn.old) (state S.Store conn.new)) }
 
-    // It fails for the database or for memory alone.
+    // No error is `Json(Invalid)`.
     ensures valid { result ≡ Err (Json Invalid) → ⊥ }
 
     // The two texts spell the normal forms of the two trees.
@@ -105,7 +105,7 @@ pub fn remove<S: Alter, K: Serialize>(
         → IsTrue (state S.Store conn.old).in_transaction
         → OnOk result (StaysInside (state S.Store conn.old) (state S.Store conn.new)) }
 
-    // If it fails on an open connection, the connection is as it was, or its transaction is rolled back.
+    // If it fails on an open connection, that is as it was, or its transaction is rolled back, or it is shut.
     ensures aborts { HasCleanDisk (state S.Store conn.new) → IsTrue (state S.Store conn.old).is_open
         → OnErr result (Aborts (state S.Store conn.old) (state S.Store conn.new)) }
 
@@ -119,7 +119,7 @@ pub fn remove<S: Alter, K: Serialize>(
     ensures kept { HasCleanDisk (state S.Store conn.new) → IsServing (state S.Store conn.old)
         → OnErr result (Keeps (state S.Store conn.old) (state S.Store conn.new)) }
 
-    // It fails for the database or for memory alone.
+    // No error is `Json(Invalid)`.
     ensures valid { result ≡ Err (Json Invalid) → ⊥ }
     ensures clean { HasCleanDisk (state S.Store conn.new) → HasCleanDisk (state S.Store conn.old) }
 {
@@ -165,7 +165,7 @@ pub fn get<S: Alter, K: Serialize, V: Stable + Lossless>(
         × Holds (state S.Store conn.old).now (canonical_text (K.tree key.now)) body
         × ((v : V) → V.real v → IsJson body (norm (V.tree v)) → ⊥) }
 
-    // The database is as it was.
+    // If it succeeds, the database is as it was.
     ensures same { HasCleanDisk (state S.Store conn.new) → (state S.Store conn.old).now.schema ≡ entry_schema
         → OnOk result (IsUnchanged (state S.Store conn.old) (state S.Store conn.new)) }
 
@@ -215,7 +215,7 @@ pub fn has<S: Alter, K: Serialize>(
         → IfOk result (λ found. IsTrue found ↔ HasKey (state S.Store conn.old).now (canonical_text (K.tree key.now))) }
     ensures missing { result ≡ Err (Database QueryReturnedNoRows) → ⊥ }
 
-    // The database is as it was.
+    // If it succeeds, the database is as it was.
     ensures same { HasCleanDisk (state S.Store conn.new) → (state S.Store conn.old).now.schema ≡ entry_schema
         → OnOk result (IsUnchanged (state S.Store conn.old) (state S.Store conn.new)) }
 
@@ -229,7 +229,7 @@ pub fn has<S: Alter, K: Serialize>(
     ensures kept { HasCleanDisk (state S.Store conn.new) → IsServing (state S.Store conn.old)
         → Keeps (state S.Store conn.old) (state S.Store conn.new) }
 
-    // It fails for the database or for memory alone.
+    // No error is `Json(Invalid)`.
     ensures valid { result ≡ Err (Json Invalid) → ⊥ }
     ensures clean { HasCleanDisk (state S.Store conn.new) → HasCleanDisk (state S.Store conn.old) }
 {
@@ -263,7 +263,7 @@ pub fn put_and_get<S: Alter, K: Serialize, V: Stable + Lossless>(
         → IfOk result (λ answer. IfSome answer (λ read. V.means.content read ≡ V.means.content value.now)) }
     ensures some { HasCleanDisk (state S.Store conn.new) → IsStore (state S.Store conn.old).now → result ≡ Ok None → ⊥ }
 
-    // It fails for the database or for memory alone.
+    // No error is `Json(Invalid)`.
     ensures valid { HasCleanDisk (state S.Store conn.new) → IsStore (state S.Store conn.old).now
         → result ≡ Err (Json Invalid) → ⊥ }
 
@@ -283,7 +283,7 @@ pub fn put_and_get<S: Alter, K: Serialize, V: Stable + Lossless>(
     get(alloc, conn, key)
 }
 
-/// Returns all keys with their values, in the byte order of the keys' canonical texts. Returns `Database` if the
+/// Returns all keys with their values, in the byte order of the keys' texts. Returns `Database` if the
 /// database fails, and `Json` if a text means no value or an allocation fails.
 pub fn each<S: Alter, K: Stable + Lossless, V: Stable + Lossless>(
     alloc: Global,
@@ -301,7 +301,7 @@ pub fn each<S: Alter, K: Stable + Lossless, V: Stable + Lossless>(
         × (((k : K) → K.real k → IsJson key (norm (K.tree k)) → ⊥)
         ⊎ ((v : V) → V.real v → IsJson body (norm (V.tree v)) → ⊥)) }
 
-    // The database is as it was.
+    // If it succeeds, the database is as it was.
     ensures same { HasCleanDisk (state S.Store conn.new) → (state S.Store conn.old).now.schema ≡ entry_schema
         → OnOk result (IsUnchanged (state S.Store conn.old) (state S.Store conn.new)) }
 

@@ -28,11 +28,11 @@ fn next_texts<S: Alter>(rows: &mut Rows<'_, S>) -> Result<Option<(String, String
     ensures shows { HasCleanDisk (state S.Store rows.new.conn.now) → IfOk result (λ next. (row : _)
         × Advances S.Store rows.old.conn.now rows.new.conn.now row × ShowsTexts row next) }
 
-    // The database is as it was.
+    // If it succeeds, the database is as it was.
     ensures same { HasCleanDisk (state S.Store rows.new.conn.now)
         → OnOk result (IsUnchanged (state S.Store rows.old.conn.now) (state S.Store rows.new.conn.now)) }
 
-    // If it fails, the connection is as it was, or its transaction is rolled back.
+    // If it fails, the connection is as it was, or its transaction is rolled back, or it is shut.
     ensures aborts { HasCleanDisk (state S.Store rows.new.conn.now)
         → OnErr result (Aborts (state S.Store rows.old.conn.now) (state S.Store rows.new.conn.now)) }
     ensures clean { HasCleanDisk (state S.Store rows.new.conn.now) → HasCleanDisk (state S.Store rows.old.conn.now) }
@@ -49,20 +49,20 @@ fn next_texts<S: Alter>(rows: &mut Rows<'_, S>) -> Result<Option<(String, String
 }
 
 /// Visits the rows in the byte order of the keys, until the visitor stops or fails. Returns whether it went on at each.
-/// Returns `Database` if the database fails, and the error of the visitor if that fails.
+/// Returns the error of the visitor, or a `Database` if the database fails.
 pub fn visit_rows<S: Alter, V: Visit>(
     conn: &mut Connection<S>,
     visitor: &mut V,
 ) -> Result<bool, Error>
-    // The visitor took the first rows of the store, none left out and none twice, and all of them if it went on at each.
+    // The visitor took the first rows of the store, none left out and none twice, and all of them if the call returns true.
     ensures visited { HasCleanDisk (state S.Store conn.new) → IsStore (state S.Store conn.old).now
         → Visited V.takes (state S.Store conn.old).now visitor.old visitor.new result }
 
-    // The database is as it was.
+    // If it succeeds, the database is as it was.
     ensures same { HasCleanDisk (state S.Store conn.new) → (state S.Store conn.old).now.schema ≡ entry_schema
         → OnOk result (IsUnchanged (state S.Store conn.old) (state S.Store conn.new)) }
 
-    // If it fails, the connection is as it was, or its transaction is rolled back.
+    // If it fails, the connection is as it was, or its transaction is rolled back, or it is shut.
     ensures aborts { HasCleanDisk (state S.Store conn.new) → (state S.Store conn.old).now.schema ≡ entry_schema
         → OnErr result (Aborts (state S.Store conn.old) (state S.Store conn.new)) }
 

@@ -84,7 +84,9 @@ module _ {S : Type 0} (g : Ghosts S) {V T : Type 0} (means : Meaning V) (tree : 
     received = it.received;
     settled = refl;
     sent = it.sent;
-    lost = it.lost;
+    among = it.among;
+    gone = it.gone;
+    others = it.others;
   }
 
   pub round_of_map : (kept : Bool) → Settled kept → HasCleanDisk (state g new.0) → (m : Map) → IsBetween m (state g old.0) old.1

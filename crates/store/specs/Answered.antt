@@ -83,8 +83,8 @@ IsStatus code response = IsResponse code [] [] response
 abbrev pub condition_on : Entries FieldValue → Option (List ℕ) → Condition
 condition_on headers current = condition_at headers (option_map tag_of current)
 
--- The response to a read of a text: 200 with the text, 304 with its tag if the client has it, or 412 if the client does not
--- want it (RFC 9110, sections 13.1.1, 13.1.2 and 15.4.5).
+-- The response to a read of a text: 200 with the text, 304 with its tag if `If-None-Match` lists that or is `*`, or 412 if
+-- `If-Match` does not hold (RFC 9110, sections 13.1.1, 13.1.2 and 15.4.5).
 abbrev pub ShownBy : Condition → List ℕ → Response → Type 0
 ShownBy Met text response = IsResponse 200 (shown_fields text) text response
 ShownBy Cached text response = IsResponse 304 (etag_field (tag_of text) ∷ []) [] response

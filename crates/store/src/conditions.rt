@@ -8,7 +8,7 @@ use http::{HeaderMap, HeaderName, header};
 /// Whether the conditions of a request hold.
 #[derive(Clone, Copy, PartialEq, Eq, Debug, Drop)]
 pub enum Condition {
-    /// Both hold, or are absent.
+    /// Each holds or is absent.
     Met,
     /// `If-Match` does not hold.
     Failed,

@@ -203,8 +203,8 @@ fn not_allowed(response: &mut Response) -> Result<(), AllocError>
     response.add_header(header::ALLOW, HeaderValue::from_static("GET, HEAD"))
 }
 
-/// Fills the response to a request for the list of entries. Returns an error if an allocation fails, and has then changed
-/// nothing.
+/// Fills the response to a request for the list of entries. Returns an error if the field of a 405 cannot be allocated; the
+/// connection is then as it was.
 pub fn answer_list<S: Alter>(
     alloc: Global,
     conn: &mut Connection<S>,

@@ -131,8 +131,8 @@ fn remove_in_round<S: Alter>(
     texts::is_in_transaction(conn)
 }
 
-// Answers a request for the list of entries in a round. Returns whether the round still stands. Returns an error if an
-// allocation fails, and has then changed nothing.
+// Answers a request for the list of entries in a round. Returns whether the round still stands. Returns an error if
+// the field of a 405 cannot be allocated; the connection is then as it was.
 fn list_in_round<S: Alter>(
     alloc: Global,
     conn: &mut Connection<S>,
@@ -177,7 +177,7 @@ impl<S: Alter, V, E> Model for RoundService<S, V, E> {
 }
 
 impl<S: Alter, V: Stable + Lossless, E: Explain<V>> RoundService<S, V, E> {
-    /// Returns the store of a connection, which has the table.
+    /// Returns the store of a connection. The clauses on values suppose that it has the table.
     pub fn new(alloc: Global, conn: Connection<S>) -> RoundService<S, V, E>
         ensures { result ≡ (conn, true) }
     {

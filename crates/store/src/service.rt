@@ -34,7 +34,7 @@ impl<S: Alter, V, E> Model for StoreService<S, V, E> {
 }
 
 impl<S: Alter, V: Stable + Lossless, E: Explain<V>> StoreService<S, V, E> {
-    /// Returns the store of a connection, which has the table.
+    /// Returns the store of a connection. The clauses on values suppose that it has the table.
     pub fn new(alloc: Global, conn: Connection<S>) -> StoreService<S, V, E>
         ensures { result ≡ conn }
     {

@@ -4,7 +4,7 @@ ghost use Rattle.std.specs.List.{AllByRecursion};
 ghost use Rattle.sqlite.specs.Held.{state};
 ghost use Rattle.sqlite.specs.State.{HasCleanDisk};
 ghost use Rattle.slab.specs.Slab.{get};
-ghost use Rattle.turns.specs.Shared.{Turns, IsShared, IsAtRest};
+ghost use Rattle.turns.specs.Shared.{Turns, IsShared, IsAtRest, OthersStay};
 ghost use Rattle.store.specs.Maps.{Map, AnsweredMap, Represents};
 ghost use Rattle.turns.specs.Settled.{IsSettled};
 ghost use Rattle.store.specs.Rounds.{IsBetween, AnsweredIf, LeavesMap};
@@ -40,6 +40,9 @@ pub fn serve_round<S: Alter, V: Stable + Lossless, E: Explain<V>, T: Read + Writ
     // Each connection of these keys has had its turn: if it is still there and open, it has called the service for
     // each whole request that it received, as far as its output has room.
     ensures rests { OnOk result (AllByRecursion (λ key. IsAtRest (get peers.new key)) keys.now) }
+
+    // No other connection is touched.
+    ensures others { OthersStay keys.now (get peers.old) (get peers.new) }
     ensures none { OnErr result ((peers.new ≡ peers.old) × (service.new ≡ service.old)) }
 {
     round(peers, keys, service, now, unfinished)
@@ -58,8 +61,8 @@ pub fn serve_settled_round<S: Alter, V: Stable + Lossless, E: Explain<V>, T: Rea
 ) -> Result<bool, AllocError>
     // The connections of these keys are heard, the round is settled, and then they are written to, as `settled_round` says it.
     // If the round is committed, their responses, in the order of their turns, are those of one map that begins with the rows of
-    // the store, and the map's last entries are the last commit. If not, the map is the one from before, and no connection that
-    // made a call is left.
+    // the store, and its last entries are the last commit: where the map has changed, the database is open. If the round is not
+    // committed, the map is the one from before, and none of these connections is left.
     ensures settled { IfOk result (λ kept. HasCleanDisk (state S.Store service.new.0) → (m : Map)
         → IsBetween m (state S.Store service.old.0) service.old.1 → (turns : Turns) × (last : Map)
         × IsSettled (AnsweredIf V.means V.tree kept) (LeavesMap m) T.remaining T.contents keys.now m last

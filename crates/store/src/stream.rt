@@ -17,8 +17,8 @@ use std::hash::RandomState;
 use std::io;
 use std::io::{Read, Write};
 
-/// Reads requests, and writes the responses of a store. Returns the error of a read or a write that fails. If memory for a
-/// request or its response cannot be had, the connection ends there, which is no error.
+/// Reads requests, and writes the responses of a store. Returns the error of a read or a write that fails. If memory
+/// runs out, the connection ends there, with an error or with none.
 pub fn serve_stream<S: Alter, V: Stable + Lossless, E: Explain<V>, R: Read, W: Write>(
     alloc: Global,
     keys: RandomState,
