@@ -263,6 +263,19 @@ def too_many(program, folder):
     return f"{len(clients)} connections: {len(first)} answered, and {len(then)} more once as many were closed; {memory / 1000:.0f} MB"
 
 
+def shown_on_page(program, folder):
+    """Runs the commands of docs/USES.md, each of which prints what stands below it there."""
+    block = re.search(r"<!-- curl -->\n\n```text\n(.*?)```", (ROOT / "docs/USES.md").read_text(), re.S)[1]
+    steps = [step.partition("\n") for step in block.split("$ curl ")[1:]]
+    with Server(program, f"{folder}/page.db") as server:
+        words = {**os.environ, "at": f"http://127.0.0.1:{server.port}/entries"}
+        for command, _, wanted in steps:
+            said = subprocess.run(["bash", "-c", f"curl --max-time 20 {command}"], env=words, capture_output=True, text=True).stdout
+            expect(said.strip() == wanted.strip(), f"curl {command}: {said!r}, and docs/USES.md has {wanted!r}")
+        server.end()
+    return f"{len(steps)} commands of docs/USES.md"
+
+
 def refused_starts(program, folder):
     """Starts the server where it cannot run: each time it says why, and no file changes."""
     def start(*words):
@@ -288,7 +301,7 @@ def refused_starts(program, folder):
     return "a second server on a file, one on a port, wrong words, no folder, another table: refused"
 
 
-TRIALS = (each_status, pieces, at_once, slow_clients, flood, too_many, killed, terminated, full_disk, refused_starts)
+TRIALS = (shown_on_page, each_status, pieces, at_once, slow_clients, flood, too_many, killed, terminated, full_disk, refused_starts)
 
 
 def made_program(folder):
