@@ -4,7 +4,7 @@ use demo::{Demo, Example, Nested, Tag};
 use miniserde::error::Result;
 use miniserde::json::from_str;
 use std::alloc::Global;
-use test_tables::{Wrong, expect_ok, expect_prefixes_invalid, expect_read_itself, expect_table};
+use test_tables::{Wrong, expect_ok, expect_prefixes_invalid, expect_read_again, expect_table};
 
 const DEMO: &str =
     r#" {"code": 200, "message": "reminiscent of Serde"}  => {"code":200,"message":"reminiscent of Serde"}
@@ -62,7 +62,7 @@ fn a_struct_of_structs_is_read_again_as_itself(rt: HostRuntime) -> std::result::
     let alloc = rt.alloc();
     expect_table::<Tag>(alloc, TAGS)?;
     expect_table::<Nested>(alloc, r#"{} => {"y":null,"z":null}"#)?;
-    expect_read_itself::<Example>(alloc, EXAMPLE)
+    expect_read_again::<Example>(alloc, EXAMPLE)
 }
 
 /// Returns whether a struct is read past an unknown member so many lists deep.

@@ -6,7 +6,7 @@ use miniserde::json::{from_str, to_string};
 use miniserde::write_and_read;
 use std::alloc::Global;
 use std::collections::{BTreeMap, VecDeque};
-use test_tables::{Wrong, expect_ok, expect_one_value};
+use test_tables::{Wrong, expect_ok, expect_one_value, expect_prefixes_invalid};
 
 const NUMBERS: &str = r#"[] => same
 [1] => same
@@ -71,14 +71,14 @@ const WAITING: &str = r#"{"a":[-1,null],"b":[]} => same
 #[test]
 fn a_queue_is_a_list(rt: HostRuntime) -> std::result::Result<(), Wrong> {
     let alloc = rt.alloc();
-    expect_each::<VecDeque<u64>>(alloc, NUMBERS, "[7,0,18446744073709551615 ]")?;
-    expect_each::<VecDeque<String>>(alloc, NAMES, r#"["a"]"#)?;
-    expect_each::<VecDeque<VecDeque<(u8, String)>>>(alloc, ROUNDS, r#"[[[1,"a"]]]"#)?;
-    expect_each::<BTreeMap<String, VecDeque<Option<i8>>>>(alloc, WAITING, r#"{"a":[-1]}"#)?;
+    expect_each::<VecDeque<u64>>(alloc, NUMBERS)?;
+    expect_prefixes_invalid::<VecDeque<u64>>(alloc, "[7,0,18446744073709551615 ]")?;
+    expect_each::<VecDeque<String>>(alloc, NAMES)?;
+    expect_each::<VecDeque<VecDeque<(u8, String)>>>(alloc, ROUNDS)?;
+    expect_each::<BTreeMap<String, VecDeque<Option<i8>>>>(alloc, WAITING)?;
     expect_each::<(VecDeque<bool>, Option<Box<VecDeque<()>>>)>(
         alloc,
         "[[true],[null]] => same\n[[],null] => same\n[[]]\n[null,null]\n[[],[1]]\n[[null],[]]",
-        "[[true],[null]]",
     )?;
     expect_one_value::<VecDeque<i8>>(alloc, "[ 1, -0 , -2 ] => [1,0,-2]")?;
     expect_one_value::<VecDeque<VecDeque<String>>>(
