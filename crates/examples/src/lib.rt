@@ -7,7 +7,6 @@ pub mod answers;
 pub mod basket;
 pub mod batches;
 pub mod by_events;
-pub mod canonical;
 pub mod command;
 pub mod commands;
 pub mod counter;

@@ -1,7 +1,7 @@
 //! Commands, whose variants may have data.
 
 use examples::command::Command;
-use examples::commands::{is_ping, step_of};
+use examples::commands::is_ping;
 use examples::reply::Reply;
 use miniserde::error::Error;
 use test_tables::{
@@ -90,7 +90,7 @@ fn a_command_is_a_name_or_an_object_of_one_member(rt: HostRuntime) -> Result<(),
 }
 
 #[test]
-fn a_ping_and_a_step_are_known(rt: HostRuntime) -> Result<(), Wrong> {
+fn a_ping_is_known(rt: HostRuntime) -> Result<(), Wrong> {
     let alloc = rt.alloc();
     expect(matches!(is_ping(alloc, r#""Ping""#), Ok(true)), "a ping")?;
     expect(
@@ -99,18 +99,6 @@ fn a_ping_and_a_step_are_known(rt: HostRuntime) -> Result<(), Wrong> {
     )?;
     expect(
         matches!(is_ping(alloc, r#"{"Ping":null}"#), Err(Error::Invalid)),
-        "no command",
-    )?;
-    expect(
-        matches!(
-            step_of(alloc, r#"{"Move":{"y":-2,"x":1}}"#),
-            Ok(Some((1, -2)))
-        ),
-        "a step",
-    )?;
-    expect(matches!(step_of(alloc, r#""Ping""#), Ok(None)), "no step")?;
-    expect(
-        matches!(step_of(alloc, r#"{"Move":{"y":-2}}"#), Err(Error::Invalid)),
         "no command",
     )
 }
