@@ -1,6 +1,6 @@
 //! Structs and their canonical texts.
 
-use demo::{Demo, Example, Point, StrictDemo};
+use demo::{Demo, Example, StrictDemo};
 use test_tables::{Wrong, expect_canonical_of, expect_one_value, expect_refused};
 
 const DEMOS: &str = r#"{"message":"a\/", "code":1, "code":2} => {"code":2,"message":"a/"}
@@ -9,7 +9,10 @@ const DEMOS: &str = r#"{"message":"a\/", "code":1, "code":2} => {"code":2,"messa
 #[test]
 fn a_demo_is_stable(rt: HostRuntime) -> Result<(), Wrong> {
     expect_one_value::<Demo>(rt.alloc(), DEMOS)?;
-    expect_one_value::<Vec<Point>>(rt.alloc(), r#"[{"y":2,"x":1,"y":3}] => [{"x":1,"y":3}]"#)
+    expect_one_value::<Vec<Demo>>(
+        rt.alloc(),
+        r#"[{"message":"b","code":1,"message":"c"}] => [{"code":1,"message":"c"}]"#,
+    )
 }
 
 const STRICT: &str = r#"{"message":"","code":1} => {"code":1,"message":""}
