@@ -220,7 +220,10 @@ fn is_left(rt: &HostRuntime, stream: Wire, later: Duration) -> Result<bool, Fail
     let since = came.since;
     let key = peers.insert(came)?;
     let mut service = Counter { count: 0 };
-    round_of(rt, &mut peers, &[key], &mut service, since + later)?;
+    let Some(now) = since.checked_add(later) else {
+        return Err(Fail::from(ErrorKind::InvalidData));
+    };
+    round_of(rt, &mut peers, &[key], &mut service, now)?;
     let Some(peer) = peers.get(key) else {
         return Err(Fail::from(ErrorKind::NotFound));
     };
