@@ -132,3 +132,128 @@ impl Deserialize for Demo {
 
     fn tied() {}
 }
+
+/// A struct of two fields of one type.
+#[derive(Drop)]
+pub struct Point {
+    pub x: u32,
+    pub y: u32,
+}
+
+// Its fields, and their names.
+type PointFields = Slot<u32, Slot<u32, NoSlot>>;
+
+const POINT_NAMES: &[&str] = &["x", "y"];
+
+impl Record for Point {
+    ghost use Rattle.demo.specs.declared.structs.TheConstants.{POINT_NAMES};
+
+    type Values = <PointFields as Slots>::Values;
+
+    ghost names = { names_of POINT_NAMES };
+
+    ghost values = { λ v. (v.x, (v.y, tt)) };
+
+    ghost made = { λ x. record { x = x.0; y = x.1.0 } };
+
+    ghost bijective = { (λ v. refl, λ x. refl) };
+
+    ghost distinct_names = { refl };
+
+    fn names() -> &'static [&'static str] {
+        POINT_NAMES
+    }
+
+    fn build(parts: Self::Values) -> Point {
+        let Parts(x, Parts(y, ())) = parts;
+        Point { x, y }
+    }
+}
+
+impl FromJson for Point {
+    ghost means = { struct_meaning ⟦<PointFields as Slots>⟧.meaning ⟦<Point as Record>⟧.names
+        ⟦<Point as Record>⟧.values };
+
+    fn missing() -> Option<Point> {
+        None
+    }
+
+    fn read<'a>(token: Event<'a>, source: &mut Source<'a>) -> Result<Point> {
+        read_record::<Point, PointFields>(token, source)
+    }
+}
+
+impl Serialize for Point {
+    ghost tree = { record_tree ⟦<Point as Record>⟧.names ⟦<PointFields as WrittenFields>⟧.trees
+        ⟦<Point as Record>⟧.values };
+
+    fn begin(&self, w: &mut Writer) -> Result<()> {
+        write_members(w, POINT_NAMES, &Parts(&self.x, Parts(&self.y, ())))
+    }
+}
+
+impl Ranged for Point {
+    ghost real = { λ v. ⟦<PointFields as WrittenFields>⟧.real (⟦<Point as Record>⟧.values v) };
+
+    fn ranged(&self) {
+        self.x.ranged();
+        self.y.ranged();
+    }
+}
+
+impl RoundTrip for Point {
+    fn round_trips() {
+        record_round_trips::<Point, PointFields>()
+    }
+}
+
+impl Stable for Point {
+    fn stable() {
+        record_stable::<Point, PointFields>()
+    }
+}
+
+/// The place of a `Point`.
+#[derive(Drop)]
+pub struct PointPlace {
+    place: RecordPlace<Point>,
+}
+
+impl PlacedRecord for Point {
+    type Fields = Field<u32, Field<u32, NoField>>;
+}
+
+impl Visitor for PointPlace {
+    type Out = Point;
+
+    ghost meaning = { wrapper_meaning (λ p. p.place) ⟦<RecordPlace<Point> as Visitor>⟧.meaning };
+
+    fn begin(alloc: Global) -> Result<PointPlace> {
+        Ok(PointPlace {
+            place: <RecordPlace<Point> as Visitor>::begin(alloc)?,
+        })
+    }
+
+    fn step(&mut self, event: Step<'_>) -> Result<()> {
+        self.place.step(event)
+    }
+
+    fn refuse(&mut self, error: Error) -> Error {
+        self.place.refuse(error)
+    }
+
+    fn is_complete(&self) -> bool {
+        self.place.is_complete()
+    }
+
+    fn take(self) -> Result<Point> {
+        let PointPlace { place } = self;
+        place.take()
+    }
+}
+
+impl Deserialize for Point {
+    type Place = PointPlace;
+
+    fn tied() {}
+}

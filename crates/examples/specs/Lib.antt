@@ -1,6 +1,7 @@
 pub mod Orders
 pub mod Elements
 pub mod Counter
+pub mod Checks
 pub mod Rates
 pub mod Actions
 pub mod Commands

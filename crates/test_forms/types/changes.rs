@@ -1,11 +1,11 @@
-use crate::hosts::Host;
+use crate::commands::Task;
 
-/// A change: the data of its variants stands in one object with the tag.
-pub enum Change { // tag "kind", lossless
+/// A change of a plan: the data of its variants stands in one object with the tag.
+pub enum Change { // tag "kind", lossless, stable
     Clear,
-    Add(Host),
+    Run(Task),
     Mark {
-        at: (u8, u8, u8), // alias "old"
-        note: Option<String>, // omit, alias "new"
+        at: (u8, u8, u8),
+        note: Option<String>, // omit
     },
 }

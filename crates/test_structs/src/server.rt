@@ -6,12 +6,12 @@ ghost use Rattle.std.specs.Prelude.{refl};
 
 use crate::listeners::Listener;
 use miniserde::derived::{
-    Closed, Empty, Event, FourLent, FourParts, FourSlot, FromJson, Given, Global, Lossless,
-    MarkedFour, NeverNull, Once, Parts, Plain, Ranged, Record, Result, RoundTrip, Serialize, Slot,
-    Slots, Source, Stable, WithDefault, Writer, WrittenFields, read_record, record_lossless,
+    Closed, Event, FourLent, FourParts, FourSlot, FromJson, Given, Global, Lossless, MarkedFour,
+    NeverNull, Once, Parts, Plain, Ranged, Record, Result, RoundTrip, Serialize, Slot, Slots,
+    Source, Stable, WithDefault, Writer, WrittenFields, read_record, record_lossless,
     record_round_trips, record_stable, take_four, write_members,
 };
-use std::collections::{BTreeMap, VecDeque};
+use std::collections::BTreeMap;
 
 /// Thirty settings of a server. An unknown name is invalid.
 #[derive(Drop)]
@@ -43,7 +43,7 @@ pub struct Server {
     pub timeout: u32,
     pub proxy: Option<String>,
     pub secret: String,
-    pub tags: VecDeque<String>,
+    pub tags: Vec<String>,
     pub flags: BTreeMap<String, bool>,
     pub note: Option<String>,
 }
@@ -61,15 +61,11 @@ impl Given<u16> for ServerRetriesDefault {
 }
 
 // Its fields, and their names.
-type ServerFields = MarkedFour<
+type ServerFields = FourSlot<
     String,
-    Plain,
     u64,
-    Plain,
     String,
-    Plain,
     Option<String>,
-    WithDefault<Empty>,
     FourSlot<
         u32,
         bool,
@@ -99,15 +95,11 @@ type ServerFields = MarkedFour<
                         Plain,
                         u16,
                         WithDefault<ServerRetriesDefault>,
-                        MarkedFour<
+                        FourSlot<
                             u32,
-                            Plain,
                             Option<String>,
-                            Plain,
                             String,
-                            Plain,
-                            VecDeque<String>,
-                            WithDefault<Empty>,
+                            Vec<String>,
                             Slot<BTreeMap<String, bool>, Slot<Option<String>, Closed>>,
                         >,
                     >,

@@ -1,7 +1,5 @@
-use crate::generic::Both;
-
 /// What is inside a change.
 pub enum Inner { // tag "type", lossless, stable
     Empty,
-    Two(Both<u8, Vec<u8>>),
+    Two { v: u8, types: Vec<u8> },
 }

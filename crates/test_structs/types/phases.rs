@@ -1,6 +1,5 @@
 /// How far a job is.
-#[derive(Debug, Clone, Copy, PartialEq)]
-pub enum Phase { // rename_all "SCREAMING_SNAKE_CASE"
+pub enum Phase { // rename_all "SCREAMING_SNAKE_CASE", lossless
     NotBegun,
     InProgress,
     Done, // rename "done"
