@@ -51,7 +51,7 @@ module _ {V : Type 0} (takes : Takes V) where
 
 -- the row shows this key and this body, and with no row there is none
 abbrev pub ShowsTexts : Option Row → Option (String Global × String Global) → Type 0
-ShowsTexts (Some row) (Some texts) = ◌≡◌ {A = Value × Value} (column row 0, column row 1) (words_of (texts_of texts))
-ShowsTexts (Some row) None = ⊥
+ShowsTexts (Some given) (Some texts) = ◌≡◌ {A = Value × Value} (column given 0, column given 1) (words_of (texts_of texts))
+ShowsTexts (Some given) None = ⊥
 ShowsTexts None (Some texts) = ⊥
 ShowsTexts None None = ⊤
