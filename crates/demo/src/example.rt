@@ -6,10 +6,10 @@ ghost use Rattle.std.specs.Prelude.{refl};
 
 use crate::tag::Tag;
 use miniserde::derived::{
-    Deserialize, Error, Event, Field, Four, FourLent, FourParts, FourSlot, FromJson, Global,
-    Lossless, NeverNull, NoField, NoSlot, Parts, PlacedRecord, Ranged, Record, RecordPlace, Result,
-    RoundTrip, Serialize, Slot, Slots, Source, Stable, Step, Visitor, Writer, WrittenFields,
-    read_record, record_lossless, record_round_trips, record_stable, take_four, write_members,
+    Deserialize, Error, Event, Field, FourLent, FourParts, FourSlot, FromJson, Global, NoField,
+    NoSlot, Parts, PlacedRecord, Ranged, Record, RecordPlace, Result, RoundTrip, Serialize, Slot,
+    Slots, Source, Stable, Step, Visitor, Writer, WrittenFields, read_record, record_round_trips,
+    record_stable, take_four, write_members,
 };
 
 /// A struct of two optional fields.
@@ -84,16 +84,6 @@ impl RoundTrip for Nested {
     fn round_trips() {
         record_round_trips::<Nested, NestedFields>()
     }
-}
-
-impl Lossless for Nested {
-    fn lossless() {
-        record_lossless::<Nested, NestedFields>()
-    }
-}
-
-impl NeverNull for Nested {
-    fn never_null() {}
 }
 
 impl Stable for Nested {
@@ -250,63 +240,8 @@ impl RoundTrip for Example {
     }
 }
 
-impl Lossless for Example {
-    fn lossless() {
-        record_lossless::<Example, ExampleFields>()
-    }
-}
-
-impl NeverNull for Example {
-    fn never_null() {}
-}
-
 impl Stable for Example {
     fn stable() {
         record_stable::<Example, ExampleFields>()
     }
-}
-
-/// The place of a `Example`.
-#[derive(Drop)]
-pub struct ExamplePlace {
-    place: RecordPlace<Example>,
-}
-
-impl PlacedRecord for Example {
-    type Fields = Four<String, Tag, Box<Tag>, [Tag; 1], Field<Box<Nested>, NoField>>;
-}
-
-impl Visitor for ExamplePlace {
-    type Out = Example;
-
-    ghost meaning = { wrapper_meaning (λ p. p.place) ⟦<RecordPlace<Example> as Visitor>⟧.meaning };
-
-    fn begin(alloc: Global) -> Result<ExamplePlace> {
-        Ok(ExamplePlace {
-            place: <RecordPlace<Example> as Visitor>::begin(alloc)?,
-        })
-    }
-
-    fn step(&mut self, event: Step<'_>) -> Result<()> {
-        self.place.step(event)
-    }
-
-    fn refuse(&mut self, error: Error) -> Error {
-        self.place.refuse(error)
-    }
-
-    fn is_complete(&self) -> bool {
-        self.place.is_complete()
-    }
-
-    fn take(self) -> Result<Example> {
-        let ExamplePlace { place } = self;
-        place.take()
-    }
-}
-
-impl Deserialize for Example {
-    type Place = ExamplePlace;
-
-    fn tied() {}
 }

@@ -9,8 +9,8 @@ mod structs;
 mod tag;
 
 pub use duplicates::duplicate_names;
-pub use example::{Example, ExamplePlace, Nested, NestedPlace};
+pub use example::{Example, Nested, NestedPlace};
 pub use repeats::repeated_name;
 pub use strict::{StrictDemo, StrictDemoPlace};
-pub use structs::{Demo, DemoPlace, Point, PointPlace};
+pub use structs::{Demo, DemoPlace};
 pub use tag::Tag;

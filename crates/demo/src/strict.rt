@@ -11,11 +11,11 @@ use miniserde::derived::{
     write_members,
 };
 
-/// As `Demo`, and invalid if `code` or `message` is duplicated among its members. Other names may be.
+/// As `Demo`, whose `message` is the field `text`, and invalid if `code` or `message` is duplicated among its members. Other names may be.
 #[derive(Drop)]
 pub struct StrictDemo {
     pub code: u32,
-    pub message: String,
+    pub text: String,
 }
 
 // Its fields, and their names.
@@ -30,9 +30,9 @@ impl Record for StrictDemo {
 
     ghost names = { names_of STRICT_DEMO_NAMES };
 
-    ghost values = { λ v. (v.code, (v.message, tt)) };
+    ghost values = { λ v. (v.code, (v.text, tt)) };
 
-    ghost made = { λ x. record { code = x.0; message = x.1.0 } };
+    ghost made = { λ x. record { code = x.0; text = x.1.0 } };
 
     ghost bijective = { (λ v. refl, λ x. refl) };
 
@@ -43,8 +43,8 @@ impl Record for StrictDemo {
     }
 
     fn build(parts: Self::Values) -> StrictDemo {
-        let Parts(code, Parts(message, ())) = parts;
-        StrictDemo { code, message }
+        let Parts(code, Parts(text, ())) = parts;
+        StrictDemo { code, text }
     }
 }
 
@@ -67,7 +67,7 @@ impl Serialize for StrictDemo {
         write_members(
             w,
             STRICT_DEMO_NAMES,
-            &Parts(&self.code, Parts(&self.message, ())),
+            &Parts(&self.code, Parts(&self.text, ())),
         )
     }
 }
@@ -78,7 +78,7 @@ impl Ranged for StrictDemo {
 
     fn ranged(&self) {
         self.code.ranged();
-        self.message.ranged();
+        self.text.ranged();
     }
 }
 

@@ -1,15 +1,10 @@
--- What a command asks for, and which trees mean one: variant by variant, in the words of a user.
-use Rattle.std.specs.Prelude.{◌≡◌, ℤ, Option, Some, None, string_bytes, codes}
+-- Which trees mean a command: variant by variant, in the words of a user.
+use Rattle.std.specs.Prelude.{◌≡◌, ℤ, string_bytes, codes}
 use Rattle.miniserde.specs.Tree.{Tree, str, members, member, no_members}
 use Rattle.miniserde.specs.Integers.{signed_of, ReadsSigned}
 use Rattle.miniserde.specs.Fields.{LastMemberReads}
 use Rattle.examples.specs.declared.command.Command.{Command}
 use Rattle.examples.specs.declared.command.Command.TheVariants.{Ping, Text, Move}
-
--- the step of a command that moves
-abbrev pub step_in : Command → Option (ℤ × ℤ)
-step_in (Move x y) = Some (x, y)
-step_in c = None
 
 -- the tree is an object: each member `x` is an integer of 64 bits, and the last one is x; so of `y` and y
 abbrev pub IsStep : Tree → ℤ → ℤ → Type 0

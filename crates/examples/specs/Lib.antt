@@ -1,7 +1,6 @@
 pub mod Orders
 pub mod Elements
 pub mod Counter
-pub mod Checks
 pub mod Rates
 pub mod Actions
 pub mod Commands

@@ -9,31 +9,23 @@ ghost use Rattle.std.specs.Prelude.{◌≡◌, codes, length, true, string_bytes
 use miniserde::{Result, json, value};
 use std::alloc::Global;
 
-/// Answers that an order is paid.
-pub fn paid(alloc: Global, id: u64) -> Result<json::Value>
+/// Answers with a page of a paid order, a text among other texts, no note, what was found, and the name of the next page.
+pub fn page(
+    alloc: Global,
+    id: u64,
+    text: &str,
+    found: json::Value,
+    next: String,
+) -> Result<json::Value>
     ensures ok { IfOk result (λ v. tree_of v
-        ≡ members (member (codes "id") (nonneg id) (member (codes "paid") (truth true) no_members))) }
+        ≡ members (member (codes "found") (norm (content_of found)) (member (codes "id") (nonneg id)
+        (member (codes "next") (str (string_bytes next)) (member (codes "note") null (member (codes "paid") (truth true)
+        (member (codes "tags") (list (tree (str (codes "new")) (tree (str text.now) no_trees))) no_members))))))) }
     ensures memory { OnErr result (IsErrOf result Memory) }
 {
-    value!(in alloc; {"paid": true, "id": id})
-}
-
-/// Answers with a text among other texts, and no note.
-pub fn tagged(alloc: Global, text: &str) -> Result<json::Value>
-    ensures { IfOk result (λ v. tree_of v
-        ≡ members (member (codes "note") null
-        (member (codes "tags") (list (tree (str (codes "new")) (tree (str text.now) no_trees))) no_members))) }
-{
-    value!(in alloc; {"tags": ["new", text], "note": null})
-}
-
-/// Answers with a page of what was found, and the name of the next page.
-pub fn page(alloc: Global, found: json::Value, next: String) -> Result<json::Value>
-    ensures { IfOk result (λ v. tree_of v
-        ≡ members (member (codes "found") (norm (content_of found))
-        (member (codes "next") (str (string_bytes next)) no_members))) }
-{
-    value!(in alloc; {"found": found, "next": next})
+    value!(in alloc; {
+        "paid": true, "id": id, "tags": ["new", text], "note": null, "found": found, "next": next
+    })
 }
 
 /// Answers with an item of each form: null, an array, an object, an expression.

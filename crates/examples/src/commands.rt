@@ -2,7 +2,7 @@
 ghost use Rattle.std.specs.Prelude.{◌≡◌, ◌↔◌, true, None, IfOk, Err, codes};
 ghost use Rattle.miniserde.specs.Tree.{Tree, str};
 ghost use Rattle.miniserde.specs.Value.{IsJson};
-ghost use Rattle.examples.specs.Commands.{step_in, IsStep, IsCommand};
+ghost use Rattle.examples.specs.Commands.{IsStep, IsCommand};
 
 use crate::command::{Command, CommandMove};
 use miniserde::json::from_str;
@@ -23,18 +23,6 @@ pub fn is_ping(alloc: Global, text: &str) -> Result<bool>
     match command {
         Command::Ping => Ok(true),
         _ => Ok(false),
-    }
-}
-
-/// Parses a command, and returns its step if it is a `Move`.
-pub fn step_of(alloc: Global, text: &str) -> Result<Option<(i64, i64)>>
-    ensures { IfOk result (λ step. (t : Tree) × (c : Command) × IsJson text.now t
-        × ⟦<Command as FromJson>⟧.means.reads t c × (step ≡ step_in c)) }
-{
-    let command: Command = from_str(alloc, text)?;
-    match command {
-        Command::Move { x, y } => Ok(Some((x, y))),
-        _ => Ok(None),
     }
 }
 

@@ -6,7 +6,7 @@ ghost use Rattle.miniserde.specs.Value.{IsJson};
 use crate::order::Order;
 use crate::page::Page;
 use miniserde::json::from_str;
-use miniserde::{Error, FromJson, Lossless, Result, read_itself};
+use miniserde::{Error, FromJson, Result};
 use std::alloc::Global;
 
 /// Reads a page of orders, and returns how many orders it has.
@@ -28,12 +28,4 @@ pub fn next_of<T: FromJson>(alloc: Global, text: &str) -> Result<Option<String>>
     let page: Page<T> = from_str(alloc, text)?;
     let Page { items: _, next } = page;
     Ok(next)
-}
-
-/// Writes a page of anything, reads it again, and returns a page with the same content.
-pub fn copy_of<T: Lossless>(alloc: Global, page: &Page<T>) -> Result<Page<T>>
-    ensures { IfOk result (λ p. ⟦<Page<T> as FromJson>⟧.means.content p
-        ≡ ⟦<Page<T> as FromJson>⟧.means.content page.now) }
-{
-    read_itself(alloc, page)
 }

@@ -17,8 +17,8 @@ pub fn run(alloc: Global, job: &str, text: &str) -> Option<Outcome> {
         "collect" => Some(Outcome::of(alloc, collected(alloc))),
         "copy-array" => Some(Outcome::of(alloc, array_copied(alloc, text))),
         "copy-value" => Some(copied(alloc, text)),
-        "key-u32" => Some(number_key(alloc, text)),
-        "key-string" => Some(string_key(alloc, text)),
+        "key-u32" => Some(key::<u32>(alloc, text)),
+        "key-string" => Some(key::<String>(alloc, text)),
         "escape" => Some(escaped(alloc, text)),
         "writer" => Some(Outcome::of(alloc, written(alloc))),
         "made" => Some(Outcome::of(alloc, made(alloc, text))),
@@ -51,12 +51,16 @@ fn array_copied(alloc: Global, text: &str) -> Result<String> {
     to_string(alloc, &array.try_clone(alloc)?)
 }
 
-/// Writes a copy of a document, or the document itself if the copy fails.
-fn copy_of(alloc: Global, source: &Value) -> Outcome {
+/// Reads a document, and writes a copy of it, or the document itself if the copy fails.
+fn copied(alloc: Global, text: &str) -> Outcome {
+    let source = match from_str::<Value>(alloc, text) {
+        Ok(source) => source,
+        Err(error) => return Outcome::of(alloc, Err(error)),
+    };
     match source.try_clone(alloc) {
         Ok(copy) => Outcome::of(alloc, to_string(alloc, &copy)),
         Err(error) => {
-            let left = Outcome::of(alloc, to_string(alloc, source));
+            let left = Outcome::of(alloc, to_string(alloc, &source));
             Outcome {
                 result: Err(error),
                 text: left.text,
@@ -65,38 +69,18 @@ fn copy_of(alloc: Global, source: &Value) -> Outcome {
     }
 }
 
-/// Reads a document and copies it.
-fn copied(alloc: Global, text: &str) -> Outcome {
-    match from_str::<Value>(alloc, text) {
-        Ok(source) => copy_of(alloc, &source),
-        Err(error) => Outcome::of(alloc, Err(error)),
-    }
-}
-
-/// Appends a key to a text.
-fn append_key<K: MapKey>(alloc: Global, key: &K) -> Outcome {
+/// Reads a key, and appends it to a text.
+fn key<K: MapKey + Drop>(alloc: Global, name: &str) -> Outcome {
+    let key = match <K as MapKey>::from_key(alloc, name) {
+        Ok(key) => key,
+        Err(error) => return Outcome::of(alloc, Err(error)),
+    };
     match String::from_str(alloc, "key: ") {
         Ok(mut text) => {
             let result = key.to_key(&mut text);
             Outcome { result, text }
         }
         Err(_) => Outcome::of(alloc, Err(Error::Memory)),
-    }
-}
-
-/// Reads an integer as a key, and appends it to a text.
-fn number_key(alloc: Global, text: &str) -> Outcome {
-    match <u32 as MapKey>::from_key(alloc, text) {
-        Ok(key) => append_key(alloc, &key),
-        Err(error) => Outcome::of(alloc, Err(error)),
-    }
-}
-
-/// Reads a string as a key, and appends it to a text.
-fn string_key(alloc: Global, text: &str) -> Outcome {
-    match <String as MapKey>::from_key(alloc, text) {
-        Ok(key) => append_key(alloc, &key),
-        Err(error) => Outcome::of(alloc, Err(error)),
     }
 }
 

@@ -86,14 +86,6 @@ fn put<W: Write>(w: &mut W, text: &str) -> Result<(), Fault> {
     w.write_all(text.as_bytes()).map_err(|_| Fault::Output)
 }
 
-/// Writes an outcome as a line: the result's word, and the text that the job left.
-fn put_outcome<W: Write>(w: &mut W, outcome: &Outcome) -> Result<(), Fault> {
-    put(w, outcome.word())?;
-    put(w, " ")?;
-    put(w, outcome.text.as_str())?;
-    put(w, "\n")
-}
-
 /// Runs a job, and writes the text that it made in mode `both`.
 fn measure<W: Write>(
     alloc: Global,
@@ -111,13 +103,15 @@ fn measure<W: Write>(
     put(w, outcome.text.as_str())
 }
 
-/// Runs a job between two lines.
+/// Runs a job, and writes its outcome as a line: the result's word, and the text that the job left.
 fn answer<W: Write>(alloc: Global, job: &str, text: &str, w: &mut W) -> Result<(), Fault> {
-    put(w, "begins\n")?;
-    match run(alloc, job, Depth::Both, text) {
-        Some(outcome) => put_outcome(w, &outcome),
-        None => Err(Fault::Arguments),
-    }
+    let Some(outcome) = run(alloc, job, Depth::Both, text) else {
+        return Err(Fault::Arguments);
+    };
+    put(w, outcome.word())?;
+    put(w, " ")?;
+    put(w, outcome.text.as_str())?;
+    put(w, "\n")
 }
 
 /// Reads a document, and drops it between two lines.
@@ -131,17 +125,6 @@ fn drop_between<W: Write>(alloc: Global, text: &str, w: &mut W) -> Result<(), Fa
         }
         Err(Error::Memory) => put(w, "memory \n"),
         Err(Error::Invalid) => put(w, "invalid \n"),
-    }
-}
-
-/// Runs a job on a text of a sequence.
-fn answer_part<W: Write>(alloc: Global, job: &str, bytes: &[u8], w: &mut W) -> Result<(), Fault> {
-    let Ok(text) = str::from_utf8(bytes) else {
-        return Err(Fault::Text);
-    };
-    match run(alloc, job, Depth::Both, text) {
-        Some(outcome) => put_outcome(w, &outcome),
-        None => Err(Fault::Arguments),
     }
 }
 
@@ -159,7 +142,10 @@ fn answer_each<R: Read + Drop, W: Write>(
         let Ok(part) = part else {
             return Err(Fault::Input);
         };
-        answer_part(alloc, job, part.as_slice(), w)?;
+        let Ok(text) = str::from_utf8(part.as_slice()) else {
+            return Err(Fault::Text);
+        };
+        answer(alloc, job, text, w)?;
     }
     Ok(())
 }
@@ -179,7 +165,10 @@ fn on_text<R: Read, W: Write>(
     match mode {
         "read" => measure(alloc, job, Depth::Read, text, w),
         "both" => measure(alloc, job, Depth::Both, text, w),
-        "answer" => answer(alloc, job, text, w),
+        "answer" => {
+            put(w, "begins\n")?;
+            answer(alloc, job, text, w)
+        }
         "drop" => drop_between(alloc, text, w),
         _ => Err(Fault::Arguments),
     }

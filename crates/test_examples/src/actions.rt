@@ -73,18 +73,6 @@ null
 {"kind":"Ping" "x":1}
 {"kind":"Ping","x":[1}"#;
 
-#[test]
-fn an_action_is_an_object_whose_kind_says_which(rt: HostRuntime) -> std::result::Result<(), Wrong> {
-    expect_read_itself::<Action>(rt.alloc(), ACTIONS)
-}
-
-#[test]
-fn a_prefix_of_an_action_is_invalid(rt: HostRuntime) -> std::result::Result<(), Wrong> {
-    expect_prefixes_invalid::<Action>(rt.alloc(), r#"{"kind":"Ping"}"#)?;
-    expect_prefixes_invalid::<Action>(rt.alloc(), r#"{"text":"a","kind":"Say"}"#)?;
-    expect_prefixes_invalid::<Action>(rt.alloc(), r#"{"kind":"move","x":1,"y":2}"#)
-}
-
 const CANONICAL: &str = r#"{"y":2,"x":1,"kind":"move"} => {"kind":"move","x":1,"y":2}
 {"kind":"Nope","kind":"Ping"} => {"kind":"Ping"}
 {"kind":"Ping","b":-0,"a":"\u0061"} => {"a":"a","b":0,"kind":"Ping"} => {"kind":"Ping"}
@@ -95,9 +83,14 @@ const NOT_ACTIONS: &str = r#"{"kind":"Nope"}
 {}"#;
 
 #[test]
-fn an_action_is_stable(rt: HostRuntime) -> std::result::Result<(), Wrong> {
-    expect_one_value::<Action>(rt.alloc(), CANONICAL)?;
-    expect_refused::<Action>(rt.alloc(), NOT_ACTIONS)
+fn an_action_is_an_object_whose_kind_says_which(rt: HostRuntime) -> std::result::Result<(), Wrong> {
+    let alloc = rt.alloc();
+    expect_read_itself::<Action>(alloc, ACTIONS)?;
+    expect_prefixes_invalid::<Action>(alloc, r#"{"kind":"Ping"}"#)?;
+    expect_prefixes_invalid::<Action>(alloc, r#"{"text":"a","kind":"Say"}"#)?;
+    expect_prefixes_invalid::<Action>(alloc, r#"{"kind":"move","x":1,"y":2}"#)?;
+    expect_one_value::<Action>(alloc, CANONICAL)?;
+    expect_refused::<Action>(alloc, NOT_ACTIONS)
 }
 
 const SAID: &str = r#"{"text":"a","kind":"Say"} => a
@@ -115,16 +108,13 @@ fn heard(alloc: Global, text: &str) -> Result<String> {
 }
 
 #[test]
-fn what_is_said_is_the_text(rt: HostRuntime) -> std::result::Result<(), Wrong> {
-    for line in SAID.lines() {
-        expect(is_right(heard(rt.alloc(), text_of(line)), line), line)?;
-    }
-    Ok(())
-}
-
-#[test]
-fn a_ping_is_known_by_its_kind(rt: HostRuntime) -> std::result::Result<(), Wrong> {
+fn what_is_said_is_the_text_and_a_ping_says_nothing(
+    rt: HostRuntime,
+) -> std::result::Result<(), Wrong> {
     let alloc = rt.alloc();
+    for line in SAID.lines() {
+        expect(is_right(heard(alloc, text_of(line)), line), line)?;
+    }
     expect(
         matches!(is_ping(alloc, r#"{"x":1,"kind":"Ping"}"#), Ok(true)),
         "a ping",

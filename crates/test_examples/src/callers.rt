@@ -5,12 +5,11 @@ use examples::by_events::read_by_events;
 use examples::counter::elements;
 use examples::limits::limit_of;
 use examples::orders::settled;
-use examples::rate::Rate;
 use examples::rates::fraction;
 use examples::readme::one_more;
 use examples::totals::total;
 use miniserde::error::{Error, Result};
-use miniserde::json::from_str;
+use miniserde::json::{Number, from_str};
 use std::alloc::Global;
 use test_tables::{Wrong, expect, expect_ok, expect_read_again, is_right, text_of};
 
@@ -27,11 +26,14 @@ const ORDERS: &str =
 {"id":7,"quantity":2,"paid":false} 1"#;
 
 #[test]
-fn an_order_is_settled(rt: HostRuntime) -> std::result::Result<(), Wrong> {
+fn an_order_is_settled_or_raised(rt: HostRuntime) -> std::result::Result<(), Wrong> {
+    let alloc = rt.alloc();
     for line in ORDERS.lines() {
-        expect(is_right(settled(rt.alloc(), text_of(line)), line), line)?;
+        expect(is_right(settled(alloc, text_of(line)), line), line)?;
     }
-    Ok(())
+    let line =
+        r#"{"id":7,"quantity":1,"paid":false} => {"id":7,"quantity":2,"paid":false,"note":null}"#;
+    expect(is_right(one_more(alloc, text_of(line)), line), line)
 }
 
 const BATCHES: &str = r#"[] => same
@@ -53,13 +55,6 @@ fn each_order_is_settled(rt: HostRuntime) -> std::result::Result<(), Wrong> {
         expect(is_right(settled_all(rt.alloc(), text_of(line)), line), line)?;
     }
     Ok(())
-}
-
-#[test]
-fn a_quantity_is_raised(rt: HostRuntime) -> std::result::Result<(), Wrong> {
-    let line =
-        r#"{"id":7,"quantity":1,"paid":false} => {"id":7,"quantity":2,"paid":false,"note":null}"#;
-    expect(is_right(one_more(rt.alloc(), text_of(line)), line), line)
 }
 
 #[test]
@@ -106,29 +101,24 @@ fn prices_are_summed(rt: HostRuntime) -> std::result::Result<(), Wrong> {
     Ok(())
 }
 
-const RATES: &str = r#"{"currency":"EUR","ratio":1.50} => same
-{"ratio":2,"currency":"USD"} => {"currency":"USD","ratio":2}
-{"currency":"EUR","ratio":"1.50"}"#;
+const RATIOS: &str = "1.50 => same
+2 => same
+\"1.50\"";
 
 /// Returns whether the ratio of a text is kept as that fraction, or is a whole number where there is none.
 fn has_fraction(alloc: Global, text: &str, expected: Option<&str>) -> Result<bool> {
-    let rate: Rate = from_str(alloc, text)?;
-    Ok(fraction(&rate) == expected)
+    let ratio: Number = from_str(alloc, text)?;
+    Ok(fraction(&ratio) == expected)
 }
 
 #[test]
-fn a_fraction_keeps_its_text(rt: HostRuntime) -> std::result::Result<(), Wrong> {
+fn a_fraction_keeps_its_text_and_a_limit_is_the_last(
+    rt: HostRuntime,
+) -> std::result::Result<(), Wrong> {
     let alloc = rt.alloc();
-    expect_read_again::<Rate>(alloc, RATES)?;
-    let half = r#"{"currency":"EUR","ratio":1.50}"#;
-    expect_ok(has_fraction(alloc, half, Some("1.50")), "a fraction")?;
-    let whole = r#"{"ratio":2,"currency":"USD"}"#;
-    expect_ok(has_fraction(alloc, whole, None), "a whole number")
-}
-
-#[test]
-fn a_limit_is_that_of_its_last_member(rt: HostRuntime) -> std::result::Result<(), Wrong> {
-    let alloc = rt.alloc();
+    expect_read_again::<Number>(alloc, RATIOS)?;
+    expect_ok(has_fraction(alloc, "1.50", Some("1.50")), "a fraction")?;
+    expect_ok(has_fraction(alloc, "2", None), "a whole number")?;
     let limits = r#"{"a":1,"b":2,"\u0061":3}"#;
     expect(
         matches!(limit_of(alloc, limits, "a"), Ok(Some(3))),

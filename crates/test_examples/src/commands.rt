@@ -1,7 +1,7 @@
 //! Commands, whose variants may have data.
 
 use examples::command::Command;
-use examples::commands::{is_ping, step_of};
+use examples::commands::is_ping;
 use examples::reply::Reply;
 use miniserde::error::Error;
 use test_tables::{
@@ -68,18 +68,6 @@ true
 "Ping" "Ping"
 Ping"#;
 
-#[test]
-fn a_command_is_a_name_or_an_object_of_one_member(rt: HostRuntime) -> Result<(), Wrong> {
-    expect_read_itself::<Command>(rt.alloc(), COMMANDS)
-}
-
-#[test]
-fn a_prefix_of_a_command_is_invalid(rt: HostRuntime) -> Result<(), Wrong> {
-    expect_prefixes_invalid::<Command>(rt.alloc(), r#""Ping""#)?;
-    expect_prefixes_invalid::<Command>(rt.alloc(), r#"{"Text":"a"}"#)?;
-    expect_prefixes_invalid::<Command>(rt.alloc(), r#"{"Move":{"x":1,"y":2}}"#)
-}
-
 const CANONICAL: &str = r#""\u0050ing" => "Ping"
  { "\u0054ext" : "a\/b" }  => {"Text":"a/b"}
 {"Move":{"y":2,"x":1}} => {"Move":{"x":1,"y":2}}
@@ -91,9 +79,14 @@ const NOT_CANONICAL: &str = r#"{"Text":"a","Text":"b"}
 {"Ping":null}"#;
 
 #[test]
-fn a_command_is_stable(rt: HostRuntime) -> Result<(), Wrong> {
-    expect_one_value::<Command>(rt.alloc(), CANONICAL)?;
-    expect_refused::<Command>(rt.alloc(), NOT_CANONICAL)
+fn a_command_is_a_name_or_an_object_of_one_member(rt: HostRuntime) -> Result<(), Wrong> {
+    let alloc = rt.alloc();
+    expect_read_itself::<Command>(alloc, COMMANDS)?;
+    expect_prefixes_invalid::<Command>(alloc, r#""Ping""#)?;
+    expect_prefixes_invalid::<Command>(alloc, r#"{"Text":"a"}"#)?;
+    expect_prefixes_invalid::<Command>(alloc, r#"{"Move":{"x":1,"y":2}}"#)?;
+    expect_one_value::<Command>(alloc, CANONICAL)?;
+    expect_refused::<Command>(alloc, NOT_CANONICAL)
 }
 
 #[test]
@@ -106,23 +99,6 @@ fn a_ping_is_known(rt: HostRuntime) -> Result<(), Wrong> {
     )?;
     expect(
         matches!(is_ping(alloc, r#"{"Ping":null}"#), Err(Error::Invalid)),
-        "no command",
-    )
-}
-
-#[test]
-fn a_step_is_known(rt: HostRuntime) -> Result<(), Wrong> {
-    let alloc = rt.alloc();
-    expect(
-        matches!(
-            step_of(alloc, r#"{"Move":{"y":-2,"x":1}}"#),
-            Ok(Some((1, -2)))
-        ),
-        "a step",
-    )?;
-    expect(matches!(step_of(alloc, r#""Ping""#), Ok(None)), "no step")?;
-    expect(
-        matches!(step_of(alloc, r#"{"Move":{"y":-2}}"#), Err(Error::Invalid)),
         "no command",
     )
 }
@@ -144,11 +120,6 @@ const REPLIES: &str = r#""gone" => same
 {"gone":null}
 "Gone""#;
 
-#[test]
-fn a_reply_has_what_it_is_asked_for(rt: HostRuntime) -> Result<(), Wrong> {
-    expect_read_itself::<Reply<u64>>(rt.alloc(), REPLIES)
-}
-
 const NESTED: &str = r#"{"Done":"Ping"} => same
 {"Done":{"Text":"a"}} => same
 {"Between":["Ping",{"Move":{"x":1,"y":2}}]} => same
@@ -156,7 +127,9 @@ const NESTED: &str = r#"{"Done":"Ping"} => same
 {"Text":"a"}"#;
 
 #[test]
-fn a_reply_of_commands_has_a_command(rt: HostRuntime) -> Result<(), Wrong> {
-    expect_read_itself::<Reply<Command>>(rt.alloc(), NESTED)?;
-    expect_one_value::<Reply<Command>>(rt.alloc(), r#"{"Done":"Ping"}"#)
+fn a_reply_has_what_it_is_asked_for(rt: HostRuntime) -> Result<(), Wrong> {
+    let alloc = rt.alloc();
+    expect_read_itself::<Reply<u64>>(alloc, REPLIES)?;
+    expect_read_itself::<Reply<Command>>(alloc, NESTED)?;
+    expect_one_value::<Reply<Command>>(alloc, r#"{"Done":"Ping"}"#)
 }

@@ -9,13 +9,7 @@ mod commands;
 #[cfg(test)]
 mod loading;
 #[cfg(test)]
-mod notes;
-#[cfg(test)]
 mod pages;
-#[cfg(test)]
-mod percents;
-#[cfg(test)]
-mod ports;
 #[cfg(test)]
 mod services;
 #[cfg(test)]

@@ -1,6 +1,6 @@
 //! What is loaded and saved again, and what is refused.
 
-use miniserde::error::Result;
+use miniserde::error::{Error, Result};
 use settings::loader::{load, reloaded, save};
 use std::alloc::Global;
 use test_tables::{Wrong, expect, is_right, text_of};
@@ -12,22 +12,21 @@ const SETTINGS: &str =
 {"name":"a","port":1,"limits":{}}
 {"name":"a","port":1,"hosts":[{"host":"h","weight":256}],"limits":{}}"#;
 
-/// Returns the text that the settings of a text are saved as.
+/// Returns the text that the settings of a text are saved as, if they are saved as that again after they were loaded.
 fn saved(alloc: Global, text: &str) -> Result<String> {
-    save(alloc, &load(alloc, text)?)
-}
-
-/// Returns the text that the settings of a text are saved as, after they were saved and loaded again.
-fn saved_again(alloc: Global, text: &str) -> Result<String> {
     let settings = load(alloc, text)?;
-    save(alloc, &reloaded(alloc, &settings)?)
+    let once = save(alloc, &settings)?;
+    let again = save(alloc, &reloaded(alloc, &settings)?)?;
+    if again.as_str() == once.as_str() {
+        return Ok(once);
+    }
+    Err(Error::Memory)
 }
 
 #[test]
 fn what_is_loaded_is_saved(rt: HostRuntime) -> std::result::Result<(), Wrong> {
     for line in SETTINGS.lines() {
         expect(is_right(saved(rt.alloc(), text_of(line)), line), line)?;
-        expect(is_right(saved_again(rt.alloc(), text_of(line)), line), line)?;
     }
     Ok(())
 }

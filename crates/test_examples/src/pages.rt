@@ -2,15 +2,12 @@
 
 use examples::order::Order;
 use examples::page::Page;
-use examples::pages::{copy_of, count_of, next_of};
+use examples::pages::{count_of, next_of};
 use examples::service::Service;
 use miniserde::FromJson;
 use miniserde::error::{Error, Result};
-use miniserde::json::{from_str, to_string};
 use std::alloc::Global;
-use test_tables::{
-    Wrong, expect, expect_ok, expect_one_value, expect_read_itself, is_right, text_of,
-};
+use test_tables::{Wrong, expect, expect_ok, expect_one_value, expect_read_itself};
 
 const ORDERS: &str = r#"{"items":[],"next":null} => same
 {"items":[{"id":7,"quantity":2,"paid":false,"note":"by noon"}],"next":"b"} => same
@@ -30,11 +27,6 @@ const ORDERS: &str = r#"{"items":[],"next":null} => same
 {"items":[{"id":7,"quantity":2,"paid":false}}
 {"items":[]} 1"#;
 
-#[test]
-fn a_page_of_orders_is_read_as_itself(rt: HostRuntime) -> std::result::Result<(), Wrong> {
-    expect_read_itself::<Page<Order>>(rt.alloc(), ORDERS)
-}
-
 const PAGES: &str =
     r#"{"items":[{"items":[1],"next":null},{"items":[],"next":"a"}],"next":"b"} => same
 {"items":[{"items":[]}],"of":[[]]} => {"items":[{"items":[],"next":null}],"next":null}
@@ -43,52 +35,22 @@ const PAGES: &str =
 {"items":[[1]]}
 {"items":[null]}"#;
 
-#[test]
-fn a_page_of_pages_is_read_as_itself(rt: HostRuntime) -> std::result::Result<(), Wrong> {
-    expect_read_itself::<Page<Page<u64>>>(rt.alloc(), PAGES)
-}
-
 const SERVICES: &str =
     r#"{"next":"b","items":[{"port":1,"id":2}]} => {"items":[{"id":2,"port":1}],"next":"b"} => {"items":[{"id":2,"host":"localhost","port":1,"secure":true,"tags":[],"note":null}],"next":"b"}
  {"items": [ ], "next": null, "items": [], "x": -0 }  => {"items":[],"next":null,"x":0} => {"items":[],"next":null}"#;
 
 #[test]
-fn a_page_of_stable_types_is_stable(rt: HostRuntime) -> std::result::Result<(), Wrong> {
-    expect_one_value::<Page<Service>>(rt.alloc(), SERVICES)
-}
-
-/// Returns the text that a page of orders is written as, after it was written and read again.
-fn written_again(alloc: Global, text: &str) -> Result<String> {
-    let page: Page<Order> = from_str(alloc, text)?;
-    to_string(alloc, &copy_of(alloc, &page)?)
-}
-
-#[test]
-fn a_page_of_orders_is_written_and_read_again(rt: HostRuntime) -> std::result::Result<(), Wrong> {
-    for line in ORDERS.lines() {
-        expect(
-            is_right(written_again(rt.alloc(), text_of(line)), line),
-            line,
-        )?;
-    }
-    Ok(())
+fn a_page_is_read_as_itself(rt: HostRuntime) -> std::result::Result<(), Wrong> {
+    let alloc = rt.alloc();
+    expect_read_itself::<Page<Order>>(alloc, ORDERS)?;
+    expect_read_itself::<Page<Page<u64>>>(alloc, PAGES)?;
+    expect_one_value::<Page<Service>>(alloc, SERVICES)
 }
 
 const NO_ORDERS: &str = r#"{"items":[]}"#;
 
 const TWO_ORDERS: &str =
     r#"{"items":[{"id":1,"quantity":0,"paid":true},{"id":2,"quantity":0,"paid":true}],"next":"b"}"#;
-
-#[test]
-fn orders_are_counted(rt: HostRuntime) -> std::result::Result<(), Wrong> {
-    let alloc = rt.alloc();
-    expect(matches!(count_of(alloc, NO_ORDERS), Ok(0)), "no order")?;
-    expect(matches!(count_of(alloc, TWO_ORDERS), Ok(2)), "two orders")?;
-    expect(
-        matches!(count_of(alloc, "{}"), Err(Error::Invalid)),
-        "no items",
-    )
-}
 
 /// Returns whether a page of a text has that next page.
 fn has_next<T: FromJson>(alloc: Global, text: &str, expected: Option<&str>) -> Result<bool> {
@@ -97,8 +59,14 @@ fn has_next<T: FromJson>(alloc: Global, text: &str, expected: Option<&str>) -> R
 }
 
 #[test]
-fn a_page_has_a_next_one_or_is_the_last(rt: HostRuntime) -> std::result::Result<(), Wrong> {
+fn a_page_has_a_count_and_a_next_one(rt: HostRuntime) -> std::result::Result<(), Wrong> {
     let alloc = rt.alloc();
+    expect(matches!(count_of(alloc, NO_ORDERS), Ok(0)), "no order")?;
+    expect(matches!(count_of(alloc, TWO_ORDERS), Ok(2)), "two orders")?;
+    expect(
+        matches!(count_of(alloc, "{}"), Err(Error::Invalid)),
+        "no items",
+    )?;
     expect_ok(has_next::<Order>(alloc, NO_ORDERS, None), "the last page")?;
     expect_ok(has_next::<Order>(alloc, TWO_ORDERS, Some("b")), "a page")?;
     expect_ok(has_next::<u8>(alloc, NO_ORDERS, None), "of bytes")?;

@@ -12,11 +12,6 @@ const DEFAULTS: &str =
 {"id":1,"host":1,"host":"a"}
 {"id":1,"tags":[1]}"#;
 
-#[test]
-fn a_default_stands_in_for_a_missing_field(rt: HostRuntime) -> Result<(), Wrong> {
-    expect_read_itself::<Service>(rt.alloc(), DEFAULTS)
-}
-
 const NAMES: &str =
     r#"{"host":"a","id":3,"tags":[],"host":"b","note":"x","note":null,"tags":["c"]} => {"id":3,"host":"b","port":8080,"secure":true,"tags":["c"],"note":null}
 {"id":1,"id":1}
@@ -26,6 +21,8 @@ const NAMES: &str =
 {"id":1,"":null}"#;
 
 #[test]
-fn a_name_is_known_and_of_some_fields_the_only_one(rt: HostRuntime) -> Result<(), Wrong> {
-    expect_read_itself::<Service>(rt.alloc(), NAMES)
+fn a_field_has_a_default_and_some_are_the_only_ones(rt: HostRuntime) -> Result<(), Wrong> {
+    let alloc = rt.alloc();
+    expect_read_itself::<Service>(alloc, DEFAULTS)?;
+    expect_read_itself::<Service>(alloc, NAMES)
 }

@@ -1,16 +1,16 @@
 //! Fields that are read by other names too.
 
-use crate::hosts::{Host, Only};
-use crate::renewals::Renewal;
+use crate::changes::Change;
+use crate::hosts::Host;
 use test_tables::{Wrong, expect_prefixes_invalid, expect_read_itself};
 
 const HOSTS: &str = r#"{"name":"a","port":1} => same
 {"host":"a","port":1} => {"name":"a","port":1}
 {"hostname":"a"} => {"name":"a","port":80}
-{"h\u006fst":"a","p":2,"remark":"r"} => {"name":"a","port":2,"note":"r"}
+{"h\u006fst":"a","p":2,"remark":"r"} => {"name":"a","port":2,"of":"r"}
 {"name":"a","host":"b"} => {"name":"b","port":80}
 {"hostname":"c","host":"b","name":"a"} => {"name":"a","port":80}
-{"note":"n","name":"a","remark":null} => {"name":"a","port":80}
+{"of":"n","name":"a","remark":null} => {"name":"a","port":80}
 
 {"host":1,"name":"a"}
 {"name":"a","hostname":null}
@@ -21,30 +21,30 @@ const HOSTS: &str = r#"{"name":"a","port":1} => same
 {"hosts":"a"}
 {"port":1}"#;
 
-const ONLY: &str = r#"{"of":{"name":"a","port":1}} => same
-{"host":{"host":"a"}} => {"of":{"name":"a","port":80}}
-{"host":{"host":"a"},"of":{"name":"b"}} => {"of":{"name":"b","port":80}}
+const RENAMED: &str = r#"{"name":"a","port":1,"of":"n"} => same
+{"host":"a","remark":"n"} => {"name":"a","port":80,"of":"n"}
+{"remark":"n","of":"m","name":"b"} => {"name":"b","port":80,"of":"m"}
 
-{"host":"a"}
-{"name":{"host":"a"}}
-{"of":{"host":"a"},"hostname":1}
+{"remark":"n"}
+{"name":"a","note":"n"}
+{"name":"a","hostnames":1}
 {}"#;
 
-const RENEWALS: &str = r#"{"kind":"Add","name":"a","port":1} => same
+const CHANGES: &str = r#"{"kind":"Add","name":"a","port":1} => same
 {"host":"a","kind":"Add","p":1} => {"kind":"Add","name":"a","port":1}
-{"old":"a","new":"b","kind":"Move"} => {"kind":"Move","from":"a","to":"b"}
-{"kind":"Move","old":"a","to":"b","from":"c","new":"d"} => {"kind":"Move","from":"c","to":"d"}
+{"old":[1,2,3],"new":"b","kind":"Mark"} => {"kind":"Mark","at":[1,2,3],"note":"b"}
+{"kind":"Mark","old":[1,2,3],"note":"b","at":[4,5,6],"new":"d"} => {"kind":"Mark","at":[4,5,6],"note":"d"}
 
-{"kind":"Move","old":"a"}
-{"kind":"Move","old":"a","host":"b"}
+{"kind":"Mark","new":"a"}
+{"kind":"Mark","new":"a","host":"b"}
 {"kind":"Add","old":"a"}
-{"old":"a","new":"b"}"#;
+{"old":[1,2,3],"new":"b"}"#;
 
 #[test]
 fn an_alias_counts_as_the_name(rt: HostRuntime) -> Result<(), Wrong> {
     let alloc = rt.alloc();
     expect_read_itself::<Host>(alloc, HOSTS)?;
-    expect_read_itself::<Only>(alloc, ONLY)?;
-    expect_read_itself::<Renewal>(alloc, RENEWALS)?;
+    expect_read_itself::<Host>(alloc, RENAMED)?;
+    expect_read_itself::<Change>(alloc, CHANGES)?;
     expect_prefixes_invalid::<Host>(alloc, r#"{"p":1,"hostname":"a"}"#)
 }

@@ -2,18 +2,14 @@
 ghost use Rattle.std.specs.Prelude.{◌≡◌, ℕ, List, Option, None, Some, IfOk, Err, option_map, string_bytes, vec_len};
 ghost use Rattle.miniserde.specs.Tree.{Tree};
 ghost use Rattle.miniserde.specs.Value.{IsJson};
-ghost use Rattle.test_forms.specs.declared.changes.Change.TheVariants.{Clear, Run, Mark};
-ghost use Rattle.test_forms.specs.declared.plans.Plan.TheVariants.{Nothing, OneTask, Tasks, Three};
+ghost use Rattle.test_forms.specs.declared.changes.Change.TheVariants.{Clear, Add, Mark};
+ghost use Rattle.test_forms.specs.declared.commands.Command.TheVariants.{Ping, Text, Move};
 
 use crate::changes::Change;
 use crate::commands::Command;
-use crate::entries::Entry;
 use crate::hosts::Host;
-use crate::keys::Key;
 use crate::ledgers::Ledger;
-use crate::notes::Note;
 use crate::pages::Page;
-use crate::plans::Plan;
 use miniserde::json::from_str;
 use miniserde::{Error, FromJson, Result, read_itself};
 use std::alloc::Global;
@@ -36,33 +32,34 @@ pub fn count_of(alloc: Global, text: &str) -> Result<usize>
     Ok(page.items.len())
 }
 
-/// Parses a plan, and returns the name of its one task, if it has one.
-pub fn task_of(alloc: Global, text: &str) -> Result<Option<String>>
-    ensures ok { IfOk result (λ name. (t : Tree) × (p : Plan) × IsJson text.now t
-        × ⟦<Plan as FromJson>⟧.means.reads t p × (option_map string_bytes name
-        ≡ elim p as (λ p. Option (List ℕ)) [ Nothing ↦ None | OneTask x ↦ Some (string_bytes x.name) | Tasks xs ↦ None | Three a b c ↦ None ])) }
+/// Parses a command, and returns its text, if it has one.
+pub fn text_of(alloc: Global, text: &str) -> Result<Option<String>>
+    ensures ok { IfOk result (λ found. (t : Tree) × (c : Command) × IsJson text.now t
+        × ⟦<Command as FromJson>⟧.means.reads t c × (option_map string_bytes found
+        ≡ elim c as (λ c. Option (List ℕ)) [ Ping ↦ None | Text x ↦ Some (string_bytes x) | Move x y ↦ None ])) }
     ensures invalid { result ≡ Err Error.Invalid → (t : Tree) → IsJson text.now t
-        → ⟦<Plan as FromJson>⟧.means.from_tree t ≡ None }
+        → ⟦<Command as FromJson>⟧.means.from_tree t ≡ None }
 {
-    let plan: Plan = from_str(alloc, text)?;
-    match plan {
-        Plan::OneTask(task) => Ok(Some(task.name)),
+    let command: Command = from_str(alloc, text)?;
+    match command {
+        Command::Text(text) => Ok(Some(text)),
         _ => Ok(None),
     }
 }
 
-/// Parses a change, and returns its note, if it has one.
+/// Parses a change, and returns the name of the host that it adds, or its note, if it has one.
 pub fn note_of(alloc: Global, text: &str) -> Result<Option<String>>
     ensures ok { IfOk result (λ note. (t : Tree) × (c : Change) × IsJson text.now t
         × ⟦<Change as FromJson>⟧.means.reads t c × (option_map string_bytes note
-        ≡ elim c as (λ c. Option (List ℕ)) [ Clear ↦ None | Run x ↦ None | Mark at note ↦ option_map string_bytes note ])) }
+        ≡ elim c as (λ c. Option (List ℕ)) [ Clear ↦ None | Add x ↦ Some (string_bytes x.name) | Mark at note ↦ option_map string_bytes note ])) }
     ensures invalid { result ≡ Err Error.Invalid → (t : Tree) → IsJson text.now t
         → ⟦<Change as FromJson>⟧.means.from_tree t ≡ None }
 {
     let change: Change = from_str(alloc, text)?;
     match change {
+        Change::Clear => Ok(None),
+        Change::Add(host) => Ok(Some(host.name)),
         Change::Mark { at: _, note } => Ok(note),
-        _ => Ok(None),
     }
 }
 
@@ -74,40 +71,15 @@ pub fn change_again(alloc: Global, change: &Change) -> Result<Change>
     read_itself(alloc, change)
 }
 
-/// Writes a note, reads it again, and returns the note that it was.
-pub fn note_again(alloc: Global, note: &Note) -> Result<Note>
-    ensures { IfOk result (λ n. ⟦<Note as FromJson>⟧.means.content n
-        ≡ ⟦<Note as FromJson>⟧.means.content note.now) }
-{
-    read_itself(alloc, note)
-}
-
-/// Writes an entry of notes, reads it again, and returns the entry that it was.
-pub fn entry_again(alloc: Global, entry: &Entry<Note>) -> Result<Entry<Note>>
-    ensures { IfOk result (λ e. ⟦<Entry<Note> as FromJson>⟧.means.content e
-        ≡ ⟦<Entry<Note> as FromJson>⟧.means.content entry.now) }
-{
-    read_itself(alloc, entry)
-}
-
-/// Parses a key.
-pub fn key(alloc: Global, text: &str) -> Result<Key>
-    ensures ok { IfOk result (λ key. (t : Tree) × IsJson text.now t × ⟦<Key as FromJson>⟧.means.reads t key) }
-    ensures invalid { result ≡ Err Error.Invalid → (t : Tree) → IsJson text.now t
-        → ⟦<Key as FromJson>⟧.means.from_tree t ≡ None }
-{
-    from_str(alloc, text)
-}
-
-/// Parses a ledger, and returns how many days it has.
-pub fn days_of(alloc: Global, text: &str) -> Result<usize>
+/// Parses a ledger, and returns how many orders it has.
+pub fn orders_of(alloc: Global, text: &str) -> Result<usize>
     ensures ok { IfOk result (λ n. (t : Tree) × (l : Ledger) × IsJson text.now t
-        × ⟦<Ledger as FromJson>⟧.means.reads t l × (n ≡ vec_len l.days)) }
+        × ⟦<Ledger as FromJson>⟧.means.reads t l × (n ≡ vec_len l.orders)) }
     ensures invalid { result ≡ Err Error.Invalid → (t : Tree) → IsJson text.now t
         → ⟦<Ledger as FromJson>⟧.means.from_tree t ≡ None }
 {
     let ledger: Ledger = from_str(alloc, text)?;
-    Ok(ledger.days.len())
+    Ok(ledger.orders.len())
 }
 
 /// Parses a host, by today's names or earlier ones, and returns its port.

@@ -1,17 +1,18 @@
 //! The types of `changes.rs`, with the impls that `./derive` writes.
+ghost use Rattle.miniserde.specs.Aliases.{aliases_of};
 ghost use Rattle.miniserde.specs.Cases.{each_case, first_case, later_case, any_of_never, tagged_tree};
 ghost use Rattle.miniserde.specs.CasesMeaning.{tagged_meaning};
 ghost use Rattle.miniserde.specs.FieldsMeaning.{struct_meaning};
 ghost use Rattle.miniserde.specs.Structs.{names_of, record_tree};
 ghost use Rattle.std.specs.Prelude.{codes, refl};
 
-use crate::commands::Task;
+use crate::hosts::Host;
 use miniserde::derived::{
-    BesideTag, DataCase, DataEnum, Event, FromJson, HasTag, Inside, InsideCases, Lossless, Members,
-    NeverNull, NoCase, NoFields, NoSlot, OmitSlot, Omitted, OneOf, Parts, Plain, Ranged, Record,
-    Result, RoundTrip, Serialize, Slot, Slots, Source, Stable, Writer, WrittenCases, WrittenFields,
-    fields_named, read_record, read_tagged, record_lossless, record_round_trips, record_stable,
-    tag_fits, tagged_lossless, tagged_round_trips, tagged_stable, write_members, write_tagged,
+    Aliased, BesideTag, DataCase, DataEnum, Event, FromJson, HasAliases, HasTag, Inside,
+    InsideCases, Lossless, Members, NeverNull, NoCase, NoFields, NoSlot, OmitSlot, Omitted, OneOf,
+    Parts, Plain, Ranged, Record, Result, RoundTrip, Serialize, Slot, Slots, Source, Writer,
+    WrittenCases, WrittenFields, aliased_round_trips, fields_named, read_record, read_tagged,
+    record_lossless, tag_fits, tagged_lossless, tagged_round_trips, write_members, write_tagged,
     write_tagged_fields,
 };
 
@@ -52,15 +53,30 @@ impl Record for ChangeMark {
     }
 }
 
+const CHANGE_MARK_ALIASES: &[(&str, &str)] = &[("old", "at"), ("new", "note")];
+
+impl HasAliases for ChangeMark {
+    ghost use Rattle.test_forms.specs.declared.changes.TheConstants.{CHANGE_MARK_ALIASES};
+
+    ghost aliases = { aliases_of CHANGE_MARK_ALIASES };
+
+    ghost apart = { refl };
+
+    fn aliases() -> &'static [(&'static str, &'static str)] {
+        CHANGE_MARK_ALIASES
+    }
+}
+
 impl FromJson for ChangeMark {
-    ghost means = { struct_meaning ⟦<ChangeMarkFields as Slots>⟧.meaning ⟦<ChangeMark as Record>⟧.names ⟦<ChangeMark as Record>⟧.values };
+    ghost means = { struct_meaning ⟦<Aliased<ChangeMark, ChangeMarkFields> as Slots>⟧.meaning
+        ⟦<ChangeMark as Record>⟧.names ⟦<ChangeMark as Record>⟧.values };
 
     fn missing() -> Option<ChangeMark> {
         None
     }
 
     fn read<'a>(token: Event<'a>, source: &mut Source<'a>) -> Result<ChangeMark> {
-        read_record::<ChangeMark, ChangeMarkFields>(token, source)
+        read_record::<ChangeMark, Aliased<ChangeMark, ChangeMarkFields>>(token, source)
     }
 }
 
@@ -88,7 +104,7 @@ impl Ranged for ChangeMark {
 
 impl RoundTrip for ChangeMark {
     fn round_trips() {
-        record_round_trips::<ChangeMark, ChangeMarkFields>()
+        aliased_round_trips::<ChangeMark, ChangeMarkFields>()
     }
 }
 
@@ -102,17 +118,13 @@ impl NeverNull for ChangeMark {
     fn never_null() {}
 }
 
-impl Stable for ChangeMark {
-    fn stable() {
-        record_stable::<ChangeMark, ChangeMarkFields>()
-    }
-}
-
 impl Inside for ChangeMark {
     ghost fields = { ⟦<ChangeMark as Record>⟧.names };
 
     fn read_inside<'a, E: HasTag>(token: Event<'a>, source: &mut Source<'a>) -> Result<ChangeMark> {
-        read_record::<ChangeMark, BesideTag<E, ChangeMarkFields>>(token, source)
+        read_record::<ChangeMark, BesideTag<E, Aliased<ChangeMark, ChangeMarkFields>>>(
+            token, source,
+        )
     }
 
     fn write_inside(&self, w: &mut Writer) -> Result<()> {
@@ -128,11 +140,11 @@ impl Inside for ChangeMark {
     }
 }
 
-/// A change of a plan: the data of its variants stands in one object with the tag.
+/// A change: the data of its variants stands in one object with the tag.
 #[derive(Drop)]
 pub enum Change {
     Clear,
-    Run(Task),
+    Add(Host),
     Mark {
         at: (u8, u8, u8),
         note: Option<String>,
@@ -140,13 +152,13 @@ pub enum Change {
 }
 
 // Its variants, and their names.
-type ChangeCases = DataCase<NoFields, DataCase<Task, DataCase<ChangeMark, NoCase>>>;
+type ChangeCases = DataCase<NoFields, DataCase<Host, DataCase<ChangeMark, NoCase>>>;
 
-const CHANGE_NAMES: &[&str] = &["Clear", "Run", "Mark"];
+const CHANGE_NAMES: &[&str] = &["Clear", "Add", "Mark"];
 
 impl DataEnum for Change {
     ghost use Rattle.test_forms.specs.declared.changes.TheConstants.{CHANGE_NAMES};
-    ghost use Rattle.test_forms.specs.declared.changes.Change.TheVariants.{Clear, Run, Mark};
+    ghost use Rattle.test_forms.specs.declared.changes.Change.TheVariants.{Clear, Add, Mark};
 
     type Values = <ChangeCases as InsideCases>::Values;
 
@@ -154,15 +166,15 @@ impl DataEnum for Change {
 
     ghost values = { elim [
       | Clear ↦ first_case (record {})
-      | Run x0 ↦ later_case (first_case x0)
+      | Add x0 ↦ later_case (first_case x0)
       | Mark x0 x1 ↦ later_case (later_case (first_case (record { at = x0; note = x1 })))
     ] };
 
-    ghost made = { each_case _ (λ x. Clear) (each_case _ (λ x. Run x) (each_case _ (λ x. Mark x.at
+    ghost made = { each_case _ (λ x. Clear) (each_case _ (λ x. Add x) (each_case _ (λ x. Mark x.at
         x.note) (any_of_never _))) };
 
     ghost bijective = { (
-      elim [ Clear ↦ refl | Run x0 ↦ refl | Mark x0 x1 ↦ refl ],
+      elim [ Clear ↦ refl | Add x0 ↦ refl | Mark x0 x1 ↦ refl ],
       each_case _ (λ
           x. refl) (each_case _ (λ x. refl) (each_case _ (λ x. refl) (any_of_never _))),
     ) };
@@ -177,7 +189,7 @@ impl DataEnum for Change {
         match value {
             OneOf::First(NoFields {}) => Change::Clear,
             OneOf::Later(value) => match value {
-                OneOf::First(a) => Change::Run(a),
+                OneOf::First(a) => Change::Add(a),
                 OneOf::Later(value) => match value {
                     OneOf::First(ChangeMark { at, note }) => Change::Mark { at, note },
                     OneOf::Later(value) => match value {},
@@ -218,7 +230,7 @@ impl Serialize for Change {
     fn begin(&self, w: &mut Writer) -> Result<()> {
         match self {
             Change::Clear => { write_tagged_fields(w, "kind", "Clear", &[], &()) },
-            Change::Run(a) => write_tagged(w, "kind", "Run", a),
+            Change::Add(a) => write_tagged(w, "kind", "Add", a),
             Change::Mark { at, note } => {
                 write_tagged_fields(
                     w,
@@ -238,7 +250,7 @@ impl Ranged for Change {
     fn ranged(&self) {
         match self {
             Change::Clear => {}
-            Change::Run(a) => a.ranged(),
+            Change::Add(a) => a.ranged(),
             Change::Mark { at, note } => {
                 at.ranged();
                 note.ranged();
@@ -263,10 +275,4 @@ impl Lossless for Change {
 
 impl NeverNull for Change {
     fn never_null() {}
-}
-
-impl Stable for Change {
-    fn stable() {
-        tagged_stable::<Change, ChangeCases>()
-    }
 }

@@ -6,11 +6,10 @@ ghost use Rattle.miniserde.specs.Structs.{names_of, record_tree};
 ghost use Rattle.std.specs.Prelude.{refl};
 
 use miniserde::derived::{
-    BesideTag, Cases, DataCase, DataEnum, Event, Fragment, FromJson, HasTag, Inside, Lossless,
-    Members, NeverNull, NoCase, NoSlot, OneOf, Parts, Ranged, Record, Result, RoundTrip, Serialize,
-    Slot, Slots, Source, Stable, UnitCase, Writer, WrittenCases, WrittenFields, enum_lossless,
-    enum_round_trips, enum_stable, fields_named, read_enum, read_record, record_lossless,
-    record_round_trips, record_stable, write_data, write_fields, write_members,
+    Cases, DataCase, DataEnum, Event, Fragment, FromJson, Lossless, NeverNull, NoCase, NoSlot,
+    OneOf, Parts, Ranged, Record, Result, RoundTrip, Serialize, Slot, Slots, Source, UnitCase,
+    Writer, WrittenCases, WrittenFields, enum_lossless, enum_round_trips, read_enum, read_record,
+    record_lossless, record_round_trips, write_data, write_fields, write_members,
 };
 
 /// The fields of `Command::Move`.
@@ -93,12 +92,6 @@ impl Lossless for CommandMove {
 
 impl NeverNull for CommandMove {
     fn never_null() {}
-}
-
-impl Stable for CommandMove {
-    fn stable() {
-        record_stable::<CommandMove, CommandMoveFields>()
-    }
 }
 
 /// What a machine is told.
@@ -215,114 +208,4 @@ impl Lossless for Command {
 
 impl NeverNull for Command {
     fn never_null() {}
-}
-
-impl Stable for Command {
-    fn stable() {
-        enum_stable::<Command, CommandCases>()
-    }
-}
-
-/// A command with its name: an enum in a struct.
-#[derive(Drop)]
-pub struct Task {
-    pub name: String,
-    pub command: Command,
-}
-
-// Its fields, and their names.
-type TaskFields = Slot<String, Slot<Command, NoSlot>>;
-
-const TASK_NAMES: &[&str] = &["task", "command"];
-
-impl Record for Task {
-    ghost use Rattle.test_forms.specs.declared.commands.TheConstants.{TASK_NAMES};
-
-    type Values = <TaskFields as Slots>::Values;
-
-    ghost names = { names_of TASK_NAMES };
-
-    ghost values = { λ v. (v.name, (v.command, tt)) };
-
-    ghost made = { λ x. record { name = x.0; command = x.1.0 } };
-
-    ghost bijective = { (λ v. refl, λ x. refl) };
-
-    ghost distinct_names = { refl };
-
-    fn names() -> &'static [&'static str] {
-        TASK_NAMES
-    }
-
-    fn build(parts: Self::Values) -> Task {
-        let Parts(name, Parts(command, ())) = parts;
-        Task { name, command }
-    }
-}
-
-impl FromJson for Task {
-    ghost means = { struct_meaning ⟦<TaskFields as Slots>⟧.meaning ⟦<Task as Record>⟧.names ⟦<Task as Record>⟧.values };
-
-    fn missing() -> Option<Task> {
-        None
-    }
-
-    fn read<'a>(token: Event<'a>, source: &mut Source<'a>) -> Result<Task> {
-        read_record::<Task, TaskFields>(token, source)
-    }
-}
-
-impl Serialize for Task {
-    ghost tree = { record_tree ⟦<Task as Record>⟧.names ⟦<TaskFields as WrittenFields>⟧.trees ⟦<Task as Record>⟧.values };
-
-    fn begin(&self, w: &mut Writer) -> Result<()> {
-        write_members(w, TASK_NAMES, &Parts(&self.name, Parts(&self.command, ())))
-    }
-}
-
-impl Ranged for Task {
-    ghost real = { λ v. ⟦<TaskFields as WrittenFields>⟧.real (⟦<Task as Record>⟧.values v) };
-
-    fn ranged(&self) {
-        self.name.ranged();
-        self.command.ranged();
-    }
-}
-
-impl RoundTrip for Task {
-    fn round_trips() {
-        record_round_trips::<Task, TaskFields>()
-    }
-}
-
-impl Lossless for Task {
-    fn lossless() {
-        record_lossless::<Task, TaskFields>()
-    }
-}
-
-impl NeverNull for Task {
-    fn never_null() {}
-}
-
-impl Stable for Task {
-    fn stable() {
-        record_stable::<Task, TaskFields>()
-    }
-}
-
-impl Inside for Task {
-    ghost fields = { ⟦<Task as Record>⟧.names };
-
-    fn read_inside<'a, E: HasTag>(token: Event<'a>, source: &mut Source<'a>) -> Result<Task> {
-        read_record::<Task, BesideTag<E, TaskFields>>(token, source)
-    }
-
-    fn write_inside(&self, w: &mut Writer) -> Result<()> {
-        Members::write(&Parts(&self.name, Parts(&self.command, ())), w, TASK_NAMES)
-    }
-
-    fn is_object() {
-        fields_named()
-    }
 }

@@ -5,19 +5,22 @@ ghost use Rattle.miniserde.specs.Structs.{names_of, record_tree};
 ghost use Rattle.miniserde.specs.Tree.{nonneg};
 ghost use Rattle.std.specs.Prelude.{refl};
 
+use crate::commands::Command;
 use miniserde::derived::{
-    Aliased, BesideTag, Closed, Event, FromJson, Given, Global, HasAliases, HasTag, Inside,
-    Lossless, MarkedSlot, Members, NeverNull, NoSlot, OmitSlot, Omitted, Once, Parts, Plain,
+    Aliased, BesideTag, Closed, Event, FourParts, FromJson, Given, Global, HasAliases, HasTag,
+    Inside, Lossless, MarkedSlot, Members, NeverNull, OmitSlot, Omitted, Once, Parts, Plain,
     Ranged, Record, Result, RoundTrip, Serialize, Slot, Slots, Source, WithDefault, Writer,
-    WrittenFields, aliased_round_trips, fields_named, read_record, record_lossless, write_members,
+    WrittenFields, aliased_round_trips, fields_named, read_record, record_lossless, take_four,
+    write_members,
 };
 
-/// A host, which earlier versions named otherwise.
+/// A host and nothing else, which earlier versions named otherwise.
 #[derive(Drop)]
 pub struct Host {
     pub name: String,
     pub port: u16,
     pub note: Option<String>,
+    pub command: Option<Command>,
 }
 
 /// The value of a missing `port`.
@@ -35,10 +38,14 @@ impl Given<u16> for HostPortDefault {
 // Its fields, and their names.
 type HostFields = Slot<
     String,
-    MarkedSlot<u16, Once<WithDefault<HostPortDefault>>, OmitSlot<String, Plain, NoSlot>>,
+    MarkedSlot<
+        u16,
+        Once<WithDefault<HostPortDefault>>,
+        OmitSlot<String, Plain, OmitSlot<Command, Plain, Closed>>,
+    >,
 >;
 
-const HOST_NAMES: &[&str] = &["name", "port", "note"];
+const HOST_NAMES: &[&str] = &["name", "port", "of", "command"];
 
 impl Record for Host {
     ghost use Rattle.test_forms.specs.declared.hosts.TheConstants.{HOST_NAMES};
@@ -47,9 +54,9 @@ impl Record for Host {
 
     ghost names = { names_of HOST_NAMES };
 
-    ghost values = { λ v. (v.name, (v.port, (v.note, tt))) };
+    ghost values = { λ v. (v.name, (v.port, (v.note, (v.command, tt)))) };
 
-    ghost made = { λ x. record { name = x.0; port = x.1.0; note = x.1.1.0 } };
+    ghost made = { λ x. record { name = x.0; port = x.1.0; note = x.1.1.0; command = x.1.1.1.0 } };
 
     ghost bijective = { (λ v. refl, λ x. refl) };
 
@@ -60,8 +67,13 @@ impl Record for Host {
     }
 
     fn build(parts: Self::Values) -> Host {
-        let Parts(name, Parts(port, Parts(note, ()))) = parts;
-        Host { name, port, note }
+        let FourParts(name, port, note, command, ()) = take_four(parts);
+        Host {
+            name,
+            port,
+            note,
+            command,
+        }
     }
 }
 
@@ -69,7 +81,7 @@ const HOST_ALIASES: &[(&str, &str)] = &[
     ("host", "name"),
     ("hostname", "name"),
     ("p", "port"),
-    ("remark", "note"),
+    ("remark", "of"),
 ];
 
 impl HasAliases for Host {
@@ -105,7 +117,10 @@ impl Serialize for Host {
             HOST_NAMES,
             &Parts(
                 &self.name,
-                Parts(&self.port, Parts(Omitted(&self.note), ())),
+                Parts(
+                    &self.port,
+                    Parts(Omitted(&self.note), Parts(Omitted(&self.command), ())),
+                ),
             ),
         )
     }
@@ -118,6 +133,7 @@ impl Ranged for Host {
         self.name.ranged();
         self.port.ranged();
         self.note.ranged();
+        self.command.ranged();
     }
 }
 
@@ -148,7 +164,10 @@ impl Inside for Host {
         Members::write(
             &Parts(
                 &self.name,
-                Parts(&self.port, Parts(Omitted(&self.note), ())),
+                Parts(
+                    &self.port,
+                    Parts(Omitted(&self.note), Parts(Omitted(&self.command), ())),
+                ),
             ),
             w,
             HOST_NAMES,
@@ -158,98 +177,4 @@ impl Inside for Host {
     fn is_object() {
         fields_named()
     }
-}
-
-/// A host and nothing else.
-#[derive(Drop)]
-pub struct Only {
-    pub host: Host,
-}
-
-// Its fields, and their names.
-type OnlyFields = Slot<Host, Closed>;
-
-const ONLY_NAMES: &[&str] = &["of"];
-
-impl Record for Only {
-    ghost use Rattle.test_forms.specs.declared.hosts.TheConstants.{ONLY_NAMES};
-
-    type Values = <OnlyFields as Slots>::Values;
-
-    ghost names = { names_of ONLY_NAMES };
-
-    ghost values = { λ v. (v.host, tt) };
-
-    ghost made = { λ x. record { host = x.0 } };
-
-    ghost bijective = { (λ v. refl, λ x. refl) };
-
-    ghost distinct_names = { refl };
-
-    fn names() -> &'static [&'static str] {
-        ONLY_NAMES
-    }
-
-    fn build(parts: Self::Values) -> Only {
-        let Parts(host, ()) = parts;
-        Only { host }
-    }
-}
-
-const ONLY_ALIASES: &[(&str, &str)] = &[("host", "of")];
-
-impl HasAliases for Only {
-    ghost use Rattle.test_forms.specs.declared.hosts.TheConstants.{ONLY_ALIASES};
-
-    ghost aliases = { aliases_of ONLY_ALIASES };
-
-    ghost apart = { refl };
-
-    fn aliases() -> &'static [(&'static str, &'static str)] {
-        ONLY_ALIASES
-    }
-}
-
-impl FromJson for Only {
-    ghost means = { struct_meaning ⟦<Aliased<Only, OnlyFields> as Slots>⟧.meaning ⟦<Only as Record>⟧.names ⟦<Only as Record>⟧.values };
-
-    fn missing() -> Option<Only> {
-        None
-    }
-
-    fn read<'a>(token: Event<'a>, source: &mut Source<'a>) -> Result<Only> {
-        read_record::<Only, Aliased<Only, OnlyFields>>(token, source)
-    }
-}
-
-impl Serialize for Only {
-    ghost tree = { record_tree ⟦<Only as Record>⟧.names ⟦<OnlyFields as WrittenFields>⟧.trees ⟦<Only as Record>⟧.values };
-
-    fn begin(&self, w: &mut Writer) -> Result<()> {
-        write_members(w, ONLY_NAMES, &Parts(&self.host, ()))
-    }
-}
-
-impl Ranged for Only {
-    ghost real = { λ v. ⟦<OnlyFields as WrittenFields>⟧.real (⟦<Only as Record>⟧.values v) };
-
-    fn ranged(&self) {
-        self.host.ranged();
-    }
-}
-
-impl RoundTrip for Only {
-    fn round_trips() {
-        aliased_round_trips::<Only, OnlyFields>()
-    }
-}
-
-impl Lossless for Only {
-    fn lossless() {
-        record_lossless::<Only, OnlyFields>()
-    }
-}
-
-impl NeverNull for Only {
-    fn never_null() {}
 }

@@ -5,21 +5,13 @@
 #[cfg(test)]
 mod aliases;
 #[cfg(test)]
-mod bills;
-#[cfg(test)]
 mod callers;
 #[cfg(test)]
 mod changes;
 #[cfg(test)]
 mod commands;
 #[cfg(test)]
-mod customers;
-#[cfg(test)]
-mod entries;
-#[cfg(test)]
 mod hosts;
-#[cfg(test)]
-mod keys;
 #[cfg(test)]
 mod ledgers;
 #[cfg(test)]
@@ -27,12 +19,6 @@ mod notes;
 #[cfg(test)]
 mod omitted;
 #[cfg(test)]
-mod orders;
-#[cfg(test)]
 mod pages;
-#[cfg(test)]
-mod plans;
-#[cfg(test)]
-mod renewals;
 #[cfg(test)]
 mod tables;

@@ -3,12 +3,11 @@ ghost use Rattle.miniserde.specs.FieldsMeaning.{struct_meaning};
 ghost use Rattle.miniserde.specs.Structs.{names_of, record_tree};
 ghost use Rattle.std.specs.Prelude.{refl};
 
-use crate::commands::Task;
+use crate::hosts::Host;
 use miniserde::derived::{
-    Closed, Event, FourLent, FourParts, FourSlot, FromJson, Lossless, NeverNull, NoSlot, OmitSlot,
-    Omitted, Once, Parts, Plain, Ranged, Record, Result, RoundTrip, Serialize, Slot, Slots, Source,
-    Stable, Writer, WrittenFields, read_record, record_lossless, record_round_trips, record_stable,
-    take_four, write_members,
+    Event, FourLent, FourParts, FourSlot, FromJson, NoSlot, OmitSlot, Omitted, Once, Parts, Plain,
+    Ranged, Record, Result, RoundTrip, Serialize, Slot, Slots, Source, Writer, WrittenFields,
+    read_record, record_round_trips, take_four, write_members,
 };
 
 /// A note, of which only the name is always written.
@@ -22,7 +21,7 @@ pub struct Note {
     pub b: bool,
     pub c: bool,
     pub d: bool,
-    pub task: Option<Box<Task>>,
+    pub host: Option<Box<Host>>,
 }
 
 // Its fields, and their names.
@@ -37,13 +36,13 @@ type NoteFields = OmitSlot<
             OmitSlot<
                 (u8, u8),
                 Plain,
-                FourSlot<bool, bool, bool, bool, OmitSlot<Box<Task>, Plain, NoSlot>>,
+                FourSlot<bool, bool, bool, bool, OmitSlot<Box<Host>, Plain, NoSlot>>,
             >,
         >,
     >,
 >;
 
-const NOTE_NAMES: &[&str] = &["text", "name", "*", "points", "a", "b", "c", "d", "task"];
+const NOTE_NAMES: &[&str] = &["text", "name", "*", "points", "a", "b", "c", "d", "host"];
 
 impl Record for Note {
     ghost use Rattle.test_forms.specs.declared.notes.TheConstants.{NOTE_NAMES};
@@ -69,7 +68,7 @@ impl Record for Note {
                   (
                     v.d,
                     (
-                      v.task,
+                      v.host,
                       tt,
                     ),
                   ),
@@ -90,7 +89,7 @@ impl Record for Note {
       b = x.1.1.1.1.1.0;
       c = x.1.1.1.1.1.1.0;
       d = x.1.1.1.1.1.1.1.0;
-      task = x.1.1.1.1.1.1.1.1.0;
+      host = x.1.1.1.1.1.1.1.1.0;
     } };
 
     ghost bijective = { (λ v. refl, λ x. refl) };
@@ -104,7 +103,7 @@ impl Record for Note {
     fn build(parts: Self::Values) -> Note {
         let FourParts(text, name, stars, points, parts) = take_four(parts);
         let FourParts(a, b, c, d, parts) = take_four(parts);
-        let Parts(task, ()) = parts;
+        let Parts(host, ()) = parts;
         Note {
             text,
             name,
@@ -114,7 +113,7 @@ impl Record for Note {
             b,
             c,
             d,
-            task,
+            host,
         }
     }
 }
@@ -151,7 +150,7 @@ impl Serialize for Note {
                                 &self.b,
                                 &self.c,
                                 &self.d,
-                                Parts(Omitted(&self.task), ()),
+                                Parts(Omitted(&self.host), ()),
                             ),
                         ),
                     ),
@@ -173,120 +172,12 @@ impl Ranged for Note {
         self.b.ranged();
         self.c.ranged();
         self.d.ranged();
-        self.task.ranged();
+        self.host.ranged();
     }
 }
 
 impl RoundTrip for Note {
     fn round_trips() {
         record_round_trips::<Note, NoteFields>()
-    }
-}
-
-impl Lossless for Note {
-    fn lossless() {
-        record_lossless::<Note, NoteFields>()
-    }
-}
-
-impl NeverNull for Note {
-    fn never_null() {}
-}
-
-impl Stable for Note {
-    fn stable() {
-        record_stable::<Note, NoteFields>()
-    }
-}
-
-/// Nothing but what may be left out.
-#[derive(Drop)]
-pub struct Bare {
-    pub one: Option<u8>,
-    pub two: Option<Vec<Option<u8>>>,
-}
-
-// Its fields, and their names.
-type BareFields = OmitSlot<u8, Plain, OmitSlot<Vec<Option<u8>>, Plain, Closed>>;
-
-const BARE_NAMES: &[&str] = &["one", "two"];
-
-impl Record for Bare {
-    ghost use Rattle.test_forms.specs.declared.notes.TheConstants.{BARE_NAMES};
-
-    type Values = <BareFields as Slots>::Values;
-
-    ghost names = { names_of BARE_NAMES };
-
-    ghost values = { λ v. (v.one, (v.two, tt)) };
-
-    ghost made = { λ x. record { one = x.0; two = x.1.0 } };
-
-    ghost bijective = { (λ v. refl, λ x. refl) };
-
-    ghost distinct_names = { refl };
-
-    fn names() -> &'static [&'static str] {
-        BARE_NAMES
-    }
-
-    fn build(parts: Self::Values) -> Bare {
-        let Parts(one, Parts(two, ())) = parts;
-        Bare { one, two }
-    }
-}
-
-impl FromJson for Bare {
-    ghost means = { struct_meaning ⟦<BareFields as Slots>⟧.meaning ⟦<Bare as Record>⟧.names ⟦<Bare as Record>⟧.values };
-
-    fn missing() -> Option<Bare> {
-        None
-    }
-
-    fn read<'a>(token: Event<'a>, source: &mut Source<'a>) -> Result<Bare> {
-        read_record::<Bare, BareFields>(token, source)
-    }
-}
-
-impl Serialize for Bare {
-    ghost tree = { record_tree ⟦<Bare as Record>⟧.names ⟦<BareFields as WrittenFields>⟧.trees ⟦<Bare as Record>⟧.values };
-
-    fn begin(&self, w: &mut Writer) -> Result<()> {
-        write_members(
-            w,
-            BARE_NAMES,
-            &Parts(Omitted(&self.one), Parts(Omitted(&self.two), ())),
-        )
-    }
-}
-
-impl Ranged for Bare {
-    ghost real = { λ v. ⟦<BareFields as WrittenFields>⟧.real (⟦<Bare as Record>⟧.values v) };
-
-    fn ranged(&self) {
-        self.one.ranged();
-        self.two.ranged();
-    }
-}
-
-impl RoundTrip for Bare {
-    fn round_trips() {
-        record_round_trips::<Bare, BareFields>()
-    }
-}
-
-impl Lossless for Bare {
-    fn lossless() {
-        record_lossless::<Bare, BareFields>()
-    }
-}
-
-impl NeverNull for Bare {
-    fn never_null() {}
-}
-
-impl Stable for Bare {
-    fn stable() {
-        record_stable::<Bare, BareFields>()
     }
 }

@@ -1,11 +1,11 @@
-use crate::commands::Task;
+use crate::hosts::Host;
 
-/// A change of a plan: the data of its variants stands in one object with the tag.
-pub enum Change { // tag "kind", lossless, stable
+/// A change: the data of its variants stands in one object with the tag.
+pub enum Change { // tag "kind", lossless
     Clear,
-    Run(Task),
+    Add(Host),
     Mark {
-        at: (u8, u8, u8),
-        note: Option<String>, // omit
+        at: (u8, u8, u8), // alias "old"
+        note: Option<String>, // omit, alias "new"
     },
 }

@@ -1,12 +1,6 @@
 /// What a machine is told.
-pub enum Command { // lossless, stable
+pub enum Command { // lossless
     Ping,
     Text(String),
     Move { x: i64, y: i64 },
-}
-
-/// A command with its name: an enum in a struct.
-pub struct Task { // inside, lossless, stable
-    pub name: String, // rename "task"
-    pub command: Command,
 }

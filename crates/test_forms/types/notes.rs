@@ -1,7 +1,7 @@
-use crate::commands::Task;
+use crate::hosts::Host;
 
 /// A note, of which only the name is always written.
-pub struct Note { // lossless, stable
+pub struct Note {
     pub text: Option<String>, // omit
     pub name: String,
     pub stars: Option<u8>, // rename "*", once, omit
@@ -10,11 +10,5 @@ pub struct Note { // lossless, stable
     pub b: bool,
     pub c: bool,
     pub d: bool,
-    pub task: Option<Box<Task>>, // omit
-}
-
-/// Nothing but what may be left out.
-pub struct Bare { // closed, lossless, stable
-    pub one: Option<u8>, // omit
-    pub two: Option<Vec<Option<u8>>>, // omit
+    pub host: Option<Box<Host>>, // omit
 }

@@ -83,22 +83,16 @@ fn written<T: Deserialize + Serialize>(alloc: Global, events: &str) -> Result<St
     to_string(alloc, &<T as Deserialize>::take(place)?)
 }
 
-/// Returns whether a place refuses each further event of its value, and keeps that refusal.
-fn takes_no_more<V: Visitor>(mut place: V) -> bool
-where
-    V::Out: Drop,
-{
-    place.is_complete()
-        && matches!(place.null(), Err(Error::Invalid))
-        && matches!(place.finish(), Err(Error::Invalid))
-        && matches!(place.take(), Err(Error::Invalid))
-}
-
 /// Returns whether a place has its value after these events, and takes no more.
 fn is_ended<T: Deserialize + Drop>(alloc: Global, events: &str) -> Result<bool> {
     let mut place = <T as Deserialize>::begin(alloc)?;
     hand_all(&mut place, events)?;
-    Ok(takes_no_more(place))
+    Ok(
+        place.is_complete()
+            && matches!(place.null(), Err(Error::Invalid))
+            && matches!(place.finish(), Err(Error::Invalid))
+            && matches!(<T as Deserialize>::take(place), Err(Error::Invalid)),
+    )
 }
 
 /// Fails with the first line of a table that is wrong for the places of a type, if any.

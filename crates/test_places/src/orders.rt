@@ -1,7 +1,7 @@
 //! Places handed events in every order of four: each call returns, and the first refusal stands.
 
 use crate::events::{Event, hand};
-use demo::{Demo, repeated_name};
+use demo::Demo;
 use miniserde::de::{Deserialize, Visitor, ignore};
 use miniserde::json::Value;
 use miniserde::{Error, Result};
@@ -91,25 +91,11 @@ fn ignored() -> Option<u32> {
 }
 
 #[test]
-fn a_value_that_is_skipped_takes_every_event(_rt: HostRuntime) -> std::result::Result<(), Wrong> {
-    expect(ignored() == Some(5184), "the place that takes everything")
-}
-
-#[test]
-fn a_struct_keeps_its_refusal(rt: HostRuntime) -> std::result::Result<(), Wrong> {
-    // A member of another name is skipped, by a place that takes every event until its value is whole.
-    expect_ok(takes::<Demo>(rt.alloc(), 314), "Demo")
-}
-
-#[test]
-fn a_container_keeps_its_refusal(rt: HostRuntime) -> std::result::Result<(), Wrong> {
+fn another_place_keeps_its_refusal(rt: HostRuntime) -> std::result::Result<(), Wrong> {
     let alloc = rt.alloc();
+    // A member of another name is skipped, by a place that takes every event until its value is whole.
+    expect_ok(takes::<Demo>(alloc, 314), "Demo")?;
     expect_ok(takes::<[u8; 2]>(alloc, 252), "an array")?;
-    expect_ok(takes::<Option<Vec<u8>>>(alloc, 504), "an optional list")
-}
-
-#[test]
-fn a_repeated_name_is_invalid_at_its_key(rt: HostRuntime) -> std::result::Result<(), Wrong> {
-    let answer = repeated_name(rt.alloc(), 7);
-    expect(matches!(answer, Ok(Err(Error::Invalid))), "the second name")
+    expect_ok(takes::<Option<Vec<u8>>>(alloc, 504), "an optional list")?;
+    expect(ignored() == Some(5184), "the place that takes everything")
 }

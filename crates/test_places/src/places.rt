@@ -1,7 +1,7 @@
 //! Places of each kind: what they take, what they refuse, and that they keep a refusal.
 
 use crate::events::{expect_events, hand_all};
-use demo::{Demo, Nested, StrictDemo, Tag};
+use demo::{Demo, Nested, StrictDemo, Tag, repeated_name};
 use miniserde::de::{Deserialize, Visitor, ignore};
 use miniserde::error::{Error, Result};
 use miniserde::json::{Array, Number, Object};
@@ -32,19 +32,6 @@ fn a_leaf_takes_one_event(rt: HostRuntime) -> std::result::Result<(), Wrong> {
     )
 }
 
-#[test]
-fn an_optional_value_is_null_or_the_value(rt: HostRuntime) -> std::result::Result<(), Wrong> {
-    let alloc = rt.alloc();
-    expect_events::<Option<Vec<u8>>>(
-        alloc,
-        "null => null\nseq finish => []\nseq element nonnegative=1 finish => [1]\n\nseq\nelement\nnull null",
-    )?;
-    expect_events::<Box<u8>>(
-        alloc,
-        "nonnegative=1 => 1\n\nnull\nnonnegative=1 nonnegative=1",
-    )
-}
-
 const LISTS: &str = "seq element nonnegative=1 element nonnegative=2 finish => [1,2]
 seq finish => []
 
@@ -60,24 +47,24 @@ finish
 map finish";
 
 #[test]
-fn a_list_is_taken_at_its_end(rt: HostRuntime) -> std::result::Result<(), Wrong> {
-    expect_events::<Vec<u64>>(rt.alloc(), LISTS)
-}
-
-#[test]
-fn a_pair_and_an_array_have_their_length(rt: HostRuntime) -> std::result::Result<(), Wrong> {
+fn a_container_ends_with_its_children(rt: HostRuntime) -> std::result::Result<(), Wrong> {
     let alloc = rt.alloc();
+    expect_events::<Option<Vec<u8>>>(
+        alloc,
+        "null => null\nseq finish => []\nseq element nonnegative=1 finish => [1]\n\nseq\nelement\nnull null",
+    )?;
+    expect_events::<Box<u8>>(
+        alloc,
+        "nonnegative=1 => 1\n\nnull\nnonnegative=1 nonnegative=1",
+    )?;
+    expect_events::<Vec<u64>>(alloc, LISTS)?;
     expect_events::<[u8; 0]>(alloc, "seq finish => []\nseq element\nseq\nmap")?;
     expect_events::<(u8, bool)>(
         alloc,
         "seq element nonnegative=1 element true finish => [1,true]\nseq element nonnegative=1 finish\nseq element nonnegative=1 element true element",
-    )
-}
-
-#[test]
-fn a_map_has_a_value_behind_each_name(rt: HostRuntime) -> std::result::Result<(), Wrong> {
+    )?;
     expect_events::<BTreeMap<String, u8>>(
-        rt.alloc(),
+        alloc,
         "map key=a nonnegative=1 finish => {\"a\":1}\nmap finish => {}\nmap key=a key=b\nmap nonnegative=1\nmap key=a finish\nseq finish",
     )
 }
@@ -107,11 +94,7 @@ fn a_struct_ends_with_all_its_fields(rt: HostRuntime) -> std::result::Result<(),
     )
 }
 
-#[test]
-fn a_number_is_one_event(rt: HostRuntime) -> std::result::Result<(), Wrong> {
-    expect_events::<Number>(
-        rt.alloc(),
-        "negative => -1
+const NUMBERS: &str = "negative => -1
 nonnegative=7 => 7
 float => 1.5
 
@@ -124,15 +107,9 @@ element
 key=a
 finish
 nonnegative=1 nonnegative=2
-float null",
-    )
-}
+float null";
 
-#[test]
-fn an_array_begins_as_a_list(rt: HostRuntime) -> std::result::Result<(), Wrong> {
-    expect_events::<Array>(
-        rt.alloc(),
-        "seq finish => []
+const ARRAYS: &str = "seq finish => []
 seq element nonnegative=1 element seq element null finish element map finish finish => [1,[null],{}]
 
 map
@@ -149,15 +126,9 @@ seq key=a
 seq element finish
 seq element nonnegative=1
 seq finish finish
-seq finish seq",
-    )
-}
+seq finish seq";
 
-#[test]
-fn an_object_begins_as_a_map(rt: HostRuntime) -> std::result::Result<(), Wrong> {
-    expect_events::<Object>(
-        rt.alloc(),
-        "map finish => {}
+const OBJECTS: &str = "map finish => {}
 map key=b nonnegative=1 key=a seq finish finish => {\"a\":[],\"b\":1}
 map key=a nonnegative=1 key=a null finish => {\"a\":null}
 
@@ -175,21 +146,16 @@ map element
 map key=a finish
 map key=a null
 map finish finish
-map finish map",
-    )
-}
+map finish map";
 
 #[test]
-fn only_an_option_has_a_value_by_default(_rt: HostRuntime) -> std::result::Result<(), Wrong> {
-    expect(
-        <Option<u8> as Deserialize>::default() == Some(None),
-        "an option",
-    )?;
-    expect(
-        <Box<Option<u8>> as Deserialize>::default().is_none(),
-        "a boxed option",
-    )?;
-    expect(<u8 as Deserialize>::default().is_none(), "a number")
+fn a_number_an_array_and_an_object_begin_as_such(
+    rt: HostRuntime,
+) -> std::result::Result<(), Wrong> {
+    let alloc = rt.alloc();
+    expect_events::<Number>(alloc, NUMBERS)?;
+    expect_events::<Array>(alloc, ARRAYS)?;
+    expect_events::<Object>(alloc, OBJECTS)
 }
 
 /// Returns whether a place that refused `true` behind these events keeps that refusal, also when it is told another.
@@ -214,13 +180,6 @@ fn keeps_error<T: Deserialize + Drop>(alloc: Global) -> Result<bool> {
     )
 }
 
-#[test]
-fn a_refusal_is_kept(rt: HostRuntime) -> std::result::Result<(), Wrong> {
-    let alloc = rt.alloc();
-    expect_ok(keeps_refusal::<Demo>(alloc, "map key=code"), "a struct")?;
-    expect_ok(keeps_error::<u64>(alloc), "a number")
-}
-
 const EACH_KIND: &str =
     "seq element null element true element string=a element negative element nonnegative=1 element float element map key=k null finish finish";
 
@@ -235,6 +194,22 @@ fn takes_each_kind() -> Result<bool> {
 }
 
 #[test]
-fn the_place_that_takes_everything(_rt: HostRuntime) -> std::result::Result<(), Wrong> {
-    expect_ok(takes_each_kind(), "a value of each kind")
+fn a_refusal_is_kept(rt: HostRuntime) -> std::result::Result<(), Wrong> {
+    let alloc = rt.alloc();
+    expect_ok(keeps_refusal::<Demo>(alloc, "map key=code"), "a struct")?;
+    expect_ok(keeps_error::<u64>(alloc), "a number")?;
+    expect_ok(takes_each_kind(), "a value of each kind")?;
+    // A name that is refused as a duplicate is refused at its key.
+    let answer = repeated_name(alloc, 7);
+    expect(matches!(answer, Ok(Err(Error::Invalid))), "the second name")?;
+    // An option alone has a value by default.
+    expect(
+        <Option<u8> as Deserialize>::default() == Some(None),
+        "an option",
+    )?;
+    expect(
+        <Box<Option<u8>> as Deserialize>::default().is_none(),
+        "a boxed option",
+    )?;
+    expect(<u8 as Deserialize>::default().is_none(), "a number")
 }

@@ -62,26 +62,6 @@ fn are_nested(alloc: Global) -> Result<bool> {
     is_canonical(alloc, text.as_str(), expected.as_str())
 }
 
-#[test]
-fn many_items_are_canonical(rt: HostRuntime) -> std::result::Result<(), Wrong> {
-    expect_ok(are_items(rt.alloc()), "items")
-}
-
-#[test]
-fn many_members_are_canonical(rt: HostRuntime) -> std::result::Result<(), Wrong> {
-    expect_ok(are_members(rt.alloc()), "members")
-}
-
-#[test]
-fn many_objects_are_canonical(rt: HostRuntime) -> std::result::Result<(), Wrong> {
-    expect_ok(are_objects(rt.alloc()), "objects in a list")
-}
-
-#[test]
-fn many_levels_are_canonical(rt: HostRuntime) -> std::result::Result<(), Wrong> {
-    expect_ok(are_nested(rt.alloc()), "nested objects")
-}
-
 /// Returns whether a long string, name and number are canonical: without an escape, with many, and spelled with more.
 fn are_texts(alloc: Global) -> Result<bool> {
     let plain = repeated(alloc, MANY, "{\"", "é", "\":0}")?;
@@ -97,6 +77,11 @@ fn are_texts(alloc: Global) -> Result<bool> {
 }
 
 #[test]
-fn a_long_string_or_number_is_canonical(rt: HostRuntime) -> std::result::Result<(), Wrong> {
-    expect_ok(are_texts(rt.alloc()), "texts")
+fn a_large_text_is_canonical(rt: HostRuntime) -> std::result::Result<(), Wrong> {
+    let alloc = rt.alloc();
+    expect_ok(are_items(alloc), "items")?;
+    expect_ok(are_members(alloc), "members")?;
+    expect_ok(are_objects(alloc), "objects in a list")?;
+    expect_ok(are_nested(alloc), "nested objects")?;
+    expect_ok(are_texts(alloc), "texts")
 }

@@ -57,12 +57,6 @@ fn are_members(alloc: Global) -> Result<bool> {
     )
 }
 
-#[test]
-fn many_items_or_members_are_a_document(rt: HostRuntime) -> std::result::Result<(), Wrong> {
-    expect_ok(are_items(rt.alloc()), "items")?;
-    expect_ok(are_members(rt.alloc()), "members")
-}
-
 /// Returns whether a long string and a long name are a document: without an escape, with many, and spelled with more.
 fn are_texts(alloc: Global) -> Result<bool> {
     let plain = repeated(alloc, MANY, "{\"", "é", "\":[]}")?;
@@ -90,12 +84,6 @@ fn are_digits(alloc: Global) -> Result<bool> {
             && is_written(alloc, &Number::Text(copy), text.as_str())?
             && is_written(alloc, &copied, text.as_str())?,
     )
-}
-
-#[test]
-fn a_long_string_or_number_is_a_document(rt: HostRuntime) -> std::result::Result<(), Wrong> {
-    expect_ok(are_texts(rt.alloc()), "strings")?;
-    expect_ok(are_digits(rt.alloc()), "digits")
 }
 
 /// Returns whether an array takes many items one by one, and an object many members, of which most replace another.
@@ -127,7 +115,12 @@ fn is_made(alloc: Global) -> Result<bool> {
 }
 
 #[test]
-fn a_document_grows(rt: HostRuntime) -> std::result::Result<(), Wrong> {
-    expect_ok(are_added(rt.alloc()), "items and members")?;
-    expect_ok(is_made(rt.alloc()), "long texts in `value!`")
+fn a_document_is_large(rt: HostRuntime) -> std::result::Result<(), Wrong> {
+    let alloc = rt.alloc();
+    expect_ok(are_items(alloc), "items")?;
+    expect_ok(are_members(alloc), "members")?;
+    expect_ok(are_texts(alloc), "strings")?;
+    expect_ok(are_digits(alloc), "digits")?;
+    expect_ok(are_added(alloc), "items and members that are added")?;
+    expect_ok(is_made(alloc), "long texts in `value!`")
 }

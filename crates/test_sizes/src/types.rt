@@ -22,11 +22,6 @@ fn are_lists(alloc: Global) -> Result<bool> {
     )
 }
 
-#[test]
-fn many_items_are_read_and_written(rt: HostRuntime) -> std::result::Result<(), Wrong> {
-    expect_ok(are_lists(rt.alloc()), "lists")
-}
-
 /// Returns whether an object of many members, in any order, is taken as a map with each kind of keys.
 fn are_maps(alloc: Global) -> Result<bool> {
     let members = numbered(alloc, ("{", "}"), ("\"", "\":[]"), RISING)?;
@@ -42,11 +37,6 @@ fn are_maps(alloc: Global) -> Result<bool> {
             && is_fed::<Hashed<String, Vec<u8>>>(alloc, turned, members)?
             && is_stable::<Hashed<String, Vec<u8>>>(alloc, turned, members)?,
     )
-}
-
-#[test]
-fn many_members_are_read_and_written(rt: HostRuntime) -> std::result::Result<(), Wrong> {
-    expect_ok(are_maps(rt.alloc()), "maps")
 }
 
 /// Returns whether long strings are taken: without an escape, with many, and spelled with more than they are written
@@ -77,12 +67,6 @@ fn are_names(alloc: Global) -> Result<bool> {
     )
 }
 
-#[test]
-fn a_long_string_is_read_and_written(rt: HostRuntime) -> std::result::Result<(), Wrong> {
-    expect_ok(are_strings(rt.alloc()), "strings")?;
-    expect_ok(are_names(rt.alloc()), "names")
-}
-
 /// Returns whether an integer is taken with much whitespace around it.
 fn is_among_spaces(alloc: Global) -> Result<bool> {
     let before = repeated(alloc, MANY, "", " ", "7")?;
@@ -94,6 +78,11 @@ fn is_among_spaces(alloc: Global) -> Result<bool> {
 }
 
 #[test]
-fn long_whitespace_is_skipped(rt: HostRuntime) -> std::result::Result<(), Wrong> {
-    expect_ok(is_among_spaces(rt.alloc()), "an integer")
+fn a_large_value_is_read_and_written(rt: HostRuntime) -> std::result::Result<(), Wrong> {
+    let alloc = rt.alloc();
+    expect_ok(are_lists(alloc), "lists")?;
+    expect_ok(are_maps(alloc), "maps")?;
+    expect_ok(are_strings(alloc), "strings")?;
+    expect_ok(are_names(alloc), "names")?;
+    expect_ok(is_among_spaces(alloc), "an integer among spaces")
 }

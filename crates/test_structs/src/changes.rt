@@ -8,129 +8,26 @@ ghost use Rattle.std.specs.Prelude.{codes, refl};
 use crate::generic::Both;
 use crate::inner::Inner;
 use miniserde::derived::{
-    BesideTag, Closed, DataCase, DataEnum, Empty, Event, FromJson, HasTag, Inside, InsideCases,
-    Lossless, MarkedSlot, Members, NeverNull, NoCase, NoFields, NoSlot, OnceSlot, OneOf, Parts,
-    Ranged, Record, Result, RoundTrip, Serialize, Slot, Slots, Source, Stable, WithDefault, Writer,
-    WrittenCases, WrittenFields, fields_named, read_record, read_tagged, record_lossless,
-    record_round_trips, record_stable, tag_fits, tagged_lossless, tagged_round_trips,
-    tagged_stable, write_members, write_tagged, write_tagged_fields,
+    BesideTag, DataCase, DataEnum, Event, FromJson, HasTag, Inside, InsideCases, Lossless, Members,
+    NeverNull, NoCase, NoFields, NoSlot, OmitSlot, Omitted, OneOf, Parts, Plain, Ranged, Record,
+    Result, RoundTrip, Serialize, Slot, Slots, Source, Stable, Writer, WrittenCases, WrittenFields,
+    fields_named, read_record, read_tagged, record_lossless, record_round_trips, record_stable,
+    tag_fits, tagged_lossless, tagged_round_trips, tagged_stable, write_members, write_tagged,
+    write_tagged_fields,
 };
-
-/// A name, and nothing else.
-#[derive(Drop)]
-pub struct Name {
-    pub name: String,
-    pub of: Option<u8>,
-}
-
-// Its fields, and their names.
-type NameFields = OnceSlot<String, MarkedSlot<Option<u8>, WithDefault<Empty>, Closed>>;
-
-const NAME_NAMES: &[&str] = &["name", "of"];
-
-impl Record for Name {
-    ghost use Rattle.test_structs.specs.declared.changes.TheConstants.{NAME_NAMES};
-
-    type Values = <NameFields as Slots>::Values;
-
-    ghost names = { names_of NAME_NAMES };
-
-    ghost values = { λ v. (v.name, (v.of, tt)) };
-
-    ghost made = { λ x. record { name = x.0; of = x.1.0 } };
-
-    ghost bijective = { (λ v. refl, λ x. refl) };
-
-    ghost distinct_names = { refl };
-
-    fn names() -> &'static [&'static str] {
-        NAME_NAMES
-    }
-
-    fn build(parts: Self::Values) -> Name {
-        let Parts(name, Parts(of, ())) = parts;
-        Name { name, of }
-    }
-}
-
-impl FromJson for Name {
-    ghost means = { struct_meaning ⟦<NameFields as Slots>⟧.meaning ⟦<Name as Record>⟧.names ⟦<Name as Record>⟧.values };
-
-    fn missing() -> Option<Name> {
-        None
-    }
-
-    fn read<'a>(token: Event<'a>, source: &mut Source<'a>) -> Result<Name> {
-        read_record::<Name, NameFields>(token, source)
-    }
-}
-
-impl Serialize for Name {
-    ghost tree = { record_tree ⟦<Name as Record>⟧.names ⟦<NameFields as WrittenFields>⟧.trees ⟦<Name as Record>⟧.values };
-
-    fn begin(&self, w: &mut Writer) -> Result<()> {
-        write_members(w, NAME_NAMES, &Parts(&self.name, Parts(&self.of, ())))
-    }
-}
-
-impl Ranged for Name {
-    ghost real = { λ v. ⟦<NameFields as WrittenFields>⟧.real (⟦<Name as Record>⟧.values v) };
-
-    fn ranged(&self) {
-        self.name.ranged();
-        self.of.ranged();
-    }
-}
-
-impl RoundTrip for Name {
-    fn round_trips() {
-        record_round_trips::<Name, NameFields>()
-    }
-}
-
-impl Lossless for Name {
-    fn lossless() {
-        record_lossless::<Name, NameFields>()
-    }
-}
-
-impl NeverNull for Name {
-    fn never_null() {}
-}
-
-impl Stable for Name {
-    fn stable() {
-        record_stable::<Name, NameFields>()
-    }
-}
-
-impl Inside for Name {
-    ghost fields = { ⟦<Name as Record>⟧.names };
-
-    fn read_inside<'a, E: HasTag>(token: Event<'a>, source: &mut Source<'a>) -> Result<Name> {
-        read_record::<Name, BesideTag<E, NameFields>>(token, source)
-    }
-
-    fn write_inside(&self, w: &mut Writer) -> Result<()> {
-        Members::write(&Parts(&self.name, Parts(&self.of, ())), w, NAME_NAMES)
-    }
-
-    fn is_object() {
-        fields_named()
-    }
-}
 
 /// The fields of `Change::Deep`.
 #[derive(Drop)]
 pub struct ChangeDeep {
     pub inner: Inner,
     pub list: Vec<Inner>,
+    pub note: Option<String>,
 }
 
 // Its fields, and their names.
-type ChangeDeepFields = Slot<Inner, Slot<Vec<Inner>, NoSlot>>;
+type ChangeDeepFields = Slot<Inner, Slot<Vec<Inner>, OmitSlot<String, Plain, NoSlot>>>;
 
-const CHANGE_DEEP_NAMES: &[&str] = &["inner", "list"];
+const CHANGE_DEEP_NAMES: &[&str] = &["inner", "list", "note"];
 
 impl Record for ChangeDeep {
     ghost use Rattle.test_structs.specs.declared.changes.TheConstants.{CHANGE_DEEP_NAMES};
@@ -139,9 +36,9 @@ impl Record for ChangeDeep {
 
     ghost names = { names_of CHANGE_DEEP_NAMES };
 
-    ghost values = { λ v. (v.inner, (v.list, tt)) };
+    ghost values = { λ v. (v.inner, (v.list, (v.note, tt))) };
 
-    ghost made = { λ x. record { inner = x.0; list = x.1.0 } };
+    ghost made = { λ x. record { inner = x.0; list = x.1.0; note = x.1.1.0 } };
 
     ghost bijective = { (λ v. refl, λ x. refl) };
 
@@ -152,8 +49,8 @@ impl Record for ChangeDeep {
     }
 
     fn build(parts: Self::Values) -> ChangeDeep {
-        let Parts(inner, Parts(list, ())) = parts;
-        ChangeDeep { inner, list }
+        let Parts(inner, Parts(list, Parts(note, ()))) = parts;
+        ChangeDeep { inner, list, note }
     }
 }
 
@@ -176,7 +73,10 @@ impl Serialize for ChangeDeep {
         write_members(
             w,
             CHANGE_DEEP_NAMES,
-            &Parts(&self.inner, Parts(&self.list, ())),
+            &Parts(
+                &self.inner,
+                Parts(&self.list, Parts(Omitted(&self.note), ())),
+            ),
         )
     }
 }
@@ -188,6 +88,7 @@ impl Ranged for ChangeDeep {
     fn ranged(&self) {
         self.inner.ranged();
         self.list.ranged();
+        self.note.ranged();
     }
 }
 
@@ -222,7 +123,10 @@ impl Inside for ChangeDeep {
 
     fn write_inside(&self, w: &mut Writer) -> Result<()> {
         Members::write(
-            &Parts(&self.inner, Parts(&self.list, ())),
+            &Parts(
+                &self.inner,
+                Parts(&self.list, Parts(Omitted(&self.note), ())),
+            ),
             w,
             CHANGE_DEEP_NAMES,
         )
@@ -237,16 +141,23 @@ impl Inside for ChangeDeep {
 #[derive(Drop)]
 pub enum Change {
     Reset,
-    SetName(Name),
+    SetName(Both<String, Option<u8>>),
     BothOf(Both<u8, String>),
-    Deep { inner: Inner, list: Vec<Inner> },
+    Deep {
+        inner: Inner,
+        list: Vec<Inner>,
+        note: Option<String>,
+    },
     Accent,
 }
 
 // Its variants, and their names.
 type ChangeCases = DataCase<
     NoFields,
-    DataCase<Name, DataCase<Both<u8, String>, DataCase<ChangeDeep, DataCase<NoFields, NoCase>>>>,
+    DataCase<
+        Both<String, Option<u8>>,
+        DataCase<Both<u8, String>, DataCase<ChangeDeep, DataCase<NoFields, NoCase>>>,
+    >,
 >;
 
 const CHANGE_NAMES: &[&str] = &["reset", "set_name", "both_of", "deep", "é"];
@@ -264,26 +175,26 @@ impl DataEnum for Change {
       | SetName x0 ↦ later_case (first_case
           x0)
       | BothOf x0 ↦ later_case (later_case (first_case x0))
-      | Deep x0 x1 ↦ later_case
-          (later_case (later_case (first_case (record { inner = x0; list = x1 }))))
-      | Accent ↦
-          later_case (later_case (later_case (later_case (first_case (record {})))))
+      | Deep x0 x1 x2 ↦ later_case
+          (later_case (later_case (first_case (record { inner = x0; list = x1; note = x2 }))))
+      | Accent ↦ later_case (later_case (later_case (later_case (first_case (record {})))))
     ] };
 
     ghost made = { each_case _ (λ x. Reset) (each_case _ (λ x. SetName x) (each_case _ (λ x. BothOf
-        x) (each_case _ (λ x. Deep x.inner x.list) (each_case _ (λ x. Accent) (any_of_never _))))) };
+        x) (each_case _ (λ x. Deep x.inner x.list x.note) (each_case _ (λ x. Accent) (any_of_never
+        _))))) };
 
     ghost bijective = { (
       elim [
         | Reset ↦ refl
         | SetName x0 ↦ refl
         | BothOf x0 ↦ refl
-        | Deep x0 x1 ↦
-            refl
+        | Deep x0 x1 x2
+            ↦ refl
         | Accent ↦ refl
       ],
-      each_case _ (λ x. refl) (each_case _ (λ x. refl) (each_case _ (λ x.
-          refl) (each_case _ (λ x. refl) (each_case _ (λ x. refl) (any_of_never _))))),
+      each_case _ (λ x. refl) (each_case _ (λ x. refl) (each_case _ (λ
+          x. refl) (each_case _ (λ x. refl) (each_case _ (λ x. refl) (any_of_never _))))),
     ) };
 
     ghost distinct_names = { refl };
@@ -300,7 +211,11 @@ impl DataEnum for Change {
                 OneOf::Later(value) => match value {
                     OneOf::First(a) => Change::BothOf(a),
                     OneOf::Later(value) => match value {
-                        OneOf::First(ChangeDeep { inner, list }) => Change::Deep { inner, list },
+                        OneOf::First(ChangeDeep { inner, list, note }) => Change::Deep {
+                            inner,
+                            list,
+                            note,
+                        },
                         OneOf::Later(value) => match value {
                             OneOf::First(NoFields {}) => Change::Accent,
                             OneOf::Later(value) => match value {},
@@ -345,13 +260,13 @@ impl Serialize for Change {
             Change::Reset => { write_tagged_fields(w, "type", "reset", &[], &()) },
             Change::SetName(a) => write_tagged(w, "type", "set_name", a),
             Change::BothOf(a) => write_tagged(w, "type", "both_of", a),
-            Change::Deep { inner, list } => {
+            Change::Deep { inner, list, note } => {
                 write_tagged_fields(
                     w,
                     "type",
                     "deep",
                     CHANGE_DEEP_NAMES,
-                    &Parts(inner, Parts(list, ())),
+                    &Parts(inner, Parts(list, Parts(Omitted(note), ()))),
                 )
             },
             Change::Accent => { write_tagged_fields(w, "type", "é", &[], &()) },
@@ -367,9 +282,10 @@ impl Ranged for Change {
             Change::Reset => {}
             Change::SetName(a) => a.ranged(),
             Change::BothOf(a) => a.ranged(),
-            Change::Deep { inner, list } => {
+            Change::Deep { inner, list, note } => {
                 inner.ranged();
                 list.ranged();
+                note.ranged();
             },
             Change::Accent => {},
         }

@@ -6,12 +6,12 @@ ghost use Rattle.std.specs.Prelude.{refl};
 
 use miniserde::derived::{
     BesideTag, Closed, Empty, Event, FourLent, FourParts, FromJson, Given, Global, HasTag, Inside,
-    Lossless, MarkedFour, MarkedSlot, Members, NeverNull, NoSlot, OnceSlot, Parts, Plain, Ranged,
-    Record, Result, RoundTrip, Serialize, Slot, Slots, Source, Stable, WithDefault, Writer,
-    WrittenFields, fields_named, read_record, record_lossless, record_round_trips, record_stable,
-    take_four, write_members,
+    Lossless, MarkedFour, MarkedSlot, Members, NeverNull, NoSlot, OmitSlot, Omitted, OnceSlot,
+    Parts, Plain, Ranged, Record, Result, RoundTrip, Serialize, Slot, Slots, Source, Stable,
+    WithDefault, Writer, WrittenFields, fields_named, read_record, record_lossless,
+    record_round_trips, record_stable, take_four, write_members,
 };
-use std::collections::BTreeMap;
+use std::collections::{BTreeMap, VecDeque};
 
 /// Two things of two types. An unknown name is invalid, and so is a duplicate of `one`.
 #[derive(Debug, Drop)]
@@ -123,16 +123,17 @@ impl<A: FromJson + Ranged + Serialize, B: FromJson + Ranged + Serialize> Inside 
 pub struct Reply<T, E> {
     pub data: Option<T>,
     pub error: Option<Box<E>>,
-    pub more: Vec<Both<T, E>>,
+    pub more_of: VecDeque<Both<T, E>>,
     pub by_name: BTreeMap<String, (T, u8)>,
-    pub pages: u16,
+    pub page_count: u16,
+    pub note: Option<String>,
 }
 
-/// The value of a missing `pages`.
+/// The value of a missing `page_count`.
 #[derive(Drop)]
-pub struct ReplyPagesDefault {}
+pub struct ReplyPageCountDefault {}
 
-impl Given<u16> for ReplyPagesDefault {
+impl Given<u16> for ReplyPageCountDefault {
     ghost given = { nonneg 1 };
 
     fn make(_alloc: Global) -> Result<u16> {
@@ -146,14 +147,14 @@ type ReplyFields<T, E> = MarkedFour<
     Plain,
     Option<Box<E>>,
     Plain,
-    Vec<Both<T, E>>,
+    VecDeque<Both<T, E>>,
     Plain,
     BTreeMap<String, (T, u8)>,
     WithDefault<Empty>,
-    MarkedSlot<u16, WithDefault<ReplyPagesDefault>, NoSlot>,
+    MarkedSlot<u16, WithDefault<ReplyPageCountDefault>, OmitSlot<String, Plain, NoSlot>>,
 >;
 
-const REPLY_NAMES: &[&str] = &["data", "error", "more", "by_name", "of"];
+const REPLY_NAMES: &[&str] = &["data", "error", "moreOf", "byName", "of", "note"];
 
 impl<T: FromJson, E: FromJson> Record for Reply<T, E> {
     ghost use Rattle.test_structs.specs.declared.generic.TheConstants.{REPLY_NAMES};
@@ -162,14 +163,33 @@ impl<T: FromJson, E: FromJson> Record for Reply<T, E> {
 
     ghost names = { names_of REPLY_NAMES };
 
-    ghost values = { λ v. (v.data, (v.error, (v.more, (v.by_name, (v.pages, tt))))) };
+    ghost values = { λ v. (
+      v.data,
+      (
+        v.error,
+        (
+          v.more_of,
+          (
+            v.by_name,
+            (
+              v.page_count,
+              (
+                v.note,
+                tt,
+              ),
+            ),
+          ),
+        ),
+      ),
+    ) };
 
     ghost made = { λ x. record {
       «data» = x.0;
       error = x.1.0;
-      more = x.1.1.0;
+      more_of = x.1.1.0;
       by_name = x.1.1.1.0;
-      pages = x.1.1.1.1.0;
+      page_count = x.1.1.1.1.0;
+      note = x.1.1.1.1.1.0;
     } };
 
     ghost bijective = { (λ v. refl, λ x. refl) };
@@ -181,14 +201,15 @@ impl<T: FromJson, E: FromJson> Record for Reply<T, E> {
     }
 
     fn build(parts: Self::Values) -> Reply<T, E> {
-        let FourParts(data, error, more, by_name, parts) = take_four(parts);
-        let Parts(pages, ()) = parts;
+        let FourParts(data, error, more_of, by_name, parts) = take_four(parts);
+        let Parts(page_count, Parts(note, ())) = parts;
         Reply {
             data,
             error,
-            more,
+            more_of,
             by_name,
-            pages,
+            page_count,
+            note,
         }
     }
 }
@@ -215,9 +236,9 @@ impl<T: FromJson + Ranged + Serialize, E: FromJson + Ranged + Serialize> Seriali
             &FourLent(
                 &self.data,
                 &self.error,
-                &self.more,
+                &self.more_of,
                 &self.by_name,
-                Parts(&self.pages, ()),
+                Parts(&self.page_count, Parts(Omitted(&self.note), ())),
             ),
         )
     }
@@ -229,9 +250,10 @@ impl<T: FromJson + Ranged + Serialize, E: FromJson + Ranged + Serialize> Ranged 
     fn ranged(&self) {
         self.data.ranged();
         self.error.ranged();
-        self.more.ranged();
+        self.more_of.ranged();
         self.by_name.ranged();
-        self.pages.ranged();
+        self.page_count.ranged();
+        self.note.ranged();
     }
 }
 

@@ -3,25 +3,17 @@
 #![tactic(auto)]
 
 #[cfg(test)]
-mod accounts;
-#[cfg(test)]
 mod changes;
 #[cfg(test)]
 mod generic;
 #[cfg(test)]
 mod generics;
 #[cfg(test)]
-mod hosts;
-#[cfg(test)]
 mod inner;
-#[cfg(test)]
-mod jobs;
 #[cfg(test)]
 mod listeners;
 #[cfg(test)]
 mod phases;
-#[cfg(test)]
-mod queues;
 #[cfg(test)]
 mod renames;
 #[cfg(test)]
@@ -32,7 +24,5 @@ mod stable;
 mod structs;
 #[cfg(test)]
 mod tags;
-#[cfg(test)]
-mod users;
 #[cfg(test)]
 mod wide;

@@ -10,7 +10,7 @@ use miniserde::derived::{
 };
 
 /// Where a server listens.
-#[derive(Drop)]
+#[derive(Debug, Clone, PartialEq, Drop)]
 pub struct Listener {
     pub address: String,
     pub port: u16,

@@ -3,8 +3,8 @@ ghost use Rattle.miniserde.specs.Tree.{str};
 ghost use Rattle.std.specs.Prelude.{true, List, codes, [], ◌∷◌, ⊤, refl};
 
 use miniserde::derived::{
-    Event, Fragment, FromJson, Lossless, NeverNull, Ranged, Result, RoundTrip, Serialize, Source,
-    UnitEnum, Variants, Writer, read_variant, variant_lossless, variant_round_trips,
+    Event, Fragment, FromJson, Ranged, Result, RoundTrip, Serialize, Source, UnitEnum, Variants,
+    Writer, read_variant, variant_round_trips,
 };
 
 /// How far a job is.
@@ -74,14 +74,4 @@ impl RoundTrip for Phase {
     fn round_trips() {
         variant_round_trips::<Phase>()
     }
-}
-
-impl Lossless for Phase {
-    fn lossless() {
-        variant_lossless::<Phase>()
-    }
-}
-
-impl NeverNull for Phase {
-    fn never_null() {}
 }

@@ -6,12 +6,12 @@ ghost use Rattle.std.specs.Prelude.{refl};
 
 use crate::listeners::Listener;
 use miniserde::derived::{
-    Closed, Event, FourLent, FourParts, FourSlot, FromJson, Given, Global, Lossless, MarkedFour,
-    NeverNull, Once, Parts, Plain, Ranged, Record, Result, RoundTrip, Serialize, Slot, Slots,
-    Source, Stable, WithDefault, Writer, WrittenFields, read_record, record_lossless,
+    Closed, Empty, Event, FourLent, FourParts, FourSlot, FromJson, Given, Global, Lossless,
+    MarkedFour, NeverNull, Once, Parts, Plain, Ranged, Record, Result, RoundTrip, Serialize, Slot,
+    Slots, Source, Stable, WithDefault, Writer, WrittenFields, read_record, record_lossless,
     record_round_trips, record_stable, take_four, write_members,
 };
-use std::collections::BTreeMap;
+use std::collections::{BTreeMap, VecDeque};
 
 /// Thirty settings of a server. An unknown name is invalid.
 #[derive(Drop)]
@@ -43,7 +43,7 @@ pub struct Server {
     pub timeout: u32,
     pub proxy: Option<String>,
     pub secret: String,
-    pub tags: Vec<String>,
+    pub tags: VecDeque<String>,
     pub flags: BTreeMap<String, bool>,
     pub note: Option<String>,
 }
@@ -61,11 +61,15 @@ impl Given<u16> for ServerRetriesDefault {
 }
 
 // Its fields, and their names.
-type ServerFields = FourSlot<
+type ServerFields = MarkedFour<
     String,
+    Plain,
     u64,
+    Plain,
     String,
+    Plain,
     Option<String>,
+    WithDefault<Empty>,
     FourSlot<
         u32,
         bool,
@@ -95,11 +99,15 @@ type ServerFields = FourSlot<
                         Plain,
                         u16,
                         WithDefault<ServerRetriesDefault>,
-                        FourSlot<
+                        MarkedFour<
                             u32,
+                            Plain,
                             Option<String>,
+                            Plain,
                             String,
-                            Vec<String>,
+                            Plain,
+                            VecDeque<String>,
+                            WithDefault<Empty>,
                             Slot<BTreeMap<String, bool>, Slot<Option<String>, Closed>>,
                         >,
                     >,

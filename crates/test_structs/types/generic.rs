@@ -8,10 +8,11 @@ pub struct Both<A, B> { // inside, closed, lossless, stable
 }
 
 /// An answer: data, or what went wrong, with more of both.
-pub struct Reply<T, E> { // lossless, stable
+pub struct Reply<T, E> { // lossless, stable, rename_all "camelCase"
     pub data: Option<T>,
     pub error: Option<Box<E>>,
-    pub more: Vec<Both<T, E>>,
+    pub more_of: VecDeque<Both<T, E>>,
     pub by_name: BTreeMap<String, (T, u8)>, // default
-    pub pages: u16, // rename "of", default 1
+    pub page_count: u16, // rename "of", default 1
+    pub note: Option<String>, // omit
 }

@@ -1,5 +1,7 @@
+use crate::generic::Both;
+
 /// What is inside a change.
 pub enum Inner { // tag "type", lossless, stable
     Empty,
-    Two { v: u8, types: Vec<u8> },
+    Two(Both<u8, Vec<u8>>),
 }

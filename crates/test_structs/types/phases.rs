@@ -1,5 +1,6 @@
 /// How far a job is.
-pub enum Phase { // rename_all "SCREAMING_SNAKE_CASE", lossless
+#[derive(Debug, Clone, Copy, PartialEq)]
+pub enum Phase { // rename_all "SCREAMING_SNAKE_CASE"
     NotBegun,
     InProgress,
     Done, // rename "done"

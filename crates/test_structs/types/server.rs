@@ -6,7 +6,7 @@ pub struct Server { // closed, lossless, stable
     pub name: String,
     pub id: u64,
     pub region: String,
-    pub zone: Option<String>,
+    pub zone: Option<String>, // default
     pub version: u32,
     pub active: bool,
     pub owner: Option<u64>,
@@ -30,7 +30,7 @@ pub struct Server { // closed, lossless, stable
     pub timeout: u32,
     pub proxy: Option<String>,
     pub secret: String,
-    pub tags: Vec<String>,
+    pub tags: VecDeque<String>, // default
     pub flags: BTreeMap<String, bool>,
     pub note: Option<String>,
 }

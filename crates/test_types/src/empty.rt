@@ -20,37 +20,24 @@ where
     Ok(to_string(alloc, &value)?.as_str() == expected)
 }
 
-/// Returns whether each integer is 0.
-fn are_zeros(alloc: Global) -> Result<bool> {
-    Ok(
-        is_empty::<u8>(alloc, "0")?
-            && is_empty::<u16>(alloc, "0")?
-            && is_empty::<u32>(alloc, "0")?
-            && is_empty::<u64>(alloc, "0")?
-            && is_empty::<usize>(alloc, "0")?
-            && is_empty::<i8>(alloc, "0")?
-            && is_empty::<i16>(alloc, "0")?
-            && is_empty::<i32>(alloc, "0")?
-            && is_empty::<i64>(alloc, "0")?
-            && is_empty::<isize>(alloc, "0")?,
-    )
-}
-
-/// Returns whether each other type has nothing in it, or is `false` or `null`.
-fn are_bare(alloc: Global) -> Result<bool> {
-    Ok(
-        is_empty::<bool>(alloc, "false")?
-            && is_empty::<String>(alloc, "\"\"")?
-            && is_empty::<Option<u8>>(alloc, "null")?
-            && is_empty::<Vec<u8>>(alloc, "[]")?
-            && is_empty::<VecDeque<u8>>(alloc, "[]")?
-            && is_empty::<BTreeMap<String, u8>>(alloc, "{}")?
-            && is_empty::<Hashed<String, u8>>(alloc, "{}")?,
-    )
-}
-
 #[test]
 fn each_type_has_an_empty_value(rt: HostRuntime) -> std::result::Result<(), Wrong> {
-    expect_ok(are_zeros(rt.alloc()), "integers")?;
-    expect_ok(are_bare(rt.alloc()), "other types")
+    let alloc = rt.alloc();
+    expect_ok(is_empty::<u8>(alloc, "0"), "u8")?;
+    expect_ok(is_empty::<u16>(alloc, "0"), "u16")?;
+    expect_ok(is_empty::<u32>(alloc, "0"), "u32")?;
+    expect_ok(is_empty::<u64>(alloc, "0"), "u64")?;
+    expect_ok(is_empty::<usize>(alloc, "0"), "usize")?;
+    expect_ok(is_empty::<i8>(alloc, "0"), "i8")?;
+    expect_ok(is_empty::<i16>(alloc, "0"), "i16")?;
+    expect_ok(is_empty::<i32>(alloc, "0"), "i32")?;
+    expect_ok(is_empty::<i64>(alloc, "0"), "i64")?;
+    expect_ok(is_empty::<isize>(alloc, "0"), "isize")?;
+    expect_ok(is_empty::<bool>(alloc, "false"), "bool")?;
+    expect_ok(is_empty::<String>(alloc, "\"\""), "String")?;
+    expect_ok(is_empty::<Option<u8>>(alloc, "null"), "Option")?;
+    expect_ok(is_empty::<Vec<u8>>(alloc, "[]"), "Vec")?;
+    expect_ok(is_empty::<VecDeque<u8>>(alloc, "[]"), "VecDeque")?;
+    expect_ok(is_empty::<BTreeMap<String, u8>>(alloc, "{}"), "BTreeMap")?;
+    expect_ok(is_empty::<Hashed<String, u8>>(alloc, "{}"), "HashMap")
 }

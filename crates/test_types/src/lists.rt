@@ -20,13 +20,6 @@ const NUMBERS: &str = r#" [ 7 , 0,18446744073709551615 ]  => [7,0,18446744073709
 null
 1"#;
 
-#[test]
-fn a_list_has_items_between_commas(rt: HostRuntime) -> std::result::Result<(), Wrong> {
-    let alloc = rt.alloc();
-    expect_table::<Vec<u64>>(alloc, NUMBERS)?;
-    expect_prefixes_invalid::<Vec<u64>>(alloc, "[7,0,18446744073709551615 ]")
-}
-
 /// Returns whether a text is an empty list of numbers.
 fn is_empty(alloc: Global, text: &str) -> Result<bool> {
     let numbers: Vec<u64> = from_str(alloc, text)?;
@@ -34,26 +27,21 @@ fn is_empty(alloc: Global, text: &str) -> Result<bool> {
 }
 
 #[test]
-fn a_line_end_is_whitespace(rt: HostRuntime) -> std::result::Result<(), Wrong> {
-    expect_ok(is_empty(rt.alloc(), "[\n]"), "a line feed in a list")?;
+fn a_list_has_items_between_commas(rt: HostRuntime) -> std::result::Result<(), Wrong> {
+    let alloc = rt.alloc();
+    expect_table::<Vec<u64>>(alloc, NUMBERS)?;
+    expect_prefixes_invalid::<Vec<u64>>(alloc, "[7,0,18446744073709551615 ]")?;
+    expect_ok(is_empty(alloc, "[\n]"), "a line feed in a list")?;
     expect_ok(
-        is_empty(rt.alloc(), "\r\n\t [\r\n\t ]\r\n\t "),
+        is_empty(alloc, "\r\n\t [\r\n\t ]\r\n\t "),
         "each whitespace around brackets",
-    )
-}
-
-#[test]
-fn a_list_of_lists_has_lists_alone(rt: HostRuntime) -> std::result::Result<(), Wrong> {
+    )?;
     expect_read_itself::<Vec<Vec<u64>>>(
-        rt.alloc(),
+        alloc,
         "[[1],[],[2, 3]] => [[1],[],[2,3]]\n[1]\n[[1]\n[[1]]]\n[[1],]\n[{}]\n{\"a\":[]}\nnull\n[[-1]]",
-    )
-}
-
-#[test]
-fn a_list_of_strings_has_strings_alone(rt: HostRuntime) -> std::result::Result<(), Wrong> {
+    )?;
     expect_table::<Vec<String>>(
-        rt.alloc(),
+        alloc,
         "[\"\", \"\\t\"] => [\"\",\"\\t\"]\n[\"a\",1]\n[\"a\" \"b\"]\n[\"a,\"b\"]",
     )
 }
@@ -82,12 +70,7 @@ fn an_array_has_its_length(rt: HostRuntime) -> std::result::Result<(), Wrong> {
         alloc,
         "[\"1\",\"2\",\"3\"] => same\n[\"1\",\"2\"]\n[\"1\",\"2\",\"3\",\"4\"]\n[]\n[\"1\",2,\"3\"]\n\"123\"",
     )?;
-    expect_read_itself::<[u8; 0]>(alloc, "[ ] => []\n[1]\nnull\n{}")
-}
-
-#[test]
-fn an_array_of_pairs_has_pairs_alone(rt: HostRuntime) -> std::result::Result<(), Wrong> {
-    let alloc = rt.alloc();
+    expect_read_itself::<[u8; 0]>(alloc, "[ ] => []\n[1]\nnull\n{}")?;
     expect_read_itself::<[(u8, String); 2]>(
         alloc,
         "[[1,\"a\"],[2,\"b\"]] => same\n[[1,\"a\"],[2,2]]\n[[1,\"a\"]]",

@@ -36,16 +36,12 @@ fn equal_keys_are_one(rt: HostRuntime) -> Result<(), Wrong> {
     let alloc = rt.alloc();
     expect_table::<BTreeMap<u32, u32>>(alloc, r#"{"007":1,"+7":2} => {"7":2}"#)?;
     expect_table::<Hashed<u32, u32>>(alloc, r#"{"007":1,"+7":2} => {"7":2}"#)?;
+    expect_table::<BTreeMap<u8, u8>>(alloc, NUMBERS)?;
+    expect_table::<Hashed<u8, u8>>(alloc, NUMBERS)?;
     expect_table::<BTreeMap<i8, u8>>(
         alloc,
         "{\"-0\":1} => {\"0\":1}\n{\"-128\":1,\"127\":2} => same\n{\"-129\":1}\n{\"128\":1}",
     )
-}
-
-#[test]
-fn a_key_of_a_number_is_an_integer_in_range(rt: HostRuntime) -> Result<(), Wrong> {
-    expect_table::<BTreeMap<u8, u8>>(rt.alloc(), NUMBERS)?;
-    expect_table::<Hashed<u8, u8>>(rt.alloc(), NUMBERS)
 }
 
 /// Returns whether `get` returns the value of the last member whose name is the key 7.
@@ -69,27 +65,17 @@ const REPEATS: &str = r#"{"1":[2],"01":[]} => {"1":[]}
 {"1":true,"1":[]}
 {"1":[],"1":true}"#;
 
-#[test]
-fn each_duplicate_is_read(rt: HostRuntime) -> Result<(), Wrong> {
-    expect_table::<BTreeMap<u8, Vec<u8>>>(rt.alloc(), REPEATS)?;
-    expect_table::<Hashed<u8, Vec<u8>>>(rt.alloc(), REPEATS)
-}
-
-#[test]
-fn an_ordered_map_is_written_in_order_of_keys(rt: HostRuntime) -> Result<(), Wrong> {
-    expect_table::<BTreeMap<u32, bool>>(
-        rt.alloc(),
-        r#"{"100":true,"9":true,"10":false} => {"9":true,"10":false,"100":true}"#,
-    )
-}
-
 const UNORDERED: &str = r#"{"100":true,"9":true,"10":false} => {"10":false,"100":true,"9":true}
 {"10":false,"9":true} => same
 {} => same"#;
 
 #[test]
 fn a_hashed_map_is_written_in_order_of_texts(rt: HostRuntime) -> Result<(), Wrong> {
-    expect_table::<Hashed<u32, bool>>(rt.alloc(), UNORDERED)
+    expect_table::<Hashed<u32, bool>>(rt.alloc(), UNORDERED)?;
+    expect_table::<BTreeMap<u32, bool>>(
+        rt.alloc(),
+        r#"{"100":true,"9":true,"10":false} => {"9":true,"10":false,"100":true}"#,
+    )
 }
 
 const NAMES: &str = r#"{"b":1, "a\u0062":2, "":3} => {"":3,"ab":2,"b":1}
@@ -104,16 +90,15 @@ const NAMES: &str = r#"{"b":1, "a\u0062":2, "":3} => {"":3,"ab":2,"b":1}
 
 #[test]
 fn a_name_is_what_it_decodes_to(rt: HostRuntime) -> Result<(), Wrong> {
-    expect_table::<BTreeMap<String, u8>>(rt.alloc(), NAMES)?;
-    expect_table::<Hashed<String, u8>>(rt.alloc(), NAMES)
-}
-
-#[test]
-fn names_are_in_order_of_their_bytes(rt: HostRuntime) -> Result<(), Wrong> {
+    let alloc = rt.alloc();
+    expect_table::<BTreeMap<String, u8>>(alloc, NAMES)?;
+    expect_table::<Hashed<String, u8>>(alloc, NAMES)?;
+    // Names are in order of their bytes.
     expect_table::<Hashed<String, u8>>(
-        rt.alloc(),
+        alloc,
         "{\"\u{10000}\":2,\"\u{ff61}\":1} => {\"\u{ff61}\":1,\"\u{10000}\":2}",
-    )
+    )?;
+    expect_prefixes_invalid::<BTreeMap<String, u8>>(alloc, r#"{"\u00e9":1 , "b" : 20}"#)
 }
 
 const LETTERS: &str = r#"{"é":1,"z":2} => {"z":2,"é":1}
@@ -137,21 +122,14 @@ fn a_key_is_of_its_type(rt: HostRuntime) -> Result<(), Wrong> {
 }
 
 #[test]
-fn a_map_ends_with_its_brace(rt: HostRuntime) -> Result<(), Wrong> {
-    expect_prefixes_invalid::<BTreeMap<String, u8>>(rt.alloc(), r#"{"\u00e9":1 , "b" : 20}"#)
-}
-
-#[test]
-fn a_map_of_maps_is_written_in_order(rt: HostRuntime) -> Result<(), Wrong> {
-    expect_table::<BTreeMap<String, Hashed<u8, Option<bool>>>>(
-        rt.alloc(),
-        r#"{"b":{"2":null,"1":true,"10":false},"a":{}} => {"a":{},"b":{"1":true,"10":false,"2":null}}"#,
-    )
-}
-
-#[test]
 fn a_map_is_read_again_as_itself(rt: HostRuntime) -> Result<(), Wrong> {
     let alloc = rt.alloc();
+    expect_table::<BTreeMap<u8, Vec<u8>>>(alloc, REPEATS)?;
+    expect_table::<Hashed<u8, Vec<u8>>>(alloc, REPEATS)?;
+    expect_table::<BTreeMap<String, Hashed<u8, Option<bool>>>>(
+        alloc,
+        r#"{"b":{"2":null,"1":true,"10":false},"a":{}} => {"a":{},"b":{"1":true,"10":false,"2":null}}"#,
+    )?;
     expect_read_itself::<BTreeMap<i64, Vec<(u8, Option<String>)>>>(
         alloc,
         r#"{"-7":[[1,null],[2,"b"]],"0":[]} => same"#,

@@ -1,21 +1,12 @@
 //! Queues: lists, alone and nested, and written in order wherever their items stand in memory.
 
+use crate::tuples::{expect_each, is_taken};
 use miniserde::error::Result;
-use miniserde::json::{from_slice, from_str, to_string};
-use miniserde::{Lossless, NeverNull, means_itself, read_back, write_and_read};
+use miniserde::json::{from_str, to_string};
+use miniserde::write_and_read;
 use std::alloc::Global;
 use std::collections::{BTreeMap, VecDeque};
-use test_tables::{
-    Wrong, expect_ok, expect_one_value, expect_prefixes_invalid, expect_read_again,
-    expect_read_itself, expect_table,
-};
-
-/// Fails with the first line of a table that is wrong for a type, when its values are written at once or read again.
-fn expect_queue<T: Lossless>(alloc: Global, table: &'static str) -> std::result::Result<(), Wrong> {
-    expect_table::<T>(alloc, table)?;
-    expect_read_again::<T>(alloc, table)?;
-    expect_read_itself::<T>(alloc, table)
-}
+use test_tables::{Wrong, expect_ok, expect_one_value, expect_prefixes_invalid};
 
 const NUMBERS: &str = r#"[] => same
 [1] => same
@@ -51,13 +42,6 @@ null
 true
 1"#;
 
-#[test]
-fn a_queue_is_a_list(rt: HostRuntime) -> std::result::Result<(), Wrong> {
-    let alloc = rt.alloc();
-    expect_queue::<VecDeque<u64>>(alloc, NUMBERS)?;
-    expect_prefixes_invalid::<VecDeque<u64>>(alloc, "[7,0,18446744073709551615 ]")
-}
-
 const NAMES: &str = r#"["b","a","b",""] => same
 [ "\u0061" , "\t" ] => ["a","\t"]
 ["a",1]
@@ -85,56 +69,43 @@ const WAITING: &str = r#"{"a":[-1,null],"b":[]} => same
 [[1]]"#;
 
 #[test]
-fn a_queue_stands_in_others(rt: HostRuntime) -> std::result::Result<(), Wrong> {
+fn a_queue_is_a_list(rt: HostRuntime) -> std::result::Result<(), Wrong> {
     let alloc = rt.alloc();
-    expect_queue::<VecDeque<String>>(alloc, NAMES)?;
-    expect_queue::<VecDeque<VecDeque<(u8, String)>>>(alloc, ROUNDS)?;
-    expect_queue::<BTreeMap<String, VecDeque<Option<i8>>>>(alloc, WAITING)?;
-    expect_queue::<(VecDeque<bool>, Option<Box<VecDeque<()>>>)>(
+    expect_each::<VecDeque<u64>>(alloc, NUMBERS)?;
+    expect_prefixes_invalid::<VecDeque<u64>>(alloc, "[7,0,18446744073709551615 ]")?;
+    expect_each::<VecDeque<String>>(alloc, NAMES)?;
+    expect_each::<VecDeque<VecDeque<(u8, String)>>>(alloc, ROUNDS)?;
+    expect_each::<BTreeMap<String, VecDeque<Option<i8>>>>(alloc, WAITING)?;
+    expect_each::<(VecDeque<bool>, Option<Box<VecDeque<()>>>)>(
         alloc,
         "[[true],[null]] => same\n[[],null] => same\n[[]]\n[null,null]\n[[],[1]]\n[[null],[]]",
-    )
-}
-
-#[test]
-fn a_queue_is_stable(rt: HostRuntime) -> std::result::Result<(), Wrong> {
-    let alloc = rt.alloc();
+    )?;
     expect_one_value::<VecDeque<i8>>(alloc, "[ 1, -0 , -2 ] => [1,0,-2]")?;
     expect_one_value::<VecDeque<VecDeque<String>>>(
         alloc,
         r#"[[], ["\u0062", "a\/"]] => [[],["b","a/"]]"#,
-    )
+    )?;
+    let pairs = r#"[[2,"b"],[1,"a"]]"#;
+    let taken = is_taken::<Option<VecDeque<(u8, String)>>>(alloc, pairs);
+    expect_ok(taken, "a queue of pairs")
 }
 
-/// Returns whether each call that reads or writes a text takes the queue of a text, with memory for all.
-fn is_taken<T: Lossless + NeverNull>(alloc: Global, text: &str) -> Result<bool> {
-    let queue: VecDeque<T> = from_str(alloc, text)?;
-    let of_bytes: VecDeque<T> = from_slice(alloc, text.as_bytes())?;
-    let back: Option<VecDeque<T>> = read_back(alloc, text)?;
-    means_itself(&Some(of_bytes));
-    let again = write_and_read(alloc, &queue)?;
-    Ok(to_string(alloc, &back)?.as_str() == text && to_string(alloc, &again)?.as_str() == text)
-}
-
-#[test]
-fn each_call_takes_queues(rt: HostRuntime) -> std::result::Result<(), Wrong> {
-    expect_ok(
-        is_taken::<(u8, String)>(rt.alloc(), r#"[[2,"b"],[1,"a"]]"#),
-        "a queue of pairs",
-    )
-}
-
-/// Returns whether the first item of a text's queue leaves first, and a new one is written last.
+/// Returns whether the first item of a text's queue leaves first, and new ones are written first and last.
 fn is_first_in_first_out(alloc: Global) -> Result<bool> {
     let mut queue: VecDeque<u8> = from_str(alloc, "[5,6,7]")?;
     let first = queue.pop_front();
     queue.push_back(8)?;
-    Ok(first == Some(5) && to_string(alloc, &queue)?.as_str() == "[6,7,8]")
-}
-
-#[test]
-fn the_first_item_leaves_first(rt: HostRuntime) -> std::result::Result<(), Wrong> {
-    expect_ok(is_first_in_first_out(rt.alloc()), "the items of a queue")
+    let later = to_string(alloc, &queue)?;
+    let mut queue: VecDeque<u8> = from_str(alloc, "[2,3]")?;
+    queue.push_front(1)?;
+    let (_, back) = queue.as_slices();
+    let is_in_two = !back.is_empty();
+    Ok(
+        first == Some(5)
+            && later.as_str() == "[6,7,8]"
+            && is_in_two
+            && to_string(alloc, &queue)?.as_str() == "[1,2,3]",
+    )
 }
 
 /// Returns a queue of 3 to 6 whose last items stand before its first one in memory.
@@ -163,17 +134,9 @@ fn is_in_order(alloc: Global) -> Result<bool> {
     )
 }
 
-/// Returns whether an item that is put in front is written first.
-fn is_put_in_front(alloc: Global) -> Result<bool> {
-    let mut queue: VecDeque<u8> = from_str(alloc, "[2,3]")?;
-    queue.push_front(1)?;
-    let (_, back) = queue.as_slices();
-    Ok(!back.is_empty() && to_string(alloc, &queue)?.as_str() == "[1,2,3]")
-}
-
 #[test]
-fn a_wrapped_queue_is_written_in_order(rt: HostRuntime) -> std::result::Result<(), Wrong> {
+fn a_queue_is_written_in_order(rt: HostRuntime) -> std::result::Result<(), Wrong> {
     let alloc = rt.alloc();
-    expect_ok(is_in_order(alloc), "a queue in two slices")?;
-    expect_ok(is_put_in_front(alloc), "an item in front")
+    expect_ok(is_first_in_first_out(alloc), "the items of a queue")?;
+    expect_ok(is_in_order(alloc), "a queue in two slices")
 }

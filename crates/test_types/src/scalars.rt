@@ -38,7 +38,7 @@ fn an_unsigned_integer_is_in_range(rt: HostRuntime) -> Result<(), Wrong> {
 }
 
 #[test]
-fn a_signed_integer_is_in_range(rt: HostRuntime) -> Result<(), Wrong> {
+fn a_signed_integer_is_in_range_and_a_word_is_as_spelled(rt: HostRuntime) -> Result<(), Wrong> {
     let alloc = rt.alloc();
     expect_read_itself::<i8>(alloc, "-128 => same\n127 => same\n-0 => 0\n-129\n128")?;
     expect_read_itself::<i16>(
@@ -56,12 +56,7 @@ fn a_signed_integer_is_in_range(rt: HostRuntime) -> Result<(), Wrong> {
     expect_read_itself::<isize>(
         alloc,
         "-9223372036854775808 => same\n9223372036854775807 => same\n-0 => 0\n-9223372036854775809\n9223372036854775808",
-    )
-}
-
-#[test]
-fn a_word_is_read_as_it_is_spelled(rt: HostRuntime) -> Result<(), Wrong> {
-    let alloc = rt.alloc();
+    )?;
     expect_read_itself::<()>(
         alloc,
         "null => same\n\n \nnul\nnulll\nNull\ntrue\n0\n[]\nnull null",

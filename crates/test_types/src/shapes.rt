@@ -11,41 +11,21 @@ const SIX: &str = "[] => same
 [[[[[1]]]]]
 [[[[[[[1]]]]]]]";
 
-#[test]
-fn a_list_six_deep_has_numbers_at_its_leaves(rt: HostRuntime) -> Result<(), Wrong> {
-    expect_table::<Vec<Vec<Vec<Vec<Vec<Vec<u64>>>>>>>(rt.alloc(), SIX)
-}
-
 type Two = ((u64, u64), (u64, u64));
 
 const PAIRS: &str = "[[[1,2],[3,4]],[[5,6],[7,8]]] => same
 [[[1,2],[3,4]],[[5,6],[7,true]]]
 [[[1,2],[3,4]],[[5,6],[7]]]";
 
-#[test]
-fn a_pair_of_pairs_has_eight_numbers(rt: HostRuntime) -> Result<(), Wrong> {
-    expect_table::<(Two, Two)>(rt.alloc(), PAIRS)
-}
-
 const ENTRIES: &str = r#"[] => same
 [["a",[1,null]],["b",[4294967295,[2,3]]]] => same
 [["a",[1,null]],["b",[2,[2,"3"]]]]
 [["a",[1]]]"#;
 
-#[test]
-fn a_list_of_named_pairs_has_its_last_number(rt: HostRuntime) -> Result<(), Wrong> {
-    expect_table::<Vec<(String, (u32, Option<Vec<u64>>))>>(rt.alloc(), ENTRIES)
-}
-
 const INDEX: &str = r#"{} => same
 {"a":[],"b":[["x",1],["y",null]]} => same
 {"a":[],"b":[["x",1],["y",false]]}
 {"a":[["x"]]}"#;
-
-#[test]
-fn an_index_has_lists_under_its_names(rt: HostRuntime) -> Result<(), Wrong> {
-    expect_read_itself::<BTreeMap<String, Vec<(String, Option<u64>)>>>(rt.alloc(), INDEX)
-}
 
 const MIXED: &str = r#"null => same
 [] => same
@@ -54,6 +34,11 @@ const MIXED: &str = r#"null => same
 [{"x":{}}]"#;
 
 #[test]
-fn a_boxed_list_has_maps_of_maps(rt: HostRuntime) -> Result<(), Wrong> {
-    expect_table::<Option<Box<Vec<BTreeMap<u32, Hashed<String, Vec<u64>>>>>>>(rt.alloc(), MIXED)
+fn a_nested_value_has_its_leaves(rt: HostRuntime) -> Result<(), Wrong> {
+    let alloc = rt.alloc();
+    expect_table::<Vec<Vec<Vec<Vec<Vec<Vec<u64>>>>>>>(alloc, SIX)?;
+    expect_table::<(Two, Two)>(alloc, PAIRS)?;
+    expect_table::<Vec<(String, (u32, Option<Vec<u64>>))>>(alloc, ENTRIES)?;
+    expect_read_itself::<BTreeMap<String, Vec<(String, Option<u64>)>>>(alloc, INDEX)?;
+    expect_table::<Option<Box<Vec<BTreeMap<u32, Hashed<String, Vec<u64>>>>>>>(alloc, MIXED)
 }

@@ -12,58 +12,63 @@ fn written<T: FromJson + Serialize>(alloc: Global, bytes: &[u8]) -> Result<Strin
     to_string(alloc, &value)
 }
 
-/// Fails with a case unless the bytes are parsed to what it expects: the text after ` => `, or `Invalid` if it has none.
-fn expect_slice<T: FromJson + Serialize>(
-    alloc: Global,
-    bytes: &[u8],
-    case: &'static str,
-) -> std::result::Result<(), Wrong> {
-    expect(is_right(written::<T>(alloc, bytes), case), case)
-}
+/// Bytes, and what they are parsed to: the text after ` => `, or `Invalid` if there is none.
+type Case = (&'static [u8], &'static str);
 
-#[test]
-fn one_value_spans_all_the_bytes(rt: HostRuntime) -> std::result::Result<(), Wrong> {
-    let alloc = rt.alloc();
-    expect_slice::<Value>(alloc, b"[1, 2]", "[1, 2] => [1,2]")?;
-    expect_slice::<Vec<u8>>(alloc, b"[1, 2]", "bytes => [1,2]")?;
-    expect_slice::<Vec<u8>>(alloc, b"[1, 256]", "a number out of range")?;
-    expect_slice::<Value>(alloc, b" null\r\n", "spaced => null")?;
-    expect_slice::<Value>(alloc, b"[1] 2", "two values")?;
-    expect_slice::<Value>(alloc, b"[1]\x00", "a NUL behind the value")?;
-    expect_slice::<Value>(alloc, b"1\x002\x00", "UTF-16")?;
-    expect_slice::<Value>(alloc, b" ", "a space alone")?;
-    expect_slice::<Value>(alloc, b"", "an empty slice")
-}
-
-#[test]
-fn a_string_in_utf8_is_read(rt: HostRuntime) -> std::result::Result<(), Wrong> {
-    let alloc = rt.alloc();
-    expect_slice::<String>(alloc, b"\"\xc3\xa9\"", "\"é\" => same")?;
-    expect_slice::<Value>(alloc, b"\"\xc3\xa9\"", "\"é\" => same")?;
-    expect_slice::<Value>(alloc, b"\"\\u00e9\"", "escaped => \"é\"")?;
-    expect_slice::<Value>(alloc, b"\"\xe2\x82\xac\"", "\"€\" => same")?;
-    expect_slice::<Value>(alloc, b"\"\xf0\x9f\x98\x80\"", "\"😀\" => same")?;
-    expect_slice::<Value>(alloc, b"{\"\xc3\xa9\": [true]}", "a key => {\"é\":[true]}")
-}
-
-#[test]
-fn bytes_that_are_not_utf8_are_invalid(rt: HostRuntime) -> std::result::Result<(), Wrong> {
-    let alloc = rt.alloc();
-    expect_slice::<String>(alloc, b"\"\xff\"", "0xff in a text")?;
-    expect_slice::<Value>(alloc, b"\"\xff\"", "0xff in a string")?;
-    expect_slice::<Value>(alloc, b"\"\x80\"", "a continuation byte alone")?;
-    expect_slice::<Value>(alloc, b"\"\xed\xa0\x80\"", "a surrogate half")?;
-    expect_slice::<Value>(
-        alloc,
+const DOCUMENTS: &[Case] = &[
+    (b"[1, 2]", "[1, 2] => [1,2]"),
+    (b" null\r\n", "spaced => null"),
+    (b"[1] 2", "two values"),
+    (b"[1]\x00", "a NUL behind the value"),
+    (b"1\x002\x00", "UTF-16"),
+    (b" ", "a space alone"),
+    (b"", "an empty slice"),
+    (b"\"\xc3\xa9\"", "\"é\" => same"),
+    (b"\"\\u00e9\"", "escaped => \"é\""),
+    (b"\"\xe2\x82\xac\"", "\"€\" => same"),
+    (b"\"\xf0\x9f\x98\x80\"", "\"😀\" => same"),
+    (b"{\"\xc3\xa9\": [true]}", "a key => {\"é\":[true]}"),
+    (b"\"\xff\"", "0xff in a string"),
+    (b"\"\x80\"", "a continuation byte alone"),
+    (b"\"\xed\xa0\x80\"", "a surrogate half"),
+    (
         b"\"\xed\xa0\xbd\xed\xb8\x80\"",
         "a surrogate pair, each half encoded",
-    )?;
-    expect_slice::<Value>(alloc, b"\"\xc0\xaf\"", "an overlong slash")?;
-    expect_slice::<Value>(alloc, b"\"\xf4\x90\x80\x80\"", "a code point too high")?;
-    expect_slice::<Value>(alloc, b"\"\xe2\x82\"", "a sequence that the quote ends")?;
-    expect_slice::<Value>(alloc, b"\"\xe2\x82", "a sequence that the slice ends")?;
-    expect_slice::<Value>(alloc, b"{\"\xe9\":1}", "Latin-1 in a key")?;
-    expect_slice::<Value>(alloc, b"[1]\xff", "0xff behind the value")?;
-    expect_slice::<Value>(alloc, b"\xff[1]", "0xff before the value")?;
-    expect_slice::<Value>(alloc, b"\xef\xbb\xbf[1]", "a byte order mark")
+    ),
+    (b"\"\xc0\xaf\"", "an overlong slash"),
+    (b"\"\xf4\x90\x80\x80\"", "a code point too high"),
+    (b"\"\xe2\x82\"", "a sequence that the quote ends"),
+    (b"\"\xe2\x82", "a sequence that the slice ends"),
+    (b"{\"\xe9\":1}", "Latin-1 in a key"),
+    (b"[1]\xff", "0xff behind the value"),
+    (b"\xff[1]", "0xff before the value"),
+    (b"\xef\xbb\xbf[1]", "a byte order mark"),
+];
+
+const STRINGS: &[Case] = &[
+    (b"\"\xc3\xa9\"", "\"é\" => same"),
+    (b"\"\xff\"", "0xff in a text"),
+];
+
+const LISTS: &[Case] = &[
+    (b"[1, 2]", "bytes => [1,2]"),
+    (b"[1, 256]", "a number out of range"),
+];
+
+/// Fails with the first case that is wrong for a type, if any.
+fn expect_slices<T: FromJson + Serialize>(
+    alloc: Global,
+    cases: &'static [Case],
+) -> std::result::Result<(), Wrong> {
+    for (bytes, case) in cases {
+        expect(is_right(written::<T>(alloc, bytes), case), case)?;
+    }
+    Ok(())
+}
+
+#[test]
+fn one_value_in_utf8_spans_all_the_bytes(rt: HostRuntime) -> std::result::Result<(), Wrong> {
+    expect_slices::<Value>(rt.alloc(), DOCUMENTS)?;
+    expect_slices::<String>(rt.alloc(), STRINGS)?;
+    expect_slices::<Vec<u8>>(rt.alloc(), LISTS)
 }

@@ -16,13 +16,12 @@ fn scalars_are_stable(rt: HostRuntime) -> std::result::Result<(), Wrong> {
     expect_one_value::<u64>(alloc, "18446744073709551615 => 18446744073709551615")?;
     expect_one_value::<i8>(alloc, "-0 => 0")?;
     expect_one_value::<i64>(alloc, " -9223372036854775808 => -9223372036854775808")?;
-    expect_one_value::<String>(alloc, r#""\u0061\/" => "a/""#)
+    expect_one_value::<String>(alloc, r#""\u0061\/" => "a/""#)?;
+    expect_refused::<u8>(alloc, "-0")
 }
 
-#[test]
-fn a_negated_zero_is_no_unsigned_integer(rt: HostRuntime) -> std::result::Result<(), Wrong> {
-    expect_refused::<u8>(rt.alloc(), "-0")
-}
+const CANONICAL: &str = r#"{"b":[1, -0],"a":[]} => {"a":[],"b":[1,0]}
+{}  => {}"#;
 
 type Hashed = HashMap<String, u8, BuildHasherDefault<DefaultHasher>>;
 
@@ -45,21 +44,11 @@ fn containers_are_stable(rt: HostRuntime) -> std::result::Result<(), Wrong> {
         alloc,
         r#"{"true":1,"false":2} => {"false":2,"true":1}"#,
     )?;
-    expect_one_value::<Hashed>(alloc, r#"{"b":1,"a":2,"b":3} => {"a":2,"b":3}"#)
-}
-
-#[test]
-fn a_map_with_integer_keys_is_not_stable(rt: HostRuntime) -> std::result::Result<(), Wrong> {
+    expect_one_value::<Hashed>(alloc, r#"{"b":1,"a":2,"b":3} => {"a":2,"b":3}"#)?;
+    expect_canonical_of::<BTreeMap<String, Vec<i8>>>(alloc, CANONICAL)?;
+    // A map with integer keys is not stable.
     expect_two_values::<BTreeMap<u8, u8>>(
-        rt.alloc(),
+        alloc,
         r#"{"1":1,"01":2} => {"01":2,"1":1} => {"1":2} => {"1":1}"#,
     )
-}
-
-const CANONICAL: &str = r#"{"b":[1, -0],"a":[]} => {"a":[],"b":[1,0]}
-{}  => {}"#;
-
-#[test]
-fn a_value_has_a_canonical_text(rt: HostRuntime) -> std::result::Result<(), Wrong> {
-    expect_canonical_of::<BTreeMap<String, Vec<i8>>>(rt.alloc(), CANONICAL)
 }

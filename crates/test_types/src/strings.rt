@@ -40,11 +40,8 @@ null
 
 #[test]
 fn an_escape_is_the_character_that_it_stands_for(rt: HostRuntime) -> Result<(), Wrong> {
-    expect_read_itself::<String>(rt.alloc(), ESCAPES)
-}
-
-#[test]
-fn surrogates_come_in_pairs(rt: HostRuntime) -> Result<(), Wrong> {
+    expect_read_itself::<String>(rt.alloc(), ESCAPES)?;
+    // Surrogates come in pairs.
     expect_read_itself::<String>(
         rt.alloc(),
         "\"\\ud7ff\\uE000\\uffff\" => \"\u{d7ff}\u{e000}\u{ffff}\"\n\
@@ -68,11 +65,7 @@ fn a_control_character_is_escaped(rt: HostRuntime) -> Result<(), Wrong> {
     expect_read_itself::<String>(
         rt.alloc(),
         "\"\x7f\" => same\n\"\u{80}\" => same\n\"\u{2028}\" => same\n\"\x1f\"\n\"\x01\"\n\"\x00\"\n\"\t\"\n\"a\x0cb\"\n\"a\rb\"",
-    )
-}
-
-#[test]
-fn a_string_ends_with_its_quote(rt: HostRuntime) -> Result<(), Wrong> {
+    )?;
     expect_prefixes_invalid::<String>(
         rt.alloc(),
         r#""a long string of more than two lanes, with \"escapes\", \ud83d\ude00, é and \\""#,

@@ -12,16 +12,14 @@ use test_tables::{
     expect_read_itself, expect_table,
 };
 
-/// Fails with the first line of a table that is wrong for a tuple, or with a part of a text that is taken for a whole.
-fn expect_tuple<T: Lossless>(
+/// Fails with the first line of a table that is wrong for a type, when its values are written at once or read again.
+pub fn expect_each<T: Lossless>(
     alloc: Global,
     table: &'static str,
-    text: &'static str,
 ) -> std::result::Result<(), Wrong> {
     expect_table::<T>(alloc, table)?;
     expect_read_again::<T>(alloc, table)?;
-    expect_read_itself::<T>(alloc, table)?;
-    expect_prefixes_invalid::<T>(alloc, text)
+    expect_read_itself::<T>(alloc, table)
 }
 
 const THREE: &str = r#"[1,"a",true] => same
@@ -59,11 +57,6 @@ null
 {}
 "1""#;
 
-#[test]
-fn a_triple_has_three_items(rt: HostRuntime) -> std::result::Result<(), Wrong> {
-    expect_tuple::<(u8, String, bool)>(rt.alloc(), THREE, r#"[1,"a",true]"#)
-}
-
 const EQUAL: &str = "[1,2,3] => same
 [3,2,1] => same
 [ 1 , 2 , 3 ] => [1,2,3]
@@ -76,8 +69,11 @@ const EQUAL: &str = "[1,2,3] => same
 [1,2,3.0]";
 
 #[test]
-fn a_triple_of_one_type_keeps_its_order(rt: HostRuntime) -> std::result::Result<(), Wrong> {
-    expect_tuple::<(u8, u8, u8)>(rt.alloc(), EQUAL, "[1,2,3]")
+fn a_triple_has_three_items(rt: HostRuntime) -> std::result::Result<(), Wrong> {
+    expect_each::<(u8, String, bool)>(rt.alloc(), THREE)?;
+    expect_prefixes_invalid::<(u8, String, bool)>(rt.alloc(), r#"[1,"a",true]"#)?;
+    expect_each::<(u8, u8, u8)>(rt.alloc(), EQUAL)?;
+    expect_prefixes_invalid::<(u8, u8, u8)>(rt.alloc(), "[1,2,3]")
 }
 
 const FOUR: &str = "[1,-2,3,\"d\"] => same
@@ -90,11 +86,6 @@ const FOUR: &str = "[1,-2,3,\"d\"] => same
 []
 null";
 
-#[test]
-fn a_tuple_of_four_has_four_items(rt: HostRuntime) -> std::result::Result<(), Wrong> {
-    expect_tuple::<(u8, i16, u32, String)>(rt.alloc(), FOUR, "[1,-2,3,\"d\"]")
-}
-
 const FIVE: &str = "[1,2,3,4,5] => same
 [5,4,3,2,1] => same
 [1,2,3,4]
@@ -106,11 +97,6 @@ const FIVE: &str = "[1,2,3,4,5] => same
 [1,2,3,4,256]
 []
 null";
-
-#[test]
-fn a_tuple_of_five_has_five_items(rt: HostRuntime) -> std::result::Result<(), Wrong> {
-    expect_tuple::<(u8, u8, u8, u8, u8)>(rt.alloc(), FIVE, "[1,2,3,4,5]")
-}
 
 const SIX: &str = r#"[1,"b",true,null,[5],-6] => same
 [ 1 , "b" , true , 4 , [ 5 , 6 ] , -6 ] => [1,"b",true,4,[5,6],-6]
@@ -128,8 +114,13 @@ null"#;
 type Six = (u8, String, bool, Option<u8>, Vec<u8>, i8);
 
 #[test]
-fn a_tuple_of_six_has_six_items(rt: HostRuntime) -> std::result::Result<(), Wrong> {
-    expect_tuple::<Six>(rt.alloc(), SIX, r#"[1,"b",true,null,[5],-6]"#)
+fn a_tuple_of_four_to_six_has_so_many_items(rt: HostRuntime) -> std::result::Result<(), Wrong> {
+    expect_each::<(u8, i16, u32, String)>(rt.alloc(), FOUR)?;
+    expect_prefixes_invalid::<(u8, i16, u32, String)>(rt.alloc(), "[1,-2,3,\"d\"]")?;
+    expect_each::<(u8, u8, u8, u8, u8)>(rt.alloc(), FIVE)?;
+    expect_prefixes_invalid::<(u8, u8, u8, u8, u8)>(rt.alloc(), "[1,2,3,4,5]")?;
+    expect_each::<Six>(rt.alloc(), SIX)?;
+    expect_prefixes_invalid::<Six>(rt.alloc(), r#"[1,"b",true,null,[5],-6]"#)
 }
 
 const NESTED: &str = r#"[[1,2,3],[[4,5],"b",[]],null] => same
@@ -152,16 +143,12 @@ type Nested = (
 #[test]
 fn tuples_stand_in_tuples(rt: HostRuntime) -> std::result::Result<(), Wrong> {
     let alloc = rt.alloc();
-    expect_tuple::<Nested>(alloc, NESTED, r#"[[1,2,3],[[4,5],"b",[]],null]"#)?;
+    expect_each::<Nested>(alloc, NESTED)?;
+    expect_prefixes_invalid::<Nested>(alloc, r#"[[1,2,3],[[4,5],"b",[]],null]"#)?;
     expect_table::<Vec<(u8, u8, u8)>>(
         alloc,
         "[[1,2,3],[4,5,6]] => same\n[] => same\n[[1,2,3],[4,5]]\n[1,2,3]",
-    )
-}
-
-#[test]
-fn tuples_are_stable(rt: HostRuntime) -> std::result::Result<(), Wrong> {
-    let alloc = rt.alloc();
+    )?;
     expect_one_value::<(i8, String, bool)>(alloc, r#"[-0, "\u0061", true] => [0,"a",true]"#)?;
     expect_one_value::<(u8, String, bool, Option<u8>, Vec<u8>, i8)>(
         alloc,
@@ -170,7 +157,7 @@ fn tuples_are_stable(rt: HostRuntime) -> std::result::Result<(), Wrong> {
 }
 
 /// Returns whether each call that reads or writes a text takes the value of a text, with memory for all.
-fn is_taken<T: Lossless + Stable>(alloc: Global, text: &str) -> Result<bool> {
+pub fn is_taken<T: Lossless + Stable>(alloc: Global, text: &str) -> Result<bool> {
     let value: T = from_str(alloc, text)?;
     let of_bytes: T = from_slice(alloc, text.as_bytes())?;
     let back: T = read_back(alloc, text)?;
@@ -181,19 +168,6 @@ fn is_taken<T: Lossless + Stable>(alloc: Global, text: &str) -> Result<bool> {
             && to_string(alloc, &of_bytes)?.as_str() == text
             && to_string(alloc, &back)?.as_str() == text
             && to_string(alloc, &again)?.as_str() == text,
-    )
-}
-
-#[test]
-fn each_call_takes_tuples(rt: HostRuntime) -> std::result::Result<(), Wrong> {
-    let alloc = rt.alloc();
-    expect_ok(
-        is_taken::<(u8, String, bool)>(alloc, r#"[1,"a",true]"#),
-        "a triple",
-    )?;
-    expect_ok(
-        is_taken::<Six>(alloc, r#"[1,"b",true,null,[5],-6]"#),
-        "a tuple of six",
     )
 }
 
@@ -220,6 +194,13 @@ fn is_row(alloc: Global, text: &str) -> Result<bool> {
 }
 
 #[test]
-fn items_are_in_their_places(rt: HostRuntime) -> std::result::Result<(), Wrong> {
-    expect_ok(is_row(rt.alloc(), r#"[7,"x",true]"#), "the items of a row")
+fn each_call_takes_tuples_with_items_in_their_places(
+    rt: HostRuntime,
+) -> std::result::Result<(), Wrong> {
+    let alloc = rt.alloc();
+    let triple = is_taken::<(u8, String, bool)>(alloc, r#"[1,"a",true]"#);
+    expect_ok(triple, "a triple")?;
+    let six = is_taken::<Six>(alloc, r#"[1,"b",true,null,[5],-6]"#);
+    expect_ok(six, "a tuple of six")?;
+    expect_ok(is_row(alloc, r#"[7,"x",true]"#), "the items of a row")
 }

@@ -13,24 +13,13 @@ fn null_is_none<T: FromJson>(alloc: Global) -> Result<bool> {
     Ok(value.is_none())
 }
 
-/// Returns whether `null` is read as a box of `None`.
-fn null_is_a_box_of_none(alloc: Global) -> Result<bool> {
-    let value: Box<Option<u8>> = from_str(alloc, "null")?;
-    Ok(value.is_none())
-}
-
 #[test]
-fn null_is_the_outermost_none(rt: HostRuntime) -> std::result::Result<(), Wrong> {
+fn an_optional_or_boxed_value_is_the_value(rt: HostRuntime) -> std::result::Result<(), Wrong> {
     let alloc = rt.alloc();
+    // `null` is the outermost `None`.
     expect_ok(null_is_none::<Option<u8>>(alloc), "an optional option")?;
     expect_ok(null_is_none::<()>(alloc), "an optional unit")?;
     expect_ok(null_is_none::<Box<u8>>(alloc), "an optional box")?;
-    expect_ok(null_is_a_box_of_none(alloc), "a boxed option")
-}
-
-#[test]
-fn an_optional_value_is_null_or_the_value(rt: HostRuntime) -> std::result::Result<(), Wrong> {
-    let alloc = rt.alloc();
     expect_table::<Option<u8>>(
         alloc,
         "null => same\n255 => same\n256\n\"null\"\n[null]\nnul\n\nnull null",
@@ -43,12 +32,7 @@ fn an_optional_value_is_null_or_the_value(rt: HostRuntime) -> std::result::Resul
     expect_read_again::<Option<Vec<Option<bool>>>>(
         alloc,
         "null => same\n[] => same\n[true,null] => same\n[true,0]",
-    )
-}
-
-#[test]
-fn a_boxed_value_is_the_value(rt: HostRuntime) -> std::result::Result<(), Wrong> {
-    let alloc = rt.alloc();
+    )?;
     expect_table::<Box<u8>>(alloc, " 7  => 7\n0 => same\n255 => same\nnull\n[1]\n256")?;
     expect_read_again::<Box<Option<u8>>>(alloc, "null => same\n1 => same\n256")?;
     expect_read_itself::<Box<Vec<Box<u8>>>>(alloc, "[1,2] => same\n[1,null]")
@@ -62,19 +46,16 @@ fn is_written<T: Serialize>(alloc: Global, value: &T, expected: &str) -> Result<
 /// Returns whether a text is written as expected by itself, owned and borrowed in each way.
 fn is_text_written(alloc: Global, text: &str, expected: &str) -> Result<bool> {
     let owned = String::from_str(alloc, text)?;
+    let borrowed_cow: CowStr<'_> = CowStr::Borrowed(text);
+    let owned_cow: CowStr<'_> = CowStr::Owned(String::from_str(alloc, text)?);
     Ok(
         is_written(alloc, &owned, expected)?
             && is_written(alloc, &&owned, expected)?
             && is_written(alloc, &text, expected)?
-            && is_written(alloc, &&text, expected)?,
+            && is_written(alloc, &&text, expected)?
+            && is_written(alloc, &borrowed_cow, expected)?
+            && is_written(alloc, &owned_cow, expected)?,
     )
-}
-
-/// Returns whether a text is written as expected by a `CowStr` of each variant.
-fn is_cow_written(alloc: Global, text: &str, expected: &str) -> Result<bool> {
-    let borrowed: CowStr<'_> = CowStr::Borrowed(text);
-    let owned: CowStr<'_> = CowStr::Owned(String::from_str(alloc, text)?);
-    Ok(is_written(alloc, &borrowed, expected)? && is_written(alloc, &owned, expected)?)
 }
 
 #[test]
@@ -85,16 +66,9 @@ fn a_text_is_written_alike_by_each_type(rt: HostRuntime) -> std::result::Result<
         "an escape",
     )?;
     expect_ok(is_text_written(alloc, "a", "\"a\""), "a letter")?;
-    expect_ok(is_cow_written(alloc, "\u{1}/", "\"\\u0001/\""), "a CowStr")
-}
-
-#[test]
-fn a_reference_is_written_as_its_value(rt: HostRuntime) -> std::result::Result<(), Wrong> {
-    let alloc = rt.alloc();
+    // A reference is written as its value.
     let numbers: &[u64] = &[1, 2];
     expect_ok(is_written(alloc, &numbers, "[1,2]"), "a slice")?;
-    expect_ok(
-        is_written(alloc, &Some(None::<u8>), "null"),
-        "an option in an option",
-    )
+    let none = is_written(alloc, &Some(None::<u8>), "null");
+    expect_ok(none, "an option in an option")
 }

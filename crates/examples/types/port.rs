@@ -1,3 +1,0 @@
-/// A port.
-#[derive(Clone, Copy, PartialEq, Eq, Debug)]
-pub struct Port(pub u16); // lossless, stable
