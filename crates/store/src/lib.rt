@@ -14,5 +14,3 @@ mod routes;
 pub mod service;
 pub mod shared;
 pub mod stream;
-#[cfg(test)]
-mod tests;

@@ -3,6 +3,4 @@
 
 pub mod peers;
 pub mod settled;
-#[cfg(test)]
-mod tests;
 pub mod turn;

@@ -1,19 +1,14 @@
-use crate::laws::last_put_is_shown;
-use crate::opening::prepare;
-use crate::rounds::RoundService;
-use crate::service::StoreService;
-use crate::shared::{serve_round, serve_settled_round};
-use crate::stream::serve_stream;
-use http_server::{Config, Connection as HttpConnection};
+//! A store over HTTP, of one connection.
+
+use http_server::Config;
 use rows::texts;
-use slab::Slab;
 use sqlite::{Connection, MemStore};
 use std::hash::RandomState;
-use std::io;
-use std::io::{ErrorKind, Read, Write};
 use std::test::Fail;
-use std::time::Instant;
-use turns::peers::Peer;
+use store::laws::last_put_is_shown;
+use store::opening::prepare;
+use store::service::StoreService;
+use store::stream::serve_stream;
 
 // Requests in a row, each of a line, a field and a body, and what its response begins with behind `HTTP/1.1`.
 const REQUESTS: &[(&str, &str, &str, &str)] = &[
@@ -214,7 +209,7 @@ const LISTS: &[(&str, &str, &str, &str)] = &[
 ];
 
 // Opens a store in memory that has no entry.
-fn opened(rt: &HostRuntime) -> Result<StoreService<MemStore, String>, Fail> {
+pub fn opened(rt: &HostRuntime) -> Result<StoreService<MemStore, String>, Fail> {
     let mut conn = Connection::open_in_memory(rt.alloc())?;
     prepare(&mut conn)?;
     Ok(StoreService::new(rt.alloc(), conn))
@@ -287,110 +282,5 @@ fn lists_are_those_of_a_map(rt: HostRuntime) -> Result<(), Fail> {
         let response = sent(&rt, &mut service, line, field, "")?;
         assert!(rt; fits(response.as_str(), begin, end));
     }
-    Ok(())
-}
-
-/// A stream whose client has sent these bytes, and waits.
-#[derive(Drop)]
-struct Wire {
-    input: &'static [u8],
-    output: Vec<u8>,
-}
-
-impl Read for Wire {
-    fn read(&mut self, buf: &mut [u8]) -> io::Result<usize> {
-        if self.input.is_empty() {
-            return Err(ErrorKind::WouldBlock.into());
-        }
-        let count = self.input.len().min(buf.len());
-        buf[..count].copy_from_slice(&self.input[..count]);
-        self.input = &self.input[count..];
-        Ok(count)
-    }
-}
-
-impl Write for Wire {
-    fn write(&mut self, buf: &[u8]) -> io::Result<usize> {
-        self.output.extend_from_slice(buf)?;
-        Ok(buf.len())
-    }
-
-    fn flush(&mut self) -> io::Result<()> {
-        Ok(())
-    }
-}
-
-// Returns a connection whose client has sent a put of an entry, one whose client asks for it, and one whose client asks for
-// the list.
-fn writer_and_readers(rt: &HostRuntime) -> Result<Slab<Peer<Wire>>, Fail> {
-    let mut peers = Slab::new(rt.alloc());
-    let keys = RandomState::new(rt)?;
-    let inputs: [&[u8]; 3] = [
-        b"PUT /entries/a HTTP/1.1\r\nHost: a\r\nContent-Length: 7\r\n\r\n\"nails\"",
-        b"GET /entries/a HTTP/1.1\r\nHost: a\r\n\r\n",
-        b"GET /entries HTTP/1.1\r\nHost: a\r\n\r\n",
-    ];
-    for input in inputs {
-        peers.insert(Peer {
-            connection: HttpConnection::new(rt.alloc(), keys, Config::default()),
-            stream: Wire {
-                input,
-                output: Vec::new(rt.alloc()),
-            },
-            since: Instant::now(rt)?,
-        })?;
-    }
-    Ok(peers)
-}
-
-// Returns whether the output of a connection ends so.
-fn ends_with(peers: &Slab<Peer<Wire>>, key: usize, end: &[u8]) -> bool {
-    match peers.get(key) {
-        Some(peer) => peer.stream.output.as_slice().ends_with(end),
-        None => false,
-    }
-}
-
-// Returns whether the readers have got the entry, and the list.
-fn are_read(peers: &Slab<Peer<Wire>>) -> bool {
-    ends_with(peers, 1, b"\r\n\r\n\"nails\"") && ends_with(peers, 2, b"\r\n\r\n{\"a\":\"nails\"}")
-}
-
-#[test]
-fn connections_share_the_entries(rt: HostRuntime) -> Result<(), Fail> {
-    let mut service = opened(&rt)?;
-    let mut peers = writer_and_readers(&rt)?;
-    let mut unfinished = Vec::new(rt.alloc());
-    let now = Instant::now(&rt)?;
-    serve_round(&mut peers, &[0, 1, 2], &mut service, now, &mut unfinished)?;
-    assert!(rt; unfinished.is_empty());
-    assert!(rt; are_read(&peers));
-    Ok(())
-}
-
-#[test]
-fn a_round_is_one_commit(rt: HostRuntime) -> Result<(), Fail> {
-    let mut service: RoundService<MemStore, String> = RoundService::new(
-        rt.alloc(),
-        opened(&rt)?.into_connection(),
-    );
-    let mut peers = writer_and_readers(&rt)?;
-    let mut unfinished = Vec::new(rt.alloc());
-    let now = Instant::now(&rt)?;
-    assert!(rt;
-        serve_settled_round(
-            rt.alloc(),
-            &mut peers,
-            &[0, 1, 2],
-            &mut service,
-            now,
-            &mut unfinished
-        )?
-    );
-    assert!(rt; unfinished.is_empty());
-    assert!(rt; are_read(&peers));
-    let mut conn = service.into_connection();
-    assert!(rt; !texts::is_in_transaction(&conn));
-    assert!(rt; texts::get(&mut conn, "a")?.is_some());
     Ok(())
 }

@@ -1,9 +1,9 @@
 -- Each visit adds one, and the visitor took all rows.
 use Rattle.std.proofs.Common.{◌≡◌, ◌+◌, OnOk, refl}
 use Rattle.sqlite.specs.Held.{state}
-use Rattle.test_rows.specs.declared.counted.Count.{Count}
-use Rattle.test_rows.proofs.Counts.{counts_all}
-use Rattle.test_rows.proofs.counted.count_rows.Goals as goal
+use Rattle.test_store.specs.declared.counted.Count.{Count}
+use Rattle.test_store.proofs.Counts.{counts_all}
+use Rattle.test_store.proofs.counted.count_rows.Goals as goal
 
 pub returns-then-branch : goal.returns-then-branch
 returns-then-branch g c clean store =
