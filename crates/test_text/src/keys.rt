@@ -123,6 +123,20 @@ const SIGNED: &str = "-0 => 0\n\
     --1\n\
     -1.0";
 
+const LONG_UNSIGNED: &str = "0 => 0\n\
+    +0 => 0\n\
+    10 => 10\n\
+    18446744073709551615 => 18446744073709551615\n\
+    18446744073709551616\n\
+    -1";
+
+const LONG_SIGNED: &str = "-007 => -7\n\
+    -1 => -1\n\
+    -9223372036854775808 => -9223372036854775808\n\
+    9223372036854775807 => 9223372036854775807\n\
+    9223372036854775808\n\
+    -9223372036854775809";
+
 #[test]
 fn keys_of_integers_are_in_range(rt: HostRuntime) -> std::result::Result<(), Wrong> {
     let alloc = rt.alloc();
@@ -132,14 +146,8 @@ fn keys_of_integers_are_in_range(rt: HostRuntime) -> std::result::Result<(), Wro
         alloc,
         "0 => 0\n7 => 7\n007 => 7\n+7 => 7\n4294967295 => 4294967295\n4294967296\n-1",
     )?;
-    expect_keys::<u64>(
-        alloc,
-        "0 => 0\n18446744073709551615 => 18446744073709551615\n18446744073709551616\n-1",
-    )?;
-    expect_keys::<usize>(
-        alloc,
-        "+0 => 0\n10 => 10\n18446744073709551615 => 18446744073709551615\n18446744073709551616\n-1",
-    )?;
+    expect_keys::<u64>(alloc, LONG_UNSIGNED)?;
+    expect_keys::<usize>(alloc, LONG_UNSIGNED)?;
     expect_keys::<i8>(alloc, SIGNED)?;
     expect_keys::<i16>(
         alloc,
@@ -149,20 +157,6 @@ fn keys_of_integers_are_in_range(rt: HostRuntime) -> std::result::Result<(), Wro
         alloc,
         "5 => 5\n-2147483648 => -2147483648\n2147483647 => 2147483647\n-2147483649\n2147483648",
     )?;
-    expect_keys::<i64>(
-        alloc,
-        "-9223372036854775808 => -9223372036854775808\n\
-        9223372036854775807 => 9223372036854775807\n\
-        9223372036854775808\n\
-        -9223372036854775809",
-    )?;
-    expect_keys::<isize>(
-        alloc,
-        "-007 => -7\n\
-        -1 => -1\n\
-        -9223372036854775808 => -9223372036854775808\n\
-        9223372036854775807 => 9223372036854775807\n\
-        9223372036854775808\n\
-        -9223372036854775809",
-    )
+    expect_keys::<i64>(alloc, LONG_SIGNED)?;
+    expect_keys::<isize>(alloc, LONG_SIGNED)
 }
